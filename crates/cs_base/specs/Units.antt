@@ -1,0 +1,121 @@
+-- The units of a workspace and their settings: what contracts see of a `Unit`, and what is true of each.
+use Rattle.std.specs.Prelude.{ℕ, Bool, false, not, ◌&&◌, ◌||◌, ◌==◌, ◌^◌, List, [], ◌∷◌, ◌++◌, IsTrue, length, map, reverse, codes, nat_le}
+use Rattle.std.specs.List.{list_all, flat_map}
+use Rattle.std.specs.Char.{is_ascii_alphabetic, is_ascii_digit}
+use Rattle.std.specs.Str.{bytes_eq, is_utf8}
+use Rattle.cs_base.specs.declared.ws_units.Setting.{Setting}
+use Rattle.cs_base.specs.declared.ws_units.Setting.TheVariants.{Define, Undefine}
+use Rattle.cs_base.specs.Paths.{is_normal}
+
+abbrev pub line_feed : ℕ
+line_feed = 10
+
+abbrev pub backslash : ℕ
+backslash = 92
+
+abbrev pub underscore : ℕ
+underscore = 95
+
+-- `<`, with which the name of a pseudo file begins
+abbrev pub less_sign : ℕ
+less_sign = 60
+
+abbrev pub space : ℕ
+space = 32
+
+abbrev pub tab : ℕ
+tab = 9
+
+abbrev pub carriage_return : ℕ
+carriage_return = 13
+
+-- a blank: a space, a tab or a carriage return
+abbrev pub is_blank : ℕ → Bool
+is_blank b = b == space || b == tab || b == carriage_return
+
+-- the first byte passes the test
+abbrev pub begins_with : (ℕ → Bool) → List ℕ → Bool
+begins_with test [] = false
+begins_with test (b ∷ text) = test b
+
+-- the last byte passes the test
+abbrev pub ends_with : (ℕ → Bool) → List ℕ → Bool
+ends_with test text = begins_with test (reverse text)
+
+-- Has a blank at its first or last byte, or a backslash at its last.
+abbrev pub has_bad_ends : List ℕ → Bool
+has_bad_ends text = begins_with is_blank text || ends_with is_blank text || ends_with (λ b. b == backslash) text
+
+-- Can stand in a line of a workspace file: UTF-8 without line feed, with good ends.
+unfoldable pub is_writable : List ℕ → Bool
+is_writable text = is_utf8 text && list_all (λ b. not (b == line_feed)) text && not (has_bad_ends text)
+
+-- the name of a project: one word
+abbrev pub is_project : List ℕ → Bool
+is_project name = is_writable name && not (bytes_eq name []) && list_all (λ b. not (is_blank b)) name
+
+-- the path of a unit: normalised, not empty, and no name of a pseudo file
+abbrev pub is_unit_path : List ℕ → Bool
+is_unit_path path =
+    is_writable path && is_normal path && not (bytes_eq path []) && not (begins_with (λ b. b == less_sign) path)
+
+-- a directory of include paths: normalised; the empty one is the directory that the program runs in
+abbrev pub is_directory : List ℕ → Bool
+is_directory directory = is_writable directory && is_normal directory
+
+-- nondigit (6.4.2.1): a letter or `_`
+abbrev pub is_nondigit : ℕ → Bool
+is_nondigit c = is_ascii_alphabetic c || c == underscore
+
+-- identifier (6.4.2.1)
+abbrev pub is_identifier : List ℕ → Bool
+is_identifier name =
+    begins_with is_nondigit name && list_all (λ c. is_nondigit c || is_ascii_digit c) name
+
+-- a setting that a line can make
+abbrev pub is_setting : Setting → Bool
+is_setting (Define rest) = is_writable rest && begins_with is_nondigit rest
+is_setting (Undefine name) = is_identifier name
+
+-- the directive that a setting makes (6.10.3, 6.10.3.5)
+abbrev pub setting_line : Setting → List ℕ
+setting_line (Define rest) = codes "#define " ++ rest
+setting_line (Undefine name) = codes "#undef " ++ name
+
+-- the lines that each pseudo file `<defines N>` begins with (6.10.8)
+unfoldable pub fixed_lines : List (List ℕ)
+fixed_lines =
+    codes "#define __STDC__ 1" ∷ codes "#define __STDC_HOSTED__ 1" ∷ codes "#define __STDC_VERSION__ 199901L"
+    ∷ codes "#define __DATE__ \"Jan  1 1970\"" ∷ codes "#define __TIME__ \"00:00:00\"" ∷ []
+
+-- a line with its line feed
+abbrev pub ended_line : List ℕ → List ℕ
+ended_line line = line ++ line_feed ∷ []
+
+-- the text of a unit's pseudo file: the fixed lines, and one line for each setting in force
+unfoldable pub defines_text : List Setting → List ℕ
+defines_text settings = flat_map ended_line (fixed_lines ++ map setting_line settings)
+
+-- no more than 2^16 bytes of pseudo file
+unfoldable pub defines_fit : List Setting → Bool
+defines_fit settings = nat_le (length (defines_text settings)) (2 ^ 16)
+
+-- A unit: its project, the path of its main source file, the directories that its includes are looked
+-- for in, and the settings that hold in it, both in order.
+pub record UnitValue : Type 0 where
+  pub project : List ℕ
+  pub path : List ℕ
+  pub ipath : List (List ℕ)
+  pub settings : List Setting
+
+-- a unit of these parts
+abbrev pub unit : List ℕ → List ℕ → List (List ℕ) → List Setting → UnitValue
+unit project path ipath settings = record { project = project; path = path; ipath = ipath; settings = settings }
+
+-- What is true of every unit.
+pub record IsUnit (u : UnitValue) : Type 0 where
+  pub is_named : IsTrue (is_project u.project)
+  pub is_placed : IsTrue (is_unit_path u.path)
+  pub are_directories : IsTrue (list_all is_directory u.ipath)
+  pub are_settings : IsTrue (list_all is_setting u.settings)
+  pub fits : IsTrue (defines_fit u.settings)

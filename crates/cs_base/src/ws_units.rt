@@ -1,0 +1,81 @@
+// The units of a workspace, each with the settings that hold in it.
+ghost use Rattle.std.specs.Prelude.{◌≡◌, IsUtf8};
+
+use crate::texts::Text;
+use std::marker::Model;
+
+/// A setting: `#define` with the rest of its line, or `#undef` with a name.
+#[derive(Drop)]
+pub enum Setting {
+    Define(Text),
+    Undefine(Text),
+}
+
+/// A unit of a workspace. Contracts see the record of its parts.
+#[derive(Drop)]
+pub struct Unit {
+    project: Text,
+    path: Text,
+    ipath: Vec<Text>,
+    settings: Vec<Setting>,
+}
+
+impl Model for Unit {
+    ghost use Rattle.cs_base.specs.Units.{UnitValue, unit, IsUnit};
+
+    ghost Value = { UnitValue };
+
+    ghost view = { λ u. unit u.project u.path u.ipath.items u.settings.items };
+
+    ghost invariant = { λ u. IsUnit (unit u.project u.path u.ipath.items u.settings.items) };
+}
+
+impl Unit {
+    ghost use Rattle.cs_base.specs.Units.{unit, IsUnit};
+
+    /// A unit of these parts.
+    pub fn new(project: Text, path: Text, ipath: Vec<Text>, settings: Vec<Setting>) -> Unit
+        requires sound { IsUnit (unit project path ipath.items settings.items) }
+        ensures answer { result ≡ unit project path ipath.items settings.items }
+    {
+        Unit {
+            project,
+            path,
+            ipath,
+            settings,
+        }
+    }
+
+    /// The project that the unit belongs to.
+    pub fn project(&self) -> &Text
+        ensures answer { result.now ≡ self.now.project }
+        ensures sound { IsUnit self.now }
+    {
+        &self.project
+    }
+
+    /// The path of its main source file.
+    pub fn path(&self) -> &Text
+        ensures answer { result.now ≡ self.now.path }
+        ensures sound { IsUnit self.now }
+        ensures utf8 { IsUtf8 result.now }
+    {
+        &self.path
+    }
+
+    /// The directories that its includes are looked for in, in order.
+    pub fn ipath(&self) -> &[Text]
+        ensures answer { result.now ≡ self.now.ipath }
+        ensures sound { IsUnit self.now }
+    {
+        self.ipath.as_slice()
+    }
+
+    /// The settings that hold in it, in order.
+    pub fn settings(&self) -> &[Setting]
+        ensures answer { result.now ≡ self.now.settings }
+        ensures sound { IsUnit self.now }
+    {
+        self.settings.as_slice()
+    }
+}
