@@ -1,0 +1,9 @@
+pub mod LineLemmas
+pub mod SpellingLemmas
+pub mod TokensLemmas
+pub mod ScanSteps
+pub mod TextLemmas
+pub mod LocalityLemmas
+pub mod RespelledLemmas
+pub mod RenameLaw
+pub mod OrderLemmas
