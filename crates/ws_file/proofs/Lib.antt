@@ -1,0 +1,9 @@
+pub mod SizeLemmas
+pub mod LineLemmas
+pub mod ReadingLemmas
+pub mod TrimLemmas
+pub mod ReadLemmas
+pub mod PrintLemmas
+pub mod PrintedLines
+pub mod Leads
+pub mod RoundTrip

@@ -1,0 +1,85 @@
+-- What stays true of a reading as lines are taken.
+use Rattle.std.proofs.Common.{◌≡◌, ℕ, Bool, true, false, ◌||◌, ◌==◌, List, [], ◌∷◌, ◌++◌, IsTrue, refl, ◌∙◌, arith}
+use Rattle.std.specs.Prelude.{codes}
+use Rattle.std.specs.List.{list_all}
+use Rattle.std.specs.Str.{bytes_eq}
+use Rattle.std.proofs.lemmas.List.Folds.{list_all-append}
+use Rattle.std.proofs.lemmas.List.Elements.{All-append}
+use Rattle.cs_base.specs.declared.ws_units.Setting.{Setting}
+use Rattle.cs_base.specs.Paths.{normal_path_of, is_normal}
+use Rattle.cs_base.specs.Units.{UnitValue, unit, IsUnit, less_sign, begins_with, has_bad_ends, is_writable, is_project, is_directory, is_unit_path, defines_fit}
+use Rattle.cs_base.proofs.NormalPaths.{is_normal-normal_path_of}
+use Rattle.cs_base.proofs.PathLaws.{and-both}
+use Rattle.cs_base.proofs.UnitLemmas.{is_utf8-ascii, is_writable-normal_path_of}
+use Rattle.ws_file.specs.Reading.{reading, at_first, is_bad_path}
+use Rattle.ws_file.specs.Taking.{IsReading}
+
+list_all-push : {X : Type 0} (p : X → Bool) (xs : List X) (x : X) → list_all p xs ≡ true → p x ≡ true → list_all p (xs ++ x ∷ []) ≡ true
+list_all-push p xs x h q = list_all-append p xs (x ∷ []) ∙ and-both (list_all p xs) (list_all p (x ∷ [])) h (and-both (p x) true q refl)
+
+is_project-default : is_project (codes "default") ≡ true
+unfolding is_writable
+is_project-default = rw (is_utf8-ascii (codes "default") refl) refl
+
+pub IsReading-first : IsReading at_first
+IsReading-first = record {
+  is_named = is_project-default;
+  are_directories = refl;
+  are_settings = refl;
+  are_units = λ k d h. absurd (omega arith);
+  are_prefixes = refl;
+}
+
+pub is_directory-normal : (path : List ℕ) → IsTrue (is_writable path) → has_bad_ends (normal_path_of path) ≡ false
+    → IsTrue (is_directory (normal_path_of path))
+is_directory-normal path h ends =
+    and-both (is_writable (normal_path_of path)) (is_normal (normal_path_of path)) (is_writable-normal_path_of path h ends) (is_normal-normal_path_of path)
+
+or-first : (a b : Bool) → (a || b) ≡ false → a ≡ false
+or-first a b h = grind (arith, h)
+
+or-second : (a b : Bool) → (a || b) ≡ false → b ≡ false
+or-second a b h = grind (arith, h)
+
+pub is_unit_path-normal : (path : List ℕ) → IsTrue (is_writable path) → is_bad_path (normal_path_of path) ≡ false
+    → IsTrue (is_unit_path (normal_path_of path))
+is_unit_path-normal path h good =
+    let place = normal_path_of path in
+    let ends = or-second (bytes_eq place [] || begins_with (λ b. b == less_sign) place) (has_bad_ends place) good in
+    let front = or-first (bytes_eq place [] || begins_with (λ b. b == less_sign) place) (has_bad_ends place) good in
+    let some = or-first (bytes_eq place []) (begins_with (λ b. b == less_sign) place) front in
+    let real = or-second (bytes_eq place []) (begins_with (λ b. b == less_sign) place) front in
+    and-both _ _ (and-both _ _ (is_directory-normal path h ends) (rw some refl)) (rw real refl)
+
+pub IsReading-directory : (project : List ℕ) (ipath : List (List ℕ)) (settings : List Setting) (units : List UnitValue) (readonly : List (List ℕ))
+    (directory : List ℕ) → IsReading (reading project ipath settings units readonly) → IsTrue (is_directory directory)
+    → IsReading (reading project (ipath ++ directory ∷ []) settings units readonly)
+IsReading-directory project ipath settings units readonly directory r h = record {
+  is_named = r.is_named;
+  are_directories = list_all-push is_directory ipath directory r.are_directories h;
+  are_settings = r.are_settings;
+  are_units = r.are_units;
+  are_prefixes = r.are_prefixes;
+}
+
+pub IsReading-unit : (project : List ℕ) (ipath : List (List ℕ)) (settings : List Setting) (units : List UnitValue) (readonly : List (List ℕ))
+    (u : UnitValue) → IsReading (reading project ipath settings units readonly) → IsUnit u
+    → IsReading (reading project ipath settings (units ++ u ∷ []) readonly)
+IsReading-unit project ipath settings units readonly u r h = record {
+  is_named = r.is_named;
+  are_directories = r.are_directories;
+  are_settings = r.are_settings;
+  are_units = All-append IsUnit units (u ∷ []) r.are_units (λ k d below. let first : k ≡ 0 = omega arith in rw first h);
+  are_prefixes = r.are_prefixes;
+}
+
+pub IsUnit-reading : (project : List ℕ) (ipath : List (List ℕ)) (settings : List Setting) (units : List UnitValue) (readonly : List (List ℕ))
+    (path : List ℕ) → IsReading (reading project ipath settings units readonly) → IsTrue (is_unit_path path) → IsTrue (defines_fit settings)
+    → IsUnit (unit project path ipath settings)
+IsUnit-reading project ipath settings units readonly path r h fits = record {
+  is_named = r.is_named;
+  is_placed = h;
+  are_directories = r.are_directories;
+  are_settings = r.are_settings;
+  fits = fits;
+}

@@ -1,0 +1,252 @@
+-- The text of a workspace is read back as the same workspace.
+use Rattle.std.proofs.Common.{◌≡◌, ℕ, suc, Bool, true, false, not, ◌&&◌, ◌||◌, ◌==◌, ◌+◌, ◌≤◌, ◌^◌, List, [], ◌∷◌, ◌++◌, length, map, reverse, refl, ap, sym, subst, ◌∙◌, arith, length-append, append_assoc}
+use Rattle.std.specs.Prelude.{All, Ok, codes, nat_lt}
+use Rattle.std.specs.List.{list_all, flat_map}
+use Rattle.std.specs.Char.{is_ascii_digit}
+use Rattle.std.specs.Str.{bytes_eq, is_utf8}
+use Rattle.std.proofs.lemmas.Bool.Decides.{nat_tests}
+use Rattle.std.proofs.lemmas.List.{append-nil}
+use Rattle.std.proofs.lemmas.Slice.Eq.{bytes_eq-Decides}
+use Rattle.cs_base.specs.declared.ws_units.Setting.{Setting}
+use Rattle.cs_base.specs.declared.ws_units.Setting.TheVariants.{Define, Undefine}
+use Rattle.cs_base.specs.Paths.{normal_path_of, is_normal, kept_of}
+use Rattle.cs_base.specs.Units.{UnitValue, unit, IsUnit, line_feed, backslash, less_sign, is_blank, begins_with, has_bad_ends, is_writable, is_project, is_unit_path, is_directory, is_nondigit, is_identifier, is_setting, defines_fit}
+use Rattle.cs_base.proofs.PathLaws.{and-left, and-right, and-both, not-true, list_all-reverse}
+use Rattle.cs_base.proofs.UnitLemmas.{is_utf8-ascii}
+use Rattle.ws_file.specs.Workspace.{WorkspaceValue, workspace, IsWorkspace, is_prefix, most_units}
+use Rattle.ws_file.specs.Lines.{lines_of, line_word}
+use Rattle.ws_file.specs.Reading.{Reading, reading, at_first, with_word, read_lines, workspace_of}
+use Rattle.ws_file.specs.Printing.{readonly_line, project_line, ipath_line, define_line, file_line, unit_lines, lines_text, workspace_lines, workspace_text}
+use Rattle.ws_file.specs.Taking.{is_no_feed, has_no_feed}
+use Rattle.ws_file.proofs.ReadLemmas.{read_lines-end}
+use Rattle.ws_file.proofs.PrintedLines.{IsRest-writable, list_all-weaker}
+use Rattle.ws_file.proofs.Leads.{Leads, Leads-nil, Leads-append, Leads-line_with}
+
+-- Identifiers can stand in a line.
+
+abbrev is_word_byte : ℕ → Bool
+is_word_byte c = is_nondigit c || is_ascii_digit c
+
+word_byte-ascii : (c : ℕ) → is_word_byte c ≡ true → nat_lt c 128 ≡ true
+word_byte-ascii c h = grind (arith, nat_tests, h)
+
+word_byte-no_feed : (c : ℕ) → is_word_byte c ≡ true → is_no_feed c ≡ true
+word_byte-no_feed c h = grind (arith, nat_tests, h)
+
+word_byte-other : (c : ℕ) → is_word_byte c ≡ true → is_blank c ≡ false
+word_byte-other c h = grind (arith, nat_tests, h)
+
+word_byte-unslashed : (c : ℕ) → is_word_byte c ≡ true → (c == backslash) ≡ false
+word_byte-unslashed c h = grind (arith, nat_tests, h)
+
+begins_with-none : (p q : ℕ → Bool) → ((c : ℕ) → p c ≡ true → q c ≡ false) → (text : List ℕ) → list_all p text ≡ true → begins_with q text ≡ false
+begins_with-none p q step [] h = refl
+begins_with-none p q step (c ∷ text) h = step c (and-left _ _ h)
+
+is_writable-identifier : (name : List ℕ) → is_identifier name ≡ true → is_writable name ≡ true
+unfolding is_writable
+is_writable-identifier name h =
+    let all : list_all is_word_byte name ≡ true = and-right (begins_with is_nondigit name) _ h in
+    let turned = list_all-reverse is_word_byte name all in
+    let utf8 = is_utf8-ascii name (list_all-weaker is_word_byte (λ b. nat_lt b 128) word_byte-ascii name all) in
+    let one_line = list_all-weaker is_word_byte is_no_feed word_byte-no_feed name all in
+    let first = begins_with-none is_word_byte is_blank word_byte-other name all in
+    let last = begins_with-none is_word_byte is_blank word_byte-other (reverse name) turned in
+    let end = begins_with-none is_word_byte (λ b. b == backslash) word_byte-unslashed (reverse name) turned in
+    and-both _ _ (and-both _ _ utf8 one_line) (rw (first, last, end) refl)
+
+some-first : (p : ℕ → Bool) (text : List ℕ) → begins_with p text ≡ true → bytes_eq text [] ≡ false
+some-first p [] h = absurd (cc)
+some-first p (b ∷ text) h = refl
+
+-- The lines, by their words.
+
+Leads-prefix : (prefix : List ℕ) (r : Reading) → is_prefix prefix ≡ true → length r.units ≤ most_units
+    → Leads (readonly_line prefix ∷ []) r (reading r.project r.ipath r.settings r.units (r.readonly ++ prefix ∷ []))
+unfolding with_word line_word
+Leads-prefix prefix r h few =
+    Leads-line_with (codes "readonly") prefix r _ refl
+    (IsRest-writable prefix (and-left _ _ h) (not-true _ (and-right _ _ h))) refl few
+
+Leads-project : (name : List ℕ) (r : Reading) → is_project name ≡ true → length r.units ≤ most_units
+    → Leads (project_line name ∷ []) r (reading name [] [] r.units r.readonly)
+unfolding with_word line_word
+Leads-project name r h few =
+    let one : list_all (λ b. not (is_blank b)) name ≡ true = and-right (is_writable name && not (bytes_eq name [])) _ h in
+    let filled : (is_writable name && not (bytes_eq name [])) ≡ true = and-left _ _ h in
+    let some = not-true (bytes_eq name []) (and-right (is_writable name) _ filled) in
+    Leads-line_with (codes "project") name r _ refl (IsRest-writable name (and-left _ _ filled) some) (rw one refl) few
+
+normal-path : (path : List ℕ) → is_normal path ≡ true → normal_path_of path ≡ path
+normal-path path h = (bytes_eq-Decides (normal_path_of path) path).0 h
+
+normal-here : normal_path_of (codes ".") ≡ []
+unfolding normal_path_of kept_of
+normal-here = refl
+
+good_ends : (text : List ℕ) → is_writable text ≡ true → has_bad_ends text ≡ false
+unfolding is_writable
+good_ends text h = not-true _ (and-right (is_utf8 text && has_no_feed text) _ h)
+
+is_writable-here : is_writable (codes ".") ≡ true
+unfolding is_writable
+is_writable-here = rw (is_utf8-ascii (codes ".") refl) refl
+
+Leads-directory : (directory : List ℕ) (r : Reading) → is_directory directory ≡ true → length r.units ≤ most_units
+    → Leads (ipath_line directory ∷ []) r (reading r.project (r.ipath ++ directory ∷ []) r.settings r.units r.readonly)
+unfolding with_word line_word
+Leads-directory [] r h few = Leads-line_with (codes "ipath") (codes ".") r _ refl (IsRest-writable (codes ".") is_writable-here refl) (rw normal-here refl) few
+Leads-directory (b ∷ directory) r h few =
+    let path = b ∷ directory in
+    let same = normal-path path (and-right _ _ h) in
+    let ends = good_ends path (and-left _ _ h) in
+    Leads-line_with (codes "ipath") path r _ refl (IsRest-writable path (and-left _ _ h) refl) (rw (same, ends) refl) few
+
+Leads-setting : (s : Setting) (r : Reading) → is_setting s ≡ true → length r.units ≤ most_units
+    → Leads (define_line s ∷ []) r (reading r.project r.ipath (r.settings ++ s ∷ []) r.units r.readonly)
+unfolding with_word line_word
+Leads-setting (Define rest) r h few =
+    let begins = and-right _ _ h in
+    Leads-line_with (codes "define") rest r _ refl
+    (IsRest-writable rest (and-left _ _ h) (some-first is_nondigit rest begins)) (rw begins refl) few
+Leads-setting (Undefine name) r h few =
+    Leads-line_with (codes "undefine") name r _ refl
+    (IsRest-writable name (is_writable-identifier name h) (some-first is_nondigit name (and-left _ _ h))) (rw h refl) few
+
+Leads-file : (path : List ℕ) (r : Reading) → is_unit_path path ≡ true → defines_fit r.settings ≡ true → length r.units + 1 ≤ most_units
+    → Leads (file_line path ∷ []) r (reading r.project r.ipath r.settings (r.units ++ unit r.project path r.ipath r.settings ∷ []) r.readonly)
+unfolding with_word line_word
+Leads-file path r h fits few =
+    let place = and-left _ _ (and-left _ _ h) in
+    let some = not-true (bytes_eq path []) (and-right _ _ (and-left _ _ h)) in
+    let real = not-true (begins_with (λ b. b == less_sign) path) (and-right _ _ h) in
+    let same = normal-path path (and-right _ _ place) in
+    let ends = good_ends path (and-left _ _ place) in
+    let u = unit r.project path r.ipath r.settings in
+    let few' : length (r.units ++ u ∷ []) ≤ most_units = omega (arith, length-append r.units (u ∷ [])) in
+    Leads-line_with (codes "file") path r _ refl (IsRest-writable path (and-left _ _ place) some)
+    (rw (same, some, real, ends, fits) refl) few'
+
+-- Lists of lines.
+
+Leads-prefixes : (prefixes : List (List ℕ)) (r : Reading) → list_all is_prefix prefixes ≡ true → length r.units ≤ most_units
+    → Leads (map readonly_line prefixes) r (reading r.project r.ipath r.settings r.units (r.readonly ++ prefixes))
+Leads-prefixes [] r h few =
+    let To : List (List ℕ) → Type 0 = λ all. Leads [] r (reading r.project r.ipath r.settings r.units all) in
+    subst To (sym (append-nil r.readonly)) (Leads-nil r)
+Leads-prefixes (prefix ∷ prefixes) r h few =
+    let next = reading r.project r.ipath r.settings r.units (r.readonly ++ prefix ∷ []) in
+    let To : List (List ℕ) → Type 0 =
+    λ all. Leads (map readonly_line (prefix ∷ prefixes)) r (reading r.project r.ipath r.settings r.units all) in
+    subst To (append_assoc r.readonly (prefix ∷ []) prefixes)
+    (Leads-append (readonly_line prefix ∷ []) (map readonly_line prefixes) r next _ (Leads-prefix prefix r (and-left _ _ h) few)
+    (Leads-prefixes prefixes next (and-right _ _ h) few))
+
+Leads-directories : (directories : List (List ℕ)) (r : Reading) → list_all is_directory directories ≡ true → length r.units ≤ most_units
+    → Leads (map ipath_line directories) r (reading r.project (r.ipath ++ directories) r.settings r.units r.readonly)
+Leads-directories [] r h few =
+    let To : List (List ℕ) → Type 0 = λ all. Leads [] r (reading r.project all r.settings r.units r.readonly) in
+    subst To (sym (append-nil r.ipath)) (Leads-nil r)
+Leads-directories (directory ∷ directories) r h few =
+    let next = reading r.project (r.ipath ++ directory ∷ []) r.settings r.units r.readonly in
+    let To : List (List ℕ) → Type 0 =
+    λ all. Leads (map ipath_line (directory ∷ directories)) r (reading r.project all r.settings r.units r.readonly) in
+    subst To (append_assoc r.ipath (directory ∷ []) directories)
+    (Leads-append (ipath_line directory ∷ []) (map ipath_line directories) r next _ (Leads-directory directory r (and-left _ _ h) few)
+    (Leads-directories directories next (and-right _ _ h) few))
+
+Leads-settings : (settings : List Setting) (r : Reading) → list_all is_setting settings ≡ true → length r.units ≤ most_units
+    → Leads (map define_line settings) r (reading r.project r.ipath (r.settings ++ settings) r.units r.readonly)
+Leads-settings [] r h few =
+    let To : List Setting → Type 0 = λ all. Leads [] r (reading r.project r.ipath all r.units r.readonly) in
+    subst To (sym (append-nil r.settings)) (Leads-nil r)
+Leads-settings (s ∷ settings) r h few =
+    let next = reading r.project r.ipath (r.settings ++ s ∷ []) r.units r.readonly in
+    let To : List Setting → Type 0 =
+    λ all. Leads (map define_line (s ∷ settings)) r (reading r.project r.ipath all r.units r.readonly) in
+    subst To (append_assoc r.settings (s ∷ []) settings)
+    (Leads-append (define_line s ∷ []) (map define_line settings) r next _ (Leads-setting s r (and-left _ _ h) few)
+    (Leads-settings settings next (and-right _ _ h) few))
+
+Leads-unit : (u : UnitValue) (r : Reading) → IsUnit u → length r.units + 1 ≤ most_units
+    → Leads (unit_lines u) r (reading u.project u.ipath u.settings (r.units ++ u ∷ []) r.readonly)
+unfolding unit_lines
+Leads-unit u r h few =
+    let few' : length r.units ≤ most_units = omega arith in
+    let named = reading u.project [] [] r.units r.readonly in
+    let placed = reading u.project u.ipath [] r.units r.readonly in
+    let set = reading u.project u.ipath u.settings r.units r.readonly in
+    let file = file_line u.path ∷ [] in
+    Leads-append (project_line u.project ∷ []) (map ipath_line u.ipath ++ (map define_line u.settings ++ file)) r named _
+    (Leads-project u.project r h.is_named few')
+    (Leads-append (map ipath_line u.ipath) (map define_line u.settings ++ file) named placed _
+    (Leads-directories u.ipath named h.are_directories few')
+    (Leads-append (map define_line u.settings) file placed set _
+    (Leads-settings u.settings placed h.are_settings few') (Leads-file u.path set h.is_placed h.fits few)))
+
+-- Lines that lead to a reading of these units and prefixes.
+record LeadsTo (lines : List (List ℕ)) (r : Reading) (units : List UnitValue) (readonly : List (List ℕ)) : Type 0 where
+  last : Reading
+  way : Leads lines r last
+  has_units : last.units ≡ units
+  has_readonly : last.readonly ≡ readonly
+
+LeadsTo-units : (units : List UnitValue) (r : Reading) → All IsUnit units → length r.units + length units ≤ most_units
+    → LeadsTo (flat_map unit_lines units) r (r.units ++ units) r.readonly
+LeadsTo-units [] r h few = record { last = r; way = Leads-nil r; has_units = sym (append-nil r.units); has_readonly = refl }
+LeadsTo-units (u ∷ units) r h few =
+    let next = reading u.project u.ipath u.settings (r.units ++ u ∷ []) r.readonly in
+    let one : length r.units + 1 ≤ most_units = omega arith in
+    let left : length next.units + length units ≤ most_units = omega (arith, length-append r.units (u ∷ [])) in
+    let more = LeadsTo-units units next (λ k d below. h (suc k) d (omega arith)) left in
+    record {
+      last = more.last;
+      way = Leads-append (unit_lines u) (flat_map unit_lines units) r next more.last (Leads-unit u r (h 0 u (omega arith)) one) more.way;
+      has_units = more.has_units ∙ append_assoc r.units (u ∷ []) units;
+      has_readonly = more.has_readonly;
+    }
+
+LeadsTo-workspace : (ws : WorkspaceValue) → IsWorkspace ws → LeadsTo (workspace_lines ws) at_first ws.units ws.readonly
+unfolding workspace_lines
+LeadsTo-workspace ws h =
+    let none : length at_first.units ≤ most_units = omega arith in
+    let protected = reading at_first.project [] [] [] ws.readonly in
+    let few : length protected.units + length ws.units ≤ most_units = omega (arith, h.are_few) in
+    let units = LeadsTo-units ws.units protected h.are_units few in
+    record {
+      last = units.last;
+      way = Leads-append (map readonly_line ws.readonly) (flat_map unit_lines ws.units) at_first protected units.last
+          (Leads-prefixes ws.readonly at_first h.are_prefixes none) units.way;
+      has_units = units.has_units;
+      has_readonly = units.has_readonly;
+    }
+
+lines_of-ended : (line rest : List ℕ) → has_no_feed line ≡ true → lines_of (line ++ line_feed ∷ rest) ≡ line ∷ lines_of rest
+lines_of-ended [] rest h = refl
+lines_of-ended (b ∷ line) rest h =
+    let other = not-true (b == line_feed) (and-left _ _ h) in
+    let same = lines_of-ended line rest (and-right _ _ h) in
+    rw (other, same) refl
+
+lines_of-lines_text : (lines : List (List ℕ)) → list_all has_no_feed lines ≡ true → lines_of (lines_text lines) ≡ lines
+lines_of-lines_text [] h = refl
+lines_of-lines_text (line ∷ lines) h =
+    ap lines_of (append_assoc line (line_feed ∷ []) (lines_text lines))
+    ∙ lines_of-ended line (lines_text lines) (and-left _ _ h)
+    ∙ ap (λ (rest : List (List ℕ)). line ∷ rest) (lines_of-lines_text lines (and-right _ _ h))
+
+-- what is printed is read back
+pub workspace_of-workspace_text : (ws : WorkspaceValue) → IsWorkspace ws → length (workspace_text ws) ≤ 2 ^ 22
+    → workspace_of (workspace_text ws) ≡ Ok ws
+unfolding workspace_of workspace_text
+workspace_of-workspace_text ws h fits =
+    let lines = workspace_lines ws in
+    let to = LeadsTo-workspace ws h in
+    let ended : lines ++ [] ≡ lines = append-nil lines in
+    let fits' : 0 + length (lines_text (lines ++ [])) ≤ 2 ^ 22 = rw ended (omega arith) in
+    let end = to.way.leads 1 0 [] fits' in
+    ap (λ (read : List (List ℕ)). read_lines 1 0 read at_first) (lines_of-lines_text lines to.way.are_lines ∙ sym ended)
+    ∙ end.same
+    ∙ read_lines-end end.next_number end.next_start to.last
+    ∙ ap (λ (units : List UnitValue). Ok (workspace units to.last.readonly)) to.has_units
+    ∙ ap (λ (readonly : List (List ℕ)). Ok (workspace ws.units readonly)) to.has_readonly

@@ -1,0 +1,131 @@
+-- Reading a workspace file, line by line.
+use Rattle.std.specs.Prelude.{ℕ, Bool, not, ◌||◌, ◌==◌, ◌+◌, ◌^◌, List, [], ◌∷◌, ◌++◌, Option, None, Some, Result, Ok, Err, length, codes, nat_lt, if◌then◌else◌}
+use Rattle.std.specs.List.{list_all}
+use Rattle.std.specs.Str.{bytes_eq, is_utf8}
+use Rattle.cs_base.specs.declared.ws_units.Setting.{Setting}
+use Rattle.cs_base.specs.declared.ws_units.Setting.TheVariants as setting
+use Rattle.cs_base.specs.Paths.{normal_path_of}
+use Rattle.cs_base.specs.Units.{UnitValue, unit, backslash, less_sign, is_blank, begins_with, ends_with, has_bad_ends, is_nondigit, is_identifier, defines_fit}
+use Rattle.ws_file.specs.declared.words.LineWord.{LineWord}
+use Rattle.ws_file.specs.declared.words.LineWord.TheVariants.{Project, Ipath, Readonly, Define, Undefine, File, Other}
+use Rattle.ws_file.specs.Workspace.{WorkspaceValue, workspace, most_units}
+use Rattle.ws_file.specs.Lines.{lines_of, trimmed, first_word, rest_of, line_word}
+
+-- What the lines read so far say: the project, include paths and settings of the next units, the units
+-- in order, and the prefixes of read-only paths.
+pub record Reading : Type 0 where
+  pub project : List ℕ
+  pub ipath : List (List ℕ)
+  pub settings : List Setting
+  pub units : List UnitValue
+  pub readonly : List (List ℕ)
+
+-- a reading of these parts
+abbrev pub reading : List ℕ → List (List ℕ) → List Setting → List UnitValue → List (List ℕ) → Reading
+reading project ipath settings units readonly = record {
+  project = project;
+  ipath = ipath;
+  settings = settings;
+  units = units;
+  readonly = readonly;
+}
+
+-- before the first line
+abbrev pub at_first : Reading
+at_first = reading (codes "default") [] [] [] []
+
+-- `project NAME`, one word: later units belong to it, with no include path and no setting yet
+abbrev pub with_project : List ℕ → Reading → Option Reading
+with_project name r =
+    if list_all (λ b. not (is_blank b)) name then Some (reading name [] [] r.units r.readonly) else None
+
+-- `ipath DIR`
+abbrev pub with_directory : List ℕ → Reading → Option Reading
+with_directory directory r =
+    if has_bad_ends directory then None
+    else Some (reading r.project (r.ipath ++ directory ∷ []) r.settings r.units r.readonly)
+
+-- `readonly PREFIX`
+abbrev pub with_prefix : List ℕ → Reading → Option Reading
+with_prefix prefix r = Some (reading r.project r.ipath r.settings r.units (r.readonly ++ prefix ∷ []))
+
+-- a setting that holds in later units of the project
+abbrev pub with_setting : Setting → Reading → Reading
+with_setting s r = reading r.project r.ipath (r.settings ++ s ∷ []) r.units r.readonly
+
+-- `define REST`
+abbrev pub with_define : List ℕ → Reading → Option Reading
+with_define rest r =
+    if begins_with is_nondigit rest then Some (with_setting (setting.Define rest) r) else None
+
+-- `undefine NAME`
+abbrev pub with_undefine : List ℕ → Reading → Option Reading
+with_undefine name r =
+    if is_identifier name then Some (with_setting (setting.Undefine name) r) else None
+
+-- a path that no unit may have: empty, like that of a pseudo file, or with bad ends
+abbrev pub is_bad_path : List ℕ → Bool
+is_bad_path path = bytes_eq path [] || begins_with (λ b. b == less_sign) path || has_bad_ends path
+
+-- `file PATH`: a unit with what is in force
+abbrev pub with_unit : List ℕ → Reading → Option Reading
+with_unit path r =
+    if is_bad_path path || not (defines_fit r.settings) then None
+    else Some (reading r.project r.ipath r.settings (r.units ++ unit r.project path r.ipath r.settings ∷ []) r.readonly)
+
+-- a line of this word and rest; none where it is bad
+unfoldable pub with_word : LineWord → List ℕ → Reading → Option Reading
+with_word Project rest r = with_project rest r
+with_word Ipath rest r = with_directory (normal_path_of rest) r
+with_word Readonly rest r = with_prefix rest r
+with_word Define rest r = with_define rest r
+with_word Undefine rest r = with_undefine rest r
+with_word File rest r = with_unit (normal_path_of rest) r
+with_word Other rest r = None
+
+-- `#`, with which a comment begins
+abbrev pub number_sign : ℕ
+number_sign = 35
+
+-- a line that says nothing: it is empty, or `#` is first
+abbrev pub is_comment : List ℕ → Bool
+is_comment text = bytes_eq text [] || begins_with (λ b. b == number_sign) text
+
+-- a line without the blanks at its ends; none where it is bad
+unfoldable pub with_text : List ℕ → Reading → Option Reading
+with_text text r =
+    if ends_with (λ b. b == backslash) text then None
+    else (if is_comment text then Some r
+    else (if bytes_eq (rest_of text) [] then None
+    else with_word (line_word (first_word text)) (rest_of text) r))
+
+-- A line that begins at this byte of the file; none where it is bad: it ends past byte 2^22 of the file,
+-- or is no UTF-8, or says nothing that a line may say.
+unfoldable pub with_line : ℕ → List ℕ → Reading → Option Reading
+with_line start line r =
+    if nat_lt (2 ^ 22) (start + length line) || not (is_utf8 line) then None
+    else with_text (trimmed line) r
+
+-- Why a file is refused, with the number of the line, from 1.
+pub data WsFault : Type 0 where
+  bad_line : ℕ → WsFault
+  too_many_units : ℕ → WsFault
+
+-- what follows a line of this number: a bad line comes before too many units
+abbrev pub checked : ℕ → Option Reading → Result Reading WsFault
+checked number None = Err (bad_line number)
+checked number (Some r) =
+    if nat_lt most_units (length r.units) then Err (too_many_units number) else Ok r
+
+-- the workspace of the lines from this one on, or the first fault
+unfoldable pub read_lines : ℕ → ℕ → List (List ℕ) → Reading → Result WorkspaceValue WsFault
+read_lines number start [] r = Ok (workspace r.units r.readonly)
+read_lines number start (line ∷ lines) r =
+    elim (checked number (with_line start line r)) [
+      | Ok next ↦ read_lines (number + 1) (start + length line + 1) lines next
+      | Err fault ↦ Err fault
+    ]
+
+-- the workspace that a file describes, or its first fault
+unfoldable pub workspace_of : List ℕ → Result WorkspaceValue WsFault
+workspace_of bytes = read_lines 1 0 (lines_of bytes) at_first

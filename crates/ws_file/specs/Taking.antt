@@ -1,0 +1,45 @@
+-- What the reader's steps promise each other.
+use Rattle.std.specs.Prelude.{◌≡◌, ℕ, Bool, true, false, not, ◌==◌, ◌+◌, ◌-◌, List, [], ◌∷◌, Option, None, Some, IsTrue, All, length, nat_le, if◌then◌else◌}
+use Rattle.std.specs.List.{list_all}
+use Rattle.std.specs.Str.{is_utf8}
+use Rattle.cs_base.specs.declared.ws_units.Setting.{Setting}
+use Rattle.cs_base.specs.Units.{IsUnit, line_feed, is_blank, begins_with, ends_with, is_project, is_directory, is_setting, setting_line}
+use Rattle.ws_file.specs.Workspace.{is_prefix}
+use Rattle.ws_file.specs.Reading.{Reading}
+
+-- The line was taken, and this is the reading after it; or it is bad.
+abbrev pub Takes : Option Reading → Bool → Reading → Type 0
+Takes expected true now = expected ≡ Some now
+Takes expected false now = expected ≡ None
+
+-- What is true of every reading.
+pub record IsReading (r : Reading) : Type 0 where
+  pub is_named : IsTrue (is_project r.project)
+  pub are_directories : IsTrue (list_all is_directory r.ipath)
+  pub are_settings : IsTrue (list_all is_setting r.settings)
+  pub are_units : All IsUnit r.units
+  pub are_prefixes : IsTrue (list_all is_prefix r.readonly)
+
+abbrev pub is_no_feed : ℕ → Bool
+is_no_feed b = not (b == line_feed)
+
+-- a text without line feed
+abbrev pub has_no_feed : List ℕ → Bool
+has_no_feed text = list_all is_no_feed text
+
+-- What is true of a line without the blanks at its ends.
+pub record IsTrimmed (text : List ℕ) : Type 0 where
+  pub utf8 : IsTrue (is_utf8 text)
+  pub one_line : IsTrue (has_no_feed text)
+  pub first : begins_with is_blank text ≡ false
+  pub last : ends_with is_blank text ≡ false
+
+-- the bytes of a setting's line, with its line feed
+abbrev pub setting_len : Setting → ℕ
+setting_len s = length (setting_line s) + 1
+
+-- the settings' lines fit into this many bytes
+abbrev pub fit_into : ℕ → List Setting → Bool
+fit_into room [] = true
+fit_into room (s ∷ settings) =
+    if nat_le (setting_len s) room then fit_into (room - setting_len s) settings else false

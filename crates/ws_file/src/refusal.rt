@@ -1,0 +1,28 @@
+// Why a workspace file is not read.
+ghost use Rattle.std.specs.Prelude.{◌≡◌};
+
+use cs_base::Memory as NoMemory;
+use thiserror::Error;
+
+/// The first line that is refused, by its number from 1, or want of memory.
+#[derive(Debug, Drop, Error)]
+pub enum WsRefusal {
+    /// The line is none that a workspace file may have.
+    #[error("bad workspace line {line}")]
+    BadLine { line: u32 },
+    /// The line is the 1,025th `file` line.
+    #[error("too many units at line {line}")]
+    TooManyUnits { line: u32 },
+    #[error("out of memory")]
+    Memory,
+}
+
+impl From<NoMemory> for WsRefusal {
+    ghost use Rattle.ws_file.specs.declared.refusal.WsRefusal.TheVariants.{Memory as no_memory};
+
+    ghost from_gives = { λ _ refusal. refusal ≡ no_memory };
+
+    fn from(_: NoMemory) -> Self {
+        WsRefusal::Memory
+    }
+}
