@@ -1,0 +1,148 @@
+// Nodes, and what stands below them.
+ghost use Rattle.std.specs.Prelude.{◌≡◌, ◌<◌, ◌^◌, OnOk, OnErr};
+ghost use Rattle.std.specs.Option.{option_map};
+ghost use Rattle.c99_tree.specs.Tree.{node_of, none, leaf, inner, put, count_of, part_at, collapsed};
+ghost use Rattle.c99_tree.specs.Children.{shown, part_of, is_lone};
+
+use crate::production::Label;
+use cs_base::Memory;
+use std::alloc::Global;
+use std::marker::Model;
+
+#[cycle(tree)]
+#[derive(Drop)]
+enum Branch {
+    Token(u32),
+    Inner(Tree),
+}
+
+/// A node. Contracts see its label, its first token and the forest below it.
+#[cycle(tree)]
+#[derive(Drop)]
+pub struct Tree {
+    label: Label,
+    first: u32,
+    children: Vec<Branch>,
+}
+
+impl Model for Tree {
+    ghost use Rattle.std.specs.Prelude.{◌<◌, ◌^◌, length};
+    ghost use Rattle.c99_tree.specs.Tree.{Node, node_of, size_of};
+    ghost use Rattle.c99_tree.specs.TreeCode.{node_code};
+
+    ghost Value = { Node };
+
+    ghost coded = { node_code };
+
+    ghost use Rattle.c99_tree.specs.Children.{forest_of};
+
+    ghost view = { λ t. node_of t.label t.first (forest_of t.children.items) };
+
+    ghost invariant = { λ t. length t.children.items < 2 ^ 32 };
+
+    ghost size = { λ n. size_of n.under };
+
+    ghost use Rattle.c99_tree.specs.TreeFalls.{deepest_le-size_of};
+
+    ghost size_decreases = { λ a h. deepest_le-size_of a.children.items };
+}
+
+/// A child of a node: a token, by its index, or a node.
+#[derive(Clone, Copy)]
+pub enum Child<'a> {
+    Token(u32),
+    Node(&'a Tree),
+}
+
+fn is_lone(children: &[Branch]) -> bool
+    ensures { result ≡ is_lone children.now }
+{
+    match children {
+        [Branch::Inner(_)] => true,
+        _ => false,
+    }
+}
+
+impl Tree {
+    /// A node with no children.
+    pub fn new(alloc: Global, label: Label, first: u32) -> Tree
+        ensures { result ≡ node_of label first none }
+    {
+        Tree {
+            label,
+            first,
+            children: Vec::new(alloc),
+        }
+    }
+
+    pub fn label(&self) -> Label
+        ensures { result ≡ self.now.label }
+    {
+        self.label
+    }
+
+    /// The index of the first token, or of the next one where the node has none.
+    pub fn first(&self) -> u32
+        ensures { result ≡ self.now.first }
+    {
+        self.first
+    }
+
+    /// How many children the node has.
+    pub fn len(&self) -> u32
+        ensures { result ≡ count_of self.now.under }
+    {
+        self.children.len() as u32
+    }
+
+    /// Child number `k` from 0, if there are so many.
+    pub fn child(&self, k: u32) -> Option<Child<'_>>
+        ensures { option_map shown result ≡ part_at self.now.under k }
+    {
+        match self.children.get(k as usize) {
+            Some(Branch::Token(index)) => Some(Child::Token(*index)),
+            Some(Branch::Inner(tree)) => Some(Child::Node(tree)),
+            None => None,
+        }
+    }
+
+    /// One child more: a token. A node has fewer than 2^32 children.
+    pub fn push_token(&mut self, index: u32) -> Result<(), Memory>
+        ensures ok { OnOk result (self.new ≡ record self.old { under = put self.old.under (leaf index) }) }
+        ensures unchanged { OnErr result (self.new ≡ self.old) }
+    {
+        self.push(Branch::Token(index))
+    }
+
+    /// One child more: a node. On `Memory` the node is dropped.
+    pub fn push_node(&mut self, tree: Tree) -> Result<(), Memory>
+        ensures ok { OnOk result (self.new ≡ record self.old { under = put self.old.under (inner tree) }) }
+        ensures unchanged { OnErr result (self.new ≡ self.old) }
+    {
+        self.push(Branch::Inner(tree))
+    }
+
+    /// The only child, where it is a node, and else the node itself.
+    pub fn collapsed(mut self) -> Tree
+        ensures { result ≡ collapsed self }
+    {
+        if !is_lone(self.children.as_slice()) {
+            return self;
+        }
+        match self.children.pop() {
+            Some(Branch::Inner(only)) => only,
+            _ => unreachable!(),
+        }
+    }
+
+    fn push(&mut self, branch: Branch) -> Result<(), Memory>
+        ensures ok { OnOk result (self.new ≡ record self.old { under = put self.old.under (part_of branch) }) }
+        ensures unchanged { OnErr result (self.new ≡ self.old) }
+    {
+        if self.children.len() >= u32::MAX as usize {
+            return Err(Memory);
+        }
+        self.children.push(branch)?;
+        Ok(())
+    }
+}
