@@ -1,0 +1,4 @@
+pub mod ConstantLemmas
+pub mod WalkLemmas
+pub mod AgreementLemmas
+pub mod EvalLemmas
