@@ -1,0 +1,20 @@
+use Rattle.std.proofs.Common.{◌≡◌, [], sym, ◌∙◌, ap, subst}
+use Rattle.eclass_map.specs.ClassTable.{Table, AreLinks}
+use Rattle.eclass_map.specs.Labels.{no_labels}
+use Rattle.eclass_map.proofs.KeptFacts.{table_of, kept_empty, kept_as}
+use Rattle.eclass_map.proofs.LinkLaws.{links_empty}
+use Rattle.eclass_map.proofs.PartLaws.{has_parts}
+use Rattle.eclass_map.proofs.class_table.Classes.new.Goals as goal
+
+pub invariant_of-result : goal.invariant_of-result
+invariant_of-result c = kept_as _ _ _ _ _ _ c.new.ensures.items c.new-2.ensures.items c.new-3.ensures kept_empty
+
+pub returns-clause-parts : goal.returns-clause-parts
+returns-clause-parts c = has_parts _ (kept_as _ _ _ _ _ _ c.new.ensures.items c.new-2.ensures.items c.new-3.ensures kept_empty)
+
+pub returns-clause-links : goal.returns-clause-links
+returns-clause-links c =
+    let P : Table → Type 0 = λ v. AreLinks [] v in
+    let is : table_of c.new.result.items c.new-2.result.items c.new-3.result ≡ table_of [] [] no_labels =
+    ap (λ v. table_of v c.new-2.result.items c.new-3.result) c.new.ensures.items ∙ ap (λ v. table_of [] v c.new-3.result) c.new-2.ensures.items ∙ ap (λ v. table_of [] [] v) c.new-3.ensures in
+    subst P (sym is) links_empty

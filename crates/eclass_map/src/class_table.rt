@@ -1,0 +1,246 @@
+// The table of classes: added tokens by their places, and the partition of their characters by number.
+ghost use Rattle.std.specs.Prelude.{ℕ, ◌≡◌, ◌+◌, ◌*◌, ◌^◌, ◌<◌, ◌≤◌, List, [], ◌∷◌, ◌++◌, length, Some, IsSome, slice_get, OnOk, OnErr, vec_len, vec_capacity};
+ghost use Rattle.eclass_map.specs.ClassTable.{Table, part_of, class_in, members_of, part_with, added_tokens, part_of_file, AddsToken, fresh_places, with_token, IsFree, AreWhole, SameOrLinked, HasParts, AreLinks, relabelled_in, weight_in, parts_in, character_count, label};
+ghost use Rattle.eclass_map.specs.Labels.{no_labels, joined, joined_parts};
+ghost use Rattle.eclass_map.specs.Chain.{Least};
+ghost use Rattle.eclass_map.specs.Walk.{AtPlace, Forced};
+ghost use Rattle.eclass_map.specs.Positions.{index_at, numbers, Begins, AreTokens};
+ghost use Rattle.eclass_map.specs.Weight.{digits};
+ghost use Rattle.eclass_map.specs.Kept.{IsKept};
+ghost use Rattle.cs_base.specs.Token.{Token};
+
+use crate::partition::Partition;
+use crate::token_list::{Added, count_begun, find, number};
+use cs_base::{Memory, Part, Pos, Steps, Tok};
+use std::alloc::Global;
+use std::marker::Model;
+use std::sync::ledger::Ledger;
+
+/// Added tokens, cut into parts; the parts in classes. Contracts see the `Table`.
+#[derive(Drop)]
+pub struct Classes {
+    tokens: Vec<Added>,
+    places: Vec<Pos>,
+    labels: Partition,
+}
+
+impl Model for Classes {
+    ghost use Rattle.eclass_map.specs.ClassTable.{Table};
+
+    ghost Value = { Table };
+
+    ghost use Rattle.eclass_map.specs.Kept.{IsKept};
+
+    ghost view = { λ c. record { tokens = c.tokens.items; places = c.places.items; labels = c.labels } };
+
+    ghost invariant = { λ c. IsKept (record { tokens = c.tokens.items; places = c.places.items; labels = c.labels }) };
+}
+
+impl Classes {
+    pub fn new(alloc: Global) -> Classes
+        ensures links { AreLinks [] result }
+        ensures parts { HasParts result }
+        ensures exact { result ≡ record { tokens = []; places = []; labels = no_labels } }
+    {
+        Classes {
+            tokens: Vec::new(alloc),
+            places: Vec::new(alloc),
+            labels: Partition::new(alloc),
+        }
+    }
+
+    /// Adds a token as one part in a class of its own. It takes the room for every part that the token can be
+    /// cut into.
+    pub fn add_token(&mut self, file: u32, at: u32, len: u32) -> Result<(), Memory>
+        requires some { 0 < len }
+        requires within { at + len < 2 ^ 32 }
+        requires short { character_count self.old + len < 2 ^ 32 }
+        requires free { IsFree self.old (part_of_file file at len) }
+        ensures added { OnOk result (AddsToken (part_of_file file at len) self.old self.new) }
+        ensures parts { OnOk result (HasParts self.new) }
+        // What the joins of a list of links forced is forced still, and nothing else.
+        ensures links { OnOk result ((links : List (Token × Token)) → AreLinks links self.old → AreLinks links self.new) }
+        ensures count { OnOk result (character_count self.new ≡ character_count self.old + len) }
+        ensures weight { OnOk result (weight_in self.new ≡ weight_in self.old) }
+        ensures exact { OnOk result (self.new ≡ with_token (part_of_file file at len) self.old) }
+        ensures err { OnErr result (self.new ≡ self.old) }
+    {
+        let start = Pos { file, at };
+        let place = Part { start, len };
+        let index = count_begun(&self.tokens, start);
+        self.tokens.reserve(1)?;
+        self.places.reserve(len as usize)?;
+        self.labels.add(len)?;
+        let first = self.places.len() as u32;
+        self.tokens.insert(index, Added { place, first }).unwrap();
+        add_places(&mut self.places, start, len);
+        Ok(())
+    }
+
+    /// The part that holds the character, none where no added token holds it.
+    pub fn part_at(&self, pos: Pos) -> Option<Part>
+        ensures answer { result ≡ part_of self.now pos }
+        ensures parts { HasParts self.now }
+    {
+        match find(&self.tokens, pos) {
+            Some(index) => Some(self.part_of_character(pos, index)),
+            None => None,
+        }
+    }
+
+    // The part of the character of this number.
+    fn part_of_character(&self, pos: Pos, index: u32) -> Part
+        requires { index_at self.now.tokens pos ≡ Some index }
+        ensures { part_of self.now pos ≡ Some result }
+    {
+        let spot = self.labels.spot_of(index);
+        let start = Pos {
+            file: pos.file,
+            at: pos.at - spot.offset,
+        };
+        Part {
+            start,
+            len: self.labels.length_of(spot.class),
+        }
+    }
+
+    /// The class number of the part, none where it is no part now.
+    pub fn class_of(&self, part: Part) -> Option<u32>
+        ensures answer { result ≡ class_in self.now part }
+    {
+        match find(&self.tokens, part.start) {
+            Some(index) => self.class_of_character(part, index),
+            None => None,
+        }
+    }
+
+    // The same, where the part would begin at the character of this number.
+    fn class_of_character(&self, part: Part, index: u32) -> Option<u32>
+        requires { index_at self.now.tokens part.start ≡ Some index }
+        ensures { result ≡ class_in self.now part }
+    {
+        let spot = self.labels.spot_of(index);
+        if spot.offset == 0 && self.labels.length_of(spot.class) == part.len {
+            Some(spot.class)
+        } else {
+            None
+        }
+    }
+
+    /// The first member of the walk of a class, none where no class has the number.
+    pub fn first_member(&self, class: u32) -> Option<Part>
+        ensures answer { result ≡ slice_get (members_of self.now class) 0 }
+    {
+        match self.labels.first(class) {
+            Some(x) => Some(self.member(class, x)),
+            None => None,
+        }
+    }
+
+    /// The member that the walk of its class gives after the part.
+    pub fn next_member(&self, part: Part) -> Option<Part>
+        requires { IsSome (class_in self.now part) }
+        ensures answer { (c k : ℕ) → class_in self.now part ≡ Some c → slice_get (members_of self.now c) k ≡ Some part → result ≡ slice_get (members_of self.now c) (k + 1) }
+    {
+        match find(&self.tokens, part.start) {
+            Some(index) => self.member_after(part, index),
+            None => None,
+        }
+    }
+
+    // The same, where the part begins at the character of this number.
+    fn member_after(&self, part: Part, index: u32) -> Option<Part>
+        requires held { index_at self.now.tokens part.start ≡ Some index }
+        requires part { IsSome (class_in self.now part) }
+        ensures { (c k : ℕ) → class_in self.now part ≡ Some c → slice_get (members_of self.now c) k ≡ Some part → result ≡ slice_get (members_of self.now c) (k + 1) }
+    {
+        let class = self.labels.class_of(index);
+        match self.labels.next(index) {
+            Some(x) => Some(self.member(class, x)),
+            None => None,
+        }
+    }
+
+    // The part of a class that begins at a character.
+    fn member(&self, class: u32, x: u32) -> Part
+        requires held { x < length self.now.labels.spots }
+        requires known { class < length self.now.labels.walks }
+        ensures { result ≡ part_with self.now class x }
+    {
+        Part {
+            start: self.places[x as usize],
+            len: self.labels.length_of(class),
+        }
+    }
+
+    /// The characters of two tokens of equal spelling are the same from now on, first to first and so on. The
+    /// class with fewer parts gets the other's number; a tick for each of its parts.
+    pub fn join<L: Ledger>(&mut self, x: &Tok, y: &Tok, steps: &mut Steps<L>)
+        requires equal { x.now.text ≡ y.now.text }
+        requires whole_x { AreWhole self.old x.now.origins }
+        requires whole_y { AreWhole self.old y.now.origins }
+        ensures unchanged { added_tokens self.new ≡ added_tokens self.old }
+        ensures count { character_count self.new ≡ character_count self.old }
+        // The same now: a chain of what was the same and of the new link leads from one to the other.
+        ensures same { Least (SameOrLinked self.old x.now y.now) (label self.new) }
+        // So after the joins of a list of links it is what these force together.
+        ensures links { (links : List (Token × Token)) → AreLinks links self.old → AreLinks (links ++ (x.now, y.now) ∷ []) self.new }
+        ensures parts { HasParts self.new }
+        // At least one tick for each character that began a part and lies in a part of another number now.
+        ensures enough { relabelled_in self.old self.new + steps.old ≤ steps.new }
+        ensures bound { steps.new + weight_in self.old ≤ steps.old + weight_in self.new }
+        ensures most { weight_in self.new ≤ parts_in self.new * digits (parts_in self.new) }
+    {
+        let len = text_length(x);
+        let also = text_length(y);
+        prove_eq!(len, also);
+        join_characters(&self.tokens, &mut self.labels, x, y, len, steps);
+    }
+}
+
+// How many characters a token has.
+fn text_length(token: &Tok) -> u32
+    ensures origins { result ≡ length token.now.origins }
+    ensures text { result ≡ length token.now.text }
+{
+    token.text().len() as u32
+}
+
+// The parts of two tokens are joined, one after another.
+fn join_characters<L: Ledger>(
+    tokens: &[Added],
+    labels: &mut Partition,
+    x: &Tok,
+    y: &Tok,
+    len: u32,
+    steps: &mut Steps<L>,
+)
+    requires tokens { AreTokens tokens.now }
+    requires len { len ≡ length x.now.origins }
+    requires place { AtPlace (Begins tokens.now) (Forced (numbers tokens.now x.now.origins) (numbers tokens.now y.now.origins) labels.old) (length labels.old.spots) 0 (numbers tokens.now x.now.origins) (numbers tokens.now y.now.origins) labels.old }
+    ensures labels { labels.new ≡ joined 0 (numbers tokens.now x.now.origins) (numbers tokens.now y.now.origins) labels.old }
+    ensures steps { steps.new ≡ steps.old + joined_parts 0 (numbers tokens.now x.now.origins) (numbers tokens.now y.now.origins) labels.old }
+{
+    let mut at = 0;
+    while at < len {
+        let first = number(tokens, x.origins(at));
+        let second = number(tokens, y.origins(at));
+        let part_len = labels.step(first, second, steps);
+        at += part_len;
+    }
+}
+
+// The positions of a token's characters; there is room for them.
+fn add_places(places: &mut Vec<Pos>, start: Pos, len: u32)
+    requires room { vec_len places.old + len ≤ vec_capacity places.old }
+    requires within { start.at + len < 2 ^ 32 }
+    ensures { places.new.items ≡ places.old.items ++ fresh_places start len }
+{
+    for offset in 0..len {
+        let position = Pos {
+            file: start.file,
+            at: start.at + offset,
+        };
+        places.push(position).unwrap();
+    }
+}

@@ -1,0 +1,23 @@
+//! Parts of added tokens and the classes of parts that must be spelled alike.
+//!
+//! `Classes` takes tokens by their places and links between tokens of equal spelling, whose origins are
+//! added tokens, one after another. Two characters are the same where a chain of links leads from one to
+//! the other, first character to first and so on; a part runs from a character that is the same as a
+//! token's first to before the next such character, or to its token's end; a class is all parts whose
+//! first characters are the same. Where a part begins inside another, the other is cut, and so is every
+//! part of its class. This crate knows positions and links, and neither why tokens are linked nor what
+//! they spell. `join` and the readers take no memory: `add_token` takes the room for every part that its
+//! token can be cut into. Of two classes the one with fewer parts gets the other's number, a tick of
+//! `Steps` for each. Read `specs/Chain.antt` and `specs/ClassTable.antt`, then `class_table.rt`; the
+//! parts by number stand in `partition.rt`.
+#![tactic(auto)]
+
+mod class_table;
+mod partition;
+mod spots;
+mod token_list;
+
+pub use class_table::Classes;
+
+#[cfg(test)]
+mod tests;
