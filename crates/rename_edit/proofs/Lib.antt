@@ -1,0 +1,17 @@
+pub mod ApplyingLemmas
+pub mod ThinUnitLemmas
+pub mod FileLemmas
+pub mod KeptLemmas
+pub mod ReadingLemmas
+pub mod OffenceLemmas
+pub mod RespellingLemmas
+pub mod PlanLemmas
+pub mod EditLemmas
+pub mod AnalysisLemmas
+pub mod EditedLemmas
+pub mod NamesLemmas
+pub mod ClearLemmas
+pub mod ClassLemmas
+pub mod EachTokenLemmas
+pub mod MeaningLemmas
+pub mod ChainLemmas

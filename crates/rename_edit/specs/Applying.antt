@@ -1,0 +1,24 @@
+-- What putting the edits does to the files held and to the counts of what failed.
+use Rattle.std.specs.Prelude.{ℕ, ◌≡◌, ◌⊎◌, ◌+◌, ◌<◌, ◌≤◌, List, Option, IfSome, length, take, slice_get}
+use Rattle.std.specs.Option.{option_map}
+use Rattle.cs_base.specs.Edit.{Edit, with_edits}
+use Rattle.cs_base.specs.Outside.{FileMap, Rose}
+use Rattle.rename_edit.specs.declared.applying.Applied.{Applied}
+use Rattle.rename_edit.specs.declared.applying.Applied.TheVariants.{Done, Failed}
+
+-- Done: every edit is put. Failed: so many edits are put, the next one or not, and no other.
+abbrev pub Applies : List Edit → Option FileMap → Option FileMap → Applied → Type 0
+Applies edits before now Done = now ≡ option_map (with_edits edits) before
+Applies edits before now (Failed written) =
+    (written < length edits)
+    × ((now ≡ option_map (with_edits (take written edits)) before)
+    ⊎ (now ≡ option_map (with_edits (take (written + 1) edits)) before))
+
+-- The counts: that of the reads stands; that of the puts, and the last failed path, stand where all is
+-- done. Where a put failed its count rose, and the last failed path, where told, is that of this edit.
+pub record AppliesCounts (edits : List Edit) (reads reads' puts puts' : ℕ) (last last' : Option (List ℕ)) (applied : Applied) : Type 0 where
+  pub reads_stay : reads' ≡ reads
+  pub grows : puts ≤ puts'
+  pub done : applied ≡ Done → (puts' ≡ puts) × (last' ≡ last)
+  pub failed : (written : ℕ) → applied ≡ Failed written
+      → Rose puts puts' × IfSome last' (λ path. IfSome (slice_get edits written) (λ e. path ≡ e.path))
