@@ -1,0 +1,24 @@
+-- The texts of `--help` and `--version`.
+use Rattle.std.specs.Prelude.{ℕ, List, codes, ◌++◌}
+
+-- `--version`
+unfoldable pub version_text : List ℕ
+version_text = codes "cscout 0.1\n"
+
+-- `--help`: every command, its words, the exit statuses and one example
+unfoldable pub help_text : List ℕ
+help_text =
+    codes "cscout renames identifiers in C programs.\n"
+    ++ codes "\n"
+    ++ codes "cscout WS rename PATH LINE COL NAME\n"
+    ++ codes "    renames the name at line LINE and column COL of the file PATH, in all files of the\n"
+    ++ codes "    workspace file WS, to NAME. Prints `edited PATH COUNT` for each file that changes.\n"
+    ++ codes "cscout --help\n"
+    ++ codes "    prints this text\n"
+    ++ codes "cscout --version\n"
+    ++ codes "    prints the version\n"
+    ++ codes "\n"
+    ++ codes "Exit status: 0 done, 1 refused, 2 bad command line, 3 fault of the workspace, 4 a file could\n"
+    ++ codes "not be read, 5 a file or the output could not be written, 6 out of memory.\n"
+    ++ codes "\n"
+    ++ codes "Example: cscout w.cs rename a.c 1 5 count\n"

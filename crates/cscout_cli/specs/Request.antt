@@ -1,0 +1,67 @@
+-- What the words after the program's name ask for.
+use Rattle.std.specs.Prelude.{ℕ, ◌+◌, ◌-◌, ◌*◌, Bool, false, ◌&&◌, ◌==◌, not, List, [], ◌∷◌, Option, None, Some, codes, fold, length, bytes_eq, nat_le, nat_lt, if◌then◌else◌}
+use Rattle.std.specs.Char.{is_ascii_digit}
+use Rattle.std.specs.List.{list_all}
+use Rattle.std.specs.Str.{byte}
+use Rattle.cs_base.specs.Paths.{normal_path_of}
+
+-- A rename: the workspace file, the place, and the new name.
+pub record RenameValue : Type 0 where
+  pub ws : List ℕ
+  pub path : List ℕ
+  pub line : ℕ
+  pub column : ℕ
+  pub name : List ℕ
+
+-- a rename of these parts
+abbrev pub rename : List ℕ → List ℕ → ℕ → ℕ → List ℕ → RenameValue
+rename ws path line column name = record { ws = ws; path = path; line = line; column = column; name = name }
+
+-- What the program can be asked for.
+pub data RequestValue : Type 0 where
+  help_asked : RequestValue
+  version_asked : RequestValue
+  renaming_asked : RenameValue → RequestValue
+
+-- the number that decimal digits spell
+abbrev pub number_of : List ℕ → ℕ
+number_of digits = fold (λ n digit. 10 * n + (digit - byte "0")) 0 digits
+
+-- the first byte is the digit 0
+abbrev pub begins_with_zero : List ℕ → Bool
+begins_with_zero [] = false
+begins_with_zero (b ∷ word) = b == byte "0"
+
+-- only decimal digits
+abbrev pub are_digits : List ℕ → Bool
+are_digits word = list_all is_ascii_digit word
+
+-- one to nine decimal digits, the first not 0
+abbrev pub is_number : List ℕ → Bool
+is_number word =
+    are_digits word && not (begins_with_zero word) && nat_lt 0 (length word) && nat_le (length word) 9
+
+-- a rename's words: its two numbers are numbers, and the path is taken in its normal form
+abbrev pub rename_of : List ℕ → List ℕ → List ℕ → List ℕ → List ℕ → Option RequestValue
+rename_of ws path line column name =
+    if is_number line && is_number column
+    then Some (renaming_asked (rename ws (normal_path_of path) (number_of line) (number_of column) name))
+    else None
+
+-- a word that stands alone
+abbrev pub alone_of : List ℕ → Option RequestValue
+alone_of word =
+    if bytes_eq word (codes "--help") then Some help_asked
+    else (if bytes_eq word (codes "--version") then Some version_asked else None)
+
+-- six words: the workspace file and a command
+abbrev pub command_of : List ℕ → List ℕ → List ℕ → List ℕ → List ℕ → List ℕ → Option RequestValue
+command_of ws command path line column name =
+    if bytes_eq command (codes "rename") then rename_of ws path line column name else None
+
+-- the request of these words, or none where they are of no form
+abbrev pub asked : List (List ℕ) → Option RequestValue
+asked (word ∷ []) = alone_of word
+asked (ws ∷ command ∷ path ∷ line ∷ column ∷ name ∷ []) =
+    command_of ws command path line column name
+asked words = None

@@ -1,0 +1,201 @@
+// Whole runs over files and sinks in memory, and the adapters over one real file.
+mod tables;
+
+use crate::host::HostFiles;
+use crate::status::Status;
+use crate::top::run;
+use cs_base::{Files, Got, MemFiles, MemSink, Memory, Put};
+use std::alloc::Global;
+use std::fs::Permissions;
+use std::os::unix::fs::PermissionsExt;
+use std::process::Abort;
+use std::test::Fail;
+use std::{env, fs, process};
+use tables::{FAILING, ROWS, Row, TWO_FILES};
+
+// Adds the files of the text.
+fn fill(files: &mut MemFiles, text: &str) -> Result<(), Memory> {
+    for block in text.split('@') {
+        if let Some((path, bytes)) = block.split_once(':') {
+            if files.bytes(path).is_none() {
+                files.add(path, bytes.as_bytes())?;
+            }
+        }
+    }
+    Ok(())
+}
+
+// The words, which single spaces part.
+fn words_of(alloc: Global, text: &str) -> Result<Vec<String>, Memory> {
+    let mut words = Vec::new(alloc);
+    for word in text.split(' ') {
+        words.push(String::from_str(alloc, word)?)?;
+    }
+    Ok(words)
+}
+
+// Whether each file of the text is held.
+fn holds(files: &MemFiles, text: &str) -> bool {
+    for block in text.split('@') {
+        if let Some((path, bytes)) = block.split_once(':') {
+            if files.bytes(path) != Some(bytes.as_bytes()) {
+                return false;
+            }
+        }
+    }
+    true
+}
+
+// A sink with room, whose write of this number fails.
+fn sink(alloc: Global, call: u32) -> Result<MemSink, Memory> {
+    let mut sink = MemSink::new(alloc);
+    sink.reserve(2_000)?;
+    if call > 0 {
+        sink.fail_at(call)?;
+    }
+    Ok(sink)
+}
+
+// Runs the row, and asserts what it leaves.
+fn check<R: Abort + AllocGlobal>(
+    rt: &R,
+    row: &Row,
+    call: u32,
+    out_call: u32,
+    err_call: u32,
+) -> Result<(), Memory> {
+    let mut files = MemFiles::new(rt.alloc());
+    fill(&mut files, row.files)?;
+    files.reserve(2_000)?;
+    if call > 0 {
+        files.fail_at(call)?;
+    }
+    let mut out = sink(rt.alloc(), out_call)?;
+    let mut err = sink(rt.alloc(), err_call)?;
+    let words = words_of(rt.alloc(), row.words)?;
+    let status = run(rt.alloc(), words.as_slice(), &mut files, &mut out, &mut err);
+    assert_eq!(rt; status, row.status, "status at {}", row.words);
+    assert!(rt;
+        out.bytes() == row.out.as_bytes(),
+        "output at {}",
+        row.words
+    );
+    assert!(rt;
+        err.bytes() == row.err.as_bytes(),
+        "message at {}",
+        row.words
+    );
+    assert!(rt; holds(&files, row.after), "files at {}", row.words);
+    Ok(())
+}
+
+#[test]
+fn runs_answer_as_worked_by_hand(rt: HostRuntime) -> Result<(), Memory> {
+    for row in &ROWS {
+        check(&rt, row, 0, 0, 0)?;
+    }
+    for failing in &FAILING {
+        check(
+            &rt,
+            &failing.row,
+            failing.call,
+            failing.out_call,
+            failing.err_call,
+        )?;
+    }
+    Ok(())
+}
+
+// Files in memory, one read of which finds no memory.
+#[derive(Drop)]
+struct Forgetful {
+    files: MemFiles,
+    reads: u32,
+    forgets: u32,
+}
+
+impl Files for Forgetful {
+    ghost use Rattle.std.specs.Prelude.{Some};
+
+    ghost held = { λ f. Some f.files.files };
+
+    ghost failed_reads = { λ f. f.files.failed_reads };
+
+    ghost failed_puts = { λ f. f.files.failed_puts };
+
+    ghost last_failed = { λ f. f.files.last_failed };
+
+    fn read(&mut self, alloc: Global, path: &str) -> Got {
+        self.reads = self.reads.saturating_add(1);
+        if self.reads == self.forgets {
+            return Got::Memory;
+        }
+        self.files.read(alloc, path)
+    }
+
+    fn put(&mut self, path: &str, bytes: &[u8]) -> Put {
+        self.files.put(path, bytes)
+    }
+}
+
+#[test]
+fn a_read_without_memory_leaves_all_files(rt: HostRuntime) -> Result<(), Memory> {
+    for forgets in 1..4 {
+        let mut files = MemFiles::new(rt.alloc());
+        fill(&mut files, TWO_FILES)?;
+        files.reserve(2_000)?;
+        let mut files = Forgetful {
+            files,
+            reads: 0,
+            forgets,
+        };
+        let mut out = sink(rt.alloc(), 0)?;
+        let mut err = sink(rt.alloc(), 0)?;
+        let words = words_of(rt.alloc(), "w.cs rename a.c 1 5 count")?;
+        let status = run(rt.alloc(), words.as_slice(), &mut files, &mut out, &mut err);
+        assert_eq!(rt; status, Status::Memory);
+        assert!(rt; out.bytes().is_empty());
+        assert!(rt; err.bytes() == "cscout: out of memory\n".as_bytes());
+        assert!(rt; holds(&files.files, TWO_FILES));
+    }
+    Ok(())
+}
+
+// What a read gave, as text.
+fn shown(got: &Got) -> &[u8] {
+    match got {
+        Got::Bytes(bytes) => bytes.as_slice(),
+        Got::Absent => b"absent",
+        Got::Failed => b"failed",
+        Got::Memory => b"memory",
+    }
+}
+
+#[test]
+fn adapters_read_and_replace_a_real_file(rt: HostRuntime) -> Result<(), Fail> {
+    let folder = env::temp_dir(&rt)?;
+    let id = process::id(rt.process());
+    let path = format!(in rt.alloc(); "{}/cscout-test-{id}", folder.as_str())?;
+    let beside = format!(in rt.alloc(); "{}.cscout-new", path.as_str())?;
+    let below = format!(in rt.alloc(); "{}/below", path.as_str())?;
+    fs::write(&rt, path.as_str(), "old")?;
+    fs::set_permissions(&rt, path.as_str(), Permissions::from_mode(0o640))?;
+    let mut files = HostFiles::new(&rt)?;
+    assert!(rt; shown(&files.read(rt.alloc(), path.as_str())) == "old".as_bytes());
+    assert_eq!(rt; files.put(path.as_str(), b"new bytes"), Put::Done);
+    assert!(rt; shown(&files.read(rt.alloc(), path.as_str())) == "new bytes".as_bytes());
+    let mode = fs::metadata(&rt, path.as_str())?.permissions().mode();
+    assert_eq!(rt; mode & 0o777, 0o640);
+    assert!(rt; shown(&files.read(rt.alloc(), beside.as_str())) == "absent".as_bytes());
+    assert!(rt; shown(&files.read(rt.alloc(), below.as_str())) == "absent".as_bytes());
+    assert!(rt; shown(&files.read(rt.alloc(), folder.as_str())) == "failed".as_bytes());
+    assert_eq!(rt; files.put(below.as_str(), b"new"), Put::Failed);
+    // A file that stands where the file beside would is not touched, and the put fails.
+    fs::write(&rt, beside.as_str(), "mine")?;
+    assert_eq!(rt; files.put(path.as_str(), b"newer"), Put::Failed);
+    assert!(rt; shown(&files.read(rt.alloc(), beside.as_str())) == "mine".as_bytes());
+    assert!(rt; shown(&files.read(rt.alloc(), path.as_str())) == "new bytes".as_bytes());
+    fs::remove_file(&rt, beside.as_str())?;
+    fs::remove_file(&rt, path.as_str())?;
+    Ok(())
+}
