@@ -50,7 +50,7 @@ fresh_part-at c (suc n) o h = elim (cases_eq o n) [
   | inr ne ↦ slice_get-append_left (fresh_part c n) (spot c n ∷ []) o (omega (arith, length-fresh_part c n)) ∙ fresh_part-at c n o (omega arith)
 ]
 
-inner-append : (xs ys : List Spot) → inner (xs ++ ys) ≡ inner xs + inner ys
+pub inner-append : (xs ys : List Spot) → inner (xs ++ ys) ≡ inner xs + inner ys
 inner-append [] ys = let e : inner ys ≡ 0 + inner ys = omega arith in e
 inner-append (s ∷ xs) ys = omega (arith, inner-append xs ys)
 
@@ -59,7 +59,7 @@ unfolding fresh_part
 inner-fresh_part c zero = refl
 inner-fresh_part c (suc n) = omega (arith, inner-append (fresh_part c (suc n)) (spot c (suc n) ∷ []), inner-fresh_part c n)
 
-inner-fresh : (c n : ℕ) → 0 < n → inner (fresh_part c n) + 1 ≡ n
+pub inner-fresh : (c n : ℕ) → 0 < n → inner (fresh_part c n) + 1 ≡ n
 inner-fresh c zero h = absurd (omega arith)
 inner-fresh c (suc n) h = omega (arith, inner-fresh_part c n)
 

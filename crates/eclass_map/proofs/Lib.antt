@@ -31,3 +31,17 @@ pub mod TickFacts
 pub mod KeptFacts
 pub mod LinkLaws
 pub mod CallerFacts
+pub mod RegrownFacts
+pub mod PlaceFacts
+pub mod RegrownRows
+pub mod SettledFacts
+pub mod TallyFacts
+pub mod PlaceCounts
+pub mod MovedPlaces
+pub mod PlaceEdges
+pub mod ResizedTokens
+pub mod ResizedOrder
+pub mod ResizedKept
+pub mod ResizedLaws
+pub mod ResizeCall
+pub mod HistoryFacts

@@ -9,6 +9,10 @@ use Rattle.eclass_map.specs.declared.token_list.Added.{Added}
 abbrev pub along : Pos → ℕ → Pos
 along p o = record { file = p.file; at = p.at + o }
 
+-- the character behind a part
+abbrev pub end_of : Part → Pos
+end_of part = along part.start part.len
+
 -- the part holds the character
 abbrev pub holds : Part → Pos → Bool
 holds part p = nat_eq part.start.file p.file && (nat_le part.start.at p.at && nat_lt (p.at - part.start.at) part.len)

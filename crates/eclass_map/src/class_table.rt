@@ -1,16 +1,19 @@
 // The table of classes: added tokens by their places, and the partition of their characters by number.
-ghost use Rattle.std.specs.Prelude.{ℕ, ◌≡◌, ◌+◌, ◌*◌, ◌^◌, ◌<◌, ◌≤◌, List, [], ◌∷◌, ◌++◌, length, Some, IsSome, slice_get, OnOk, OnErr, vec_len, vec_capacity};
-ghost use Rattle.eclass_map.specs.ClassTable.{Table, part_of, class_in, members_of, part_with, added_tokens, part_of_file, AddsToken, fresh_places, with_token, IsFree, AreWhole, SameOrLinked, HasParts, AreLinks, relabelled_in, weight_in, parts_in, character_count, label};
+ghost use Rattle.std.specs.Prelude.{ℕ, ◌≡◌, ◌+◌, ◌-◌, ◌*◌, ◌^◌, ◌<◌, ◌≤◌, List, [], ◌∷◌, ◌++◌, length, Some, IsSome, slice_get, OnOk, OnErr, vec_len, vec_capacity};
+ghost use Rattle.eclass_map.specs.ClassTable.{Table, part_of, class_in, members_of, part_with, added_tokens, part_of_file, AddsToken, fresh_places, with_token, IsFree, AreWhole, SameOrLinked, HasParts, AreLinks, IsAdded, relabelled_in, weight_in, parts_in, character_count, label};
+ghost use Rattle.eclass_map.specs.History.{History};
+ghost use Rattle.eclass_map.specs.Resized.{moved_to, count_after, Resizes};
 ghost use Rattle.eclass_map.specs.Labels.{no_labels, joined, joined_parts};
 ghost use Rattle.eclass_map.specs.Chain.{Least};
 ghost use Rattle.eclass_map.specs.Walk.{AtPlace, Forced};
-ghost use Rattle.eclass_map.specs.Positions.{index_at, numbers, Begins, AreTokens};
+ghost use Rattle.eclass_map.specs.Positions.{end_of, index_at, numbers, Begins, AreTokens};
 ghost use Rattle.eclass_map.specs.Weight.{digits};
 ghost use Rattle.eclass_map.specs.Kept.{IsKept};
 ghost use Rattle.cs_base.specs.Token.{Token};
+ghost use Rattle.cs_base.specs.declared.positions.Part.{Part};
 
 use crate::partition::Partition;
-use crate::token_list::{Added, count_begun, find, number};
+use crate::token_list::{Added, count_begun, find, number, place_tokens, settle};
 use cs_base::{Memory, Part, Pos, Steps, Tok};
 use std::alloc::Global;
 use std::marker::Model;
@@ -39,6 +42,7 @@ impl Model for Classes {
 impl Classes {
     pub fn new(alloc: Global) -> Classes
         ensures links { AreLinks [] result }
+        ensures history { History result 0 0 }
         ensures parts { HasParts result }
         ensures exact { result ≡ record { tokens = []; places = []; labels = no_labels } }
     {
@@ -62,6 +66,7 @@ impl Classes {
         ensures links { OnOk result ((links : List (Token × Token)) → AreLinks links self.old → AreLinks links self.new) }
         ensures count { OnOk result (character_count self.new ≡ character_count self.old + len) }
         ensures weight { OnOk result (weight_in self.new ≡ weight_in self.old) }
+        ensures history { OnOk result ((r n : ℕ) → History self.old r n → History self.new r n) }
         ensures exact { OnOk result (self.new ≡ with_token (part_of_file file at len) self.old) }
         ensures err { OnErr result (self.new ≡ self.old) }
     {
@@ -74,6 +79,31 @@ impl Classes {
         let first = self.places.len() as u32;
         self.tokens.insert(index, Added { place, first }).unwrap();
         add_places(&mut self.places, start, len);
+        Ok(())
+    }
+
+    /// Gives each member of a class the length `len`: every token and part moves, in its file, by the growth of
+    /// the members before it, and the class numbers stay. It takes the room for every part that the tokens can
+    /// be cut into.
+    pub fn resize(&mut self, class: u32, len: u32) -> Result<(), Memory>
+        requires held { 0 < length (members_of self.old class) }
+        requires some { 0 < len }
+        requires short { count_after class len self.old < 2 ^ 32 }
+        requires within { (token : Part) → IsAdded self.old token → (moved_to class len self.old (end_of token)).at < 2 ^ 32 }
+        ensures moved { OnOk result (Resizes class len self.old self.new) }
+        ensures parts { OnOk result (HasParts self.new) }
+        ensures count { OnOk result (character_count self.new ≡ count_after class len self.old) }
+        ensures weight { OnOk result (weight_in self.new ≡ weight_in self.old) }
+        ensures history { OnOk result ((r n : ℕ) → History self.old r n → History self.new r n) }
+        ensures err { OnErr result (self.new ≡ self.old) }
+    {
+        let numbers = self.labels.numbers(class, len)?;
+        let alloc = *self.tokens.allocator();
+        let tokens = settle(alloc, &self.tokens, &numbers)?;
+        let places = place_tokens(alloc, &tokens, numbers[self.places.len()])?;
+        self.labels.regrow(class, len, &numbers)?;
+        self.tokens = tokens;
+        self.places = places;
         Ok(())
     }
 
@@ -130,6 +160,8 @@ impl Classes {
     /// The first member of the walk of a class, none where no class has the number.
     pub fn first_member(&self, class: u32) -> Option<Part>
         ensures answer { result ≡ slice_get (members_of self.now class) 0 }
+        // What a caller of `resize` can go by.
+        ensures few { length (members_of self.now class) ≤ character_count self.now }
     {
         match self.labels.first(class) {
             Some(x) => Some(self.member(class, x)),
@@ -189,6 +221,8 @@ impl Classes {
         // At least one tick for each character that began a part and lies in a part of another number now.
         ensures enough { relabelled_in self.old self.new + steps.old ≤ steps.new }
         ensures bound { steps.new + weight_in self.old ≤ steps.old + weight_in self.new }
+        // What all joins so far relabelled, and their ticks, in sum: no more than `joins_relabel_little` says.
+        ensures history { (r n : ℕ) → History self.old r n → History self.new (r + relabelled_in self.old self.new) (n + (steps.new - steps.old)) }
         ensures most { weight_in self.new ≤ parts_in self.new * digits (parts_in self.new) }
     {
         let len = text_length(x);

@@ -8,16 +8,20 @@
 //! part of its class. This crate knows positions and links, and neither why tokens are linked nor what
 //! they spell. `join` and the readers take no memory: `add_token` takes the room for every part that its
 //! token can be cut into. Of two classes the one with fewer parts gets the other's number, a tick of
-//! `Steps` for each. Read `specs/Chain.antt` and `specs/ClassTable.antt`, then `class_table.rt`; the
-//! parts by number stand in `partition.rt`.
+//! `Steps` for each. `resize` gives the parts of a class another length, and moves what stands behind
+//! them in their files. Read `specs/Chain.antt`, `specs/ClassTable.antt` and `specs/Resized.antt`, then
+//! `class_table.rt`; the parts by number stand in `partition.rt`.
 #![tactic(auto)]
 
 mod class_table;
+mod laws;
 mod partition;
+mod regrowth;
 mod spots;
 mod token_list;
 
 pub use class_table::Classes;
+pub use laws::joins_relabel_little;
 
 #[cfg(test)]
 mod tests;

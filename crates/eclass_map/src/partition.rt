@@ -1,10 +1,12 @@
 // Characters in parts and parts in classes, by number: the labels of the characters, the links of the walks, and
 // a row for each class number.
-ghost use Rattle.std.specs.Prelude.{ℕ, ◌≡◌, ◌+◌, ◌-◌, ◌^◌, ◌<◌, ◌≤◌, ◌++◌, length, replicate, Some, slice_get, slice_index_or, OnOk, OnErr, vec_len, vec_capacity};
+ghost use Rattle.std.specs.Prelude.{ℕ, ◌≡◌, ◌+◌, ◌-◌, ◌^◌, ◌<◌, ◌≤◌, ◌++◌, length, replicate, Some, slice_get, slice_index_or, IfOk, OnOk, OnErr, vec_len, vec_capacity};
 ghost use Rattle.eclass_map.specs.Labels.{Labels, spot, no_labels, fresh_part, added, class_at, walk_at, length_at, united, cut, leveled, merged, moved_parts, common, step, step_parts};
 ghost use Rattle.eclass_map.specs.Table.{In, IsTable, IsCut, IsUnion, AreClasses};
+ghost use Rattle.eclass_map.specs.Regrown.{place, regrown, ArePlaces};
 ghost use Rattle.eclass_map.specs.Links.{members, with_part, with_parts, with_links};
 
+use crate::regrowth::{move_rows, new_links, new_numbers, new_spots};
 use crate::spots::Spot;
 use cs_base::{Memory, Steps};
 use std::alloc::Global;
@@ -104,7 +106,7 @@ impl Partition {
         self.nexts.reserve(len as usize)?;
         self.rows.reserve((first - class + len) as usize)?;
         add_spots(&mut self.spots, class, len);
-        add_links(&mut self.nexts, len);
+        add_links(&mut self.nexts, 0, len);
         let row = Row {
             size: 1,
             first,
@@ -138,6 +140,44 @@ impl Partition {
         }
         let row = self.rows[class as usize];
         if row.size > 0 { Some(row.first) } else { None }
+    }
+}
+
+impl Partition {
+    /// The number of each character once each part of a class has `len` characters, and behind them how many
+    /// there are then.
+    pub fn numbers(&self, class: u32, len: u32) -> Result<Vec<u32>, Memory>
+        requires { place class len self.now.spots (length self.now.spots) < 2 ^ 32 }
+        ensures { IfOk result (λ numbers. ArePlaces class len self.now.spots numbers.items) }
+    {
+        new_numbers(*self.spots.allocator(), &self.spots, class, len)
+    }
+
+    /// Each part of a class gets `len` characters; `numbers` tells the number of each character then.
+    pub fn regrow(&mut self, class: u32, len: u32, numbers: &[u32]) -> Result<(), Memory>
+        requires known { class < length self.old.walks }
+        requires some { 0 < len }
+        requires numbers { ArePlaces class len self.old.spots numbers.now }
+        requires short { place class len self.old.spots (length self.old.spots) < 2 ^ 32 }
+        ensures ok { OnOk result (self.new ≡ regrown class len self.old) }
+        ensures err { OnErr result (self.new ≡ self.old) }
+    {
+        let alloc = *self.spots.allocator();
+        let count = numbers[self.spots.len()];
+        let spots = new_spots(alloc, &self.spots, class, len, count)?;
+        let nexts = new_links(alloc, &self.spots, &self.nexts, numbers, class, len)?;
+        self.rows.reserve(count as usize - self.rows.len())?;
+        move_rows(&mut self.rows, numbers);
+        let row = self.rows[class as usize];
+        self.rows[class as usize] = Row {
+            size: row.size,
+            first: row.first,
+            last: row.last,
+            len,
+        };
+        self.spots = spots;
+        self.nexts = nexts;
+        Ok(())
     }
 }
 
@@ -310,22 +350,24 @@ fn write_part(spots: &mut [Spot], class: u32, x: u32, len: u32)
     }
 }
 
-// The labels of a new part; there is room for them.
-fn add_spots(spots: &mut Vec<Spot>, class: u32, len: u32)
+/// The labels of a new part; there is room for them.
+pub fn add_spots(spots: &mut Vec<Spot>, class: u32, len: u32)
     requires { vec_len spots.old + len ≤ vec_capacity spots.old }
-    ensures { spots.new.items ≡ spots.old.items ++ fresh_part class len }
+    ensures items { spots.new.items ≡ spots.old.items ++ fresh_part class len }
+    ensures room { vec_capacity spots.old ≤ vec_capacity spots.new }
 {
     for offset in 0..len {
         spots.push(Spot { class, offset }).unwrap();
     }
 }
 
-// Links for as many characters; there is room for them.
-fn add_links(nexts: &mut Vec<u32>, len: u32)
+/// One link for each of so many characters; there is room for them.
+pub fn add_links(nexts: &mut Vec<u32>, next: u32, len: u32)
     requires { vec_len nexts.old + len ≤ vec_capacity nexts.old }
-    ensures { nexts.new.items ≡ nexts.old.items ++ replicate len 0 }
+    ensures items { nexts.new.items ≡ nexts.old.items ++ replicate len next }
+    ensures room { vec_capacity nexts.old ≤ vec_capacity nexts.new }
 {
     for _offset in 0..len {
-        nexts.push(0).unwrap();
+        nexts.push(next).unwrap();
     }
 }

@@ -1,6 +1,7 @@
 // Tables made by a few joins, with the parts and classes that were worked out by hand.
-ghost use Rattle.std.specs.Prelude.{◌≡◌, ◌<◌, IfOk};
-ghost use Rattle.eclass_map.specs.ClassTable.{IsAdded, part_of_file};
+ghost use Rattle.std.specs.Prelude.{◌≡◌, ◌+◌, ◌<◌, ◌≤◌, [], ◌∷◌, Some, IfOk, codes};
+ghost use Rattle.eclass_map.specs.ClassTable.{IsAdded, part_of_file, character_count};
+ghost use Rattle.cs_base.specs.declared.positions.Part.{Part};
 
 use crate::class_table::Classes;
 use cs_base::{Kind, Memory, Part, Pos, Steps, Tok};
@@ -12,6 +13,15 @@ fn position(at: u32) -> Pos
     ensures { result ≡ record { file = 1; at = at } }
 {
     Pos { file: 1, at }
+}
+
+fn part(at: u32, len: u32) -> Part
+    ensures { result ≡ part_of_file 1 at len }
+{
+    Part {
+        start: position(at),
+        len,
+    }
 }
 
 // Tokens `ab`, `a` and `b` at 0, 5 and 8 of file 1.
@@ -94,5 +104,82 @@ fn a_pasted_name_cuts_a_declared_one(rt: HostRuntime) -> Result<(), Memory> {
         assert_eq!(rt; after(&classes, second), None, "at {at}");
     }
     assert_eq!(rt; classes.part_at(position(2)), None);
+    Ok(())
+}
+
+// Tokens of one character at 0 and 2 and one of three at 4 of file 1.
+fn short_tokens(alloc: Global) -> Result<Classes, Memory>
+    ensures added { IfOk result (λ t. IsAdded t (part_of_file 1 0 1) × IsAdded t (part_of_file 1 2 1)) }
+    ensures few { IfOk result (λ t. character_count t ≡ 5) }
+    ensures near { IfOk result (λ t. (token : Part) → IsAdded t token → token.start.at + token.len ≤ 7) }
+{
+    let mut classes = Classes::new(alloc);
+    classes.add_token(1, 0, 1)?;
+    classes.add_token(1, 2, 1)?;
+    classes.add_token(1, 4, 3)?;
+    Ok(classes)
+}
+
+// A token of one character.
+fn letter(alloc: Global, at: u32) -> Result<Tok, Memory>
+    ensures { IfOk result (λ token. (token.text ≡ codes "a") × (token.origins ≡ Some (record { file = 1; at = at }) ∷ [])) }
+{
+    Tok::new(
+        alloc,
+        Kind::Ident,
+        b"a",
+        &[Some(position(at))],
+        false,
+        position(at),
+        1,
+        true,
+    )
+}
+
+// The first two of these tokens are joined.
+fn joined_letters<L: Ledger>(alloc: Global, blank: Blank) -> Result<Classes, Memory>
+    requires name { blank.name ≡ L.name }
+    requires parts { blank.parts ≡ L.parts }
+    requires some { 0 < blank.parts }
+    ensures few { IfOk result (λ t. character_count t ≡ 5) }
+    ensures near { IfOk result (λ t. (token : Part) → IsAdded t token → token.start.at + token.len ≤ 7) }
+{
+    let mut classes = short_tokens(alloc)?;
+    let x = letter(alloc, 0)?;
+    let y = letter(alloc, 2)?;
+    let mut steps = Steps::<L>::new(blank);
+    classes.join(&x, &y, &mut steps);
+    Ok(classes)
+}
+
+// The class of this number gets five characters, where there is one.
+fn lengthen(classes: &mut Classes, class: u32) -> Result<(), Memory>
+    requires few { character_count classes.old ≡ 5 }
+    requires near { (token : Part) → IsAdded classes.old token → token.start.at + token.len ≤ 7 }
+{
+    if classes.first_member(class).is_some() {
+        classes.resize(class, 5)?;
+    }
+    Ok(())
+}
+
+#[test]
+fn a_longer_part_moves_what_stands_behind_it(rt: HostRuntime) -> Result<(), Memory> {
+    let mut classes = joined_letters::<Brand>(rt.alloc(), Blank::new(1))?;
+    let pair = classes.class_of(part(0, 1));
+    let other = classes.class_of(part(4, 3));
+    assert_eq!(rt; pair, Some(0));
+    assert_eq!(rt; other, Some(2));
+    lengthen(&mut classes, 0)?;
+    for (at, len, class) in [(0, 5, pair), (6, 5, pair), (12, 3, other)] {
+        assert_eq!(rt;
+            classes.part_at(position(at)),
+            Some(part(at, len)),
+            "at {at}"
+        );
+        assert_eq!(rt; classes.class_of(part(at, len)), class, "at {at}");
+    }
+    assert_eq!(rt; classes.class_of(part(0, 1)), None);
+    assert_eq!(rt; classes.part_at(position(15)), None);
     Ok(())
 }

@@ -1,8 +1,10 @@
 // The added tokens in the order of their places, and which of them holds a character.
-ghost use Rattle.std.specs.Prelude.{ℕ, ◌≡◌, ◌+◌, ◌<◌, ◌≤◌, length, Some, true, false, slice_get};
-ghost use Rattle.eclass_map.specs.Positions.{holds, index_at, number_of, begins_by, AreTokens};
+ghost use Rattle.std.specs.Prelude.{ℕ, ◌≡◌, ◌+◌, ◌^◌, ◌<◌, ◌⊎◌, ◌≤◌, length, Some, true, false, slice_get, slice_index_or, IfOk};
+ghost use Rattle.eclass_map.specs.Positions.{along, holds, index_at, number_of, begins_by, AreTokens};
+ghost use Rattle.eclass_map.specs.Settled.{no_text, settled, settled_token, AreNumbered, AreApart, ArePlaced, Fits};
 
-use cs_base::{Part, Pos};
+use cs_base::{Memory, Part, Pos};
+use std::alloc::Global;
 
 /// An added token: its characters in the file, and the number of the first of them.
 #[derive(Clone, Copy, Drop)]
@@ -71,4 +73,97 @@ pub fn part_holds(part: Part, pos: Pos) -> bool
     ensures { result ≡ holds part pos }
 {
     part.start.file == pos.file && (part.start.at <= pos.at && pos.at - part.start.at < part.len)
+}
+
+/// The tokens once their characters have other numbers: the gaps between them stay.
+pub fn settle(alloc: Global, tokens: &[Added], numbers: &[u32]) -> Result<Vec<Added>, Memory>
+    requires tokens { AreTokens tokens.now }
+    requires numbers { AreNumbered tokens.now numbers.now }
+    requires within { Fits tokens.now }
+    requires fits { Fits (settled numbers.now no_text 0 tokens.now) }
+    ensures { IfOk result (λ all. all.items ≡ settled numbers.now no_text 0 tokens.now) }
+{
+    let mut all = Vec::with_capacity(alloc, tokens.len())?;
+    let mut from = Pos { file: 0, at: 0 };
+    let mut to = 0;
+    for index in 0..tokens.len() {
+        let token = settled_one(tokens[index], numbers, from, to);
+        all.push(token).unwrap();
+        from = end_of(tokens[index].place);
+        to = token.place.start.at + token.place.len;
+    }
+    Ok(all)
+}
+
+// A token, where the one before it ended at `from` and now ends at `to`.
+fn settled_one(token: Added, numbers: &[u32], from: Pos, to: u32) -> Added
+    requires first { (x : ℕ) × (slice_get numbers.now token.first ≡ Some x) }
+    requires ends { (y : ℕ) × (slice_get numbers.now (token.first + token.place.len) ≡ Some y) }
+    requires grows { slice_index_or numbers.now token.first 0 ≤ slice_index_or numbers.now (token.first + token.place.len) 0 }
+    requires numbered { token.first + token.place.len < 2 ^ 32 }
+    requires behind { from.file ≡ token.place.start.file → from.at ≤ token.place.start.at }
+    requires fits { (settled_token numbers.now from to token).place.start.at < 2 ^ 32 }
+    ensures { result ≡ settled_token numbers.now from to token }
+{
+    let place = token.place;
+    let at = if place.start.file == from.file {
+        to + (place.start.at - from.at)
+    } else {
+        place.start.at
+    };
+    let first = numbers[token.first as usize];
+    let behind = numbers[(token.first + place.len) as usize];
+    Added {
+        place: Part {
+            start: Pos {
+                file: place.start.file,
+                at,
+            },
+            len: behind - first,
+        },
+        first,
+    }
+}
+
+// The character behind a part.
+fn end_of(part: Part) -> Pos
+    requires { part.start.at + part.len < 2 ^ 32 }
+    ensures { result ≡ along part.start part.len }
+{
+    Pos {
+        file: part.start.file,
+        at: part.start.at + part.len,
+    }
+}
+
+/// The positions of the characters of the tokens, by their numbers; `count` is how many there are.
+pub fn place_tokens(alloc: Global, tokens: &[Added], count: u32) -> Result<Vec<Pos>, Memory>
+    requires within { (k : ℕ) (r : Added) → slice_get tokens.now k ≡ Some r → r.first + r.place.len ≤ count }
+    requires fits { Fits tokens.now }
+    requires apart { AreApart tokens.now }
+    ensures long { IfOk result (λ places. length places.items ≡ count) }
+    ensures placed { IfOk result (λ places. ArePlaced tokens.now places.items) }
+{
+    let mut places = vec![in alloc; Pos { file: 0, at: 0 }; count as usize]?;
+    for index in 0..tokens.len() {
+        write_places(&mut places, tokens[index]);
+    }
+    Ok(places)
+}
+
+// The positions of the characters of a token.
+fn write_places(places: &mut [Pos], token: Added)
+    requires within { token.first + token.place.len ≤ length places.old }
+    requires fits { token.place.start.at + token.place.len < 2 ^ 32 }
+    ensures long { length places.new ≡ length places.old }
+    ensures placed { (o : ℕ) → o < token.place.len → slice_get places.new (token.first + o) ≡ Some (along token.place.start o) }
+    ensures others { (i : ℕ) → (i < token.first) ⊎ (token.first + token.place.len ≤ i) → slice_get places.new i ≡ slice_get places.old i }
+{
+    let start = token.place.start;
+    for offset in 0..token.place.len {
+        places[token.first as usize + offset as usize] = Pos {
+            file: start.file,
+            at: start.at + offset,
+        };
+    }
 }

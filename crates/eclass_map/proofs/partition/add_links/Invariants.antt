@@ -4,6 +4,7 @@ use Rattle.eclass_map.proofs.partition.add_links.Given as goal
 
 abbrev pub invariant-loop-offset : goal.invariant-loop-offset
 invariant-loop-offset l = record {
-  items : l.nexts.items ≡ l.initial.nexts.items ++ replicate l._offset 0;
+  items : l.nexts.items ≡ l.initial.nexts.items ++ replicate l._offset l.next;
+  kept : vec_capacity l.initial.nexts ≤ vec_capacity l.nexts;
   room : vec_len l.nexts + (l.len - l._offset) ≤ vec_capacity l.nexts;
 }

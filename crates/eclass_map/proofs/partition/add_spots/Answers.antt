@@ -7,6 +7,7 @@ use Rattle.eclass_map.proofs.partition.add_spots.Goals as goal
 pub loop-offset-init : goal.loop-offset-init
 loop-offset-init c = record {
   items = sym (ap (λ v. c.args.spots.now.items ++ v) (fresh_part_none c.args.class) ∙ append-nil c.args.spots.now.items);
+  kept = omega arith;
   room = omega arith;
 }
 
@@ -18,5 +19,6 @@ loop-offset-preserved c =
     record {
       items = pushed ∙ ap (λ v. v ++ spot c.args.class offset ∷ []) c.loop-offset.invariant.items
           ∙ append_assoc old (fresh_part c.args.class offset) (spot c.args.class offset ∷ []) ∙ ap (λ v. old ++ v) (sym (fresh_part_more c.args.class offset));
+      kept = grind arith;
       room = grind arith;
     }

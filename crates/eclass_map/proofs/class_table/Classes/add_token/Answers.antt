@@ -17,6 +17,7 @@ use Rattle.eclass_map.proofs.PartLaws.{has_parts}
 use Rattle.eclass_map.proofs.AddTokenFacts.{AddIn, entry, IsKept-added}
 use Rattle.eclass_map.proofs.InsertFacts.{begun_count_is, length-fresh_places}
 use Rattle.eclass_map.proofs.AddRelation.{with_token_is, adds_token}
+use Rattle.eclass_map.specs.History.History.{kept as keeps}
 use Rattle.eclass_map.proofs.class_table.Classes.add_token.Goals as goal
 
 halved_in : (t : Table) (tokens : List Added) (p : Pos) (n : ℕ) → tokens ≡ t.tokens → ((k : ℕ) (r : Added) → k < n → slice_get tokens k ≡ Some r → begins_by r p ≡ true) → ((k : ℕ) (r : Added) → n ≤ k → slice_get tokens k ≡ Some r → begins_by r p ≡ false) → Halved t.tokens p n
@@ -172,3 +173,18 @@ returns-clause-weight c =
     let places : c.add_places.new.places.items ≡ t.places ++ fresh_places part.start part.len = search rules in
     let labels : c.add.new.self ≡ added part.len t.labels = search rules in
     weight_new part c.args.self.now t _ (sym c.self.view_is) (exact_new part c.args.self.now t _ _ _ (sym c.self.view_is) tokens places labels)
+
+pub returns-clause-history : goal.returns-clause-history
+returns-clause-history c =
+    let t = table_of c.self.inside.tokens.items c.self.inside.places.items c.self.inside.labels in
+    let part = part_of_file c.args.file c.args.at c.args.len in
+    let h = given part c.args.self.now t c.deref.result.now c.count_begun-index.result (sym c.self.view_is) c.deref.ensures.value c.self.invariant c.requires.some c.requires.within c.requires.short c.requires.free
+    c.count_begun-index.ensures.within c.count_begun-index.ensures.before c.count_begun-index.ensures.behind in
+    let index = counted part t c.deref.result.now c.count_begun-index.result c.deref.ensures.value c.count_begun-index.ensures.within c.count_begun-index.ensures.before c.count_begun-index.ensures.behind in
+    let first : c.len-first.result ≡ length t.places = search rules in
+    let inserted : c.insert.new.self.items ≡ insert t.tokens c.count_begun-index.result (record { place = part; first = c.len-first.result }) = search rules in
+    let tokens : c.insert.new.self.items ≡ insert t.tokens (begun_count t.tokens part.start) (entry part t) =
+    inserted ∙ ap (λ v. insert t.tokens c.count_begun-index.result (record { place = part; first = v })) first ∙ ap (λ v. insert t.tokens v (entry part t)) (sym index) in
+    let places : c.add_places.new.places.items ≡ t.places ++ fresh_places part.start part.len = search rules in
+    let labels : c.add.new.self ≡ added part.len t.labels = search rules in
+    λ r n past. keeps past (weight_new part c.args.self.now t _ (sym c.self.view_is) (exact_new part c.args.self.now t _ _ _ (sym c.self.view_is) tokens places labels))

@@ -14,6 +14,7 @@ use Rattle.eclass_map.proofs.LinkLaws.{links_join}
 use Rattle.eclass_map.proofs.PartLaws.{has_parts}
 use Rattle.eclass_map.proofs.WeightFacts.{weight-joined, weight-most}
 use Rattle.eclass_map.proofs.TickFacts.{relabelled-joined}
+use Rattle.eclass_map.proofs.HistoryFacts.{joined_by}
 use Rattle.eclass_map.proofs.class_table.Classes.join.Goals as goal
 
 -- what a join is given, from what its caller says of the value
@@ -151,3 +152,16 @@ returns-clause-links g c =
 
 pub returns-clause-most : goal.returns-clause-most
 returns-clause-most g c = weight-most c.join_characters.new.labels
+
+pub returns-clause-history : goal.returns-clause-history
+returns-clause-history g c =
+    let t = table_of c.self.inside.tokens.items c.self.inside.places.items c.self.inside.labels in
+    let x = c.args.x.now in
+    let y = c.args.y.now in
+    let even : length x.origins ≡ length y.origins = sym c.text_length-len.ensures.origins ∙ c.text_length-len.ensures.text ∙ ap length c.requires.equal ∙ sym c.text_length-also.ensures.text ∙ c.text_length-also.ensures.origins in
+    let h = given c.args.self.now t x y (sym c.self.view_is) c.self.invariant c.requires.whole_x c.requires.whole_y even in
+    let u = c.join_characters.new.labels in
+    let is = labels_as t c.deref.result.now x y u c.deref.ensures.value c.join_characters.ensures.labels in
+    λ r n past. joined_by c.args.self.now (with_labels t u) r n c.args.steps.now c.join_characters.new.steps past
+    (enough_after c.args.self.now t x y c.deref.result.now u c.args.steps.now c.join_characters.new.steps (sym c.self.view_is) c.deref.ensures.value h is c.join_characters.ensures.steps)
+    (bound_after c.args.self.now t x y c.deref.result.now u c.args.steps.now c.join_characters.new.steps (sym c.self.view_is) c.deref.ensures.value h is c.join_characters.ensures.steps)

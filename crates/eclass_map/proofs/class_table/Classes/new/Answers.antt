@@ -1,5 +1,7 @@
 use Rattle.std.proofs.Common.{◌≡◌, [], sym, ◌∙◌, ap, subst}
-use Rattle.eclass_map.specs.ClassTable.{Table, AreLinks}
+use Rattle.eclass_map.specs.ClassTable.{Table, AreLinks, weight_in}
+use Rattle.eclass_map.specs.Weight.{weight}
+use Rattle.eclass_map.specs.History.History.{made}
 use Rattle.eclass_map.specs.Labels.{no_labels}
 use Rattle.eclass_map.proofs.KeptFacts.{table_of, kept_empty, kept_as}
 use Rattle.eclass_map.proofs.LinkLaws.{links_empty}
@@ -18,3 +20,13 @@ returns-clause-links c =
     let is : table_of c.new.result.items c.new-2.result.items c.new-3.result ≡ table_of [] [] no_labels =
     ap (λ v. table_of v c.new-2.result.items c.new-3.result) c.new.ensures.items ∙ ap (λ v. table_of [] v c.new-3.result) c.new-2.ensures.items ∙ ap (λ v. table_of [] [] v) c.new-3.ensures in
     subst P (sym is) links_empty
+
+weight_none : (t : Table) → t ≡ table_of [] [] no_labels → weight_in t ≡ 0
+unfolding weight
+weight_none t e = ap (λ (u : Table). weight_in u) e
+
+pub returns-clause-history : goal.returns-clause-history
+returns-clause-history c =
+    let is : table_of c.new.result.items c.new-2.result.items c.new-3.result ≡ table_of [] [] no_labels =
+    ap (λ v. table_of v c.new-2.result.items c.new-3.result) c.new.ensures.items ∙ ap (λ v. table_of [] v c.new-3.result) c.new-2.ensures.items ∙ ap (λ v. table_of [] [] v) c.new-3.ensures in
+    made (weight_none _ is)
