@@ -1,10 +1,10 @@
 -- The table of line starts answers as the text does.
-use Rattle.std.proofs.Common.{◌≡◌, ℕ, zero, suc, ◌+◌, ◌-◌, ◌<◌, ◌≤◌, ◌^◌, true, false, cond, ◌==◌, ltb, nat_lt, nat_le, List, [], ◌∷◌, length, get_or, Some, None, inl, inr, refl, sym, ◌∙◌, arith, add-zero}
+use Rattle.std.proofs.Common.{◌≡◌, ℕ, zero, suc, ◌+◌, ◌-◌, ◌<◌, ◌≤◌, ◌^◌, true, false, cond, ◌==◌, ltb, nat_lt, nat_le, List, [], ◌∷◌, length, get_or, Some, None, IfSome, inl, inr, refl, sym, ◌∙◌, arith, add-zero}
 use Rattle.std.proofs.lemmas.Bool.{cases_Bool, le-leb, lt-leb, le-ltb, lt-ltb, ltb-true, ltb-false, leb-true, leb-false}
 use Rattle.std.proofs.lemmas.List.Sorted.{IsNonDecreasingBy-from_default, IsPartitionedBy-leb}
 use Rattle.std.specs.List.Sorted.{IsPartitionedBy}
 use Rattle.part_lexer.specs.Characters.{line_feed}
-use Rattle.part_lexer.specs.Lines.{place_from, line_column_of, offset_from, offset_of}
+use Rattle.part_lexer.specs.Lines.{place_from, place_of_byte, offset_from, byte_at_place}
 use Rattle.part_lexer.specs.LineTable.{starts_from, line_starts, place_along, place_in, offset_in, IsTable, Found}
 
 -- no line begins before the characters that end the one before it
@@ -26,7 +26,7 @@ place_along-before line start q (c ∷ cs) at low =
       | inr other ↦ rw other (place_along-before line start (q + 1) cs at (omega arith))
     ]
 
-ltb-suc : (a b : ℕ) → ltb (suc a) (suc b) ≡ ltb a b
+pub ltb-suc : (a b : ℕ) → ltb (suc a) (suc b) ≡ ltb a b
 ltb-suc a b =
     elim (cases_Bool (ltb a b)) [
       | inl below ↦ let less = ltb-true a b below in lt-ltb (suc a) (suc b) (omega arith) ∙ sym below
@@ -51,10 +51,10 @@ place_from-table line column start at (c ∷ cs) (suc k) here begun =
       | inr other ↦ rw (other, on, ltb-suc) (place_from-table line (column + 1) start (at + 1) cs k (omega arith) (omega arith))
     ]
 
-pub line_column_of-table : (bytes : List ℕ) (at : ℕ)
-    → line_column_of bytes at ≡ cond (nat_lt at (length bytes)) (Some (place_in (line_starts bytes) at)) None
-unfolding line_column_of line_starts
-line_column_of-table bytes at =
+pub place_of_byte-table : (bytes : List ℕ) (at : ℕ)
+    → place_of_byte bytes at ≡ cond (nat_lt at (length bytes)) (Some (place_in (line_starts bytes) at)) None
+unfolding place_of_byte line_starts
+place_of_byte-table bytes at =
     let on : 0 + at ≡ at = omega arith in
     rw on at (place_from-table 1 1 0 0 bytes at (omega arith) (omega arith))
 
@@ -98,13 +98,13 @@ offset_from-table at (c ∷ cs) (suc lines) n =
       | inr other ↦ rw (other, end) (offset_from-table (at + 1) cs (suc lines) n)
     ]
 
-pub offset_of-table : (bytes : List ℕ) (lines n : ℕ)
-    → offset_of bytes (suc lines) (suc n) ≡ offset_in (line_starts bytes) (length bytes) lines n
-unfolding offset_of line_starts
-offset_of-table bytes zero n =
+pub byte_at_place-table : (bytes : List ℕ) (lines n : ℕ)
+    → byte_at_place bytes (suc lines) (suc n) ≡ offset_in (line_starts bytes) (length bytes) lines n
+unfolding byte_at_place line_starts
+byte_at_place-table bytes zero n =
     let end : 0 + length bytes ≡ length bytes = omega arith in
     rw end at (offset_from-line 0 bytes n)
-offset_of-table bytes (suc lines) n =
+byte_at_place-table bytes (suc lines) n =
     let end : 0 + length bytes ≡ length bytes = omega arith in
     rw end at (offset_from-table 0 bytes lines n)
 
@@ -213,3 +213,28 @@ Found-place (start ∷ later) at len (suc j) table within found =
 
 pub IsTable-partitioned : (starts : List ℕ) (at len : ℕ) → IsTable len starts → IsPartitionedBy (λ s. nat_le s at) starts
 IsTable-partitioned starts at len table = IsPartitionedBy-leb (λ s. s) starts at table.rises
+
+offset_from-within : (at : ℕ) (bs : List ℕ) (lines n : ℕ) → IfSome (offset_from at bs lines n) (λ b. b < at + length bs)
+offset_from-within at [] lines n = tt
+offset_from-within at (c ∷ cs) zero zero = omega arith
+offset_from-within at (c ∷ cs) zero (suc n) =
+    let end : at + 1 + length cs ≡ at + suc (length cs) = omega arith in
+    elim (cases_Bool (c == line_feed)) [
+      | inl end_here ↦ rw end_here tt
+      | inr other ↦ rw other (rw end at (offset_from-within (at + 1) cs zero n))
+    ]
+offset_from-within at (c ∷ cs) (suc lines) n =
+    let end : at + 1 + length cs ≡ at + suc (length cs) = omega arith in
+    elim (cases_Bool (c == line_feed)) [
+      | inl end_here ↦ rw end_here (rw end at (offset_from-within (at + 1) cs lines n))
+      | inr other ↦ rw other (rw end at (offset_from-within (at + 1) cs (suc lines) n))
+    ]
+
+-- what stands at a line and a column is a byte of the file
+pub byte_at_place-within : (bytes : List ℕ) (line column : ℕ) → IfSome (byte_at_place bytes line column) (λ b. b < length bytes)
+unfolding byte_at_place
+byte_at_place-within bytes zero column = tt
+byte_at_place-within bytes (suc lines) zero = tt
+byte_at_place-within bytes (suc lines) (suc n) =
+    let end : 0 + length bytes ≡ length bytes = omega arith in
+    rw end at (offset_from-within 0 bytes lines n)

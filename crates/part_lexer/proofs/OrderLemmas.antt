@@ -1,20 +1,22 @@
 -- The tokens of a file stand one behind the other, and so a text is respelled piece by piece.
-use Rattle.std.proofs.Common.{◌≡◌, ℕ, zero, suc, ◌+◌, ◌-◌, ◌*◌, ◌<◌, ◌≤◌, Bool, true, false, nat_lt, List, [], ◌∷◌, ◌++◌, length, take, drop, is_some, inl, inr, refl, ap, ◌∙◌, arith, length-append}
-use Rattle.std.proofs.lemmas.Bool.{cases_Bool, lt-ltb}
+use Rattle.std.proofs.Common.{◌≡◌, ℕ, zero, suc, ◌+◌, ◌-◌, ◌*◌, ◌≤◌, Bool, true, List, [], ◌∷◌, ◌++◌, length, take, drop, inl, inr, refl, ap, ◌∙◌, arith, length-append}
+use Rattle.std.proofs.lemmas.Bool.{cases_Bool}
 use Rattle.std.proofs.lemmas.List.{length-take-le, take-append-drop, length-drop, drop-drop}
 use Rattle.std.proofs.lemmas.List.Sums.{sum_by-cons}
 use Rattle.std.specs.List.{filter, sum_by}
 use Rattle.cs_base.specs.Token.{Token}
-use Rattle.part_lexer.specs.Characters.{is_white, line_after}
-use Rattle.part_lexer.specs.Lines.{line_column_of}
-use Rattle.part_lexer.specs.Tokens.{tokens_from, tokens_of}
-use Rattle.part_lexer.specs.Front.{front_of}
-use Rattle.part_lexer.specs.Respelled.{respelled, renamed_text, InOrder}
-use Rattle.part_lexer.proofs.LineLemmas.{line_column_of-table}
-use Rattle.part_lexer.proofs.SpellingLemmas.{front_of-front}
+use Rattle.std.proofs.Math.Seq.{take-append_seam}
+use Rattle.part_lexer.specs.declared.pieces.Piece.{Piece}
+use Rattle.part_lexer.specs.declared.pieces.Piece.TheVariants.{Blank, LineEnd, OpenComment, Token as Spelled}
+use Rattle.part_lexer.specs.declared.pieces.LineFront.{LineFront}
+use Rattle.part_lexer.specs.declared.pieces.LineFront.TheVariants.{Nothing}
+use Rattle.part_lexer.specs.Logical.{logical_of}
+use Rattle.part_lexer.specs.Tokens.{Found, FoundToken, FoundOpen, piece_of, piece_length, leaves_gap, expects_header, line_front_after, found_in, found_of, tokens_in, tokens_of}
+use Rattle.part_lexer.specs.Respelled.{respelled, InOrder}
+use Rattle.part_lexer.proofs.EditedTokens.{Lined, bytes_in, lined, length-lined, length-bytes_in, found_lined, found_from-lined, found_lined-cut, cut_lined}
 use Rattle.part_lexer.proofs.RespelledLemmas.{Later, Later-weaken, respelled-keep, respelled-token}
 
-InOrder-weaken : (a b to : ℕ) (ts : List Token) → a ≤ b → InOrder b to ts → InOrder a to ts
+pub InOrder-weaken : (a b to : ℕ) (ts : List Token) → a ≤ b → InOrder b to ts → InOrder a to ts
 InOrder-weaken a b to [] order tokens = tt
 InOrder-weaken a b to (t ∷ ts) order tokens =
     let here = tokens.0 in (omega arith, tokens.1, tokens.2, tokens.3)
@@ -36,38 +38,56 @@ InOrder-later from to (t ∷ ts) tokens =
     let here = tokens.0 in
     (tokens.0, InOrder-later from to ts (InOrder-weaken from (t.at.at + length t.text) to ts (omega arith) tokens.3))
 
-tokens_from-in_order : (file skip : ℕ) (gap : Bool) (line at : ℕ) (bs : List ℕ)
-    → InOrder (at + skip) (at + length bs) (tokens_from file skip gap line at bs)
-unfolding tokens_from
-tokens_from-in_order file zero gap line at [] = tt
-tokens_from-in_order file (suc skip) gap line at [] = tt
-tokens_from-in_order file (suc skip) gap line at (c ∷ cs) =
-    let on : at + suc skip ≡ at + 1 + skip = omega arith in
-    let end : at + suc (length cs) ≡ at + 1 + length cs = omega arith in
-    rw (on, end) (tokens_from-in_order file skip gap line (at + 1) cs)
-tokens_from-in_order file zero gap line at (c ∷ cs) =
-    let end : at + suc (length cs) ≡ at + 1 + length cs = omega arith in
-    elim (cases_Bool (is_white c)) [
-      | inl white ↦ rw (white, end) (InOrder-weaken (at + 0) (at + 1 + 0) (at + 1 + length cs)
-          (tokens_from file 0 true (line_after c line) (at + 1) cs) (omega arith)
-          (tokens_from-in_order file 0 true (line_after c line) (at + 1) cs))
-      | inr dark ↦
-          let front = front_of-front c cs in
-          let more = (front_of c cs).1 in
-          let within = front.within in
-          let size : length (take more cs) ≡ more = length-take-le more cs within in
-          let left : suc more - 1 ≡ more = omega arith in
-          let on : at + suc more ≡ at + 1 + more = omega arith in
-          let rest = tokens_from-in_order file more false line (at + 1) cs in
-          rw (dark, front.longest, left, size, on, end) (omega arith, omega arith, omega arith, rest)
-    ]
+pub tokens_in-append : (xs ys : List Found) → tokens_in (xs ++ ys) ≡ tokens_in xs ++ tokens_in ys
+tokens_in-append [] ys = refl
+tokens_in-append (FoundToken t first ∷ xs) ys = ap (λ (ts : List Token). t ∷ ts) (tokens_in-append xs ys)
+tokens_in-append (FoundOpen at ∷ xs) ys = tokens_in-append xs ys
+
+-- the token of a piece, and those of what follows it
+piece-in_order : (piece : Piece) (file line : ℕ) (gap : Bool) (front : LineFront) (at c to : ℕ) (xs ys : List ℕ) (later : List Token)
+    → piece_length (suc (length (xs ++ ys))) piece ≡ suc (length xs) → at + suc (length xs) ≤ to → InOrder (at + suc (length xs)) to later
+    → InOrder at to (tokens_in (found_in file line gap front at (c ∷ (xs ++ ys)) piece) ++ later)
+piece-in_order (Blank n) file line gap front at c to xs ys later size within rest =
+    InOrder-weaken at (at + suc (length xs)) to later (omega arith) rest
+piece-in_order LineEnd file line gap front at c to xs ys later size within rest =
+    InOrder-weaken at (at + suc (length xs)) to later (omega arith) rest
+piece-in_order OpenComment file line gap front at c to xs ys later size within rest =
+    InOrder-weaken at (at + suc (length xs)) to later (omega arith) rest
+piece-in_order (Spelled kind n) file line gap front at c to xs ys later size within rest =
+    rw (size, take-append_seam xs ys) (omega arith, omega arith, within, rest)
+
+pub found-in_order : (m file : ℕ) (gap : Bool) (front : LineFront) (at : ℕ) (cs : List Lined) → length cs ≤ m
+    → InOrder at (at + length cs) (tokens_in (found_lined file 0 gap front at cs))
+unfolding found_lined
+found-in_order m file gap front at [] small = tt
+found-in_order zero file gap front at (c ∷ cs) small = absurd (omega arith)
+found-in_order (suc m) file gap front at (c ∷ cs) small =
+    let part = cut_lined front c cs in
+    let whole = part.whole in
+    let count = length-bytes_in part.xs in
+    let piece = piece_of (expects_header front) c.byte (bytes_in part.xs ++ bytes_in part.ys) in
+    let split = found_lined-cut file gap front at c part.xs part.ys piece refl (part.size ∙ ap suc count) in
+    let total : length part.xs + length part.ys ≡ length cs = omega (arith, ap length whole, length-append part.xs part.ys) in
+    let to = line_front_after (c.byte ∷ (bytes_in part.xs ++ bytes_in part.ys)) front piece in
+    let rest = found-in_order m file (leaves_gap piece) to (at + suc (length part.xs)) part.ys (omega arith) in
+    let end : at + suc (length part.xs) + length part.ys ≡ at + suc (length cs) = omega arith in
+    let found = found_in file c.line gap front at (c.byte ∷ (bytes_in part.xs ++ bytes_in part.ys)) piece in
+    let later = found_lined file 0 (leaves_gap piece) to (at + suc (length part.xs)) part.ys in
+    let behind : InOrder (at + suc (length (bytes_in part.xs))) (at + suc (length cs)) (tokens_in later) = rw (count, ← end) rest in
+    let all = piece-in_order piece file c.line gap front at c.byte (at + suc (length cs)) (bytes_in part.xs) (bytes_in part.ys)
+    (tokens_in later) part.size (omega arith) behind in
+    let joined : InOrder at (at + suc (length cs)) (tokens_in (found_lined file 0 gap front at (c ∷ (part.xs ++ part.ys)))) =
+    rw (split, tokens_in-append found later) all in
+    rw whole at joined
 
 -- the tokens of a file are in order
-pub tokens_of-in_order : (file : ℕ) (bytes : List ℕ) → InOrder 0 (length bytes) (tokens_of file bytes)
-unfolding tokens_of
+pub tokens_of-in_order : (file : ℕ) (bytes : List ℕ) → InOrder 0 (length (logical_of bytes)) (tokens_of file bytes)
+unfolding tokens_of found_of
 tokens_of-in_order file bytes =
-    let end : 0 + length bytes ≡ length bytes = omega arith in
-    rw end at (tokens_from-in_order file 0 true 1 0 bytes)
+    let cs = lined bytes (logical_of bytes) in
+    let end : 0 + length cs ≡ length (logical_of bytes) = omega (arith, length-lined bytes (logical_of bytes)) in
+    rw (found_from-lined file bytes 0 true Nothing 0 (logical_of bytes), ← end)
+    (found-in_order (length cs) file true Nothing 0 cs (omega arith))
 
 -- a text without chosen tokens stays
 pub respelled-none : (name : List ℕ) (at : ℕ) (bs : List ℕ) → respelled [] name at bs ≡ bs
@@ -110,14 +130,8 @@ respelled-piece tok rest name at before len bs here size tokens =
     let split = respelled-split tok rest name at xs ys zs (omega arith) (omega arith) (omega arith) later in
     rw (whole, x_size, y_size, behind) at split
 
--- a character of a file has a line and a column
-pub line_column_of-within : (bytes : List ℕ) (at : ℕ) → at < length bytes → is_some (line_column_of bytes at) ≡ true
-line_column_of-within bytes at within =
-    let inside : nat_lt at (length bytes) ≡ true = lt-ltb at (length bytes) within in
-    rw (line_column_of-table bytes at, inside) refl
-
 -- The length of a text whose chosen tokens are respelled: in each chosen token's place the name's.
-respelled-length : (chosen : List Token) (name : List ℕ) (at : ℕ) (bs : List ℕ) → InOrder at (at + length bs) chosen
+pub respelled-length : (chosen : List Token) (name : List ℕ) (at : ℕ) (bs : List ℕ) → InOrder at (at + length bs) chosen
     → length (respelled chosen name at bs) + sum_by (λ t. length t.text) chosen
     ≡ length bs + length chosen * length name
 respelled-length [] name at bs tokens = rw respelled-none (omega arith)
@@ -139,11 +153,3 @@ respelled-length (tok ∷ rest) name at bs tokens =
     let total = sum_by-cons (λ (t : Token). length t.text) tok rest in
     let names : length (tok ∷ rest) * length name ≡ length name + length rest * length name = grind arith in
     rw (respelled-piece tok rest name at before len bs here refl tokens, total, names) (omega (arith, after, kept, inner, outer))
-
-pub renamed_text-length : (pick : Token → Bool) (name : List ℕ) (file : ℕ) (bytes : List ℕ)
-    → length (renamed_text pick name file bytes) + sum_by (λ t. length t.text) (filter pick (tokens_of file bytes))
-    ≡ length bytes + length (filter pick (tokens_of file bytes)) * length name
-renamed_text-length pick name file bytes =
-    let end : 0 + length bytes ≡ length bytes = omega arith in
-    let tokens = InOrder-filter pick 0 (length bytes) (tokens_of file bytes) (tokens_of-in_order file bytes) in
-    respelled-length (filter pick (tokens_of file bytes)) name 0 bytes (rw end tokens)

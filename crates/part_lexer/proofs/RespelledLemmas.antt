@@ -1,10 +1,8 @@
 -- What respelling does to the characters of one token, and to those between tokens.
-use Rattle.std.proofs.Common.{◌≡◌, ℕ, zero, suc, ◌+◌, ◌-◌, ◌<◌, ◌≤◌, Bool, true, false, ◌==◌, nat_le, nat_lt, List, [], ◌∷◌, ◌++◌, length, inl, inr, refl, ap, ◌∙◌, arith, add-zero}
+use Rattle.std.proofs.Common.{◌≡◌, ℕ, suc, ◌+◌, ◌<◌, ◌≤◌, Bool, true, false, ◌==◌, nat_le, nat_lt, List, [], ◌∷◌, ◌++◌, length, inl, inr, refl, ap, ◌∙◌, arith, add-zero}
 use Rattle.std.proofs.lemmas.Bool.{cases_Bool, ne_eqb, eq-eqb, le-leb, lt-leb, le-ltb, lt-ltb, and_parts, and_from}
 use Rattle.std.specs.List.{filter, list_all}
 use Rattle.cs_base.specs.Token.{Token}
-use Rattle.part_lexer.specs.Characters.{is_white, line_after}
-use Rattle.part_lexer.specs.Tokens.{tokens_from, front_length}
 use Rattle.part_lexer.specs.Respelled.{begins_at, lies_in, respelled}
 
 -- none of the tokens begins before character `at`
@@ -24,35 +22,14 @@ Later-filter p a (t ∷ ts) later =
       | inr kept ↦ rw kept (Later-filter p a ts later.1)
     ]
 
--- the tokens of a text begin in it, behind the characters that are passed over
-pub tokens_from-later : (file skip : ℕ) (gap : Bool) (line at : ℕ) (bs : List ℕ)
-    → Later (at + skip) (tokens_from file skip gap line at bs)
-unfolding tokens_from
-tokens_from-later file zero gap line at [] = tt
-tokens_from-later file (suc skip) gap line at [] = tt
-tokens_from-later file (suc skip) gap line at (c ∷ cs) =
-    let on : at + suc skip ≡ at + 1 + skip = omega arith in
-    rw on (tokens_from-later file skip gap line (at + 1) cs)
-tokens_from-later file zero gap line at (c ∷ cs) =
-    elim (cases_Bool (is_white c)) [
-      | inl white ↦ rw white (Later-weaken (at + 0) (at + 1 + 0) (tokens_from file 0 true (line_after c line) (at + 1) cs)
-          (omega arith) (tokens_from-later file 0 true (line_after c line) (at + 1) cs))
-      | inr dark ↦ rw dark (
-        omega arith,
-        Later-weaken (at + 0) (at + 1 + (front_length (c ∷ cs) - 1))
-            (tokens_from file (front_length (c ∷ cs) - 1) false line (at + 1) cs) (omega arith)
-            (tokens_from-later file (front_length (c ∷ cs) - 1) false line (at + 1) cs),
-      )
-    ]
-
-begins_at-later : (at b : ℕ) (ts : List Token) → at < b → Later b ts → begins_at ts at ≡ false
+pub begins_at-later : (at b : ℕ) (ts : List Token) → at < b → Later b ts → begins_at ts at ≡ false
 begins_at-later at b [] before later = refl
 begins_at-later at b (t ∷ ts) before later =
     let here = later.0 in
     let apart : (t.at.at == at) ≡ false = ne_eqb t.at.at at (λ e. omega arith) in
     rw apart (begins_at-later at b ts before later.1)
 
-lies_in-later : (at b : ℕ) (ts : List Token) → at < b → Later b ts → lies_in ts at ≡ false
+pub lies_in-later : (at b : ℕ) (ts : List Token) → at < b → Later b ts → lies_in ts at ≡ false
 lies_in-later at b [] before later = refl
 lies_in-later at b (t ∷ ts) before later =
     let here = later.0 in

@@ -1,18 +1,35 @@
 -- What a text of a file is, once there is one.
-use Rattle.std.proofs.Common.{◌≡◌, ℕ, zero, suc, ◌-◌, ◌<◌, ◌≤◌, ◌^◌, true, false, cond, nat_lt, List, length, Option, Some, None, Ok, Err, inl, inr, refl, sym, ap, ◌∙◌, arith}
-use Rattle.std.proofs.lemmas.Bool.{cases_Bool, le-ltb, lt-ltb, ltb-false}
-use Rattle.part_lexer.specs.Tokens.{tokens_of}
-use Rattle.part_lexer.specs.Lines.{line_column_of, offset_of}
-use Rattle.part_lexer.specs.LineTable.{line_starts, offset_in}
-use Rattle.part_lexer.specs.FileText.{TextValue, FileTooLarge, most_bytes, text_value, file_text, byte_at, place_at, offset_at}
-use Rattle.part_lexer.proofs.LineLemmas.{line_column_of-table, offset_of-table}
+use Rattle.std.proofs.Common.{◌≡◌, ℕ, zero, suc, ◌<◌, ◌≤◌, ◌^◌, true, false, nat_lt, List, length, Option, Some, None, Ok, Err, IfSome, inl, inr, refl, sym, ap, ◌∙◌}
+use Rattle.std.specs.Option.{option_and_then}
+use Rattle.std.proofs.lemmas.Bool.{cases_Bool, le-ltb, lt-ltb, ltb-true}
+use Rattle.part_lexer.specs.declared.refusal.LexRefusal.{LexRefusal}
+use Rattle.part_lexer.specs.declared.refusal.LexRefusal.TheVariants as refused
+use Rattle.part_lexer.specs.Refusal.{fault_of}
+use Rattle.part_lexer.specs.Scan.{ScanRefused}
+use Rattle.part_lexer.specs.Logical.{logical_of}
+use Rattle.part_lexer.specs.Tokens.{tokens_of, firsts_of, open_comment_of}
+use Rattle.part_lexer.specs.Lines.{place_of_byte, byte_at_place, byte_offset_of, line_column_of, index_in, offset_of}
+use Rattle.part_lexer.specs.LineTable.{line_starts, place_in}
+use Rattle.part_lexer.specs.GoneTable.{gone_of, marks_of, byte_in, character_in}
+use Rattle.part_lexer.specs.FileText.{TextValue, FileTooLarge, open_at, most_bytes, text_value, text_or_open, file_text, byte_at, place_at, place_byte, offset_at}
+use Rattle.part_lexer.proofs.LineLemmas.{place_of_byte-table, byte_at_place-table, byte_at_place-within}
+use Rattle.part_lexer.proofs.GoneLemmas.{byte_offset_of-table, byte_in-within, index_in-table}
 
--- a file that is not too large has a text
-pub file_text-ok : (file : ℕ) (bytes : List ℕ) → length bytes ≤ 2 ^ 22
-    → file_text file bytes ≡ Ok (text_value file bytes)
+-- a file that is not too large has a text, or a comment without end
+pub file_text-small : (file : ℕ) (bytes : List ℕ) → length bytes ≤ 2 ^ 22
+    → file_text file bytes ≡ text_or_open file bytes (open_comment_of bytes)
 unfolding file_text
-file_text-ok file bytes small =
+file_text-small file bytes small =
     let fits : nat_lt most_bytes (length bytes) ≡ false = le-ltb most_bytes (length bytes) small in rw fits refl
+
+pub file_text-ok : (file : ℕ) (bytes : List ℕ) → length bytes ≤ 2 ^ 22 → open_comment_of bytes ≡ None
+    → file_text file bytes ≡ Ok (text_value file bytes)
+file_text-ok file bytes small closed = file_text-small file bytes small ∙ ap (text_or_open file bytes) closed
+
+pub file_text-open : (file : ℕ) (bytes : List ℕ) (at line column : ℕ) → length bytes ≤ 2 ^ 22 → open_comment_of bytes ≡ Some at
+    → line_column_of bytes at ≡ Some (line, column) → file_text file bytes ≡ Err (open_at at (line, column))
+file_text-open file bytes at line column small opens place =
+    file_text-small file bytes small ∙ ap (text_or_open file bytes) opens ∙ rw place refl
 
 pub file_text-too_large : (file : ℕ) (bytes : List ℕ) → 2 ^ 22 < length bytes
     → file_text file bytes ≡ Err FileTooLarge
@@ -20,53 +37,95 @@ unfolding file_text
 file_text-too_large file bytes large =
     let over : nat_lt most_bytes (length bytes) ≡ true = lt-ltb most_bytes (length bytes) large in rw over refl
 
--- a file that has a text is not too large
-pub file_text-small : (file : ℕ) (bytes : List ℕ) (text : TextValue) → file_text file bytes ≡ Ok text → length bytes ≤ 2 ^ 22
-unfolding file_text
-file_text-small file bytes text is =
-    elim (cases_Bool (nat_lt most_bytes (length bytes))) [
-      | inl end_here ↦ let no_text = rw end_here at is in absurd cc
-      | inr other ↦ ltb-false most_bytes (length bytes) other
-    ]
+-- what the walk refuses has no text
+pub file_text-refused : (file : ℕ) (bytes : List ℕ) (refusal : LexRefusal) → length bytes ≤ 2 ^ 22 → ScanRefused bytes refusal
+    → IfSome (fault_of refusal) (λ fault. file_text file bytes ≡ Err fault)
+file_text-refused file bytes refused.FileTooLarge small is = absurd is
+file_text-refused file bytes (refused.OpenComment at line column) small is =
+    file_text-open file bytes at line column small is.open_comment is.place
+file_text-refused file bytes refused.Memory small is = tt
+
+-- a text comes from a file that has no comment without end
+open-text : (file : ℕ) (bytes : List ℕ) (text : TextValue) (x : Option ℕ) → text_or_open file bytes x ≡ Ok text → text ≡ text_value file bytes
+open-text file bytes text None is = cc
+open-text file bytes text (Some at) is = absurd cc
 
 -- a text of a file is the one text of it
 pub file_text-is : (file : ℕ) (bytes : List ℕ) (text : TextValue) → file_text file bytes ≡ Ok text → text ≡ text_value file bytes
+unfolding file_text
 file_text-is file bytes text is =
-    let given = file_text-ok file bytes (file_text-small file bytes text is) in
-    let same : Ok text ≡ Ok (text_value file bytes) = sym is ∙ given in cc
+    elim (cases_Bool (nat_lt most_bytes (length bytes))) [
+      | inl large ↦ let no_text = rw large at is in absurd cc
+      | inr small ↦ open-text file bytes text (open_comment_of bytes) (rw small at is)
+    ]
 
-pub text_value-toks : (file : ℕ) (bytes : List ℕ) → (text_value file bytes).toks ≡ tokens_of file bytes
+text_value-toks : (file : ℕ) (bytes : List ℕ) → (text_value file bytes).toks ≡ tokens_of file bytes
 unfolding text_value
 text_value-toks file bytes = refl
 
-pub text_value-len : (file : ℕ) (bytes : List ℕ) → (text_value file bytes).len ≡ length bytes
+text_value-firsts : (file : ℕ) (bytes : List ℕ) → (text_value file bytes).firsts ≡ firsts_of bytes
 unfolding text_value
-text_value-len file bytes = refl
+text_value-firsts file bytes = refl
 
-pub text_value-starts : (file : ℕ) (bytes : List ℕ) → (text_value file bytes).starts ≡ line_starts bytes
+text_value-byte : (file : ℕ) (bytes : List ℕ) (at : ℕ) → byte_at (text_value file bytes) at ≡ byte_offset_of bytes at
 unfolding text_value
-text_value-starts file bytes = refl
+text_value-byte file bytes at = sym (byte_offset_of-table bytes at)
 
-pub text_value-place : (file : ℕ) (bytes : List ℕ) (at : ℕ) → place_at (text_value file bytes) at ≡ line_column_of bytes at
+-- places of offsets that are within the file
+places : (bytes : List ℕ) (b : ℕ) → b < length bytes → place_of_byte bytes b ≡ Some (place_in (line_starts bytes) b)
+places bytes b within =
+    let fits : nat_lt b (length bytes) ≡ true = lt-ltb b (length bytes) within in
+    place_of_byte-table bytes b ∙ rw fits refl
+
+text_value-place : (file : ℕ) (bytes : List ℕ) (at : ℕ) → place_at (text_value file bytes) at ≡ line_column_of bytes at
+unfolding text_value line_column_of
+text_value-place file bytes at =
+    elim (cases_Bool (nat_lt at (length (logical_of bytes)))) [
+      | inl within ↦
+          let inside = byte_in-within bytes at (ltb-true at (length (logical_of bytes)) within) in
+          rw (byte_offset_of-table bytes at, within) (sym (places bytes (byte_in (marks_of bytes) at) inside))
+      | inr past ↦ rw (byte_offset_of-table bytes at, past) refl
+    ]
+
+-- the character at an offset of the file, if there is an offset
+text-index : (bytes : List ℕ) (x : Option ℕ) → IfSome x (λ b. b < length bytes)
+    → option_and_then (character_in (gone_of bytes)) x ≡ option_and_then (index_in (logical_of bytes)) x
+text-index bytes None within = refl
+text-index bytes (Some b) within = sym (index_in-table bytes b within)
+
+text_value-place_byte : (file : ℕ) (bytes : List ℕ) (line column : ℕ)
+    → place_byte (text_value file bytes) line column ≡ byte_at_place bytes line column
+unfolding text_value byte_at_place
+text_value-place_byte file bytes zero column = refl
+text_value-place_byte file bytes (suc lines) zero = refl
+text_value-place_byte file bytes (suc lines) (suc n) = sym (byte_at_place-table bytes lines n)
+
+text_value-gone : (file : ℕ) (bytes : List ℕ) → (text_value file bytes).gone ≡ gone_of bytes
 unfolding text_value
-text_value-place file bytes at = sym (line_column_of-table bytes at)
+text_value-gone file bytes = refl
 
-pub text_value-offset : (file : ℕ) (bytes : List ℕ) (line column : ℕ)
+text_value-offset : (file : ℕ) (bytes : List ℕ) (line column : ℕ)
     → offset_at (text_value file bytes) line column ≡ offset_of bytes line column
-unfolding text_value offset_of
-text_value-offset file bytes zero column = refl
-text_value-offset file bytes (suc lines) zero = refl
-text_value-offset file bytes (suc lines) (suc n) = sym (offset_of-table bytes lines n)
+unfolding offset_of
+text_value-offset file bytes line column =
+    rw (text_value-gone file bytes, text_value-place_byte file bytes line column)
+    (text-index bytes (byte_at_place bytes line column) (byte_at_place-within bytes line column))
 
 -- the tokens of a file that has a text
 pub file_text-toks : (file : ℕ) (bytes : List ℕ) (text : TextValue) → file_text file bytes ≡ Ok text → text.toks ≡ tokens_of file bytes
 file_text-toks file bytes text is =
     ap (λ (t : TextValue). t.toks) (file_text-is file bytes text is) ∙ text_value-toks file bytes
 
--- the number of its characters
-pub file_text-len : (file : ℕ) (bytes : List ℕ) (text : TextValue) → file_text file bytes ≡ Ok text → text.len ≡ length bytes
-file_text-len file bytes text is =
-    ap (λ (t : TextValue). t.len) (file_text-is file bytes text is) ∙ text_value-len file bytes
+-- for each of them, whether it is the first of its line
+pub file_text-firsts : (file : ℕ) (bytes : List ℕ) (text : TextValue) → file_text file bytes ≡ Ok text → text.firsts ≡ firsts_of bytes
+file_text-firsts file bytes text is =
+    ap (λ (t : TextValue). t.firsts) (file_text-is file bytes text is) ∙ text_value-firsts file bytes
+
+-- the byte at which a character of it stands
+pub file_text-byte : (file : ℕ) (bytes : List ℕ) (text : TextValue) → file_text file bytes ≡ Ok text
+    → (at : ℕ) → byte_at text at ≡ byte_offset_of bytes at
+file_text-byte file bytes text is at =
+    ap (λ (t : TextValue). byte_at t at) (file_text-is file bytes text is) ∙ text_value-byte file bytes at
 
 -- the line and the column of a character of it
 pub file_text-place : (file : ℕ) (bytes : List ℕ) (text : TextValue) → file_text file bytes ≡ Ok text
@@ -80,23 +139,3 @@ pub file_text-offset : (file : ℕ) (bytes : List ℕ) (text : TextValue) → fi
 file_text-offset file bytes text is line column =
     ap (λ (t : TextValue). offset_at t line column) (file_text-is file bytes text is)
     ∙ text_value-offset file bytes line column
-
--- the byte at which a character of it stands
-pub file_text-byte : (file : ℕ) (bytes : List ℕ) (text : TextValue) → file_text file bytes ≡ Ok text
-    → (at : ℕ) → byte_at text at ≡ cond (nat_lt at (length bytes)) (Some at) None
-file_text-byte file bytes text is at = rw (file_text-len file bytes text is) refl
-
--- there is no column 0
-pub offset_at-column_zero : (text : TextValue) (line : ℕ) → None ≡ offset_at text line 0
-offset_at-column_zero text zero = refl
-offset_at-column_zero text (suc lines) = refl
-
--- lines and columns are counted from 1
-pub offset_at-from_one : (text : TextValue) (line column : ℕ) (answer : Option ℕ) → (line ≡ 0 → ⊥) → (column ≡ 0 → ⊥)
-    → answer ≡ offset_in text.starts text.len (line - 1) (column - 1) → answer ≡ offset_at text line column
-offset_at-from_one text zero column answer some_line some_column is = absurd (some_line refl)
-offset_at-from_one text (suc lines) zero answer some_line some_column is = absurd (some_column refl)
-offset_at-from_one text (suc lines) (suc n) answer some_line some_column is =
-    let first : suc lines - 1 ≡ lines = omega arith in
-    let second : suc n - 1 ≡ n = omega arith in
-    rw (first, second) at is

@@ -1,5 +1,5 @@
 -- Characters of the source character set (ISO/IEC 9899:1999, 5.2.1), by their bytes in ASCII.
-use Rattle.std.specs.Prelude.{ℕ, ◌+◌, Bool, ◌||◌, ◌==◌, if◌then◌else◌}
+use Rattle.std.specs.Prelude.{ℕ, ◌+◌, Bool, not, ◌||◌, ◌==◌, if◌then◌else◌, List, [], ◌∷◌, false}
 use Rattle.std.specs.Char.{is_ascii_alphabetic, is_ascii_digit, is_ascii_whitespace}
 
 abbrev pub line_feed : ℕ
@@ -7,6 +7,18 @@ line_feed = 10
 
 abbrev pub vertical_tab : ℕ
 vertical_tab = 11
+
+abbrev pub carriage_return : ℕ
+carriage_return = 13
+
+abbrev pub double_quote : ℕ
+double_quote = 34
+
+abbrev pub single_quote : ℕ
+single_quote = 39
+
+abbrev pub star : ℕ
+star = 42
 
 abbrev pub plus : ℕ
 plus = 43
@@ -17,11 +29,26 @@ minus = 45
 abbrev pub full_stop : ℕ
 full_stop = 46
 
+abbrev pub slash : ℕ
+slash = 47
+
+abbrev pub less_than : ℕ
+less_than = 60
+
+abbrev pub greater_than : ℕ
+greater_than = 62
+
 abbrev pub capital_e : ℕ
 capital_e = 69
 
+abbrev pub capital_l : ℕ
+capital_l = 76
+
 abbrev pub capital_p : ℕ
 capital_p = 80
+
+abbrev pub backslash : ℕ
+backslash = 92
 
 abbrev pub underscore : ℕ
 underscore = 95
@@ -55,6 +82,19 @@ is_sign c = c == plus || c == minus
 -- the letters after which a pp-number may go on with a sign (6.4.8): `e`, `E`, `p` and `P`
 abbrev pub is_exponent_letter : ℕ → Bool
 is_exponent_letter c = c == small_e || c == capital_e || c == small_p || c == capital_p
+
+-- a quote: of a character constant or of a string literal (6.4.4.4, 6.4.5)
+abbrev pub is_quote : ℕ → Bool
+is_quote c = c == single_quote || c == double_quote
+
+-- the line goes on with this character
+abbrev pub is_on_line : ℕ → Bool
+is_on_line c = not (c == line_feed)
+
+-- a text begins with this character
+abbrev pub begins : ℕ → List ℕ → Bool
+begins c [] = false
+begins c (d ∷ ds) = d == c
 
 -- the line of the character after this one: one more behind a line feed
 abbrev pub line_after : ℕ → ℕ → ℕ

@@ -1,11 +1,19 @@
 -- What the public contracts rest on.
 pub mod Characters
+pub mod Logical
 pub mod Spelling
+pub mod Places
 pub mod Tokens
 pub mod Lines
 pub mod Respelled
 pub mod FileText
 pub mod Refusal
+pub mod OneToken
+pub mod Respelling
 -- What inner functions promise each other.
+pub mod Walk
 pub mod Front
+pub mod Lone
 pub mod LineTable
+pub mod GoneTable
+pub mod Scan

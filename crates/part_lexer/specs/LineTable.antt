@@ -1,4 +1,4 @@
--- The table of line starts: for each line the number of the characters before it.
+-- The table of line starts: for each line the number of the bytes before it.
 use Rattle.std.specs.Prelude.{◌≡◌, ℕ, suc, ◌+◌, ◌-◌, ◌≤◌, ◌^◌, nat_lt, nat_le, ◌==◌, true, false, if◌then◌else◌, List, [], ◌∷◌, length, get_or, slice_get, Option, Some, None}
 use Rattle.std.specs.List.Sorted.{IsNonDecreasing, IsPartitionPoint}
 use Rattle.std.specs.Option.{option_and_then}

@@ -1,14 +1,14 @@
 //! Preprocessing tokens of one source file: translation phases 2 and 3 (ISO/IEC 9899:1999, 5.1.1.2).
 //!
 //! `lex` takes the bytes of a file and gives its preprocessing tokens, each with the positions of its
-//! characters, and the place of each character by line and column. It equals `file_text` of
-//! `specs/FileText.antt`, whose tokens are `tokens_of` of `specs/Tokens.antt`. A keyword is an
-//! identifier here: directives, macros and C belong to the crates above.
+//! characters in the logical text, and the place of each character by byte, line and column. It equals
+//! `file_text` of `specs/FileText.antt`, whose tokens are `tokens_of` of `specs/Tokens.antt`. A keyword is
+//! an identifier here and `#` a punctuator: directives, macros and C belong to the crates above; a header
+//! name is read only behind the word `include` of a line that begins with `#`.
 //!
-//! So far logical character k of a file is its byte k, and the tokens are identifiers, pp-numbers and
-//! the punctuators `;` and `=`; each other byte that is no white space is one token of kind `Other`.
-//! Refused: a file past 2^22 bytes. Readers and `is_identifier` take no memory. Read
-//! `specs/Spelling.antt` and `specs/Tokens.antt`, then `scan.rt`.
+//! Refused: a file past 2^22 bytes, a comment without end. `one_token`, `is_identifier` and the readers
+//! of `FileText` take no memory. Read `specs/Logical.antt`, `specs/Spelling.antt` and
+//! `specs/Tokens.antt`, then `scan.rt`.
 #![tactic(auto)]
 
 ghost use Rattle.std.specs.Prelude.{◌≡◌, ◌<◌, ◌≤◌, ◌^◌, ◌↔◌, length, IsErrOf};
@@ -19,10 +19,15 @@ ghost use Rattle.part_lexer.specs.Refusal.{fault_of};
 mod characters;
 mod file_text;
 mod front;
+mod gone_table;
 mod laws;
 mod line_table;
+mod logical;
+mod lone;
+mod pieces;
 mod refusal;
 mod scan;
+mod single;
 #[cfg(test)]
 mod tests;
 
@@ -30,6 +35,7 @@ pub use file_text::FileText;
 pub use front::is_identifier;
 pub use laws::tokens_can_be_renamed;
 pub use refusal::LexRefusal;
+pub use single::one_token;
 use std::alloc::Global;
 
 const MOST_BYTES: usize = 1 << 22;
@@ -42,9 +48,18 @@ pub fn lex(alloc: Global, file: u32, bytes: &[u8]) -> Result<FileText, LexRefusa
     if bytes.len() > MOST_BYTES {
         return Err(LexRefusal::FileTooLarge);
     }
+    let starts = line_table::line_starts(alloc, bytes)?;
+    let scanned = match scan::scan(alloc, file, bytes, starts.as_slice()) {
+        Ok(scanned) => scanned,
+        Err(refusal) => return Err(refusal),
+    };
     Ok(FileText {
-        toks: scan::scan(alloc, file, bytes)?,
-        len: bytes.len() as u32,
-        starts: line_table::line_starts(alloc, bytes)?,
+        toks: scanned.toks,
+        firsts: scanned.firsts,
+        len: scanned.len,
+        size: bytes.len() as u32,
+        starts,
+        gone: gone_table::gone_offsets(alloc, bytes)?,
+        marks: gone_table::gone_marks(alloc, bytes)?,
     })
 }

@@ -1,7 +1,7 @@
 -- What an analysis that is accepted has read: the files that are held, sorted and thin, among them that of
 -- each unit.
-use Rattle.std.proofs.Common.{◌≡◌, ℕ, zero, suc, ◌+◌, ◌<◌, Bool, true, false, List, [], ◌∷◌, length, get_or, refl, arith, ap, sym, subst, ◌∙◌, inl, inr}
-use Rattle.std.specs.Prelude.{bytes_eq, All, Contains, IsUtf8, Option, None, Some, Result, Ok, Err}
+use Rattle.std.proofs.Common.{◌≡◌, ℕ, zero, suc, ◌+◌, ◌<◌, List, [], ◌∷◌, length, get_or, refl, arith, sym, subst, inl, inr}
+use Rattle.std.specs.Prelude.{bytes_eq, Contains, IsUtf8, Option, None, Some, Result, Ok, Err}
 use Rattle.std.specs.Option.{option_map_or}
 use Rattle.std.specs.Str.{is_utf8}
 use Rattle.std.proofs.lemmas.Bool.{cases_Bool}
@@ -12,7 +12,7 @@ use Rattle.cs_base.specs.Outside.{FileMap, bytes_at}
 use Rattle.cs_base.specs.Edit.{comes_before}
 use Rattle.cs_base.specs.declared.causes.Cause.TheVariants.{MissingFile}
 use Rattle.cs_base.proofs.FileMapLemmas.{bytes_eq-equal}
-use Rattle.rename_edit.specs.Analysis.{ThinValue, FileFault, UnitFault, unit_fault, file_fault, fault_in, held_at, accepted, unit_file, with_read, with_unit, files_from, thin, thin_of, are_sorted, AreRead}
+use Rattle.rename_edit.specs.Analysis.{ThinValue, FileFault, unit_fault, file_fault, fault_in, held_at, accepted, unit_file, with_read, with_unit, files_from, thin, thin_of, AreRead}
 use Rattle.rename_edit.specs.Reading.{AreHeld}
 use Rattle.rename_edit.proofs.KeptLemmas.{All-with_read, AreRead-with_read}
 

@@ -1,6 +1,6 @@
 -- One more edit put.
-use Rattle.std.proofs.Common.{◌≡◌, ℕ, zero, suc, ◌+◌, ◌<◌, List, [], ◌∷◌, length, take, refl, arith, ap, sym, ◌∙◌, inl, inr, add-one}
-use Rattle.std.specs.Prelude.{Option, Some, None, IfSome, slice_get, ◌⊎◌}
+use Rattle.std.proofs.Common.{◌≡◌, ℕ, zero, suc, ◌+◌, ◌<◌, List, [], ◌∷◌, length, take, refl, arith, ap, sym, ◌∙◌, add-one}
+use Rattle.std.specs.Prelude.{Option, Some, None, IfSome, slice_get}
 use Rattle.std.specs.Option.{option_map}
 use Rattle.cs_base.specs.Outside.{FileMap, with_file}
 use Rattle.cs_base.specs.Edit.{Edit, with_edits}

@@ -3,7 +3,7 @@ use Rattle.std.proofs.Common.{◌≡◌, ℕ, Bool, true, false, ◌&&◌, ◌||
 use Rattle.std.specs.Prelude.{Some, Contains, IsTrue, bytes_eq, ◌↔◌}
 use Rattle.std.proofs.lemmas.Bool.{and_parts, and_from, eq-eqb, eqb-true}
 use Rattle.cs_base.specs.Token.{Token}
-use Rattle.cs_base.specs.Outside.{FileMap, bytes_at}
+use Rattle.cs_base.specs.Outside.{bytes_at}
 use Rattle.cs_base.proofs.FileMapLemmas.{bytes_eq-same, bytes_eq-equal}
 use Rattle.rename_edit.specs.Spellings.{is_ident_kind, is_name}
 use Rattle.rename_edit.specs.Analysis.{ThinValue, AreRead, are_sorted, file_tokens}

@@ -1,18 +1,18 @@
 -- The members of a named identifier's class, where no offence stands: the names of one spelling.
-use Rattle.std.proofs.Common.{◌≡◌, ℕ, zero, suc, ◌+◌, ◌≤◌, ◌<◌, Bool, true, false, not, ◌&&◌, ◌||◌, ◌==◌, List, [], ◌∷◌, length, get_or, refl, arith, ap, sym, subst, ◌∙◌, inl, inr}
-use Rattle.std.specs.Prelude.{bytes_eq, map, Contains, Option, None, Some, if◌then◌else◌}
+use Rattle.std.proofs.Common.{◌≡◌, ℕ, Bool, true, false, not, ◌&&◌, ◌||◌, List, [], refl, ap, sym, subst, ◌∙◌, inl, inr}
+use Rattle.std.specs.Prelude.{bytes_eq, Contains, Some}
 use Rattle.std.proofs.lemmas.Bool.{cases_Bool, eqb-true, eq-eqb}
 use Rattle.cs_base.specs.Token.{Token}
-use Rattle.cs_base.specs.Outside.{FileMap, bytes_at}
+use Rattle.cs_base.specs.Outside.{bytes_at}
 use Rattle.cs_base.specs.Reserved.{is_reserved_text}
 use Rattle.cs_base.proofs.EditLemmas.{and-left, and-right}
 use Rattle.cs_base.proofs.FileMapLemmas.{bytes_eq-same, bytes_eq-equal}
 use Rattle.rename_edit.specs.Spellings.{is_ident_kind, is_name}
-use Rattle.rename_edit.specs.Analysis.{ThinValue, file_tokens, are_sorted, AreRead}
-use Rattle.rename_edit.specs.Class.{Named, named, is_same, is_linked, is_member}
-use Rattle.rename_edit.specs.Offence.{is_reserved_member, offences}
+use Rattle.rename_edit.specs.Analysis.{ThinValue, file_tokens, are_sorted}
+use Rattle.rename_edit.specs.Class.{Named, named, is_same, is_member}
+use Rattle.rename_edit.specs.Offence.{offences}
 use Rattle.rename_edit.proofs.NamesLemmas.{bytes_eq-apart, bytes_eq-differ}
-use Rattle.rename_edit.proofs.ClearLemmas.{IsClear, NoCause, clear, IsNamedIn, bytes_at-found, bytes_at-contained, one_token}
+use Rattle.rename_edit.proofs.ClearLemmas.{clear, IsNamedIn, bytes_at-found, bytes_at-contained, one_token}
 
 not_false : (b : Bool) → b ≡ false → not b ≡ true
 not_false true h = cc

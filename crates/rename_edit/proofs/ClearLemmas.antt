@@ -1,22 +1,19 @@
 -- What is known of a named identifier and of every token where no offence stands.
-use Rattle.std.proofs.Common.{◌≡◌, ℕ, zero, suc, ◌+◌, ◌-◌, ◌≤◌, ◌<◌, Bool, true, false, not, ◌&&◌, ◌||◌, ◌==◌, List, [], ◌∷◌, ◌++◌, length, get_or, refl, arith, ap, sym, subst, ◌∙◌, inl, inr, ◌⊎◌}
-use Rattle.std.specs.Prelude.{bytes_eq, map, flat_map, find, filter, Contains, Option, None, Some, Result, Ok, Err, if◌then◌else◌}
-use Rattle.std.specs.List.{list_all}
+use Rattle.std.proofs.Common.{◌≡◌, ℕ, zero, suc, ◌+◌, ◌≤◌, ◌<◌, Bool, true, false, List, [], ◌∷◌, ◌++◌, length, get_or, refl, arith, ap, sym, subst, ◌∙◌, inl, inr}
+use Rattle.std.specs.Prelude.{bytes_eq, map, flat_map, find, filter, Contains, Option, None, Some}
 use Rattle.std.specs.Option.{option_map, option_and_then}
-use Rattle.std.proofs.lemmas.Bool.{cases_Bool, eqb-true, eq-eqb}
+use Rattle.std.proofs.lemmas.Bool.{cases_Bool}
 use Rattle.cs_base.specs.Token.{Token}
 use Rattle.cs_base.specs.Outside.{FileMap, bytes_at}
-use Rattle.cs_base.specs.Edit.{comes_before}
-use Rattle.cs_base.specs.Reserved.{is_reserved_text}
-use Rattle.cs_base.specs.declared.causes.Cause.{Cause}
 use Rattle.cs_base.proofs.EditLemmas.{and-left, and-right}
 use Rattle.cs_base.proofs.FileMapLemmas.{bytes_eq-same, bytes_eq-equal}
+use Rattle.part_lexer.specs.Logical.{logical_of}
 use Rattle.part_lexer.specs.Lines.{offset_of}
 use Rattle.part_lexer.specs.Respelled.{InOrder}
 use Rattle.part_lexer.proofs.OrderLemmas.{tokens_of-in_order}
-use Rattle.rename_edit.specs.Spellings.{is_ident_kind, is_name}
-use Rattle.rename_edit.specs.Analysis.{ThinValue, file_tokens, are_sorted, AreRead}
-use Rattle.rename_edit.specs.Class.{Named, named, holds, token_at, named_at, is_same, is_linked, is_member, members_in}
+use Rattle.rename_edit.specs.Spellings.{is_ident_kind}
+use Rattle.rename_edit.specs.Analysis.{ThinValue, file_tokens, are_sorted}
+use Rattle.rename_edit.specs.Class.{Named, named, holds, token_at, named_at}
 use Rattle.rename_edit.specs.Offence.{is_reserved_member, is_too_large, causes_of, causes_at, offences_at, offences_in, offences}
 use Rattle.rename_edit.proofs.EditedLemmas.{later_at, apart_from}
 
@@ -164,7 +161,7 @@ one_token bytes t u found found' h =
     let At : Token → Token → Type 0 = λ x y. x.at.at ≡ y.at.at in
     let at : (get_or (file_tokens bytes) found.0 t).at.at ≡ (get_or (file_tokens bytes) found'.0 u).at.at =
     ap (λ (x : Token). x.at.at) t_is ∙ h ∙ sym (ap (λ (x : Token). x.at.at) u_is) in
-    sym t_is ∙ same_place 0 (length bytes) (file_tokens bytes) found.0 found'.0 t u (tokens_of-in_order 1 bytes) found.1 found'.1 at ∙ u_is
+    sym t_is ∙ same_place 0 (length (logical_of bytes)) (file_tokens bytes) found.0 found'.0 t u (tokens_of-in_order 1 bytes) found.1 found'.1 at ∙ u_is
 
 -- What is known of a named identifier.
 pub record IsNamedIn (a : ThinValue) (path : List ℕ) (n : Named) : Type 0 where

@@ -1,33 +1,27 @@
 -- An accepted renaming keeps the meaning of every file of an analysis.
-use Rattle.std.proofs.Common.{◌≡◌, ℕ, zero, suc, ◌+◌, ◌-◌, ◌^◌, ◌≤◌, ◌<◌, Bool, true, false, not, ◌&&◌, ◌||◌, ◌==◌, cond, List, [], ◌∷◌, length, get_or, refl, arith, ap, sym, subst, ◌∙◌, inl, inr, lt-ltb}
-use Rattle.std.specs.Prelude.{◌↔◌, bytes_eq, nat_lt, map, find, filter, position, slice_get, IsNone, Contains, Option, None, Some, Result, Ok, Err, if◌then◌else◌}
-use Rattle.std.specs.List.{list_all}
-use Rattle.std.specs.Option.{option_map, option_map_or}
-use Rattle.std.proofs.lemmas.Bool.{cases_Bool, eqb-true, eq-eqb}
+use Rattle.std.proofs.Common.{◌≡◌, ℕ, zero, suc, ◌-◌, ◌^◌, ◌<◌, true, false, List, [], ◌∷◌, length, get_or, refl, arith, ap, sym, ◌∙◌, inl, inr}
+use Rattle.std.specs.Prelude.{bytes_eq, nat_lt, map, position, slice_get, Contains, None, Result, Ok, Err}
+use Rattle.std.proofs.lemmas.Bool.{cases_Bool}
 use Rattle.std.proofs.lemmas.Option.{slice_get-get_or}
 use Rattle.cs_base.specs.Token.{Token}
 use Rattle.cs_base.specs.Reserved.{is_reserved_text}
 use Rattle.cs_base.specs.declared.tokens.Kind.{Kind}
 use Rattle.cs_base.specs.declared.tokens.Kind.TheVariants.{Ident, Number, Char, Str, Punct, Other, Header}
-use Rattle.cs_base.proofs.EditLemmas.{and-left, and-right}
-use Rattle.cs_base.proofs.FileMapLemmas.{bytes_eq-same, bytes_eq-equal}
+use Rattle.cs_base.proofs.EditLemmas.{and-left}
 use Rattle.part_lexer.specs.Spelling.{is_identifier_text}
 use Rattle.part_lexer.specs.Respelled as lexed
-use Rattle.part_lexer.specs.Tokens.{tokens_of}
 use Rattle.part_lexer.proofs.RenameLaw.{renames_in_place}
-use Rattle.part_lexer.proofs.OrderLemmas.{respelled-none}
-use Rattle.part_lexer.proofs.RespelledLemmas.{respelled-bytes}
 use Rattle.rename_edit.specs.declared.stages.Stage.{Stage}
 use Rattle.rename_edit.specs.declared.stages.Stage.TheVariants.{Nothing, Extern, Int, ExternInt, IntName, IntNameEquals, AllButSemicolon}
-use Rattle.rename_edit.specs.Spellings.{is_ident_kind, is_name}
+use Rattle.rename_edit.specs.Spellings.{is_ident_kind}
 use Rattle.rename_edit.specs.ThinUnit.{read_all, odd_among, odd_token, is_unread}
-use Rattle.rename_edit.specs.Analysis.{ThinValue, FileFault, fault_at, file_fault, fault_in, odd_place, file_tokens, are_sorted, AreRead}
-use Rattle.rename_edit.specs.Class.{Named, is_member, members_in}
-use Rattle.rename_edit.specs.Offence.{edited, grows_too_large, is_too_large, is_first_member, offences}
-use Rattle.rename_edit.specs.Meaning.{plain, renamed, KeepsFile, KeepsSpellings, KeepsMeaning}
-use Rattle.rename_edit.proofs.NamesLemmas.{respell, bytes_eq-respell, Respells, AllRespell, read_all-respells}
-use Rattle.rename_edit.proofs.ClearLemmas.{IsClear, NoCause, clear, IsNamedIn, find-some, find-none}
-use Rattle.rename_edit.proofs.ClassLemmas.{IsFree, is_free, IsTold, is_told}
+use Rattle.rename_edit.specs.Analysis.{file_tokens}
+use Rattle.rename_edit.specs.Class.{Named, is_member}
+use Rattle.rename_edit.specs.Offence.{edited}
+use Rattle.rename_edit.specs.Meaning.{plain, renamed}
+use Rattle.rename_edit.proofs.NamesLemmas.{respell, Respells, AllRespell}
+use Rattle.rename_edit.proofs.PlainFiles.{position-plain, read_all-no_hash, no_prefix}
+use Rattle.rename_edit.proofs.ClassLemmas.{IsTold}
 
 -- what is true of each token of a list
 abbrev pub Each : (Token → Type 0) → List Token → Type 0
@@ -68,10 +62,18 @@ map_same n name path (t ∷ ts) =
     let rest = map_same n name path ts in
     λ i. first i ∷ rest i
 
-pub in_place : (n : Named) (name path bytes : List ℕ) → is_identifier_text name ≡ true
+-- A thin file.
+pub record IsThin (bytes : List ℕ) : Type 0 where
+  pub small : nat_lt (2 ^ 22) (length bytes) ≡ false
+  pub read : position is_unread bytes ≡ None
+  pub thin : read_all Nothing [] (file_tokens bytes) ≡ Ok Nothing
+
+pub in_place : (n : Named) (name path bytes : List ℕ) → is_identifier_text name ≡ true → is_reserved_text name ≡ false → IsThin bytes
     → map plain (file_tokens (edited n name path bytes)) ≡ map (lexed.renamed (is_member n path) name) (file_tokens bytes)
-in_place n name path bytes identifier =
-    renames_in_place 1 bytes (is_member n path) name (λ t h. ident_kind t.kind (and-left _ _ h)) identifier
+in_place n name path bytes identifier free thin =
+    renames_in_place 1 bytes (is_member n path) name (position-plain bytes thin.read)
+    (read_all-no_hash Nothing [] (file_tokens bytes) Nothing thin.thin)
+    (λ t h. ident_kind t.kind (and-left _ _ h)) identifier (no_prefix name free)
 
 -- The new tokens one by one.
 kind_stays : (n : Named) (name path : List ℕ) (t : Token) → (renamed n name path t).kind ≡ t.kind
@@ -114,12 +116,6 @@ respells_all n name path [] (u ∷ us) told h = absurd cc
 respells_all n name path (t ∷ ts) [] told h = absurd cc
 respells_all n name path (t ∷ ts) (u ∷ us) told h =
     (respells_one n name path t u told.0 (heads _ _ _ _ h), respells_all n name path ts us told.1 (tails _ _ _ _ h))
-
--- A thin file.
-pub record IsThin (bytes : List ℕ) : Type 0 where
-  pub small : nat_lt (2 ^ 22) (length bytes) ≡ false
-  pub read : position is_unread bytes ≡ None
-  pub thin : read_all Nothing [] (file_tokens bytes) ≡ Ok Nothing
 
 pub no_end : (ts : List Token) → read_all Nothing [] ts ≡ Ok Nothing → odd_token ts ≡ None
 no_end ts h = rw h refl

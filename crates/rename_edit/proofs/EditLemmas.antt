@@ -1,8 +1,8 @@
 -- The edit of one file, and the way from a place to its token.
-use Rattle.std.proofs.Common.{◌≡◌, ℕ, zero, suc, ◌+◌, ◌<◌, ◌≤◌, ◌^◌, Bool, true, false, ◌&&◌, ◌==◌, nat_eq, nat_lt, cond, List, [], ◌∷◌, ◌++◌, length, refl, arith, ap, sym, ◌∙◌, inl, inr}
-use Rattle.std.specs.Prelude.{Option, None, Some, Result, Ok, Err, flat_map, find, map, bytes_eq}
+use Rattle.std.proofs.Common.{◌≡◌, ℕ, ◌≤◌, ◌^◌, Bool, true, false, ◌&&◌, nat_eq, nat_lt, List, [], ◌∷◌, ◌++◌, length, refl, arith, ap, sym, ◌∙◌, inl, inr}
+use Rattle.std.specs.Prelude.{None, Some, Ok, Err, flat_map, find, map, bytes_eq}
 use Rattle.std.specs.List.{list_all, filter}
-use Rattle.std.specs.Option.{option_map, option_map_or}
+use Rattle.std.specs.Option.{option_map}
 use Rattle.std.proofs.lemmas.Bool.{cases_Bool, le-ltb, eq-eqb}
 use Rattle.std.proofs.lemmas.List.{nil_from_length}
 use Rattle.cs_base.specs.Outside.{FileMap, bytes_at}
@@ -13,9 +13,9 @@ use Rattle.part_lexer.specs.Spelling.{is_identifier_text}
 use Rattle.part_lexer.specs.Respelled.{respelled}
 use Rattle.part_lexer.proofs.OrderLemmas.{respelled-none}
 use Rattle.rename_edit.specs.Analysis.{ThinValue, file_tokens, fault_at}
-use Rattle.rename_edit.specs.Class.{Named, named, named_at, token_at, members_in, is_member}
-use Rattle.rename_edit.specs.Offence.{Offence, offence, offences, offences_at, offences_in, causes_at, causes_of, is_reserved_member, edited, grows_too_large, is_too_large, is_first_member}
-use Rattle.rename_edit.specs.Renaming.{Refusal, no_name, edit_of, edits_of, renaming, unless_offence}
+use Rattle.rename_edit.specs.Class.{Named, named, token_at, members_in, is_member}
+use Rattle.rename_edit.specs.Offence.{Offence, offence, offences, offences_at, offences_in, causes_of, is_reserved_member, edited, grows_too_large, is_too_large, is_first_member}
+use Rattle.rename_edit.specs.Renaming.{no_name, edit_of, edits_of, renaming, unless_offence}
 
 -- a file without members stays, and is not too large
 pub none_small : (n : Named) (name path bytes : List ℕ) → length (members_in n path bytes) ≡ 0 → length bytes ≤ 2 ^ 22

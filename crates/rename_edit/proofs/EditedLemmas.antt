@@ -1,10 +1,10 @@
 -- What each path holds once the edits of a renaming are put.
-use Rattle.std.proofs.Common.{◌≡◌, ℕ, zero, suc, ◌+◌, ◌<◌, Bool, true, false, not, ◌&&◌, List, [], ◌∷◌, ◌++◌, length, get_or, refl, arith, ap, sym, subst, ◌∙◌, inl, inr}
-use Rattle.std.specs.Prelude.{bytes_eq, nat_eq, All, Contains, Option, None, Some, flat_map}
+use Rattle.std.proofs.Common.{◌≡◌, ℕ, zero, suc, ◌+◌, ◌<◌, Bool, true, false, not, List, [], ◌∷◌, length, get_or, refl, arith, ap, sym, ◌∙◌, inl, inr}
+use Rattle.std.specs.Prelude.{bytes_eq, nat_eq, Some, flat_map}
 use Rattle.std.specs.List.{list_all}
 use Rattle.std.proofs.lemmas.Bool.{cases_Bool, eqb-true}
-use Rattle.cs_base.specs.Outside.{FileMap, bytes_at, with_file}
-use Rattle.cs_base.specs.Edit.{Edit, edit, with_edits, comes_before}
+use Rattle.cs_base.specs.Outside.{FileMap, bytes_at}
+use Rattle.cs_base.specs.Edit.{with_edits, comes_before}
 use Rattle.cs_base.proofs.EditLemmas.{and-left, and-right}
 use Rattle.cs_base.proofs.FileMapLemmas.{bytes_eq-same, bytes_eq-equal, bytes_at-with_file_same, bytes_at-with_file_other, with_edits-append, comes_before-apart}
 use Rattle.cs_base.specs.Token.{Token}

@@ -1,5 +1,6 @@
 pub mod ApplyingLemmas
 pub mod ThinUnitLemmas
+pub mod PlainFiles
 pub mod FileLemmas
 pub mod KeptLemmas
 pub mod ReadingLemmas

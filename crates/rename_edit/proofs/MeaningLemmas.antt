@@ -1,13 +1,13 @@
 -- An accepted renaming keeps the meaning of every file of an analysis.
-use Rattle.std.proofs.Common.{◌≡◌, ℕ, zero, suc, ◌+◌, ◌-◌, ◌^◌, ◌≤◌, ◌<◌, Bool, true, false, not, ◌&&◌, ◌||◌, ◌==◌, cond, List, [], ◌∷◌, length, get_or, refl, arith, ap, sym, subst, ◌∙◌, inl, inr, ◌⊎◌}
-use Rattle.std.specs.Prelude.{◌↔◌, bytes_eq, nat_lt, map, find, filter, position, IsNone, Contains, Option, None, Some, Result, Ok, Err, if◌then◌else◌}
-use Rattle.std.specs.List.{list_all, position_or_len, prefix_len}
+use Rattle.std.proofs.Common.{◌≡◌, ℕ, ◌^◌, Bool, true, false, not, ◌&&◌, ◌==◌, List, [], ◌∷◌, length, refl, ap, sym, subst, ◌∙◌, inl, inr, ◌⊎◌}
+use Rattle.std.specs.Prelude.{◌↔◌, bytes_eq, nat_lt, find, position, Contains, Option, None, Some, Ok, Err}
+use Rattle.std.specs.List.{list_all}
 use Rattle.std.specs.Option.{option_map, option_map_or}
-use Rattle.std.proofs.lemmas.Bool.{cases_Bool, eqb-true, eq-eqb, ltb-false, le-ltb}
+use Rattle.std.proofs.lemmas.Bool.{cases_Bool, eqb-true, eq-eqb}
 use Rattle.cs_base.specs.Token.{Token}
 use Rattle.cs_base.specs.Reserved.{is_reserved_text}
 use Rattle.cs_base.specs.Edit.{Edit}
-use Rattle.cs_base.specs.declared.causes.Cause.TheVariants.{NotBuilt, FileTooLarge}
+use Rattle.cs_base.specs.declared.causes.Cause.TheVariants.{NotBuilt}
 use Rattle.cs_base.proofs.EditLemmas.{and-left, and-right}
 use Rattle.cs_base.proofs.FileMapLemmas.{bytes_eq-same, bytes_eq-equal}
 use Rattle.part_lexer.specs.Characters.{is_word as is_word_character, is_nondigit}
@@ -17,57 +17,16 @@ use Rattle.part_lexer.proofs.RespelledLemmas.{respelled-bytes}
 use Rattle.rename_edit.specs.declared.stages.Stage.TheVariants.{Nothing}
 use Rattle.rename_edit.specs.Spellings.{is_name}
 use Rattle.rename_edit.specs.ThinUnit.{read_all, odd_token, is_unread}
-use Rattle.rename_edit.specs.Analysis.{ThinValue, FileFault, fault_at, file_fault, fault_in, odd_place, file_tokens, AreRead}
+use Rattle.rename_edit.specs.Analysis.{ThinValue, fault_at, fault_in, odd_place, file_tokens, AreRead}
 use Rattle.rename_edit.specs.Class.{Named, named_at, is_member, members_in}
 use Rattle.rename_edit.specs.Offence.{Offence, edited, grows_too_large, is_too_large, is_first_member, offences}
-use Rattle.rename_edit.specs.Renaming.{Refusal, no_name, bad_name, refused, unless_offence, renaming_of, renaming, edits_of}
-use Rattle.rename_edit.specs.Meaning.{plain, renamed, KeepsFile, KeepsSpellings, KeepsMeaning}
-use Rattle.rename_edit.proofs.NamesLemmas.{respell, bytes_eq-respell, bytes_eq-differ, read_all-respells}
+use Rattle.rename_edit.specs.Renaming.{no_name, unless_offence, renaming_of, renaming, edits_of}
+use Rattle.rename_edit.specs.Meaning.{renamed, KeepsMeaning}
+use Rattle.rename_edit.proofs.NamesLemmas.{respell, bytes_eq-respell, read_all-respells}
 use Rattle.rename_edit.proofs.ClearLemmas.{clear, IsNamedIn, named_at-some, find-some, find-none}
-use Rattle.rename_edit.proofs.ClassLemmas.{IsFree, is_free, IsTold, is_told}
+use Rattle.rename_edit.proofs.ClassLemmas.{is_free, IsTold, is_told}
+use Rattle.rename_edit.proofs.PlainFiles.{all_read-position, position-all_read, read_none, map_none}
 use Rattle.rename_edit.proofs.EachTokenLemmas.{Each, each_contained, map_same, in_place, respells_all, name_text, IsThin, thin_from, no_end}
-
-prefix_of_all : (q : ℕ → Bool) (xs : List ℕ) → list_all q xs ≡ true → prefix_len q xs ≡ length xs
-prefix_of_all q [] h = refl
-prefix_of_all q (x ∷ xs) h =
-    let first : q x ≡ true = and-left _ _ h in
-    let rest = prefix_of_all q xs (and-right _ _ h) in
-    rw first (omega (arith, rest))
-
-all_of_prefix : (q : ℕ → Bool) (xs : List ℕ) → length xs ≤ prefix_len q xs → list_all q xs ≡ true
-all_of_prefix q [] h = refl
-all_of_prefix q (x ∷ xs) h =
-    elim (cases_Bool (q x)) [
-      | inl first ↦
-          let more : suc (length xs) ≤ 1 + prefix_len q xs = rw first at h in
-          rw first (all_of_prefix q xs (omega arith))
-      | inr other ↦ let none : suc (length xs) ≤ 0 = rw other at h in absurd (omega arith)
-    ]
-
-none_at : (test : Bool) (k : ℕ) → cond test (Some k) None ≡ None → test ≡ false
-none_at true k h = absurd cc
-none_at false k h = refl
-
--- no byte is unread, as a test of all bytes and as a search
-all_read-position : (bytes : List ℕ) → position is_unread bytes ≡ None → list_all (λ b. not (is_unread b)) bytes ≡ true
-all_read-position bytes h =
-    let test = none_at (nat_lt (position_or_len is_unread bytes) (length bytes)) (position_or_len is_unread bytes) h in
-    all_of_prefix (λ b. not (is_unread b)) bytes (ltb-false (position_or_len is_unread bytes) (length bytes) test)
-
-position-all_read : (bytes : List ℕ) → list_all (λ b. not (is_unread b)) bytes ≡ true → position is_unread bytes ≡ None
-position-all_read bytes h =
-    let whole = prefix_of_all (λ b. not (is_unread b)) bytes h in
-    let past : nat_lt (position_or_len is_unread bytes) (length bytes) ≡ false = le-ltb (position_or_len is_unread bytes) (length bytes) (omega (arith, whole)) in
-    rw past refl
-
-read_none : (p : Option ℕ) (t : Option Token) → option_map_or (λ at. Some at) p (option_map (λ (t : Token). t.at.at) t) ≡ None → (p ≡ None) × (t ≡ None)
-read_none (Some at) t h = absurd cc
-read_none None (Some t) h = absurd cc
-read_none None None h = (refl, refl)
-
-map_none : {X Y : Type 0} (f : X → Y) (x : Option X) → option_map f x ≡ None → x ≡ None
-map_none f None h = refl
-map_none f (Some x) h = absurd cc
 
 pub is_thin-fault_in : (bytes : List ℕ) → fault_in bytes ≡ None → IsThin bytes
 is_thin-fault_in bytes h =
@@ -156,7 +115,7 @@ IsThin-edited n name path bytes identifier free thin told fits = record {
   read = position-all_read (edited n name path bytes)
       (respelled-bytes (λ b. not (is_unread b)) (members_in n path bytes) name 0 bytes (all_read-position bytes thin.read) (name_bytes name identifier));
   thin = read_all-respells n.token.text name Nothing [] (file_tokens bytes) (file_tokens (edited n name path bytes)) Nothing free refl
-      (respells_all n name path (file_tokens bytes) (file_tokens (edited n name path bytes)) told (in_place n name path bytes identifier)) thin.thin;
+      (respells_all n name path (file_tokens bytes) (file_tokens (edited n name path bytes)) told (in_place n name path bytes identifier free thin)) thin.thin;
 }
 
 alike : (n : Named) (name path path' : List ℕ) (t u : Token) → IsTold n name path t → IsTold n name path' u → is_name t ≡ true → is_name u ≡ true
@@ -189,7 +148,7 @@ KeepsMeaning-clear a place n name read identifier in_file none =
           (λ m inside. (clear a n name file m none found inside).small) in
           record {
             thin_now = rw (fault_in-is_thin (edited n name file.0 file.1) thin) refl;
-            tokens = in_place n name file.0 file.1 identifier ∙ map_same n name file.0 (file_tokens file.1);
+            tokens = in_place n name file.0 file.1 identifier free.name_free (is_thin-fault_in file.1 thin_file) ∙ map_same n name file.0 (file_tokens file.1);
           };
       spellings = λ file file' found found'. record {
         alike = λ t u inside inside' t_named u_named.

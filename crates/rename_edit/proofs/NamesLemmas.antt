@@ -1,7 +1,7 @@
 -- A thin token list stays thin when one spelling of its names becomes another that does not occur.
-use Rattle.std.proofs.Common.{◌≡◌, ℕ, zero, suc, Bool, true, false, not, ◌&&◌, ◌||◌, cond, List, [], ◌∷◌, ◌++◌, length, refl, arith, ap, sym, subst, ◌∙◌, inl, inr}
+use Rattle.std.proofs.Common.{◌≡◌, ℕ, Bool, true, false, not, List, [], ◌∷◌, refl, ap, sym, ◌∙◌, inl, inr}
 use Rattle.std.specs.Prelude.{bytes_eq, codes, map, Option, None, Some, Result, Ok, Err, if◌then◌else◌}
-use Rattle.std.specs.List.{list_all, list_any}
+use Rattle.std.specs.List.{list_all}
 use Rattle.std.specs.Option.{option_map_or}
 use Rattle.std.proofs.lemmas.Bool.{cases_Bool}
 use Rattle.cs_base.specs.Token.{Token}
@@ -13,7 +13,7 @@ use Rattle.cs_base.proofs.FileMapLemmas.{bytes_eq-same, bytes_eq-equal}
 use Rattle.rename_edit.specs.declared.stages.Stage.{Stage}
 use Rattle.rename_edit.specs.declared.stages.Stage.TheVariants.{Nothing, Extern, Int, ExternInt, IntName, IntNameEquals, AllButSemicolon}
 use Rattle.rename_edit.specs.Spellings.{is_ident_kind, is_number_kind, is_punct_kind, is_name, is_word, is_sign}
-use Rattle.rename_edit.specs.ThinUnit.{is_declared, is_value, next_stage, declares, declared_after, read_all}
+use Rattle.rename_edit.specs.ThinUnit.{is_declared, next_stage, declares, declared_after, read_all}
 
 -- two texts that are no longer told equal
 pub bytes_eq-apart : (a b : List ℕ) → (a ≡ b → ⊥) → bytes_eq a b ≡ false

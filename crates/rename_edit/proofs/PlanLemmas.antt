@@ -1,8 +1,7 @@
 -- The edits of all files, file by file.
-use Rattle.std.proofs.Common.{◌≡◌, ℕ, zero, suc, ◌+◌, ◌<◌, ◌≤◌, Bool, true, false, ◌&&◌, ◌==◌, nat_eq, cond, List, [], ◌∷◌, ◌++◌, length, get_or, drop, refl, arith, ap, sym, ◌∙◌, inl, inr}
-use Rattle.std.specs.Prelude.{Option, None, Some, Result, Ok, Err, IfSome, flat_map, IsTrue, slice_get}
+use Rattle.std.proofs.Common.{◌≡◌, ℕ, ◌+◌, ◌<◌, ◌≤◌, Bool, true, ◌&&◌, nat_eq, cond, List, [], ◌∷◌, ◌++◌, length, get_or, drop, refl, arith, ap, sym, ◌∙◌, inl, inr}
+use Rattle.std.specs.Prelude.{Option, None, Some, Result, Ok, Err, IfSome, flat_map}
 use Rattle.std.specs.List.{list_all}
-use Rattle.std.specs.Option.{option_map}
 use Rattle.std.proofs.lemmas.Bool.{cases_Bool}
 use Rattle.std.proofs.lemmas.List.{drop_more, drop_all, append_assoc, append-nil}
 use Rattle.cs_base.specs.Outside.{FileMap}
@@ -10,7 +9,7 @@ use Rattle.cs_base.specs.Edit.{Edit, edit, comes_before, comes_last}
 use Rattle.rename_edit.specs.Analysis.{are_sorted}
 use Rattle.rename_edit.specs.Class.{Named, members_in}
 use Rattle.rename_edit.specs.Offence.{Offence, offences_in, edited}
-use Rattle.rename_edit.specs.Renaming.{Refusal, refused, edit_of, unless_offence}
+use Rattle.rename_edit.specs.Renaming.{Refusal, edit_of, unless_offence}
 
 left_true : (a b : Bool) → (a && b) ≡ true → a ≡ true
 left_true a b h = grind (arith, h)

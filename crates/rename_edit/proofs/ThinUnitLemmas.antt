@@ -1,7 +1,7 @@
 -- One more token of a thin unit, and one more declared name.
-use Rattle.std.proofs.Common.{◌≡◌, ℕ, ◌+◌, ◌<◌, ◌≤◌, Bool, true, false, ◌||◌, cond, List, [], ◌∷◌, length, get_or, drop, refl, arith, ap, sym, ◌∙◌, Bor, BTreeSet}
-use Rattle.std.specs.Prelude.{Option, Some, None, Result, Ok, Err, bytes_eq}
-use Rattle.std.specs.Option.{option_map, option_map_or}
+use Rattle.std.proofs.Common.{◌≡◌, ℕ, ◌+◌, ◌<◌, ◌≤◌, Bool, true, false, ◌||◌, cond, List, ◌∷◌, length, get_or, drop, refl, ap, sym, ◌∙◌, Bor, BTreeSet}
+use Rattle.std.specs.Prelude.{Some, None, Result, Ok, Err, bytes_eq}
+use Rattle.std.specs.Option.{option_map_or}
 use Rattle.std.specs.Ordering.{nat_cmp, is_eq}
 use Rattle.std.specs.Cmp.Lexicographic.{slice_cmp}
 use Rattle.std.specs.BTreeSet.{contains_by, Updates}
@@ -9,7 +9,7 @@ use Rattle.std.proofs.lemmas.List.{at_drop_more, at_drop_all}
 use Rattle.std.proofs.lemmas.Cmp.{nat_list_eq_equiv}
 use Rattle.std.proofs.lemmas.Map.Text.{is_eq-slice_cmp}
 use Rattle.cs_base.specs.Token.{Token}
-use Rattle.rename_edit.specs.ThinUnit.{next_stage, declares, is_declared, declared_after, read_all, odd_among}
+use Rattle.rename_edit.specs.ThinUnit.{next_stage, is_declared, declared_after, read_all}
 use Rattle.rename_edit.specs.declared.stages.Stage.{Stage}
 
 -- what reading the tokens from number i on gives, by its first token

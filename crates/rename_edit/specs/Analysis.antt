@@ -1,5 +1,5 @@
 -- The analysis of thin units: the files read, or the first fault.
-use Rattle.std.specs.Prelude.{ℕ, ◌≡◌, ◌≤◌, ◌+◌, ◌^◌, Bool, true, ◌&&◌, List, [], ◌∷◌, Option, None, Some, Result, Ok, Err, All, IsTrue, IsUtf8, length, position, unwrap_or, nat_lt, bytes_eq, if◌then◌else◌}
+use Rattle.std.specs.Prelude.{ℕ, ◌≡◌, ◌≤◌, ◌+◌, ◌^◌, Bool, true, ◌&&◌, ◌==◌, List, [], ◌∷◌, Option, None, Some, Result, Ok, Err, All, IsTrue, IsUtf8, length, position, unwrap_or, nat_lt, bytes_eq, if◌then◌else◌}
 use Rattle.std.specs.List.{list_all}
 use Rattle.std.specs.Option.{option_map, option_map_or}
 use Rattle.std.specs.Str.{is_utf8}
@@ -10,7 +10,8 @@ use Rattle.cs_base.specs.Edit.{comes_before}
 use Rattle.cs_base.specs.declared.causes.Cause.{Cause}
 use Rattle.cs_base.specs.declared.causes.Cause.TheVariants.{MissingFile, FileTooLarge, NotBuilt}
 use Rattle.part_lexer.specs.Tokens.{tokens_of}
-use Rattle.part_lexer.specs.Lines.{line_column_of}
+use Rattle.part_lexer.specs.Characters.{line_feed}
+use Rattle.part_lexer.specs.Lines.{place_of_byte}
 use Rattle.rename_edit.specs.ThinUnit.{is_unread, odd_token}
 
 -- What contracts see of a `Thin`: the paths of the units in order, and the files read, sorted by the
@@ -38,16 +39,20 @@ pub record FileFault : Type 0 where
 abbrev pub file_fault : ℕ → ℕ → Cause → FileFault
 file_fault line column cause = record { line = line; column = column; cause = cause }
 
--- the line and the column of a character of the file
+-- the line and the column of a byte of the file
 abbrev pub place_of : List ℕ → ℕ → ℕ × ℕ
-place_of bytes at = unwrap_or (line_column_of bytes at) (1, 1)
+place_of bytes at = unwrap_or (place_of_byte bytes at) (1, 1)
 
--- a fault at a character of the file
+-- the place behind a byte that stands at this line and column
+abbrev pub place_behind : ℕ → ℕ → ℕ → ℕ × ℕ
+place_behind b line column = if b == line_feed then (line + 1, 1) else (line, column + 1)
+
+-- a fault at a byte of the file
 abbrev pub fault_at : List ℕ → ℕ → Cause → FileFault
 fault_at bytes at cause = file_fault (place_of bytes at).0 (place_of bytes at).1 cause
 
--- the first character at which a file is not thin, or none: a byte that no thin unit holds, or else the
--- start of a token
+-- the first byte at which a file is not thin, or none: a byte that no thin unit holds, or else, since each
+-- character is then a byte, the start of a token
 abbrev pub odd_place : List ℕ → Option ℕ
 odd_place bytes =
     option_map_or (λ at. Some at) (position is_unread bytes)

@@ -1,6 +1,6 @@
 -- Parts and classes of thin units: each identifier is a part, all names of one spelling are linked, and
 -- nothing else is. So the class of a name is all names spelled alike, and any other identifier is alone.
-use Rattle.std.specs.Prelude.{ℕ, ◌≡◌, ◌+◌, ◌⊎◌, Bool, ◌&&◌, ◌||◌, ◌==◌, List, Option, None, Some, nat_le, nat_lt, length, filter, find, bytes_eq, if◌then◌else◌, option_and_then, IsTrue}
+use Rattle.std.specs.Prelude.{ℕ, ◌+◌, Bool, ◌&&◌, ◌||◌, ◌==◌, List, Option, nat_le, nat_lt, length, filter, find, bytes_eq, option_and_then, IsTrue}
 use Rattle.std.specs.Option.{option_map}
 use Rattle.cs_base.specs.Token.{Token}
 use Rattle.cs_base.specs.Outside.{bytes_at}

@@ -1,6 +1,6 @@
 -- What an accepted renaming keeps: each file stays thin, its tokens are the old ones renamed, and two
 -- names are spelled alike exactly where they were.
-use Rattle.std.specs.Prelude.{ℕ, ◌≡◌, ◌↔◌, Bool, true, List, Option, None, Some, IsTrue, IsNone, map, Contains, if◌then◌else◌}
+use Rattle.std.specs.Prelude.{ℕ, ◌≡◌, ◌↔◌, List, IsTrue, IsNone, map, Contains, if◌then◌else◌}
 use Rattle.cs_base.specs.Token.{Token}
 use Rattle.cs_base.specs.declared.tokens.Kind.{Kind}
 use Rattle.rename_edit.specs.Spellings.{is_name}

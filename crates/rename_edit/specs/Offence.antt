@@ -1,8 +1,7 @@
 -- What stands against a renaming of a class in thin units, each offence at a place.
-use Rattle.std.specs.Prelude.{ℕ, ◌+◌, ◌-◌, ◌*◌, ◌^◌, Bool, true, false, ◌||◌, ◌&&◌, ◌==◌, List, [], ◌∷◌, ◌++◌, length, nat_lt, bytes_eq, find, flat_map, map, if◌then◌else◌}
+use Rattle.std.specs.Prelude.{ℕ, ◌^◌, Bool, false, ◌||◌, ◌&&◌, ◌==◌, List, [], ◌∷◌, ◌++◌, length, nat_lt, bytes_eq, find, flat_map, map, if◌then◌else◌}
 use Rattle.std.specs.Option.{option_map_or}
 use Rattle.cs_base.specs.Token.{Token}
-use Rattle.cs_base.specs.Outside.{FileMap}
 use Rattle.cs_base.specs.Reserved.{is_reserved_text}
 use Rattle.cs_base.specs.declared.causes.Cause.{Cause}
 use Rattle.cs_base.specs.declared.causes.Cause.TheVariants.{Reserved, Occurs, TooLarge}

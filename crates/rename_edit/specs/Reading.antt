@@ -2,7 +2,7 @@
 use Rattle.std.specs.Prelude.{ℕ, ◌≡◌, ◌≤◌, Bool, true, false, not, List, Option, Some, None, Result, Ok, Err, All, IfSome, IsUtf8}
 use Rattle.cs_base.specs.Outside.{FileMap, Rose}
 use Rattle.part_lexer.specs.FileText.{TextValue, file_text}
-use Rattle.rename_edit.specs.Analysis.{UnitFault, unit_fault, file_fault, fault_in, held_at, with_read}
+use Rattle.rename_edit.specs.Analysis.{UnitFault, unit_fault, file_fault, fault_in, held_at}
 use Rattle.rename_edit.specs.declared.refusals.ThinFault.{ThinFault}
 use Rattle.rename_edit.specs.declared.refusals.ThinFault.TheVariants as fault
 

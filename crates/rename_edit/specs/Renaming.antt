@@ -1,5 +1,5 @@
 -- The renaming of the class of a named identifier: the edits of the files, or the first refusal.
-use Rattle.std.specs.Prelude.{ℕ, Bool, List, [], ◌∷◌, ◌++◌, Option, None, Some, Result, Ok, Err, length, nat_eq, flat_map, if◌then◌else◌}
+use Rattle.std.specs.Prelude.{ℕ, List, [], ◌∷◌, Result, Ok, Err, length, nat_eq, flat_map, if◌then◌else◌}
 use Rattle.std.specs.Option.{option_map_or}
 use Rattle.cs_base.specs.Edit.{Edit, edit}
 use Rattle.part_lexer.specs.Spelling.{is_identifier_text}

@@ -3,7 +3,7 @@
 -- line splices, and a sequence of `int NAME ;`, `int NAME = NAME ;`, `int NAME = pp-number ;` and
 -- `extern int NAME ;`. A NAME is an identifier that is not reserved; one after `=` is the declared
 -- NAME of its own or an earlier declaration. docs/PROFILE.md, "Thin units", says why.
-use Rattle.std.specs.Prelude.{ℕ, ◌-◌, Bool, true, false, not, ◌||◌, ◌&&◌, ◌==◌, List, [], ◌∷◌, Option, None, Some, Result, Ok, Err, length, slice_get, codes, bytes_eq, if◌then◌else◌}
+use Rattle.std.specs.Prelude.{ℕ, ◌-◌, Bool, true, false, ◌||◌, ◌&&◌, ◌==◌, List, [], ◌∷◌, Option, None, Some, Result, Ok, Err, length, slice_get, codes, bytes_eq, if◌then◌else◌}
 use Rattle.std.specs.List.{list_any}
 use Rattle.std.specs.Option.{option_map_or}
 use Rattle.std.specs.Str.{byte}

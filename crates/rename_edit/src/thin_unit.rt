@@ -1,18 +1,15 @@
 // Whether a file is a thin unit, and the first place at which it is not.
 ghost use Rattle.std.specs.Prelude.{◌≡◌, ◌≤◌, ◌<◌, ◌^◌, IfOk, IfSome, Ok, length, position};
 ghost use Rattle.std.specs.Option.{option_map};
-ghost use Rattle.part_lexer.specs.FileText.{file_text};
 ghost use Rattle.rename_edit.specs.ThinUnit.{odd_token, odd_among, is_unread as is_unread_byte};
-ghost use Rattle.rename_edit.specs.Analysis.{odd_place};
 
 use crate::stages::Stage;
 use cs_base::{Memory, Tok};
-use part_lexer::FileText;
 use std::alloc::Global;
 use std::collections::BTreeSet;
 
 // The position of the token at which the list is not that of a thin unit.
-fn odd_at(alloc: Global, toks: &[Tok]) -> Result<Option<u32>, Memory>
+pub(crate) fn odd_at(alloc: Global, toks: &[Tok]) -> Result<Option<u32>, Memory>
     ensures { IfOk result (λ at. at ≡ option_map (λ t. t.at.at) (odd_token toks.now)) }
 {
     let mut declared: BTreeSet<&[u8]> = BTreeSet::new(alloc);
@@ -51,25 +48,9 @@ fn is_unread(b: u8) -> bool
 }
 
 // The first byte that no thin unit holds.
-fn unread_at(bytes: &[u8]) -> Option<usize>
+pub(crate) fn unread_at(bytes: &[u8]) -> Option<usize>
     ensures within { IfSome result (λ at. at < length bytes.now) }
     ensures answer { result ≡ position is_unread_byte bytes.now }
 {
     bytes.iter().position(|b| is_unread(*b))
-}
-
-// The first place of a file at which it is not thin.
-pub(crate) fn odd_place_of(
-    alloc: Global,
-    bytes: &[u8],
-    text: &FileText,
-) -> Result<Option<u32>, Memory>
-    requires small { length bytes.now ≤ 2 ^ 22 }
-    requires lexed { file_text 1 bytes.now ≡ Ok text.now }
-    ensures { IfOk result (λ at. at ≡ odd_place bytes.now) }
-{
-    match unread_at(bytes) {
-        Some(at) => Ok(Some(at as u32)),
-        None => odd_at(alloc, text.toks()),
-    }
 }

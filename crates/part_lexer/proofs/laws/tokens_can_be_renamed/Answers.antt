@@ -1,10 +1,14 @@
-use Rattle.part_lexer.proofs.RenameLaw.{renames_in_place}
-use Rattle.part_lexer.proofs.OrderLemmas.{tokens_of-in_order, renamed_text-length}
+use Rattle.part_lexer.proofs.EditedBytes.{edit_keeps_tokens}
+use Rattle.part_lexer.proofs.OrderLemmas.{tokens_of-in_order}
+use Rattle.part_lexer.proofs.PlainLemmas.{plain_characters}
+use Rattle.part_lexer.proofs.RenameLaw.{renames_in_place, renamed_length}
 use Rattle.part_lexer.proofs.laws.tokens_can_be_renamed.Goals as goal
 
 pub returns : goal.returns
 returns c = record {
   in_order = tokens_of-in_order;
+  edited = edit_keeps_tokens;
+  plain = plain_characters;
   renames = renames_in_place;
-  lengths = λ file bytes pick name. renamed_text-length pick name file bytes;
+  lengths = renamed_length;
 }

@@ -1,5 +1,5 @@
 use Rattle.std.proofs.Common.{arith, length}
-use Rattle.part_lexer.proofs.TokensLemmas.{length-origins, origins_from-traced, padded-origins}
+use Rattle.part_lexer.proofs.OriginLemmas.{length-origins, origins_from-traced, padded-origins}
 use Rattle.part_lexer.proofs.scan.file_token.Goals as goal
 
 pub new-requires-clause-no_longer : goal.new-requires-clause-no_longer

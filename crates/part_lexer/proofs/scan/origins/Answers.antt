@@ -1,7 +1,7 @@
 use Rattle.std.proofs.Common.{◌∷◌, [], ◌+◌, ◌-◌, append_assoc}
 use Rattle.std.specs.Prelude.{Some}
-use Rattle.part_lexer.specs.Tokens.{origins_from, pos}
-use Rattle.part_lexer.proofs.TokensLemmas.{origins_from-more}
+use Rattle.part_lexer.specs.Places.{origins_from, pos}
+use Rattle.part_lexer.proofs.OriginLemmas.{origins_from-more}
 use Rattle.part_lexer.proofs.scan.origins.Goals as goal
 
 pub loop-k-preserved : goal.loop-k-preserved

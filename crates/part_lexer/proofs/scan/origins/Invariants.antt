@@ -1,5 +1,5 @@
 use Rattle.std.proofs.Common.{◌≡◌, ◌+◌, ◌-◌, ◌++◌}
-use Rattle.part_lexer.specs.Tokens.{origins_from}
+use Rattle.part_lexer.specs.Places.{origins_from}
 use Rattle.part_lexer.proofs.scan.origins.Given as goal
 
 abbrev pub invariant-loop-k : goal.invariant-loop-k

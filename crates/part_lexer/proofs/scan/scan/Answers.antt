@@ -1,25 +1,132 @@
-use Rattle.std.proofs.Common.{rules}
-use Rattle.part_lexer.proofs.ScanSteps.{scan-none, scan-white, scan-token, scan-all}
+use Rattle.std.proofs.Common.{◌≡◌, ◌∙◌, ◌-◌, suc, refl, arith}
+use Rattle.part_lexer.specs.Tokens.{piece_length}
+use Rattle.part_lexer.specs.Lone.{IsLone}
+use Rattle.part_lexer.specs.Walk.{spelled}
+use Rattle.part_lexer.proofs.LoneLemmas.{IsLone-none, IsLone-piece, IsLone-here}
+use Rattle.part_lexer.proofs.LogicalLemmas.{spelled-within}
+use Rattle.part_lexer.proofs.LineLemmas.{line_starts-table}
+use Rattle.part_lexer.proofs.ScanLemmas.{Walked-none, Walked-gone, Walked-all, Walked-piece, Walked-open, IsClosed-from, walked-bounds, tokens_of-found, firsts_of-file, open_comment_of-file}
 use Rattle.part_lexer.proofs.scan.scan.Goals as goal
 
-pub loop-rest-init : goal.loop-rest-init
-loop-rest-init c = rw c.new-toks.ensures.items (scan-none c.args.file c.args.bytes.now)
+pub loop-here-init : goal.loop-here-init
+loop-here-init c =
+    rw (c.new-toks.ensures.items, c.new-firsts.ensures.items)
+    (Walked-none c.args.file c.args.bytes.now, IsLone-none (record { single = 0; double = 0 }) (spelled c.args.bytes.now) refl refl)
 
-pub loop-rest-preserved-then-is_white : goal.loop-rest-preserved-then-is_white
-loop-rest-preserved-then-is_white c =
-    scan-white c.loop-rest.toks.items c.args.file c.loop-rest.gap c.loop-rest.line c.loop-rest.at c.line_after-line.result
-    c.loop-rest.rest.now c.args.bytes.now c.in-len1-up.len_at_least (search rules) c.line_after-line.ensures c.loop-rest.invariant
+pub open_comment-requires-clause-table : goal.open_comment-requires-clause-table
+open_comment-requires-clause-table c = rw c.requires.table (line_starts-table c.args.bytes.now c.requires.small)
 
-pub loop-rest-preserved : goal.loop-rest-preserved
-loop-rest-preserved c =
-    let tok = c.in_ok-file_token.field-0 in
-    rw c.in_ok-push.ensures.items
-    (scan-token c.loop-rest.toks.items tok c.args.file c.loop-rest.gap c.loop-rest.line c.loop-rest.at
-    c.front-kind.result.0 c.front-kind.result.1 c.loop-rest.rest.now c.split_at.result.0.now c.split_at.result.1.now
-    c.args.bytes.now c.in-len1-up.len_at_least (search rules) c.front-kind.ensures c.split_at.ensures.front c.split_at.ensures.back
-    c.in_ok-file_token.ensures c.loop-rest.invariant)
+pub returns-in-OpenComment : goal.returns-in-OpenComment
+returns-in-OpenComment c =
+    let w = Walked-gone c.args.file c.args.bytes.now c.loop-here.toks.items c.loop-here.firsts.items c.loop-here.line
+    c.loop-here.at c.loop-here.gap c.loop-here.front c.loop-here.rest.now c.in-Some.here.now c.line_at-line_here.result
+    c.in-Some.ensures.here c.line_at-line_here.ensures c.loop-here.invariant.0 in
+    let is = rw c.expects_header.ensures at c.in-OpenComment.ensures in
+    let opens = Walked-open c.args.file c.args.bytes.now c.loop-here.toks.items c.loop-here.firsts.items
+    c.line_at-line_here.result c.loop-here.at c.loop-here.gap c.loop-here.front c.in-Some.here.now c.in-Some.first
+    c.in-Some.after.now c.in-Some.ensures.first is w in
+    let file = open_comment_of-file c.args.file c.args.bytes.now in
+    rw (c.open_comment.ensures, c.requires.table)
+    (record { open_comment = rw file at opens.0; place = opens.1 })
+
+pub add_piece-requires : goal.add_piece-requires
+add_piece-requires c =
+    let few = spelled-within c.args.bytes.now in
+    let within = c.in-Some.ensures.here.within in
+    omega (arith, c.loop-here.invariant.0.count, c.loop-here.invariant.0.passes.within)
+
+pub overflow_sub-n : goal.overflow_sub-n
+overflow_sub-n c =
+    let w = Walked-gone c.args.file c.args.bytes.now c.loop-here.toks.items c.loop-here.firsts.items c.loop-here.line
+    c.loop-here.at c.loop-here.gap c.loop-here.front c.loop-here.rest.now c.in-Some.here.now c.line_at-line_here.result
+    c.in-Some.ensures.here c.line_at-line_here.ensures c.loop-here.invariant.0 in
+    let is = rw c.expects_header.ensures at c.first_piece-piece.ensures in
+    let bounds = walked-bounds c.args.file c.args.bytes.now c.loop-here.toks.items c.loop-here.firsts.items
+    c.line_at-line_here.result c.loop-here.at c.loop-here.gap c.loop-here.front c.in-Some.here.now c.in-Some.first
+    c.in-Some.after.now c.first_piece-piece.result c.in-Some.ensures.first is
+    (IsClosed-from c.first_piece-piece.result c.in_default-piece.not-OpenComment) w in
+    omega (arith, bounds.0, c.len-n.ensures)
+
+pub overflow_cast-at : goal.overflow_cast-at
+overflow_cast-at c =
+    let w = Walked-gone c.args.file c.args.bytes.now c.loop-here.toks.items c.loop-here.firsts.items c.loop-here.line
+    c.loop-here.at c.loop-here.gap c.loop-here.front c.loop-here.rest.now c.in-Some.here.now c.line_at-line_here.result
+    c.in-Some.ensures.here c.line_at-line_here.ensures c.loop-here.invariant.0 in
+    let is = rw c.expects_header.ensures at c.first_piece-piece.ensures in
+    let bounds = walked-bounds c.args.file c.args.bytes.now c.loop-here.toks.items c.loop-here.firsts.items
+    c.line_at-line_here.result c.loop-here.at c.loop-here.gap c.loop-here.front c.in-Some.here.now c.in-Some.first
+    c.in-Some.after.now c.first_piece-piece.result c.in-Some.ensures.first is
+    (IsClosed-from c.first_piece-piece.result c.in_default-piece.not-OpenComment) w in
+    omega (arith, bounds.2, c.len-n.ensures)
+
+pub overflow_add-at : goal.overflow_add-at
+overflow_add-at c =
+    let w = Walked-gone c.args.file c.args.bytes.now c.loop-here.toks.items c.loop-here.firsts.items c.loop-here.line
+    c.loop-here.at c.loop-here.gap c.loop-here.front c.loop-here.rest.now c.in-Some.here.now c.line_at-line_here.result
+    c.in-Some.ensures.here c.line_at-line_here.ensures c.loop-here.invariant.0 in
+    let is = rw c.expects_header.ensures at c.first_piece-piece.ensures in
+    let bounds = walked-bounds c.args.file c.args.bytes.now c.loop-here.toks.items c.loop-here.firsts.items
+    c.line_at-line_here.result c.loop-here.at c.loop-here.gap c.loop-here.front c.in-Some.here.now c.in-Some.first
+    c.in-Some.after.now c.first_piece-piece.result c.in-Some.ensures.first is
+    (IsClosed-from c.first_piece-piece.result c.in_default-piece.not-OpenComment) w in
+    omega (arith, bounds.2, c.len-n.ensures)
+
+pub after-front-requires : goal.after-front-requires
+after-front-requires c =
+    let w = Walked-gone c.args.file c.args.bytes.now c.loop-here.toks.items c.loop-here.firsts.items c.loop-here.line
+    c.loop-here.at c.loop-here.gap c.loop-here.front c.loop-here.rest.now c.in-Some.here.now c.line_at-line_here.result
+    c.in-Some.ensures.here c.line_at-line_here.ensures c.loop-here.invariant.0 in
+    let is = rw c.expects_header.ensures at c.first_piece-piece.ensures in
+    let bounds = walked-bounds c.args.file c.args.bytes.now c.loop-here.toks.items c.loop-here.firsts.items
+    c.line_at-line_here.result c.loop-here.at c.loop-here.gap c.loop-here.front c.in-Some.here.now c.in-Some.first
+    c.in-Some.after.now c.first_piece-piece.result c.in-Some.ensures.first is
+    (IsClosed-from c.first_piece-piece.result c.in_default-piece.not-OpenComment) w in
+    bounds.1
+
+pub loop-here-preserved : goal.loop-here-preserved
+loop-here-preserved c =
+    let w = Walked-gone c.args.file c.args.bytes.now c.loop-here.toks.items c.loop-here.firsts.items c.loop-here.line
+    c.loop-here.at c.loop-here.gap c.loop-here.front c.loop-here.rest.now c.in-Some.here.now c.line_at-line_here.result
+    c.in-Some.ensures.here c.line_at-line_here.ensures c.loop-here.invariant.0 in
+    let is = rw c.expects_header.ensures at c.first_piece-piece.ensures in
+    let closed = IsClosed-from c.first_piece-piece.result c.in_default-piece.not-OpenComment in
+    let over = rw c.len-n.ensures at c.behind-rest.ensures in
+    let bounds = walked-bounds c.args.file c.args.bytes.now c.loop-here.toks.items c.loop-here.firsts.items
+    c.line_at-line_here.result c.loop-here.at c.loop-here.gap c.loop-here.front c.in-Some.here.now c.in-Some.first
+    c.in-Some.after.now c.first_piece-piece.result c.in-Some.ensures.first is closed w in
+    let n = piece_length 0 c.first_piece-piece.result in
+    let size : n ≡ suc (n - 1) = omega (arith, bounds.0) in
+    let lone : IsLone c.behind-lone.result (spelled c.behind-rest.result.now) =
+    rw (c.behind-lone.ensures, c.len-n.ensures)
+    (IsLone-piece c.searched.result c.in-Some.here.now c.in-Some.first c.in-Some.after.now c.behind-rest.result.now n (n - 1)
+    c.in-Some.ensures.first over size c.searched.ensures) in (
+      rw (c.len-n.ensures, c.leaves_gap-gap.ensures, c.after-front.ensures)
+          (Walked-piece c.args.file c.args.bytes.now c.loop-here.toks.items c.loop-here.firsts.items
+          c.line_at-line_here.result c.loop-here.at c.loop-here.gap c.loop-here.front c.in-Some.here.now c.in-Some.first
+          c.in-Some.after.now c.first_piece-piece.result c.behind-rest.result.now c.add_piece.new.toks.items
+          c.add_piece.new.firsts.items c.line_at-line.result c.in-Some.ensures.first is closed over c.in_ok-add_piece.ensures.toks
+          c.in_ok-add_piece.ensures.firsts c.line_at-line.ensures w),
+      lone,
+    )
 
 pub returns : goal.returns
 returns c =
-    scan-all c.loop-rest.toks.items c.args.file c.loop-rest.gap c.loop-rest.line c.loop-rest.at c.loop-rest.rest.now
-    c.args.bytes.now c.in_default.len_below c.loop-rest.invariant.0
+    let all = Walked-all c.args.file c.args.bytes.now c.loop-here.toks.items c.loop-here.firsts.items c.loop-here.line
+    c.loop-here.at c.loop-here.gap c.loop-here.front c.loop-here.rest.now c.in_default.ensures.none c.loop-here.invariant.0 in
+    let file = open_comment_of-file c.args.file c.args.bytes.now in
+    record {
+      toks = all.toks_are ∙ tokens_of-found c.args.file c.args.bytes.now;
+      firsts = all.firsts_are ∙ firsts_of-file c.args.file c.args.bytes.now;
+      len = all.len;
+      closed = rw file at all.closed;
+    }
+
+pub first_piece-piece-requires-clause-lone : goal.first_piece-piece-requires-clause-lone
+first_piece-piece-requires-clause-lone c =
+    IsLone-here c.loop-here.lone c.loop-here.rest.now c.in-Some.here.now c.in-Some.first c.in-Some.after.now
+    c.in-Some.ensures.here c.in-Some.ensures.first c.loop-here.invariant.1
+
+pub searched-requires : goal.searched-requires
+searched-requires c =
+    IsLone-here c.loop-here.lone c.loop-here.rest.now c.in-Some.here.now c.in-Some.first c.in-Some.after.now
+    c.in-Some.ensures.here c.in-Some.ensures.first c.loop-here.invariant.1

@@ -1,12 +1,13 @@
-use Rattle.std.proofs.Common.{◌≡◌, ◌+◌, ◌++◌, ◌≤◌, length}
-use Rattle.part_lexer.specs.Tokens.{tokens_from, tokens_of}
+use Rattle.std.proofs.Common.{length}
+use Rattle.part_lexer.specs.Lone.{IsLone}
+use Rattle.part_lexer.specs.Walk.{spelled}
+use Rattle.part_lexer.proofs.ScanLemmas.{Walked}
 use Rattle.part_lexer.proofs.scan.scan.Given as goal
 
-abbrev pub invariant-loop-rest : goal.invariant-loop-rest
-invariant-loop-rest l =
-    (l.toks.items ++ tokens_from l.file 0 l.gap l.line l.at l.rest ≡ tokens_of l.file l.bytes)
-    × (l.at + length l.rest ≡ length l.bytes)
-    × (l.line ≤ l.at + 1)
+abbrev pub invariant-loop-here : goal.invariant-loop-here
+invariant-loop-here l =
+    (Walked l.file l.bytes l.toks.items l.firsts.items l.line l.at l.gap l.front l.rest)
+    × IsLone l.lone (spelled l.rest)
 
-abbrev pub decreases-loop-rest : goal.decreases-loop-rest
-decreases-loop-rest l = length l.rest
+abbrev pub decreases-loop-here : goal.decreases-loop-here
+decreases-loop-here l = length l.rest

@@ -1,5 +1,4 @@
-use Rattle.std.proofs.Common.{arith, rules, ◌+◌, ◌<◌, ◌≤◌, length, ap}
-use Rattle.std.specs.Prelude.{IfSome}
+use Rattle.std.proofs.Common.{rules}
 use Rattle.rename_edit.specs.Reading.{fault_of}
 use Rattle.rename_edit.proofs.ReadingLemmas.{rest_fault, rest_more, rest_end}
 use Rattle.rename_edit.proofs.analysis.read_units.Goals as goal

@@ -1,6 +1,6 @@
-use Rattle.std.proofs.Common.{◌≡◌, true, false, ◌∙◌, sym, ap, rules}
+use Rattle.std.proofs.Common.{◌≡◌, true, false, ◌∙◌, rules}
 use Rattle.std.specs.List.{insert}
-use Rattle.rename_edit.specs.Analysis.{with_read, AreRead}
+use Rattle.rename_edit.specs.Analysis.{with_read}
 use Rattle.rename_edit.proofs.KeptLemmas.{place, has_at, with_read-new, AreRead-with_read}
 use Rattle.rename_edit.proofs.ReadingLemmas.{already, taken, held_more}
 use Rattle.rename_edit.proofs.analysis.with_unit.Goals as goal

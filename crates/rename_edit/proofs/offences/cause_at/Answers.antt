@@ -1,5 +1,5 @@
-use Rattle.std.proofs.Common.{◌≡◌, ◌==◌, false, ◌∙◌, ap}
-use Rattle.std.specs.Prelude.{find, Option}
+use Rattle.std.proofs.Common.{◌≡◌, ◌==◌, false}
+use Rattle.std.specs.Prelude.{find}
 use Rattle.std.specs.Option.{option_map_or}
 use Rattle.rename_edit.specs.Analysis.{file_tokens}
 use Rattle.rename_edit.specs.Class.{named, is_member}

@@ -1,12 +1,12 @@
 use Rattle.std.proofs.Common.{◌≡◌, ◌∙◌, ap, sym}
-use Rattle.std.specs.Prelude.{slice_get, Option, None, Some, flat_map}
+use Rattle.std.specs.Prelude.{slice_get, None, Some, flat_map}
 use Rattle.std.specs.Option.{option_map}
 use Rattle.std.proofs.lemmas.Option.{slice_get-map}
 use Rattle.cs_base.specs.declared.causes.Cause.{Cause}
 use Rattle.rename_edit.specs.Analysis.{fault_at}
 use Rattle.rename_edit.specs.Class.{named}
 use Rattle.rename_edit.specs.Offence.{offence, offences_at, causes_at}
-use Rattle.rename_edit.proofs.OffenceLemmas.{first_here, none_here, none_left}
+use Rattle.rename_edit.proofs.OffenceLemmas.{first_here, none_here}
 use Rattle.rename_edit.proofs.offences.first_offence.Goals as goal
 
 pub returns-in-Some : goal.returns-in-Some

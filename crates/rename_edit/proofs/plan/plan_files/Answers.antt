@@ -1,4 +1,4 @@
-use Rattle.std.proofs.Common.{refl, rules, arith, ◌≡◌, ◌≤◌, ◌+◌, length}
+use Rattle.std.proofs.Common.{refl, rules, arith}
 use Rattle.std.specs.Prelude.{flat_map}
 use Rattle.rename_edit.specs.Class.{named}
 use Rattle.rename_edit.specs.Offence.{offences_in}

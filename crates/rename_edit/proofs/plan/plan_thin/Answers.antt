@@ -1,6 +1,5 @@
 use Rattle.std.proofs.Common.{◌≡◌, true, rules}
 use Rattle.part_lexer.specs.Spelling.{is_identifier_text}
-use Rattle.rename_edit.specs.Class.{named}
 use Rattle.rename_edit.proofs.EditLemmas.{no_file, no_token, at_token}
 use Rattle.rename_edit.proofs.plan.plan_thin.Goals as goal
 

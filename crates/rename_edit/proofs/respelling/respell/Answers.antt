@@ -1,6 +1,6 @@
-use Rattle.std.proofs.Common.{◌≡◌, true, false, ◌∙◌, sym, rules, arith, length, ap, ◌++◌, ◌-◌, take, drop, nat_lt, ◌^◌, ◌+◌, ◌<◌, refl}
+use Rattle.std.proofs.Common.{◌≡◌, true, false, ◌∙◌, sym, rules, length, ◌++◌, ◌-◌, take, drop, ◌^◌, ◌+◌, ◌<◌, refl}
 use Rattle.rename_edit.specs.Class.{named, is_member}
-use Rattle.rename_edit.specs.Offence.{edited, grows_too_large}
+use Rattle.rename_edit.specs.Offence.{edited}
 use Rattle.rename_edit.proofs.RespellingLemmas.{Before, before_other, before_member, before_end, large_already}
 use Rattle.rename_edit.proofs.respelling.respell.Goals as goal
 use Rattle.rename_edit.proofs.respelling.respell.Goals.{then-is_member+in_ok-out+else-len-gt-MOST_BYTES, else-is_member}

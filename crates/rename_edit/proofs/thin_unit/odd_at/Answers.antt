@@ -1,9 +1,9 @@
-use Rattle.std.proofs.Common.{◌≡◌, ap, sym, rules, arith, ◌<◌, length, ◌∙◌, true, false, ◌∷◌}
-use Rattle.std.specs.Prelude.{Ok, Err, Result}
+use Rattle.std.proofs.Common.{◌≡◌, ap, sym, ◌∙◌, true, false, ◌∷◌}
+use Rattle.std.specs.Prelude.{Result}
 use Rattle.std.specs.Option.{option_map}
 use Rattle.cs_base.specs.Token.{Token}
 use Rattle.rename_edit.specs.declared.stages.Stage.{Stage}
-use Rattle.rename_edit.specs.ThinUnit.{odd_among, is_declared, declares, next_stage}
+use Rattle.rename_edit.specs.ThinUnit.{odd_among, is_declared, declares}
 use Rattle.rename_edit.proofs.ThinUnitLemmas.{read_next, read_odd, read_end, names_more}
 use Rattle.rename_edit.proofs.thin_unit.odd_at.Goals as goal
 use Rattle.rename_edit.proofs.thin_unit.odd_at.Goals.{then-declares+in_ok-insert, else-declares}
