@@ -1,0 +1,75 @@
+-- Lists of names, and keys with such spellings.
+use Rattle.std.proofs.Common.{◌≡◌, ℕ, Bool, true, false, not, ◌&&◌, ◌||◌, List, [], ◌∷◌, ◌++◌, map, refl, sym, ◌∙◌, subst, true≢false, inl, inr, arith}
+use Rattle.std.specs.List.{list_any}
+use Rattle.std.specs.Str.{bytes_eq}
+use Rattle.std.proofs.lemmas.Bool.{cases_Bool}
+use Rattle.std.proofs.lemmas.List.{map-append}
+use Rattle.std.proofs.lemmas.List.Folds.{list_any-append}
+use Rattle.cs_base.proofs.FileMapLemmas.{bytes_eq-same, bytes_eq-equal}
+use Rattle.line_shape.specs.MacroLine.{are_distinct}
+
+-- a key passes the test exactly where its spelling does
+pub list_any-map : {K : Type 0} (spelling : K → List ℕ) (p : List ℕ → Bool) (ks : List K)
+    → list_any (λ k. p (spelling k)) ks ≡ list_any p (map spelling ks)
+list_any-map spelling p [] = refl
+list_any-map spelling p (k ∷ ks) = rw (list_any-map spelling p ks) refl
+
+pub bytes_eq-sym : (a b : List ℕ) → bytes_eq a b ≡ true → bytes_eq b a ≡ true
+bytes_eq-sym a b h = subst (λ (c : List ℕ). bytes_eq b c ≡ true) (sym (bytes_eq-equal a b h)) (bytes_eq-same b)
+
+pub bytes_eq-apart : (a b : List ℕ) → bytes_eq a b ≡ false → bytes_eq b a ≡ false
+bytes_eq-apart a b h =
+    elim (cases_Bool (bytes_eq b a)) [
+      | inl same ↦ absurd (true≢false (sym (bytes_eq-sym b a same) ∙ h))
+      | inr other ↦ other
+    ]
+
+or-same : (a : Bool) → (a || true) ≡ true
+or-same a = grind arith
+
+-- a name that stands among those before it stands twice
+pub are_distinct-twice : (xs : List (List ℕ)) (y : List ℕ) (ys : List (List ℕ)) → list_any (bytes_eq y) xs ≡ true
+    → are_distinct (xs ++ y ∷ ys) ≡ false
+are_distinct-twice [] y ys h = absurd (cc)
+are_distinct-twice (x ∷ xs) y ys h =
+    elim (cases_Bool (bytes_eq y x)) [
+      | inl same ↦
+          let again : list_any (bytes_eq x) (xs ++ y ∷ ys) ≡ true =
+          list_any-append (bytes_eq x) xs (y ∷ ys) ∙ rw (bytes_eq-sym y x same) (or-same (list_any (bytes_eq x) xs)) in
+          rw again refl
+      | inr other ↦
+          let rest : list_any (bytes_eq y) xs ≡ true = rw other at h in
+          let tail = are_distinct-twice xs y ys rest in
+          rw tail (grind arith)
+    ]
+
+and-left : (a b : Bool) → (a && b) ≡ true → a ≡ true
+and-left a b h = grind (arith, h)
+
+and-right : (a b : Bool) → (a && b) ≡ true → b ≡ true
+and-right a b h = grind (arith, h)
+
+not-true : (a : Bool) → not a ≡ true → a ≡ false
+not-true a h = grind (arith, h)
+
+or-first : (a b : Bool) → (a || b) ≡ false → a ≡ false
+or-first a b h = grind (arith, h)
+
+or-second : (a b : Bool) → (a || b) ≡ false → b ≡ false
+or-second a b h = grind (arith, h)
+
+-- one name more, which is new
+pub are_distinct-new : (xs : List (List ℕ)) (y : List ℕ) → are_distinct xs ≡ true → list_any (bytes_eq y) xs ≡ false
+    → are_distinct (xs ++ y ∷ []) ≡ true
+are_distinct-new [] y distinct new = refl
+are_distinct-new (x ∷ xs) y distinct new =
+    let once = not-true (list_any (bytes_eq x) xs) (and-left _ _ distinct) in
+    let other = bytes_eq-apart y x (or-first (bytes_eq y x) (list_any (bytes_eq y) xs) new) in
+    let none : list_any (bytes_eq x) (xs ++ y ∷ []) ≡ false = list_any-append (bytes_eq x) xs (y ∷ []) ∙ rw (once, other) refl in
+    let more = are_distinct-new xs y (and-right _ _ distinct) (or-second (bytes_eq y x) (list_any (bytes_eq y) xs) new) in
+    rw (none, more) refl
+
+-- the spellings of the keys, one of which is new
+pub map-push : {K : Type 0} (spelling : K → List ℕ) (old new : List K) (k : K) → new ≡ old ++ k ∷ []
+    → map spelling new ≡ map spelling old ++ spelling k ∷ []
+map-push spelling old new k h = rw h (map-append spelling old (k ∷ []))

@@ -1,0 +1,23 @@
+//! Directive lines and the runs of text between them (ISO/IEC 9899:1999, 6.10).
+//!
+//! `shape` takes the text of a source file and gives its items, those of `items_of` of
+//! `specs/Items.antt`: each directive line, sorted by the word behind its `#`, and each run of text
+//! lines between two directives. A directive line of no allowed form is an item too, with the first
+//! cause of `specs/BadLines.antt`: it is a fault only where it is reached, which the crates above know,
+//! as they know macros, conditions and source files. Tokens behind an operand are not looked at. An
+//! item names its tokens by their numbers and copies none. Only want of memory is refused. Read
+//! `specs/Items.antt` and `specs/BadLines.antt`, then `walk.rt`.
+#![tactic(auto)]
+
+mod directive;
+mod items;
+mod macro_line;
+mod names;
+mod parameters;
+mod signs;
+#[cfg(test)]
+mod tests;
+mod walk;
+
+pub use items::{Item, ItemKind};
+pub use walk::shape;
