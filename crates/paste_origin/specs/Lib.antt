@@ -1,0 +1,4 @@
+-- What the public contracts rest on.
+pub mod Pasting
+pub mod Strings
+pub mod Refusals

@@ -1,0 +1,63 @@
+-- The operator # (ISO/IEC 9899:1999, 6.10.3.2): the spelling of an argument becomes a string literal.
+use Rattle.std.specs.Prelude.{ℕ, Bool, true, false, ◌&&◌, ◌||◌, ◌==◌, if◌then◌else◌, List, [], ◌∷◌, ◌++◌, length, Option, Some, None, Result, Ok, Err}
+use Rattle.std.specs.List.{flat_map}
+use Rattle.cs_base.specs.declared.tokens.Kind.{Kind}
+use Rattle.cs_base.specs.declared.tokens.Kind.TheVariants.{Char, Str}
+use Rattle.cs_base.specs.Padding.{padded}
+use Rattle.cs_base.specs.Token.{Token, token}
+use Rattle.part_lexer.specs.Characters.{backslash, double_quote}
+use Rattle.part_lexer.specs.Places.{pos}
+use Rattle.part_lexer.specs.OneToken.{one_token_of}
+
+-- Why tokens make no string: their text is not one string literal.
+pub data StringFault : Type 0 where
+  NotAString : StringFault
+
+abbrev pub space : ℕ
+space = 32
+
+-- a character constant or a string literal
+abbrev pub is_quoted : Kind → Bool
+is_quoted Char = true
+is_quoted Str = true
+is_quoted _ = false
+
+-- a backslash goes before this character of a token (6.10.3.2 paragraph 2): a double quote or a
+-- backslash of a character constant or a string literal
+abbrev pub needs_backslash : Kind → ℕ → Bool
+needs_backslash kind c = is_quoted kind && (c == double_quote || c == backslash)
+
+-- a character of a token, as it stands in the string
+abbrev pub escaped : Kind → ℕ → List ℕ
+escaped kind c = if needs_backslash kind c then backslash ∷ c ∷ [] else c ∷ []
+
+-- the spelling of a token, as it stands in the string
+abbrev pub spelling_of : Token → List ℕ
+spelling_of t = flat_map (escaped t.kind) t.text
+
+-- the spelling of a token behind another one: one space stands for white space between them
+abbrev pub later_spelling : Token → List ℕ
+later_spelling t = (if t.gap then space ∷ [] else []) ++ spelling_of t
+
+-- the spelling of the tokens; white space before the first of them goes
+abbrev pub spellings_of : List Token → List ℕ
+spellings_of [] = []
+spellings_of (t ∷ ts) = spelling_of t ++ flat_map later_spelling ts
+
+-- the text of the string
+abbrev pub string_text : List Token → List ℕ
+string_text ts = double_quote ∷ spellings_of ts ++ double_quote ∷ []
+
+-- a string literal of this text; none of its characters has an origin, and its labels are blank
+abbrev pub string_token : List ℕ → Token
+string_token text = token Str text (padded (length text) []) false (pos 0 0) 0 false
+
+-- a text of this kind is a string literal
+abbrev pub is_string : Option Kind → Bool
+is_string (Some Str) = true
+is_string _ = false
+
+-- the string that tokens make (6.10.3.2 paragraph 2), or the fault
+unfoldable pub stringize_of : List Token → Result Token StringFault
+stringize_of ts =
+    if is_string (one_token_of (string_text ts)) then Ok (string_token (string_text ts)) else Err NotAString
