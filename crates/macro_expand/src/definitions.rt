@@ -1,0 +1,23 @@
+// Macro definitions (ISO/IEC 9899:1999, 6.10.3).
+use cs_base::{Tok, Toks};
+
+/// The form of a macro: object-like or function-like as its `define` line says (6.10.3 paragraphs 9
+/// and 10), or one of the two that stand for the line and the path of the file (6.10.8).
+#[derive(Clone, Copy, Debug, PartialEq, Eq)]
+pub enum Form {
+    Object,
+    Function,
+    Line,
+    File,
+}
+
+/// A macro: its name, its named parameters, whether variable arguments follow them, and its
+/// replacement list.
+#[derive(Drop)]
+pub struct Definition {
+    pub name: Tok,
+    pub form: Form,
+    pub params: Toks,
+    pub variadic: bool,
+    pub body: Toks,
+}

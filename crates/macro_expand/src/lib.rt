@@ -1,0 +1,22 @@
+//! Macro expansion (ISO/IEC 9899:1999, 6.10.3): its definition, and the laws that callers rest on.
+//!
+//! `expansion` of `specs/Expansion.antt` takes the macros, the path of the file, the tokens of a run and
+//! the work that is left, and gives the expanded tokens with what happened on the way: replaced names,
+//! links to their macros' names, strings and pasted tokens; or the first fault at the position of a
+//! macro's name. It is one step over whole lists of tokens with their hide sets (`step`), closed by as
+//! many steps as the work and the tokens allow; `expansion_goes_step_by_step` shows that these suffice.
+//! `expansion_can_be_renamed` is what a renaming rests on.
+//!
+//! The program that expands is not built yet: there is no call beside the laws. Read `specs/Hides.antt`,
+//! `specs/Bodies.antt`, `specs/Calls.antt`, `specs/Substitution.antt` and `specs/Expansion.antt`, then
+//! `specs/Renaming.antt`.
+#![tactic(auto)]
+
+mod definitions;
+mod laws;
+
+pub use definitions::{Definition, Form};
+pub use laws::{
+    expanded_tokens_come_from_somewhere, expansion_can_be_renamed, expansion_goes_part_by_part,
+    expansion_goes_step_by_step,
+};
