@@ -1,0 +1,153 @@
+-- The table of C99 stands in levels: each production reads lower ones at its own depth.
+use Rattle.std.proofs.Common.{◌<◌, ◌≡◌, true, refl, lit<, arith}
+use Rattle.c99_tree.specs.declared.production.Production.{Production}
+use Rattle.c99_tree.specs.declared.production.Production.TheVariants.{TranslationUnit, External, ExtRest, ExtTail, FunBody, Declaration, DeclRest, InitDecl, Specs, Main, Mod, Qual, Word, StructSpec, SuRest, Members, Member, Mdecl, EnumSpec, EnRest, Enumerators, Enumerator, Declarator, Pointer, Direct, Suffix, Bound, Params, Param, Pdecl, Pdirect, TypeName, Adecl, Adirect, Init, InitList, InitItem, Designator, Expr, Assign, Asgop, Cond, Lor, Land, Bor, Bxor, Band, Equal, Relate, Shift, Add, Mul, Cast, CastRest, Unary, SizeRest, SizeLit, Primary, Post, Args, Block, BlockItem, Statement, Sub, ForInit}
+use Rattle.c99_read.specs.Grammar.{table}
+use Rattle.c99_read.specs.Items.{Item, one, part, end_of_text, act, ◌·◌, choice, maybe, many, deep}
+use Rattle.c99_read.specs.Levels.{level_of}
+use Rattle.c99_read.specs.Ready.{height_of, are_lines}
+
+pub level_of-small : (p : Production) → level_of p < 31
+level_of-small TranslationUnit = lit< tt
+level_of-small External = lit< tt
+level_of-small ExtRest = lit< tt
+level_of-small ExtTail = lit< tt
+level_of-small FunBody = lit< tt
+level_of-small Declaration = lit< tt
+level_of-small DeclRest = lit< tt
+level_of-small InitDecl = lit< tt
+level_of-small Specs = lit< tt
+level_of-small Main = lit< tt
+level_of-small Mod = lit< tt
+level_of-small Qual = lit< tt
+level_of-small Word = lit< tt
+level_of-small StructSpec = lit< tt
+level_of-small SuRest = lit< tt
+level_of-small Members = lit< tt
+level_of-small Member = lit< tt
+level_of-small Mdecl = lit< tt
+level_of-small EnumSpec = lit< tt
+level_of-small EnRest = lit< tt
+level_of-small Enumerators = lit< tt
+level_of-small Enumerator = lit< tt
+level_of-small Declarator = lit< tt
+level_of-small Pointer = lit< tt
+level_of-small Direct = lit< tt
+level_of-small Suffix = lit< tt
+level_of-small Bound = lit< tt
+level_of-small Params = lit< tt
+level_of-small Param = lit< tt
+level_of-small Pdecl = lit< tt
+level_of-small Pdirect = lit< tt
+level_of-small TypeName = lit< tt
+level_of-small Adecl = lit< tt
+level_of-small Adirect = lit< tt
+level_of-small Init = lit< tt
+level_of-small InitList = lit< tt
+level_of-small InitItem = lit< tt
+level_of-small Designator = lit< tt
+level_of-small Expr = lit< tt
+level_of-small Assign = lit< tt
+level_of-small Asgop = lit< tt
+level_of-small Cond = lit< tt
+level_of-small Lor = lit< tt
+level_of-small Land = lit< tt
+level_of-small Bor = lit< tt
+level_of-small Bxor = lit< tt
+level_of-small Band = lit< tt
+level_of-small Equal = lit< tt
+level_of-small Relate = lit< tt
+level_of-small Shift = lit< tt
+level_of-small Add = lit< tt
+level_of-small Mul = lit< tt
+level_of-small Cast = lit< tt
+level_of-small CastRest = lit< tt
+level_of-small Unary = lit< tt
+level_of-small SizeRest = lit< tt
+level_of-small SizeLit = lit< tt
+level_of-small Primary = lit< tt
+level_of-small Post = lit< tt
+level_of-small Args = lit< tt
+level_of-small Block = lit< tt
+level_of-small BlockItem = lit< tt
+level_of-small Statement = lit< tt
+level_of-small Sub = lit< tt
+level_of-small ForInit = lit< tt
+
+pub height_of-small : (a : Item) → height_of a < 32
+height_of-small (one classes) = lit< tt
+height_of-small (part p) = omega (arith, level_of-small p)
+height_of-small end_of_text = lit< tt
+height_of-small (act a) = lit< tt
+height_of-small (a · b) = omega (arith, height_of-small a, height_of-small b)
+height_of-small (choice a b) = omega (arith, height_of-small a, height_of-small b)
+height_of-small (maybe a) = height_of-small a
+height_of-small (many t a) = height_of-small a
+height_of-small (deep a) = lit< tt
+
+pub table-lines : (p : Production) → are_lines p (table p) ≡ true
+table-lines TranslationUnit = refl
+table-lines External = refl
+table-lines ExtRest = refl
+table-lines ExtTail = refl
+table-lines FunBody = refl
+table-lines Declaration = refl
+table-lines DeclRest = refl
+table-lines InitDecl = refl
+table-lines Specs = refl
+table-lines Main = refl
+table-lines Mod = refl
+table-lines Qual = refl
+table-lines Word = refl
+table-lines StructSpec = refl
+table-lines SuRest = refl
+table-lines Members = refl
+table-lines Member = refl
+table-lines Mdecl = refl
+table-lines EnumSpec = refl
+table-lines EnRest = refl
+table-lines Enumerators = refl
+table-lines Enumerator = refl
+table-lines Declarator = refl
+table-lines Pointer = refl
+table-lines Direct = refl
+table-lines Suffix = refl
+table-lines Bound = refl
+table-lines Params = refl
+table-lines Param = refl
+table-lines Pdecl = refl
+table-lines Pdirect = refl
+table-lines TypeName = refl
+table-lines Adecl = refl
+table-lines Adirect = refl
+table-lines Init = refl
+table-lines InitList = refl
+table-lines InitItem = refl
+table-lines Designator = refl
+table-lines Expr = refl
+table-lines Assign = refl
+table-lines Asgop = refl
+table-lines Cond = refl
+table-lines Lor = refl
+table-lines Land = refl
+table-lines Bor = refl
+table-lines Bxor = refl
+table-lines Band = refl
+table-lines Equal = refl
+table-lines Relate = refl
+table-lines Shift = refl
+table-lines Add = refl
+table-lines Mul = refl
+table-lines Cast = refl
+table-lines CastRest = refl
+table-lines Unary = refl
+table-lines SizeRest = refl
+table-lines SizeLit = refl
+table-lines Primary = refl
+table-lines Post = refl
+table-lines Args = refl
+table-lines Block = refl
+table-lines BlockItem = refl
+table-lines Statement = refl
+table-lines Sub = refl
+table-lines ForInit = refl

@@ -1,0 +1,9 @@
+pub mod Moves
+pub mod Suffices
+pub mod C99Sound
+pub mod Alike
+pub mod HeadLemmas
+pub mod ChildLemmas
+pub mod StateLemmas
+pub mod LevelLemmas
+pub mod TurnLemmas

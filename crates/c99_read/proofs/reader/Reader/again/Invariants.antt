@@ -1,0 +1,6 @@
+use Rattle.std.proofs.Common.{◌≡◌}
+use Rattle.c99_read.specs.Again.{again_at}
+use Rattle.c99_read.proofs.reader.Reader.again.Given as goal
+
+abbrev pub invariant-names : goal.invariant-names
+invariant-names l = l.self ≡ again_at l.fn.self l.k

@@ -1,0 +1,16 @@
+use Rattle.std.proofs.Common.{Ok, ap, ◌∙◌}
+use Rattle.c99_tree.specs.Tree.{Node, put, inner}
+use Rattle.c99_read.specs.State.{nearest, finished}
+use Rattle.c99_read.proofs.StateLemmas.{closed-parts}
+use Rattle.c99_read.proofs.reader.Reader.close.Goals as goal
+
+pub returns : goal.returns
+returns c = λ s around.
+    let behind : Node → Node → Node = λ o n. record o { under = put o.under (inner n) } in
+    rw (← c.self.view_is)
+    (ap Ok
+    (closed-parts c.args.production s _ _ _ _ c.close_names.ensures.answer
+    (c.nearest-self-inside.ensures ∙ ap (nearest c.args.production c.self.inside.built) around.near)
+    (c.in_ok-push_node.ensures.ok
+    ∙ ap (λ o. behind o c.finished.result) (c.replace-node.ensures.after ∙ around.built)
+    ∙ ap (behind s.built) (c.finished.ensures ∙ ap (finished c.args.production) c.replace-node.ensures.value))))

@@ -1,0 +1,20 @@
+-- What the public contracts rest on.
+pub mod Classes
+pub mod Spellings
+pub mod Items
+pub mod Grammar
+pub mod First
+pub mod State
+pub mod Reading
+pub mod Standard
+pub mod Alike
+-- What inner functions promise each other.
+pub mod Again
+pub mod Children
+pub mod Kept
+pub mod Words
+pub mod Rules
+pub mod Levels
+pub mod Sound
+pub mod Ready
+pub mod Answer

@@ -1,0 +1,486 @@
+// How far a text has been read, and the steps that move on in it.
+ghost use Rattle.std.specs.Prelude.{◌≡◌, ◌<◌, ◌+◌, ◌^◌, length, map, IfOk, [], ◌∷◌, Some, None, Err, Ok, OnOk, OnErr, IsErr};
+ghost use Rattle.c99_tree.specs.Names.{outermost};
+ghost use Rattle.c99_tree.specs.Tree.{part_at, leaf, collapsed};
+ghost use Rattle.c99_read.specs.Answer.{Reads, Opens, IsAround, Starts};
+ghost use Rattle.c99_read.specs.Children.{identifier_found};
+ghost use Rattle.c99_read.specs.Classes.{among};
+ghost use Rattle.c99_read.specs.Items.{scope, end, declare, name, keep, again};
+ghost use Rattle.c99_read.specs.Reading.{take_one, at_end, enter, syntax};
+ghost use Rattle.c99_read.specs.State.{State, base_class, base_at, spelling_at, is_typedef_at, class_at, acted, closed, is_declarator, is_specs, names_opened, names_closed, nearest, finished, spelled_scopes, with_scope_ended, with_declared, last_identifier, no_names};
+ghost use Rattle.c99_read.specs.Standard.{c99};
+
+use crate::classes::Class;
+use crate::faults::ReadRefusal;
+use crate::names::NameTable;
+use crate::parts::{collapses, has_typedef, last_declared};
+use crate::spellings::base_class;
+use c99_tree::{Child, Label, Production, Tree, Visible};
+use cs_base::{Memory, Tok};
+use std::alloc::{AllocError, Global};
+use std::marker::Model;
+use std::mem;
+
+/// Contracts see the state of specs/State.antt.
+#[derive(Drop)]
+pub(crate) struct Reader<'a> {
+    toks: &'a [Tok],
+    classes: Vec<Class>,
+    at: usize,
+    names: NameTable,
+    visible: Visible,
+    near: bool,
+    built: Tree,
+    alloc: Global,
+}
+
+impl<'a> Model for Reader<'a> {
+    ghost use Rattle.c99_read.specs.State.{State};
+    ghost use Rattle.c99_read.specs.Kept.{IsKept};
+
+    ghost Value = { State };
+
+    ghost use Rattle.std.specs.Coded.{codes};
+    ghost use Rattle.c99_tree.specs.TreeCode.{forest_code};
+
+    ghost coded = { Prim.hlevel (codes, forest_code) };
+
+    ghost view = { λ r. record { toks = r.toks.now; at = r.at; names = r.names; near = r.near; built = r.built } };
+
+    ghost invariant = { λ r. IsKept r.toks.now r.classes.items r.at r.names r.visible };
+}
+
+/// What was open around a node.
+#[derive(Drop)]
+pub(crate) struct Outer {
+    built: Tree,
+    near: bool,
+}
+
+/// How deep constructs may nest.
+const DEEPEST: usize = 256;
+
+/// The label of the node around a whole text, which is that of the text.
+const UNIT: Label = Label {
+    production: Production::TranslationUnit,
+    alternative: 1,
+};
+
+pub(crate) type Read = Result<(), ReadRefusal>;
+
+impl<'a> Reader<'a> {
+    /// Before the first token. The node that is open takes that of the whole text.
+    pub(crate) fn new(alloc: Global, toks: &'a [Tok]) -> Result<Reader<'a>, ReadRefusal>
+        requires few { length toks.now < 2 ^ 32 }
+        ensures { Starts result toks.now }
+    {
+        match classes_of(alloc, toks) {
+            Ok(classes) => Ok(Reader {
+                toks,
+                classes,
+                at: 0,
+                names: NameTable::new(alloc),
+                visible: Visible::new(alloc),
+                near: false,
+                built: Tree::new(alloc, UNIT, 0),
+                alloc,
+            }),
+            Err(_) => Err(ReadRefusal::Memory),
+        }
+    }
+
+    /// What was read: the only node of the open node, if there is one.
+    pub(crate) fn into_tree(self) -> Tree
+        ensures { result ≡ collapsed self.entry.built }
+    {
+        self.built.collapsed()
+    }
+
+    // The class of token `k`, where no name counts as a typedef name.
+    fn base_at(&self, k: usize) -> Class
+        ensures { result ≡ base_at c99 self.now.toks k }
+    {
+        match self.classes.get(k) {
+            Some(class) => *class,
+            None => {
+                if k == self.toks.len() {
+                    Class::End
+                } else {
+                    Class::NoClass
+                }
+            }
+        }
+    }
+
+    // The innermost visible declaration of the spelling of token `k` is one of a typedef name.
+    fn is_typedef_at(&self, k: usize) -> bool
+        ensures { result ≡ is_typedef_at self.now.toks self.now.names.scopes k }
+    {
+        self.visible.is_typedef(spelling(self.toks, k))
+    }
+
+    #[tactic(auto, unfolding(crate::specs::State::class_at))]
+    fn class_at(&self, k: usize) -> Class
+        ensures { result ≡ class_at c99 self.now k }
+    {
+        let class = self.base_at(k);
+        if class == Class::Identifier && self.is_typedef_at(k) {
+            Class::TypedefName
+        } else {
+            class
+        }
+    }
+
+    /// The class of the next token.
+    pub(crate) fn class_here(&self) -> Class
+        ensures { result ≡ class_at c99 self.now self.now.at }
+    {
+        self.class_at(self.at)
+    }
+
+    /// The class of the token behind the next one.
+    pub(crate) fn class_behind(&self) -> Class
+        ensures { result ≡ class_at c99 self.now (self.now.at + 1) }
+    {
+        self.class_at(self.at + 1)
+    }
+
+    // The next token is of one of the classes.
+    fn is(&self, classes: &[Class]) -> bool
+        ensures { result ≡ among classes.now (class_at c99 self.now self.now.at) }
+    {
+        classes.contains(&self.class_at(self.at))
+    }
+
+    /// Nothing that may follow starts here.
+    pub(crate) fn syntax(&self) -> Read
+        ensures { Reads result self.now (Err (syntax self.now.at)) }
+    {
+        Err(ReadRefusal::Syntax {
+            index: self.at as u32,
+        })
+    }
+
+    #[tactic(auto, unfolding(crate::specs::Reading::take_one))]
+    /// A token of one of the classes becomes a child of the open node.
+    pub(crate) fn take(&mut self, classes: &[Class]) -> Read
+        ensures { Reads result self.new (take_one c99 classes.now self.old) }
+    {
+        if self.at >= self.toks.len() {
+            return self.syntax();
+        }
+        if !self.is(classes) {
+            return self.syntax();
+        }
+        self.built.push_token(self.at as u32)?;
+        self.at += 1;
+        Ok(())
+    }
+
+    #[tactic(auto, unfolding(crate::specs::Reading::at_end))]
+    /// No token is left.
+    pub(crate) fn finish(&self) -> Read
+        ensures { Reads result self.now (at_end self.now) }
+    {
+        if self.at == self.toks.len() {
+            Ok(())
+        } else {
+            self.syntax()
+        }
+    }
+
+    #[tactic(auto, unfolding(crate::specs::Reading::enter))]
+    /// One level deeper, where something starts here.
+    pub(crate) fn enter(&self, depth: usize, started: bool) -> Read
+        ensures answer { Reads result self.now (enter depth started self.now) }
+        ensures below { OnOk result (depth < 256) }
+    {
+        if !started {
+            return self.syntax();
+        }
+        if depth < DEEPEST {
+            Ok(())
+        } else {
+            Err(ReadRefusal::TooDeep {
+                index: self.at as u32,
+            })
+        }
+    }
+
+    /// A node is opened. What was open before is handed out, for `close`.
+    pub(crate) fn open(
+        &mut self,
+        production: Production,
+        alternative: u8,
+    ) -> Result<Outer, ReadRefusal>
+        ensures { Opens result self.old self.new production alternative }
+    {
+        open_names(&mut self.names, production)?;
+        let label = Label {
+            production,
+            alternative,
+        };
+        let node = Tree::new(self.alloc, label, self.at as u32);
+        Ok(Outer {
+            built: mem::replace(&mut self.built, node),
+            near: self.near,
+        })
+    }
+
+    /// The open node is closed, and becomes a child of what was open before.
+    pub(crate) fn close(&mut self, outer: Outer, production: Production) -> Read
+        ensures { (s : State) → IsAround outer s → Reads result self.new (Ok (closed production s self.old)) }
+    {
+        close_names(&mut self.names, production);
+        self.near = nearest(production, &self.built, outer.near);
+        let node = mem::replace(&mut self.built, outer.built);
+        self.built.push_node(finished(production, node))?;
+        Ok(())
+    }
+
+    #[tactic(auto, unfolding(crate::specs::State::acted))]
+    /// A scope begins.
+    pub(crate) fn begin_scope(&mut self) -> Read
+        ensures { Reads result self.new (Ok (acted c99 scope self.old)) }
+    {
+        begin_scope(self.toks, &mut self.names, &mut self.visible, self.alloc)?;
+        Ok(())
+    }
+
+    #[tactic(auto, unfolding(crate::specs::State::acted))]
+    /// A scope ends.
+    pub(crate) fn end_scope(&mut self) -> Read
+        ensures { Reads result self.new (Ok (acted c99 end self.old)) }
+    {
+        end_scope(self.toks, &mut self.names, &mut self.visible);
+        Ok(())
+    }
+
+    // The name at a token is declared.
+    fn declare_at(&mut self, name_at: u32, typedef: bool) -> Read
+        ensures { Reads result self.new (Ok (record self.old { names = with_declared self.old.names (Some name_at) typedef })) }
+    {
+        declare(
+            self.toks,
+            &mut self.names,
+            &mut self.visible,
+            self.alloc,
+            name_at,
+            typedef,
+        )?;
+        Ok(())
+    }
+
+    #[tactic(auto, unfolding(crate::specs::State::acted))]
+    /// The declarator that stands just before is declared, if there is one and it has a name.
+    pub(crate) fn declare(&mut self) -> Read
+        ensures { Reads result self.new (Ok (acted c99 declare self.old)) }
+    {
+        match last_declared(&self.built) {
+            Some(name_at) => self.declare_at(name_at, self.near),
+            None => Ok(()),
+        }
+    }
+
+    #[tactic(auto, unfolding(crate::specs::State::acted))]
+    /// The last identifier of the open node is declared, as no typedef name.
+    pub(crate) fn declare_name(&mut self) -> Read
+        ensures { Reads result self.new (Ok (acted c99 name self.old)) }
+    {
+        match self.last_identifier() {
+            Some(name_at) => self.declare_at(name_at, false),
+            None => Ok(()),
+        }
+    }
+
+    // The last identifier among the tokens of the open node.
+    fn last_identifier(&self) -> Option<u32>
+        ensures { result ≡ last_identifier c99 self.now.toks self.now.built.under None }
+    {
+        let mut k = self.built.len();
+        'children: while k > 0 {
+            k -= 1;
+            if let Some(index) = self.identifier_at(k) {
+                return Some(index);
+            }
+        }
+        None
+    }
+
+    // Child `k` of the open node, where it is an identifier.
+    fn identifier_at(&self, k: u32) -> Option<u32>
+        ensures { result ≡ identifier_found c99 self.now.toks (part_at self.now.built.under k) }
+    {
+        match self.built.child(k) {
+            Some(Child::Token(index)) => self.identifier(index),
+            Some(Child::Node(_)) => None,
+            None => None,
+        }
+    }
+
+    fn identifier(&self, index: u32) -> Option<u32>
+        ensures { result ≡ identifier_found c99 self.now.toks (Some (leaf index)) }
+    {
+        if self.base_at(index as usize) == Class::Identifier {
+            Some(index)
+        } else {
+            None
+        }
+    }
+
+    #[tactic(auto, unfolding(crate::specs::State::acted))]
+    /// The names of the scope just ended go to the outermost declarator that began in this scope.
+    pub(crate) fn keep(&mut self) -> Read
+        ensures { Reads result self.new (Ok (acted c99 keep self.old)) }
+    {
+        self.names.keep()?;
+        Ok(())
+    }
+
+    #[tactic(auto, unfolding(crate::specs::State::acted))]
+    /// A scope begins, with the names that were given to the declarator read last.
+    pub(crate) fn again(&mut self) -> Read
+        ensures { Reads result self.new (Ok (acted c99 again self.old)) }
+    {
+        self.begin_scope()?;
+        let count = self.names.kept_len();
+        'names: for k in 0..count {
+            let kept = self.names.kept_at(k);
+            self.declare_at(kept.name_at, kept.typedef)?;
+        }
+        Ok(())
+    }
+}
+
+fn classes_of(alloc: Global, toks: &[Tok]) -> Result<Vec<Class>, AllocError>
+    ensures { IfOk result (λ classes. classes.items ≡ map (base_class c99) toks.now) }
+{
+    toks.iter().map(base_class).collect(alloc)
+}
+
+fn open_names(names: &mut NameTable, production: Production) -> Result<(), Memory>
+    ensures ok { OnOk result (names.new ≡ names_opened production names.old) }
+    ensures scopes { OnOk result (names.new.scopes ≡ names.old.scopes) }
+    ensures unchanged { OnErr result (names.new.scopes ≡ names.old.scopes) }
+{
+    if is_declarator(production) {
+        names.open_head()
+    } else {
+        Ok(())
+    }
+}
+
+fn close_names(names: &mut NameTable, production: Production)
+    ensures answer { names.new ≡ names_closed production names.old }
+    ensures scopes { names.new.scopes ≡ names.old.scopes }
+{
+    if is_declarator(production) {
+        names.close_head();
+    }
+}
+
+fn is_declarator(production: Production) -> bool
+    ensures { result ≡ is_declarator production }
+{
+    matches!(production, Production::Declarator)
+}
+
+fn is_specs(production: Production) -> bool
+    ensures { result ≡ is_specs production }
+{
+    matches!(production, Production::Specs)
+}
+
+// Whether the nearest specifiers have the word `typedef`, once the node is closed.
+fn nearest(production: Production, node: &Tree, near: bool) -> bool
+    ensures { result ≡ nearest production node.now near }
+{
+    if is_specs(production) {
+        has_typedef(node)
+    } else {
+        near
+    }
+}
+
+// The node as a child of what stands around it.
+fn finished(production: Production, node: Tree) -> Tree
+    ensures { result ≡ finished production node }
+{
+    if collapses(production) {
+        node.collapsed()
+    } else {
+        node
+    }
+}
+
+fn begin_scope(
+    toks: &[Tok],
+    names: &mut NameTable,
+    visible: &mut Visible,
+    alloc: Global,
+) -> Result<(), Memory>
+    requires visible_of { visible.old ≡ spelled_scopes toks.now names.old.scopes }
+    ensures ok { OnOk result (names.new ≡ record names.old { scopes = [] ∷ names.old.scopes }) }
+    ensures visible_of { visible.new ≡ spelled_scopes toks.now names.new.scopes }
+{
+    match names.begin() {
+        Ok(()) => (),
+        Err(_) => return forget(names, visible, alloc),
+    }
+    match visible.push_scope() {
+        Ok(()) => Ok(()),
+        Err(_) => forget(names, visible, alloc),
+    }
+}
+
+fn end_scope(toks: &[Tok], names: &mut NameTable, visible: &mut Visible)
+    requires visible_of { visible.old ≡ spelled_scopes toks.now names.old.scopes }
+    ensures answer { names.new ≡ with_scope_ended names.old names.old.scopes }
+    ensures visible_of { visible.new ≡ spelled_scopes toks.now names.new.scopes }
+{
+    names.end();
+    visible.pop_scope();
+}
+
+fn declare(
+    toks: &[Tok],
+    names: &mut NameTable,
+    visible: &mut Visible,
+    alloc: Global,
+    name_at: u32,
+    typedef: bool,
+) -> Result<(), Memory>
+    requires visible_of { visible.old ≡ spelled_scopes toks.now names.old.scopes }
+    ensures ok { OnOk result (names.new ≡ with_declared names.old (Some name_at) typedef) }
+    ensures visible_of { visible.new ≡ spelled_scopes toks.now names.new.scopes }
+{
+    match names.declare(name_at, typedef) {
+        Ok(()) => (),
+        Err(_) => return forget(names, visible, alloc),
+    }
+    match visible.declare(spelling(toks, name_at as usize), typedef) {
+        Ok(()) => Ok(()),
+        Err(_) => forget(names, visible, alloc),
+    }
+}
+
+// Where memory ran out no name is known any more, and the two tables still say the same.
+fn forget(names: &mut NameTable, visible: &mut Visible, alloc: Global) -> Result<(), Memory>
+    ensures names { names.new ≡ no_names }
+    ensures visible { visible.new ≡ outermost }
+    ensures memory { IsErr result }
+{
+    *names = NameTable::new(alloc);
+    *visible = Visible::new(alloc);
+    Err(Memory)
+}
+
+// The spelling of token `k`.
+fn spelling<'a>(toks: &'a [Tok], k: usize) -> &'a [u8]
+    ensures { result.now ≡ spelling_at toks.now k }
+{
+    match toks.get(k) {
+        Some(tok) => tok.text(),
+        None => &[],
+    }
+}
