@@ -7,3 +7,4 @@ pub mod ChildLemmas
 pub mod StateLemmas
 pub mod LevelLemmas
 pub mod TurnLemmas
+pub mod RowLemmas

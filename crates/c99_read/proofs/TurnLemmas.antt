@@ -1,10 +1,12 @@
 -- One turn of a repetition.
-use Rattle.std.proofs.Common.{ℕ, ◌<◌, ◌≡◌, true, if◌then◌else◌, Ok, refl, sym, ap, subst, ◌∙◌}
+use Rattle.std.proofs.Common.{ℕ, List, [], ◌∷◌, ◌<◌, ◌≡◌, true, if◌then◌else◌, Ok, refl, sym, ap, subst, ◌∙◌}
 use Rattle.std.proofs.lemmas.Bool.{and_parts}
 use Rattle.c99_tree.specs.declared.production.Production.{Production}
-use Rattle.c99_read.specs.Items.{Item, Test, many}
+use Rattle.c99_read.specs.declared.classes.Class.{Class}
+use Rattle.c99_read.specs.Grammar.{table}
+use Rattle.c99_read.specs.Items.{Item, Test, one, part, ◌·◌, many, own, plain}
 use Rattle.c99_read.specs.State.{State}
-use Rattle.c99_read.specs.Reading.{Step, and_then, may, step, run, whole, produce, repeat, tokens_left}
+use Rattle.c99_read.specs.Reading.{Step, and_then, may, step, pick, run, whole, produce, repeat, tokens_left}
 use Rattle.c99_read.specs.Sound.{has_token, is_low, is_met}
 use Rattle.c99_read.specs.Standard.{c99}
 use Rattle.c99_read.proofs.C99Sound.{c99-sound}
@@ -30,3 +32,9 @@ many-falls t a depth s s' met turn =
     let moves = Moves-step c99 (whole c99) (λ d goal r m. whole-moves c99 c99-sound d goal r m) a depth 63 s both.1 in
     let P : Step → Type 0 = Moves (has_token a) s in
     (subst P turn moves).1 both.0
+
+-- a row of operands, as its line of the table says
+pub row-produced : (p q : Production) (signs : List Class) (depth : ℕ) (s : State)
+    → table p ≡ plain (part q · many own (one signs · part q)) ∷ []
+    → whole c99 depth (produce p) s ≡ pick c99 (whole c99) depth p 1 (plain (part q · many own (one signs · part q)) ∷ []) s
+row-produced p q signs depth s line = produced depth p s ∙ ap (λ l. pick c99 (whole c99) depth p 1 l s) line

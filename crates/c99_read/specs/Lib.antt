@@ -15,6 +15,7 @@ pub mod Kept
 pub mod Words
 pub mod Rules
 pub mod Levels
+pub mod Rows
 pub mod Sound
 pub mod Ready
 pub mod Answer

@@ -8,6 +8,7 @@ ghost use Rattle.c99_read.specs.Reading.{read_of};
 ghost use Rattle.c99_read.specs.Standard.{c99};
 
 mod classes;
+mod expressions;
 mod faults;
 mod first;
 mod laws;

@@ -145,11 +145,18 @@ impl<'a> Reader<'a> {
         self.class_at(self.at + 1)
     }
 
-    // The next token is of one of the classes.
-    fn is(&self, classes: &[Class]) -> bool
+    /// The next token is of one of the classes.
+    pub(crate) fn is(&self, classes: &[Class]) -> bool
         ensures { result ≡ among classes.now (class_at c99 self.now self.now.at) }
     {
         classes.contains(&self.class_at(self.at))
+    }
+
+    /// The token behind the next one is of one of the classes.
+    pub(crate) fn is_then(&self, classes: &[Class]) -> bool
+        ensures { result ≡ among classes.now (class_at c99 self.now (self.now.at + 1)) }
+    {
+        classes.contains(&self.class_at(self.at + 1))
     }
 
     /// Nothing that may follow starts here.

@@ -37,8 +37,8 @@ impl<'a> Reader<'a> {
     }
 
     #[cycle(reading)]
-    /// A production, at a depth.
-    pub(crate) fn produce(&mut self, depth: usize, production: Production) -> Read
+    /// A production, as its alternatives in the table say.
+    pub(crate) fn by_table(&mut self, depth: usize, production: Production) -> Read
         requires deep { depth ≤ 256 }
         ensures { Reads result self.new (whole c99 depth (produce production) self.old) }
     {

@@ -66,8 +66,8 @@ fn is_among(class: Class, classes: &[Class]) -> bool
     classes.contains(&class)
 }
 
-// The production starts with the class, before the class behind.
-fn production_starts(production: Production, class: Class, behind: Class) -> bool
+/// The production starts with the class, before the class behind.
+pub(crate) fn production_starts(production: Production, class: Class, behind: Class) -> bool
     ensures { result ≡ production_starts c99 production class behind }
 {
     is_among(class, first(production))

@@ -1,5 +1,6 @@
 use Rattle.std.proofs.Common.{◌≡◌, ◌+◌, ◌-◌, ◌*◌, length, max}
-use Rattle.c99_read.specs.Items.{many}
+use Rattle.c99_tree.specs.declared.production.Production.TheVariants.{Post}
+use Rattle.c99_read.specs.Items.{one, part, ◌·◌, many, own}
 use Rattle.c99_read.specs.Levels.{level_of}
 use Rattle.c99_read.specs.Reading.{step, whole, tokens_left}
 use Rattle.c99_read.specs.Ready.{height_of, size_of}
@@ -8,8 +9,8 @@ use Rattle.c99_read.specs.Standard.{c99}
 use Rattle.c99_read.proofs.reader.Reader.+reading.Given as goal
 
 -- The depth that is left counts most, then how high a rule stands, then how large it is.
-abbrev pub decreases-produce : goal.decreases-produce
-decreases-produce l = 100000 * (257 - l.depth) + 1000 * level_of l.production + 900
+abbrev pub decreases-by_table : goal.decreases-by_table
+decreases-by_table l = 100000 * (257 - l.depth) + 1000 * level_of l.production + 800
 
 abbrev pub decreases-pick : goal.decreases-pick
 decreases-pick l = 100000 * (257 - l.depth) + 1000 * level_of l.production + 300 + length l.lines.now
@@ -39,3 +40,156 @@ invariant-many-turns l =
 
 abbrev pub decreases-many-turns : goal.decreases-many-turns
 decreases-many-turns l = tokens_left l.self
+
+abbrev pub decreases-produce : goal.decreases-produce
+decreases-produce l = 100000 * (257 - l.depth) + 1000 * level_of l.production + 900
+
+abbrev pub decreases-deep : goal.decreases-deep
+decreases-deep l = 100000 * (257 - l.depth) + 0
+
+abbrev pub decreases-alone : goal.decreases-alone
+decreases-alone l = 100000 * (257 - l.depth) + 1000 * level_of l.production + 600
+
+abbrev pub decreases-deep_alone : goal.decreases-deep_alone
+decreases-deep_alone l = 100000 * (257 - l.depth) + 600
+
+abbrev pub decreases-row : goal.decreases-row
+decreases-row l = 100000 * (257 - l.depth) + 1000 * level_of l.production + 600
+
+abbrev pub decreases-operands : goal.decreases-operands
+decreases-operands l = 100000 * (257 - l.depth) + 1000 * level_of l.operand + 960
+
+abbrev pub decreases-sign_operand : goal.decreases-sign_operand
+decreases-sign_operand l = 100000 * (257 - l.depth) + 1000 * level_of l.operand + 950
+
+abbrev pub decreases-level : goal.decreases-level
+decreases-level l = 100000 * (257 - l.depth) + 1000 * level_of l.production + 700
+
+abbrev pub decreases-list : goal.decreases-list
+decreases-list l = 100000 * (257 - l.depth) + 1000 * level_of l.production + 700
+
+abbrev pub decreases-assign : goal.decreases-assign
+decreases-assign l = 100000 * (257 - l.depth) + 16800
+
+abbrev pub decreases-assign_choice : goal.decreases-assign_choice
+decreases-assign_choice l = 100000 * (257 - l.depth) + 16700
+
+abbrev pub decreases-cond : goal.decreases-cond
+decreases-cond l = 100000 * (257 - l.depth) + 15800
+
+abbrev pub decreases-cond_choice : goal.decreases-cond_choice
+decreases-cond_choice l = 100000 * (257 - l.depth) + 15700
+
+abbrev pub decreases-cast : goal.decreases-cast
+decreases-cast l = 100000 * (257 - l.depth) + 4800
+
+abbrev pub decreases-cast_choice : goal.decreases-cast_choice
+decreases-cast_choice l = 100000 * (257 - l.depth) + 4700
+
+abbrev pub decreases-cast_rest : goal.decreases-cast_rest
+decreases-cast_rest l = 100000 * (257 - l.depth) + 1800
+
+abbrev pub decreases-cast_rest_choice : goal.decreases-cast_rest_choice
+decreases-cast_rest_choice l = 100000 * (257 - l.depth) + 1700
+
+abbrev pub decreases-unary : goal.decreases-unary
+decreases-unary l = 100000 * (257 - l.depth) + 3800
+
+abbrev pub decreases-unary_choice : goal.decreases-unary_choice
+decreases-unary_choice l = 100000 * (257 - l.depth) + 3700
+
+abbrev pub decreases-size_rest : goal.decreases-size_rest
+decreases-size_rest l = 100000 * (257 - l.depth) + 2800
+
+abbrev pub decreases-size_rest_choice : goal.decreases-size_rest_choice
+decreases-size_rest_choice l = 100000 * (257 - l.depth) + 2700
+
+abbrev pub decreases-size_lit : goal.decreases-size_lit
+decreases-size_lit l = 100000 * (257 - l.depth) + 1800
+
+abbrev pub decreases-size_lit_choice : goal.decreases-size_lit_choice
+decreases-size_lit_choice l = 100000 * (257 - l.depth) + 1700
+
+abbrev pub decreases-primary : goal.decreases-primary
+decreases-primary l = 100000 * (257 - l.depth) + 800
+
+abbrev pub decreases-primary_choice : goal.decreases-primary_choice
+decreases-primary_choice l = 100000 * (257 - l.depth) + 700
+
+abbrev pub decreases-post : goal.decreases-post
+decreases-post l = 100000 * (257 - l.depth) + 800
+
+abbrev pub decreases-post_choice : goal.decreases-post_choice
+decreases-post_choice l = 100000 * (257 - l.depth) + 700
+
+abbrev pub decreases-assign_parts : goal.decreases-assign_parts
+decreases-assign_parts l = 100000 * (257 - l.depth) + 16600
+
+abbrev pub decreases-assigned : goal.decreases-assigned
+decreases-assigned l = 100000 * (257 - l.depth) + 16500
+
+abbrev pub decreases-assigned_value : goal.decreases-assigned_value
+decreases-assigned_value l = 100000 * (257 - l.depth) + 16400
+
+abbrev pub decreases-cond_parts : goal.decreases-cond_parts
+decreases-cond_parts l = 100000 * (257 - l.depth) + 15600
+
+abbrev pub decreases-chosen : goal.decreases-chosen
+decreases-chosen l = 100000 * (257 - l.depth) + 15500
+
+abbrev pub decreases-chosen_parts : goal.decreases-chosen_parts
+decreases-chosen_parts l = 100000 * (257 - l.depth) + 15400
+
+abbrev pub decreases-cast_to_type : goal.decreases-cast_to_type
+decreases-cast_to_type l = 100000 * (257 - l.depth) + 4600
+
+abbrev pub decreases-prefixed : goal.decreases-prefixed
+decreases-prefixed l = 100000 * (257 - l.depth) + 3600
+
+abbrev pub decreases-size : goal.decreases-size
+decreases-size l = 100000 * (257 - l.depth) + 3600
+
+abbrev pub decreases-postfixed : goal.decreases-postfixed
+decreases-postfixed l = 100000 * (257 - l.depth) + 3600
+
+abbrev pub decreases-size_of_type : goal.decreases-size_of_type
+decreases-size_of_type l = 100000 * (257 - l.depth) + 2600
+
+abbrev pub decreases-maybe_literal : goal.decreases-maybe_literal
+decreases-maybe_literal l = 100000 * (257 - l.depth) + 2500
+
+abbrev pub decreases-enclosed : goal.decreases-enclosed
+decreases-enclosed l = 100000 * (257 - l.depth) + 600
+
+abbrev pub decreases-subscript : goal.decreases-subscript
+decreases-subscript l = 100000 * (257 - l.depth) + 600
+
+abbrev pub decreases-call : goal.decreases-call
+decreases-call l = 100000 * (257 - l.depth) + 600
+
+abbrev pub decreases-literal : goal.decreases-literal
+decreases-literal l = 100000 * (257 - l.depth) + 1000 * level_of l.production + 600
+
+abbrev pub decreases-posts : goal.decreases-posts
+decreases-posts l = 100000 * (257 - l.depth) + 950
+
+abbrev pub decreases-maybe_deep : goal.decreases-maybe_deep
+decreases-maybe_deep l = 100000 * (257 - l.depth) + 10
+
+abbrev pub invariant-operands-operands : goal.invariant-operands-operands
+invariant-operands-operands l =
+    step c99 (whole c99) l.depth (many own (one l.signs · part l.operand)) l.self
+    ≡ step c99 (whole c99) l.depth (many own (one l.signs · part l.operand)) l.initial.self
+
+abbrev pub decreases-operands-operands : goal.decreases-operands-operands
+decreases-operands-operands l = tokens_left l.self
+
+abbrev pub invariant-posts-posts : goal.invariant-posts-posts
+invariant-posts-posts l =
+    step c99 (whole c99) l.depth (many own (part Post)) l.self ≡ step c99 (whole c99) l.depth (many own (part Post)) l.initial.self
+
+abbrev pub decreases-posts-posts : goal.decreases-posts-posts
+decreases-posts-posts l = tokens_left l.self
+
+abbrev pub decreases-row_choice : goal.decreases-row_choice
+decreases-row_choice l = 100000 * (257 - l.depth) + 1000 * level_of l.production + 650
