@@ -8,3 +8,4 @@ pub mod StateLemmas
 pub mod LevelLemmas
 pub mod TurnLemmas
 pub mod RowLemmas
+pub mod FirstLemmas

@@ -8,6 +8,7 @@ pub mod State
 pub mod Reading
 pub mod Standard
 pub mod Alike
+pub mod FirstSets
 -- What inner functions promise each other.
 pub mod Again
 pub mod Children

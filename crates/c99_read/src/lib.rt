@@ -1,4 +1,16 @@
-//! The reader of C (ISO/IEC 9899:1999, Annex A.2).
+//! The reader of C (ISO/IEC 9899:1999, Annex A.2): translation phase 7 as far as the syntax goes.
+//!
+//! `read` takes the tokens of a preprocessed translation unit and gives its tree, or the first fault:
+//! `Syntax` where nothing that may follow starts, `TooDeep` where the 257th level would begin. It equals
+//! `read_of` of `specs/Reading.antt`, one interpreter of a table of productions, at the table of
+//! `specs/Grammar.antt`; a second standard is another table. A token counts by its class alone: its
+//! keyword, its punctuator, the kind of its constant, and whether a name is a typedef name where it
+//! stands (6.7.7), which the reader keeps for itself while it reads. Types, tags, members, labels and
+//! what is declared twice belong to the crate above. The code reads expressions by a procedure a
+//! production, and the other productions by the same table as static data; nesting is bounded, so a
+//! text of any length needs little stack. Trees, classes and names want memory. Read
+//! `specs/Grammar.antt` beside the standard's annex, `specs/Reading.antt`, `specs/State.antt`, then
+//! `reader.rt` and `expressions.rt`.
 #![tactic(auto)]
 
 ghost use Rattle.std.specs.Prelude.{◌≡◌, ◌<◌, ◌^◌, length};
@@ -23,7 +35,7 @@ mod table;
 use c99_tree::{Production, Tree};
 use cs_base::Tok;
 pub use faults::ReadRefusal;
-pub use laws::alike_tokens_read_alike;
+pub use laws::{alike_tokens_read_alike, first_sets_are_the_tables};
 use reader::Reader;
 use std::alloc::Global;
 
