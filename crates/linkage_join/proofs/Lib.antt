@@ -1,0 +1,3 @@
+pub mod LinkageLemmas
+pub mod FirstsLemmas
+pub mod AlikeLemmas
