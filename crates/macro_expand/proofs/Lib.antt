@@ -13,3 +13,5 @@ pub mod SimulationLemmas
 pub mod FollowsLemmas
 pub mod PartsLemmas
 pub mod OriginLemmas
+mod LiveLemmas
+mod DefiningLemmas

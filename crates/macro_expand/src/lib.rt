@@ -7,16 +7,25 @@
 //! many steps as the work and the tokens allow; `expansion_goes_step_by_step` shows that these suffice.
 //! `expansion_can_be_renamed` is what a renaming rests on.
 //!
-//! The program that expands is not built yet: there is no call beside the laws. Read `specs/Hides.antt`,
+//! `Macros` keeps the macros that are defined, a finite map by `specs/Live.antt`; `Definition::of` gives
+//! the definition of a `define` line, by `specs/Defining.antt`, which has the first definitions of
+//! `__LINE__` and `__FILE__` too. The program that expands is not built yet. Read `specs/Hides.antt`,
 //! `specs/Bodies.antt`, `specs/Calls.antt`, `specs/Substitution.antt` and `specs/Expansion.antt`, then
 //! `specs/Renaming.antt`.
 #![tactic(auto)]
 
+mod define_line;
 mod definitions;
 mod laws;
+mod shared_tokens;
+mod signs;
+mod table;
+#[cfg(test)]
+mod tests;
 
 pub use definitions::{Definition, Form};
 pub use laws::{
     expanded_tokens_come_from_somewhere, expansion_can_be_renamed, expansion_goes_part_by_part,
     expansion_goes_step_by_step,
 };
+pub use table::Macros;
