@@ -29,7 +29,7 @@ pub record Shorter (n : ℕ) (call : Call) : Type 0 where
   pub each : AllWithin n call.arguments
   pub behind : length call.rest < n
 
-option_map_is : {A B : Type 0} (f : A → B) (m : Option A) (b : B) → option_map f m ≡ Some b → (a : A) × (m ≡ Some a) × (f a ≡ b)
+pub option_map_is : {A B : Type 0} (f : A → B) (m : Option A) (b : B) → option_map f m ≡ Some b → (a : A) × (m ≡ Some a) × (f a ≡ b)
 option_map_is f None b e = absurd (none-some b e)
 option_map_is f (Some a) b e = (a, refl, same_Some (f a) b e)
 
@@ -59,7 +59,7 @@ call_shorter [] commas level call e = absurd (none-some call e)
 call_shorter (t ∷ ts) commas level call e =
     step_shorter (role_of commas level t.tok) commas level t ts (call_from ts) (call_shorter ts) call e
 
-cond_has : {A : Type 0} (P : A → Type 0) (b : Bool) (x y : A) → P x → P y → P (cond b x y)
+pub cond_has : {A : Type 0} (P : A → Type 0) (b : Bool) (x y : A) → P x → P y → P (cond b x y)
 cond_has P true x y p q = p
 cond_has P false x y p q = q
 
@@ -69,7 +69,7 @@ completed_within m n lists h =
     (cond_has (AllWithin n) (m.variadic && length lists == length m.params) (lists ++ [] ∷ []) lists
     (AllWithin-append n lists ([] ∷ []) h (more (omega arith) none)) h)
 
-cond_some : {A : Type 0} (b : Bool) (x y : A) → cond b (Some x) None ≡ Some y → x ≡ y
+pub cond_some : {A : Type 0} (b : Bool) (x y : A) → cond b (Some x) None ≡ Some y → x ≡ y
 cond_some true x y e = same_Some x y e
 cond_some false x y e = absurd (none-some y e)
 

@@ -14,7 +14,7 @@ use Rattle.macro_expand.specs.Renaming.{Renaming, spelled, renamed, renamed_hidd
 use Rattle.macro_expand.proofs.ResultLemmas.{ok_same, err_ok, onward_ok}
 use Rattle.macro_expand.proofs.CallLemmas.{AllWithin, none, Shorter, call_shorter, arguments_within}
 use Rattle.macro_expand.proofs.StepLemmas.{Below, put_for_puts}
-use Rattle.macro_expand.proofs.WholeLemmas.{whole_is_step, whole_falls}
+use Rattle.macro_expand.proofs.WholeLemmas.{whole_below_itself, whole_is_step, whole_falls}
 use Rattle.macro_expand.proofs.RenamedLemmas.{renamed_lists, renamed_call, is_sign-renamed, call_from-renamed, commas_of-renamed, arguments_of-renamed}
 use Rattle.macro_expand.specs.Laws.{AllDefined}
 use Rattle.macro_expand.proofs.GroundLemmas.{AllDefined-append, AllDefined-in_both}
@@ -227,10 +227,6 @@ step_follows w b f g below follows path depth before [] work good h e is resp =
     subst P (ok_same (expanded [] [] work) e is) (refl, tt)
 step_follows w b f g below follows path depth before (t ∷ ts) work good h e is resp =
     act_follows w b f g below follows path depth before t ts work good (omega arith) e (macro_of w.old t) refl is resp
-
-whole_below_itself : (set : Setting) (b : ℕ) → Below b (whole set) (whole set)
-unfolding Below
-whole_below_itself set b = λ depth before ts work h. record { agree = refl; falls = λ e is. whole_falls set depth before ts work e is }
 
 -- the whole expansion
 whole_follows : (w : World) (path : List ℕ) (b : ℕ) → Follows w b (whole (old_setting w path)) (whole (new_setting w path))

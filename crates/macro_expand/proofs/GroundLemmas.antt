@@ -17,6 +17,7 @@ use Rattle.macro_expand.specs.Expansion.{macro_of}
 use Rattle.macro_expand.specs.Renaming.{Occurring, occurs}
 use Rattle.macro_expand.specs.Laws.{AllDefined, Held}
 use Rattle.macro_expand.proofs.RenamedLemmas.{AllOccurHidden}
+use Rattle.macro_expand.proofs.CallLemmas.{option_map_is, cond_has, cond_some}
 
 -- Which tokens occur, and the macros.
 pub record Ground : Type 0 where
@@ -83,10 +84,6 @@ GoodLists-onto_first : (w : Ground) (t : Hidden) (lists : List (List Hidden)) �
 GoodLists-onto_first w t [] g k = (g, tt)
 GoodLists-onto_first w t (l ∷ ls) g k = ((g.0, g.1, k.0), k.1)
 
-option_map_is : {A B : Type 0} (f : A → B) (m : Option A) (b : B) → Rattle.std.specs.Option.option_map f m ≡ Some b → (a : A) × (m ≡ Some a) × (f a ≡ b)
-option_map_is f None b e = absurd (none-some b e)
-option_map_is f (Some a) b e = (a, refl, same_Some (f a) b e)
-
 good_step : (w : Ground) (role : Role) (commas : Option ℕ) (level : ℕ) (t : Hidden) (ts : List Hidden) (behind : CallFrom)
     → ((c : Option ℕ) (l : ℕ) (call : Call) → behind c l ≡ Some call → GoodCall w call) → Good w (t ∷ ts)
     → (call : Call) → call_step role commas level t ts behind ≡ Some call → GoodCall w call
@@ -110,14 +107,6 @@ good_call w (t ∷ ts) commas level g call e =
 GoodLists-append : (w : Ground) (xs ys : List (List Hidden)) → GoodLists w xs → GoodLists w ys → GoodLists w (xs ++ ys)
 GoodLists-append w [] ys g k = k
 GoodLists-append w (x ∷ xs) ys g k = (g.0, GoodLists-append w xs ys g.1 k)
-
-cond_has : {A : Type 0} (P : A → Type 0) (b : Bool) (x y : A) → P x → P y → P (cond b x y)
-cond_has P true x y p q = p
-cond_has P false x y p q = q
-
-cond_some : {A : Type 0} (b : Bool) (x y : A) → cond b (Some x) None ≡ Some y → x ≡ y
-cond_some true x y e = same_Some x y e
-cond_some false x y e = absurd (none-some y e)
 
 good_completed : (w : Ground) (m : Definition) (lists : List (List Hidden)) → GoodLists w lists → GoodLists w (completed m lists)
 good_completed w m lists g =

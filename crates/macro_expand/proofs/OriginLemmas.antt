@@ -21,7 +21,7 @@ use Rattle.macro_expand.specs.Laws.{AllDefined, Held, Passes, AllMadePass, Token
 use Rattle.macro_expand.proofs.ResultLemmas.{ok_same, err_ok, onward_ok, cond_ok, cond_ok_yes}
 use Rattle.macro_expand.proofs.CallLemmas.{AllWithin, none, more, AllWithin-more, Shorter, call_shorter, arguments_within}
 use Rattle.macro_expand.proofs.StepLemmas.{Same, Below, Puts, put_for_puts}
-use Rattle.macro_expand.proofs.WholeLemmas.{whole_is_step, whole_falls}
+use Rattle.macro_expand.proofs.WholeLemmas.{whole_below_itself, whole_is_step, whole_falls}
 use Rattle.macro_expand.proofs.GroundLemmas.{Ground, AllDefined-append, AllDefined-in_both, Good, GoodLists, GoodCall, Good-append, Good-hide_more, Good-get_or, Good-with_gap, Good-argument_for, good_call, good_arguments}
 use Rattle.macro_expand.proofs.PartLemmas.{PartOccurs, PartsOccur, ChainsOccur, chains_of-occur}
 
@@ -298,10 +298,6 @@ act_good o set passes b f below holds depth before t ts work good h e (Some m) i
         let old_is = replaced_by set.table t m is_m in
         replaced_good o set passes b f below holds depth before t.tok m (passes.bodies t.tok.text m old_is) (t.hides ++ t.tok.text ∷ [])
         (AllDefined-append set.table t.hides (t.tok.text ∷ []) good.1 ((m, old_is), tt)) 0 [] none tt ts good.2 work (omega arith) h e k pass
-
-whole_below_itself : (set : Setting) (b : ℕ) → Below b (whole set) (whole set)
-unfolding Below
-whole_below_itself set b = λ depth before ts work h. record { agree = refl; falls = λ e is. whole_falls set depth before ts work e is }
 
 step_good : (o : Occurring) (set : Setting) → Passes o set → (b : ℕ) → HoldsBelow (ground_of o set) b (whole set) → (depth before : ℕ) (ts : List Hidden) (work : ℕ) (e : Expanded)
     → work + length ts < suc b → Good (ground_of o set) ts → step set (whole set) depth before ts work ≡ Ok e → AllMadePass o e.notes → Good (ground_of o set) e.toks

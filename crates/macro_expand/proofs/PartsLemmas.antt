@@ -14,18 +14,14 @@ use Rattle.macro_expand.specs.Notes.{Fault, OpenCall, WrongArguments, Note, Expa
 use Rattle.macro_expand.specs.Expansion.{Setting, Next, one_more, stays, put_for, first_notes, replaced, added_by, called_with, called, behind_name, act, macro_of, step, whole}
 use Rattle.macro_expand.specs.Laws.{put_out_after, begins_open, is_callable, ends_callable, ExpandsInParts}
 use Rattle.macro_expand.proofs.ResultLemmas.{ok_same, err_ok, onward_ok}
-use Rattle.macro_expand.proofs.CallLemmas.{AllWithin, none, Shorter, call_shorter, arguments_within}
+use Rattle.macro_expand.proofs.CallLemmas.{option_map_is, AllWithin, none, Shorter, call_shorter, arguments_within}
 use Rattle.macro_expand.proofs.StepLemmas.{Same, Below, Puts, put_for_puts}
-use Rattle.macro_expand.proofs.WholeLemmas.{whole_is_step, whole_falls}
+use Rattle.macro_expand.proofs.WholeLemmas.{whole_below_itself, whole_is_step, whole_falls}
 
 -- Calls with more tokens behind them.
 
 abbrev with_rest : List Hidden → Call → Call
 with_rest ys call = record { arguments = call.arguments; close = call.close; rest = call.rest ++ ys }
-
-option_map_is : {A B : Type 0} (f : A → B) (m : Option A) (b : B) → option_map f m ≡ Some b → (a : A) × (m ≡ Some a) × (f a ≡ b)
-option_map_is f None b e = absurd (none-some b e)
-option_map_is f (Some a) b e = (a, refl, same_Some (f a) b e)
 
 step_with_rest : (ys : List Hidden) (role : Role) (commas : Option ℕ) (level : ℕ) (t : Hidden) (ts : List Hidden) (behind behind2 : CallFrom)
     → ((c : Option ℕ) (l : ℕ) (call : Call) → behind c l ≡ Some call → behind2 c l ≡ Some (with_rest ys call))
@@ -85,10 +81,6 @@ stays_joins set ys b below depth before t xs work x h is =
 abbrev after : Next → ℕ → ℕ → Token → Definition → List (List ℕ) → List Hidden → Expanded → Result Expanded Fault
 after next depth before name m added ts e =
     onward (next depth before (map (hide_more added) e.toks ++ ts) e.left) (λ rest. Ok (noted (first_notes name m before ++ e.notes) rest))
-
-whole_below_itself : (set : Setting) (b : ℕ) → Below b (whole set) (whole set)
-unfolding Below
-whole_below_itself set b = λ depth before ts work h. record { agree = refl; falls = λ e is. whole_falls set depth before ts work e is }
 
 replaced_joins : (set : Setting) (ys : List Hidden) (b : ℕ) → JoinsBelow set ys b → (depth before : ℕ) (name : Token) (m : Definition) (added : List (List ℕ)) (n : ℕ)
     → (raw : List (List Hidden)) → AllWithin n raw → (xs : List Hidden) (work : ℕ) (x : Expanded) → work + n < b → work + length xs < b

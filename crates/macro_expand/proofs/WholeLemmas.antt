@@ -1,5 +1,5 @@
 -- The whole expansion is one step of itself, and nothing else is.
-use Rattle.std.proofs.Common.{◌≡◌, ℕ, zero, suc, ◌+◌, ◌<◌, ◌≤◌, List, length, Ok, sym, ◌∙◌, arith}
+use Rattle.std.proofs.Common.{refl, ◌≡◌, ℕ, zero, suc, ◌+◌, ◌<◌, ◌≤◌, List, length, Ok, sym, ◌∙◌, arith}
 use Rattle.macro_expand.specs.Hides.{Hidden}
 use Rattle.macro_expand.specs.Notes.{Expanded}
 use Rattle.macro_expand.specs.Expansion.{Setting, Next, step, steps, whole}
@@ -62,3 +62,8 @@ only_whole set f is depth before ts work =
     let same : (depth before : ℕ) (ts2 : List Hidden) (work2 : ℕ) → work2 + length ts2 < suc (work + length ts) →
     Same work2 (whole set depth before ts2 work2) (f depth before ts2 work2) = only_below set f is (suc (work + length ts)) in
     sym (same depth before ts work (omega arith)).agree
+
+-- the whole expansion agrees with itself, and its work only falls
+pub whole_below_itself : (set : Setting) (b : ℕ) → Below b (whole set) (whole set)
+unfolding Below
+whole_below_itself set b = λ depth before ts work h. record { agree = refl; falls = λ e is. whole_falls set depth before ts work e is }
