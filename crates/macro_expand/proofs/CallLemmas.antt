@@ -1,8 +1,10 @@
--- The arguments of a call are no longer than what stands behind its `(`.
-use Rattle.std.proofs.Common.{◌≡◌, ℕ, suc, ◌<◌, ◌≤◌, ◌&&◌, ◌==◌, Bool, true, false, cond, List, [], ◌∷◌, ◌++◌, length, Option, Some, None, refl, subst, arith}
+-- Calls: their arguments are no longer than what stands behind their `(`, and they are read token by token.
+use Rattle.std.proofs.Common.{◌≡◌, ℕ, suc, ◌+◌, ◌-◌, ◌<◌, ◌≤◌, ◌&&◌, ◌==◌, Bool, true, false, cond, List, [], ◌∷◌, ◌++◌, length, Option, Some, None, refl, sym, ap, ◌∙◌, subst, append_assoc, arith}
 use Rattle.std.specs.Option.{option_map}
 use Rattle.std.proofs.lemmas.Option.{none-some, same_Some}
+use Rattle.cs_base.specs.Token.{Token}
 use Rattle.macro_expand.specs.declared.definitions.Definition.{Definition}
+use Rattle.line_shape.specs.Signs.{is_open, is_close}
 use Rattle.macro_expand.specs.Hides.{Hidden}
 use Rattle.macro_expand.specs.Macro.{arity}
 use Rattle.macro_expand.specs.Calls.{Call, Role, Closes, Separates, Belongs, CallFrom, role_of, level_after, fewer, onto_first, with_token, with_argument, closed, call_step, call_from, is_blank, completed, arguments_of}
@@ -76,3 +78,122 @@ cond_some false x y e = absurd (none-some y e)
 pub arguments_within : (m : Definition) (n : ℕ) (lists raw : List (List Hidden)) → AllWithin n lists → arguments_of m lists ≡ Some raw → AllWithin n raw
 arguments_within m n lists raw h e =
     subst (AllWithin n) (cond_some (length (completed m lists) == arity m) (completed m lists) raw e) (completed_within m n lists h)
+
+-- A call read token by token: what is read so far, in front of what the rest gives.
+
+abbrev pub before_first : List Hidden → List (List Hidden) → List (List Hidden)
+before_first [] args = args
+before_first (t ∷ ts) args = onto_first t (before_first ts args)
+
+-- finished arguments and the tokens of the present one in front of a call
+abbrev pub with_front : List (List Hidden) → List Hidden → Call → Call
+with_front finished present call = record call { arguments = finished ++ before_first present call.arguments }
+
+abbrev pub in_front : List (List Hidden) → List Hidden → Option Call → Option Call
+in_front finished present call = option_map (with_front finished present) call
+
+before_first-blank : (present : List Hidden) (args : List (List Hidden)) → before_first present ([] ∷ args) ≡ present ∷ args
+before_first-blank [] args = refl
+before_first-blank (t ∷ ts) args = ap (onto_first t) (before_first-blank ts args)
+
+before_first-token : (present : List Hidden) (t : Hidden) (args : List (List Hidden)) → before_first present (onto_first t args) ≡ before_first (present ++ t ∷ []) args
+before_first-token [] t args = refl
+before_first-token (p ∷ ps) t args = ap (onto_first p) (before_first-token ps t args)
+
+pub in_front-nothing : (call : Option Call) → in_front [] [] call ≡ call
+in_front-nothing None = refl
+in_front-nothing (Some call) = refl
+
+in_front-argument : (finished : List (List Hidden)) (present : List Hidden) (call : Option Call)
+    → in_front finished present (option_map with_argument call) ≡ in_front (finished ++ present ∷ []) [] call
+in_front-argument finished present None = refl
+in_front-argument finished present (Some call) =
+    ap (λ (args : List (List Hidden)). Some (record call { arguments = args }))
+    (ap (λ (args : List (List Hidden)). finished ++ args) (before_first-blank present call.arguments) ∙ sym (append_assoc finished (present ∷ []) call.arguments))
+
+in_front-token : (finished : List (List Hidden)) (present : List Hidden) (t : Hidden) (call : Option Call)
+    → in_front finished present (option_map (with_token t) call) ≡ in_front finished (present ++ t ∷ []) call
+in_front-token finished present t None = refl
+in_front-token finished present t (Some call) =
+    ap (λ (args : List (List Hidden)). Some (record call { arguments = finished ++ args })) (before_first-token present t call.arguments)
+
+pub call_closes : (finished : List (List Hidden)) (present : List Hidden) (t : Hidden) (ts : List Hidden) (commas : Option ℕ) (level : ℕ)
+    → role_of commas level t.tok ≡ Closes
+    → in_front finished present (call_from (t ∷ ts) commas level) ≡ Some (record { arguments = finished ++ present ∷ []; close = t.hides; rest = ts })
+unfolding call_from
+call_closes finished present t ts commas level is =
+    ap (λ (r : Role). in_front finished present (call_step r commas level t ts (call_from ts))) is
+    ∙ ap (λ (args : List (List Hidden)). Some (record { arguments = finished ++ args; close = t.hides; rest = ts })) (before_first-blank present [])
+
+pub call_separates : (finished : List (List Hidden)) (present : List Hidden) (t : Hidden) (ts : List Hidden) (commas : Option ℕ) (level : ℕ)
+    → role_of commas level t.tok ≡ Separates
+    → in_front finished present (call_from (t ∷ ts) commas level) ≡ in_front (finished ++ present ∷ []) [] (call_from ts (fewer commas) level)
+unfolding call_from
+call_separates finished present t ts commas level is =
+    ap (λ (r : Role). in_front finished present (call_step r commas level t ts (call_from ts))) is
+    ∙ in_front-argument finished present (call_from ts (fewer commas) level)
+
+pub call_belongs : (finished : List (List Hidden)) (present : List Hidden) (t : Hidden) (ts : List Hidden) (commas : Option ℕ) (level : ℕ)
+    → role_of commas level t.tok ≡ Belongs
+    → in_front finished present (call_from (t ∷ ts) commas level) ≡ in_front finished (present ++ t ∷ []) (call_from ts commas (level_after t.tok level))
+unfolding call_from
+call_belongs finished present t ts commas level is =
+    ap (λ (r : Role). in_front finished present (call_step r commas level t ts (call_from ts))) is
+    ∙ in_front-token finished present t (call_from ts commas (level_after t.tok level))
+
+pub call_ends : (finished : List (List Hidden)) (present : List Hidden) (commas : Option ℕ) (level : ℕ) → in_front finished present (call_from [] commas level) ≡ None
+unfolding call_from
+call_ends finished present commas level = refl
+
+-- The same for what the program has.
+
+role_here : (commas : Option ℕ) (level : ℕ) (t : Hidden) (tok : Token) (r : Role) → tok ≡ t.tok → r ≡ role_of commas level tok → role_of commas level t.tok ≡ r
+role_here commas level t tok r tok_is is = ap (role_of commas level) (sym tok_is) ∙ sym is
+
+pub call_closed : (finished finished2 : List (List Hidden)) (present pushed all ts : List Hidden) (t : Hidden) (close : List (List ℕ)) (commas : Option ℕ) (level : ℕ) (tok : Token) (call : Option Call)
+    → in_front finished present (call_from all commas level) ≡ call → all ≡ t ∷ ts → tok ≡ t.tok → Closes ≡ role_of commas level tok
+    → pushed ≡ present → finished2 ≡ finished ++ pushed ∷ [] → close ≡ t.hides
+    → Some (record { arguments = finished2; close = close; rest = ts }) ≡ call
+call_closed finished finished2 present pushed all ts t close commas level tok call before all_is tok_is role pushed_is finished_is close_is =
+    ap (λ (args : List (List Hidden)). Some (record { arguments = args; close = close; rest = ts })) (finished_is ∙ ap (λ (a : List Hidden). finished ++ a ∷ []) pushed_is)
+    ∙ ap (λ (names : List (List ℕ)). Some (record { arguments = finished ++ present ∷ []; close = names; rest = ts })) close_is
+    ∙ sym (call_closes finished present t ts commas level (role_here commas level t tok Closes tok_is role))
+    ∙ ap (λ (l : List Hidden). in_front finished present (call_from l commas level)) (sym all_is)
+    ∙ before
+
+pub call_separated : (finished finished2 : List (List Hidden)) (present present2 pushed all ts : List Hidden) (t : Hidden) (commas commas2 : Option ℕ) (level level2 : ℕ) (tok : Token) (call : Option Call)
+    → in_front finished present (call_from all commas level) ≡ call → all ≡ t ∷ ts → tok ≡ t.tok → Separates ≡ role_of commas level tok
+    → pushed ≡ present → finished2 ≡ finished ++ pushed ∷ [] → present2 ≡ [] → commas2 ≡ fewer commas → level2 ≡ level
+    → in_front finished2 present2 (call_from ts commas2 level2) ≡ call
+call_separated finished finished2 present present2 pushed all ts t commas commas2 level level2 tok call before all_is tok_is role pushed_is finished_is present_is commas_is level_is =
+    ap (λ (args : List (List Hidden)). in_front args present2 (call_from ts commas2 level2)) (finished_is ∙ ap (λ (a : List Hidden). finished ++ a ∷ []) pushed_is)
+    ∙ ap (λ (a : List Hidden). in_front (finished ++ present ∷ []) a (call_from ts commas2 level2)) present_is
+    ∙ ap (λ (c : Option ℕ). in_front (finished ++ present ∷ []) [] (call_from ts c level2)) commas_is
+    ∙ ap (λ (l : ℕ). in_front (finished ++ present ∷ []) [] (call_from ts (fewer commas) l)) level_is
+    ∙ sym (call_separates finished present t ts commas level (role_here commas level t tok Separates tok_is role))
+    ∙ ap (λ (l : List Hidden). in_front finished present (call_from l commas level)) (sym all_is)
+    ∙ before
+
+pub call_belonged : (finished finished2 : List (List Hidden)) (present present2 all ts : List Hidden) (t : Hidden) (commas commas2 : Option ℕ) (level level2 : ℕ) (tok : Token) (call : Option Call)
+    → in_front finished present (call_from all commas level) ≡ call → all ≡ t ∷ ts → tok ≡ t.tok → Belongs ≡ role_of commas level tok
+    → finished2 ≡ finished → present2 ≡ present ++ t ∷ [] → commas2 ≡ commas → level2 ≡ level_after tok level
+    → in_front finished2 present2 (call_from ts commas2 level2) ≡ call
+call_belonged finished finished2 present present2 all ts t commas commas2 level level2 tok call before all_is tok_is role finished_is present_is commas_is level_is =
+    ap (λ (args : List (List Hidden)). in_front args present2 (call_from ts commas2 level2)) finished_is
+    ∙ ap (λ (a : List Hidden). in_front finished a (call_from ts commas2 level2)) present_is
+    ∙ ap (λ (c : Option ℕ). in_front finished (present ++ t ∷ []) (call_from ts c level2)) commas_is
+    ∙ ap (λ (l : ℕ). in_front finished (present ++ t ∷ []) (call_from ts commas l)) (level_is ∙ ap (λ (u : Token). level_after u level) tok_is)
+    ∙ sym (call_belongs finished present t ts commas level (role_here commas level t tok Belongs tok_is role))
+    ∙ ap (λ (l : List Hidden). in_front finished present (call_from l commas level)) (sym all_is)
+    ∙ before
+
+pub call_missing : (finished : List (List Hidden)) (present all : List Hidden) (commas : Option ℕ) (level : ℕ) (call : Option Call)
+    → in_front finished present (call_from all commas level) ≡ call → length all ≡ 0 → None ≡ call
+unfolding call_from
+call_missing finished present [] commas level call before empty = before
+call_missing finished present (t ∷ ts) commas level call before empty = absurd (omega arith)
+
+pub level_after-most : (t : Token) (level : ℕ) → level_after t level ≤ level + 1
+level_after-most t level =
+    cond_has (λ (n : ℕ). n ≤ level + 1) (is_open t) (level + 1) (cond (is_close t) (level - 1) level) (omega arith)
+    (cond_has (λ (n : ℕ). n ≤ level + 1) (is_close t) (level - 1) level (omega arith) (omega arith))

@@ -13,5 +13,13 @@ pub mod SimulationLemmas
 pub mod FollowsLemmas
 pub mod PartsLemmas
 pub mod OriginLemmas
+pub mod ChainLemmas
 mod LiveLemmas
 mod DefiningLemmas
+mod HideLemmas
+mod PredefinedLemmas
+pub mod KeptLemmas
+pub mod MakingLemmas
+pub mod PastingLemmas
+pub mod SoundLemmas
+pub mod ReplacementLemmas

@@ -10,3 +10,10 @@ pub mod Substitution
 pub mod Expansion
 pub mod Renaming
 pub mod Laws
+pub mod Kept
+pub mod Faults
+pub mod Sound
+pub mod Following
+pub mod BodyParts
+pub mod Costs
+pub mod Pastable

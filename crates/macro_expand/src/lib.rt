@@ -14,18 +14,33 @@
 //! `specs/Renaming.antt`.
 #![tactic(auto)]
 
+mod calls;
+mod chains;
+mod costs;
 mod define_line;
 mod definitions;
+mod fault;
+mod hidden;
+mod hide_set;
 mod laws;
+mod notes;
+mod operands;
+mod parameters;
+mod pasting;
+mod predefined;
+mod rest;
 mod shared_tokens;
 mod signs;
+mod substitution;
 mod table;
 #[cfg(test)]
 mod tests;
 
 pub use definitions::{Definition, Form};
+pub use fault::ExpandFault;
 pub use laws::{
     expanded_tokens_come_from_somewhere, expansion_can_be_renamed, expansion_goes_part_by_part,
     expansion_goes_step_by_step,
 };
+pub use notes::{Notes, Replacement, Work};
 pub use table::Macros;

@@ -1,6 +1,6 @@
-// The tokens that mean something in a macro's definition (6.10.3).
+// The tokens that mean something in a macro's definition or call (6.10.3, 6.4.6).
 ghost use Rattle.std.specs.Prelude.{◌≡◌};
-ghost use Rattle.line_shape.specs.Signs.{is_name, is_sign, is_open, is_close, is_ellipsis};
+ghost use Rattle.line_shape.specs.Signs.{is_name, is_sign, is_hash, is_paste, is_open, is_close, is_comma, is_ellipsis};
 
 use cs_base::{Kind, Tok};
 
@@ -23,6 +23,22 @@ fn is_sign(tok: &Tok, spelling: &[u8]) -> bool
     }
 }
 
+#[tactic(auto, unfolding(line_shape::specs::Signs::is_hash))]
+/// `#` or `%:`.
+pub fn is_hash(tok: &Tok) -> bool
+    ensures { result ≡ is_hash tok.now }
+{
+    is_sign(tok, b"#") || is_sign(tok, b"%:")
+}
+
+#[tactic(auto, unfolding(line_shape::specs::Signs::is_paste))]
+/// `##` or `%:%:`.
+pub fn is_paste(tok: &Tok) -> bool
+    ensures { result ≡ is_paste tok.now }
+{
+    is_sign(tok, b"##") || is_sign(tok, b"%:%:")
+}
+
 #[tactic(auto, unfolding(line_shape::specs::Signs::is_open))]
 pub fn is_open(tok: &Tok) -> bool
     ensures { result ≡ is_open tok.now }
@@ -35,6 +51,13 @@ pub fn is_close(tok: &Tok) -> bool
     ensures { result ≡ is_close tok.now }
 {
     is_sign(tok, b")")
+}
+
+#[tactic(auto, unfolding(line_shape::specs::Signs::is_comma))]
+pub fn is_comma(tok: &Tok) -> bool
+    ensures { result ≡ is_comma tok.now }
+{
+    is_sign(tok, b",")
 }
 
 #[tactic(auto, unfolding(line_shape::specs::Signs::is_ellipsis))]

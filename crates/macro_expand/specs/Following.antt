@@ -1,0 +1,28 @@
+-- What follows in an expansion, token by token.
+use Rattle.std.specs.Prelude.{◌≡◌, List, [], ◌∷◌, Option, Some, None}
+use Rattle.macro_expand.specs.declared.calls.CallToks.{CallToks}
+use Rattle.macro_expand.specs.Hides.{Hidden}
+use Rattle.macro_expand.specs.declared.calls.CallRole.{CallRole}
+use Rattle.macro_expand.specs.declared.calls.CallRole.TheVariants as role
+use Rattle.macro_expand.specs.Calls.{Call, Role, Closes, Separates, Belongs}
+
+-- the first token, if there is one
+abbrev pub first_of : List Hidden → Option Hidden
+first_of [] = None
+first_of (t ∷ ts) = Some t
+
+-- a token was taken from the front, or there was none
+abbrev pub IsTaken : Option Hidden → List Hidden → List Hidden → Type 0
+IsTaken None before after = (before ≡ []) × (after ≡ [])
+IsTaken (Some t) before after = before ≡ t ∷ after
+
+-- a call that was taken, and what follows it
+abbrev pub call_before : Option CallToks → List Hidden → Option Call
+call_before None rest = None
+call_before (Some call) rest = Some (record { arguments = call.arguments.items; close = call.close; rest = rest })
+
+-- what a token behind the `(` of a call is, as the program has it
+abbrev pub role_as : CallRole → Role
+role_as role.Closes = Closes
+role_as role.Separates = Separates
+role_as role.Belongs = Belongs
