@@ -17,6 +17,7 @@ pub mod ChainLemmas
 mod LiveLemmas
 mod DefiningLemmas
 mod HideLemmas
+mod CallSound
 mod PredefinedLemmas
 pub mod KeptLemmas
 pub mod MakingLemmas

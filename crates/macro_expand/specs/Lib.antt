@@ -13,6 +13,7 @@ pub mod Laws
 pub mod Kept
 pub mod Faults
 pub mod Sound
+pub mod Going
 pub mod Following
 pub mod BodyParts
 pub mod Costs

@@ -1,9 +1,11 @@
 -- Tokens whose characters come from somewhere, at lines of a source file.
-use Rattle.std.specs.Prelude.{ℕ, ◌^◌, ◌+◌, ◌==◌, ◌&&◌, ◌||◌, Bool, nat_lt, is_some, List, length}
+use Rattle.std.specs.Prelude.{◌≡◌, ℕ, ◌^◌, ◌+◌, ◌==◌, ◌&&◌, ◌||◌, Bool, IsTrue, nat_lt, is_some, List, length, Some}
 use Rattle.std.specs.List.{list_all, list_any}
 use Rattle.cs_base.specs.Token.{Token}
 use Rattle.part_lexer.specs.Characters.{double_quote}
+use Rattle.macro_expand.specs.declared.definitions.Definition.{Definition}
 use Rattle.macro_expand.specs.Hides.{Hidden}
+use Rattle.macro_expand.specs.Macro.{Table}
 use Rattle.macro_expand.specs.Bodies.{Part, Plain, Param, Quote, Paste}
 
 -- each character of a token has an origin, or a `"` stands among them: so has each token of a file, each
@@ -36,3 +38,12 @@ token_of (Paste t) = t
 -- the tokens of chains come from somewhere
 abbrev pub chains_traced : List (List Part) → Bool
 chains_traced chains = list_all (list_all (λ p. is_traced (token_of p))) chains
+
+-- the replacement list of each macro comes from somewhere
+abbrev pub AllTraced : Table → Type 0
+AllTraced table = (name : List ℕ) (m : Definition) → table name ≡ Some m → IsTrue (list_all is_traced m.body)
+
+-- arguments of such tokens, each of which can be expanded where so many tokens were put out, or may be put
+-- in yet
+abbrev pub are_fitting : ℕ → List (List Hidden) → Bool
+are_fitting n raw = list_all (λ a. all_sound a && nat_lt (n + length a) (2 ^ 32)) raw

@@ -14,8 +14,10 @@
 //! `specs/Renaming.antt`.
 #![tactic(auto)]
 
+mod call_reading;
 mod calls;
 mod chains;
+mod context;
 mod costs;
 mod define_line;
 mod definitions;

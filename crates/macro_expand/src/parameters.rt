@@ -66,7 +66,8 @@ fn named_or_rest(m: &Definition, text: &[u8], named: Option<usize>) -> Option<us
     }
 }
 
-fn is_function(form: Form) -> bool
+/// Whether a macro is function-like (6.10.3 paragraph 10).
+pub fn is_function(form: Form) -> bool
     ensures { result ≡ is_function form }
 {
     match form {
