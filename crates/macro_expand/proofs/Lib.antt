@@ -17,9 +17,13 @@ pub mod ChainLemmas
 mod LiveLemmas
 mod DefiningLemmas
 mod HideLemmas
-mod CallSound
-mod PredefinedLemmas
 pub mod KeptLemmas
+pub mod GoingLemmas
+mod CallSound
+mod ListSound
+mod TurnLemmas
+mod FullLemmas
+mod PredefinedLemmas
 pub mod MakingLemmas
 pub mod PastingLemmas
 pub mod SoundLemmas

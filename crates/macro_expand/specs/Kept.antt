@@ -3,7 +3,7 @@ use Rattle.std.specs.Prelude.{ℕ, List, ◌++◌, map, Result, Ok, Err}
 use Rattle.cs_base.specs.declared.tokens.Link.{Link}
 use Rattle.cs_base.specs.Token.{Token, origin_at}
 use Rattle.macro_expand.specs.declared.notes.Replacement.{Replacement}
-use Rattle.macro_expand.specs.Hides.{Hidden}
+use Rattle.macro_expand.specs.Hides.{Hidden, toks_of}
 use Rattle.macro_expand.specs.Notes.{Fault, Note, links_in, pasted_in, stringized_in, replaced_in, Expanded}
 use Rattle.macro_expand.specs.Substitution.{Made}
 
@@ -46,3 +46,9 @@ made_kept before (Err fault) = Err fault
 abbrev pub finished : Kept → List Hidden → Result Expanded Fault → Result (List Hidden × ℕ × Kept) Fault
 finished before out (Ok e) = Ok (out ++ e.toks, e.left, kept_with before e.notes)
 finished before out (Err fault) = Err fault
+
+-- the tokens of an expansion without their hide sets, the work that is left, and what is kept of what
+-- happened
+abbrev pub expanded_kept : Kept → Result Expanded Fault → Result (List Token × ℕ × Kept) Fault
+expanded_kept before (Ok e) = Ok (toks_of e.toks, e.left, kept_with before e.notes)
+expanded_kept before (Err fault) = Err fault

@@ -73,6 +73,22 @@ impl HiddenTok {
         })
     }
 
+    /// The same token and names.
+    pub fn copy(&self, alloc: Global) -> Result<HiddenTok, Memory>
+        ensures { IfOk result (λ h. h ≡ self.now) }
+    {
+        Ok(HiddenTok {
+            tok: shared(&self.tok)?,
+            hides: self.hides.copy(alloc)?,
+        })
+    }
+
+    pub fn into_tok(self) -> Tok
+        ensures { result ≡ self.tok }
+    {
+        self.tok
+    }
+
     /// The same, to which further names are not available.
     pub fn hide_more(self, names: &HideSet) -> Result<HiddenTok, Memory>
         ensures { IfOk result (λ h. h ≡ hide_more names.now self) }

@@ -1,17 +1,20 @@
-//! Macro expansion (ISO/IEC 9899:1999, 6.10.3): its definition, and the laws that callers rest on.
+//! Macro expansion (ISO/IEC 9899:1999, 6.10.3): its definition, the laws that callers rest on, and the
+//! program.
 //!
-//! `expansion` of `specs/Expansion.antt` takes the macros, the path of the file, the tokens of a run and
-//! the work that is left, and gives the expanded tokens with what happened on the way: replaced names,
-//! links to their macros' names, strings and pasted tokens; or the first fault at the position of a
-//! macro's name. It is one step over whole lists of tokens with their hide sets (`step`), closed by as
-//! many steps as the work and the tokens allow; `expansion_goes_step_by_step` shows that these suffice.
-//! `expansion_can_be_renamed` is what a renaming rests on.
+//! `expand` takes the macros, the path of the file, the tokens of a run and the work that is left, and
+//! gives what `expansion` of `specs/Expansion.antt` says: the expanded tokens, and in `Notes` what
+//! happened on the way: replaced names, links to their macros' names, strings and pasted tokens; or the
+//! first fault at the position of a macro's name. The definition is one step over whole lists of tokens
+//! with their hide sets (`step`), closed by as many steps as the work and the tokens allow;
+//! `expansion_goes_step_by_step` shows that these suffice. `expansion_can_be_renamed` is what a renaming
+//! rests on. The run and `Work.left` together are below 2^32, and at most 200 arguments are expanded
+//! inside one another. What follows is a stack, so a replacement moves no more than it puts in.
 //!
 //! `Macros` keeps the macros that are defined, a finite map by `specs/Live.antt`; `Definition::of` gives
 //! the definition of a `define` line, by `specs/Defining.antt`, which has the first definitions of
-//! `__LINE__` and `__FILE__` too. The program that expands is not built yet. Read `specs/Hides.antt`,
-//! `specs/Bodies.antt`, `specs/Calls.antt`, `specs/Substitution.antt` and `specs/Expansion.antt`, then
-//! `specs/Renaming.antt`.
+//! `__LINE__` and `__FILE__` too. Read `specs/Hides.antt`, `specs/Bodies.antt`, `specs/Calls.antt`,
+//! `specs/Substitution.antt` and `specs/Expansion.antt`, then `specs/Renaming.antt`; of the program
+//! `expansion.rt` and `replacing.rt`.
 #![tactic(auto)]
 
 mod call_reading;
@@ -21,6 +24,7 @@ mod context;
 mod costs;
 mod define_line;
 mod definitions;
+mod expansion;
 mod fault;
 mod hidden;
 mod hide_set;
@@ -30,6 +34,7 @@ mod operands;
 mod parameters;
 mod pasting;
 mod predefined;
+mod replacing;
 mod rest;
 mod shared_tokens;
 mod signs;
@@ -39,6 +44,7 @@ mod table;
 mod tests;
 
 pub use definitions::{Definition, Form};
+pub use expansion::expand;
 pub use fault::ExpandFault;
 pub use laws::{
     expanded_tokens_come_from_somewhere, expansion_can_be_renamed, expansion_goes_part_by_part,

@@ -1,0 +1,268 @@
+// Expansion of a list of tokens (6.10.3.4): the first name that can be replaced is replaced, and its
+// result is scanned again together with what follows.
+ghost use Rattle.std.specs.Prelude.{◌≡◌, ◌+◌, ◌≤◌, ◌<◌, ◌^◌, ◌++◌, ◌∷◌, [], ◌&&◌, true, false, length, map, option_to_list, Some, IfOk, IfSome, OnOk, IsTrue};
+ghost use Rattle.std.specs.List.{list_all};
+ghost use Rattle.cs_base.specs.Answer.{Gives};
+ghost use Rattle.cs_base.specs.Token.{Token};
+ghost use Rattle.macro_expand.specs.Hides.{toks_of};
+ghost use Rattle.macro_expand.specs.Macro.{is_function};
+ghost use Rattle.macro_expand.specs.Live.{table_of};
+ghost use Rattle.macro_expand.specs.Expansion.{macro_of, expansion};
+ghost use Rattle.macro_expand.specs.Kept.{finished, expanded_kept};
+ghost use Rattle.macro_expand.specs.Faults.{fault_of};
+ghost use Rattle.macro_expand.specs.Laws.{begins_open};
+ghost use Rattle.macro_expand.specs.Sound.{is_traced, is_low, is_sound, all_sound, AllTraced};
+ghost use Rattle.macro_expand.specs.Going.{setting_of, whole_in, before_behind, GoesOn};
+
+use crate::call_reading::{begins_open, read_call};
+use crate::context::Context;
+use crate::definitions::Definition;
+use crate::fault::ExpandFault;
+use crate::hidden::{HiddenTok, unhidden};
+use crate::hide_set::HideSet;
+use crate::notes::{Notes, Work};
+use crate::parameters::is_function;
+use crate::rest::Rest;
+use crate::table::Macros;
+use cs_base::{Memory, Tok};
+use std::alloc::Global;
+
+/// Expands the macros of a run (6.10.3): the first name that can be replaced is replaced, and its result
+/// is scanned again together with what follows, until no name can be replaced. `path` is what `__FILE__`
+/// stands for. `notes` gets what happened behind what it holds, and `work` loses what the replacements
+/// cost.
+///
+/// The faults, each at the position of a macro's name, come in the order of the replacements: the first
+/// call that has no `)` in the run (`OpenCall`) or a wrong number of arguments (`WrongArguments`). In one
+/// replacement those of its arguments come first, which are expanded from the first to the last: one
+/// would be expanded inside 200 others (`TooDeep`). Then the cost passes the work that is left
+/// (`TooMuchWork`), then a `#` makes no string (`NotAString`), then a `##` makes no token (`NotOneToken`).
+/// Want of memory (`Memory`) may come at any time. After a refusal nothing is said of `work` and `notes`.
+pub fn expand(
+    alloc: Global,
+    macros: &Macros,
+    path: &[u8],
+    run: &[Tok],
+    work: &mut Work,
+    notes: &mut Notes,
+) -> Result<Vec<Tok>, ExpandFault>
+    requires fits { length run.now + work.old.left < 2 ^ 32 }
+    requires sound { IsTrue (list_all (λ t. is_traced t && is_low t) run.now) }
+    requires bodies { AllTraced (table_of macros.now) }
+    ensures falls { OnOk result (work.new.left ≤ work.old.left) }
+    ensures answer { Gives (λ toks. (toks.items, work.new.left, notes.new)) fault_of result
+        (expanded_kept notes.old (expansion (table_of macros.now) path.now run.now work.old.left)) }
+{
+    let context = Context {
+        alloc,
+        macros,
+        path,
+        depth: 0,
+    };
+    let rest = Rest::new(unhidden(alloc, run)?);
+    let toks = context.whole_list(0, rest, work, notes)?;
+    Ok(toks_of(alloc, toks)?)
+}
+
+impl<'a> Context<'a> {
+    #[cycle(expansion)]
+    /// The whole expansion of the tokens that follow, where so many were put out before.
+    pub(crate) fn whole_list(
+        &self,
+        mut before: u32,
+        mut rest: Rest,
+        work: &mut Work,
+        notes: &mut Notes,
+    ) -> Result<Vec<HiddenTok>, ExpandFault>
+        requires sound { IsTrue (all_sound rest) }
+        requires fits { before + work.old.left + length rest < 2 ^ 32 }
+        ensures sound { IfOk result (λ v. IsTrue (all_sound v.items)) }
+        ensures falls { OnOk result (work.new.left ≤ work.old.left) }
+        ensures answer { Gives (λ v. (v.items, work.new.left, notes.new)) fault_of result
+            (finished notes.old [] (whole_in self.now before rest work.old.left)) }
+    {
+        let mut out = Vec::new(self.alloc);
+        'toks: while let Some(first) = rest.take() {
+            let stayed = self.next_token(before, first, &mut rest, work, notes)?;
+            before = behind(self.depth, before, &stayed);
+            put_out(&mut out, stayed)?;
+        }
+        Ok(out)
+    }
+
+    #[cycle(expansion)]
+    // The first token, if it stays; or none, and what replaces it is put before the rest.
+    fn next_token(
+        &self,
+        before: u32,
+        first: HiddenTok,
+        rest: &mut Rest,
+        work: &mut Work,
+        notes: &mut Notes,
+    ) -> Result<Option<HiddenTok>, ExpandFault>
+        requires first_sound { IsTrue (is_sound first) }
+        requires sound { IsTrue (all_sound rest.old) }
+        requires fits { before + work.old.left + length rest.old + 1 < 2 ^ 32 }
+        ensures stayed_sound { IfOk result (λ stayed. IfSome stayed (λ t. IsTrue (is_sound t))) }
+        ensures sound { OnOk result (IsTrue (all_sound rest.new)) }
+        ensures shorter { OnOk result
+            (work.new.left + length rest.new ≤ work.old.left + length rest.old) }
+        ensures falls { OnOk result (work.new.left ≤ work.old.left) }
+        ensures answer { GoesOn result
+            (finished notes.old [] (whole_in self.now before (first ∷ rest.old) work.old.left))
+            (λ stayed. finished notes.new (option_to_list stayed)
+            (whole_in self.now (before_behind stayed self.now.depth before) rest.new work.new.left)) }
+    {
+        match self.macro_of(&first) {
+            Some(m) => {
+                if is_function(m.form) {
+                    self.function_like(before, first, m, rest, work, notes)
+                } else {
+                    self.object_like(before, first, m, rest, work, notes)
+                }
+            }
+            None => Ok(Some(first)),
+        }
+    }
+
+    #[cycle(expansion)]
+    // A name that stands alone for its macro's replacement list (6.10.3 paragraph 9).
+    fn object_like(
+        &self,
+        before: u32,
+        first: HiddenTok,
+        m: &Definition,
+        rest: &mut Rest,
+        work: &mut Work,
+        notes: &mut Notes,
+    ) -> Result<Option<HiddenTok>, ExpandFault>
+        requires named { macro_of (setting_of self.now).table first ≡ Some m.now }
+        requires object { is_function m.now.form ≡ false }
+        requires traced { IsTrue (list_all is_traced m.now.body) }
+        requires first_sound { IsTrue (is_sound first) }
+        requires sound { IsTrue (all_sound rest.old) }
+        ensures stayed_sound { IfOk result (λ stayed. IfSome stayed (λ t. IsTrue (is_sound t))) }
+        ensures sound { OnOk result (IsTrue (all_sound rest.new)) }
+        ensures shorter { OnOk result
+            (work.new.left + length rest.new ≤ work.old.left + length rest.old) }
+        ensures falls { OnOk result (work.new.left ≤ work.old.left) }
+        ensures answer { GoesOn result
+            (finished notes.old [] (whole_in self.now before (first ∷ rest.old) work.old.left))
+            (λ stayed. finished notes.new (option_to_list stayed)
+            (whole_in self.now (before_behind stayed self.now.depth before) rest.new work.new.left)) }
+    {
+        let added = with_name(self.alloc, &first)?;
+        let toks = self.replacement(before, first.tok(), m, &[], work, notes)?;
+        rest.put(toks, &added)?;
+        Ok(None)
+    }
+
+    #[cycle(expansion)]
+    // A function-like macro's name: it stays where no `(` follows (6.10.3 paragraph 10).
+    fn function_like(
+        &self,
+        before: u32,
+        first: HiddenTok,
+        m: &Definition,
+        rest: &mut Rest,
+        work: &mut Work,
+        notes: &mut Notes,
+    ) -> Result<Option<HiddenTok>, ExpandFault>
+        requires named { macro_of (setting_of self.now).table first ≡ Some m.now }
+        requires function { is_function m.now.form ≡ true }
+        requires traced { IsTrue (list_all is_traced m.now.body) }
+        requires first_sound { IsTrue (is_sound first) }
+        requires sound { IsTrue (all_sound rest.old) }
+        requires fits { before + work.old.left + length rest.old < 2 ^ 32 }
+        ensures stayed_sound { IfOk result (λ stayed. IfSome stayed (λ t. IsTrue (is_sound t))) }
+        ensures sound { OnOk result (IsTrue (all_sound rest.new)) }
+        ensures shorter { OnOk result
+            (work.new.left + length rest.new ≤ work.old.left + length rest.old) }
+        ensures falls { OnOk result (work.new.left ≤ work.old.left) }
+        ensures answer { GoesOn result
+            (finished notes.old [] (whole_in self.now before (first ∷ rest.old) work.old.left))
+            (λ stayed. finished notes.new (option_to_list stayed)
+            (whole_in self.now (before_behind stayed self.now.depth before) rest.new work.new.left)) }
+    {
+        if begins_open(rest) {
+            self.call(before, &first, m, rest, work, notes)?;
+            Ok(None)
+        } else {
+            Ok(Some(first))
+        }
+    }
+
+    #[cycle(expansion)]
+    // A call, which what replaces it is put in place of.
+    fn call(
+        &self,
+        before: u32,
+        first: &HiddenTok,
+        m: &Definition,
+        rest: &mut Rest,
+        work: &mut Work,
+        notes: &mut Notes,
+    ) -> Result<(), ExpandFault>
+        requires named { macro_of (setting_of self.now).table first.now ≡ Some m.now }
+        requires function { is_function m.now.form ≡ true }
+        requires opens { IsTrue (begins_open rest.old) }
+        requires traced { IsTrue (list_all is_traced m.now.body) }
+        requires first_sound { IsTrue (is_sound first.now) }
+        requires sound { IsTrue (all_sound rest.old) }
+        requires fits { before + work.old.left + length rest.old < 2 ^ 32 }
+        ensures sound { OnOk result (IsTrue (all_sound rest.new)) }
+        ensures shorter { OnOk result
+            (work.new.left + length rest.new ≤ work.old.left + length rest.old) }
+        ensures falls { OnOk result (work.new.left ≤ work.old.left) }
+        ensures answer { GoesOn result
+            (finished notes.old [] (whole_in self.now before (first.now ∷ rest.old) work.old.left))
+            (λ _. finished notes.new [] (whole_in self.now before rest.new work.new.left)) }
+    {
+        rest.take();
+        let read = read_call(self.alloc, first, m, rest)?;
+        let toks = self.replacement(before, first.tok(), m, &read.raw, work, notes)?;
+        rest.put(toks, &read.added)?;
+        Ok(())
+    }
+}
+
+// How many tokens are put out behind a token that stays, if one does.
+fn behind(depth: u32, before: u32, stayed: &Option<HiddenTok>) -> u32
+    requires { before + 1 < 2 ^ 32 }
+    ensures { result ≡ before_behind stayed.now depth before }
+{
+    match stayed {
+        Some(_) if depth == 0 => before + 1,
+        _ => before,
+    }
+}
+
+// Puts out a token that stays, if one does.
+fn put_out(out: &mut Vec<HiddenTok>, stayed: Option<HiddenTok>) -> Result<(), Memory>
+    ensures { IfOk result (λ _. out.new.items ≡ out.old.items ++ option_to_list stayed) }
+{
+    if let Some(tok) = stayed {
+        out.push(tok)?;
+    }
+    Ok(())
+}
+
+// The names that are not available to what an object-like macro's name is replaced by.
+fn with_name(alloc: Global, name: &HiddenTok) -> Result<HideSet, Memory>
+    ensures { IfOk result (λ added. added ≡ name.now.hides ++ name.now.tok.text ∷ []) }
+{
+    let mut added = name.hides().copy(alloc)?;
+    added.add(name.tok())?;
+    Ok(added)
+}
+
+// The tokens without their hide sets.
+fn toks_of(alloc: Global, all: Vec<HiddenTok>) -> Result<Vec<Tok>, Memory>
+    ensures { IfOk result (λ toks. toks.items ≡ toks_of all.items) }
+{
+    let mut toks = Vec::new(alloc);
+    for h in all {
+        toks.push(h.into_tok())?;
+    }
+    Ok(toks)
+}
