@@ -28,3 +28,5 @@ pub mod MakingLemmas
 pub mod PastingLemmas
 pub mod SoundLemmas
 pub mod ReplacementLemmas
+-- For crates above: that tokens of files come from somewhere, and what lines items are.
+pub mod TracedLemmas
