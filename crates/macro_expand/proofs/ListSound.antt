@@ -1,11 +1,12 @@
 -- Lists of tokens that come from somewhere, as the program changes them.
-use Rattle.std.proofs.Common.{◌≡◌, ℕ, zero, suc, ◌+◌, ◌<◌, ◌≤◌, ◌^◌, ◌&&◌, Bool, true, false, nat_lt, List, [], ◌∷◌, ◌++◌, length, map, Option, Some, None, option_to_list, IsTrue, refl, ap, sym, subst, ◌∙◌, arith}
+use Rattle.std.proofs.Common.{◌≡◌, ℕ, zero, suc, ◌+◌, ◌<◌, ◌≤◌, ◌^◌, ◌&&◌, Bool, true, false, nat_lt, List, [], ◌∷◌, ◌++◌, length, map, Option, Some, None, option_to_list, IsTrue, refl, ap, sym, subst, ◌∙◌, arith, length-append}
 use Rattle.std.specs.List.{list_all}
 use Rattle.std.specs.Option.{IfSome}
 use Rattle.std.proofs.lemmas.Bool.{and_parts, and_from, ltb-true, lt-ltb}
+use Rattle.std.proofs.lemmas.List.{length-map}
 use Rattle.std.proofs.lemmas.List.Folds.{list_all-append, list_all-map}
 use Rattle.cs_base.specs.Token.{Token}
-use Rattle.macro_expand.specs.Hides.{Hidden, hidden, hide_more, unhidden}
+use Rattle.macro_expand.specs.Hides.{Hidden, hidden, hide_more, unhidden, toks_of}
 use Rattle.macro_expand.specs.Expansion.{one_more}
 use Rattle.macro_expand.specs.Sound.{is_traced, is_low, is_sound, all_sound, is_argument, are_fitting}
 use Rattle.macro_expand.specs.Going.{before_behind}
@@ -55,3 +56,24 @@ turn_fits stayed depth before before2 work work2 first ts rest rest2 is split sh
     let le = before_behind-le stayed depth before in
     let len = ap length split in
     omega (arith, le, len)
+
+put_out-le : (out : List Hidden) (stayed : Option Hidden) → length (out ++ option_to_list stayed) ≤ length out + 1
+put_out-le out None = let len = length-append out [] in omega (arith, len)
+put_out-le out (Some t) = let len = length-append out (t ∷ []) in omega (arith, len)
+
+-- a token further, what is put out and what is left are no more than before
+pub turn_few : (stayed : Option Hidden) (work work2 n : ℕ) (first : Hidden) (ts rest rest2 out out2 : List Hidden)
+    → out2 ≡ out ++ option_to_list stayed → ts ≡ first ∷ rest → work2 + length rest2 ≤ work + length rest
+    → length out + work + length ts ≤ n → length out2 + work2 + length rest2 ≤ n
+turn_few stayed work work2 n first ts rest rest2 out out2 pushed split shorter few =
+    let put : length out2 ≤ length out + 1 = subst (λ (xs : List Hidden). length xs ≤ length out + 1) (sym pushed) (put_out-le out stayed) in
+    let len = ap length split in
+    omega (arith, put, len)
+
+-- tokens without their hide sets are as many
+pub run_few : (run plain : List Token) (rest toks : List Hidden) (work left : ℕ) → rest ≡ unhidden run → plain ≡ toks_of toks → left + length toks ≤ work + length rest
+    → left + length plain ≤ work + length run
+run_few run plain rest toks work left is is2 few =
+    let run_len : length rest ≡ length run = ap length is ∙ length-map run (λ t. hidden t []) in
+    let len : length plain ≡ length toks = ap length is2 ∙ length-map toks (λ h. h.tok) in
+    omega (arith, run_len, len)

@@ -32,12 +32,13 @@ use std::alloc::Global;
 /// stands for. `notes` gets what happened behind what it holds, and `work` loses what the replacements
 /// cost.
 ///
-/// The faults, each at the position of a macro's name, come in the order of the replacements: the first
-/// call that has no `)` in the run (`OpenCall`) or a wrong number of arguments (`WrongArguments`). In one
-/// replacement those of its arguments come first, which are expanded from the first to the last: one
-/// would be expanded inside 200 others (`TooDeep`). Then the cost passes the work that is left
-/// (`TooMuchWork`), then a `#` makes no string (`NotAString`), then a `##` makes no token (`NotOneToken`).
-/// Want of memory (`Memory`) may come at any time. After a refusal nothing is said of `work` and `notes`.
+/// The fault is the first that comes in the order of the replacements, at the position of a macro's name.
+/// A call has no `)` in the run (`OpenCall`) or a wrong number of arguments (`WrongArguments`). Then its
+/// arguments are expanded, from the first to the last, with their faults; where 200 are being expanded
+/// inside one another, none is expanded inside them (`TooDeep`). Then the cost is counted, which may pass
+/// the work that is left (`TooMuchWork`); a `#` may make no string (`NotAString`), and then a `##` no
+/// token (`NotOneToken`). Want of memory (`Memory`) may come at any time. After a refusal nothing is said
+/// of what `work` and `notes` hold.
 pub fn expand(
     alloc: Global,
     macros: &Macros,
@@ -50,6 +51,9 @@ pub fn expand(
     requires sound { IsTrue (list_all (λ t. is_traced t && is_low t) run.now) }
     requires bodies { AllTraced (table_of macros.now) }
     ensures falls { OnOk result (work.new.left ≤ work.old.left) }
+    // Each replacement costs more than it puts in.
+    ensures few { IfOk result (λ toks.
+        work.new.left + length toks.items ≤ work.old.left + length run.now) }
     ensures answer { Gives (λ toks. (toks.items, work.new.left, notes.new)) fault_of result
         (expanded_kept notes.old (expansion (table_of macros.now) path.now run.now work.old.left)) }
 {
@@ -78,6 +82,8 @@ impl<'a> Context<'a> {
         requires fits { before + work.old.left + length rest < 2 ^ 32 }
         ensures sound { IfOk result (λ v. IsTrue (all_sound v.items)) }
         ensures falls { OnOk result (work.new.left ≤ work.old.left) }
+        ensures few { IfOk result (λ v.
+            work.new.left + length v.items ≤ work.old.left + length rest) }
         ensures answer { Gives (λ v. (v.items, work.new.left, notes.new)) fault_of result
             (finished notes.old [] (whole_in self.now before rest work.old.left)) }
     {

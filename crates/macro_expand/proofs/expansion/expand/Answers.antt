@@ -3,7 +3,7 @@ use Rattle.std.proofs.lemmas.Result.{err_from_is_err_and}
 use Rattle.macro_expand.specs.Live.{table_of}
 use Rattle.macro_expand.specs.Expansion.{expansion, whole}
 use Rattle.macro_expand.specs.Kept.{finished, expanded_kept}
-use Rattle.macro_expand.proofs.ListSound.{run_sound}
+use Rattle.macro_expand.proofs.ListSound.{run_sound, run_few}
 use Rattle.macro_expand.proofs.TurnLemmas.{refused_more, expansion-fault, expansion-given}
 use Rattle.macro_expand.proofs.expansion.expand.Goals as goal
 
@@ -25,3 +25,8 @@ pub returns-clause-answer : goal.returns-clause-answer
 returns-clause-answer c =
     expansion-given (table_of c.args.macros.now) c.args.path.now c.args.run.now _ c.new-rest.result c.in_ok-toks.toks.items c.args.work.now.left c.whole_list.new.work.left
     c.args.notes.now c.whole_list.new.notes (c.new-rest.ensures ∙ c.in_ok-unhidden.ensures) c.in_ok-toks_of.ensures c.in_ok-toks.ensures.answer
+
+pub returns-clause-few : goal.returns-clause-few
+returns-clause-few c =
+    run_few c.args.run.now _ c.new-rest.result c.in_ok-toks.toks.items c.args.work.now.left c.whole_list.new.work.left
+    (c.new-rest.ensures ∙ c.in_ok-unhidden.ensures) c.in_ok-toks_of.ensures c.in_ok-toks.ensures.few

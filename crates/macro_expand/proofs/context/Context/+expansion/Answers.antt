@@ -5,7 +5,7 @@ use Rattle.macro_expand.specs.Calls.{call_from, commas_of}
 use Rattle.macro_expand.specs.Expansion.{full_from, whole}
 use Rattle.macro_expand.specs.Kept.{finished}
 use Rattle.macro_expand.specs.Going.{setting_of, whole_in, brought, full_of, all_full, read_from}
-use Rattle.macro_expand.proofs.ListSound.{put_sound, out_sound, lists_sound, fitting_arguments, turn_fits}
+use Rattle.macro_expand.proofs.ListSound.{put_sound, out_sound, lists_sound, fitting_arguments, turn_fits, turn_few}
 use Rattle.macro_expand.proofs.TurnLemmas.{refused_more, stays-goes, alone-goes, object-goes, object-faults, Calling, call-unread, call-goes, call-faults, whole-turn, whole-fault, whole-end}
 use Rattle.macro_expand.proofs.FullLemmas.{full-turn, full-fault, substituted-given}
 use Rattle.macro_expand.proofs.context.Context.+expansion.Goals as goal
@@ -145,6 +145,9 @@ whole_list-toks-preserved t c =
           turn_fits c.in_ok-stayed.stayed c.args.self.now.depth c.toks.before c.behind-before.result c.toks.work.left c.next_token.new.work.left c.in-Some.first c.toks.rest
           c.take.new.self c.next_token.new.rest c.behind-before.ensures c.in-Some.ensures shorter kept.fits;
       falls = omega (arith, less);
+      few =
+          turn_few c.in_ok-stayed.stayed c.toks.work.left c.next_token.new.work.left _ c.in-Some.first c.toks.rest c.take.new.self c.next_token.new.rest
+          c.toks.out.items c.put_out.new.out.items c.in_ok-put_out.ensures c.in-Some.ensures shorter kept.few;
       sound = c.in_ok-stayed.ensures.sound;
       out_sound = out_sound c.toks.out.items c.put_out.new.out.items c.in_ok-stayed.stayed c.in_ok-put_out.ensures kept.out_sound c.in_ok-stayed.ensures.stayed_sound;
     }

@@ -46,6 +46,7 @@ invariant-whole_list-toks l = record {
   same : finished l.notes l.out.items (whole_in l.self l.before l.rest l.work.left) ≡ finished l.initial.notes [] (whole_in l.self l.initial.before l.initial.rest l.initial.work.left);
   fits : l.before + l.work.left + length l.rest < 2 ^ 32;
   falls : l.work.left ≤ l.initial.work.left;
+  few : length l.out.items + l.work.left + length l.rest ≤ l.initial.work.left + length l.initial.rest;
   sound : IsTrue (all_sound l.rest);
   out_sound : IsTrue (all_sound l.out.items);
 }
