@@ -14,7 +14,7 @@ use Rattle.macro_expand.specs.Renaming.{Renaming, spelled, renamed, renamed_hidd
 use Rattle.macro_expand.proofs.ResultLemmas.{ok_same, err_ok, onward_ok}
 use Rattle.macro_expand.proofs.CallLemmas.{AllWithin, none, Shorter, call_shorter, arguments_within}
 use Rattle.macro_expand.proofs.StepLemmas.{Below, put_for_puts}
-use Rattle.macro_expand.proofs.WholeLemmas.{whole_below_itself, whole_is_step, whole_falls}
+use Rattle.macro_expand.proofs.WholeLemmas.{whole_below_itself, whole_is_step}
 use Rattle.macro_expand.proofs.RenamedLemmas.{renamed_lists, renamed_call, is_sign-renamed, call_from-renamed, commas_of-renamed, arguments_of-renamed}
 use Rattle.macro_expand.specs.Laws.{AllDefined}
 use Rattle.macro_expand.proofs.GroundLemmas.{AllDefined-append, AllDefined-in_both}

@@ -1,20 +1,14 @@
 -- Tokens that occur, with hide sets of names of macros: what an expansion keeps of them.
-use Rattle.std.proofs.Common.{◌≡◌, ℕ, zero, suc, ◌==◌, ◌&&◌, ◌||◌, Bool, true, false, not, cond, List, [], ◌∷◌, ◌++◌, length, map, get_or, Option, Some, None, ◌⊎◌, refl, ap, sym, subst, ◌∙◌, inl, inr}
-use Rattle.std.specs.List.{list_any, filter}
-use Rattle.std.specs.Str.{bytes_eq}
-use Rattle.std.proofs.lemmas.Bool.Decides.{same_from_decides}
+use Rattle.std.proofs.Common.{◌≡◌, ℕ, zero, suc, ◌==◌, ◌&&◌, Bool, true, false, cond, List, [], ◌∷◌, ◌++◌, length, map, get_or, Option, Some, subst}
 use Rattle.std.proofs.lemmas.Option.{none-some, same_Some}
-use Rattle.std.proofs.lemmas.Slice.Eq.{bytes_eq-Decides}
 use Rattle.cs_base.specs.Token.{Token}
 use Rattle.macro_expand.specs.declared.definitions.Definition.{Definition}
-use Rattle.line_shape.specs.Signs.{is_name}
 use Rattle.macro_expand.specs.Hides.{Hidden, hides_name, in_both, hide_more}
 use Rattle.macro_expand.specs.Macro.{Table}
 use Rattle.macro_expand.specs.Calls.{Call, Role, Closes, Separates, Belongs, CallFrom, role_of, level_after, fewer, onto_first, with_token, with_argument, closed, call_step, call_from, completed, arguments_of, is_blank}
 use Rattle.macro_expand.specs.Macro.{arity}
 use Rattle.macro_expand.specs.Substitution.{with_gap, moved_in, argument_for}
-use Rattle.macro_expand.specs.Expansion.{macro_of}
-use Rattle.macro_expand.specs.Renaming.{Occurring, occurs}
+use Rattle.macro_expand.specs.Renaming.{Occurring}
 use Rattle.macro_expand.specs.Laws.{AllDefined, Held}
 use Rattle.macro_expand.proofs.RenamedLemmas.{AllOccurHidden}
 use Rattle.macro_expand.proofs.CallLemmas.{option_map_is, cond_has, cond_some}

@@ -1,9 +1,7 @@
 -- What is kept of what happens, part by part.
 use Rattle.std.proofs.Common.{◌≡◌, ℕ, List, [], ◌∷◌, ◌++◌, map, refl, sym, ap, ◌∙◌, append_assoc}
 use Rattle.std.proofs.lemmas.List.{append-nil, map-append}
-use Rattle.cs_base.specs.declared.tokens.Link.{Link}
 use Rattle.cs_base.specs.Token.{Token}
-use Rattle.macro_expand.specs.declared.notes.Replacement.{Replacement}
 use Rattle.macro_expand.specs.Notes.{Note, Replaced, Linked, Stringized, Pasted, links_in, pasted_in, stringized_in, replaced_in}
 use Rattle.macro_expand.specs.Kept.{Kept, kept, link_of, replacement_of, kept_with}
 

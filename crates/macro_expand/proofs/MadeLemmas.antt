@@ -1,13 +1,11 @@
 -- What a replacement puts in, under a renaming: the renamed tokens, and renamed notes.
-use Rattle.std.proofs.Common.{◌≡◌, ℕ, Bool, true, false, cond, List, [], ◌∷◌, ◌++◌, map, get_or, Result, Ok, Err, refl, ap, subst, ◌∙◌}
+use Rattle.std.proofs.Common.{◌≡◌, Bool, true, false, cond, List, [], ◌∷◌, ◌++◌, map, get_or, Result, Ok, Err, refl, ap, subst, ◌∙◌}
 use Rattle.cs_base.specs.Token.{Token}
 use Rattle.paste_origin.specs.Strings.{StringFault, NotAString as NoString, stringize_of, string_text, string_token, is_string}
 use Rattle.part_lexer.specs.OneToken.{one_token_of}
 use Rattle.macro_expand.specs.declared.definitions.Definition.{Definition}
 use Rattle.macro_expand.specs.Hides.{Hidden, hidden, toks_of}
-use Rattle.macro_expand.specs.Bodies.{Part, Plain, Param, Quote, Paste, quoted_parameter, param_or_plain, lone_part, quote_or, parts_from, is_operator, pasted_to, chains_in, chains_of}
-use Rattle.macro_expand.specs.Macro.{parameter_at}
-use Rattle.line_shape.specs.Signs.{is_paste}
+use Rattle.macro_expand.specs.Bodies.{Part, Plain, Param, Quote, Paste, chains_of}
 use Rattle.macro_expand.specs.Notes.{Fault, Note, Stringized}
 use Rattle.macro_expand.specs.Substitution.{Arguments, Made, made, put_in, string_made, operand_made, argument_for}
 use Rattle.macro_expand.specs.Renaming.{renamed, renamed_hidden, renamed_note, occurs, AllOccur, KeepsBody, AllRespected}

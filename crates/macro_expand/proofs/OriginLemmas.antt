@@ -1,5 +1,5 @@
 -- The tokens of an expansion come from somewhere.
-use Rattle.std.proofs.Common.{◌≡◌, ℕ, zero, suc, ◌+◌, ◌-◌, ◌<◌, ◌≤◌, ◌&&◌, Bool, true, false, not, cond, List, [], ◌∷◌, ◌++◌, length, map, get_or, Option, Some, None, Result, Ok, Err, refl, ap, sym, subst, ◌∙◌, arith, length-append, nat_lt}
+use Rattle.std.proofs.Common.{◌≡◌, ℕ, zero, suc, ◌+◌, ◌-◌, ◌<◌, ◌≤◌, ◌&&◌, Bool, true, false, not, cond, List, [], ◌∷◌, ◌++◌, length, map, get_or, Option, Some, None, Result, Ok, Err, refl, sym, subst, ◌∙◌, arith, length-append, nat_lt}
 use Rattle.std.proofs.lemmas.List.{length-map}
 use Rattle.std.proofs.lemmas.Option.{none-some}
 use Rattle.cs_base.specs.Token.{Token}
@@ -15,14 +15,14 @@ use Rattle.macro_expand.specs.Bodies.{Part, Plain, Param, Quote, Paste, chains_o
 use Rattle.macro_expand.specs.Calls.{Call, call_from, commas_of, arguments_of}
 use Rattle.macro_expand.specs.Notes.{Fault, OpenCall, WrongArguments, TooMuchWork, TooDeep, Note, Replaced, Linked, Stringized, Pasted, Expanded, expanded, put_out, noted, onward}
 use Rattle.macro_expand.specs.Substitution.{Arguments, Made, made, made_both, with_gap, put_in, argument_for, is_alone, string_made, operand_made, operands_made, chains_made, token_pasted, pasted_behind, two_pasted, chain_pasted, chains_pasted, result_of, cost_of, line_number, path_string}
-use Rattle.macro_expand.specs.Expansion.{Setting, Next, most_depth, one_more, stays, Full, full, with_full, without_full, alone, full_step, full_from, spent, substituted, put_for, links_name, first_notes, replaced, added_by, called_with, called, behind_name, act, macro_of, step, whole}
+use Rattle.macro_expand.specs.Expansion.{Setting, Next, most_depth, one_more, stays, Full, full, with_full, without_full, alone, full_step, full_from, spent, substituted, put_for, first_notes, replaced, added_by, called_with, called, behind_name, act, macro_of, step, whole}
 use Rattle.macro_expand.specs.Renaming.{Occurring, occurs, AllOccur}
-use Rattle.macro_expand.specs.Laws.{AllDefined, Held, Passes, AllMadePass, TokensComeFromSomewhere}
+use Rattle.macro_expand.specs.Laws.{AllDefined, Passes, AllMadePass, TokensComeFromSomewhere}
 use Rattle.macro_expand.proofs.ResultLemmas.{ok_same, err_ok, onward_ok, cond_ok, cond_ok_yes}
-use Rattle.macro_expand.proofs.CallLemmas.{AllWithin, none, more, AllWithin-more, Shorter, call_shorter, arguments_within}
-use Rattle.macro_expand.proofs.StepLemmas.{Same, Below, Puts, put_for_puts}
-use Rattle.macro_expand.proofs.WholeLemmas.{whole_below_itself, whole_is_step, whole_falls}
-use Rattle.macro_expand.proofs.GroundLemmas.{Ground, AllDefined-append, AllDefined-in_both, Good, GoodLists, GoodCall, Good-append, Good-hide_more, Good-get_or, Good-with_gap, Good-argument_for, good_call, good_arguments}
+use Rattle.macro_expand.proofs.CallLemmas.{AllWithin, none, more, call_shorter, arguments_within}
+use Rattle.macro_expand.proofs.StepLemmas.{Below, put_for_puts}
+use Rattle.macro_expand.proofs.WholeLemmas.{whole_below_itself, whole_is_step}
+use Rattle.macro_expand.proofs.GroundLemmas.{Ground, AllDefined-append, AllDefined-in_both, Good, GoodLists, Good-append, Good-hide_more, Good-get_or, Good-with_gap, Good-argument_for, good_call, good_arguments}
 use Rattle.macro_expand.proofs.PartLemmas.{PartOccurs, PartsOccur, ChainsOccur, chains_of-occur}
 
 made_split : (o : Occurring) (xs ys : List Note) → AllMadePass o (xs ++ ys) → AllMadePass o xs × AllMadePass o ys

@@ -1,23 +1,21 @@
 -- Tokens and hide sets in an expansion under a renaming: which macro replaces a token, before and after.
-use Rattle.std.proofs.Common.{◌≡◌, ℕ, zero, suc, ◌==◌, ◌&&◌, ◌||◌, Bool, true, false, not, cond, List, [], ◌∷◌, ◌++◌, length, map, get_or, Option, Some, None, ◌⊎◌, refl, ap, sym, subst, ◌∙◌, inl, inr}
-use Rattle.std.specs.List.{list_any, filter}
+use Rattle.std.proofs.Common.{◌≡◌, ℕ, ◌&&◌, ◌||◌, Bool, true, false, not, cond, List, [], ◌∷◌, ◌++◌, map, get_or, Option, Some, None, ◌⊎◌, refl, ap, sym, ◌∙◌, inl, inr}
 use Rattle.std.specs.Str.{bytes_eq}
 use Rattle.std.proofs.lemmas.Bool.Decides.{same_from_decides}
-use Rattle.std.proofs.lemmas.Option.{none-some, same_Some}
+use Rattle.std.proofs.lemmas.Option.{none-some}
 use Rattle.std.proofs.lemmas.Slice.Eq.{bytes_eq-Decides}
 use Rattle.cs_base.specs.Token.{Token}
 use Rattle.macro_expand.specs.declared.definitions.Definition.{Definition}
 use Rattle.line_shape.specs.Signs.{is_name}
 use Rattle.macro_expand.specs.Hides.{Hidden, hides_name, in_both, hide_more}
 use Rattle.macro_expand.specs.Macro.{Table}
-use Rattle.macro_expand.specs.Calls.{Call, Role, Closes, Separates, Belongs, CallFrom, role_of, level_after, fewer, onto_first, with_token, with_argument, closed, call_step, call_from, completed, arguments_of, is_blank}
-use Rattle.macro_expand.specs.Macro.{arity}
-use Rattle.macro_expand.specs.Substitution.{with_gap, moved_in, argument_for}
+use Rattle.macro_expand.specs.Calls.{Call, call_from, arguments_of}
+use Rattle.macro_expand.specs.Substitution.{with_gap, argument_for}
 use Rattle.macro_expand.specs.Expansion.{macro_of}
 use Rattle.macro_expand.specs.Renaming.{Renaming, spelled, renamed_hidden, renamed_macro, Occurring, occurs, Keeps}
 use Rattle.macro_expand.proofs.RenamedLemmas.{AllOccurHidden}
 use Rattle.macro_expand.specs.Laws.{AllDefined}
-use Rattle.macro_expand.proofs.GroundLemmas.{Ground, AllDefined-append, AllDefined-in_both, Good as GoodOn, GoodLists as GoodListsOn, GoodCall as GoodCallOn, Good-occur as on-Good-occur, Good-append as on-Good-append, Good-hide_more as on-Good-hide_more, Good-get_or as on-Good-get_or, Good-with_gap as on-Good-with_gap, Good-argument_for as on-Good-argument_for, good_call as on-good_call, good_arguments as on-good_arguments}
+use Rattle.macro_expand.proofs.GroundLemmas.{Ground, Good as GoodOn, GoodLists as GoodListsOn, GoodCall as GoodCallOn, Good-occur as on-Good-occur, Good-append as on-Good-append, Good-hide_more as on-Good-hide_more, Good-get_or as on-Good-get_or, Good-with_gap as on-Good-with_gap, Good-argument_for as on-Good-argument_for, good_call as on-good_call, good_arguments as on-good_arguments}
 
 -- A renaming, with what it keeps.
 pub record World : Type 0 where

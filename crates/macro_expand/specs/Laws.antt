@@ -1,5 +1,5 @@
 -- What is true of all expansions.
-use Rattle.std.specs.Prelude.{◌≡◌, ℕ, zero, suc, ◌+◌, ◌≤◌, ◌&&◌, Bool, true, false, List, [], ◌∷◌, ◌++◌, length, Option, Some, None, Result, Ok}
+use Rattle.std.specs.Prelude.{◌≡◌, ℕ, zero, suc, ◌+◌, ◌≤◌, ◌&&◌, Bool, true, false, List, [], ◌∷◌, ◌++◌, length, Option, Some, None, Ok}
 use Rattle.line_shape.specs.Signs.{is_open}
 use Rattle.macro_expand.specs.declared.definitions.Definition.{Definition}
 use Rattle.cs_base.specs.Token.{Token}

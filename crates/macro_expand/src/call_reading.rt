@@ -1,6 +1,5 @@
 // A call of a function-like macro, read behind its `(` (6.10.3 paragraphs 4 and 10 to 12).
 ghost use Rattle.std.specs.Prelude.{◌≡◌, ◌+◌, ◌≤◌, ◌<◌, ◌^◌, ℕ, length, IfOk, OnOk, IsTrue, List};
-ghost use Rattle.std.specs.List.{list_all};
 ghost use Rattle.cs_base.specs.Answer.{Gives};
 ghost use Rattle.macro_expand.specs.Hides.{Hidden};
 ghost use Rattle.macro_expand.specs.Calls.{call_from, commas_of, arguments_of};

@@ -66,13 +66,13 @@ fn left_behind_chain(
 
 // How many tokens stand for a part.
 fn part_cost(
-    _name: &Tok,
+    name: &Tok,
     raw: &[HiddenToks],
     full: &[HiddenToks],
     lone: bool,
     part: &BodyPart,
 ) -> usize
-    ensures { result ≡ part_cost _name.now (arguments raw.now full.now) lone part.now }
+    ensures { result ≡ part_cost name.now (arguments raw.now full.now) lone part.now }
 {
     match part.role {
         PartRole::Param(number) => {

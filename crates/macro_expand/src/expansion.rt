@@ -1,9 +1,8 @@
 // Expansion of a list of tokens (6.10.3.4): the first name that can be replaced is replaced, and its
 // result is scanned again together with what follows.
-ghost use Rattle.std.specs.Prelude.{◌≡◌, ◌+◌, ◌≤◌, ◌<◌, ◌^◌, ◌++◌, ◌∷◌, [], ◌&&◌, true, false, length, map, option_to_list, Some, IfOk, IfSome, OnOk, IsTrue};
+ghost use Rattle.std.specs.Prelude.{◌≡◌, ◌+◌, ◌≤◌, ◌<◌, ◌^◌, ◌++◌, ◌∷◌, [], ◌&&◌, true, false, length, option_to_list, Some, IfOk, IfSome, OnOk, IsTrue};
 ghost use Rattle.std.specs.List.{list_all};
 ghost use Rattle.cs_base.specs.Answer.{Gives};
-ghost use Rattle.cs_base.specs.Token.{Token};
 ghost use Rattle.macro_expand.specs.Hides.{toks_of};
 ghost use Rattle.macro_expand.specs.Macro.{is_function};
 ghost use Rattle.macro_expand.specs.Live.{table_of};

@@ -87,13 +87,13 @@ fn told(fault: ExpandFault) -> (&'static [u8], u32) {
     }
 }
 
-fn check_rows(rt: &impl Abort, alloc: Global, rows: &[Row]) -> Result<(), Fail> {
-    for (text, expected) in rows {
+fn check_rows(rt: &impl Abort, alloc: Global, table: &str, rows: &[Row]) -> Result<(), Fail> {
+    for (k, (text, expected)) in rows.iter().enumerate() {
         let mut work = Work { left: PLENTY };
         let toks = expanded(alloc, PATH, text, &mut work, &mut Notes::new(alloc))?;
         assert!(rt;
             shown_toks(alloc, &toks)?.as_slice() == *expected,
-            "{text:?}"
+            "{table}, number {k}"
         );
     }
     Ok(())
@@ -101,14 +101,14 @@ fn check_rows(rt: &impl Abort, alloc: Global, rows: &[Row]) -> Result<(), Fail> 
 
 #[test]
 fn texts_expand_as_the_standard_says(rt: HostRuntime) -> Result<(), Fail> {
-    check_rows(&rt, rt.alloc(), &EXAMPLES)?;
-    check_rows(&rt, rt.alloc(), &REPLACED)?;
-    check_rows(&rt, rt.alloc(), &OPERATORS)
+    check_rows(&rt, rt.alloc(), "EXAMPLES", &EXAMPLES)?;
+    check_rows(&rt, rt.alloc(), "REPLACED", &REPLACED)?;
+    check_rows(&rt, rt.alloc(), "OPERATORS", &OPERATORS)
 }
 
 #[test]
 fn the_first_fault_stands_at_the_name(rt: HostRuntime) -> Result<(), Fail> {
-    for (text, left, name, at) in &FAULTS {
+    for (k, (text, left, name, at)) in FAULTS.iter().enumerate() {
         let mut work = Work { left: *left };
         match expanded(
             rt.alloc(),
@@ -117,8 +117,8 @@ fn the_first_fault_stands_at_the_name(rt: HostRuntime) -> Result<(), Fail> {
             &mut work,
             &mut Notes::new(rt.alloc()),
         ) {
-            Ok(_) => assert!(rt; false, "{text:?}"),
-            Err(fault) => assert!(rt; told(fault) == (*name, *at), "{text:?}"),
+            Ok(_) => assert!(rt; false, "FAULTS, number {k}"),
+            Err(fault) => assert!(rt; told(fault) == (*name, *at), "FAULTS, number {k}"),
         }
     }
     Ok(())
@@ -126,15 +126,15 @@ fn the_first_fault_stands_at_the_name(rt: HostRuntime) -> Result<(), Fail> {
 
 #[test]
 fn what_happens_is_kept(rt: HostRuntime) -> Result<(), Fail> {
-    for (text, expected, left) in &NOTES {
+    for (k, (text, expected, left)) in NOTES.iter().enumerate() {
         let mut work = Work { left: PLENTY };
         let mut notes = Notes::new(rt.alloc());
         let _toks = expanded(rt.alloc(), PATH, text, &mut work, &mut notes)?;
         assert!(rt;
             shown_notes(rt.alloc(), &notes)?.as_slice() == *expected,
-            "{text:?}"
+            "NOTES, number {k}"
         );
-        assert_eq!(rt; work.left, *left, "{text:?}");
+        assert_eq!(rt; work.left, *left, "NOTES, number {k}");
     }
     Ok(())
 }

@@ -115,8 +115,8 @@ fn token_pasted(
     Ok(HiddenTok::new(made, x.hides().common(alloc, y.hides())?))
 }
 
-// The token that two make, or the fault at the name. An identifier or a pp-number with a character that
-// has no origin can be no token; two tokens of source files make none. It is answered by `Memory`.
+// The token that two make, or the fault at the name. No `Tok` can be an identifier or a pp-number with a
+// character that has no origin, and no tokens of source files make one: it is answered by `Memory`.
 fn glued(alloc: Global, name: &Tok, x: &Tok, y: &Tok) -> Result<Tok, ExpandFault>
     ensures answer { Gives (λ t. t) fault_of result (result_map_err (λ _. NotOneToken name.now.at) (glue_of x.now y.now)) }
 {

@@ -2,11 +2,10 @@
 ghost use Rattle.std.specs.Prelude.{◌≡◌, ◌+◌, ◌≤◌, ◌<◌, ◌^◌, ◌∷◌, ◌++◌, [], length, IfOk, OnOk, IsTrue};
 ghost use Rattle.std.specs.List.{list_all};
 ghost use Rattle.cs_base.specs.Answer.{Gives};
-ghost use Rattle.macro_expand.specs.Hides.{hidden};
 ghost use Rattle.macro_expand.specs.Expansion.{links_name, first_notes, put_for, substituted, full_from, alone, whole};
 ghost use Rattle.macro_expand.specs.Kept.{kept_with, finished};
 ghost use Rattle.macro_expand.specs.Faults.{fault_of};
-ghost use Rattle.macro_expand.specs.Sound.{is_traced, is_low, is_sound, all_sound, are_fitting, chains_traced};
+ghost use Rattle.macro_expand.specs.Sound.{is_traced, is_low, all_sound, are_fitting};
 ghost use Rattle.macro_expand.specs.Going.{setting_of, brought, one_spent, full_of, all_full};
 
 use crate::chains::{Chain, chains_of, occurs_alone};

@@ -2,7 +2,6 @@ use Rattle.std.proofs.Common.{◌≡◌, ℕ, true, false, Some, List, [], ◌�
 use Rattle.cs_base.specs.Token.{Token, token}
 use Rattle.cs_base.specs.Padding.{padded}
 use Rattle.cs_base.specs.declared.tokens.Kind.TheVariants.{Ident, Punct}
-use Rattle.cs_base.specs.declared.positions.Pos.{Pos}
 use Rattle.line_shape.specs.declared.items.ItemKind.TheVariants.{Define}
 use Rattle.line_shape.specs.Signs.{is_hash, is_paste, is_open, is_close, is_comma, is_ellipsis, is_va_args, is_unfit_name}
 use Rattle.line_shape.specs.Directives.{directive_spelled}
