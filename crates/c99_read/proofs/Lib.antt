@@ -3,9 +3,13 @@ pub mod Suffices
 pub mod C99Sound
 pub mod Alike
 pub mod HeadLemmas
+pub mod AheadLemmas
+pub mod AmongLemmas
 pub mod ChildLemmas
+pub mod OpenNodeLemmas
 pub mod StateLemmas
 pub mod LevelLemmas
 pub mod TurnLemmas
 pub mod RowLemmas
 pub mod FirstLemmas
+pub mod ReadRows

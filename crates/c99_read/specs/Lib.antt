@@ -13,6 +13,7 @@ pub mod FirstSets
 pub mod Again
 pub mod Children
 pub mod Kept
+pub mod OpenNode
 pub mod Words
 pub mod Rules
 pub mod Levels

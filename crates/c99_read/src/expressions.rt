@@ -14,12 +14,12 @@ ghost use Rattle.c99_read.specs.State.{class_at};
 ghost use Rattle.c99_read.specs.Standard.{c99};
 
 use crate::classes::Class;
-use crate::first::first;
+use crate::first::starts_with;
 use crate::reader::{Read, Reader};
 use crate::rules::production_starts;
 use c99_tree::Production;
 
-const NAMES: [Class; 2] = [Class::Identifier, Class::TypedefName];
+pub(crate) const NAMES: [Class; 2] = [Class::Identifier, Class::TypedefName];
 
 const PREFIXES: [Class; 8] = [
     Class::PlusPlus,
@@ -72,7 +72,7 @@ fn operand_of(level: Production) -> Production
 
 impl<'a> Reader<'a> {
     // The production starts here.
-    fn begins(&self, production: Production) -> bool
+    pub(crate) fn begins(&self, production: Production) -> bool
         ensures { result ≡ production_starts c99 production (class_at c99 self.now self.now.at) (class_at c99 self.now (self.now.at + 1)) }
     {
         production_starts(production, self.class_here(), self.class_behind())
@@ -82,7 +82,7 @@ impl<'a> Reader<'a> {
     fn begins_type_name(&self) -> bool
         ensures { result ≡ (among (LeftParen ∷ []) (class_at c99 self.now self.now.at) && among (first Specs) (class_at c99 self.now (self.now.at + 1))) }
     {
-        self.is(&[Class::LeftParen]) && self.is_then(first(Production::Specs))
+        self.is(&[Class::LeftParen]) && starts_with(Production::Specs, self.class_behind())
     }
 
     #[cycle(reading)]
@@ -113,13 +113,18 @@ impl<'a> Reader<'a> {
             Production::SizeLit => self.size_lit(depth),
             Production::Primary => self.primary(depth),
             Production::Post => self.post(depth),
+            Production::Block => self.block(depth),
+            Production::BlockItem => self.block_item(depth),
+            Production::Statement => self.statement(depth),
+            Production::Sub => self.sub(depth),
+            Production::ForInit => self.for_init(depth),
             _ => self.by_table(depth, production),
         }
     }
 
     #[cycle(reading)]
     // A production one level deeper.
-    fn deep(&mut self, depth: usize, production: Production) -> Read
+    pub(crate) fn deep(&mut self, depth: usize, production: Production) -> Read
         requires deep { depth ≤ 256 }
         ensures { Reads result self.new (step c99 (whole c99) depth (deep (part production)) self.old) }
     {
@@ -129,7 +134,13 @@ impl<'a> Reader<'a> {
 
     #[cycle(reading)]
     // A node with one production.
-    fn alone(&mut self, depth: usize, production: Production, number: u8, only: Production) -> Read
+    pub(crate) fn alone(
+        &mut self,
+        depth: usize,
+        production: Production,
+        number: u8,
+        only: Production,
+    ) -> Read
         requires deep { depth ≤ 256 }
         requires lower { level_of only < level_of production }
         ensures { Reads result self.new (alternative c99 (whole c99) depth production number (part only) self.old) }
@@ -157,7 +168,13 @@ impl<'a> Reader<'a> {
     }
 
     // A node with one token.
-    fn token(&mut self, depth: usize, production: Production, number: u8, class: Class) -> Read
+    pub(crate) fn token(
+        &mut self,
+        depth: usize,
+        production: Production,
+        number: u8,
+        class: Class,
+    ) -> Read
         ensures { Reads result self.new (alternative c99 (whole c99) depth production number (one (class ∷ [])) self.old) }
     {
         let outer = self.open(production, number)?;
@@ -683,7 +700,7 @@ impl<'a> Reader<'a> {
 
     #[cycle(reading)]
     // A production one level deeper, if it begins here.
-    fn maybe_deep(&mut self, depth: usize, production: Production) -> Read
+    pub(crate) fn maybe_deep(&mut self, depth: usize, production: Production) -> Read
         requires deep { depth ≤ 256 }
         ensures { Reads result self.new (step c99 (whole c99) depth (maybe (deep (part production))) self.old) }
     {

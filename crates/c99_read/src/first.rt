@@ -1,652 +1,389 @@
 // With which classes each production starts.
-ghost use Rattle.std.specs.Prelude.{◌≡◌};
-ghost use Rattle.c99_read.specs.First.{first, labels};
+ghost use Rattle.std.specs.Prelude.{◌≡◌, ◌∷◌};
+ghost use Rattle.c99_tree.specs.declared.production.Production.TheVariants.{TranslationUnit, ExtRest, FunBody, Main, StructSpec, SuRest, Mdecl, EnumSpec, Enumerators, Pointer, Direct, Suffix, Params, Pdecl, Pdirect, Adecl, Designator, SizeLit, Primary, Post, BlockItem, ForInit};
+ghost use Rattle.c99_read.specs.Classes.{among};
+ghost use Rattle.c99_read.specs.First.{first, labels, expressions};
+ghost use Rattle.c99_read.specs.declared.classes.Class.TheVariants.{Semicolon};
 
 use crate::classes::Class;
+use crate::first_sets::{
+    starts_assignment, starts_declarator, starts_every, starts_expression, starts_initializer,
+    starts_initializer_item, starts_member, starts_modifier, starts_qualifier, starts_specifier,
+    starts_statement, starts_word,
+};
 use c99_tree::Production;
 
-static FIRST_OF_TRANSLATION_UNIT: [Class; 27] = [
-    Class::Semicolon,
-    Class::End,
-    Class::Auto,
-    Class::Char,
-    Class::Const,
-    Class::Double,
-    Class::Enum,
-    Class::Extern,
-    Class::Float,
-    Class::Inline,
-    Class::Int,
-    Class::Long,
-    Class::Register,
-    Class::Restrict,
-    Class::Short,
-    Class::Signed,
-    Class::Static,
-    Class::Struct,
-    Class::Typedef,
-    Class::Union,
-    Class::Unsigned,
-    Class::Void,
-    Class::Volatile,
-    Class::BoolWord,
-    Class::ComplexWord,
-    Class::ImaginaryWord,
-    Class::TypedefName,
-];
+fn starts_translation_unit(class: Class) -> bool
+    ensures { result ≡ among (first TranslationUnit) class }
+{
+    matches!(
+        class,
+        Class::Semicolon
+            | Class::End
+            | Class::Auto
+            | Class::Char
+            | Class::Const
+            | Class::Double
+            | Class::Enum
+            | Class::Extern
+            | Class::Float
+            | Class::Inline
+            | Class::Int
+            | Class::Long
+            | Class::Register
+            | Class::Restrict
+            | Class::Short
+            | Class::Signed
+            | Class::Static
+            | Class::Struct
+            | Class::Typedef
+            | Class::Union
+            | Class::Unsigned
+            | Class::Void
+            | Class::Volatile
+            | Class::BoolWord
+            | Class::ComplexWord
+            | Class::ImaginaryWord
+            | Class::TypedefName
+    )
+}
 
-static MEMBERS: [Class; 26] = [
-    Class::Auto,
-    Class::Char,
-    Class::Const,
-    Class::Double,
-    Class::Enum,
-    Class::Extern,
-    Class::Float,
-    Class::Inline,
-    Class::Int,
-    Class::Long,
-    Class::Register,
-    Class::Restrict,
-    Class::Short,
-    Class::Signed,
-    Class::Static,
-    Class::Struct,
-    Class::Typedef,
-    Class::Union,
-    Class::Unsigned,
-    Class::Void,
-    Class::Volatile,
-    Class::BoolWord,
-    Class::ComplexWord,
-    Class::ImaginaryWord,
-    Class::Semicolon,
-    Class::TypedefName,
-];
+fn starts_ext_rest(class: Class) -> bool
+    ensures { result ≡ among (first ExtRest) class }
+{
+    matches!(
+        class,
+        Class::LeftParen | Class::Star | Class::Semicolon | Class::Identifier | Class::TypedefName
+    )
+}
 
-static FIRST_OF_EXT_REST: [Class; 5] = [
-    Class::LeftParen,
-    Class::Star,
-    Class::Semicolon,
-    Class::Identifier,
-    Class::TypedefName,
-];
+fn starts_fun_body(class: Class) -> bool
+    ensures { result ≡ among (first FunBody) class }
+{
+    matches!(
+        class,
+        Class::LeftBrace
+            | Class::Auto
+            | Class::Char
+            | Class::Const
+            | Class::Double
+            | Class::Enum
+            | Class::Extern
+            | Class::Float
+            | Class::Inline
+            | Class::Int
+            | Class::Long
+            | Class::Register
+            | Class::Restrict
+            | Class::Short
+            | Class::Signed
+            | Class::Static
+            | Class::Struct
+            | Class::Typedef
+            | Class::Union
+            | Class::Unsigned
+            | Class::Void
+            | Class::Volatile
+            | Class::BoolWord
+            | Class::ComplexWord
+            | Class::ImaginaryWord
+            | Class::TypedefName
+    )
+}
 
-static EVERY: [Class; 92] = [
-    Class::Auto,
-    Class::Break,
-    Class::Case,
-    Class::Char,
-    Class::Const,
-    Class::Continue,
-    Class::Default,
-    Class::Do,
-    Class::Double,
-    Class::Else,
-    Class::Enum,
-    Class::Extern,
-    Class::Float,
-    Class::For,
-    Class::Goto,
-    Class::If,
-    Class::Inline,
-    Class::Int,
-    Class::Long,
-    Class::Register,
-    Class::Restrict,
-    Class::Return,
-    Class::Short,
-    Class::Signed,
-    Class::Sizeof,
-    Class::Static,
-    Class::Struct,
-    Class::Switch,
-    Class::Typedef,
-    Class::Union,
-    Class::Unsigned,
-    Class::Void,
-    Class::Volatile,
-    Class::While,
-    Class::BoolWord,
-    Class::ComplexWord,
-    Class::ImaginaryWord,
-    Class::LeftBracket,
-    Class::RightBracket,
-    Class::LeftParen,
-    Class::RightParen,
-    Class::LeftBrace,
-    Class::RightBrace,
-    Class::Dot,
-    Class::Arrow,
-    Class::PlusPlus,
-    Class::MinusMinus,
-    Class::Amp,
-    Class::Star,
-    Class::Plus,
-    Class::Minus,
-    Class::Tilde,
-    Class::Bang,
-    Class::Slash,
-    Class::Percent,
-    Class::ShiftLeft,
-    Class::ShiftRight,
-    Class::Less,
-    Class::Greater,
-    Class::LessEq,
-    Class::GreaterEq,
-    Class::EqEq,
-    Class::BangEq,
-    Class::Caret,
-    Class::Bar,
-    Class::AmpAmp,
-    Class::BarBar,
-    Class::Question,
-    Class::Colon,
-    Class::Semicolon,
-    Class::Ellipsis,
-    Class::Eq,
-    Class::StarEq,
-    Class::SlashEq,
-    Class::PercentEq,
-    Class::PlusEq,
-    Class::MinusEq,
-    Class::ShiftLeftEq,
-    Class::ShiftRightEq,
-    Class::AmpEq,
-    Class::CaretEq,
-    Class::BarEq,
-    Class::Comma,
-    Class::Hash,
-    Class::HashHash,
-    Class::Identifier,
-    Class::TypedefName,
-    Class::Constant,
-    Class::CharConstant,
-    Class::StringLiteral,
-    Class::End,
-    Class::NoClass,
-];
+fn starts_main(class: Class) -> bool
+    ensures { result ≡ among (first Main) class }
+{
+    matches!(
+        class,
+        Class::Char
+            | Class::Double
+            | Class::Enum
+            | Class::Float
+            | Class::Int
+            | Class::Long
+            | Class::Short
+            | Class::Signed
+            | Class::Struct
+            | Class::Union
+            | Class::Unsigned
+            | Class::Void
+            | Class::BoolWord
+            | Class::ComplexWord
+            | Class::ImaginaryWord
+            | Class::TypedefName
+    )
+}
 
-static FIRST_OF_FUN_BODY: [Class; 26] = [
-    Class::LeftBrace,
-    Class::Auto,
-    Class::Char,
-    Class::Const,
-    Class::Double,
-    Class::Enum,
-    Class::Extern,
-    Class::Float,
-    Class::Inline,
-    Class::Int,
-    Class::Long,
-    Class::Register,
-    Class::Restrict,
-    Class::Short,
-    Class::Signed,
-    Class::Static,
-    Class::Struct,
-    Class::Typedef,
-    Class::Union,
-    Class::Unsigned,
-    Class::Void,
-    Class::Volatile,
-    Class::BoolWord,
-    Class::ComplexWord,
-    Class::ImaginaryWord,
-    Class::TypedefName,
-];
+fn starts_struct_spec(class: Class) -> bool
+    ensures { result ≡ among (first StructSpec) class }
+{
+    matches!(class, Class::Struct | Class::Union)
+}
 
-static SPECIFIERS: [Class; 25] = [
-    Class::Auto,
-    Class::Char,
-    Class::Const,
-    Class::Double,
-    Class::Enum,
-    Class::Extern,
-    Class::Float,
-    Class::Inline,
-    Class::Int,
-    Class::Long,
-    Class::Register,
-    Class::Restrict,
-    Class::Short,
-    Class::Signed,
-    Class::Static,
-    Class::Struct,
-    Class::Typedef,
-    Class::Union,
-    Class::Unsigned,
-    Class::Void,
-    Class::Volatile,
-    Class::BoolWord,
-    Class::ComplexWord,
-    Class::ImaginaryWord,
-    Class::TypedefName,
-];
+fn starts_su_rest(class: Class) -> bool
+    ensures { result ≡ among (first SuRest) class }
+{
+    matches!(
+        class,
+        Class::LeftBrace | Class::Identifier | Class::TypedefName
+    )
+}
 
-static DECLARATORS: [Class; 4] = [
-    Class::LeftParen,
-    Class::Star,
-    Class::Identifier,
-    Class::TypedefName,
-];
+fn starts_mdecl(class: Class) -> bool
+    ensures { result ≡ among (first Mdecl) class }
+{
+    matches!(
+        class,
+        Class::LeftParen | Class::Star | Class::Colon | Class::Identifier | Class::TypedefName
+    )
+}
 
-static FIRST_OF_MAIN: [Class; 16] = [
-    Class::Char,
-    Class::Double,
-    Class::Enum,
-    Class::Float,
-    Class::Int,
-    Class::Long,
-    Class::Short,
-    Class::Signed,
-    Class::Struct,
-    Class::Union,
-    Class::Unsigned,
-    Class::Void,
-    Class::BoolWord,
-    Class::ComplexWord,
-    Class::ImaginaryWord,
-    Class::TypedefName,
-];
+fn starts_enum_spec(class: Class) -> bool
+    ensures { result ≡ among (first EnumSpec) class }
+{
+    matches!(class, Class::Enum)
+}
 
-static MODIFIERS: [Class; 9] = [
-    Class::Auto,
-    Class::Const,
-    Class::Extern,
-    Class::Inline,
-    Class::Register,
-    Class::Restrict,
-    Class::Static,
-    Class::Typedef,
-    Class::Volatile,
-];
+fn starts_enumerators(class: Class) -> bool
+    ensures { result ≡ among (first Enumerators) class }
+{
+    matches!(class, Class::Identifier | Class::TypedefName)
+}
 
-static QUALIFIERS: [Class; 3] = [Class::Const, Class::Restrict, Class::Volatile];
+fn starts_pointer(class: Class) -> bool
+    ensures { result ≡ among (first Pointer) class }
+{
+    matches!(class, Class::Star)
+}
 
-static WORDS: [Class; 12] = [
-    Class::Char,
-    Class::Double,
-    Class::Float,
-    Class::Int,
-    Class::Long,
-    Class::Short,
-    Class::Signed,
-    Class::Unsigned,
-    Class::Void,
-    Class::BoolWord,
-    Class::ComplexWord,
-    Class::ImaginaryWord,
-];
+fn starts_direct(class: Class) -> bool
+    ensures { result ≡ among (first Direct) class }
+{
+    matches!(
+        class,
+        Class::LeftParen | Class::Identifier | Class::TypedefName
+    )
+}
 
-static FIRST_OF_STRUCT_SPEC: [Class; 2] = [Class::Struct, Class::Union];
+fn starts_suffix(class: Class) -> bool
+    ensures { result ≡ among (first Suffix) class }
+{
+    matches!(class, Class::LeftBracket | Class::LeftParen)
+}
 
-static FIRST_OF_SU_REST: [Class; 3] = [Class::LeftBrace, Class::Identifier, Class::TypedefName];
+fn starts_params(class: Class) -> bool
+    ensures { result ≡ among (first Params) class }
+{
+    matches!(
+        class,
+        Class::Identifier
+            | Class::Auto
+            | Class::Char
+            | Class::Const
+            | Class::Double
+            | Class::Enum
+            | Class::Extern
+            | Class::Float
+            | Class::Inline
+            | Class::Int
+            | Class::Long
+            | Class::Register
+            | Class::Restrict
+            | Class::Short
+            | Class::Signed
+            | Class::Static
+            | Class::Struct
+            | Class::Typedef
+            | Class::Union
+            | Class::Unsigned
+            | Class::Void
+            | Class::Volatile
+            | Class::BoolWord
+            | Class::ComplexWord
+            | Class::ImaginaryWord
+            | Class::TypedefName
+    )
+}
 
-static FIRST_OF_MDECL: [Class; 5] = [
-    Class::LeftParen,
-    Class::Star,
-    Class::Colon,
-    Class::Identifier,
-    Class::TypedefName,
-];
+fn starts_pdecl(class: Class) -> bool
+    ensures { result ≡ among (first Pdecl) class }
+{
+    matches!(
+        class,
+        Class::LeftBracket | Class::LeftParen | Class::Star | Class::Identifier | Class::TypedefName
+    )
+}
 
-static FIRST_OF_ENUM_SPEC: [Class; 1] = [Class::Enum];
+fn starts_pdirect(class: Class) -> bool
+    ensures { result ≡ among (first Pdirect) class }
+{
+    matches!(
+        class,
+        Class::LeftBracket | Class::LeftParen | Class::Identifier | Class::TypedefName
+    )
+}
 
-static FIRST_OF_ENUMERATORS: [Class; 2] = [Class::Identifier, Class::TypedefName];
+fn starts_adecl(class: Class) -> bool
+    ensures { result ≡ among (first Adecl) class }
+{
+    matches!(class, Class::LeftBracket | Class::LeftParen | Class::Star)
+}
 
-static FIRST_OF_POINTER: [Class; 1] = [Class::Star];
+fn starts_designator(class: Class) -> bool
+    ensures { result ≡ among (first Designator) class }
+{
+    matches!(class, Class::LeftBracket | Class::Dot)
+}
 
-static FIRST_OF_DIRECT: [Class; 3] = [Class::LeftParen, Class::Identifier, Class::TypedefName];
+fn starts_size_lit(class: Class) -> bool
+    ensures { result ≡ among (first SizeLit) class }
+{
+    matches!(class, Class::LeftBrace)
+}
 
-static FIRST_OF_SUFFIX: [Class; 2] = [Class::LeftBracket, Class::LeftParen];
+fn starts_primary(class: Class) -> bool
+    ensures { result ≡ among (first Primary) class }
+{
+    matches!(
+        class,
+        Class::LeftParen
+            | Class::Identifier
+            | Class::Constant
+            | Class::CharConstant
+            | Class::StringLiteral
+    )
+}
 
-static EXPRESSIONS: [Class; 14] = [
-    Class::Sizeof,
-    Class::LeftParen,
-    Class::PlusPlus,
-    Class::MinusMinus,
-    Class::Amp,
-    Class::Star,
-    Class::Plus,
-    Class::Minus,
-    Class::Tilde,
-    Class::Bang,
-    Class::Identifier,
-    Class::Constant,
-    Class::CharConstant,
-    Class::StringLiteral,
-];
+fn starts_post(class: Class) -> bool
+    ensures { result ≡ among (first Post) class }
+{
+    matches!(
+        class,
+        Class::LeftBracket
+            | Class::LeftParen
+            | Class::Dot
+            | Class::Arrow
+            | Class::PlusPlus
+            | Class::MinusMinus
+    )
+}
 
-static FIRST_OF_PARAMS: [Class; 26] = [
-    Class::Identifier,
-    Class::Auto,
-    Class::Char,
-    Class::Const,
-    Class::Double,
-    Class::Enum,
-    Class::Extern,
-    Class::Float,
-    Class::Inline,
-    Class::Int,
-    Class::Long,
-    Class::Register,
-    Class::Restrict,
-    Class::Short,
-    Class::Signed,
-    Class::Static,
-    Class::Struct,
-    Class::Typedef,
-    Class::Union,
-    Class::Unsigned,
-    Class::Void,
-    Class::Volatile,
-    Class::BoolWord,
-    Class::ComplexWord,
-    Class::ImaginaryWord,
-    Class::TypedefName,
-];
+fn starts_block_item(class: Class) -> bool
+    ensures { result ≡ among (first BlockItem) class }
+{
+    starts_specifier(class) || starts_statement(class)
+}
 
-static FIRST_OF_PDECL: [Class; 5] = [
-    Class::LeftBracket,
-    Class::LeftParen,
-    Class::Star,
-    Class::Identifier,
-    Class::TypedefName,
-];
+fn starts_expression_line(class: Class) -> bool
+    ensures { result ≡ among (Semicolon ∷ expressions) class }
+{
+    matches!(
+        class,
+        Class::Semicolon
+            | Class::Sizeof
+            | Class::LeftParen
+            | Class::PlusPlus
+            | Class::MinusMinus
+            | Class::Amp
+            | Class::Star
+            | Class::Plus
+            | Class::Minus
+            | Class::Tilde
+            | Class::Bang
+            | Class::Identifier
+            | Class::Constant
+            | Class::CharConstant
+            | Class::StringLiteral
+    )
+}
 
-static FIRST_OF_PDIRECT: [Class; 4] = [
-    Class::LeftBracket,
-    Class::LeftParen,
-    Class::Identifier,
-    Class::TypedefName,
-];
+fn starts_for_init(class: Class) -> bool
+    ensures { result ≡ among (first ForInit) class }
+{
+    starts_specifier(class) || starts_expression_line(class)
+}
 
-static FIRST_OF_ADECL: [Class; 3] = [Class::LeftBracket, Class::LeftParen, Class::Star];
-
-static INITIALIZERS: [Class; 15] = [
-    Class::Sizeof,
-    Class::LeftParen,
-    Class::LeftBrace,
-    Class::PlusPlus,
-    Class::MinusMinus,
-    Class::Amp,
-    Class::Star,
-    Class::Plus,
-    Class::Minus,
-    Class::Tilde,
-    Class::Bang,
-    Class::Identifier,
-    Class::Constant,
-    Class::CharConstant,
-    Class::StringLiteral,
-];
-
-static INITIALIZER_ITEMS: [Class; 17] = [
-    Class::Sizeof,
-    Class::LeftBracket,
-    Class::LeftParen,
-    Class::LeftBrace,
-    Class::Dot,
-    Class::PlusPlus,
-    Class::MinusMinus,
-    Class::Amp,
-    Class::Star,
-    Class::Plus,
-    Class::Minus,
-    Class::Tilde,
-    Class::Bang,
-    Class::Identifier,
-    Class::Constant,
-    Class::CharConstant,
-    Class::StringLiteral,
-];
-
-static FIRST_OF_DESIGNATOR: [Class; 2] = [Class::LeftBracket, Class::Dot];
-
-static ASSIGNMENTS: [Class; 11] = [
-    Class::Eq,
-    Class::StarEq,
-    Class::SlashEq,
-    Class::PercentEq,
-    Class::PlusEq,
-    Class::MinusEq,
-    Class::ShiftLeftEq,
-    Class::ShiftRightEq,
-    Class::AmpEq,
-    Class::CaretEq,
-    Class::BarEq,
-];
-
-static FIRST_OF_SIZE_LIT: [Class; 1] = [Class::LeftBrace];
-
-static FIRST_OF_PRIMARY: [Class; 5] = [
-    Class::LeftParen,
-    Class::Identifier,
-    Class::Constant,
-    Class::CharConstant,
-    Class::StringLiteral,
-];
-
-static FIRST_OF_POST: [Class; 6] = [
-    Class::LeftBracket,
-    Class::LeftParen,
-    Class::Dot,
-    Class::Arrow,
-    Class::PlusPlus,
-    Class::MinusMinus,
-];
-
-static FIRST_OF_BLOCK_ITEM: [Class; 52] = [
-    Class::Auto,
-    Class::Char,
-    Class::Const,
-    Class::Double,
-    Class::Enum,
-    Class::Extern,
-    Class::Float,
-    Class::Inline,
-    Class::Int,
-    Class::Long,
-    Class::Register,
-    Class::Restrict,
-    Class::Short,
-    Class::Signed,
-    Class::Static,
-    Class::Struct,
-    Class::Typedef,
-    Class::Union,
-    Class::Unsigned,
-    Class::Void,
-    Class::Volatile,
-    Class::BoolWord,
-    Class::ComplexWord,
-    Class::ImaginaryWord,
-    Class::TypedefName,
-    Class::Break,
-    Class::Case,
-    Class::Continue,
-    Class::Default,
-    Class::Do,
-    Class::For,
-    Class::Goto,
-    Class::If,
-    Class::Return,
-    Class::Sizeof,
-    Class::Switch,
-    Class::While,
-    Class::LeftParen,
-    Class::LeftBrace,
-    Class::PlusPlus,
-    Class::MinusMinus,
-    Class::Amp,
-    Class::Star,
-    Class::Plus,
-    Class::Minus,
-    Class::Tilde,
-    Class::Bang,
-    Class::Semicolon,
-    Class::Identifier,
-    Class::Constant,
-    Class::CharConstant,
-    Class::StringLiteral,
-];
-
-static STATEMENTS: [Class; 27] = [
-    Class::Break,
-    Class::Case,
-    Class::Continue,
-    Class::Default,
-    Class::Do,
-    Class::For,
-    Class::Goto,
-    Class::If,
-    Class::Return,
-    Class::Sizeof,
-    Class::Switch,
-    Class::While,
-    Class::LeftParen,
-    Class::LeftBrace,
-    Class::PlusPlus,
-    Class::MinusMinus,
-    Class::Amp,
-    Class::Star,
-    Class::Plus,
-    Class::Minus,
-    Class::Tilde,
-    Class::Bang,
-    Class::Semicolon,
-    Class::Identifier,
-    Class::Constant,
-    Class::CharConstant,
-    Class::StringLiteral,
-];
-
-static FIRST_OF_FOR_INIT: [Class; 40] = [
-    Class::Auto,
-    Class::Char,
-    Class::Const,
-    Class::Double,
-    Class::Enum,
-    Class::Extern,
-    Class::Float,
-    Class::Inline,
-    Class::Int,
-    Class::Long,
-    Class::Register,
-    Class::Restrict,
-    Class::Short,
-    Class::Signed,
-    Class::Static,
-    Class::Struct,
-    Class::Typedef,
-    Class::Union,
-    Class::Unsigned,
-    Class::Void,
-    Class::Volatile,
-    Class::BoolWord,
-    Class::ComplexWord,
-    Class::ImaginaryWord,
-    Class::TypedefName,
-    Class::Semicolon,
-    Class::Sizeof,
-    Class::LeftParen,
-    Class::PlusPlus,
-    Class::MinusMinus,
-    Class::Amp,
-    Class::Star,
-    Class::Plus,
-    Class::Minus,
-    Class::Tilde,
-    Class::Bang,
-    Class::Identifier,
-    Class::Constant,
-    Class::CharConstant,
-    Class::StringLiteral,
-];
-
-/// With which classes a production starts.
-pub(crate) fn first(production: Production) -> &'static [Class]
-    ensures { result.now ≡ first production }
+/// The production starts with the class.
+pub(crate) fn starts_with(production: Production, class: Class) -> bool
+    ensures { result ≡ among (first production) class }
 {
     match production {
-        Production::TranslationUnit => &FIRST_OF_TRANSLATION_UNIT,
-        Production::External => &MEMBERS,
-        Production::ExtRest => &FIRST_OF_EXT_REST,
-        Production::ExtTail => &EVERY,
-        Production::FunBody => &FIRST_OF_FUN_BODY,
-        Production::Declaration => &SPECIFIERS,
-        Production::DeclRest => &FIRST_OF_EXT_REST,
-        Production::InitDecl => &DECLARATORS,
-        Production::Specs => &SPECIFIERS,
-        Production::Main => &FIRST_OF_MAIN,
-        Production::Mod => &MODIFIERS,
-        Production::Qual => &QUALIFIERS,
-        Production::Word => &WORDS,
-        Production::StructSpec => &FIRST_OF_STRUCT_SPEC,
-        Production::SuRest => &FIRST_OF_SU_REST,
-        Production::Members => &MEMBERS,
-        Production::Member => &MEMBERS,
-        Production::Mdecl => &FIRST_OF_MDECL,
-        Production::EnumSpec => &FIRST_OF_ENUM_SPEC,
-        Production::EnRest => &FIRST_OF_SU_REST,
-        Production::Enumerators => &FIRST_OF_ENUMERATORS,
-        Production::Enumerator => &FIRST_OF_ENUMERATORS,
-        Production::Declarator => &DECLARATORS,
-        Production::Pointer => &FIRST_OF_POINTER,
-        Production::Direct => &FIRST_OF_DIRECT,
-        Production::Suffix => &FIRST_OF_SUFFIX,
-        Production::Bound => &EXPRESSIONS,
-        Production::Params => &FIRST_OF_PARAMS,
-        Production::Param => &SPECIFIERS,
-        Production::Pdecl => &FIRST_OF_PDECL,
-        Production::Pdirect => &FIRST_OF_PDIRECT,
-        Production::TypeName => &SPECIFIERS,
-        Production::Adecl => &FIRST_OF_ADECL,
-        Production::Adirect => &FIRST_OF_SUFFIX,
-        Production::Init => &INITIALIZERS,
-        Production::InitList => &INITIALIZER_ITEMS,
-        Production::InitItem => &INITIALIZER_ITEMS,
-        Production::Designator => &FIRST_OF_DESIGNATOR,
-        Production::Expr => &EXPRESSIONS,
-        Production::Assign => &EXPRESSIONS,
-        Production::Asgop => &ASSIGNMENTS,
-        Production::Cond => &EXPRESSIONS,
-        Production::Lor => &EXPRESSIONS,
-        Production::Land => &EXPRESSIONS,
-        Production::Bor => &EXPRESSIONS,
-        Production::Bxor => &EXPRESSIONS,
-        Production::Band => &EXPRESSIONS,
-        Production::Equal => &EXPRESSIONS,
-        Production::Relate => &EXPRESSIONS,
-        Production::Shift => &EXPRESSIONS,
-        Production::Add => &EXPRESSIONS,
-        Production::Mul => &EXPRESSIONS,
-        Production::Cast => &EXPRESSIONS,
-        Production::CastRest => &INITIALIZERS,
-        Production::Unary => &EXPRESSIONS,
-        Production::SizeRest => &EXPRESSIONS,
-        Production::SizeLit => &FIRST_OF_SIZE_LIT,
-        Production::Primary => &FIRST_OF_PRIMARY,
-        Production::Post => &FIRST_OF_POST,
-        Production::Args => &EXPRESSIONS,
-        Production::Block => &FIRST_OF_SIZE_LIT,
-        Production::BlockItem => &FIRST_OF_BLOCK_ITEM,
-        Production::Statement => &STATEMENTS,
-        Production::Sub => &STATEMENTS,
-        Production::ForInit => &FIRST_OF_FOR_INIT,
+        Production::TranslationUnit => starts_translation_unit(class),
+        Production::External => starts_member(class),
+        Production::ExtRest => starts_ext_rest(class),
+        Production::ExtTail => starts_every(class),
+        Production::FunBody => starts_fun_body(class),
+        Production::Declaration => starts_specifier(class),
+        Production::DeclRest => starts_ext_rest(class),
+        Production::InitDecl => starts_declarator(class),
+        Production::Specs => starts_specifier(class),
+        Production::Main => starts_main(class),
+        Production::Mod => starts_modifier(class),
+        Production::Qual => starts_qualifier(class),
+        Production::Word => starts_word(class),
+        Production::StructSpec => starts_struct_spec(class),
+        Production::SuRest => starts_su_rest(class),
+        Production::Members => starts_member(class),
+        Production::Member => starts_member(class),
+        Production::Mdecl => starts_mdecl(class),
+        Production::EnumSpec => starts_enum_spec(class),
+        Production::EnRest => starts_su_rest(class),
+        Production::Enumerators => starts_enumerators(class),
+        Production::Enumerator => starts_enumerators(class),
+        Production::Declarator => starts_declarator(class),
+        Production::Pointer => starts_pointer(class),
+        Production::Direct => starts_direct(class),
+        Production::Suffix => starts_suffix(class),
+        Production::Bound => starts_expression(class),
+        Production::Params => starts_params(class),
+        Production::Param => starts_specifier(class),
+        Production::Pdecl => starts_pdecl(class),
+        Production::Pdirect => starts_pdirect(class),
+        Production::TypeName => starts_specifier(class),
+        Production::Adecl => starts_adecl(class),
+        Production::Adirect => starts_suffix(class),
+        Production::Init => starts_initializer(class),
+        Production::InitList => starts_initializer_item(class),
+        Production::InitItem => starts_initializer_item(class),
+        Production::Designator => starts_designator(class),
+        Production::Expr => starts_expression(class),
+        Production::Assign => starts_expression(class),
+        Production::Asgop => starts_assignment(class),
+        Production::Cond => starts_expression(class),
+        Production::Lor => starts_expression(class),
+        Production::Land => starts_expression(class),
+        Production::Bor => starts_expression(class),
+        Production::Bxor => starts_expression(class),
+        Production::Band => starts_expression(class),
+        Production::Equal => starts_expression(class),
+        Production::Relate => starts_expression(class),
+        Production::Shift => starts_expression(class),
+        Production::Add => starts_expression(class),
+        Production::Mul => starts_expression(class),
+        Production::Cast => starts_expression(class),
+        Production::CastRest => starts_initializer(class),
+        Production::Unary => starts_expression(class),
+        Production::SizeRest => starts_expression(class),
+        Production::SizeLit => starts_size_lit(class),
+        Production::Primary => starts_primary(class),
+        Production::Post => starts_post(class),
+        Production::Args => starts_expression(class),
+        Production::Block => starts_size_lit(class),
+        Production::BlockItem => starts_block_item(class),
+        Production::Statement => starts_statement(class),
+        Production::Sub => starts_statement(class),
+        Production::ForInit => starts_for_init(class),
     }
 }
 
-static TYPEDEF_NAME: [Class; 1] = [Class::TypedefName];
-
-/// With which classes it starts beside those where a colon stands behind.
-pub(crate) fn labels(production: Production) -> &'static [Class]
-    ensures { result.now ≡ labels production }
+/// The production starts with the class where a colon stands behind.
+pub(crate) fn is_label(production: Production, class: Class) -> bool
+    ensures { result ≡ among (labels production) class }
 {
     match production {
-        Production::Statement => &TYPEDEF_NAME,
-        Production::Sub => &TYPEDEF_NAME,
-        _ => &[],
+        Production::Statement => matches!(class, Class::TypedefName),
+        Production::Sub => matches!(class, Class::TypedefName),
+        _ => false,
     }
 }

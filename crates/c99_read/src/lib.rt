@@ -19,17 +19,22 @@ ghost use Rattle.c99_read.specs.Answer.{stop_of};
 ghost use Rattle.c99_read.specs.Reading.{read_of};
 ghost use Rattle.c99_read.specs.Standard.{c99};
 
+mod ahead;
 mod classes;
 mod expressions;
 mod faults;
 mod first;
+mod first_sets;
+mod identifiers;
 mod laws;
 mod names;
+mod open_node;
 mod parts;
 mod reader;
 mod reading;
 mod rules;
 mod spellings;
+mod statements;
 mod table;
 
 use c99_tree::{Production, Tree};
@@ -46,7 +51,7 @@ pub fn read(alloc: Global, toks: &[Tok]) -> Result<Tree, ReadRefusal>
 {
     let mut reader = Reader::new(alloc, toks)?;
     reader.produce(0, Production::TranslationUnit)?;
-    Ok(reader.into_tree())
+    Ok(reader.into_tree()?)
 }
 
 #[cfg(test)]

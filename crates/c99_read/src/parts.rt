@@ -22,8 +22,8 @@ fn has_name(label: Label) -> bool
 }
 
 #[cycle(name)]
-// The index of the name of a declarator, given a part of it.
-fn name_below(part: &Tree) -> Option<u32>
+/// The index of the name of a declarator, given a part of it.
+pub(crate) fn name_below(part: &Tree) -> Option<u32>
     ensures { result ≡ name_below part.now.label part.now.under }
 {
     let count = part.len();
@@ -142,8 +142,8 @@ fn is_typedef_part_at(specs: &Tree, k: u32) -> bool
     }
 }
 
-// The part of some specifiers is the word `typedef`, or has it.
-fn is_typedef_part(part: &Tree) -> bool
+/// The part of some specifiers is the word `typedef`, or has it.
+pub(crate) fn is_typedef_part(part: &Tree) -> bool
     ensures { result ≡ is_typedef_part part.now.label part.now.under }
 {
     is_typedef_word(part.label()) || (is_main(part.label().production) && typedef_word_in(part))

@@ -1,21 +1,23 @@
 // How far a text has been read, and the steps that move on in it.
 ghost use Rattle.std.specs.Prelude.{◌≡◌, ◌<◌, ◌+◌, ◌^◌, length, map, IfOk, [], ◌∷◌, Some, None, Err, Ok, OnOk, OnErr, IsErr};
 ghost use Rattle.c99_tree.specs.Names.{outermost};
-ghost use Rattle.c99_tree.specs.Tree.{part_at, leaf, collapsed};
+ghost use Rattle.c99_tree.specs.Tree.{collapsed};
 ghost use Rattle.c99_read.specs.Answer.{Reads, Opens, IsAround, Starts};
-ghost use Rattle.c99_read.specs.Children.{identifier_found};
 ghost use Rattle.c99_read.specs.Classes.{among};
 ghost use Rattle.c99_read.specs.Items.{scope, end, declare, name, keep, again};
 ghost use Rattle.c99_read.specs.Reading.{take_one, at_end, enter, syntax};
-ghost use Rattle.c99_read.specs.State.{State, base_class, base_at, spelling_at, is_typedef_at, class_at, acted, closed, is_declarator, is_specs, names_opened, names_closed, nearest, finished, spelled_scopes, with_scope_ended, with_declared, last_identifier, no_names};
+ghost use Rattle.c99_read.specs.State.{State, base_class, class_at, acted, closed, is_declarator, is_specs, names_opened, names_closed, nearest, finished, spelled_scopes, with_scope_ended, with_declared, last_identifier, no_names};
 ghost use Rattle.c99_read.specs.Standard.{c99};
 
+use crate::ahead::{Ahead, look_ahead, moved_on, spelling};
 use crate::classes::Class;
 use crate::faults::ReadRefusal;
+use crate::identifiers::last_identifier;
 use crate::names::NameTable;
-use crate::parts::{collapses, has_typedef, last_declared};
+use crate::open_node::OpenNode;
+use crate::parts::collapses;
 use crate::spellings::base_class;
-use c99_tree::{Child, Label, Production, Tree, Visible};
+use c99_tree::{Label, Production, Tree, Visible};
 use cs_base::{Memory, Tok};
 use std::alloc::{AllocError, Global};
 use std::marker::Model;
@@ -27,10 +29,11 @@ pub(crate) struct Reader<'a> {
     toks: &'a [Tok],
     classes: Vec<Class>,
     at: usize,
+    ahead: Ahead,
     names: NameTable,
     visible: Visible,
     near: bool,
-    built: Tree,
+    built: OpenNode,
     alloc: Global,
 }
 
@@ -47,13 +50,13 @@ impl<'a> Model for Reader<'a> {
 
     ghost view = { λ r. record { toks = r.toks.now; at = r.at; names = r.names; near = r.near; built = r.built } };
 
-    ghost invariant = { λ r. IsKept r.toks.now r.classes.items r.at r.names r.visible };
+    ghost invariant = { λ r. IsKept r.toks.now r.classes.items r.at r.names r.visible r.ahead };
 }
 
 /// What was open around a node.
 #[derive(Drop)]
 pub(crate) struct Outer {
-    built: Tree,
+    built: OpenNode,
     near: bool,
 }
 
@@ -75,88 +78,57 @@ impl<'a> Reader<'a> {
         ensures { Starts result toks.now }
     {
         match classes_of(alloc, toks) {
-            Ok(classes) => Ok(Reader {
-                toks,
-                classes,
-                at: 0,
-                names: NameTable::new(alloc),
-                visible: Visible::new(alloc),
-                near: false,
-                built: Tree::new(alloc, UNIT, 0),
-                alloc,
-            }),
+            Ok(classes) => {
+                let visible = Visible::new(alloc);
+                Ok(Reader {
+                    toks,
+                    ahead: look_ahead(toks, classes.as_slice(), &visible, 0),
+                    classes,
+                    at: 0,
+                    names: NameTable::new(alloc),
+                    visible,
+                    near: false,
+                    built: OpenNode::new(alloc, UNIT, 0),
+                    alloc,
+                })
+            }
             Err(_) => Err(ReadRefusal::Memory),
         }
     }
 
     /// What was read: the only node of the open node, if there is one.
-    pub(crate) fn into_tree(self) -> Tree
-        ensures { result ≡ collapsed self.entry.built }
+    pub(crate) fn into_tree(self) -> Result<Tree, Memory>
+        ensures { IfOk result (λ tree. tree ≡ collapsed self.entry.built) }
     {
         self.built.collapsed()
-    }
-
-    // The class of token `k`, where no name counts as a typedef name.
-    fn base_at(&self, k: usize) -> Class
-        ensures { result ≡ base_at c99 self.now.toks k }
-    {
-        match self.classes.get(k) {
-            Some(class) => *class,
-            None => {
-                if k == self.toks.len() {
-                    Class::End
-                } else {
-                    Class::NoClass
-                }
-            }
-        }
-    }
-
-    // The innermost visible declaration of the spelling of token `k` is one of a typedef name.
-    fn is_typedef_at(&self, k: usize) -> bool
-        ensures { result ≡ is_typedef_at self.now.toks self.now.names.scopes k }
-    {
-        self.visible.is_typedef(spelling(self.toks, k))
-    }
-
-    #[tactic(auto, unfolding(crate::specs::State::class_at))]
-    fn class_at(&self, k: usize) -> Class
-        ensures { result ≡ class_at c99 self.now k }
-    {
-        let class = self.base_at(k);
-        if class == Class::Identifier && self.is_typedef_at(k) {
-            Class::TypedefName
-        } else {
-            class
-        }
     }
 
     /// The class of the next token.
     pub(crate) fn class_here(&self) -> Class
         ensures { result ≡ class_at c99 self.now self.now.at }
     {
-        self.class_at(self.at)
+        self.ahead.here
     }
 
     /// The class of the token behind the next one.
     pub(crate) fn class_behind(&self) -> Class
         ensures { result ≡ class_at c99 self.now (self.now.at + 1) }
     {
-        self.class_at(self.at + 1)
+        self.ahead.behind
     }
 
     /// The next token is of one of the classes.
     pub(crate) fn is(&self, classes: &[Class]) -> bool
         ensures { result ≡ among classes.now (class_at c99 self.now self.now.at) }
     {
-        classes.contains(&self.class_at(self.at))
+        classes.contains(&self.class_here())
     }
 
     /// The token behind the next one is of one of the classes.
     pub(crate) fn is_then(&self, classes: &[Class]) -> bool
         ensures { result ≡ among classes.now (class_at c99 self.now (self.now.at + 1)) }
     {
-        classes.contains(&self.class_at(self.at + 1))
+        classes.contains(&self.class_behind())
     }
 
     /// Nothing that may follow starts here.
@@ -180,8 +152,23 @@ impl<'a> Reader<'a> {
             return self.syntax();
         }
         self.built.push_token(self.at as u32)?;
-        self.at += 1;
+        self.move_on();
         Ok(())
+    }
+
+    // The token behind the next one is next.
+    fn move_on(&mut self)
+        requires { self.old.at < length self.old.toks }
+        ensures { self.new ≡ record self.old { at = self.old.at + 1 } }
+    {
+        self.ahead = moved_on(
+            self.ahead,
+            self.toks,
+            self.classes.as_slice(),
+            &self.visible,
+            self.at,
+        );
+        self.at += 1;
     }
 
     #[tactic(auto, unfolding(crate::specs::Reading::at_end))]
@@ -227,7 +214,7 @@ impl<'a> Reader<'a> {
             production,
             alternative,
         };
-        let node = Tree::new(self.alloc, label, self.at as u32);
+        let node = OpenNode::new(self.alloc, label, self.at as u32);
         Ok(Outer {
             built: mem::replace(&mut self.built, node),
             near: self.near,
@@ -241,7 +228,8 @@ impl<'a> Reader<'a> {
         close_names(&mut self.names, production);
         self.near = nearest(production, &self.built, outer.near);
         let node = mem::replace(&mut self.built, outer.built);
-        self.built.push_node(finished(production, node))?;
+        let node = finished(production, node)?;
+        self.built.push_node(node)?;
         Ok(())
     }
 
@@ -250,7 +238,9 @@ impl<'a> Reader<'a> {
     pub(crate) fn begin_scope(&mut self) -> Read
         ensures { Reads result self.new (Ok (acted c99 scope self.old)) }
     {
-        begin_scope(self.toks, &mut self.names, &mut self.visible, self.alloc)?;
+        let outcome = begin_scope(self.toks, &mut self.names, &mut self.visible, self.alloc);
+        self.ahead = look_ahead(self.toks, self.classes.as_slice(), &self.visible, self.at);
+        outcome?;
         Ok(())
     }
 
@@ -260,6 +250,7 @@ impl<'a> Reader<'a> {
         ensures { Reads result self.new (Ok (acted c99 end self.old)) }
     {
         end_scope(self.toks, &mut self.names, &mut self.visible);
+        self.ahead = look_ahead(self.toks, self.classes.as_slice(), &self.visible, self.at);
         Ok(())
     }
 
@@ -267,14 +258,16 @@ impl<'a> Reader<'a> {
     fn declare_at(&mut self, name_at: u32, typedef: bool) -> Read
         ensures { Reads result self.new (Ok (record self.old { names = with_declared self.old.names (Some name_at) typedef })) }
     {
-        declare(
+        let outcome = declare(
             self.toks,
             &mut self.names,
             &mut self.visible,
             self.alloc,
             name_at,
             typedef,
-        )?;
+        );
+        self.ahead = look_ahead(self.toks, self.classes.as_slice(), &self.visible, self.at);
+        outcome?;
         Ok(())
     }
 
@@ -283,7 +276,7 @@ impl<'a> Reader<'a> {
     pub(crate) fn declare(&mut self) -> Read
         ensures { Reads result self.new (Ok (acted c99 declare self.old)) }
     {
-        match last_declared(&self.built) {
+        match self.built.last_declared() {
             Some(name_at) => self.declare_at(name_at, self.near),
             None => Ok(()),
         }
@@ -304,35 +297,7 @@ impl<'a> Reader<'a> {
     fn last_identifier(&self) -> Option<u32>
         ensures { result ≡ last_identifier c99 self.now.toks self.now.built.under None }
     {
-        let mut k = self.built.len();
-        'children: while k > 0 {
-            k -= 1;
-            if let Some(index) = self.identifier_at(k) {
-                return Some(index);
-            }
-        }
-        None
-    }
-
-    // Child `k` of the open node, where it is an identifier.
-    fn identifier_at(&self, k: u32) -> Option<u32>
-        ensures { result ≡ identifier_found c99 self.now.toks (part_at self.now.built.under k) }
-    {
-        match self.built.child(k) {
-            Some(Child::Token(index)) => self.identifier(index),
-            Some(Child::Node(_)) => None,
-            None => None,
-        }
-    }
-
-    fn identifier(&self, index: u32) -> Option<u32>
-        ensures { result ≡ identifier_found c99 self.now.toks (Some (leaf index)) }
-    {
-        if self.base_at(index as usize) == Class::Identifier {
-            Some(index)
-        } else {
-            None
-        }
+        last_identifier(self.toks, self.classes.as_slice(), self.built.tokens())
     }
 
     #[tactic(auto, unfolding(crate::specs::State::acted))]
@@ -399,24 +364,24 @@ fn is_specs(production: Production) -> bool
 }
 
 // Whether the nearest specifiers have the word `typedef`, once the node is closed.
-fn nearest(production: Production, node: &Tree, near: bool) -> bool
+fn nearest(production: Production, node: &OpenNode, near: bool) -> bool
     ensures { result ≡ nearest production node.now near }
 {
     if is_specs(production) {
-        has_typedef(node)
+        node.has_typedef()
     } else {
         near
     }
 }
 
 // The node as a child of what stands around it.
-fn finished(production: Production, node: Tree) -> Tree
-    ensures { result ≡ finished production node }
+fn finished(production: Production, node: OpenNode) -> Result<Tree, Memory>
+    ensures { IfOk result (λ tree. tree ≡ finished production node) }
 {
     if collapses(production) {
         node.collapsed()
     } else {
-        node
+        node.into_tree()
     }
 }
 
@@ -480,14 +445,4 @@ fn forget(names: &mut NameTable, visible: &mut Visible, alloc: Global) -> Result
     *names = NameTable::new(alloc);
     *visible = Visible::new(alloc);
     Err(Memory)
-}
-
-// The spelling of token `k`.
-fn spelling<'a>(toks: &'a [Tok], k: usize) -> &'a [u8]
-    ensures { result.now ≡ spelling_at toks.now k }
-{
-    match toks.get(k) {
-        Some(tok) => tok.text(),
-        None => &[],
-    }
 }

@@ -1,12 +1,13 @@
 // What the alternatives of a production are made of, and where each starts.
-ghost use Rattle.std.specs.Prelude.{◌≡◌, Bool};
+ghost use Rattle.std.specs.Prelude.{◌≡◌, Bool, [], ◌∷◌};
 ghost use Rattle.c99_read.specs.Classes.{among};
+ghost use Rattle.c99_read.specs.declared.classes.Class.TheVariants.{Colon};
 ghost use Rattle.c99_read.specs.Reading.{is_passed, production_starts, asks, holds, starts};
 ghost use Rattle.c99_read.specs.Rules.{ask_of, test_of, item_of};
 ghost use Rattle.c99_read.specs.Standard.{c99};
 
 use crate::classes::Class;
-use crate::first::{first, labels};
+use crate::first::{is_label, starts_with};
 use c99_tree::Production;
 
 /// What a test asks of one token.
@@ -66,12 +67,17 @@ fn is_among(class: Class, classes: &[Class]) -> bool
     classes.contains(&class)
 }
 
+fn is_colon(class: Class) -> bool
+    ensures { result ≡ among (Colon ∷ []) class }
+{
+    matches!(class, Class::Colon)
+}
+
 /// The production starts with the class, before the class behind.
 pub(crate) fn production_starts(production: Production, class: Class, behind: Class) -> bool
     ensures { result ≡ production_starts c99 production class behind }
 {
-    is_among(class, first(production))
-        || (is_among(class, labels(production)) && is_among(behind, &[Class::Colon]))
+    starts_with(production, class) || (is_label(production, class) && is_colon(behind))
 }
 
 fn asks(ask: &Ask, class: Class) -> bool
@@ -80,9 +86,9 @@ fn asks(ask: &Ask, class: Class) -> bool
     match ask {
         Ask::Is(classes) => is_among(class, classes),
         Ask::IsNot(classes) => !is_among(class, classes),
-        Ask::Begins(production) => is_among(class, first(*production)),
+        Ask::Begins(production) => starts_with(*production, class),
         Ask::IsOrBegins(classes, production) => {
-            is_among(class, classes) || is_among(class, first(*production))
+            is_among(class, classes) || starts_with(*production, class)
         }
     }
 }

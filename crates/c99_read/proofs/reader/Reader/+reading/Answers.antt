@@ -1,7 +1,7 @@
 use Rattle.std.proofs.Common.{ℕ, ◌<◌, List, [], ◌∷◌, refl, Result, sym, ap, subst, ◌∙◌, arith}
 use Rattle.std.proofs.lemmas.Bool.{and_parts}
 use Rattle.c99_tree.specs.declared.production.Production.{Production}
-use Rattle.c99_tree.specs.declared.production.Production.TheVariants.{Assign, Cond, Cast, CastRest, Unary, SizeRest, SizeLit, Primary, Post}
+use Rattle.c99_tree.specs.declared.production.Production.TheVariants.{Block, BlockItem, Statement, Sub, ForInit, Assign, Cond, Cast, CastRest, Unary, SizeRest, SizeLit, Primary, Post}
 use Rattle.c99_read.specs.declared.faults.ReadRefusal.{ReadRefusal}
 use Rattle.c99_read.specs.State.{State}
 use Rattle.c99_read.specs.Answer.{Reads}
@@ -13,7 +13,7 @@ use Rattle.c99_read.specs.Sound.{is_met}
 use Rattle.c99_read.specs.Standard.{c99}
 use Rattle.c99_read.specs.declared.classes.Class.{Class}
 use Rattle.c99_read.specs.declared.classes.Class.TheVariants.{Comma}
-use Rattle.c99_read.specs.Items.{one, part, ◌·◌, many, own, plain}
+use Rattle.c99_read.specs.Items.{one, part, ◌·◌, many, deep, own, plain}
 use Rattle.c99_read.specs.Rows.{signs_of, operand_of}
 use Rattle.c99_read.proofs.RowLemmas.{table-level, table-list, level_of-operand, level_of-list, order-small}
 use Rattle.c99_read.proofs.LevelLemmas.{height_of-small}
@@ -126,3 +126,27 @@ pub posts-posts-preserved : goal.posts-posts-preserved
 posts-posts-preserved t c =
     many-turn own (part Post) c.args.depth c.posts.self c.post.new.self refl (sym c.begins.ensures ∙ c.posts-test.true) c.in_ok-post.ensures
     ∙ c.posts.invariant
+
+pub block-returns : goal.block-returns
+block-returns t c = runs _ _ c.args.depth Block c.args.self.now c.block_choice.ensures
+
+pub block_item-returns : goal.block_item-returns
+block_item-returns t c = runs _ _ c.args.depth BlockItem c.args.self.now c.block_item_choice.ensures
+
+pub sub-returns : goal.sub-returns
+sub-returns t c = runs _ _ c.args.depth Sub c.args.self.now c.sub_choice.ensures
+
+pub for_init-returns : goal.for_init-returns
+for_init-returns t c = runs _ _ c.args.depth ForInit c.args.self.now c.for_init_choice.ensures
+
+pub statement-returns : goal.statement-returns
+statement-returns t c = runs _ _ c.args.depth Statement c.args.self.now c.statement_choice.ensures
+
+pub block_items-items-smaller : goal.block_items-items-smaller
+block_items-items-smaller t c =
+    many-falls own (deep (part BlockItem)) c.args.depth c.items.self c.deep.new.self refl c.in_ok-deep.ensures
+
+pub block_items-items-preserved : goal.block_items-items-preserved
+block_items-items-preserved t c =
+    many-turn own (deep (part BlockItem)) c.args.depth c.items.self c.deep.new.self refl (sym c.begins.ensures ∙ c.items-test.true) c.in_ok-deep.ensures
+    ∙ c.items.invariant

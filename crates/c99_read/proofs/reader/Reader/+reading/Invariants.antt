@@ -1,6 +1,6 @@
 use Rattle.std.proofs.Common.{◌≡◌, ◌+◌, ◌-◌, ◌*◌, length, max}
-use Rattle.c99_tree.specs.declared.production.Production.TheVariants.{Post}
-use Rattle.c99_read.specs.Items.{one, part, ◌·◌, many, own}
+use Rattle.c99_tree.specs.declared.production.Production.TheVariants.{Post, BlockItem}
+use Rattle.c99_read.specs.Items.{one, part, ◌·◌, many, deep, own}
 use Rattle.c99_read.specs.Levels.{level_of}
 use Rattle.c99_read.specs.Reading.{step, whole, tokens_left}
 use Rattle.c99_read.specs.Ready.{height_of, size_of}
@@ -193,3 +193,104 @@ decreases-posts-posts l = tokens_left l.self
 
 abbrev pub decreases-row_choice : goal.decreases-row_choice
 decreases-row_choice l = 100000 * (257 - l.depth) + 1000 * level_of l.production + 650
+
+abbrev pub decreases-block : goal.decreases-block
+decreases-block l = 100000 * (257 - l.depth) + 800
+
+abbrev pub decreases-block_choice : goal.decreases-block_choice
+decreases-block_choice l = 100000 * (257 - l.depth) + 700
+
+abbrev pub decreases-block_parts : goal.decreases-block_parts
+decreases-block_parts l = 100000 * (257 - l.depth) + 600
+
+abbrev pub decreases-block_items : goal.decreases-block_items
+decreases-block_items l = 100000 * (257 - l.depth) + 500
+
+abbrev pub decreases-block_item : goal.decreases-block_item
+decreases-block_item l = 100000 * (257 - l.depth) + 9800
+
+abbrev pub decreases-block_item_choice : goal.decreases-block_item_choice
+decreases-block_item_choice l = 100000 * (257 - l.depth) + 9700
+
+abbrev pub decreases-sub : goal.decreases-sub
+decreases-sub l = 100000 * (257 - l.depth) + 800
+
+abbrev pub decreases-sub_choice : goal.decreases-sub_choice
+decreases-sub_choice l = 100000 * (257 - l.depth) + 700
+
+abbrev pub decreases-sub_parts : goal.decreases-sub_parts
+decreases-sub_parts l = 100000 * (257 - l.depth) + 600
+
+abbrev pub decreases-for_init : goal.decreases-for_init
+decreases-for_init l = 100000 * (257 - l.depth) + 7800
+
+abbrev pub decreases-for_init_choice : goal.decreases-for_init_choice
+decreases-for_init_choice l = 100000 * (257 - l.depth) + 7700
+
+abbrev pub decreases-expression_line : goal.decreases-expression_line
+decreases-expression_line l = 100000 * (257 - l.depth) + 600
+
+abbrev pub decreases-statement : goal.decreases-statement
+decreases-statement l = 100000 * (257 - l.depth) + 8800
+
+abbrev pub decreases-statement_choice : goal.decreases-statement_choice
+decreases-statement_choice l = 100000 * (257 - l.depth) + 8700
+
+abbrev pub decreases-control : goal.decreases-control
+decreases-control l = 100000 * (257 - l.depth) + 8690
+
+abbrev pub decreases-jump : goal.decreases-jump
+decreases-jump l = 100000 * (257 - l.depth) + 8680
+
+abbrev pub decreases-labelled : goal.decreases-labelled
+decreases-labelled l = 100000 * (257 - l.depth) + 8600
+
+abbrev pub decreases-case : goal.decreases-case
+decreases-case l = 100000 * (257 - l.depth) + 8600
+
+abbrev pub decreases-default_case : goal.decreases-default_case
+decreases-default_case l = 100000 * (257 - l.depth) + 8600
+
+abbrev pub decreases-if_statement : goal.decreases-if_statement
+decreases-if_statement l = 100000 * (257 - l.depth) + 8600
+
+abbrev pub decreases-if_parts : goal.decreases-if_parts
+decreases-if_parts l = 100000 * (257 - l.depth) + 8550
+
+abbrev pub decreases-maybe_else : goal.decreases-maybe_else
+decreases-maybe_else l = 100000 * (257 - l.depth) + 8540
+
+abbrev pub decreases-else_part : goal.decreases-else_part
+decreases-else_part l = 100000 * (257 - l.depth) + 8530
+
+abbrev pub decreases-conditioned : goal.decreases-conditioned
+decreases-conditioned l = 100000 * (257 - l.depth) + 8600
+
+abbrev pub decreases-conditioned_parts : goal.decreases-conditioned_parts
+decreases-conditioned_parts l = 100000 * (257 - l.depth) + 8550
+
+abbrev pub decreases-do_statement : goal.decreases-do_statement
+decreases-do_statement l = 100000 * (257 - l.depth) + 8600
+
+abbrev pub decreases-do_condition : goal.decreases-do_condition
+decreases-do_condition l = 100000 * (257 - l.depth) + 8550
+
+abbrev pub decreases-for_statement : goal.decreases-for_statement
+decreases-for_statement l = 100000 * (257 - l.depth) + 8600
+
+abbrev pub decreases-for_parts : goal.decreases-for_parts
+decreases-for_parts l = 100000 * (257 - l.depth) + 8550
+
+abbrev pub decreases-for_step : goal.decreases-for_step
+decreases-for_step l = 100000 * (257 - l.depth) + 8540
+
+abbrev pub decreases-return_statement : goal.decreases-return_statement
+decreases-return_statement l = 100000 * (257 - l.depth) + 8600
+
+abbrev pub invariant-block_items-items : goal.invariant-block_items-items
+invariant-block_items-items l =
+    step c99 (whole c99) l.depth (many own (deep (part BlockItem))) l.self
+    ≡ step c99 (whole c99) l.depth (many own (deep (part BlockItem))) l.initial.self
+
+abbrev pub decreases-block_items-items : goal.decreases-block_items-items
+decreases-block_items-items l = tokens_left l.self

@@ -11,6 +11,6 @@ returns c = λ s around.
     (ap Ok
     (closed-parts c.args.production s _ _ _ _ c.close_names.ensures.answer
     (c.nearest-self-inside.ensures ∙ ap (nearest c.args.production c.self.inside.built) around.near)
-    (c.in_ok-push_node.ensures.ok
-    ∙ ap (λ o. behind o c.finished.result) (c.replace-node.ensures.after ∙ around.built)
-    ∙ ap (behind s.built) (c.finished.ensures ∙ ap (finished c.args.production) c.replace-node.ensures.value))))
+    (c.in_ok-push_node.ensures
+    ∙ ap (λ o. behind o c.in_ok-node.node) (c.replace-node.ensures.after ∙ around.built)
+    ∙ ap (behind s.built) (c.in_ok-node.ensures ∙ ap (finished c.args.production) c.replace-node.ensures.value))))

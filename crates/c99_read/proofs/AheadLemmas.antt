@@ -1,0 +1,14 @@
+-- The classes of the next two tokens.
+use Rattle.std.proofs.Common.{ℕ, ◌+◌, ◌≡◌, List, refl, ap, ◌∙◌}
+use Rattle.cs_base.specs.Token.{Token}
+use Rattle.c99_tree.specs.Names.{Declared}
+use Rattle.c99_read.specs.declared.classes.Class.{Class}
+use Rattle.c99_read.specs.Kept.{class_among}
+use Rattle.c99_read.specs.Standard.{c99}
+use Rattle.c99_read.specs.State.{State, class_at, spelled_scopes}
+
+-- the class of a token, from the names that are visible
+pub class_at-among : (s : State) (visible : List (List Declared)) (k : ℕ) (c : Class) → visible ≡ spelled_scopes s.toks s.names.scopes
+    → c ≡ class_among s.toks visible k → c ≡ class_at c99 s k
+unfolding class_at class_among
+class_at-among s visible k c at_visible at_class = at_class ∙ ap (λ v. class_among s.toks v k) at_visible

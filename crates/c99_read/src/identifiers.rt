@@ -1,0 +1,49 @@
+// The last identifier among the tokens of a node.
+ghost use Rattle.std.specs.Prelude.{◌≡◌, None, Some, map};
+ghost use Rattle.c99_tree.specs.Tree.{part_at, leaf};
+ghost use Rattle.c99_read.specs.Children.{identifier_found};
+ghost use Rattle.c99_read.specs.Standard.{c99};
+ghost use Rattle.c99_read.specs.State.{base_class, last_identifier};
+
+use crate::ahead::base_at;
+use crate::classes::Class;
+use c99_tree::{Child, Tree};
+use cs_base::Tok;
+
+/// The last identifier among the tokens of the node.
+pub(crate) fn last_identifier(toks: &[Tok], classes: &[Class], node: &Tree) -> Option<u32>
+    requires classes_of { classes.now ≡ map (base_class c99) toks.now }
+    ensures { result ≡ last_identifier c99 toks.now node.now.under None }
+{
+    let mut k = node.len();
+    'children: while k > 0 {
+        k -= 1;
+        if let Some(index) = identifier_at(toks, classes, node, k) {
+            return Some(index);
+        }
+    }
+    None
+}
+
+// Child `k` of the node, where it is an identifier.
+fn identifier_at(toks: &[Tok], classes: &[Class], node: &Tree, k: u32) -> Option<u32>
+    requires classes_of { classes.now ≡ map (base_class c99) toks.now }
+    ensures { result ≡ identifier_found c99 toks.now (part_at node.now.under k) }
+{
+    match node.child(k) {
+        Some(Child::Token(index)) => identifier(toks, classes, index),
+        Some(Child::Node(_)) => None,
+        None => None,
+    }
+}
+
+fn identifier(toks: &[Tok], classes: &[Class], index: u32) -> Option<u32>
+    requires classes_of { classes.now ≡ map (base_class c99) toks.now }
+    ensures { result ≡ identifier_found c99 toks.now (Some (leaf index)) }
+{
+    if base_at(toks, classes, index as usize) == Class::Identifier {
+        Some(index)
+    } else {
+        None
+    }
+}
