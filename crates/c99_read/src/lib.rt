@@ -6,9 +6,9 @@
 //! `specs/Grammar.antt`; a second standard is another table. A token counts by its class alone: its
 //! keyword, its punctuator, the kind of its constant, and whether a name is a typedef name where it
 //! stands (6.7.7), which the reader keeps for itself while it reads. Types, tags, members, labels and
-//! what is declared twice belong to the crate above. The code reads expressions by a procedure a
-//! production, and the other productions by the same table as static data; nesting is bounded, so a
-//! text of any length needs little stack. Trees, classes and names want memory. Read
+//! what is declared twice belong to the crate above. The code reads expressions and statements by a
+//! procedure a production, and the other productions by the same table as static data; nesting is
+//! bounded, so a text of any length needs little stack. Trees, classes and names want memory. Read
 //! `specs/Grammar.antt` beside the standard's annex, `specs/Reading.antt`, `specs/State.antt`, then
 //! `reader.rt` and `expressions.rt`.
 #![tactic(auto)]
