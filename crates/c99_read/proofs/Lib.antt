@@ -8,7 +8,6 @@ pub mod AmongLemmas
 pub mod ChildLemmas
 pub mod OpenNodeLemmas
 pub mod StateLemmas
-pub mod LevelLemmas
 pub mod TurnLemmas
 pub mod RowLemmas
 pub mod FirstLemmas

@@ -34,7 +34,7 @@ many-falls t a depth s s' met turn =
     (subst P turn moves).1 both.0
 
 -- a row of operands, as its line of the table says
-pub row-produced : (p q : Production) (signs : List Class) (depth : ℕ) (s : State)
+pub row-run : (p q : Production) (signs : List Class) (depth : ℕ) (s : State)
     → table p ≡ plain (part q · many own (one signs · part q)) ∷ []
-    → whole c99 depth (produce p) s ≡ pick c99 (whole c99) depth p 1 (plain (part q · many own (one signs · part q)) ∷ []) s
-row-produced p q signs depth s line = produced depth p s ∙ ap (λ l. pick c99 (whole c99) depth p 1 l s) line
+    → run c99 (whole c99) depth (produce p) s ≡ pick c99 (whole c99) depth p 1 (plain (part q · many own (one signs · part q)) ∷ []) s
+row-run p q signs depth s line = ap (λ l. pick c99 (whole c99) depth p 1 l s) line

@@ -15,9 +15,8 @@ pub mod Children
 pub mod Kept
 pub mod OpenNode
 pub mod Words
-pub mod Rules
+pub mod Asks
 pub mod Levels
 pub mod Rows
 pub mod Sound
-pub mod Ready
 pub mod Answer

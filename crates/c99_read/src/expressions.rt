@@ -16,7 +16,7 @@ ghost use Rattle.c99_read.specs.Standard.{c99};
 use crate::classes::Class;
 use crate::first::starts_with;
 use crate::reader::{Read, Reader};
-use crate::rules::production_starts;
+use crate::starts::production_starts;
 use c99_tree::Production;
 
 pub(crate) const NAMES: [Class; 2] = [Class::Identifier, Class::TypedefName];
@@ -91,10 +91,57 @@ impl<'a> Reader<'a> {
         requires deep { depth ≤ 256 }
         ensures { Reads result self.new (whole c99 depth (produce production) self.old) }
     {
+        self.choose(depth, production)
+    }
+
+    #[cycle(reading)]
+    // The first of its alternatives that starts.
+    fn choose(&mut self, depth: usize, production: Production) -> Read
+        requires deep { depth ≤ 256 }
+        ensures { Reads result self.new (run c99 (whole c99) depth (produce production) self.old) }
+    {
         match production {
+            Production::TranslationUnit => self.translation_unit(depth),
+            Production::External => self.external(depth),
+            Production::ExtRest => self.ext_rest(depth),
+            Production::ExtTail => self.ext_tail(depth),
+            Production::FunBody => self.fun_body(depth),
+            Production::Declaration => self.declaration(depth),
+            Production::DeclRest => self.decl_rest(depth),
+            Production::InitDecl => self.init_decl(depth),
+            Production::Specs => self.specs(depth),
+            Production::Main => self.main(depth),
+            Production::Mod => self.modifier(depth),
+            Production::Qual => self.qualifier(depth),
+            Production::Word => self.type_word(depth),
+            Production::StructSpec => self.struct_spec(depth),
+            Production::SuRest => self.su_rest(depth),
+            Production::Members => self.members(depth),
+            Production::Member => self.member(depth),
+            Production::Mdecl => self.mdecl(depth),
+            Production::EnumSpec => self.enum_spec(depth),
+            Production::EnRest => self.en_rest(depth),
+            Production::Enumerators => self.enumerators(depth),
+            Production::Enumerator => self.enumerator(depth),
+            Production::Declarator => self.declarator(depth),
+            Production::Pointer => self.pointer(depth),
+            Production::Direct => self.direct(depth),
+            Production::Suffix => self.suffix(depth),
+            Production::Bound => self.bound(depth),
+            Production::Params => self.params(depth),
+            Production::Param => self.param(depth),
+            Production::Pdecl => self.pdecl(depth),
+            Production::Pdirect => self.pdirect(depth),
+            Production::TypeName => self.type_name(depth),
+            Production::Adecl => self.adecl(depth),
+            Production::Adirect => self.adirect(depth),
+            Production::Init => self.init(depth),
+            Production::InitList => self.init_list(depth),
+            Production::InitItem => self.init_item(depth),
+            Production::Designator => self.designator(depth),
             Production::Expr => self.list(depth, Production::Expr),
-            Production::Args => self.list(depth, Production::Args),
             Production::Assign => self.assign(depth),
+            Production::Asgop => self.asgop(depth),
             Production::Cond => self.cond(depth),
             Production::Lor => self.level(depth, Production::Lor),
             Production::Land => self.level(depth, Production::Land),
@@ -113,12 +160,12 @@ impl<'a> Reader<'a> {
             Production::SizeLit => self.size_lit(depth),
             Production::Primary => self.primary(depth),
             Production::Post => self.post(depth),
+            Production::Args => self.list(depth, Production::Args),
             Production::Block => self.block(depth),
             Production::BlockItem => self.block_item(depth),
             Production::Statement => self.statement(depth),
             Production::Sub => self.sub(depth),
             Production::ForInit => self.for_init(depth),
-            _ => self.by_table(depth, production),
         }
     }
 
@@ -203,7 +250,7 @@ impl<'a> Reader<'a> {
 
     #[cycle(reading)]
     // Signs with operands behind them.
-    fn operands(&mut self, depth: usize, signs: &[Class], operand: Production) -> Read
+    pub(crate) fn operands(&mut self, depth: usize, signs: &[Class], operand: Production) -> Read
         requires deep { depth ≤ 256 }
         ensures { Reads result self.new (step c99 (whole c99) depth (many own (one signs.now · part operand)) self.old) }
     {
@@ -214,7 +261,12 @@ impl<'a> Reader<'a> {
     }
 
     #[cycle(reading)]
-    fn sign_operand(&mut self, depth: usize, signs: &[Class], operand: Production) -> Read
+    pub(crate) fn sign_operand(
+        &mut self,
+        depth: usize,
+        signs: &[Class],
+        operand: Production,
+    ) -> Read
         requires deep { depth ≤ 256 }
         ensures { Reads result self.new (step c99 (whole c99) depth (one signs.now · part operand) self.old) }
     {
@@ -227,7 +279,7 @@ impl<'a> Reader<'a> {
     fn level(&mut self, depth: usize, production: Production) -> Read
         requires deep { depth ≤ 256 }
         requires level { is_level production ≡ true }
-        ensures { Reads result self.new (whole c99 depth (produce production) self.old) }
+        ensures { Reads result self.new (run c99 (whole c99) depth (produce production) self.old) }
     {
         self.row_choice(
             depth,
@@ -261,7 +313,7 @@ impl<'a> Reader<'a> {
     fn list(&mut self, depth: usize, production: Production) -> Read
         requires deep { depth ≤ 256 }
         requires list { is_list production ≡ true }
-        ensures { Reads result self.new (whole c99 depth (produce production) self.old) }
+        ensures { Reads result self.new (run c99 (whole c99) depth (produce production) self.old) }
     {
         self.row_choice(depth, production, &[Class::Comma], Production::Assign)
     }
@@ -269,14 +321,6 @@ impl<'a> Reader<'a> {
     #[cycle(reading)]
     // An assignment (6.5.16).
     fn assign(&mut self, depth: usize) -> Read
-        requires deep { depth ≤ 256 }
-        ensures { Reads result self.new (whole c99 depth (produce Assign) self.old) }
-    {
-        self.assign_choice(depth)
-    }
-
-    #[cycle(reading)]
-    fn assign_choice(&mut self, depth: usize) -> Read
         requires deep { depth ≤ 256 }
         ensures { Reads result self.new (run c99 (whole c99) depth (produce Assign) self.old) }
     {
@@ -293,7 +337,7 @@ impl<'a> Reader<'a> {
         ensures { Reads result self.new (alternative c99 (whole c99) depth Assign 1 (part Cond · maybe (part Asgop · deep (part Assign))) self.old) }
     {
         let outer = self.open(Production::Assign, 1)?;
-        self.cond(depth)?;
+        self.produce(depth, Production::Cond)?;
         self.assigned(depth)?;
         self.close(outer, Production::Assign)
     }
@@ -323,14 +367,6 @@ impl<'a> Reader<'a> {
     // A conditional expression (6.5.15).
     fn cond(&mut self, depth: usize) -> Read
         requires deep { depth ≤ 256 }
-        ensures { Reads result self.new (whole c99 depth (produce Cond) self.old) }
-    {
-        self.cond_choice(depth)
-    }
-
-    #[cycle(reading)]
-    fn cond_choice(&mut self, depth: usize) -> Read
-        requires deep { depth ≤ 256 }
         ensures { Reads result self.new (run c99 (whole c99) depth (produce Cond) self.old) }
     {
         if self.begins(Production::Lor) {
@@ -346,7 +382,7 @@ impl<'a> Reader<'a> {
         ensures { Reads result self.new (alternative c99 (whole c99) depth Cond 1 (part Lor · maybe (tok Question · deep (part Expr) · tok Colon · deep (part Cond))) self.old) }
     {
         let outer = self.open(Production::Cond, 1)?;
-        self.level(depth, Production::Lor)?;
+        self.produce(depth, Production::Lor)?;
         self.chosen(depth)?;
         self.close(outer, Production::Cond)
     }
@@ -378,14 +414,6 @@ impl<'a> Reader<'a> {
     // A cast, or a compound literal (6.5.2.5, 6.5.4).
     fn cast(&mut self, depth: usize) -> Read
         requires deep { depth ≤ 256 }
-        ensures { Reads result self.new (whole c99 depth (produce Cast) self.old) }
-    {
-        self.cast_choice(depth)
-    }
-
-    #[cycle(reading)]
-    fn cast_choice(&mut self, depth: usize) -> Read
-        requires deep { depth ≤ 256 }
         ensures { Reads result self.new (run c99 (whole c99) depth (produce Cast) self.old) }
     {
         if self.begins_type_name() {
@@ -406,20 +434,12 @@ impl<'a> Reader<'a> {
         self.take(&[Class::LeftParen])?;
         self.deep(depth, Production::TypeName)?;
         self.take(&[Class::RightParen])?;
-        self.cast_rest(depth)?;
+        self.produce(depth, Production::CastRest)?;
         self.close(outer, Production::Cast)
     }
 
     #[cycle(reading)]
     fn cast_rest(&mut self, depth: usize) -> Read
-        requires deep { depth ≤ 256 }
-        ensures { Reads result self.new (whole c99 depth (produce CastRest) self.old) }
-    {
-        self.cast_rest_choice(depth)
-    }
-
-    #[cycle(reading)]
-    fn cast_rest_choice(&mut self, depth: usize) -> Read
         requires deep { depth ≤ 256 }
         ensures { Reads result self.new (run c99 (whole c99) depth (produce CastRest) self.old) }
     {
@@ -443,32 +463,13 @@ impl<'a> Reader<'a> {
         self.take(&[Class::LeftBrace])?;
         self.deep(depth, Production::InitList)?;
         self.take(&[Class::RightBrace])?;
-        self.posts(depth)?;
+        self.repeated(depth, Production::Post)?;
         self.close(outer, production)
-    }
-
-    #[cycle(reading)]
-    fn posts(&mut self, depth: usize) -> Read
-        requires deep { depth ≤ 256 }
-        ensures { Reads result self.new (step c99 (whole c99) depth (many own (part Post)) self.old) }
-    {
-        'posts: while self.begins(Production::Post) {
-            self.post(depth)?;
-        }
-        Ok(())
     }
 
     #[cycle(reading)]
     // A unary expression (6.5.3).
     fn unary(&mut self, depth: usize) -> Read
-        requires deep { depth ≤ 256 }
-        ensures { Reads result self.new (whole c99 depth (produce Unary) self.old) }
-    {
-        self.unary_choice(depth)
-    }
-
-    #[cycle(reading)]
-    fn unary_choice(&mut self, depth: usize) -> Read
         requires deep { depth ≤ 256 }
         ensures { Reads result self.new (run c99 (whole c99) depth (produce Unary) self.old) }
     {
@@ -501,7 +502,7 @@ impl<'a> Reader<'a> {
     {
         let outer = self.open(Production::Unary, 2)?;
         self.take(&[Class::Sizeof])?;
-        self.size_rest(depth)?;
+        self.produce(depth, Production::SizeRest)?;
         self.close(outer, Production::Unary)
     }
 
@@ -511,21 +512,13 @@ impl<'a> Reader<'a> {
         ensures { Reads result self.new (alternative c99 (whole c99) depth Unary 3 (part Primary · many own (part Post)) self.old) }
     {
         let outer = self.open(Production::Unary, 3)?;
-        self.primary(depth)?;
-        self.posts(depth)?;
+        self.produce(depth, Production::Primary)?;
+        self.repeated(depth, Production::Post)?;
         self.close(outer, Production::Unary)
     }
 
     #[cycle(reading)]
     fn size_rest(&mut self, depth: usize) -> Read
-        requires deep { depth ≤ 256 }
-        ensures { Reads result self.new (whole c99 depth (produce SizeRest) self.old) }
-    {
-        self.size_rest_choice(depth)
-    }
-
-    #[cycle(reading)]
-    fn size_rest_choice(&mut self, depth: usize) -> Read
         requires deep { depth ≤ 256 }
         ensures { Reads result self.new (run c99 (whole c99) depth (produce SizeRest) self.old) }
     {
@@ -557,7 +550,7 @@ impl<'a> Reader<'a> {
         ensures { Reads result self.new (step c99 (whole c99) depth (maybe (part SizeLit)) self.old) }
     {
         if self.begins(Production::SizeLit) {
-            self.size_lit(depth)
+            self.produce(depth, Production::SizeLit)
         } else {
             Ok(())
         }
@@ -565,14 +558,6 @@ impl<'a> Reader<'a> {
 
     #[cycle(reading)]
     fn size_lit(&mut self, depth: usize) -> Read
-        requires deep { depth ≤ 256 }
-        ensures { Reads result self.new (whole c99 depth (produce SizeLit) self.old) }
-    {
-        self.size_lit_choice(depth)
-    }
-
-    #[cycle(reading)]
-    fn size_lit_choice(&mut self, depth: usize) -> Read
         requires deep { depth ≤ 256 }
         ensures { Reads result self.new (run c99 (whole c99) depth (produce SizeLit) self.old) }
     {
@@ -586,14 +571,6 @@ impl<'a> Reader<'a> {
     #[cycle(reading)]
     // A primary expression (6.5.1).
     fn primary(&mut self, depth: usize) -> Read
-        requires deep { depth ≤ 256 }
-        ensures { Reads result self.new (whole c99 depth (produce Primary) self.old) }
-    {
-        self.primary_choice(depth)
-    }
-
-    #[cycle(reading)]
-    fn primary_choice(&mut self, depth: usize) -> Read
         requires deep { depth ≤ 256 }
         ensures { Reads result self.new (run c99 (whole c99) depth (produce Primary) self.old) }
     {
@@ -647,24 +624,16 @@ impl<'a> Reader<'a> {
     // What stands behind a primary expression (6.5.2).
     fn post(&mut self, depth: usize) -> Read
         requires deep { depth ≤ 256 }
-        ensures { Reads result self.new (whole c99 depth (produce Post) self.old) }
-    {
-        self.post_choice(depth)
-    }
-
-    #[cycle(reading)]
-    fn post_choice(&mut self, depth: usize) -> Read
-        requires deep { depth ≤ 256 }
         ensures { Reads result self.new (run c99 (whole c99) depth (produce Post) self.old) }
     {
         if self.is(&[Class::LeftBracket]) {
-            self.subscript(depth)
+            self.bracketed(depth, Production::Post, 1, Production::Expr)
         } else if self.is(&[Class::LeftParen]) {
             self.call(depth)
         } else if self.is(&[Class::Dot]) {
-            self.selection(depth, 3, Class::Dot)
+            self.selection(depth, Production::Post, 3, Class::Dot)
         } else if self.is(&[Class::Arrow]) {
-            self.selection(depth, 4, Class::Arrow)
+            self.selection(depth, Production::Post, 4, Class::Arrow)
         } else if self.is(&[Class::PlusPlus]) {
             self.token(depth, Production::Post, 5, Class::PlusPlus)
         } else if self.is(&[Class::MinusMinus]) {
@@ -672,18 +641,6 @@ impl<'a> Reader<'a> {
         } else {
             self.syntax()
         }
-    }
-
-    #[cycle(reading)]
-    fn subscript(&mut self, depth: usize) -> Read
-        requires deep { depth ≤ 256 }
-        ensures { Reads result self.new (alternative c99 (whole c99) depth Post 1 (tok LeftBracket · deep (part Expr) · tok RightBracket) self.old) }
-    {
-        let outer = self.open(Production::Post, 1)?;
-        self.take(&[Class::LeftBracket])?;
-        self.deep(depth, Production::Expr)?;
-        self.take(&[Class::RightBracket])?;
-        self.close(outer, Production::Post)
     }
 
     #[cycle(reading)]
@@ -712,12 +669,49 @@ impl<'a> Reader<'a> {
     }
 
     // A member's name behind a sign.
-    fn selection(&mut self, depth: usize, number: u8, sign: Class) -> Read
-        ensures { Reads result self.new (alternative c99 (whole c99) depth Post number (one (sign ∷ []) · any_name) self.old) }
+    pub(crate) fn selection(
+        &mut self,
+        depth: usize,
+        production: Production,
+        number: u8,
+        sign: Class,
+    ) -> Read
+        ensures { Reads result self.new (alternative c99 (whole c99) depth production number (one (sign ∷ []) · any_name) self.old) }
     {
-        let outer = self.open(Production::Post, number)?;
+        let outer = self.open(production, number)?;
         self.take(&[sign])?;
         self.take(&NAMES)?;
-        self.close(outer, Production::Post)
+        self.close(outer, production)
+    }
+
+    // An assignment operator (6.5.16).
+    pub(crate) fn asgop(&mut self, depth: usize) -> Read
+        ensures { Reads result self.new (run c99 (whole c99) depth (produce Asgop) self.old) }
+    {
+        if self.is(&[Class::Eq]) {
+            self.token(depth, Production::Asgop, 1, Class::Eq)
+        } else if self.is(&[Class::StarEq]) {
+            self.token(depth, Production::Asgop, 2, Class::StarEq)
+        } else if self.is(&[Class::SlashEq]) {
+            self.token(depth, Production::Asgop, 3, Class::SlashEq)
+        } else if self.is(&[Class::PercentEq]) {
+            self.token(depth, Production::Asgop, 4, Class::PercentEq)
+        } else if self.is(&[Class::PlusEq]) {
+            self.token(depth, Production::Asgop, 5, Class::PlusEq)
+        } else if self.is(&[Class::MinusEq]) {
+            self.token(depth, Production::Asgop, 6, Class::MinusEq)
+        } else if self.is(&[Class::ShiftLeftEq]) {
+            self.token(depth, Production::Asgop, 7, Class::ShiftLeftEq)
+        } else if self.is(&[Class::ShiftRightEq]) {
+            self.token(depth, Production::Asgop, 8, Class::ShiftRightEq)
+        } else if self.is(&[Class::AmpEq]) {
+            self.token(depth, Production::Asgop, 9, Class::AmpEq)
+        } else if self.is(&[Class::CaretEq]) {
+            self.token(depth, Production::Asgop, 10, Class::CaretEq)
+        } else if self.is(&[Class::BarEq]) {
+            self.token(depth, Production::Asgop, 11, Class::BarEq)
+        } else {
+            self.syntax()
+        }
     }
 }

@@ -27,14 +27,6 @@ impl<'a> Reader<'a> {
     // A compound statement (6.8.2).
     pub(crate) fn block(&mut self, depth: usize) -> Read
         requires deep { depth ≤ 256 }
-        ensures { Reads result self.new (whole c99 depth (produce Block) self.old) }
-    {
-        self.block_choice(depth)
-    }
-
-    #[cycle(reading)]
-    fn block_choice(&mut self, depth: usize) -> Read
-        requires deep { depth ≤ 256 }
         ensures { Reads result self.new (run c99 (whole c99) depth (produce Block) self.old) }
     {
         if self.is(&[Class::LeftBrace]) {
@@ -59,7 +51,7 @@ impl<'a> Reader<'a> {
     }
 
     #[cycle(reading)]
-    fn block_items(&mut self, depth: usize) -> Read
+    pub(crate) fn block_items(&mut self, depth: usize) -> Read
         requires deep { depth ≤ 256 }
         ensures { Reads result self.new (step c99 (whole c99) depth (many own (deep (part BlockItem))) self.old) }
     {
@@ -71,14 +63,6 @@ impl<'a> Reader<'a> {
 
     #[cycle(reading)]
     pub(crate) fn block_item(&mut self, depth: usize) -> Read
-        requires deep { depth ≤ 256 }
-        ensures { Reads result self.new (whole c99 depth (produce BlockItem) self.old) }
-    {
-        self.block_item_choice(depth)
-    }
-
-    #[cycle(reading)]
-    fn block_item_choice(&mut self, depth: usize) -> Read
         requires deep { depth ≤ 256 }
         ensures { Reads result self.new (run c99 (whole c99) depth (produce BlockItem) self.old) }
     {
@@ -96,14 +80,6 @@ impl<'a> Reader<'a> {
     #[cycle(reading)]
     // A statement below another, with a scope of its own (6.8.4, 6.8.5).
     pub(crate) fn sub(&mut self, depth: usize) -> Read
-        requires deep { depth ≤ 256 }
-        ensures { Reads result self.new (whole c99 depth (produce Sub) self.old) }
-    {
-        self.sub_choice(depth)
-    }
-
-    #[cycle(reading)]
-    fn sub_choice(&mut self, depth: usize) -> Read
         requires deep { depth ≤ 256 }
         ensures { Reads result self.new (run c99 (whole c99) depth (produce Sub) self.old) }
     {
@@ -128,14 +104,6 @@ impl<'a> Reader<'a> {
 
     #[cycle(reading)]
     pub(crate) fn for_init(&mut self, depth: usize) -> Read
-        requires deep { depth ≤ 256 }
-        ensures { Reads result self.new (whole c99 depth (produce ForInit) self.old) }
-    {
-        self.for_init_choice(depth)
-    }
-
-    #[cycle(reading)]
-    fn for_init_choice(&mut self, depth: usize) -> Read
         requires deep { depth ≤ 256 }
         ensures { Reads result self.new (run c99 (whole c99) depth (produce ForInit) self.old) }
     {
@@ -165,14 +133,6 @@ impl<'a> Reader<'a> {
     #[cycle(reading)]
     // A statement (6.8).
     pub(crate) fn statement(&mut self, depth: usize) -> Read
-        requires deep { depth ≤ 256 }
-        ensures { Reads result self.new (whole c99 depth (produce Statement) self.old) }
-    {
-        self.statement_choice(depth)
-    }
-
-    #[cycle(reading)]
-    fn statement_choice(&mut self, depth: usize) -> Read
         requires deep { depth ≤ 256 }
         ensures { Reads result self.new (run c99 (whole c99) depth (produce Statement) self.old) }
     {
@@ -290,7 +250,7 @@ impl<'a> Reader<'a> {
         self.take(&[Class::LeftParen])?;
         self.deep(depth, Production::Expr)?;
         self.take(&[Class::RightParen])?;
-        self.sub(depth)?;
+        self.produce(depth, Production::Sub)?;
         self.maybe_else(depth)?;
         self.end_scope()
     }
@@ -313,7 +273,7 @@ impl<'a> Reader<'a> {
         ensures { Reads result self.new (step c99 (whole c99) depth (tok Else · part Sub) self.old) }
     {
         self.take(&[Class::Else])?;
-        self.sub(depth)
+        self.produce(depth, Production::Sub)
     }
 
     #[cycle(reading)]
@@ -337,7 +297,7 @@ impl<'a> Reader<'a> {
         self.take(&[Class::LeftParen])?;
         self.deep(depth, Production::Expr)?;
         self.take(&[Class::RightParen])?;
-        self.sub(depth)?;
+        self.produce(depth, Production::Sub)?;
         self.end_scope()
     }
 
@@ -349,7 +309,7 @@ impl<'a> Reader<'a> {
         let outer = self.open(Production::Statement, 8)?;
         self.begin_scope()?;
         self.take(&[Class::Do])?;
-        self.sub(depth)?;
+        self.produce(depth, Production::Sub)?;
         self.do_condition(depth)?;
         self.close(outer, Production::Statement)
     }
@@ -385,7 +345,7 @@ impl<'a> Reader<'a> {
         ensures { Reads result self.new (step c99 (whole c99) depth (tok LeftParen · part ForInit · maybe (deep (part Expr)) · tok Semicolon · maybe (deep (part Expr)) · tok RightParen · part Sub · act end) self.old) }
     {
         self.take(&[Class::LeftParen])?;
-        self.for_init(depth)?;
+        self.produce(depth, Production::ForInit)?;
         self.maybe_deep(depth, Production::Expr)?;
         self.take(&[Class::Semicolon])?;
         self.for_step(depth)
@@ -398,7 +358,7 @@ impl<'a> Reader<'a> {
     {
         self.maybe_deep(depth, Production::Expr)?;
         self.take(&[Class::RightParen])?;
-        self.sub(depth)?;
+        self.produce(depth, Production::Sub)?;
         self.end_scope()
     }
 

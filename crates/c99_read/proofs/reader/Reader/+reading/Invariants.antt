@@ -1,45 +1,12 @@
-use Rattle.std.proofs.Common.{◌≡◌, ◌+◌, ◌-◌, ◌*◌, length, max}
-use Rattle.c99_tree.specs.declared.production.Production.TheVariants.{Post, BlockItem}
-use Rattle.c99_read.specs.Items.{one, part, ◌·◌, many, deep, own}
+use Rattle.std.proofs.Common.{◌≡◌, ◌+◌, ◌-◌, ◌*◌, [], ◌∷◌}
+use Rattle.c99_tree.specs.declared.production.Production.TheVariants.{BlockItem, Mod, Qual, Word}
+use Rattle.c99_read.specs.declared.classes.Class.TheVariants.{Comma, Static}
+use Rattle.c99_read.specs.Items.{one, part, ◌·◌, choice, many, deep, own, next_two, is, tok}
 use Rattle.c99_read.specs.Levels.{level_of}
 use Rattle.c99_read.specs.Reading.{step, whole, tokens_left}
-use Rattle.c99_read.specs.Ready.{height_of, size_of}
-use Rattle.c99_read.specs.Rules.{item_of, test_of}
+use Rattle.c99_read.specs.Asks.{ask_of}
 use Rattle.c99_read.specs.Standard.{c99}
 use Rattle.c99_read.proofs.reader.Reader.+reading.Given as goal
-
--- The depth that is left counts most, then how high a rule stands, then how large it is.
-abbrev pub decreases-by_table : goal.decreases-by_table
-decreases-by_table l = 100000 * (257 - l.depth) + 1000 * level_of l.production + 800
-
-abbrev pub decreases-pick : goal.decreases-pick
-decreases-pick l = 100000 * (257 - l.depth) + 1000 * level_of l.production + 300 + length l.lines.now
-
-abbrev pub decreases-alternative : goal.decreases-alternative
-decreases-alternative l = 100000 * (257 - l.depth) + 1000 * height_of (item_of l.rule.now) + 2 * size_of (item_of l.rule.now) + 1
-
-abbrev pub decreases-step : goal.decreases-step
-decreases-step l = 100000 * (257 - l.depth) + 1000 * height_of (item_of l.rule.now) + 2 * size_of (item_of l.rule.now)
-
-abbrev pub decreases-choice : goal.decreases-choice
-decreases-choice l =
-    100000 * (257 - l.depth) + 1000 * max (height_of (item_of l.a.now)) (height_of (item_of l.b.now))
-    + 2 * (size_of (item_of l.a.now) + size_of (item_of l.b.now)) + 1
-
-abbrev pub decreases-maybe : goal.decreases-maybe
-decreases-maybe l = 100000 * (257 - l.depth) + 1000 * height_of (item_of l.a.now) + 2 * size_of (item_of l.a.now) + 1
-
-abbrev pub decreases-many : goal.decreases-many
-decreases-many l = 100000 * (257 - l.depth) + 1000 * height_of (item_of l.a.now) + 2 * size_of (item_of l.a.now) + 1
-
--- What is left to read gives what all of it gives.
-abbrev pub invariant-many-turns : goal.invariant-many-turns
-invariant-many-turns l =
-    step c99 (whole c99) l.depth (many (test_of l.test) (item_of l.a)) l.self
-    ≡ step c99 (whole c99) l.depth (many (test_of l.test) (item_of l.a)) l.initial.self
-
-abbrev pub decreases-many-turns : goal.decreases-many-turns
-decreases-many-turns l = tokens_left l.self
 
 abbrev pub decreases-produce : goal.decreases-produce
 decreases-produce l = 100000 * (257 - l.depth) + 1000 * level_of l.production + 900
@@ -69,58 +36,31 @@ abbrev pub decreases-list : goal.decreases-list
 decreases-list l = 100000 * (257 - l.depth) + 1000 * level_of l.production + 700
 
 abbrev pub decreases-assign : goal.decreases-assign
-decreases-assign l = 100000 * (257 - l.depth) + 16800
-
-abbrev pub decreases-assign_choice : goal.decreases-assign_choice
-decreases-assign_choice l = 100000 * (257 - l.depth) + 16700
+decreases-assign l = 100000 * (257 - l.depth) + 16700
 
 abbrev pub decreases-cond : goal.decreases-cond
-decreases-cond l = 100000 * (257 - l.depth) + 15800
-
-abbrev pub decreases-cond_choice : goal.decreases-cond_choice
-decreases-cond_choice l = 100000 * (257 - l.depth) + 15700
+decreases-cond l = 100000 * (257 - l.depth) + 15700
 
 abbrev pub decreases-cast : goal.decreases-cast
-decreases-cast l = 100000 * (257 - l.depth) + 4800
-
-abbrev pub decreases-cast_choice : goal.decreases-cast_choice
-decreases-cast_choice l = 100000 * (257 - l.depth) + 4700
+decreases-cast l = 100000 * (257 - l.depth) + 4700
 
 abbrev pub decreases-cast_rest : goal.decreases-cast_rest
-decreases-cast_rest l = 100000 * (257 - l.depth) + 1800
-
-abbrev pub decreases-cast_rest_choice : goal.decreases-cast_rest_choice
-decreases-cast_rest_choice l = 100000 * (257 - l.depth) + 1700
+decreases-cast_rest l = 100000 * (257 - l.depth) + 1700
 
 abbrev pub decreases-unary : goal.decreases-unary
-decreases-unary l = 100000 * (257 - l.depth) + 3800
-
-abbrev pub decreases-unary_choice : goal.decreases-unary_choice
-decreases-unary_choice l = 100000 * (257 - l.depth) + 3700
+decreases-unary l = 100000 * (257 - l.depth) + 3700
 
 abbrev pub decreases-size_rest : goal.decreases-size_rest
-decreases-size_rest l = 100000 * (257 - l.depth) + 2800
-
-abbrev pub decreases-size_rest_choice : goal.decreases-size_rest_choice
-decreases-size_rest_choice l = 100000 * (257 - l.depth) + 2700
+decreases-size_rest l = 100000 * (257 - l.depth) + 2700
 
 abbrev pub decreases-size_lit : goal.decreases-size_lit
-decreases-size_lit l = 100000 * (257 - l.depth) + 1800
-
-abbrev pub decreases-size_lit_choice : goal.decreases-size_lit_choice
-decreases-size_lit_choice l = 100000 * (257 - l.depth) + 1700
+decreases-size_lit l = 100000 * (257 - l.depth) + 1700
 
 abbrev pub decreases-primary : goal.decreases-primary
-decreases-primary l = 100000 * (257 - l.depth) + 800
-
-abbrev pub decreases-primary_choice : goal.decreases-primary_choice
-decreases-primary_choice l = 100000 * (257 - l.depth) + 700
+decreases-primary l = 100000 * (257 - l.depth) + 700
 
 abbrev pub decreases-post : goal.decreases-post
-decreases-post l = 100000 * (257 - l.depth) + 800
-
-abbrev pub decreases-post_choice : goal.decreases-post_choice
-decreases-post_choice l = 100000 * (257 - l.depth) + 700
+decreases-post l = 100000 * (257 - l.depth) + 700
 
 abbrev pub decreases-assign_parts : goal.decreases-assign_parts
 decreases-assign_parts l = 100000 * (257 - l.depth) + 16600
@@ -161,17 +101,11 @@ decreases-maybe_literal l = 100000 * (257 - l.depth) + 2500
 abbrev pub decreases-enclosed : goal.decreases-enclosed
 decreases-enclosed l = 100000 * (257 - l.depth) + 600
 
-abbrev pub decreases-subscript : goal.decreases-subscript
-decreases-subscript l = 100000 * (257 - l.depth) + 600
-
 abbrev pub decreases-call : goal.decreases-call
 decreases-call l = 100000 * (257 - l.depth) + 600
 
 abbrev pub decreases-literal : goal.decreases-literal
 decreases-literal l = 100000 * (257 - l.depth) + 1000 * level_of l.production + 600
-
-abbrev pub decreases-posts : goal.decreases-posts
-decreases-posts l = 100000 * (257 - l.depth) + 950
 
 abbrev pub decreases-maybe_deep : goal.decreases-maybe_deep
 decreases-maybe_deep l = 100000 * (257 - l.depth) + 10
@@ -184,21 +118,11 @@ invariant-operands-operands l =
 abbrev pub decreases-operands-operands : goal.decreases-operands-operands
 decreases-operands-operands l = tokens_left l.self
 
-abbrev pub invariant-posts-posts : goal.invariant-posts-posts
-invariant-posts-posts l =
-    step c99 (whole c99) l.depth (many own (part Post)) l.self ≡ step c99 (whole c99) l.depth (many own (part Post)) l.initial.self
-
-abbrev pub decreases-posts-posts : goal.decreases-posts-posts
-decreases-posts-posts l = tokens_left l.self
-
 abbrev pub decreases-row_choice : goal.decreases-row_choice
 decreases-row_choice l = 100000 * (257 - l.depth) + 1000 * level_of l.production + 650
 
 abbrev pub decreases-block : goal.decreases-block
-decreases-block l = 100000 * (257 - l.depth) + 800
-
-abbrev pub decreases-block_choice : goal.decreases-block_choice
-decreases-block_choice l = 100000 * (257 - l.depth) + 700
+decreases-block l = 100000 * (257 - l.depth) + 700
 
 abbrev pub decreases-block_parts : goal.decreases-block_parts
 decreases-block_parts l = 100000 * (257 - l.depth) + 600
@@ -207,34 +131,22 @@ abbrev pub decreases-block_items : goal.decreases-block_items
 decreases-block_items l = 100000 * (257 - l.depth) + 500
 
 abbrev pub decreases-block_item : goal.decreases-block_item
-decreases-block_item l = 100000 * (257 - l.depth) + 9800
-
-abbrev pub decreases-block_item_choice : goal.decreases-block_item_choice
-decreases-block_item_choice l = 100000 * (257 - l.depth) + 9700
+decreases-block_item l = 100000 * (257 - l.depth) + 9700
 
 abbrev pub decreases-sub : goal.decreases-sub
-decreases-sub l = 100000 * (257 - l.depth) + 800
-
-abbrev pub decreases-sub_choice : goal.decreases-sub_choice
-decreases-sub_choice l = 100000 * (257 - l.depth) + 700
+decreases-sub l = 100000 * (257 - l.depth) + 700
 
 abbrev pub decreases-sub_parts : goal.decreases-sub_parts
 decreases-sub_parts l = 100000 * (257 - l.depth) + 600
 
 abbrev pub decreases-for_init : goal.decreases-for_init
-decreases-for_init l = 100000 * (257 - l.depth) + 7800
-
-abbrev pub decreases-for_init_choice : goal.decreases-for_init_choice
-decreases-for_init_choice l = 100000 * (257 - l.depth) + 7700
+decreases-for_init l = 100000 * (257 - l.depth) + 7700
 
 abbrev pub decreases-expression_line : goal.decreases-expression_line
 decreases-expression_line l = 100000 * (257 - l.depth) + 600
 
 abbrev pub decreases-statement : goal.decreases-statement
-decreases-statement l = 100000 * (257 - l.depth) + 8800
-
-abbrev pub decreases-statement_choice : goal.decreases-statement_choice
-decreases-statement_choice l = 100000 * (257 - l.depth) + 8700
+decreases-statement l = 100000 * (257 - l.depth) + 8700
 
 abbrev pub decreases-control : goal.decreases-control
 decreases-control l = 100000 * (257 - l.depth) + 8690
@@ -294,3 +206,284 @@ invariant-block_items-items l =
 
 abbrev pub decreases-block_items-items : goal.decreases-block_items-items
 decreases-block_items-items l = tokens_left l.self
+
+abbrev pub decreases-choose : goal.decreases-choose
+decreases-choose l = 100000 * (257 - l.depth) + 1000 * level_of l.production + 850
+
+abbrev pub decreases-repeated : goal.decreases-repeated
+decreases-repeated l = 100000 * (257 - l.depth) + 1000 * level_of l.production + 950
+
+abbrev pub decreases-maybe_part : goal.decreases-maybe_part
+decreases-maybe_part l = 100000 * (257 - l.depth) + 1000 * level_of l.production + 950
+
+abbrev pub decreases-some_parts : goal.decreases-some_parts
+decreases-some_parts l = 100000 * (257 - l.depth) + 1000 * level_of l.production + 960
+
+abbrev pub decreases-some_alone : goal.decreases-some_alone
+decreases-some_alone l = 100000 * (257 - l.depth) + 1000 * level_of l.production + 600
+
+abbrev pub decreases-two_parts : goal.decreases-two_parts
+decreases-two_parts l = 100000 * (257 - l.depth) + 1000 * level_of l.production + 600
+
+abbrev pub decreases-signed_deep : goal.decreases-signed_deep
+decreases-signed_deep l = 100000 * (257 - l.depth) + 20
+
+abbrev pub decreases-maybe_signed : goal.decreases-maybe_signed
+decreases-maybe_signed l = 100000 * (257 - l.depth) + 30
+
+abbrev pub decreases-word_part : goal.decreases-word_part
+decreases-word_part l = 100000 * (257 - l.depth) + 1000 * level_of l.production + 600
+
+abbrev pub decreases-braced : goal.decreases-braced
+decreases-braced l = 100000 * (257 - l.depth) + 20
+
+abbrev pub decreases-maybe_braced : goal.decreases-maybe_braced
+decreases-maybe_braced l = 100000 * (257 - l.depth) + 30
+
+abbrev pub decreases-braced_alone : goal.decreases-braced_alone
+decreases-braced_alone l = 100000 * (257 - l.depth) + 600
+
+abbrev pub decreases-named_braced : goal.decreases-named_braced
+decreases-named_braced l = 100000 * (257 - l.depth) + 600
+
+abbrev pub decreases-bracketed : goal.decreases-bracketed
+decreases-bracketed l = 100000 * (257 - l.depth) + 600
+
+abbrev pub decreases-listed : goal.decreases-listed
+decreases-listed l = 100000 * (257 - l.depth) + 1000 * level_of l.production + 960
+
+abbrev pub decreases-comma_list : goal.decreases-comma_list
+decreases-comma_list l = 100000 * (257 - l.depth) + 1000 * level_of l.production + 600
+
+abbrev pub decreases-translation_unit : goal.decreases-translation_unit
+decreases-translation_unit l = 100000 * (257 - l.depth) + 11700
+
+abbrev pub decreases-unit_parts : goal.decreases-unit_parts
+decreases-unit_parts l = 100000 * (257 - l.depth) + 11600
+
+abbrev pub decreases-external : goal.decreases-external
+decreases-external l = 100000 * (257 - l.depth) + 10700
+
+abbrev pub decreases-ext_rest : goal.decreases-ext_rest
+decreases-ext_rest l = 100000 * (257 - l.depth) + 9700
+
+abbrev pub decreases-declared_external : goal.decreases-declared_external
+decreases-declared_external l = 100000 * (257 - l.depth) + 9600
+
+abbrev pub decreases-ext_tail : goal.decreases-ext_tail
+decreases-ext_tail l = 100000 * (257 - l.depth) + 8700
+
+abbrev pub decreases-external_end : goal.decreases-external_end
+decreases-external_end l = 100000 * (257 - l.depth) + 8600
+
+abbrev pub decreases-fun_body : goal.decreases-fun_body
+decreases-fun_body l = 100000 * (257 - l.depth) + 7700
+
+abbrev pub decreases-body_parts : goal.decreases-body_parts
+decreases-body_parts l = 100000 * (257 - l.depth) + 7600
+
+abbrev pub decreases-body_block : goal.decreases-body_block
+decreases-body_block l = 100000 * (257 - l.depth) + 550
+
+abbrev pub decreases-declaration : goal.decreases-declaration
+decreases-declaration l = 100000 * (257 - l.depth) + 6700
+
+abbrev pub decreases-decl_rest : goal.decreases-decl_rest
+decreases-decl_rest l = 100000 * (257 - l.depth) + 5700
+
+abbrev pub decreases-declared_list : goal.decreases-declared_list
+decreases-declared_list l = 100000 * (257 - l.depth) + 5600
+
+abbrev pub decreases-init_decl : goal.decreases-init_decl
+decreases-init_decl l = 100000 * (257 - l.depth) + 4700
+
+abbrev pub decreases-initialized : goal.decreases-initialized
+decreases-initialized l = 100000 * (257 - l.depth) + 4600
+
+abbrev pub decreases-specs : goal.decreases-specs
+decreases-specs l = 100000 * (257 - l.depth) + 3700
+
+abbrev pub decreases-specifiers : goal.decreases-specifiers
+decreases-specifiers l = 100000 * (257 - l.depth) + 3600
+
+abbrev pub decreases-main : goal.decreases-main
+decreases-main l = 100000 * (257 - l.depth) + 2700
+
+abbrev pub decreases-main_words : goal.decreases-main_words
+decreases-main_words l = 100000 * (257 - l.depth) + 2600
+
+abbrev pub decreases-words_and_modifiers : goal.decreases-words_and_modifiers
+decreases-words_and_modifiers l = 100000 * (257 - l.depth) + 2500
+
+abbrev pub decreases-word_or_modifier : goal.decreases-word_or_modifier
+decreases-word_or_modifier l = 100000 * (257 - l.depth) + 2400
+
+abbrev pub decreases-main_tagged : goal.decreases-main_tagged
+decreases-main_tagged l = 100000 * (257 - l.depth) + 2600
+
+abbrev pub decreases-main_name : goal.decreases-main_name
+decreases-main_name l = 100000 * (257 - l.depth) + 2600
+
+abbrev pub decreases-modifier : goal.decreases-modifier
+decreases-modifier l = 100000 * (257 - l.depth) + 1700
+
+abbrev pub decreases-struct_spec : goal.decreases-struct_spec
+decreases-struct_spec l = 100000 * (257 - l.depth) + 1700
+
+abbrev pub decreases-su_rest : goal.decreases-su_rest
+decreases-su_rest l = 100000 * (257 - l.depth) + 700
+
+abbrev pub decreases-members : goal.decreases-members
+decreases-members l = 100000 * (257 - l.depth) + 6700
+
+abbrev pub decreases-member : goal.decreases-member
+decreases-member l = 100000 * (257 - l.depth) + 5700
+
+abbrev pub decreases-member_parts : goal.decreases-member_parts
+decreases-member_parts l = 100000 * (257 - l.depth) + 5600
+
+abbrev pub decreases-mdecl : goal.decreases-mdecl
+decreases-mdecl l = 100000 * (257 - l.depth) + 4700
+
+abbrev pub decreases-unnamed_field : goal.decreases-unnamed_field
+decreases-unnamed_field l = 100000 * (257 - l.depth) + 4600
+
+abbrev pub decreases-named_member : goal.decreases-named_member
+decreases-named_member l = 100000 * (257 - l.depth) + 4600
+
+abbrev pub decreases-enum_spec : goal.decreases-enum_spec
+decreases-enum_spec l = 100000 * (257 - l.depth) + 1700
+
+abbrev pub decreases-en_rest : goal.decreases-en_rest
+decreases-en_rest l = 100000 * (257 - l.depth) + 700
+
+abbrev pub decreases-enumerators : goal.decreases-enumerators
+decreases-enumerators l = 100000 * (257 - l.depth) + 1700
+
+abbrev pub decreases-enumerator : goal.decreases-enumerator
+decreases-enumerator l = 100000 * (257 - l.depth) + 700
+
+abbrev pub decreases-enumerator_parts : goal.decreases-enumerator_parts
+decreases-enumerator_parts l = 100000 * (257 - l.depth) + 600
+
+abbrev pub decreases-declarator : goal.decreases-declarator
+decreases-declarator l = 100000 * (257 - l.depth) + 3700
+
+abbrev pub decreases-declarator_parts : goal.decreases-declarator_parts
+decreases-declarator_parts l = 100000 * (257 - l.depth) + 3600
+
+abbrev pub decreases-pointer : goal.decreases-pointer
+decreases-pointer l = 100000 * (257 - l.depth) + 1700
+
+abbrev pub decreases-pointer_parts : goal.decreases-pointer_parts
+decreases-pointer_parts l = 100000 * (257 - l.depth) + 1600
+
+abbrev pub decreases-direct : goal.decreases-direct
+decreases-direct l = 100000 * (257 - l.depth) + 2700
+
+abbrev pub decreases-named_suffixed : goal.decreases-named_suffixed
+decreases-named_suffixed l = 100000 * (257 - l.depth) + 1000 * level_of l.production + 600
+
+abbrev pub decreases-enclosed_suffixed : goal.decreases-enclosed_suffixed
+decreases-enclosed_suffixed l = 100000 * (257 - l.depth) + 1000 * level_of l.production + 600
+
+abbrev pub decreases-suffix : goal.decreases-suffix
+decreases-suffix l = 100000 * (257 - l.depth) + 1700
+
+abbrev pub decreases-array_suffix : goal.decreases-array_suffix
+decreases-array_suffix l = 100000 * (257 - l.depth) + 1600
+
+abbrev pub decreases-array_words : goal.decreases-array_words
+decreases-array_words l = 100000 * (257 - l.depth) + 1500
+
+abbrev pub decreases-array_word : goal.decreases-array_word
+decreases-array_word l = 100000 * (257 - l.depth) + 1400
+
+abbrev pub decreases-function_suffix : goal.decreases-function_suffix
+decreases-function_suffix l = 100000 * (257 - l.depth) + 1600
+
+abbrev pub decreases-parameter_scope : goal.decreases-parameter_scope
+decreases-parameter_scope l = 100000 * (257 - l.depth) + 1550
+
+abbrev pub decreases-bound : goal.decreases-bound
+decreases-bound l = 100000 * (257 - l.depth) + 17700
+
+abbrev pub decreases-params : goal.decreases-params
+decreases-params l = 100000 * (257 - l.depth) + 5700
+
+abbrev pub decreases-parameter_list : goal.decreases-parameter_list
+decreases-parameter_list l = 100000 * (257 - l.depth) + 5600
+
+abbrev pub decreases-param : goal.decreases-param
+decreases-param l = 100000 * (257 - l.depth) + 4700
+
+abbrev pub decreases-parameter : goal.decreases-parameter
+decreases-parameter l = 100000 * (257 - l.depth) + 4600
+
+abbrev pub decreases-pdecl : goal.decreases-pdecl
+decreases-pdecl l = 100000 * (257 - l.depth) + 3700
+
+abbrev pub decreases-pointers : goal.decreases-pointers
+decreases-pointers l = 100000 * (257 - l.depth) + 1000 * level_of l.production + 600
+
+abbrev pub decreases-pdirect : goal.decreases-pdirect
+decreases-pdirect l = 100000 * (257 - l.depth) + 2700
+
+abbrev pub decreases-type_name : goal.decreases-type_name
+decreases-type_name l = 100000 * (257 - l.depth) + 4700
+
+abbrev pub decreases-type_name_parts : goal.decreases-type_name_parts
+decreases-type_name_parts l = 100000 * (257 - l.depth) + 4600
+
+abbrev pub decreases-adecl : goal.decreases-adecl
+decreases-adecl l = 100000 * (257 - l.depth) + 3700
+
+abbrev pub decreases-adirect : goal.decreases-adirect
+decreases-adirect l = 100000 * (257 - l.depth) + 2700
+
+abbrev pub decreases-init : goal.decreases-init
+decreases-init l = 100000 * (257 - l.depth) + 17700
+
+abbrev pub decreases-init_list : goal.decreases-init_list
+decreases-init_list l = 100000 * (257 - l.depth) + 19700
+
+abbrev pub decreases-init_item : goal.decreases-init_item
+decreases-init_item l = 100000 * (257 - l.depth) + 18700
+
+abbrev pub decreases-designated : goal.decreases-designated
+decreases-designated l = 100000 * (257 - l.depth) + 18600
+
+abbrev pub decreases-designator : goal.decreases-designator
+decreases-designator l = 100000 * (257 - l.depth) + 700
+
+abbrev pub invariant-repeated-parts : goal.invariant-repeated-parts
+invariant-repeated-parts l =
+    step c99 (whole c99) l.depth (many own (part l.production)) l.self
+    ≡ step c99 (whole c99) l.depth (many own (part l.production)) l.initial.self
+
+abbrev pub decreases-repeated-parts : goal.decreases-repeated-parts
+decreases-repeated-parts l = tokens_left l.self
+
+abbrev pub invariant-listed-turns : goal.invariant-listed-turns
+invariant-listed-turns l =
+    step c99 (whole c99) l.depth (many (next_two (is (Comma ∷ [])) (ask_of l.ask)) (tok Comma · part l.production)) l.self
+    ≡ step c99 (whole c99) l.depth (many (next_two (is (Comma ∷ [])) (ask_of l.ask)) (tok Comma · part l.production)) l.initial.self
+
+abbrev pub decreases-listed-turns : goal.decreases-listed-turns
+decreases-listed-turns l = tokens_left l.self
+
+abbrev pub invariant-words_and_modifiers-words : goal.invariant-words_and_modifiers-words
+invariant-words_and_modifiers-words l =
+    step c99 (whole c99) l.depth (many own (choice (part Word) (part Mod))) l.self
+    ≡ step c99 (whole c99) l.depth (many own (choice (part Word) (part Mod))) l.initial.self
+
+abbrev pub decreases-words_and_modifiers-words : goal.decreases-words_and_modifiers-words
+decreases-words_and_modifiers-words l = tokens_left l.self
+
+abbrev pub invariant-array_words-words : goal.invariant-array_words-words
+invariant-array_words-words l =
+    step c99 (whole c99) l.depth (many own (choice (part Qual) (tok Static))) l.self
+    ≡ step c99 (whole c99) l.depth (many own (choice (part Qual) (tok Static))) l.initial.self
+
+abbrev pub decreases-array_words-words : goal.decreases-array_words-words
+decreases-array_words-words l = tokens_left l.self
