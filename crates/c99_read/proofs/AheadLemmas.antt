@@ -1,6 +1,5 @@
 -- The classes of the next two tokens.
-use Rattle.std.proofs.Common.{ℕ, ◌+◌, ◌≡◌, List, refl, ap, ◌∙◌}
-use Rattle.cs_base.specs.Token.{Token}
+use Rattle.std.proofs.Common.{ℕ, ◌≡◌, List, ap, ◌∙◌}
 use Rattle.c99_tree.specs.Names.{Declared}
 use Rattle.c99_read.specs.declared.classes.Class.{Class}
 use Rattle.c99_read.specs.Kept.{class_among}

@@ -1,11 +1,11 @@
 -- A node whose last child waits beside the others.
-use Rattle.std.proofs.Common.{ℕ, ◌≡◌, Bool, true, false, ◌||◌, if◌then◌else◌, List, Option, None, Some, refl, sym, ap, ◌∙◌, arith}
+use Rattle.std.proofs.Common.{ℕ, ◌≡◌, Bool, true, false, ◌||◌, List, Option, None, Some, refl, ap, ◌∙◌, arith}
 use Rattle.std.proofs.Math.Bool.{or_assoc}
 use Rattle.cs_base.specs.Token.{Token}
 use Rattle.c99_tree.specs.Tree.{Forest, none, token, node, Node, inner, put, count_of, collapsed}
 use Rattle.c99_read.specs.OpenNode.{with_last}
 use Rattle.c99_read.specs.Standard.{c99}
-use Rattle.c99_read.specs.State.{is_identifier, base_at, last_identifier, last_declared, name_below, has_typedef, is_typedef_part}
+use Rattle.c99_read.specs.State.{last_identifier, last_declared, name_below, has_typedef, is_typedef_part}
 
 -- no child: the only one is that which waits
 pub collapsed-last : (n last : Node) → count_of n.under ≡ 0 → last ≡ collapsed (record n { under = put n.under (inner last) })

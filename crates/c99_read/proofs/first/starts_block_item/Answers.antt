@@ -1,6 +1,4 @@
-use Rattle.std.proofs.Common.{◌∷◌}
-use Rattle.c99_read.specs.declared.classes.Class.TheVariants.{Semicolon}
-use Rattle.c99_read.specs.First.{specifiers, expressions, statements}
+use Rattle.c99_read.specs.First.{specifiers, statements}
 use Rattle.c99_read.proofs.AmongLemmas.{among-append, in_first, in_second}
 use Rattle.c99_read.proofs.first.starts_block_item.Goals as goal
 

@@ -5,7 +5,7 @@ use Rattle.c99_read.specs.declared.faults.ReadRefusal.{ReadRefusal}
 use Rattle.c99_read.specs.State.{State}
 use Rattle.c99_read.specs.Answer.{Reads}
 use Rattle.c99_read.specs.Levels.{level_of}
-use Rattle.c99_read.specs.Reading.{Step, pick, run, whole, produce, repeat}
+use Rattle.c99_read.specs.Reading.{Step, pick, run, whole, produce}
 use Rattle.c99_read.specs.Asks.{ask_of}
 use Rattle.c99_read.specs.Standard.{c99}
 use Rattle.c99_read.specs.declared.classes.Class.{Class}
