@@ -1,0 +1,119 @@
+-- Source files and their numbers (ISO/IEC 9899:1999, 5.1.1.1): what is read of each, and what is kept from
+-- unit to unit.
+use Rattle.std.specs.Prelude.{ℕ, ◌+◌, if◌then◌else◌, Option, None, Some, List, [], ◌∷◌, ◌++◌, codes, length, position, is_some, unwrap_or}
+use Rattle.std.specs.Fmt.{decimal}
+use Rattle.std.specs.Str.{bytes_eq}
+use Rattle.cs_base.specs.Outside.{FileMap, bytes_at}
+
+-- What a path holds: its bytes, or none where it is not there.
+abbrev pub Source : Type 0
+Source = List ℕ → Option (List ℕ)
+
+-- the same for files that are told
+abbrev pub source_of : FileMap → Source
+source_of files path = bytes_at path files
+
+-- What a number stands for: a path without a file; a file that is there and was not opened without a
+-- fault; one that was; or a pseudo file, whose text the program makes.
+pub data Found : Type 0 where
+  Absent : Found
+  Unopened : List ℕ → Found
+  Opened : List ℕ → Found
+  Made : List ℕ → Found
+
+-- a path and what it stands for
+pub record Entry : Type 0 where
+  pub path : List ℕ
+  pub found : Found
+
+abbrev pub entry : List ℕ → Found → Entry
+entry path found = record { path = path; found = found }
+
+-- The paths that have a number, which is their place here.
+abbrev pub Table : Type 0
+Table = List Entry
+
+-- the number of a path, if it has one
+abbrev pub number_of : List ℕ → Table → Option ℕ
+number_of path table = position (λ e. bytes_eq e.path path) table
+
+-- what a path stands for, if it has a number
+unfoldable pub found_at : List ℕ → Table → Option Found
+found_at path [] = None
+found_at path (e ∷ table) = if bytes_eq e.path path then Some e.found else found_at path table
+
+-- the table with one number more
+abbrev pub numbered : List ℕ → Found → Table → Table
+numbered path found table = table ++ entry path found ∷ []
+
+-- what is read of a path
+abbrev pub found_in : Option (List ℕ) → Found
+found_in None = Absent
+found_in (Some bytes) = Unopened bytes
+
+-- the table once a path is asked for: only the first time is it read, and gets its number
+abbrev pub asked : Source → List ℕ → Table → Table
+asked source path table =
+    if is_some (found_at path table) then table else numbered path (found_in (source path)) table
+
+-- the table once the file of a path is opened, which has these bytes
+unfoldable pub opened : List ℕ → List ℕ → Table → Table
+opened path bytes [] = []
+opened path bytes (e ∷ table) =
+    if bytes_eq e.path path then entry path (Opened bytes) ∷ table else e ∷ opened path bytes table
+
+-- the bytes of a file that was opened
+abbrev pub opened_bytes : Found → Option (List ℕ)
+opened_bytes (Opened bytes) = Some bytes
+opened_bytes _ = None
+
+-- how many files and bytes one more makes
+abbrev pub one_more : Option (List ℕ) → ℕ → ℕ
+one_more None count = count
+one_more (Some bytes) count = count + 1
+
+abbrev pub more_bytes : Option (List ℕ) → ℕ → ℕ
+more_bytes None count = count
+more_bytes (Some bytes) count = count + length bytes
+
+-- how many files were opened, pseudo files not counted, and how many bytes they have together
+unfoldable pub files_opened : Table → ℕ
+files_opened [] = 0
+files_opened (e ∷ table) = one_more (opened_bytes e.found) (files_opened table)
+
+unfoldable pub bytes_opened : Table → ℕ
+bytes_opened [] = 0
+bytes_opened (e ∷ table) = more_bytes (opened_bytes e.found) (bytes_opened table)
+
+-- the pseudo file in which the numbers of lines stand
+abbrev pub lines_path : List ℕ
+lines_path = codes "<lines>"
+
+-- the pseudo file that a unit begins with
+abbrev pub defines_path : ℕ → List ℕ
+defines_path unit = codes "<defines " ++ decimal unit ++ codes ">"
+
+-- What is kept from unit to unit: what each number stands for, and how many tokens the units had.
+pub record Carried : Type 0 where
+  pub table : Table
+  pub toks : ℕ
+
+abbrev pub carried : Table → ℕ → Carried
+carried table toks = record { table = table; toks = toks }
+
+-- before the first unit: number 0 is the pseudo file of lines, which no one opens
+abbrev pub nothing_carried : Carried
+nothing_carried = carried (entry lines_path Absent ∷ []) 0
+
+-- A source file that is processed: its number, its path and its bytes.
+pub record SourceFile : Type 0 where
+  pub number : ℕ
+  pub path : List ℕ
+  pub bytes : List ℕ
+
+abbrev pub source_file : ℕ → List ℕ → List ℕ → SourceFile
+source_file number path bytes = record { number = number; path = path; bytes = bytes }
+
+-- the file of a path with these bytes, by its number
+abbrev pub file_at : Table → List ℕ → List ℕ → SourceFile
+file_at table path bytes = source_file (unwrap_or (number_of path table) 0) path bytes

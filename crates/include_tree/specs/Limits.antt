@@ -1,0 +1,31 @@
+-- This project's limits on translation units. The standard sets lower bounds for some (ISO/IEC 9899:1999,
+-- 5.2.4.1).
+use Rattle.std.specs.Prelude.{ℕ, ◌^◌}
+
+-- How many bytes a file may have; how many files may be read, and how many bytes in them together; how
+-- many files may be open inside one another, that of the unit among them; what the replacements of macros
+-- in a unit may cost together; how many tokens a unit may have, and all units together.
+pub record Limits : Type 0 where
+  pub file_bytes : ℕ
+  pub files : ℕ
+  pub all_bytes : ℕ
+  pub open_files : ℕ
+  pub work : ℕ
+  pub unit_toks : ℕ
+  pub all_toks : ℕ
+
+-- limits of these parts
+abbrev pub limits : ℕ → ℕ → ℕ → ℕ → ℕ → ℕ → ℕ → Limits
+limits file_bytes files all_bytes open_files work unit_toks all_toks = record {
+  file_bytes = file_bytes;
+  files = files;
+  all_bytes = all_bytes;
+  open_files = open_files;
+  work = work;
+  unit_toks = unit_toks;
+  all_toks = all_toks;
+}
+
+-- the limits that hold
+abbrev pub the_limits : Limits
+the_limits = limits (2 ^ 22) 4096 (2 ^ 25) 200 (2 ^ 22) (2 ^ 22) (2 ^ 23)

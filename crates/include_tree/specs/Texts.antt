@@ -1,0 +1,67 @@
+-- What callers see of a unit that is preprocessed.
+use Rattle.std.specs.Prelude.{ℕ, ◌+◌, List, [], ◌∷◌, ◌++◌, Result, Ok, Err, length}
+use Rattle.std.specs.List.{flat_map}
+use Rattle.cs_base.specs.declared.tokens.Link.{Link}
+use Rattle.cs_base.specs.Token.{Token}
+use Rattle.cs_base.specs.Units.{UnitValue}
+use Rattle.include_tree.specs.declared.events.Event.{Event}
+use Rattle.include_tree.specs.declared.events.Reached.{Reached}
+use Rattle.include_tree.specs.Limits.{the_limits}
+use Rattle.include_tree.specs.Files.{Source, Carried, carried, nothing_carried}
+use Rattle.include_tree.specs.Faults.{Fault}
+use Rattle.include_tree.specs.Notes.{Note, links_of, pasted_of, stringized_of, header_of, answers_of, events_of, reached_of}
+use Rattle.include_tree.specs.State.{Did, Outcome}
+use Rattle.include_tree.specs.Unit.{unit_outcome}
+
+-- The tokens of a unit; its links; the tokens that `##` made; those that strings were made of; those of
+-- expanded include lines; the numbers that stood for operands of `defined`; the items that were reached;
+-- and the events. Each list is in order.
+pub record UnitTextValue : Type 0 where
+  pub toks : List Token
+  pub links : List Link
+  pub pasted : List Token
+  pub stringized : List Token
+  pub header : List Token
+  pub answers : List Token
+  pub reached : List Reached
+  pub events : List Event
+
+-- the items that are reached, behind so many events
+unfoldable pub reached_in : ℕ → List Note → List Reached
+reached_in events [] = []
+reached_in events (note ∷ notes) = reached_of events note ++ reached_in (events + length (events_of note)) notes
+
+-- the text of these tokens and notes
+abbrev pub unit_text : List Token → List Note → UnitTextValue
+unit_text toks notes = record {
+  toks = toks;
+  links = flat_map links_of notes;
+  pasted = flat_map pasted_of notes;
+  stringized = flat_map stringized_of notes;
+  header = flat_map header_of notes;
+  answers = flat_map answers_of notes;
+  reached = reached_in 0 notes;
+  events = flat_map events_of notes;
+}
+
+-- What preprocessing a unit gives: its text, and what is carried to the next unit.
+pub record Preprocessed : Type 0 where
+  pub text : UnitTextValue
+  pub after : Carried
+
+-- that of an outcome; so many tokens came before
+abbrev pub preprocessed_by : ℕ → Outcome (List Token) → Result Preprocessed Fault
+preprocessed_by earlier (Ok d) = Ok (record {
+  text = unit_text d.value d.notes;
+  after = carried d.state.table (earlier + length d.value);
+})
+preprocessed_by earlier (Err fault) = Err fault
+
+-- a unit, given its number and what is carried from the units before
+unfoldable pub preprocessed : Source → ℕ → UnitValue → Carried → Result Preprocessed Fault
+preprocessed source number unit before =
+    preprocessed_by before.toks (unit_outcome the_limits source number unit before)
+
+-- one unit by itself
+abbrev pub one_unit : Source → ℕ → UnitValue → Result Preprocessed Fault
+one_unit source number unit = preprocessed source number unit nothing_carried
