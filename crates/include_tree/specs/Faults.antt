@@ -1,9 +1,9 @@
 -- Faults of a unit: where they stand, and why.
-use Rattle.std.specs.Prelude.{ℕ, Option, Result, Ok, Err, List, unwrap_or}
+use Rattle.std.specs.Prelude.{ℕ, List, unwrap_or}
 use Rattle.cs_base.specs.declared.causes.Cause.{Cause}
 use Rattle.cs_base.specs.declared.positions.Place.{Place}
 use Rattle.cs_base.specs.declared.positions.Pos.{Pos}
-use Rattle.part_lexer.specs.Lines.{line_column_of}
+use Rattle.part_lexer.specs.FileText.{place_at}
 use Rattle.include_tree.specs.Files.{SourceFile}
 
 -- The first fault of a unit: a path, a line and a column, and a cause.
@@ -20,7 +20,7 @@ place_of path place = record { path = path; line = place.0; column = place.1 }
 
 -- the place of a position in a file; positions of its tokens have one
 abbrev pub place_in : SourceFile → Pos → Place
-place_in file at = place_of file.path (unwrap_or (line_column_of file.bytes at.at) (1, 1))
+place_in file at = place_of file.path (unwrap_or (place_at file.text at.at) (1, 1))
 
 -- a fault at a position in a file
 abbrev pub fault_at : SourceFile → Pos → Cause → Fault

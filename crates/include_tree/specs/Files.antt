@@ -1,9 +1,11 @@
 -- Source files and their numbers (ISO/IEC 9899:1999, 5.1.1.1): what is read of each, and what is kept from
 -- unit to unit.
-use Rattle.std.specs.Prelude.{ℕ, ◌+◌, if◌then◌else◌, Option, None, Some, List, [], ◌∷◌, ◌++◌, codes, length, position, is_some, unwrap_or}
+use Rattle.std.specs.Prelude.{ℕ, ◌+◌, if◌then◌else◌, Option, None, Some, List, [], ◌∷◌, ◌++◌, codes, length, is_some}
 use Rattle.std.specs.Fmt.{decimal}
+use Rattle.std.specs.List.{position_or_len}
 use Rattle.std.specs.Str.{bytes_eq}
 use Rattle.cs_base.specs.Outside.{FileMap, bytes_at}
+use Rattle.part_lexer.specs.FileText.{TextValue}
 
 -- What a path holds: its bytes, or none where it is not there.
 abbrev pub Source : Type 0
@@ -33,9 +35,9 @@ entry path found = record { path = path; found = found }
 abbrev pub Table : Type 0
 Table = List Entry
 
--- the number of a path, if it has one
-abbrev pub number_of : List ℕ → Table → Option ℕ
-number_of path table = position (λ e. bytes_eq e.path path) table
+-- the number of a path, or how many there are where it has none
+abbrev pub number_of : List ℕ → Table → ℕ
+number_of path table = position_or_len (λ e. bytes_eq e.path path) table
 
 -- what a path stands for, if it has a number
 unfoldable pub found_at : List ℕ → Table → Option Found
@@ -105,15 +107,11 @@ carried table toks = record { table = table; toks = toks }
 abbrev pub nothing_carried : Carried
 nothing_carried = carried (entry lines_path Absent ∷ []) 0
 
--- A source file that is processed: its number, its path and its bytes.
+-- A source file that is processed: its number, its path and its text.
 pub record SourceFile : Type 0 where
   pub number : ℕ
   pub path : List ℕ
-  pub bytes : List ℕ
+  pub text : TextValue
 
-abbrev pub source_file : ℕ → List ℕ → List ℕ → SourceFile
-source_file number path bytes = record { number = number; path = path; bytes = bytes }
-
--- the file of a path with these bytes, by its number
-abbrev pub file_at : Table → List ℕ → List ℕ → SourceFile
-file_at table path bytes = source_file (unwrap_or (number_of path table) 0) path bytes
+abbrev pub source_file : ℕ → List ℕ → TextValue → SourceFile
+source_file number path text = record { number = number; path = path; text = text }

@@ -2,11 +2,10 @@
 -- 5.2.4.1).
 use Rattle.std.specs.Prelude.{ℕ, ◌^◌}
 
--- How many bytes a file may have; how many files may be read, and how many bytes in them together; how
--- many files may be open inside one another, that of the unit among them; what the replacements of macros
--- in a unit may cost together; how many tokens a unit may have, and all units together.
+-- How many files may be read, and how many bytes in them together; how many files may be open inside one
+-- another, that of the unit among them; what the replacements of macros in a unit may cost together; how
+-- many tokens a unit may have, and all units together.
 pub record Limits : Type 0 where
-  pub file_bytes : ℕ
   pub files : ℕ
   pub all_bytes : ℕ
   pub open_files : ℕ
@@ -15,9 +14,8 @@ pub record Limits : Type 0 where
   pub all_toks : ℕ
 
 -- limits of these parts
-abbrev pub limits : ℕ → ℕ → ℕ → ℕ → ℕ → ℕ → ℕ → Limits
-limits file_bytes files all_bytes open_files work unit_toks all_toks = record {
-  file_bytes = file_bytes;
+abbrev pub limits : ℕ → ℕ → ℕ → ℕ → ℕ → ℕ → Limits
+limits files all_bytes open_files work unit_toks all_toks = record {
   files = files;
   all_bytes = all_bytes;
   open_files = open_files;
@@ -26,6 +24,6 @@ limits file_bytes files all_bytes open_files work unit_toks all_toks = record {
   all_toks = all_toks;
 }
 
--- the limits that hold
+-- the limits that hold; that on the bytes of one file is the lexer's
 abbrev pub the_limits : Limits
-the_limits = limits (2 ^ 22) 4096 (2 ^ 25) 200 (2 ^ 22) (2 ^ 22) (2 ^ 23)
+the_limits = limits 4096 (2 ^ 25) 200 (2 ^ 22) (2 ^ 22) (2 ^ 23)

@@ -2,23 +2,29 @@
 -- 5.1.1.2 phase 4).
 use Rattle.std.specs.Prelude.{ℕ, List, [], ◌∷◌, ◌++◌, Result, Ok, Err}
 use Rattle.cs_base.specs.Token.{Token}
+use Rattle.part_lexer.specs.FileText.{TextValue, LexFault}
 use Rattle.macro_expand.specs.Macro.{Table as Macros}
 use Rattle.include_tree.specs.Files.{Source, Table}
 use Rattle.include_tree.specs.Limits.{Limits}
 use Rattle.include_tree.specs.Faults.{Fault}
 use Rattle.include_tree.specs.Notes.{Note}
 
--- What stays the same: what files hold, the directories that includes are looked for in, the limits, and
--- how many tokens the units before had.
+-- How a file is read, given by its number and its bytes: its text, or why there is none.
+abbrev pub Reader : Type 0
+Reader = ℕ → List ℕ → Result TextValue LexFault
+
+-- What stays the same: what files hold, how they are read, the directories that includes are looked for
+-- in, the limits, and how many tokens the units before had.
 pub record Context : Type 0 where
   pub source : Source
+  pub reader : Reader
   pub ipath : List (List ℕ)
   pub limits : Limits
   pub earlier : ℕ
 
-abbrev pub context : Source → List (List ℕ) → Limits → ℕ → Context
-context source ipath limits earlier =
-    record { source = source; ipath = ipath; limits = limits; earlier = earlier }
+abbrev pub context : Source → Reader → List (List ℕ) → Limits → ℕ → Context
+context source reader ipath limits earlier =
+    record { source = source; reader = reader; ipath = ipath; limits = limits; earlier = earlier }
 
 -- What changes: the table of files, the macros that are defined, the work that is left, the first name of
 -- each spelling among those that later ones are linked with, and how many tokens were put out.

@@ -4,6 +4,7 @@ use Rattle.std.specs.List.{flat_map}
 use Rattle.cs_base.specs.declared.tokens.Link.{Link}
 use Rattle.cs_base.specs.Token.{Token}
 use Rattle.cs_base.specs.Units.{UnitValue}
+use Rattle.part_lexer.specs.FileText.{file_text}
 use Rattle.include_tree.specs.declared.events.Event.{Event}
 use Rattle.include_tree.specs.declared.events.Reached.{Reached}
 use Rattle.include_tree.specs.Limits.{the_limits}
@@ -60,7 +61,7 @@ preprocessed_by earlier (Err fault) = Err fault
 -- a unit, given its number and what is carried from the units before
 unfoldable pub preprocessed : Source → ℕ → UnitValue → Carried → Result Preprocessed Fault
 preprocessed source number unit before =
-    preprocessed_by before.toks (unit_outcome the_limits source number unit before)
+    preprocessed_by before.toks (unit_outcome the_limits file_text source number unit before)
 
 -- one unit by itself
 abbrev pub one_unit : Source → ℕ → UnitValue → Result Preprocessed Fault

@@ -3,7 +3,6 @@ use Rattle.std.specs.Prelude.{ℕ, zero, suc, ◌+◌, Bool, true, false, if◌t
 use Rattle.cs_base.specs.declared.causes.Cause.TheVariants.{BadDirective, ErrorDirective, UnbalancedIf}
 use Rattle.cs_base.specs.declared.positions.Pos.{Pos}
 use Rattle.cs_base.specs.Token.{Token}
-use Rattle.part_lexer.specs.Tokens.{tokens_of, firsts_of}
 use Rattle.line_shape.specs.declared.items.Item.{Item}
 use Rattle.line_shape.specs.declared.items.ItemKind.{ItemKind}
 use Rattle.line_shape.specs.declared.items.ItemKind.TheVariants as kind
@@ -34,7 +33,7 @@ item_texts toks firsts = map (item_text toks) (items_of toks firsts)
 
 -- the items of a file
 abbrev pub items_in : SourceFile → List ItemText
-items_in file = item_texts (tokens_of file.number file.bytes) (firsts_of file.bytes)
+items_in file = item_texts file.text.toks file.text.firsts
 
 -- ---- an item that opens no section and ends none
 
