@@ -15,9 +15,11 @@ Source = List ℕ → Option (List ℕ)
 abbrev pub source_of : FileMap → Source
 source_of files path = bytes_at path files
 
--- What a number stands for: a path without a file; a file that is there and was not opened without a
--- fault; one that was; or a pseudo file, whose text the program makes.
+-- What a number stands for: the pseudo file in which the numbers of lines stand, which is never opened; a
+-- path without a file; a file that is there and was not opened without a fault; one that was; or a pseudo
+-- file whose text the program makes.
 pub data Found : Type 0 where
+  Lines : Found
   Absent : Found
   Unopened : List ℕ → Found
   Opened : List ℕ → Found
@@ -103,9 +105,9 @@ pub record Carried : Type 0 where
 abbrev pub carried : Table → ℕ → Carried
 carried table toks = record { table = table; toks = toks }
 
--- before the first unit: number 0 is the pseudo file of lines, which no one opens
+-- before the first unit: number 0 is the pseudo file of lines
 abbrev pub nothing_carried : Carried
-nothing_carried = carried (entry lines_path Absent ∷ []) 0
+nothing_carried = carried (entry lines_path Lines ∷ []) 0
 
 -- A source file that is processed: its number, its path and its text.
 pub record SourceFile : Type 0 where

@@ -15,3 +15,4 @@ pub mod Including
 pub mod Walk
 pub mod Unit
 pub mod Texts
+pub mod Laws

@@ -3,7 +3,7 @@ use Rattle.std.specs.Prelude.{ℕ, ◌+◌, Bool, true, false, not, ◌&&◌, na
 use Rattle.cs_base.specs.declared.causes.Cause.TheVariants as cause
 use Rattle.cs_base.specs.declared.positions.Place.{Place}
 use Rattle.part_lexer.specs.FileText.{TextValue, LexFault, FileTooLarge, OpenComment}
-use Rattle.include_tree.specs.Files.{Found, Absent, Unopened, Opened, Made, Table, SourceFile, source_file, number_of, found_at, opened, files_opened, bytes_opened}
+use Rattle.include_tree.specs.Files.{Found, Lines, Absent, Unopened, Opened, Made, Table, SourceFile, source_file, number_of, found_at, opened, files_opened, bytes_opened}
 use Rattle.include_tree.specs.Faults.{fault, place_of}
 use Rattle.include_tree.specs.State.{Context, State, Outcome, only}
 
@@ -41,6 +41,7 @@ first_opened ctx place path bytes s =
 -- the file of a path by what its number stands for; a fault of opening it stands at this place
 abbrev pub opened_as : Context → Place → List ℕ → State → Option Found → Outcome SourceFile
 opened_as ctx place path s None = Err (fault place cause.MissingFile)
+opened_as ctx place path s (Some Lines) = Err (fault place cause.MissingFile)
 opened_as ctx place path s (Some Absent) = Err (fault place cause.MissingFile)
 opened_as ctx place path s (Some (Unopened bytes)) = first_opened ctx place path bytes s
 opened_as ctx place path s (Some (Opened bytes)) = readable ctx place path bytes s

@@ -3,5 +3,7 @@
 #![tactic(auto)]
 
 mod events;
+mod laws;
 
 pub use events::{Event, EventKind, Reached};
+pub use laws::{depth_is_a_limit, units_are_counted};

@@ -1,0 +1,144 @@
+-- The table of files: how it grows.
+use Rattle.std.proofs.Common.{◌≡◌, ℕ, Bool, true, false, cond, List, [], ◌∷◌, ◌++◌, map, Option, None, Some, is_some, refl, sym, ◌∙◌, ap, subst, inl, inr, arith}
+use Rattle.std.specs.List.{list_any}
+use Rattle.std.specs.Str.{bytes_eq}
+use Rattle.std.proofs.lemmas.Bool.{cases_Bool}
+use Rattle.cs_base.proofs.FileMapLemmas.{bytes_eq-equal, bytes_eq-same}
+use Rattle.line_shape.proofs.NameLemmas.{are_distinct-new, map-push}
+use Rattle.line_shape.specs.MacroLine.{are_distinct}
+use Rattle.include_tree.specs.Files.{Source, Found, Lines, Absent, Unopened, Opened, Made, Entry, entry, Table, found_at, found_in, numbered, asked, opened}
+use Rattle.include_tree.specs.Laws.{Becomes, IsGrown, IsFound, AreFound, paths_in, HasEachOnce, Widens}
+
+-- ---- one after another
+
+becomes_trans : (a b c : Found) → Becomes a b → Becomes b c → Becomes a c
+becomes_trans a b c (inl same) (inl same2) = inl (same2 ∙ same)
+becomes_trans a b c (inl same) (inr later) = inr (later.0, sym same ∙ later.1, later.2)
+becomes_trans a b c (inr first) (inl same) = inr (first.0, first.1, same ∙ first.2)
+becomes_trans a b c (inr first) (inr later) = cc
+
+grown_refl : (t : Table) → IsGrown t t
+grown_refl [] = tt
+grown_refl (e ∷ t) = (refl, inl refl, grown_refl t)
+
+grown_trans : (a b c : Table) → IsGrown a b → IsGrown b c → IsGrown a c
+grown_trans [] b c h k = tt
+grown_trans (e ∷ a) [] c h k = absurd h
+grown_trans (e ∷ a) (f ∷ b) [] h k = absurd k
+grown_trans (e ∷ a) (f ∷ b) (g ∷ c) h k =
+    (k.0 ∙ h.0, becomes_trans e.found f.found g.found h.1 k.1, grown_trans a b c h.2 k.2)
+
+pub widens_refl : (source : Source) (t : Table) → Widens source t t
+widens_refl source t = record { grown = grown_refl t; found = λ h. h; once = λ h. h }
+
+pub widens_trans : (source : Source) (a b c : Table) → Widens source a b → Widens source b c → Widens source a c
+widens_trans source a b c h k = record {
+  grown = grown_trans a b c h.grown k.grown;
+  found = λ f. k.found (h.found f);
+  once = λ o. k.once (h.once o);
+}
+
+-- ---- a new number
+
+grown_push : (t : Table) (e : Entry) → IsGrown t (t ++ e ∷ [])
+grown_push [] e = tt
+grown_push (d ∷ t) e = (refl, inl refl, grown_push t e)
+
+found_push : (source : Source) (t : Table) (e : Entry) → IsFound source e.path e.found → AreFound source t → AreFound source (t ++ e ∷ [])
+found_push source [] e h all = (h, tt)
+found_push source (d ∷ t) e h all = (all.0, found_push source t e h all.1)
+
+apart : (a b : List ℕ) → bytes_eq a b ≡ false → bytes_eq b a ≡ false
+apart a b h = elim (cases_Bool (bytes_eq b a)) [
+  | inl same ↦ absurd (let e : true ≡ false = sym (bytes_eq-same b) ∙ ap (λ c. bytes_eq c b) (bytes_eq-equal b a same) ∙ h in cc)
+  | inr no_ ↦ no_
+]
+
+-- a path that has no number is none of those that have one
+not_among : (path : List ℕ) (t : Table) → found_at path t ≡ None → list_any (bytes_eq path) (paths_in t) ≡ false
+unfolding found_at
+not_among path [] h = refl
+not_among path (e ∷ t) h = elim (cases_Bool (bytes_eq e.path path)) [
+  | inl same ↦ cc
+  | inr other ↦ rw (apart e.path path other) (not_among path t (let k : cond (bytes_eq e.path path) (Some e.found) (found_at path t) ≡ None = h in rw other at k))
+]
+
+once_push : (path : List ℕ) (found : Found) (t : Table) → found_at path t ≡ None → HasEachOnce t → HasEachOnce (numbered path found t)
+once_push path found t none once =
+    subst (λ (ps : List (List ℕ)). are_distinct ps ≡ true) (sym (map-push (λ (e : Entry). e.path) t (numbered path found t) (entry path found) refl))
+    (are_distinct-new (paths_in t) path once (not_among path t none))
+
+pub widens_push : (source : Source) (path : List ℕ) (found : Found) (t : Table) → found_at path t ≡ None → IsFound source path found
+    → Widens source t (numbered path found t)
+widens_push source path found t none is = record {
+  grown = grown_push t (entry path found);
+  found = found_push source t (entry path found) is;
+  once = once_push path found t none;
+}
+
+found_in_is : (source : Source) (path : List ℕ) (o : Option (List ℕ)) → source path ≡ o → IsFound source path (found_in o)
+found_in_is source path None h = h
+found_in_is source path (Some bytes) h = h
+
+asked_by : (source : Source) (path : List ℕ) (t : Table) (o : Option Found) → found_at path t ≡ o
+    → Widens source t (cond (is_some o) t (numbered path (found_in (source path)) t))
+asked_by source path t None h = widens_push source path (found_in (source path)) t h (found_in_is source path (source path) refl)
+asked_by source path t (Some found) h = widens_refl source t
+
+pub widens_asked : (source : Source) (path : List ℕ) (t : Table) → Widens source t (asked source path t)
+widens_asked source path t = asked_by source path t (found_at path t) refl
+
+-- ---- a file that is opened
+
+some_same : (a b : Found) → ◌≡◌ {A = Option Found} (Some a) (Some b) → a ≡ b
+some_same a b h = grind (arith, h)
+
+opened_found : (e : Entry) (path bytes : List ℕ) (t : Table) → bytes_eq e.path path ≡ true → found_at path (e ∷ t) ≡ Some (Unopened bytes)
+    → e.found ≡ Unopened bytes
+unfolding found_at
+opened_found e path bytes t same h =
+    let k : cond (bytes_eq e.path path) (Some e.found) (found_at path t) ≡ Some (Unopened bytes) = h in
+    some_same e.found (Unopened bytes) (rw same at k)
+
+later_found : (e : Entry) (path bytes : List ℕ) (t : Table) → bytes_eq e.path path ≡ false → found_at path (e ∷ t) ≡ Some (Unopened bytes)
+    → found_at path t ≡ Some (Unopened bytes)
+unfolding found_at
+later_found e path bytes t other h =
+    let k : cond (bytes_eq e.path path) (Some e.found) (found_at path t) ≡ Some (Unopened bytes) = h in rw other at k
+
+grown_opened : (path bytes : List ℕ) (t : Table) → found_at path t ≡ Some (Unopened bytes) → IsGrown t (opened path bytes t)
+unfolding opened
+grown_opened path bytes [] h = tt
+grown_opened path bytes (e ∷ t) h = elim (cases_Bool (bytes_eq e.path path)) [
+  | inl same ↦ rw same (sym (bytes_eq-equal e.path path same), inr (bytes, opened_found e path bytes t same h, refl), grown_refl t)
+  | inr other ↦ rw other (refl, inl refl, grown_opened path bytes t (later_found e path bytes t other h))
+]
+
+is_opened : (source : Source) (p path bytes : List ℕ) (f : Found) → p ≡ path → f ≡ Unopened bytes → IsFound source p f → IsFound source path (Opened bytes)
+is_opened source p path bytes f e g h =
+    subst (λ (q : List ℕ). source q ≡ Some bytes) e (subst (λ (d : Found). IsFound source p d) g h)
+
+found_opened : (source : Source) (path bytes : List ℕ) (t : Table) → found_at path t ≡ Some (Unopened bytes) → AreFound source t
+    → AreFound source (opened path bytes t)
+unfolding opened
+found_opened source path bytes [] h all = tt
+found_opened source path bytes (e ∷ t) h all = elim (cases_Bool (bytes_eq e.path path)) [
+  | inl same ↦ rw same (is_opened source e.path path bytes e.found (bytes_eq-equal e.path path same) (opened_found e path bytes t same h) all.0, all.1)
+  | inr other ↦ rw other (all.0, found_opened source path bytes t (later_found e path bytes t other h) all.1)
+]
+
+paths-opened : (path bytes : List ℕ) (t : Table) → paths_in (opened path bytes t) ≡ paths_in t
+unfolding opened
+paths-opened path bytes [] = refl
+paths-opened path bytes (e ∷ t) = elim (cases_Bool (bytes_eq e.path path)) [
+  | inl same ↦ rw same (ap (λ (p : List ℕ). p ∷ paths_in t) (sym (bytes_eq-equal e.path path same)))
+  | inr other ↦ rw other (ap (λ (ps : List (List ℕ)). e.path ∷ ps) (paths-opened path bytes t))
+]
+
+pub widens_opened : (source : Source) (path bytes : List ℕ) (t : Table) → found_at path t ≡ Some (Unopened bytes)
+    → Widens source t (opened path bytes t)
+widens_opened source path bytes t h = record {
+  grown = grown_opened path bytes t h;
+  found = found_opened source path bytes t h;
+  once = λ o. rw (paths-opened path bytes t) o;
+}

@@ -1,0 +1,14 @@
+// What is true of all units: laws that no caller runs, and that callers' proofs cite.
+ghost use Rattle.include_tree.specs.Laws.{FilesLead, UnitsEnd, DepthIsALimit};
+
+/// Tokens that are put out are counted, and stay within the limits; work never rises; and the table of
+/// files only grows, stays what the files hold, and has each path once, so that each is asked for once.
+pub fn units_are_counted()
+    ensures files { FilesLead }
+    ensures units { UnitsEnd }
+{}
+
+/// Where so many files suffice that may be open inside one another, more of them change nothing.
+pub fn depth_is_a_limit()
+    ensures depth { DepthIsALimit }
+{}
