@@ -1,17 +1,16 @@
 -- How many files may be open inside one another is a limit: more of it changes nothing where it suffices.
-use Rattle.std.proofs.Common.{◌≡◌, ℕ, zero, suc, ◌+◌, Bool, true, false, cond, List, [], ◌∷◌, Option, None, Some, Ok, Err, refl, sym, ◌∙◌, ap, subst, arith, drop}
+use Rattle.std.proofs.Common.{◌≡◌, ℕ, zero, suc, ◌+◌, Bool, true, false, cond, List, [], ◌∷◌, None, Some, Ok, Err, refl, sym, ap, subst, arith, drop}
 use Rattle.cs_base.specs.declared.positions.Pos.{Pos}
 use Rattle.cs_base.specs.Token.{Token}
 use Rattle.line_shape.specs.declared.items.ItemKind.{ItemKind}
 use Rattle.line_shape.specs.declared.items.ItemKind.TheVariants as kind
 use Rattle.include_tree.specs.Files.{SourceFile}
-use Rattle.include_tree.specs.Faults.{Fault}
 use Rattle.include_tree.specs.Notes.{Note, Reaches, Entered, Exited}
 use Rattle.include_tree.specs.State.{Context, State, Did, did, Outcome, only, noted, onward}
 use Rattle.include_tree.specs.Sections.{Section, are_processed, Turn, Opens, GoesOn, GoesLast, Ends, Stays, turn_of}
 use Rattle.include_tree.specs.Search.{Header}
 use Rattle.include_tree.specs.Including.{header_named, open_header, Process, Inner, entered, included, include_of}
-use Rattle.include_tree.specs.Walk.{ItemText, items_in, processed, Stepped, stepped, turned, item_step, reaching, file_end, walk, file_items}
+use Rattle.include_tree.specs.Walk.{ItemText, items_in, processed, stepped, turned, item_step, file_end, walk, file_items}
 
 -- the second outcome is the first one, where that has no fault
 abbrev pub Confirms : {A : Type 0} → Outcome A → Outcome A → Type 0

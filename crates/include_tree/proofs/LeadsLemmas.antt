@@ -1,10 +1,8 @@
 -- Steps that lead from one state to another.
-use Rattle.std.proofs.Common.{◌≡◌, ℕ, ◌+◌, ◌≤◌, Bool, true, false, cond, List, [], ◌∷◌, refl, sym, ◌∙◌, ap, subst, arith, Option, is_some}
+use Rattle.std.proofs.Common.{◌≡◌, ℕ, ◌+◌, ◌≤◌, Bool, true, false, cond, List, [], ◌∷◌, ◌++◌, refl, subst, arith, is_some}
 use Rattle.cs_base.specs.Token.{Token}
-use Rattle.include_tree.specs.Files.{Table}
 use Rattle.include_tree.specs.State.{Context, State}
 use Rattle.include_tree.specs.Names.{with_name, spelled_in}
-use Rattle.include_tree.specs.Expanding.{most_toks}
 use Rattle.include_tree.specs.Laws.{Widens, Leads}
 use Rattle.include_tree.proofs.TableLemmas.{widens_refl, widens_trans}
 
@@ -47,4 +45,4 @@ leads_cond ctx s true names = leads_refl ctx s
 leads_cond ctx s false names = leads_by ctx s (record s { names = names }) refl (omega arith) (widens_refl ctx.source s.table)
 
 pub leads_name : (ctx : Context) (name : Token) (s : State) → Leads ctx s 0 (with_name name s)
-leads_name ctx name s = leads_cond ctx s (is_some (spelled_in s.names name.text)) (name ∷ s.names)
+leads_name ctx name s = leads_cond ctx s (is_some (spelled_in s.names name.text)) (s.names ++ name ∷ [])

@@ -5,3 +5,7 @@ pub mod SearchLemmas
 pub mod StepLemmas
 pub mod WalkLemmas
 pub mod DepthLemmas
+pub mod FileTableLemmas
+pub mod OpenedLemmas
+pub mod OpeningLemmas
+pub mod SearchedLemmas

@@ -2,7 +2,7 @@
 use Rattle.std.proofs.Common.{Bool, true, false, cond, List, Ok, Err}
 use Rattle.include_tree.specs.Faults.{Fault}
 use Rattle.include_tree.specs.Notes.{Note}
-use Rattle.include_tree.specs.State.{State, Did, Outcome, noted, onward}
+use Rattle.include_tree.specs.State.{State, Outcome, noted, onward}
 use Rattle.include_tree.specs.Laws.{IfDone}
 
 pub noted_done : {A : Type 0} (P : A → State → Type 0) (notes : List Note) (m : Outcome A) → IfDone P m → IfDone P (noted notes m)

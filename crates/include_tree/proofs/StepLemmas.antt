@@ -1,5 +1,5 @@
 -- The steps of items: what becomes of the state.
-use Rattle.std.proofs.Common.{◌≡◌, ℕ, ◌+◌, ◌≤◌, nat_lt, Bool, true, false, List, [], ◌∷◌, length, Option, None, Some, Result, Ok, Err, refl, sym, arith, ltb-false, inl, inr}
+use Rattle.std.proofs.Common.{◌≡◌, ℕ, ◌+◌, ◌≤◌, nat_lt, Bool, true, false, List, [], ◌∷◌, length, Option, None, Some, Result, Ok, Err, refl, arith, ltb-false, inl, inr}
 use Rattle.std.proofs.lemmas.Bool.{cases_Bool}
 use Rattle.std.specs.List.{list_any}
 use Rattle.cs_base.specs.declared.causes.Cause.TheVariants.{DefinedFromMacro}
@@ -12,21 +12,21 @@ use Rattle.macro_expand.specs.declared.definitions.Definition.{Definition}
 use Rattle.macro_expand.specs.Hides.{unhidden}
 use Rattle.macro_expand.specs.Macro.{Table as Macros}
 use Rattle.macro_expand.specs.Notes as expansion
-use Rattle.macro_expand.specs.Expansion.{expansion, whole}
+use Rattle.macro_expand.specs.Expansion.{expansion}
 use Rattle.macro_expand.specs.Defining.{defined_by}
 use Rattle.macro_expand.specs.Live.{with_macro, without_macro}
 use Rattle.macro_expand.proofs.WholeLemmas.{whole_falls}
 use Rattle.include_tree.specs.Files.{SourceFile}
 use Rattle.include_tree.specs.Faults.{fault_at}
-use Rattle.include_tree.specs.State.{Context, State, Did, Outcome, onward}
+use Rattle.include_tree.specs.State.{Context, State, Outcome, onward}
 use Rattle.include_tree.specs.Names.{with_name}
 use Rattle.include_tree.specs.Expanding.{expanded_as, expanded_in, most_toks, put_out, run_of}
 use Rattle.include_tree.specs.Conditions.{Piece, Plain, Asks, pieces_from, answered, left_over, valued, judged, asked_pieces, holds, is_defined}
-use Rattle.include_tree.specs.Directives.{after_define, after_undef, defined_as, define_of, undefined_as, undef_of, operand_in, asks_name}
-use Rattle.include_tree.specs.Laws.{IfDone, Widens, Leads}
+use Rattle.include_tree.specs.Directives.{defined_as, define_of, undefined_as, undef_of, operand_in, asks_name}
+use Rattle.include_tree.specs.Laws.{IfDone, Leads}
 use Rattle.include_tree.proofs.OutcomeLemmas.{onward_done, test_done}
 use Rattle.include_tree.proofs.TableLemmas.{widens_refl}
-use Rattle.include_tree.proofs.LeadsLemmas.{leads_by, leads_refl, leads_then, leads_behind, leads_name}
+use Rattle.include_tree.proofs.LeadsLemmas.{leads_by, leads_refl, leads_then, leads_name}
 
 -- a state behind a value that puts out nothing, and behind tokens that are put out
 abbrev pub Behind : {A : Type 0} → Context → State → A → State → Type 0

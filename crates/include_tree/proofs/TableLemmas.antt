@@ -1,13 +1,13 @@
 -- The table of files: how it grows.
-use Rattle.std.proofs.Common.{◌≡◌, ℕ, Bool, true, false, cond, List, [], ◌∷◌, ◌++◌, map, Option, None, Some, is_some, refl, sym, ◌∙◌, ap, subst, inl, inr, arith}
+use Rattle.std.proofs.Common.{◌≡◌, ℕ, true, false, cond, List, [], ◌∷◌, ◌++◌, Option, None, Some, is_some, refl, sym, ◌∙◌, ap, subst, inl, inr, arith}
 use Rattle.std.specs.List.{list_any}
 use Rattle.std.specs.Str.{bytes_eq}
 use Rattle.std.proofs.lemmas.Bool.{cases_Bool}
 use Rattle.cs_base.proofs.FileMapLemmas.{bytes_eq-equal, bytes_eq-same}
 use Rattle.line_shape.proofs.NameLemmas.{are_distinct-new, map-push}
 use Rattle.line_shape.specs.MacroLine.{are_distinct}
-use Rattle.include_tree.specs.Files.{Source, Found, Lines, Absent, Unopened, Opened, Made, Entry, entry, Table, found_at, found_in, numbered, asked, opened}
-use Rattle.include_tree.specs.Laws.{Becomes, IsGrown, IsFound, AreFound, paths_in, HasEachOnce, Widens}
+use Rattle.include_tree.specs.Files.{Source, Found, Unopened, Opened, Entry, entry, Table, found_at, found_in, numbered, asked, opened, files_opened, bytes_opened, one_more, more_bytes, opened_bytes}
+use Rattle.include_tree.specs.Laws.{OnlyAsks, Becomes, IsGrown, IsFound, AreFound, paths_in, HasEachOnce, Widens}
 
 -- ---- one after another
 
@@ -17,7 +17,7 @@ becomes_trans a b c (inl same) (inr later) = inr (later.0, sym same ∙ later.1,
 becomes_trans a b c (inr first) (inl same) = inr (first.0, first.1, same ∙ first.2)
 becomes_trans a b c (inr first) (inr later) = cc
 
-grown_refl : (t : Table) → IsGrown t t
+pub grown_refl : (t : Table) → IsGrown t t
 grown_refl [] = tt
 grown_refl (e ∷ t) = (refl, inl refl, grown_refl t)
 
@@ -48,19 +48,13 @@ found_push : (source : Source) (t : Table) (e : Entry) → IsFound source e.path
 found_push source [] e h all = (h, tt)
 found_push source (d ∷ t) e h all = (all.0, found_push source t e h all.1)
 
-apart : (a b : List ℕ) → bytes_eq a b ≡ false → bytes_eq b a ≡ false
-apart a b h = elim (cases_Bool (bytes_eq b a)) [
-  | inl same ↦ absurd (let e : true ≡ false = sym (bytes_eq-same b) ∙ ap (λ c. bytes_eq c b) (bytes_eq-equal b a same) ∙ h in cc)
-  | inr no_ ↦ no_
-]
-
 -- a path that has no number is none of those that have one
 not_among : (path : List ℕ) (t : Table) → found_at path t ≡ None → list_any (bytes_eq path) (paths_in t) ≡ false
 unfolding found_at
 not_among path [] h = refl
-not_among path (e ∷ t) h = elim (cases_Bool (bytes_eq e.path path)) [
+not_among path (e ∷ t) h = elim (cases_Bool (bytes_eq path e.path)) [
   | inl same ↦ cc
-  | inr other ↦ rw (apart e.path path other) (not_among path t (let k : cond (bytes_eq e.path path) (Some e.found) (found_at path t) ≡ None = h in rw other at k))
+  | inr other ↦ rw other (not_among path t (let k : cond (bytes_eq path e.path) (Some e.found) (found_at path t) ≡ None = h in rw other at k))
 ]
 
 once_push : (path : List ℕ) (found : Found) (t : Table) → found_at path t ≡ None → HasEachOnce t → HasEachOnce (numbered path found t)
@@ -93,24 +87,24 @@ widens_asked source path t = asked_by source path t (found_at path t) refl
 some_same : (a b : Found) → ◌≡◌ {A = Option Found} (Some a) (Some b) → a ≡ b
 some_same a b h = grind (arith, h)
 
-opened_found : (e : Entry) (path bytes : List ℕ) (t : Table) → bytes_eq e.path path ≡ true → found_at path (e ∷ t) ≡ Some (Unopened bytes)
+opened_found : (e : Entry) (path bytes : List ℕ) (t : Table) → bytes_eq path e.path ≡ true → found_at path (e ∷ t) ≡ Some (Unopened bytes)
     → e.found ≡ Unopened bytes
 unfolding found_at
 opened_found e path bytes t same h =
-    let k : cond (bytes_eq e.path path) (Some e.found) (found_at path t) ≡ Some (Unopened bytes) = h in
+    let k : cond (bytes_eq path e.path) (Some e.found) (found_at path t) ≡ Some (Unopened bytes) = h in
     some_same e.found (Unopened bytes) (rw same at k)
 
-later_found : (e : Entry) (path bytes : List ℕ) (t : Table) → bytes_eq e.path path ≡ false → found_at path (e ∷ t) ≡ Some (Unopened bytes)
+later_found : (e : Entry) (path bytes : List ℕ) (t : Table) → bytes_eq path e.path ≡ false → found_at path (e ∷ t) ≡ Some (Unopened bytes)
     → found_at path t ≡ Some (Unopened bytes)
 unfolding found_at
 later_found e path bytes t other h =
-    let k : cond (bytes_eq e.path path) (Some e.found) (found_at path t) ≡ Some (Unopened bytes) = h in rw other at k
+    let k : cond (bytes_eq path e.path) (Some e.found) (found_at path t) ≡ Some (Unopened bytes) = h in rw other at k
 
 grown_opened : (path bytes : List ℕ) (t : Table) → found_at path t ≡ Some (Unopened bytes) → IsGrown t (opened path bytes t)
 unfolding opened
 grown_opened path bytes [] h = tt
-grown_opened path bytes (e ∷ t) h = elim (cases_Bool (bytes_eq e.path path)) [
-  | inl same ↦ rw same (sym (bytes_eq-equal e.path path same), inr (bytes, opened_found e path bytes t same h, refl), grown_refl t)
+grown_opened path bytes (e ∷ t) h = elim (cases_Bool (bytes_eq path e.path)) [
+  | inl same ↦ rw same (bytes_eq-equal path e.path same, inr (bytes, opened_found e path bytes t same h, refl), grown_refl t)
   | inr other ↦ rw other (refl, inl refl, grown_opened path bytes t (later_found e path bytes t other h))
 ]
 
@@ -122,16 +116,16 @@ found_opened : (source : Source) (path bytes : List ℕ) (t : Table) → found_a
     → AreFound source (opened path bytes t)
 unfolding opened
 found_opened source path bytes [] h all = tt
-found_opened source path bytes (e ∷ t) h all = elim (cases_Bool (bytes_eq e.path path)) [
-  | inl same ↦ rw same (is_opened source e.path path bytes e.found (bytes_eq-equal e.path path same) (opened_found e path bytes t same h) all.0, all.1)
+found_opened source path bytes (e ∷ t) h all = elim (cases_Bool (bytes_eq path e.path)) [
+  | inl same ↦ rw same (is_opened source e.path path bytes e.found (sym (bytes_eq-equal path e.path same)) (opened_found e path bytes t same h) all.0, all.1)
   | inr other ↦ rw other (all.0, found_opened source path bytes t (later_found e path bytes t other h) all.1)
 ]
 
 paths-opened : (path bytes : List ℕ) (t : Table) → paths_in (opened path bytes t) ≡ paths_in t
 unfolding opened
 paths-opened path bytes [] = refl
-paths-opened path bytes (e ∷ t) = elim (cases_Bool (bytes_eq e.path path)) [
-  | inl same ↦ rw same (ap (λ (p : List ℕ). p ∷ paths_in t) (sym (bytes_eq-equal e.path path same)))
+paths-opened path bytes (e ∷ t) = elim (cases_Bool (bytes_eq path e.path)) [
+  | inl same ↦ rw same (ap (λ (p : List ℕ). p ∷ paths_in t) (bytes_eq-equal path e.path same))
   | inr other ↦ rw other (ap (λ (ps : List (List ℕ)). e.path ∷ ps) (paths-opened path bytes t))
 ]
 
@@ -142,3 +136,34 @@ widens_opened source path bytes t h = record {
   found = found_opened source path bytes t h;
   once = λ o. rw (paths-opened path bytes t) o;
 }
+
+-- a path that got a number has one
+pub known-push : (path : List ℕ) (found : Found) (t : Table) → is_some (found_at path (numbered path found t)) ≡ true
+unfolding found_at
+known-push path found [] = rw (bytes_eq-same path) refl
+known-push path found (e ∷ t) = elim (cases_Bool (bytes_eq path e.path)) [
+  | inl same ↦ rw same refl
+  | inr other ↦ rw other (known-push path found t)
+]
+
+-- ---- only asking
+
+pub only_asks-refl : (t : Table) → OnlyAsks t t
+only_asks-refl t = record { grown = grown_refl t; files = refl; bytes = refl }
+
+pub only_asks-trans : (a b c : Table) → OnlyAsks a b → OnlyAsks b c → OnlyAsks a c
+only_asks-trans a b c h k = record { grown = grown_trans a b c h.grown k.grown; files = k.files ∙ h.files; bytes = k.bytes ∙ h.bytes }
+
+files-push : (path : List ℕ) (found : Found) (t : Table) → opened_bytes found ≡ None → files_opened (numbered path found t) ≡ files_opened t
+unfolding files_opened
+files-push path found [] h = ap (λ o. one_more o 0) h
+files-push path found (e ∷ t) h = ap (one_more (opened_bytes e.found)) (files-push path found t h)
+
+bytes-push : (path : List ℕ) (found : Found) (t : Table) → opened_bytes found ≡ None → bytes_opened (numbered path found t) ≡ bytes_opened t
+unfolding bytes_opened
+bytes-push path found [] h = ap (λ o. more_bytes o 0) h
+bytes-push path found (e ∷ t) h = ap (more_bytes (opened_bytes e.found)) (bytes-push path found t h)
+
+pub only_asks-push : (path : List ℕ) (found : Found) (t u : Table) → opened_bytes found ≡ None → u ≡ numbered path found t → OnlyAsks t u
+only_asks-push path found t u h e =
+    rw e (record { grown = grown_push t (entry path found); files = files-push path found t h; bytes = bytes-push path found t h })

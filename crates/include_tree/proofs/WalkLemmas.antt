@@ -1,30 +1,29 @@
 -- The items of files and of units: what becomes of the state.
-use Rattle.std.proofs.Common.{◌≡◌, ℕ, zero, suc, ◌+◌, ◌-◌, ◌≤◌, Bool, true, false, List, [], ◌∷◌, ◌++◌, length, Option, None, Some, Ok, Err, refl, sym, arith, length-append, drop, not, inl, inr}
-use Rattle.std.proofs.lemmas.Bool.{cases_Bool}
+use Rattle.std.proofs.Common.{◌≡◌, ℕ, zero, suc, ◌+◌, ◌-◌, ◌≤◌, Bool, true, false, List, [], ◌∷◌, ◌++◌, length, Option, None, Some, Ok, Err, refl, sym, arith, length-append, drop, not}
 use Rattle.cs_base.specs.declared.positions.Pos.{Pos}
 use Rattle.cs_base.specs.Token.{Token}
 use Rattle.cs_base.specs.Units.{UnitValue, defines_text}
 use Rattle.line_shape.specs.declared.items.ItemKind.{ItemKind}
 use Rattle.line_shape.specs.declared.items.ItemKind.TheVariants as kind
 use Rattle.include_tree.specs.Limits.{Limits}
-use Rattle.include_tree.specs.Files.{Source, Made, Table, SourceFile, Carried, asked, numbered, found_at, defines_path}
+use Rattle.include_tree.specs.Files.{Source, Made, Table, SourceFile, Carried, asked, found_at, defines_path}
 use Rattle.include_tree.specs.Faults.{place_in, first_place}
 use Rattle.include_tree.specs.Notes.{Reaches, Entered}
-use Rattle.include_tree.specs.State.{Reader, Context, context, State, Did, Outcome, only, onward}
-use Rattle.include_tree.specs.Sections.{Group, Processed, Awaited, Over, Skipped, Section, section, is_alive, are_processed, group_if, group_after, group_of_else, Turn, Opens, GoesOn, GoesLast, Ends, Stays, turn_of}
+use Rattle.include_tree.specs.State.{Reader, Context, context, State, Outcome, only}
+use Rattle.include_tree.specs.Sections.{Group, Processed, Awaited, Over, Skipped, Section, section, are_processed, group_of_else, Turn, Opens, GoesOn, GoesLast, Ends, Stays, turn_of}
 use Rattle.include_tree.specs.Search.{Header, Searched, candidates_of, search}
 use Rattle.include_tree.specs.Opening.{open_file}
-use Rattle.include_tree.specs.Expanding.{expanded_in, most_toks}
+use Rattle.include_tree.specs.Expanding.{expanded_in}
 use Rattle.include_tree.specs.Conditions.{holds}
 use Rattle.include_tree.specs.Directives.{opens_with, operand_in, is_if}
-use Rattle.include_tree.specs.Including.{header_of_toks, header_or, computed_header, header_named, is_header, open_searched, open_found, open_header, Process, Inner, entered, included, include_of, header_in}
-use Rattle.include_tree.specs.Walk.{ItemText, items_in, processed, Stepped, stepped, go_on, opens, goes_on, reaching, reaching_alive, in_section, turned, item_step, file_end, walk, file_items}
+use Rattle.include_tree.specs.Including.{header_of_toks, header_or, computed_header, header_named, is_header, open_searched, open_header, Process, Inner, entered, included, include_of, header_in}
+use Rattle.include_tree.specs.Walk.{ItemText, items_in, processed, Stepped, stepped, go_on, opens, goes_on, reaching_alive, in_section, turned, item_step, file_end, walk, file_items}
 use Rattle.include_tree.specs.Unit.{first_state, outer_file, main_file, both_files, unit_outcome}
 use Rattle.include_tree.specs.Laws.{IfDone, Widens, Leads, UnitEnds}
 use Rattle.include_tree.proofs.OutcomeLemmas.{noted_done, onward_done, cond_done}
-use Rattle.include_tree.proofs.TableLemmas.{widens_refl, widens_trans, widens_asked, widens_push}
-use Rattle.include_tree.proofs.LeadsLemmas.{leads_by, leads_refl, leads_trans, leads_as, leads_then, leads_behind}
-use Rattle.include_tree.proofs.SearchLemmas.{search_wide, FileLeads, open_file_leads}
+use Rattle.include_tree.proofs.TableLemmas.{widens_trans, widens_asked, widens_push}
+use Rattle.include_tree.proofs.LeadsLemmas.{leads_by, leads_refl, leads_trans, leads_as}
+use Rattle.include_tree.proofs.SearchLemmas.{search_wide, open_file_leads}
 use Rattle.include_tree.proofs.StepLemmas.{Behind, PutsOut, expanded_leads, run_leads, puts_then, behind_then, define_leads, undef_leads, asks_leads, holds_leads}
 
 -- ---- include lines

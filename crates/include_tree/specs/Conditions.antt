@@ -1,9 +1,8 @@
 -- Controlling expressions of a unit (ISO/IEC 9899:1999, 6.10.1): the operands of `defined` become numbers,
 -- macros are expanded, and the rest is evaluated.
-use Rattle.std.specs.Prelude.{ℕ, zero, suc, ◌+◌, ◌*◌, Bool, true, false, is_some, ◌&&◌, if◌then◌else◌, Option, Some, None, List, [], ◌∷◌, ◌++◌, Result, Ok, Err, codes, drop, slice_get}
+use Rattle.std.specs.Prelude.{ℕ, zero, suc, Bool, true, false, is_some, ◌&&◌, if◌then◌else◌, Option, Some, None, List, [], ◌∷◌, ◌++◌, Result, Ok, Err, codes, slice_get}
 use Rattle.std.specs.List.{list_any}
 use Rattle.std.specs.Option.{option_map}
-use Rattle.cs_base.specs.declared.causes.Cause.{Cause}
 use Rattle.cs_base.specs.declared.causes.Cause.TheVariants as cause
 use Rattle.cs_base.specs.declared.positions.Pos.{Pos}
 use Rattle.cs_base.specs.declared.tokens.Kind.TheVariants.{Number}

@@ -1,6 +1,6 @@
 -- Directive lines in a processed group (ISO/IEC 9899:1999, 6.10.1, 6.10.3, 6.10.5 to 6.10.7).
 use Rattle.std.specs.Prelude.{Bool, true, false, not, Option, Some, None, List, [], ◌∷◌, ◌++◌, Ok, Err, drop}
-use Rattle.cs_base.specs.declared.causes.Cause.TheVariants.{BadDirective, ErrorDirective}
+use Rattle.cs_base.specs.declared.causes.Cause.TheVariants.{BadDirective}
 use Rattle.cs_base.specs.declared.positions.Pos.{Pos}
 use Rattle.cs_base.specs.Token.{Token}
 use Rattle.line_shape.specs.declared.items.ItemKind.{ItemKind}

@@ -1,9 +1,7 @@
 -- Expansion of macros in a unit (ISO/IEC 9899:1999, 6.10.3): in its runs, its conditions and its include
 -- lines.
-use Rattle.std.specs.Prelude.{ℕ, ◌+◌, ◌-◌, Bool, true, false, nat_lt, min, if◌then◌else◌, List, [], ◌∷◌, Result, Ok, Err, length, map, drop}
-use Rattle.cs_base.specs.declared.causes.Cause.{Cause}
+use Rattle.std.specs.Prelude.{ℕ, ◌+◌, ◌-◌, Bool, true, nat_lt, min, if◌then◌else◌, List, [], ◌∷◌, Result, Ok, Err, length, map, drop}
 use Rattle.cs_base.specs.declared.causes.Cause.TheVariants as cause
-use Rattle.cs_base.specs.declared.positions.Pos.{Pos}
 use Rattle.cs_base.specs.Token.{Token}
 use Rattle.macro_expand.specs.Hides.{toks_of}
 use Rattle.macro_expand.specs.Notes as expansion

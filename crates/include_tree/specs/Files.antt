@@ -39,12 +39,12 @@ Table = List Entry
 
 -- the number of a path, or how many there are where it has none
 abbrev pub number_of : List ℕ → Table → ℕ
-number_of path table = position_or_len (λ e. bytes_eq e.path path) table
+number_of path table = position_or_len (λ e. bytes_eq path e.path) table
 
 -- what a path stands for, if it has a number
 unfoldable pub found_at : List ℕ → Table → Option Found
 found_at path [] = None
-found_at path (e ∷ table) = if bytes_eq e.path path then Some e.found else found_at path table
+found_at path (e ∷ table) = if bytes_eq path e.path then Some e.found else found_at path table
 
 -- the table with one number more
 abbrev pub numbered : List ℕ → Found → Table → Table
@@ -64,7 +64,7 @@ asked source path table =
 unfoldable pub opened : List ℕ → List ℕ → Table → Table
 opened path bytes [] = []
 opened path bytes (e ∷ table) =
-    if bytes_eq e.path path then entry path (Opened bytes) ∷ table else e ∷ opened path bytes table
+    if bytes_eq path e.path then entry path (Opened bytes) ∷ table else e ∷ opened path bytes table
 
 -- the bytes of a file that was opened
 abbrev pub opened_bytes : Found → Option (List ℕ)

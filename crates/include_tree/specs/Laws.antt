@@ -1,10 +1,10 @@
 -- What is true of all units.
-use Rattle.std.specs.Prelude.{◌≡◌, ℕ, suc, ◌+◌, ◌≤◌, Bool, true, ◌⊎◌, List, [], ◌∷◌, length, map, Option, None, Some, Ok, Err}
+use Rattle.std.specs.Prelude.{◌≡◌, ℕ, ◌+◌, ◌≤◌, true, ◌⊎◌, List, [], ◌∷◌, length, map, None, Some, Ok, Err}
 use Rattle.cs_base.specs.Token.{Token}
 use Rattle.cs_base.specs.Units.{UnitValue}
 use Rattle.line_shape.specs.MacroLine.{are_distinct}
 use Rattle.include_tree.specs.Limits.{Limits}
-use Rattle.include_tree.specs.Files.{Source, Found, Lines, Absent, Unopened, Opened, Made, Entry, Table, SourceFile, Carried, found_at, defines_path}
+use Rattle.include_tree.specs.Files.{Source, Found, Absent, Unopened, Opened, Entry, Table, SourceFile, Carried, found_at, defines_path, files_opened, bytes_opened}
 use Rattle.include_tree.specs.State.{Reader, Context, context, State, Did, Outcome}
 use Rattle.include_tree.specs.Expanding.{most_toks}
 use Rattle.include_tree.specs.Walk.{file_items}
@@ -51,6 +51,12 @@ pub record Widens (source : Source) (old new : Table) : Type 0 where
   pub grown : IsGrown old new
   pub found : AreFound source old → AreFound source new
   pub once : HasEachOnce old → HasEachOnce new
+
+-- A table that was asked for paths: it has grown, and nothing more is opened.
+pub record OnlyAsks (old new : Table) : Type 0 where
+  pub grown : IsGrown old new
+  pub files : files_opened new ≡ files_opened old
+  pub bytes : bytes_opened new ≡ bytes_opened old
 
 -- ---- steps
 

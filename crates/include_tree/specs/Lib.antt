@@ -15,4 +15,11 @@ pub mod Including
 pub mod Walk
 pub mod Unit
 pub mod Texts
+pub mod KeptFiles
 pub mod Laws
+pub mod Answers
+-- What contracts see of private fields.
+pub mod Slots
+pub mod Statuses
+pub mod FileTableFields
+pub mod CacheFields

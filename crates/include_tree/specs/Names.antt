@@ -1,6 +1,6 @@
 -- The names that directives take, and those of conditions: which of them are linked. A name that is
 -- processed is linked with the first one of its spelling in the unit.
-use Rattle.std.specs.Prelude.{ℕ, Bool, is_some, if◌then◌else◌, Option, Some, None, List, [], ◌∷◌, find}
+use Rattle.std.specs.Prelude.{ℕ, is_some, if◌then◌else◌, Option, Some, None, List, [], ◌∷◌, ◌++◌, find}
 use Rattle.std.specs.List.{flat_map}
 use Rattle.std.specs.Str.{bytes_eq}
 use Rattle.cs_base.specs.Token.{Token}
@@ -11,7 +11,7 @@ use Rattle.include_tree.specs.State.{State}
 
 -- the token of this spelling among tokens
 abbrev pub spelled_in : List Token → List ℕ → Option Token
-spelled_in toks text = find (λ t. bytes_eq t.text text) toks
+spelled_in toks text = find (λ t. bytes_eq text t.text) toks
 
 -- the link of a name with an earlier one, if there is one
 abbrev pub linked_with : Token → Option Token → List Note
@@ -25,7 +25,7 @@ name_links name s = linked_with name (spelled_in s.names name.text)
 -- the state behind a name that is processed
 abbrev pub with_name : Token → State → State
 with_name name s =
-    if is_some (spelled_in s.names name.text) then s else record s { names = name ∷ s.names }
+    if is_some (spelled_in s.names name.text) then s else record s { names = s.names ++ name ∷ [] }
 
 -- the parameter that a token of a replacement list names: the variable arguments have no name
 abbrev pub parameter_named : List Token → Token → Option Token

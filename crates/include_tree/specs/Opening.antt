@@ -1,51 +1,61 @@
 -- Opening a source file: what can stand against it, and what is named first.
-use Rattle.std.specs.Prelude.{ℕ, ◌+◌, Bool, true, false, not, ◌&&◌, nat_le, nat_lt, if◌then◌else◌, Option, None, Some, List, Result, Ok, Err, length}
+use Rattle.std.specs.Prelude.{ℕ, ◌+◌, Bool, true, false, not, ◌&&◌, nat_le, nat_lt, if◌then◌else◌, Option, None, Some, List, [], Result, Ok, Err, length}
 use Rattle.cs_base.specs.declared.causes.Cause.TheVariants as cause
 use Rattle.cs_base.specs.declared.positions.Place.{Place}
 use Rattle.part_lexer.specs.FileText.{TextValue, LexFault, FileTooLarge, OpenComment}
+use Rattle.include_tree.specs.Limits.{Limits}
 use Rattle.include_tree.specs.Files.{Found, Lines, Absent, Unopened, Opened, Made, Table, SourceFile, source_file, number_of, found_at, opened, files_opened, bytes_opened}
-use Rattle.include_tree.specs.Faults.{fault, place_of}
-use Rattle.include_tree.specs.State.{Context, State, Outcome, only}
+use Rattle.include_tree.specs.Faults.{Fault, fault, place_of}
+use Rattle.include_tree.specs.State.{Reader, Context, State, did, Outcome}
+
+-- what opening gives: the file, and the table behind it; or the first fault
+abbrev pub Opening : Type 0
+Opening = Result (SourceFile × Table) Fault
 
 -- the file of a text that was read, or why there is none; a file that is too large has no place of its own
-abbrev pub file_read : Place → ℕ → List ℕ → State → Result TextValue LexFault → Outcome SourceFile
-file_read place number path s (Ok text) = only (source_file number path text) s
-file_read place number path s (Err FileTooLarge) = Err (fault place cause.FileTooLarge)
-file_read place number path s (Err (OpenComment at line column)) =
+abbrev pub file_read : Place → ℕ → List ℕ → Table → Result TextValue LexFault → Opening
+file_read place number path table (Ok text) = Ok (source_file number path text, table)
+file_read place number path table (Err FileTooLarge) = Err (fault place cause.FileTooLarge)
+file_read place number path table (Err (OpenComment at line column)) =
     Err (fault (place_of path (line, column)) cause.OpenComment)
 
 abbrev pub is_too_large : Result TextValue LexFault → Bool
 is_too_large (Err FileTooLarge) = true
 is_too_large _ = false
 
--- the text of a path with these bytes
-abbrev pub text_at : Context → List ℕ → List ℕ → Table → Result TextValue LexFault
-text_at ctx path bytes table = ctx.reader (number_of path table) bytes
-
--- the file of a path with these bytes
-abbrev pub readable : Context → Place → List ℕ → List ℕ → State → Outcome SourceFile
-readable ctx place path bytes s = file_read place (number_of path s.table) path s (text_at ctx path bytes s.table)
+-- the file of a path with these bytes, which leaves this table
+abbrev pub readable : Reader → Place → List ℕ → List ℕ → Table → Opening
+readable reader place path bytes table =
+    file_read place (number_of path table) path table (reader (number_of path table) bytes)
 
 -- the bytes of all files, with these, are too many; a file that is too large is named before
-abbrev pub are_too_many : Context → List ℕ → List ℕ → State → Bool
-are_too_many ctx path bytes s =
-    not (is_too_large (text_at ctx path bytes s.table)) && nat_lt ctx.limits.all_bytes (bytes_opened s.table + length bytes)
+abbrev pub are_too_many : Limits → Reader → List ℕ → List ℕ → Table → Bool
+are_too_many limits reader path bytes table =
+    not (is_too_large (reader (number_of path table) bytes)) && nat_lt limits.all_bytes (bytes_opened table + length bytes)
 
 -- a file that is opened for the first time
-abbrev pub first_opened : Context → Place → List ℕ → List ℕ → State → Outcome SourceFile
-first_opened ctx place path bytes s =
-    if nat_le ctx.limits.files (files_opened s.table) then Err (fault place cause.TooManyFiles) else
-    if are_too_many ctx path bytes s then Err (fault place cause.TooManyBytes) else
-    readable ctx place path bytes (record s { table = opened path bytes s.table })
+abbrev pub first_opened : Limits → Reader → Place → List ℕ → List ℕ → Table → Opening
+first_opened limits reader place path bytes table =
+    if nat_le limits.files (files_opened table) then Err (fault place cause.TooManyFiles) else
+    if are_too_many limits reader path bytes table then Err (fault place cause.TooManyBytes) else
+    readable reader place path bytes (opened path bytes table)
 
 -- the file of a path by what its number stands for; a fault of opening it stands at this place
-abbrev pub opened_as : Context → Place → List ℕ → State → Option Found → Outcome SourceFile
-opened_as ctx place path s None = Err (fault place cause.MissingFile)
-opened_as ctx place path s (Some Lines) = Err (fault place cause.MissingFile)
-opened_as ctx place path s (Some Absent) = Err (fault place cause.MissingFile)
-opened_as ctx place path s (Some (Unopened bytes)) = first_opened ctx place path bytes s
-opened_as ctx place path s (Some (Opened bytes)) = readable ctx place path bytes s
-opened_as ctx place path s (Some (Made bytes)) = readable ctx place path bytes s
+abbrev pub opened_as : Limits → Reader → Place → List ℕ → Table → Option Found → Opening
+opened_as limits reader place path table None = Err (fault place cause.MissingFile)
+opened_as limits reader place path table (Some Lines) = Err (fault place cause.MissingFile)
+opened_as limits reader place path table (Some Absent) = Err (fault place cause.MissingFile)
+opened_as limits reader place path table (Some (Unopened bytes)) = first_opened limits reader place path bytes table
+opened_as limits reader place path table (Some (Opened bytes)) = readable reader place path bytes table
+opened_as limits reader place path table (Some (Made bytes)) = readable reader place path bytes table
+
+abbrev pub opening : Limits → Reader → Place → List ℕ → Table → Opening
+opening limits reader place path table = opened_as limits reader place path table (found_at path table)
+
+-- the same as a step
+abbrev pub with_opened : State → Opening → Outcome SourceFile
+with_opened s (Ok r) = Ok (did r.0 [] (record s { table = r.1 }))
+with_opened s (Err found) = Err found
 
 abbrev pub open_file : Context → Place → List ℕ → State → Outcome SourceFile
-open_file ctx place path s = opened_as ctx place path s (found_at path s.table)
+open_file ctx place path s = with_opened s (opening ctx.limits ctx.reader place path s.table)

@@ -1,11 +1,11 @@
 -- Where included files are looked for (ISO/IEC 9899:1999, 6.10.2 paragraphs 2 and 3; the places are this
 -- project's own).
-use Rattle.std.specs.Prelude.{ℕ, ◌==◌, Bool, not, ◌&&◌, if◌then◌else◌, Option, None, Some, List, [], ◌∷◌, ◌++◌, map, filter}
+use Rattle.std.specs.Prelude.{ℕ, ◌==◌, Bool, not, ◌&&◌, if◌then◌else◌, Option, None, Some, List, [], ◌∷◌, map, filter}
 use Rattle.std.specs.List.{list_any, before_last}
-use Rattle.std.specs.Str.{bytes_eq, is_utf8}
+use Rattle.std.specs.Str.{is_utf8}
 use Rattle.cs_base.specs.Paths.{slash, joined_path_of}
 use Rattle.cs_base.specs.Units.{less_sign, begins_with}
-use Rattle.include_tree.specs.Files.{Source, Found, Absent, Table, found_at, asked}
+use Rattle.include_tree.specs.Files.{Source, Found, Lines, Absent, Table, found_at, asked}
 
 -- What an include line asks for: a name, and whether it is looked for in the directory of the file too.
 pub record Header : Type 0 where
@@ -51,6 +51,7 @@ searched path table = record { path = path; table = table }
 -- a path that was asked for: the search ends with it, or goes on
 abbrev pub search_on : List ℕ → Table → (Table → Searched) → Option Found → Searched
 search_on path table rest None = rest table
+search_on path table rest (Some Lines) = rest table
 search_on path table rest (Some Absent) = rest table
 search_on path table rest (Some _) = searched (Some path) table
 

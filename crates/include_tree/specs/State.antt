@@ -1,6 +1,6 @@
 -- What preprocessing a unit knows at each moment, and what each of its steps gives (ISO/IEC 9899:1999,
 -- 5.1.1.2 phase 4).
-use Rattle.std.specs.Prelude.{ℕ, List, [], ◌∷◌, ◌++◌, Result, Ok, Err}
+use Rattle.std.specs.Prelude.{ℕ, List, [], ◌++◌, Result, Ok, Err}
 use Rattle.cs_base.specs.Token.{Token}
 use Rattle.part_lexer.specs.FileText.{TextValue, LexFault}
 use Rattle.macro_expand.specs.Macro.{Table as Macros}

@@ -11,7 +11,7 @@ use Rattle.include_tree.specs.Limits.{the_limits}
 use Rattle.include_tree.specs.Files.{Source, Carried, carried, nothing_carried}
 use Rattle.include_tree.specs.Faults.{Fault}
 use Rattle.include_tree.specs.Notes.{Note, links_of, pasted_of, stringized_of, header_of, answers_of, events_of, reached_of}
-use Rattle.include_tree.specs.State.{Did, Outcome}
+use Rattle.include_tree.specs.State.{Outcome}
 use Rattle.include_tree.specs.Unit.{unit_outcome}
 
 -- The tokens of a unit; its links; the tokens that `##` made; those that strings were made of; those of
@@ -27,6 +27,19 @@ pub record UnitTextValue : Type 0 where
   pub reached : List Reached
   pub events : List Event
 
+-- a text of these parts
+abbrev pub text_of : List Token → List Link → List Token → List Token → List Token → List Token → List Reached → List Event → UnitTextValue
+text_of toks links pasted stringized header answers reached events = record {
+  toks = toks;
+  links = links;
+  pasted = pasted;
+  stringized = stringized;
+  header = header;
+  answers = answers;
+  reached = reached;
+  events = events;
+}
+
 -- the items that are reached, behind so many events
 unfoldable pub reached_in : ℕ → List Note → List Reached
 reached_in events [] = []
@@ -34,16 +47,9 @@ reached_in events (note ∷ notes) = reached_of events note ++ reached_in (event
 
 -- the text of these tokens and notes
 abbrev pub unit_text : List Token → List Note → UnitTextValue
-unit_text toks notes = record {
-  toks = toks;
-  links = flat_map links_of notes;
-  pasted = flat_map pasted_of notes;
-  stringized = flat_map stringized_of notes;
-  header = flat_map header_of notes;
-  answers = flat_map answers_of notes;
-  reached = reached_in 0 notes;
-  events = flat_map events_of notes;
-}
+unit_text toks notes =
+    text_of toks (flat_map links_of notes) (flat_map pasted_of notes) (flat_map stringized_of notes) (flat_map header_of notes)
+    (flat_map answers_of notes) (reached_in 0 notes) (flat_map events_of notes)
 
 -- What preprocessing a unit gives: its text, and what is carried to the next unit.
 pub record Preprocessed : Type 0 where

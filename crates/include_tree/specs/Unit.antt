@@ -4,7 +4,7 @@ use Rattle.cs_base.specs.Token.{Token}
 use Rattle.cs_base.specs.Units.{UnitValue, defines_text}
 use Rattle.macro_expand.specs.Defining.{first_macros}
 use Rattle.include_tree.specs.Limits.{Limits}
-use Rattle.include_tree.specs.Files.{Source, Made, Table, Carried, SourceFile, defines_path, numbered, asked}
+use Rattle.include_tree.specs.Files.{Source, Made, Table, Carried, defines_path, numbered, asked}
 use Rattle.include_tree.specs.Faults.{first_place}
 use Rattle.include_tree.specs.State.{Reader, Context, context, State, Outcome, only, onward}
 use Rattle.include_tree.specs.Opening.{open_file}

@@ -1,5 +1,5 @@
 -- The items of a source file, in order (ISO/IEC 9899:1999, 6.10).
-use Rattle.std.specs.Prelude.{ℕ, zero, suc, ◌+◌, Bool, true, false, if◌then◌else◌, Option, Some, None, List, [], ◌∷◌, ◌++◌, Ok, Err, map, drop, slice_range}
+use Rattle.std.specs.Prelude.{ℕ, zero, suc, ◌+◌, Bool, true, false, if◌then◌else◌, Some, None, List, [], ◌∷◌, ◌++◌, Err, map, drop, slice_range}
 use Rattle.cs_base.specs.declared.causes.Cause.TheVariants.{BadDirective, ErrorDirective, UnbalancedIf}
 use Rattle.cs_base.specs.declared.positions.Pos.{Pos}
 use Rattle.cs_base.specs.Token.{Token}
@@ -10,8 +10,8 @@ use Rattle.line_shape.specs.Items.{items_of}
 use Rattle.include_tree.specs.Files.{SourceFile}
 use Rattle.include_tree.specs.Faults.{fault_at}
 use Rattle.include_tree.specs.Notes.{Reaches}
-use Rattle.include_tree.specs.State.{Context, State, did, Outcome, only, noted, onward}
-use Rattle.include_tree.specs.Sections.{Group, Processed, Awaited, Over, Skipped, Section, section, is_alive, are_processed, group_if, group_after, group_of_else, Turn, Opens, GoesOn, GoesLast, Ends, Stays, turn_of}
+use Rattle.include_tree.specs.State.{Context, State, Outcome, only, noted, onward}
+use Rattle.include_tree.specs.Sections.{Group, Awaited, Skipped, Section, section, is_alive, are_processed, group_if, group_after, group_of_else, Turn, Opens, GoesOn, GoesLast, Ends, Stays, turn_of}
 use Rattle.include_tree.specs.Expanding.{run_of}
 use Rattle.include_tree.specs.Conditions.{holds}
 use Rattle.include_tree.specs.Directives.{define_of, undef_of, opens_with, is_if}

@@ -1,0 +1,64 @@
+// The search for an included file (6.10.2).
+ghost use Rattle.std.specs.Prelude.{◌≡◌, ◌<◌, true, not, IfOk, OnOk, IfSome, get_or, length, []};
+ghost use Rattle.std.specs.List.{list_all};
+ghost use Rattle.std.specs.Option.{option_map};
+ghost use Rattle.include_tree.specs.Files.{source_of, asked, found_at};
+ghost use Rattle.include_tree.specs.Laws.{OnlyAsks};
+ghost use Rattle.include_tree.specs.Search.{can_be_asked, searched, search};
+ghost use Rattle.include_tree.specs.Statuses.{is_missing};
+ghost use Rattle.include_tree.specs.Answers.{ReadCounts};
+
+use crate::cache::Cache;
+use crate::pre_fault::PreFault;
+use cs_base::{Files, Text};
+use std::alloc::Global;
+use std::str;
+
+// Asks for a path that can be asked for.
+fn ask_bytes<F: Files>(
+    alloc: Global,
+    cache: &mut Cache,
+    files: &mut F,
+    path: &[u8],
+) -> Result<bool, PreFault>
+    requires { can_be_asked path.now ≡ true }
+    ensures held { F.held files.new ≡ F.held files.old }
+    ensures answer { IfSome (F.held files.old) (λ held. OnOk result (cache.new.table ≡ asked (source_of held) path.now cache.old.table)) }
+    ensures there { IfOk result (λ there. is_missing (found_at path.now cache.new.table) ≡ not there) }
+    ensures only { OnlyAsks cache.old.table cache.new.table }
+    ensures toks { cache.new.toks ≡ cache.old.toks }
+    ensures faults { ReadCounts (F.failed_reads files.old) (F.failed_reads files.new) (F.failed_puts files.old) (F.failed_puts files.new) (F.last_failed files.old) (F.last_failed files.new) result }
+{
+    match str::from_utf8(path) {
+        Ok(text) => cache.ask(alloc, files, text),
+        Err(_) => unreachable!(),
+    }
+}
+
+// The first of these paths that is there, by its place among them.
+pub(crate) fn search<F: Files>(
+    alloc: Global,
+    cache: &mut Cache,
+    files: &mut F,
+    paths: &[Text],
+) -> Result<Option<usize>, PreFault>
+    requires { list_all can_be_asked paths.now ≡ true }
+    ensures held { F.held files.new ≡ F.held files.old }
+    ensures answer { IfSome (F.held files.old) (λ held. IfOk result (λ at. search (source_of held) paths.now cache.old.table ≡ searched (option_map (λ i. get_or paths.now i []) at) cache.new.table)) }
+    ensures within { IfOk result (λ at. IfSome at (λ i. i < length paths.now)) }
+    ensures only { OnlyAsks cache.old.table cache.new.table }
+    ensures toks { cache.new.toks ≡ cache.old.toks }
+    ensures faults { ReadCounts (F.failed_reads files.old) (F.failed_reads files.new) (F.failed_puts files.old) (F.failed_puts files.new) (F.last_failed files.old) (F.last_failed files.new) result }
+{
+    for i in 0..paths.len() {
+        match ask_bytes(alloc, cache, files, paths[i].bytes()) {
+            Ok(there) => {
+                if there {
+                    return Ok(Some(i));
+                }
+            }
+            Err(fault) => return Err(fault),
+        }
+    }
+    Ok(None)
+}
