@@ -1,0 +1,137 @@
+-- Declarations with their ranges, and which of them a name denotes (ISO/IEC 9899:1999, 6.2.1 and 6.2.3).
+use Rattle.std.specs.Prelude.{ℕ, Bool, true, false, ◌&&◌, not, List, [], ◌∷◌, Option, None, find, slice_get, if◌then◌else◌, ◌==◌, nat_lt}
+use Rattle.std.specs.List.{list_any}
+use Rattle.std.specs.Option.{option_map_or}
+use Rattle.std.specs.Str.{bytes_eq}
+use Rattle.cs_base.specs.Token.{Token}
+use Rattle.scope_bind.specs.declared.entity.EntityKind.{EntityKind}
+use Rattle.scope_bind.specs.declared.entity.EntityKind.TheVariants.{Typedef}
+use Rattle.scope_bind.specs.declared.entity.Linkage.{Linkage}
+use Rattle.scope_bind.specs.declared.entity.Linkage.TheVariants.{External, Internal, Absent}
+use Rattle.scope_bind.specs.Faults.{Cause, Fault, first_fault}
+use Rattle.scope_bind.specs.Types.{CType}
+
+-- Name spaces (6.2.3): ordinary identifiers, tags, the members of each structure or union by its number, and the
+-- labels of each function by the token that begins its body.
+pub data Space : Type 0 where
+  ordinary : Space
+  tags : Space
+  members : ℕ → Space
+  labels : ℕ → Space
+
+abbrev pub is_space : Space → Space → Bool
+is_space ordinary ordinary = true
+is_space tags tags = true
+is_space (members n) (members m) = n == m
+is_space (labels n) (labels m) = n == m
+is_space _ _ = false
+
+-- A declaration: its name space, the token that is its name, and its entity by the first token that declares it.
+-- Its range goes from a token to before another; `depth` counts the scopes around its own. `listed` says that an
+-- identifier list declares it.
+pub record Declaration : Type 0 where
+  pub space : Space
+  pub name_at : ℕ
+  pub entity : ℕ
+  pub kind : EntityKind
+  pub linkage : Linkage
+  pub ctype : CType
+  pub depth : ℕ
+  pub from : ℕ
+  pub to : ℕ
+  pub listed : Bool
+
+-- an identifier that declares nothing, and its entity
+pub record Use : Type 0 where
+  pub index : ℕ
+  pub entity : ℕ
+
+-- What is known once a part of a unit is read: the declarations in the order in which their ranges began, the
+-- latest first, and the uses, the latest first; the tags whose `{` has been read, and the structures, unions and
+-- enumerations that are complete; the `goto`s of the function; and the first fault.
+pub record Facts : Type 0 where
+  pub declared : List Declaration
+  pub used : List Use
+  pub begun : List ℕ
+  pub complete : List ℕ
+  pub jumps : List ℕ
+  pub fault : Option Fault
+
+abbrev pub no_facts : Facts
+no_facts = record { declared = []; used = []; begun = []; complete = []; jumps = []; fault = None }
+
+abbrev pub has_linkage : Linkage → Bool
+has_linkage Absent = false
+has_linkage _ = true
+
+abbrev pub is_linkage : Linkage → Linkage → Bool
+is_linkage External External = true
+is_linkage Internal Internal = true
+is_linkage Absent Absent = true
+is_linkage _ _ = false
+
+abbrev pub is_typedef_name : EntityKind → Bool
+is_typedef_name Typedef = true
+is_typedef_name _ = false
+
+abbrev pub is_in : List ℕ → ℕ → Bool
+is_in numbers n = list_any (λ m. m == n) numbers
+
+-- the token stands in the range
+abbrev pub is_live : ℕ → Declaration → Bool
+is_live k d = not (nat_lt k d.from) && nat_lt k d.to
+
+-- ---- What is noted
+
+abbrev pub with_fault : Bool → Cause → ℕ → Facts → Facts
+with_fault wrong cause index facts =
+    if wrong then record facts { fault = first_fault facts.fault (record { cause = cause; index = index }) } else facts
+
+abbrev pub with_use : ℕ → ℕ → Facts → Facts
+with_use index entity facts = record facts { used = record { index = index; entity = entity } ∷ facts.used }
+
+abbrev pub with_declaration : Declaration → Facts → Facts
+with_declaration d facts = record facts { declared = d ∷ facts.declared }
+
+abbrev pub with_begun : Bool → ℕ → Facts → Facts
+with_begun begins entity facts = if begins then record facts { begun = entity ∷ facts.begun } else facts
+
+abbrev pub with_complete : ℕ → Facts → Facts
+with_complete number facts = record facts { complete = number ∷ facts.complete }
+
+-- ---- What is found
+
+-- the spelling of token k
+abbrev pub spelling_at : List Token → ℕ → List ℕ
+spelling_at toks k = option_map_or (λ t. t.text) (slice_get toks k) []
+
+module _ (toks : List Token) where
+  -- two tokens have one spelling
+  abbrev pub alike : ℕ → ℕ → Bool
+  alike i j = bytes_eq (spelling_at toks i) (spelling_at toks j)
+
+  -- a declaration in the name space that spells its name as token i
+  abbrev pub is_named : Space → ℕ → Declaration → Bool
+  is_named space i d = is_space d.space space && alike i d.name_at
+
+  -- What token i denotes, at token k: of the declarations whose ranges hold k, the one whose range began last,
+  -- which is that of the innermost scope (6.2.1 paragraph 4).
+  abbrev pub visible : Space → ℕ → ℕ → Facts → Option Declaration
+  visible space i k facts = find (λ d. is_named space i d && is_live k d) facts.declared
+
+  -- the declaration of its spelling in the scope that has so many around it
+  abbrev pub in_scope : Space → ℕ → ℕ → ℕ → Facts → Option Declaration
+  in_scope space depth i k facts = find (λ d. is_named space i d && (is_live k d && (d.depth == depth))) facts.declared
+
+  -- the declaration of its spelling in a name space without scopes
+  abbrev pub anywhere : Space → ℕ → Facts → Option Declaration
+  anywhere space i facts = find (λ d. is_named space i d) facts.declared
+
+  -- an earlier declaration of its spelling that has linkage, in whatever scope
+  abbrev pub linked : ℕ → Facts → Option Declaration
+  linked i facts = find (λ d. is_named ordinary i d && has_linkage d.linkage) facts.declared
+
+  -- one that has the other linkage
+  abbrev pub is_mixed : Linkage → ℕ → Facts → Bool
+  is_mixed linkage i facts =
+      list_any (λ d. is_named ordinary i d && (has_linkage d.linkage && not (is_linkage d.linkage linkage))) facts.declared

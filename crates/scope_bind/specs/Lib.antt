@@ -1,0 +1,16 @@
+-- What the public contracts rest on.
+pub mod Faults
+pub mod Types
+pub mod Trees
+pub mod Declarations
+pub mod Frames
+pub mod Linkage
+pub mod Ordinary
+pub mod Tags
+pub mod Members
+pub mod Labels
+pub mod Expressions
+pub mod Initializers
+pub mod Walk
+pub mod Lists
+pub mod Bound

@@ -1,0 +1,6 @@
+//! Scopes, name spaces, linkage and types of names (ISO/IEC 9899:1999, 6.2.1 to 6.2.3).
+#![tactic(auto)]
+
+mod entity;
+
+pub use entity::{EntityKind, Linkage};
