@@ -41,24 +41,25 @@ pub record Declaration : Type 0 where
   pub to : ℕ
   pub listed : Bool
 
--- an identifier that declares nothing, and its entity
-pub record Use : Type 0 where
+-- an identifier that is bound: its token, its entity, and whether it declares it
+pub record Occurrence : Type 0 where
   pub index : ℕ
   pub entity : ℕ
+  pub declares : Bool
 
 -- What is known once a part of a unit is read: the declarations in the order in which their ranges began, the
--- latest first, and the uses, the latest first; the tags whose `{` has been read, and the structures, unions and
--- enumerations that are complete; the `goto`s of the function; and the first fault.
+-- latest first; the identifiers that are bound, the latest first; the tags whose `{` has been read, and the
+-- structures, unions and enumerations that are complete; the `goto`s of the function; and the first fault.
 pub record Facts : Type 0 where
   pub declared : List Declaration
-  pub used : List Use
+  pub occurrences : List Occurrence
   pub begun : List ℕ
   pub complete : List ℕ
   pub jumps : List ℕ
   pub fault : Option Fault
 
 abbrev pub no_facts : Facts
-no_facts = record { declared = []; used = []; begun = []; complete = []; jumps = []; fault = None }
+no_facts = record { declared = []; occurrences = []; begun = []; complete = []; jumps = []; fault = None }
 
 abbrev pub has_linkage : Linkage → Bool
 has_linkage Absent = false
@@ -87,11 +88,15 @@ abbrev pub with_fault : Bool → Cause → ℕ → Facts → Facts
 with_fault wrong cause index facts =
     if wrong then record facts { fault = first_fault facts.fault (record { cause = cause; index = index }) } else facts
 
+abbrev pub with_occurrence : ℕ → ℕ → Bool → Facts → Facts
+with_occurrence index entity declares facts =
+    record facts { occurrences = record { index = index; entity = entity; declares = declares } ∷ facts.occurrences }
+
 abbrev pub with_use : ℕ → ℕ → Facts → Facts
-with_use index entity facts = record facts { used = record { index = index; entity = entity } ∷ facts.used }
+with_use index entity facts = with_occurrence index entity false facts
 
 abbrev pub with_declaration : Declaration → Facts → Facts
-with_declaration d facts = record facts { declared = d ∷ facts.declared }
+with_declaration d facts = with_occurrence d.name_at d.entity true (record facts { declared = d ∷ facts.declared })
 
 abbrev pub with_begun : Bool → ℕ → Facts → Facts
 with_begun begins entity facts = if begins then record facts { begun = entity ∷ facts.begun } else facts
@@ -114,22 +119,26 @@ module _ (toks : List Token) where
   abbrev pub is_named : Space → ℕ → Declaration → Bool
   is_named space i d = is_space d.space space && alike i d.name_at
 
+  -- the latest declaration in the name space that is named as token i and of which the test holds
+  abbrev pub looked_up : Space → ℕ → (Declaration → Bool) → Facts → Option Declaration
+  looked_up space i test facts = find (λ d. is_named space i d && test d) facts.declared
+
   -- What token i denotes, at token k: of the declarations whose ranges hold k, the one whose range began last,
   -- which is that of the innermost scope (6.2.1 paragraph 4).
   abbrev pub visible : Space → ℕ → ℕ → Facts → Option Declaration
-  visible space i k facts = find (λ d. is_named space i d && is_live k d) facts.declared
+  visible space i k facts = looked_up space i (is_live k) facts
 
   -- the declaration of its spelling in the scope that has so many around it
   abbrev pub in_scope : Space → ℕ → ℕ → ℕ → Facts → Option Declaration
-  in_scope space depth i k facts = find (λ d. is_named space i d && (is_live k d && (d.depth == depth))) facts.declared
+  in_scope space depth i k facts = looked_up space i (λ d. is_live k d && (d.depth == depth)) facts
 
   -- the declaration of its spelling in a name space without scopes
   abbrev pub anywhere : Space → ℕ → Facts → Option Declaration
-  anywhere space i facts = find (λ d. is_named space i d) facts.declared
+  anywhere space i facts = looked_up space i (λ d. true) facts
 
   -- an earlier declaration of its spelling that has linkage, in whatever scope
   abbrev pub linked : ℕ → Facts → Option Declaration
-  linked i facts = find (λ d. is_named ordinary i d && has_linkage d.linkage) facts.declared
+  linked i facts = looked_up ordinary i (λ d. has_linkage d.linkage) facts
 
   -- one that has the other linkage
   abbrev pub is_mixed : Linkage → ℕ → Facts → Bool

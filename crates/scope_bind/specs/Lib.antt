@@ -11,6 +11,9 @@ pub mod Members
 pub mod Labels
 pub mod Expressions
 pub mod Initializers
+pub mod Entering
+pub mod Roles
 pub mod Walk
 pub mod Lists
 pub mod Bound
+pub mod Renamed

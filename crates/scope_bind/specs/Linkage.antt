@@ -12,19 +12,20 @@ abbrev pub prior_linkage : Option Declaration → Linkage
 prior_linkage None = External
 prior_linkage (Some d) = if has_linkage d.linkage then d.linkage else External
 
--- at file scope (paragraphs 3 and 5)
-abbrev pub file_linkage : Bool → Forest → Option Declaration → Linkage
-file_linkage of_function specs prior =
-    if has_static specs then Internal
-    else (if has_extern specs || (of_function && not (has_storage specs)) then prior_linkage prior
-    else (if has_storage specs then Absent else External))
+-- The linkage is that of a prior declaration: with `extern`, and of a function without a storage-class specifier,
+-- in a block without `static` (paragraphs 4 and 5).
+abbrev pub follows_prior : ℕ → Bool → Forest → Bool
+follows_prior depth of_function specs =
+    if depth == 0 then not (has_static specs) && (has_extern specs || (of_function && not (has_storage specs)))
+    else has_extern specs || (of_function && not (has_static specs))
 
--- in a block (paragraphs 4 to 6)
-abbrev pub block_linkage : Bool → Forest → Option Declaration → Linkage
-block_linkage of_function specs prior =
-    if has_extern specs || (of_function && not (has_static specs)) then prior_linkage prior else Absent
+-- it is the one that the words give: at file scope internal with `static` and external without a word, and none
+-- in a block (paragraphs 3, 5 and 6)
+abbrev pub own_linkage : ℕ → Forest → Linkage
+own_linkage depth specs =
+    if depth == 0 then (if has_static specs then Internal else (if has_storage specs then Absent else External)) else Absent
 
 -- the linkage of an object or function with these specifiers, with so many scopes around
 abbrev pub linkage_of : ℕ → Bool → Forest → Option Declaration → Linkage
 linkage_of depth of_function specs prior =
-    if depth == 0 then file_linkage of_function specs prior else block_linkage of_function specs prior
+    if follows_prior depth of_function specs then prior_linkage prior else own_linkage depth specs

@@ -30,8 +30,8 @@ pub record Declared : Type 0 where
 -- or where it gives the type of a parameter that the identifier list names (6.9.1 paragraph 6).
 abbrev pub is_again : Declared → Declaration → Bool
 is_again n d =
-    (n.listing && d.listed) ||
-    ((is_typedef_name n.kind && is_typedef_name d.kind) || (has_linkage n.linkage && has_linkage d.linkage))
+    if has_linkage n.linkage then has_linkage d.linkage
+    else (n.listing && d.listed) || (is_typedef_name n.kind && is_typedef_name d.kind)
 
 -- the entity where no declaration in the scope is the same: that of the spelling where it has linkage, or a new one
 abbrev pub linked_entity : Declared → Option Declaration → ℕ
