@@ -1,0 +1,7 @@
+mod Lookups
+mod Facts
+mod Names
+mod Objects
+mod Members
+mod Steps
+mod Walking

@@ -1,10 +1,9 @@
 -- Binding under a renaming of identifiers (ISO/IEC 9899:1999, 6.2.1).
-use Rattle.std.specs.Prelude.{ℕ, ◌≡◌, Bool, true, List, [], ◌∷◌, length, codes, Result, Ok}
+use Rattle.std.specs.Prelude.{ℕ, ◌≡◌, Bool, true, List, [], ◌∷◌, length, codes, Ok}
 use Rattle.std.specs.List.{list_any, list_all}
 use Rattle.std.specs.Str.{bytes_eq}
 use Rattle.cs_base.specs.Token.{Token}
 use Rattle.c99_tree.specs.Tree.{Node}
-use Rattle.scope_bind.specs.Faults.{Fault}
 use Rattle.scope_bind.specs.Declarations.{spelling_at, alike}
 use Rattle.scope_bind.specs.Bound.{Name, Bound, binding_of}
 

@@ -1,5 +1,5 @@
 -- Tags (ISO/IEC 9899:1999, 6.2.3 and 6.7.2.3).
-use Rattle.std.specs.Prelude.{ℕ, ◌+◌, Bool, true, false, ◌&&◌, ◌||◌, not, List, Option, None, Some, codes, if◌then◌else◌}
+use Rattle.std.specs.Prelude.{ℕ, ◌+◌, Bool, true, false, ◌&&◌, ◌||◌, not, List, Option, None, Some, codes, if◌then◌else◌, ◌==◌}
 use Rattle.std.specs.Option.{option_map_or}
 use Rattle.std.specs.Str.{bytes_eq}
 use Rattle.cs_base.specs.Token.{Token}
@@ -7,7 +7,7 @@ use Rattle.scope_bind.specs.declared.entity.EntityKind.TheVariants.{Tag}
 use Rattle.scope_bind.specs.declared.entity.Linkage.TheVariants.{Absent}
 use Rattle.scope_bind.specs.Faults.{undeclared, tag_redefined}
 use Rattle.scope_bind.specs.Types.{CType, structure, union, enumeration}
-use Rattle.scope_bind.specs.Declarations.{spelling_at, tags, Declaration, Facts, is_in, with_fault, with_use, with_declaration, with_begun, visible, in_scope}
+use Rattle.scope_bind.specs.Declarations.{spelling_at, tags, Declaration, Facts, is_in, with_fault, with_use, with_declaration, with_begun, looked_up, visible, is_live}
 use Rattle.scope_bind.specs.Frames.{Scope, Frame}
 
 -- the number of a structure, union or enumeration: the token of its first tag, or of its word where it has none
@@ -75,20 +75,22 @@ enumeration_used f i (Some d) facts =
     with_use i d.entity
     (with_fault (not (is_complete facts d)) undeclared i (with_fault (not (is_sort d.ctype f.found)) tag_redefined i facts))
 
+abbrev pub is_prior_tag : Frame → ℕ → Declaration → Bool
+is_prior_tag f i d = is_live i d && (not (f.has_body || f.alone) || (d.depth == f.scope.depth))
+
+abbrev pub with_tag_after : Frame → ℕ → Option Declaration → Facts → Facts
+with_tag_after f i prior facts =
+    with_fault (option_map_or (λ d. not (is_same_tag f facts d)) prior false) tag_redefined i
+    (tag_named f i prior (tag_entity f i facts prior) facts)
+
 module _ (toks : List Token) where
   -- a structure or a union, as the word says
   abbrev pub new_record : ℕ → CType
   new_record word = if bytes_eq (spelling_at toks word) (codes "union") then union word else structure word
 
-  -- the earlier declaration: in this scope where it declares the tag anew, and else one that is visible
+  -- the earlier declaration: one that is visible, and in this scope where it declares the tag anew
   abbrev pub prior_tag : Frame → ℕ → Facts → Option Declaration
-  prior_tag f i facts =
-      if f.has_body || f.alone then in_scope toks tags f.scope.depth i i facts else visible toks tags i i facts
-
-  abbrev pub with_tag_after : Frame → ℕ → Option Declaration → Facts → Facts
-  with_tag_after f i prior facts =
-      with_fault (option_map_or (λ d. not (is_same_tag f facts d)) prior false) tag_redefined i
-      (tag_named f i prior (tag_entity f i facts prior) facts)
+  prior_tag f i facts = looked_up toks tags i (is_prior_tag f i) facts
 
   abbrev pub with_tag : Frame → ℕ → Facts → Facts
   with_tag f i facts = with_tag_after f i (prior_tag f i facts) facts

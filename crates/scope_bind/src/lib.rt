@@ -2,5 +2,7 @@
 #![tactic(auto)]
 
 mod entity;
+mod laws;
 
 pub use entity::{EntityKind, Linkage};
+pub use laws::renamed_names_bind_alike;

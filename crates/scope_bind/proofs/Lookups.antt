@@ -1,0 +1,152 @@
+-- Look-ups in a list of declarations, before and after a renaming.
+use Rattle.std.proofs.Common.{ℕ, ◌≡◌, Bool, true, false, ◌&&◌, ◌||◌, cond, List, [], ◌∷◌, Option, None, Some, ◌⊎◌, inl, inr, refl, sym, subst, ◌∙◌}
+use Rattle.std.specs.Prelude.{find, IfSome}
+use Rattle.std.specs.List.{list_any}
+use Rattle.std.proofs.lemmas.Slice.Eq.{bytes_eq-Decides}
+use Rattle.cs_base.specs.Token.{Token}
+use Rattle.scope_bind.specs.Declarations.{Space, is_space, Declaration, Facts, spelling_at, alike, is_named, looked_up}
+
+-- ---- Tests
+
+pub false≢true : false ≡ true → ⊥
+false≢true e = cc
+
+pub and_left : (p q : Bool) → (p && q) ≡ true → p ≡ true
+and_left true q h = refl
+and_left false q h = h
+
+pub and_right : (p q : Bool) → (p && q) ≡ true → q ≡ true
+and_right true q h = h
+and_right false q h = absurd (false≢true h)
+
+pub and_both : (p q : Bool) → p ≡ true → q ≡ true → (p && q) ≡ true
+and_both true q e h = h
+and_both false q e h = e
+
+pub or_right : (p q : Bool) → (p || q) ≡ false → q ≡ false
+or_right true q h = absurd (false≢true (sym h))
+or_right false q h = h
+
+pub or_left : (p q : Bool) → (p || q) ≡ false → p ≡ false
+or_left true q h = h
+or_left false q h = refl
+
+pub or_neither : (p q : Bool) → p ≡ false → q ≡ false → (p || q) ≡ false
+or_neither true q e h = e
+or_neither false q e h = h
+
+-- what follows from a test that fails where another one holds
+pub not_true : (q p : Bool) → (q ≡ true → p ≡ true) → p ≡ false → q ≡ false
+not_true true p sub e = absurd (false≢true (sym e ∙ sub refl))
+not_true false p sub e = refl
+
+-- ---- Lists
+
+abbrev pub In : {X : Type 0} → X → List X → Type 0
+In x [] = ⊥
+In x (y ∷ ys) = (y ≡ x) ⊎ In x ys
+
+find_step : {X : Type 0} (q p : Bool) (x : X) (fq fp r : Option X) → (q ≡ true → p ≡ true) → cond p (Some x) fp ≡ r
+    → (r ≡ Some x → q ≡ true) → (fp ≡ r → fq ≡ r) → cond q (Some x) fq ≡ r
+find_step true true x fq fp r sub e hit rest = e
+find_step true false x fq fp r sub e hit rest = absurd (false≢true (sub refl))
+find_step false true x fq fp r sub e hit rest = absurd (false≢true (hit (sym e)))
+find_step false false x fq fp r sub e hit rest = rest e
+
+-- a stronger test finds the same where what is found passes it
+pub find_same : {X : Type 0} (q p : X → Bool) (xs : List X) (r : Option X) → ((x : X) → q x ≡ true → p x ≡ true) → find p xs ≡ r
+    → IfSome r (λ x. q x ≡ true) → find q xs ≡ r
+find_same q p [] r sub e passes = e
+find_same {X} q p (x ∷ xs) r sub e passes =
+    find_step (q x) (p x) x (find q xs) (find p xs) r (sub x) e
+    (λ f. let P : Option X → Type 0 = λ o. IfSome o (λ y. q y ≡ true) in subst P f passes)
+    (λ f. find_same q p xs r sub f passes)
+
+found_step : {X : Type 0} (p : X → Bool) (b : Bool) (x y : X) (fp : Option X) → p x ≡ b → cond b (Some x) fp ≡ Some y
+    → (fp ≡ Some y → p y ≡ true) → p y ≡ true
+found_step p true x y fp e f rest = let s : x ≡ y = cc in subst (λ z. p z ≡ true) s e
+found_step p false x y fp e f rest = rest f
+
+-- what is found passes
+pub found_passes : {X : Type 0} (p : X → Bool) (xs : List X) (y : X) → find p xs ≡ Some y → p y ≡ true
+found_passes p [] y f = cc
+found_passes p (x ∷ xs) y f = found_step p (p x) x y (find p xs) refl f (found_passes p xs y)
+
+in_step : {X : Type 0} (b : Bool) (x y : X) (fp : Option X) (xs : List X) → cond b (Some x) fp ≡ Some y → (fp ≡ Some y → In y xs) → In y (x ∷ xs)
+in_step true x y fp xs f rest = inl cc
+in_step false x y fp xs f rest = inr (rest f)
+
+-- .. and is one of the list
+pub found_in : {X : Type 0} (p : X → Bool) (xs : List X) (y : X) → find p xs ≡ Some y → In y xs
+found_in p [] y f = absurd cc
+found_in p (x ∷ xs) y f = in_step (p x) x y (find p xs) xs f (found_in p xs y)
+
+none_step : {X : Type 0} (p : X → Bool) (b : Bool) (x y : X) (fp : Option X) (xs : List X) → p x ≡ b → cond b (Some x) fp ≡ None
+    → (fp ≡ None → In y xs → p y ≡ false) → In y (x ∷ xs) → p y ≡ false
+none_step p true x y fp xs e f rest within = absurd cc
+none_step p false x y fp xs e f rest (inl s) = subst (λ z. p z ≡ false) s e
+none_step p false x y fp xs e f rest (inr within) = rest f within
+
+-- where nothing is found, none passes
+pub none_passes : {X : Type 0} (p : X → Bool) (xs : List X) (y : X) → find p xs ≡ None → In y xs → p y ≡ false
+none_passes p [] y f within = absurd within
+none_passes p (x ∷ xs) y f within = none_step p (p x) x y (find p xs) xs refl f (none_passes p xs y) within
+
+-- a stronger test holds of none where a weaker one does
+pub any_same : {X : Type 0} (q p : X → Bool) (xs : List X) → ((x : X) → q x ≡ true → p x ≡ true) → list_any p xs ≡ false → list_any q xs ≡ false
+any_same q p [] sub e = e
+any_same q p (x ∷ xs) sub e =
+    or_neither (q x) (list_any q xs) (not_true (q x) (p x) (sub x) (or_left (p x) (list_any p xs) e))
+    (any_same q p xs sub (or_right (p x) (list_any p xs) e))
+
+any_in_step : {X : Type 0} (p : X → Bool) (x y : X) (xs : List X) → p x ≡ false → (In y xs → p y ≡ false) → In y (x ∷ xs) → p y ≡ false
+any_in_step p x y xs e rest (inl s) = subst (λ z. p z ≡ false) s e
+any_in_step p x y xs e rest (inr within) = rest within
+
+pub any_none : {X : Type 0} (p : X → Bool) (xs : List X) (y : X) → list_any p xs ≡ false → In y xs → p y ≡ false
+any_none p [] y e within = absurd within
+any_none p (x ∷ xs) y e within =
+    any_in_step p x y xs (or_left (p x) (list_any p xs) e) (any_none p xs y (or_right (p x) (list_any p xs) e)) within
+
+-- ---- Spellings
+
+pub alike_same : (toks : List Token) (i j k : ℕ) → alike toks i k ≡ true → alike toks j k ≡ true → alike toks i j ≡ true
+alike_same toks i j k e f =
+    let x : spelling_at toks i ≡ spelling_at toks k = (bytes_eq-Decides (spelling_at toks i) (spelling_at toks k)).0 e in
+    let y : spelling_at toks j ≡ spelling_at toks k = (bytes_eq-Decides (spelling_at toks j) (spelling_at toks k)).0 f in
+    (bytes_eq-Decides (spelling_at toks i) (spelling_at toks j)).1 (x ∙ sym y)
+
+pub alike_turned : (toks : List Token) (i j : ℕ) → alike toks i j ≡ true → alike toks j i ≡ true
+alike_turned toks i j e =
+    (bytes_eq-Decides (spelling_at toks j) (spelling_at toks i)).1 (sym ((bytes_eq-Decides (spelling_at toks i) (spelling_at toks j)).0 e))
+
+and3_mono : (s x y t : Bool) → (y ≡ true → x ≡ true) → ((s && y) && t) ≡ true → ((s && x) && t) ≡ true
+and3_mono true true y t sub h = and_right y t h
+and3_mono true false true t sub h = absurd (false≢true (sub refl))
+and3_mono true false false t sub h = h
+and3_mono false x y t sub h = h
+
+and3_with : (s x y t : Bool) → ((s && x) && t) ≡ true → y ≡ true → ((s && y) && t) ≡ true
+and3_with true true y t h e = and_both y t e h
+and3_with true false y t h e = absurd (false≢true h)
+and3_with false x y t h e = h
+
+module _ (a b : List Token) (apart : (i j : ℕ) → alike b i j ≡ true → alike a i j ≡ true) where
+  pub named_apart : (space : Space) (i : ℕ) (test : Declaration → Bool) (d : Declaration)
+      → (is_named b space i d && test d) ≡ true → (is_named a space i d && test d) ≡ true
+  named_apart space i test d h =
+      and3_mono (is_space d.space space) (alike a i d.name_at) (alike b i d.name_at) (test d) (apart i d.name_at) h
+
+  passes_too : (space : Space) (i : ℕ) (test : Declaration → Bool) (facts : Facts) (r : Option Declaration) → looked_up a space i test facts ≡ r
+      → IfSome r (λ d. alike b i d.name_at ≡ true) → IfSome r (λ d. (is_named b space i d && test d) ≡ true)
+  passes_too space i test facts None e h = tt
+  passes_too space i test facts (Some d) e h =
+      and3_with (is_space d.space space) (alike a i d.name_at) (alike b i d.name_at) (test d)
+      (found_passes (λ d. is_named a space i d && test d) facts.declared d e) h
+
+  -- a look-up finds the same where the name that it finds is still spelled alike
+  pub looked_up_same : (space : Space) (i : ℕ) (test : Declaration → Bool) (facts : Facts) (r : Option Declaration) → looked_up a space i test facts ≡ r
+      → IfSome r (λ d. alike b i d.name_at ≡ true) → looked_up b space i test facts ≡ r
+  looked_up_same space i test facts r e h =
+      find_same (λ d. is_named b space i d && test d) (λ d. is_named a space i d && test d) facts.declared r
+      (named_apart space i test) e (passes_too space i test facts r e h)
