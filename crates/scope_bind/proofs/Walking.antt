@@ -12,7 +12,8 @@ use Rattle.scope_bind.specs.Frames.{State, at_first}
 use Rattle.scope_bind.specs.Entering.{entered}
 use Rattle.scope_bind.specs.Roles.{role_of}
 use Rattle.scope_bind.specs.Walk.{passed, left, walked}
-use Rattle.scope_bind.specs.Bound.{Name, Bound, name_of, names_of, bound_of, bound_unless, bound_after, facts_of, binding_of}
+use Rattle.scope_bind.specs.Bound.{Bound, name_of, names_of, bound_of, bound_unless, bound_after, facts_of, binding_of}
+use Rattle.scope_bind.specs.declared.bound.Name.{Name}
 use Rattle.scope_bind.specs.Renamed.{is_own_word, RenamedBindAlike}
 use Rattle.scope_bind.proofs.Lookups.{and_left, and_right, In}
 use Rattle.scope_bind.proofs.Facts.{Good, Kept}

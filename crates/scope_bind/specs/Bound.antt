@@ -6,22 +6,15 @@ use Rattle.cs_base.specs.Token.{Token}
 use Rattle.c99_tree.specs.Tree.{Forest, Node}
 use Rattle.scope_bind.specs.declared.entity.EntityKind.{EntityKind}
 use Rattle.scope_bind.specs.declared.entity.EntityKind.TheVariants.{Function, Object}
-use Rattle.scope_bind.specs.declared.entity.Linkage.{Linkage}
 use Rattle.scope_bind.specs.declared.entity.Linkage.TheVariants.{Absent}
 use Rattle.scope_bind.specs.Faults.{Fault}
 use Rattle.scope_bind.specs.Declarations.{Declaration, Occurrence, Facts, is_typedef_name}
 use Rattle.scope_bind.specs.Frames.{at_first}
 use Rattle.scope_bind.specs.Walk.{walked}
-use Rattle.scope_bind.specs.Lists.{NameList, Range, calls_in, bodies_in, lists_in, bare_in}
-
--- An identifier that is bound: its token, its entity by the first token that declares it, whether it declares it,
--- and the entity's kind and linkage.
-pub record Name : Type 0 where
-  pub index : ℕ
-  pub entity : ℕ
-  pub declares : Bool
-  pub kind : EntityKind
-  pub linkage : Linkage
+use Rattle.scope_bind.specs.declared.bound.Name.{Name}
+use Rattle.scope_bind.specs.declared.lists.List.{List as NameList}
+use Rattle.scope_bind.specs.declared.lists.Range.{Range}
+use Rattle.scope_bind.specs.Lists.{calls_in, bodies_in, lists_in, bare_in}
 
 -- The identifiers that are bound, in the order in which they are: a declared name at the end of its declarator, a
 -- name after `goto` at the end of its function. The parameter lists of functions and the argument lists of calls,

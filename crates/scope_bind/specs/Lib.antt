@@ -16,4 +16,5 @@ pub mod Roles
 pub mod Walk
 pub mod Lists
 pub mod Bound
+pub mod Names
 pub mod Renamed

@@ -4,20 +4,9 @@ use Rattle.std.specs.Option.{option_or}
 use Rattle.c99_tree.specs.Tree.{Forest, none, token, node}
 use Rattle.c99_tree.specs.declared.production.Label.{Label}
 use Rattle.c99_tree.specs.declared.production.Production.TheVariants.{ExtRest, InitDecl, Declarator, FunBody, Unary, Primary, Post, Params, Suffix, Pointer, Pdirect}
+use Rattle.scope_bind.specs.declared.lists.List.{List as NameList}
+use Rattle.scope_bind.specs.declared.lists.Range.{Range}
 use Rattle.scope_bind.specs.Trees.{name_below, is_node, is_at, is_list, first_token, last_token}
-
--- a list in parentheses that belongs to a name: its parentheses, and the commas that separate its items
-pub record NameList : Type 0 where
-  pub name : ℕ
-  pub begin : ℕ
-  pub close : ℕ
-  pub commas : List ℕ
-
--- the body of a function: its name and its braces
-pub record Range : Type 0 where
-  pub name : ℕ
-  pub from : ℕ
-  pub to : ℕ
 
 -- the tokens among some children with an odd number of children before them
 abbrev pub odd_tokens : ℕ → Forest → List ℕ

@@ -5,7 +5,8 @@ use Rattle.std.specs.Str.{bytes_eq}
 use Rattle.cs_base.specs.Token.{Token}
 use Rattle.c99_tree.specs.Tree.{Node}
 use Rattle.scope_bind.specs.Declarations.{spelling_at, alike}
-use Rattle.scope_bind.specs.Bound.{Name, Bound, binding_of}
+use Rattle.scope_bind.specs.Bound.{Bound, binding_of}
+use Rattle.scope_bind.specs.declared.bound.Name.{Name}
 
 -- the spellings that binding asks for by themselves; all others it compares with one another
 abbrev pub own_words : List (List ℕ)
