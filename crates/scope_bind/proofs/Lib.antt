@@ -3,5 +3,6 @@ mod Facts
 mod Names
 mod Objects
 mod Members
+mod SecondRanges
 mod Steps
 mod Walking

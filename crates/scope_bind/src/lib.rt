@@ -1,4 +1,14 @@
-//! Scopes, name spaces, linkage and types of names (ISO/IEC 9899:1999, 6.2.1 to 6.2.3).
+//! Scopes, name spaces, linkage and types of names (ISO/IEC 9899:1999, 6.2.1 to 6.2.3, 6.7.8).
+//!
+//! What each identifier of a translation unit denotes, given the tokens and their tree: its entity,
+//! named by the first token that declares it, with kind and linkage; the parameter lists of functions and
+//! the argument lists of calls; the bodies; and names that are parameters only since they are no typedef
+//! names. It is `binding_of` of `specs/Bound.antt`, a walk over the tree in which each declaration has
+//! its range of tokens, or the first of seven faults. Types are followed as far as members need them.
+//! A binding is told by indices and holds no spelling, so a renamed text binds to the same value: that is
+//! the law below. This crate knows neither how a tree is read nor macros, files or classes. `Bound` and
+//! its readers stand; the body of the walk does not yet. Read `specs/Declarations.antt`,
+//! `Ordinary.antt` and the files beside it, `Walk.antt`, `Bound.antt`, then `bound.rt`.
 #![tactic(auto)]
 
 mod bound;
