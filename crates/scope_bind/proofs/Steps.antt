@@ -10,7 +10,7 @@ use Rattle.c99_tree.specs.declared.production.Production.{Production}
 use Rattle.c99_tree.specs.declared.production.Production.TheVariants.{ExtRest, FunBody, InitDecl, Members, Mdecl, Enumerators, Enumerator, Declarator, Param, Pdecl, SuRest, Unary, Add}
 use Rattle.scope_bind.specs.declared.entity.EntityKind.TheVariants.{Parameter, Enumerator as Constant}
 use Rattle.scope_bind.specs.Faults.{designator_after_elision}
-use Rattle.scope_bind.specs.Types.{CType, arithmetic, unknown, array, union, structure, pointer, pointed_to, sum_type, target_of}
+use Rattle.scope_bind.specs.Types.{is_unknown, CType, arithmetic, unknown, array, union, structure, pointer, pointed_to, sum_type, target_of}
 use Rattle.scope_bind.specs.Trees.{name_below, last_token}
 use Rattle.scope_bind.specs.Declarations.{with_fault, Facts, spelling_at, alike, ordinary, visible}
 use Rattle.scope_bind.specs.Frames.{Body, Frame, Position, State}
@@ -18,7 +18,7 @@ use Rattle.scope_bind.specs.Ordinary.{used, used_as, used_type, is_func, plain_n
 use Rattle.scope_bind.specs.Tags.{renumbered, tag_entity, with_tag_after}
 use Rattle.scope_bind.specs.Members.{member_used, member_used_as, member_at, member_type}
 use Rattle.scope_bind.specs.Expressions.{is_sign, prefixed, found_after}
-use Rattle.scope_bind.specs.Initializers.{is_unknown, position_of}
+use Rattle.scope_bind.specs.Initializers.{position_of}
 use Rattle.scope_bind.specs.Entering.{facts_in, found_in, frame_in, entered}
 use Rattle.scope_bind.specs.Roles.{Role, plain, primary, type_name, tag, enumeration_tag, listed, member, pointed_member, designated, label, jump}
 use Rattle.scope_bind.specs.Walk.{facts_at, found_at, position_at, passed_as, declared_in, parameter_in, facts_after, frame_after, left}

@@ -1,6 +1,6 @@
 -- Places in brace lists (ISO/IEC 9899:1999, 6.7.8), as far as designators name members in them.
 -- Differs: which subobjects a list without braces of its own fills is not followed; the place behind is unknown.
-use Rattle.std.specs.Prelude.{ℕ, ◌+◌, Bool, true, false, ◌&&◌, not, List, [], ◌∷◌, Option, None, Some, slice_get, if◌then◌else◌, ◌==◌}
+use Rattle.std.specs.Prelude.{ℕ, ◌+◌, Bool, true, false, ◌&&◌, ◌||◌, not, List, [], ◌∷◌, Option, None, Some, slice_get, if◌then◌else◌, ◌==◌}
 use Rattle.std.specs.Option.{option_map_or}
 use Rattle.cs_base.specs.Token.{Token}
 use Rattle.c99_tree.specs.Tree.{Forest}
@@ -8,16 +8,14 @@ use Rattle.c99_tree.specs.declared.production.Label.{Label}
 use Rattle.c99_tree.specs.declared.production.Production.{Production}
 use Rattle.c99_tree.specs.declared.production.Production.TheVariants.{Designator, InitItem, InitList}
 use Rattle.scope_bind.specs.Faults.{designator_after_elision}
-use Rattle.scope_bind.specs.Types.{CType, arithmetic, array, structure, union, unknown, is_record}
+use Rattle.scope_bind.specs.declared.types.Base.{Base}
+use Rattle.scope_bind.specs.declared.types.Base.TheVariants.{Union}
+use Rattle.scope_bind.specs.Types.{CType, arithmetic, unknown, is_record, is_array, is_arithmetic, is_unknown, inner_of}
 use Rattle.scope_bind.specs.Tags.{number_in}
 use Rattle.scope_bind.specs.Trees.{is_node, is_text}
 use Rattle.scope_bind.specs.Declarations.{Declaration, Facts, with_fault}
 use Rattle.scope_bind.specs.Frames.{Frame, Position, numbered, lost, beyond}
 use Rattle.scope_bind.specs.Members.{is_known, members_of, member_at, member_used, member_type}
-
-abbrev pub is_unknown : CType → Bool
-is_unknown unknown = true
-is_unknown _ = false
 
 -- ---- Places
 
@@ -26,19 +24,28 @@ abbrev pub member_place : CType → ℕ → Facts → CType
 member_place t n facts =
     if is_known t facts then option_map_or (λ d. d.ctype) (slice_get (members_of (number_in t) facts) n) arithmetic else arithmetic
 
+abbrev pub is_union_base : Base → Bool
+is_union_base (Union n) = true
+is_union_base _ = false
+
 -- place number n in a list of the type: a union has one (paragraph 17)
 abbrev pub place_at : CType → ℕ → Facts → CType
-place_at (structure m) n facts = member_place (structure m) n facts
-place_at (union m) n facts = if n == 0 then member_place (union m) 0 facts else arithmetic
-place_at t n facts = arithmetic
+place_at t n facts = if is_union_base t.base && not (n == 0) then arithmetic else member_place t n facts
+
+-- the place at a position, in a list of a type that is known and no array
+abbrev pub next_member : CType → Position → Facts → CType
+next_member t lost facts = unknown
+next_member t (numbered n) facts = place_at t n facts
+next_member t beyond facts = arithmetic
+
+abbrev pub is_lost : Position → Bool
+is_lost lost = true
+is_lost _ = false
 
 -- the next place in a list of the type
 abbrev pub next_place : CType → Position → Facts → CType
-next_place unknown at facts = unknown
-next_place t lost facts = unknown
-next_place (array t) at facts = t
-next_place t (numbered n) facts = place_at t n facts
-next_place t beyond facts = arithmetic
+next_place t at facts =
+    if is_unknown t || is_lost at then unknown else (if is_array t then inner_of t else next_member t at facts)
 
 abbrev pub behind : Position → Position
 behind (numbered n) = numbered (n + 1)
@@ -46,21 +53,16 @@ behind at = at
 
 -- the element that `[` and an index designate
 abbrev pub element_of : CType → CType
-element_of unknown = unknown
-element_of (array t) = t
-element_of t = arithmetic
+element_of t = if is_unknown t then unknown else (if is_array t then inner_of t else arithmetic)
 
 -- ---- Items
 
 -- An item without braces fills a part of such a place alone (paragraph 20), unless it has structure or union type,
 -- or is a string for an array of characters (paragraphs 13 and 14).
-abbrev pub is_arithmetic : CType → Bool
-is_arithmetic arithmetic = true
-is_arithmetic _ = false
-
 abbrev pub is_part : CType → CType → Bool → Bool
-is_part (array t) item text = not (is_record item) && not (text && is_arithmetic t)
-is_part place item text = is_record place && not (is_record item)
+is_part place item text =
+    not (is_record item) &&
+    (if is_array place then not (text && is_arithmetic (inner_of place)) else is_record place)
 
 -- an initializer without braces does so
 abbrev pub is_elision : Label → Forest → Frame → Bool

@@ -6,30 +6,41 @@ use Rattle.cs_base.specs.Token.{Token}
 use Rattle.scope_bind.specs.declared.entity.EntityKind.TheVariants.{Tag}
 use Rattle.scope_bind.specs.declared.entity.Linkage.TheVariants.{Absent}
 use Rattle.scope_bind.specs.Faults.{undeclared, tag_redefined}
-use Rattle.scope_bind.specs.Types.{CType, structure, union, enumeration}
+use Rattle.scope_bind.specs.declared.types.Base.{Base}
+use Rattle.scope_bind.specs.declared.types.Base.TheVariants.{Structure, Union, Enumeration}
+use Rattle.scope_bind.specs.Types.{CType, structure, union}
 use Rattle.scope_bind.specs.Declarations.{spelling_at, tags, Declaration, Facts, is_in, with_fault, with_use, with_declaration, with_begun, looked_up, visible, is_live}
 use Rattle.scope_bind.specs.Frames.{Scope, Frame}
 
 -- the number of a structure, union or enumeration: the token of its first tag, or of its word where it has none
+abbrev pub base_number : Base → ℕ
+base_number (Structure n) = n
+base_number (Union n) = n
+base_number (Enumeration n) = n
+base_number _ = 0
+
 abbrev pub number_in : CType → ℕ
-number_in (structure n) = n
-number_in (union n) = n
-number_in (enumeration n) = n
-number_in _ = 0
+number_in t = base_number t.base
 
 -- another one of the same sort
+abbrev pub base_renumbered : Base → ℕ → Base
+base_renumbered (Structure n) m = Structure m
+base_renumbered (Union n) m = Union m
+base_renumbered (Enumeration n) m = Enumeration m
+base_renumbered b m = b
+
 abbrev pub renumbered : CType → ℕ → CType
-renumbered (structure n) m = structure m
-renumbered (union n) m = union m
-renumbered (enumeration n) m = enumeration m
-renumbered t m = t
+renumbered t m = record t { base = base_renumbered t.base m }
 
 -- both are structures, both are unions, or both are enumerations
+abbrev pub is_base_sort : Base → Base → Bool
+is_base_sort (Structure n) (Structure m) = true
+is_base_sort (Union n) (Union m) = true
+is_base_sort (Enumeration n) (Enumeration m) = true
+is_base_sort _ _ = false
+
 abbrev pub is_sort : CType → CType → Bool
-is_sort (structure n) (structure m) = true
-is_sort (union n) (union m) = true
-is_sort (enumeration n) (enumeration m) = true
-is_sort _ _ = false
+is_sort s t = is_base_sort s.base t.base
 
 -- an earlier declaration of the tag is of the same type, and a list in braces stands in one of them at most
 abbrev pub is_same_tag : Frame → Facts → Declaration → Bool

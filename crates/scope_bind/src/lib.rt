@@ -16,6 +16,7 @@ mod entity;
 mod faults;
 mod laws;
 mod lists;
+mod types;
 
 pub use bound::{Bound, Name};
 pub use entity::{EntityKind, Linkage};
