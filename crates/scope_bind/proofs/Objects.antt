@@ -7,9 +7,11 @@ use Rattle.c99_tree.specs.Tree.{Forest}
 use Rattle.scope_bind.specs.declared.entity.Linkage.{Linkage}
 use Rattle.scope_bind.specs.declared.entity.Linkage.TheVariants.{External, Internal, Absent}
 use Rattle.scope_bind.specs.Types.{CType, is_function}
-use Rattle.scope_bind.specs.Trees.{last_token, declarator_type, has_typedef_word}
-use Rattle.scope_bind.specs.Declarations.{ordinary, Declaration, Facts, has_linkage, is_linkage, is_live, alike, is_named, visible, in_scope, linked, is_mixed}
-use Rattle.scope_bind.specs.Frames.{Frame}
+use Rattle.scope_bind.specs.Trees.{last_token, declarator_type}
+use Rattle.scope_bind.specs.declared.declarations.Space.TheVariants.{Ordinary as ordinary}
+use Rattle.scope_bind.specs.declared.declarations.Declaration.{Declaration}
+use Rattle.scope_bind.specs.Declarations.{Facts, has_linkage, is_linkage, is_live, alike, is_named, visible, in_scope, linked, is_mixed}
+use Rattle.scope_bind.specs.declared.frames.Frame.{Frame}
 use Rattle.scope_bind.specs.Linkage.{prior_linkage, follows_prior, own_linkage}
 use Rattle.scope_bind.specs.Ordinary.{Declared, entity_of, declared, declaration_of, is_listed, declared_faults, new_linkage, new_object, with_object, new_parameter, with_parameter}
 use Rattle.scope_bind.proofs.Lookups.{false≢true, and_left, and_both, In, found_passes, found_in, any_none, named_apart}
@@ -117,7 +119,7 @@ module _ (a b : List Token) (apart : (i j : ℕ) → alike b i j ≡ true → al
 
     linkage_same : Kept a facts → Good b (declared a f.scope n facts) → new_linkage b f i last t facts ≡ new_linkage a f i last t facts
     linkage_same k h =
-        linkage_at (has_typedef_word f.specs || f.listing) (follows_prior f.scope.depth (is_function t) f.specs) (own_linkage f.scope.depth f.specs)
+        linkage_at (f.words.has_typedef || f.listing) (follows_prior f.scope.depth (is_function t) f.words) (own_linkage f.scope.depth f.words)
         (followed k h) refl
 
     pub object_same : Kept a facts → Good b (declared a f.scope n facts)

@@ -9,11 +9,15 @@ use Rattle.c99_tree.specs.declared.production.Label.{Label}
 use Rattle.c99_tree.specs.declared.production.Production.{Production}
 use Rattle.c99_tree.specs.declared.production.Production.TheVariants.{ExtRest, FunBody, InitDecl, Members, Mdecl, Enumerators, Enumerator, Declarator, Param, Pdecl, SuRest, Unary, Add}
 use Rattle.scope_bind.specs.declared.entity.EntityKind.TheVariants.{Parameter, Enumerator as Constant}
-use Rattle.scope_bind.specs.Faults.{designator_after_elision}
+use Rattle.scope_bind.specs.declared.declarations.Cause.TheVariants.{DesignatorAfterElision as designator_after_elision}
 use Rattle.scope_bind.specs.Types.{is_unknown, CType, arithmetic, unknown, array, union, structure, pointer, pointed_to, sum_type, target_of}
 use Rattle.scope_bind.specs.Trees.{name_below, last_token}
-use Rattle.scope_bind.specs.Declarations.{with_fault, Facts, spelling_at, alike, ordinary, visible}
-use Rattle.scope_bind.specs.Frames.{Body, Frame, Position, State}
+use Rattle.scope_bind.specs.declared.declarations.Space.TheVariants.{Ordinary as ordinary}
+use Rattle.scope_bind.specs.Declarations.{with_fault, Facts, spelling_at, alike, visible}
+use Rattle.scope_bind.specs.declared.frames.Body.{Body}
+use Rattle.scope_bind.specs.declared.frames.Frame.{Frame}
+use Rattle.scope_bind.specs.declared.frames.Position.{Position}
+use Rattle.scope_bind.specs.Frames.{State}
 use Rattle.scope_bind.specs.Ordinary.{used, used_as, used_type, is_func, plain_name}
 use Rattle.scope_bind.specs.Tags.{renumbered, tag_entity, with_tag_after}
 use Rattle.scope_bind.specs.Members.{member_used, member_used_as, member_at, member_type}

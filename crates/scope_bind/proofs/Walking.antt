@@ -6,7 +6,7 @@ use Rattle.std.specs.Str.{bytes_eq}
 use Rattle.std.proofs.lemmas.List.Folds.{list_all-append}
 use Rattle.cs_base.specs.Token.{Token}
 use Rattle.c99_tree.specs.Tree.{Forest, none, token, node}
-use Rattle.scope_bind.specs.Faults.{Fault}
+use Rattle.scope_bind.specs.declared.declarations.Fault.{Fault}
 use Rattle.scope_bind.specs.Declarations.{Facts, spelling_at, alike}
 use Rattle.scope_bind.specs.Frames.{State, at_first}
 use Rattle.scope_bind.specs.Entering.{entered}

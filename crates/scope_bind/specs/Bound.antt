@@ -7,8 +7,10 @@ use Rattle.c99_tree.specs.Tree.{Forest, Node}
 use Rattle.scope_bind.specs.declared.entity.EntityKind.{EntityKind}
 use Rattle.scope_bind.specs.declared.entity.EntityKind.TheVariants.{Function, Object}
 use Rattle.scope_bind.specs.declared.entity.Linkage.TheVariants.{Absent}
-use Rattle.scope_bind.specs.Faults.{Fault}
-use Rattle.scope_bind.specs.Declarations.{Declaration, Occurrence, Facts, is_typedef_name}
+use Rattle.scope_bind.specs.declared.declarations.Fault.{Fault}
+use Rattle.scope_bind.specs.declared.declarations.Declaration.{Declaration}
+use Rattle.scope_bind.specs.declared.declarations.Occurrence.{Occurrence}
+use Rattle.scope_bind.specs.Declarations.{Facts, is_typedef_name}
 use Rattle.scope_bind.specs.Frames.{at_first}
 use Rattle.scope_bind.specs.Walk.{walked}
 use Rattle.scope_bind.specs.declared.bound.Name.{Name}

@@ -8,16 +8,13 @@ use Rattle.scope_bind.specs.declared.entity.EntityKind.{EntityKind}
 use Rattle.scope_bind.specs.declared.entity.EntityKind.TheVariants.{Typedef}
 use Rattle.scope_bind.specs.declared.entity.Linkage.{Linkage}
 use Rattle.scope_bind.specs.declared.entity.Linkage.TheVariants.{External, Internal, Absent}
-use Rattle.scope_bind.specs.Faults.{Cause, Fault, first_fault}
-use Rattle.scope_bind.specs.Types.{CType}
-
--- Name spaces (6.2.3): ordinary identifiers, tags, the members of each structure or union by its number, and the
--- labels of each function by the token that begins its body.
-pub data Space : Type 0 where
-  ordinary : Space
-  tags : Space
-  members : ℕ → Space
-  labels : ℕ → Space
+use Rattle.scope_bind.specs.declared.declarations.Cause.{Cause}
+use Rattle.scope_bind.specs.declared.declarations.Fault.{Fault}
+use Rattle.scope_bind.specs.Faults.{first_fault}
+use Rattle.scope_bind.specs.declared.declarations.Space.{Space}
+use Rattle.scope_bind.specs.declared.declarations.Space.TheVariants.{Ordinary as ordinary, Tags as tags, Members as members, Labels as labels}
+use Rattle.scope_bind.specs.declared.declarations.Declaration.{Declaration}
+use Rattle.scope_bind.specs.declared.declarations.Occurrence.{Occurrence}
 
 abbrev pub is_space : Space → Space → Bool
 is_space ordinary ordinary = true
@@ -25,27 +22,6 @@ is_space tags tags = true
 is_space (members n) (members m) = n == m
 is_space (labels n) (labels m) = n == m
 is_space _ _ = false
-
--- A declaration: its name space, the token that is its name, and its entity by the first token that declares it.
--- Its range goes from a token to before another; `depth` counts the scopes around its own. `listed` says that an
--- identifier list declares it.
-pub record Declaration : Type 0 where
-  pub space : Space
-  pub name_at : ℕ
-  pub entity : ℕ
-  pub kind : EntityKind
-  pub linkage : Linkage
-  pub ctype : CType
-  pub depth : ℕ
-  pub from : ℕ
-  pub to : ℕ
-  pub listed : Bool
-
--- an identifier that is bound: its token, its entity, and whether it declares it
-pub record Occurrence : Type 0 where
-  pub index : ℕ
-  pub entity : ℕ
-  pub declares : Bool
 
 -- What is known once a part of a unit is read: the declarations in the order in which their ranges began, the
 -- latest first; the identifiers that are bound, the latest first; the tags whose `{` has been read, and the

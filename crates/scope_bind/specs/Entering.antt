@@ -7,8 +7,16 @@ use Rattle.c99_tree.specs.declared.production.Production.{Production}
 use Rattle.c99_tree.specs.declared.production.Production.TheVariants.{External, ExtTail, FunBody, Declaration as DeclarationNode, Specs, Main, StructSpec, SuRest, Members, EnRest, Enumerators, Suffix, Init, InitList, InitItem, Designator, CastRest, SizeLit, Primary, Post, Block, Statement, Sub}
 use Rattle.scope_bind.specs.Types.{CType, arithmetic, array, enumeration, called}
 use Rattle.scope_bind.specs.Trees.{is_node, is_list, last_token, first_token, has_node, is_bare}
-use Rattle.scope_bind.specs.Declarations.{Space, members, Declaration, Facts}
-use Rattle.scope_bind.specs.Frames.{Scope, Body, Frame, Position, numbered, beyond, State}
+use Rattle.scope_bind.specs.declared.declarations.Space.{Space}
+use Rattle.scope_bind.specs.declared.declarations.Space.TheVariants.{Members as members}
+use Rattle.scope_bind.specs.declared.declarations.Declaration.{Declaration}
+use Rattle.scope_bind.specs.Declarations.{Facts}
+use Rattle.scope_bind.specs.declared.frames.Scope.{Scope}
+use Rattle.scope_bind.specs.declared.frames.Body.{Body}
+use Rattle.scope_bind.specs.declared.frames.Frame.{Frame}
+use Rattle.scope_bind.specs.declared.frames.Position.{Position}
+use Rattle.scope_bind.specs.declared.frames.Position.TheVariants.{Numbered as numbered, Beyond as beyond}
+use Rattle.scope_bind.specs.Frames.{State}
 use Rattle.scope_bind.specs.Tags.{number_in, new_record}
 use Rattle.scope_bind.specs.Initializers.{next_place, element_of}
 

@@ -9,7 +9,7 @@ use Rattle.c99_tree.specs.declared.production.Production.TheVariants.{Expr, Assi
 use Rattle.scope_bind.specs.Types.{CType, arithmetic, nothing, pointer, subscripted, pointed_to, sum_type, chosen}
 use Rattle.scope_bind.specs.Trees.{is_node, is_at, declarator_type}
 use Rattle.scope_bind.specs.Declarations.{spelling_at}
-use Rattle.scope_bind.specs.Frames.{Frame}
+use Rattle.scope_bind.specs.declared.frames.Frame.{Frame}
 
 -- the first operand's: assignment (6.5.16 paragraph 3)
 abbrev pub of_first : Frame → Frame → CType

@@ -1,17 +1,8 @@
 -- What can be wrong with the names of a translation unit.
 use Rattle.std.specs.Prelude.{ℕ, Bool, ◌&&◌, ◌||◌, Option, None, Some, nat_lt, ◌==◌, if◌then◌else◌}
-
--- A name that is not visible (6.2.1), a member that is not there (6.5.2.3), a label that is not there (6.8.6.1),
--- a name declared twice (6.7), a tag with another body or of another kind (6.7.2.3), both linkages (6.2.2
--- paragraph 7), and a member designated where this project follows no subobjects (6.7.8).
-pub data Cause : Type 0 where
-  undeclared : Cause
-  no_member : Cause
-  no_label : Cause
-  redeclared : Cause
-  tag_redefined : Cause
-  mixed_linkage : Cause
-  designator_after_elision : Cause
+use Rattle.scope_bind.specs.declared.declarations.Cause.{Cause}
+use Rattle.scope_bind.specs.declared.declarations.Cause.TheVariants.{Undeclared as undeclared, NoMember as no_member, NoLabel as no_label, Redeclared as redeclared, TagRedefined as tag_redefined, MixedLinkage as mixed_linkage, DesignatorAfterElision as designator_after_elision}
+use Rattle.scope_bind.specs.declared.declarations.Fault.{Fault}
 
 -- which of two at one token is named
 abbrev pub number_of : Cause → ℕ
@@ -22,11 +13,6 @@ number_of redeclared = 4
 number_of tag_redefined = 5
 number_of mixed_linkage = 6
 number_of designator_after_elision = 7
-
--- a cause, at an identifier
-pub record Fault : Type 0 where
-  pub cause : Cause
-  pub index : ℕ
 
 -- the first is at an earlier token, or at the same one with a lower number
 abbrev pub comes_first : Fault → Fault → Bool

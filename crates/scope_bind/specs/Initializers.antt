@@ -7,14 +7,17 @@ use Rattle.c99_tree.specs.Tree.{Forest}
 use Rattle.c99_tree.specs.declared.production.Label.{Label}
 use Rattle.c99_tree.specs.declared.production.Production.{Production}
 use Rattle.c99_tree.specs.declared.production.Production.TheVariants.{Designator, InitItem, InitList}
-use Rattle.scope_bind.specs.Faults.{designator_after_elision}
+use Rattle.scope_bind.specs.declared.declarations.Cause.TheVariants.{DesignatorAfterElision as designator_after_elision}
 use Rattle.scope_bind.specs.declared.types.Base.{Base}
 use Rattle.scope_bind.specs.declared.types.Base.TheVariants.{Union}
 use Rattle.scope_bind.specs.Types.{CType, arithmetic, unknown, is_record, is_array, is_arithmetic, is_unknown, inner_of}
 use Rattle.scope_bind.specs.Tags.{number_in}
 use Rattle.scope_bind.specs.Trees.{is_node, is_text}
-use Rattle.scope_bind.specs.Declarations.{Declaration, Facts, with_fault}
-use Rattle.scope_bind.specs.Frames.{Frame, Position, numbered, lost, beyond}
+use Rattle.scope_bind.specs.declared.declarations.Declaration.{Declaration}
+use Rattle.scope_bind.specs.Declarations.{Facts, with_fault}
+use Rattle.scope_bind.specs.declared.frames.Frame.{Frame}
+use Rattle.scope_bind.specs.declared.frames.Position.{Position}
+use Rattle.scope_bind.specs.declared.frames.Position.TheVariants.{Numbered as numbered, Lost as lost, Beyond as beyond}
 use Rattle.scope_bind.specs.Members.{is_known, members_of, member_at, member_used, member_type}
 
 -- ---- Places

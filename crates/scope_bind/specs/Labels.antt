@@ -3,10 +3,12 @@ use Rattle.std.specs.Prelude.{ℕ, true, false, List, [], ◌∷◌, Option, Non
 use Rattle.cs_base.specs.Token.{Token}
 use Rattle.scope_bind.specs.declared.entity.EntityKind.TheVariants.{Label}
 use Rattle.scope_bind.specs.declared.entity.Linkage.TheVariants.{Absent}
-use Rattle.scope_bind.specs.Faults.{no_label, redeclared}
+use Rattle.scope_bind.specs.declared.declarations.Cause.TheVariants.{NoLabel as no_label, Redeclared as redeclared}
 use Rattle.scope_bind.specs.Types.{arithmetic}
-use Rattle.scope_bind.specs.Declarations.{labels, Declaration, Facts, with_fault, with_use, with_declaration, anywhere}
-use Rattle.scope_bind.specs.Frames.{Body}
+use Rattle.scope_bind.specs.declared.declarations.Space.TheVariants.{Labels as labels}
+use Rattle.scope_bind.specs.declared.declarations.Declaration.{Declaration}
+use Rattle.scope_bind.specs.Declarations.{Facts, with_fault, with_use, with_declaration, anywhere}
+use Rattle.scope_bind.specs.declared.frames.Body.{Body}
 
 abbrev pub label_declaration : Body → ℕ → Declaration
 label_declaration b i = record {

@@ -5,12 +5,14 @@ use Rattle.cs_base.specs.Token.{Token}
 use Rattle.c99_tree.specs.Tree.{Forest}
 use Rattle.scope_bind.specs.declared.entity.EntityKind.TheVariants.{Member}
 use Rattle.scope_bind.specs.declared.entity.Linkage.TheVariants.{Absent}
-use Rattle.scope_bind.specs.Faults.{no_member, redeclared}
+use Rattle.scope_bind.specs.declared.declarations.Cause.TheVariants.{NoMember as no_member, Redeclared as redeclared}
 use Rattle.scope_bind.specs.Types.{CType, is_record}
 use Rattle.scope_bind.specs.Tags.{number_in}
 use Rattle.scope_bind.specs.Trees.{last_token, declarator_type}
-use Rattle.scope_bind.specs.Declarations.{members, is_space, Declaration, Facts, is_in, with_fault, with_use, with_declaration, anywhere}
-use Rattle.scope_bind.specs.Frames.{Frame}
+use Rattle.scope_bind.specs.declared.declarations.Space.TheVariants.{Members as members}
+use Rattle.scope_bind.specs.declared.declarations.Declaration.{Declaration}
+use Rattle.scope_bind.specs.Declarations.{is_space, Facts, is_in, with_fault, with_use, with_declaration, anywhere}
+use Rattle.scope_bind.specs.declared.frames.Frame.{Frame}
 
 abbrev pub member_declaration : Frame → ℕ → ℕ → CType → Declaration
 member_declaration f i last t = record {

@@ -8,11 +8,14 @@ use Rattle.scope_bind.specs.declared.entity.EntityKind.{EntityKind}
 use Rattle.scope_bind.specs.declared.entity.EntityKind.TheVariants.{Object, Function, Typedef, Parameter, Enumerator}
 use Rattle.scope_bind.specs.declared.entity.Linkage.{Linkage}
 use Rattle.scope_bind.specs.declared.entity.Linkage.TheVariants.{Absent}
-use Rattle.scope_bind.specs.Faults.{undeclared, redeclared, mixed_linkage}
+use Rattle.scope_bind.specs.declared.declarations.Cause.TheVariants.{Undeclared as undeclared, Redeclared as redeclared, MixedLinkage as mixed_linkage}
 use Rattle.scope_bind.specs.Types.{CType, arithmetic, array, is_function, adjusted}
-use Rattle.scope_bind.specs.Trees.{last_token, declarator_type, has_typedef_word}
-use Rattle.scope_bind.specs.Declarations.{spelling_at, ordinary, Declaration, Facts, has_linkage, is_typedef_name, with_fault, with_use, with_declaration, visible, in_scope, linked, is_mixed}
-use Rattle.scope_bind.specs.Frames.{Scope, Frame}
+use Rattle.scope_bind.specs.Trees.{last_token, declarator_type}
+use Rattle.scope_bind.specs.declared.declarations.Space.TheVariants.{Ordinary as ordinary}
+use Rattle.scope_bind.specs.declared.declarations.Declaration.{Declaration}
+use Rattle.scope_bind.specs.Declarations.{spelling_at, Facts, has_linkage, is_typedef_name, with_fault, with_use, with_declaration, visible, in_scope, linked, is_mixed}
+use Rattle.scope_bind.specs.declared.frames.Scope.{Scope}
+use Rattle.scope_bind.specs.declared.frames.Frame.{Frame}
 use Rattle.scope_bind.specs.Linkage.{linkage_of}
 
 -- What is declared: its name, the last token before its range, its kind, type and linkage, whether it stands
@@ -109,16 +112,16 @@ module _ (toks : List Token) where
   -- An object or function at the end of its declarator, and a typedef name or parameter of the old style.
   abbrev pub new_kind : Frame → CType → EntityKind
   new_kind f t =
-      if has_typedef_word f.specs then Typedef
+      if f.words.has_typedef then Typedef
       else (if f.listing then Parameter else (if is_function t then Function else Object))
 
   abbrev pub new_type : Frame → CType → CType
-  new_type f t = if f.listing && not (has_typedef_word f.specs) then adjusted t else t
+  new_type f t = if f.listing && not (f.words.has_typedef) then adjusted t else t
 
   abbrev pub new_linkage : Frame → ℕ → ℕ → CType → Facts → Linkage
   new_linkage f i last t facts =
-      if has_typedef_word f.specs || f.listing then Absent
-      else linkage_of f.scope.depth (is_function t) f.specs (visible toks ordinary i last facts)
+      if f.words.has_typedef || f.listing then Absent
+      else linkage_of f.scope.depth (is_function t) f.words (visible toks ordinary i last facts)
 
   abbrev pub new_object : Frame → ℕ → ℕ → CType → Facts → Declared
   new_object f i last t facts = record {
@@ -152,7 +155,7 @@ module _ (toks : List Token) where
   -- a parameter of a prototype; with `typedef`, which is a slip, it is a typedef name
   abbrev pub new_parameter : Frame → ℕ → ℕ → CType → Declared
   new_parameter f i last t =
-      if has_typedef_word f.specs then plain_name i last Typedef t false else plain_name i last Parameter (adjusted t) false
+      if f.words.has_typedef then plain_name i last Typedef t false else plain_name i last Parameter (adjusted t) false
 
   abbrev pub with_parameter : Frame → Forest → Option ℕ → Facts → Facts
   with_parameter f under None facts = facts

@@ -5,12 +5,15 @@ use Rattle.std.specs.Str.{bytes_eq}
 use Rattle.cs_base.specs.Token.{Token}
 use Rattle.scope_bind.specs.declared.entity.EntityKind.TheVariants.{Tag}
 use Rattle.scope_bind.specs.declared.entity.Linkage.TheVariants.{Absent}
-use Rattle.scope_bind.specs.Faults.{undeclared, tag_redefined}
+use Rattle.scope_bind.specs.declared.declarations.Cause.TheVariants.{Undeclared as undeclared, TagRedefined as tag_redefined}
 use Rattle.scope_bind.specs.declared.types.Base.{Base}
 use Rattle.scope_bind.specs.declared.types.Base.TheVariants.{Structure, Union, Enumeration}
 use Rattle.scope_bind.specs.Types.{CType, structure, union}
-use Rattle.scope_bind.specs.Declarations.{spelling_at, tags, Declaration, Facts, is_in, with_fault, with_use, with_declaration, with_begun, looked_up, visible, is_live}
-use Rattle.scope_bind.specs.Frames.{Scope, Frame}
+use Rattle.scope_bind.specs.declared.declarations.Space.TheVariants.{Tags as tags}
+use Rattle.scope_bind.specs.declared.declarations.Declaration.{Declaration}
+use Rattle.scope_bind.specs.Declarations.{spelling_at, Facts, is_in, with_fault, with_use, with_declaration, with_begun, looked_up, visible, is_live}
+use Rattle.scope_bind.specs.declared.frames.Scope.{Scope}
+use Rattle.scope_bind.specs.declared.frames.Frame.{Frame}
 
 -- the number of a structure, union or enumeration: the token of its first tag, or of its word where it has none
 abbrev pub base_number : Base → ℕ

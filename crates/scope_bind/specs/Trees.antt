@@ -6,6 +6,7 @@ use Rattle.c99_tree.specs.declared.production.Label.{Label}
 use Rattle.c99_tree.specs.declared.production.Production.{Production}
 use Rattle.c99_tree.specs.declared.production.Production.TheVariants.{Main, Mod, Suffix, Direct, Declarator, Pdecl, Pdirect, Pointer, Primary}
 use Rattle.c99_tree.specs.contracts.production.ProductionPartialEq.TheImpl.{ghosts}
+use Rattle.scope_bind.specs.declared.frames.Words.{Words}
 use Rattle.scope_bind.specs.Types.{CType, pointer, array, function}
 
 -- the node is one of the production
@@ -41,17 +42,13 @@ has_mod n (token i rest) = has_mod n rest
 has_mod n (node l first under rest) = is_at l Mod n || ((is_node l Main && has_mod n under) || has_mod n rest)
 
 -- storage-class specifiers (6.7.1)
-abbrev pub has_typedef_word : Forest → Bool
-has_typedef_word specs = has_mod 1 specs
-
-abbrev pub has_extern : Forest → Bool
-has_extern specs = has_mod 2 specs
-
-abbrev pub has_static : Forest → Bool
-has_static specs = has_mod 3 specs
-
-abbrev pub has_storage : Forest → Bool
-has_storage specs = has_typedef_word specs || (has_extern specs || (has_static specs || (has_mod 4 specs || has_mod 5 specs)))
+abbrev pub words_of : Forest → Words
+words_of specs = record {
+  has_typedef = has_mod 1 specs;
+  has_extern = has_mod 2 specs;
+  has_static = has_mod 3 specs;
+  has_any = has_mod 1 specs || (has_mod 2 specs || (has_mod 3 specs || (has_mod 4 specs || has_mod 5 specs)));
+}
 
 -- The specifiers and the rest of a declaration are a structure or union specifier and a semicolon, and no
 -- other word (6.7.2.3 paragraph 7).

@@ -8,9 +8,12 @@ use Rattle.c99_tree.specs.declared.production.Label.{Label}
 use Rattle.c99_tree.specs.declared.production.Production.{Production}
 use Rattle.c99_tree.specs.declared.production.Production.TheVariants.{ExtRest, FunBody, InitDecl, Specs, Members, Mdecl, Enumerators, Enumerator, Declarator, Param, Pdecl}
 use Rattle.scope_bind.specs.Types.{CType, arithmetic, target_of}
-use Rattle.scope_bind.specs.Trees.{name_below, is_node, last_token, first_list}
+use Rattle.scope_bind.specs.Trees.{words_of, name_below, is_node, last_token, first_list}
 use Rattle.scope_bind.specs.Declarations.{Facts, with_complete}
-use Rattle.scope_bind.specs.Frames.{Body, Frame, Position, State}
+use Rattle.scope_bind.specs.declared.frames.Body.{Body}
+use Rattle.scope_bind.specs.declared.frames.Frame.{Frame}
+use Rattle.scope_bind.specs.declared.frames.Position.{Position}
+use Rattle.scope_bind.specs.Frames.{State}
 use Rattle.scope_bind.specs.Ordinary.{used, used_type, named_facts, named_type, with_object, with_parameter, with_listed, with_enumerator}
 use Rattle.scope_bind.specs.Tags.{number_in, with_tag, tag_type, with_enumeration}
 use Rattle.scope_bind.specs.Members.{with_member, member_used, member_type}
@@ -94,7 +97,7 @@ module _ (toks : List Token) where
   frame_after f l under child = record f {
     nth = f.nth + 1;
     base = if is_node l Specs then child.found else f.base;
-    specs = if is_node l Specs then under else f.specs;
+    words = if is_node l Specs then words_of under else f.words;
     kept = kept_after f l under;
     found = found_after toks f.label.production f l under child;
     position = position_after f.label.production f l under child;

@@ -12,8 +12,10 @@
 #![tactic(auto)]
 
 mod bound;
+mod declarations;
 mod entity;
 mod faults;
+mod frames;
 mod laws;
 mod lists;
 mod types;
