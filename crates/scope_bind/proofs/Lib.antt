@@ -1,8 +1,9 @@
 mod Lookups
-mod Facts
+mod Renaming
 mod Names
 mod Objects
 mod Members
 mod SecondRanges
 mod Steps
 mod Walking
+mod LatestLemmas

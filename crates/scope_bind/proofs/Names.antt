@@ -12,7 +12,7 @@ use Rattle.scope_bind.specs.Declarations.{is_space, Facts, has_linkage, is_linka
 use Rattle.scope_bind.specs.declared.frames.Scope.{Scope}
 use Rattle.scope_bind.specs.Ordinary.{Declared, is_again, linked_entity, entity_of, is_listed, declaration_of, declared_faults, declared_after, declared, used_as, used}
 use Rattle.scope_bind.proofs.Lookups.{false≢true, and_left, and_right, and_both, In, found_passes, found_in, none_passes, any_same, alike_same, alike_turned, named_apart}
-use Rattle.scope_bind.proofs.Facts.{Good, Kept, IsLinked, Joins, fault_back, fault_goes, fault_none, occurrence_back, occurrence_good, declaration_back, declaration_good, kept_declaration, kept_occurrence, found_again}
+use Rattle.scope_bind.proofs.Renaming.{Good, Kept, IsLinked, Joins, fault_back, fault_goes, fault_none, occurrence_back, occurrence_good, declaration_back, declaration_good, kept_declaration, kept_occurrence, found_again}
 
 pub if_true : {A : Type 0} (c : Bool) (x y : A) → c ≡ true → (if c then x else y) ≡ x
 if_true true x y e = refl

@@ -10,7 +10,7 @@ use Rattle.scope_bind.specs.declared.declarations.Declaration.{Declaration}
 use Rattle.scope_bind.specs.Declarations.{is_space, Facts, alike, has_linkage}
 use Rattle.scope_bind.specs.Entering.{is_member, kept_here, with_kept}
 use Rattle.scope_bind.proofs.Lookups.{In}
-use Rattle.scope_bind.proofs.Facts.{Good, Kept, occurrence}
+use Rattle.scope_bind.proofs.Renaming.{Good, Kept, occurrence}
 
 -- what a look-up sees of a declaration
 pub record Key : Type 0 where

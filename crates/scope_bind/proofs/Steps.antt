@@ -27,7 +27,7 @@ use Rattle.scope_bind.specs.Entering.{facts_in, found_in, frame_in, entered}
 use Rattle.scope_bind.specs.Roles.{Role, plain, primary, type_name, tag, enumeration_tag, listed, member, pointed_member, designated, label, jump}
 use Rattle.scope_bind.specs.Walk.{facts_at, found_at, position_at, passed_as, declared_in, parameter_in, facts_after, frame_after, left}
 use Rattle.scope_bind.specs.Renamed.{is_own_word}
-use Rattle.scope_bind.proofs.Facts.{Good, Kept}
+use Rattle.scope_bind.proofs.Renaming.{Good, Kept}
 use Rattle.scope_bind.proofs.SecondRanges.{kept_with, good_with}
 use Rattle.scope_bind.proofs.Names.{declared_back, declared_kept, declared_same, used_back, used_kept, used_visible}
 use Rattle.scope_bind.proofs.Objects.{with_object_back, with_object_kept, with_object_same, with_parameter_back, with_parameter_kept, with_parameter_same}

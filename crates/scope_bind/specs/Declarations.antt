@@ -1,5 +1,5 @@
 -- Declarations with their ranges, and which of them a name denotes (ISO/IEC 9899:1999, 6.2.1 and 6.2.3).
-use Rattle.std.specs.Prelude.{ℕ, Bool, true, false, ◌&&◌, not, List, [], ◌∷◌, Option, None, find, slice_get, if◌then◌else◌, ◌==◌, nat_lt}
+use Rattle.std.specs.Prelude.{ℕ, Bool, true, false, ◌&&◌, not, List, [], ◌∷◌, ◌++◌, Option, None, find, slice_get, if◌then◌else◌, ◌==◌, nat_lt}
 use Rattle.std.specs.List.{list_any}
 use Rattle.std.specs.Option.{option_map_or}
 use Rattle.std.specs.Str.{bytes_eq}
@@ -75,10 +75,10 @@ abbrev pub with_declaration : Declaration → Facts → Facts
 with_declaration d facts = with_occurrence d.name_at d.entity true (record facts { declared = d ∷ facts.declared })
 
 abbrev pub with_begun : Bool → ℕ → Facts → Facts
-with_begun begins entity facts = if begins then record facts { begun = entity ∷ facts.begun } else facts
+with_begun begins entity facts = if begins then record facts { begun = facts.begun ++ entity ∷ [] } else facts
 
 abbrev pub with_complete : ℕ → Facts → Facts
-with_complete number facts = record facts { complete = number ∷ facts.complete }
+with_complete number facts = record facts { complete = facts.complete ++ number ∷ [] }
 
 -- ---- What is found
 

@@ -1,5 +1,5 @@
 -- Label names (ISO/IEC 9899:1999, 6.2.1 paragraph 3 and 6.8.6.1): their scope is the function, before them too.
-use Rattle.std.specs.Prelude.{ℕ, true, false, List, [], ◌∷◌, Option, None, Some, is_some}
+use Rattle.std.specs.Prelude.{ℕ, true, false, List, [], ◌∷◌, ◌++◌, Option, None, Some, is_some}
 use Rattle.cs_base.specs.Token.{Token}
 use Rattle.scope_bind.specs.declared.entity.EntityKind.TheVariants.{Label}
 use Rattle.scope_bind.specs.declared.entity.Linkage.TheVariants.{Absent}
@@ -26,7 +26,7 @@ label_declaration b i = record {
 
 -- a `goto`, whose label may stand behind it
 abbrev pub with_jump : ℕ → Facts → Facts
-with_jump i facts = record facts { jumps = i ∷ facts.jumps }
+with_jump i facts = record facts { jumps = facts.jumps ++ i ∷ [] }
 
 module _ (toks : List Token) where
   -- a labeled statement (6.8.1 paragraph 3: a label once in a function)
@@ -42,7 +42,7 @@ module _ (toks : List Token) where
   -- the `goto`s of a function, once its body is read
   abbrev pub with_jumps : Body → List ℕ → Facts → Facts
   with_jumps b [] facts = facts
-  with_jumps b (i ∷ earlier) facts = with_jumps b earlier (jump_to i (anywhere toks (labels b.from) i facts) facts)
+  with_jumps b (i ∷ later) facts = with_jumps b later (jump_to i (anywhere toks (labels b.from) i facts) facts)
 
   abbrev pub with_labels : Option Body → Facts → Facts
   with_labels None facts = facts

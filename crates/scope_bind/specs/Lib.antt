@@ -18,3 +18,5 @@ pub mod Lists
 pub mod Bound
 pub mod Names
 pub mod Renamed
+-- What inner functions promise each other.
+pub mod Latest

@@ -14,8 +14,10 @@
 mod bound;
 mod declarations;
 mod entity;
+mod facts;
 mod faults;
 mod frames;
+mod latest;
 mod laws;
 mod lists;
 mod types;

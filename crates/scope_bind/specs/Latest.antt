@@ -1,0 +1,20 @@
+-- How the latest declaration is looked for.
+use Rattle.std.specs.Prelude.{ℕ, Bool, true, ◌&&◌, ◌||◌, not, Option, None, Some, ◌==◌, if◌then◌else◌}
+use Rattle.scope_bind.specs.declared.declarations.Declaration.{Declaration}
+use Rattle.scope_bind.specs.declared.latest.Asked.{Asked}
+use Rattle.scope_bind.specs.declared.latest.Asked.TheVariants.{Live, Within, Tag, Anywhere, Linked, Other}
+use Rattle.scope_bind.specs.Declarations.{is_live, has_linkage, is_linkage}
+
+-- what is asked of a declaration, beside its name
+abbrev pub passes : Asked → Declaration → Bool
+passes (Live at) d = is_live at d
+passes (Within at depth) d = is_live at d && (d.depth == depth)
+passes (Tag at anew depth) d = is_live at d && (not anew || (d.depth == depth))
+passes Anywhere d = true
+passes Linked d = has_linkage d.linkage
+passes (Other linkage) d = has_linkage d.linkage && not (is_linkage d.linkage linkage)
+
+-- the element, where there is one and it passes
+abbrev pub tested : (Declaration → Bool) → Option Declaration → Option Declaration
+tested test None = None
+tested test (Some d) = if test d then Some d else None

@@ -1,0 +1,215 @@
+// What is known once a part of a unit is read.
+ghost use Rattle.std.specs.Prelude.{◌≡◌, OnOk, Some};
+ghost use Rattle.std.specs.Option.{option_map};
+ghost use Rattle.scope_bind.specs.Faults.{number_of, comes_first, first_fault};
+ghost use Rattle.scope_bind.specs.Declarations.{no_facts, is_in, with_fault, with_occurrence, with_declaration, with_begun, with_complete, looked_up, visible, in_scope, anywhere, linked, is_mixed};
+ghost use Rattle.scope_bind.specs.Latest.{passes};
+ghost use Rattle.scope_bind.specs.declared.latest.Asked.TheVariants.{Tag};
+ghost use Rattle.scope_bind.specs.Labels.{with_jump};
+ghost use Rattle.scope_bind.specs.declared.declarations.Space.TheVariants.{Ordinary, Tags};
+
+use crate::declarations::{Cause, Declaration, Fault, Occurrence, Space};
+use crate::entity::Linkage;
+use crate::latest::{Asked, latest};
+use cs_base::{Memory, Tok};
+use std::alloc::Global;
+use std::marker::Model;
+
+/// The declarations and what is bound so far, and the first fault. Contracts see the latest declaration first.
+#[derive(Drop)]
+pub(crate) struct Facts {
+    declared: Vec<Declaration>,
+    occurrences: Vec<Occurrence>,
+    begun: Vec<u32>,
+    complete: Vec<u32>,
+    jumps: Vec<u32>,
+    fault: Option<Fault>,
+}
+
+impl Model for Facts {
+    ghost use Rattle.std.specs.Prelude.{reverse};
+    ghost use Rattle.scope_bind.specs.Declarations.{Facts};
+
+    ghost Value = { Facts };
+
+    ghost view = { λ f. record { declared = reverse f.declared.items; occurrences = reverse f.occurrences.items; begun = f.begun.items; complete = f.complete.items; jumps = f.jumps.items; fault = f.fault } };
+}
+
+fn number(cause: Cause) -> u8
+    ensures { result ≡ number_of cause }
+{
+    match cause {
+        Cause::Undeclared => 1,
+        Cause::NoMember => 2,
+        Cause::NoLabel => 3,
+        Cause::Redeclared => 4,
+        Cause::TagRedefined => 5,
+        Cause::MixedLinkage => 6,
+        Cause::DesignatorAfterElision => 7,
+    }
+}
+
+fn comes_first(f: Fault, g: Fault) -> bool
+    ensures { result ≡ comes_first f g }
+{
+    f.index < g.index || (f.index == g.index && number(f.cause) < number(g.cause))
+}
+
+fn first(found: Option<Fault>, fault: Fault) -> Fault
+    ensures { first_fault found fault ≡ Some result }
+{
+    match found {
+        None => fault,
+        Some(other) => {
+            if comes_first(fault, other) {
+                fault
+            } else {
+                other
+            }
+        }
+    }
+}
+
+impl Facts {
+    pub(crate) fn new(alloc: Global) -> Facts
+        ensures { result ≡ no_facts }
+    {
+        Facts {
+            declared: Vec::new(alloc),
+            occurrences: Vec::new(alloc),
+            begun: Vec::new(alloc),
+            complete: Vec::new(alloc),
+            jumps: Vec::new(alloc),
+            fault: None,
+        }
+    }
+
+    pub(crate) fn note(&mut self, wrong: bool, cause: Cause, index: u32)
+        ensures { self.new ≡ with_fault wrong cause index self.old }
+    {
+        if wrong {
+            self.fault = Some(first(self.fault, Fault { cause, index }));
+        }
+    }
+
+    pub(crate) fn occur(&mut self, index: u32, entity: u32, declares: bool) -> Result<(), Memory>
+        ensures { OnOk result (self.new ≡ with_occurrence index entity declares self.old) }
+    {
+        self.occurrences.push(Occurrence {
+            index,
+            entity,
+            declares,
+        })?;
+        Ok(())
+    }
+
+    pub(crate) fn declare(&mut self, d: Declaration) -> Result<(), Memory>
+        ensures { OnOk result (self.new ≡ with_declaration d self.old) }
+    {
+        self.occur(d.name_at, d.entity, true)?;
+        self.declared.push(d)?;
+        Ok(())
+    }
+
+    pub(crate) fn begin(&mut self, begins: bool, entity: u32) -> Result<(), Memory>
+        ensures { OnOk result (self.new ≡ with_begun begins entity self.old) }
+    {
+        if begins {
+            self.begun.push(entity)?;
+        }
+        Ok(())
+    }
+
+    pub(crate) fn complete(&mut self, number: u32) -> Result<(), Memory>
+        ensures { OnOk result (self.new ≡ with_complete number self.old) }
+    {
+        self.complete.push(number)?;
+        Ok(())
+    }
+
+    pub(crate) fn jump(&mut self, index: u32) -> Result<(), Memory>
+        ensures { OnOk result (self.new ≡ with_jump index self.old) }
+    {
+        self.jumps.push(index)?;
+        Ok(())
+    }
+
+    pub(crate) fn has_begun(&self, entity: u32) -> bool
+        ensures { result ≡ is_in self.now.begun entity }
+    {
+        self.begun.iter().any(|n| *n == entity)
+    }
+
+    pub(crate) fn is_complete(&self, number: u32) -> bool
+        ensures { result ≡ is_in self.now.complete number }
+    {
+        self.complete.iter().any(|n| *n == number)
+    }
+
+    pub(crate) fn visible(&self, toks: &[Tok], space: Space, i: u32, k: u32) -> Option<&Declaration>
+        ensures { option_map (λ d. d.now) result ≡ visible toks.now space i k self.now }
+    {
+        latest(self.declared.as_slice(), toks, space, i, Asked::Live(k))
+    }
+
+    pub(crate) fn in_scope(&self, toks: &[Tok], depth: u32, i: u32, k: u32) -> Option<&Declaration>
+        ensures { option_map (λ d. d.now) result ≡ in_scope toks.now Ordinary depth i k self.now }
+    {
+        latest(
+            self.declared.as_slice(),
+            toks,
+            Space::Ordinary,
+            i,
+            Asked::Within(k, depth),
+        )
+    }
+
+    pub(crate) fn prior_tag(
+        &self,
+        toks: &[Tok],
+        anew: bool,
+        depth: u32,
+        i: u32,
+    ) -> Option<&Declaration>
+        ensures { option_map (λ d. d.now) result ≡ looked_up toks.now Tags i (passes (Tag i anew depth)) self.now }
+    {
+        latest(
+            self.declared.as_slice(),
+            toks,
+            Space::Tags,
+            i,
+            Asked::Tag(i, anew, depth),
+        )
+    }
+
+    pub(crate) fn anywhere(&self, toks: &[Tok], space: Space, i: u32) -> Option<&Declaration>
+        ensures { option_map (λ d. d.now) result ≡ anywhere toks.now space i self.now }
+    {
+        latest(self.declared.as_slice(), toks, space, i, Asked::Anywhere)
+    }
+
+    pub(crate) fn linked(&self, toks: &[Tok], i: u32) -> Option<&Declaration>
+        ensures { option_map (λ d. d.now) result ≡ linked toks.now i self.now }
+    {
+        latest(
+            self.declared.as_slice(),
+            toks,
+            Space::Ordinary,
+            i,
+            Asked::Linked,
+        )
+    }
+
+    pub(crate) fn is_mixed(&self, toks: &[Tok], linkage: Linkage, i: u32) -> bool
+        ensures { result ≡ is_mixed toks.now linkage i self.now }
+    {
+        latest(
+            self.declared.as_slice(),
+            toks,
+            Space::Ordinary,
+            i,
+            Asked::Other(linkage),
+        )
+        .is_some()
+    }
+}

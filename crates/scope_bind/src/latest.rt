@@ -1,0 +1,140 @@
+// The latest declaration that a name may denote.
+ghost use Rattle.std.specs.Prelude.{◌≡◌, ◌<◌, ◌&&◌, find, reverse, length, slice_get};
+ghost use Rattle.std.specs.Option.{option_map};
+ghost use Rattle.std.specs.Str.{bytes_eq};
+ghost use Rattle.scope_bind.specs.Declarations.{is_live, is_space, has_linkage, is_linkage, spelling_at, alike, is_named};
+ghost use Rattle.scope_bind.specs.Latest.{passes, tested};
+
+use crate::declarations::{Declaration, Space};
+use crate::entity::Linkage;
+use cs_base::Tok;
+
+/// What is asked of a declaration: that its range holds the token; that it does, in the scope of the depth;
+/// the same of a tag, where it is declared anew; nothing; that it has linkage; and that it has the other one.
+#[derive(Clone, Copy)]
+pub(crate) enum Asked {
+    Live(u32),
+    Within(u32, u32),
+    Tag(u32, bool, u32),
+    Anywhere,
+    Linked,
+    Other(Linkage),
+}
+
+fn spelling(toks: &[Tok], k: u32) -> &[u8]
+    ensures { result.now ≡ spelling_at toks.now k }
+{
+    match toks.get(k as usize) {
+        Some(tok) => tok.text(),
+        None => &[],
+    }
+}
+
+/// The token is spelled so.
+pub(crate) fn is_spelled(toks: &[Tok], k: u32, word: &[u8]) -> bool
+    ensures { result ≡ bytes_eq (spelling_at toks.now k) word.now }
+{
+    spelling(toks, k) == word
+}
+
+fn alike(toks: &[Tok], i: u32, j: u32) -> bool
+    ensures { result ≡ alike toks.now i j }
+{
+    spelling(toks, i) == spelling(toks, j)
+}
+
+fn is_space(space: Space, other: Space) -> bool
+    ensures { result ≡ is_space space other }
+{
+    match (space, other) {
+        (Space::Ordinary, Space::Ordinary) => true,
+        (Space::Tags, Space::Tags) => true,
+        (Space::Members(n), Space::Members(m)) => n == m,
+        (Space::Labels(n), Space::Labels(m)) => n == m,
+        _ => false,
+    }
+}
+
+fn is_named(toks: &[Tok], space: Space, i: u32, d: &Declaration) -> bool
+    ensures { result ≡ is_named toks.now space i d.now }
+{
+    is_space(d.space, space) && alike(toks, i, d.name_at)
+}
+
+fn is_live(k: u32, d: &Declaration) -> bool
+    ensures { result ≡ is_live k d.now }
+{
+    d.from <= k && k < d.to
+}
+
+pub(crate) fn has_linkage(linkage: Linkage) -> bool
+    ensures { result ≡ has_linkage linkage }
+{
+    !matches!(linkage, Linkage::Absent)
+}
+
+fn is_linkage(linkage: Linkage, other: Linkage) -> bool
+    ensures { result ≡ is_linkage linkage other }
+{
+    match (linkage, other) {
+        (Linkage::External, Linkage::External) => true,
+        (Linkage::Internal, Linkage::Internal) => true,
+        (Linkage::Absent, Linkage::Absent) => true,
+        _ => false,
+    }
+}
+
+fn passes(asked: Asked, d: &Declaration) -> bool
+    ensures { result ≡ passes asked d.now }
+{
+    match asked {
+        Asked::Live(at) => is_live(at, d),
+        Asked::Within(at, depth) => is_live(at, d) && d.depth == depth,
+        Asked::Tag(at, anew, depth) => is_live(at, d) && (!anew || d.depth == depth),
+        Asked::Anywhere => true,
+        Asked::Linked => has_linkage(d.linkage),
+        Asked::Other(linkage) => has_linkage(d.linkage) && !is_linkage(d.linkage, linkage),
+    }
+}
+
+// Declaration `n`, where it passes.
+fn tested<'a>(
+    declared: &'a [Declaration],
+    toks: &[Tok],
+    space: Space,
+    i: u32,
+    asked: Asked,
+    n: usize,
+) -> Option<&'a Declaration>
+    ensures { option_map (λ d. d.now) result ≡ tested (λ d. is_named toks.now space i d && passes asked d) (slice_get declared.now n) }
+{
+    match declared.get(n) {
+        Some(d) => {
+            if is_named(toks, space, i, d) && passes(asked, d) {
+                Some(d)
+            } else {
+                None
+            }
+        }
+        None => None,
+    }
+}
+
+/// The latest declaration in the name space that is named as token `i`, and of which this can be said.
+pub(crate) fn latest<'a>(
+    declared: &'a [Declaration],
+    toks: &[Tok],
+    space: Space,
+    i: u32,
+    asked: Asked,
+) -> Option<&'a Declaration>
+    ensures { option_map (λ d. d.now) result ≡ find (λ d. is_named toks.now space i d && passes asked d) (reverse declared.now) }
+{
+    let count = declared.len();
+    'search: for k in 0..count {
+        if let Some(d) = tested(declared, toks, space, i, asked, count - 1 - k) {
+            return Some(d);
+        }
+    }
+    None
+}
