@@ -13,7 +13,8 @@ use Rattle.scope_bind.specs.declared.declarations.Declaration.{Declaration}
 use Rattle.scope_bind.specs.Declarations.{Facts, has_linkage, is_linkage, is_live, alike, is_named, visible, in_scope, linked, is_mixed}
 use Rattle.scope_bind.specs.declared.frames.Frame.{Frame}
 use Rattle.scope_bind.specs.Linkage.{prior_linkage, follows_prior, own_linkage}
-use Rattle.scope_bind.specs.Ordinary.{Declared, entity_of, declared, declaration_of, is_listed, declared_faults, new_linkage, new_object, with_object, new_parameter, with_parameter}
+use Rattle.scope_bind.specs.declared.ordinary.Declared.{Declared}
+use Rattle.scope_bind.specs.Ordinary.{entity_of, declared, declaration_of, is_listed, declared_faults, new_linkage, new_object, with_object, new_parameter, with_parameter}
 use Rattle.scope_bind.proofs.Lookups.{false≢true, and_left, and_both, In, found_passes, found_in, any_none, named_apart}
 use Rattle.scope_bind.proofs.Renaming.{Good, Kept, IsLinked, declaration_good, found_again}
 use Rattle.scope_bind.proofs.Names.{if_true, joined, IsClear, declared_clear, declared_back, declared_kept, declared_same}

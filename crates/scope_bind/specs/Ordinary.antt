@@ -9,6 +9,7 @@ use Rattle.scope_bind.specs.declared.entity.EntityKind.TheVariants.{Object, Func
 use Rattle.scope_bind.specs.declared.entity.Linkage.{Linkage}
 use Rattle.scope_bind.specs.declared.entity.Linkage.TheVariants.{Absent}
 use Rattle.scope_bind.specs.declared.declarations.Cause.TheVariants.{Undeclared as undeclared, Redeclared as redeclared, MixedLinkage as mixed_linkage}
+use Rattle.scope_bind.specs.declared.ordinary.Declared.{Declared}
 use Rattle.scope_bind.specs.Types.{CType, arithmetic, array, is_function, adjusted}
 use Rattle.scope_bind.specs.Trees.{last_token, declarator_type}
 use Rattle.scope_bind.specs.declared.declarations.Space.TheVariants.{Ordinary as ordinary}
@@ -17,17 +18,6 @@ use Rattle.scope_bind.specs.Declarations.{spelling_at, Facts, has_linkage, is_ty
 use Rattle.scope_bind.specs.declared.frames.Scope.{Scope}
 use Rattle.scope_bind.specs.declared.frames.Frame.{Frame}
 use Rattle.scope_bind.specs.Linkage.{linkage_of}
-
--- What is declared: its name, the last token before its range, its kind, type and linkage, whether it stands
--- between an identifier list and the body, and whether in the list.
-pub record Declared : Type 0 where
-  pub name_at : ℕ
-  pub last : ℕ
-  pub kind : EntityKind
-  pub ctype : CType
-  pub linkage : Linkage
-  pub listing : Bool
-  pub listed : Bool
 
 -- A second declaration in one scope is of the same entity where both have linkage, where both are typedef names,
 -- or where it gives the type of a parameter that the identifier list names (6.9.1 paragraph 6).

@@ -19,7 +19,9 @@ mod faults;
 mod frames;
 mod latest;
 mod laws;
+mod linkage;
 mod lists;
+mod ordinary;
 mod types;
 
 pub use bound::{Bound, Name};
