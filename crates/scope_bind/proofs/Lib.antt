@@ -1,9 +1,9 @@
 mod Lookups
 mod Renaming
-mod Names
-mod Objects
-mod Members
+mod RenamedNames
+mod RenamedObjects
+mod RenamedMembers
 mod SecondRanges
-mod Steps
-mod Walking
+mod RenamedSteps
+mod RenamedWalk
 mod LatestLemmas

@@ -7,8 +7,9 @@
 //! its range of tokens, or the first of seven faults. Types are followed as far as members need them.
 //! A binding is told by indices and holds no spelling, so a renamed text binds to the same value: that is
 //! the law below. This crate knows neither how a tree is read nor macros, files or classes. `Bound` and
-//! its readers stand; the body of the walk does not yet. Read `specs/Declarations.antt`,
-//! `Ordinary.antt` and the files beside it, `Walk.antt`, `Bound.antt`, then `bound.rt`.
+//! its readers stand, and so do the look-ups and what they decide; the walk that calls them does not
+//! yet, so nothing is bound by a program. Read `specs/Declarations.antt`, `Ordinary.antt` and the files
+//! beside it, `Walk.antt`, `Bound.antt`, then `facts.rt` and `bound.rt`.
 #![tactic(auto)]
 
 mod bound;
@@ -21,7 +22,9 @@ mod latest;
 mod laws;
 mod linkage;
 mod lists;
+mod members;
 mod ordinary;
+mod tags;
 mod types;
 
 pub use bound::{Bound, Name};

@@ -1,6 +1,7 @@
 // Types as far as names depend on them (ISO/IEC 9899:1999, 6.2.5).
 ghost use Rattle.std.specs.Prelude.{◌≡◌, ◌&&◌, not, IfOk, ◌∷◌};
 ghost use Rattle.scope_bind.specs.Types.{plain, arithmetic, begins_pointer, is_array, is_plain, is_arithmetic, is_unknown, inner_of, pointer, array, function, is_pointing, is_function, is_nothing, is_record, target_of, adjusted, subscripted, result_of, called, pointed_to, sum_type, chosen};
+ghost use Rattle.scope_bind.specs.Tags.{renumbered};
 
 use cs_base::Memory;
 use std::alloc::Global;
@@ -164,6 +165,19 @@ impl CType {
         ensures { result ≡ is_unknown self.now }
     {
         self.is_plain() && matches!(self.base, Base::Unknown)
+    }
+
+    /// Another one of its sort.
+    pub(crate) fn renumbered(mut self, number: u32) -> CType
+        ensures { result ≡ renumbered self number }
+    {
+        self.base = match self.base {
+            Base::Structure(_) => Base::Structure(number),
+            Base::Union(_) => Base::Union(number),
+            Base::Enumeration(_) => Base::Enumeration(number),
+            base => base,
+        };
+        self
     }
 
     /// Without its outermost derivation.

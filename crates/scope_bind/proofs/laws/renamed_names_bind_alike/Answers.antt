@@ -1,4 +1,4 @@
-use Rattle.scope_bind.proofs.Walking.{renamed_bind_alike}
+use Rattle.scope_bind.proofs.RenamedWalk.{renamed_bind_alike}
 use Rattle.scope_bind.proofs.laws.renamed_names_bind_alike.Goals as goal
 
 pub returns : goal.returns

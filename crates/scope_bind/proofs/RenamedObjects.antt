@@ -17,7 +17,7 @@ use Rattle.scope_bind.specs.declared.ordinary.Declared.{Declared}
 use Rattle.scope_bind.specs.Ordinary.{entity_of, declared, declaration_of, is_listed, declared_faults, new_linkage, new_object, with_object, new_parameter, with_parameter}
 use Rattle.scope_bind.proofs.Lookups.{false≢true, and_left, and_both, In, found_passes, found_in, any_none, named_apart}
 use Rattle.scope_bind.proofs.Renaming.{Good, Kept, IsLinked, declaration_good, found_again}
-use Rattle.scope_bind.proofs.Names.{if_true, joined, IsClear, declared_clear, declared_back, declared_kept, declared_same}
+use Rattle.scope_bind.proofs.RenamedNames.{if_true, joined, IsClear, declared_clear, declared_back, declared_kept, declared_same}
 
 pub if_false : {A : Type 0} (c : Bool) (x y : A) → c ≡ false → (if c then x else y) ≡ y
 if_false true x y e = absurd (false≢true (sym e))

@@ -29,9 +29,9 @@ use Rattle.scope_bind.specs.Walk.{facts_at, found_at, position_at, passed_as, de
 use Rattle.scope_bind.specs.Renamed.{is_own_word}
 use Rattle.scope_bind.proofs.Renaming.{Good, Kept}
 use Rattle.scope_bind.proofs.SecondRanges.{kept_with, good_with}
-use Rattle.scope_bind.proofs.Names.{declared_back, declared_kept, declared_same, used_back, used_kept, used_visible}
-use Rattle.scope_bind.proofs.Objects.{with_object_back, with_object_kept, with_object_same, with_parameter_back, with_parameter_kept, with_parameter_same}
-use Rattle.scope_bind.proofs.Members.{with_tag_back, with_tag_kept, prior_tag_same, either_back, either_kept, either_same, either_type, member_used_back, member_used_kept, member_at_same, designated_back, designated_kept, designated_same, with_member_back, with_member_kept, with_member_same, with_label_back, with_label_kept, with_label_same, with_labels_back, with_labels_kept, with_labels_same}
+use Rattle.scope_bind.proofs.RenamedNames.{declared_back, declared_kept, declared_same, used_back, used_kept, used_visible}
+use Rattle.scope_bind.proofs.RenamedObjects.{with_object_back, with_object_kept, with_object_same, with_parameter_back, with_parameter_kept, with_parameter_same}
+use Rattle.scope_bind.proofs.RenamedMembers.{with_tag_back, with_tag_kept, prior_tag_same, either_back, either_kept, either_same, either_type, member_used_back, member_used_kept, member_at_same, designated_back, designated_kept, designated_same, with_member_back, with_member_kept, with_member_same, with_label_back, with_label_kept, with_label_same, with_labels_back, with_labels_kept, with_labels_same}
 
 module _ (a b : List Token) (apart : (i j : ℕ) → alike b i j ≡ true → alike a i j ≡ true)
     (words : (word : List ℕ) (k : ℕ) → is_own_word word ≡ true → bytes_eq (spelling_at b k) word ≡ bytes_eq (spelling_at a k) word) where

@@ -19,7 +19,7 @@ use Rattle.scope_bind.specs.Members.{member_declaration, is_known, with_member, 
 use Rattle.scope_bind.specs.Labels.{label_declaration, with_label, jump_to, with_jumps, with_labels}
 use Rattle.scope_bind.proofs.Lookups.{false≢true}
 use Rattle.scope_bind.proofs.Renaming.{Good, Kept, fault_back, fault_goes, fault_none, occurrence_back, occurrence_good, declaration_back, declaration_good, kept_declaration, kept_occurrence, joins_unlinked, found_again}
-use Rattle.scope_bind.proofs.Names.{if_true}
+use Rattle.scope_bind.proofs.RenamedNames.{if_true}
 
 no_some : {X : Type 0} (P : X → Type 0) (r : Option X) → is_some r ≡ false → IfSome r P
 no_some P None e = tt

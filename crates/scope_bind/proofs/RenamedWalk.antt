@@ -17,7 +17,7 @@ use Rattle.scope_bind.specs.declared.bound.Name.{Name}
 use Rattle.scope_bind.specs.Renamed.{is_own_word, RenamedBindAlike}
 use Rattle.scope_bind.proofs.Lookups.{and_left, and_right, In}
 use Rattle.scope_bind.proofs.Renaming.{Good, Kept}
-use Rattle.scope_bind.proofs.Steps.{entered_back, entered_kept, entered_same, passed_back, passed_kept, passed_same, left_back, left_kept, left_same}
+use Rattle.scope_bind.proofs.RenamedSteps.{entered_back, entered_kept, entered_same, passed_back, passed_kept, passed_same, left_back, left_kept, left_same}
 
 module _ (a b : List Token) (apart : (i j : ℕ) → alike b i j ≡ true → alike a i j ≡ true)
     (words : (word : List ℕ) (k : ℕ) → is_own_word word ≡ true → bytes_eq (spelling_at b k) word ≡ bytes_eq (spelling_at a k) word) where

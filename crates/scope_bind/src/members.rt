@@ -1,0 +1,158 @@
+// Members and labels (ISO/IEC 9899:1999, 6.2.3, 6.5.2.3, 6.7.2.1 and 6.8.1).
+ghost use Rattle.std.specs.Prelude.{◌≡◌, is_some, IfOk, OnOk};
+ghost use Rattle.std.specs.Option.{option_map, option_map_or};
+ghost use Rattle.scope_bind.specs.Declarations.{with_fault, with_declaration, anywhere};
+ghost use Rattle.scope_bind.specs.Members.{member_declaration, is_known, member_at, member_used, member_type};
+ghost use Rattle.scope_bind.specs.Labels.{label_declaration, with_label};
+ghost use Rattle.scope_bind.specs.declared.declarations.Cause.TheVariants.{Redeclared};
+ghost use Rattle.scope_bind.specs.declared.declarations.Space.TheVariants.{Members, Labels};
+
+use crate::declarations::{Cause, Declaration, Space};
+use crate::entity::{EntityKind, Linkage};
+use crate::facts::Facts;
+use crate::frames::{Body, Frame};
+use crate::tags::number_in;
+use crate::types::{Base, CType};
+use cs_base::{Memory, Tok};
+use std::alloc::Global;
+
+fn member_declaration(f: &Frame, i: u32, last: u32, t: CType) -> Result<Declaration, Memory>
+    ensures { IfOk result (λ d. d ≡ member_declaration f.now i last t) }
+{
+    let from = match last.checked_add(1) {
+        Some(from) => from,
+        None => return Err(Memory),
+    };
+    Ok(Declaration {
+        space: Space::Members(f.owner),
+        name_at: i,
+        entity: i,
+        kind: EntityKind::Member,
+        linkage: Linkage::Absent,
+        ctype: t,
+        depth: f.scope.depth,
+        from,
+        to: f.scope.to,
+        listed: false,
+    })
+}
+
+fn label_declaration(alloc: Global, b: Body, i: u32) -> Declaration
+    ensures { result ≡ label_declaration b i }
+{
+    Declaration {
+        space: Space::Labels(b.from),
+        name_at: i,
+        entity: i,
+        kind: EntityKind::Label,
+        linkage: Linkage::Absent,
+        ctype: CType::plain(alloc, Base::Arithmetic),
+        depth: 1,
+        from: b.from,
+        to: b.to,
+        listed: false,
+    }
+}
+
+impl Facts {
+    // A name that may be declared once in its name space.
+    fn declare_once(
+        &mut self,
+        toks: &[Tok],
+        space: Space,
+        i: u32,
+        d: Declaration,
+    ) -> Result<(), Memory>
+        ensures { OnOk result (self.new ≡ with_declaration d (with_fault (is_some (anywhere toks.now space i self.old)) Redeclared i self.old)) }
+    {
+        let twice = self.anywhere(toks, space, i).is_some();
+        self.note(twice, Cause::Redeclared, i);
+        self.declare(d)
+    }
+
+    /// A member at the end of its declarator.
+    pub(crate) fn declare_member(
+        &mut self,
+        toks: &[Tok],
+        f: &Frame,
+        i: u32,
+        last: u32,
+        t: CType,
+    ) -> Result<(), Memory>
+        ensures { OnOk result (self.new ≡ with_declaration (member_declaration f.now i last t) (with_fault (is_some (anywhere toks.now (Members f.now.owner) i self.old)) Redeclared i self.old)) }
+    {
+        let d = member_declaration(f, i, last, t)?;
+        self.declare_once(toks, Space::Members(f.owner), i, d)
+    }
+
+    /// A labeled statement.
+    pub(crate) fn label(
+        &mut self,
+        alloc: Global,
+        toks: &[Tok],
+        body: Option<Body>,
+        i: u32,
+    ) -> Result<(), Memory>
+        ensures { OnOk result (self.new ≡ with_label toks.now body i self.old) }
+    {
+        match body {
+            None => Ok(()),
+            Some(b) => {
+                let d = label_declaration(alloc, b, i);
+                self.declare_once(toks, Space::Labels(b.from), i, d)
+            }
+        }
+    }
+
+    fn is_known(&self, t: &CType) -> bool
+        ensures { result ≡ is_known t.now self.now }
+    {
+        t.is_record() && self.is_complete(number_in(t))
+    }
+
+    /// The member that token `i` names in a structure or union.
+    pub(crate) fn member_at(&self, toks: &[Tok], t: &CType, i: u32) -> Option<&Declaration>
+        ensures { option_map (λ d. d.now) result ≡ member_at toks.now t.now i self.now }
+    {
+        if self.is_known(t) {
+            self.anywhere(toks, Space::Members(number_in(t)), i)
+        } else {
+            None
+        }
+    }
+
+    fn member_entity(&self, toks: &[Tok], t: &CType, i: u32) -> Option<u32>
+        ensures { result ≡ option_map (λ d. d.entity) (member_at toks.now t.now i self.now) }
+    {
+        self.member_at(toks, t, i).map(|d| d.entity)
+    }
+
+    /// The member is used.
+    pub(crate) fn use_member(&mut self, toks: &[Tok], t: &CType, i: u32) -> Result<(), Memory>
+        ensures { OnOk result (self.new ≡ member_used toks.now t.now i self.old) }
+    {
+        match self.member_entity(toks, t, i) {
+            None => {
+                self.note(true, Cause::NoMember, i);
+                Ok(())
+            }
+            Some(entity) => self.occur(i, entity, false),
+        }
+    }
+
+    /// Its type, or the one given where it is not there.
+    pub(crate) fn member_type(
+        &self,
+        toks: &[Tok],
+        t: &CType,
+        i: u32,
+        other: CType,
+    ) -> Result<CType, Memory>
+        ensures { IfOk result (λ r. r ≡ member_type toks.now t.now i other self.now) }
+    {
+        match self.member_at(toks, t, i) {
+            None => Ok(other),
+            Some(d) => d.ctype.copied(),
+        }
+    }
+}
