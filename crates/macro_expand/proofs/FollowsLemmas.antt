@@ -18,7 +18,7 @@ use Rattle.macro_expand.proofs.WholeLemmas.{whole_below_itself, whole_is_step}
 use Rattle.macro_expand.proofs.RenamedLemmas.{renamed_lists, renamed_call, is_sign-renamed, call_from-renamed, commas_of-renamed, arguments_of-renamed}
 use Rattle.macro_expand.specs.Laws.{AllDefined}
 use Rattle.macro_expand.proofs.GroundLemmas.{AllDefined-append, AllDefined-in_both}
-use Rattle.macro_expand.proofs.WorldLemmas.{World, Good, GoodLists, Good-occur, Good-append, Good-hide_more, in_both-renamed, GoodCall, good_call, good_arguments, macro_none, macro_same, macro_either, replaced_by}
+use Rattle.macro_expand.proofs.WorldLemmas.{World, Good, GoodLists, Good-occur, Good-append, Good-hide_more, in_both-renamed, with_names-renamed, GoodCall, good_call, good_arguments, macro_none, macro_same, macro_either, replaced_by}
 use Rattle.macro_expand.proofs.MadeLemmas.{notes_renamed, respected_split}
 use Rattle.macro_expand.proofs.SimulationLemmas.{Followed, Follows, stays_follows, put_for_follows}
 
@@ -29,12 +29,12 @@ new_setting w path = record { table = w.new; path = path }
 abbrev pub old_setting : World → List ℕ → Setting
 old_setting w path = record { table = w.old; path = path }
 
-hide_more-renamed : (w : World) (names : List (List ℕ)) (hs : List Hidden)
+hide_more-renamed : (w : World) (names : List (List ℕ)) (hs : List Hidden) → AllDefined w.old names → Good w hs
     → map (hide_more (map w.r.macro_name names)) (map (renamed_hidden w.r) hs) ≡ map (renamed_hidden w.r) (map (hide_more names) hs)
-hide_more-renamed w names [] = refl
-hide_more-renamed w names (h ∷ hs) =
-    ap (λ hides. hidden (renamed w.r h.tok) hides ∷ map (hide_more (map w.r.macro_name names)) (map (renamed_hidden w.r) hs)) (sym (map-append w.r.macro_name h.hides names))
-    ∙ ap (λ l. renamed_hidden w.r (hide_more names h) ∷ l) (hide_more-renamed w names hs)
+hide_more-renamed w names [] d g = refl
+hide_more-renamed w names (h ∷ hs) d g =
+    ap (λ hides. hidden (renamed w.r h.tok) hides ∷ map (hide_more (map w.r.macro_name names)) (map (renamed_hidden w.r) hs)) (with_names-renamed w h.hides names g.1 d)
+    ∙ ap (λ l. renamed_hidden w.r (hide_more names h) ∷ l) (hide_more-renamed w names hs d g.2)
 
 link-renamed : (w : World) (b : Bool) (x y : Token) → cond b (Linked (renamed w.r x) (renamed w.r y) ∷ []) [] ≡ notes_renamed w (cond b (Linked x y ∷ []) [])
 link-renamed w true x y = refl
@@ -73,7 +73,7 @@ replaced_follows w b f g below follows path depth before name m d is_m added def
     let good_all : Good w (map (hide_more added) i.0.toks ++ ts) = Good-append w (map (hide_more added) i.0.toks) ts (Good-hide_more w added i.0.toks defined k.1) good_ts in
     let l = follows depth before (map (hide_more added) i.0.toks ++ ts) i.0.left j.0 room good_all j.1 first.1 in
     let list_is : map (hide_more added2) (map (renamed_hidden w.r) i.0.toks) ++ ts2 ≡ map (renamed_hidden w.r) (map (hide_more added) i.0.toks ++ ts) =
-    ap (λ v. v ++ ts2) (hide_more-renamed w added i.0.toks) ∙ sym (map-append (renamed_hidden w.r) (map (hide_more added) i.0.toks) ts) in
+    ap (λ v. v ++ ts2) (hide_more-renamed w added i.0.toks defined k.1) ∙ sym (map-append (renamed_hidden w.r) (map (hide_more added) i.0.toks) ts) in
     let notes_are : (first_notes name2 m2 before ++ notes_renamed w i.0.notes) ++ notes_renamed w j.0.notes ≡ notes_renamed w ((first_notes name m before ++ i.0.notes) ++ j.0.notes) =
     ap (λ v. (v ++ notes_renamed w i.0.notes) ++ notes_renamed w j.0.notes) (first_notes-renamed w name m before)
     ∙ ap (λ v. v ++ notes_renamed w j.0.notes) (sym (map-append (renamed_note w.r) (first_notes name m before) i.0.notes))

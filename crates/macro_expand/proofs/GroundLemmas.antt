@@ -1,9 +1,9 @@
 -- Tokens that occur, with hide sets of names of macros: what an expansion keeps of them.
-use Rattle.std.proofs.Common.{◌≡◌, ℕ, zero, suc, ◌==◌, ◌&&◌, Bool, true, false, cond, List, [], ◌∷◌, ◌++◌, length, map, get_or, Option, Some, subst}
+use Rattle.std.proofs.Common.{◌≡◌, ℕ, zero, suc, ◌==◌, ◌&&◌, Bool, true, false, not, cond, List, [], ◌∷◌, ◌++◌, length, map, get_or, Option, Some, subst}
 use Rattle.std.proofs.lemmas.Option.{none-some, same_Some}
 use Rattle.cs_base.specs.Token.{Token}
 use Rattle.macro_expand.specs.declared.definitions.Definition.{Definition}
-use Rattle.macro_expand.specs.Hides.{Hidden, hides_name, in_both, hide_more}
+use Rattle.macro_expand.specs.Hides.{Hidden, hides_name, in_both, lacking, with_names, hide_more}
 use Rattle.macro_expand.specs.Macro.{Table}
 use Rattle.macro_expand.specs.Calls.{Call, Role, Closes, Separates, Belongs, CallFrom, role_of, level_after, fewer, onto_first, with_token, with_argument, closed, call_step, call_from, completed, arguments_of, is_blank}
 use Rattle.macro_expand.specs.Macro.{arity}
@@ -42,13 +42,20 @@ pub AllDefined-in_both : (table : Table) (xs ys : List (List ℕ)) → AllDefine
 AllDefined-in_both table [] ys h = tt
 AllDefined-in_both table (x ∷ xs) ys h = cond_defined table (hides_name ys x) x (in_both xs ys) h.0 (AllDefined-in_both table xs ys h.1)
 
+AllDefined-lacking : (table : Table) (hides names : List (List ℕ)) → AllDefined table names → AllDefined table (lacking hides names)
+AllDefined-lacking table hides [] h = tt
+AllDefined-lacking table hides (x ∷ xs) h = cond_defined table (not (hides_name hides x)) x (lacking hides xs) h.0 (AllDefined-lacking table hides xs h.1)
+
+AllDefined-with_names : (table : Table) (hides names : List (List ℕ)) → AllDefined table hides → AllDefined table names → AllDefined table (with_names hides names)
+AllDefined-with_names table hides names h k = AllDefined-append table hides (lacking hides names) h (AllDefined-lacking table hides names k)
+
 pub Good-append : (w : Ground) (xs ys : List Hidden) → Good w xs → Good w ys → Good w (xs ++ ys)
 Good-append w [] ys g k = k
 Good-append w (x ∷ xs) ys g k = (g.0, g.1, Good-append w xs ys g.2 k)
 
 pub Good-hide_more : (w : Ground) (names : List (List ℕ)) (hs : List Hidden) → AllDefined w.old names → Good w hs → Good w (map (hide_more names) hs)
 Good-hide_more w names [] d g = tt
-Good-hide_more w names (h ∷ hs) d g = (g.0, AllDefined-append w.old h.hides names g.1 d, Good-hide_more w names hs d g.2)
+Good-hide_more w names (h ∷ hs) d g = (g.0, AllDefined-with_names w.old h.hides names g.1 d, Good-hide_more w names hs d g.2)
 
 pub Good-get_or : (w : Ground) (lists : List (List Hidden)) (i : ℕ) → GoodLists w lists → Good w (get_or lists i [])
 Good-get_or w [] i g = tt

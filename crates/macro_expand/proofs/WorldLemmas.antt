@@ -1,5 +1,6 @@
 -- Tokens and hide sets in an expansion under a renaming: which macro replaces a token, before and after.
 use Rattle.std.proofs.Common.{◌≡◌, ℕ, ◌&&◌, ◌||◌, Bool, true, false, not, cond, List, [], ◌∷◌, ◌++◌, map, get_or, Option, Some, None, ◌⊎◌, refl, ap, sym, ◌∙◌, inl, inr}
+use Rattle.std.proofs.lemmas.List.{map-append}
 use Rattle.std.specs.Str.{bytes_eq}
 use Rattle.std.proofs.lemmas.Bool.Decides.{same_from_decides}
 use Rattle.std.proofs.lemmas.Option.{none-some}
@@ -7,7 +8,7 @@ use Rattle.std.proofs.lemmas.Slice.Eq.{bytes_eq-Decides}
 use Rattle.cs_base.specs.Token.{Token}
 use Rattle.macro_expand.specs.declared.definitions.Definition.{Definition}
 use Rattle.line_shape.specs.Signs.{is_name}
-use Rattle.macro_expand.specs.Hides.{Hidden, hides_name, in_both, hide_more}
+use Rattle.macro_expand.specs.Hides.{Hidden, hides_name, in_both, lacking, with_names, hide_more}
 use Rattle.macro_expand.specs.Macro.{Table}
 use Rattle.macro_expand.specs.Calls.{Call, call_from, arguments_of}
 use Rattle.macro_expand.specs.Substitution.{with_gap, argument_for}
@@ -80,6 +81,10 @@ hides_name-renamed w (y ∷ ys) x m h xm =
     ap (λ b. b || hides_name (map w.r.macro_name ys) (w.r.macro_name x)) (same_name w x y m h.0.0 xm h.0.1)
     ∙ ap (λ b. bytes_eq x y || b) (hides_name-renamed w ys x m h.1 xm)
 
+cond_map : {A B : Type 0} (f : A → B) (b : Bool) (x y : A) → cond b (f x) (f y) ≡ f (cond b x y)
+cond_map f true x y = refl
+cond_map f false x y = refl
+
 pub in_both-renamed : (w : World) (xs ys : List (List ℕ)) → AllDefined w.old xs → AllDefined w.old ys
     → in_both (map w.r.macro_name xs) (map w.r.macro_name ys) ≡ map w.r.macro_name (in_both xs ys)
 in_both-renamed w [] ys h k = refl
@@ -87,10 +92,19 @@ in_both-renamed w (x ∷ xs) ys h k =
     ap (λ b. cond b (w.r.macro_name x ∷ in_both (map w.r.macro_name xs) (map w.r.macro_name ys)) (in_both (map w.r.macro_name xs) (map w.r.macro_name ys))) (hides_name-renamed w ys x h.0.0 k h.0.1)
     ∙ ap (λ l. cond (hides_name ys x) (w.r.macro_name x ∷ l) l) (in_both-renamed w xs ys h.1 k)
     ∙ cond_map (map w.r.macro_name) (hides_name ys x) (x ∷ in_both xs ys) (in_both xs ys)
-  where
-    cond_map : {A B : Type 0} (f : A → B) (b : Bool) (x y : A) → cond b (f x) (f y) ≡ f (cond b x y)
-    cond_map f true x y = refl
-    cond_map f false x y = refl
+
+lacking-renamed : (w : World) (hides names : List (List ℕ)) → AllDefined w.old hides → AllDefined w.old names
+    → lacking (map w.r.macro_name hides) (map w.r.macro_name names) ≡ map w.r.macro_name (lacking hides names)
+lacking-renamed w hides [] h k = refl
+lacking-renamed w hides (x ∷ xs) h k =
+    ap (λ b. cond (not b) (w.r.macro_name x ∷ lacking (map w.r.macro_name hides) (map w.r.macro_name xs)) (lacking (map w.r.macro_name hides) (map w.r.macro_name xs))) (hides_name-renamed w hides x k.0.0 h k.0.1)
+    ∙ ap (λ l. cond (not (hides_name hides x)) (w.r.macro_name x ∷ l) l) (lacking-renamed w hides xs h k.1)
+    ∙ cond_map (map w.r.macro_name) (not (hides_name hides x)) (x ∷ lacking hides xs) (lacking hides xs)
+
+pub with_names-renamed : (w : World) (hides names : List (List ℕ)) → AllDefined w.old hides → AllDefined w.old names
+    → with_names (map w.r.macro_name hides) (map w.r.macro_name names) ≡ map w.r.macro_name (with_names hides names)
+with_names-renamed w hides names h k =
+    ap (λ l. map w.r.macro_name hides ++ l) (lacking-renamed w hides names h k) ∙ sym (map-append w.r.macro_name hides (lacking hides names))
 
 -- Which macro replaces a token.
 

@@ -54,6 +54,7 @@ pub fn take_call(
                 }));
             }
             CallRole::Separates => {
+                let _comma = next.into_tok();
                 finished.push(HiddenToks::new(mem::replace(&mut present, Vec::new(alloc))))?;
                 commas = fewer(commas);
             }

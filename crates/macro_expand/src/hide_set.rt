@@ -4,75 +4,124 @@ ghost use Rattle.std.specs.List.{list_any};
 ghost use Rattle.std.specs.Str.{bytes_eq};
 ghost use Rattle.cs_base.specs.Token.{Token};
 ghost use Rattle.line_shape.specs.MacroLine.{spellings};
-ghost use Rattle.macro_expand.specs.Hides.{hides_name, in_both};
+ghost use Rattle.macro_expand.specs.Hides.{hides_name, in_both, lacking, with_names};
 
 use crate::shared_tokens::{all_shared, push_shared, shared};
 use cs_base::{Memory, Tok};
 use std::alloc::Global;
 use std::marker::Model;
+use std::rc::RcSlice;
 
-/// A hide set, kept as tokens that are spelled as its names. Contracts see the list of the names.
+/// A hide set, kept as tokens that are spelled as its names, which its copies share; an empty set keeps
+/// none. Contracts see the list of the names.
 #[derive(Drop)]
 pub struct HideSet {
-    names: Vec<Tok>,
+    alloc: Global,
+    names: Option<RcSlice<Tok>>,
 }
 
 impl Model for HideSet {
-    ghost use Rattle.std.specs.Prelude.{List, ℕ};
+    ghost use Rattle.std.specs.Prelude.{List, ℕ, [], option_map, unwrap_or};
+    ghost use Rattle.std.specs.Rc.{rc_slice_items};
     ghost use Rattle.line_shape.specs.MacroLine.{spellings};
 
     ghost Value = { List (List ℕ) };
 
-    ghost view = { λ h. spellings h.names.items };
+    ghost view = { λ h. spellings (unwrap_or (option_map rc_slice_items h.names) []) };
 }
 
 impl HideSet {
     pub fn new(alloc: Global) -> HideSet
         ensures { result ≡ [] }
     {
-        HideSet {
-            names: Vec::new(alloc),
+        HideSet { alloc, names: None }
+    }
+
+    // The set of these names.
+    fn of(alloc: Global, names: Vec<Tok>) -> Result<HideSet, Memory>
+        ensures { IfOk result (λ h. h ≡ spellings names.items) }
+    {
+        Ok(HideSet {
+            alloc,
+            names: Some(RcSlice::from_vec(names)?),
+        })
+    }
+
+    // The tokens that are spelled as the names.
+    fn listed(&self) -> &[Tok]
+        ensures { spellings result.now ≡ self.now }
+    {
+        match &self.names {
+            Some(names) => names.as_slice(),
+            None => &[],
         }
     }
 
     pub fn contains(&self, name: &[u8]) -> bool
         ensures { result ≡ hides_name self.now name.now }
     {
-        is_among(name, &self.names)
+        is_among(name, self.listed())
     }
 
     /// The same names.
     pub fn copy(&self, alloc: Global) -> Result<HideSet, Memory>
         ensures { IfOk result (λ h. h ≡ self.now) }
     {
-        Ok(HideSet {
-            names: all_shared(alloc, &self.names)?,
-        })
+        match &self.names {
+            Some(names) => Ok(HideSet {
+                alloc,
+                names: Some(names.clone()?),
+            }),
+            None => Ok(HideSet::new(alloc)),
+        }
     }
 
     /// Adds the name of a token.
     pub fn add(&mut self, name: &Tok) -> Result<(), Memory>
         ensures { IfOk result (λ _. self.new ≡ self.old ++ name.now.text ∷ []) }
     {
-        self.names.push(shared(name)?)?;
+        let mut names = all_shared(self.alloc, self.listed())?;
+        names.push(shared(name)?)?;
+        *self = HideSet::of(self.alloc, names)?;
         Ok(())
     }
 
-    /// Adds the names of another set.
+    /// Adds those names of another set that it does not have.
     pub fn add_all(&mut self, more: &HideSet) -> Result<(), Memory>
-        ensures { IfOk result (λ _. self.new ≡ self.old ++ more.now) }
+        ensures { IfOk result (λ _. self.new ≡ with_names self.old more.now) }
     {
-        push_shared(&mut self.names, &more.names)
+        *self = self.with_names(more)?;
+        Ok(())
+    }
+
+    /// The same names, and those of another set that it does not have.
+    pub fn with_names(&self, more: &HideSet) -> Result<HideSet, Memory>
+        ensures { IfOk result (λ h. h ≡ with_names self.now more.now) }
+    {
+        match self.listed() {
+            [] => more.copy(self.alloc),
+            known => {
+                let lacking = lacking_names(self.alloc, more.listed(), self)?;
+                joined(self.alloc, known, &lacking)
+            }
+        }
     }
 
     /// The names that are in another set too.
     pub fn common(&self, alloc: Global, other: &HideSet) -> Result<HideSet, Memory>
         ensures { IfOk result (λ h. h ≡ in_both self.now other.now) }
     {
-        Ok(HideSet {
-            names: common_names(alloc, &self.names, other)?,
-        })
+        HideSet::of(alloc, common_names(alloc, self.listed(), other)?)
     }
+}
+
+// The set of the names of both lists.
+fn joined(alloc: Global, known: &[Tok], more: &[Tok]) -> Result<HideSet, Memory>
+    ensures { IfOk result (λ h. h ≡ spellings known.now ++ spellings more.now) }
+{
+    let mut names = all_shared(alloc, known)?;
+    push_shared(&mut names, more)?;
+    HideSet::of(alloc, names)
 }
 
 // Whether a token is spelled so.
@@ -93,4 +142,17 @@ fn common_names(alloc: Global, names: &[Tok], other: &HideSet) -> Result<Vec<Tok
         }
     }
     Ok(common)
+}
+
+// Those of the tokens that are spelled as no name of the set.
+fn lacking_names(alloc: Global, names: &[Tok], hides: &HideSet) -> Result<Vec<Tok>, Memory>
+    ensures { IfOk result (λ all. spellings all.items ≡ lacking hides.now (spellings names.now)) }
+{
+    let mut all = Vec::new(alloc);
+    for name in names {
+        if !hides.contains(name.text()) {
+            all.push(shared(name)?)?;
+        }
+    }
+    Ok(all)
 }
