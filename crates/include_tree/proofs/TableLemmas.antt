@@ -21,7 +21,7 @@ pub grown_refl : (t : Table) → IsGrown t t
 grown_refl [] = tt
 grown_refl (e ∷ t) = (refl, inl refl, grown_refl t)
 
-grown_trans : (a b c : Table) → IsGrown a b → IsGrown b c → IsGrown a c
+pub grown_trans : (a b c : Table) → IsGrown a b → IsGrown b c → IsGrown a c
 grown_trans [] b c h k = tt
 grown_trans (e ∷ a) [] c h k = absurd h
 grown_trans (e ∷ a) (f ∷ b) [] h k = absurd k

@@ -23,3 +23,12 @@ pub mod Slots
 pub mod Statuses
 pub mod FileTableFields
 pub mod CacheFields
+pub mod FirstNames
+pub mod Keeping
+pub mod SourceTexts
+pub mod Moments
+pub mod Answering
+pub mod Sources
+pub mod ItemTexts
+pub mod OpenSections
+pub mod Walking

@@ -1,11 +1,11 @@
 // Asking for paths: each is read once.
-ghost use Rattle.std.specs.Prelude.{◌≡◌, ℕ, List, true, false, None, is_some, IfOk, IfSome, OnOk, OnErr};
+ghost use Rattle.std.specs.Prelude.{◌≡◌, ℕ, List, true, false, None, is_some, IfOk, IfErr, IfSome, OnOk, OnErr};
 ghost use Rattle.std.specs.Str.{bytes_eq};
 ghost use Rattle.cs_base.specs.Outside.{bytes_at};
 ghost use Rattle.include_tree.specs.Files.{lines_path, found_at, found_in, source_of, asked, opened_bytes};
 ghost use Rattle.include_tree.specs.Laws.{OnlyAsks};
 ghost use Rattle.include_tree.specs.Slots.{found_of, IsNumbered};
-ghost use Rattle.include_tree.specs.Answers.{ReadCounts, TellsOfRead};
+ghost use Rattle.include_tree.specs.Answers.{fault_of, ReadCounts, TellsOfRead};
 
 use crate::file_table::FileTable;
 use crate::pre_fault::PreFault;
@@ -15,7 +15,8 @@ use std::alloc::Global;
 
 // A failed read of the path.
 fn read_fault(alloc: Global, path: &[u8]) -> PreFault
-    ensures { TellsOfRead path.now result }
+    ensures told { TellsOfRead path.now result }
+    ensures no_fault { fault_of result ≡ None }
 {
     match Text::new(alloc, path) {
         Ok(path) => PreFault::ReadFault { path },
@@ -29,6 +30,7 @@ fn read_slot<F: Files>(alloc: Global, files: &mut F, path: &str) -> Result<Slot,
     ensures answer { IfSome (F.held files.old) (λ held. IfOk result (λ slot. found_of slot ≡ found_in (bytes_at path.now held))) }
     ensures numbered { IfOk result (λ slot. (number : ℕ) (name : List ℕ) → IsNumbered number name slot) }
     ensures fresh { IfOk result (λ slot. opened_bytes (found_of slot) ≡ None) }
+    ensures no_fault { IfErr result (λ e. fault_of e ≡ None) }
     ensures faults { ReadCounts (F.failed_reads files.old) (F.failed_reads files.new) (F.failed_puts files.old) (F.failed_puts files.new) (F.last_failed files.old) (F.last_failed files.new) result }
 {
     match files.read(alloc, path) {
@@ -52,6 +54,7 @@ pub(crate) fn ask<F: Files>(
     ensures known { OnOk result (is_some (found_at path.now table.new) ≡ true) }
     ensures unchanged { OnErr result (table.new ≡ table.old) }
     ensures only { OnlyAsks table.old table.new }
+    ensures no_fault { IfErr result (λ e. fault_of e ≡ None) }
     ensures faults { ReadCounts (F.failed_reads files.old) (F.failed_reads files.new) (F.failed_puts files.old) (F.failed_puts files.new) (F.last_failed files.old) (F.last_failed files.new) result }
 {
     if table.find(path.as_bytes()).is_some() {

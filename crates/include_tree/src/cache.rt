@@ -1,5 +1,5 @@
 // What is kept from unit to unit.
-ghost use Rattle.std.specs.Prelude.{◌≡◌, ◌⊎◌, ◌≤◌, ◌<◌, ◌+◌, ◌^◌, ℕ, false, MatchBool, Err, IfErr, IfSome, IsSome, OnErr, option_copied, not, IfOk, OnOk};
+ghost use Rattle.std.specs.Prelude.{◌≡◌, ◌⊎◌, ◌≤◌, ◌<◌, ◌+◌, ◌^◌, ℕ, false, MatchBool, None, Err, IfErr, IfSome, IsSome, OnErr, option_copied, not, IfOk, OnOk, length};
 ghost use Rattle.std.specs.Str.{bytes_eq};
 ghost use Rattle.part_lexer.specs.FileText.{file_text};
 ghost use Rattle.part_lexer.specs.Refusal.{fault_of as lex_fault_of};
@@ -10,6 +10,8 @@ ghost use Rattle.include_tree.specs.KeptFiles.{kept_at};
 ghost use Rattle.include_tree.specs.Laws.{OnlyAsks};
 ghost use Rattle.include_tree.specs.Statuses.{IsUnread, is_missing};
 ghost use Rattle.include_tree.specs.Answers.{fault_of, OpensFile, IsNoReadFault, ReadCounts};
+
+mod making;
 
 use crate::asking::ask;
 use crate::file_table::FileTable;
@@ -68,6 +70,13 @@ impl Cache {
         self.table.kept(number)
     }
 
+    /// How many numbers are given: those from 0 to before this one. Takes no memory.
+    pub fn numbers(&self) -> u32
+        ensures { result ≡ length self.now.table }
+    {
+        self.table.next_number()
+    }
+
     // Asks for a path, unless it was asked for before: whether there is a file.
     pub(crate) fn ask<F: Files>(
         &mut self,
@@ -80,6 +89,7 @@ impl Cache {
         ensures answer { IfSome (F.held files.old) (λ held. OnOk result (self.new.table ≡ asked (source_of held) path.now self.old.table)) }
         ensures there { IfOk result (λ there. is_missing (found_at path.now self.new.table) ≡ not there) }
         ensures only { OnlyAsks self.old.table self.new.table }
+        ensures no_fault { IfErr result (λ e. fault_of e ≡ None) }
         ensures toks { self.new.toks ≡ self.old.toks }
         ensures faults { ReadCounts (F.failed_reads files.old) (F.failed_reads files.new) (F.failed_puts files.old) (F.failed_puts files.new) (F.last_failed files.old) (F.last_failed files.new) result }
     {

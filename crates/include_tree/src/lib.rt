@@ -8,22 +8,46 @@
 //! expansion and the values of conditions belong to the crates below; C, classes and what a name means to
 //! the crates above. How a file is read and the limits are parameters of the definition.
 //!
-//! The laws `units_are_counted` and `depth_is_a_limit` hold of all units. A `Cache` keeps files once read.
-//! The program that preprocesses a unit is not built yet. Read
-//! `specs/Files.antt`, `specs/Notes.antt`, `specs/Walk.antt` and `specs/Unit.antt`, then `specs/Laws.antt`.
+//! `preprocess` gives that text, which a `UnitText` keeps, or the first fault; a failed read and want of
+//! memory are refusals of their own. A `Cache` keeps files once read, from unit to unit. The laws
+//! `units_are_counted` and `depth_is_a_limit` hold of all units. Read `specs/Files.antt`,
+//! `specs/Notes.antt`, `specs/Walk.antt` and `specs/Unit.antt`, then `specs/Laws.antt`; of the program
+//! `unit_walk.rt` and `walking.rt`.
 #![tactic(auto)]
 
 mod asking;
+mod beginning;
 mod cache;
+mod candidates;
+mod conditions;
+mod directives;
 mod events;
 mod file_table;
+mod first_names;
+mod header;
+mod including;
+mod item_steps;
+mod item_toks;
 mod kept_file;
 mod laws;
+mod opening;
 mod pre_fault;
+mod progress;
 mod searching;
+mod section_lines;
+mod sections;
+mod settings_text;
+mod shared_tokens;
+mod signs;
 mod slot;
+mod source_text;
 mod status;
+#[cfg(test)]
+mod tests;
 mod unit_text;
+mod unit_walk;
+mod visits;
+mod walking;
 
 pub use cache::Cache;
 pub use events::{Event, EventKind, Reached};
@@ -31,3 +55,4 @@ pub use kept_file::KeptFile;
 pub use laws::{depth_is_a_limit, units_are_counted};
 pub use pre_fault::PreFault;
 pub use unit_text::UnitText;
+pub use unit_walk::preprocess;

@@ -1,12 +1,12 @@
 // The search for an included file (6.10.2).
-ghost use Rattle.std.specs.Prelude.{◌≡◌, ◌<◌, true, not, IfOk, OnOk, IfSome, get_or, length, []};
+ghost use Rattle.std.specs.Prelude.{◌≡◌, ◌<◌, true, not, None, IfOk, IfErr, OnOk, IfSome, get_or, length, []};
 ghost use Rattle.std.specs.List.{list_all};
 ghost use Rattle.std.specs.Option.{option_map};
 ghost use Rattle.include_tree.specs.Files.{source_of, asked, found_at};
 ghost use Rattle.include_tree.specs.Laws.{OnlyAsks};
 ghost use Rattle.include_tree.specs.Search.{can_be_asked, searched, search};
 ghost use Rattle.include_tree.specs.Statuses.{is_missing};
-ghost use Rattle.include_tree.specs.Answers.{ReadCounts};
+ghost use Rattle.include_tree.specs.Answers.{fault_of, ReadCounts};
 
 use crate::cache::Cache;
 use crate::pre_fault::PreFault;
@@ -15,7 +15,7 @@ use std::alloc::Global;
 use std::str;
 
 // Asks for a path that can be asked for.
-fn ask_bytes<F: Files>(
+pub(crate) fn ask_bytes<F: Files>(
     alloc: Global,
     cache: &mut Cache,
     files: &mut F,
@@ -26,6 +26,7 @@ fn ask_bytes<F: Files>(
     ensures answer { IfSome (F.held files.old) (λ held. OnOk result (cache.new.table ≡ asked (source_of held) path.now cache.old.table)) }
     ensures there { IfOk result (λ there. is_missing (found_at path.now cache.new.table) ≡ not there) }
     ensures only { OnlyAsks cache.old.table cache.new.table }
+    ensures no_fault { IfErr result (λ e. fault_of e ≡ None) }
     ensures toks { cache.new.toks ≡ cache.old.toks }
     ensures faults { ReadCounts (F.failed_reads files.old) (F.failed_reads files.new) (F.failed_puts files.old) (F.failed_puts files.new) (F.last_failed files.old) (F.last_failed files.new) result }
 {
@@ -47,6 +48,7 @@ pub(crate) fn search<F: Files>(
     ensures answer { IfSome (F.held files.old) (λ held. IfOk result (λ at. search (source_of held) paths.now cache.old.table ≡ searched (option_map (λ i. get_or paths.now i []) at) cache.new.table)) }
     ensures within { IfOk result (λ at. IfSome at (λ i. i < length paths.now)) }
     ensures only { OnlyAsks cache.old.table cache.new.table }
+    ensures no_fault { IfErr result (λ e. fault_of e ≡ None) }
     ensures toks { cache.new.toks ≡ cache.old.toks }
     ensures faults { ReadCounts (F.failed_reads files.old) (F.failed_reads files.new) (F.failed_puts files.old) (F.failed_puts files.new) (F.last_failed files.old) (F.last_failed files.new) result }
 {

@@ -1,6 +1,8 @@
 // A unit that is preprocessed.
 ghost use Rattle.std.specs.Prelude.{◌≡◌};
 
+mod noting;
+
 use crate::events::{Event, Reached};
 use cs_base::{Link, Tok};
 use std::marker::Model;

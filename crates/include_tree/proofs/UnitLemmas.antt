@@ -1,0 +1,231 @@
+-- Units, one file after the other.
+use Rattle.std.proofs.Common.{◌≡◌, ℕ, ◌+◌, ◌==◌, ◌&&◌, Bool, true, false, not, is_some, List, ◌++◌, length, Option, Some, None, Result, Ok, Err, refl, sym, ◌∙◌, ap, subst, append_assoc}
+use Rattle.std.specs.Prelude.{IfSome}
+use Rattle.std.specs.Str.{bytes_eq, is_utf8}
+use Rattle.std.proofs.lemmas.List.{append-nil}
+use Rattle.cs_base.specs.Answer.{Gives}
+use Rattle.cs_base.specs.Outside.{FileMap}
+use Rattle.cs_base.specs.Token.{Token}
+use Rattle.cs_base.specs.declared.positions.Place.{Place}
+use Rattle.part_lexer.specs.FileText.{file_text}
+use Rattle.cs_base.specs.Units.{UnitValue, defines_text, IsUnit, is_unit_path, is_writable, begins_with, less_sign}
+use Rattle.include_tree.specs.declared.pre_fault.PreFault.{PreFault}
+use Rattle.include_tree.specs.Limits.{the_limits}
+use Rattle.include_tree.specs.Files.{Found, Made, Table, Carried, carried, lines_path, defines_path, numbered, asked, source_of}
+use Rattle.include_tree.specs.Faults.{Fault, first_place}
+use Rattle.include_tree.specs.Notes.{Note}
+use Rattle.include_tree.specs.State.{State, Did, Outcome, only, noted, onward}
+use Rattle.include_tree.specs.Opening.{Opening, opening, with_opened}
+use Rattle.include_tree.specs.Search.{can_be_asked}
+use Rattle.include_tree.specs.Including.{Process}
+use Rattle.include_tree.specs.Walk.{file_items}
+use Rattle.include_tree.specs.Unit.{first_state, outer_file, main_file}
+use Rattle.include_tree.specs.Texts.{UnitTextValue, preprocessed_by, preprocessed}
+use Rattle.include_tree.specs.Keeping.{no_text, noted_in, put_in, kept_after, put_after}
+use Rattle.include_tree.specs.Answers.{fault_of, with_text}
+use Rattle.include_tree.specs.Sources.{source_at, unit_context, GivesOpening}
+use Rattle.include_tree.proofs.KeepingLemmas.{noted_in-append, noted_in-nil}
+use Rattle.include_tree.proofs.GoingLemmas.{put-onward, put-onward_fault}
+
+-- ---- tokens behind tokens
+
+put_same : (a b : State × UnitTextValue) → ◌≡◌ {A = Result (State × UnitTextValue) Fault} (Ok a) (Ok b) → a ≡ b
+put_same a b h = cc
+
+both-next : (k : UnitTextValue) (d : Did (List Token)) (o : Outcome (List Token))
+    → put_after k (noted d.notes (onward o (λ more v. only (d.value ++ more) v))) ≡ put_after (put_in (noted_in k d.notes) d.value) o
+both-next k d (Ok e) =
+    ap (λ (ns : List Note). Ok (e.state, put_in (noted_in k (d.notes ++ ns)) (d.value ++ e.value))) (append-nil e.notes)
+    ∙ ap (λ (t : UnitTextValue). Ok (e.state, put_in t (d.value ++ e.value))) (noted_in-append k d.notes e.notes)
+    ∙ ap (λ (ts : List Token). Ok (e.state, record (noted_in (noted_in k d.notes) e.notes) { toks = ts })) (sym (append_assoc k.toks d.value e.value))
+both-next k d (Err f) = refl
+
+-- a step that puts tokens out, and then another one
+pub put-both : (k k2 : UnitTextValue) (m : Outcome (List Token)) (next : State → Outcome (List Token)) (t : State) → put_after k m ≡ Ok (t, k2)
+    → put_after k (onward m (λ toks u. onward (next u) (λ more v. only (toks ++ more) v))) ≡ put_after k2 (next t)
+put-both k k2 (Ok d) next t h =
+    both-next k d (next d.state)
+    ∙ ap (λ (r : State × UnitTextValue). put_after r.1 (next r.0)) (put_same (d.state, put_in (noted_in k d.notes) d.value) (t, k2) h)
+put-both k k2 (Err f) next t h = absurd (cc)
+
+put_fault : (f g : Fault) → ◌≡◌ {A = Result (State × UnitTextValue) Fault} (Err f) (Err g) → f ≡ g
+put_fault f g h = cc
+
+pub put-both_fault : (k : UnitTextValue) (m : Outcome (List Token)) (next : List Token → State → Outcome (List Token)) (f : Fault) → put_after k m ≡ Err f
+    → put_after k (onward m next) ≡ Err f
+put-both_fault k (Ok d) next f h = absurd (cc)
+put-both_fault k (Err g) next f h = ap (λ (x : Fault). Err x) (put_fault g f h)
+
+-- ---- a file that is opened, and its items
+
+outer-gives : {X : Type 0} (view : X → State × UnitTextValue) (r : Result X PreFault) (k : UnitTextValue) (n : ℕ) (m : Opening) (u : Table) (s : State) (next : Process)
+    → GivesOpening (Ok n) m u → IfSome (source_at u n) (λ file. Gives view fault_of r (put_after k (next file (record s { table = u }))))
+    → Gives view fault_of r (put_after k (onward (with_opened s m) next))
+outer-gives {X} view r k n m u s next opens walked =
+    let here : Gives view fault_of r (put_after k (next opens.0 (record s { table = u }))) = rw opens.1 at walked in
+    let opened : kept_after k (with_opened s m) ≡ Ok (opens.0, record s { table = u }, k) =
+    ap (λ (o : Opening). kept_after k (with_opened s o)) opens.2 ∙ ap (λ (t : UnitTextValue). Ok (opens.0, record s { table = u }, t)) (noted_in-nil k) in
+    subst (λ (o : Result (State × UnitTextValue) Fault). Gives view fault_of r o) (sym (put-onward k k (with_opened s m) next opens.0 (record s { table = u }) opened)) here
+
+-- the same where files are told, with what the program knows of the directories and of the tokens before
+pub outer-told : {X : Type 0} (told told2 : Option FileMap) (view : X → State × UnitTextValue) (r : Result X PreFault) (k : UnitTextValue) (n room : ℕ) (m : FileMap → Opening) (u : Table)
+    (s : FileMap → State) (ipath ipath2 : List (List ℕ)) (toks toks2 : ℕ) → told2 ≡ told → ipath2 ≡ ipath → toks2 ≡ toks → IfSome told (λ held. GivesOpening (Ok n) (m held) u)
+    → IfSome told2 (λ held. IfSome (source_at u n) (λ file. Gives view fault_of r (put_after k (file_items (unit_context held ipath2 toks2) room file (record (s held) { table = u })))))
+    → IfSome told (λ held. Gives view fault_of r (put_after k (onward (with_opened (s held) (m held)) (file_items (unit_context held ipath toks) room))))
+outer-told {X} told told2 view r k n room m u s ipath ipath2 toks toks2 same ipath_is toks_is opens walked =
+    here told opens (subst (λ (o : Option FileMap). IfSome o (λ held. IfSome (source_at u n) (λ file. Gives view fault_of r (put_after k (file_items (unit_context held ipath toks) room file (record (s held) { table = u })))))) same
+    (subst (λ (p : List (List ℕ)). IfSome told2 (λ held. IfSome (source_at u n) (λ file. Gives view fault_of r (put_after k (file_items (unit_context held p toks) room file (record (s held) { table = u })))))) ipath_is
+    (subst (λ (j : ℕ). IfSome told2 (λ held. IfSome (source_at u n) (λ file. Gives view fault_of r (put_after k (file_items (unit_context held ipath2 j) room file (record (s held) { table = u })))))) toks_is walked)))
+  where
+    here : (o : Option FileMap) → IfSome o (λ held. GivesOpening (Ok n) (m held) u)
+        → IfSome o (λ held. IfSome (source_at u n) (λ file. Gives view fault_of r (put_after k (file_items (unit_context held ipath toks) room file (record (s held) { table = u })))))
+        → IfSome o (λ held. Gives view fault_of r (put_after k (onward (with_opened (s held) (m held)) (file_items (unit_context held ipath toks) room))))
+    here None p q = tt
+    here (Some held) p q = outer-gives view r k n (m held) u (s held) (file_items (unit_context held ipath toks) room) p q
+
+refused-fault : (k : UnitTextValue) (m : Opening) (s : State) (next : Process) (o : Option Fault) → IfSome o (λ f. ◌≡◌ {A = Opening} m (Err f))
+    → IfSome o (λ f. put_after k (onward (with_opened s m) next) ≡ Err f)
+refused-fault k m s next None h = tt
+refused-fault k m s next (Some f) h = put-onward_fault k (with_opened s m) next f (ap (λ (o : Opening). kept_after k (with_opened s o)) h)
+
+-- a file that is not opened
+pub outer-refused : (told : Option FileMap) (k : UnitTextValue) (e : PreFault) (m : FileMap → Opening) (u : Table) (s : FileMap → State) (next : FileMap → Process)
+    → IfSome told (λ held. GivesOpening (Err e) (m held) u) → IfSome told (λ held. IfSome (fault_of e) (λ f. put_after k (onward (with_opened (s held) (m held)) (next held)) ≡ Err f))
+outer-refused None k e m u s next h = tt
+outer-refused (Some held) k e m u s next h = refused-fault k (m held) (s held) (next held) (fault_of e) h
+
+-- ---- the pseudo file of a unit
+
+abbrev pub with_defines : ℕ → UnitValue → Table → Table
+with_defines number unit t = numbered (defines_path number) (Made (defines_text unit.settings)) t
+
+abbrev pub defines_opening : ℕ → UnitValue → Table → Opening
+defines_opening number unit t = opening the_limits file_text (first_place (defines_path number)) (defines_path number) (with_defines number unit t)
+
+-- that of the unit's own file
+abbrev pub main_opening : List ℕ → Table → FileMap → Opening
+main_opening path t held = opening the_limits file_text (first_place path) path (asked (source_of held) path t)
+
+-- what is opened at another path or in another table is the same
+pub gives-made : (r : Result ℕ PreFault) (v t : Table) (path path2 text : List ℕ) (number : ℕ) (unit : UnitValue) → path ≡ defines_path number → path2 ≡ path → text ≡ defines_text unit.settings
+    → GivesOpening r (opening the_limits file_text (first_place path2) path2 (numbered path2 (Made text) t)) v → GivesOpening r (defines_opening number unit t) v
+gives-made r v t path path2 text number unit is same text_is h =
+    subst (λ (p : List ℕ). GivesOpening r (opening the_limits file_text (first_place p) p (numbered p (Made (defines_text unit.settings)) t)) v) (same ∙ is)
+    (subst (λ (x : List ℕ). GivesOpening r (opening the_limits file_text (first_place path2) path2 (numbered path2 (Made x) t)) v) text_is h)
+
+pub gives-main : (told : Option FileMap) (r : Result ℕ PreFault) (v t u : Table) (path path2 : List ℕ) (place : Place) → path2 ≡ path → place ≡ first_place path2
+    → IfSome told (λ held. u ≡ asked (source_of held) path2 t) → GivesOpening r (opening the_limits file_text place path2 u) v
+    → IfSome told (λ held. GivesOpening r (main_opening path t held) v)
+gives-main None r v t u path path2 place same is asked_is h = tt
+gives-main (Some held) r v t u path path2 place same is asked_is h =
+    subst (λ (p : List ℕ). GivesOpening r (opening the_limits file_text (first_place p) p (asked (source_of held) p t)) v) same
+    (subst (λ (x : Table). GivesOpening r (opening the_limits file_text (first_place path2) path2 x) v) asked_is
+    (subst (λ (x : Place). GivesOpening r (opening the_limits file_text x path2 u) v) is h))
+
+-- ---- the unit
+
+by-done : (earlier : ℕ) (o : Outcome (List Token)) (u : State) (k : UnitTextValue) → put_after no_text o ≡ Ok (u, k)
+    → preprocessed_by earlier o ≡ Ok (with_text (carried u.table (earlier + length k.toks)) k)
+by-done earlier (Ok d) u k h =
+    ap (λ (r : State × UnitTextValue). Ok (with_text (carried r.0.table (earlier + length r.1.toks)) r.1)) (put_same (d.state, put_in (noted_in no_text d.notes) d.value) (u, k) h)
+by-done earlier (Err f) u k h = absurd (cc)
+
+by-refused : (earlier : ℕ) (o : Outcome (List Token)) (f : Fault) → put_after no_text o ≡ Err f → preprocessed_by earlier o ≡ Err f
+by-refused earlier (Ok d) f h = absurd (cc)
+by-refused earlier (Err g) f h = ap (λ (x : Fault). Err x) (put_fault g f h)
+
+-- the steps of the two files, the first of which begins with this text
+abbrev FirstGives : FileMap → ℕ → UnitValue → ℕ → State → UnitTextValue → Result (State × UnitTextValue) Fault → Type 0
+FirstGives held number unit earlier s k r = put_after k (outer_file (unit_context held unit.ipath earlier) (defines_path number) s) ≡ r
+
+abbrev NextGives : FileMap → UnitValue → ℕ → State → UnitTextValue → Result (State × UnitTextValue) Fault → Type 0
+NextGives held unit earlier t k r = put_after k (main_file (unit_context held unit.ipath earlier) unit.path t) ≡ r
+
+module _ (number : ℕ) (unit : UnitValue) (before : Carried) (s : State) (k : UnitTextValue)
+    (begun : s ≡ first_state the_limits number unit before.table) (nothing : k ≡ no_text) where
+  first : (held : FileMap) (r : Result (State × UnitTextValue) Fault) → FirstGives held number unit before.toks s k r
+      → FirstGives held number unit before.toks (first_state the_limits number unit before.table) no_text r
+  first held r h =
+      subst (λ (x : State). FirstGives held number unit before.toks x no_text r) begun (subst (λ (x : UnitTextValue). FirstGives held number unit before.toks s x r) nothing h)
+
+  done_with : (held : FileMap) (t u : State) (k2 k3 : UnitTextValue) (after : Carried) → FirstGives held number unit before.toks s k (Ok (t, k2))
+      → NextGives held unit before.toks t k2 (Ok (u, k3)) → after ≡ carried u.table (before.toks + length k3.toks)
+      → preprocessed (source_of held) number unit before ≡ Ok (with_text after k3)
+  unfolding preprocessed
+  done_with held t u k2 k3 after h j is =
+      by-done before.toks _ u k3 (put-both no_text k2 _ (main_file (unit_context held unit.ipath before.toks) unit.path) t (first held (Ok (t, k2)) h) ∙ j)
+      ∙ ap (λ (c : Carried). Ok (with_text c k3)) (sym is)
+
+  first_refused : (held : FileMap) (o : Option Fault) → IfSome o (λ f. FirstGives held number unit before.toks s k (Err f))
+      → IfSome o (λ f. preprocessed (source_of held) number unit before ≡ Err f)
+  unfolding preprocessed
+  first_refused held None h = tt
+  first_refused held (Some f) h = by-refused before.toks _ f (put-both_fault no_text _ _ f (first held (Err f) h))
+
+  next_refused : (held : FileMap) (o : Option Fault) (t : State) (k2 : UnitTextValue) → FirstGives held number unit before.toks s k (Ok (t, k2))
+      → IfSome o (λ f. NextGives held unit before.toks t k2 (Err f)) → IfSome o (λ f. preprocessed (source_of held) number unit before ≡ Err f)
+  unfolding preprocessed
+  next_refused held None t k2 h j = tt
+  next_refused held (Some f) t k2 h j =
+      by-refused before.toks _ f (put-both no_text k2 _ (main_file (unit_context held unit.ipath before.toks) unit.path) t (first held (Ok (t, k2)) h) ∙ j)
+
+  -- where files are told: both files are walked
+  pub unit-done : (told : Option FileMap) (t u : State) (k2 k3 : UnitTextValue) (after : Carried)
+      → IfSome told (λ held. put_after k (outer_file (unit_context held unit.ipath before.toks) (defines_path number) s) ≡ Ok (t, k2))
+      → IfSome told (λ held. put_after k2 (main_file (unit_context held unit.ipath before.toks) unit.path t) ≡ Ok (u, k3))
+      → after ≡ carried u.table (before.toks + length k3.toks)
+      → IfSome told (λ held. preprocessed (source_of held) number unit before ≡ Ok (with_text after k3))
+  unit-done None t u k2 k3 after h j is = tt
+  unit-done (Some held) t u k2 k3 after h j is = done_with held t u k2 k3 after h j is
+
+  -- there is a fault in the first
+  pub unit-first_refused : (told : Option FileMap) (o : Option Fault)
+      → IfSome told (λ held. IfSome o (λ f. put_after k (outer_file (unit_context held unit.ipath before.toks) (defines_path number) s) ≡ Err f))
+      → IfSome told (λ held. IfSome o (λ f. preprocessed (source_of held) number unit before ≡ Err f))
+  unit-first_refused None o h = tt
+  unit-first_refused (Some held) o h = first_refused held o h
+
+  -- there is one in the file of the unit
+  pub unit-next_refused : (told : Option FileMap) (o : Option Fault) (t : State) (k2 : UnitTextValue)
+      → IfSome told (λ held. put_after k (outer_file (unit_context held unit.ipath before.toks) (defines_path number) s) ≡ Ok (t, k2))
+      → IfSome told (λ held. IfSome o (λ f. put_after k2 (main_file (unit_context held unit.ipath before.toks) unit.path t) ≡ Err f))
+      → IfSome told (λ held. IfSome o (λ f. preprocessed (source_of held) number unit before ≡ Err f))
+  unit-next_refused None o t k2 h j = tt
+  unit-next_refused (Some held) o t k2 h j = next_refused held o t k2 h j
+
+-- ---- paths
+
+-- a pseudo file of settings is not that of lines
+pub defines-apart : (path : List ℕ) (number : ℕ) → path ≡ defines_path number → bytes_eq path lines_path ≡ false
+defines-apart path number is = subst (λ (p : List ℕ). bytes_eq p lines_path ≡ false) (sym is) refl
+
+pub not_met : (o : Option Found) (b : Bool) → b ≡ is_some o → b ≡ false → o ≡ None
+not_met None b h other = refl
+not_met (Some f) b h other = absurd (cc)
+
+and-left : (a b : Bool) → (a && b) ≡ true → a ≡ true
+and-left true b h = refl
+and-left false b h = absurd (cc)
+
+and-right : (a b : Bool) → (a && b) ≡ true → b ≡ true
+and-right true b h = h
+and-right false b h = absurd (cc)
+
+and-both : (a b : Bool) → a ≡ true → b ≡ true → (a && b) ≡ true
+and-both true b h k = k
+and-both false b h k = absurd (cc)
+
+-- the path of a unit can be asked for
+pub unit-asked : (path : List ℕ) (u : UnitValue) → path ≡ u.path → IsUnit u → can_be_asked path ≡ true
+unfolding is_writable
+unit-asked path u is sound =
+    let placed : is_unit_path u.path ≡ true = sound.is_placed in
+    let other : not (begins_with (λ c. c == less_sign) u.path) ≡ true = and-right _ _ placed in
+    let writable : is_writable u.path ≡ true = and-left _ _ (and-left _ _ (and-left _ _ placed)) in
+    let text : is_utf8 u.path ≡ true = and-left _ _ (and-left _ _ writable) in
+    subst (λ (p : List ℕ). can_be_asked p ≡ true) (sym is) (and-both (is_utf8 u.path) (not (begins_with (λ c. c == less_sign) u.path)) text other)
+
+-- what is told at a later moment
+pub told-moved : (told told2 : Option FileMap) (toks toks2 : ℕ) (P : FileMap → ℕ → Type 0) → told2 ≡ told → toks2 ≡ toks → IfSome told2 (λ held. P held toks2) → IfSome told (λ held. P held toks)
+told-moved told told2 toks toks2 P same toks_is h =
+    subst (λ (o : Option FileMap). IfSome o (λ held. P held toks)) same (subst (λ (n : ℕ). IfSome told2 (λ held. P held n)) toks_is h)

@@ -1,0 +1,167 @@
+-- The walk over the items of files, one item at a time.
+use Rattle.std.proofs.Common.{◌≡◌, ℕ, zero, suc, ◌+◌, ◌-◌, ◌<◌, ◌≤◌, List, [], ◌∷◌, ◌++◌, drop, length, Option, Some, None, Result, Ok, Err, refl, sym, ◌∙◌, ap, subst, arith, append_assoc}
+use Rattle.std.specs.Prelude.{IfSome, slice_get}
+use Rattle.std.proofs.lemmas.List.{append-nil}
+use Rattle.cs_base.specs.Token.{Token}
+use Rattle.cs_base.specs.declared.positions.Pos.{Pos}
+use Rattle.include_tree.specs.Files.{SourceFile}
+use Rattle.include_tree.specs.Faults.{Fault}
+use Rattle.include_tree.specs.Notes.{Note, Entered, Exited}
+use Rattle.include_tree.specs.State.{Context, State, Did, did, Outcome, only, noted, onward}
+use Rattle.include_tree.specs.Sections.{Section}
+use Rattle.include_tree.specs.Search.{Header}
+use Rattle.include_tree.specs.Including.{Process, Inner, open_header, entered, included}
+use Rattle.include_tree.specs.Walk.{ItemText, items_in, Stepped, item_step, file_end, walk, file_items}
+use Rattle.include_tree.specs.Texts.{UnitTextValue}
+use Rattle.include_tree.specs.Keeping.{noted_in, put_in, put_after}
+use Rattle.include_tree.specs.OpenSections.{innermost_of}
+use Rattle.include_tree.specs.Walking.{stepped_after, inner_in}
+use Rattle.include_tree.proofs.KeepingLemmas.{noted_in-append, noted_in-nil, put-noted}
+use Rattle.include_tree.proofs.StayingLemmas.{some_same}
+use Rattle.include_tree.proofs.WalkingLemmas.{put-only, fault_on}
+
+-- ---- one item behind another
+
+drop-some : {X : Type 0} (xs : List X) (k : ℕ) (x : X) → slice_get xs k ≡ Some x → drop k xs ≡ x ∷ drop (k + 1) xs
+drop-some {X} [] k x h = absurd (let none : ◌≡◌ {A = Option X} None (Some x) = h in cc)
+drop-some (y ∷ xs) zero x h = ap (λ z. z ∷ xs) (some_same y x h)
+drop-some (y ∷ xs) (suc k) x h = let n : suc k + 1 ≡ suc (k + 1) = omega arith in rw n (drop-some xs k x h)
+
+drop-past : {X : Type 0} (xs : List X) (k : ℕ) → length xs ≤ k → drop k xs ≡ []
+drop-past [] zero h = refl
+drop-past [] (suc k) h = refl
+drop-past (x ∷ xs) zero h = absurd (omega (arith, h))
+drop-past (x ∷ xs) (suc k) h = drop-past xs k (omega (arith, h))
+
+get-some : {X : Type 0} (xs : List X) (k : ℕ) → k < length xs → (x : X) × (slice_get xs k ≡ Some x)
+get-some [] k h = absurd (omega (arith, h))
+get-some (x ∷ xs) zero h = (x, refl)
+get-some (x ∷ xs) (suc k) h = get-some xs k (omega (arith, h))
+
+put_behind : (k : UnitTextValue) (notes more : List Note) (toks out : List Token)
+    → put_in (noted_in k (notes ++ (more ++ []))) (toks ++ out) ≡ put_in (noted_in (put_in (noted_in k notes) toks) more) out
+put_behind k notes more toks out =
+    ap (λ (ns : List Note). put_in (noted_in k (notes ++ ns)) (toks ++ out)) (append-nil more)
+    ∙ ap (λ (t : UnitTextValue). put_in t (toks ++ out)) (noted_in-append k notes more)
+    ∙ ap (λ (ts : List Token). record (noted_in (noted_in k notes) more) { toks = ts }) (sym (append_assoc k.toks toks out))
+
+step_then : (k : UnitTextValue) (d : Did Stepped) (m : Outcome (List Token))
+    → put_after k (noted d.notes (onward m (λ toks u. only (d.value.toks ++ toks) u))) ≡ put_after (put_in (noted_in k d.notes) d.value.toks) m
+step_then k d (Ok w) = ap (λ (t : UnitTextValue). Ok (w.state, t)) (put_behind k d.notes w.notes d.value.toks w.value)
+step_then k d (Err f) = refl
+
+-- what follows an item
+abbrev pub behind : (List Section → State → Outcome (List Token)) → Stepped → State → Outcome (List Token)
+behind next d t = onward (next d.sections t) (λ toks u. only (d.toks ++ toks) u)
+
+value_or : {A : Type 0} → A → Result A Fault → A
+value_or d (Ok a) = a
+value_or d (Err e) = d
+
+done_same : {A : Type 0} (a b : A) → ◌≡◌ {A = Result A Fault} (Ok a) (Ok b) → a ≡ b
+unfolding value_or
+done_same a b e = ap (value_or a) e
+
+step-done : (k k2 : UnitTextValue) (m : Outcome Stepped) (next : List Section → State → Outcome (List Token)) (sections : List Section) (t : State)
+    → stepped_after k m ≡ Ok (sections, t, k2) → put_after k (onward m (behind next)) ≡ put_after k2 (next sections t)
+step-done k k2 (Ok d) next sections t h =
+    step_then k d (next d.value.sections d.state)
+    ∙ ap (λ (r : List Section × State × UnitTextValue). put_after r.2 (next r.0 r.1))
+    (done_same (d.value.sections, d.state, put_in (noted_in k d.notes) d.value.toks) (sections, t, k2) h)
+step-done k k2 (Err f) next sections t h = absurd (cc)
+
+err_same : {A : Type 0} (f g : Fault) → ◌≡◌ {A = Result A Fault} (Err f) (Err g) → f ≡ g
+err_same f g e = cc
+
+step-fault : (k : UnitTextValue) (m : Outcome Stepped) (next : List Section → State → Outcome (List Token)) (f : Fault)
+    → stepped_after k m ≡ Err f → put_after k (onward m (behind next)) ≡ Err f
+step-fault k (Ok d) next f h = absurd (cc)
+step-fault k (Err g) next f h = ap (λ (x : Fault). Err x) (err_same {A = List Section × State × UnitTextValue} g f h)
+
+module _ (ctx : Context) (inner : Inner) (file : SourceFile) (k : ℕ) (items : List ItemText) (sections : List Section) (s : State) (text : UnitTextValue) where
+  pub walk-more : (i : ItemText) (more : List Section) (t : State) (new : UnitTextValue) → slice_get items k ≡ Some i
+      → stepped_after text (item_step ctx inner file k i sections s) ≡ Ok (more, t, new)
+      → put_after text (walk ctx inner file k (drop k items) sections s) ≡ put_after new (walk ctx inner file (k + 1) (drop (k + 1) items) more t)
+  unfolding walk
+  walk-more i more t new at h =
+      ap (λ (is : List ItemText). put_after text (walk ctx inner file k is sections s)) (drop-some items k i at)
+      ∙ step-done text new (item_step ctx inner file k i sections s) (walk ctx inner file (k + 1) (drop (k + 1) items)) more t h
+
+  pub walk-fault : (i : ItemText) (f : Fault) → slice_get items k ≡ Some i → stepped_after text (item_step ctx inner file k i sections s) ≡ Err f
+      → put_after text (walk ctx inner file k (drop k items) sections s) ≡ Err f
+  unfolding walk
+  walk-fault i f at h =
+      ap (λ (is : List ItemText). put_after text (walk ctx inner file k is sections s)) (drop-some items k i at)
+      ∙ step-fault text (item_step ctx inner file k i sections s) (walk ctx inner file (k + 1) (drop (k + 1) items)) f h
+
+  pub walk-end : length items ≤ k → put_after text (walk ctx inner file k (drop k items) sections s) ≡ put_after text (file_end file sections s)
+  unfolding walk
+  walk-end past = ap (λ (is : List ItemText). put_after text (walk ctx inner file k is sections s)) (drop-past items k past)
+
+pub some-more : (ctx : Context) (inner : Inner) (file : SourceFile) (k : ℕ) (items : List ItemText) (sections : List Section) (s : State) (text : UnitTextValue)
+    (more : List Section) (t : State) (new : UnitTextValue) → k < length items
+    → IfSome (slice_get items k) (λ i. stepped_after text (item_step ctx inner file k i sections s) ≡ Ok (more, t, new))
+    → put_after text (walk ctx inner file k (drop k items) sections s) ≡ put_after new (walk ctx inner file (k + 1) (drop (k + 1) items) more t)
+some-more ctx inner file k items sections s text more t new within h =
+    let i : (x : ItemText) × (slice_get items k ≡ Some x) = get-some items k within in
+    let step : stepped_after text (item_step ctx inner file k i.0 sections s) ≡ Ok (more, t, new) =
+    subst (λ (o : Option ItemText). IfSome o (λ x. stepped_after text (item_step ctx inner file k x sections s) ≡ Ok (more, t, new))) i.1 h in
+    walk-more ctx inner file k items sections s text i.0 more t new i.1 step
+
+pub some-fault : (ctx : Context) (inner : Inner) (file : SourceFile) (k : ℕ) (items : List ItemText) (sections : List Section) (s : State) (text : UnitTextValue)
+    (q : Option Fault) → k < length items
+    → IfSome (slice_get items k) (λ i. IfSome q (λ f. stepped_after text (item_step ctx inner file k i sections s) ≡ Err f))
+    → IfSome q (λ f. put_after text (walk ctx inner file k (drop k items) sections s) ≡ Err f)
+some-fault ctx inner file k items sections s text q within h =
+    let i : (x : ItemText) × (slice_get items k ≡ Some x) = get-some items k within in
+    let step : IfSome q (λ f. stepped_after text (item_step ctx inner file k i.0 sections s) ≡ Err f) =
+    subst (λ (o : Option ItemText). IfSome o (λ x. IfSome q (λ f. stepped_after text (item_step ctx inner file k x sections s) ≡ Err f))) i.1 h in
+    fault_on q (stepped_after text (item_step ctx inner file k i.0 sections s)) _ step (λ f same. walk-fault ctx inner file k items sections s text i.0 f i.1 same)
+
+-- the items of a file
+pub items-walk : (ctx : Context) (room : ℕ) (file : SourceFile) (s : State) → file_items ctx room file s ≡ walk ctx (inner_in ctx room) file 0 (items_in file) [] s
+unfolding file_items
+items-walk ctx zero file s = refl
+items-walk ctx (suc room) file s = refl
+
+-- the end of a file
+pub none-open : (sections : List Section) → ◌≡◌ {A = Option Section} None (innermost_of sections) → sections ≡ []
+none-open [] h = refl
+none-open (s ∷ sections) h = absurd (let none : ◌≡◌ {A = Option Section} None (Some s) = h in cc)
+
+pub end-none : (text : UnitTextValue) (file : SourceFile) (sections : List Section) (s : State) → sections ≡ [] → put_after text (file_end file sections s) ≡ Ok (s, text)
+end-none text file sections s is = ap (λ (xs : List Section). put_after text (file_end file xs s)) is ∙ put-only text s
+
+-- ---- files that are included
+
+pub included-fault : (ctx : Context) (room : ℕ) (file : SourceFile) (at : Pos) (h : Header) (s : State) (k : UnitTextValue) (f : Fault) → 0 < room
+    → open_header ctx file at h s ≡ Err f → put_after k (included ctx (inner_in ctx room) file at h s) ≡ Err f
+included-fault ctx zero file at h s k f some is = absurd (omega (arith, some))
+included-fault ctx (suc room) file at h s k f some is = ap (λ (o : Outcome SourceFile). put_after k (onward o (entered (file_items ctx room) at))) is
+
+pub included-open : (ctx : Context) (room : ℕ) (file : SourceFile) (at : Pos) (h : Header) (s : State) (k : UnitTextValue) (inner : SourceFile) (t : State) → 0 < room
+    → open_header ctx file at h s ≡ Ok (did inner [] t)
+    → put_after k (included ctx (inner_in ctx room) file at h s) ≡ put_after k (entered (file_items ctx (room - 1)) at inner t)
+included-open ctx zero file at h s k inner t some is = absurd (omega (arith, some))
+included-open ctx (suc room) file at h s k inner t some is =
+    let n : suc room - 1 ≡ room = omega arith in
+    rw n (ap (λ (o : Outcome SourceFile). put_after k (onward o (entered (file_items ctx room) at))) is
+    ∙ put-noted k [] (entered (file_items ctx room) at inner t)
+    ∙ ap (λ (x : UnitTextValue). put_after x (entered (file_items ctx room) at inner t)) (noted_in-nil k))
+
+entered-by : (k k2 : UnitTextValue) (note : Note) (last : State → Note) (m : Outcome (List Token)) (t : State) → put_after (noted_in k (note ∷ [])) m ≡ Ok (t, k2)
+    → put_after k (noted (note ∷ []) (onward m (λ toks u. Ok (did toks (last u ∷ []) u)))) ≡ Ok (t, noted_in k2 (last t ∷ []))
+entered-by k k2 note last (Ok d) t h =
+    let one = noted_in k (note ∷ []) in
+    ap (λ (x : UnitTextValue). Ok (d.state, put_in x d.value))
+    (noted_in-append k (note ∷ []) (d.notes ++ last d.state ∷ []) ∙ noted_in-append one d.notes (last d.state ∷ []))
+    ∙ ap (λ (r : State × UnitTextValue). Ok (r.0, noted_in r.1 (last r.0 ∷ []))) (done_same (d.state, put_in (noted_in one d.notes) d.value) (t, k2) h)
+entered-by k k2 note last (Err f) t h = absurd (cc)
+
+-- the items of an included file, entered and left
+pub entered-done : (process : Process) (at : Pos) (file : SourceFile) (n : ℕ) (s t : State) (k k2 : UnitTextValue) → file.number ≡ n
+    → put_after (noted_in k (Entered at n s.before ∷ [])) (process file s) ≡ Ok (t, k2)
+    → put_after k (entered process at file s) ≡ Ok (t, noted_in k2 (Exited at n t.before ∷ []))
+entered-done process at file n s t k k2 number h =
+    ap (λ (m : ℕ). put_after k (noted (Entered at m s.before ∷ []) (onward (process file s) (λ toks u. Ok (did toks (Exited at m u.before ∷ []) u))))) number
+    ∙ entered-by k k2 (Entered at n s.before) (λ (u : State). Exited at n u.before) (process file s) t h

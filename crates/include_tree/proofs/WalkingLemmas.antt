@@ -1,0 +1,247 @@
+-- Items and sections, one step at a time.
+use Rattle.std.proofs.Common.{◌≡◌, ℕ, Bool, true, false, List, [], ◌∷◌, drop, length, Option, Some, None, Result, Ok, Err, refl, ◌∙◌, ap, subst}
+use Rattle.std.specs.Prelude.{IfSome}
+use Rattle.std.proofs.lemmas.List.{append-nil}
+use Rattle.cs_base.specs.Token.{Token}
+use Rattle.cs_base.specs.declared.causes.Cause.{Cause}
+use Rattle.cs_base.specs.declared.positions.Pos.{Pos}
+use Rattle.line_shape.specs.declared.items.ItemKind.{ItemKind}
+use Rattle.line_shape.specs.declared.items.ItemKind.TheVariants as item
+use Rattle.include_tree.specs.declared.pre_fault.PreFault.{PreFault}
+use Rattle.include_tree.specs.declared.progress.Progress.{Progress}
+use Rattle.include_tree.specs.declared.item_steps.IncludeLine.{IncludeLine}
+use Rattle.include_tree.specs.Files.{Table, SourceFile}
+use Rattle.include_tree.specs.Faults.{Fault}
+use Rattle.include_tree.specs.Notes.{Note, Reaches}
+use Rattle.include_tree.specs.State.{Context, State, Outcome, only, noted, onward}
+use Rattle.include_tree.specs.Sections.{Group, Awaited, Skipped, Section, section, are_processed, is_alive, group_if, Turn, Stays}
+use Rattle.include_tree.specs.Search.{Header}
+use Rattle.include_tree.specs.Conditions.{holds}
+use Rattle.include_tree.specs.Directives.{opens_with, is_if}
+use Rattle.include_tree.specs.Including.{Inner, header_named, included}
+use Rattle.include_tree.specs.Walk.{ItemText, processed, Stepped, stepped, go_on, opens, goes_on, reaching_alive, turned}
+use Rattle.include_tree.specs.Texts.{UnitTextValue}
+use Rattle.include_tree.specs.Answers.{fault_of}
+use Rattle.include_tree.specs.Keeping.{noted_in, put_in, kept_after, put_after}
+use Rattle.include_tree.specs.Moments.{state_in}
+use Rattle.include_tree.specs.Walking.{stepped_after, with_sections, GivesLine, GivesItem}
+use Rattle.include_tree.proofs.KeepingLemmas.{noted_in-append, noted_in-nil}
+use Rattle.include_tree.proofs.GoingLemmas.{put-onward}
+
+-- ---- faults
+
+-- the fault that is told of one is that of the other
+pub fault_on : {X Y : Type 0} (q : Option Fault) (x : Result X Fault) (y : Result Y Fault) → IfSome q (λ f. x ≡ Err f) → ((f : Fault) → x ≡ Err f → y ≡ Err f)
+    → IfSome q (λ f. y ≡ Err f)
+fault_on None x y h next = tt
+fault_on (Some f) x y h next = next f h
+
+-- ---- a step behind another
+
+value_or : {A : Type 0} → A → Result A Fault → A
+value_or d (Ok a) = a
+value_or d (Err e) = d
+
+done_same : {A : Type 0} (a b : A) → ◌≡◌ {A = Result A Fault} (Ok a) (Ok b) → a ≡ b
+unfolding value_or
+done_same a b e = ap (value_or a) e
+
+put_noted-nil : (k : UnitTextValue) → put_in (noted_in k []) [] ≡ k
+put_noted-nil k = ap (λ (t : UnitTextValue). put_in t []) (noted_in-nil k) ∙ ap (λ (toks : List Token). record k { toks = toks }) (append-nil k.toks)
+
+-- nothing is put out, and nothing happens
+pub stepped-only : (k : UnitTextValue) (sections : List Section) (s : State) → stepped_after k (only (stepped [] sections) s) ≡ Ok (sections, s, k)
+stepped-only k sections s = ap (λ (t : UnitTextValue). Ok (sections, s, t)) (put_noted-nil k)
+
+pub put-only : (k : UnitTextValue) (s : State) → put_after k (only [] s) ≡ Ok (s, k)
+put-only k s = ap (λ (t : UnitTextValue). Ok (s, t)) (put_noted-nil k)
+
+pub stepped-noted : (k : UnitTextValue) (notes : List Note) (m : Outcome Stepped) → stepped_after k (noted notes m) ≡ stepped_after (noted_in k notes) m
+stepped-noted k notes (Ok d) = ap (λ (t : UnitTextValue). Ok (d.value.sections, d.state, put_in t d.value.toks)) (noted_in-append k notes d.notes)
+stepped-noted k notes (Err f) = refl
+
+pub stepped-onward : {A : Type 0} (k k2 : UnitTextValue) (m : Outcome A) (next : A → State → Outcome Stepped) (a : A) (t : State)
+    → kept_after k m ≡ Ok (a, t, k2) → stepped_after k (onward m next) ≡ stepped_after k2 (next a t)
+stepped-onward {A} k k2 (Ok d) next a t h =
+    stepped-noted k d.notes (next d.value d.state)
+    ∙ ap (λ (r : A × State × UnitTextValue). stepped_after r.2 (next r.0 r.1)) (done_same (d.value, d.state, noted_in k d.notes) (a, t, k2) h)
+stepped-onward k k2 (Err f) next a t h = absurd (cc)
+
+err_same : {A : Type 0} (f g : Fault) → ◌≡◌ {A = Result A Fault} (Err f) (Err g) → f ≡ g
+err_same f g e = cc
+
+pub stepped-onward_fault : {A : Type 0} (k : UnitTextValue) (m : Outcome A) (next : A → State → Outcome Stepped) (f : Fault)
+    → kept_after k m ≡ Err f → stepped_after k (onward m next) ≡ Err f
+stepped-onward_fault k (Ok d) next f h = absurd (cc)
+stepped-onward_fault {A} k (Err g) next f h = ap (λ (x : Fault). Err x) (err_same {A = A × State × UnitTextValue} g f h)
+
+-- a step that leaves the sections
+toks-only : (k : UnitTextValue) (m : Outcome (List Token)) (sections : List Section)
+    → stepped_after k (onward m (λ toks t. only (stepped toks sections) t)) ≡ with_sections sections (put_after k m)
+toks-only k (Ok d) sections = ap (λ (notes : List Note). Ok (sections, d.state, put_in (noted_in k notes) d.value)) (append-nil d.notes)
+toks-only k (Err f) sections = refl
+
+-- ---- an item is reached
+
+abbrev pub reached_text : UnitTextValue → SourceFile → ℕ → Bool → State → UnitTextValue
+reached_text k file n evaluated s = noted_in k (Reaches file.number n evaluated s.before ∷ [])
+
+pub skipped-only : (k : UnitTextValue) (file : SourceFile) (n : ℕ) (g : Group) (sections : List Section) (s : State) → is_alive g ≡ false
+    → stepped_after k (reaching_alive file n g s (only (stepped [] sections) s)) ≡ Ok (sections, s, k)
+skipped-only k file n g sections s skipped = rw skipped (stepped-only k sections s)
+
+-- ---- a section is opened
+
+pub opens-skipped : (k : UnitTextValue) (file : SourceFile) (n : ℕ) (i : ItemText) (sections : List Section) (s : State) → are_processed sections ≡ false
+    → stepped_after k (opens file n i sections s) ≡ Ok (section i.at Skipped false ∷ sections, s, k)
+opens-skipped k file n i sections s skipped = rw skipped (stepped-only k (section i.at Skipped false ∷ sections) s)
+
+pub opens-asked : (k k2 : UnitTextValue) (file : SourceFile) (n : ℕ) (i : ItemText) (sections : List Section) (s : State) (b : Bool) (t : State)
+    → are_processed sections ≡ true → kept_after (reached_text k file n (is_if i.kind) s) (opens_with i.kind file i.at i.toks s) ≡ Ok (b, t, k2)
+    → stepped_after k (opens file n i sections s) ≡ Ok (section i.at (group_if b) false ∷ sections, t, k2)
+opens-asked k k2 file n i sections s b t inside h =
+    let next : Bool → State → Outcome Stepped = λ (c : Bool) (u : State). only (stepped [] (section i.at (group_if c) false ∷ sections)) u in
+    rw inside (stepped-noted k (Reaches file.number n (is_if i.kind) s.before ∷ []) (onward (opens_with i.kind file i.at i.toks s) next)
+    ∙ stepped-onward (reached_text k file n (is_if i.kind) s) k2 (opens_with i.kind file i.at i.toks s) next b t h
+    ∙ stepped-only k2 (section i.at (group_if b) false ∷ sections) t)
+
+pub opens-fault : (k : UnitTextValue) (file : SourceFile) (n : ℕ) (i : ItemText) (sections : List Section) (s : State) (f : Fault)
+    → are_processed sections ≡ true → kept_after (reached_text k file n (is_if i.kind) s) (opens_with i.kind file i.at i.toks s) ≡ Err f
+    → stepped_after k (opens file n i sections s) ≡ Err f
+opens-fault k file n i sections s f inside h =
+    let next : Bool → State → Outcome Stepped = λ (c : Bool) (u : State). only (stepped [] (section i.at (group_if c) false ∷ sections)) u in
+    rw inside (stepped-noted k (Reaches file.number n (is_if i.kind) s.before ∷ []) (onward (opens_with i.kind file i.at i.toks s) next)
+    ∙ stepped-onward_fault (reached_text k file n (is_if i.kind) s) (opens_with i.kind file i.at i.toks s) next f h)
+
+-- the same by what is known when the item was reached
+module _ (file : SourceFile) (n : ℕ) (i : ItemText) (sections : List Section) (table : Table) (p p1 : Progress) (e : Bool) (is : e ≡ is_if i.kind)
+    (reaches : p1 ≡ record p { text = noted_in p.text (Reaches file.number n e (length p.text.toks) ∷ []) }) (inside : are_processed sections ≡ true) where
+  opens-from : (x : Result (Bool × State × UnitTextValue) Fault) → kept_after p1.text (opens_with i.kind file i.at i.toks (state_in table p1)) ≡ x
+      → kept_after (reached_text p.text file n (is_if i.kind) (state_in table p)) (opens_with i.kind file i.at i.toks (state_in table p)) ≡ x
+  opens-from x h =
+      subst (λ (b : Bool). kept_after (reached_text p.text file n b (state_in table p)) (opens_with i.kind file i.at i.toks (state_in table p)) ≡ x) is
+      (subst (λ (q : Progress). kept_after q.text (opens_with i.kind file i.at i.toks (state_in table q)) ≡ x) reaches h)
+
+  pub opens-step : (b : Bool) (t : State) (k2 : UnitTextValue) → kept_after p1.text (opens_with i.kind file i.at i.toks (state_in table p1)) ≡ Ok (b, t, k2)
+      → stepped_after p.text (opens file n i sections (state_in table p)) ≡ Ok (section i.at (group_if b) false ∷ sections, t, k2)
+  opens-step b t k2 h = opens-asked p.text k2 file n i sections (state_in table p) b t inside (opens-from (Ok (b, t, k2)) h)
+
+  pub opens-step_fault : (found : Option Fault) → IfSome found (λ f. kept_after p1.text (opens_with i.kind file i.at i.toks (state_in table p1)) ≡ Err f)
+      → IfSome found (λ f. stepped_after p.text (opens file n i sections (state_in table p)) ≡ Err f)
+  opens-step_fault found h =
+      fault_on found (kept_after p1.text (opens_with i.kind file i.at i.toks (state_in table p1))) (stepped_after p.text (opens file n i sections (state_in table p))) h
+      (λ f same. opens-fault p.text file n i sections (state_in table p) f inside (opens-from (Err f) same))
+
+-- ---- the next group
+
+pub asked-done : (k k2 : UnitTextValue) (file : SourceFile) (n : ℕ) (i : ItemText) (open_ : Section) (around : List Section) (s : State) (g : Group) (b : Bool) (t : State)
+    → g ≡ Awaited → kept_after (reached_text k file n true s) (holds file i.at (drop 2 i.toks) s) ≡ Ok (b, t, k2)
+    → stepped_after k (goes_on file n i open_ around s g) ≡ Ok (section open_.opening (group_if b) false ∷ around, t, k2)
+asked-done k k2 file n i open_ around s g b t is h =
+    let next : Bool → State → Outcome Stepped = λ (c : Bool) (u : State). only (go_on open_ (group_if c) false around) u in
+    rw is (stepped-noted k (Reaches file.number n true s.before ∷ []) (onward (holds file i.at (drop 2 i.toks) s) next)
+    ∙ stepped-onward (reached_text k file n true s) k2 (holds file i.at (drop 2 i.toks) s) next b t h
+    ∙ stepped-only k2 (section open_.opening (group_if b) false ∷ around) t)
+
+pub asked-fault : (k : UnitTextValue) (file : SourceFile) (n : ℕ) (i : ItemText) (open_ : Section) (around : List Section) (s : State) (g : Group) (f : Fault)
+    → g ≡ Awaited → kept_after (reached_text k file n true s) (holds file i.at (drop 2 i.toks) s) ≡ Err f
+    → stepped_after k (goes_on file n i open_ around s g) ≡ Err f
+asked-fault k file n i open_ around s g f is h =
+    let next : Bool → State → Outcome Stepped = λ (c : Bool) (u : State). only (go_on open_ (group_if c) false around) u in
+    rw is (stepped-noted k (Reaches file.number n true s.before ∷ []) (onward (holds file i.at (drop 2 i.toks) s) next)
+    ∙ stepped-onward_fault (reached_text k file n true s) (holds file i.at (drop 2 i.toks) s) next f h)
+
+-- the same by what is known when the item was reached
+module _ (file : SourceFile) (n : ℕ) (i : ItemText) (open_ : Section) (around : List Section) (table : Table) (p p1 : Progress) (toks : List Token) (is : toks ≡ drop 2 i.toks)
+    (reaches : p1 ≡ record p { text = noted_in p.text (Reaches file.number n true (length p.text.toks) ∷ []) }) where
+  asked-from : (x : Result (Bool × State × UnitTextValue) Fault) → kept_after p1.text (holds file i.at toks (state_in table p1)) ≡ x
+      → kept_after (reached_text p.text file n true (state_in table p)) (holds file i.at (drop 2 i.toks) (state_in table p)) ≡ x
+  asked-from x h =
+      subst (λ (ts : List Token). kept_after (reached_text p.text file n true (state_in table p)) (holds file i.at ts (state_in table p)) ≡ x) is
+      (subst (λ (q : Progress). kept_after q.text (holds file i.at toks (state_in table q)) ≡ x) reaches h)
+
+  pub asked-step : (b : Bool) (t : State) (k2 : UnitTextValue) → kept_after p1.text (holds file i.at toks (state_in table p1)) ≡ Ok (b, t, k2)
+      → stepped_after p.text (goes_on file n i open_ around (state_in table p) Awaited) ≡ Ok (section open_.opening (group_if b) false ∷ around, t, k2)
+  asked-step b t k2 h = asked-done p.text k2 file n i open_ around (state_in table p) Awaited b t refl (asked-from (Ok (b, t, k2)) h)
+
+  pub asked-step_fault : (found : Option Fault) → IfSome found (λ f. kept_after p1.text (holds file i.at toks (state_in table p1)) ≡ Err f)
+      → IfSome found (λ f. stepped_after p.text (goes_on file n i open_ around (state_in table p) Awaited) ≡ Err f)
+  asked-step_fault found h =
+      fault_on found (kept_after p1.text (holds file i.at toks (state_in table p1))) (stepped_after p.text (goes_on file n i open_ around (state_in table p) Awaited)) h
+      (λ f same. asked-fault p.text file n i open_ around (state_in table p) Awaited f refl (asked-from (Err f) same))
+
+pub skipped-on : (k : UnitTextValue) (file : SourceFile) (n : ℕ) (i : ItemText) (open_ : Section) (around : List Section) (s : State) (g : Group)
+    → g ≡ Skipped → stepped_after k (goes_on file n i open_ around s g) ≡ Ok (section open_.opening Skipped false ∷ around, s, k)
+skipped-on k file n i open_ around s g is = rw is (stepped-only k (section open_.opening Skipped false ∷ around) s)
+
+-- ---- items that leave the sections
+
+-- what such a line gives in these sections
+abbrev pub turns : Context → Inner → SourceFile → ℕ → ItemText → State → UnitTextValue → Turn → List Section → Result (List Section × State × UnitTextValue) Fault
+turns ctx inner file n i s k turn sections = stepped_after k (turned ctx inner file n i sections s turn)
+
+module _ (ctx : Context) (inner : Inner) (file : SourceFile) (n : ℕ) (i : ItemText) (s : State) (k : UnitTextValue) where
+  -- an item that leaves the sections, in a skipped group and in one that is processed
+  pub stays-skipped : (sections : List Section) → are_processed sections ≡ false → turns ctx inner file n i s k Stays sections ≡ Ok (sections, s, k)
+  stays-skipped sections skipped = rw skipped (stepped-only k sections s)
+
+  stays-inside : (sections : List Section) → are_processed sections ≡ true
+      → turns ctx inner file n i s k Stays sections ≡ with_sections sections (put_after (reached_text k file n false s) (processed ctx inner file i.kind i.at i.toks s))
+  stays-inside sections inside =
+      let next : List Token → State → Outcome Stepped = λ (toks : List Token) (t : State). only (stepped toks sections) t in
+      rw inside (stepped-noted k (Reaches file.number n false s.before ∷ []) (onward (processed ctx inner file i.kind i.at i.toks s) next)
+      ∙ toks-only (reached_text k file n false s) (processed ctx inner file i.kind i.at i.toks s) sections)
+
+-- what a line gives that leaves the sections
+line-item : (ctx : Context) (inner : Inner) (file : SourceFile) (r : Result (Option IncludeLine) PreFault) (sections : List Section) (t : State) (k2 : UnitTextValue)
+    (x : Result (State × UnitTextValue) Fault) (y : Result (List Section × State × UnitTextValue) Fault) → y ≡ with_sections sections x
+    → GivesLine ctx inner file r t k2 x → GivesItem ctx inner file r sections t k2 y
+line-item ctx inner file (Ok None) sections t k2 x y is h = is ∙ ap (with_sections sections) h
+line-item ctx inner file (Ok (Some line)) sections t k2 x y is h = is ∙ ap (with_sections sections) h
+line-item ctx inner file (Err e) sections t k2 x y is h = fault_on (fault_of e) x y h (λ f same. is ∙ ap (with_sections sections) same)
+
+pub stays-line : (ctx : Context) (inner : Inner) (file : SourceFile) (n : ℕ) (i : ItemText) (s : State) (k : UnitTextValue) (sections : List Section)
+    (r : Result (Option IncludeLine) PreFault) (t : State) (k2 : UnitTextValue) → are_processed sections ≡ true
+    → GivesLine ctx inner file r t k2 (put_after (reached_text k file n false s) (processed ctx inner file i.kind i.at i.toks s))
+    → GivesItem ctx inner file r sections t k2 (turns ctx inner file n i s k Stays sections)
+stays-line ctx inner file n i s k sections r t k2 inside h =
+    line-item ctx inner file r sections t k2 _ _ (stays-inside ctx inner file n i s k sections inside) h
+
+-- the same by what is known when the item was reached
+pub stays-step : (ctx : Context) (inner : Inner) (file : SourceFile) (n : ℕ) (i : ItemText) (sections : List Section) (table : Table) (p p1 : Progress)
+    (r : Result (Option IncludeLine) PreFault) (t : State) (k2 : UnitTextValue) → p1 ≡ record p { text = noted_in p.text (Reaches file.number n false (length p.text.toks) ∷ []) }
+    → are_processed sections ≡ true → GivesLine ctx inner file r t k2 (put_after p1.text (processed ctx inner file i.kind i.at i.toks (state_in table p1)))
+    → GivesItem ctx inner file r sections t k2 (turns ctx inner file n i (state_in table p) p.text Stays sections)
+stays-step ctx inner file n i sections table p p1 r t k2 reaches inside h =
+    stays-line ctx inner file n i (state_in table p) p.text sections r t k2 inside
+    (subst (λ (q : Progress). GivesLine ctx inner file r t k2 (put_after q.text (processed ctx inner file i.kind i.at i.toks (state_in table q)))) reaches h)
+
+-- ---- an item of a processed group
+
+pub include-step : (ctx : Context) (inner : Inner) (file : SourceFile) (kind : ItemKind) (at : Pos) (toks behind : List Token) (s : State) (k k2 : UnitTextValue) (h : Header) (t : State)
+    → kind ≡ item.Include → behind ≡ drop 2 toks → kept_after k (header_named file at behind s) ≡ Ok (h, t, k2)
+    → put_after k (processed ctx inner file kind at toks s) ≡ put_after k2 (included ctx inner file at h t)
+include-step ctx inner file kind at toks behind s k k2 h t is same named =
+    ap (λ (x : ItemKind). put_after k (processed ctx inner file x at toks s)) is
+    ∙ put-onward k k2 (header_named file at (drop 2 toks) s) (included ctx inner file at) h t
+    (subst (λ (ts : List Token). kept_after k (header_named file at ts s) ≡ Ok (h, t, k2)) same named)
+
+-- an item of any other kind gives nothing
+pub processed-rest : (ctx : Context) (inner : Inner) (file : SourceFile) (kind : ItemKind) (at : Pos) (toks : List Token) (s : State) (k : UnitTextValue) → (kind ≡ item.Run → ⊥)
+    → (kind ≡ item.Define → ⊥) → (kind ≡ item.Undef → ⊥) → (kind ≡ item.Include → ⊥) → (kind ≡ item.Error → ⊥)
+    → ((cause : Cause) (place : Pos) (nests : Bool) → kind ≡ item.Bad cause place nests → ⊥) → put_after k (processed ctx inner file kind at toks s) ≡ Ok (s, k)
+processed-rest ctx inner file item.Run at toks s k a b c d e f = absurd (a refl)
+processed-rest ctx inner file item.Define at toks s k a b c d e f = absurd (b refl)
+processed-rest ctx inner file item.Undef at toks s k a b c d e f = absurd (c refl)
+processed-rest ctx inner file item.Include at toks s k a b c d e f = absurd (d refl)
+processed-rest ctx inner file item.Error at toks s k a b c d e f = absurd (e refl)
+processed-rest ctx inner file (item.Bad cause place nests) at toks s k a b c d e f = absurd (f cause place nests refl)
+processed-rest ctx inner file item.If at toks s k a b c d e f = put-only k s
+processed-rest ctx inner file item.Ifdef at toks s k a b c d e f = put-only k s
+processed-rest ctx inner file item.Ifndef at toks s k a b c d e f = put-only k s
+processed-rest ctx inner file item.Elif at toks s k a b c d e f = put-only k s
+processed-rest ctx inner file item.Else at toks s k a b c d e f = put-only k s
+processed-rest ctx inner file item.Endif at toks s k a b c d e f = put-only k s
+processed-rest ctx inner file item.Line at toks s k a b c d e f = put-only k s
+processed-rest ctx inner file item.Pragma at toks s k a b c d e f = put-only k s
+processed-rest ctx inner file item.Empty at toks s k a b c d e f = put-only k s

@@ -1,0 +1,18 @@
+use Rattle.std.proofs.Common.{sym, ◌∙◌}
+use Rattle.include_tree.specs.declared.events.EventKind.TheVariants.{Left}
+use Rattle.include_tree.specs.Moments.{state_in}
+use Rattle.include_tree.proofs.DefiningLemmas.{able-event}
+use Rattle.include_tree.proofs.JudgingLemmas.{left-step, left-other}
+use Rattle.include_tree.proofs.progress.Progress.left_name.Goals as goal
+
+pub returns-in_ok-process_event-clause-able : goal.returns-in_ok-process_event-clause-able
+returns-in_ok-process_event-clause-able c =
+    able-event c.args.self.now c.process_event.new.self Left c.args.tok.now c.in_ok-process_event.ensures.named c.requires.able
+
+pub returns-in_ok-process_event-clause-answer : goal.returns-in_ok-process_event-clause-answer
+returns-in_ok-process_event-clause-answer c = λ table toks.
+    left-step table c.args.self.now c.process_event.new.self c.args.tok.now toks (sym c.is_name.ensures ∙ c.if-is_name.true) c.in_ok-process_event.ensures.named
+
+pub returns-else-is_name-clause-answer : goal.returns-else-is_name-clause-answer
+returns-else-is_name-clause-answer c = λ table toks.
+    left-other c.args.self.now.text c.args.tok.now toks (state_in table c.args.self.now) (sym c.is_name.ensures ∙ c.if-is_name.false)

@@ -1,0 +1,16 @@
+use Rattle.std.proofs.Common.{ℕ, List, ◌∙◌, ap}
+use Rattle.macro_expand.specs.Live.{table_of, without_macro}
+use Rattle.include_tree.specs.SourceTexts.{source_in}
+use Rattle.include_tree.proofs.DefiningLemmas.{undef-line, undef-able}
+use Rattle.include_tree.proofs.progress.Progress.undef.Goals as goal
+
+pub returns-in_ok-process_event-in-Some-clause-able : goal.returns-in_ok-process_event-in-Some-clause-able
+returns-in_ok-process_event-in-Some-clause-able c =
+    undef-able c.args.self.now c.process_event.new.self c.undef.new.self c.in-Some.name.now c.in_ok-process_event-in-Some.ensures.named
+    (c.undef.ensures ∙ ap (λ (t : List ℕ). without_macro t (table_of c.process_event.new.self.macros)) c.text.ensures.answer) c.requires.able
+
+pub returns-in_ok-process_event-in-Some-clause-answer : goal.returns-in_ok-process_event-in-Some-clause-answer
+returns-in_ok-process_event-in-Some-clause-answer c = λ table.
+    undef-line table (source_in c.args.file.now) c.args.at c.args.toks.now c.args.self.now c.process_event.new.self c.undef.new.self c.in-Some.name.now c.in-Some.ensures
+    c.in_ok-process_event-in-Some.ensures.named
+    (c.undef.ensures ∙ ap (λ (t : List ℕ). without_macro t (table_of c.process_event.new.self.macros)) c.text.ensures.answer)

@@ -1,0 +1,12 @@
+use Rattle.std.proofs.Common.{ap}
+use Rattle.include_tree.specs.SourceTexts.{source_in}
+use Rattle.include_tree.specs.ItemTexts.{item_in}
+use Rattle.include_tree.specs.Moments.{state_in}
+use Rattle.include_tree.specs.OpenSections.{group_of}
+use Rattle.include_tree.proofs.WalkingLemmas.{skipped-on}
+use Rattle.include_tree.proofs.section_lines.next_group.Goals as goal
+
+pub returns-in-Skipped-clause-answer : goal.returns-in-Skipped-clause-answer
+returns-in-Skipped-clause-answer c = λ table open_ around.
+    skipped-on c.args.p.now.text (source_in c.args.file.now) c.args.k (item_in c.args.item.now) open_ around (state_in table c.args.p.now) (group_of c.args.group)
+    (ap group_of c.in-Skipped.is)

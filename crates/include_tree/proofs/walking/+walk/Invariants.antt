@@ -1,0 +1,40 @@
+use Rattle.std.proofs.Common.{◌≡◌, ◌+◌, ◌*◌, drop}
+use Rattle.std.specs.Prelude.{IfSome}
+use Rattle.include_tree.specs.Walk.{items_in, walk, file_items}
+use Rattle.include_tree.specs.Laws.{IsGrown}
+use Rattle.include_tree.specs.Keeping.{put_after}
+use Rattle.include_tree.specs.Moments.{state_in, IsAble}
+use Rattle.include_tree.specs.Sources.{source_at, unit_context}
+use Rattle.include_tree.specs.Walking.{inner_in}
+use Rattle.include_tree.proofs.walking.+walk.Given as goal
+
+-- How many more files may be open counts most.
+abbrev pub decreases-walk_file : goal.decreases-walk_file
+decreases-walk_file g l = 4 * l.room + 2
+
+abbrev pub decreases-walk_item : goal.decreases-walk_item
+decreases-walk_item g l = 4 * l.room + 1
+
+abbrev pub decreases-include_file : goal.decreases-include_file
+decreases-include_file g l = 4 * l.room
+
+abbrev pub decreases-enter_file : goal.decreases-enter_file
+decreases-enter_file g l = 4 * l.room + 3
+
+-- The items that are left give what all of them give.
+abbrev pub invariant-walk_file-loop-k : goal.invariant-walk_file-loop-k
+invariant-walk_file-loop-k g l = record {
+  held : g.F.Files.held l.files ≡ g.F.Files.held l.fn.files;
+  answer : IfSome (g.F.Files.held l.fn.files) (λ held. IfSome (source_at l.fn.cache.table l.number) (λ file.
+      put_after l.fn.p.text (file_items (unit_context held l.ipath l.fn.cache.toks) l.room file (state_in l.fn.cache.table l.fn.p))
+      ≡ put_after l.p.text (walk (unit_context held l.ipath l.fn.cache.toks) (inner_in (unit_context held l.ipath l.fn.cache.toks) l.room) file l.k
+      (drop l.k (items_in file)) l.sections (state_in l.cache.table l.p))));
+  same : source_at l.cache.table l.number ≡ source_at l.fn.cache.table l.number;
+  able : IsAble l.p;
+  most : l.p.most ≡ l.fn.p.most;
+  grown : IsGrown l.fn.cache.table l.cache.table;
+  toks : l.cache.toks ≡ l.fn.cache.toks;
+  reads : g.F.Files.failed_reads l.files ≡ g.F.Files.failed_reads l.fn.files;
+  puts : g.F.Files.failed_puts l.files ≡ g.F.Files.failed_puts l.fn.files;
+  last : g.F.Files.last_failed l.files ≡ g.F.Files.last_failed l.fn.files;
+}

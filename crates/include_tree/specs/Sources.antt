@@ -1,0 +1,62 @@
+-- Source files that are kept, as they are processed.
+use Rattle.std.specs.Prelude.{◌≡◌, ℕ, ◌-◌, ◌^◌, min, Option, Some, None, List, [], Result, Ok, Err, IfSome}
+use Rattle.std.specs.Option.{option_and_then}
+use Rattle.cs_base.specs.Outside.{FileMap}
+use Rattle.part_lexer.specs.FileText.{TextValue, LexFault, file_text}
+use Rattle.cs_base.specs.declared.causes.Cause.TheVariants.{MissingFile}
+use Rattle.cs_base.specs.declared.positions.Place.{Place}
+use Rattle.include_tree.specs.declared.pre_fault.PreFault.{PreFault}
+use Rattle.include_tree.specs.Limits.{the_limits}
+use Rattle.include_tree.specs.Files.{SourceFile, source_file, source_of, Table}
+use Rattle.include_tree.specs.KeptFiles.{KeptValue, kept_at}
+use Rattle.include_tree.specs.State.{Context, context, State, did, Outcome}
+use Rattle.include_tree.specs.Faults.{fault}
+use Rattle.include_tree.specs.Search.{Searched}
+use Rattle.include_tree.specs.Opening.{Opening, opening}
+use Rattle.include_tree.specs.Answers.{fault_of}
+
+-- the source file of a text that was read
+abbrev pub read_as : ℕ → List ℕ → Result TextValue LexFault → Option SourceFile
+read_as number path (Ok text) = Some (source_file number path text)
+read_as number path (Err fault) = None
+
+-- that of a kept file
+abbrev pub source_kept : KeptValue → Option SourceFile
+source_kept k = read_as k.number k.path (file_text k.number k.bytes)
+
+-- the source file that is kept under a number
+abbrev pub source_at : Table → ℕ → Option SourceFile
+source_at table number = option_and_then source_kept (kept_at table number)
+
+-- What stays the same in a unit over these files, with these include directories, behind so many tokens of
+-- other units.
+abbrev pub unit_context : FileMap → List (List ℕ) → ℕ → Context
+unit_context files ipath earlier = context (source_of files) file_text ipath the_limits earlier
+
+-- how many tokens the unit may have
+abbrev pub unit_most : ℕ → ℕ
+unit_most earlier = min (2 ^ 22) (2 ^ 23 - earlier)
+
+-- A step opened a file: its number is told, and it is kept; or the fault of the step, which yields to want of
+-- memory and a failed read.
+abbrev pub GivesFile : Result ℕ PreFault → Outcome SourceFile → Table → State → Type 0
+GivesFile (Ok number) outcome table s =
+    (file : SourceFile) × (source_at table number ≡ Some file)
+    × ◌≡◌ {A = Outcome SourceFile} outcome (Ok (did file [] (record s { table = table })))
+GivesFile (Err e) outcome table s = IfSome (fault_of e) (λ f. ◌≡◌ {A = Outcome SourceFile} outcome (Err f))
+
+-- The same as an opening: the number of its file is told, which is kept; or its fault, which yields to want
+-- of memory and a failed read.
+abbrev pub GivesOpening : Result ℕ PreFault → Opening → Table → Type 0
+GivesOpening (Ok number) expected table =
+    (file : SourceFile) × (source_at table number ≡ Some file) × ◌≡◌ {A = Opening} expected (Ok (file, table))
+GivesOpening (Err e) expected table = IfSome (fault_of e) (λ f. ◌≡◌ {A = Opening} expected (Err f))
+
+-- the file that a search found, opened, or none; a fault stands at this place
+abbrev pub opening_searched : Place → Searched → Option (List ℕ) → Opening
+opening_searched place found None = Err (fault place MissingFile)
+opening_searched place found (Some path) = opening the_limits file_text place path found.table
+
+-- that of a search
+abbrev pub opening_found : Place → Searched → Opening
+opening_found place found = opening_searched place found found.path

@@ -1,0 +1,140 @@
+// The items of a file, one at a time: what each gives beside the files that it includes (6.10).
+ghost use Rattle.std.specs.Prelude.{◌≡◌, ◌&&◌, IsTrue, IfErr, OnOk, Some};
+ghost use Rattle.std.specs.List.{list_all};
+ghost use Rattle.line_shape.specs.declared.items.ItemKind.TheVariants.{Define};
+ghost use Rattle.line_shape.specs.Items.{line_kind};
+ghost use Rattle.macro_expand.specs.declared.definitions.Definition.{Definition as Macro};
+ghost use Rattle.macro_expand.specs.Defining.{defined_by};
+ghost use Rattle.macro_expand.specs.Sound.{is_traced, is_low};
+ghost use Rattle.include_tree.specs.Files.{Table};
+ghost use Rattle.include_tree.specs.State.{Context};
+ghost use Rattle.include_tree.specs.Sections.{Stays};
+ghost use Rattle.include_tree.specs.Expanding.{most_toks};
+ghost use Rattle.include_tree.specs.Including.{Inner};
+ghost use Rattle.include_tree.specs.Walk.{processed, turned, item_step};
+ghost use Rattle.include_tree.specs.Answers.{IsNoReadFault};
+ghost use Rattle.include_tree.specs.Keeping.{put_after};
+ghost use Rattle.include_tree.specs.SourceTexts.{source_in};
+ghost use Rattle.include_tree.specs.ItemTexts.{item_in};
+ghost use Rattle.include_tree.specs.Moments.{state_in, IsAble};
+ghost use Rattle.include_tree.specs.Walking.{stepped_after, GivesLine, GivesItem};
+
+use crate::header::Header;
+use crate::item_toks::ItemToks;
+use crate::pre_fault::PreFault;
+use crate::progress::Progress;
+use crate::section_lines::{
+    SectionLine, behind_word, elif_line, else_line, endif_line, open_section, section_line,
+};
+use crate::sections::Sections;
+use crate::source_text::SourceText;
+use cs_base::{Cause, Pos};
+use line_shape::ItemKind;
+
+/// An include line in a processed group: where its `#` stands, and the header that it names.
+#[derive(Drop)]
+pub struct IncludeLine {
+    pub(crate) at: Pos,
+    pub(crate) header: Header,
+}
+
+// An item of a processed group that opens no section and ends none.
+fn processed(
+    p: &mut Progress,
+    file: &SourceText,
+    item: &ItemToks,
+) -> Result<Option<IncludeLine>, PreFault>
+    requires sound { IsTrue (list_all (λ t. is_traced t && is_low t) item.now.toks.now) }
+    requires defines { item.now.kind ≡ Define → (line_kind item.now.toks.now ≡ Define) × ((m : Macro) → defined_by item.now.toks.now ≡ Some m → IsTrue (list_all is_traced m.body)) }
+    requires able { IsAble p.old }
+    ensures able { OnOk result (IsAble p.new) }
+    ensures most { p.new.most ≡ p.old.most }
+    ensures no_read { IfErr result IsNoReadFault }
+    ensures answer { (ctx : Context) (inner : Inner) (table : Table) → most_toks ctx ≡ p.old.most → GivesLine ctx inner (source_in file.now) result (state_in table p.new) p.new.text (put_after p.old.text (processed ctx inner (source_in file.now) item.now.kind item.now.at item.now.toks.now (state_in table p.old))) }
+{
+    match item.kind {
+        ItemKind::Run => {
+            p.run_of(file, item.toks)?;
+            Ok(None)
+        }
+        ItemKind::Define => {
+            p.define(item.toks)?;
+            Ok(None)
+        }
+        ItemKind::Undef => {
+            p.undef(file, item.at, item.toks)?;
+            Ok(None)
+        }
+        ItemKind::Include => {
+            let header = p.header_named(file, item.at, behind_word(item.toks))?;
+            Ok(Some(IncludeLine {
+                at: item.at,
+                header,
+            }))
+        }
+        ItemKind::Error => Err(file.fault(p.alloc, item.at, Cause::ErrorDirective)),
+        ItemKind::Bad { .. } => Err(file.fault(p.alloc, item.at, Cause::BadDirective)),
+        _ => Ok(None),
+    }
+}
+
+// An item that opens no section and ends none, which is item number `k` of the file.
+fn stay(
+    p: &mut Progress,
+    file: &SourceText,
+    k: u32,
+    item: &ItemToks,
+    sections: &Sections,
+) -> Result<Option<IncludeLine>, PreFault>
+    requires sound { IsTrue (list_all (λ t. is_traced t && is_low t) item.now.toks.now) }
+    requires defines { item.now.kind ≡ Define → (line_kind item.now.toks.now ≡ Define) × ((m : Macro) → defined_by item.now.toks.now ≡ Some m → IsTrue (list_all is_traced m.body)) }
+    requires able { IsAble p.old }
+    ensures able { OnOk result (IsAble p.new) }
+    ensures most { p.new.most ≡ p.old.most }
+    ensures no_read { IfErr result IsNoReadFault }
+    ensures answer { (ctx : Context) (inner : Inner) (table : Table) → most_toks ctx ≡ p.old.most → GivesItem ctx inner (source_in file.now) result sections.now (state_in table p.new) p.new.text (stepped_after p.old.text (turned ctx inner (source_in file.now) k (item_in item.now) sections.now (state_in table p.old) Stays)) }
+{
+    if !sections.are_processed() {
+        return Ok(None);
+    }
+    p.reach(file.number, k, false)?;
+    processed(p, file, item)
+}
+
+/// Item number `k` of a file. Of an include line in a processed group the header is told, and the rest is
+/// left to the caller.
+pub(crate) fn item_step(
+    p: &mut Progress,
+    file: &SourceText,
+    k: u32,
+    item: &ItemToks,
+    sections: &mut Sections,
+) -> Result<Option<IncludeLine>, PreFault>
+    requires sound { IsTrue (list_all (λ t. is_traced t && is_low t) item.now.toks.now) }
+    requires defines { item.now.kind ≡ Define → (line_kind item.now.toks.now ≡ Define) × ((m : Macro) → defined_by item.now.toks.now ≡ Some m → IsTrue (list_all is_traced m.body)) }
+    requires able { IsAble p.old }
+    ensures able { OnOk result (IsAble p.new) }
+    ensures most { p.new.most ≡ p.old.most }
+    ensures no_read { IfErr result IsNoReadFault }
+    ensures answer { (ctx : Context) (inner : Inner) (table : Table) → most_toks ctx ≡ p.old.most → GivesItem ctx inner (source_in file.now) result sections.new (state_in table p.new) p.new.text (stepped_after p.old.text (item_step ctx inner (source_in file.now) k (item_in item.now) sections.old (state_in table p.old))) }
+{
+    match section_line(item.kind) {
+        SectionLine::Opening => {
+            open_section(p, file, k, item, sections)?;
+            Ok(None)
+        }
+        SectionLine::Next => {
+            elif_line(p, file, k, item, sections)?;
+            Ok(None)
+        }
+        SectionLine::Last => {
+            else_line(p, file, k, item, sections)?;
+            Ok(None)
+        }
+        SectionLine::Ending => {
+            endif_line(p, file, k, item, sections)?;
+            Ok(None)
+        }
+        SectionLine::Other => stay(p, file, k, item, sections),
+    }
+}

@@ -1,0 +1,276 @@
+// Lines that open if-sections, go on to further groups and end them (6.10.1 paragraph 6).
+ghost use Rattle.std.specs.Prelude.{◌≡◌, false, ◌∷◌, [], ◌&&◌, List, IsTrue, IfOk, IfErr, OnOk, drop};
+ghost use Rattle.std.specs.List.{list_all};
+ghost use Rattle.cs_base.specs.Answer.{Gives};
+ghost use Rattle.macro_expand.specs.Sound.{is_traced, is_low};
+ghost use Rattle.include_tree.specs.Files.{Table};
+ghost use Rattle.include_tree.specs.State.{only};
+ghost use Rattle.include_tree.specs.Sections.{Section, section, Awaited, turn_of, turn_of_bad};
+ghost use Rattle.include_tree.specs.Directives.{opens_with, is_if};
+ghost use Rattle.include_tree.specs.Walk.{stepped, opens, goes_on, reaching_alive};
+ghost use Rattle.include_tree.specs.Answers.{fault_of, IsNoReadFault};
+ghost use Rattle.include_tree.specs.Keeping.{kept_after};
+ghost use Rattle.include_tree.specs.SourceTexts.{source_in};
+ghost use Rattle.include_tree.specs.ItemTexts.{item_in};
+ghost use Rattle.include_tree.specs.Moments.{state_in, IsAble};
+ghost use Rattle.include_tree.specs.OpenSections.{group_of, turn_in};
+ghost use Rattle.include_tree.specs.Walking.{stepped_after, elif_of, else_of, endif_of};
+
+use crate::item_toks::ItemToks;
+use crate::pre_fault::PreFault;
+use crate::progress::Progress;
+use crate::sections::{Group, OpenSection, Sections, group_if, group_of_else, is_alive};
+use crate::source_text::SourceText;
+use cs_base::{Cause, Memory, Tok};
+use line_shape::ItemKind;
+
+/// What a line does to the sections: it opens one, goes on to the next group or to the last one, or ends it;
+/// any other item leaves them.
+#[derive(Clone, Copy)]
+pub enum SectionLine {
+    Opening,
+    Next,
+    Last,
+    Ending,
+    Other,
+}
+
+pub(crate) fn section_line(kind: ItemKind) -> SectionLine
+    ensures { turn_in result ≡ turn_of kind }
+{
+    match kind {
+        ItemKind::If => SectionLine::Opening,
+        ItemKind::Ifdef => SectionLine::Opening,
+        ItemKind::Ifndef => SectionLine::Opening,
+        ItemKind::Elif => SectionLine::Next,
+        ItemKind::Else => SectionLine::Last,
+        ItemKind::Endif => SectionLine::Ending,
+        ItemKind::Bad { nests, .. } => bad_line(nests),
+        _ => SectionLine::Other,
+    }
+}
+
+// A bad line opens a section or leaves them.
+fn bad_line(nests: bool) -> SectionLine
+    ensures { turn_in result ≡ turn_of_bad nests }
+{
+    if nests {
+        SectionLine::Opening
+    } else {
+        SectionLine::Other
+    }
+}
+
+// It is a condition that is evaluated.
+fn is_if(kind: ItemKind) -> bool
+    ensures { result ≡ is_if kind }
+{
+    match kind {
+        ItemKind::If => true,
+        _ => false,
+    }
+}
+
+// The tokens behind the `#` and the word of a line.
+pub(crate) fn behind_word(toks: &[Tok]) -> &[Tok]
+    ensures { result.now ≡ drop 2 toks.now }
+{
+    if toks.len() < 2 {
+        return &toks[toks.len()..];
+    }
+    &toks[2..]
+}
+
+impl Progress {
+    // Whether the first group of a section is processed, by the line that opens it.
+    fn opens_with(&mut self, file: &SourceText, item: &ItemToks) -> Result<bool, PreFault>
+        requires sound { IsTrue (list_all (λ t. is_traced t && is_low t) item.now.toks.now) }
+        requires able { IsAble self.old }
+        ensures able { OnOk result (IsAble self.new) }
+        ensures most { self.new.most ≡ self.old.most }
+        ensures no_read { IfErr result IsNoReadFault }
+        ensures answer { (table : Table) → Gives (λ b. (b, state_in table self.new, self.new.text)) fault_of result (kept_after self.old.text (opens_with item.now.kind (source_in file.now) item.now.at item.now.toks.now (state_in table self.old))) }
+    {
+        match item.kind {
+            ItemKind::If => self.holds(file, item.at, behind_word(item.toks)),
+            ItemKind::Ifdef => self.asks_name(file, item.at, false, item.toks),
+            ItemKind::Ifndef => self.asks_name(file, item.at, true, item.toks),
+            _ => Err(file.fault(self.alloc, item.at, Cause::BadDirective)),
+        }
+    }
+}
+
+/// A line that opens a section, which is item number `k` of the file.
+pub(crate) fn open_section(
+    p: &mut Progress,
+    file: &SourceText,
+    k: u32,
+    item: &ItemToks,
+    sections: &mut Sections,
+) -> Result<(), PreFault>
+    requires sound { IsTrue (list_all (λ t. is_traced t && is_low t) item.now.toks.now) }
+    requires able { IsAble p.old }
+    ensures able { OnOk result (IsAble p.new) }
+    ensures most { p.new.most ≡ p.old.most }
+    ensures no_read { IfErr result IsNoReadFault }
+    ensures answer { (table : Table) → Gives (λ _. (sections.new, state_in table p.new, p.new.text)) fault_of result (stepped_after p.old.text (opens (source_in file.now) k (item_in item.now) sections.old (state_in table p.old))) }
+{
+    if !sections.are_processed() {
+        sections.push(OpenSection::new(item.at, Group::Skipped, false))?;
+        return Ok(());
+    }
+    p.reach(file.number, k, is_if(item.kind))?;
+    match p.opens_with(file, item) {
+        Ok(holds) => {
+            sections.push(OpenSection::new(item.at, group_if(holds), false))?;
+            Ok(())
+        }
+        Err(fault) => Err(fault),
+    }
+}
+
+// The group behind an `elif` whose condition is asked.
+fn asked_group(
+    p: &mut Progress,
+    file: &SourceText,
+    k: u32,
+    item: &ItemToks,
+) -> Result<Group, PreFault>
+    requires sound { IsTrue (list_all (λ t. is_traced t && is_low t) item.now.toks.now) }
+    requires able { IsAble p.old }
+    ensures able { OnOk result (IsAble p.new) }
+    ensures most { p.new.most ≡ p.old.most }
+    ensures no_read { IfErr result IsNoReadFault }
+    ensures answer { (table : Table) (open_ : Section) (around : List Section) → Gives (λ g. (section open_.opening (group_of g) false ∷ around, state_in table p.new, p.new.text)) fault_of result (stepped_after p.old.text (goes_on (source_in file.now) k (item_in item.now) open_ around (state_in table p.old) Awaited)) }
+{
+    p.reach(file.number, k, true)?;
+    match p.holds(file, item.at, behind_word(item.toks)) {
+        Ok(holds) => Ok(group_if(holds)),
+        Err(fault) => Err(fault),
+    }
+}
+
+// The group behind an `elif`: its condition is asked where no group was processed yet.
+fn next_group(
+    p: &mut Progress,
+    file: &SourceText,
+    k: u32,
+    item: &ItemToks,
+    group: Group,
+) -> Result<Group, PreFault>
+    requires sound { IsTrue (list_all (λ t. is_traced t && is_low t) item.now.toks.now) }
+    requires able { IsAble p.old }
+    ensures able { OnOk result (IsAble p.new) }
+    ensures most { p.new.most ≡ p.old.most }
+    ensures no_read { IfErr result IsNoReadFault }
+    ensures answer { (table : Table) (open_ : Section) (around : List Section) → Gives (λ g. (section open_.opening (group_of g) false ∷ around, state_in table p.new, p.new.text)) fault_of result (stepped_after p.old.text (goes_on (source_in file.now) k (item_in item.now) open_ around (state_in table p.old) (group_of group))) }
+{
+    match group {
+        Group::Awaited => asked_group(p, file, k, item),
+        Group::Skipped => Ok(Group::Skipped),
+        Group::Processed => {
+            p.reach(file.number, k, false)?;
+            Ok(Group::Over)
+        }
+        Group::Over => {
+            p.reach(file.number, k, false)?;
+            Ok(Group::Over)
+        }
+    }
+}
+
+/// An `elif` line, which is item number `k` of the file.
+pub(crate) fn elif_line(
+    p: &mut Progress,
+    file: &SourceText,
+    k: u32,
+    item: &ItemToks,
+    sections: &mut Sections,
+) -> Result<(), PreFault>
+    requires sound { IsTrue (list_all (λ t. is_traced t && is_low t) item.now.toks.now) }
+    requires able { IsAble p.old }
+    ensures able { OnOk result (IsAble p.new) }
+    ensures most { p.new.most ≡ p.old.most }
+    ensures no_read { IfErr result IsNoReadFault }
+    ensures answer { (table : Table) → Gives (λ _. (sections.new, state_in table p.new, p.new.text)) fault_of result (stepped_after p.old.text (elif_of (source_in file.now) k (item_in item.now) sections.old (state_in table p.old))) }
+{
+    match sections.take() {
+        Some(open) => {
+            if open.after_else() {
+                return Err(file.fault(p.alloc, item.at, Cause::UnbalancedIf));
+            }
+            match next_group(p, file, k, item, open.group()) {
+                Ok(group) => {
+                    sections.push(OpenSection::new(open.opening(), group, false))?;
+                    Ok(())
+                }
+                Err(fault) => Err(fault),
+            }
+        }
+        None => Err(file.fault(p.alloc, item.at, Cause::UnbalancedIf)),
+    }
+}
+
+// An item is reached unless its section is skipped.
+fn reach_alive(p: &mut Progress, file: &SourceText, k: u32, group: Group) -> Result<(), Memory>
+    requires able { IsAble p.old }
+    ensures able { OnOk result (IsAble p.new) }
+    ensures most { p.new.most ≡ p.old.most }
+    ensures answer { (table : Table) (sections : List Section) → IfOk result (λ _. stepped_after p.old.text (reaching_alive (source_in file.now) k (group_of group) (state_in table p.old) (only (stepped [] sections) (state_in table p.old))) ≡ Ok (sections, state_in table p.new, p.new.text)) }
+{
+    if !is_alive(group) {
+        return Ok(());
+    }
+    p.reach(file.number, k, false)?;
+    Ok(())
+}
+
+/// An `else` line, which is item number `k` of the file.
+pub(crate) fn else_line(
+    p: &mut Progress,
+    file: &SourceText,
+    k: u32,
+    item: &ItemToks,
+    sections: &mut Sections,
+) -> Result<(), PreFault>
+    requires able { IsAble p.old }
+    ensures able { OnOk result (IsAble p.new) }
+    ensures most { p.new.most ≡ p.old.most }
+    ensures no_read { IfErr result IsNoReadFault }
+    ensures answer { (table : Table) → Gives (λ _. (sections.new, state_in table p.new, p.new.text)) fault_of result (stepped_after p.old.text (else_of (source_in file.now) k (item_in item.now) sections.old (state_in table p.old))) }
+{
+    match sections.take() {
+        Some(open) => {
+            if open.after_else() {
+                return Err(file.fault(p.alloc, item.at, Cause::UnbalancedIf));
+            }
+            reach_alive(p, file, k, open.group())?;
+            sections.push(OpenSection::new(open.opening(), group_of_else(open.group()), true))?;
+            Ok(())
+        }
+        None => Err(file.fault(p.alloc, item.at, Cause::UnbalancedIf)),
+    }
+}
+
+/// An `endif` line, which is item number `k` of the file.
+pub(crate) fn endif_line(
+    p: &mut Progress,
+    file: &SourceText,
+    k: u32,
+    item: &ItemToks,
+    sections: &mut Sections,
+) -> Result<(), PreFault>
+    requires able { IsAble p.old }
+    ensures able { OnOk result (IsAble p.new) }
+    ensures most { p.new.most ≡ p.old.most }
+    ensures no_read { IfErr result IsNoReadFault }
+    ensures answer { (table : Table) → Gives (λ _. (sections.new, state_in table p.new, p.new.text)) fault_of result (stepped_after p.old.text (endif_of (source_in file.now) k (item_in item.now) sections.old (state_in table p.old))) }
+{
+    match sections.take() {
+        Some(open) => {
+            reach_alive(p, file, k, open.group())?;
+            Ok(())
+        }
+        None => Err(file.fault(p.alloc, item.at, Cause::UnbalancedIf)),
+    }
+}

@@ -1,0 +1,174 @@
+// A unit, preprocessed (5.1.1.2 phase 4).
+ghost use Rattle.std.specs.Prelude.{◌≡◌, None, true, IfOk, IfErr, IfSome, IsSome, OnOk, OnErr};
+ghost use Rattle.cs_base.specs.Answer.{Gives};
+ghost use Rattle.cs_base.specs.Units.{defines_text};
+ghost use Rattle.part_lexer.specs.FileText.{file_text};
+ghost use Rattle.include_tree.specs.Limits.{the_limits};
+ghost use Rattle.include_tree.specs.Files.{Made, defines_path, found_at, numbered, asked, source_of};
+ghost use Rattle.include_tree.specs.Faults.{first_place};
+ghost use Rattle.include_tree.specs.Search.{can_be_asked};
+ghost use Rattle.include_tree.specs.Opening.{opening};
+ghost use Rattle.include_tree.specs.Unit.{outer_file, main_file};
+ghost use Rattle.include_tree.specs.Laws.{AreFound, IsGrown};
+ghost use Rattle.include_tree.specs.Texts.{preprocessed};
+ghost use Rattle.include_tree.specs.Keeping.{put_after};
+ghost use Rattle.include_tree.specs.Moments.{state_in, IsAble};
+ghost use Rattle.include_tree.specs.Sources.{source_at, unit_context, unit_most, GivesOpening};
+ghost use Rattle.include_tree.specs.Answers.{fault_of, with_text, IsNoReadFault, ReadCounts, KeepsFiles};
+
+use crate::cache::Cache;
+use crate::opening::{first_place, open_file};
+use crate::pre_fault::PreFault;
+use crate::progress::Progress;
+use crate::searching::ask_bytes;
+use crate::settings_text::{defines_path, defines_text};
+use crate::unit_text::UnitText;
+use crate::walking::walk_file;
+use cs_base::{Files, Unit};
+use std::alloc::Global;
+
+// So many more files may be open inside the pseudo file, and inside that of the unit.
+const MOST_INSIDE: u32 = 199;
+
+// The number of the pseudo file of the unit, which is made unless its path was met.
+fn make_defines(alloc: Global, cache: &mut Cache, unit: &Unit, number: u32) -> Result<u32, PreFault>
+    ensures answer { found_at (defines_path number) cache.old.table ≡ None → GivesOpening result (opening the_limits file_text (first_place (defines_path number)) (defines_path number)
+        (numbered (defines_path number) (Made (defines_text unit.now.settings)) cache.old.table)) cache.new.table }
+    ensures there { IfOk result (λ n. IsSome (source_at cache.new.table n)) }
+    ensures grown { IsGrown cache.old.table cache.new.table }
+    ensures toks { cache.new.toks ≡ cache.old.toks }
+    ensures no_read { IfErr result IsNoReadFault }
+{
+    let path = defines_path(alloc, number)?;
+    if cache.has(&path) {
+        let place = first_place(alloc, &path)?;
+        return open_file(alloc, cache, &path, &place);
+    }
+    let text = defines_text(alloc, unit.settings())?;
+    cache.make(alloc, &path, text)
+}
+
+// The items of the pseudo file of the unit.
+fn walk_defines<F: Files>(
+    alloc: Global,
+    cache: &mut Cache,
+    files: &mut F,
+    p: &mut Progress,
+    unit: &Unit,
+    number: u32,
+) -> Result<(), PreFault>
+    requires fresh { IfSome (F.held files.old) (λ _. found_at (defines_path number) cache.old.table ≡ None) }
+    requires able { IsAble p.old }
+    requires limited { p.old.most ≡ unit_most cache.old.toks }
+    ensures held { F.held files.new ≡ F.held files.old }
+    ensures answer { IfSome (F.held files.old) (λ held. Gives (λ _. (state_in cache.new.table p.new, p.new.text)) fault_of result
+        (put_after p.old.text (outer_file (unit_context held unit.now.ipath cache.old.toks) (defines_path number)
+        (state_in (numbered (defines_path number) (Made (defines_text unit.now.settings)) cache.old.table) p.old)))) }
+    ensures able { OnOk result (IsAble p.new) }
+    ensures most { p.new.most ≡ p.old.most }
+    ensures grown { IsGrown cache.old.table cache.new.table }
+    ensures toks { cache.new.toks ≡ cache.old.toks }
+    ensures faults { ReadCounts (F.failed_reads files.old) (F.failed_reads files.new) (F.failed_puts files.old) (F.failed_puts files.new) (F.last_failed files.old) (F.last_failed files.new) result }
+{
+    match make_defines(alloc, cache, unit, number) {
+        Ok(defines) => walk_file(alloc, cache, files, p, unit.ipath(), defines, MOST_INSIDE),
+        Err(fault) => Err(fault),
+    }
+}
+
+// The number of the unit's own file, which is asked for and opened.
+fn open_main<F: Files>(
+    alloc: Global,
+    cache: &mut Cache,
+    files: &mut F,
+    path: &[u8],
+) -> Result<u32, PreFault>
+    requires can { can_be_asked path.now ≡ true }
+    ensures held { F.held files.new ≡ F.held files.old }
+    ensures answer { IfSome (F.held files.old) (λ held. GivesOpening result (opening the_limits file_text (first_place path.now) path.now (asked (source_of held) path.now cache.old.table)) cache.new.table) }
+    ensures there { IfOk result (λ n. IsSome (source_at cache.new.table n)) }
+    ensures grown { IsGrown cache.old.table cache.new.table }
+    ensures toks { cache.new.toks ≡ cache.old.toks }
+    ensures faults { ReadCounts (F.failed_reads files.old) (F.failed_reads files.new) (F.failed_puts files.old) (F.failed_puts files.new) (F.last_failed files.old) (F.last_failed files.new) result }
+{
+    match ask_bytes(alloc, cache, files, path) {
+        Ok(_there) => match first_place(alloc, path) {
+            Ok(place) => open_file(alloc, cache, path, &place),
+            Err(_) => Err(PreFault::Memory),
+        },
+        Err(fault) => Err(fault),
+    }
+}
+
+// The items of the unit's own file.
+fn walk_main<F: Files>(
+    alloc: Global,
+    cache: &mut Cache,
+    files: &mut F,
+    p: &mut Progress,
+    unit: &Unit,
+) -> Result<(), PreFault>
+    requires able { IsAble p.old }
+    requires limited { p.old.most ≡ unit_most cache.old.toks }
+    ensures held { F.held files.new ≡ F.held files.old }
+    ensures answer { IfSome (F.held files.old) (λ held. Gives (λ _. (state_in cache.new.table p.new, p.new.text)) fault_of result
+        (put_after p.old.text (main_file (unit_context held unit.now.ipath cache.old.toks) unit.now.path (state_in cache.old.table p.old)))) }
+    ensures able { OnOk result (IsAble p.new) }
+    ensures most { p.new.most ≡ p.old.most }
+    ensures grown { IsGrown cache.old.table cache.new.table }
+    ensures toks { cache.new.toks ≡ cache.old.toks }
+    ensures faults { ReadCounts (F.failed_reads files.old) (F.failed_reads files.new) (F.failed_puts files.old) (F.failed_puts files.new) (F.last_failed files.old) (F.last_failed files.new) result }
+{
+    match open_main(alloc, cache, files, unit.path().bytes()) {
+        Ok(main) => walk_file(alloc, cache, files, p, unit.ipath(), main, MOST_INSIDE),
+        Err(fault) => Err(fault),
+    }
+}
+
+/// Preprocesses unit `number`: first the pseudo file of its settings, which gets a number of its own and is
+/// kept, and then the file of the unit; included files are walked where their lines stand. The text of the
+/// unit, or its first fault.
+///
+/// A file is read when its path is asked for the first time, and opened and kept when it is first included:
+/// `cache` keeps both for the units that follow. A place is a path, a line and a column, both from 1: that
+/// of the token or of the `#` at which the fault stands, that of the include line for a file that cannot be
+/// opened, and line 1, column 1 for the unit's own file. A comment without end stands where it begins.
+///
+/// `Fault` is the first fault of the definition; `ReadFault` comes where a read failed, and names its path;
+/// `Memory` where memory ran out, at any moment. After each of them the files that were read are kept, and
+/// no tokens are counted, so that another unit, or the same one under another number, may follow. A number
+/// whose pseudo file was made is used up: where it comes again, which only files that are not told allow,
+/// the pseudo file stays as it was made.
+pub fn preprocess<F: Files>(
+    alloc: Global,
+    cache: &mut Cache,
+    files: &mut F,
+    unit: &Unit,
+    number: u32,
+) -> Result<UnitText, PreFault>
+    // The pseudo file of the unit was not met yet, and what is kept is what the files hold, where that is told.
+    requires fresh { IfSome (F.held files.old) (λ _. found_at (defines_path number) cache.old.table ≡ None) }
+    requires told { IfSome (F.held files.old) (λ held. AreFound (source_of held) cache.old.table) }
+    ensures held { F.held files.new ≡ F.held files.old }
+    ensures answer { IfSome (F.held files.old) (λ held.
+        Gives (with_text cache.new) fault_of result (preprocessed (source_of held) number unit.now cache.old)) }
+    // After a refusal the files that were read are kept, and no tokens are counted.
+    ensures kept { OnErr result (KeepsFiles cache.old cache.new) }
+    ensures faults { ReadCounts (F.failed_reads files.old) (F.failed_reads files.new)
+        (F.failed_puts files.old) (F.failed_puts files.new) (F.last_failed files.old) (F.last_failed files.new) result }
+{
+    let mut p = match Progress::begin(alloc, cache.most()) {
+        Ok(p) => p,
+        Err(_) => return Err(PreFault::Memory),
+    };
+    match walk_defines(alloc, cache, files, &mut p, unit, number) {
+        Ok(()) => (),
+        Err(fault) => return Err(fault),
+    }
+    match walk_main(alloc, cache, files, &mut p, unit) {
+        Ok(()) => (),
+        Err(fault) => return Err(fault),
+    }
+    cache.count(p.text.before());
+    Ok(p.text)
+}

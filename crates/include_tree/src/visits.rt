@@ -1,0 +1,48 @@
+// Items that are reached, and files that are entered and left.
+ghost use Rattle.std.specs.Prelude.{◌≡◌, ◌∷◌, [], length, IfOk, OnOk};
+ghost use Rattle.include_tree.specs.Notes.{Reaches, Entered, Exited};
+ghost use Rattle.include_tree.specs.Keeping.{noted_in};
+
+use crate::events::EventKind;
+use crate::progress::Progress;
+use cs_base::{Memory, Pos};
+
+impl Progress {
+    ghost use Rattle.include_tree.specs.Moments.{IsAble};
+
+    /// Item number `item` of a file stands in a processed group.
+    pub(crate) fn reach(&mut self, file: u32, item: u32, evaluated: bool) -> Result<(), Memory>
+        requires able { IsAble self.old }
+        ensures able { OnOk result (IsAble self.new) }
+        ensures most { self.new.most ≡ self.old.most }
+        ensures noted { IfOk result (λ _. self.new ≡ record self.old { text = noted_in self.old.text (Reaches file item evaluated (length self.old.text.toks) ∷ []) }) }
+    {
+        let before = self.text.before();
+        self.text.note_reached(file, item, evaluated, before)?;
+        Ok(())
+    }
+
+    /// The items of a file begin, which an include line whose `#` is there includes.
+    pub(crate) fn enter(&mut self, at: Pos, file: u32) -> Result<(), Memory>
+        requires able { IsAble self.old }
+        ensures able { OnOk result (IsAble self.new) }
+        ensures most { self.new.most ≡ self.old.most }
+        ensures noted { IfOk result (λ _. self.new ≡ record self.old { text = noted_in self.old.text (Entered at file (length self.old.text.toks) ∷ []) }) }
+    {
+        let before = self.text.before();
+        self.text.note_file(EventKind::Enter, at, file, before)?;
+        Ok(())
+    }
+
+    /// They end.
+    pub(crate) fn leave(&mut self, at: Pos, file: u32) -> Result<(), Memory>
+        requires able { IsAble self.old }
+        ensures able { OnOk result (IsAble self.new) }
+        ensures most { self.new.most ≡ self.old.most }
+        ensures noted { IfOk result (λ _. self.new ≡ record self.old { text = noted_in self.old.text (Exited at file (length self.old.text.toks) ∷ []) }) }
+    {
+        let before = self.text.before();
+        self.text.note_file(EventKind::Leave, at, file, before)?;
+        Ok(())
+    }
+}

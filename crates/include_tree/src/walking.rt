@@ -1,0 +1,247 @@
+// The walk over the items of a file and of those that it includes (6.10).
+ghost use Rattle.std.specs.Prelude.{◌≡◌, ◌-◌, IfOk, IfErr, IfSome, IsSome, OnOk, length, slice_get};
+ghost use Rattle.cs_base.specs.Answer.{Gives};
+ghost use Rattle.include_tree.specs.Faults.{fault_at};
+ghost use Rattle.include_tree.specs.State.{Context, State};
+ghost use Rattle.include_tree.specs.Expanding.{most_toks};
+ghost use Rattle.include_tree.specs.Including.{Inner, entered, included};
+ghost use Rattle.include_tree.specs.Walk.{items_in, item_step, file_end, file_items};
+ghost use Rattle.include_tree.specs.Texts.{UnitTextValue};
+ghost use Rattle.include_tree.specs.Answers.{fault_of, IsNoReadFault, ReadCounts};
+ghost use Rattle.include_tree.specs.Laws.{IsGrown};
+ghost use Rattle.include_tree.specs.Keeping.{put_after};
+ghost use Rattle.include_tree.specs.Moments.{state_in, IsAble};
+ghost use Rattle.include_tree.specs.Sources.{source_kept, source_at, unit_context, unit_most};
+ghost use Rattle.include_tree.specs.Walking.{stepped_after, inner_in, GivesItem};
+
+use crate::cache::Cache;
+use crate::header::Header;
+use crate::including::open_header;
+use crate::item_steps::{IncludeLine, item_step};
+use crate::item_toks::{item_at, source_of};
+use crate::kept_file::KeptFile;
+use crate::pre_fault::PreFault;
+use crate::progress::Progress;
+use crate::sections::Sections;
+use cs_base::{Cause, Files, Memory, Pos, Text};
+use std::alloc::Global;
+
+// The kept file with this number.
+fn kept_file(cache: &Cache, number: u32) -> &KeptFile
+    requires { IsSome (source_at cache.now.table number) }
+    ensures { source_kept result.now ≡ source_at cache.now.table number }
+{
+    match cache.file(number) {
+        Some(file) => file,
+        None => unreachable!(),
+    }
+}
+
+// A fault at a position in it.
+fn fault_in(alloc: Global, cache: &Cache, number: u32, at: Pos, cause: Cause) -> PreFault
+    requires { IsSome (source_at cache.now.table number) }
+    ensures answer { IfSome (source_at cache.now.table number) (λ file. IfSome (fault_of result) (λ f. f ≡ fault_at file at cause)) }
+    ensures no_read { IsNoReadFault result }
+{
+    source_of(kept_file(cache, number)).fault(alloc, at, cause)
+}
+
+// How many items it has. More than 2^32, which no file has, are answered by `Memory`.
+fn item_count(cache: &Cache, number: u32) -> Result<u32, Memory>
+    requires { IsSome (source_at cache.now.table number) }
+    ensures { IfOk result (λ n. IfSome (source_at cache.now.table number) (λ file. n ≡ length (items_in file))) }
+{
+    let count = kept_file(cache, number).items().len();
+    if count > u32::MAX as usize {
+        return Err(Memory);
+    }
+    Ok(count as u32)
+}
+
+// The end of it: no section may be open.
+fn file_end(alloc: Global, cache: &Cache, number: u32, sections: &Sections) -> Result<(), PreFault>
+    requires { IsSome (source_at cache.now.table number) }
+    ensures answer { IfSome (source_at cache.now.table number) (λ file. (s : State) (k : UnitTextValue) → Gives (λ _. (s, k)) fault_of result (put_after k (file_end file sections.now s))) }
+    ensures no_read { IfErr result IsNoReadFault }
+{
+    match sections.innermost() {
+        Some(open) => Err(fault_in(alloc, cache, number, open.opening(), Cause::UnbalancedIf)),
+        None => Ok(()),
+    }
+}
+
+// Its item number `k`, if there is one.
+fn next_item(
+    cache: &Cache,
+    p: &mut Progress,
+    number: u32,
+    k: u32,
+    sections: &mut Sections,
+) -> Result<Option<IncludeLine>, PreFault>
+    requires kept { IsSome (source_at cache.now.table number) }
+    requires able { IsAble p.old }
+    ensures able { OnOk result (IsAble p.new) }
+    ensures most { p.new.most ≡ p.old.most }
+    ensures no_read { IfErr result IsNoReadFault }
+    ensures answer { (ctx : Context) (inner : Inner) → most_toks ctx ≡ p.old.most → IfSome (source_at cache.now.table number) (λ file. IfSome (slice_get (items_in file) k) (λ i. GivesItem ctx inner file result sections.new (state_in cache.now.table p.new) p.new.text (stepped_after p.old.text (item_step ctx inner file k i sections.old (state_in cache.now.table p.old))))) }
+{
+    let file = kept_file(cache, number);
+    match item_at(file, k) {
+        Some(item) => item_step(p, &source_of(file), k, &item, sections),
+        None => Ok(None),
+    }
+}
+
+/// The items of the kept file with this number, where `room` more files may be open inside it.
+#[cycle(walk)]
+pub(crate) fn walk_file<F: Files>(
+    alloc: Global,
+    cache: &mut Cache,
+    files: &mut F,
+    p: &mut Progress,
+    ipath: &[Text],
+    number: u32,
+    room: u32,
+) -> Result<(), PreFault>
+    requires kept { IsSome (source_at cache.old.table number) }
+    requires able { IsAble p.old }
+    requires limited { p.old.most ≡ unit_most cache.old.toks }
+    ensures held { F.held files.new ≡ F.held files.old }
+    ensures answer { IfSome (F.held files.old) (λ held. IfSome (source_at cache.old.table number) (λ file.
+        Gives (λ _. (state_in cache.new.table p.new, p.new.text)) fault_of result
+        (put_after p.old.text (file_items (unit_context held ipath.now cache.old.toks) room file (state_in cache.old.table p.old))))) }
+    ensures able { OnOk result (IsAble p.new) }
+    ensures most { p.new.most ≡ p.old.most }
+    ensures grown { IsGrown cache.old.table cache.new.table }
+    ensures toks { cache.new.toks ≡ cache.old.toks }
+    ensures faults { ReadCounts (F.failed_reads files.old) (F.failed_reads files.new) (F.failed_puts files.old) (F.failed_puts files.new) (F.last_failed files.old) (F.last_failed files.new) result }
+{
+    let mut sections = Sections::new(alloc);
+    let count = item_count(cache, number)?;
+    for k in 0..count {
+        match walk_item(
+            alloc,
+            cache,
+            files,
+            p,
+            ipath,
+            number,
+            room,
+            k,
+            &mut sections,
+        ) {
+            Ok(()) => {}
+            Err(fault) => return Err(fault),
+        }
+    }
+    file_end(alloc, cache, number, &sections)
+}
+
+#[cycle(walk)]
+// Its item number `k`, if there is one.
+fn walk_item<F: Files>(
+    alloc: Global,
+    cache: &mut Cache,
+    files: &mut F,
+    p: &mut Progress,
+    ipath: &[Text],
+    number: u32,
+    room: u32,
+    k: u32,
+    sections: &mut Sections,
+) -> Result<(), PreFault>
+    requires kept { IsSome (source_at cache.old.table number) }
+    requires able { IsAble p.old }
+    requires limited { p.old.most ≡ unit_most cache.old.toks }
+    ensures held { F.held files.new ≡ F.held files.old }
+    ensures answer { IfSome (F.held files.old) (λ held. IfSome (source_at cache.old.table number) (λ file. IfSome (slice_get (items_in file) k) (λ i.
+        Gives (λ _. (sections.new, state_in cache.new.table p.new, p.new.text)) fault_of result
+        (stepped_after p.old.text (item_step (unit_context held ipath.now cache.old.toks) (inner_in (unit_context held ipath.now cache.old.toks) room) file k i sections.old (state_in cache.old.table p.old)))))) }
+    ensures able { OnOk result (IsAble p.new) }
+    ensures most { p.new.most ≡ p.old.most }
+    ensures grown { IsGrown cache.old.table cache.new.table }
+    ensures toks { cache.new.toks ≡ cache.old.toks }
+    ensures faults { ReadCounts (F.failed_reads files.old) (F.failed_reads files.new) (F.failed_puts files.old) (F.failed_puts files.new) (F.last_failed files.old) (F.last_failed files.new) result }
+{
+    match next_item(cache, p, number, k, sections) {
+        Ok(Some(line)) => include_file(
+            alloc,
+            cache,
+            files,
+            p,
+            ipath,
+            number,
+            room,
+            line.at,
+            &line.header,
+        ),
+        Ok(None) => Ok(()),
+        Err(fault) => Err(fault),
+    }
+}
+
+#[cycle(walk)]
+// The file of a header takes the place of an include line of this file, whose `#` is there.
+fn include_file<F: Files>(
+    alloc: Global,
+    cache: &mut Cache,
+    files: &mut F,
+    p: &mut Progress,
+    ipath: &[Text],
+    number: u32,
+    room: u32,
+    at: Pos,
+    header: &Header,
+) -> Result<(), PreFault>
+    requires kept { IsSome (source_at cache.old.table number) }
+    requires able { IsAble p.old }
+    requires limited { p.old.most ≡ unit_most cache.old.toks }
+    ensures held { F.held files.new ≡ F.held files.old }
+    ensures answer { IfSome (F.held files.old) (λ held. IfSome (source_at cache.old.table number) (λ file.
+        Gives (λ _. (state_in cache.new.table p.new, p.new.text)) fault_of result
+        (put_after p.old.text (included (unit_context held ipath.now cache.old.toks) (inner_in (unit_context held ipath.now cache.old.toks) room) file at header.now (state_in cache.old.table p.old))))) }
+    ensures able { OnOk result (IsAble p.new) }
+    ensures most { p.new.most ≡ p.old.most }
+    ensures grown { IsGrown cache.old.table cache.new.table }
+    ensures toks { cache.new.toks ≡ cache.old.toks }
+    ensures faults { ReadCounts (F.failed_reads files.old) (F.failed_reads files.new) (F.failed_puts files.old) (F.failed_puts files.new) (F.last_failed files.old) (F.last_failed files.new) result }
+{
+    if room == 0 {
+        return Err(fault_in(alloc, cache, number, at, Cause::IncludeDepth));
+    }
+    match open_header(alloc, cache, files, ipath, number, at, header) {
+        Ok(inner) => enter_file(alloc, cache, files, p, ipath, inner, room - 1, at),
+        Err(fault) => Err(fault),
+    }
+}
+
+#[cycle(walk)]
+// The items of the kept file with this number, entered and left by an include line whose `#` is there.
+fn enter_file<F: Files>(
+    alloc: Global,
+    cache: &mut Cache,
+    files: &mut F,
+    p: &mut Progress,
+    ipath: &[Text],
+    number: u32,
+    room: u32,
+    at: Pos,
+) -> Result<(), PreFault>
+    requires kept { IsSome (source_at cache.old.table number) }
+    requires able { IsAble p.old }
+    requires limited { p.old.most ≡ unit_most cache.old.toks }
+    ensures held { F.held files.new ≡ F.held files.old }
+    ensures answer { IfSome (F.held files.old) (λ held. IfSome (source_at cache.old.table number) (λ file.
+        Gives (λ _. (state_in cache.new.table p.new, p.new.text)) fault_of result
+        (put_after p.old.text (entered (file_items (unit_context held ipath.now cache.old.toks) room) at file (state_in cache.old.table p.old))))) }
+    ensures able { OnOk result (IsAble p.new) }
+    ensures most { p.new.most ≡ p.old.most }
+    ensures grown { IsGrown cache.old.table cache.new.table }
+    ensures toks { cache.new.toks ≡ cache.old.toks }
+    ensures faults { ReadCounts (F.failed_reads files.old) (F.failed_reads files.new) (F.failed_puts files.old) (F.failed_puts files.new) (F.last_failed files.old) (F.last_failed files.new) result }
+{
+    p.enter(at, number)?;
+    walk_file(alloc, cache, files, p, ipath, number, room)?;
+    p.leave(at, number)?;
+    Ok(())
+}
