@@ -30,3 +30,6 @@ pub mod StayingLemmas
 pub mod WalkedLemmas
 pub mod VisitLemmas
 pub mod WalksLemmas
+pub mod StayLemmas
+pub mod StayingWalk
+pub mod PseudoLemmas

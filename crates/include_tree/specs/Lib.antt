@@ -17,6 +17,7 @@ pub mod Unit
 pub mod Texts
 pub mod KeptFiles
 pub mod Laws
+pub mod PseudoFiles
 pub mod Answers
 -- What contracts see of private fields.
 pub mod Slots

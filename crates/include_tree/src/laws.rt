@@ -1,5 +1,6 @@
 // What is true of all units: laws that no caller runs, and that callers' proofs cite.
 ghost use Rattle.include_tree.specs.Laws.{FilesLead, UnitsEnd, DepthIsALimit};
+ghost use Rattle.include_tree.specs.PseudoFiles.{OthersStay};
 
 /// Tokens that are put out are counted, and stay within the limits; work never rises; and the table of
 /// files only grows, stays what the files hold, and has each path once, so that each is asked for once.
@@ -11,4 +12,9 @@ pub fn units_are_counted()
 /// Where so many files suffice that may be open inside one another, more of them change nothing.
 pub fn depth_is_a_limit()
     ensures depth { DepthIsALimit }
+{}
+
+/// A unit gives numbers to no pseudo files of other units.
+pub fn pseudo_files_are_of_their_units()
+    ensures others { OthersStay }
 {}

@@ -10,9 +10,9 @@
 //!
 //! `preprocess` gives that text, which a `UnitText` keeps, or the first fault; a failed read and want of
 //! memory are refusals of their own. A `Cache` keeps files once read, from unit to unit. The laws
-//! `units_are_counted` and `depth_is_a_limit` hold of all units. Read `specs/Files.antt`,
-//! `specs/Notes.antt`, `specs/Walk.antt` and `specs/Unit.antt`, then `specs/Laws.antt`; of the program
-//! `unit_walk.rt` and `walking.rt`.
+//! `units_are_counted`, `depth_is_a_limit` and `pseudo_files_are_of_their_units` hold of all units. Read
+//! `specs/Files.antt`, `specs/Notes.antt`, `specs/Walk.antt` and `specs/Unit.antt`, then `specs/Laws.antt`;
+//! of the program `unit_walk.rt` and `walking.rt`.
 #![tactic(auto)]
 
 mod asking;
@@ -52,7 +52,7 @@ mod walking;
 pub use cache::Cache;
 pub use events::{Event, EventKind, Reached};
 pub use kept_file::KeptFile;
-pub use laws::{depth_is_a_limit, units_are_counted};
+pub use laws::{depth_is_a_limit, pseudo_files_are_of_their_units, units_are_counted};
 pub use pre_fault::PreFault;
 pub use unit_text::UnitText;
 pub use unit_walk::preprocess;

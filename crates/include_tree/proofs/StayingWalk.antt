@@ -1,0 +1,215 @@
+-- What stays true of the table of files over include lines, items, files and units.
+use Rattle.std.proofs.Common.{◌≡◌, ℕ, zero, suc, ◌+◌, ◌-◌, Bool, true, false, not, List, [], ◌∷◌, map, drop, Option, None, Some}
+use Rattle.cs_base.specs.declared.positions.Pos.{Pos}
+use Rattle.cs_base.specs.Token.{Token}
+use Rattle.cs_base.specs.Paths.{joined_path_of}
+use Rattle.line_shape.specs.declared.items.ItemKind.{ItemKind}
+use Rattle.line_shape.specs.declared.items.ItemKind.TheVariants as kind
+use Rattle.include_tree.specs.Files.{Table, SourceFile, asked}
+use Rattle.include_tree.specs.Faults.{place_in, first_place}
+use Rattle.include_tree.specs.Notes.{Reaches, Entered}
+use Rattle.include_tree.specs.State.{Context, State, Outcome, only}
+use Rattle.include_tree.specs.Sections.{Group, Processed, Awaited, Over, Skipped, Section, section, are_processed, group_of_else, Turn, Opens, GoesOn, GoesLast, Ends, Stays as Remains, turn_of}
+use Rattle.include_tree.specs.Search.{Header, Searched, can_be_asked, candidates_of, directories_for, search}
+use Rattle.include_tree.specs.Opening.{open_file}
+use Rattle.include_tree.specs.Expanding.{expanded_in}
+use Rattle.include_tree.specs.Conditions.{holds}
+use Rattle.include_tree.specs.Directives.{opens_with, operand_in, is_if}
+use Rattle.include_tree.specs.Including.{header_of_toks, header_or, computed_header, header_named, is_header, open_searched, open_header, Process, Inner, entered, included, include_of, header_in}
+use Rattle.include_tree.specs.Walk.{ItemText, items_in, processed, Stepped, stepped, go_on, opens, goes_on, reaching_alive, in_section, turned, item_step, file_end, walk, file_items}
+use Rattle.include_tree.specs.Unit.{outer_file, main_file, both_files}
+use Rattle.include_tree.specs.Laws.{IfDone}
+use Rattle.include_tree.specs.PseudoFiles.{is_pseudo}
+use Rattle.include_tree.proofs.OutcomeLemmas.{noted_done, onward_done, cond_done}
+use Rattle.include_tree.proofs.StayLemmas.{IsStable, Stays, expanded_stays, run_stays, define_stays, undef_stays, asks_stays, holds_stays, search_stays, list_all-filtered, open_file_stays}
+
+-- ---- include lines
+
+header_or_stays : (J : Table → Type 0) (file : SourceFile) (at : Pos) (toks : List Token) (s : State) (o : Option Header) → J s.table
+    → IfDone (Stays {A = Header} J) (header_or file at toks s o)
+header_or_stays J file at toks s None h = tt
+header_or_stays J file at toks s (Some found) h = h
+
+computed_stays : (J : Table → Type 0) (file : SourceFile) (at : Pos) (toks : List Token) (s : State) → J s.table
+    → IfDone (Stays {A = Header} J) (computed_header file at toks s)
+computed_stays J file at toks s h =
+    onward_done (Stays {A = List Token} J) (Stays {A = Header} J) (expanded_in false file toks s)
+    (λ out t. header_or file at out t (header_of_toks out)) (expanded_stays J false file toks s h)
+    (λ out t k. header_or_stays J file at out t (header_of_toks out) k)
+
+header_stays : (J : Table → Type 0) (file : SourceFile) (at : Pos) (toks : List Token) (s : State) → J s.table
+    → IfDone (Stays {A = Header} J) (header_named file at toks s)
+header_stays J file at [] s h = tt
+header_stays J file at (t ∷ toks) s h =
+    cond_done (Stays {A = Header} J) (is_header t.kind) (only (header_in t.text) s) (computed_header file at (t ∷ toks) s)
+    h (computed_stays J file at (t ∷ toks) s h)
+
+open_searched_stays : (ctx : Context) (J : Table → Type 0) → IsStable ctx.source J → (file : SourceFile) (at : Pos) (s : State) (found : Searched) (o : Option (List ℕ))
+    → J found.table → IfDone (Stays {A = SourceFile} J) (open_searched ctx file at s found o)
+open_searched_stays ctx J k file at s found None h = tt
+open_searched_stays ctx J k file at s found (Some path) h =
+    open_file_stays ctx J k (place_in file at) path (record s { table = found.table }) h
+
+open_header_stays : (ctx : Context) (J : Table → Type 0) → IsStable ctx.source J → (file : SourceFile) (at : Pos) (header : Header) (s : State) → J s.table
+    → IfDone (Stays {A = SourceFile} J) (open_header ctx file at header s)
+open_header_stays ctx J k file at header s h =
+    let found : Searched = search ctx.source (candidates_of header file.path ctx.ipath) s.table in
+    open_searched_stays ctx J k file at s found found.path
+    (search_stays ctx.source J k (candidates_of header file.path ctx.ipath) s.table
+    (list_all-filtered can_be_asked (map (λ (directory : List ℕ). joined_path_of directory header.name) (directories_for header file.path ctx.ipath))) h)
+
+-- what is known of the items of included files
+abbrev pub ProcessStays : (Table → Type 0) → Process → Type 0
+ProcessStays J process = (file : SourceFile) (s : State) → J s.table → IfDone (Stays {A = List Token} J) (process file s)
+
+abbrev pub InnerStays : (Table → Type 0) → Inner → Type 0
+InnerStays J None = Unit {0}
+InnerStays J (Some process) = ProcessStays J process
+
+entered_stays : (J : Table → Type 0) (process : Process) → ProcessStays J process → (at : Pos) (file : SourceFile) (s : State) → J s.table
+    → IfDone (Stays {A = List Token} J) (entered process at file s)
+entered_stays J process p at file s h =
+    noted_done (Stays {A = List Token} J) (Entered at file.number s.before ∷ []) _
+    (onward_done (Stays {A = List Token} J) (Stays {A = List Token} J) (process file s) _ (p file s h) (λ toks t k. k))
+
+included_stays : (ctx : Context) (J : Table → Type 0) → IsStable ctx.source J → (inner : Inner) → InnerStays J inner → (file : SourceFile) (at : Pos) (header : Header) (s : State)
+    → J s.table → IfDone (Stays {A = List Token} J) (included ctx inner file at header s)
+included_stays ctx J k None p file at header s h = tt
+included_stays ctx J k (Some process) p file at header s h =
+    onward_done (Stays {A = SourceFile} J) (Stays {A = List Token} J) (open_header ctx file at header s) (entered process at)
+    (open_header_stays ctx J k file at header s h) (λ f t g. entered_stays J process p at f t g)
+
+include_stays : (ctx : Context) (J : Table → Type 0) → IsStable ctx.source J → (inner : Inner) → InnerStays J inner → (file : SourceFile) (at : Pos) (toks : List Token) (s : State)
+    → J s.table → IfDone (Stays {A = List Token} J) (include_of ctx inner file at toks s)
+include_stays ctx J k inner p file at toks s h =
+    onward_done (Stays {A = Header} J) (Stays {A = List Token} J) (header_named file at (drop 2 toks) s) (included ctx inner file at)
+    (header_stays J file at (drop 2 toks) s h) (λ header t g. included_stays ctx J k inner p file at header t g)
+
+-- ---- items
+
+processed_stays : (ctx : Context) (J : Table → Type 0) → IsStable ctx.source J → (inner : Inner) → InnerStays J inner → (file : SourceFile) (k : ItemKind) (at : Pos) (toks : List Token) (s : State)
+    → J s.table → IfDone (Stays {A = List Token} J) (processed ctx inner file k at toks s)
+processed_stays ctx J b inner p file kind.Run at toks s h = run_stays J ctx file toks s h
+processed_stays ctx J b inner p file kind.Define at toks s h = define_stays J file at toks s h
+processed_stays ctx J b inner p file kind.Undef at toks s h = undef_stays J file at toks s h
+processed_stays ctx J b inner p file kind.Include at toks s h = include_stays ctx J b inner p file at toks s h
+processed_stays ctx J b inner p file kind.Error at toks s h = tt
+processed_stays ctx J b inner p file (kind.Bad cause place nests) at toks s h = tt
+processed_stays ctx J b inner p file kind.If at toks s h = h
+processed_stays ctx J b inner p file kind.Ifdef at toks s h = h
+processed_stays ctx J b inner p file kind.Ifndef at toks s h = h
+processed_stays ctx J b inner p file kind.Elif at toks s h = h
+processed_stays ctx J b inner p file kind.Else at toks s h = h
+processed_stays ctx J b inner p file kind.Endif at toks s h = h
+processed_stays ctx J b inner p file kind.Line at toks s h = h
+processed_stays ctx J b inner p file kind.Pragma at toks s h = h
+processed_stays ctx J b inner p file kind.Empty at toks s h = h
+
+opens_with_stays : (J : Table → Type 0) (k : ItemKind) (file : SourceFile) (at : Pos) (toks : List Token) (s : State) → J s.table
+    → IfDone (Stays {A = Bool} J) (opens_with k file at toks s)
+opens_with_stays J kind.If file at toks s h = holds_stays J file at (drop 2 toks) s h
+opens_with_stays J kind.Ifdef file at toks s h = asks_stays J file at (λ b. b) s (operand_in toks) h
+opens_with_stays J kind.Ifndef file at toks s h = asks_stays J file at not s (operand_in toks) h
+opens_with_stays J (kind.Bad cause place nests) file at toks s h = tt
+opens_with_stays J kind.Run file at toks s h = tt
+opens_with_stays J kind.Define file at toks s h = tt
+opens_with_stays J kind.Undef file at toks s h = tt
+opens_with_stays J kind.Elif file at toks s h = tt
+opens_with_stays J kind.Else file at toks s h = tt
+opens_with_stays J kind.Endif file at toks s h = tt
+opens_with_stays J kind.Include file at toks s h = tt
+opens_with_stays J kind.Line file at toks s h = tt
+opens_with_stays J kind.Error file at toks s h = tt
+opens_with_stays J kind.Pragma file at toks s h = tt
+opens_with_stays J kind.Empty file at toks s h = tt
+
+opens_stays : (J : Table → Type 0) (file : SourceFile) (k : ℕ) (i : ItemText) (sections : List Section) (s : State) → J s.table
+    → IfDone (Stays {A = Stepped} J) (opens file k i sections s)
+opens_stays J file k i sections s h =
+    cond_done (Stays {A = Stepped} J) (are_processed sections) _ (only (stepped [] (section i.at Skipped false ∷ sections)) s)
+    (noted_done (Stays {A = Stepped} J) (Reaches file.number k (is_if i.kind) s.before ∷ []) _
+    (onward_done (Stays {A = Bool} J) (Stays {A = Stepped} J) (opens_with i.kind file i.at i.toks s) _ (opens_with_stays J i.kind file i.at i.toks s h) (λ b t g. g)))
+    h
+
+goes_on_stays : (J : Table → Type 0) (file : SourceFile) (k : ℕ) (i : ItemText) (open_ : Section) (sections : List Section) (s : State) (g : Group) → J s.table
+    → IfDone (Stays {A = Stepped} J) (goes_on file k i open_ sections s g)
+goes_on_stays J file k i open_ sections s Awaited h =
+    noted_done (Stays {A = Stepped} J) (Reaches file.number k true s.before ∷ []) _
+    (onward_done (Stays {A = Bool} J) (Stays {A = Stepped} J) (holds file i.at (drop 2 i.toks) s) _ (holds_stays J file i.at (drop 2 i.toks) s h) (λ b t g. g))
+goes_on_stays J file k i open_ sections s Skipped h = h
+goes_on_stays J file k i open_ sections s Processed h = h
+goes_on_stays J file k i open_ sections s Over h = h
+
+alive_stays : (J : Table → Type 0) (file : SourceFile) (k : ℕ) (g : Group) (s : State) (d : Stepped) → J s.table
+    → IfDone (Stays {A = Stepped} J) (reaching_alive file k g s (only d s))
+alive_stays J file k Processed s d h = h
+alive_stays J file k Awaited s d h = h
+alive_stays J file k Over s d h = h
+alive_stays J file k Skipped s d h = h
+
+in_section_stays : (J : Table → Type 0) (file : SourceFile) (i : ItemText) (turn : Turn) (sections : List Section)
+    (next : Section → List Section → Outcome Stepped) → ((o : Section) (around : List Section) → IfDone (Stays {A = Stepped} J) (next o around))
+    → IfDone (Stays {A = Stepped} J) (in_section file i turn sections next)
+in_section_stays J file i turn [] next h = tt
+in_section_stays J file i Ends (o ∷ around) next h = h o around
+in_section_stays J file i Opens (o ∷ around) next h = cond_done (Stays {A = Stepped} J) o.after_else _ (next o around) tt (h o around)
+in_section_stays J file i GoesOn (o ∷ around) next h = cond_done (Stays {A = Stepped} J) o.after_else _ (next o around) tt (h o around)
+in_section_stays J file i GoesLast (o ∷ around) next h = cond_done (Stays {A = Stepped} J) o.after_else _ (next o around) tt (h o around)
+in_section_stays J file i Remains (o ∷ around) next h = cond_done (Stays {A = Stepped} J) o.after_else _ (next o around) tt (h o around)
+
+turned_stays : (ctx : Context) (J : Table → Type 0) → IsStable ctx.source J → (inner : Inner) → InnerStays J inner → (file : SourceFile) (k : ℕ) (i : ItemText) (sections : List Section) (s : State) (turn : Turn)
+    → J s.table → IfDone (Stays {A = Stepped} J) (turned ctx inner file k i sections s turn)
+turned_stays ctx J b inner p file k i sections s Opens h = opens_stays J file k i sections s h
+turned_stays ctx J b inner p file k i sections s GoesOn h =
+    in_section_stays J file i GoesOn sections _ (λ o around. goes_on_stays J file k i o around s o.group h)
+turned_stays ctx J b inner p file k i sections s GoesLast h =
+    in_section_stays J file i GoesLast sections _ (λ o around. alive_stays J file k o.group s (go_on o (group_of_else o.group) true around) h)
+turned_stays ctx J b inner p file k i sections s Ends h =
+    in_section_stays J file i Ends sections _ (λ o around. alive_stays J file k o.group s (stepped [] around) h)
+turned_stays ctx J b inner p file k i sections s Remains h =
+    cond_done (Stays {A = Stepped} J) (are_processed sections) _ (only (stepped [] sections) s)
+    (noted_done (Stays {A = Stepped} J) (Reaches file.number k false s.before ∷ []) _
+    (onward_done (Stays {A = List Token} J) (Stays {A = Stepped} J) (processed ctx inner file i.kind i.at i.toks s) _ (processed_stays ctx J b inner p file i.kind i.at i.toks s h) (λ toks t g. g)))
+    h
+
+-- ---- files
+
+file_end_stays : (J : Table → Type 0) (file : SourceFile) (sections : List Section) (s : State) → J s.table → IfDone (Stays {A = List Token} J) (file_end file sections s)
+file_end_stays J file [] s h = h
+file_end_stays J file (o ∷ sections) s h = tt
+
+walk_stays : (ctx : Context) (J : Table → Type 0) → IsStable ctx.source J → (inner : Inner) → InnerStays J inner → (file : SourceFile) (k : ℕ) (items : List ItemText) (sections : List Section) (s : State)
+    → J s.table → IfDone (Stays {A = List Token} J) (walk ctx inner file k items sections s)
+unfolding walk
+walk_stays ctx J b inner p file k [] sections s h = file_end_stays J file sections s h
+walk_stays ctx J b inner p file k (i ∷ items) sections s h =
+    onward_done (Stays {A = Stepped} J) (Stays {A = List Token} J) (item_step ctx inner file k i sections s) _
+    (turned_stays ctx J b inner p file k i sections s (turn_of i.kind) h)
+    (λ d t g. onward_done (Stays {A = List Token} J) (Stays {A = List Token} J) (walk ctx inner file (k + 1) items d.sections t) _
+    (walk_stays ctx J b inner p file (k + 1) items d.sections t g) (λ toks u f. f))
+
+pub files_stay : (ctx : Context) (J : Table → Type 0) → IsStable ctx.source J → (room : ℕ) → ProcessStays J (file_items ctx room)
+unfolding file_items
+files_stay ctx J b zero file s h = walk_stays ctx J b None tt file 0 (items_in file) [] s h
+files_stay ctx J b (suc room) file s h = walk_stays ctx J b (Some (file_items ctx room)) (files_stay ctx J b room) file 0 (items_in file) [] s h
+
+-- ---- units
+
+outer_stays : (ctx : Context) (J : Table → Type 0) → IsStable ctx.source J → (path : List ℕ) (s : State) → J s.table
+    → IfDone (Stays {A = List Token} J) (outer_file ctx path s)
+outer_stays ctx J b path s h =
+    onward_done (Stays {A = SourceFile} J) (Stays {A = List Token} J) (open_file ctx (first_place path) path s) (file_items ctx (ctx.limits.open_files - 1))
+    (open_file_stays ctx J b (first_place path) path s h)
+    (λ f t g. files_stay ctx J b (ctx.limits.open_files - 1) f t g)
+
+main_stays : (ctx : Context) (J : Table → Type 0) → IsStable ctx.source J → (path : List ℕ) (s : State) → is_pseudo path ≡ false → J s.table
+    → IfDone (Stays {A = List Token} J) (main_file ctx path s)
+main_stays ctx J b path s real h =
+    outer_stays ctx J b path (record s { table = asked ctx.source path s.table }) (b.asks path s.table real h)
+
+pub both_files_stay : (ctx : Context) (J : Table → Type 0) → IsStable ctx.source J → (defines path : List ℕ) (s : State) → is_pseudo path ≡ false → J s.table
+    → IfDone (Stays {A = List Token} J) (both_files ctx defines path s)
+both_files_stay ctx J b defines path s real h =
+    onward_done (Stays {A = List Token} J) (Stays {A = List Token} J) (outer_file ctx defines s) _ (outer_stays ctx J b defines s h)
+    (λ toks t g. onward_done (Stays {A = List Token} J) (Stays {A = List Token} J) (main_file ctx path t) _ (main_stays ctx J b path t real g)
+    (λ more u f. f))
