@@ -1,0 +1,3 @@
+pub mod CarryLemmas
+pub mod AnswerLemmas
+pub mod TextsLemmas

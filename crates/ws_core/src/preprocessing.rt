@@ -1,0 +1,123 @@
+// The units of a workspace, preprocessed one after another.
+ghost use Rattle.std.specs.Prelude.{◌≡◌, ◌≤◌, ◌+◌, ◌++◌, ◌∷◌, [], IfOk, IfSome, OnOk, length};
+ghost use Rattle.cs_base.specs.Answer.{Gives, result_map_err};
+ghost use Rattle.include_tree.specs.Files.{source_of, nothing_carried};
+ghost use Rattle.include_tree.specs.Answers.{with_text};
+ghost use Rattle.ws_core.specs.Texts.{texts_and, unit_with, texts_of, one_text_of};
+ghost use Rattle.ws_core.specs.Answers.{fault_of, ReadCounts};
+ghost use Rattle.ws_core.specs.Carrying.{IsCarried, in_unit};
+
+use crate::all_texts::Texts;
+use crate::analyse_fault::AnalyseFault;
+use cs_base::{Files, Memory, Unit};
+use include_tree::{Cache, PreFault, UnitText, preprocess};
+use std::alloc::Global;
+use ws_file::Workspace;
+
+/// Preprocesses all units of a workspace in order. What is read for one unit is kept for the next, so each
+/// path is read at most once. Refused: `WorkspaceFault` at the first fault, that of the least unit which has
+/// one; `ReadFault` where a read failed, with its path; `Memory` where memory ran out. Nothing is read behind
+/// a refusal and no text is handed back; the files hold what they held.
+pub fn texts<F: Files>(alloc: Global, ws: &Workspace, files: &mut F) -> Result<Texts, AnalyseFault>
+    ensures held { F.held files.new ≡ F.held files.old }
+    ensures units { IfOk result (λ t. length t.texts ≡ length ws.now.units) }
+    // The texts over what the files hold, where that is told, or the first fault in order of units.
+    ensures answer { IfSome (F.held files.old) (λ held. Gives (λ t. t) fault_of result (texts_of (source_of held) ws.now.units)) }
+    ensures faults { ReadCounts (F.failed_reads files.old) (F.failed_reads files.new) (F.failed_puts files.old) (F.failed_puts files.new) (F.last_failed files.old) (F.last_failed files.new) result }
+{
+    let mut cache = Cache::new(alloc);
+    let all = unit_texts(alloc, &mut cache, files, ws.units())?;
+    Ok(Texts::new(all, cache))
+}
+
+/// Preprocesses one unit of a workspace by itself, with nothing of the units before; units count from 1.
+/// Refused as `texts` is, but for the faults of other units.
+pub fn one_text<F: Files>(
+    alloc: Global,
+    ws: &Workspace,
+    files: &mut F,
+    number: u32,
+) -> Result<UnitText, AnalyseFault>
+    requires first { 1 ≤ number }
+    requires last { number ≤ length ws.now.units }
+    ensures held { F.held files.new ≡ F.held files.old }
+    // The text over what the files hold, where that is told, or the fault.
+    ensures answer { IfSome (F.held files.old) (λ held. IfSome (one_text_of (source_of held) ws.now.units number) (λ expected. Gives (λ t. t) fault_of result expected)) }
+    ensures faults { ReadCounts (F.failed_reads files.old) (F.failed_reads files.new) (F.failed_puts files.old) (F.failed_puts files.new) (F.last_failed files.old) (F.last_failed files.new) result }
+{
+    let mut cache = Cache::new(alloc);
+    let units = ws.units();
+    next_text(
+        alloc,
+        &mut cache,
+        files,
+        &units[number as usize - 1],
+        number,
+    )
+}
+
+// The texts of the units, from the first one on.
+fn unit_texts<F: Files>(
+    alloc: Global,
+    cache: &mut Cache,
+    files: &mut F,
+    units: &[Unit],
+) -> Result<Vec<UnitText>, AnalyseFault>
+    requires few { length units.now ≤ 1024 }
+    requires first { cache.old ≡ nothing_carried }
+    ensures held { F.held files.new ≡ F.held files.old }
+    ensures each { IfOk result (λ all. length all.items ≡ length units.now) }
+    ensures answer { IfSome (F.held files.old) (λ held. Gives (λ all. texts_and all.items cache.new.table) fault_of result (texts_of (source_of held) units.now)) }
+    ensures faults { ReadCounts (F.failed_reads files.old) (F.failed_reads files.new) (F.failed_puts files.old) (F.failed_puts files.new) (F.last_failed files.old) (F.last_failed files.new) result }
+{
+    let mut all = Vec::new(alloc);
+    for i in 0..units.len() {
+        match next_text(alloc, cache, files, &units[i], i as u32 + 1) {
+            Ok(text) => add(&mut all, text)?,
+            Err(fault) => return Err(fault),
+        }
+    }
+    Ok(all)
+}
+
+fn add(all: &mut Vec<UnitText>, text: UnitText) -> Result<(), Memory>
+    ensures { OnOk result (all.new.items ≡ all.old.items ++ text ∷ []) }
+{
+    all.push(text)?;
+    Ok(())
+}
+
+// The text of a unit, with what is kept from the units before, or its fault.
+fn next_text<F: Files>(
+    alloc: Global,
+    cache: &mut Cache,
+    files: &mut F,
+    unit: &Unit,
+    number: u32,
+) -> Result<UnitText, AnalyseFault>
+    requires carried { IfSome (F.held files.old) (λ held. IsCarried (source_of held) number cache.old.table) }
+    ensures held { F.held files.new ≡ F.held files.old }
+    ensures answer { IfSome (F.held files.old) (λ held. Gives (with_text cache.new) fault_of result (unit_with (source_of held) number unit.now cache.old)) }
+    ensures carried { IfSome (F.held files.old) (λ held. OnOk result (IsCarried (source_of held) (number + 1) cache.new.table)) }
+    ensures faults { ReadCounts (F.failed_reads files.old) (F.failed_reads files.new) (F.failed_puts files.old) (F.failed_puts files.new) (F.last_failed files.old) (F.last_failed files.new) result }
+{
+    let _path = unit.path();
+    let answered = preprocess(alloc, cache, files, unit, number);
+    in_its_unit(number, answered)
+}
+
+// The answer of a unit, its refusal with the number of the unit.
+fn in_its_unit(unit: u32, answered: Result<UnitText, PreFault>) -> Result<UnitText, AnalyseFault>
+    ensures { result ≡ result_map_err (in_unit unit) answered }
+{
+    match answered {
+        Ok(text) => Ok(text),
+        Err(PreFault::Fault { place, cause }) => Err(AnalyseFault::WorkspaceFault {
+            unit,
+            place,
+            cause,
+        }),
+        Err(PreFault::ReadFault { path }) => Err(AnalyseFault::ReadFault { path }),
+        Err(PreFault::Memory) => Err(AnalyseFault::Memory),
+    }
+}
