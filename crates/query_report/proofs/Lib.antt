@@ -1,0 +1,4 @@
+pub mod MarkLemmas
+pub mod SequenceLemmas
+pub mod SortLemmas
+pub mod FileLemmas
