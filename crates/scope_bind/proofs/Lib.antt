@@ -7,3 +7,6 @@ mod SecondRanges
 mod RenamedSteps
 mod RenamedWalk
 mod LatestLemmas
+mod ChildWalks
+pub mod ShapeLemmas
+pub mod ListLemmas

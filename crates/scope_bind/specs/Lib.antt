@@ -2,6 +2,7 @@
 pub mod Faults
 pub mod Types
 pub mod Trees
+pub mod Children
 pub mod Declarations
 pub mod Frames
 pub mod Linkage
@@ -15,6 +16,7 @@ pub mod Entering
 pub mod Roles
 pub mod Walk
 pub mod Lists
+pub mod Shapes
 pub mod Bound
 pub mod Names
 pub mod Renamed

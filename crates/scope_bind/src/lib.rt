@@ -14,6 +14,7 @@
 
 mod bound;
 mod declarations;
+mod declarators;
 mod entity;
 mod facts;
 mod faults;
@@ -21,10 +22,13 @@ mod frames;
 mod latest;
 mod laws;
 mod linkage;
+mod listing;
 mod lists;
 mod members;
 mod ordinary;
+mod shapes;
 mod tags;
+mod trees;
 mod types;
 
 pub use bound::{Bound, Name};

@@ -1,0 +1,398 @@
+// Calls, function definitions, parameter lists and names in parentheses, as the tree shows them.
+ghost use Rattle.std.specs.Prelude.{◌≡◌, ◌+◌, ◌++◌, ◌&&◌, [], ◌∷◌, if◌then◌else◌, IfOk, OnOk};
+ghost use Rattle.std.specs.Option.{option_map};
+ghost use Rattle.c99_tree.specs.declared.production.Production.TheVariants.{Unary as AUnary, Primary as APrimary, Post as APost};
+ghost use Rattle.scope_bind.specs.Children.{from_child};
+ghost use Rattle.scope_bind.specs.Trees.{is_node, is_at};
+ghost use Rattle.scope_bind.specs.Lists.{odd_tokens, commas_in, list_of, own_list, call_in, calls_in, definition_in, bodies_in, declarator_in, is_declaring, lists_in, name_in, bare_at, bare_in};
+ghost use Rattle.scope_bind.specs.Shapes.{call_by, call_of, definition_by, definition_of, declarator_of, name_by, name_in_direct, name_of_inner};
+
+use crate::declarators::{name_below, nearest};
+use crate::lists::{Indices, List, Range};
+use crate::shapes::{behind_token, first_node, leading_token, lone_token, second_node};
+use crate::trees::{Part, child_at, first_token, is_at, is_node, last_token};
+use c99_tree::{Label, Production, Tree};
+use cs_base::Memory;
+use std::alloc::Global;
+
+fn push_if(out: &mut Vec<u32>, wanted: bool, index: u32) -> Result<(), Memory>
+    ensures { OnOk result (out.new.items ≡ (if wanted then out.old.items ++ index ∷ [] else out.old.items)) }
+{
+    if wanted {
+        out.push(index)?;
+    }
+    Ok(())
+}
+
+// The tokens from child `n` on with an odd number of children before them, where `k` are counted.
+fn push_odd(tree: &Tree, n: u32, k: u32, out: &mut Vec<u32>) -> Result<(), Memory>
+    ensures { OnOk result (out.new.items ≡ out.old.items ++ odd_tokens k (from_child n tree.now.under)) }
+{
+    let next = match k.checked_add(1) {
+        Some(next) => next,
+        None => return Err(Memory),
+    };
+    match child_at(tree, n) {
+        Part::End => Ok(()),
+        Part::Token(index) => {
+            push_if(out, k % 2 == 1, index)?;
+            push_odd(tree, n + 1, next, out)
+        }
+        Part::Node(_) => push_odd(tree, n + 1, next, out),
+    }
+}
+
+fn odd_tokens(alloc: Global, list: &Tree) -> Result<Indices, Memory>
+    ensures { IfOk result (λ tokens. tokens ≡ odd_tokens 0 list.now.under) }
+{
+    let mut tokens = Vec::new(alloc);
+    push_odd(list, 0, 0, &mut tokens)?;
+    Ok(Indices::new(tokens))
+}
+
+// The tokens between the items of the list that stands from child `k` on.
+fn commas_from(alloc: Global, tree: &Tree, k: u32) -> Result<Indices, Memory>
+    ensures { IfOk result (λ tokens. tokens ≡ commas_in (from_child k tree.now.under)) }
+{
+    match child_at(tree, k) {
+        Part::End => Ok(Indices::new(Vec::new(alloc))),
+        Part::Token(_) => commas_from(alloc, tree, k + 1),
+        Part::Node(list) => odd_tokens(alloc, list),
+    }
+}
+
+fn list_of(alloc: Global, name: u32, list: &Tree) -> Result<List, Memory>
+    ensures { IfOk result (λ l. l ≡ list_of name list.now.under) }
+{
+    Ok(List {
+        name,
+        begin: first_token(list, 0),
+        close: last_token(list, 0),
+        commas: commas_from(alloc, list, 0)?,
+    })
+}
+
+fn push_list(alloc: Global, name: u32, list: &Tree, out: &mut Vec<List>) -> Result<(), Memory>
+    ensures { OnOk result (out.new.items ≡ out.old.items ++ list_of name list.now.under ∷ []) }
+{
+    let pushed = list_of(alloc, name, list)?;
+    out.push(pushed)?;
+    Ok(())
+}
+
+fn is_call(callee: Label, arguments: Label) -> bool
+    ensures { result ≡ (is_at callee APrimary 1 && is_at arguments APost 2) }
+{
+    is_at(callee, Production::Primary, 1) && is_at(arguments, Production::Post, 2)
+}
+
+fn push_call_by(
+    alloc: Global,
+    callee: Label,
+    name: Option<u32>,
+    list: &Tree,
+    out: &mut Vec<List>,
+) -> Result<(), Memory>
+    ensures { OnOk result (out.new.items ≡ out.old.items ++ call_by callee name list.now) }
+{
+    match name {
+        Some(index) => {
+            if is_call(callee, list.label()) {
+                push_list(alloc, index, list, out)
+            } else {
+                Ok(())
+            }
+        }
+        None => Ok(()),
+    }
+}
+
+fn push_call_of(
+    alloc: Global,
+    callee: Option<&Tree>,
+    list: Option<&Tree>,
+    out: &mut Vec<List>,
+) -> Result<(), Memory>
+    ensures { OnOk result (out.new.items ≡ out.old.items ++ call_of (option_map (λ t. t.now) callee.entry) (option_map (λ t. t.now) list.entry)) }
+{
+    match callee {
+        Some(primary) => match list {
+            Some(arguments) => {
+                push_call_by(alloc, primary.label(), lone_token(primary), arguments, out)
+            }
+            None => Ok(()),
+        },
+        None => Ok(()),
+    }
+}
+
+#[tactic(auto, using(crate::proofs::ShapeLemmas::call_shape))]
+fn push_call(alloc: Global, tree: &Tree, out: &mut Vec<List>) -> Result<(), Memory>
+    ensures { OnOk result (out.new.items ≡ out.old.items ++ (if is_node tree.now.label AUnary then call_in tree.now.under else [])) }
+{
+    if is_node(tree.label(), Production::Unary) {
+        push_call_of(alloc, first_node(tree), second_node(tree), out)
+    } else {
+        Ok(())
+    }
+}
+
+/// The calls whose callee is a name, in order.
+#[cycle(calls)]
+pub(crate) fn push_calls(alloc: Global, tree: &Tree, out: &mut Vec<List>) -> Result<(), Memory>
+    ensures { OnOk result (out.new.items ≡ out.old.items ++ calls_in tree.now.under) }
+{
+    let count = tree.len();
+    'children: for k in 0..count {
+        push_calls_at(alloc, tree, k, out)?;
+    }
+    Ok(())
+}
+
+#[cycle(calls)]
+fn push_calls_at(alloc: Global, tree: &Tree, k: u32, out: &mut Vec<List>) -> Result<(), Memory>
+    ensures { OnOk result (out.new.items ++ calls_in (from_child (k + 1) tree.now.under) ≡ out.old.items ++ calls_in (from_child k tree.now.under)) }
+{
+    match child_at(tree, k) {
+        Part::End => Ok(()),
+        Part::Token(_) => Ok(()),
+        Part::Node(inner) => {
+            push_call(alloc, inner, out)?;
+            push_calls(alloc, inner, out)
+        }
+    }
+}
+
+fn push_own(
+    alloc: Global,
+    name: Option<u32>,
+    nearest: Option<Option<&Tree>>,
+    out: &mut Vec<List>,
+) -> Result<(), Memory>
+    ensures { OnOk result (out.new.items ≡ out.old.items ++ own_list name (option_map (λ o. option_map (λ t. t.now.under) o) nearest.entry)) }
+{
+    match name {
+        Some(index) => match nearest {
+            Some(Some(list)) => push_list(alloc, index, list, out),
+            Some(None) => Ok(()),
+            None => Ok(()),
+        },
+        None => Ok(()),
+    }
+}
+
+fn push_declarator_of(
+    alloc: Global,
+    first: Option<&Tree>,
+    out: &mut Vec<List>,
+) -> Result<(), Memory>
+    ensures { OnOk result (out.new.items ≡ out.old.items ++ declarator_of (option_map (λ t. t.now) first.entry)) }
+{
+    match first {
+        Some(declarator) => {
+            if is_node(declarator.label(), Production::Declarator) {
+                push_own(alloc, name_below(declarator), nearest(declarator), out)
+            } else {
+                Ok(())
+            }
+        }
+        None => Ok(()),
+    }
+}
+
+fn is_declaring(label: Label) -> bool
+    ensures { result ≡ is_declaring label }
+{
+    is_node(label, Production::ExtRest) || is_node(label, Production::InitDecl)
+}
+
+#[tactic(auto, using(crate::proofs::ShapeLemmas::declarator_shape))]
+fn push_declarator(alloc: Global, tree: &Tree, out: &mut Vec<List>) -> Result<(), Memory>
+    ensures { OnOk result (out.new.items ≡ out.old.items ++ (if is_declaring tree.now.label then declarator_in tree.now.under else [])) }
+{
+    if is_declaring(tree.label()) {
+        push_declarator_of(alloc, first_node(tree), out)
+    } else {
+        Ok(())
+    }
+}
+
+/// The parameter lists of the names of declarators, in order of the names.
+#[cycle(lists)]
+pub(crate) fn push_lists(alloc: Global, tree: &Tree, out: &mut Vec<List>) -> Result<(), Memory>
+    ensures { OnOk result (out.new.items ≡ out.old.items ++ lists_in tree.now.under) }
+{
+    let count = tree.len();
+    'children: for k in 0..count {
+        push_lists_at(alloc, tree, k, out)?;
+    }
+    Ok(())
+}
+
+#[cycle(lists)]
+fn push_lists_at(alloc: Global, tree: &Tree, k: u32, out: &mut Vec<List>) -> Result<(), Memory>
+    ensures { OnOk result (out.new.items ++ lists_in (from_child (k + 1) tree.now.under) ≡ out.old.items ++ lists_in (from_child k tree.now.under)) }
+{
+    match child_at(tree, k) {
+        Part::End => Ok(()),
+        Part::Token(_) => Ok(()),
+        Part::Node(inner) => {
+            push_declarator(alloc, inner, out)?;
+            push_lists(alloc, inner, out)
+        }
+    }
+}
+
+fn push_body(name: Option<u32>, first: Option<&Tree>, out: &mut Vec<Range>) -> Result<(), Memory>
+    ensures { OnOk result (out.new.items ≡ out.old.items ++ definition_by name (option_map (λ t. t.now) first.entry)) }
+{
+    match name {
+        Some(index) => match first {
+            Some(body) => push_braces(index, body, out),
+            None => Ok(()),
+        },
+        None => Ok(()),
+    }
+}
+
+fn push_braces(name: u32, body: &Tree, out: &mut Vec<Range>) -> Result<(), Memory>
+    ensures { OnOk result (out.new.items ≡ out.old.items ++ definition_by (Some name) (Some body.now)) }
+{
+    if is_node(body.label(), Production::FunBody) {
+        out.push(Range {
+            name,
+            from: first_token(body, 0),
+            to: last_token(body, 0),
+        })?;
+    }
+    Ok(())
+}
+
+fn push_definition_of(
+    declarator: Option<&Tree>,
+    tail: Option<&Tree>,
+    out: &mut Vec<Range>,
+) -> Result<(), Memory>
+    ensures { OnOk result (out.new.items ≡ out.old.items ++ definition_of (option_map (λ t. t.now) declarator.entry) (option_map (λ t. t.now) tail.entry)) }
+{
+    match declarator {
+        Some(named) => match tail {
+            Some(rest) => push_body(name_below(named), first_node(rest), out),
+            None => Ok(()),
+        },
+        None => Ok(()),
+    }
+}
+
+#[tactic(auto, using(crate::proofs::ShapeLemmas::definition_shape))]
+fn push_definition(tree: &Tree, out: &mut Vec<Range>) -> Result<(), Memory>
+    ensures { OnOk result (out.new.items ≡ out.old.items ++ definition_in tree.now.under) }
+{
+    push_definition_of(first_node(tree), second_node(tree), out)
+}
+
+/// The bodies of functions, in order of their names.
+#[cycle(bodies)]
+pub(crate) fn push_bodies(tree: &Tree, out: &mut Vec<Range>) -> Result<(), Memory>
+    ensures { OnOk result (out.new.items ≡ out.old.items ++ bodies_in tree.now.under) }
+{
+    let count = tree.len();
+    'children: for k in 0..count {
+        push_bodies_at(tree, k, out)?;
+    }
+    Ok(())
+}
+
+#[cycle(bodies)]
+fn push_bodies_at(tree: &Tree, k: u32, out: &mut Vec<Range>) -> Result<(), Memory>
+    ensures { OnOk result (out.new.items ++ bodies_in (from_child (k + 1) tree.now.under) ≡ out.old.items ++ bodies_in (from_child k tree.now.under)) }
+{
+    match child_at(tree, k) {
+        Part::End => Ok(()),
+        Part::Token(_) => Ok(()),
+        Part::Node(inner) => {
+            if is_node(inner.label(), Production::ExtRest) {
+                push_definition(inner, out)
+            } else {
+                push_bodies(inner, out)
+            }
+        }
+    }
+}
+
+fn push_name_by(direct: Label, index: Option<u32>, out: &mut Vec<u32>) -> Result<(), Memory>
+    ensures { OnOk result (out.new.items ≡ out.old.items ++ name_by direct index) }
+{
+    match index {
+        Some(name) => {
+            if is_at(direct, Production::Pdirect, 1) {
+                out.push(name)?;
+            }
+            Ok(())
+        }
+        None => Ok(()),
+    }
+}
+
+fn push_name_direct(first: Option<&Tree>, out: &mut Vec<u32>) -> Result<(), Memory>
+    ensures { OnOk result (out.new.items ≡ out.old.items ++ name_in_direct (option_map (λ t. t.now) first.entry)) }
+{
+    match first {
+        Some(direct) => push_name_by(direct.label(), leading_token(direct), out),
+        None => Ok(()),
+    }
+}
+
+fn push_name_inner(behind: Option<&Tree>, out: &mut Vec<u32>) -> Result<(), Memory>
+    ensures { OnOk result (out.new.items ≡ out.old.items ++ name_of_inner (option_map (λ t. t.now) behind.entry)) }
+{
+    match behind {
+        Some(inner) => push_name_direct(first_node(inner), out),
+        None => Ok(()),
+    }
+}
+
+#[tactic(auto, using(crate::proofs::ShapeLemmas::name_shape))]
+fn push_name(tree: &Tree, out: &mut Vec<u32>) -> Result<(), Memory>
+    ensures { OnOk result (out.new.items ≡ out.old.items ++ name_in tree.now.under) }
+{
+    push_name_inner(behind_token(tree), out)
+}
+
+fn push_bare_here(tree: &Tree, out: &mut Vec<u32>) -> Result<(), Memory>
+    ensures { OnOk result (out.new.items ≡ out.old.items ++ bare_at tree.now.label tree.now.under) }
+{
+    if is_at(tree.label(), Production::Params, 1) {
+        push_odd(tree, 0, 1, out)
+    } else if is_at(tree.label(), Production::Pdirect, 2) {
+        push_name(tree, out)
+    } else {
+        Ok(())
+    }
+}
+
+/// The names that are parameters only since they are no typedef names where they stand.
+#[cycle(bare)]
+pub(crate) fn push_bare(tree: &Tree, out: &mut Vec<u32>) -> Result<(), Memory>
+    ensures { OnOk result (out.new.items ≡ out.old.items ++ bare_in tree.now.under) }
+{
+    let count = tree.len();
+    'children: for k in 0..count {
+        push_bare_at(tree, k, out)?;
+    }
+    Ok(())
+}
+
+#[cycle(bare)]
+fn push_bare_at(tree: &Tree, k: u32, out: &mut Vec<u32>) -> Result<(), Memory>
+    ensures { OnOk result (out.new.items ++ bare_in (from_child (k + 1) tree.now.under) ≡ out.old.items ++ bare_in (from_child k tree.now.under)) }
+{
+    match child_at(tree, k) {
+        Part::End => Ok(()),
+        Part::Token(_) => Ok(()),
+        Part::Node(inner) => {
+            push_bare_here(inner, out)?;
+            push_bare(inner, out)
+        }
+    }
+}
