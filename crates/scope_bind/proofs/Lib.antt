@@ -10,3 +10,4 @@ mod LatestLemmas
 mod ChildWalks
 pub mod ShapeLemmas
 pub mod ListLemmas
+mod KeptLemmas

@@ -24,7 +24,8 @@ use Rattle.scope_bind.specs.Members.{member_used, member_used_as, member_at, mem
 use Rattle.scope_bind.specs.Expressions.{is_sign, prefixed, found_after}
 use Rattle.scope_bind.specs.Initializers.{position_of}
 use Rattle.scope_bind.specs.Entering.{facts_in, found_in, frame_in, entered}
-use Rattle.scope_bind.specs.Roles.{Role, plain, primary, type_name, tag, enumeration_tag, listed, member, pointed_member, designated, label, jump}
+use Rattle.scope_bind.specs.declared.roles.Role.{Role}
+use Rattle.scope_bind.specs.declared.roles.Role.TheVariants.{Plain as plain, Primary as primary, TypeName as type_name, Tag as tag, EnumerationTag as enumeration_tag, Listed as listed, Member as member, PointedMember as pointed_member, Designated as designated, Label as label, Jump as jump}
 use Rattle.scope_bind.specs.Walk.{facts_at, found_at, position_at, passed_as, declared_in, parameter_in, facts_after, frame_after, left}
 use Rattle.scope_bind.specs.Renamed.{is_own_word}
 use Rattle.scope_bind.proofs.Renaming.{Good, Kept}

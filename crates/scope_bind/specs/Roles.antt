@@ -2,23 +2,8 @@
 use Rattle.std.specs.Prelude.{ℕ, Bool, ◌&&◌, if◌then◌else◌, ◌==◌, ◌%◌}
 use Rattle.c99_tree.specs.declared.production.Production.{Production}
 use Rattle.c99_tree.specs.declared.production.Production.TheVariants.{Main, SuRest, EnRest, Params, Designator, Primary, Post, Statement}
-
--- What a token stands for: an identifier in an expression, a typedef name, the tag of a structure or union, the tag
--- of an enumeration, a name in an identifier list, a member behind `.`, behind `->` and in a designator, a label, and
--- a label behind `goto`. The name of a declarator is declared where the declarator ends, and an enumeration constant
--- where its enumerator does.
-pub data Role : Type 0 where
-  plain : Role
-  primary : Role
-  type_name : Role
-  tag : Role
-  enumeration_tag : Role
-  listed : Role
-  member : Role
-  pointed_member : Role
-  designated : Role
-  label : Role
-  jump : Role
+use Rattle.scope_bind.specs.declared.roles.Role.{Role}
+use Rattle.scope_bind.specs.declared.roles.Role.TheVariants.{Plain as plain, Primary as primary, TypeName as type_name, Tag as tag, EnumerationTag as enumeration_tag, Listed as listed, Member as member, PointedMember as pointed_member, Designated as designated, Label as label, Jump as jump}
 
 abbrev pub role_if : Bool → Role → Role
 role_if is r = if is then r else plain

@@ -21,7 +21,9 @@ use Rattle.scope_bind.specs.Labels.{with_label, with_jump, with_labels}
 use Rattle.scope_bind.specs.Expressions.{found_after}
 use Rattle.scope_bind.specs.Initializers.{position_after, designated_facts, designated_type, designated_position}
 use Rattle.scope_bind.specs.Entering.{entered}
-use Rattle.scope_bind.specs.Roles.{Role, plain, primary, type_name, tag, enumeration_tag, listed, member, pointed_member, designated, label, jump, role_of}
+use Rattle.scope_bind.specs.declared.roles.Role.{Role}
+use Rattle.scope_bind.specs.declared.roles.Role.TheVariants.{Plain as plain, Primary as primary, TypeName as type_name, Tag as tag, EnumerationTag as enumeration_tag, Listed as listed, Member as member, PointedMember as pointed_member, Designated as designated, Label as label, Jump as jump}
+use Rattle.scope_bind.specs.Roles.{role_of}
 
 module _ (toks : List Token) where
   abbrev pub facts_at : Role → ℕ → Frame → Facts → Facts

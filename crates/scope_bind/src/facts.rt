@@ -1,15 +1,17 @@
 // What is known once a part of a unit is read.
-ghost use Rattle.std.specs.Prelude.{◌≡◌, OnOk, Some};
+ghost use Rattle.std.specs.Prelude.{◌≡◌, [], reverse, IfOk, OnOk, Some};
 ghost use Rattle.std.specs.Option.{option_map};
 ghost use Rattle.scope_bind.specs.Faults.{number_of, comes_first, first_fault};
 ghost use Rattle.scope_bind.specs.Declarations.{no_facts, is_in, with_fault, with_occurrence, with_declaration, with_begun, with_complete, looked_up, visible, in_scope, anywhere, linked, is_mixed};
 ghost use Rattle.scope_bind.specs.Latest.{passes};
 ghost use Rattle.scope_bind.specs.declared.latest.Asked.TheVariants.{Tag};
 ghost use Rattle.scope_bind.specs.Labels.{with_jump};
+ghost use Rattle.scope_bind.specs.Entering.{with_kept};
 ghost use Rattle.scope_bind.specs.declared.declarations.Space.TheVariants.{Ordinary, Tags};
 
 use crate::declarations::{Cause, Declaration, Fault, Occurrence, Space};
 use crate::entity::Linkage;
+use crate::keeping::push_kept;
 use crate::latest::{Asked, latest};
 use cs_base::{Memory, Tok};
 use std::alloc::Global;
@@ -132,6 +134,54 @@ impl Facts {
     {
         self.jumps.push(index)?;
         Ok(())
+    }
+
+    pub(crate) fn forget_jumps(&mut self)
+        ensures { self.new ≡ record self.old { jumps = [] } }
+    {
+        self.jumps.clear();
+    }
+
+    pub(crate) fn jumps(&self) -> Result<Vec<u32>, Memory>
+        ensures { IfOk result (λ v. v.items ≡ self.now.jumps) }
+    {
+        Ok(self.jumps.clone()?)
+    }
+
+    pub(crate) fn fault(&self) -> Option<Fault>
+        ensures { result ≡ self.now.fault }
+    {
+        self.fault
+    }
+
+    /// The declarations, the first one first.
+    pub(crate) fn declared(&self) -> &[Declaration]
+        ensures { reverse result.now ≡ self.now.declared }
+    {
+        self.declared.as_slice()
+    }
+
+    /// What is bound, the first one first.
+    pub(crate) fn occurrences(&self) -> &[Occurrence]
+        ensures { reverse result.now ≡ self.now.occurrences }
+    {
+        self.occurrences.as_slice()
+    }
+
+    /// The declarations of a list that a body begins with have the body as a second range.
+    pub(crate) fn keep(
+        &mut self,
+        list: Option<u32>,
+        depth: u32,
+        from: u32,
+        to: u32,
+    ) -> Result<(), Memory>
+        ensures { OnOk result (self.new ≡ with_kept list depth from to self.old) }
+    {
+        match list {
+            None => Ok(()),
+            Some(close) => push_kept(&mut self.declared, close, depth, from, to),
+        }
     }
 
     pub(crate) fn has_begun(&self, entity: u32) -> bool

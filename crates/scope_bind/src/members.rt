@@ -104,7 +104,8 @@ impl Facts {
         }
     }
 
-    fn is_known(&self, t: &CType) -> bool
+    /// A structure or union that is complete.
+    pub(crate) fn is_known(&self, t: &CType) -> bool
         ensures { result ≡ is_known t.now self.now }
     {
         t.is_record() && self.is_complete(number_in(t))

@@ -104,6 +104,15 @@ struct TagVerdict {
     another: bool,
 }
 
+// .. and of the tag of an enumeration that is used: its entity, whether its list is not complete, and whether
+// it is of another type.
+#[derive(Clone, Copy)]
+struct EnumerationVerdict {
+    entity: u32,
+    incomplete: bool,
+    another: bool,
+}
+
 impl Facts {
     fn is_same_tag(&self, f: &Frame, d: &Declaration) -> bool
         ensures { result ≡ is_same_tag f.now self.now d.now }
@@ -185,5 +194,55 @@ impl Facts {
     {
         let v = self.tag_verdict(toks, f, i);
         Ok(f.found.copied()?.renumbered(v.entity))
+    }
+
+    fn is_complete_tag(&self, d: &Declaration) -> bool
+        ensures { result ≡ is_complete self.now d.now }
+    {
+        self.is_complete(number_in(&d.ctype))
+    }
+
+    fn enumeration_verdict(
+        &self,
+        f: &Frame,
+        prior: Option<&Declaration>,
+    ) -> Option<EnumerationVerdict>
+        ensures { result ≡ option_map (λ d. record { entity = d.entity; incomplete = not (is_complete self.now d); another = not (is_sort d.ctype f.now.found) }) (option_map (λ d. d.now) prior.entry) }
+    {
+        match prior {
+            None => None,
+            Some(d) => Some(EnumerationVerdict {
+                entity: d.entity,
+                incomplete: !self.is_complete_tag(d),
+                another: !is_sort(&d.ctype, &f.found),
+            }),
+        }
+    }
+
+    fn use_enumeration(&mut self, toks: &[Tok], f: &Frame, i: u32) -> Result<(), Memory>
+        ensures { OnOk result (self.new ≡ enumeration_used f.now i (visible toks.now Tags i i self.old) self.old) }
+    {
+        match self.enumeration_verdict(f, self.visible(toks, Space::Tags, i, i)) {
+            None => {
+                self.note(true, Cause::Undeclared, i);
+                Ok(())
+            }
+            Some(v) => {
+                self.note(v.another, Cause::TagRedefined, i);
+                self.note(v.incomplete, Cause::Undeclared, i);
+                self.occur(i, v.entity, false)
+            }
+        }
+    }
+
+    /// The tag of an enumeration is declared with its list, or used.
+    pub(crate) fn enumeration(&mut self, toks: &[Tok], f: &Frame, i: u32) -> Result<(), Memory>
+        ensures { OnOk result (self.new ≡ with_enumeration toks.now f.now i self.old) }
+    {
+        if f.has_body {
+            self.tag(toks, f, i)
+        } else {
+            self.use_enumeration(toks, f, i)
+        }
     }
 }
