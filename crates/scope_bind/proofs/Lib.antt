@@ -11,3 +11,5 @@ mod ChildWalks
 pub mod ShapeLemmas
 pub mod ListLemmas
 mod KeptLemmas
+mod PlaceLemmas
+mod Reversed

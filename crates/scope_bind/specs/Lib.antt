@@ -22,3 +22,4 @@ pub mod Names
 pub mod Renamed
 -- What inner functions promise each other.
 pub mod Latest
+pub mod Places

@@ -43,7 +43,7 @@ fn alike(toks: &[Tok], i: u32, j: u32) -> bool
     spelling(toks, i) == spelling(toks, j)
 }
 
-fn is_space(space: Space, other: Space) -> bool
+pub(crate) fn is_space(space: Space, other: Space) -> bool
     ensures { result ≡ is_space space other }
 {
     match (space, other) {

@@ -1,0 +1,31 @@
+use Rattle.std.proofs.Common.{ℕ, ◌≡◌, List, Option, None, Some, refl, sym, ap, ◌∙◌}
+use Rattle.std.specs.Option.{option_map}
+use Rattle.std.proofs.lemmas.Result.{IfOk-weaker}
+use Rattle.cs_base.specs.Token.{Token}
+use Rattle.scope_bind.specs.declared.declarations.Declaration.{Declaration}
+use Rattle.scope_bind.specs.declared.frames.Position.{Position}
+use Rattle.scope_bind.specs.declared.frames.Position.TheVariants.{Numbered as numbered}
+use Rattle.scope_bind.specs.Types.{CType}
+use Rattle.scope_bind.specs.Tags.{number_in}
+use Rattle.scope_bind.specs.Declarations.{Facts}
+use Rattle.scope_bind.specs.Members.{members_of, member_at}
+use Rattle.scope_bind.specs.Initializers.{position_of, designated_position}
+use Rattle.scope_bind.specs.Places.{position_by}
+use Rattle.scope_bind.proofs.PlaceLemmas.{place-number}
+use Rattle.scope_bind.proofs.facts.Facts.designated_position.Goals as goal
+
+by-name : (toks : List Token) (place : CType) (s : Facts) (found : Option Declaration) (member : Option ℕ) (number : ℕ) (at : Position)
+    → number ≡ number_in place → member ≡ option_map (λ d. d.name_at) found
+    → position_by (members_of number s) member at ≡ position_of toks place s found at
+by-name toks place s None member number at e m = rw m refl
+by-name toks place s (Some d) member number at e m = rw (e, m) (ap numbered (sym (place-number (members_of (number_in place) s) d)))
+
+pub returns : goal.returns
+returns c =
+    IfOk-weaker c.position_of.result
+    (λ p. p ≡ position_by (members_of c.number_in.result c.args.self.now) c.designated_name-member.result c.args.at)
+    (λ p. p ≡ designated_position c.args.toks.now c.args.place.now c.args.i c.args.self.now c.args.at)
+    (λ p e. e
+    ∙ by-name c.args.toks.now c.args.place.now c.args.self.now (member_at c.args.toks.now c.args.place.now c.args.i c.args.self.now)
+    c.designated_name-member.result c.number_in.result c.args.at c.number_in.ensures c.designated_name-member.ensures)
+    c.position_of.ensures
