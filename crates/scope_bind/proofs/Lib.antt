@@ -10,6 +10,7 @@ mod LatestLemmas
 mod ChildWalks
 pub mod ShapeLemmas
 pub mod ListLemmas
+mod WalkLemmas
 mod KeptLemmas
 mod PlaceLemmas
 mod Reversed

@@ -11,6 +11,9 @@ pub record State : Type 0 where
   pub facts : Facts
   pub frame : Frame
 
+abbrev pub state : Facts → Frame → State
+state facts frame = record { facts = facts; frame = frame }
+
 abbrev pub no_words : Words
 no_words = record { has_typedef = false; has_extern = false; has_static = false; has_any = false }
 

@@ -38,6 +38,7 @@ mod shapes;
 mod tags;
 mod trees;
 mod types;
+mod walking;
 
 pub use bound::{Bound, Name};
 pub use entity::{EntityKind, Linkage};

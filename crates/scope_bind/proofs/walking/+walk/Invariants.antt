@@ -1,0 +1,19 @@
+use Rattle.std.proofs.Common.{◌≡◌, ◌+◌, ◌*◌}
+use Rattle.c99_tree.specs.Tree.{size_of}
+use Rattle.scope_bind.specs.Children.{from_child}
+use Rattle.scope_bind.specs.Frames.{state}
+use Rattle.scope_bind.specs.Walk.{walked}
+use Rattle.scope_bind.proofs.walking.+walk.Given as goal
+
+abbrev pub decreases-walk : goal.decreases-walk
+decreases-walk l = 3 * size_of l.tree.now.under + 1
+
+abbrev pub decreases-walk_at : goal.decreases-walk_at
+decreases-walk_at l = 3 * size_of l.tree.now.under
+
+abbrev pub decreases-walk_node : goal.decreases-walk_node
+decreases-walk_node l = 3 * size_of l.inner.now.under + 2
+
+abbrev pub invariant-walk-children : goal.invariant-walk-children
+invariant-walk-children l =
+    walked l.toks (from_child l.k l.tree.under) (state l.facts l.f) ≡ walked l.toks l.tree.under (state l.initial.facts l.fn.begin)
