@@ -12,6 +12,8 @@
 //! beside it, `Walk.antt`, `Bound.antt`, then `facts.rt` and `bound.rt`.
 #![tactic(auto)]
 
+mod bare_names;
+mod bodies;
 mod bound;
 mod declarations;
 mod declarators;
@@ -26,6 +28,7 @@ mod keeping;
 mod labels;
 mod latest;
 mod laws;
+mod leaving;
 mod linkage;
 mod listing;
 mod lists;
@@ -33,6 +36,7 @@ mod members;
 mod objects;
 mod ordinary;
 mod places;
+mod reading;
 mod roles;
 mod shapes;
 mod tags;

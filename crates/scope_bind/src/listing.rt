@@ -1,15 +1,17 @@
-// Calls, function definitions, parameter lists and names in parentheses, as the tree shows them.
+// Calls and parameter lists, as the tree shows them (ISO/IEC 9899:1999, 6.5.2.2 and 6.7.5.3).
 ghost use Rattle.std.specs.Prelude.{◌≡◌, ◌+◌, ◌++◌, ◌&&◌, [], ◌∷◌, if◌then◌else◌, IfOk, OnOk};
 ghost use Rattle.std.specs.Option.{option_map};
 ghost use Rattle.c99_tree.specs.declared.production.Production.TheVariants.{Unary as AUnary, Primary as APrimary, Post as APost};
 ghost use Rattle.scope_bind.specs.Children.{from_child};
 ghost use Rattle.scope_bind.specs.Trees.{is_node, is_at};
-ghost use Rattle.scope_bind.specs.Lists.{odd_tokens, commas_in, list_of, own_list, call_in, calls_in, definition_in, bodies_in, declarator_in, is_declaring, lists_in, name_in, bare_at, bare_in};
-ghost use Rattle.scope_bind.specs.Shapes.{call_by, call_of, definition_by, definition_of, declarator_of, name_by, name_in_direct, name_of_inner};
+ghost use Rattle.scope_bind.specs.Lists.{odd_tokens, commas_in, list_of, own_list, call_in, calls_in, declarator_in, is_declaring, lists_in};
+ghost use Rattle.scope_bind.specs.Shapes.{call_by, call_of, declarator_of};
 
+pub(crate) use crate::bare_names::push_bare;
+pub(crate) use crate::bodies::push_bodies;
 use crate::declarators::{name_below, nearest};
-use crate::lists::{Indices, List, Range};
-use crate::shapes::{behind_token, first_node, leading_token, lone_token, second_node};
+use crate::lists::{Indices, List};
+use crate::shapes::{first_node, lone_token, second_node};
 use crate::trees::{Part, child_at, first_token, is_at, is_node, last_token};
 use c99_tree::{Label, Production, Tree};
 use cs_base::Memory;
@@ -24,8 +26,8 @@ fn push_if(out: &mut Vec<u32>, wanted: bool, index: u32) -> Result<(), Memory>
     Ok(())
 }
 
-// The tokens from child `n` on with an odd number of children before them, where `k` are counted.
-fn push_odd(tree: &Tree, n: u32, k: u32, out: &mut Vec<u32>) -> Result<(), Memory>
+/// The tokens from child `n` on with an odd number of children before them, where `k` are counted.
+pub(crate) fn push_odd(tree: &Tree, n: u32, k: u32, out: &mut Vec<u32>) -> Result<(), Memory>
     ensures { OnOk result (out.new.items ≡ out.old.items ++ odd_tokens k (from_child n tree.now.under)) }
 {
     let next = match k.checked_add(1) {
@@ -239,160 +241,6 @@ fn push_lists_at(alloc: Global, tree: &Tree, k: u32, out: &mut Vec<List>) -> Res
         Part::Node(inner) => {
             push_declarator(alloc, inner, out)?;
             push_lists(alloc, inner, out)
-        }
-    }
-}
-
-fn push_body(name: Option<u32>, first: Option<&Tree>, out: &mut Vec<Range>) -> Result<(), Memory>
-    ensures { OnOk result (out.new.items ≡ out.old.items ++ definition_by name (option_map (λ t. t.now) first.entry)) }
-{
-    match name {
-        Some(index) => match first {
-            Some(body) => push_braces(index, body, out),
-            None => Ok(()),
-        },
-        None => Ok(()),
-    }
-}
-
-fn push_braces(name: u32, body: &Tree, out: &mut Vec<Range>) -> Result<(), Memory>
-    ensures { OnOk result (out.new.items ≡ out.old.items ++ definition_by (Some name) (Some body.now)) }
-{
-    if is_node(body.label(), Production::FunBody) {
-        out.push(Range {
-            name,
-            from: first_token(body, 0),
-            to: last_token(body, 0),
-        })?;
-    }
-    Ok(())
-}
-
-fn push_definition_of(
-    declarator: Option<&Tree>,
-    tail: Option<&Tree>,
-    out: &mut Vec<Range>,
-) -> Result<(), Memory>
-    ensures { OnOk result (out.new.items ≡ out.old.items ++ definition_of (option_map (λ t. t.now) declarator.entry) (option_map (λ t. t.now) tail.entry)) }
-{
-    match declarator {
-        Some(named) => match tail {
-            Some(rest) => push_body(name_below(named), first_node(rest), out),
-            None => Ok(()),
-        },
-        None => Ok(()),
-    }
-}
-
-#[tactic(auto, using(crate::proofs::ShapeLemmas::definition_shape))]
-fn push_definition(tree: &Tree, out: &mut Vec<Range>) -> Result<(), Memory>
-    ensures { OnOk result (out.new.items ≡ out.old.items ++ definition_in tree.now.under) }
-{
-    push_definition_of(first_node(tree), second_node(tree), out)
-}
-
-/// The bodies of functions, in order of their names.
-#[cycle(bodies)]
-pub(crate) fn push_bodies(tree: &Tree, out: &mut Vec<Range>) -> Result<(), Memory>
-    ensures { OnOk result (out.new.items ≡ out.old.items ++ bodies_in tree.now.under) }
-{
-    let count = tree.len();
-    'children: for k in 0..count {
-        push_bodies_at(tree, k, out)?;
-    }
-    Ok(())
-}
-
-#[cycle(bodies)]
-fn push_bodies_at(tree: &Tree, k: u32, out: &mut Vec<Range>) -> Result<(), Memory>
-    ensures { OnOk result (out.new.items ++ bodies_in (from_child (k + 1) tree.now.under) ≡ out.old.items ++ bodies_in (from_child k tree.now.under)) }
-{
-    match child_at(tree, k) {
-        Part::End => Ok(()),
-        Part::Token(_) => Ok(()),
-        Part::Node(inner) => {
-            if is_node(inner.label(), Production::ExtRest) {
-                push_definition(inner, out)
-            } else {
-                push_bodies(inner, out)
-            }
-        }
-    }
-}
-
-fn push_name_by(direct: Label, index: Option<u32>, out: &mut Vec<u32>) -> Result<(), Memory>
-    ensures { OnOk result (out.new.items ≡ out.old.items ++ name_by direct index) }
-{
-    match index {
-        Some(name) => {
-            if is_at(direct, Production::Pdirect, 1) {
-                out.push(name)?;
-            }
-            Ok(())
-        }
-        None => Ok(()),
-    }
-}
-
-fn push_name_direct(first: Option<&Tree>, out: &mut Vec<u32>) -> Result<(), Memory>
-    ensures { OnOk result (out.new.items ≡ out.old.items ++ name_in_direct (option_map (λ t. t.now) first.entry)) }
-{
-    match first {
-        Some(direct) => push_name_by(direct.label(), leading_token(direct), out),
-        None => Ok(()),
-    }
-}
-
-fn push_name_inner(behind: Option<&Tree>, out: &mut Vec<u32>) -> Result<(), Memory>
-    ensures { OnOk result (out.new.items ≡ out.old.items ++ name_of_inner (option_map (λ t. t.now) behind.entry)) }
-{
-    match behind {
-        Some(inner) => push_name_direct(first_node(inner), out),
-        None => Ok(()),
-    }
-}
-
-#[tactic(auto, using(crate::proofs::ShapeLemmas::name_shape))]
-fn push_name(tree: &Tree, out: &mut Vec<u32>) -> Result<(), Memory>
-    ensures { OnOk result (out.new.items ≡ out.old.items ++ name_in tree.now.under) }
-{
-    push_name_inner(behind_token(tree), out)
-}
-
-fn push_bare_here(tree: &Tree, out: &mut Vec<u32>) -> Result<(), Memory>
-    ensures { OnOk result (out.new.items ≡ out.old.items ++ bare_at tree.now.label tree.now.under) }
-{
-    if is_at(tree.label(), Production::Params, 1) {
-        push_odd(tree, 0, 1, out)
-    } else if is_at(tree.label(), Production::Pdirect, 2) {
-        push_name(tree, out)
-    } else {
-        Ok(())
-    }
-}
-
-/// The names that are parameters only since they are no typedef names where they stand.
-#[cycle(bare)]
-pub(crate) fn push_bare(tree: &Tree, out: &mut Vec<u32>) -> Result<(), Memory>
-    ensures { OnOk result (out.new.items ≡ out.old.items ++ bare_in tree.now.under) }
-{
-    let count = tree.len();
-    'children: for k in 0..count {
-        push_bare_at(tree, k, out)?;
-    }
-    Ok(())
-}
-
-#[cycle(bare)]
-fn push_bare_at(tree: &Tree, k: u32, out: &mut Vec<u32>) -> Result<(), Memory>
-    ensures { OnOk result (out.new.items ++ bare_in (from_child (k + 1) tree.now.under) ≡ out.old.items ++ bare_in (from_child k tree.now.under)) }
-{
-    match child_at(tree, k) {
-        Part::End => Ok(()),
-        Part::Token(_) => Ok(()),
-        Part::Node(inner) => {
-            push_bare_here(inner, out)?;
-            push_bare(inner, out)
         }
     }
 }

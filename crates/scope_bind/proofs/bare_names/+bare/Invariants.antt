@@ -2,7 +2,7 @@ use Rattle.std.proofs.Common.{◌≡◌, ◌+◌, ◌*◌, ◌++◌}
 use Rattle.c99_tree.specs.Tree.{size_of}
 use Rattle.scope_bind.specs.Children.{from_child}
 use Rattle.scope_bind.specs.Lists.{bare_in}
-use Rattle.scope_bind.proofs.listing.+bare.Given as goal
+use Rattle.scope_bind.proofs.bare_names.+bare.Given as goal
 
 abbrev pub decreases-push_bare : goal.decreases-push_bare
 decreases-push_bare l = 2 * size_of l.tree.now.under + 1

@@ -2,7 +2,7 @@ use Rattle.std.proofs.Common.{◌≡◌, ◌+◌, ◌*◌, ◌++◌}
 use Rattle.c99_tree.specs.Tree.{size_of}
 use Rattle.scope_bind.specs.Children.{from_child}
 use Rattle.scope_bind.specs.Lists.{bodies_in}
-use Rattle.scope_bind.proofs.listing.+bodies.Given as goal
+use Rattle.scope_bind.proofs.bodies.+bodies.Given as goal
 
 abbrev pub decreases-push_bodies : goal.decreases-push_bodies
 decreases-push_bodies l = 2 * size_of l.tree.now.under + 1

@@ -2,7 +2,7 @@ use Rattle.std.proofs.Common.{sym, ap, ◌∙◌, ◌++◌, arith}
 use Rattle.scope_bind.specs.Lists.{bodies_in}
 use Rattle.scope_bind.proofs.ChildWalks.{from_child-end}
 use Rattle.scope_bind.proofs.ListLemmas.{append_end}
-use Rattle.scope_bind.proofs.listing.+bodies.Goals as goal
+use Rattle.scope_bind.proofs.bodies.+bodies.Goals as goal
 
 pub push_bodies-returns : goal.push_bodies-returns
 push_bodies-returns t c =

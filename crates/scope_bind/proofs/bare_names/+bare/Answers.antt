@@ -2,7 +2,7 @@ use Rattle.std.proofs.Common.{sym, ap, ◌∙◌, ◌++◌, arith}
 use Rattle.scope_bind.specs.Lists.{bare_in}
 use Rattle.scope_bind.proofs.ChildWalks.{from_child-end}
 use Rattle.scope_bind.proofs.ListLemmas.{append_end}
-use Rattle.scope_bind.proofs.listing.+bare.Goals as goal
+use Rattle.scope_bind.proofs.bare_names.+bare.Goals as goal
 
 pub push_bare-returns : goal.push_bare-returns
 push_bare-returns t c =
