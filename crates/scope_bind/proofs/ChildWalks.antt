@@ -1,11 +1,7 @@
 -- Walks over the children of a node.
-use Rattle.std.proofs.Common.{ℕ, zero, suc, ◌+◌, ◌<◌, ◌≤◌, ◌≡◌, Bool, true, false, ◌||◌, ◌&&◌, if◌then◌else◌, Option, None, Some, Result, IfOk, refl, sym, ap, subst, ◌∙◌, add-one, arith, is_some}
-use Rattle.std.specs.Option.{option_map, option_map_or, option_or}
+use Rattle.std.proofs.Common.{ℕ, zero, suc, ◌+◌, ◌<◌, ◌≤◌, ◌≡◌, Bool, true, false, ◌||◌, Option, None, Some, refl, sym, ap, subst, ◌∙◌, add-one, arith}
 use Rattle.c99_tree.specs.Tree.{Forest, none, token, node, Node, node_of, Part, leaf, inner, count_of, part_at, size_of}
-use Rattle.c99_tree.specs.declared.production.Label.{Label}
-use Rattle.c99_tree.specs.declared.production.Production.{Production}
-use Rattle.scope_bind.specs.Children.{from_child, only_node}
-use Rattle.scope_bind.specs.Trees.{is_one, is_lone_main}
+use Rattle.scope_bind.specs.Children.{from_child}
 
 -- a child, in front of others
 abbrev pub in_front : Option Part → Forest → Forest
@@ -60,49 +56,9 @@ part_at-falls (node l first under rest) (suc k) n at = let h = part_at-falls res
 
 -- ---- What children say
 
-pub or_assoc : (a b c : Bool) → (a || (b || c)) ≡ ((a || b) || c)
-or_assoc true b c = refl
-or_assoc false b c = refl
-
 -- one child after another is asked
 pub asked-yes : (here whole found rest : Bool) → here ≡ whole → here ≡ (found || rest) → found ≡ true → true ≡ whole
 asked-yes here whole found rest kept step is_yes = sym (sym kept ∙ step ∙ ap (λ b. b || rest) is_yes)
 
 pub asked-no : (here whole found rest : Bool) → here ≡ whole → here ≡ (found || rest) → found ≡ false → rest ≡ whole
 asked-no here whole found rest kept step is_no = sym (step ∙ ap (λ b. b || rest) is_no) ∙ kept
-
--- ---- The only child
-
-pub only-node : (f r s : Forest) (l : Label) (first : ℕ) (u : Forest) → f ≡ node l first u r → r ≡ none → Some (node_of l first u) ≡ only_node f
-only-node f r s l first u e d = rw (e, d) refl
-
-pub only-none : (f : Forest) → f ≡ none → None ≡ only_node f
-only-none f e = rw e refl
-
-pub only-token : (f r : Forest) (i : ℕ) → f ≡ token i r → None ≡ only_node f
-only-token f r i e = rw e refl
-
-pub only-more-token : (f r s : Forest) (l : Label) (first : ℕ) (u : Forest) (i : ℕ) → f ≡ node l first u r → r ≡ token i s → None ≡ only_node f
-only-more-token f r s l first u i e d = rw (e, d) refl
-
-pub only-more-node : (f r s t : Forest) (l m : Label) (first second : ℕ) (u : Forest) → f ≡ node l first u r → r ≡ node m second t s → None ≡ only_node f
-only-more-node f r s t l m first second u e d = rw (e, d) refl
-
-pub one-only : (f : Forest) → is_one f ≡ is_some (only_node f)
-one-only none = refl
-one-only (token i rest) = refl
-one-only (node l first under none) = refl
-one-only (node l first under (token i rest)) = refl
-one-only (node l first under (node m second below rest)) = refl
-
-pub lone_main-only : (f : Forest) → is_lone_main f ≡ option_map_or (λ n. is_one n.under) (only_node f) false
-lone_main-only none = refl
-lone_main-only (token i rest) = refl
-lone_main-only (node l first under none) = refl
-lone_main-only (node l first under (token i rest)) = refl
-lone_main-only (node l first under (node m second below rest)) = refl
-
--- ---- Results
-
-pub ok_is : {T E : Type 0} (r : Result T E) (x y : T) → x ≡ y → IfOk r (λ v. v ≡ x) → IfOk r (λ v. v ≡ y)
-ok_is {T} {E} r x y e h = let P : T → Type 0 = λ z. IfOk r (λ v. v ≡ z) in subst P e h

@@ -3,9 +3,8 @@ use Rattle.std.proofs.Common.{ℕ, zero, suc, ◌+◌, ◌<◌, ◌≡◌, List,
 use Rattle.std.specs.Prelude.{filter_map, slice_get}
 use Rattle.std.specs.Option.{option_and_then, option_to_list}
 use Rattle.std.specs.List.{cons_option}
-use Rattle.std.proofs.lemmas.List.{reverse-append}
+use Rattle.std.proofs.lemmas.List.{append-nil, reverse-append}
 use Rattle.std.proofs.lemmas.List.Elements.{filter_map-append}
-use Rattle.scope_bind.proofs.ListLemmas.{append_end}
 use Rattle.scope_bind.specs.declared.declarations.Declaration.{Declaration}
 use Rattle.scope_bind.specs.Declarations.{Facts}
 use Rattle.scope_bind.specs.Entering.{kept_here, with_kept}
@@ -19,7 +18,7 @@ cons_alone None = refl
 cons_alone (Some y) = refl
 
 -- among one more
-pub kept_more : {A B : Type 0} (f : A → Option B) (xs : List A) (n : ℕ) → n < length xs
+kept_more : {A B : Type 0} (f : A → Option B) (xs : List A) (n : ℕ) → n < length xs
     → filter_map f (take (suc n) xs) ≡ filter_map f (take n xs) ++ option_to_list (option_and_then f (slice_get xs n))
 kept_more f [] n l = absurd (omega arith)
 kept_more f (x ∷ xs) zero l = cons_alone (f x)
@@ -28,10 +27,10 @@ kept_more f (x ∷ xs) (suc n) l =
     ∙ cons_append (f x) (filter_map f (take n xs)) (option_to_list (option_and_then f (slice_get xs n)))
 
 reverse_cons : {B : Type 0} (o : Option B) (ys : List B) → reverse (cons_option o ys) ≡ reverse ys ++ cons_option o []
-reverse_cons None ys = append_end (reverse ys)
+reverse_cons None ys = sym (append-nil (reverse ys))
 reverse_cons (Some y) ys = reverse-append (y ∷ []) ys
 
-pub kept_reversed : {A B : Type 0} (f : A → Option B) (xs : List A) → filter_map f (reverse xs) ≡ reverse (filter_map f xs)
+kept_reversed : {A B : Type 0} (f : A → Option B) (xs : List A) → filter_map f (reverse xs) ≡ reverse (filter_map f xs)
 kept_reversed f [] = refl
 kept_reversed f (x ∷ xs) =
     ap (filter_map f) (reverse-append (x ∷ []) xs)
@@ -41,6 +40,7 @@ kept_reversed f (x ∷ xs) =
 
 -- ---- A list that is put behind its own front
 
+-- what stands behind a front is not read there
 get-front : {A : Type 0} (xs ys : List A) (n : ℕ) → n < length xs → slice_get (xs ++ ys) n ≡ slice_get xs n
 get-front [] ys n l = absurd (omega arith)
 get-front (x ∷ xs) ys zero l = refl
@@ -59,11 +59,12 @@ kept-step f xs ys zs n o l kept found pushed =
     ∙ ap (λ ws. xs ++ ws) (sym (kept_more f xs n l))))))
 
 -- seen the other way round
-pub kept-seen : {A : Type 0} (f : A → Option A) (xs ys : List A) → ys ≡ xs ++ filter_map f xs
+kept-seen : {A : Type 0} (f : A → Option A) (xs ys : List A) → ys ≡ xs ++ filter_map f xs
     → reverse ys ≡ filter_map f (reverse xs) ++ reverse xs
 kept-seen f xs ys e =
     ap reverse e ∙ (reverse-append xs (filter_map f xs) ∙ ap (λ ws. ws ++ reverse xs) (sym (kept_reversed f xs)))
 
+-- .. and as the definition says it
 pub facts-kept : (list depth from to : ℕ) (xs ys : List Declaration) (s : Facts) → s.declared ≡ reverse xs
     → ys ≡ xs ++ filter_map (kept_here list depth from to) xs
     → record s { declared = reverse ys } ≡ with_kept (Some list) depth from to s

@@ -9,7 +9,6 @@ mod RenamedWalk
 mod LatestLemmas
 mod ChildWalks
 pub mod ShapeLemmas
-pub mod ListLemmas
 mod WalkLemmas
 mod KeptLemmas
 mod PlaceLemmas

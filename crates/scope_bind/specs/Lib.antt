@@ -2,7 +2,6 @@
 pub mod Faults
 pub mod Types
 pub mod Trees
-pub mod Children
 pub mod Declarations
 pub mod Frames
 pub mod Linkage
@@ -16,10 +15,11 @@ pub mod Entering
 pub mod Roles
 pub mod Walk
 pub mod Lists
-pub mod Shapes
 pub mod Bound
 pub mod Names
 pub mod Renamed
 -- What inner functions promise each other.
 pub mod Latest
+pub mod Children
+pub mod Shapes
 pub mod Places
