@@ -13,3 +13,5 @@ mod WalkLemmas
 mod KeptLemmas
 mod PlaceLemmas
 mod Reversed
+mod NameLemmas
+mod BoundLemmas

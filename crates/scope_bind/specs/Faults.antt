@@ -3,6 +3,8 @@ use Rattle.std.specs.Prelude.{ℕ, Bool, ◌&&◌, ◌||◌, Option, None, Some,
 use Rattle.scope_bind.specs.declared.declarations.Cause.{Cause}
 use Rattle.scope_bind.specs.declared.declarations.Cause.TheVariants.{Undeclared as undeclared, NoMember as no_member, NoLabel as no_label, Redeclared as redeclared, TagRedefined as tag_redefined, MixedLinkage as mixed_linkage, DesignatorAfterElision as designator_after_elision}
 use Rattle.scope_bind.specs.declared.declarations.Fault.{Fault}
+use Rattle.scope_bind.specs.declared.faults.BindRefusal.{BindRefusal}
+use Rattle.scope_bind.specs.declared.faults.BindRefusal.TheVariants as refusal
 
 -- which of two at one token is named
 abbrev pub number_of : Cause → ℕ
@@ -22,3 +24,17 @@ comes_first f g = nat_lt f.index g.index || (f.index == g.index && nat_lt (numbe
 abbrev pub first_fault : Option Fault → Fault → Option Fault
 first_fault None f = Some f
 first_fault (Some g) f = if comes_first f g then Some f else Some g
+
+abbrev pub fault_at : Cause → ℕ → Fault
+fault_at cause index = record { cause = cause; index = index }
+
+-- what is refused: a fault, or none for want of memory
+abbrev pub fault_of : BindRefusal → Option Fault
+fault_of (refusal.Undeclared index) = Some (fault_at undeclared index)
+fault_of (refusal.NoMember index) = Some (fault_at no_member index)
+fault_of (refusal.NoLabel index) = Some (fault_at no_label index)
+fault_of (refusal.Redeclared index) = Some (fault_at redeclared index)
+fault_of (refusal.TagRedefined index) = Some (fault_at tag_redefined index)
+fault_of (refusal.MixedLinkage index) = Some (fault_at mixed_linkage index)
+fault_of (refusal.DesignatorAfterElision index) = Some (fault_at designator_after_elision index)
+fault_of refusal.Memory = None

@@ -23,3 +23,4 @@ pub mod Latest
 pub mod Children
 pub mod Shapes
 pub mod Places
+pub mod Told

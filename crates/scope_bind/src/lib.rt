@@ -6,13 +6,13 @@
 //! names. It is `binding_of` of `specs/Bound.antt`, a walk over the tree in which each declaration has
 //! its range of tokens, or the first of seven faults. Types are followed as far as members need them.
 //! A binding is told by indices and holds no spelling, so a renamed text binds to the same value: that is
-//! the law below. This crate knows neither how a tree is read nor macros, files or classes. `Bound` and
-//! its readers stand, and so do the look-ups and what they decide; the walk that calls them does not
-//! yet, so nothing is bound by a program. Read `specs/Declarations.antt`, `Ordinary.antt` and the files
-//! beside it, `Walk.antt`, `Bound.antt`, then `facts.rt` and `bound.rt`.
+//! the law below. This crate knows neither how a tree is read nor macros, files or classes. Declarations,
+//! names and types want memory. Read `specs/Declarations.antt`, `Ordinary.antt` and the files beside it,
+//! `Walk.antt`, `Bound.antt`, then `binding.rt`, `walking.rt` and `facts.rt`.
 #![tactic(auto)]
 
 mod bare_names;
+mod binding;
 mod bodies;
 mod bound;
 mod declarations;
@@ -44,6 +44,7 @@ mod trees;
 mod types;
 mod walking;
 
+pub use binding::bind;
 pub use bound::{Bound, Name};
 pub use entity::{EntityKind, Linkage};
 pub use faults::BindRefusal;

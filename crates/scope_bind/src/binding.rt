@@ -1,0 +1,297 @@
+// The binding of a unit (ISO/IEC 9899:1999, 6.2.1 to 6.2.3): the walk, and what is told of it.
+ghost use Rattle.std.specs.Prelude.{◌≡◌, ◌&&◌, ◌==◌, map, filter, reverse, find, length, Some, IfOk};
+ghost use Rattle.std.specs.Option.{option_map, option_map_or};
+ghost use Rattle.cs_base.specs.Answer.{Gives};
+ghost use Rattle.scope_bind.specs.declared.entity.EntityKind.TheVariants.{Object as AnObject};
+ghost use Rattle.scope_bind.specs.declared.entity.Linkage.TheVariants.{Absent as NoLinkage};
+ghost use Rattle.scope_bind.specs.Lists.{calls_in, bodies_in, lists_in, bare_in};
+ghost use Rattle.scope_bind.specs.Frames.{outermost};
+ghost use Rattle.scope_bind.specs.Faults.{fault_of};
+ghost use Rattle.scope_bind.specs.Bound.{names_of, is_of_function, is_function_name, range_of, typedefs_of, bound_of, bound_after, facts_of, binding_of};
+ghost use Rattle.scope_bind.specs.Told.{declaration_in, name_in};
+ghost use Rattle.scope_bind.specs.Declarations.{is_typedef_name};
+
+use crate::bound::{Bound, Name, Told};
+use crate::declarations::{Cause, Declaration, Fault, Occurrence};
+use crate::entity::{EntityKind, Linkage};
+use crate::facts::Facts;
+use crate::faults::BindRefusal;
+use crate::frames::{Frame, Position, Scope, Words};
+use crate::listing::{push_bare, push_bodies, push_calls, push_lists};
+use crate::lists::{List, Range};
+use crate::types::{Base, CType};
+use crate::walking::walk;
+use c99_tree::{Label, Production, Tree};
+use cs_base::{Memory, Tok};
+use std::alloc::Global;
+
+fn outermost(alloc: Global, count: u32) -> Frame
+    ensures { result ≡ outermost count }
+{
+    Frame {
+        label: Label {
+            production: Production::TranslationUnit,
+            alternative: 1,
+        },
+        nth: 0,
+        token: 0,
+        scope: Scope {
+            depth: 0,
+            to: count,
+        },
+        body: None,
+        listing: false,
+        alone: false,
+        has_body: false,
+        base: CType::plain(alloc, Base::Arithmetic),
+        words: Words {
+            has_typedef: false,
+            has_extern: false,
+            has_static: false,
+            has_any: false,
+        },
+        kept: None,
+        owner: 0,
+        given: CType::plain(alloc, Base::Arithmetic),
+        found: CType::plain(alloc, Base::Arithmetic),
+        position: Position::Beyond,
+    }
+}
+
+fn count_of(toks: &[Tok]) -> Result<u32, Memory>
+    ensures { IfOk result (λ n. n ≡ length toks.now) }
+{
+    if toks.len() > u32::MAX as usize {
+        return Err(Memory);
+    }
+    Ok(toks.len() as u32)
+}
+
+// What is known at the end of the unit.
+fn facts_of(alloc: Global, toks: &[Tok], tree: &Tree) -> Result<Facts, Memory>
+    ensures { IfOk result (λ f. f ≡ facts_of toks.now tree.now.under) }
+{
+    let begin = outermost(alloc, count_of(toks)?);
+    let mut facts = Facts::new(alloc);
+    walk(&mut facts, alloc, toks, tree, begin)?;
+    Ok(facts)
+}
+
+fn refusal(fault: Fault) -> BindRefusal
+    ensures { fault_of result ≡ Some fault }
+{
+    let index = fault.index;
+    match fault.cause {
+        Cause::Undeclared => BindRefusal::Undeclared { index },
+        Cause::NoMember => BindRefusal::NoMember { index },
+        Cause::NoLabel => BindRefusal::NoLabel { index },
+        Cause::Redeclared => BindRefusal::Redeclared { index },
+        Cause::TagRedefined => BindRefusal::TagRedefined { index },
+        Cause::MixedLinkage => BindRefusal::MixedLinkage { index },
+        Cause::DesignatorAfterElision => BindRefusal::DesignatorAfterElision { index },
+    }
+}
+
+// The latest declaration whose name is the token.
+fn declaration_in(declared: &[Declaration], k: u32) -> Option<&Declaration>
+    ensures { option_map (λ d. d.now) result ≡ declaration_in declared.now k }
+{
+    declared.iter().rev().find(|d| d.name_at == k)
+}
+
+fn kind_or(d: Option<&Declaration>) -> EntityKind
+    ensures { result ≡ option_map_or (λ d. d.kind) (option_map (λ d. d.now) d.entry) AnObject }
+{
+    match d {
+        Some(declaration) => declaration.kind,
+        None => EntityKind::Object,
+    }
+}
+
+fn linkage_or(d: Option<&Declaration>) -> Linkage
+    ensures { result ≡ option_map_or (λ d. d.linkage) (option_map (λ d. d.now) d.entry) NoLinkage }
+{
+    match d {
+        Some(declaration) => declaration.linkage,
+        None => Linkage::Absent,
+    }
+}
+
+fn name_in(declared: &[Declaration], o: Occurrence) -> Name
+    ensures { result ≡ name_in declared.now o }
+{
+    let d = declaration_in(declared, o.entity);
+    Name {
+        index: o.index,
+        entity: o.entity,
+        declares: o.declares,
+        kind: kind_or(d),
+        linkage: linkage_or(d),
+    }
+}
+
+fn names_in(
+    alloc: Global,
+    declared: &[Declaration],
+    occurrences: &[Occurrence],
+) -> Result<Vec<Name>, Memory>
+    ensures { IfOk result (λ v. v.items ≡ map (name_in declared.now) occurrences.now) }
+{
+    Ok(
+        occurrences
+            .iter()
+            .map(|o| name_in(declared, *o))
+            .collect(alloc)?,
+    )
+}
+
+fn names_of(alloc: Global, facts: &Facts) -> Result<Vec<Name>, Memory>
+    ensures { IfOk result (λ v. v.items ≡ names_of facts.now) }
+{
+    names_in(alloc, facts.declared(), facts.occurrences())
+}
+
+fn is_typedef(d: &Declaration) -> bool
+    ensures { result ≡ is_typedef_name d.now.kind }
+{
+    matches!(d.kind, EntityKind::Typedef)
+}
+
+fn range_of(d: &Declaration) -> Range
+    ensures { result ≡ range_of d.now }
+{
+    Range {
+        name: d.name_at,
+        from: d.from,
+        to: d.to,
+    }
+}
+
+fn ranges_in(alloc: Global, declared: &[Declaration]) -> Result<Vec<Range>, Memory>
+    ensures { IfOk result (λ v. v.items ≡ map range_of (filter (λ d. is_typedef_name d.kind) declared.now)) }
+{
+    Ok(
+        declared
+            .iter()
+            .filter(|d| is_typedef(*d))
+            .map(|d| range_of(d))
+            .collect(alloc)?,
+    )
+}
+
+fn typedefs_of(alloc: Global, facts: &Facts) -> Result<Vec<Range>, Memory>
+    ensures { IfOk result (λ v. v.items ≡ typedefs_of facts.now) }
+{
+    ranges_in(alloc, facts.declared())
+}
+
+fn is_function_name(kind: EntityKind) -> bool
+    ensures { result ≡ is_function_name kind }
+{
+    matches!(kind, EntityKind::Function)
+}
+
+fn is_of_function(names: &[Name], k: u32) -> bool
+    ensures { result ≡ is_of_function names.now k }
+{
+    names
+        .iter()
+        .any(|n| n.index == k && is_function_name(n.kind))
+}
+
+fn declarators_of(alloc: Global, names: &[Name], tree: &Tree) -> Result<Vec<List>, Memory>
+    ensures { IfOk result (λ v. v.items ≡ filter (λ l. is_of_function names.now l.name) (lists_in tree.now.under)) }
+{
+    Ok(
+        lists_in(alloc, tree)?
+            .into_iter()
+            .filter(|l| is_of_function(names, l.name))
+            .collect(alloc)?,
+    )
+}
+
+fn calls_in(alloc: Global, tree: &Tree) -> Result<Vec<List>, Memory>
+    ensures { IfOk result (λ v. v.items ≡ calls_in tree.now.under) }
+{
+    let mut calls = Vec::new(alloc);
+    push_calls(alloc, tree, &mut calls)?;
+    Ok(calls)
+}
+
+fn bodies_in(alloc: Global, tree: &Tree) -> Result<Vec<Range>, Memory>
+    ensures { IfOk result (λ v. v.items ≡ bodies_in tree.now.under) }
+{
+    let mut bodies = Vec::new(alloc);
+    push_bodies(tree, &mut bodies)?;
+    Ok(bodies)
+}
+
+fn bare_in(alloc: Global, tree: &Tree) -> Result<Vec<u32>, Memory>
+    ensures { IfOk result (λ v. v.items ≡ bare_in tree.now.under) }
+{
+    let mut bare = Vec::new(alloc);
+    push_bare(tree, &mut bare)?;
+    Ok(bare)
+}
+
+fn lists_in(alloc: Global, tree: &Tree) -> Result<Vec<List>, Memory>
+    ensures { IfOk result (λ v. v.items ≡ lists_in tree.now.under) }
+{
+    let mut lists = Vec::new(alloc);
+    push_lists(alloc, tree, &mut lists)?;
+    Ok(lists)
+}
+
+fn bound_of(alloc: Global, toks: &[Tok], tree: &Tree, facts: &Facts) -> Result<Bound, Memory>
+    ensures { IfOk result (λ b. b ≡ bound_of tree.now.under facts.now) }
+{
+    let names = names_of(alloc, facts)?;
+    let told = Told {
+        declarators: declarators_of(alloc, names.as_slice(), tree)?,
+        calls: calls_in(alloc, tree)?,
+        functions: bodies_in(alloc, tree)?,
+        bare: bare_in(alloc, tree)?,
+        typedefs: typedefs_of(alloc, facts)?,
+    };
+    Bound::new(alloc, toks.len(), names, told)
+}
+
+// The binding, or the first fault.
+fn bound_unless(
+    alloc: Global,
+    toks: &[Tok],
+    tree: &Tree,
+    facts: &Facts,
+) -> Result<Bound, BindRefusal>
+    ensures { Gives (λ b. b) fault_of result (bound_after tree.now.under facts.now) }
+{
+    match facts.fault() {
+        Some(fault) => Err(refusal(fault)),
+        None => Ok(bound_of(alloc, toks, tree, facts)?),
+    }
+}
+
+/// What each identifier of a translation unit denotes, given the tree of its tokens, or the first fault.
+///
+/// Tokens go by their index from 0, and an entity by the first token that declares it. Declarations in
+/// several scopes are of one entity where they have linkage (ISO/IEC 9899:1999, 6.2.2), and the names of
+/// parameters in a function's first list are those in its body (6.9.1). Beside the names it tells the
+/// parameter lists of functions, the argument lists of calls by name, the bodies of functions, the names
+/// that are parameters only since they are no typedef names (6.7.5.3 paragraph 11), and where typedef
+/// names are visible.
+///
+/// A fault stands at the identifier in question, and the one at the earliest token is named, or at one
+/// token the first of these: `Undeclared`, a name that is not visible (6.2.1), or an enumeration that is
+/// not complete (6.7.2.3); `NoMember`, a member of what is no complete structure or union or has none of
+/// the name (6.5.2.3); `NoLabel` (6.8.6.1); `Redeclared`, a name that is declared in the same scope and
+/// name space and is not the same entity (6.7), or a label or member that stands twice (6.8.1, 6.7.2.1);
+/// `TagRedefined`, a tag with two lists or of two kinds (6.7.2.3); `MixedLinkage` (6.2.2 paragraph 7);
+/// and `DesignatorAfterElision`, a member designated in a brace list behind items that fill it without
+/// braces of its own (6.7.8). Nothing else is refused but for want of memory, of which more than 2^32
+/// tokens want too much.
+pub fn bind(alloc: Global, toks: &[Tok], tree: &Tree) -> Result<Bound, BindRefusal>
+    ensures answer { Gives (λ b. b) fault_of result (binding_of toks.now tree.now) }
+{
+    let facts = facts_of(alloc, toks, tree)?;
+    bound_unless(alloc, toks, tree, &facts)
+}
