@@ -15,3 +15,4 @@ mod PlaceLemmas
 mod Reversed
 mod NameLemmas
 mod BoundLemmas
+mod NamingLemmas

@@ -1,5 +1,5 @@
 -- Members by their number, one declaration after another.
-use Rattle.std.proofs.Common.{ℕ, zero, suc, ◌+◌, ◌-◌, ◌<◌, ◌≡◌, Bool, true, false, cond, if◌then◌else◌, List, [], ◌∷◌, ◌++◌, length, drop, map, reverse, Option, None, Some, refl, sym, ap, ◌∙◌, add-one, arith, nat_eq}
+use Rattle.std.proofs.Common.{ℕ, zero, suc, ◌+◌, ◌-◌, ◌<◌, ◌≡◌, Bool, true, false, cond, if◌then◌else◌, List, [], ◌∷◌, length, drop, reverse, None, Some, refl, sym, ap, ◌∙◌, add-one, arith}
 use Rattle.std.specs.Prelude.{filter, slice_get, ◌==◌}
 use Rattle.std.proofs.lemmas.Bool.{ne_eqb}
 use Rattle.scope_bind.specs.declared.declarations.Declaration.{Declaration}

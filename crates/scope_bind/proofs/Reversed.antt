@@ -28,7 +28,7 @@ module _ {A : Type 0} (p : A → Bool) where
   filter_twice xs = ap reverse (filter_reversed xs) ∙ reverse-reverse (filter p xs)
 
 module _ {A B : Type 0} (f : A → B) where
-  map_reversed : (xs : List A) → map f (reverse xs) ≡ reverse (map f xs)
+  pub map_reversed : (xs : List A) → map f (reverse xs) ≡ reverse (map f xs)
   map_reversed [] = refl
   map_reversed (x ∷ xs) =
       ap (map f) (reverse-append (x ∷ []) xs)

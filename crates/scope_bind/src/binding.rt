@@ -1,24 +1,21 @@
 // The binding of a unit (ISO/IEC 9899:1999, 6.2.1 to 6.2.3): the walk, and what is told of it.
-ghost use Rattle.std.specs.Prelude.{◌≡◌, ◌&&◌, ◌==◌, map, filter, reverse, find, length, Some, IfOk};
-ghost use Rattle.std.specs.Option.{option_map, option_map_or};
+ghost use Rattle.std.specs.Prelude.{◌≡◌, map, filter, length, Some, IfOk};
 ghost use Rattle.cs_base.specs.Answer.{Gives};
-ghost use Rattle.scope_bind.specs.declared.entity.EntityKind.TheVariants.{Object as AnObject};
-ghost use Rattle.scope_bind.specs.declared.entity.Linkage.TheVariants.{Absent as NoLinkage};
-ghost use Rattle.scope_bind.specs.Lists.{calls_in, bodies_in, lists_in, bare_in};
+ghost use Rattle.scope_bind.specs.Lists.{calls_in, bodies_in, bare_in};
 ghost use Rattle.scope_bind.specs.Frames.{outermost};
 ghost use Rattle.scope_bind.specs.Faults.{fault_of};
-ghost use Rattle.scope_bind.specs.Bound.{names_of, is_of_function, is_function_name, range_of, typedefs_of, bound_of, bound_after, facts_of, binding_of};
-ghost use Rattle.scope_bind.specs.Told.{declaration_in, name_in};
+ghost use Rattle.scope_bind.specs.Bound.{range_of, typedefs_of, bound_of, bound_after, facts_of, binding_of};
 ghost use Rattle.scope_bind.specs.Declarations.{is_typedef_name};
 
-use crate::bound::{Bound, Name, Told};
-use crate::declarations::{Cause, Declaration, Fault, Occurrence};
-use crate::entity::{EntityKind, Linkage};
+use crate::bound::{Bound, Told};
+use crate::declarations::{Cause, Declaration, Fault};
+use crate::entity::EntityKind;
 use crate::facts::Facts;
 use crate::faults::BindRefusal;
 use crate::frames::{Frame, Position, Scope, Words};
-use crate::listing::{push_bare, push_bodies, push_calls, push_lists};
+use crate::listing::{push_bare, push_bodies, push_calls};
 use crate::lists::{List, Range};
+use crate::naming::{declarators_of, names_of};
 use crate::types::{Base, CType};
 use crate::walking::walk;
 use c99_tree::{Label, Production, Tree};
@@ -92,65 +89,6 @@ fn refusal(fault: Fault) -> BindRefusal
     }
 }
 
-// The latest declaration whose name is the token.
-fn declaration_in(declared: &[Declaration], k: u32) -> Option<&Declaration>
-    ensures { option_map (λ d. d.now) result ≡ declaration_in declared.now k }
-{
-    declared.iter().rev().find(|d| d.name_at == k)
-}
-
-fn kind_or(d: Option<&Declaration>) -> EntityKind
-    ensures { result ≡ option_map_or (λ d. d.kind) (option_map (λ d. d.now) d.entry) AnObject }
-{
-    match d {
-        Some(declaration) => declaration.kind,
-        None => EntityKind::Object,
-    }
-}
-
-fn linkage_or(d: Option<&Declaration>) -> Linkage
-    ensures { result ≡ option_map_or (λ d. d.linkage) (option_map (λ d. d.now) d.entry) NoLinkage }
-{
-    match d {
-        Some(declaration) => declaration.linkage,
-        None => Linkage::Absent,
-    }
-}
-
-fn name_in(declared: &[Declaration], o: Occurrence) -> Name
-    ensures { result ≡ name_in declared.now o }
-{
-    let d = declaration_in(declared, o.entity);
-    Name {
-        index: o.index,
-        entity: o.entity,
-        declares: o.declares,
-        kind: kind_or(d),
-        linkage: linkage_or(d),
-    }
-}
-
-fn names_in(
-    alloc: Global,
-    declared: &[Declaration],
-    occurrences: &[Occurrence],
-) -> Result<Vec<Name>, Memory>
-    ensures { IfOk result (λ v. v.items ≡ map (name_in declared.now) occurrences.now) }
-{
-    Ok(
-        occurrences
-            .iter()
-            .map(|o| name_in(declared, *o))
-            .collect(alloc)?,
-    )
-}
-
-fn names_of(alloc: Global, facts: &Facts) -> Result<Vec<Name>, Memory>
-    ensures { IfOk result (λ v. v.items ≡ names_of facts.now) }
-{
-    names_in(alloc, facts.declared(), facts.occurrences())
-}
-
 fn is_typedef(d: &Declaration) -> bool
     ensures { result ≡ is_typedef_name d.now.kind }
 {
@@ -185,31 +123,6 @@ fn typedefs_of(alloc: Global, facts: &Facts) -> Result<Vec<Range>, Memory>
     ranges_in(alloc, facts.declared())
 }
 
-fn is_function_name(kind: EntityKind) -> bool
-    ensures { result ≡ is_function_name kind }
-{
-    matches!(kind, EntityKind::Function)
-}
-
-fn is_of_function(names: &[Name], k: u32) -> bool
-    ensures { result ≡ is_of_function names.now k }
-{
-    names
-        .iter()
-        .any(|n| n.index == k && is_function_name(n.kind))
-}
-
-fn declarators_of(alloc: Global, names: &[Name], tree: &Tree) -> Result<Vec<List>, Memory>
-    ensures { IfOk result (λ v. v.items ≡ filter (λ l. is_of_function names.now l.name) (lists_in tree.now.under)) }
-{
-    Ok(
-        lists_in(alloc, tree)?
-            .into_iter()
-            .filter(|l| is_of_function(names, l.name))
-            .collect(alloc)?,
-    )
-}
-
 fn calls_in(alloc: Global, tree: &Tree) -> Result<Vec<List>, Memory>
     ensures { IfOk result (λ v. v.items ≡ calls_in tree.now.under) }
 {
@@ -234,26 +147,19 @@ fn bare_in(alloc: Global, tree: &Tree) -> Result<Vec<u32>, Memory>
     Ok(bare)
 }
 
-fn lists_in(alloc: Global, tree: &Tree) -> Result<Vec<List>, Memory>
-    ensures { IfOk result (λ v. v.items ≡ lists_in tree.now.under) }
-{
-    let mut lists = Vec::new(alloc);
-    push_lists(alloc, tree, &mut lists)?;
-    Ok(lists)
-}
-
 fn bound_of(alloc: Global, toks: &[Tok], tree: &Tree, facts: &Facts) -> Result<Bound, Memory>
     ensures { IfOk result (λ b. b ≡ bound_of tree.now.under facts.now) }
 {
-    let names = names_of(alloc, facts)?;
+    let count = toks.len();
+    let names = names_of(alloc, count, facts)?;
     let told = Told {
-        declarators: declarators_of(alloc, names.as_slice(), tree)?,
+        declarators: declarators_of(alloc, count, names.as_slice(), tree)?,
         calls: calls_in(alloc, tree)?,
         functions: bodies_in(alloc, tree)?,
         bare: bare_in(alloc, tree)?,
         typedefs: typedefs_of(alloc, facts)?,
     };
-    Bound::new(alloc, toks.len(), names, told)
+    Bound::new(alloc, count, names, told)
 }
 
 // The binding, or the first fault.

@@ -1,10 +1,11 @@
 // The binding of a translation unit.
-ghost use Rattle.std.specs.Prelude.{◌≡◌, ◌≢◌, ℕ, ◌+◌, ◌≤◌, length, take, get_or, IfOk, OnOk};
+ghost use Rattle.std.specs.Prelude.{◌≡◌, IfOk};
 ghost use Rattle.std.specs.Option.{option_map};
-ghost use Rattle.scope_bind.specs.Names.{ArePlaces, name_at, entity_at, declares_at, kind_at, linkage_at};
+ghost use Rattle.scope_bind.specs.Names.{name_at, entity_at, declares_at, kind_at, linkage_at};
 
 use crate::entity::{EntityKind, Linkage};
 use crate::lists::{List, Range};
+use crate::name_table::NameTable;
 use cs_base::Memory;
 use std::alloc::Global;
 use std::marker::Model;
@@ -23,9 +24,7 @@ pub struct Name {
 /// What is bound. Contracts see the names in the order in which they were bound, and lists.
 #[derive(Drop)]
 pub struct Bound {
-    names: Vec<Name>,
-    // for each token one more than the place of its name among these, or 0
-    places: Vec<u32>,
+    names: NameTable,
     declarators: Vec<List>,
     calls: Vec<List>,
     functions: Vec<Range>,
@@ -48,65 +47,7 @@ impl Model for Bound {
 
     ghost Value = { Bound };
 
-    ghost view = { λ b. record { names = b.names.items; declarators = b.declarators.items; calls = b.calls.items; functions = b.functions.items; bare = b.bare.items; typedefs = b.typedefs.items } };
-
-    ghost use Rattle.scope_bind.specs.Names.{ArePlaces};
-
-    ghost invariant = { λ b. ArePlaces b.names.items b.places.items };
-}
-
-// A table that says of no token where its name stands.
-fn blank(alloc: Global, count: usize) -> Result<Vec<u32>, Memory>
-    ensures { IfOk result (λ v. (k : ℕ) → get_or v.items k 0 ≡ 0) }
-{
-    Ok(vec![in alloc; 0u32; count]?)
-}
-
-// Room for so many tokens, of which the new ones have no names.
-fn grow(places: &mut Vec<u32>, count: usize) -> Result<(), Memory>
-    ensures same { OnOk result ((k : ℕ) → get_or places.new.items k 0 ≡ get_or places.old.items k 0) }
-    ensures room { OnOk result (count ≤ length places.new.items) }
-{
-    let len = places.len();
-    'room: for k in len..count {
-        places.push(0)?;
-    }
-    Ok(())
-}
-
-// The place is told at the token.
-fn tell(places: &mut Vec<u32>, index: u32, place: u32) -> Result<(), Memory>
-    ensures here { OnOk result (get_or places.new.items index 0 ≡ place) }
-    ensures others { OnOk result ((k : ℕ) → k ≢ index → get_or places.new.items k 0 ≡ get_or places.old.items k 0) }
-{
-    let at = index as usize;
-    grow(places, at + 1)?;
-    places[at] = place;
-    Ok(())
-}
-
-// Name number `k` is told at its token.
-fn tell_name(places: &mut Vec<u32>, names: &[Name], k: usize) -> Result<(), Memory>
-    ensures { OnOk result (ArePlaces (take k names.now) places.old.items → ArePlaces (take (k + 1) names.now) places.new.items) }
-{
-    if k >= u32::MAX as usize {
-        return Err(Memory);
-    }
-    match names.get(k) {
-        Some(name) => tell(places, name.index, k as u32 + 1),
-        None => Ok(()),
-    }
-}
-
-fn places_of(alloc: Global, count: usize, names: &[Name]) -> Result<Vec<u32>, Memory>
-    ensures { IfOk result (λ v. ArePlaces names.now v.items) }
-{
-    let mut places = blank(alloc, count)?;
-    let total = names.len();
-    'names: for k in 0..total {
-        tell_name(&mut places, names, k)?;
-    }
-    Ok(places)
+    ghost view = { λ b. record { names = b.names; declarators = b.declarators.items; calls = b.calls.items; functions = b.functions.items; bare = b.bare.items; typedefs = b.typedefs.items } };
 }
 
 impl Bound {
@@ -119,10 +60,8 @@ impl Bound {
     ) -> Result<Bound, Memory>
         ensures { IfOk result (λ b. b ≡ record { names = names.items; declarators = told.declarators.items; calls = told.calls.items; functions = told.functions.items; bare = told.bare.items; typedefs = told.typedefs.items }) }
     {
-        let places = places_of(alloc, count, names.as_slice())?;
         Ok(Bound {
-            names,
-            places,
+            names: NameTable::new(alloc, count, names)?,
             declarators: told.declarators,
             calls: told.calls,
             functions: told.functions,
@@ -135,11 +74,7 @@ impl Bound {
     fn name_at(&self, index: u32) -> Option<&Name>
         ensures { option_map (λ n. n.now) result ≡ name_at self.now.names index }
     {
-        let place = self.places.get(index as usize)?;
-        match *place {
-            0 => None,
-            next => self.names.get(next as usize - 1),
-        }
+        self.names.at(index)
     }
 
     /// The entity that the token is bound to, by the first token that declares it.

@@ -33,6 +33,8 @@ mod linkage;
 mod listing;
 mod lists;
 mod members;
+mod name_table;
+mod naming;
 mod objects;
 mod ordinary;
 mod places;

@@ -1,5 +1,5 @@
 use Rattle.std.proofs.Common.{◌≡◌, ◌≤◌, ℕ, length, get_or}
-use Rattle.scope_bind.proofs.bound.grow.Given as goal
+use Rattle.scope_bind.proofs.name_table.grow.Given as goal
 
 abbrev pub invariant-room : goal.invariant-room
 invariant-room l = record {

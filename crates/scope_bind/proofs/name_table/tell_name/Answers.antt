@@ -1,7 +1,7 @@
 use Rattle.std.proofs.Common.{◌≡◌, ◌≢◌, ◌+◌, ℕ, get_or, take}
 use Rattle.scope_bind.specs.Names.{ArePlaces}
 use Rattle.scope_bind.proofs.NameLemmas.{told-more, ok_both}
-use Rattle.scope_bind.proofs.bound.tell_name.Goals as goal
+use Rattle.scope_bind.proofs.name_table.tell_name.Goals as goal
 
 pub returns-in-Some : goal.returns-in-Some
 returns-in-Some c =
