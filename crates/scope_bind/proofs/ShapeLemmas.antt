@@ -1,9 +1,9 @@
 -- Shapes of forests tell what the definitions over them say.
-use Rattle.std.proofs.Common.{ℕ, ◌≡◌, Bool, true, false, ◌&&◌, List, [], ◌∷◌, ◌++◌, Option, None, Some, if◌then◌else◌, refl}
+use Rattle.std.proofs.Common.{ℕ, ◌≡◌, ◌&&◌, [], Option, None, Some, refl}
 use Rattle.c99_tree.specs.Tree.{Forest, none, token, node}
 use Rattle.c99_tree.specs.declared.production.Label.{Label}
-use Rattle.scope_bind.specs.Trees.{is_bare, name_below, is_node}
-use Rattle.scope_bind.specs.Lists.{call_in, definition_in, tail_of, body_of, declarator_in, name_in}
+use Rattle.scope_bind.specs.Trees.{is_bare, name_below}
+use Rattle.scope_bind.specs.Lists.{call_in, definition_in, tail_of, declarator_in, name_in}
 use Rattle.scope_bind.specs.Shapes.{first_node, second_node, behind_token, are_two, is_bare_of, call_of, definition_of, definition_by, declarator_of, name_of_inner}
 
 pub bare_shape : (f : Forest) → is_bare f ≡ (are_two f && is_bare_of (first_node f) (second_node f))
