@@ -1,12 +1,11 @@
 -- How a run ends: the whole outcome at each end.
-use Rattle.std.proofs.Common.{◌≡◌, ℕ, List, [], refl, ap, inl, inr}
-use Rattle.std.specs.Prelude.{Option, None, IfSome, slice_get}
+use Rattle.std.proofs.Common.{◌≡◌, ℕ, List, [], ap, inl, inr}
+use Rattle.std.specs.Prelude.{None, IfSome, slice_get}
 use Rattle.cs_base.specs.Edit.{Edit}
-use Rattle.cs_base.specs.Outside.{FileMap}
 use Rattle.cscout_cli.specs.declared.status.Status.TheVariants.{Done, Usage, WriteFault}
 use Rattle.cscout_cli.specs.declared.stops.Stop.{Stop}
 use Rattle.cscout_cli.specs.declared.stops.Stop.TheVariants as stop
-use Rattle.cscout_cli.specs.Request.{RequestValue, asked}
+use Rattle.cscout_cli.specs.Request.{asked}
 use Rattle.cscout_cli.specs.Answer.{Answer, answer, answer_of, stopped}
 use Rattle.cscout_cli.specs.Message.{usage_line, unwritten_line, no_output_line}
 use Rattle.cscout_cli.specs.Outcome.{World, HasCauses, Says, Tells, Leaves, FailedPut, FailedWrite, IsDone, Unmoved, Ends}
@@ -35,6 +34,7 @@ stop-leaves a (stop.TooManyUnits line) before now unmoved = unmoved
 stop-leaves a stop.UnreadWorkspace before now unmoved = unmoved
 stop-leaves a (stop.UnitFault unit place cause) before now unmoved = unmoved
 stop-leaves a (stop.UnreadFile path) before now unmoved = unmoved
+stop-leaves a stop.NoUnit before now unmoved = unmoved
 stop-leaves a stop.BadName before now unmoved = unmoved
 stop-leaves a stop.NoName before now unmoved = unmoved
 stop-leaves a (stop.Offence place cause) before now unmoved = unmoved

@@ -5,3 +5,4 @@ pub mod RunLemmas
 pub mod EndLemmas
 pub mod PathLemmas
 pub mod PromiseLemmas
+pub mod ReportLemmas

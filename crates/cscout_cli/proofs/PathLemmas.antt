@@ -1,5 +1,5 @@
 -- A path that is text stays text where it is normalised.
-use Rattle.std.proofs.Common.{◌≡◌, ℕ, true, List, [], ◌<◌, lit<}
+use Rattle.std.proofs.Common.{ℕ, List, [], lit<}
 use Rattle.std.specs.Prelude.{IsUtf8}
 use Rattle.std.specs.Str.{is_utf8}
 use Rattle.std.proofs.lemmas.Str.{IsUtf8-from_is_utf8, is_utf8-from_IsUtf8, IsUtf8-nil}

@@ -1,26 +1,25 @@
 -- A rename that is done keeps its promise: from the answer back to the workspace, the analysis and the
 -- named identifier, and from the edits put to the files held.
-use Rattle.std.proofs.Common.{◌≡◌, ℕ, zero, suc, ◌<◌, Bool, true, false, not, List, [], ◌∷◌, Option, None, Some, Result, Ok, Err, length, get_or, refl, ap, sym, subst, ◌∙◌, arith}
+use Rattle.std.proofs.Common.{◌≡◌, ℕ, suc, true, not, List, [], ◌∷◌, Option, None, Some, Result, Ok, Err, get_or, refl, ap, sym, subst, ◌∙◌, arith}
 use Rattle.std.specs.Prelude.{◌≢◌, Contains, IfSome, bytes_eq, flat_map}
 use Rattle.std.specs.List.{list_all}
-use Rattle.std.specs.Option.{option_map, option_map_or}
+use Rattle.std.specs.Option.{option_map}
 use Rattle.cs_base.specs.Edit.{Edit, with_edits}
 use Rattle.cs_base.specs.Outside.{FileMap, bytes_at}
 use Rattle.ws_file.specs.Workspace.{WorkspaceValue}
-use Rattle.ws_file.specs.Reading.{WsFault, bad_line, too_many_units, workspace_of}
+use Rattle.ws_file.specs.Reading.{WsFault, workspace_of}
 use Rattle.rename_edit.specs.Analysis.{ThinValue, UnitFault, thin_of}
 use Rattle.rename_edit.specs.Class.{Named}
 use Rattle.rename_edit.specs.Offence.{edited}
 use Rattle.rename_edit.specs.Renaming.{Refusal, edits_of, edit_of, renaming}
 use Rattle.rename_edit.proofs.AnalysisLemmas.{HasRead, HasRead-thin_of}
 use Rattle.rename_edit.proofs.EditedLemmas.{bytes_at-edits, bytes_at-edits_other}
-use Rattle.rename_edit.proofs.MeaningLemmas.{IsAccepted, renaming-accepted, KeepsMeaning-renaming}
+use Rattle.rename_edit.proofs.MeaningLemmas.{renaming-accepted, KeepsMeaning-renaming}
 use Rattle.rename_edit.proofs.NamesLemmas.{bytes_eq-apart}
 use Rattle.cscout_cli.specs.declared.status.Status.{Status}
 use Rattle.cscout_cli.specs.declared.status.Status.TheVariants.{Done, Refused, Workspace}
-use Rattle.cscout_cli.specs.Request.{RequestValue, RenameValue, asked, help_asked, version_asked, renaming_asked}
-use Rattle.cscout_cli.specs.Answer.{Answer, answer, answer_of, stopped, rename_answer, workspace_answer, analysed_answer, renaming_answer, unit_paths}
-use Rattle.cscout_cli.specs.Message.{absent_line}
+use Rattle.cscout_cli.specs.Request.{RequestValue, RenameValue, asked, help_asked, version_asked, renaming_asked, tokens_asked, skipped_asked}
+use Rattle.cscout_cli.specs.Answer.{Answer, answer, answer_of, stopped, workspace_at, workspace_answer, thin_answer, analysed_answer, renaming_answer, unit_paths}
 use Rattle.cscout_cli.specs.Promise.{IsRenamed, KeepsPromise}
 use Rattle.cscout_cli.proofs.RunLemmas.{answer-request}
 
@@ -99,20 +98,13 @@ kept_analysis q before ws text edits (Ok a) read is h =
     kept_answer q before ws a text edits (renaming a q.path q.line q.column q.name) read is refl h
 kept_analysis q before ws text edits (Err fault) read is h = not_done Workspace _ text edits (λ e. cc) h
 
-kept_workspace : (q : RenameValue) (before : FileMap) (text : List ℕ) (edits : List Edit) (bytes : List ℕ)
-    (read : Result WorkspaceValue WsFault) → bytes_at q.ws before ≡ Some bytes → workspace_of bytes ≡ read
-    → workspace_answer q before read ≡ answer_of Done text [] edits → IsKept q before (with_edits edits before)
-kept_workspace q before text edits bytes (Ok ws) there is h =
-    kept_analysis q before ws text edits (thin_of (unit_paths ws) before)
-    (rw there (ap (λ (r : Result WorkspaceValue WsFault). Some r) is)) refl h
-kept_workspace q before text edits bytes (Err fault) there is h = not_done Workspace _ text edits (λ e. cc) h
-
-kept_read : (q : RenameValue) (before : FileMap) (text : List ℕ) (edits : List Edit) (read : Option (List ℕ))
-    → bytes_at q.ws before ≡ read
-    → option_map_or (λ bytes. workspace_answer q before (workspace_of bytes)) read (stopped Workspace (absent_line q.ws)) ≡ answer_of Done text [] edits
-    → IsKept q before (with_edits edits before)
-kept_read q before text edits None is h = not_done Workspace _ text edits (λ e. cc) h
-kept_read q before text edits (Some bytes) is h = kept_workspace q before text edits bytes (workspace_of bytes) is refl h
+kept_workspace : (q : RenameValue) (before : FileMap) (text : List ℕ) (edits : List Edit)
+    (read : Option (Result WorkspaceValue WsFault)) → workspace_at q.ws before ≡ read
+    → workspace_answer q.ws (thin_answer q before) read ≡ answer_of Done text [] edits → IsKept q before (with_edits edits before)
+kept_workspace q before text edits None is h = not_done Workspace _ text edits (λ e. cc) h
+kept_workspace q before text edits (Some (Ok ws)) is h =
+    kept_analysis q before ws text edits (thin_of (unit_paths ws) before) is refl h
+kept_workspace q before text edits (Some (Err fault)) is h = not_done Workspace _ text edits (λ e. cc) h
 
 -- the promise to the words, over the files as the edits leave them
 promise_at : (words : List (List ℕ)) (before : FileMap) (text : List ℕ) (edits : List Edit) (request : Option RequestValue)
@@ -120,8 +112,10 @@ promise_at : (words : List (List ℕ)) (before : FileMap) (text : List ℕ) (edi
 promise_at words before text edits None is h = tt
 promise_at words before text edits (Some help_asked) is h = tt
 promise_at words before text edits (Some version_asked) is h = tt
+promise_at words before text edits (Some (tokens_asked q)) is h = tt
+promise_at words before text edits (Some (skipped_asked ws)) is h = tt
 promise_at words before text edits (Some (renaming_asked q)) is h =
-    kept_read q before text edits (bytes_at q.ws before) refl (sym (answer-request words before (renaming_asked q) is) ∙ h)
+    kept_workspace q before text edits (workspace_at q.ws before) refl (sym (answer-request words before (renaming_asked q) is) ∙ h)
 
 -- where the files held are told, the promise is kept
 pub promise-told : (o now : Option FileMap) (words : List (List ℕ)) (text : List ℕ) (edits : List Edit)

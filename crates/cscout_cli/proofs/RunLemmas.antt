@@ -1,8 +1,7 @@
 -- What each end of a run says of the answer and of the outside.
 use Rattle.std.proofs.Common.{◌≡◌, ℕ, ◌<◌, zero, suc, List, [], ◌∷◌, Option, None, Some, Ok, Err, refl, ap, sym, subst, ◌∙◌, inl, inr, ⊎_elim, length, arith}
-use Rattle.std.specs.Prelude.{◌⊎◌, IfSome, slice_get}
-use Rattle.std.specs.Option.{option_map}
-use Rattle.cs_base.specs.Edit.{Edit, with_edits}
+use Rattle.std.specs.Prelude.{IfSome, slice_get}
+use Rattle.cs_base.specs.Edit.{Edit}
 use Rattle.cs_base.specs.Outside.{FileMap, Rose}
 use Rattle.cscout_cli.specs.declared.status.Status.{Status}
 use Rattle.cscout_cli.specs.declared.status.Status.TheVariants.{Done, Refused, Usage, Workspace, ReadFault, WriteFault, Memory}
@@ -47,6 +46,7 @@ stop-status ws a (stop.TooManyUnits line) p = ap (λ (b : Answer). b.status) p
 stop-status ws a stop.UnreadWorkspace p = tt
 stop-status ws a (stop.UnitFault unit place cause) p = ap (λ (b : Answer). b.status) p
 stop-status ws a (stop.UnreadFile path) p = tt
+stop-status ws a stop.NoUnit p = ap (λ (b : Answer). b.status) p
 stop-status ws a stop.BadName p = ap (λ (b : Answer). b.status) p
 stop-status ws a stop.NoName p = ap (λ (b : Answer). b.status) p
 stop-status ws a (stop.Offence place cause) p = ap (λ (b : Answer). b.status) p
@@ -69,6 +69,7 @@ stop-says ws a (stop.TooManyUnits line) before now p told reads = answer-told a 
 stop-says ws a stop.UnreadWorkspace before now p told reads = (ws, told, reads.told)
 stop-says ws a (stop.UnitFault unit place cause) before now p told reads = answer-told a _ _ before now p told
 stop-says ws a (stop.UnreadFile path) before now p told reads = (path, told, reads.told)
+stop-says ws a stop.NoUnit before now p told reads = answer-told a _ _ before now p told
 stop-says ws a stop.BadName before now p told reads = answer-told a _ _ before now p told
 stop-says ws a stop.NoName before now p told reads = answer-told a _ _ before now p told
 stop-says ws a (stop.Offence place cause) before now p told reads = answer-told a _ _ before now p told
@@ -141,6 +142,7 @@ stop-causes ws (stop.TooManyUnits line) before now reads puts outs = quiet-cause
 stop-causes ws stop.UnreadWorkspace before now reads puts outs = read-causes before now reads.rose puts outs
 stop-causes ws (stop.UnitFault unit place cause) before now reads puts outs = quiet-causes before now Workspace reads puts outs (λ e. cc) (λ e. cc)
 stop-causes ws (stop.UnreadFile path) before now reads puts outs = read-causes before now reads.rose puts outs
+stop-causes ws stop.NoUnit before now reads puts outs = quiet-causes before now Refused reads puts outs (λ e. cc) (λ e. cc)
 stop-causes ws stop.BadName before now reads puts outs = quiet-causes before now Refused reads puts outs (λ e. cc) (λ e. cc)
 stop-causes ws stop.NoName before now reads puts outs = quiet-causes before now Refused reads puts outs (λ e. cc) (λ e. cc)
 stop-causes ws (stop.Offence place cause) before now reads puts outs = quiet-causes before now Refused reads puts outs (λ e. cc) (λ e. cc)
@@ -225,6 +227,7 @@ stop-not_done (stop.TooManyUnits line) e = cc
 stop-not_done stop.UnreadWorkspace e = cc
 stop-not_done (stop.UnitFault unit place cause) e = cc
 stop-not_done (stop.UnreadFile path) e = cc
+stop-not_done stop.NoUnit e = cc
 stop-not_done stop.BadName e = cc
 stop-not_done stop.NoName e = cc
 stop-not_done (stop.Offence place cause) e = cc

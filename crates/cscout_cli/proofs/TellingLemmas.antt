@@ -1,10 +1,10 @@
 -- Writes one after the other, and the line that they tell.
-use Rattle.std.proofs.Common.{◌≡◌, ℕ, zero, suc, ◌<◌, ◌++◌, ◌∷◌, ◌∙◌, List, [], length, take, drop, get_or, Option, None, Some, IsTrue, Bool, true, false, refl, sym, subst, ap, append_assoc, arith}
+use Rattle.std.proofs.Common.{◌≡◌, ℕ, zero, suc, ◌<◌, ◌++◌, ◌∷◌, ◌∙◌, List, [], length, take, drop, get_or, Option, None, Some, Bool, true, false, refl, sym, subst, ap, append_assoc, arith}
 use Rattle.std.proofs.lemmas.List.{append-nil}
 use Rattle.std.specs.Prelude.{codes, map}
 use Rattle.std.specs.List.{flat_map}
 use Rattle.std.specs.Option.{option_map}
-use Rattle.cs_base.specs.Outside.{IsFront, Writes, Faults, Rose, write_failed}
+use Rattle.cs_base.specs.Outside.{IsFront, Writes, Faults, write_failed}
 use Rattle.cs_base.specs.declared.outside.Wrote.{Wrote}
 use Rattle.cs_base.specs.declared.outside.Wrote.TheVariants as wrote
 use Rattle.cscout_cli.specs.Telling.{Told}

@@ -1,17 +1,22 @@
 -- The answer of the program to its words over the files held: status, output, messages and edits.
-use Rattle.std.specs.Prelude.{ℕ, List, [], ◌∷◌, ◌++◌, Option, None, Some, Result, Ok, Err, codes, map}
-use Rattle.std.specs.Option.{option_map_or}
+use Rattle.std.specs.Prelude.{ℕ, List, [], Option, None, Some, Result, Ok, Err, codes, map}
+use Rattle.std.specs.Option.{option_map, option_map_or}
 use Rattle.cs_base.specs.Edit.{Edit}
 use Rattle.cs_base.specs.Outside.{FileMap, bytes_at}
 use Rattle.cs_base.specs.Units.{UnitValue}
 use Rattle.ws_file.specs.Workspace.{WorkspaceValue}
 use Rattle.ws_file.specs.Reading.{WsFault, bad_line, too_many_units, workspace_of}
+use Rattle.include_tree.specs.Files.{source_of}
+use Rattle.include_tree.specs.Texts.{UnitTextValue}
+use Rattle.ws_core.specs.Texts as units
+use Rattle.query_report.specs.TokensText.{tokens_text}
+use Rattle.query_report.specs.Skipped.{skipped_text}
 use Rattle.rename_edit.specs.Analysis.{ThinValue, UnitFault, thin_of}
 use Rattle.rename_edit.specs.Renaming.{Refusal, bad_name, no_name, refused, renaming}
 use Rattle.cscout_cli.specs.declared.status.Status.{Status}
 use Rattle.cscout_cli.specs.declared.status.Status.TheVariants.{Done, Refused, Usage, Workspace}
-use Rattle.cscout_cli.specs.Request.{RequestValue, help_asked, version_asked, renaming_asked, RenameValue, asked}
-use Rattle.cscout_cli.specs.Message.{usage_line, absent_line, ws_line, unit_line, refused_line, offence_line, edited_lines}
+use Rattle.cscout_cli.specs.Request.{RequestValue, help_asked, version_asked, renaming_asked, tokens_asked, skipped_asked, RenameValue, TokensValue, asked}
+use Rattle.cscout_cli.specs.Message.{usage_line, absent_line, ws_line, unit_line, text_fault_line, refused_line, offence_line, edited_lines}
 use Rattle.cscout_cli.specs.Help.{help_text, version_text}
 
 -- What a run does: its status, the text for `out`, the text for `err`, and the edits that it puts.
@@ -53,27 +58,74 @@ abbrev pub renaming_answer : Result (List Edit) Refusal → Answer
 renaming_answer (Ok edits) = answer_of Done (edited_lines edits) [] edits
 renaming_answer (Err refusal) = stopped Refused (refusal_line refusal)
 
+-- ---- the workspace file
+
+-- the workspace of the workspace file, or its first fault, if it is there
+abbrev pub workspace_at : List ℕ → FileMap → Option (Result WorkspaceValue WsFault)
+workspace_at ws files = option_map workspace_of (bytes_at ws files)
+
+-- what a command answers over its workspace
+abbrev pub workspace_answer : List ℕ → (WorkspaceValue → Answer) → Option (Result WorkspaceValue WsFault) → Answer
+workspace_answer ws next None = stopped Workspace (absent_line ws)
+workspace_answer ws next (Some (Ok w)) = next w
+workspace_answer ws next (Some (Err fault)) = stopped Workspace (ws_fault_line ws fault)
+
+-- ---- `rename`
+
 -- the renaming over a workspace, once its units are analysed
 abbrev pub analysed_answer : RenameValue → Result ThinValue UnitFault → Answer
 analysed_answer q (Ok a) = renaming_answer (renaming a q.path q.line q.column q.name)
 analysed_answer q (Err fault) = stopped Workspace (unit_line fault)
 
--- the renaming over the files, once the workspace file is read
-abbrev pub workspace_answer : RenameValue → FileMap → Result WorkspaceValue WsFault → Answer
-workspace_answer q files (Ok ws) = analysed_answer q (thin_of (unit_paths ws) files)
-workspace_answer q files (Err fault) = stopped Workspace (ws_fault_line q.ws fault)
+-- the renaming over a workspace
+abbrev pub thin_answer : RenameValue → FileMap → WorkspaceValue → Answer
+thin_answer q files w = analysed_answer q (thin_of (unit_paths w) files)
 
 -- the renaming over the files
 abbrev pub rename_answer : RenameValue → FileMap → Answer
-rename_answer q files =
-    option_map_or (λ bytes. workspace_answer q files (workspace_of bytes))
-    (bytes_at q.ws files) (stopped Workspace (absent_line q.ws))
+rename_answer q files = workspace_answer q.ws (thin_answer q files) (workspace_at q.ws files)
+
+-- ---- `tokens`
+
+-- the report on a unit that is preprocessed
+abbrev pub text_answer : Result UnitTextValue units.UnitFault → Answer
+text_answer (Ok text) = shown (tokens_text text)
+text_answer (Err fault) = stopped Workspace (text_fault_line fault)
+
+-- the report over a workspace: the unit is preprocessed by itself, if there is one with this number
+abbrev pub unit_answer : ℕ → FileMap → WorkspaceValue → Answer
+unit_answer unit files w =
+    option_map_or text_answer (units.one_text_of (source_of files) w.units unit)
+    (stopped Refused (refused_line (codes "no unit")))
+
+-- the report over the files
+abbrev pub tokens_answer : TokensValue → FileMap → Answer
+tokens_answer q files = workspace_answer q.ws (unit_answer q.unit files) (workspace_at q.ws files)
+
+-- ---- `skipped`
+
+-- the report on units that are preprocessed
+abbrev pub texts_answer : Result units.TextsValue units.UnitFault → Answer
+texts_answer (Ok texts) = shown (skipped_text texts)
+texts_answer (Err fault) = stopped Workspace (text_fault_line fault)
+
+-- the report over a workspace, all units of which are preprocessed
+abbrev pub units_answer : FileMap → WorkspaceValue → Answer
+units_answer files w = texts_answer (units.texts_of (source_of files) w.units)
+
+-- the report over the files
+abbrev pub skipped_answer : List ℕ → FileMap → Answer
+skipped_answer ws files = workspace_answer ws (units_answer files) (workspace_at ws files)
+
+-- ---- the whole
 
 -- the answer to a request
 abbrev pub request_answer : FileMap → RequestValue → Answer
 request_answer files help_asked = shown help_text
 request_answer files version_asked = shown version_text
 request_answer files (renaming_asked q) = rename_answer q files
+request_answer files (tokens_asked q) = tokens_answer q files
+request_answer files (skipped_asked ws) = skipped_answer ws files
 
 -- The answer to the words over the files: a command line of no form first, then the workspace file, then
 -- the units, then the refusals of the command.

@@ -3,21 +3,30 @@ use Rattle.std.specs.Prelude.{List, ℕ, []}
 use Rattle.cs_base.specs.Paths.{normal_path_of}
 use Rattle.cscout_cli.specs.declared.requests.Rename.{Rename}
 use Rattle.cscout_cli.specs.declared.requests.Request.{Request}
-use Rattle.cscout_cli.specs.declared.requests.Request.TheVariants.{Help, Version, Renaming}
-use Rattle.cscout_cli.specs.Request.{RenameValue, rename, RequestValue, help_asked, version_asked, renaming_asked}
+use Rattle.cscout_cli.specs.declared.requests.Request.TheVariants.{Help, Version, Renaming, Tokens, Skipped}
+use Rattle.cscout_cli.specs.declared.requests.UnitTokens.{UnitTokens}
+use Rattle.cscout_cli.specs.Request.{RenameValue, rename, TokensValue, tokens_of_unit, RequestValue, help_asked, version_asked, renaming_asked, tokens_asked, skipped_asked}
 
 -- a rename in words, its path in its normal form
 abbrev pub rename_value : Rename → RenameValue
 rename_value r = rename r.ws.now (normal_path_of r.path.now) r.line r.column r.name.now
+
+-- a report on the tokens of a unit, in words
+abbrev pub tokens_value : UnitTokens → TokensValue
+tokens_value q = tokens_of_unit q.ws.now q.unit
 
 -- the request that words make
 abbrev pub request_value : Request → RequestValue
 request_value Help = help_asked
 request_value Version = version_asked
 request_value (Renaming r) = renaming_asked (rename_value r)
+request_value (Tokens q) = tokens_asked (tokens_value q)
+request_value (Skipped ws) = skipped_asked ws.now
 
 -- the workspace file of a request, or nothing where it has none
 abbrev pub workspace_file : Request → List ℕ
 workspace_file Help = []
 workspace_file Version = []
 workspace_file (Renaming r) = r.ws.now
+workspace_file (Tokens q) = q.ws.now
+workspace_file (Skipped ws) = ws.now

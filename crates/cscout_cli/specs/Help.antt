@@ -8,11 +8,15 @@ version_text = codes "cscout 0.1\n"
 -- `--help`: every command, its words, the exit statuses and one example
 unfoldable pub help_text : List ℕ
 help_text =
-    codes "cscout renames identifiers in C programs.\n"
+    codes "cscout renames identifiers in C programs, and preprocesses their units.\n"
     ++ codes "\n"
     ++ codes "cscout WS rename PATH LINE COL NAME\n"
     ++ codes "    renames the name at line LINE and column COL of the file PATH, in all files of the\n"
     ++ codes "    workspace file WS, to NAME. Prints `edited PATH COUNT` for each file that changes.\n"
+    ++ codes "cscout WS tokens UNIT\n"
+    ++ codes "    prints the preprocessing tokens of unit UNIT of the workspace file, one a line\n"
+    ++ codes "cscout WS skipped\n"
+    ++ codes "    prints `PATH:FIRST-LAST` for the lines of source files that no unit processes\n"
     ++ codes "cscout --help\n"
     ++ codes "    prints this text\n"
     ++ codes "cscout --version\n"

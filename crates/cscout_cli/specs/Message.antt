@@ -2,7 +2,8 @@
 use Rattle.std.specs.Prelude.{ℕ, List, [], ◌∷◌, ◌++◌, codes, decimal, flat_map}
 use Rattle.cs_base.specs.Edit.{Edit}
 use Rattle.cs_base.specs.Words.{words_of}
-use Rattle.rename_edit.specs.Analysis.{FileFault, UnitFault}
+use Rattle.ws_core.specs.Texts as units
+use Rattle.rename_edit.specs.Analysis.{FileFault, UnitFault, file_fault, unit_fault}
 use Rattle.rename_edit.specs.Offence.{Offence}
 
 -- pieces of text, one behind the other
@@ -43,6 +44,11 @@ ws_line ws line words = message (ws ∷ codes ":" ∷ decimal line ∷ codes ": 
 -- a unit's fault
 abbrev pub unit_line : UnitFault → List ℕ
 unit_line f = message (unit_pieces (decimal f.unit) (fault_pieces f.path f.fault))
+
+-- the same of a unit that is preprocessed
+abbrev pub text_fault_line : units.UnitFault → List ℕ
+text_fault_line f =
+    unit_line (unit_fault f.unit f.fault.place.path (file_fault f.fault.place.line f.fault.place.column f.fault.cause))
 
 -- a refusal without a place
 abbrev pub refused_line : List ℕ → List ℕ

@@ -1,5 +1,5 @@
 -- The promise of a rename that is done: exactly the named class changes, and every unit keeps its meaning.
-use Rattle.std.specs.Prelude.{ℕ, ◌≡◌, ◌≢◌, List, Option, None, Some, Result, Ok, Err, Contains}
+use Rattle.std.specs.Prelude.{ℕ, ◌≡◌, ◌≢◌, List, Option, Some, Ok, Contains}
 use Rattle.std.specs.Option.{option_map}
 use Rattle.cs_base.specs.Outside.{FileMap, bytes_at}
 use Rattle.ws_file.specs.Workspace.{WorkspaceValue}

@@ -17,11 +17,22 @@ pub record RenameValue : Type 0 where
 abbrev pub rename : List ℕ → List ℕ → ℕ → ℕ → List ℕ → RenameValue
 rename ws path line column name = record { ws = ws; path = path; line = line; column = column; name = name }
 
--- What the program can be asked for.
+-- A report on the tokens of a unit: the workspace file, and the number of the unit.
+pub record TokensValue : Type 0 where
+  pub ws : List ℕ
+  pub unit : ℕ
+
+-- such a report of these parts
+abbrev pub tokens_of_unit : List ℕ → ℕ → TokensValue
+tokens_of_unit ws unit = record { ws = ws; unit = unit }
+
+-- What the program can be asked for. A report on skipped groups has a workspace file alone.
 pub data RequestValue : Type 0 where
   help_asked : RequestValue
   version_asked : RequestValue
   renaming_asked : RenameValue → RequestValue
+  tokens_asked : TokensValue → RequestValue
+  skipped_asked : List ℕ → RequestValue
 
 -- the number that decimal digits spell
 abbrev pub number_of : List ℕ → ℕ
@@ -54,6 +65,17 @@ alone_of word =
     if bytes_eq word (codes "--help") then Some help_asked
     else (if bytes_eq word (codes "--version") then Some version_asked else None)
 
+-- two words: the workspace file and a command
+abbrev pub workspace_command_of : List ℕ → List ℕ → Option RequestValue
+workspace_command_of ws command = if bytes_eq command (codes "skipped") then Some (skipped_asked ws) else None
+
+-- three words: the workspace file, a command, and the number of a unit
+abbrev pub unit_command_of : List ℕ → List ℕ → List ℕ → Option RequestValue
+unit_command_of ws command unit =
+    if bytes_eq command (codes "tokens") && is_number unit
+    then Some (tokens_asked (tokens_of_unit ws (number_of unit)))
+    else None
+
 -- six words: the workspace file and a command
 abbrev pub command_of : List ℕ → List ℕ → List ℕ → List ℕ → List ℕ → List ℕ → Option RequestValue
 command_of ws command path line column name =
@@ -62,6 +84,8 @@ command_of ws command path line column name =
 -- the request of these words, or none where they are of no form
 abbrev pub asked : List (List ℕ) → Option RequestValue
 asked (word ∷ []) = alone_of word
+asked (ws ∷ command ∷ []) = workspace_command_of ws command
+asked (ws ∷ command ∷ unit ∷ []) = unit_command_of ws command unit
 asked (ws ∷ command ∷ path ∷ line ∷ column ∷ name ∷ []) =
     command_of ws command path line column name
 asked words = None

@@ -1,15 +1,17 @@
 -- What the steps of a run promise each other.
-use Rattle.std.specs.Prelude.{ℕ, ◌≡◌, List, [], Option, Result, Ok, Err}
+use Rattle.std.specs.Prelude.{ℕ, ◌≡◌, List, [], Option, Some, Result, Ok, Err}
 use Rattle.cs_base.specs.Outside.{FileMap}
 use Rattle.ws_file.specs.Workspace.{WorkspaceValue}
-use Rattle.rename_edit.specs.Analysis.{ThinValue, thin_of}
+use Rattle.ws_core.specs.declared.analyse_fault.AnalyseFault.{AnalyseFault}
+use Rattle.ws_core.specs.declared.analyse_fault.AnalyseFault.TheVariants as fault
+use Rattle.rename_edit.specs.Analysis.{ThinValue}
 use Rattle.rename_edit.specs.Renaming.{renaming}
 use Rattle.cscout_cli.specs.declared.status.Status.TheVariants as status
 use Rattle.cscout_cli.specs.declared.stops.Stop.{Stop}
-use Rattle.cscout_cli.specs.declared.stops.Stop.TheVariants.{BadName, NoName, Offence, Memory}
+use Rattle.cscout_cli.specs.declared.stops.Stop.TheVariants.{UnitFault, UnreadFile, BadName, NoName, Offence, Memory}
 use Rattle.cscout_cli.specs.declared.preparing.Ready.{Ready}
 use Rattle.cscout_cli.specs.Request.{RenameValue}
-use Rattle.cscout_cli.specs.Answer.{Answer, answer_of, analysed_answer, renaming_answer, unit_paths}
+use Rattle.cscout_cli.specs.Answer.{Answer, answer_of, renaming_answer, workspace_at, workspace_answer}
 use Rattle.cscout_cli.specs.Stopping.{Stops, StopReads}
 
 -- the answer is what stands ready to be put and written, or that of the early end
@@ -17,15 +19,21 @@ abbrev pub Prepares : List ℕ → Answer → Result Ready Stop → Type 0
 Prepares ws a (Ok ready) = a ≡ answer_of status.Done ready.text.items [] ready.edits
 Prepares ws a (Err stop) = Stops ws a stop
 
--- the answer to a rename is that over this workspace, or that of the early end
-abbrev pub ReadsWorkspace : RenameValue → FileMap → Answer → Result WorkspaceValue Stop → Type 0
-ReadsWorkspace q files a (Ok ws) = a ≡ analysed_answer q (thin_of (unit_paths ws) files)
-ReadsWorkspace q files a (Err stop) = Stops q.ws a stop
+-- the workspace file holds this workspace, or the answer of every command is that of the early end
+abbrev pub ReadsWorkspace : List ℕ → FileMap → Result WorkspaceValue Stop → Type 0
+ReadsWorkspace ws files (Ok w) = workspace_at ws files ≡ Some (Ok w)
+ReadsWorkspace ws files (Err stop) = (next : WorkspaceValue → Answer) → Stops ws (workspace_answer ws next (workspace_at ws files)) stop
 
 -- the answer to a rename is that over this analysis, or that of the early end
 abbrev pub Analyses : RenameValue → Answer → Result ThinValue Stop → Type 0
 Analyses q a (Ok thin) = a ≡ renaming_answer (renaming thin q.path q.line q.column q.name)
 Analyses q a (Err stop) = Stops q.ws a stop
+
+-- why a workspace has no texts, as an early end
+abbrev pub stop_of : AnalyseFault → Stop
+stop_of (fault.WorkspaceFault unit place cause) = UnitFault unit place cause
+stop_of (fault.ReadFault path) = UnreadFile path
+stop_of fault.Memory = Memory
 
 -- what a step says of the reads: where it goes on, none failed
 abbrev pub StepReads : {X : Type 0} → List ℕ → ℕ → ℕ → Option (List ℕ) → Result X Stop → Type 0

@@ -1,12 +1,12 @@
 -- How a run that puts nothing stops: what its early end says of the answer and of the outside.
-use Rattle.std.specs.Prelude.{ℕ, ◌≡◌, List, [], codes, Option, Result, Ok, Err, IfSome}
+use Rattle.std.specs.Prelude.{ℕ, ◌≡◌, List, codes, Option, IfSome}
 use Rattle.cs_base.specs.Outside.{Rose}
 use Rattle.rename_edit.specs.Analysis.{unit_fault, file_fault}
 use Rattle.rename_edit.specs.Offence.{offence}
 use Rattle.cscout_cli.specs.declared.status.Status.{Status}
 use Rattle.cscout_cli.specs.declared.status.Status.TheVariants as status
 use Rattle.cscout_cli.specs.declared.stops.Stop.{Stop}
-use Rattle.cscout_cli.specs.declared.stops.Stop.TheVariants.{NoWorkspace, BadLine, TooManyUnits, UnreadWorkspace, UnitFault, UnreadFile, BadName, NoName, Offence, Memory}
+use Rattle.cscout_cli.specs.declared.stops.Stop.TheVariants.{NoWorkspace, BadLine, TooManyUnits, UnreadWorkspace, UnitFault, UnreadFile, NoUnit, BadName, NoName, Offence, Memory}
 use Rattle.cscout_cli.specs.Answer.{Answer, stopped}
 use Rattle.cscout_cli.specs.Message.{absent_line, ws_line, unit_line, refused_line, offence_line, unread_line, memory_line}
 
@@ -18,6 +18,7 @@ status_of (TooManyUnits line) = status.Workspace
 status_of UnreadWorkspace = status.ReadFault
 status_of (UnitFault unit place cause) = status.Workspace
 status_of (UnreadFile path) = status.ReadFault
+status_of NoUnit = status.Refused
 status_of BadName = status.Refused
 status_of NoName = status.Refused
 status_of (Offence place cause) = status.Refused
@@ -32,6 +33,7 @@ line_of ws UnreadWorkspace = unread_line ws
 line_of ws (UnitFault unit place cause) =
     unit_line (unit_fault unit place.path (file_fault place.line place.column cause))
 line_of ws (UnreadFile path) = unread_line path
+line_of ws NoUnit = refused_line (codes "no unit")
 line_of ws BadName = refused_line (codes "bad name")
 line_of ws NoName = refused_line (codes "no name")
 line_of ws (Offence place cause) =

@@ -2,11 +2,15 @@
 ghost use Rattle.std.specs.Prelude.{◌≡◌};
 ghost use Rattle.cscout_cli.specs.Help.{help_text, version_text};
 
-const HELP: &[u8] = b"cscout renames identifiers in C programs.
+const HELP: &[u8] = b"cscout renames identifiers in C programs, and preprocesses their units.
 
 cscout WS rename PATH LINE COL NAME
     renames the name at line LINE and column COL of the file PATH, in all files of the
     workspace file WS, to NAME. Prints `edited PATH COUNT` for each file that changes.
+cscout WS tokens UNIT
+    prints the preprocessing tokens of unit UNIT of the workspace file, one a line
+cscout WS skipped
+    prints `PATH:FIRST-LAST` for the lines of source files that no unit processes
 cscout --help
     prints this text
 cscout --version

@@ -1,16 +1,17 @@
-//! CScout: renames identifiers of C programs.
+//! CScout: renames identifiers of C programs, and preprocesses their units.
 //!
 //! `run` is the whole program over an outside that is handed in: the words, files, a sink for output and
 //! one for messages. It answers as `specs/Answer.antt` says over the files held, and `specs/Outcome.antt`
 //! says what stands where the outside fails. `main` hands it the real files and streams (`host.rt`) and
-//! ends with the number of the status. All that may want memory is done in `preparing.rt`, before the
-//! first put; messages are told in pieces and want none. Read `specs/Request.antt`, `specs/Answer.antt`,
-//! `specs/Outcome.antt`, then `top.rt`.
+//! ends with the number of the status. All that may want memory is done in `preparing.rt` and
+//! `reporting.rt`, before the first put; messages are told in pieces and want none. Read
+//! `specs/Request.antt`, `specs/Answer.antt`, `specs/Outcome.antt`, then `top.rt`.
 #![tactic(auto)]
 
 mod help;
 mod host;
 mod preparing;
+mod reporting;
 mod requests;
 mod status;
 mod stops;
@@ -18,6 +19,7 @@ mod telling;
 #[cfg(test)]
 mod tests;
 mod top;
+mod workspace_files;
 
 use cs_base::Sink;
 use host::{HostFiles, HostSink};

@@ -7,17 +7,19 @@ ghost use Rattle.rename_edit.specs.Renaming.{renaming};
 ghost use Rattle.cscout_cli.specs.Answer.{request_answer, rename_answer, analysed_answer, renaming_answer, unit_paths};
 ghost use Rattle.cscout_cli.specs.Asking.{request_value, rename_value, workspace_file};
 ghost use Rattle.cscout_cli.specs.Message.{edited_line, edited_lines};
-ghost use Rattle.cscout_cli.specs.Steps.{IsPlanStop, Prepares, ReadsWorkspace, Analyses, StepReads};
+ghost use Rattle.cscout_cli.specs.Steps.{IsPlanStop, Prepares, Analyses, StepReads};
 
 use crate::help::{help, version};
+use crate::reporting::{prepare_skipped, prepare_tokens};
 use crate::requests::{Rename, Request};
 use crate::stops::Stop;
-use cs_base::{Edits, Files, Got, Memory, Text, normal_path};
+use crate::workspace_files::read_workspace;
+use cs_base::{Edits, Files, Memory, Text, normal_path};
 use itoa::Buffer;
 use rename_edit::{RenameRefusal, Thin, ThinFault, plan_thin, thin_analyse};
 use std::alloc::Global;
 use std::str;
-use ws_file::{Workspace, WsRefusal, read_ws};
+use ws_file::Workspace;
 
 /// What is left to do once nothing can want memory: the edits to put and the text to write.
 #[derive(Drop)]
@@ -39,6 +41,8 @@ pub fn prepare<F: Files>(alloc: Global, request: &Request<'_>, files: &mut F) ->
         Request::Help => Ok(shown(alloc, help())?),
         Request::Version => Ok(shown(alloc, version())?),
         Request::Renaming(rename) => prepare_rename(alloc, rename, files),
+        Request::Tokens(tokens) => prepare_tokens(alloc, tokens, files),
+        Request::Skipped(ws) => prepare_skipped(alloc, ws, files),
     }
 }
 
@@ -66,35 +70,9 @@ fn prepare_rename<F: Files>(
         (F.failed_reads files.old) (F.failed_reads files.new) (F.last_failed files.new) result }
     ensures puts { F.failed_puts files.new ≡ F.failed_puts files.old }
 {
-    let ws = read_workspace(alloc, rename, files)?;
+    let ws = read_workspace(alloc, rename.ws, files)?;
     let thin = analyse(alloc, &ws, rename, files)?;
     planned(alloc, &thin, rename)
-}
-
-// The workspace of the workspace file.
-fn read_workspace<F: Files>(
-    alloc: Global,
-    rename: &Rename<'_>,
-    files: &mut F,
-) -> Result<Workspace, Stop>
-    ensures answer { IfSome (F.held files.old) (λ fs.
-        ReadsWorkspace (rename_value rename.now) fs (rename_answer (rename_value rename.now) fs) result) }
-    ensures held { F.held files.new ≡ F.held files.old }
-    ensures reads { StepReads rename.now.ws.now
-        (F.failed_reads files.old) (F.failed_reads files.new) (F.last_failed files.new) result }
-    ensures puts { F.failed_puts files.new ≡ F.failed_puts files.old }
-{
-    match files.read(alloc, rename.ws) {
-        Got::Bytes(bytes) => match read_ws(alloc, bytes.as_slice()) {
-            Ok(ws) => Ok(ws),
-            Err(WsRefusal::BadLine { line }) => Err(Stop::BadLine { line }),
-            Err(WsRefusal::TooManyUnits { line }) => Err(Stop::TooManyUnits { line }),
-            Err(WsRefusal::Memory) => Err(Stop::Memory),
-        },
-        Got::Absent => Err(Stop::NoWorkspace),
-        Got::Failed => Err(Stop::UnreadWorkspace),
-        Got::Memory => Err(Stop::Memory),
-    }
 }
 
 // The analysis of the units of the workspace.

@@ -1,7 +1,7 @@
 // What the words after the program's name ask for.
 ghost use Rattle.std.specs.Prelude.{◌≡◌, ◌≤◌, length, map, string_bytes, IsTrue};
 ghost use Rattle.std.specs.Option.{option_map};
-ghost use Rattle.cscout_cli.specs.Request.{asked, alone_of, command_of, rename_of, is_number, are_digits, begins_with_zero, number_of};
+ghost use Rattle.cscout_cli.specs.Request.{asked, alone_of, workspace_command_of, unit_command_of, command_of, rename_of, is_number, are_digits, begins_with_zero, number_of};
 ghost use Rattle.cscout_cli.specs.Asking.{request_value, workspace_file};
 
 /// A rename in words: the path is as written.
@@ -14,12 +14,21 @@ pub struct Rename<'a> {
     pub name: &'a str,
 }
 
-/// What the program is asked for.
+/// A report on the tokens of a unit, in words.
+#[derive(Drop)]
+pub struct UnitTokens<'a> {
+    pub ws: &'a str,
+    pub unit: u32,
+}
+
+/// What the program is asked for. `Skipped` has the workspace file.
 #[derive(Drop)]
 pub enum Request<'a> {
     Help,
     Version,
     Renaming(Rename<'a>),
+    Tokens(UnitTokens<'a>),
+    Skipped(&'a str),
 }
 
 /// The request of these words, or none where they are of no form. Takes no memory.
@@ -28,6 +37,12 @@ pub fn asked(words: &[String]) -> Option<Request<'_>>
 {
     if words.len() == 1 {
         return asked_alone(words[0].as_str());
+    }
+    if words.len() == 2 {
+        return asked_of_workspace(words[0].as_str(), words[1].as_str());
+    }
+    if words.len() == 3 {
+        return asked_of_unit(words[0].as_str(), words[1].as_str(), words[2].as_str());
     }
     if words.len() != 6 {
         return None;
@@ -49,6 +64,29 @@ fn asked_alone<'a>(word: &str) -> Option<Request<'a>>
         Some(Request::Help)
     } else if word == "--version" {
         Some(Request::Version)
+    } else {
+        None
+    }
+}
+
+fn asked_of_workspace<'a>(ws: &'a str, command: &str) -> Option<Request<'a>>
+    ensures { option_map request_value result ≡ workspace_command_of ws.now command.now }
+{
+    if command == "skipped" {
+        Some(Request::Skipped(ws))
+    } else {
+        None
+    }
+}
+
+fn asked_of_unit<'a>(ws: &'a str, command: &str, unit: &str) -> Option<Request<'a>>
+    ensures { option_map request_value result ≡ unit_command_of ws.now command.now unit.now }
+{
+    if command == "tokens" && is_number(unit.as_bytes()) {
+        Some(Request::Tokens(UnitTokens {
+            ws,
+            unit: number(unit.as_bytes()),
+        }))
     } else {
         None
     }
@@ -138,6 +176,8 @@ pub fn workspace_file<'a>(request: &Request<'a>) -> &'a str
 {
     match request {
         Request::Renaming(rename) => rename.ws,
+        Request::Tokens(tokens) => tokens.ws,
+        Request::Skipped(ws) => ws,
         _ => "",
     }
 }

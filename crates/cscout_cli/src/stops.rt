@@ -26,6 +26,8 @@ pub enum Stop {
     UnreadFile {
         path: Text,
     },
+    /// There is no unit with the number.
+    NoUnit,
     /// The new name is no identifier.
     BadName,
     /// The place names nothing.

@@ -71,6 +71,10 @@ pub fn tell_stop<E: Sink>(err: &mut E, ws: &str, stop: &Stop) -> Status
             tell(err, &[b"cannot read ", path.bytes()]);
             Status::ReadFault
         }
+        Stop::NoUnit => {
+            tell(err, &[b"refused: ", b"no unit"]);
+            Status::Refused
+        }
         Stop::BadName => {
             tell(err, &[b"refused: ", b"bad name"]);
             Status::Refused

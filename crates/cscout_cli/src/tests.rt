@@ -1,10 +1,12 @@
 // Whole runs over files and sinks in memory, and the adapters over one real file.
+mod reports;
 mod tables;
 
 use crate::host::HostFiles;
 use crate::status::Status;
 use crate::top::run;
 use cs_base::{Files, Got, MemFiles, MemSink, Memory, Put};
+use reports::{FAILING_REPORTS, REFUSED_REPORTS, REPORTS};
 use std::alloc::Global;
 use std::fs::Permissions;
 use std::os::unix::fs::PermissionsExt;
@@ -103,6 +105,106 @@ fn runs_answer_as_worked_by_hand(rt: HostRuntime) -> Result<(), Memory> {
             failing.err_call,
         )?;
     }
+    Ok(())
+}
+
+#[test]
+fn reports_are_refused_as_worked_by_hand(rt: HostRuntime) -> Result<(), Memory> {
+    for row in &REFUSED_REPORTS {
+        check(&rt, row, 0, 0, 0)?;
+    }
+    Ok(())
+}
+
+#[test]
+fn reports_answer_as_worked_by_hand(rt: HostRuntime) -> Result<(), Memory> {
+    for row in &REPORTS {
+        check(&rt, row, 0, 0, 0)?;
+    }
+    for failing in &FAILING_REPORTS {
+        check(
+            &rt,
+            &failing.row,
+            failing.call,
+            failing.out_call,
+            failing.err_call,
+        )?;
+    }
+    Ok(())
+}
+
+// Two texts, with so many copies of a piece behind each.
+fn repeated(
+    alloc: Global,
+    first: &str,
+    piece: &str,
+    then: &str,
+    other: &str,
+    count: u32,
+) -> Result<String, Memory> {
+    let mut text = String::from_str(alloc, first)?;
+    for _ in 0..count {
+        text.push_str(piece)?;
+    }
+    text.push_str(then)?;
+    for _ in 0..count {
+        text.push_str(other)?;
+    }
+    Ok(text)
+}
+
+// What `tokens 1` tells of a unit with this text.
+fn check_unit<R: Abort + AllocGlobal>(
+    rt: &R,
+    text: &str,
+    out: &str,
+    err: &str,
+    status: Status,
+) -> Result<(), Memory> {
+    let mut files = MemFiles::new(rt.alloc());
+    files.add("w.cs", b"file a.c\n")?;
+    if files.bytes("a.c").is_none() {
+        files.add("a.c", text.as_bytes())?;
+    }
+    let mut told = sink(rt.alloc(), 0)?;
+    let mut messages = sink(rt.alloc(), 0)?;
+    let words = words_of(rt.alloc(), "w.cs tokens 1")?;
+    let answered = run(
+        rt.alloc(),
+        words.as_slice(),
+        &mut files,
+        &mut told,
+        &mut messages,
+    );
+    assert_eq!(rt; answered, status);
+    assert!(rt; told.bytes() == out.as_bytes());
+    assert!(rt; messages.bytes() == err.as_bytes());
+    Ok(())
+}
+
+#[test]
+fn units_keep_within_the_limits(rt: HostRuntime) -> Result<(), Memory> {
+    // Argument expansions inside each other: 200 are allowed.
+    let call = "#define I(x) x\nint y = ";
+    let deep = repeated(rt.alloc(), call, "I(", "1", ")", 201)?;
+    check_unit(
+        &rt,
+        deep.as_str(),
+        "",
+        "cscout: unit 1: a.c:2:409: too deep\n",
+        Status::Workspace,
+    )?;
+    let shallow = repeated(rt.alloc(), call, "I(", "1", ")", 200)?;
+    check_unit(&rt, shallow.as_str(), "int\ny\n=\n1\n", "", Status::Done)?;
+    // A file of 2^22 bytes and one more.
+    let large = repeated(rt.alloc(), "", " ", "", "", 4_194_305)?;
+    check_unit(
+        &rt,
+        large.as_str(),
+        "",
+        "cscout: unit 1: a.c:1:1: file too large\n",
+        Status::Workspace,
+    )?;
     Ok(())
 }
 

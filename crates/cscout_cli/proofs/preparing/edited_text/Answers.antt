@@ -1,4 +1,4 @@
-use Rattle.std.proofs.Common.{◌≡◌, ◌++◌, ◌∙◌, List, ℕ, ap, append_assoc, arith}
+use Rattle.std.proofs.Common.{append_assoc, arith}
 use Rattle.cscout_cli.proofs.EditedLemmas.{edited_lines-drop}
 use Rattle.cscout_cli.proofs.preparing.edited_text.Goals as goal
 

@@ -1,4 +1,4 @@
-use Rattle.std.proofs.Common.{◌≡◌, ◌<◌, ◌≤◌, ◌^◌, ◌-◌, arith, get_or}
+use Rattle.std.proofs.Common.{◌<◌, arith}
 use Rattle.cscout_cli.proofs.NumberLemmas.{pow_small, digit_small}
 use Rattle.cscout_cli.proofs.requests.number.Goals as goal
 

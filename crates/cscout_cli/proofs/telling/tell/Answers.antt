@@ -1,4 +1,3 @@
-use Rattle.std.proofs.Common.{List, ℕ}
 use Rattle.cscout_cli.specs.Message.{message}
 use Rattle.cscout_cli.proofs.TellingLemmas.{told-first, told-pieces, told-pieces_line}
 use Rattle.cscout_cli.proofs.telling.tell.Goals as goal

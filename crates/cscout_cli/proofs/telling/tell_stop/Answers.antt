@@ -15,6 +15,9 @@ returns-in-TooManyUnits-clause-told g c = rw (c.in-TooManyUnits.is, ← c.as_byt
 pub returns-in-UnreadFile-clause-told : goal.returns-in-UnreadFile-clause-told
 returns-in-UnreadFile-clause-told g c = rw (c.in-UnreadFile.is, ← c.bytes.ensures) c.tell-in-UnreadFile.ensures
 
+pub returns-in-NoUnit-clause-told : goal.returns-in-NoUnit-clause-told
+returns-in-NoUnit-clause-told g c = rw c.in-NoUnit.is c.tell-in-NoUnit.ensures
+
 pub returns-in-BadName-clause-told : goal.returns-in-BadName-clause-told
 returns-in-BadName-clause-told g c = rw c.in-BadName.is c.tell-in-BadName.ensures
 

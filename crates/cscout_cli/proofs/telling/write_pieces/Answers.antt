@@ -1,4 +1,3 @@
-use Rattle.std.proofs.Common.{List, ℕ}
 use Rattle.cscout_cli.proofs.TellingLemmas.{failed_piece}
 use Rattle.cscout_cli.proofs.telling.write_pieces.Goals as goal
 
