@@ -1,0 +1,139 @@
+// The programs, read and bound.
+use crate::entity_rows::BOUND;
+use crate::fault_rows::FAULTS;
+use crate::list_rows::{KINDS, LISTS};
+use c99_read::read;
+use cs_base::Tok;
+use part_lexer::lex;
+use scope_bind::{Bound, List, Range, bind};
+use std::alloc::Global;
+use std::fmt::Write;
+use std::test::Fail;
+
+// What so many tokens denote, as BOUND has it.
+fn entities(alloc: Global, bound: &Bound, count: u32) -> Result<String, Fail> {
+    let mut out = String::new(alloc);
+    for k in 0..count {
+        if k > 0 {
+            write!(out, " ")?;
+        }
+        match bound.entity(k) {
+            Some(entity) => write!(out, "{entity}")?,
+            None => write!(out, ".")?,
+        }
+    }
+    Ok(out)
+}
+
+fn separate(out: &mut String) -> Result<(), Fail> {
+    if !out.is_empty() {
+        write!(out, ", ")?;
+    }
+    Ok(())
+}
+
+// The entities among so many tokens, as KINDS has them.
+fn kinds(alloc: Global, bound: &Bound, count: u32) -> Result<String, Fail> {
+    let mut out = String::new(alloc);
+    for k in 0..count {
+        if let Some(kind) = bound.kind(k) {
+            separate(&mut out)?;
+            let linkage = bound.linkage(k);
+            write!(out, "{k} {kind:?} {linkage:?}")?;
+        }
+    }
+    Ok(out)
+}
+
+fn write_lists(out: &mut String, word: &str, lists: &[List]) -> Result<(), Fail> {
+    for list in lists {
+        separate(out)?;
+        write!(out, "{word} {} {} {}", list.name, list.begin, list.close)?;
+        for comma in list.commas.as_slice() {
+            write!(out, " {comma}")?;
+        }
+    }
+    Ok(())
+}
+
+fn write_ranges(out: &mut String, word: &str, ranges: &[Range]) -> Result<(), Fail> {
+    for range in ranges {
+        separate(out)?;
+        write!(out, "{word} {} {} {}", range.name, range.from, range.to)?;
+    }
+    Ok(())
+}
+
+// The lists of a binding, as LISTS has them.
+fn lists(alloc: Global, bound: &Bound) -> Result<String, Fail> {
+    let mut out = String::new(alloc);
+    write_lists(&mut out, "list", bound.declarators())?;
+    write_lists(&mut out, "call", bound.calls())?;
+    write_ranges(&mut out, "body", bound.functions())?;
+    for index in bound.bare() {
+        separate(&mut out)?;
+        write!(out, "bare {index}")?;
+    }
+    write_ranges(&mut out, "typedef", bound.typedefs())?;
+    Ok(out)
+}
+
+#[derive(Clone, Copy)]
+enum Asked {
+    Entities,
+    Kinds,
+    Lists,
+}
+
+fn told(alloc: Global, asked: Asked, bound: &Bound, count: u32) -> Result<String, Fail> {
+    match asked {
+        Asked::Entities => entities(alloc, bound, count),
+        Asked::Kinds => kinds(alloc, bound, count),
+        Asked::Lists => lists(alloc, bound),
+    }
+}
+
+// What is told of a program, or its first fault.
+fn answer(alloc: Global, asked: Asked, text: &[u8]) -> Result<String, Fail> {
+    match lex(alloc, 1, text) {
+        Ok(file) => answer_of(alloc, asked, file.toks()),
+        Err(_) => Ok(format!(in alloc; "not lexed")?),
+    }
+}
+
+fn answer_of(alloc: Global, asked: Asked, toks: &[Tok]) -> Result<String, Fail> {
+    if toks.len() > 1000 {
+        return Ok(format!(in alloc; "too long")?);
+    }
+    match read(alloc, toks) {
+        Ok(tree) => match bind(alloc, toks, &tree) {
+            Ok(bound) => told(alloc, asked, &bound, toks.len() as u32),
+            Err(refusal) => Ok(format!(in alloc; "{refusal}")?),
+        },
+        Err(refusal) => Ok(format!(in alloc; "not read: {refusal:?}")?),
+    }
+}
+
+// The first row that is answered otherwise, and its answer, or nothing.
+fn differing(alloc: Global, asked: Asked, rows: &[(&[u8], &str)]) -> Result<String, Fail> {
+    for (k, (text, expected)) in rows.iter().enumerate() {
+        let found = answer(alloc, asked, text)?;
+        if found.as_str() != *expected {
+            return Ok(format!(in alloc; "number {k}: {found}")?);
+        }
+    }
+    Ok(String::new(alloc))
+}
+
+#[test]
+fn worked_programs(rt: HostRuntime) -> Result<(), Fail> {
+    let entities = differing(rt.alloc(), Asked::Entities, &BOUND)?;
+    assert_eq!(rt; entities.as_str(), "", "BOUND");
+    let faults = differing(rt.alloc(), Asked::Entities, &FAULTS)?;
+    assert_eq!(rt; faults.as_str(), "", "FAULTS");
+    let kinds = differing(rt.alloc(), Asked::Kinds, &KINDS)?;
+    assert_eq!(rt; kinds.as_str(), "", "KINDS");
+    let lists = differing(rt.alloc(), Asked::Lists, &LISTS)?;
+    assert_eq!(rt; lists.as_str(), "", "LISTS");
+    Ok(())
+}
