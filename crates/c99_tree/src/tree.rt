@@ -1,5 +1,5 @@
 // Nodes, and what stands below them.
-ghost use Rattle.std.specs.Prelude.{◌≡◌, ◌<◌, ◌^◌, OnOk, OnErr};
+ghost use Rattle.std.specs.Prelude.{◌≡◌, ◌<◌, ◌^◌, ◌++◌, ◌∷◌, [], OnOk, OnErr};
 ghost use Rattle.std.specs.Option.{option_map};
 ghost use Rattle.c99_tree.specs.Tree.{node_of, none, leaf, inner, put, count_of, part_at, collapsed};
 ghost use Rattle.c99_tree.specs.Children.{shown, part_of, is_lone};
@@ -52,6 +52,18 @@ impl Model for Tree {
 pub enum Child<'a> {
     Token(u32),
     Node(&'a Tree),
+}
+
+// Adds a child. Most nodes have one: they take no more room than that.
+fn push(children: &mut Vec<Branch>, branch: Branch) -> Result<(), Memory>
+    ensures items { OnOk result (children.new.items ≡ children.old.items ++ branch ∷ []) }
+    ensures unchanged { OnErr result (children.new.items ≡ children.old.items) }
+{
+    if children.is_empty() {
+        children.reserve_exact(1)?;
+    }
+    children.push(branch)?;
+    Ok(())
 }
 
 fn is_lone(children: &[Branch]) -> bool
@@ -142,7 +154,7 @@ impl Tree {
         if self.children.len() >= u32::MAX as usize {
             return Err(Memory);
         }
-        self.children.push(branch)?;
+        push(&mut self.children, branch)?;
         Ok(())
     }
 }
