@@ -1,6 +1,6 @@
 -- The fields of the table of files, and the table that contracts see.
 use Rattle.std.proofs.Common.{◌≡◌, ◌||◌, ℕ, zero, suc, ◌+◌, ◌-◌, ◌≤◌, ◌<◌, ◌^◌, Bool, false, not, cond, nat_lt, List, [], ◌∷◌, ◌++◌, length, map, position, Option, None, Some, refl, sym, ◌∙◌, ap, subst, arith, slice_get, get_or, inl, inr, ltb-true, ltb-false, length-append}
-use Rattle.std.specs.Option.{option_and_then}
+use Rattle.std.specs.Option.{option_map, option_and_then}
 use Rattle.std.specs.List.{position_or_len, prefix_len, list_any}
 use Rattle.std.specs.Str.{bytes_eq}
 use Rattle.std.proofs.lemmas.Bool.{cases_Bool}
@@ -46,6 +46,28 @@ kept_at-slot paths slots number is some =
     kept_at-from paths slots 1 (number - 1) is.each is.numbered in
     let same : kept_at (table_of paths slots) (suc (number - 1)) ≡ option_and_then kept_of (slice_get slots (number - 1)) = rw m at at in
     subst (λ (k : ℕ). kept_at (table_of paths slots) k ≡ option_and_then kept_of (slice_get slots (number - 1))) n same
+
+-- ---- the path of a number
+
+path-from : (paths : List (List ℕ)) (slots : List Slot) (i : ℕ) → length slots ≡ length paths
+    → option_map (λ e. e.path) (slice_get (entries_of paths slots) i) ≡ slice_get paths i
+path-from [] slots i each = refl
+path-from (p ∷ paths) [] i each = absurd (omega (arith, each))
+path-from (p ∷ paths) (s ∷ slots) zero each = refl
+path-from (p ∷ paths) (s ∷ slots) (suc i) each = path-from paths slots i (omega (arith, each))
+
+keys-at : {K : Type 0} (spelling : K → List ℕ) (ks : List K) (i : ℕ) → slice_get (map spelling ks) i ≡ option_map spelling (slice_get ks i)
+keys-at spelling [] i = refl
+keys-at spelling (k ∷ ks) zero = refl
+keys-at spelling (k ∷ ks) (suc i) = keys-at spelling ks i
+
+-- the path of a number that is not 0
+pub path-at : {K : Type 0} (spelling : K → List ℕ) (ks : List K) (slots : List Slot) (number : ℕ) → length slots ≡ length (map spelling ks) → (number ≡ 0 → ⊥)
+    → option_map (λ e. e.path) (slice_get (table_of (map spelling ks) slots) number) ≡ option_map spelling (slice_get ks (number - 1))
+path-at spelling ks slots zero each some = absurd (some refl)
+path-at spelling ks slots (suc n) each some =
+    let same : suc n - 1 ≡ n = omega arith in
+    rw same (path-from (map spelling ks) slots n each ∙ keys-at spelling ks n)
 
 -- ---- the number of a path
 

@@ -1,5 +1,6 @@
 // What is kept from unit to unit.
-ghost use Rattle.std.specs.Prelude.{◌≡◌, ◌⊎◌, ◌≤◌, ◌<◌, ◌+◌, ◌^◌, ℕ, false, MatchBool, None, Err, IfErr, IfSome, IsSome, OnErr, option_copied, not, IfOk, OnOk, length};
+ghost use Rattle.std.specs.Prelude.{◌≡◌, ◌⊎◌, ◌≤◌, ◌<◌, ◌+◌, ◌^◌, ℕ, false, MatchBool, None, Err, IfErr, IfSome, IsSome, OnErr, option_copied, not, IfOk, OnOk, length, slice_get};
+ghost use Rattle.std.specs.Option.{option_map};
 ghost use Rattle.std.specs.Str.{bytes_eq};
 ghost use Rattle.part_lexer.specs.FileText.{file_text};
 ghost use Rattle.part_lexer.specs.Refusal.{fault_of as lex_fault_of};
@@ -68,6 +69,14 @@ impl Cache {
         ensures { option_copied result ≡ kept_at self.now.table number }
     {
         self.table.kept(number)
+    }
+
+    /// The path that has this number, also one without a kept file: none exactly past the table. Takes no
+    /// memory.
+    pub fn path(&self, number: u32) -> Option<&[u8]>
+        ensures { option_copied result ≡ option_map (λ e. e.path) (slice_get self.now.table number) }
+    {
+        self.table.path(number)
     }
 
     /// How many numbers are given: those from 0 to before this one. Takes no memory.

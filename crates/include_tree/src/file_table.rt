@@ -1,5 +1,6 @@
 // The table of files: what is known of each path that has a number.
-ghost use Rattle.std.specs.Prelude.{◌≡◌, ◌∷◌, [], false, None, is_some, IfSome, OnOk, OnErr, option_copied, length, true, Err, IfErr, is_ok};
+ghost use Rattle.std.specs.Prelude.{◌≡◌, ◌∷◌, [], false, None, is_some, IfSome, OnOk, OnErr, option_copied, length, slice_get, true, Err, IfErr, is_ok};
+ghost use Rattle.std.specs.Option.{option_map};
 ghost use Rattle.std.specs.Str.{bytes_eq};
 ghost use Rattle.part_lexer.specs.FileText.{file_text};
 ghost use Rattle.part_lexer.specs.Refusal.{fault_of};
@@ -14,6 +15,9 @@ use indexmap::IndexSet;
 use part_lexer::LexRefusal;
 use std::alloc::Global;
 use std::marker::Model;
+
+// The pseudo file in which the numbers of lines stand.
+const LINES_PATH: &[u8] = b"<lines>";
 
 // The path with number n is the one at place n - 1; number 0 is the pseudo file of lines.
 #[derive(Drop)]
@@ -65,6 +69,20 @@ impl FileTable {
             slots[i].kept()
         } else {
             None
+        }
+    }
+
+    // The path that has a number.
+    pub(crate) fn path(&self, number: u32) -> Option<&[u8]>
+        ensures { option_copied result ≡ option_map (λ e. e.path) (slice_get self.now number) }
+    {
+        let paths = &self.paths;
+        if number == 0 {
+            return Some(LINES_PATH);
+        }
+        match paths.get_index(number as usize - 1) {
+            Some(path) => Some(path.as_slice()),
+            None => None,
         }
     }
 

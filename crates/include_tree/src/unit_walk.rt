@@ -170,5 +170,5 @@ pub fn preprocess<F: Files>(
         Err(fault) => return Err(fault),
     }
     cache.count(p.text.before());
-    Ok(p.text)
+    Ok(p.text.settled())
 }

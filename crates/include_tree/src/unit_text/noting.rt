@@ -28,6 +28,21 @@ impl UnitText {
         }
     }
 
+    /// The same text: the room that was taken and not used is given back.
+    pub(crate) fn settled(mut self) -> UnitText
+        ensures { result ≡ self }
+    {
+        self.toks.shrink_to_fit();
+        self.links.shrink_to_fit();
+        self.pasted.shrink_to_fit();
+        self.stringized.shrink_to_fit();
+        self.header.shrink_to_fit();
+        self.answers.shrink_to_fit();
+        self.reached.shrink_to_fit();
+        self.events.shrink_to_fit();
+        self
+    }
+
     /// How many tokens were put out.
     pub(crate) fn before(&self) -> u32
         requires { length self.now.toks < 2 ^ 32 }
