@@ -45,3 +45,4 @@ pub mod ResizedKept
 pub mod ResizedLaws
 pub mod ResizeCall
 pub mod HistoryFacts
+pub mod WholenessFacts

@@ -15,3 +15,4 @@ pub mod Held
 pub mod Walk
 pub mod Regrown
 pub mod Settled
+pub mod Wholeness

@@ -1,5 +1,5 @@
 // The table of classes: added tokens by their places, and the partition of their characters by number.
-ghost use Rattle.std.specs.Prelude.{ℕ, ◌≡◌, ◌+◌, ◌-◌, ◌*◌, ◌^◌, ◌<◌, ◌≤◌, List, [], ◌∷◌, ◌++◌, length, Some, IsSome, slice_get, OnOk, OnErr, vec_len, vec_capacity};
+ghost use Rattle.std.specs.Prelude.{ℕ, ◌≡◌, ◌+◌, ◌-◌, ◌*◌, ◌^◌, ◌<◌, ◌≤◌, List, [], ◌∷◌, ◌++◌, length, Some, IsSome, slice_get, OnOk, OnErr, vec_len, vec_capacity, MatchBool};
 ghost use Rattle.eclass_map.specs.ClassTable.{Table, part_of, class_in, members_of, part_with, added_tokens, part_of_file, AddsToken, fresh_places, with_token, IsFree, AreWhole, SameOrLinked, HasParts, AreLinks, IsAdded, relabelled_in, weight_in, parts_in, character_count, label};
 ghost use Rattle.eclass_map.specs.History.{History};
 ghost use Rattle.eclass_map.specs.Resized.{moved_to, count_after, Resizes};
@@ -12,8 +12,11 @@ ghost use Rattle.eclass_map.specs.Kept.{IsKept};
 ghost use Rattle.cs_base.specs.Token.{Token};
 ghost use Rattle.cs_base.specs.declared.positions.Part.{Part};
 
+mod class_numbers;
+
 use crate::partition::Partition;
 use crate::token_list::{Added, count_begun, find, number, place_tokens, settle};
+use crate::wholeness::are_whole;
 use cs_base::{Memory, Part, Pos, Steps, Tok};
 use std::alloc::Global;
 use std::marker::Model;
@@ -203,6 +206,13 @@ impl Classes {
             start: self.places[x as usize],
             len: self.labels.length_of(class),
         }
+    }
+
+    /// Whether the origins of a token are whole added tokens, one after another. Takes no memory.
+    pub fn is_whole(&self, tok: &Tok) -> bool
+        ensures { MatchBool result (AreWhole self.now tok.now.origins) (AreWhole self.now tok.now.origins → ⊥) }
+    {
+        are_whole(&self.tokens, tok)
     }
 
     /// The characters of two tokens of equal spelling are the same from now on, first to first and so on. The

@@ -19,6 +19,7 @@ mod partition;
 mod regrowth;
 mod spots;
 mod token_list;
+mod wholeness;
 
 pub use class_table::Classes;
 pub use laws::joins_relabel_little;

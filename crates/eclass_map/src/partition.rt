@@ -62,6 +62,13 @@ impl Partition {
         self.spots.len() as u32
     }
 
+    /// How many class numbers were given.
+    pub fn classes(&self) -> u32
+        ensures { result ≡ length self.now.walks }
+    {
+        self.rows.len() as u32
+    }
+
     pub fn spot_of(&self, x: u32) -> Spot
         requires { x < length self.now.spots }
         ensures answer { slice_get self.now.spots x ≡ Some result }

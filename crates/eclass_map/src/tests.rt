@@ -107,6 +107,47 @@ fn a_pasted_name_cuts_a_declared_one(rt: HostRuntime) -> Result<(), Memory> {
     Ok(())
 }
 
+// Whether a token of two characters that come from these is whole.
+fn is_whole_pair(alloc: Global, classes: &Classes, ats: [u32; 2]) -> Result<bool, Memory> {
+    let origins = [Some(position(ats[0])), Some(position(ats[1]))];
+    let tok = Tok::new(
+        alloc,
+        Kind::Ident,
+        b"ab",
+        &origins,
+        false,
+        position(ats[0]),
+        1,
+        true,
+    )?;
+    Ok(classes.is_whole(&tok))
+}
+
+#[test]
+fn a_token_of_added_ones_is_whole(rt: HostRuntime) -> Result<(), Memory> {
+    let classes = three_tokens(rt.alloc())?;
+    for (ats, whole) in [
+        ([0, 1], true),
+        ([5, 8], true),
+        ([8, 5], true),
+        // Ends inside `ab`, begins inside it, and goes on elsewhere.
+        ([5, 0], false),
+        ([1, 5], false),
+        ([0, 5], false),
+        // No added token.
+        ([5, 7], false),
+    ] {
+        assert_eq!(rt;
+            is_whole_pair(rt.alloc(), &classes, ats)?,
+            whole,
+            "at {} and {}",
+            ats[0],
+            ats[1]
+        );
+    }
+    Ok(())
+}
+
 // Tokens of one character at 0 and 2 and one of three at 4 of file 1.
 fn short_tokens(alloc: Global) -> Result<Classes, Memory>
     ensures added { IfOk result (λ t. IsAdded t (part_of_file 1 0 1) × IsAdded t (part_of_file 1 2 1)) }
