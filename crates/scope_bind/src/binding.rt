@@ -5,7 +5,7 @@ ghost use Rattle.scope_bind.specs.Lists.{calls_in, bodies_in, bare_in};
 ghost use Rattle.scope_bind.specs.Frames.{outermost};
 ghost use Rattle.scope_bind.specs.Faults.{fault_of};
 ghost use Rattle.scope_bind.specs.Bound.{range_of, typedefs_of, bound_of, bound_after, facts_of, binding_of};
-ghost use Rattle.scope_bind.specs.Declarations.{is_typedef_name};
+ghost use Rattle.scope_bind.specs.Declarations.{is_typedef_name, known};
 
 use crate::bound::{Bound, Told};
 use crate::declarations::{Cause, Declaration, Fault};
@@ -65,12 +65,12 @@ fn count_of(toks: &[Tok]) -> Result<u32, Memory>
 }
 
 // What is known at the end of the unit.
-fn facts_of(alloc: Global, toks: &[Tok], tree: &Tree) -> Result<Facts, Memory>
-    ensures { IfOk result (λ f. f ≡ facts_of toks.now tree.now.under) }
+fn facts_of<'a>(alloc: Global, toks: &'a [Tok], tree: &Tree) -> Result<Facts<'a>, Memory>
+    ensures { IfOk result (λ f. f ≡ known toks.now (facts_of toks.now tree.now.under)) }
 {
     let begin = outermost(alloc, count_of(toks)?);
-    let mut facts = Facts::new(alloc);
-    walk(&mut facts, alloc, toks, tree, begin)?;
+    let mut facts = Facts::new(alloc, toks);
+    walk(&mut facts, alloc, tree, begin)?;
     Ok(facts)
 }
 
@@ -117,8 +117,8 @@ fn ranges_in(alloc: Global, declared: &[Declaration]) -> Result<Vec<Range>, Memo
     )
 }
 
-fn typedefs_of(alloc: Global, facts: &Facts) -> Result<Vec<Range>, Memory>
-    ensures { IfOk result (λ v. v.items ≡ typedefs_of facts.now) }
+fn typedefs_of(alloc: Global, facts: &Facts<'_>) -> Result<Vec<Range>, Memory>
+    ensures { IfOk result (λ v. v.items ≡ typedefs_of facts.now.facts) }
 {
     ranges_in(alloc, facts.declared())
 }
@@ -147,10 +147,10 @@ fn bare_in(alloc: Global, tree: &Tree) -> Result<Vec<u32>, Memory>
     Ok(bare)
 }
 
-fn bound_of(alloc: Global, toks: &[Tok], tree: &Tree, facts: &Facts) -> Result<Bound, Memory>
-    ensures { IfOk result (λ b. b ≡ bound_of tree.now.under facts.now) }
+fn bound_of(alloc: Global, tree: &Tree, facts: &Facts<'_>) -> Result<Bound, Memory>
+    ensures { IfOk result (λ b. b ≡ bound_of tree.now.under facts.now.facts) }
 {
-    let count = toks.len();
+    let count = facts.toks().len();
     let names = names_of(alloc, count, facts)?;
     let told = Told {
         declarators: declarators_of(alloc, count, names.as_slice(), tree)?,
@@ -163,17 +163,12 @@ fn bound_of(alloc: Global, toks: &[Tok], tree: &Tree, facts: &Facts) -> Result<B
 }
 
 // The binding, or the first fault.
-fn bound_unless(
-    alloc: Global,
-    toks: &[Tok],
-    tree: &Tree,
-    facts: &Facts,
-) -> Result<Bound, BindRefusal>
-    ensures { Gives (λ b. b) fault_of result (bound_after tree.now.under facts.now) }
+fn bound_unless(alloc: Global, tree: &Tree, facts: &Facts<'_>) -> Result<Bound, BindRefusal>
+    ensures { Gives (λ b. b) fault_of result (bound_after tree.now.under facts.now.facts) }
 {
     match facts.fault() {
         Some(fault) => Err(refusal(fault)),
-        None => Ok(bound_of(alloc, toks, tree, facts)?),
+        None => Ok(bound_of(alloc, tree, facts)?),
     }
 }
 
@@ -199,5 +194,5 @@ pub fn bind(alloc: Global, toks: &[Tok], tree: &Tree) -> Result<Bound, BindRefus
     ensures answer { Gives (λ b. b) fault_of result (binding_of toks.now tree.now) }
 {
     let facts = facts_of(alloc, toks, tree)?;
-    bound_unless(alloc, toks, tree, &facts)
+    bound_unless(alloc, tree, &facts)
 }

@@ -1,6 +1,7 @@
 // What is known where a node begins: its scope, what is given to it, and the type that it starts with.
 ghost use Rattle.std.specs.Prelude.{◌≡◌, ◌+◌, ◌||◌, ◌==◌, [], if◌then◌else◌, IfOk, OnOk};
 ghost use Rattle.c99_tree.specs.declared.production.Production.TheVariants.{Members as MembersNode, Enumerators as EnumeratorsNode, InitItem as InitItemNode};
+ghost use Rattle.scope_bind.specs.Declarations.{known};
 ghost use Rattle.scope_bind.specs.Entering.{inner, is_scoped, scope_in, body_in, listing_in, alone_in, owner_in, given_in, position_in, with_kept, facts_in, found_in, frame_in};
 ghost use Rattle.scope_bind.specs.Trees.{last_token, has_node};
 ghost use Rattle.scope_bind.specs.Types.{called, array, arithmetic};
@@ -13,7 +14,7 @@ use crate::tags::{new_record, number_in};
 use crate::trees::{first_token, has_node, is_list, is_node, last_token};
 use crate::types::{Base, CType};
 use c99_tree::{Label, Production, Tree};
-use cs_base::{Memory, Tok};
+use cs_base::Memory;
 use std::alloc::Global;
 
 fn inner(around: Scope, to: u32) -> Result<Scope, Memory>
@@ -147,10 +148,10 @@ fn has_list(tree: &Tree) -> bool
     has_node(tree, Production::Members) || has_node(tree, Production::Enumerators)
 }
 
-impl Facts {
+impl Facts<'_> {
     // The type of an item of an initializer: its place.
     fn item_type(&self, alloc: Global, label: Label, f: &Frame) -> Result<CType, Memory>
-        ensures { IfOk result (λ t. t ≡ found_in [] InitItemNode label f.now self.now) }
+        ensures { IfOk result (λ t. t ≡ found_in [] InitItemNode label f.now self.now.facts) }
     {
         if label.alternative == 1 {
             f.given.copied()
@@ -160,14 +161,8 @@ impl Facts {
     }
 
     // The type that a node begins with.
-    fn found_in(
-        &self,
-        alloc: Global,
-        toks: &[Tok],
-        label: Label,
-        f: &Frame,
-    ) -> Result<CType, Memory>
-        ensures { IfOk result (λ t. t ≡ found_in toks.now label.production label f.now self.now) }
+    fn found_in(&self, alloc: Global, label: Label, f: &Frame) -> Result<CType, Memory>
+        ensures { IfOk result (λ t. t ≡ found_in self.now.toks label.production label f.now self.now.facts) }
     {
         match label.production {
             Production::ExtTail => f.found.copied(),
@@ -176,7 +171,7 @@ impl Facts {
             Production::Post => post_type(label, f),
             Production::InitItem => self.item_type(alloc, label, f),
             Production::Designator => element_of(alloc, &f.found),
-            Production::SuRest => Ok(new_record(alloc, toks, f.token)),
+            Production::SuRest => Ok(new_record(alloc, self.toks(), f.token)),
             Production::EnRest => Ok(CType::plain(alloc, Base::Enumeration(f.token))),
             Production::Primary => primary_type(alloc, label),
             _ => Ok(CType::plain(alloc, Base::Arithmetic)),
@@ -184,14 +179,8 @@ impl Facts {
     }
 
     /// The frame of a node.
-    pub(crate) fn frame_in(
-        &self,
-        alloc: Global,
-        toks: &[Tok],
-        tree: &Tree,
-        f: &Frame,
-    ) -> Result<Frame, Memory>
-        ensures { IfOk result (λ child. child ≡ frame_in toks.now tree.now.label tree.now.under f.now self.now) }
+    pub(crate) fn frame_in(&self, alloc: Global, tree: &Tree, f: &Frame) -> Result<Frame, Memory>
+        ensures { IfOk result (λ child. child ≡ frame_in self.now.toks tree.now.label tree.now.under f.now self.now.facts) }
     {
         let label = tree.label();
         Ok(Frame {
@@ -208,14 +197,14 @@ impl Facts {
             kept: f.kept,
             owner: owner_in(label.production, f),
             given: given_in(label.production, f)?,
-            found: self.found_in(alloc, toks, label, f)?,
+            found: self.found_in(alloc, label, f)?,
             position: position_in(label, f),
         })
     }
 
     // A function's body begins.
     fn begin_function(&mut self, tree: &Tree, f: &Frame) -> Result<(), Memory>
-        ensures { OnOk result (self.new ≡ with_kept f.now.kept (f.now.scope.depth + 1) tree.now.first (last_token tree.now.under 0) (record self.old { jumps = [] })) }
+        ensures { OnOk result (self.new ≡ known self.old.toks (with_kept f.now.kept (f.now.scope.depth + 1) tree.now.first (last_token tree.now.under 0) (record self.old.facts { jumps = [] }))) }
     {
         let depth = match f.scope.depth.checked_add(1) {
             Some(depth) => depth,
@@ -227,7 +216,7 @@ impl Facts {
 
     /// A node begins.
     pub(crate) fn enter(&mut self, tree: &Tree, f: &Frame) -> Result<(), Memory>
-        ensures { OnOk result (self.new ≡ facts_in tree.now.label.production tree.now.first tree.now.under f.now self.old) }
+        ensures { OnOk result (self.new ≡ known self.old.toks (facts_in tree.now.label.production tree.now.first tree.now.under f.now self.old.facts)) }
     {
         match tree.label().production {
             Production::FunBody => self.begin_function(tree, f),

@@ -2,7 +2,7 @@
 ghost use Rattle.std.specs.Prelude.{◌≡◌, [], reverse, IfOk, OnOk, Some};
 ghost use Rattle.std.specs.Option.{option_map};
 ghost use Rattle.scope_bind.specs.Faults.{number_of, comes_first, first_fault};
-ghost use Rattle.scope_bind.specs.Declarations.{no_facts, is_in, with_fault, with_occurrence, with_declaration, with_begun, with_complete, looked_up, visible, in_scope, anywhere, linked, is_mixed};
+ghost use Rattle.scope_bind.specs.Declarations.{known, no_facts, is_in, with_fault, with_occurrence, with_declaration, with_begun, with_complete, looked_up, visible, in_scope, anywhere, linked, is_mixed};
 ghost use Rattle.scope_bind.specs.Latest.{passes};
 ghost use Rattle.scope_bind.specs.declared.latest.Asked.TheVariants.{Tag};
 ghost use Rattle.scope_bind.specs.Labels.{with_jump};
@@ -17,9 +17,11 @@ use cs_base::{Memory, Tok};
 use std::alloc::Global;
 use std::marker::Model;
 
-/// The declarations and what is bound so far, and the first fault. Contracts see the latest declaration first.
+/// The tokens of the unit, the declarations and what is bound so far, and the first fault. Contracts see the
+/// latest declaration first.
 #[derive(Drop)]
-pub(crate) struct Facts {
+pub(crate) struct Facts<'a> {
+    toks: &'a [Tok],
     declared: Vec<Declaration>,
     occurrences: Vec<Occurrence>,
     begun: Vec<u32>,
@@ -28,13 +30,13 @@ pub(crate) struct Facts {
     fault: Option<Fault>,
 }
 
-impl Model for Facts {
+impl<'a> Model for Facts<'a> {
     ghost use Rattle.std.specs.Prelude.{reverse};
-    ghost use Rattle.scope_bind.specs.Declarations.{Facts};
+    ghost use Rattle.scope_bind.specs.Declarations.{Known, known};
 
-    ghost Value = { Facts };
+    ghost Value = { Known };
 
-    ghost view = { λ f. record { declared = reverse f.declared.items; occurrences = reverse f.occurrences.items; begun = f.begun.items; complete = f.complete.items; jumps = f.jumps.items; fault = f.fault } };
+    ghost view = { λ f. known f.toks.now (record { declared = reverse f.declared.items; occurrences = reverse f.occurrences.items; begun = f.begun.items; complete = f.complete.items; jumps = f.jumps.items; fault = f.fault }) };
 }
 
 fn number(cause: Cause) -> u8
@@ -72,11 +74,12 @@ fn first(found: Option<Fault>, fault: Fault) -> Fault
     }
 }
 
-impl Facts {
-    pub(crate) fn new(alloc: Global) -> Facts
-        ensures { result ≡ no_facts }
+impl<'a> Facts<'a> {
+    pub(crate) fn new(alloc: Global, toks: &'a [Tok]) -> Facts<'a>
+        ensures { result ≡ known toks.now no_facts }
     {
         Facts {
+            toks,
             declared: Vec::new(alloc),
             occurrences: Vec::new(alloc),
             begun: Vec::new(alloc),
@@ -86,8 +89,15 @@ impl Facts {
         }
     }
 
+    /// The tokens of the unit.
+    pub(crate) fn toks(&self) -> &'a [Tok]
+        ensures { result.now ≡ self.now.toks }
+    {
+        self.toks
+    }
+
     pub(crate) fn note(&mut self, wrong: bool, cause: Cause, index: u32)
-        ensures { self.new ≡ with_fault wrong cause index self.old }
+        ensures { self.new ≡ known self.old.toks (with_fault wrong cause index self.old.facts) }
     {
         if wrong {
             self.fault = Some(first(self.fault, Fault { cause, index }));
@@ -95,7 +105,7 @@ impl Facts {
     }
 
     pub(crate) fn occur(&mut self, index: u32, entity: u32, declares: bool) -> Result<(), Memory>
-        ensures { OnOk result (self.new ≡ with_occurrence index entity declares self.old) }
+        ensures { OnOk result (self.new ≡ known self.old.toks (with_occurrence index entity declares self.old.facts)) }
     {
         self.occurrences.push(Occurrence {
             index,
@@ -106,7 +116,7 @@ impl Facts {
     }
 
     pub(crate) fn declare(&mut self, d: Declaration) -> Result<(), Memory>
-        ensures { OnOk result (self.new ≡ with_declaration d self.old) }
+        ensures { OnOk result (self.new ≡ known self.old.toks (with_declaration d self.old.facts)) }
     {
         self.occur(d.name_at, d.entity, true)?;
         self.declared.push(d)?;
@@ -114,7 +124,7 @@ impl Facts {
     }
 
     pub(crate) fn begin(&mut self, begins: bool, entity: u32) -> Result<(), Memory>
-        ensures { OnOk result (self.new ≡ with_begun begins entity self.old) }
+        ensures { OnOk result (self.new ≡ known self.old.toks (with_begun begins entity self.old.facts)) }
     {
         if begins {
             self.begun.push(entity)?;
@@ -123,47 +133,47 @@ impl Facts {
     }
 
     pub(crate) fn complete(&mut self, number: u32) -> Result<(), Memory>
-        ensures { OnOk result (self.new ≡ with_complete number self.old) }
+        ensures { OnOk result (self.new ≡ known self.old.toks (with_complete number self.old.facts)) }
     {
         self.complete.push(number)?;
         Ok(())
     }
 
     pub(crate) fn jump(&mut self, index: u32) -> Result<(), Memory>
-        ensures { OnOk result (self.new ≡ with_jump index self.old) }
+        ensures { OnOk result (self.new ≡ known self.old.toks (with_jump index self.old.facts)) }
     {
         self.jumps.push(index)?;
         Ok(())
     }
 
     pub(crate) fn forget_jumps(&mut self)
-        ensures { self.new ≡ record self.old { jumps = [] } }
+        ensures { self.new ≡ known self.old.toks (record self.old.facts { jumps = [] }) }
     {
         self.jumps.clear();
     }
 
     pub(crate) fn jumps(&self) -> Result<Vec<u32>, Memory>
-        ensures { IfOk result (λ v. v.items ≡ self.now.jumps) }
+        ensures { IfOk result (λ v. v.items ≡ self.now.facts.jumps) }
     {
         Ok(self.jumps.clone()?)
     }
 
     pub(crate) fn fault(&self) -> Option<Fault>
-        ensures { result ≡ self.now.fault }
+        ensures { result ≡ self.now.facts.fault }
     {
         self.fault
     }
 
     /// The declarations, the first one first.
     pub(crate) fn declared(&self) -> &[Declaration]
-        ensures { reverse result.now ≡ self.now.declared }
+        ensures { reverse result.now ≡ self.now.facts.declared }
     {
         self.declared.as_slice()
     }
 
     /// What is bound, the first one first.
     pub(crate) fn occurrences(&self) -> &[Occurrence]
-        ensures { reverse result.now ≡ self.now.occurrences }
+        ensures { reverse result.now ≡ self.now.facts.occurrences }
     {
         self.occurrences.as_slice()
     }
@@ -176,7 +186,7 @@ impl Facts {
         from: u32,
         to: u32,
     ) -> Result<(), Memory>
-        ensures { OnOk result (self.new ≡ with_kept list depth from to self.old) }
+        ensures { OnOk result (self.new ≡ known self.old.toks (with_kept list depth from to self.old.facts)) }
     {
         match list {
             None => Ok(()),
@@ -185,77 +195,83 @@ impl Facts {
     }
 
     pub(crate) fn has_begun(&self, entity: u32) -> bool
-        ensures { result ≡ is_in self.now.begun entity }
+        ensures { result ≡ is_in self.now.facts.begun entity }
     {
         self.begun.iter().any(|n| *n == entity)
     }
 
     pub(crate) fn is_complete(&self, number: u32) -> bool
-        ensures { result ≡ is_in self.now.complete number }
+        ensures { result ≡ is_in self.now.facts.complete number }
     {
         self.complete.iter().any(|n| *n == number)
     }
 
-    pub(crate) fn visible(&self, toks: &[Tok], space: Space, i: u32, k: u32) -> Option<&Declaration>
-        ensures { option_map (λ d. d.now) result ≡ visible toks.now space i k self.now }
-    {
-        latest(self.declared.as_slice(), toks, space, i, Asked::Live(k))
-    }
-
-    pub(crate) fn in_scope(&self, toks: &[Tok], depth: u32, i: u32, k: u32) -> Option<&Declaration>
-        ensures { option_map (λ d. d.now) result ≡ in_scope toks.now Ordinary depth i k self.now }
+    pub(crate) fn visible(&self, space: Space, i: u32, k: u32) -> Option<&Declaration>
+        ensures { option_map (λ d. d.now) result ≡ visible self.now.toks space i k self.now.facts }
     {
         latest(
             self.declared.as_slice(),
-            toks,
+            self.toks,
+            space,
+            i,
+            Asked::Live(k),
+        )
+    }
+
+    pub(crate) fn in_scope(&self, depth: u32, i: u32, k: u32) -> Option<&Declaration>
+        ensures { option_map (λ d. d.now) result ≡ in_scope self.now.toks Ordinary depth i k self.now.facts }
+    {
+        latest(
+            self.declared.as_slice(),
+            self.toks,
             Space::Ordinary,
             i,
             Asked::Within(k, depth),
         )
     }
 
-    pub(crate) fn prior_tag(
-        &self,
-        toks: &[Tok],
-        anew: bool,
-        depth: u32,
-        i: u32,
-    ) -> Option<&Declaration>
-        ensures { option_map (λ d. d.now) result ≡ looked_up toks.now Tags i (passes (Tag i anew depth)) self.now }
+    pub(crate) fn prior_tag(&self, anew: bool, depth: u32, i: u32) -> Option<&Declaration>
+        ensures { option_map (λ d. d.now) result ≡ looked_up self.now.toks Tags i (passes (Tag i anew depth)) self.now.facts }
     {
         latest(
             self.declared.as_slice(),
-            toks,
+            self.toks,
             Space::Tags,
             i,
             Asked::Tag(i, anew, depth),
         )
     }
 
-    pub(crate) fn anywhere(&self, toks: &[Tok], space: Space, i: u32) -> Option<&Declaration>
-        ensures { option_map (λ d. d.now) result ≡ anywhere toks.now space i self.now }
-    {
-        latest(self.declared.as_slice(), toks, space, i, Asked::Anywhere)
-    }
-
-    pub(crate) fn linked(&self, toks: &[Tok], i: u32) -> Option<&Declaration>
-        ensures { option_map (λ d. d.now) result ≡ linked toks.now i self.now }
+    pub(crate) fn anywhere(&self, space: Space, i: u32) -> Option<&Declaration>
+        ensures { option_map (λ d. d.now) result ≡ anywhere self.now.toks space i self.now.facts }
     {
         latest(
             self.declared.as_slice(),
-            toks,
+            self.toks,
+            space,
+            i,
+            Asked::Anywhere,
+        )
+    }
+
+    pub(crate) fn linked(&self, i: u32) -> Option<&Declaration>
+        ensures { option_map (λ d. d.now) result ≡ linked self.now.toks i self.now.facts }
+    {
+        latest(
+            self.declared.as_slice(),
+            self.toks,
             Space::Ordinary,
             i,
             Asked::Linked,
         )
     }
 
-    pub(crate) fn is_mixed(&self, toks: &[Tok], linkage: Linkage, i: u32) -> bool
-        ensures { result ≡ is_mixed toks.now linkage i self.now }
+    pub(crate) fn is_mixed(&self, linkage: Linkage, i: u32) -> bool
+        ensures { result ≡ is_mixed self.now.toks linkage i self.now.facts }
     {
         latest(
             self.declared.as_slice(),
-            toks,
+            self.toks,
             Space::Ordinary,
             i,
             Asked::Other(linkage),

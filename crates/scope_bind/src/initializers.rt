@@ -2,6 +2,7 @@
 ghost use Rattle.std.specs.Prelude.{◌≡◌, ◌&&◌, not, IfOk, OnOk, if◌then◌else◌};
 ghost use Rattle.std.specs.Option.{option_map};
 ghost use Rattle.c99_tree.specs.declared.production.Production.TheVariants.{InitItem as InitItemNode, InitList as InitListNode};
+ghost use Rattle.scope_bind.specs.Declarations.{known};
 ghost use Rattle.scope_bind.specs.Types.{unknown, arithmetic, inner_of, is_array, is_arithmetic};
 ghost use Rattle.scope_bind.specs.Members.{members_of, member_at};
 ghost use Rattle.scope_bind.specs.Places.{position_by};
@@ -14,7 +15,7 @@ use crate::tags::number_in;
 use crate::trees::{is_node, is_text};
 use crate::types::{Base, CType};
 use c99_tree::{Production, Tree};
-use cs_base::{Memory, Tok};
+use cs_base::Memory;
 use std::alloc::Global;
 
 fn unknown(alloc: Global) -> CType
@@ -156,10 +157,10 @@ pub(crate) fn position_after(f: &Frame, tree: &Tree, child: &Frame) -> Result<Po
     }
 }
 
-impl Facts {
+impl Facts<'_> {
     // The type of member number `n` of a structure or union that is complete.
     fn member_place(&self, alloc: Global, t: &CType, n: u32) -> Result<CType, Memory>
-        ensures { IfOk result (λ r. r ≡ member_place t.now n self.now) }
+        ensures { IfOk result (λ r. r ≡ member_place t.now n self.now.facts) }
     {
         if self.is_known(t) {
             self.member_numbered(alloc, number_in(t), n)
@@ -169,7 +170,7 @@ impl Facts {
     }
 
     fn place_at(&self, alloc: Global, t: &CType, n: u32) -> Result<CType, Memory>
-        ensures { IfOk result (λ r. r ≡ place_at t.now n self.now) }
+        ensures { IfOk result (λ r. r ≡ place_at t.now n self.now.facts) }
     {
         if is_union(t) && n != 0 {
             Ok(arithmetic(alloc))
@@ -179,7 +180,7 @@ impl Facts {
     }
 
     fn next_member(&self, alloc: Global, t: &CType, at: Position) -> Result<CType, Memory>
-        ensures { IfOk result (λ r. r ≡ next_member t.now at self.now) }
+        ensures { IfOk result (λ r. r ≡ next_member t.now at self.now.facts) }
     {
         match at {
             Position::Lost => Ok(unknown(alloc)),
@@ -189,7 +190,7 @@ impl Facts {
     }
 
     fn known_place(&self, alloc: Global, t: &CType, at: Position) -> Result<CType, Memory>
-        ensures { IfOk result (λ r. r ≡ (if is_array t.now then inner_of t.now else next_member t.now at self.now)) }
+        ensures { IfOk result (λ r. r ≡ (if is_array t.now then inner_of t.now else next_member t.now at self.now.facts)) }
     {
         if t.is_array() {
             Ok(t.copied()?.inner())
@@ -200,7 +201,7 @@ impl Facts {
 
     /// The next place in a list of the type.
     pub(crate) fn next_place(&self, alloc: Global, t: &CType, at: Position) -> Result<CType, Memory>
-        ensures { IfOk result (λ r. r ≡ next_place t.now at self.now) }
+        ensures { IfOk result (λ r. r ≡ next_place t.now at self.now.facts) }
     {
         if t.is_unknown() || is_lost(at) {
             Ok(unknown(alloc))
@@ -210,14 +211,14 @@ impl Facts {
     }
 
     /// A member is designated.
-    pub(crate) fn designate(&mut self, toks: &[Tok], place: &CType, i: u32) -> Result<(), Memory>
-        ensures { OnOk result (self.new ≡ designated_facts toks.now place.now i self.old) }
+    pub(crate) fn designate(&mut self, place: &CType, i: u32) -> Result<(), Memory>
+        ensures { OnOk result (self.new ≡ known self.old.toks (designated_facts self.old.toks place.now i self.old.facts)) }
     {
         if place.is_unknown() {
             self.note(true, Cause::DesignatorAfterElision, i);
             Ok(())
         } else {
-            self.use_member(toks, place, i)
+            self.use_member(place, i)
         }
     }
 
@@ -225,17 +226,16 @@ impl Facts {
     pub(crate) fn designated_type(
         &self,
         alloc: Global,
-        toks: &[Tok],
         place: &CType,
         i: u32,
     ) -> Result<CType, Memory>
-        ensures { IfOk result (λ t. t ≡ designated_type toks.now place.now i self.now) }
+        ensures { IfOk result (λ t. t ≡ designated_type self.now.toks place.now i self.now.facts) }
     {
         let other = unknown(alloc);
         if place.is_unknown() {
             Ok(other)
         } else {
-            self.member_type(toks, place, i, other)
+            self.member_type(place, i, other)
         }
     }
 
@@ -245,7 +245,7 @@ impl Facts {
         member: Option<u32>,
         at: Position,
     ) -> Result<Position, Memory>
-        ensures { IfOk result (λ p. p ≡ position_by (members_of number self.now) member at) }
+        ensures { IfOk result (λ p. p ≡ position_by (members_of number self.now.facts) member at) }
     {
         match member {
             None => Ok(at),
@@ -253,23 +253,22 @@ impl Facts {
         }
     }
 
-    fn designated_name(&self, toks: &[Tok], place: &CType, i: u32) -> Option<u32>
-        ensures { result ≡ option_map (λ d. d.name_at) (member_at toks.now place.now i self.now) }
+    fn designated_name(&self, place: &CType, i: u32) -> Option<u32>
+        ensures { result ≡ option_map (λ d. d.name_at) (member_at self.now.toks place.now i self.now.facts) }
     {
-        self.member_at(toks, place, i).map(|d| d.name_at)
+        self.member_at(place, i).map(|d| d.name_at)
     }
 
     /// The place of the member that token `i` designates.
     pub(crate) fn designated_position(
         &self,
-        toks: &[Tok],
         place: &CType,
         i: u32,
         at: Position,
     ) -> Result<Position, Memory>
-        ensures { IfOk result (λ p. p ≡ designated_position toks.now place.now i self.now at) }
+        ensures { IfOk result (λ p. p ≡ designated_position self.now.toks place.now i self.now.facts at) }
     {
-        let member = self.designated_name(toks, place, i);
+        let member = self.designated_name(place, i);
         self.position_of(number_in(place), member, at)
     }
 }

@@ -2,27 +2,26 @@
 ghost use Rattle.std.specs.Prelude.{◌≡◌, OnOk};
 ghost use Rattle.std.specs.Option.{option_map};
 ghost use Rattle.scope_bind.specs.declared.declarations.Space.TheVariants.{Labels};
-ghost use Rattle.scope_bind.specs.Declarations.{anywhere};
+ghost use Rattle.scope_bind.specs.Declarations.{known, anywhere};
 ghost use Rattle.scope_bind.specs.Labels.{jump_to, with_jumps, with_labels};
 
 use crate::declarations::{Cause, Space};
 use crate::facts::Facts;
 use crate::frames::Body;
-use cs_base::{Memory, Tok};
+use cs_base::Memory;
 
-impl Facts {
-    fn label_entity(&self, toks: &[Tok], b: Body, i: u32) -> Option<u32>
-        ensures { result ≡ option_map (λ d. d.entity) (anywhere toks.now (Labels b.from) i self.now) }
+impl Facts<'_> {
+    fn label_entity(&self, b: Body, i: u32) -> Option<u32>
+        ensures { result ≡ option_map (λ d. d.entity) (anywhere self.now.toks (Labels b.from) i self.now.facts) }
     {
-        self.anywhere(toks, Space::Labels(b.from), i)
-            .map(|d| d.entity)
+        self.anywhere(Space::Labels(b.from), i).map(|d| d.entity)
     }
 
     // A `goto` of the function.
-    fn join(&mut self, toks: &[Tok], b: Body, i: u32) -> Result<(), Memory>
-        ensures { OnOk result (self.new ≡ jump_to toks.now i (anywhere toks.now (Labels b.from) i self.old) self.old) }
+    fn join(&mut self, b: Body, i: u32) -> Result<(), Memory>
+        ensures { OnOk result (self.new ≡ known self.old.toks (jump_to self.old.toks i (anywhere self.old.toks (Labels b.from) i self.old.facts) self.old.facts)) }
     {
-        match self.label_entity(toks, b, i) {
+        match self.label_entity(b, i) {
             None => {
                 self.note(true, Cause::NoLabel, i);
                 Ok(())
@@ -31,24 +30,24 @@ impl Facts {
         }
     }
 
-    fn join_all(&mut self, toks: &[Tok], b: Body, jumps: &[u32]) -> Result<(), Memory>
-        ensures { OnOk result (self.new ≡ with_jumps toks.now b jumps.now self.old) }
+    fn join_all(&mut self, b: Body, jumps: &[u32]) -> Result<(), Memory>
+        ensures { OnOk result (self.new ≡ known self.old.toks (with_jumps self.old.toks b jumps.now self.old.facts)) }
     {
         'jumps: for i in jumps {
-            self.join(toks, b, *i)?;
+            self.join(b, *i)?;
         }
         Ok(())
     }
 
     /// The `goto`s of a function, once its body is read.
-    pub(crate) fn join_jumps(&mut self, toks: &[Tok], body: Option<Body>) -> Result<(), Memory>
-        ensures { OnOk result (self.new ≡ with_labels toks.now body self.old) }
+    pub(crate) fn join_jumps(&mut self, body: Option<Body>) -> Result<(), Memory>
+        ensures { OnOk result (self.new ≡ known self.old.toks (with_labels self.old.toks body self.old.facts)) }
     {
         match body {
             None => Ok(()),
             Some(b) => {
                 let jumps = self.jumps()?;
-                self.join_all(toks, b, jumps.as_slice())
+                self.join_all(b, jumps.as_slice())
             }
         }
     }

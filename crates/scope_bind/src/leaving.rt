@@ -1,6 +1,7 @@
 // What is known once a node is left: what it declares, and the frame around it.
 ghost use Rattle.std.specs.Prelude.{◌≡◌, [], if◌then◌else◌, IfOk, OnOk};
 ghost use Rattle.c99_tree.specs.declared.production.Production.TheVariants.{Specs as SpecsNode};
+ghost use Rattle.scope_bind.specs.Declarations.{known};
 ghost use Rattle.scope_bind.specs.Trees.{is_node, words_of};
 ghost use Rattle.scope_bind.specs.Walk.{declared_in, parameter_in, facts_after, kept_after, frame_after};
 
@@ -16,24 +17,24 @@ use c99_tree::{Production, Tree};
 use cs_base::{Memory, Tok};
 use std::alloc::Global;
 
-impl Facts {
+impl Facts<'_> {
     // A declarator is complete.
-    fn declare_in(&mut self, toks: &[Tok], f: &Frame, tree: &Tree) -> Result<(), Memory>
-        ensures { OnOk result (self.new ≡ declared_in toks.now f.now.label.production f.now tree.now.label tree.now.under self.old) }
+    fn declare_in(&mut self, f: &Frame, tree: &Tree) -> Result<(), Memory>
+        ensures { OnOk result (self.new ≡ known self.old.toks (declared_in self.old.toks f.now.label.production f.now tree.now.label tree.now.under self.old.facts)) }
     {
         match f.label.production {
-            Production::ExtRest => self.declare_object(toks, f, tree, name_below(tree)),
-            Production::InitDecl => self.declare_object(toks, f, tree, name_below(tree)),
-            Production::Mdecl => self.declare_member_name(toks, f, tree, name_below(tree)),
+            Production::ExtRest => self.declare_object(f, tree, name_below(tree)),
+            Production::InitDecl => self.declare_object(f, tree, name_below(tree)),
+            Production::Mdecl => self.declare_member_name(f, tree, name_below(tree)),
             _ => Ok(()),
         }
     }
 
-    fn parameter_in(&mut self, toks: &[Tok], f: &Frame, tree: &Tree) -> Result<(), Memory>
-        ensures { OnOk result (self.new ≡ parameter_in toks.now f.now.label.production f.now tree.now.label tree.now.under self.old) }
+    fn parameter_in(&mut self, f: &Frame, tree: &Tree) -> Result<(), Memory>
+        ensures { OnOk result (self.new ≡ known self.old.toks (parameter_in self.old.toks f.now.label.production f.now tree.now.label tree.now.under self.old.facts)) }
     {
         match f.label.production {
-            Production::Param => self.declare_parameter(toks, f, tree, name_below(tree)),
+            Production::Param => self.declare_parameter(f, tree, name_below(tree)),
             _ => Ok(()),
         }
     }
@@ -42,23 +43,22 @@ impl Facts {
     pub(crate) fn leave(
         &mut self,
         alloc: Global,
-        toks: &[Tok],
         f: &Frame,
         tree: &Tree,
         body: Option<Body>,
     ) -> Result<(), Memory>
-        ensures { OnOk result (self.new ≡ facts_after toks.now tree.now.label.production tree.now.first f.now tree.now.label tree.now.under body self.old) }
+        ensures { OnOk result (self.new ≡ known self.old.toks (facts_after self.old.toks tree.now.label.production tree.now.first f.now tree.now.label tree.now.under body self.old.facts)) }
     {
         match tree.label().production {
-            Production::Declarator => self.declare_in(toks, f, tree),
-            Production::Pdecl => self.parameter_in(toks, f, tree),
+            Production::Declarator => self.declare_in(f, tree),
+            Production::Pdecl => self.parameter_in(f, tree),
             Production::Enumerator => {
                 let last = last_token(tree, tree.first());
-                self.declare_enumerator(alloc, toks, f, tree.first(), last)
+                self.declare_enumerator(alloc, f, tree.first(), last)
             }
             Production::Members => self.complete(number_in(&f.found)),
             Production::Enumerators => self.complete(number_in(&f.found)),
-            Production::FunBody => self.join_jumps(toks, body),
+            Production::FunBody => self.join_jumps(body),
             _ => Ok(()),
         }
     }

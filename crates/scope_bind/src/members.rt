@@ -1,7 +1,7 @@
 // Members and labels (ISO/IEC 9899:1999, 6.2.3, 6.5.2.3, 6.7.2.1 and 6.8.1).
 ghost use Rattle.std.specs.Prelude.{◌≡◌, is_some, IfOk, OnOk};
 ghost use Rattle.std.specs.Option.{option_map, option_map_or};
-ghost use Rattle.scope_bind.specs.Declarations.{with_fault, with_declaration, anywhere};
+ghost use Rattle.scope_bind.specs.Declarations.{known, with_fault, with_declaration, anywhere};
 ghost use Rattle.scope_bind.specs.Members.{member_declaration, is_known, member_at, member_used, member_type};
 ghost use Rattle.scope_bind.specs.Labels.{label_declaration, with_label};
 ghost use Rattle.scope_bind.specs.declared.declarations.Cause.TheVariants.{Redeclared};
@@ -13,7 +13,7 @@ use crate::facts::Facts;
 use crate::frames::{Body, Frame};
 use crate::tags::number_in;
 use crate::types::{Base, CType};
-use cs_base::{Memory, Tok};
+use cs_base::Memory;
 use std::alloc::Global;
 
 fn member_declaration(f: &Frame, i: u32, last: u32, t: CType) -> Result<Declaration, Memory>
@@ -54,18 +54,12 @@ fn label_declaration(alloc: Global, b: Body, i: u32) -> Declaration
     }
 }
 
-impl Facts {
+impl Facts<'_> {
     // A name that may be declared once in its name space.
-    fn declare_once(
-        &mut self,
-        toks: &[Tok],
-        space: Space,
-        i: u32,
-        d: Declaration,
-    ) -> Result<(), Memory>
-        ensures { OnOk result (self.new ≡ with_declaration d (with_fault (is_some (anywhere toks.now space i self.old)) Redeclared i self.old)) }
+    fn declare_once(&mut self, space: Space, i: u32, d: Declaration) -> Result<(), Memory>
+        ensures { OnOk result (self.new ≡ known self.old.toks (with_declaration d (with_fault (is_some (anywhere self.old.toks space i self.old.facts)) Redeclared i self.old.facts))) }
     {
-        let twice = self.anywhere(toks, space, i).is_some();
+        let twice = self.anywhere(space, i).is_some();
         self.note(twice, Cause::Redeclared, i);
         self.declare(d)
     }
@@ -73,66 +67,59 @@ impl Facts {
     /// A member at the end of its declarator.
     pub(crate) fn declare_member(
         &mut self,
-        toks: &[Tok],
         f: &Frame,
         i: u32,
         last: u32,
         t: CType,
     ) -> Result<(), Memory>
-        ensures { OnOk result (self.new ≡ with_declaration (member_declaration f.now i last t) (with_fault (is_some (anywhere toks.now (Members f.now.owner) i self.old)) Redeclared i self.old)) }
+        ensures { OnOk result (self.new ≡ known self.old.toks (with_declaration (member_declaration f.now i last t) (with_fault (is_some (anywhere self.old.toks (Members f.now.owner) i self.old.facts)) Redeclared i self.old.facts))) }
     {
         let d = member_declaration(f, i, last, t)?;
-        self.declare_once(toks, Space::Members(f.owner), i, d)
+        self.declare_once(Space::Members(f.owner), i, d)
     }
 
     /// A labeled statement.
-    pub(crate) fn label(
-        &mut self,
-        alloc: Global,
-        toks: &[Tok],
-        body: Option<Body>,
-        i: u32,
-    ) -> Result<(), Memory>
-        ensures { OnOk result (self.new ≡ with_label toks.now body i self.old) }
+    pub(crate) fn label(&mut self, alloc: Global, body: Option<Body>, i: u32) -> Result<(), Memory>
+        ensures { OnOk result (self.new ≡ known self.old.toks (with_label self.old.toks body i self.old.facts)) }
     {
         match body {
             None => Ok(()),
             Some(b) => {
                 let d = label_declaration(alloc, b, i);
-                self.declare_once(toks, Space::Labels(b.from), i, d)
+                self.declare_once(Space::Labels(b.from), i, d)
             }
         }
     }
 
     /// A structure or union that is complete.
     pub(crate) fn is_known(&self, t: &CType) -> bool
-        ensures { result ≡ is_known t.now self.now }
+        ensures { result ≡ is_known t.now self.now.facts }
     {
         t.is_record() && self.is_complete(number_in(t))
     }
 
     /// The member that token `i` names in a structure or union.
-    pub(crate) fn member_at(&self, toks: &[Tok], t: &CType, i: u32) -> Option<&Declaration>
-        ensures { option_map (λ d. d.now) result ≡ member_at toks.now t.now i self.now }
+    pub(crate) fn member_at(&self, t: &CType, i: u32) -> Option<&Declaration>
+        ensures { option_map (λ d. d.now) result ≡ member_at self.now.toks t.now i self.now.facts }
     {
         if self.is_known(t) {
-            self.anywhere(toks, Space::Members(number_in(t)), i)
+            self.anywhere(Space::Members(number_in(t)), i)
         } else {
             None
         }
     }
 
-    fn member_entity(&self, toks: &[Tok], t: &CType, i: u32) -> Option<u32>
-        ensures { result ≡ option_map (λ d. d.entity) (member_at toks.now t.now i self.now) }
+    fn member_entity(&self, t: &CType, i: u32) -> Option<u32>
+        ensures { result ≡ option_map (λ d. d.entity) (member_at self.now.toks t.now i self.now.facts) }
     {
-        self.member_at(toks, t, i).map(|d| d.entity)
+        self.member_at(t, i).map(|d| d.entity)
     }
 
     /// The member is used.
-    pub(crate) fn use_member(&mut self, toks: &[Tok], t: &CType, i: u32) -> Result<(), Memory>
-        ensures { OnOk result (self.new ≡ member_used toks.now t.now i self.old) }
+    pub(crate) fn use_member(&mut self, t: &CType, i: u32) -> Result<(), Memory>
+        ensures { OnOk result (self.new ≡ known self.old.toks (member_used self.old.toks t.now i self.old.facts)) }
     {
-        match self.member_entity(toks, t, i) {
+        match self.member_entity(t, i) {
             None => {
                 self.note(true, Cause::NoMember, i);
                 Ok(())
@@ -142,16 +129,10 @@ impl Facts {
     }
 
     /// Its type, or the one given where it is not there.
-    pub(crate) fn member_type(
-        &self,
-        toks: &[Tok],
-        t: &CType,
-        i: u32,
-        other: CType,
-    ) -> Result<CType, Memory>
-        ensures { IfOk result (λ r. r ≡ member_type toks.now t.now i other self.now) }
+    pub(crate) fn member_type(&self, t: &CType, i: u32, other: CType) -> Result<CType, Memory>
+        ensures { IfOk result (λ r. r ≡ member_type self.now.toks t.now i other self.now.facts) }
     {
-        match self.member_at(toks, t, i) {
+        match self.member_at(t, i) {
             None => Ok(other),
             Some(d) => d.ctype.copied(),
         }

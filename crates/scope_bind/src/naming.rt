@@ -99,8 +99,8 @@ fn names_by(
 }
 
 /// The names, in a text of so many tokens.
-pub(crate) fn names_of(alloc: Global, count: usize, facts: &Facts) -> Result<Vec<Name>, Memory>
-    ensures { IfOk result (λ v. v.items ≡ names_of facts.now) }
+pub(crate) fn names_of(alloc: Global, count: usize, facts: &Facts<'_>) -> Result<Vec<Name>, Memory>
+    ensures { IfOk result (λ v. v.items ≡ names_of facts.now.facts) }
 {
     let table = table_of(alloc, count, facts.declared())?;
     names_by(alloc, &table, facts.occurrences())

@@ -3,7 +3,7 @@ ghost use Rattle.std.specs.Prelude.{◌≡◌, ◌||◌, [], true, false, if◌t
 ghost use Rattle.std.specs.Option.{option_map_or};
 ghost use Rattle.scope_bind.specs.declared.entity.Linkage.TheVariants.{Absent as NoLinkage};
 ghost use Rattle.scope_bind.specs.declared.declarations.Space.TheVariants.{Ordinary};
-ghost use Rattle.scope_bind.specs.Declarations.{visible};
+ghost use Rattle.scope_bind.specs.Declarations.{known, visible};
 ghost use Rattle.scope_bind.specs.Linkage.{linkage_of};
 ghost use Rattle.scope_bind.specs.Members.{with_member};
 ghost use Rattle.scope_bind.specs.Ordinary.{is_func, named_facts, named_type, new_kind, new_type, new_object, with_object, plain_name, new_parameter, with_parameter, with_listed, with_enumerator};
@@ -85,37 +85,31 @@ fn new_parameter(f: &Frame, i: u32, last: u32, t: CType) -> Result<Declared, Mem
     }
 }
 
-impl Facts {
+impl Facts<'_> {
     /// An identifier in an expression.
-    pub(crate) fn name(&mut self, toks: &[Tok], f: &Frame, i: u32) -> Result<(), Memory>
-        ensures { OnOk result (self.new ≡ named_facts toks.now f.now i self.old) }
+    pub(crate) fn name(&mut self, f: &Frame, i: u32) -> Result<(), Memory>
+        ensures { OnOk result (self.new ≡ known self.old.toks (named_facts self.old.toks f.now i self.old.facts)) }
     {
-        if is_func(toks, f, i) {
+        if is_func(self.toks(), f, i) {
             Ok(())
         } else {
-            self.use_name(toks, i)
+            self.use_name(i)
         }
     }
 
     /// Its type.
-    pub(crate) fn named_type(
-        &self,
-        alloc: Global,
-        toks: &[Tok],
-        f: &Frame,
-        i: u32,
-    ) -> Result<CType, Memory>
-        ensures { IfOk result (λ t. t ≡ named_type toks.now f.now i self.now) }
+    pub(crate) fn named_type(&self, alloc: Global, f: &Frame, i: u32) -> Result<CType, Memory>
+        ensures { IfOk result (λ t. t ≡ named_type self.now.toks f.now i self.now.facts) }
     {
-        if is_func(toks, f, i) {
+        if is_func(self.toks(), f, i) {
             CType::plain(alloc, Base::Arithmetic).array()
         } else {
-            self.type_of(alloc, toks, i)
+            self.type_of(alloc, i)
         }
     }
 
-    fn new_linkage(&self, toks: &[Tok], f: &Frame, i: u32, last: u32, of_function: bool) -> Linkage
-        ensures { result ≡ (if f.now.words.has_typedef || f.now.listing then NoLinkage else linkage_of f.now.scope.depth of_function f.now.words (visible toks.now Ordinary i last self.now)) }
+    fn new_linkage(&self, f: &Frame, i: u32, last: u32, of_function: bool) -> Linkage
+        ensures { result ≡ (if f.now.words.has_typedef || f.now.listing then NoLinkage else linkage_of f.now.scope.depth of_function f.now.words (visible self.now.toks Ordinary i last self.now.facts)) }
     {
         if f.words.has_typedef || f.listing {
             Linkage::Absent
@@ -124,23 +118,16 @@ impl Facts {
                 f.scope.depth,
                 of_function,
                 f.words,
-                self.visible(toks, Space::Ordinary, i, last),
+                self.visible(Space::Ordinary, i, last),
             )
         }
     }
 
-    fn new_object(
-        &self,
-        toks: &[Tok],
-        f: &Frame,
-        i: u32,
-        last: u32,
-        t: CType,
-    ) -> Result<Declared, Memory>
-        ensures { IfOk result (λ n. n ≡ new_object toks.now f.now i last t self.now) }
+    fn new_object(&self, f: &Frame, i: u32, last: u32, t: CType) -> Result<Declared, Memory>
+        ensures { IfOk result (λ n. n ≡ new_object self.now.toks f.now i last t self.now.facts) }
     {
         let kind = new_kind(f, &t);
-        let linkage = self.new_linkage(toks, f, i, last, t.is_function());
+        let linkage = self.new_linkage(f, i, last, t.is_function());
         Ok(Declared {
             name_at: i,
             last,
@@ -155,19 +142,18 @@ impl Facts {
     /// The name of a declarator, behind it.
     pub(crate) fn declare_object(
         &mut self,
-        toks: &[Tok],
         f: &Frame,
         tree: &Tree,
         name: Option<u32>,
     ) -> Result<(), Memory>
-        ensures { OnOk result (self.new ≡ with_object toks.now f.now tree.now.under name self.old) }
+        ensures { OnOk result (self.new ≡ known self.old.toks (with_object self.old.toks f.now tree.now.under name self.old.facts)) }
     {
         match name {
             None => Ok(()),
             Some(i) => {
                 let t = declarator_type(f.base.copied()?, tree)?;
-                let n = self.new_object(toks, f, i, last_token(tree, i), t)?;
-                self.declare_name(toks, f.scope, n)
+                let n = self.new_object(f, i, last_token(tree, i), t)?;
+                self.declare_name(f.scope, n)
             }
         }
     }
@@ -175,18 +161,17 @@ impl Facts {
     /// The name of a member, behind its declarator.
     pub(crate) fn declare_member_name(
         &mut self,
-        toks: &[Tok],
         f: &Frame,
         tree: &Tree,
         name: Option<u32>,
     ) -> Result<(), Memory>
-        ensures { OnOk result (self.new ≡ with_member toks.now f.now tree.now.under name self.old) }
+        ensures { OnOk result (self.new ≡ known self.old.toks (with_member self.old.toks f.now tree.now.under name self.old.facts)) }
     {
         match name {
             None => Ok(()),
             Some(i) => {
                 let t = declarator_type(f.base.copied()?, tree)?;
-                self.declare_member(toks, f, i, last_token(tree, i), t)
+                self.declare_member(f, i, last_token(tree, i), t)
             }
         }
     }
@@ -194,51 +179,43 @@ impl Facts {
     /// A parameter of a prototype, behind its declarator.
     pub(crate) fn declare_parameter(
         &mut self,
-        toks: &[Tok],
         f: &Frame,
         tree: &Tree,
         name: Option<u32>,
     ) -> Result<(), Memory>
-        ensures { OnOk result (self.new ≡ with_parameter toks.now f.now tree.now.under name self.old) }
+        ensures { OnOk result (self.new ≡ known self.old.toks (with_parameter self.old.toks f.now tree.now.under name self.old.facts)) }
     {
         match name {
             None => Ok(()),
             Some(i) => {
                 let t = declarator_type(f.base.copied()?, tree)?;
                 let n = new_parameter(f, i, last_token(tree, i), t)?;
-                self.declare_name(toks, f.scope, n)
+                self.declare_name(f.scope, n)
             }
         }
     }
 
     /// A name in an identifier list.
-    pub(crate) fn list_name(
-        &mut self,
-        alloc: Global,
-        toks: &[Tok],
-        f: &Frame,
-        i: u32,
-    ) -> Result<(), Memory>
-        ensures { OnOk result (self.new ≡ with_listed toks.now f.now i self.old) }
+    pub(crate) fn list_name(&mut self, alloc: Global, f: &Frame, i: u32) -> Result<(), Memory>
+        ensures { OnOk result (self.new ≡ known self.old.toks (with_listed self.old.toks f.now i self.old.facts)) }
     {
         let t = CType::plain(alloc, Base::Arithmetic);
         let n = plain_name(i, i, EntityKind::Parameter, t, true);
-        self.declare_name(toks, f.scope, n)
+        self.declare_name(f.scope, n)
     }
 
     /// An enumeration constant, behind its enumerator.
     pub(crate) fn declare_enumerator(
         &mut self,
         alloc: Global,
-        toks: &[Tok],
         f: &Frame,
         i: u32,
         last: u32,
     ) -> Result<(), Memory>
-        ensures { OnOk result (self.new ≡ with_enumerator toks.now f.now i last self.old) }
+        ensures { OnOk result (self.new ≡ known self.old.toks (with_enumerator self.old.toks f.now i last self.old.facts)) }
     {
         let t = CType::plain(alloc, Base::Arithmetic);
         let n = plain_name(i, last, EntityKind::Enumerator, t, false);
-        self.declare_name(toks, f.scope, n)
+        self.declare_name(f.scope, n)
     }
 }

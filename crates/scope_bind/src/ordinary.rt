@@ -1,7 +1,7 @@
 // Ordinary identifiers (ISO/IEC 9899:1999, 6.2.1, 6.2.2, 6.7 paragraph 3).
 ghost use Rattle.std.specs.Prelude.{◌≡◌, ◌&&◌, ◌||◌, not, false, IfOk, OnOk};
 ghost use Rattle.std.specs.Option.{option_map, option_map_or};
-ghost use Rattle.scope_bind.specs.Declarations.{has_linkage, is_typedef_name, in_scope, linked, is_mixed, visible};
+ghost use Rattle.scope_bind.specs.Declarations.{known, has_linkage, is_typedef_name, in_scope, linked, is_mixed, visible};
 ghost use Rattle.scope_bind.specs.Ordinary.{is_again, linked_entity, entity_of, is_listed, declaration_of, declared, used_as, used, used_type};
 ghost use Rattle.scope_bind.specs.declared.declarations.Space.TheVariants.{Ordinary};
 
@@ -11,7 +11,7 @@ use crate::facts::Facts;
 use crate::frames::Scope;
 use crate::latest::has_linkage;
 use crate::types::{Base, CType};
-use cs_base::{Memory, Tok};
+use cs_base::Memory;
 use std::alloc::Global;
 
 /// What is declared: its name, the last token before its range, its kind, type and linkage, whether it
@@ -127,14 +127,14 @@ struct Verdict {
     another: bool,
 }
 
-impl Facts {
-    fn verdict(&self, toks: &[Tok], scope: Scope, n: &Declared) -> Verdict
-        ensures entity { result.entity ≡ entity_of n.now (in_scope toks.now Ordinary scope.depth n.now.name_at n.now.last self.now) (linked toks.now n.now.name_at self.now) }
-        ensures listed { result.listed ≡ is_listed n.now (in_scope toks.now Ordinary scope.depth n.now.name_at n.now.last self.now) }
-        ensures another { result.another ≡ option_map_or (λ d. not (is_again n.now d)) (in_scope toks.now Ordinary scope.depth n.now.name_at n.now.last self.now) false }
+impl Facts<'_> {
+    fn verdict(&self, scope: Scope, n: &Declared) -> Verdict
+        ensures entity { result.entity ≡ entity_of n.now (in_scope self.now.toks Ordinary scope.depth n.now.name_at n.now.last self.now.facts) (linked self.now.toks n.now.name_at self.now.facts) }
+        ensures listed { result.listed ≡ is_listed n.now (in_scope self.now.toks Ordinary scope.depth n.now.name_at n.now.last self.now.facts) }
+        ensures another { result.another ≡ option_map_or (λ d. not (is_again n.now d)) (in_scope self.now.toks Ordinary scope.depth n.now.name_at n.now.last self.now.facts) false }
     {
-        let prior = self.in_scope(toks, scope.depth, n.name_at, n.last);
-        let link = self.linked(toks, n.name_at);
+        let prior = self.in_scope(scope.depth, n.name_at, n.last);
+        let link = self.linked(n.name_at);
         Verdict {
             entity: entity_of(n, prior, link),
             listed: is_listed(n, prior),
@@ -142,23 +142,18 @@ impl Facts {
         }
     }
 
-    fn is_mixed_with(&self, toks: &[Tok], n: &Declared) -> bool
-        ensures { result ≡ (has_linkage n.now.linkage && is_mixed toks.now n.now.linkage n.now.name_at self.now) }
+    fn is_mixed_with(&self, n: &Declared) -> bool
+        ensures { result ≡ (has_linkage n.now.linkage && is_mixed self.now.toks n.now.linkage n.now.name_at self.now.facts) }
     {
-        has_linkage(n.linkage) && self.is_mixed(toks, n.linkage, n.name_at)
+        has_linkage(n.linkage) && self.is_mixed(n.linkage, n.name_at)
     }
 
     /// The name is declared in the scope.
-    pub(crate) fn declare_name(
-        &mut self,
-        toks: &[Tok],
-        scope: Scope,
-        n: Declared,
-    ) -> Result<(), Memory>
-        ensures { OnOk result (self.new ≡ declared toks.now scope n self.old) }
+    pub(crate) fn declare_name(&mut self, scope: Scope, n: Declared) -> Result<(), Memory>
+        ensures { OnOk result (self.new ≡ known self.old.toks (declared self.old.toks scope n self.old.facts)) }
     {
-        let v = self.verdict(toks, scope, &n);
-        let mixed = self.is_mixed_with(toks, &n);
+        let v = self.verdict(scope, &n);
+        let mixed = self.is_mixed_with(&n);
         let at = n.name_at;
         self.note(mixed, Cause::MixedLinkage, at);
         self.note(v.another, Cause::Redeclared, at);
@@ -168,17 +163,17 @@ impl Facts {
         self.declare(d)
     }
 
-    fn entity_visible(&self, toks: &[Tok], i: u32) -> Option<u32>
-        ensures { result ≡ option_map (λ d. d.entity) (visible toks.now Ordinary i i self.now) }
+    fn entity_visible(&self, i: u32) -> Option<u32>
+        ensures { result ≡ option_map (λ d. d.entity) (visible self.now.toks Ordinary i i self.now.facts) }
     {
-        self.visible(toks, Space::Ordinary, i, i).map(|d| d.entity)
+        self.visible(Space::Ordinary, i, i).map(|d| d.entity)
     }
 
     /// The identifier is used.
-    pub(crate) fn use_name(&mut self, toks: &[Tok], i: u32) -> Result<(), Memory>
-        ensures { OnOk result (self.new ≡ used toks.now i self.old) }
+    pub(crate) fn use_name(&mut self, i: u32) -> Result<(), Memory>
+        ensures { OnOk result (self.new ≡ known self.old.toks (used self.old.toks i self.old.facts)) }
     {
-        match self.entity_visible(toks, i) {
+        match self.entity_visible(i) {
             None => {
                 self.note(true, Cause::Undeclared, i);
                 Ok(())
@@ -188,10 +183,10 @@ impl Facts {
     }
 
     /// The type of the identifier.
-    pub(crate) fn type_of(&self, alloc: Global, toks: &[Tok], i: u32) -> Result<CType, Memory>
-        ensures { IfOk result (λ t. t ≡ used_type toks.now i self.now) }
+    pub(crate) fn type_of(&self, alloc: Global, i: u32) -> Result<CType, Memory>
+        ensures { IfOk result (λ t. t ≡ used_type self.now.toks i self.now.facts) }
     {
-        match self.visible(toks, Space::Ordinary, i, i) {
+        match self.visible(Space::Ordinary, i, i) {
             None => Ok(CType::plain(alloc, Base::Arithmetic)),
             Some(d) => d.ctype.copied(),
         }

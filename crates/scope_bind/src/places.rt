@@ -116,7 +116,7 @@ fn type_or(alloc: Global, member: Option<&Declaration>) -> Result<CType, Memory>
     }
 }
 
-impl Facts {
+impl Facts<'_> {
     /// The type of member number `n` of the structure or union.
     pub(crate) fn member_numbered(
         &self,
@@ -124,14 +124,14 @@ impl Facts {
         number: u32,
         n: u32,
     ) -> Result<CType, Memory>
-        ensures { IfOk result (λ r. r ≡ option_map_or (λ d. d.ctype) (slice_get (members_of number self.now) n) arithmetic) }
+        ensures { IfOk result (λ r. r ≡ option_map_or (λ d. d.ctype) (slice_get (members_of number self.now.facts) n) arithmetic) }
     {
         type_or(alloc, member_in(self.declared(), number, n))
     }
 
     /// How many members stand before the one with the name.
     pub(crate) fn number_before(&self, number: u32, name_at: u32) -> Result<u32, Memory>
-        ensures { IfOk result (λ r. r ≡ place_of (members_of number self.now) name_at) }
+        ensures { IfOk result (λ r. r ≡ place_of (members_of number self.now.facts) name_at) }
     {
         place_in(self.declared(), number, name_at)
     }

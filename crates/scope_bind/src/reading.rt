@@ -1,5 +1,6 @@
 // What a token does where it stands, by its role.
 ghost use Rattle.std.specs.Prelude.{◌≡◌, IfOk, OnOk};
+ghost use Rattle.scope_bind.specs.Declarations.{known};
 ghost use Rattle.scope_bind.specs.declared.roles.Role.TheVariants.{PointedMember, EnumerationTag};
 ghost use Rattle.scope_bind.specs.Walk.{facts_at, found_at, position_at};
 
@@ -7,81 +8,77 @@ use crate::facts::Facts;
 use crate::frames::{Frame, Position};
 use crate::roles::Role;
 use crate::types::{Base, CType};
-use cs_base::{Memory, Tok};
+use cs_base::Memory;
 use std::alloc::Global;
 
-impl Facts {
-    fn use_pointed(&mut self, toks: &[Tok], f: &Frame, i: u32) -> Result<(), Memory>
-        ensures { OnOk result (self.new ≡ facts_at toks.now PointedMember i f.now self.old) }
+impl Facts<'_> {
+    fn use_pointed(&mut self, f: &Frame, i: u32) -> Result<(), Memory>
+        ensures { OnOk result (self.new ≡ known self.old.toks (facts_at self.old.toks PointedMember i f.now self.old.facts)) }
     {
         let target = f.given.copied()?.target();
-        self.use_member(toks, &target, i)
+        self.use_member(&target, i)
     }
 
     /// What a token of the role does.
     pub(crate) fn read(
         &mut self,
         alloc: Global,
-        toks: &[Tok],
         role: Role,
         i: u32,
         f: &Frame,
     ) -> Result<(), Memory>
-        ensures { OnOk result (self.new ≡ facts_at toks.now role i f.now self.old) }
+        ensures { OnOk result (self.new ≡ known self.old.toks (facts_at self.old.toks role i f.now self.old.facts)) }
     {
         match role {
             Role::Plain => Ok(()),
-            Role::Primary => self.name(toks, f, i),
-            Role::TypeName => self.use_name(toks, i),
-            Role::Tag => self.tag(toks, f, i),
-            Role::EnumerationTag => self.enumeration(toks, f, i),
-            Role::Listed => self.list_name(alloc, toks, f, i),
-            Role::Member => self.use_member(toks, &f.given, i),
-            Role::PointedMember => self.use_pointed(toks, f, i),
-            Role::Designated => self.designate(toks, &f.given, i),
-            Role::Label => self.label(alloc, toks, f.body, i),
+            Role::Primary => self.name(f, i),
+            Role::TypeName => self.use_name(i),
+            Role::Tag => self.tag(f, i),
+            Role::EnumerationTag => self.enumeration(f, i),
+            Role::Listed => self.list_name(alloc, f, i),
+            Role::Member => self.use_member(&f.given, i),
+            Role::PointedMember => self.use_pointed(f, i),
+            Role::Designated => self.designate(&f.given, i),
+            Role::Label => self.label(alloc, f.body, i),
             Role::Jump => self.jump(i),
         }
     }
 
-    fn enumeration_type(&self, toks: &[Tok], i: u32, f: &Frame) -> Result<CType, Memory>
-        ensures { IfOk result (λ t. t ≡ found_at toks.now EnumerationTag i f.now self.now) }
+    fn enumeration_type(&self, i: u32, f: &Frame) -> Result<CType, Memory>
+        ensures { IfOk result (λ t. t ≡ found_at self.now.toks EnumerationTag i f.now self.now.facts) }
     {
         if f.has_body {
-            self.tag_type(toks, f, i)
+            self.tag_type(f, i)
         } else {
             f.found.copied()
         }
     }
 
-    fn pointed_type(&self, alloc: Global, toks: &[Tok], i: u32, f: &Frame) -> Result<CType, Memory>
-        ensures { IfOk result (λ t. t ≡ found_at toks.now PointedMember i f.now self.now) }
+    fn pointed_type(&self, alloc: Global, i: u32, f: &Frame) -> Result<CType, Memory>
+        ensures { IfOk result (λ t. t ≡ found_at self.now.toks PointedMember i f.now self.now.facts) }
     {
         let target = f.given.copied()?.target();
-        self.member_type(toks, &target, i, CType::plain(alloc, Base::Arithmetic))
+        self.member_type(&target, i, CType::plain(alloc, Base::Arithmetic))
     }
 
     /// The type of the node, once such a token is read.
     pub(crate) fn found_at(
         &self,
         alloc: Global,
-        toks: &[Tok],
         role: Role,
         i: u32,
         f: &Frame,
     ) -> Result<CType, Memory>
-        ensures { IfOk result (λ t. t ≡ found_at toks.now role i f.now self.now) }
+        ensures { IfOk result (λ t. t ≡ found_at self.now.toks role i f.now self.now.facts) }
     {
         match role {
-            Role::Primary => self.named_type(alloc, toks, f, i),
-            Role::TypeName => self.type_of(alloc, toks, i),
-            Role::Tag => self.tag_type(toks, f, i),
-            Role::EnumerationTag => self.enumeration_type(toks, i, f),
-            Role::Member => {
-                self.member_type(toks, &f.given, i, CType::plain(alloc, Base::Arithmetic))
-            }
-            Role::PointedMember => self.pointed_type(alloc, toks, i, f),
-            Role::Designated => self.designated_type(alloc, toks, &f.given, i),
+            Role::Primary => self.named_type(alloc, f, i),
+            Role::TypeName => self.type_of(alloc, i),
+            Role::Tag => self.tag_type(f, i),
+            Role::EnumerationTag => self.enumeration_type(i, f),
+            Role::Member => { self.member_type(&f.given, i, CType::plain(alloc, Base::Arithmetic)) }
+            Role::PointedMember => self.pointed_type(alloc, i, f),
+            Role::Designated => self.designated_type(alloc, &f.given, i),
             Role::Plain => f.found.copied(),
             Role::Listed => f.found.copied(),
             Role::Label => f.found.copied(),
@@ -90,17 +87,11 @@ impl Facts {
     }
 
     /// The next place in a brace list, once such a token is read.
-    pub(crate) fn position_at(
-        &self,
-        toks: &[Tok],
-        role: Role,
-        i: u32,
-        f: &Frame,
-    ) -> Result<Position, Memory>
-        ensures { IfOk result (λ p. p ≡ position_at toks.now role i f.now self.now) }
+    pub(crate) fn position_at(&self, role: Role, i: u32, f: &Frame) -> Result<Position, Memory>
+        ensures { IfOk result (λ p. p ≡ position_at self.now.toks role i f.now self.now.facts) }
     {
         match role {
-            Role::Designated => self.designated_position(toks, &f.given, i, f.position),
+            Role::Designated => self.designated_position(&f.given, i, f.position),
             _ => Ok(f.position),
         }
     }

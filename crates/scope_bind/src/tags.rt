@@ -1,7 +1,7 @@
 // Tags (ISO/IEC 9899:1999, 6.2.3 and 6.7.2.3).
 ghost use Rattle.std.specs.Prelude.{◌≡◌, ◌||◌, not, false, if◌then◌else◌, IfOk, OnOk};
 ghost use Rattle.std.specs.Option.{option_map, option_map_or};
-ghost use Rattle.scope_bind.specs.Declarations.{with_begun, with_declaration, with_use, visible};
+ghost use Rattle.scope_bind.specs.Declarations.{known, with_begun, with_declaration, with_use, visible};
 ghost use Rattle.scope_bind.specs.Tags.{number_in, renumbered, is_sort, is_same_tag, tag_entity, is_declaring, tag_declaration, prior_tag, with_tag, tag_type, is_complete, enumeration_used, with_enumeration, new_record};
 ghost use Rattle.scope_bind.specs.declared.declarations.Space.TheVariants.{Tags};
 
@@ -113,21 +113,21 @@ struct EnumerationVerdict {
     another: bool,
 }
 
-impl Facts {
+impl Facts<'_> {
     fn is_same_tag(&self, f: &Frame, d: &Declaration) -> bool
-        ensures { result ≡ is_same_tag f.now self.now d.now }
+        ensures { result ≡ is_same_tag f.now self.now.facts d.now }
     {
         is_sort(&d.ctype, &f.found) && !(f.has_body && self.has_begun(d.entity))
     }
 
-    fn earlier_tag(&self, toks: &[Tok], f: &Frame, i: u32) -> Option<&Declaration>
-        ensures { option_map (λ d. d.now) result ≡ prior_tag toks.now f.now i self.now }
+    fn earlier_tag(&self, f: &Frame, i: u32) -> Option<&Declaration>
+        ensures { option_map (λ d. d.now) result ≡ prior_tag self.now.toks f.now i self.now.facts }
     {
-        self.prior_tag(toks, is_anew(f), f.scope.depth, i)
+        self.prior_tag(is_anew(f), f.scope.depth, i)
     }
 
     fn tag_entity(&self, f: &Frame, i: u32, prior: Option<&Declaration>) -> u32
-        ensures { result ≡ tag_entity f.now i self.now (option_map (λ d. d.now) prior.entry) }
+        ensures { result ≡ tag_entity f.now i self.now.facts (option_map (λ d. d.now) prior.entry) }
     {
         match prior {
             None => i,
@@ -136,7 +136,7 @@ impl Facts {
     }
 
     fn is_another_tag(&self, f: &Frame, prior: Option<&Declaration>) -> bool
-        ensures { result ≡ option_map_or (λ d. not (is_same_tag f.now self.now d)) (option_map (λ d. d.now) prior.entry) false }
+        ensures { result ≡ option_map_or (λ d. not (is_same_tag f.now self.now.facts d)) (option_map (λ d. d.now) prior.entry) false }
     {
         match prior {
             None => false,
@@ -144,13 +144,13 @@ impl Facts {
         }
     }
 
-    fn tag_verdict(&self, toks: &[Tok], f: &Frame, i: u32) -> TagVerdict
-        ensures entity { result.entity ≡ tag_entity f.now i self.now (prior_tag toks.now f.now i self.now) }
-        ensures declares { result.declares ≡ is_declaring f.now (prior_tag toks.now f.now i self.now) }
-        ensures used { result.used ≡ option_map_or (λ d. d.entity) (prior_tag toks.now f.now i self.now) i }
-        ensures another { result.another ≡ option_map_or (λ d. not (is_same_tag f.now self.now d)) (prior_tag toks.now f.now i self.now) false }
+    fn tag_verdict(&self, f: &Frame, i: u32) -> TagVerdict
+        ensures entity { result.entity ≡ tag_entity f.now i self.now.facts (prior_tag self.now.toks f.now i self.now.facts) }
+        ensures declares { result.declares ≡ is_declaring f.now (prior_tag self.now.toks f.now i self.now.facts) }
+        ensures used { result.used ≡ option_map_or (λ d. d.entity) (prior_tag self.now.toks f.now i self.now.facts) i }
+        ensures another { result.another ≡ option_map_or (λ d. not (is_same_tag f.now self.now.facts d)) (prior_tag self.now.toks f.now i self.now.facts) false }
     {
-        let prior = self.earlier_tag(toks, f, i);
+        let prior = self.earlier_tag(f, i);
         TagVerdict {
             entity: self.tag_entity(f, i, prior),
             declares: is_declaring(f, prior),
@@ -160,7 +160,7 @@ impl Facts {
     }
 
     fn declare_tag(&mut self, f: &Frame, i: u32, entity: u32) -> Result<(), Memory>
-        ensures { OnOk result (self.new ≡ with_begun f.now.has_body entity (with_declaration (tag_declaration f.now.scope i entity (renumbered f.now.found entity)) self.old)) }
+        ensures { OnOk result (self.new ≡ known self.old.toks (with_begun f.now.has_body entity (with_declaration (tag_declaration f.now.scope i entity (renumbered f.now.found entity)) self.old.facts))) }
     {
         let t = f.found.copied()?.renumbered(entity);
         let d = tag_declaration(f.scope, i, entity, t)?;
@@ -169,7 +169,7 @@ impl Facts {
     }
 
     fn name_tag(&mut self, f: &Frame, i: u32, v: TagVerdict) -> Result<(), Memory>
-        ensures { OnOk result (self.new ≡ (if v.declares then with_begun f.now.has_body v.entity (with_declaration (tag_declaration f.now.scope i v.entity (renumbered f.now.found v.entity)) self.old) else with_use i v.used self.old)) }
+        ensures { OnOk result (self.new ≡ known self.old.toks (if v.declares then with_begun f.now.has_body v.entity (with_declaration (tag_declaration f.now.scope i v.entity (renumbered f.now.found v.entity)) self.old.facts) else with_use i v.used self.old.facts)) }
     {
         if v.declares {
             self.declare_tag(f, i, v.entity)
@@ -179,25 +179,25 @@ impl Facts {
     }
 
     /// A tag is declared or used.
-    pub(crate) fn tag(&mut self, toks: &[Tok], f: &Frame, i: u32) -> Result<(), Memory>
-        ensures { OnOk result (self.new ≡ with_tag toks.now f.now i self.old) }
+    pub(crate) fn tag(&mut self, f: &Frame, i: u32) -> Result<(), Memory>
+        ensures { OnOk result (self.new ≡ known self.old.toks (with_tag self.old.toks f.now i self.old.facts)) }
     {
-        let v = self.tag_verdict(toks, f, i);
+        let v = self.tag_verdict(f, i);
         self.name_tag(f, i, v)?;
         self.note(v.another, Cause::TagRedefined, i);
         Ok(())
     }
 
     /// The type that the tag stands for, before it is declared or used.
-    pub(crate) fn tag_type(&self, toks: &[Tok], f: &Frame, i: u32) -> Result<CType, Memory>
-        ensures { IfOk result (λ t. t ≡ tag_type toks.now f.now i self.now) }
+    pub(crate) fn tag_type(&self, f: &Frame, i: u32) -> Result<CType, Memory>
+        ensures { IfOk result (λ t. t ≡ tag_type self.now.toks f.now i self.now.facts) }
     {
-        let v = self.tag_verdict(toks, f, i);
+        let v = self.tag_verdict(f, i);
         Ok(f.found.copied()?.renumbered(v.entity))
     }
 
     fn is_complete_tag(&self, d: &Declaration) -> bool
-        ensures { result ≡ is_complete self.now d.now }
+        ensures { result ≡ is_complete self.now.facts d.now }
     {
         self.is_complete(number_in(&d.ctype))
     }
@@ -207,7 +207,7 @@ impl Facts {
         f: &Frame,
         prior: Option<&Declaration>,
     ) -> Option<EnumerationVerdict>
-        ensures { result ≡ option_map (λ d. record { entity = d.entity; incomplete = not (is_complete self.now d); another = not (is_sort d.ctype f.now.found) }) (option_map (λ d. d.now) prior.entry) }
+        ensures { result ≡ option_map (λ d. record { entity = d.entity; incomplete = not (is_complete self.now.facts d); another = not (is_sort d.ctype f.now.found) }) (option_map (λ d. d.now) prior.entry) }
     {
         match prior {
             None => None,
@@ -219,10 +219,10 @@ impl Facts {
         }
     }
 
-    fn use_enumeration(&mut self, toks: &[Tok], f: &Frame, i: u32) -> Result<(), Memory>
-        ensures { OnOk result (self.new ≡ enumeration_used f.now i (visible toks.now Tags i i self.old) self.old) }
+    fn use_enumeration(&mut self, f: &Frame, i: u32) -> Result<(), Memory>
+        ensures { OnOk result (self.new ≡ known self.old.toks (enumeration_used f.now i (visible self.old.toks Tags i i self.old.facts) self.old.facts)) }
     {
-        match self.enumeration_verdict(f, self.visible(toks, Space::Tags, i, i)) {
+        match self.enumeration_verdict(f, self.visible(Space::Tags, i, i)) {
             None => {
                 self.note(true, Cause::Undeclared, i);
                 Ok(())
@@ -236,13 +236,13 @@ impl Facts {
     }
 
     /// The tag of an enumeration is declared with its list, or used.
-    pub(crate) fn enumeration(&mut self, toks: &[Tok], f: &Frame, i: u32) -> Result<(), Memory>
-        ensures { OnOk result (self.new ≡ with_enumeration toks.now f.now i self.old) }
+    pub(crate) fn enumeration(&mut self, f: &Frame, i: u32) -> Result<(), Memory>
+        ensures { OnOk result (self.new ≡ known self.old.toks (with_enumeration self.old.toks f.now i self.old.facts)) }
     {
         if f.has_body {
-            self.tag(toks, f, i)
+            self.tag(f, i)
         } else {
-            self.use_enumeration(toks, f, i)
+            self.use_enumeration(f, i)
         }
     }
 }

@@ -1,5 +1,5 @@
 // The walk over the tree of a unit, in the order of its tokens.
-ghost use Rattle.std.specs.Prelude.{◌≡◌, ◌+◌, IfOk};
+ghost use Rattle.std.specs.Prelude.{◌≡◌, ◌+◌, IfOk, OnOk};
 ghost use Rattle.scope_bind.specs.Children.{from_child};
 ghost use Rattle.scope_bind.specs.Frames.{state};
 ghost use Rattle.scope_bind.specs.Walk.{passed, left, walked};
@@ -11,18 +11,12 @@ use crate::leaving::frame_after;
 use crate::roles::role_of;
 use crate::trees::{Part, child_at};
 use c99_tree::Tree;
-use cs_base::{Memory, Tok};
+use cs_base::Memory;
 use std::alloc::Global;
 
 // The frame once a token is read.
-fn frame_passed(
-    facts: &Facts,
-    alloc: Global,
-    toks: &[Tok],
-    i: u32,
-    f: &Frame,
-) -> Result<Frame, Memory>
-    ensures { IfOk result (λ g. g ≡ (passed toks.now i (state facts.now f.now)).frame) }
+fn frame_passed(facts: &Facts<'_>, alloc: Global, i: u32, f: &Frame) -> Result<Frame, Memory>
+    ensures { IfOk result (λ g. g ≡ (passed facts.now.toks i (state facts.now.facts f.now)).frame) }
 {
     let role = role_of(f.label.production, f.label.alternative, f.nth);
     let nth = match f.nth.checked_add(1) {
@@ -43,36 +37,37 @@ fn frame_passed(
         kept: f.kept,
         owner: f.owner,
         given: f.given.copied()?,
-        found: facts.found_at(alloc, toks, role, i, f)?,
-        position: facts.position_at(toks, role, i, f)?,
+        found: facts.found_at(alloc, role, i, f)?,
+        position: facts.position_at(role, i, f)?,
     })
 }
 
 // A token is read.
-fn pass(facts: &mut Facts, alloc: Global, toks: &[Tok], i: u32, f: &Frame) -> Result<Frame, Memory>
-    ensures { IfOk result (λ g. state facts.new g ≡ passed toks.now i (state facts.old f.now)) }
+fn pass(facts: &mut Facts<'_>, alloc: Global, i: u32, f: &Frame) -> Result<Frame, Memory>
+    ensures toks { OnOk result (facts.new.toks ≡ facts.old.toks) }
+    ensures passed { IfOk result (λ g. state facts.new.facts g ≡ passed facts.old.toks i (state facts.old.facts f.now)) }
 {
-    let next = frame_passed(facts, alloc, toks, i, f)?;
+    let next = frame_passed(facts, alloc, i, f)?;
     let role = role_of(f.label.production, f.label.alternative, f.nth);
-    facts.read(alloc, toks, role, i, f)?;
+    facts.read(alloc, role, i, f)?;
     Ok(next)
 }
 
 /// The children of a node, one after another.
 #[cycle(walk)]
 pub(crate) fn walk(
-    facts: &mut Facts,
+    facts: &mut Facts<'_>,
     alloc: Global,
-    toks: &[Tok],
     tree: &Tree,
     begin: Frame,
 ) -> Result<Frame, Memory>
-    ensures { IfOk result (λ g. state facts.new g ≡ walked toks.now tree.now.under (state facts.old begin)) }
+    ensures toks { OnOk result (facts.new.toks ≡ facts.old.toks) }
+    ensures walked { IfOk result (λ g. state facts.new.facts g ≡ walked facts.old.toks tree.now.under (state facts.old.facts begin)) }
 {
     let mut f = begin;
     let count = tree.len();
     'children: for k in 0..count {
-        f = walk_at(facts, alloc, toks, tree, k, f)?;
+        f = walk_at(facts, alloc, tree, k, f)?;
     }
     Ok(f)
 }
@@ -80,36 +75,31 @@ pub(crate) fn walk(
 // Child `k`.
 #[cycle(walk)]
 fn walk_at(
-    facts: &mut Facts,
+    facts: &mut Facts<'_>,
     alloc: Global,
-    toks: &[Tok],
     tree: &Tree,
     k: u32,
     f: Frame,
 ) -> Result<Frame, Memory>
-    ensures { IfOk result (λ g. walked toks.now (from_child (k + 1) tree.now.under) (state facts.new g) ≡ walked toks.now (from_child k tree.now.under) (state facts.old f)) }
+    ensures toks { OnOk result (facts.new.toks ≡ facts.old.toks) }
+    ensures walked { IfOk result (λ g. walked facts.old.toks (from_child (k + 1) tree.now.under) (state facts.new.facts g) ≡ walked facts.old.toks (from_child k tree.now.under) (state facts.old.facts f)) }
 {
     match child_at(tree, k) {
         Part::End => Ok(f),
-        Part::Token(i) => pass(facts, alloc, toks, i, &f),
-        Part::Node(inner) => walk_node(facts, alloc, toks, inner, f),
+        Part::Token(i) => pass(facts, alloc, i, &f),
+        Part::Node(inner) => walk_node(facts, alloc, inner, f),
     }
 }
 
 // A node is entered, its children are read, and it is left.
 #[cycle(walk)]
-fn walk_node(
-    facts: &mut Facts,
-    alloc: Global,
-    toks: &[Tok],
-    inner: &Tree,
-    f: Frame,
-) -> Result<Frame, Memory>
-    ensures { IfOk result (λ g. state facts.new g ≡ left toks.now inner.now.label inner.now.first inner.now.under (state facts.old f) (walked toks.now inner.now.under (entered toks.now inner.now.label inner.now.first inner.now.under (state facts.old f)))) }
+fn walk_node(facts: &mut Facts<'_>, alloc: Global, inner: &Tree, f: Frame) -> Result<Frame, Memory>
+    ensures toks { OnOk result (facts.new.toks ≡ facts.old.toks) }
+    ensures walked { IfOk result (λ g. state facts.new.facts g ≡ left facts.old.toks inner.now.label inner.now.first inner.now.under (state facts.old.facts f) (walked facts.old.toks inner.now.under (entered facts.old.toks inner.now.label inner.now.first inner.now.under (state facts.old.facts f)))) }
 {
-    let begin = facts.frame_in(alloc, toks, inner, &f)?;
+    let begin = facts.frame_in(alloc, inner, &f)?;
     facts.enter(inner, &f)?;
-    let child = walk(facts, alloc, toks, inner, begin)?;
-    facts.leave(alloc, toks, &f, inner, child.body)?;
-    frame_after(alloc, toks, &f, inner, child)
+    let child = walk(facts, alloc, inner, begin)?;
+    facts.leave(alloc, &f, inner, child.body)?;
+    frame_after(alloc, facts.toks(), &f, inner, child)
 }

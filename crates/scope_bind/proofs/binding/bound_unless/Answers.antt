@@ -5,4 +5,4 @@ use Rattle.scope_bind.proofs.binding.bound_unless.Goals as goal
 
 pub returns-in-Some : goal.returns-in-Some
 returns-in-Some c =
-    answer-fault c.args.tree.now.under c.args.facts.now (fault_of c.refusal.result) c.in-Some.fault c.refusal.ensures (sym c.in-Some.ensures)
+    answer-fault c.args.tree.now.under c.args.facts.now.facts (fault_of c.refusal.result) c.in-Some.fault c.refusal.ensures (sym c.in-Some.ensures)

@@ -6,7 +6,7 @@ use Rattle.scope_bind.specs.declared.frames.Frame.{Frame}
 use Rattle.scope_bind.specs.declared.ordinary.Declared.{Declared}
 use Rattle.scope_bind.specs.Types.{CType}
 use Rattle.scope_bind.specs.Trees.{last_token, declarator_type}
-use Rattle.scope_bind.specs.Declarations.{Facts}
+use Rattle.scope_bind.specs.Declarations.{Facts, known}
 use Rattle.scope_bind.specs.Ordinary.{declared, new_object, with_object}
 use Rattle.scope_bind.proofs.facts.Facts.declare_object.Goals as goal
 
@@ -21,12 +21,13 @@ object-made toks f under i last base t n s based typed ends made =
 
 pub returns-in_ok-n-in-Some : goal.returns-in_ok-n-in-Some
 returns-in_ok-n-in-Some c =
-    let toks = c.args.toks.now in
+    let toks = c.args.self.now.toks in
     let f = c.args.f.now in
     let u = c.args.tree.now.under in
     rw c.in-Some.is
     (IfOk-equal c.declare_name.result c.declare_name.new.self
-    (declared toks f.scope c.in_ok-n-in-Some.n c.args.self.now) (with_object toks f u (Some c.in-Some.i) c.args.self.now)
+    (known toks (declared toks f.scope c.in_ok-n-in-Some.n c.args.self.now.facts)) (known toks (with_object toks f u (Some c.in-Some.i) c.args.self.now.facts))
     c.declare_name.ensures
-    (object-made toks f u c.in-Some.i c.last_token.result c.in_ok-copied-in-Some.field-0 c.in_ok-t-in-Some.t c.in_ok-n-in-Some.n c.args.self.now
-    c.in_ok-copied-in-Some.ensures c.in_ok-t-in-Some.ensures c.last_token.ensures c.in_ok-n-in-Some.ensures))
+    (ap (known toks)
+    (object-made toks f u c.in-Some.i c.last_token.result c.in_ok-copied-in-Some.field-0 c.in_ok-t-in-Some.t c.in_ok-n-in-Some.n c.args.self.now.facts
+    c.in_ok-copied-in-Some.ensures c.in_ok-t-in-Some.ensures c.last_token.ensures c.in_ok-n-in-Some.ensures)))

@@ -23,9 +23,9 @@ by-name toks place s (Some d) member number at e m = rw (e, m) (ap numbered (sym
 pub returns : goal.returns
 returns c =
     IfOk-weaker c.position_of.result
-    (λ p. p ≡ position_by (members_of c.number_in.result c.args.self.now) c.designated_name-member.result c.args.at)
-    (λ p. p ≡ designated_position c.args.toks.now c.args.place.now c.args.i c.args.self.now c.args.at)
+    (λ p. p ≡ position_by (members_of c.number_in.result c.args.self.now.facts) c.designated_name-member.result c.args.at)
+    (λ p. p ≡ designated_position c.args.self.now.toks c.args.place.now c.args.i c.args.self.now.facts c.args.at)
     (λ p e. e
-    ∙ by-name c.args.toks.now c.args.place.now c.args.self.now (member_at c.args.toks.now c.args.place.now c.args.i c.args.self.now)
+    ∙ by-name c.args.self.now.toks c.args.place.now c.args.self.now.facts (member_at c.args.self.now.toks c.args.place.now c.args.i c.args.self.now.facts)
     c.designated_name-member.result c.number_in.result c.args.at c.number_in.ensures c.designated_name-member.ensures)
     c.position_of.ensures
