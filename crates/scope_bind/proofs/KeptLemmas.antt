@@ -59,7 +59,7 @@ kept-step f xs ys zs n o l kept found pushed =
     ∙ ap (λ ws. xs ++ ws) (sym (kept_more f xs n l))))))
 
 -- seen the other way round
-kept-seen : {A : Type 0} (f : A → Option A) (xs ys : List A) → ys ≡ xs ++ filter_map f xs
+pub kept-seen : {A : Type 0} (f : A → Option A) (xs ys : List A) → ys ≡ xs ++ filter_map f xs
     → reverse ys ≡ filter_map f (reverse xs) ++ reverse xs
 kept-seen f xs ys e =
     ap reverse e ∙ (reverse-append xs (filter_map f xs) ∙ ap (λ ws. ws ++ reverse xs) (sym (kept_reversed f xs)))

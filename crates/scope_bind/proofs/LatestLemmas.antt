@@ -8,7 +8,7 @@ use Rattle.std.proofs.lemmas.List.{reverse-append}
 use Rattle.scope_bind.specs.declared.declarations.Declaration.{Declaration}
 use Rattle.scope_bind.specs.Latest.{tested}
 
-take_one_more : (xs : List Declaration) (n : ℕ) (x : Declaration) → slice_get xs n ≡ Some x → take (suc n) xs ≡ take n xs ++ x ∷ []
+pub take_one_more : (xs : List Declaration) (n : ℕ) (x : Declaration) → slice_get xs n ≡ Some x → take (suc n) xs ≡ take n xs ++ x ∷ []
 take_one_more [] n x e = cc
 take_one_more (y ∷ ys) zero x e = let s : y ≡ x = cc in ap (λ z. z ∷ []) s
 take_one_more (y ∷ ys) (suc n) x e = ap (λ zs. y ∷ zs) (take_one_more ys n x e)
@@ -29,7 +29,7 @@ find_last test xs n x e =
 
 -- ---- The search, n being the last place that is not yet looked at
 
-slice_get_some : (xs : List Declaration) (n : ℕ) → n < length xs → (x : Declaration) × (slice_get xs n ≡ Some x)
+pub slice_get_some : (xs : List Declaration) (n : ℕ) → n < length xs → (x : Declaration) × (slice_get xs n ≡ Some x)
 slice_get_some [] n l = absurd (omega arith)
 slice_get_some (x ∷ xs) zero l = (x, refl)
 slice_get_some (x ∷ xs) (suc n) l = slice_get_some xs n (omega arith)

@@ -11,6 +11,10 @@ mod ChildWalks
 pub mod ShapeLemmas
 mod WalkLemmas
 mod KeptLemmas
+mod SpellingLemmas
+mod ChainLemmas
+mod ChainedMore
+mod KeptChains
 mod PlaceLemmas
 mod Reversed
 mod NameLemmas

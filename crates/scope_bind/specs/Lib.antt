@@ -20,6 +20,8 @@ pub mod Names
 pub mod Renamed
 -- What inner functions promise each other.
 pub mod Latest
+pub mod Spellings
+pub mod Chains
 pub mod Children
 pub mod Shapes
 pub mod Places

@@ -53,7 +53,7 @@ fn kept_here(
     }
 }
 
-fn kept_at(
+pub(crate) fn kept_at(
     declared: &[Declaration],
     k: usize,
     list: u32,

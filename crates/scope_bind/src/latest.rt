@@ -98,7 +98,7 @@ fn passes(asked: Asked, d: &Declaration) -> bool
 }
 
 // Declaration `n`, where it passes.
-fn tested<'a>(
+pub(crate) fn tested<'a>(
     declared: &'a [Declaration],
     toks: &[Tok],
     space: Space,
