@@ -22,6 +22,7 @@ pub mod Renamed
 pub mod Latest
 pub mod Spellings
 pub mod Chains
+pub mod Marks
 pub mod Children
 pub mod Shapes
 pub mod Places

@@ -33,6 +33,7 @@ mod leaving;
 mod linkage;
 mod listing;
 mod lists;
+mod marks;
 mod members;
 mod name_table;
 mod naming;
