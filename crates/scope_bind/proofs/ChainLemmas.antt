@@ -1,21 +1,17 @@
--- The search along a chain of declarations.
-use Rattle.std.proofs.Common.{ℕ, zero, suc, ◌+◌, ◌-◌, ◌<◌, ◌≤◌, ◌≡◌, Bool, true, false, cond, ◌&&◌, List, [], ◌∷◌, reverse, take, length, get_or, Option, None, Some, refl, sym, ap, subst, ◌∙◌, inl, inr, add-one, arith}
-use Rattle.std.specs.Prelude.{find, slice_get}
+-- The way along a chain of declarations.
+use Rattle.std.proofs.Common.{ℕ, zero, suc, ◌+◌, ◌-◌, ◌<◌, ◌≤◌, ◌≡◌, Bool, true, false, cond, List, [], ◌∷◌, ◌++◌, reverse, take, map, length, get_or, Option, None, Some, refl, sym, ap, subst, ◌∙◌, inl, inr, add-one, arith, append_assoc}
+use Rattle.std.specs.Prelude.{find, filter, slice_get}
 use Rattle.std.specs.Option.{option_or}
 use Rattle.std.proofs.lemmas.Bool.{cases_Bool, cond-true, cond-false}
-use Rattle.std.proofs.lemmas.List.{reverse-append, length-reverse, length-take-le}
+use Rattle.std.proofs.lemmas.List.{reverse-append, length-reverse, length-take-le, map-append, append-nil}
 use Rattle.std.proofs.Math.Seq.{take-length}
 use Rattle.scope_bind.specs.declared.declarations.Declaration.{Declaration}
 use Rattle.scope_bind.specs.Latest.{tested}
-use Rattle.scope_bind.specs.Chains.{latest_place, AreLinked, IsLeft}
+use Rattle.scope_bind.specs.Links.{latest_place, AreLinked, IsLeft, IsGathered, all_at, passing}
 use Rattle.scope_bind.proofs.LatestLemmas.{take_one_more, slice_get_some, find_step}
+use Rattle.scope_bind.proofs.Reversed.{map_reversed, filter_twice}
 
--- a test of three parts fails where the middle one does
-pub middle_fails : (a b c : Bool) → b ≡ false → ((a && b) && c) ≡ false
-middle_fails true b c e = rw e refl
-middle_fails false b c e = refl
-
-pub back_more : (xs : List Declaration) (k : ℕ) (x : Declaration) → slice_get xs k ≡ Some x
+back_more : (xs : List Declaration) (k : ℕ) (x : Declaration) → slice_get xs k ≡ Some x
     → reverse (take (suc k) xs) ≡ x ∷ reverse (take k xs)
 back_more xs k x e = ap reverse (take_one_more xs k x e) ∙ reverse-append (take k xs) (x ∷ [])
 
@@ -30,9 +26,12 @@ place_within : (test : Declaration → Bool) (ds : List Declaration) → latest_
 place_within test [] = omega arith
 place_within test (d ∷ ds) = place_one (test d) (length ds) (latest_place test ds) (place_within test ds)
 
-module _ (test sought : Declaration → Bool) (apart : (d : Declaration) → test d ≡ false → sought d ≡ false) (xs : List Declaration) where
+-- ---- The way, and what is asked of the declarations before it, to which those that do not pass make no difference
+
+module _ {T : Type 0} (test : Declaration → Bool) (asked : List Declaration → T)
+    (skip : (d : Declaration) (ds : List Declaration) → test d ≡ false → asked (d ∷ ds) ≡ asked ds) (xs : List Declaration) where
   abbrev Left : List Declaration → ℕ → Type 0
-  Left ds p = IsLeft test sought xs ds p
+  Left ds p = IsLeft test asked xs ds p
 
   -- the latest declaration passes
   left_here : (k : ℕ) (x : Declaration) → suc k ≤ length xs → slice_get xs k ≡ Some x → test x ≡ true
@@ -43,7 +42,7 @@ module _ (test sought : Declaration → Bool) (apart : (d : Declaration) → tes
       cond-true (test x) (length (reverse (take k xs)) + 1) (latest_place test (reverse (take k xs))) holds ∙ (ap (λ m. m + 1) n ∙ add-one k) in
       let b = back_more xs k x e in
       subst (λ p. Left (x ∷ reverse (take k xs)) p) (sym q)
-      (record { within = l; again = ap (latest_place test) b ∙ q; found = ap (find sought) b })
+      (record { within = l; again = ap (latest_place test) b ∙ q; rest = ap asked b })
 
   -- it does not
   left_past : (k : ℕ) (x : Declaration) → test x ≡ false → Left (reverse (take k xs)) (latest_place test (reverse (take k xs)))
@@ -51,26 +50,25 @@ module _ (test sought : Declaration → Bool) (apart : (d : Declaration) → tes
   left_past k x fails before =
       let q : latest_place test (x ∷ reverse (take k xs)) ≡ latest_place test (reverse (take k xs)) =
       cond-false (test x) (length (reverse (take k xs)) + 1) (latest_place test (reverse (take k xs))) fails in
-      let f : find sought (x ∷ reverse (take k xs)) ≡ find sought (reverse (take k xs)) =
-      cond-false (sought x) (Some x) (find sought (reverse (take k xs))) (apart x fails) in
       subst (λ p. Left (x ∷ reverse (take k xs)) p) (sym q)
-      (record { within = before.within; again = before.again; found = before.found ∙ sym f })
+      (record { within = before.within; again = before.again; rest = before.rest ∙ sym (skip x (reverse (take k xs)) fails) })
 
   -- the latest place among so many is a place to go on from
   left_of : (k : ℕ) → k ≤ length xs → Left (reverse (take k xs)) (latest_place test (reverse (take k xs)))
-  left_of zero l = record { within = omega arith; again = refl; found = refl }
+  left_of zero l = record { within = omega arith; again = refl; rest = refl }
   left_of (suc k) l =
       let x = slice_get_some xs k (omega (arith, l)) in
       let before = left_of k (omega (arith, l)) in
       subst (λ ds. Left ds (latest_place test ds)) (sym (back_more xs k x.0 x.1))
       (elim (cases_Bool (test x.0)) [ inl holds ↦ left_here k x.0 l x.1 holds | inr fails ↦ left_past k x.0 fails before ])
 
-  -- the search begins
-  pub left_all : (before : List ℕ) (newest : ℕ) → AreLinked test xs before newest → IsLeft test sought xs (reverse xs) newest
+  -- the way begins
+  left_all : (before : List ℕ) (newest : ℕ) → AreLinked test xs before newest → IsLeft test asked xs (reverse xs) newest
   left_all before newest linked =
       subst (λ p. Left (reverse xs) p) (sym linked.begins)
       (subst (λ ys. Left (reverse ys) (latest_place test (reverse ys))) (take-length xs) (left_of (length xs) (omega arith)))
 
+module _ (test : Declaration → Bool) (xs : List Declaration) where
   -- the place is of one that passes
   passes_here : (k : ℕ) (x : Declaration) → suc k ≤ length xs → slice_get xs k ≡ Some x
       → latest_place test (reverse (take (suc k) xs)) ≡ suc k → test x ≡ true
@@ -91,38 +89,88 @@ module _ (test sought : Declaration → Bool) (apart : (d : Declaration) → tes
       let x = slice_get_some xs k (omega (arith, l)) in
       linked.leads k x.0 x.1 (passes_here k x.0 l x.1 again)
 
-  pub falls : (before : List ℕ) (newest p : ℕ) → AreLinked test xs before newest → IsLeft test sought xs (reverse xs) p → 0 < p
-      → get_or before (p - 1) 0 < p
-  falls before newest zero linked left l = absurd (omega (arith, l))
-  falls before newest (suc k) linked left l =
+  -- .. is an earlier one
+  pub falls : (before : List ℕ) (newest p : ℕ) → AreLinked test xs before newest → p ≤ length xs
+      → latest_place test (reverse (take p xs)) ≡ p → 0 < p → get_or before (p - 1) 0 < p
+  falls before newest zero linked within again l = absurd (omega (arith, l))
+  falls before newest (suc k) linked within again l =
       let m : suc k - 1 ≡ k = omega arith in
       rw m
-      (omega (arith, leads_to before newest k linked left.within left.again, place_within test (reverse (take k xs)), length_back xs k (omega (arith, left.within))))
+      (omega (arith, leads_to before newest k linked within again, place_within test (reverse (take k xs)), length_back xs k (omega (arith, within))))
 
-  -- what stands at the place does not pass
-  pub left_before : (before : List ℕ) (newest p : ℕ) (r : Option Declaration) → AreLinked test xs before newest
-      → IsLeft test sought xs (reverse xs) p → 0 < p → r ≡ tested sought (slice_get xs (p - 1)) → r ≡ None
-      → IsLeft test sought xs (reverse xs) (get_or before (p - 1) 0)
-  left_before before newest zero r linked left l f g = absurd (omega (arith, l))
-  left_before before newest (suc k) r linked left l f g =
+-- ---- The search for the latest one that passes
+
+module _ (test sought : Declaration → Bool) (apart : (d : Declaration) → test d ≡ false → sought d ≡ false) (xs : List Declaration) where
+  skip_search : (d : Declaration) (ds : List Declaration) → test d ≡ false → find sought (d ∷ ds) ≡ find sought ds
+  skip_search d ds fails = cond-false (sought d) (Some d) (find sought ds) (apart d fails)
+
+  abbrev Sought : ℕ → Type 0
+  Sought p = IsLeft test (find sought) xs (reverse xs) p
+
+  pub search_all : (before : List ℕ) (newest : ℕ) → AreLinked test xs before newest → Sought newest
+  search_all before newest linked = left_all test (find sought) skip_search xs before newest linked
+
+  -- what stands at the place is not sought
+  pub search_on : (before : List ℕ) (newest p : ℕ) (r : Option Declaration) → AreLinked test xs before newest → Sought p → 0 < p
+      → r ≡ tested sought (slice_get xs (p - 1)) → r ≡ None → Sought (get_or before (p - 1) 0)
+  search_on before newest zero r linked left l f g = absurd (omega (arith, l))
+  search_on before newest (suc k) r linked left l f g =
       let m : suc k - 1 ≡ k = omega arith in
       let at = f ∙ ap (λ j. tested sought (slice_get xs j)) m in
       let step = ap (λ j. find sought (reverse (take j xs))) (sym (add-one k)) ∙ find_step sought xs k (omega (arith, left.within)) in
       let none = ap (λ o. option_or o (find sought (reverse (take k xs)))) (sym at ∙ g) in
-      let down = left_of k (omega (arith, left.within)) in
-      subst (λ p. Left (reverse xs) p) (sym (ap (λ j. get_or before j 0) m ∙ leads_to before newest k linked left.within left.again))
-      (record { within = down.within; again = down.again; found = down.found ∙ (sym (step ∙ none) ∙ left.found) })
+      let down = left_of test (find sought) skip_search xs k (omega (arith, left.within)) in
+      subst Sought (sym (ap (λ j. get_or before j 0) m ∙ leads_to test xs before newest k linked left.within left.again))
+      (record { within = down.within; again = down.again; rest = down.rest ∙ (sym (step ∙ none) ∙ left.rest) })
 
-  -- it passes
-  pub found_here : (p : ℕ) (r : Option Declaration) (d : Declaration) → IsLeft test sought xs (reverse xs) p → 0 < p
+  -- it is
+  pub search_found : (p : ℕ) (r : Option Declaration) (d : Declaration) → Sought p → 0 < p
       → r ≡ tested sought (slice_get xs (p - 1)) → r ≡ Some d → Some d ≡ find sought (reverse xs)
-  found_here zero r d left l f g = absurd (omega (arith, l))
-  found_here (suc k) r d left l f g =
+  search_found zero r d left l f g = absurd (omega (arith, l))
+  search_found (suc k) r d left l f g =
       let m : suc k - 1 ≡ k = omega arith in
       let at = f ∙ ap (λ j. tested sought (slice_get xs j)) m in
       let step = ap (λ j. find sought (reverse (take j xs))) (sym (add-one k)) ∙ find_step sought xs k (omega (arith, left.within)) in
       let some = ap (λ o. option_or o (find sought (reverse (take k xs)))) (sym at ∙ g) in
-      sym (sym left.found ∙ (step ∙ some))
+      sym (sym left.rest ∙ (step ∙ some))
 
-  pub found_nowhere : (p : ℕ) → p ≡ 0 → IsLeft test sought xs (reverse xs) p → None ≡ find sought (reverse xs)
-  found_nowhere p e left = ap (λ j. find sought (reverse (take j xs))) (sym e) ∙ left.found
+-- ---- All that pass
+
+module _ (test : Declaration → Bool) (xs : List Declaration) where
+  skip_passing : (d : Declaration) (ds : List Declaration) → test d ≡ false → passing test (d ∷ ds) ≡ passing test ds
+  skip_passing d ds fails = ap (map Some) (cond-false (test d) (d ∷ filter test ds) (filter test ds) fails)
+
+  pub gather_all : (before : List ℕ) (newest : ℕ) → AreLinked test xs before newest → IsGathered test xs [] newest
+  gather_all before newest linked =
+      let left = left_all test (passing test) skip_passing xs before newest linked in
+      record { within = left.within; again = left.again; told = left.rest }
+
+  -- one more is told
+  pub gather_on : (before : List ℕ) (newest p : ℕ) (places longer : List ℕ) → AreLinked test xs before newest → IsGathered test xs places p → 0 < p
+      → longer ≡ places ++ (p - 1) ∷ [] → IsGathered test xs longer (get_or before (p - 1) 0)
+  gather_on before newest zero places longer linked g l e = absurd (omega (arith, l))
+  gather_on before newest (suc k) places longer linked g l e =
+      let m : suc k - 1 ≡ k = omega arith in
+      let x = slice_get_some xs k (omega (arith, g.within)) in
+      let here = passes_here test xs k x.0 g.within x.1 g.again in
+      let down = left_of test (passing test) skip_passing xs k (omega (arith, g.within)) in
+      let one = ap (passing test) (back_more xs k x.0 x.1) ∙ ap (map Some) (cond-true (test x.0) (x.0 ∷ filter test (reverse (take k xs))) (filter test (reverse (take k xs))) here) in
+      let shown = ap (all_at xs) e ∙ (map-append (slice_get xs) places ((suc k - 1) ∷ []) ∙ ap (λ o. all_at xs places ++ o ∷ []) (ap (slice_get xs) m ∙ x.1)) in
+      subst (IsGathered test xs longer) (sym (ap (λ j. get_or before j 0) m ∙ leads_to test xs before newest k linked g.within g.again))
+      (record {
+        within = down.within;
+        again = down.again;
+        told = ap (λ ys. all_at xs longer ++ ys) down.rest
+            ∙ (ap (λ ys. ys ++ passing test (reverse (take k xs))) shown
+            ∙ (append_assoc (all_at xs places) (Some x.0 ∷ []) (passing test (reverse (take k xs)))
+            ∙ (ap (λ ys. all_at xs places ++ ys) (sym one) ∙ g.told)));
+      })
+
+  -- all are told, and put the other way round
+  pub gathered : (p : ℕ) (places turned : List ℕ) → IsGathered test xs places p → p ≡ 0 → turned ≡ reverse places
+      → all_at xs turned ≡ passing test xs
+  gathered p places turned g e f =
+      ap (all_at xs) f
+      ∙ (map_reversed (slice_get xs) places
+      ∙ (ap reverse (sym (append-nil (all_at xs places)) ∙ (ap (λ j. all_at xs places ++ passing test (reverse (take j xs))) (sym e) ∙ g.told))
+      ∙ (sym (map_reversed Some (filter test (reverse xs))) ∙ ap (map Some) (filter_twice test xs))))

@@ -1,18 +1,21 @@
 -- One declaration more in the chains.
 use borrow.Author.Tests.{ltb-true, ltb-false}
-use Rattle.std.proofs.Common.{ℕ, zero, suc, ◌+◌, ◌-◌, ◌<◌, ◌≤◌, ◌≡◌, true, cond, nat_lt, List, [], ◌∷◌, ◌++◌, reverse, take, length, get_or, Option, None, Some, refl, sym, ap, subst, ◌∙◌, ◌⊎◌, inl, inr, arith, set}
+use Rattle.std.proofs.Common.{Bool, false, ◌&&◌, true≢false, ℕ, zero, suc, ◌+◌, ◌-◌, ◌<◌, ◌≤◌, ◌≡◌, true, cond, nat_lt, List, [], ◌∷◌, ◌++◌, reverse, take, length, get_or, Option, None, Some, refl, sym, ap, subst, ◌∙◌, ◌⊎◌, inl, inr, arith, set}
 use Rattle.std.specs.Prelude.{slice_get, filter_map, ◌==◌}
 use Rattle.std.proofs.lemmas.Bool.{cases_Bool, cases_eq, eq-eqb, eqb-true, ne_eqb, cond-true, cond-false}
 use Rattle.std.proofs.lemmas.List.{reverse-append, length-reverse, length_push, get_or-set_same, get_or-set_other, length-set}
 use Rattle.std.proofs.Math.Path.{fun_ext}
-use Rattle.std.proofs.Math.ListN.{get_or-append}
-use Rattle.std.proofs.Math.Seq.{get_or-append_seam, take-append_seam}
+use Rattle.std.proofs.Math.Seq.{take-append_seam}
 use Rattle.cs_base.specs.Token.{Token}
 use Rattle.scope_bind.specs.declared.declarations.Declaration.{Declaration}
-use Rattle.scope_bind.specs.Declarations.{alike}
+use Rattle.scope_bind.specs.Declarations.{is_space, alike, is_named}
 use Rattle.scope_bind.specs.Entering.{kept_here}
+use Rattle.scope_bind.specs.declared.declarations.Space.{Space}
+use Rattle.scope_bind.specs.declared.declarations.Space.TheVariants.{Ordinary as ordinary, Tags as tags, Members as members, Labels as labels}
+use Rattle.scope_bind.specs.Places.{is_member_of}
 use Rattle.scope_bind.specs.Spellings.{number_at, AreNumbers}
-use Rattle.scope_bind.specs.Chains.{has_number, latest_place, AreChained, AreLinked, AreEnded, with_end, IsTabled}
+use Rattle.scope_bind.specs.Links.{Links, no_links, with_link, TellsSame, HasRoom, has_key, latest_place, AreChained, AreLinked}
+use Rattle.scope_bind.specs.Chains.{sort_of, name_key, name_key_of, member_key, member_key_of, AreEnded, with_end, IsTabled}
 
 None≢Some : (x : Declaration) → None ≡ Some x → ⊥
 None≢Some x e = cc
@@ -34,87 +37,140 @@ take_front [] ys k l = absurd (omega (arith, l))
 take_front (x ∷ xs) ys zero l = refl
 take_front (x ∷ xs) ys (suc k) l = ap (λ zs. x ∷ zs) (take_front xs ys k (omega (arith, l)))
 
-module _ (numbers : List ℕ) (xs : List Declaration) (before newest : List ℕ) (d : Declaration) (a : AreChained numbers xs before newest)
-    (below : number_at numbers d.name_at < length newest) where
+module _ (key_of : Declaration → ℕ) (xs : List Declaration) (links : Links) (d : Declaration) (a : AreChained key_of xs links)
+    (room : HasRoom links (length xs) (key_of d)) where
   abbrev own : ℕ
-  own = number_at numbers d.name_at
+  own = key_of d
 
   abbrev newer : List ℕ
-  newer = set newest own (length xs + 1)
+  newer = set links.newest own (length xs + 1)
 
   abbrev longer : List ℕ
-  longer = before ++ get_or newest own 0 ∷ []
+  longer = set links.before (length xs) (get_or links.newest own 0)
 
   abbrev Begins : ℕ → Type 0
-  Begins m = get_or newer m 0 ≡ latest_place (has_number numbers m) (reverse (xs ++ d ∷ []))
+  Begins m = get_or newer m 0 ≡ latest_place (has_key key_of m) (reverse (xs ++ d ∷ []))
 
-  place_more : (m : ℕ) → latest_place (has_number numbers m) (reverse (xs ++ d ∷ []))
-      ≡ cond (m == own) (length (reverse xs) + 1) (latest_place (has_number numbers m) (reverse xs))
-  place_more m = ap (latest_place (has_number numbers m)) (reverse-append xs (d ∷ []))
+  place_more : (m : ℕ) → latest_place (has_key key_of m) (reverse (xs ++ d ∷ []))
+      ≡ cond (m == own) (length (reverse xs) + 1) (latest_place (has_key key_of m) (reverse xs))
+  place_more m = ap (latest_place (has_key key_of m)) (reverse-append xs (d ∷ []))
 
   begins_here : (m : ℕ) → m ≡ own → Begins m
   begins_here m same =
       ap (λ j. get_or newer j 0) same
-      ∙ (get_or-set_same newest own (length xs + 1) 0 below
+      ∙ (get_or-set_same links.newest own (length xs + 1) 0 room.newest
       ∙ (ap (λ n. n + 1) (sym (length-reverse xs))
-      ∙ (sym (cond-true (m == own) (length (reverse xs) + 1) (latest_place (has_number numbers m) (reverse xs)) (eq-eqb m own same))
+      ∙ (sym (cond-true (m == own) (length (reverse xs) + 1) (latest_place (has_key key_of m) (reverse xs)) (eq-eqb m own same))
       ∙ sym (place_more m))))
 
   begins_there : (m : ℕ) → (m ≡ own → ⊥) → Begins m
   begins_there m apart =
-      get_or-set_other newest own m (length xs + 1) 0 apart
+      get_or-set_other links.newest own m (length xs + 1) 0 apart
       ∙ (a.begins m
-      ∙ (sym (cond-false (m == own) (length (reverse xs) + 1) (latest_place (has_number numbers m) (reverse xs)) (ne_eqb m own apart))
+      ∙ (sym (cond-false (m == own) (length (reverse xs) + 1) (latest_place (has_key key_of m) (reverse xs)) (ne_eqb m own apart))
       ∙ sym (place_more m)))
 
   abbrev Leads : ℕ → Declaration → Type 0
-  Leads k e = get_or longer k 0 ≡ latest_place (has_number numbers (number_at numbers e.name_at)) (reverse (take k (xs ++ d ∷ [])))
+  Leads k e = get_or longer k 0 ≡ latest_place (has_key key_of (key_of e)) (reverse (take k (xs ++ d ∷ [])))
 
   leads_front : (k : ℕ) (e : Declaration) → k < length xs → slice_get xs k ≡ Some e → Leads k e
   leads_front k e l h =
-      get_or-append before (get_or newest own 0 ∷ []) 0 k (omega (arith, l, a.each))
+      get_or-set_other links.before (length xs) k (get_or links.newest own 0) 0 (λ same. omega (arith, l, same))
       ∙ (a.leads k e h
-      ∙ ap (λ ys. latest_place (has_number numbers (number_at numbers e.name_at)) (reverse ys)) (sym (take_front xs (d ∷ []) k l)))
+      ∙ ap (λ ys. latest_place (has_key key_of (key_of e)) (reverse ys)) (sym (take_front xs (d ∷ []) k l)))
 
   leads_last : (k : ℕ) (e : Declaration) → k ≡ length xs → e ≡ d → Leads k e
   leads_last k e at is =
-      ap (λ j. get_or longer j 0) (at ∙ sym a.each)
-      ∙ (get_or-append_seam before (get_or newest own 0) [] 0
+      ap (λ j. get_or longer j 0) at
+      ∙ (get_or-set_same links.before (length xs) (get_or links.newest own 0) 0 room.before
       ∙ (a.begins own
-      ∙ (ap (λ ys. latest_place (has_number numbers own) (reverse ys)) (sym (take-append_seam xs (d ∷ [])))
-      ∙ (ap (λ j. latest_place (has_number numbers own) (reverse (take j (xs ++ d ∷ [])))) (sym at)
-      ∙ ap (λ f. latest_place (has_number numbers (number_at numbers f.name_at)) (reverse (take k (xs ++ d ∷ [])))) (sym is)))))
+      ∙ (ap (λ ys. latest_place (has_key key_of own) (reverse ys)) (sym (take-append_seam xs (d ∷ [])))
+      ∙ (ap (λ j. latest_place (has_key key_of own) (reverse (take j (xs ++ d ∷ [])))) (sym at)
+      ∙ ap (λ f. latest_place (has_key key_of (key_of f)) (reverse (take k (xs ++ d ∷ [])))) (sym is)))))
 
   -- the chains with one declaration more
-  pub are_more : AreChained numbers (xs ++ d ∷ []) longer newer
-  are_more = record {
-    each = length_push before (get_or newest own 0) ∙ (ap (λ n. n + 1) a.each ∙ sym (length_push xs d));
+  chained_more : AreChained key_of (xs ++ d ∷ []) (with_link (length xs) own links)
+  chained_more = record {
     begins = λ m. elim (cases_eq m own) [ inl same ↦ begins_here m same | inr apart ↦ begins_there m apart ];
     leads = λ k e h. elim (get_front xs d k e h) [ inl at ↦ leads_front k e at.0 at.1 | inr last ↦ leads_last k e last.0 last.1 ];
   }
 
--- ---- The chain of one spelling
+-- room changes nothing
+chained_same : (key_of : Declaration → ℕ) (xs : List Declaration) (old new : Links) → AreChained key_of xs old → TellsSame old new → AreChained key_of xs new
+chained_same key_of xs old new a same = record {
+  begins = λ n. same.newest n ∙ a.begins n;
+  leads = λ k d h. same.before k ∙ a.leads k d h;
+}
 
-module _ (toks : List Token) (numbers : List ℕ) (count : ℕ) (are : AreNumbers toks numbers count) where
-  same_test : (i : ℕ) → (λ (d : Declaration). alike toks i d.name_at) ≡ has_number numbers (number_at numbers i)
-  same_test i = fun_ext (λ (d : Declaration). are.same i d.name_at)
+-- ---- The chain of one key
 
-  one_number : (i j : ℕ) → alike toks i j ≡ true → number_at numbers j ≡ number_at numbers i
-  one_number i j holds = sym (eqb-true (number_at numbers i) (number_at numbers j) (sym (are.same i j) ∙ holds))
+linked_by : (key_of : Declaration → ℕ) (xs : List Declaration) (links : Links) (n : ℕ) → AreChained key_of xs links
+    → AreLinked (has_key key_of n) xs links.before (get_or links.newest n 0)
+linked_by key_of xs links n a = record {
+  begins = a.begins n;
+  leads = λ k d h holds. a.leads k d h ∙ ap (λ m. latest_place (has_key key_of m) (reverse (take k xs))) (sym (eqb-true n (key_of d) holds));
+}
 
-  linked_of : (xs : List Declaration) (before newest : List ℕ) (i p : ℕ) → AreChained numbers xs before newest
-      → p ≡ get_or newest (number_at numbers i) 0 → AreLinked (λ (d : Declaration). alike toks i d.name_at) xs before p
-  linked_of xs before newest i p a e = record {
-    begins = e ∙ (a.begins (number_at numbers i) ∙ ap (λ t. latest_place t (reverse xs)) (sym (same_test i)));
-    leads = λ k d at holds. a.leads k d at
-        ∙ ap (λ t. latest_place t (reverse (take k xs))) (ap (has_number numbers) (one_number i d.name_at holds) ∙ sym (same_test i));
-  }
+pub named_by : (numbers : List ℕ) (xs : List Declaration) (links : Links) (space : Space) (i n p : ℕ) → AreChained (name_key_of numbers) xs links
+    → n ≡ name_key numbers space i → p ≡ get_or links.newest n 0
+    → AreLinked (has_key (name_key_of numbers) (name_key numbers space i)) xs links.before p
+named_by numbers xs links space i n p a m e =
+    subst (AreLinked (has_key (name_key_of numbers) (name_key numbers space i)) xs links.before) (sym (e ∙ ap (λ j. get_or links.newest j 0) m))
+    (linked_by (name_key_of numbers) xs links (name_key numbers space i) a)
 
-pub linked-in : (toks : List Token) (numbers : List ℕ) (xs : List Declaration) (before newest ends : List ℕ) (i p n : ℕ)
-    → IsTabled toks numbers xs before newest ends → n ≡ number_at numbers i → p ≡ get_or newest n 0
-    → AreLinked (λ (d : Declaration). alike toks i d.name_at) xs before p
-linked-in toks numbers xs before newest ends i p n a m e =
-    linked_of toks numbers (length newest) a.numbered xs before newest i p a.chained (e ∙ ap (λ k. get_or newest k 0) m)
+same_sort : (s t : Space) → is_space s t ≡ true → sort_of s ≡ sort_of t
+same_sort ordinary ordinary e = refl
+same_sort ordinary tags e = cc
+same_sort ordinary (members n) e = cc
+same_sort ordinary (labels n) e = cc
+same_sort tags ordinary e = cc
+same_sort tags tags e = refl
+same_sort tags (members n) e = cc
+same_sort tags (labels n) e = cc
+same_sort (members m) ordinary e = cc
+same_sort (members m) tags e = cc
+same_sort (members m) (members n) e = refl
+same_sort (members m) (labels n) e = cc
+same_sort (labels m) ordinary e = cc
+same_sort (labels m) tags e = cc
+same_sort (labels m) (members n) e = cc
+same_sort (labels m) (labels n) e = refl
+
+-- what has another key has not the name
+module _ (toks : List Token) (numbers : List ℕ) (are : AreNumbers toks numbers) (space : Space) (i : ℕ) where
+  unnamed : (d : Declaration) → has_key (name_key_of numbers) (name_key numbers space i) d ≡ false → is_named toks space i d ≡ false
+  unnamed d fails =
+      elim (cases_Bool (is_space d.space space)) [
+        | inr other ↦ rw other refl
+        | inl alike_space ↦ elim (cases_Bool (alike toks i d.name_at)) [
+          | inr other ↦ rw (alike_space, other) refl
+          | inl alike_name ↦
+              let n : number_at numbers i ≡ number_at numbers d.name_at = eqb-true (number_at numbers i) (number_at numbers d.name_at) (sym (are.same i d.name_at) ∙ alike_name) in
+              let s : sort_of d.space ≡ sort_of space = same_sort d.space space alike_space in
+              absurd (true≢false (sym (eq-eqb (name_key numbers space i) (name_key_of numbers d) (omega (arith, n, s))) ∙ fails))
+        ]
+      ]
+
+  pub apart : (asked : Declaration → Bool) (d : Declaration) → has_key (name_key_of numbers) (name_key numbers space i) d ≡ false
+      → (is_named toks space i d && asked d) ≡ false
+  apart asked d fails = rw (unnamed d fails) refl
+
+member_keyed : (number : ℕ) (space : Space) → (number + 1 == member_key space) ≡ is_space space (members number)
+member_keyed number ordinary = ne_eqb (number + 1) 0 (λ e. omega (arith, e))
+member_keyed number tags = ne_eqb (number + 1) 0 (λ e. omega (arith, e))
+member_keyed number (labels n) = ne_eqb (number + 1) 0 (λ e. omega (arith, e))
+member_keyed number (members n) =
+    elim (cases_eq n number) [
+      | inl same ↦ eq-eqb (number + 1) (n + 1) (omega (arith, same)) ∙ sym (eq-eqb n number same)
+      | inr other ↦ ne_eqb (number + 1) (n + 1) (λ e. other (omega (arith, e))) ∙ sym (ne_eqb n number other)
+    ]
+
+pub joined_by : (xs : List Declaration) (links : Links) (number n p : ℕ) → AreChained member_key_of xs links
+    → n ≡ number + 1 → p ≡ get_or links.newest n 0 → AreLinked (is_member_of number) xs links.before p
+joined_by xs links number n p a m e =
+    subst (λ (test : Declaration → Bool). AreLinked test xs links.before p) (fun_ext (λ (d : Declaration). member_keyed number d.space))
+    (subst (AreLinked (has_key member_key_of (number + 1)) xs links.before) (sym (e ∙ ap (λ j. get_or links.newest j 0) m))
+    (linked_by member_key_of xs links (number + 1) a))
 
 -- ---- Where ranges end
 
@@ -211,29 +267,46 @@ before_place ends list p e =
 
 -- ---- Nothing is declared
 
-pub none_tabled : (toks : List Token) (numbers newest ends : List ℕ) (count : ℕ) → AreNumbers toks numbers count → length newest ≡ count
-    → ((k : ℕ) → get_or newest k 0 ≡ 0) → ((k : ℕ) → get_or ends k 0 ≡ 0) → IsTabled toks numbers [] [] newest ends
-none_tabled toks numbers newest ends count are long blank clear = record {
-  numbered = subst (AreNumbers toks numbers) (sym long) are;
-  chained = record { each = refl; begins = blank; leads = λ k d e. absurd (None≢Some d e) };
-  ended = record {
-    within = λ j. omega (arith, clear j);
-    told = λ k d e. absurd (None≢Some d e);
-    first = λ k d e. absurd (None≢Some d e);
-  };
+pub none_tabled : (toks : List Token) (numbers ends : List ℕ) (names structures : Links) → AreNumbers toks numbers → names ≡ no_links
+    → structures ≡ no_links → ((k : ℕ) → get_or ends k 0 ≡ 0) → IsTabled toks numbers [] names structures ends
+none_tabled toks numbers ends names structures are e f clear =
+    rw (e, f)
+    (record {
+      numbered = are;
+      named = record { begins = λ n. refl; leads = λ k d h. absurd (None≢Some d h) };
+      joined = record { begins = λ n. refl; leads = λ k d h. absurd (None≢Some d h) };
+      ended = record {
+        within = λ j. omega (arith, clear j);
+        told = λ k d h. absurd (None≢Some d h);
+        first = λ k d h. absurd (None≢Some d h);
+      };
+    })
+
+-- ---- Room
+
+pub tabled_same : (toks : List Token) (numbers : List ℕ) (xs : List Declaration) (names structures names' structures' : Links) (ends : List ℕ)
+    → IsTabled toks numbers xs names structures ends → TellsSame names names' → TellsSame structures structures'
+    → IsTabled toks numbers xs names' structures' ends
+tabled_same toks numbers xs names structures names' structures' ends a e f = record {
+  numbered = a.numbered;
+  named = chained_same (name_key_of numbers) xs names names' a.named e;
+  joined = chained_same member_key_of xs structures structures' a.joined f;
+  ended = a.ended;
 }
 
 -- ---- One declaration more
 
-pub tabled_more : (toks : List Token) (numbers : List ℕ) (xs : List Declaration) (before newest ends : List ℕ) (d : Declaration)
-    (number len p : ℕ) (xs' : List Declaration) (before' ends' : List ℕ) → IsTabled toks numbers xs before newest ends
-    → number ≡ number_at numbers d.name_at → len ≡ length xs → p ≡ get_or newest number 0
-    → xs' ≡ xs ++ d ∷ [] → before' ≡ before ++ p ∷ [] → ends' ≡ with_end d.to (len + 1) ends
-    → IsTabled toks numbers xs' before' (set newest number (len + 1)) ends'
-tabled_more toks numbers xs before newest ends d number len p xs' before' ends' a n l q e f g =
-    rw (e, f, g, q, l, n)
+pub tabled_more : (toks : List Token) (numbers : List ℕ) (xs : List Declaration) (names structures : Links) (ends : List ℕ) (d : Declaration)
+    (count name structure : ℕ) (xs' : List Declaration) (names' structures' : Links) (ends' : List ℕ)
+    → IsTabled toks numbers xs names structures ends → count ≡ length xs → name ≡ name_key numbers d.space d.name_at → structure ≡ member_key d.space
+    → HasRoom names count name → HasRoom structures count structure → names' ≡ with_link count name names → structures' ≡ with_link count structure structures
+    → xs' ≡ xs ++ d ∷ [] → ends' ≡ with_end d.to (count + 1) ends
+    → IsTabled toks numbers xs' names' structures' ends'
+tabled_more toks numbers xs names structures ends d count name structure xs' names' structures' ends' a c n s r q e f g h =
+    rw (e, f, g, h, n, s, c)
     (record {
-      numbered = subst (AreNumbers toks numbers) (sym (length-set newest (number_at numbers d.name_at) (length xs + 1))) a.numbered;
-      chained = are_more numbers xs before newest d a.chained (a.numbered.within d.name_at);
+      numbered = a.numbered;
+      named = chained_more (name_key_of numbers) xs names d a.named (subst (λ m. HasRoom names m (name_key_of numbers d)) c (subst (HasRoom names count) n r));
+      joined = chained_more member_key_of xs structures d a.joined (subst (λ m. HasRoom structures m (member_key_of d)) c (subst (HasRoom structures count) s q));
       ended = ended_more xs ends d a.ended;
     })

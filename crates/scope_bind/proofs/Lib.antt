@@ -15,6 +15,7 @@ mod SpellingLemmas
 mod ChainLemmas
 mod ChainedMore
 mod KeptChains
+mod MemberLemmas
 mod PlaceLemmas
 mod Reversed
 mod NameLemmas

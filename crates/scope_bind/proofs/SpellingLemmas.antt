@@ -51,10 +51,9 @@ module _ (spellings : List (List ℕ)) (a b : List ℕ) (n m : ℕ) (p : positio
       ]
 
 pub are_numbers : (toks : List Token) (numbers : List ℕ) (spellings : List (List ℕ)) → AreNumbered toks numbers spellings
-    → AreNumbers toks numbers (length spellings)
+    → AreNumbers toks numbers
 are_numbers toks numbers spellings a = record {
   same = λ i j. one_number spellings (spelling_at toks i) (spelling_at toks j) (number_at numbers i) (number_at numbers j) (a.told i) (a.told j);
-  within = λ i. (position-Some (bytes_eq (spelling_at toks i)) spellings (number_at numbers i) [] (a.told i)).0;
 }
 
 -- ---- One spelling more

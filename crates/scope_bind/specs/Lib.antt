@@ -21,6 +21,7 @@ pub mod Renamed
 -- What inner functions promise each other.
 pub mod Latest
 pub mod Spellings
+pub mod Links
 pub mod Chains
 pub mod Marks
 pub mod Children

@@ -1,5 +1,5 @@
 -- The spellings of tokens, each by its number.
-use Rattle.std.specs.Prelude.{ℕ, ◌<◌, ◌≡◌, List, length, Some, position, get_or, ◌==◌}
+use Rattle.std.specs.Prelude.{ℕ, ◌≡◌, List, length, Some, position, get_or, ◌==◌}
 use Rattle.std.specs.Str.{bytes_eq}
 use Rattle.cs_base.specs.Token.{Token}
 use Rattle.scope_bind.specs.Declarations.{spelling_at, alike}
@@ -8,10 +8,9 @@ use Rattle.scope_bind.specs.Declarations.{spelling_at, alike}
 abbrev pub number_at : List ℕ → ℕ → ℕ
 number_at numbers k = get_or numbers k 0
 
--- The tokens with one number are those that are spelled alike, and there are so many numbers.
-pub record AreNumbers (toks : List Token) (numbers : List ℕ) (count : ℕ) : Type 0 where
+-- the tokens with one number are those that are spelled alike
+pub record AreNumbers (toks : List Token) (numbers : List ℕ) : Type 0 where
   pub same : (i j : ℕ) → alike toks i j ≡ (number_at numbers i == number_at numbers j)
-  pub within : (i : ℕ) → number_at numbers i < count
 
 -- the spelling of each token stands among the spellings, first at its number
 pub record AreNumbered (toks : List Token) (numbers : List ℕ) (spellings : List (List ℕ)) : Type 0 where

@@ -1,32 +1,35 @@
-// Declarations, and the latest one of a spelling, found along the chain of those of its number.
-ghost use Rattle.std.specs.Prelude.{◌≡◌, ◌&&◌, ℕ, ◌++◌, [], ◌∷◌, find, filter_map, reverse, take, length, get_or, IfOk, OnOk, OnErr};
+// Declarations, and the latest one that a name may denote.
+ghost use Rattle.std.specs.Prelude.{◌≡◌, ◌&&◌, ℕ, ◌++◌, [], ◌∷◌, find, filter, filter_map, reverse, take, get_or, slice_get, IfOk, OnOk, OnErr};
 ghost use Rattle.std.specs.Option.{option_map, option_to_list};
-ghost use Rattle.scope_bind.specs.Declarations.{alike, is_named};
+ghost use Rattle.scope_bind.specs.Declarations.{is_named};
 ghost use Rattle.scope_bind.specs.Entering.{kept_here};
 ghost use Rattle.scope_bind.specs.Latest.{passes};
-ghost use Rattle.scope_bind.specs.Spellings.{number_at};
-ghost use Rattle.scope_bind.specs.Chains.{AreLinked, with_end};
+ghost use Rattle.scope_bind.specs.Places.{is_member_of, place_of};
+ghost use Rattle.scope_bind.specs.Spellings.{number_at, AreNumbers};
+ghost use Rattle.scope_bind.specs.Links.{AreChained};
+ghost use Rattle.scope_bind.specs.Chains.{sort_of, name_key, name_key_of, with_end};
 
 use crate::declarations::{Declaration, Space};
 use crate::keeping::kept_at;
 use crate::latest::{Asked, tested};
+use crate::links::{Links, place_at};
 use crate::spellings::numbers_of;
+use crate::structures::{declaration_among, member_key, place_among, places_of_members};
 use cs_base::{Memory, Tok};
 use std::alloc::Global;
 use std::marker::Model;
 
-/// The declarations of a unit of these tokens. The latest one of a spelling is found by the number that the
-/// spelling has. Contracts see the latest declaration first.
+/// The declarations of a unit of these tokens. The latest one of a name is found among those of its name
+/// space that are spelled alike, and members among those of their structure or union. Contracts see the
+/// latest declaration first.
 #[derive(Drop)]
 pub(crate) struct Chains<'a> {
     toks: &'a [Tok],
     // for each token the number of its spelling
-    numbers: Vec<usize>,
+    numbers: Vec<u32>,
     declared: Vec<Declaration>,
-    // for each declaration one more than the place of the one before it that is spelled alike, or 0
-    before: Vec<usize>,
-    // for each number one more than the place of its latest declaration, or 0
-    newest: Vec<usize>,
+    names: Links,
+    structures: Links,
     // for each token one more than the place of the first declaration whose range ends there, or 0
     ends: Vec<usize>,
 }
@@ -39,51 +42,62 @@ impl<'a> Model for Chains<'a> {
 
     ghost view = { λ c. record { toks = c.toks.now; declared = reverse c.declared.items } };
 
-    ghost invariant = { λ c. IsTabled c.toks.now c.numbers.items c.declared.items c.before.items c.newest.items c.ends.items };
+    ghost invariant = { λ c. IsTabled c.toks.now c.numbers.items c.declared.items c.names c.structures c.ends.items };
 }
 
 // A table that tells no place.
 fn blank(alloc: Global, count: usize) -> Result<Vec<usize>, Memory>
-    ensures each { IfOk result (λ v. length v.items ≡ count) }
-    ensures none { IfOk result (λ v. (k : ℕ) → get_or v.items k 0 ≡ 0) }
+    ensures { IfOk result (λ v. (k : ℕ) → get_or v.items k 0 ≡ 0) }
 {
     Ok(vec![in alloc; 0usize; count]?)
 }
 
-fn place_at(places: &[usize], k: usize) -> usize
-    ensures { result ≡ get_or places.now k 0 }
+fn sort_of(space: Space) -> usize
+    ensures { result ≡ sort_of space }
 {
-    match places.get(k) {
-        Some(place) => *place,
+    match space {
+        Space::Ordinary => 0,
+        Space::Tags => 1,
+        Space::Members(_) => 2,
+        Space::Labels(_) => 3,
+    }
+}
+
+fn number_at(numbers: &[u32], k: u32) -> u32
+    ensures { result ≡ number_at numbers.now k }
+{
+    match numbers.get(k as usize) {
+        Some(number) => *number,
         None => 0,
     }
 }
 
-fn number_at(numbers: &[usize], k: u32) -> usize
-    ensures { result ≡ number_at numbers.now k }
+fn name_key(numbers: &[u32], space: Space, k: u32) -> usize
+    ensures { result ≡ name_key numbers.now space k }
 {
-    place_at(numbers, k as usize)
+    number_at(numbers, k) as usize * 4 + sort_of(space)
 }
 
-// The latest one that is named as token `i` and of which this can be said, from the latest one that is spelled so.
+// The latest one that is named as token `i` and of which this can be said.
 fn chained<'a>(
     declared: &'a [Declaration],
-    before: &[usize],
-    newest: usize,
+    names: &Links,
+    numbers: &[u32],
     toks: &[Tok],
     space: Space,
     i: u32,
     asked: Asked,
 ) -> Option<&'a Declaration>
-    requires linked { AreLinked (λ d. alike toks.now i d.name_at) declared.now before.now newest }
+    requires chained { AreChained (name_key_of numbers.now) declared.now names.now }
+    requires numbered { AreNumbers toks.now numbers.now }
     ensures { option_map (λ d. d.now) result ≡ find (λ d. is_named toks.now space i d && passes asked d) (reverse declared.now) }
 {
-    let mut place = newest;
+    let mut place = names.newest(name_key(numbers, space, i));
     'chain: while place > 0 {
         if let Some(d) = tested(declared, toks, space, i, asked, place - 1) {
             return Some(d);
         }
-        place = place_at(before, place - 1);
+        place = names.before(place - 1);
     }
     None
 }
@@ -103,17 +117,14 @@ impl<'a> Chains<'a> {
     pub(crate) fn new(alloc: Global, toks: &'a [Tok]) -> Result<Chains<'a>, Memory>
         ensures { IfOk result (λ c. c ≡ record { toks = toks.now; declared = [] }) }
     {
-        let spelled = numbers_of(alloc, toks)?;
-        let newest = blank(alloc, spelled.count)?;
-        // The outermost scope ends at the count of the tokens.
-        let ends = blank(alloc, toks.len() + 1)?;
         Ok(Chains {
             toks,
-            numbers: spelled.numbers,
+            numbers: numbers_of(alloc, toks)?,
             declared: Vec::new(alloc),
-            before: Vec::new(alloc),
-            newest,
-            ends,
+            names: Links::new(alloc),
+            structures: Links::new(alloc),
+            // The outermost scope ends at the count of the tokens.
+            ends: blank(alloc, toks.len() + 1)?,
         })
     }
 
@@ -135,14 +146,15 @@ impl<'a> Chains<'a> {
         ensures ok { OnOk result (self.new ≡ record self.old { declared = d ∷ self.old.declared }) }
         ensures unchanged { OnErr result (self.new ≡ self.old) }
     {
-        self.before.reserve(1)?;
+        let count = self.declared.len();
+        let name = name_key(self.numbers.as_slice(), d.space, d.name_at);
+        let structure = member_key(d.space);
+        self.names.grow(count, name)?;
+        self.structures.grow(count, structure)?;
         self.declared.reserve(1)?;
-        let place = self.declared.len() + 1;
-        let number = number_at(self.numbers.as_slice(), d.name_at);
-        let place_before = place_at(self.newest.as_slice(), number);
-        self.before.push(place_before).unwrap();
-        self.newest[number] = place;
-        tell_end(&mut self.ends, d.to, place);
+        self.names.link(count, name);
+        self.structures.link(count, structure);
+        tell_end(&mut self.ends, d.to, count + 1);
         self.declared.push(d).unwrap();
         Ok(())
     }
@@ -151,12 +163,10 @@ impl<'a> Chains<'a> {
     pub(crate) fn latest(&self, space: Space, i: u32, asked: Asked) -> Option<&Declaration>
         ensures { option_map (λ d. d.now) result ≡ find (λ d. is_named self.now.toks space i d && passes asked d) self.now.declared }
     {
-        let number = number_at(self.numbers.as_slice(), i);
-        let newest = place_at(self.newest.as_slice(), number);
         chained(
             self.declared.as_slice(),
-            self.before.as_slice(),
-            newest,
+            &self.names,
+            self.numbers.as_slice(),
             self.toks,
             space,
             i,
@@ -198,5 +208,23 @@ impl<'a> Chains<'a> {
             self.push_some(kept)?;
         }
         Ok(())
+    }
+
+    /// Member number `n` of the structure or union.
+    pub(crate) fn member(&self, number: u32, n: u32) -> Result<Option<&Declaration>, Memory>
+        ensures { IfOk result (λ r. option_map (λ d. d.now) r ≡ slice_get (reverse (filter (is_member_of number) self.now.declared)) n) }
+    {
+        let alloc = *self.declared.allocator();
+        let places = places_of_members(alloc, self.declared.as_slice(), &self.structures, number)?;
+        Ok(declaration_among(self.declared.as_slice(), places.as_slice(), n))
+    }
+
+    /// How many members of the structure or union stand before the one with the name.
+    pub(crate) fn members_before(&self, number: u32, name_at: u32) -> Result<u32, Memory>
+        ensures { IfOk result (λ r. r ≡ place_of (reverse (filter (is_member_of number) self.now.declared)) name_at) }
+    {
+        let alloc = *self.declared.allocator();
+        let places = places_of_members(alloc, self.declared.as_slice(), &self.structures, number)?;
+        place_among(self.declared.as_slice(), places.as_slice(), name_at)
     }
 }

@@ -1,5 +1,5 @@
 // The spellings of the tokens of a unit, each by a number.
-ghost use Rattle.std.specs.Prelude.{◌≡◌, [], position, None, IfOk};
+ghost use Rattle.std.specs.Prelude.{◌≡◌, [], position, None, Some, IfOk};
 ghost use Rattle.std.specs.Str.{bytes_eq};
 ghost use Rattle.scope_bind.specs.Spellings.{AreNumbers, AreNumbered, IsNumberOf};
 
@@ -33,12 +33,6 @@ impl Spellings {
         }
     }
 
-    fn count(&self) -> usize
-        ensures { result ≡ length self.now }
-    {
-        self.spellings.len()
-    }
-
     fn number_of(&self, spelling: &[u8]) -> Option<usize>
         ensures { result ≡ position (bytes_eq spelling.now) self.now }
     {
@@ -67,36 +61,29 @@ impl Spellings {
     }
 }
 
-/// The number of the spelling of each token, and how many numbers there are.
-#[derive(Drop)]
-pub(crate) struct Numbers {
-    pub numbers: Vec<usize>,
-    pub count: usize,
-}
-
 // The numbers of the tokens, each of which is put among the spellings.
-fn told(alloc: Global, toks: &[Tok], spellings: &mut Spellings) -> Result<Vec<usize>, Memory>
+fn told(alloc: Global, toks: &[Tok], spellings: &mut Spellings) -> Result<Vec<u32>, Memory>
     requires empty { position (bytes_eq []) spellings.old ≡ Some 0 }
     ensures { IfOk result (λ numbers. AreNumbered toks.now numbers.items spellings.new) }
 {
     let mut numbers = Vec::new(alloc);
     'toks: for tok in toks {
         let number = spellings.numbered(alloc, tok.text())?;
-        numbers.push(number)?;
+        if number > u32::MAX as usize {
+            return Err(Memory);
+        }
+        numbers.push(number as u32)?;
     }
     Ok(numbers)
 }
 
-/// Tokens that are spelled alike have one number, and others have different ones.
-pub(crate) fn numbers_of(alloc: Global, toks: &[Tok]) -> Result<Numbers, Memory>
-    ensures { IfOk result (λ n. AreNumbers toks.now n.numbers.items n.count) }
+/// For each token the number of its spelling: tokens that are spelled alike have one, and others have
+/// different ones.
+pub(crate) fn numbers_of(alloc: Global, toks: &[Tok]) -> Result<Vec<u32>, Memory>
+    ensures { IfOk result (λ numbers. AreNumbers toks.now numbers.items) }
 {
     let mut spellings = Spellings::new(alloc);
     // Number 0 is that of tokens that are not there.
     spellings.add(alloc, &[])?;
-    let numbers = told(alloc, toks, &mut spellings)?;
-    Ok(Numbers {
-        numbers,
-        count: spellings.count(),
-    })
+    told(alloc, toks, &mut spellings)
 }
