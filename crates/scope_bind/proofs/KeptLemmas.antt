@@ -5,9 +5,6 @@ use Rattle.std.specs.Option.{option_and_then, option_to_list}
 use Rattle.std.specs.List.{cons_option}
 use Rattle.std.proofs.lemmas.List.{append-nil, reverse-append}
 use Rattle.std.proofs.lemmas.List.Elements.{filter_map-append}
-use Rattle.scope_bind.specs.declared.declarations.Declaration.{Declaration}
-use Rattle.scope_bind.specs.Declarations.{Facts}
-use Rattle.scope_bind.specs.Entering.{kept_here, with_kept}
 
 cons_append : {B : Type 0} (o : Option B) (xs ys : List B) → cons_option o (xs ++ ys) ≡ cons_option o xs ++ ys
 cons_append None xs ys = refl
@@ -63,12 +60,3 @@ pub kept-seen : {A : Type 0} (f : A → Option A) (xs ys : List A) → ys ≡ xs
     → reverse ys ≡ filter_map f (reverse xs) ++ reverse xs
 kept-seen f xs ys e =
     ap reverse e ∙ (reverse-append xs (filter_map f xs) ∙ ap (λ ws. ws ++ reverse xs) (sym (kept_reversed f xs)))
-
--- .. and as the definition says it
-pub facts-kept : (list depth from to : ℕ) (xs ys : List Declaration) (s : Facts) → s.declared ≡ reverse xs
-    → ys ≡ xs ++ filter_map (kept_here list depth from to) xs
-    → record s { declared = reverse ys } ≡ with_kept (Some list) depth from to s
-facts-kept list depth from to xs ys s seen e =
-    ap (λ ds. record s { declared = ds })
-    (kept-seen (kept_here list depth from to) xs ys e
-    ∙ ap (λ ds. filter_map (kept_here list depth from to) ds ++ ds) (sym seen))

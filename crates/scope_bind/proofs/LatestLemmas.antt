@@ -1,5 +1,5 @@
 -- A search from the end of a list.
-use Rattle.std.proofs.Common.{ℕ, zero, suc, ◌+◌, ◌-◌, ◌<◌, ◌≡◌, Bool, true, false, cond, ◌||◌, if◌then◌else◌, List, [], ◌∷◌, ◌++◌, reverse, take, length, Option, None, Some, refl, sym, ap, ◌∙◌, add-one, arith}
+use Rattle.std.proofs.Common.{ℕ, zero, suc, ◌+◌, ◌<◌, ◌≡◌, Bool, true, false, cond, ◌||◌, if◌then◌else◌, List, [], ◌∷◌, ◌++◌, reverse, take, length, Option, None, Some, refl, sym, ap, ◌∙◌, add-one, arith}
 use Rattle.std.specs.Prelude.{find, slice_get, is_some}
 use Rattle.std.specs.List.{list_any}
 use Rattle.std.specs.Option.{option_or, option_map}
@@ -40,33 +40,6 @@ find_step test xs n l =
     let x = slice_get_some xs n l in
     ap (λ m. find test (reverse (take m xs))) (add-one n) ∙ find_last test xs n x.0 x.1
 
--- it is found at the place
-pub found_at : (test : Declaration → Bool) (xs : List Declaration) (k : ℕ) (r : Option Declaration) (d : Declaration) → k < length xs
-    → find test (reverse (take (length xs - k) xs)) ≡ find test (reverse xs) → r ≡ tested test (slice_get xs (length xs - 1 - k)) → r ≡ Some d
-    → Some d ≡ find test (reverse xs)
-found_at test xs k r d l e f g =
-    let m : length xs - 1 - k + 1 ≡ length xs - k = omega arith in
-    let n : length xs - 1 - k < length xs = omega arith in
-    let s : find test (reverse (take (length xs - k) xs)) ≡ option_or (tested test (slice_get xs (length xs - 1 - k))) (find test (reverse (take (length xs - 1 - k) xs))) =
-    ap (λ j. find test (reverse (take j xs))) (sym m) ∙ find_step test xs (length xs - 1 - k) n in
-    let t : option_or (tested test (slice_get xs (length xs - 1 - k))) (find test (reverse (take (length xs - 1 - k) xs))) ≡ Some d =
-    ap (λ o. option_or o (find test (reverse (take (length xs - 1 - k) xs)))) (sym f ∙ g) in
-    sym (sym e ∙ (s ∙ t))
-
--- it is not, and stands before
-pub found_before : (test : Declaration → Bool) (xs : List Declaration) (k : ℕ) (r : Option Declaration) → k < length xs
-    → find test (reverse (take (length xs - k) xs)) ≡ find test (reverse xs) → r ≡ tested test (slice_get xs (length xs - 1 - k)) → r ≡ None
-    → find test (reverse (take (length xs - (k + 1)) xs)) ≡ find test (reverse xs)
-found_before test xs k r l e f g =
-    let m : length xs - 1 - k + 1 ≡ length xs - k = omega arith in
-    let p : length xs - (k + 1) ≡ length xs - 1 - k = omega arith in
-    let n : length xs - 1 - k < length xs = omega arith in
-    let s : find test (reverse (take (length xs - k) xs)) ≡ option_or (tested test (slice_get xs (length xs - 1 - k))) (find test (reverse (take (length xs - 1 - k) xs))) =
-    ap (λ j. find test (reverse (take j xs))) (sym m) ∙ find_step test xs (length xs - 1 - k) n in
-    let t : option_or (tested test (slice_get xs (length xs - 1 - k))) (find test (reverse (take (length xs - 1 - k) xs))) ≡ find test (reverse (take (length xs - 1 - k) xs)) =
-    ap (λ o. option_or o (find test (reverse (take (length xs - 1 - k) xs)))) (sym f ∙ g) in
-    ap (λ j. find test (reverse (take j xs))) p ∙ (sym (s ∙ t) ∙ e)
-
 any_step : (test : Declaration → Bool) (b : Bool) (x : Declaration) (fs : Option Declaration) (any : Bool) → is_some fs ≡ any → is_some (cond b (Some x) fs) ≡ (b || any)
 any_step test true x fs any e = refl
 any_step test false x fs any e = e
@@ -80,7 +53,6 @@ is_some_map : {A B : Type 0} (f : A → B) (o : Option A) → is_some (option_ma
 is_some_map f None = refl
 is_some_map f (Some x) = refl
 
-pub found_is_any : (test : Declaration → Bool) (o : Option (Bor Declaration)) (xs items : List Declaration)
-    → option_map (λ (d : Bor Declaration). d.now) o ≡ find test (reverse xs) → xs ≡ items → is_some o ≡ list_any test (reverse items)
-found_is_any test o xs items e same =
-    sym (is_some_map (λ (d : Bor Declaration). d.now) o) ∙ (ap is_some e ∙ (found_any test (reverse xs) ∙ ap (λ ys. list_any test (reverse ys)) same))
+pub found_is_any : (test : Declaration → Bool) (o : Option (Bor Declaration)) (xs : List Declaration)
+    → option_map (λ (d : Bor Declaration). d.now) o ≡ find test xs → is_some o ≡ list_any test xs
+found_is_any test o xs e = sym (is_some_map (λ (d : Bor Declaration). d.now) o) ∙ (ap is_some e ∙ found_any test xs)

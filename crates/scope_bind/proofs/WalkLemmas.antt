@@ -4,7 +4,8 @@ use Rattle.cs_base.specs.Token.{Token}
 use Rattle.c99_tree.specs.Tree.{Forest, none, token, node}
 use Rattle.c99_tree.specs.declared.production.Label.{Label}
 use Rattle.scope_bind.specs.declared.frames.Frame.{Frame}
-use Rattle.scope_bind.specs.Declarations.{Facts, Known, known}
+use Rattle.scope_bind.specs.Declarations.{Facts}
+use Rattle.scope_bind.specs.Known.{Known, known}
 use Rattle.scope_bind.specs.Frames.{State, state}
 use Rattle.scope_bind.specs.Entering.{facts_in, frame_in, entered}
 use Rattle.scope_bind.specs.Walk.{passed, facts_after, frame_after, left, walked}

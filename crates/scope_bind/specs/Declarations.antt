@@ -37,14 +37,6 @@ pub record Facts : Type 0 where
 abbrev pub no_facts : Facts
 no_facts = record { declared = []; occurrences = []; begun = []; complete = []; jumps = []; fault = None }
 
--- .. and the tokens of the unit
-pub record Known : Type 0 where
-  pub toks : List Token
-  pub facts : Facts
-
-abbrev pub known : List Token → Facts → Known
-known toks facts = record { toks = toks; facts = facts }
-
 abbrev pub has_linkage : Linkage → Bool
 has_linkage Absent = false
 has_linkage _ = true

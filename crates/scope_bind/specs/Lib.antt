@@ -19,6 +19,7 @@ pub mod Bound
 pub mod Names
 pub mod Renamed
 -- What inner functions promise each other.
+pub mod Known
 pub mod Latest
 pub mod Spellings
 pub mod Links

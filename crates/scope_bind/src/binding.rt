@@ -5,7 +5,8 @@ ghost use Rattle.scope_bind.specs.Lists.{calls_in, bodies_in, bare_in};
 ghost use Rattle.scope_bind.specs.Frames.{outermost};
 ghost use Rattle.scope_bind.specs.Faults.{fault_of};
 ghost use Rattle.scope_bind.specs.Bound.{range_of, typedefs_of, bound_of, bound_after, facts_of, binding_of};
-ghost use Rattle.scope_bind.specs.Declarations.{is_typedef_name, known};
+ghost use Rattle.scope_bind.specs.Declarations.{is_typedef_name};
+ghost use Rattle.scope_bind.specs.Known.{known};
 
 use crate::bound::{Bound, Told};
 use crate::declarations::{Cause, Declaration, Fault};
@@ -69,7 +70,7 @@ fn facts_of<'a>(alloc: Global, toks: &'a [Tok], tree: &Tree) -> Result<Facts<'a>
     ensures { IfOk result (λ f. f ≡ known toks.now (facts_of toks.now tree.now.under)) }
 {
     let begin = outermost(alloc, count_of(toks)?);
-    let mut facts = Facts::new(alloc, toks);
+    let mut facts = Facts::new(alloc, toks)?;
     walk(&mut facts, alloc, tree, begin)?;
     Ok(facts)
 }

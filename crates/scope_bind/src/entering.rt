@@ -1,7 +1,7 @@
 // What is known where a node begins: its scope, what is given to it, and the type that it starts with.
 ghost use Rattle.std.specs.Prelude.{◌≡◌, ◌+◌, ◌||◌, ◌==◌, [], if◌then◌else◌, IfOk, OnOk};
 ghost use Rattle.c99_tree.specs.declared.production.Production.TheVariants.{Members as MembersNode, Enumerators as EnumeratorsNode, InitItem as InitItemNode};
-ghost use Rattle.scope_bind.specs.Declarations.{known};
+ghost use Rattle.scope_bind.specs.Known.{known};
 ghost use Rattle.scope_bind.specs.Entering.{inner, is_scoped, scope_in, body_in, listing_in, alone_in, owner_in, given_in, position_in, with_kept, facts_in, found_in, frame_in};
 ghost use Rattle.scope_bind.specs.Trees.{last_token, has_node};
 ghost use Rattle.scope_bind.specs.Types.{called, array, arithmetic};

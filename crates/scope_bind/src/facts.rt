@@ -1,18 +1,22 @@
 // What is known once a part of a unit is read.
-ghost use Rattle.std.specs.Prelude.{◌≡◌, [], reverse, IfOk, OnOk, Some};
+ghost use Rattle.std.specs.Prelude.{◌≡◌, [], reverse, slice_get, IfOk, OnOk, Some};
 ghost use Rattle.std.specs.Option.{option_map};
 ghost use Rattle.scope_bind.specs.Faults.{number_of, comes_first, first_fault};
-ghost use Rattle.scope_bind.specs.Declarations.{known, no_facts, is_in, with_fault, with_occurrence, with_declaration, with_begun, with_complete, looked_up, visible, in_scope, anywhere, linked, is_mixed};
+ghost use Rattle.scope_bind.specs.Declarations.{no_facts, is_in, with_fault, with_occurrence, with_declaration, with_begun, with_complete, looked_up, visible, in_scope, anywhere, linked, is_mixed};
+ghost use Rattle.scope_bind.specs.Known.{known};
 ghost use Rattle.scope_bind.specs.Latest.{passes};
 ghost use Rattle.scope_bind.specs.declared.latest.Asked.TheVariants.{Tag};
 ghost use Rattle.scope_bind.specs.Labels.{with_jump};
+ghost use Rattle.scope_bind.specs.Members.{members_of};
+ghost use Rattle.scope_bind.specs.Places.{place_of};
 ghost use Rattle.scope_bind.specs.Entering.{with_kept};
 ghost use Rattle.scope_bind.specs.declared.declarations.Space.TheVariants.{Ordinary, Tags};
 
+use crate::chains::Chains;
 use crate::declarations::{Cause, Declaration, Fault, Occurrence, Space};
 use crate::entity::Linkage;
-use crate::keeping::push_kept;
-use crate::latest::{Asked, latest};
+use crate::latest::Asked;
+use crate::marks::Marks;
 use cs_base::{Memory, Tok};
 use std::alloc::Global;
 use std::marker::Model;
@@ -21,22 +25,21 @@ use std::marker::Model;
 /// latest declaration first.
 #[derive(Drop)]
 pub(crate) struct Facts<'a> {
-    toks: &'a [Tok],
-    declared: Vec<Declaration>,
+    chains: Chains<'a>,
     occurrences: Vec<Occurrence>,
-    begun: Vec<u32>,
-    complete: Vec<u32>,
+    begun: Marks,
+    complete: Marks,
     jumps: Vec<u32>,
     fault: Option<Fault>,
 }
 
 impl<'a> Model for Facts<'a> {
     ghost use Rattle.std.specs.Prelude.{reverse};
-    ghost use Rattle.scope_bind.specs.Declarations.{Known, known};
+    ghost use Rattle.scope_bind.specs.Known.{Known, known};
 
     ghost Value = { Known };
 
-    ghost view = { λ f. known f.toks.now (record { declared = reverse f.declared.items; occurrences = reverse f.occurrences.items; begun = f.begun.items; complete = f.complete.items; jumps = f.jumps.items; fault = f.fault }) };
+    ghost view = { λ f. known f.chains.toks (record { declared = f.chains.declared; occurrences = reverse f.occurrences.items; begun = f.begun; complete = f.complete; jumps = f.jumps.items; fault = f.fault }) };
 }
 
 fn number(cause: Cause) -> u8
@@ -75,25 +78,24 @@ fn first(found: Option<Fault>, fault: Fault) -> Fault
 }
 
 impl<'a> Facts<'a> {
-    pub(crate) fn new(alloc: Global, toks: &'a [Tok]) -> Facts<'a>
-        ensures { result ≡ known toks.now no_facts }
+    pub(crate) fn new(alloc: Global, toks: &'a [Tok]) -> Result<Facts<'a>, Memory>
+        ensures { IfOk result (λ f. f ≡ known toks.now no_facts) }
     {
-        Facts {
-            toks,
-            declared: Vec::new(alloc),
+        Ok(Facts {
+            chains: Chains::new(alloc, toks)?,
             occurrences: Vec::new(alloc),
-            begun: Vec::new(alloc),
-            complete: Vec::new(alloc),
+            begun: Marks::new(alloc),
+            complete: Marks::new(alloc),
             jumps: Vec::new(alloc),
             fault: None,
-        }
+        })
     }
 
     /// The tokens of the unit.
     pub(crate) fn toks(&self) -> &'a [Tok]
         ensures { result.now ≡ self.now.toks }
     {
-        self.toks
+        self.chains.toks()
     }
 
     pub(crate) fn note(&mut self, wrong: bool, cause: Cause, index: u32)
@@ -119,8 +121,7 @@ impl<'a> Facts<'a> {
         ensures { OnOk result (self.new ≡ known self.old.toks (with_declaration d self.old.facts)) }
     {
         self.occur(d.name_at, d.entity, true)?;
-        self.declared.push(d)?;
-        Ok(())
+        self.chains.push(d)
     }
 
     pub(crate) fn begin(&mut self, begins: bool, entity: u32) -> Result<(), Memory>
@@ -135,8 +136,7 @@ impl<'a> Facts<'a> {
     pub(crate) fn complete(&mut self, number: u32) -> Result<(), Memory>
         ensures { OnOk result (self.new ≡ known self.old.toks (with_complete number self.old.facts)) }
     {
-        self.complete.push(number)?;
-        Ok(())
+        self.complete.push(number)
     }
 
     pub(crate) fn jump(&mut self, index: u32) -> Result<(), Memory>
@@ -168,7 +168,7 @@ impl<'a> Facts<'a> {
     pub(crate) fn declared(&self) -> &[Declaration]
         ensures { reverse result.now ≡ self.now.facts.declared }
     {
-        self.declared.as_slice()
+        self.chains.declared()
     }
 
     /// What is bound, the first one first.
@@ -190,92 +190,73 @@ impl<'a> Facts<'a> {
     {
         match list {
             None => Ok(()),
-            Some(close) => push_kept(&mut self.declared, close, depth, from, to),
+            Some(close) => self.chains.keep(close, depth, from, to),
         }
     }
 
     pub(crate) fn has_begun(&self, entity: u32) -> bool
         ensures { result ≡ is_in self.now.facts.begun entity }
     {
-        self.begun.iter().any(|n| *n == entity)
+        self.begun.has(entity)
     }
 
     pub(crate) fn is_complete(&self, number: u32) -> bool
         ensures { result ≡ is_in self.now.facts.complete number }
     {
-        self.complete.iter().any(|n| *n == number)
+        self.complete.has(number)
+    }
+
+    /// Member number `n` of the structure or union.
+    pub(crate) fn member(&self, number: u32, n: u32) -> Result<Option<&Declaration>, Memory>
+        ensures { IfOk result (λ r. option_map (λ d. d.now) r ≡ slice_get (members_of number self.now.facts) n) }
+    {
+        self.chains.member(number, n)
+    }
+
+    /// How many members of the structure or union stand before the one with the name.
+    pub(crate) fn number_before(&self, number: u32, name_at: u32) -> Result<u32, Memory>
+        ensures { IfOk result (λ r. r ≡ place_of (members_of number self.now.facts) name_at) }
+    {
+        self.chains.members_before(number, name_at)
     }
 
     pub(crate) fn visible(&self, space: Space, i: u32, k: u32) -> Option<&Declaration>
         ensures { option_map (λ d. d.now) result ≡ visible self.now.toks space i k self.now.facts }
     {
-        latest(
-            self.declared.as_slice(),
-            self.toks,
-            space,
-            i,
-            Asked::Live(k),
-        )
+        self.chains.latest(space, i, Asked::Live(k))
     }
 
     pub(crate) fn in_scope(&self, depth: u32, i: u32, k: u32) -> Option<&Declaration>
         ensures { option_map (λ d. d.now) result ≡ in_scope self.now.toks Ordinary depth i k self.now.facts }
     {
-        latest(
-            self.declared.as_slice(),
-            self.toks,
-            Space::Ordinary,
-            i,
-            Asked::Within(k, depth),
-        )
+        self.chains
+            .latest(Space::Ordinary, i, Asked::Within(k, depth))
     }
 
     pub(crate) fn prior_tag(&self, anew: bool, depth: u32, i: u32) -> Option<&Declaration>
         ensures { option_map (λ d. d.now) result ≡ looked_up self.now.toks Tags i (passes (Tag i anew depth)) self.now.facts }
     {
-        latest(
-            self.declared.as_slice(),
-            self.toks,
-            Space::Tags,
-            i,
-            Asked::Tag(i, anew, depth),
-        )
+        self.chains
+            .latest(Space::Tags, i, Asked::Tag(i, anew, depth))
     }
 
     pub(crate) fn anywhere(&self, space: Space, i: u32) -> Option<&Declaration>
         ensures { option_map (λ d. d.now) result ≡ anywhere self.now.toks space i self.now.facts }
     {
-        latest(
-            self.declared.as_slice(),
-            self.toks,
-            space,
-            i,
-            Asked::Anywhere,
-        )
+        self.chains.latest(space, i, Asked::Anywhere)
     }
 
     pub(crate) fn linked(&self, i: u32) -> Option<&Declaration>
         ensures { option_map (λ d. d.now) result ≡ linked self.now.toks i self.now.facts }
     {
-        latest(
-            self.declared.as_slice(),
-            self.toks,
-            Space::Ordinary,
-            i,
-            Asked::Linked,
-        )
+        self.chains.latest(Space::Ordinary, i, Asked::Linked)
     }
 
     pub(crate) fn is_mixed(&self, linkage: Linkage, i: u32) -> bool
         ensures { result ≡ is_mixed self.now.toks linkage i self.now.facts }
     {
-        latest(
-            self.declared.as_slice(),
-            self.toks,
-            Space::Ordinary,
-            i,
-            Asked::Other(linkage),
-        )
-        .is_some()
+        self.chains
+            .latest(Space::Ordinary, i, Asked::Other(linkage))
+            .is_some()
     }
 }

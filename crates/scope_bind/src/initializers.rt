@@ -2,7 +2,7 @@
 ghost use Rattle.std.specs.Prelude.{◌≡◌, ◌&&◌, not, IfOk, OnOk, if◌then◌else◌};
 ghost use Rattle.std.specs.Option.{option_map};
 ghost use Rattle.c99_tree.specs.declared.production.Production.TheVariants.{InitItem as InitItemNode, InitList as InitListNode};
-ghost use Rattle.scope_bind.specs.Declarations.{known};
+ghost use Rattle.scope_bind.specs.Known.{known};
 ghost use Rattle.scope_bind.specs.Types.{unknown, arithmetic, inner_of, is_array, is_arithmetic};
 ghost use Rattle.scope_bind.specs.Members.{members_of, member_at};
 ghost use Rattle.scope_bind.specs.Places.{position_by};

@@ -1,6 +1,6 @@
 // Names of a parameter list that a body begins with (6.2.1 paragraph 4).
-ghost use Rattle.std.specs.Prelude.{◌≡◌, ◌++◌, ◌&&◌, ◌==◌, not, filter_map, slice_get, IfOk, OnOk};
-ghost use Rattle.std.specs.Option.{option_and_then, option_to_list};
+ghost use Rattle.std.specs.Prelude.{◌≡◌, ◌&&◌, ◌==◌, not, slice_get, IfOk};
+ghost use Rattle.std.specs.Option.{option_and_then};
 ghost use Rattle.scope_bind.specs.Entering.{is_member, kept_here};
 
 use crate::declarations::{Declaration, Space};
@@ -53,6 +53,7 @@ fn kept_here(
     }
 }
 
+/// Declaration `k`, from one token to another, where it is one of the list.
 pub(crate) fn kept_at(
     declared: &[Declaration],
     k: usize,
@@ -67,34 +68,4 @@ pub(crate) fn kept_at(
         Some(d) => kept_here(d, list, depth, from, to),
         None => Ok(None),
     }
-}
-
-fn push_some(declared: &mut Vec<Declaration>, kept: Option<Declaration>) -> Result<(), Memory>
-    ensures { OnOk result (declared.new.items ≡ declared.old.items ++ option_to_list kept) }
-{
-    match kept {
-        Some(d) => {
-            declared.push(d)?;
-            Ok(())
-        }
-        None => Ok(()),
-    }
-}
-
-/// The declarations, and behind them those of the list, from one token to another.
-pub(crate) fn push_kept(
-    declared: &mut Vec<Declaration>,
-    list: u32,
-    depth: u32,
-    from: u32,
-    to: u32,
-) -> Result<(), Memory>
-    ensures { OnOk result (declared.new.items ≡ declared.old.items ++ filter_map (kept_here list depth from to) declared.old.items) }
-{
-    let count = declared.len();
-    'declared: for k in 0..count {
-        let kept = kept_at(declared.as_slice(), k, list, depth, from, to)?;
-        push_some(declared, kept)?;
-    }
-    Ok(())
 }

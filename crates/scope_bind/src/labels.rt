@@ -2,7 +2,8 @@
 ghost use Rattle.std.specs.Prelude.{◌≡◌, OnOk};
 ghost use Rattle.std.specs.Option.{option_map};
 ghost use Rattle.scope_bind.specs.declared.declarations.Space.TheVariants.{Labels};
-ghost use Rattle.scope_bind.specs.Declarations.{known, anywhere};
+ghost use Rattle.scope_bind.specs.Declarations.{anywhere};
+ghost use Rattle.scope_bind.specs.Known.{known};
 ghost use Rattle.scope_bind.specs.Labels.{jump_to, with_jumps, with_labels};
 
 use crate::declarations::{Cause, Space};

@@ -1,5 +1,5 @@
-// The latest declaration that a name may denote.
-ghost use Rattle.std.specs.Prelude.{◌≡◌, ◌<◌, ◌&&◌, find, reverse, length, slice_get};
+// What is asked of a declaration that a name may denote.
+ghost use Rattle.std.specs.Prelude.{◌≡◌, ◌&&◌, slice_get};
 ghost use Rattle.std.specs.Option.{option_map};
 ghost use Rattle.std.specs.Str.{bytes_eq};
 ghost use Rattle.scope_bind.specs.Declarations.{is_live, is_space, has_linkage, is_linkage, spelling_at, alike, is_named};
@@ -43,7 +43,7 @@ fn alike(toks: &[Tok], i: u32, j: u32) -> bool
     spelling(toks, i) == spelling(toks, j)
 }
 
-pub(crate) fn is_space(space: Space, other: Space) -> bool
+fn is_space(space: Space, other: Space) -> bool
     ensures { result ≡ is_space space other }
 {
     match (space, other) {
@@ -97,7 +97,7 @@ fn passes(asked: Asked, d: &Declaration) -> bool
     }
 }
 
-// Declaration `n`, where it passes.
+/// Declaration `n`, where it passes.
 pub(crate) fn tested<'a>(
     declared: &'a [Declaration],
     toks: &[Tok],
@@ -118,23 +118,4 @@ pub(crate) fn tested<'a>(
         }
         None => None,
     }
-}
-
-/// The latest declaration in the name space that is named as token `i`, and of which this can be said.
-pub(crate) fn latest<'a>(
-    declared: &'a [Declaration],
-    toks: &[Tok],
-    space: Space,
-    i: u32,
-    asked: Asked,
-) -> Option<&'a Declaration>
-    ensures { option_map (λ d. d.now) result ≡ find (λ d. is_named toks.now space i d && passes asked d) (reverse declared.now) }
-{
-    let count = declared.len();
-    'search: for k in 0..count {
-        if let Some(d) = tested(declared, toks, space, i, asked, count - 1 - k) {
-            return Some(d);
-        }
-    }
-    None
 }

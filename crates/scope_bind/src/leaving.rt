@@ -1,7 +1,7 @@
 // What is known once a node is left: what it declares, and the frame around it.
 ghost use Rattle.std.specs.Prelude.{◌≡◌, [], if◌then◌else◌, IfOk, OnOk};
 ghost use Rattle.c99_tree.specs.declared.production.Production.TheVariants.{Specs as SpecsNode};
-ghost use Rattle.scope_bind.specs.Declarations.{known};
+ghost use Rattle.scope_bind.specs.Known.{known};
 ghost use Rattle.scope_bind.specs.Trees.{is_node, words_of};
 ghost use Rattle.scope_bind.specs.Walk.{declared_in, parameter_in, facts_after, kept_after, frame_after};
 

@@ -6,9 +6,9 @@
 //! names. It is `binding_of` of `specs/Bound.antt`, a walk over the tree in which each declaration has
 //! its range of tokens, or the first of seven faults. Types are followed as far as members need them.
 //! A binding is told by indices and holds no spelling, so a renamed text binds to the same value: that is
-//! the law below. This crate knows neither how a tree is read nor macros, files or classes. Declarations,
-//! names and types want memory. Read `specs/Declarations.antt`, `Ordinary.antt` and the files beside it,
-//! `Walk.antt`, `Bound.antt`, then `binding.rt`, `walking.rt` and `facts.rt`.
+//! the law below. This crate knows neither how a tree is read nor macros, files or classes. Spellings,
+//! declarations, names and types want memory. Read `specs/Declarations.antt`, `Ordinary.antt` and the files
+//! beside it, `Walk.antt`, `Bound.antt`, then `binding.rt`, `walking.rt`, `facts.rt` and `chains.rt`.
 #![tactic(auto)]
 
 mod bare_names;

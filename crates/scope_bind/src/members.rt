@@ -1,7 +1,8 @@
 // Members and labels (ISO/IEC 9899:1999, 6.2.3, 6.5.2.3, 6.7.2.1 and 6.8.1).
 ghost use Rattle.std.specs.Prelude.{◌≡◌, is_some, IfOk, OnOk};
 ghost use Rattle.std.specs.Option.{option_map, option_map_or};
-ghost use Rattle.scope_bind.specs.Declarations.{known, with_fault, with_declaration, anywhere};
+ghost use Rattle.scope_bind.specs.Declarations.{with_fault, with_declaration, anywhere};
+ghost use Rattle.scope_bind.specs.Known.{known};
 ghost use Rattle.scope_bind.specs.Members.{member_declaration, is_known, member_at, member_used, member_type};
 ghost use Rattle.scope_bind.specs.Labels.{label_declaration, with_label};
 ghost use Rattle.scope_bind.specs.declared.declarations.Cause.TheVariants.{Redeclared};

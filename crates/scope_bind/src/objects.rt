@@ -3,7 +3,8 @@ ghost use Rattle.std.specs.Prelude.{◌≡◌, ◌||◌, [], true, false, if◌t
 ghost use Rattle.std.specs.Option.{option_map_or};
 ghost use Rattle.scope_bind.specs.declared.entity.Linkage.TheVariants.{Absent as NoLinkage};
 ghost use Rattle.scope_bind.specs.declared.declarations.Space.TheVariants.{Ordinary};
-ghost use Rattle.scope_bind.specs.Declarations.{known, visible};
+ghost use Rattle.scope_bind.specs.Declarations.{visible};
+ghost use Rattle.scope_bind.specs.Known.{known};
 ghost use Rattle.scope_bind.specs.Linkage.{linkage_of};
 ghost use Rattle.scope_bind.specs.Members.{with_member};
 ghost use Rattle.scope_bind.specs.Ordinary.{is_func, named_facts, named_type, new_kind, new_type, new_object, with_object, plain_name, new_parameter, with_parameter, with_listed, with_enumerator};

@@ -1,7 +1,8 @@
 // Ordinary identifiers (ISO/IEC 9899:1999, 6.2.1, 6.2.2, 6.7 paragraph 3).
 ghost use Rattle.std.specs.Prelude.{◌≡◌, ◌&&◌, ◌||◌, not, false, IfOk, OnOk};
 ghost use Rattle.std.specs.Option.{option_map, option_map_or};
-ghost use Rattle.scope_bind.specs.Declarations.{known, has_linkage, is_typedef_name, in_scope, linked, is_mixed, visible};
+ghost use Rattle.scope_bind.specs.Declarations.{has_linkage, is_typedef_name, in_scope, linked, is_mixed, visible};
+ghost use Rattle.scope_bind.specs.Known.{known};
 ghost use Rattle.scope_bind.specs.Ordinary.{is_again, linked_entity, entity_of, is_listed, declaration_of, declared, used_as, used, used_type};
 ghost use Rattle.scope_bind.specs.declared.declarations.Space.TheVariants.{Ordinary};
 

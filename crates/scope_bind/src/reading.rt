@@ -1,6 +1,6 @@
 // What a token does where it stands, by its role.
 ghost use Rattle.std.specs.Prelude.{◌≡◌, IfOk, OnOk};
-ghost use Rattle.scope_bind.specs.Declarations.{known};
+ghost use Rattle.scope_bind.specs.Known.{known};
 ghost use Rattle.scope_bind.specs.declared.roles.Role.TheVariants.{PointedMember, EnumerationTag};
 ghost use Rattle.scope_bind.specs.Walk.{facts_at, found_at, position_at};
 

@@ -1,7 +1,8 @@
 // Tags (ISO/IEC 9899:1999, 6.2.3 and 6.7.2.3).
 ghost use Rattle.std.specs.Prelude.{◌≡◌, ◌||◌, not, false, if◌then◌else◌, IfOk, OnOk};
 ghost use Rattle.std.specs.Option.{option_map, option_map_or};
-ghost use Rattle.scope_bind.specs.Declarations.{known, with_begun, with_declaration, with_use, visible};
+ghost use Rattle.scope_bind.specs.Declarations.{with_begun, with_declaration, with_use, visible};
+ghost use Rattle.scope_bind.specs.Known.{known};
 ghost use Rattle.scope_bind.specs.Tags.{number_in, renumbered, is_sort, is_same_tag, tag_entity, is_declaring, tag_declaration, prior_tag, with_tag, tag_type, is_complete, enumeration_used, with_enumeration, new_record};
 ghost use Rattle.scope_bind.specs.declared.declarations.Space.TheVariants.{Tags};
 

@@ -6,7 +6,8 @@ use Rattle.scope_bind.specs.declared.frames.Frame.{Frame}
 use Rattle.scope_bind.specs.declared.ordinary.Declared.{Declared}
 use Rattle.scope_bind.specs.Types.{CType}
 use Rattle.scope_bind.specs.Trees.{last_token, declarator_type}
-use Rattle.scope_bind.specs.Declarations.{Facts, known}
+use Rattle.scope_bind.specs.Declarations.{Facts}
+use Rattle.scope_bind.specs.Known.{known}
 use Rattle.scope_bind.specs.Ordinary.{declared, new_object, with_object}
 use Rattle.scope_bind.proofs.facts.Facts.declare_object.Goals as goal
 

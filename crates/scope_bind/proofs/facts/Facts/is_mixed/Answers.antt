@@ -9,5 +9,5 @@ returns c =
     rw (← c.self.view_is)
     (c.is_some.ensures
     ∙ found_is_any
-    (λ d. is_named c.self.inside.toks.now Ordinary c.args.i d && (has_linkage d.linkage && not (is_linkage d.linkage c.args.linkage)))
-    c.latest.result c.as_slice.result.now c.self.inside.declared.items c.latest.ensures c.as_slice.ensures.value)
+    (λ d. is_named c.self.inside.chains.toks Ordinary c.args.i d && (has_linkage d.linkage && not (is_linkage d.linkage c.args.linkage)))
+    c.latest.result c.self.inside.chains.declared c.latest.ensures)

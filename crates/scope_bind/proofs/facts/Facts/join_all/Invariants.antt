@@ -1,5 +1,5 @@
 use Rattle.std.proofs.Common.{◌≡◌, drop}
-use Rattle.scope_bind.specs.Declarations.{known}
+use Rattle.scope_bind.specs.Known.{known}
 use Rattle.scope_bind.specs.Labels.{with_jumps}
 use Rattle.scope_bind.proofs.facts.Facts.join_all.Given as goal
 
