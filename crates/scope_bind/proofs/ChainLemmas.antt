@@ -1,9 +1,9 @@
 -- The way along a chain of declarations.
-use Rattle.std.proofs.Common.{ℕ, zero, suc, ◌+◌, ◌-◌, ◌<◌, ◌≤◌, ◌≡◌, Bool, true, false, cond, List, [], ◌∷◌, ◌++◌, reverse, take, map, length, get_or, Option, None, Some, refl, sym, ap, subst, ◌∙◌, inl, inr, add-one, arith, append_assoc}
+use Rattle.std.proofs.Common.{ℕ, zero, suc, ◌+◌, ◌-◌, ◌<◌, ◌≤◌, ◌≡◌, Bool, true, false, cond, List, [], ◌∷◌, ◌++◌, reverse, take, map, length, get_or, Option, None, Some, refl, sym, ap, subst, ◌∙◌, inl, inr, if◌then◌else◌, add-one, arith, append_assoc}
 use Rattle.std.specs.Prelude.{find, filter, slice_get}
 use Rattle.std.specs.Option.{option_or}
 use Rattle.std.proofs.lemmas.Bool.{cases_Bool, cond-true, cond-false}
-use Rattle.std.proofs.lemmas.List.{reverse-append, length-reverse, length-take-le, map-append, append-nil}
+use Rattle.std.proofs.lemmas.List.{reverse-append, length-reverse, length-take-le, take-take, map-append, append-nil}
 use Rattle.std.proofs.Math.Seq.{take-length}
 use Rattle.scope_bind.specs.declared.declarations.Declaration.{Declaration}
 use Rattle.scope_bind.specs.Latest.{tested}
@@ -62,15 +62,29 @@ module _ {T : Type 0} (test : Declaration → Bool) (asked : List Declaration �
       subst (λ ds. Left ds (latest_place test ds)) (sym (back_more xs k x.0 x.1))
       (elim (cases_Bool (test x.0)) [ inl holds ↦ left_here k x.0 l x.1 holds | inr fails ↦ left_past k x.0 fails before ])
 
+  -- and so is the latest one of all
+  pub left_whole : Left (reverse xs) (latest_place test (reverse xs))
+  left_whole = subst (λ ys. Left (reverse ys) (latest_place test (reverse ys))) (take-length xs) (left_of (length xs) (omega arith))
+
   -- the way begins
-  left_all : (before : List ℕ) (newest : ℕ) → AreLinked test xs before newest → IsLeft test asked xs (reverse xs) newest
-  left_all before newest linked =
-      subst (λ p. Left (reverse xs) p) (sym linked.begins)
-      (subst (λ ys. Left (reverse ys) (latest_place test (reverse ys))) (take-length xs) (left_of (length xs) (omega arith)))
+  pub left_all : (before : List ℕ) (newest : ℕ) → AreLinked test xs before newest → Left (reverse xs) newest
+  left_all before newest linked = subst (λ p. Left (reverse xs) p) (sym linked.begins) left_whole
+
+  -- what stands at the place makes no difference
+  pub left_on : (k p : ℕ) (x : Declaration) (ds : List Declaration) → Left ds (suc k) → slice_get xs k ≡ Some x
+      → asked (x ∷ reverse (take k xs)) ≡ asked (reverse (take k xs)) → IsLeft test asked (take k xs) (reverse (take k xs)) p → Left ds p
+  left_on k p x ds left e none down =
+      let n : length (take k xs) ≡ k = length-take-le k xs (omega (arith, left.within)) in
+      let t : take p (take k xs) ≡ take p xs = take-take p k xs (omega (arith, down.within, n)) in
+      record {
+        within = omega (arith, down.within, n, left.within);
+        again = ap (λ ys. latest_place test (reverse ys)) (sym t) ∙ down.again;
+        rest = ap (λ ys. asked (reverse ys)) (sym t) ∙ (down.rest ∙ (sym none ∙ (ap asked (sym (back_more xs k x e)) ∙ left.rest)));
+      }
 
 module _ (test : Declaration → Bool) (xs : List Declaration) where
   -- the place is of one that passes
-  passes_here : (k : ℕ) (x : Declaration) → suc k ≤ length xs → slice_get xs k ≡ Some x
+  pub passes_here : (k : ℕ) (x : Declaration) → suc k ≤ length xs → slice_get xs k ≡ Some x
       → latest_place test (reverse (take (suc k) xs)) ≡ suc k → test x ≡ true
   passes_here k x l e again =
       elim (cases_Bool (test x)) [
@@ -83,7 +97,7 @@ module _ (test : Declaration → Bool) (xs : List Declaration) where
       ]
 
   -- the place before it
-  leads_to : (before : List ℕ) (newest k : ℕ) → AreLinked test xs before newest → suc k ≤ length xs
+  pub leads_to : (before : List ℕ) (newest k : ℕ) → AreLinked test xs before newest → suc k ≤ length xs
       → latest_place test (reverse (take (suc k) xs)) ≡ suc k → get_or before k 0 ≡ latest_place test (reverse (take k xs))
   leads_to before newest k linked l again =
       let x = slice_get_some xs k (omega (arith, l)) in
@@ -100,6 +114,10 @@ module _ (test : Declaration → Bool) (xs : List Declaration) where
 
 -- ---- The search for the latest one that passes
 
+not_found : (b : Bool) (x : Declaration) (rest : Option Declaration) → (if b then Some x else None) ≡ None → cond b (Some x) rest ≡ rest
+not_found true x rest e = cc
+not_found false x rest e = refl
+
 module _ (test sought : Declaration → Bool) (apart : (d : Declaration) → test d ≡ false → sought d ≡ false) (xs : List Declaration) where
   skip_search : (d : Declaration) (ds : List Declaration) → test d ≡ false → find sought (d ∷ ds) ≡ find sought ds
   skip_search d ds fails = cond-false (sought d) (Some d) (find sought ds) (apart d fails)
@@ -111,17 +129,15 @@ module _ (test sought : Declaration → Bool) (apart : (d : Declaration) → tes
   search_all before newest linked = left_all test (find sought) skip_search xs before newest linked
 
   -- what stands at the place is not sought
-  pub search_on : (before : List ℕ) (newest p : ℕ) (r : Option Declaration) → AreLinked test xs before newest → Sought p → 0 < p
-      → r ≡ tested sought (slice_get xs (p - 1)) → r ≡ None → Sought (get_or before (p - 1) 0)
-  search_on before newest zero r linked left l f g = absurd (omega (arith, l))
-  search_on before newest (suc k) r linked left l f g =
+  pub search_on : (p next : ℕ) (r : Option Declaration) → Sought p → 0 < p → r ≡ tested sought (slice_get xs (p - 1)) → r ≡ None
+      → IsLeft test (find sought) (take (p - 1) xs) (reverse (take (p - 1) xs)) next → Sought next
+  search_on zero next r left l f g down = absurd (omega (arith, l))
+  search_on (suc k) next r left l f g down =
       let m : suc k - 1 ≡ k = omega arith in
-      let at = f ∙ ap (λ j. tested sought (slice_get xs j)) m in
-      let step = ap (λ j. find sought (reverse (take j xs))) (sym (add-one k)) ∙ find_step sought xs k (omega (arith, left.within)) in
-      let none = ap (λ o. option_or o (find sought (reverse (take k xs)))) (sym at ∙ g) in
-      let down = left_of test (find sought) skip_search xs k (omega (arith, left.within)) in
-      subst Sought (sym (ap (λ j. get_or before j 0) m ∙ leads_to test xs before newest k linked left.within left.again))
-      (record { within = down.within; again = down.again; rest = down.rest ∙ (sym (step ∙ none) ∙ left.rest) })
+      let x = slice_get_some xs k (omega (arith, left.within)) in
+      let at = ap (tested sought) (sym x.1) ∙ (sym (f ∙ ap (λ j. tested sought (slice_get xs j)) m) ∙ g) in
+      left_on test (find sought) skip_search xs k next x.0 (reverse xs) left x.1 (not_found (sought x.0) x.0 (find sought (reverse (take k xs))) at)
+      (subst (λ j. IsLeft test (find sought) (take j xs) (reverse (take j xs)) next) m down)
 
   -- it is
   pub search_found : (p : ℕ) (r : Option Declaration) (d : Declaration) → Sought p → 0 < p

@@ -14,14 +14,14 @@ use Rattle.scope_bind.specs.declared.declarations.Space.{Space}
 use Rattle.scope_bind.specs.declared.declarations.Space.TheVariants.{Ordinary as ordinary, Tags as tags, Members as members, Labels as labels}
 use Rattle.scope_bind.specs.Places.{is_member_of}
 use Rattle.scope_bind.specs.Spellings.{number_at, AreNumbers}
-use Rattle.scope_bind.specs.Links.{Links, no_links, with_link, TellsSame, HasRoom, has_key, latest_place, AreChained, AreLinked}
-use Rattle.scope_bind.specs.Chains.{sort_of, name_key, name_key_of, member_key, member_key_of, AreEnded, with_end, IsTabled}
+use Rattle.scope_bind.specs.Links.{Links, with_link, TellsSame, HasRoom, has_key, latest_place, AreChained, AreLinked}
+use Rattle.scope_bind.specs.Chains.{sort_of, name_key, name_key_of, member_key, member_key_of, AreEnded, with_end}
 
 None≢Some : (x : Declaration) → None ≡ Some x → ⊥
 None≢Some x e = cc
 
 -- where a list with one more has an element
-get_front : (xs : List Declaration) (d : Declaration) (k : ℕ) (e : Declaration) → slice_get (xs ++ d ∷ []) k ≡ Some e
+pub get_front : (xs : List Declaration) (d : Declaration) (k : ℕ) (e : Declaration) → slice_get (xs ++ d ∷ []) k ≡ Some e
     → ((k < length xs) × (slice_get xs k ≡ Some e)) ⊎ ((k ≡ length xs) × (e ≡ d))
 get_front [] d zero e h = let s : e ≡ d = cc in inr (refl, s)
 get_front [] d (suc k) e h = absurd (None≢Some e h)
@@ -32,7 +32,7 @@ get_front (x ∷ xs) d (suc k) e h =
       | inr last ↦ inr (ap suc last.0, last.1)
     ]
 
-take_front : (xs ys : List Declaration) (k : ℕ) → k < length xs → take k (xs ++ ys) ≡ take k xs
+pub take_front : (xs ys : List Declaration) (k : ℕ) → k < length xs → take k (xs ++ ys) ≡ take k xs
 take_front [] ys k l = absurd (omega (arith, l))
 take_front (x ∷ xs) ys zero l = refl
 take_front (x ∷ xs) ys (suc k) l = ap (λ zs. x ∷ zs) (take_front xs ys k (omega (arith, l)))
@@ -89,14 +89,14 @@ module _ (key_of : Declaration → ℕ) (xs : List Declaration) (links : Links) 
       ∙ ap (λ f. latest_place (has_key key_of (key_of f)) (reverse (take k (xs ++ d ∷ [])))) (sym is)))))
 
   -- the chains with one declaration more
-  chained_more : AreChained key_of (xs ++ d ∷ []) (with_link (length xs) own links)
+  pub chained_more : AreChained key_of (xs ++ d ∷ []) (with_link (length xs) own links)
   chained_more = record {
     begins = λ m. elim (cases_eq m own) [ inl same ↦ begins_here m same | inr apart ↦ begins_there m apart ];
     leads = λ k e h. elim (get_front xs d k e h) [ inl at ↦ leads_front k e at.0 at.1 | inr last ↦ leads_last k e last.0 last.1 ];
   }
 
 -- room changes nothing
-chained_same : (key_of : Declaration → ℕ) (xs : List Declaration) (old new : Links) → AreChained key_of xs old → TellsSame old new → AreChained key_of xs new
+pub chained_same : (key_of : Declaration → ℕ) (xs : List Declaration) (old new : Links) → AreChained key_of xs old → TellsSame old new → AreChained key_of xs new
 chained_same key_of xs old new a same = record {
   begins = λ n. same.newest n ∙ a.begins n;
   leads = λ k d h. same.before k ∙ a.leads k d h;
@@ -264,49 +264,3 @@ before_place ends list p e =
       | inl blank ↦ inl (sym e ∙ blank)
       | inr told ↦ inr (omega (arith, e, told))
     ]
-
--- ---- Nothing is declared
-
-pub none_tabled : (toks : List Token) (numbers ends : List ℕ) (names structures : Links) → AreNumbers toks numbers → names ≡ no_links
-    → structures ≡ no_links → ((k : ℕ) → get_or ends k 0 ≡ 0) → IsTabled toks numbers [] names structures ends
-none_tabled toks numbers ends names structures are e f clear =
-    rw (e, f)
-    (record {
-      numbered = are;
-      named = record { begins = λ n. refl; leads = λ k d h. absurd (None≢Some d h) };
-      joined = record { begins = λ n. refl; leads = λ k d h. absurd (None≢Some d h) };
-      ended = record {
-        within = λ j. omega (arith, clear j);
-        told = λ k d h. absurd (None≢Some d h);
-        first = λ k d h. absurd (None≢Some d h);
-      };
-    })
-
--- ---- Room
-
-pub tabled_same : (toks : List Token) (numbers : List ℕ) (xs : List Declaration) (names structures names' structures' : Links) (ends : List ℕ)
-    → IsTabled toks numbers xs names structures ends → TellsSame names names' → TellsSame structures structures'
-    → IsTabled toks numbers xs names' structures' ends
-tabled_same toks numbers xs names structures names' structures' ends a e f = record {
-  numbered = a.numbered;
-  named = chained_same (name_key_of numbers) xs names names' a.named e;
-  joined = chained_same member_key_of xs structures structures' a.joined f;
-  ended = a.ended;
-}
-
--- ---- One declaration more
-
-pub tabled_more : (toks : List Token) (numbers : List ℕ) (xs : List Declaration) (names structures : Links) (ends : List ℕ) (d : Declaration)
-    (count name structure : ℕ) (xs' : List Declaration) (names' structures' : Links) (ends' : List ℕ)
-    → IsTabled toks numbers xs names structures ends → count ≡ length xs → name ≡ name_key numbers d.space d.name_at → structure ≡ member_key d.space
-    → HasRoom names count name → HasRoom structures count structure → names' ≡ with_link count name names → structures' ≡ with_link count structure structures
-    → xs' ≡ xs ++ d ∷ [] → ends' ≡ with_end d.to (count + 1) ends
-    → IsTabled toks numbers xs' names' structures' ends'
-tabled_more toks numbers xs names structures ends d count name structure xs' names' structures' ends' a c n s r q e f g h =
-    rw (e, f, g, h, n, s, c)
-    (record {
-      numbered = a.numbered;
-      named = chained_more (name_key_of numbers) xs names d a.named (subst (λ m. HasRoom names m (name_key_of numbers d)) c (subst (HasRoom names count) n r));
-      joined = chained_more member_key_of xs structures d a.joined (subst (λ m. HasRoom structures m (member_key_of d)) c (subst (HasRoom structures count) s q));
-      ended = ended_more xs ends d a.ended;
-    })

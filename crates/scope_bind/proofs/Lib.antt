@@ -14,6 +14,8 @@ mod KeptLemmas
 mod SpellingLemmas
 mod ChainLemmas
 mod ChainedMore
+mod ChainedOver
+mod ChainTables
 mod KeptChains
 mod MemberLemmas
 mod PlaceLemmas

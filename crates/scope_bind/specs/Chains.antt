@@ -1,12 +1,14 @@
 -- How the declarations of a unit are found: by the spelling of the name, by the structure or union, and by the end
 -- of the range.
-use Rattle.std.specs.Prelude.{ℕ, ◌+◌, ◌*◌, ◌<◌, ◌≤◌, ◌≡◌, ◌&&◌, List, length, get_or, slice_get, slice_set, Some, nat_lt, ◌==◌, if◌then◌else◌}
+use Rattle.std.specs.Prelude.{ℕ, ◌+◌, ◌*◌, ◌<◌, ◌≤◌, ◌≡◌, Bool, false, ◌&&◌, not, List, length, take, reverse, filter, get_or, slice_get, slice_set, Option, None, Some, nat_lt, ◌==◌, if◌then◌else◌}
 use Rattle.cs_base.specs.Token.{Token}
 use Rattle.scope_bind.specs.declared.declarations.Space.{Space}
 use Rattle.scope_bind.specs.declared.declarations.Space.TheVariants.{Ordinary as ordinary, Tags as tags, Members as members, Labels as labels}
 use Rattle.scope_bind.specs.declared.declarations.Declaration.{Declaration}
+use Rattle.scope_bind.specs.declared.latest.Asked.{Asked}
+use Rattle.scope_bind.specs.declared.latest.Asked.TheVariants.{Live, Within, Tag, Anywhere, Linked, Other}
 use Rattle.scope_bind.specs.Spellings.{number_at, AreNumbers}
-use Rattle.scope_bind.specs.Links.{Links, AreChained}
+use Rattle.scope_bind.specs.Links.{Links, has_key, AreChained, IsLeft}
 
 -- the tokens of a unit, and its declarations, the latest first
 pub record Chains : Type 0 where
@@ -45,9 +47,49 @@ pub record AreEnded (declared : List Declaration) (ends : List ℕ) : Type 0 whe
 abbrev pub with_end : ℕ → ℕ → List ℕ → List ℕ
 with_end to place ends = if nat_lt to (length ends) && (get_or ends to 0 == 0) then slice_set ends to place else ends
 
+-- the declaration has the key, and has not ended at the token
+abbrev pub lasts : (Declaration → ℕ) → ℕ → ℕ → Declaration → Bool
+lasts key_of n at d = has_key key_of n d && nat_lt at d.to
+
+-- For each declaration a place before it from which the way through those that have its key can go on: those between
+-- them have all ended where its range begins.
+pub record AreOver (key_of : Declaration → ℕ) (declared : List Declaration) (over : List ℕ) : Type 0 where
+  pub each : length over ≡ length declared
+  pub leads : (k : ℕ) (d : Declaration) → slice_get declared k ≡ Some d
+      → IsLeft (has_key key_of (key_of d)) (filter (lasts key_of (key_of d) d.from)) (take k declared) (reverse (take k declared)) (get_or over k 0)
+
+-- the range has begun at the token
+abbrev pub has_begun : ℕ → Option Declaration → Bool
+has_begun at None = false
+has_begun at (Some d) = not (nat_lt at d.from)
+
+-- it has ended there
+abbrev pub has_ended : ℕ → Option Declaration → Bool
+has_ended at None = false
+has_ended at (Some d) = not (nat_lt at d.to)
+
+-- where the way goes on from declaration k, if only those matter that have not ended at the token
+abbrev pub next_at : List Declaration → List ℕ → List ℕ → ℕ → ℕ → ℕ
+next_at declared before over at k = if has_begun at (slice_get declared k) then get_or over k 0 else get_or before k 0
+
+-- the same, where there may be no such token, so that all matter
+abbrev pub next_place : List Declaration → List ℕ → List ℕ → Option ℕ → ℕ → ℕ
+next_place declared before over None k = get_or before k 0
+next_place declared before over (Some at) k = next_at declared before over at k
+
+-- the token at which no declaration has ended of which this can be said, if there is one
+abbrev pub asked_at : Asked → Option ℕ
+asked_at (Live at) = Some at
+asked_at (Within at depth) = Some at
+asked_at (Tag at anew depth) = Some at
+asked_at Anywhere = None
+asked_at Linked = None
+asked_at (Other linkage) = None
+
 -- the tables are those of the declarations
-pub record IsTabled (toks : List Token) (numbers : List ℕ) (declared : List Declaration) (names structures : Links) (ends : List ℕ) : Type 0 where
+pub record IsTabled (toks : List Token) (numbers : List ℕ) (declared : List Declaration) (names structures : Links) (over ends : List ℕ) : Type 0 where
   pub numbered : AreNumbers toks numbers
   pub named : AreChained (name_key_of numbers) declared names
+  pub passed : AreOver (name_key_of numbers) declared over
   pub joined : AreChained member_key_of declared structures
   pub ended : AreEnded declared ends

@@ -6,8 +6,8 @@ ghost use Rattle.scope_bind.specs.Entering.{kept_here};
 ghost use Rattle.scope_bind.specs.Latest.{passes};
 ghost use Rattle.scope_bind.specs.Places.{is_member_of, place_of};
 ghost use Rattle.scope_bind.specs.Spellings.{number_at, AreNumbers};
-ghost use Rattle.scope_bind.specs.Links.{AreChained};
-ghost use Rattle.scope_bind.specs.Chains.{sort_of, name_key, name_key_of, with_end};
+ghost use Rattle.scope_bind.specs.Links.{has_key, AreChained, IsLeft};
+ghost use Rattle.scope_bind.specs.Chains.{sort_of, name_key, name_key_of, with_end, lasts, has_begun, has_ended, next_at, next_place, asked_at, AreOver};
 
 use crate::declarations::{Declaration, Space};
 use crate::keeping::kept_at;
@@ -30,6 +30,8 @@ pub(crate) struct Chains<'a> {
     declared: Vec<Declaration>,
     names: Links,
     structures: Links,
+    // for each declaration a place to go on from, where only those matter that have not ended as its range begins
+    over: Vec<usize>,
     // for each token one more than the place of the first declaration whose range ends there, or 0
     ends: Vec<usize>,
 }
@@ -42,7 +44,7 @@ impl<'a> Model for Chains<'a> {
 
     ghost view = { λ c. record { toks = c.toks.now; declared = reverse c.declared.items } };
 
-    ghost invariant = { λ c. IsTabled c.toks.now c.numbers.items c.declared.items c.names c.structures c.ends.items };
+    ghost invariant = { λ c. IsTabled c.toks.now c.numbers.items c.declared.items c.names c.structures c.over.items c.ends.items };
 }
 
 // A table that tells no place.
@@ -78,10 +80,79 @@ fn name_key(numbers: &[u32], space: Space, k: u32) -> usize
     number_at(numbers, k) as usize * 4 + sort_of(space)
 }
 
+// The range of declaration `k` has begun at the token.
+fn has_begun(declared: &[Declaration], k: usize, at: u32) -> bool
+    ensures { result ≡ has_begun at (slice_get declared.now k) }
+{
+    match declared.get(k) {
+        Some(d) => d.from <= at,
+        None => false,
+    }
+}
+
+fn has_ended(declared: &[Declaration], k: usize, at: u32) -> bool
+    ensures { result ≡ has_ended at (slice_get declared.now k) }
+{
+    match declared.get(k) {
+        Some(d) => d.to <= at,
+        None => false,
+    }
+}
+
+// Where the way goes on from declaration `k`, if only those matter that have not ended at the token.
+fn next_at(declared: &[Declaration], names: &Links, over: &[usize], at: u32, k: usize) -> usize
+    ensures { result ≡ next_at declared.now names.now.before over.now at k }
+{
+    if has_begun(declared, k, at) {
+        place_at(over, k)
+    } else {
+        names.before(k)
+    }
+}
+
+// Where it goes on from there if this is asked.
+fn next_place(
+    declared: &[Declaration],
+    names: &Links,
+    over: &[usize],
+    asked: Asked,
+    k: usize,
+) -> usize
+    ensures { result ≡ next_place declared.now names.now.before over.now (asked_at asked) k }
+{
+    match asked {
+        Asked::Live(at) | Asked::Within(at, _) | Asked::Tag(at, _, _) => next_at(
+            declared, names, over, at, k,
+        ),
+        Asked::Anywhere | Asked::Linked | Asked::Other(_) => names.before(k),
+    }
+}
+
+// The place of the latest one with the name of `d` that has not ended as the range of `d` begins. Those that it
+// passes, the way to a later one goes over at once, so that each is passed but once where ranges begin in order.
+fn place_over(
+    declared: &[Declaration],
+    names: &Links,
+    over: &[usize],
+    numbers: &[u32],
+    d: &Declaration,
+) -> usize
+    requires chained { AreChained (name_key_of numbers.now) declared.now names.now }
+    requires over { AreOver (name_key_of numbers.now) declared.now over.now }
+    ensures { IsLeft (has_key (name_key_of numbers.now) (name_key_of numbers.now d.now)) (filter (lasts (name_key_of numbers.now) (name_key_of numbers.now d.now) d.now.from)) declared.now (reverse declared.now) result }
+{
+    let mut place = names.newest(name_key(numbers, d.space, d.name_at));
+    'ended: while place > 0 && has_ended(declared, place - 1, d.from) {
+        place = next_at(declared, names, over, d.from, place - 1);
+    }
+    place
+}
+
 // The latest one that is named as token `i` and of which this can be said.
 fn chained<'a>(
     declared: &'a [Declaration],
     names: &Links,
+    over: &[usize],
     numbers: &[u32],
     toks: &[Tok],
     space: Space,
@@ -89,6 +160,7 @@ fn chained<'a>(
     asked: Asked,
 ) -> Option<&'a Declaration>
     requires chained { AreChained (name_key_of numbers.now) declared.now names.now }
+    requires over { AreOver (name_key_of numbers.now) declared.now over.now }
     requires numbered { AreNumbers toks.now numbers.now }
     ensures { option_map (λ d. d.now) result ≡ find (λ d. is_named toks.now space i d && passes asked d) (reverse declared.now) }
 {
@@ -97,7 +169,7 @@ fn chained<'a>(
         if let Some(d) = tested(declared, toks, space, i, asked, place - 1) {
             return Some(d);
         }
-        place = names.before(place - 1);
+        place = next_place(declared, names, over, asked, place - 1);
     }
     None
 }
@@ -123,6 +195,7 @@ impl<'a> Chains<'a> {
             declared: Vec::new(alloc),
             names: Links::new(alloc),
             structures: Links::new(alloc),
+            over: Vec::new(alloc),
             // The outermost scope ends at the count of the tokens.
             ends: blank(alloc, toks.len() + 1)?,
         })
@@ -149,11 +222,20 @@ impl<'a> Chains<'a> {
         let count = self.declared.len();
         let name = name_key(self.numbers.as_slice(), d.space, d.name_at);
         let structure = member_key(d.space);
+        let over = place_over(
+            self.declared.as_slice(),
+            &self.names,
+            self.over.as_slice(),
+            self.numbers.as_slice(),
+            &d,
+        );
         self.names.grow(count, name)?;
         self.structures.grow(count, structure)?;
+        self.over.reserve(1)?;
         self.declared.reserve(1)?;
         self.names.link(count, name);
         self.structures.link(count, structure);
+        self.over.push(over).unwrap();
         tell_end(&mut self.ends, d.to, count + 1);
         self.declared.push(d).unwrap();
         Ok(())
@@ -166,6 +248,7 @@ impl<'a> Chains<'a> {
         chained(
             self.declared.as_slice(),
             &self.names,
+            self.over.as_slice(),
             self.numbers.as_slice(),
             self.toks,
             space,

@@ -6,8 +6,9 @@ use Rattle.scope_bind.specs.Declarations.{is_named}
 use Rattle.scope_bind.specs.Latest.{passes}
 use Rattle.scope_bind.specs.Links.{has_key}
 use Rattle.scope_bind.specs.Chains.{name_key, name_key_of}
-use Rattle.scope_bind.proofs.ChainLemmas.{search_all, search_found, search_on, falls}
+use Rattle.scope_bind.proofs.ChainLemmas.{search_all, search_found, search_on}
 use Rattle.scope_bind.proofs.ChainedMore.{named_by, apart}
+use Rattle.scope_bind.proofs.ChainedOver.{sought_down}
 use Rattle.scope_bind.proofs.chains.chained.Goals as goal
 
 pub chain-init : goal.chain-init
@@ -27,19 +28,20 @@ returns-in-Some c =
 
 pub chain-smaller : goal.chain-smaller
 chain-smaller c =
-    rw c.before-place.ensures
-    (falls (has_key (name_key_of c.args.numbers.now) (name_key c.args.numbers.now c.args.space c.args.i))
-    c.args.declared.now c.args.names.now.before c.newest-place.result c.chain.place
+    (sought_down c.args.toks.now c.args.numbers.now c.requires.numbered c.args.space c.args.i c.args.asked c.args.declared.now c.args.names.now.before
+    c.args.over.now c.newest-place.result
     (named_by c.args.numbers.now c.args.declared.now c.args.names.now c.args.space c.args.i c.name_key.result c.newest-place.result
     c.requires.chained c.name_key.ensures c.newest-place.ensures)
-    c.chain.invariant.within c.chain.invariant.again c.chain-test.true)
+    c.requires.over c.chain.place c.next_place-place.result c.chain.invariant c.chain-test.true c.next_place-place.ensures).1
 
 pub chain-preserved : goal.chain-preserved
 chain-preserved c =
-    rw c.before-place.ensures
-    (search_on (has_key (name_key_of c.args.numbers.now) (name_key c.args.numbers.now c.args.space c.args.i))
+    search_on (has_key (name_key_of c.args.numbers.now) (name_key c.args.numbers.now c.args.space c.args.i))
     (λ d. is_named c.args.toks.now c.args.space c.args.i d && passes c.args.asked d) (apart c.args.toks.now c.args.numbers.now c.requires.numbered c.args.space c.args.i (passes c.args.asked))
-    c.args.declared.now c.args.names.now.before c.newest-place.result c.chain.place (option_map (λ (d : Bor Declaration). d.now) c.tested.result)
+    c.args.declared.now c.chain.place c.next_place-place.result (option_map (λ (d : Bor Declaration). d.now) c.tested.result)
+    c.chain.invariant c.chain-test.true c.tested.ensures (ap (option_map (λ (d : Bor Declaration). d.now)) c.in_default.is)
+    (sought_down c.args.toks.now c.args.numbers.now c.requires.numbered c.args.space c.args.i c.args.asked c.args.declared.now c.args.names.now.before
+    c.args.over.now c.newest-place.result
     (named_by c.args.numbers.now c.args.declared.now c.args.names.now c.args.space c.args.i c.name_key.result c.newest-place.result
     c.requires.chained c.name_key.ensures c.newest-place.ensures)
-    c.chain.invariant c.chain-test.true c.tested.ensures (ap (option_map (λ (d : Bor Declaration). d.now)) c.in_default.is))
+    c.requires.over c.chain.place c.next_place-place.result c.chain.invariant c.chain-test.true c.next_place-place.ensures).0
