@@ -1,5 +1,6 @@
 -- What the public contracts rest on.
 pub mod Faults
+pub mod Causes
 pub mod Types
 pub mod Trees
 pub mod Declarations
