@@ -1,19 +1,59 @@
-//! A workspace, analysed as a whole: so far the texts of its units.
+//! A workspace, analysed as a whole: what must be spelled alike in all its units.
 //!
-//! `texts` takes a workspace and preprocesses its units in order; what was read for one unit is kept for the
-//! next, so each path is read at most once. It equals `texts_of` of `specs/Texts.antt`, or names the first
-//! fault with its unit. `one_text` preprocesses one unit by itself. Both say of each answer whether a read
-//! failed. How a unit is preprocessed belongs to the crate below; C, classes and renaming to what is built
-//! above. What wants memory may answer `Memory`; the readers of `Texts` take none. Read
-//! `specs/Texts.antt`, then `preprocessing.rt`.
+//! `analyse` preprocesses, reads and binds all units of a workspace in order, and joins what one name stands
+//! for; what was read for one unit is kept for the next, so each path is read at most once. Its answer is
+//! `analysis_of` of `specs/Analysis.antt`, or names the first fault with its unit, and its classes are those of
+//! the links of `specs/Links.antt` over the tokens of `specs/FileTokens.antt`. An `Analysis` tells which part a
+//! place names, how it is spelled, and the members of its class in the order of their places. `texts` and
+//! `one_text` preprocess alone; they equal `texts_of` of `specs/Texts.antt`. All say of a refusal whether a read
+//! failed. How a unit is preprocessed, read and bound, and what a class is, belongs to the crates below; reports
+//! and renaming to those above. What wants memory may answer `Memory`; the readers of `Texts` and of `Analysis`
+//! take none. Read `specs/Analysis.antt`, `specs/Links.antt`, `specs/Parts.antt` and `specs/Naming.antt`, then
+//! `analysis.rt`.
 #![tactic(auto)]
 
+#[cfg(test)]
+mod accept_tests;
+mod accepted;
+mod accepting;
+mod adding;
 mod all_texts;
 mod analyse_fault;
+#[cfg(test)]
+mod analyse_tests;
+mod analysis;
+mod brought;
+mod class_lists;
+mod external_names;
+mod fault_places;
+mod file_tokens;
+#[cfg(test)]
+mod file_tokens_tests;
+mod joining;
+mod line_numbers;
+mod linking;
+#[cfg(test)]
+mod linking_tests;
+mod listed;
+mod marks;
+mod nameable;
+mod naming;
+mod number_order;
+mod occurrences;
+#[cfg(test)]
+mod order_tests;
+mod part_lists;
+mod place_order;
 mod preprocessing;
+mod processed;
+mod read_only;
+mod spelling;
 #[cfg(test)]
 mod tests;
+mod token_search;
+mod unit_reading;
 
 pub use all_texts::Texts;
 pub use analyse_fault::AnalyseFault;
+pub use analysis::{Analysis, analyse};
 pub use preprocessing::{one_text, texts};

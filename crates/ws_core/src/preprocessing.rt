@@ -88,7 +88,7 @@ fn add(all: &mut Vec<UnitText>, text: UnitText) -> Result<(), Memory>
 }
 
 // The text of a unit, with what is kept from the units before, or its fault.
-fn next_text<F: Files>(
+pub(crate) fn next_text<F: Files>(
     alloc: Global,
     cache: &mut Cache,
     files: &mut F,

@@ -103,7 +103,7 @@ const ALONE: [Row; 3] = [
 ];
 
 // The files of the text.
-fn held(alloc: Global, text: &str, call: u32) -> Result<MemFiles, Memory> {
+pub(crate) fn held(alloc: Global, text: &str, call: u32) -> Result<MemFiles, Memory> {
     let mut files = MemFiles::new(alloc);
     for block in text.split('@') {
         if let Some((path, bytes)) = block.split_once(':') {
@@ -118,7 +118,7 @@ fn held(alloc: Global, text: &str, call: u32) -> Result<MemFiles, Memory> {
     Ok(files)
 }
 
-fn workspace(alloc: Global, text: &str) -> Result<Workspace, Fail> {
+pub(crate) fn workspace(alloc: Global, text: &str) -> Result<Workspace, Fail> {
     match read_ws(alloc, text.as_bytes()) {
         Ok(ws) => Ok(ws),
         Err(_) => Err(AllocError)?,
@@ -146,7 +146,7 @@ fn show_texts(alloc: Global, texts: &Texts) -> Result<Vec<u8>, AllocError> {
     Ok(out)
 }
 
-fn show_fault(alloc: Global, fault: &AnalyseFault) -> Result<Vec<u8>, AllocError> {
+pub(crate) fn show_fault(alloc: Global, fault: &AnalyseFault) -> Result<Vec<u8>, AllocError> {
     let mut out = Vec::new(alloc);
     match fault {
         AnalyseFault::WorkspaceFault { unit, place, cause } => {

@@ -1,0 +1,12 @@
+use Rattle.std.proofs.Common.{◌≡◌, drop, length}
+use Rattle.ws_core.specs.Firsts.{TellFirsts}
+use Rattle.ws_core.specs.Joins.{Awaits}
+use Rattle.ws_core.specs.Links.{occurrence_links}
+use Rattle.ws_core.proofs.occurrences.join_occurrences.Given as goal
+
+abbrev pub invariant-loop-k : goal.invariant-loop-k
+invariant-loop-k l = record {
+  counted : l.count ≡ length l.toks;
+  firsts : TellFirsts l.bound.names l.k l.firsts.items;
+  rest : Awaits (occurrence_links l.bound.names l.toks l.k (drop l.k l.toks)) (occurrence_links l.bound.names l.toks 0 l.toks) l.initial.classes l.classes;
+}

@@ -1,0 +1,23 @@
+-- What joining links makes of a table of classes.
+use Rattle.std.specs.Prelude.{◌≡◌, List, ◌++◌, filter, map}
+use Rattle.cs_base.specs.declared.tokens.Link.{Link}
+use Rattle.cs_base.specs.Token.{Token}
+use Rattle.eclass_map.specs.ClassTable.{Table, AreLinks, HasParts, added_tokens}
+use Rattle.ws_core.specs.Links.{are_alike, pair_of}
+
+abbrev pub link_of : Token → Token → Link
+link_of x y = record { x = x; y = y }
+
+-- the tokens of those that link two identifiers of equal spelling
+abbrev pub alike_pairs : List Link → List (Token × Token)
+alike_pairs links = map pair_of (filter are_alike links)
+
+-- Those of the links were joined, in order.
+pub record Joins (joined : List Link) (old new : Table) : Type 0 where
+  pub tokens : added_tokens new ≡ added_tokens old
+  pub parts : HasParts old → HasParts new
+  pub links : (before : List (Token × Token)) → AreLinks before old → AreLinks (before ++ alike_pairs joined) new
+
+-- where the rest is joined, all is
+abbrev pub Awaits : List Link → List Link → Table → Table → Type 0
+Awaits rest all old now = (new : Table) → Joins rest now new → Joins all old new

@@ -1,0 +1,131 @@
+// A workspace whose units are accepted: preprocessed, read and bound.
+ghost use Rattle.std.specs.Prelude.{◌≡◌, ◌≤◌, length, option_copied, slice_get};
+ghost use Rattle.std.specs.Option.{option_map};
+ghost use Rattle.include_tree.specs.KeptFiles.{kept_at};
+
+use c99_tree::Tree;
+use include_tree::{Cache, KeptFile, UnitText};
+use scope_bind::Bound;
+use std::marker::Model;
+use ws_file::Workspace;
+
+/// A unit that is accepted: its text, its tree, and what its identifiers denote.
+#[derive(Drop)]
+pub(crate) struct UnitParts {
+    text: UnitText,
+    tree: Tree,
+    bound: Bound,
+}
+
+impl Model for UnitParts {
+    ghost use Rattle.std.specs.Coded.{codes};
+    ghost use Rattle.c99_tree.specs.TreeCode.{node_code};
+    ghost use Rattle.ws_core.specs.Analysis.{UnitAnalysis, unit_analysis};
+
+    ghost Value = { UnitAnalysis };
+
+    ghost coded = { Prim.hlevel (codes, node_code) };
+
+    ghost view = { λ u. unit_analysis u.text u.tree u.bound };
+}
+
+impl UnitParts {
+    ghost use Rattle.ws_core.specs.Analysis.{unit_analysis};
+
+    pub(crate) fn new(text: UnitText, tree: Tree, bound: Bound) -> UnitParts
+        ensures { result ≡ unit_analysis text tree bound }
+    {
+        UnitParts { text, tree, bound }
+    }
+
+    pub(crate) fn text(&self) -> &UnitText
+        ensures { result.now ≡ self.now.text }
+    {
+        &self.text
+    }
+
+    pub(crate) fn tree(&self) -> &Tree
+        ensures { result.now ≡ self.now.tree }
+    {
+        &self.tree
+    }
+
+    pub(crate) fn bound(&self) -> &Bound
+        ensures { result.now ≡ self.now.bound }
+    {
+        &self.bound
+    }
+}
+
+/// A workspace, its units in order, and the files that were read for them.
+#[derive(Drop)]
+pub(crate) struct Accepted {
+    workspace: Workspace,
+    units: Vec<UnitParts>,
+    cache: Cache,
+}
+
+impl Model for Accepted {
+    ghost use Rattle.std.specs.Prelude.{◌≤◌, length};
+    ghost use Rattle.std.specs.Coded.{codes};
+    ghost use Rattle.c99_tree.specs.TreeCode.{node_code};
+    ghost use Rattle.ws_core.specs.Analysis.{AnalysisValue, analysis_and};
+
+    ghost Value = { AnalysisValue };
+
+    ghost coded = { Prim.hlevel (codes, node_code) };
+
+    ghost view = { λ a. analysis_and a.workspace a.units.items a.cache.table };
+
+    ghost invariant = { λ a. length a.units.items ≤ 1024 };
+}
+
+impl Accepted {
+    ghost use Rattle.ws_core.specs.Analysis.{analysis_and};
+
+    pub(crate) fn new(workspace: Workspace, units: Vec<UnitParts>, cache: Cache) -> Accepted
+        requires few { length units.items ≤ 1024 }
+        ensures { result ≡ analysis_and workspace units.items cache.table }
+    {
+        Accepted {
+            workspace,
+            units,
+            cache,
+        }
+    }
+
+    pub(crate) fn workspace(&self) -> &Workspace
+        ensures { result.now ≡ self.now.workspace }
+    {
+        &self.workspace
+    }
+
+    /// The units in order.
+    pub(crate) fn units(&self) -> &[UnitParts]
+        ensures answer { result.now ≡ self.now.units }
+        ensures few { length self.now.units ≤ 1024 }
+    {
+        self.units.as_slice()
+    }
+
+    /// How many numbers of files are given: those from 0 to before this one.
+    pub(crate) fn files(&self) -> u32
+        ensures { result ≡ length self.now.table }
+    {
+        self.cache.numbers()
+    }
+
+    /// The kept file with this number.
+    pub(crate) fn file(&self, number: u32) -> Option<&KeptFile>
+        ensures { option_copied result ≡ kept_at self.now.table number }
+    {
+        self.cache.file(number)
+    }
+
+    /// The path that has this number, also one without a kept file.
+    pub(crate) fn path(&self, number: u32) -> Option<&[u8]>
+        ensures { option_copied result ≡ option_map (λ e. e.path) (slice_get self.now.table number) }
+    {
+        self.cache.path(number)
+    }
+}

@@ -1,0 +1,89 @@
+// The units of a workspace, preprocessed, read and bound one after another.
+ghost use Rattle.std.specs.Prelude.{◌≡◌, ◌≤◌, ◌+◌, ◌++◌, ◌∷◌, [], IfOk, IfSome, OnOk, length};
+ghost use Rattle.cs_base.specs.Answer.{Gives};
+ghost use Rattle.include_tree.specs.Files.{source_of, nothing_carried};
+ghost use Rattle.ws_core.specs.Answers.{fault_of, ReadCounts};
+ghost use Rattle.ws_core.specs.Analysis.{units_and, analysis_of};
+ghost use Rattle.ws_core.specs.Carrying.{IsCarried};
+ghost use Rattle.ws_core.specs.Accepting.{passed, passed_with, units_of};
+
+use crate::accepted::{Accepted, UnitParts};
+use crate::analyse_fault::AnalyseFault;
+use crate::preprocessing::next_text;
+use crate::unit_reading::read_text;
+use cs_base::{Files, Memory, Unit};
+use include_tree::Cache;
+use std::alloc::Global;
+use ws_file::Workspace;
+
+/// Preprocesses, reads and binds all units of a workspace in order. What is read for one unit is kept for the
+/// next. Refused: `WorkspaceFault` at the first fault, that of the least unit which has one, where
+/// preprocessing comes before reading and reading before binding; `ReadFault` where a read failed, with its
+/// path; `Memory` where memory ran out. Nothing is read behind a refusal; the files hold what they held.
+pub(crate) fn accept<F: Files>(
+    alloc: Global,
+    ws: &Workspace,
+    files: &mut F,
+) -> Result<Accepted, AnalyseFault>
+    ensures held { F.held files.new ≡ F.held files.old }
+    ensures workspace { IfOk result (λ a. a.workspace ≡ ws.now) }
+    // The units over what the files hold, where that is told, or the first fault.
+    ensures answer { IfSome (F.held files.old) (λ held. Gives (λ a. a) fault_of result (analysis_of (source_of held) ws.now)) }
+    ensures faults { ReadCounts (F.failed_reads files.old) (F.failed_reads files.new) (F.failed_puts files.old) (F.failed_puts files.new) (F.last_failed files.old) (F.last_failed files.new) result }
+{
+    let workspace = ws.copy(alloc)?;
+    let mut cache = Cache::new(alloc);
+    let all = accepted_units(alloc, &mut cache, files, ws.units())?;
+    Ok(Accepted::new(workspace, all, cache))
+}
+
+// The units, from the first one on.
+fn accepted_units<F: Files>(
+    alloc: Global,
+    cache: &mut Cache,
+    files: &mut F,
+    units: &[Unit],
+) -> Result<Vec<UnitParts>, AnalyseFault>
+    requires few { length units.now ≤ 1024 }
+    requires first { cache.old ≡ nothing_carried }
+    ensures held { F.held files.new ≡ F.held files.old }
+    ensures each { IfOk result (λ all. length all.items ≡ length units.now) }
+    ensures answer { IfSome (F.held files.old) (λ held. Gives (λ all. units_and all.items cache.new.table) fault_of result (units_of (source_of held) units.now)) }
+    ensures faults { ReadCounts (F.failed_reads files.old) (F.failed_reads files.new) (F.failed_puts files.old) (F.failed_puts files.new) (F.last_failed files.old) (F.last_failed files.new) result }
+{
+    let mut all = Vec::new(alloc);
+    for i in 0..units.len() {
+        match next_unit(alloc, cache, files, &units[i], i as u32 + 1) {
+            Ok(unit) => add(&mut all, unit)?,
+            Err(fault) => return Err(fault),
+        }
+    }
+    Ok(all)
+}
+
+fn add(all: &mut Vec<UnitParts>, unit: UnitParts) -> Result<(), Memory>
+    ensures { OnOk result (all.new.items ≡ all.old.items ++ unit ∷ []) }
+{
+    all.push(unit)?;
+    Ok(())
+}
+
+// A unit, with what is kept from the units before, or its fault.
+fn next_unit<F: Files>(
+    alloc: Global,
+    cache: &mut Cache,
+    files: &mut F,
+    unit: &Unit,
+    number: u32,
+) -> Result<UnitParts, AnalyseFault>
+    requires carried { IfSome (F.held files.old) (λ held. IsCarried (source_of held) number cache.old.table) }
+    ensures held { F.held files.new ≡ F.held files.old }
+    ensures answer { IfSome (F.held files.old) (λ held. Gives (passed cache.new) fault_of result (passed_with (source_of held) number unit.now cache.old)) }
+    ensures carried { IfSome (F.held files.old) (λ held. OnOk result (IsCarried (source_of held) (number + 1) cache.new.table)) }
+    ensures faults { ReadCounts (F.failed_reads files.old) (F.failed_reads files.new) (F.failed_puts files.old) (F.failed_puts files.new) (F.last_failed files.old) (F.last_failed files.new) result }
+{
+    match next_text(alloc, cache, files, unit, number) {
+        Ok(text) => read_text(alloc, cache, number, unit.path().bytes(), text),
+        Err(fault) => Err(fault),
+    }
+}

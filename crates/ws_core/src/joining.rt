@@ -1,0 +1,59 @@
+// One link, joined.
+ghost use Rattle.std.specs.Prelude.{◌≡◌, ◌<◌, ◌++◌, ◌∷◌, [], List, OnOk};
+ghost use Rattle.cs_base.specs.Token.{Token};
+ghost use Rattle.eclass_map.specs.ClassTable.{AreLinks, AreWhole, HasParts, added_tokens};
+ghost use Rattle.line_shape.specs.Signs.{is_name};
+ghost use Rattle.ws_core.specs.Joins.{Joins, link_of};
+ghost use Rattle.ws_core.specs.Links.{are_alike};
+
+use cs_base::{Kind, Memory, Steps, Tok};
+use eclass_map::Classes;
+use std::marker::Brand;
+use std::sync::ledger::{Blank, Ledger};
+
+/// Joins two tokens, if they are identifiers of equal spelling. `Memory` where they would be and some of
+/// their characters come from no whole token of the table.
+pub(crate) fn join(x: &Tok, y: &Tok, classes: &mut Classes) -> Result<(), Memory>
+    ensures { OnOk result (Joins (link_of x.now y.now ∷ []) classes.old classes.new) }
+{
+    if !are_alike(x, y) {
+        return Ok(());
+    }
+    if !classes.is_whole(x) || !classes.is_whole(y) {
+        return Err(Memory);
+    }
+    join_whole::<Brand>(x, y, classes, Blank::new(1));
+    Ok(())
+}
+
+fn are_alike(x: &Tok, y: &Tok) -> bool
+    ensures { result ≡ are_alike (link_of x.now y.now) }
+{
+    is_name(x) && is_name(y) && x.text() == y.text()
+}
+
+/// Whether a token is an identifier.
+pub(crate) fn is_name(tok: &Tok) -> bool
+    ensures { result ≡ is_name tok.now }
+{
+    match tok.kind() {
+        Kind::Ident => true,
+        _ => false,
+    }
+}
+
+// The tokens are joined; the blank is for a count of steps that nobody reads.
+fn join_whole<L: Ledger>(x: &Tok, y: &Tok, classes: &mut Classes, blank: Blank)
+    requires name { blank.name ≡ L.name }
+    requires parts { blank.parts ≡ L.parts }
+    requires some { 0 < blank.parts }
+    requires equal { x.now.text ≡ y.now.text }
+    requires whole_x { AreWhole classes.old x.now.origins }
+    requires whole_y { AreWhole classes.old y.now.origins }
+    ensures tokens { added_tokens classes.new ≡ added_tokens classes.old }
+    ensures parts { HasParts classes.new }
+    ensures links { (links : List (Token × Token)) → AreLinks links classes.old → AreLinks (links ++ (x.now, y.now) ∷ []) classes.new }
+{
+    let mut steps = Steps::<L>::new(blank);
+    classes.join(x, y, &mut steps);
+}
