@@ -18,10 +18,9 @@ use Rattle.rename_edit.proofs.MeaningLemmas.{renaming-accepted, KeepsMeaning-ren
 use Rattle.rename_edit.proofs.NamesLemmas.{bytes_eq-apart}
 use Rattle.cscout_cli.specs.declared.status.Status.{Status}
 use Rattle.cscout_cli.specs.declared.status.Status.TheVariants.{Done, Refused, Workspace}
-use Rattle.cscout_cli.specs.Request.{RequestValue, RenameValue, asked, help_asked, version_asked, renaming_asked, tokens_asked, skipped_asked}
-use Rattle.cscout_cli.specs.Answer.{Answer, answer, answer_of, stopped, workspace_at, workspace_answer, thin_answer, analysed_answer, renaming_answer, unit_paths}
+use Rattle.cscout_cli.specs.Request.{RequestValue, RenameValue, asked, help_asked, version_asked, renaming_asked, tokens_asked, skipped_asked, class_asked}
+use Rattle.cscout_cli.specs.Answer.{Answer, IsAnswer, IsAnswerTo, answer_of, stopped, workspace_at, workspace_answer, thin_answer, analysed_answer, renaming_answer, unit_paths}
 use Rattle.cscout_cli.specs.Promise.{IsRenamed, KeepsPromise}
-use Rattle.cscout_cli.proofs.RunLemmas.{answer-request}
 
 -- a path apart from those of all files
 each_apart : (files : FileMap) (path : List ℕ) → ((file : List ℕ × List ℕ) → Contains files file → file.0 ≢ path)
@@ -106,21 +105,21 @@ kept_workspace q before text edits (Some (Ok ws)) is h =
     kept_analysis q before ws text edits (thin_of (unit_paths ws) before) is refl h
 kept_workspace q before text edits (Some (Err fault)) is h = not_done Workspace _ text edits (λ e. cc) h
 
--- the promise to the words, over the files as the edits leave them
-promise_at : (words : List (List ℕ)) (before : FileMap) (text : List ℕ) (edits : List Edit) (request : Option RequestValue)
-    → asked words ≡ request → answer words before ≡ answer_of Done text [] edits → KeepsPromise request before (with_edits edits before)
-promise_at words before text edits None is h = tt
-promise_at words before text edits (Some help_asked) is h = tt
-promise_at words before text edits (Some version_asked) is h = tt
-promise_at words before text edits (Some (tokens_asked q)) is h = tt
-promise_at words before text edits (Some (skipped_asked ws)) is h = tt
-promise_at words before text edits (Some (renaming_asked q)) is h =
-    kept_workspace q before text edits (workspace_at q.ws before) refl (sym (answer-request words before (renaming_asked q) is) ∙ h)
+-- the promise to what is asked for, over the files as the edits leave them
+promise_at : (before : FileMap) (text : List ℕ) (edits : List Edit) (request : Option RequestValue)
+    → IsAnswerTo before request (answer_of Done text [] edits) → KeepsPromise request before (with_edits edits before)
+promise_at before text edits None h = tt
+promise_at before text edits (Some help_asked) h = tt
+promise_at before text edits (Some version_asked) h = tt
+promise_at before text edits (Some (tokens_asked q)) h = tt
+promise_at before text edits (Some (skipped_asked ws)) h = tt
+promise_at before text edits (Some (class_asked q)) h = tt
+promise_at before text edits (Some (renaming_asked q)) h = kept_workspace q before text edits (workspace_at q.ws before) refl h
 
 -- where the files held are told, the promise is kept
 pub promise-told : (o now : Option FileMap) (words : List (List ℕ)) (text : List ℕ) (edits : List Edit)
-    → IfSome o (λ fs. answer words fs ≡ answer_of Done text [] edits) → now ≡ option_map (with_edits edits) o
+    → IfSome o (λ fs. IsAnswer words fs (answer_of Done text [] edits)) → now ≡ option_map (with_edits edits) o
     → IfSome o (λ before. IfSome now (KeepsPromise (asked words) before))
+unfolding IsAnswer
 promise-told None now words text edits p held = tt
-promise-told (Some before) now words text edits p held =
-    rw held (promise_at words before text edits (asked words) refl p)
+promise-told (Some before) now words text edits p held = rw held (promise_at before text edits (asked words) p)

@@ -1,16 +1,22 @@
 -- What each end of a run says of the answer and of the outside.
-use Rattle.std.proofs.Common.{◌≡◌, ℕ, ◌<◌, zero, suc, List, [], ◌∷◌, Option, None, Some, Ok, Err, refl, ap, sym, subst, ◌∙◌, inl, inr, ⊎_elim, length, arith}
+use Rattle.std.proofs.Common.{◌≡◌, ℕ, ◌<◌, zero, suc, List, [], ◌∷◌, Option, None, Some, Result, Ok, Err, refl, ap, sym, subst, ◌∙◌, inl, ⊎_elim, length, arith}
 use Rattle.std.specs.Prelude.{IfSome, slice_get}
 use Rattle.cs_base.specs.Edit.{Edit}
 use Rattle.cs_base.specs.Outside.{FileMap, Rose}
+use Rattle.ws_file.specs.Workspace.{WorkspaceValue}
+use Rattle.ws_file.specs.Reading.{WsFault}
+use Rattle.include_tree.specs.Files.{Source, source_of}
+use Rattle.ws_core.specs.Analysis.{AnalysisValue, analysis_of}
+use Rattle.ws_core.specs.ClassReport.{IsClassReport}
+use Rattle.ws_core.specs.Texts.{UnitFault}
 use Rattle.cscout_cli.specs.declared.status.Status.{Status}
 use Rattle.cscout_cli.specs.declared.status.Status.TheVariants.{Done, Refused, Usage, Workspace, ReadFault, WriteFault, Memory}
 use Rattle.cscout_cli.specs.declared.stops.Stop.{Stop}
 use Rattle.cscout_cli.specs.declared.stops.Stop.TheVariants as stop
-use Rattle.cscout_cli.specs.Request.{RequestValue, asked}
-use Rattle.cscout_cli.specs.Answer.{Answer, answer, answer_of, stopped, request_answer}
+use Rattle.cscout_cli.specs.Request.{RequestValue, ClassValue, help_asked, version_asked, renaming_asked, tokens_asked, skipped_asked, class_asked, asked}
+use Rattle.cscout_cli.specs.Answer.{Answer, IsAnswer, IsAnswerTo, IsRequestAnswer, IsClassAnswer, IsOverWorkspace, answer_of, class_answer, stopped, workspace_at}
 use Rattle.cscout_cli.specs.Message.{usage_line}
-use Rattle.cscout_cli.specs.Outcome.{World, StatusIs, HasCauses, IsComplete, Says, Tells, Leaves, FailedPut, FailedWrite, IsDone}
+use Rattle.cscout_cli.specs.Outcome.{World, StatusIs, HasCauses, IsComplete, ShowsAnswer, Tells, FailedPut, Unmoved}
 use Rattle.cscout_cli.specs.Steps.{Prepares}
 use Rattle.cscout_cli.specs.declared.preparing.Ready.{Ready}
 use Rattle.rename_edit.specs.Applying.{Applies}
@@ -28,52 +34,105 @@ if_told-map None P Q p follows = tt
 if_told-map (Some x) P Q p follows = follows x p
 
 -- the answer to words of no form
-pub answer-usage : (words : List (List ℕ)) (files : FileMap) → asked words ≡ None → answer words files ≡ stopped Usage usage_line
-unfolding answer
+pub answer-usage : (words : List (List ℕ)) (files : FileMap) → asked words ≡ None → IsAnswer words files (stopped Usage usage_line)
+unfolding IsAnswer
 answer-usage words files none = rw none refl
 
--- the answer to words that ask for something
-pub answer-request : (words : List (List ℕ)) (files : FileMap) (request : RequestValue) → asked words ≡ Some request
-    → answer words files ≡ request_answer files request
-unfolding answer
-answer-request words files request some = rw some refl
+-- an answer to what the words ask for is one to the words
+pub answer-request : (words : List (List ℕ)) (files : FileMap) (request : RequestValue) (a : Answer) → asked words ≡ Some request
+    → IsRequestAnswer files request a → IsAnswer words files a
+unfolding IsAnswer
+answer-request words files request a some is = rw some is
 
--- the status of an early end is that of the answer
-pub stop-status : (ws : List ℕ) (a : Answer) (end : Stop) → Stops ws a end → StatusIs a (status_of end)
-stop-status ws a stop.NoWorkspace p = ap (λ (b : Answer). b.status) p
-stop-status ws a (stop.BadLine line) p = ap (λ (b : Answer). b.status) p
-stop-status ws a (stop.TooManyUnits line) p = ap (λ (b : Answer). b.status) p
-stop-status ws a stop.UnreadWorkspace p = tt
-stop-status ws a (stop.UnitFault unit place cause) p = ap (λ (b : Answer). b.status) p
-stop-status ws a (stop.UnreadFile path) p = tt
-stop-status ws a stop.NoUnit p = ap (λ (b : Answer). b.status) p
-stop-status ws a stop.BadName p = ap (λ (b : Answer). b.status) p
-stop-status ws a stop.NoName p = ap (λ (b : Answer). b.status) p
-stop-status ws a (stop.Offence place cause) p = ap (λ (b : Answer). b.status) p
-stop-status ws a stop.Memory p = tt
+-- ---- answers to the same words have the same status
 
--- the line of the answer is told
-pub answer-told : (a : Answer) (line : List ℕ) (status : Status) (before now : World) → a ≡ stopped status line → Tells line before now
-    → Tells a.err before now
-answer-told a line status before now p told =
-    let P : List ℕ → Type 0 = λ text. Tells text before now in
-    let same : line ≡ a.err = sym (ap (λ (b : Answer). b.err) p) in
-    subst P same told
+same-status : (x a b : Answer) → x ≡ a → x ≡ b → a.status ≡ b.status
+same-status x a b p q = ap (λ (c : Answer). c.status) (sym p ∙ q)
 
--- the message of an early end is that of the answer
-pub stop-says : (ws : List ℕ) (a : Answer) (end : Stop) (before now : World) → Stops ws a end → Tells (line_of ws end) before now
-    → StopReads ws before.reads now.reads now.last end → Says a before now (status_of end)
-stop-says ws a stop.NoWorkspace before now p told reads = answer-told a _ _ before now p told
-stop-says ws a (stop.BadLine line) before now p told reads = answer-told a _ _ before now p told
-stop-says ws a (stop.TooManyUnits line) before now p told reads = answer-told a _ _ before now p told
-stop-says ws a stop.UnreadWorkspace before now p told reads = (ws, told, reads.told)
-stop-says ws a (stop.UnitFault unit place cause) before now p told reads = answer-told a _ _ before now p told
-stop-says ws a (stop.UnreadFile path) before now p told reads = (path, told, reads.told)
-stop-says ws a stop.NoUnit before now p told reads = answer-told a _ _ before now p told
-stop-says ws a stop.BadName before now p told reads = answer-told a _ _ before now p told
-stop-says ws a stop.NoName before now p told reads = answer-told a _ _ before now p told
-stop-says ws a (stop.Offence place cause) before now p told reads = answer-told a _ _ before now p told
-stop-says ws a stop.Memory before now p told reads = told
+told-alike : (q : ClassValue) (value : AnalysisValue) (told told' : Option (List ℕ)) (a b : Answer)
+    → IsClassReport value q.path q.line q.column told → IsClassReport value q.path q.line q.column told' → class_answer told ≡ a
+    → class_answer told' ≡ b → a.status ≡ b.status
+told-alike q value None None a b report report' is is' = same-status (class_answer None) a b is is'
+told-alike q value (Some text) (Some text') a b report report' is is' =
+    sym (ap (λ (c : Answer). c.status) is) ∙ ap (λ (c : Answer). c.status) is'
+told-alike q value None (Some text) a b report report' is is' =
+    let other : None ≡ Some report'.names.0 = sym report ∙ report'.names.1 in cc
+told-alike q value (Some text) None a b report report' is is' =
+    let other : None ≡ Some report.names.0 = sym report' ∙ report.names.1 in cc
+
+class-alike : (q : ClassValue) (analysed : Result AnalysisValue UnitFault) (a b : Answer) → IsClassAnswer q analysed a
+    → IsClassAnswer q analysed b → a.status ≡ b.status
+class-alike q (Ok value) a b p p' = told-alike q value p.0 p'.0 a b p.1 p'.1 p.2 p'.2
+class-alike q (Err fault) a b p p' = same-status _ a b p p'
+
+over-alike : (q : ClassValue) (source : Source) (read : Option (Result WorkspaceValue WsFault)) (a b : Answer)
+    → IsOverWorkspace q.ws (λ w. IsClassAnswer q (analysis_of source w)) read a
+    → IsOverWorkspace q.ws (λ w. IsClassAnswer q (analysis_of source w)) read b → a.status ≡ b.status
+over-alike q source None a b p p' = same-status _ a b p p'
+over-alike q source (Some (Ok w)) a b p p' = class-alike q (analysis_of source w) a b p p'
+over-alike q source (Some (Err fault)) a b p p' = same-status _ a b p p'
+
+request-alike : (files : FileMap) (request : Option RequestValue) (a b : Answer) → IsAnswerTo files request a → IsAnswerTo files request b
+    → a.status ≡ b.status
+request-alike files None a b p p' = same-status _ a b p p'
+request-alike files (Some help_asked) a b p p' = same-status _ a b p p'
+request-alike files (Some version_asked) a b p p' = same-status _ a b p p'
+request-alike files (Some (renaming_asked q)) a b p p' = same-status _ a b p p'
+request-alike files (Some (tokens_asked q)) a b p p' = same-status _ a b p p'
+request-alike files (Some (skipped_asked ws)) a b p p' = same-status _ a b p p'
+request-alike files (Some (class_asked q)) a b p p' = over-alike q (source_of files) (workspace_at q.ws files) a b p p'
+
+pub answer-alike : (words : List (List ℕ)) (files : FileMap) (a b : Answer) → IsAnswer words files a → IsAnswer words files b
+    → a.status ≡ b.status
+unfolding IsAnswer
+answer-alike words files a b p p' = request-alike files (asked words) a b p p'
+
+-- ---- early ends
+
+-- the message of the early end is what its answers are
+pub stops-map : (ws : List ℕ) (P Q : Answer → Type 0) (end : Stop) → ((a : Answer) → P a → Q a) → Stops ws P end → Stops ws Q end
+stops-map ws P Q stop.NoWorkspace follows p = follows _ p
+stops-map ws P Q (stop.BadLine line) follows p = follows _ p
+stops-map ws P Q (stop.TooManyUnits line) follows p = follows _ p
+stops-map ws P Q stop.UnreadWorkspace follows p = tt
+stops-map ws P Q (stop.UnitFault unit place cause) follows p = follows _ p
+stops-map ws P Q (stop.UnreadFile path) follows p = tt
+stops-map ws P Q stop.NoUnit follows p = follows _ p
+stops-map ws P Q stop.BadName follows p = follows _ p
+stops-map ws P Q stop.NoName follows p = follows _ p
+stops-map ws P Q (stop.Offence place cause) follows p = follows _ p
+stops-map ws P Q stop.Memory follows p = tt
+
+-- any answer has the status of the early end
+pub stop-status : (ws : List ℕ) (IsOne : Answer → Type 0) (end : Stop) (a : Answer)
+    → ((b c : Answer) → IsOne b → IsOne c → b.status ≡ c.status) → Stops ws IsOne end → IsOne a → StatusIs a (status_of end)
+stop-status ws IsOne stop.NoWorkspace a alike p q = alike a _ q p
+stop-status ws IsOne (stop.BadLine line) a alike p q = alike a _ q p
+stop-status ws IsOne (stop.TooManyUnits line) a alike p q = alike a _ q p
+stop-status ws IsOne stop.UnreadWorkspace a alike p q = tt
+stop-status ws IsOne (stop.UnitFault unit place cause) a alike p q = alike a _ q p
+stop-status ws IsOne (stop.UnreadFile path) a alike p q = tt
+stop-status ws IsOne stop.NoUnit a alike p q = alike a _ q p
+stop-status ws IsOne stop.BadName a alike p q = alike a _ q p
+stop-status ws IsOne stop.NoName a alike p q = alike a _ q p
+stop-status ws IsOne (stop.Offence place cause) a alike p q = alike a _ q p
+stop-status ws IsOne stop.Memory a alike p q = tt
+
+-- the early end shows its answer
+pub stop-shows : (ws : List ℕ) (IsOne : Answer → Type 0) (end : Stop) (before now : World) → Stops ws IsOne end → Unmoved before now
+    → Tells (line_of ws end) before now → StopReads ws before.reads now.reads now.last end
+    → ShowsAnswer IsOne before now (status_of end)
+stop-shows ws IsOne stop.NoWorkspace before now p unmoved told reads = (_, p, record { status = refl; leaves = unmoved; says = told })
+stop-shows ws IsOne (stop.BadLine line) before now p unmoved told reads = (_, p, record { status = refl; leaves = unmoved; says = told })
+stop-shows ws IsOne (stop.TooManyUnits line) before now p unmoved told reads = (_, p, record { status = refl; leaves = unmoved; says = told })
+stop-shows ws IsOne stop.UnreadWorkspace before now p unmoved told reads = λ a. record { status = tt; leaves = unmoved; says = (ws, told, reads.told) }
+stop-shows ws IsOne (stop.UnitFault unit place cause) before now p unmoved told reads = (_, p, record { status = refl; leaves = unmoved; says = told })
+stop-shows ws IsOne (stop.UnreadFile path) before now p unmoved told reads = λ a. record { status = tt; leaves = unmoved; says = (path, told, reads.told) }
+stop-shows ws IsOne stop.NoUnit before now p unmoved told reads = (_, p, record { status = refl; leaves = unmoved; says = told })
+stop-shows ws IsOne stop.BadName before now p unmoved told reads = (_, p, record { status = refl; leaves = unmoved; says = told })
+stop-shows ws IsOne stop.NoName before now p unmoved told reads = (_, p, record { status = refl; leaves = unmoved; says = told })
+stop-shows ws IsOne (stop.Offence place cause) before now p unmoved told reads = (_, p, record { status = refl; leaves = unmoved; says = told })
+stop-shows ws IsOne stop.Memory before now p unmoved told reads = λ a. record { status = tt; leaves = unmoved; says = told }
 
 -- nothing stands against a run whose answer is done, unless a count rose
 pub complete : (a : Answer) (before now : World) (status : Status) → StatusIs a status → HasCauses before now status
@@ -86,20 +145,18 @@ complete a before now Workspace s causes = λ done read put out. cc
 complete a before now ReadFault s causes = λ done read put out. absurd (read (causes.read refl))
 complete a before now WriteFault s causes = λ done read put out. ⊎_elim (λ p. absurd (put p)) (λ p. absurd (out p)) (causes.write refl)
 
--- what stands ready is the answer to the words
+-- what stands ready is an answer to the words
 pub ready-answer : (o : Option FileMap) (words : List (List ℕ)) (request : RequestValue) (ws : List ℕ) (ready : Ready)
-    → asked words ≡ Some request → IfSome o (λ fs. Prepares ws (request_answer fs request) (Ok ready))
-    → IfSome o (λ fs. answer words fs ≡ answer_of Done ready.text.items [] ready.edits)
-ready-answer o words request ws ready some p =
-    if_told-map o _ _ p (λ fs e. answer-request words fs request some ∙ e)
+    → asked words ≡ Some request → IfSome o (λ fs. Prepares ws (IsRequestAnswer fs request) (Ok ready))
+    → IfSome o (λ fs. IsAnswer words fs (answer_of Done ready.text.items [] ready.edits))
+ready-answer o words request ws ready some p = if_told-map o _ _ p (λ fs is. answer-request words fs request _ some is)
 
--- the early end is that of the answer to the words
+-- the message of the early end is an answer to the words
 pub stop-answer : (o : Option FileMap) (words : List (List ℕ)) (request : RequestValue) (ws : List ℕ) (end : Stop)
-    → asked words ≡ Some request → IfSome o (λ fs. Prepares ws (request_answer fs request) (Err end))
-    → IfSome o (λ fs. Stops ws (answer words fs) end)
+    → asked words ≡ Some request → IfSome o (λ fs. Prepares ws (IsRequestAnswer fs request) (Err end))
+    → IfSome o (λ fs. Stops ws (IsAnswer words fs) end)
 stop-answer o words request ws end some p =
-    if_told-map o _ _ p
-    (λ fs e. let P : Answer → Type 0 = λ a. Stops ws a end in subst P (sym (answer-request words fs request some)) e)
+    if_told-map o _ _ p (λ fs is. stops-map ws (IsRequestAnswer fs request) (IsAnswer words fs) end (λ a h. answer-request words fs request a some h) is)
 
 -- no count rose
 pub quiet-causes : (before now : World) (status : Status) → now.reads ≡ before.reads → now.puts ≡ before.puts
@@ -166,13 +223,6 @@ failed_put edits n before now held puts same same' applies rose last out outs =
       last = last;
     }
 
-pub failed_put-leaves : (o : Option FileMap) (words : List (List ℕ)) (text : List ℕ) (edits : List Edit) (n : ℕ) (before now : World)
-    → IfSome o (λ fs. answer words fs ≡ answer_of Done text [] edits) → FailedPut edits n before now
-    → IfSome o (λ fs. Leaves (answer words fs) before now WriteFault)
-failed_put-leaves o words text edits n before now p failed =
-    if_told-map o _ _ p
-    (λ fs e. let P : List Edit → Type 0 = λ es. FailedPut es n before now in inl (n, subst P (sym (ap (λ (a : Answer). a.edits) e)) failed))
-
 -- the path of an edit is that of the last failed put, where it is told
 path-same : (edits : List Edit) (n : ℕ) (path last : List ℕ) → n < length edits → IfSome (slice_get edits n) (λ e. path ≡ e.path)
     → IfSome (slice_get edits n) (λ e. last ≡ e.path) → last ≡ path
@@ -197,27 +247,6 @@ put-causes before now reads rose = record {
   puts_stay = λ e. cc;
   outs_stay = λ e. cc;
 }
-
--- the status of a run that stood ready
-pub ready-status : (o : Option FileMap) (words : List (List ℕ)) (text : List ℕ) (edits : List Edit)
-    → IfSome o (λ fs. answer words fs ≡ answer_of Done text [] edits) → IfSome o (λ fs. (answer words fs).status ≡ Done)
-ready-status o words text edits p = if_told-map o _ _ p (λ fs e. ap (λ (a : Answer). a.status) e)
-
--- the write to the output failed
-pub failed_write-leaves : (o : Option FileMap) (words : List (List ℕ)) (text : List ℕ) (edits : List Edit) (before now : World)
-    → IfSome o (λ fs. answer words fs ≡ answer_of Done text [] edits) → FailedWrite edits text before now
-    → IfSome o (λ fs. Leaves (answer words fs) before now WriteFault)
-failed_write-leaves o words text edits before now p failed =
-    if_told-map o _ _ p
-    (λ fs e. let P : Answer → Type 0 = λ a. FailedWrite a.edits a.out before now in inr (subst P (sym e) failed))
-
--- the run is done
-pub done-leaves : (o : Option FileMap) (words : List (List ℕ)) (text : List ℕ) (edits : List Edit) (before now : World)
-    → IfSome o (λ fs. answer words fs ≡ answer_of Done text [] edits) → IsDone edits text before now
-    → IfSome o (λ fs. Leaves (answer words fs) before now Done)
-done-leaves o words text edits before now p done =
-    if_told-map o _ _ p
-    (λ fs e. let P : Answer → Type 0 = λ a. IsDone a.edits a.out before now in subst P (sym e) done)
 
 -- no early end is done
 pub stop-not_done : (end : Stop) → status_of end ≡ Done → ⊥

@@ -1,5 +1,5 @@
 -- The answer of the program to its words over the files held: status, output, messages and edits.
-use Rattle.std.specs.Prelude.{ℕ, List, [], Option, None, Some, Result, Ok, Err, codes, map}
+use Rattle.std.specs.Prelude.{ℕ, ◌≡◌, List, [], Option, None, Some, Result, Ok, Err, codes, map}
 use Rattle.std.specs.Option.{option_map, option_map_or}
 use Rattle.cs_base.specs.Edit.{Edit}
 use Rattle.cs_base.specs.Outside.{FileMap, bytes_at}
@@ -8,6 +8,8 @@ use Rattle.ws_file.specs.Workspace.{WorkspaceValue}
 use Rattle.ws_file.specs.Reading.{WsFault, bad_line, too_many_units, workspace_of}
 use Rattle.include_tree.specs.Files.{source_of}
 use Rattle.include_tree.specs.Texts.{UnitTextValue}
+use Rattle.ws_core.specs.Analysis.{AnalysisValue, analysis_of}
+use Rattle.ws_core.specs.ClassReport.{IsClassReport}
 use Rattle.ws_core.specs.Texts as units
 use Rattle.query_report.specs.TokensText.{tokens_text}
 use Rattle.query_report.specs.Skipped.{skipped_text}
@@ -15,7 +17,7 @@ use Rattle.rename_edit.specs.Analysis.{ThinValue, UnitFault, thin_of}
 use Rattle.rename_edit.specs.Renaming.{Refusal, bad_name, no_name, refused, renaming}
 use Rattle.cscout_cli.specs.declared.status.Status.{Status}
 use Rattle.cscout_cli.specs.declared.status.Status.TheVariants.{Done, Refused, Usage, Workspace}
-use Rattle.cscout_cli.specs.Request.{RequestValue, help_asked, version_asked, renaming_asked, tokens_asked, skipped_asked, RenameValue, TokensValue, asked}
+use Rattle.cscout_cli.specs.Request.{RequestValue, help_asked, version_asked, renaming_asked, tokens_asked, skipped_asked, class_asked, RenameValue, TokensValue, ClassValue, asked}
 use Rattle.cscout_cli.specs.Message.{usage_line, absent_line, ws_line, unit_line, text_fault_line, refused_line, offence_line, edited_lines}
 use Rattle.cscout_cli.specs.Help.{help_text, version_text}
 
@@ -117,17 +119,43 @@ units_answer files w = texts_answer (units.texts_of (source_of files) w.units)
 abbrev pub skipped_answer : List ℕ → FileMap → Answer
 skipped_answer ws files = workspace_answer ws (units_answer files) (workspace_at ws files)
 
+-- ---- `class`
+
+-- the report on the class that a place names, or that it names nothing
+abbrev pub class_answer : Option (List ℕ) → Answer
+class_answer None = stopped Refused (refused_line (codes "no name"))
+class_answer (Some text) = shown text
+
+-- The answers over a workspace, once it is analysed. Chains of links make the classes, so they are told by a
+-- relation: the answer is that of what is told of the class.
+abbrev pub IsClassAnswer : ClassValue → Result AnalysisValue units.UnitFault → Answer → Type 0
+IsClassAnswer q (Ok value) a = (told : Option (List ℕ)) × IsClassReport value q.path q.line q.column told × (class_answer told ≡ a)
+IsClassAnswer q (Err fault) a = stopped Workspace (text_fault_line fault) ≡ a
+
+-- the answers over a workspace file: those over its workspace, and the message where it has none
+abbrev pub IsOverWorkspace : List ℕ → (WorkspaceValue → Answer → Type 0) → Option (Result WorkspaceValue WsFault) → Answer → Type 0
+IsOverWorkspace ws IsNext None a = stopped Workspace (absent_line ws) ≡ a
+IsOverWorkspace ws IsNext (Some (Ok w)) a = IsNext w a
+IsOverWorkspace ws IsNext (Some (Err fault)) a = stopped Workspace (ws_fault_line ws fault) ≡ a
+
 -- ---- the whole
 
--- the answer to a request
-abbrev pub request_answer : FileMap → RequestValue → Answer
-request_answer files help_asked = shown help_text
-request_answer files version_asked = shown version_text
-request_answer files (renaming_asked q) = rename_answer q files
-request_answer files (tokens_asked q) = tokens_answer q files
-request_answer files (skipped_asked ws) = skipped_answer ws files
+-- The answer to a request: the one that is computed, and for a class the one that tells it.
+abbrev pub IsRequestAnswer : FileMap → RequestValue → Answer → Type 0
+IsRequestAnswer files help_asked a = shown help_text ≡ a
+IsRequestAnswer files version_asked a = shown version_text ≡ a
+IsRequestAnswer files (renaming_asked q) a = rename_answer q files ≡ a
+IsRequestAnswer files (tokens_asked q) a = tokens_answer q files ≡ a
+IsRequestAnswer files (skipped_asked ws) a = skipped_answer ws files ≡ a
+IsRequestAnswer files (class_asked q) a =
+    IsOverWorkspace q.ws (λ w. IsClassAnswer q (analysis_of (source_of files) w)) (workspace_at q.ws files) a
+
+-- the same to words, which may be of no form
+abbrev pub IsAnswerTo : FileMap → Option RequestValue → Answer → Type 0
+IsAnswerTo files None a = stopped Usage usage_line ≡ a
+IsAnswerTo files (Some request) a = IsRequestAnswer files request a
 
 -- The answer to the words over the files: a command line of no form first, then the workspace file, then
 -- the units, then the refusals of the command.
-unfoldable pub answer : List (List ℕ) → FileMap → Answer
-answer words files = option_map_or (request_answer files) (asked words) (stopped Usage usage_line)
+unfoldable pub IsAnswer : List (List ℕ) → FileMap → Answer → Type 0
+IsAnswer words files a = IsAnswerTo files (asked words) a

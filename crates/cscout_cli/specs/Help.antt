@@ -17,6 +17,8 @@ help_text =
     ++ codes "    prints the preprocessing tokens of unit UNIT of the workspace file, one a line\n"
     ++ codes "cscout WS skipped\n"
     ++ codes "    prints `PATH:FIRST-LAST` for the lines of source files that no unit processes\n"
+    ++ codes "cscout WS class PATH LINE COL\n"
+    ++ codes "    prints `PATH:LINE:COL TEXT` for each place that must be spelled as the name at that place\n"
     ++ codes "cscout --help\n"
     ++ codes "    prints this text\n"
     ++ codes "cscout --version\n"

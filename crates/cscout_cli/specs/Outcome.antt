@@ -138,10 +138,21 @@ IsComplete a before now status =
     a.status ≡ Done → ¬ (Rose before.reads now.reads) → ¬ (Rose before.puts now.puts)
     → ¬ (Rose before.outs now.outs) → IsDoneOrMemory status
 
--- How a run ends. `told` is the answer over the files held before, where they are told.
-pub record Ends (told : FileMap → Answer) (before now : World) (ended : Status) : Type 0 where
-  pub status : IfSome before.held (λ fs. StatusIs (told fs) ended)
-  pub leaves : IfSome before.held (λ fs. Leaves (told fs) before now ended)
-  pub says : IfSome before.held (λ fs. Says (told fs) before now ended)
+-- The end is one of this answer: its status, the files and the output, and the messages.
+pub record IsEndOf (a : Answer) (before now : World) (ended : Status) : Type 0 where
+  pub status : StatusIs a ended
+  pub leaves : Leaves a before now ended
+  pub says : Says a before now ended
+
+-- The end is one of an answer that there is. After a failed read and without memory it is one whatever the
+-- answer would be.
+abbrev pub ShowsAnswer : (Answer → Type 0) → World → World → Status → Type 0
+ShowsAnswer IsAnswer before now ReadFault = (a : Answer) → IsEndOf a before now ReadFault
+ShowsAnswer IsAnswer before now Memory = (a : Answer) → IsEndOf a before now Memory
+ShowsAnswer IsAnswer before now ended = (a : Answer) × IsAnswer a × IsEndOf a before now ended
+
+-- How a run ends. `IsAnswer` says what is an answer over the files held before, where they are told.
+pub record Ends (IsAnswer : FileMap → Answer → Type 0) (before now : World) (ended : Status) : Type 0 where
+  pub shows : IfSome before.held (λ fs. ShowsAnswer (IsAnswer fs) before now ended)
   pub causes : HasCauses before now ended
-  pub complete : IfSome before.held (λ fs. IsComplete (told fs) before now ended)
+  pub complete : IfSome before.held (λ fs. (a : Answer) → IsAnswer fs a → IsComplete a before now ended)

@@ -26,6 +26,17 @@ pub record TokensValue : Type 0 where
 abbrev pub tokens_of_unit : List ℕ → ℕ → TokensValue
 tokens_of_unit ws unit = record { ws = ws; unit = unit }
 
+-- A report on the class of a name: the workspace file, and the place.
+pub record ClassValue : Type 0 where
+  pub ws : List ℕ
+  pub path : List ℕ
+  pub line : ℕ
+  pub column : ℕ
+
+-- such a report of these parts
+abbrev pub class_at : List ℕ → List ℕ → ℕ → ℕ → ClassValue
+class_at ws path line column = record { ws = ws; path = path; line = line; column = column }
+
 -- What the program can be asked for. A report on skipped groups has a workspace file alone.
 pub data RequestValue : Type 0 where
   help_asked : RequestValue
@@ -33,6 +44,7 @@ pub data RequestValue : Type 0 where
   renaming_asked : RenameValue → RequestValue
   tokens_asked : TokensValue → RequestValue
   skipped_asked : List ℕ → RequestValue
+  class_asked : ClassValue → RequestValue
 
 -- the number that decimal digits spell
 abbrev pub number_of : List ℕ → ℕ
@@ -59,6 +71,13 @@ rename_of ws path line column name =
     then Some (renaming_asked (rename ws (normal_path_of path) (number_of line) (number_of column) name))
     else None
 
+-- the words of a report on a class: as those of a rename
+abbrev pub class_report_of : List ℕ → List ℕ → List ℕ → List ℕ → Option RequestValue
+class_report_of ws path line column =
+    if is_number line && is_number column
+    then Some (class_asked (class_at ws (normal_path_of path) (number_of line) (number_of column)))
+    else None
+
 -- a word that stands alone
 abbrev pub alone_of : List ℕ → Option RequestValue
 alone_of word =
@@ -76,6 +95,11 @@ unit_command_of ws command unit =
     then Some (tokens_asked (tokens_of_unit ws (number_of unit)))
     else None
 
+-- five words: the workspace file, a command, and a place
+abbrev pub place_command_of : List ℕ → List ℕ → List ℕ → List ℕ → List ℕ → Option RequestValue
+place_command_of ws command path line column =
+    if bytes_eq command (codes "class") then class_report_of ws path line column else None
+
 -- six words: the workspace file and a command
 abbrev pub command_of : List ℕ → List ℕ → List ℕ → List ℕ → List ℕ → List ℕ → Option RequestValue
 command_of ws command path line column name =
@@ -86,6 +110,7 @@ abbrev pub asked : List (List ℕ) → Option RequestValue
 asked (word ∷ []) = alone_of word
 asked (ws ∷ command ∷ []) = workspace_command_of ws command
 asked (ws ∷ command ∷ unit ∷ []) = unit_command_of ws command unit
+asked (ws ∷ command ∷ path ∷ line ∷ column ∷ []) = place_command_of ws command path line column
 asked (ws ∷ command ∷ path ∷ line ∷ column ∷ name ∷ []) =
     command_of ws command path line column name
 asked words = None

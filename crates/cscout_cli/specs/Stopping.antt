@@ -40,12 +40,12 @@ line_of ws (Offence place cause) =
     offence_line (offence place.path (file_fault place.line place.column cause))
 line_of ws Memory = memory_line
 
--- The answer is that of the early end, unless a read failed or memory ran out.
-abbrev pub Stops : List ℕ → Answer → Stop → Type 0
-Stops ws a UnreadWorkspace = Unit {0}
-Stops ws a (UnreadFile path) = Unit {0}
-Stops ws a Memory = Unit {0}
-Stops ws a stop = a ≡ stopped (status_of stop) (line_of ws stop)
+-- The message of the early end is an answer, unless a read failed or memory ran out.
+abbrev pub Stops : List ℕ → (Answer → Type 0) → Stop → Type 0
+Stops ws IsAnswer UnreadWorkspace = Unit {0}
+Stops ws IsAnswer (UnreadFile path) = Unit {0}
+Stops ws IsAnswer Memory = Unit {0}
+Stops ws IsAnswer stop = IsAnswer (stopped (status_of stop) (line_of ws stop))
 
 -- The count of the reads that failed rose, and the last of them is that of the path, where it is told.
 pub record FailedRead (path : List ℕ) (reads reads' : ℕ) (last' : Option (List ℕ)) : Type 0 where

@@ -11,6 +11,8 @@ cscout WS tokens UNIT
     prints the preprocessing tokens of unit UNIT of the workspace file, one a line
 cscout WS skipped
     prints `PATH:FIRST-LAST` for the lines of source files that no unit processes
+cscout WS class PATH LINE COL
+    prints `PATH:LINE:COL TEXT` for each place that must be spelled as the name at that place
 cscout --help
     prints this text
 cscout --version

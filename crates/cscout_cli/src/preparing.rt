@@ -4,13 +4,14 @@ ghost use Rattle.cs_base.specs.Edit.{edit};
 ghost use Rattle.ws_file.specs.Workspace.{most_units};
 ghost use Rattle.rename_edit.specs.Analysis.{thin_of};
 ghost use Rattle.rename_edit.specs.Renaming.{renaming};
-ghost use Rattle.cscout_cli.specs.Answer.{request_answer, rename_answer, analysed_answer, renaming_answer, unit_paths};
+ghost use Rattle.cscout_cli.specs.Answer.{IsRequestAnswer, analysed_answer, renaming_answer, unit_paths};
 ghost use Rattle.cscout_cli.specs.Asking.{request_value, rename_value, workspace_file};
 ghost use Rattle.cscout_cli.specs.Message.{edited_line, edited_lines};
+ghost use Rattle.cscout_cli.specs.Request.{renaming_asked};
 ghost use Rattle.cscout_cli.specs.Steps.{IsPlanStop, Prepares, Analyses, StepReads};
 
 use crate::help::{help, version};
-use crate::reporting::{prepare_skipped, prepare_tokens};
+use crate::reporting::{prepare_class, prepare_skipped, prepare_tokens};
 use crate::requests::{Rename, Request};
 use crate::stops::Stop;
 use crate::workspace_files::read_workspace;
@@ -31,7 +32,7 @@ pub struct Ready {
 /// All of the answer to a request but its puts and its output.
 pub fn prepare<F: Files>(alloc: Global, request: &Request<'_>, files: &mut F) -> Result<Ready, Stop>
     ensures answer { IfSome (F.held files.old) (λ fs.
-        Prepares (workspace_file request.now) (request_answer fs (request_value request.now)) result) }
+        Prepares (workspace_file request.now) (IsRequestAnswer fs (request_value request.now)) result) }
     ensures held { F.held files.new ≡ F.held files.old }
     ensures reads { StepReads (workspace_file request.now)
         (F.failed_reads files.old) (F.failed_reads files.new) (F.last_failed files.new) result }
@@ -43,6 +44,7 @@ pub fn prepare<F: Files>(alloc: Global, request: &Request<'_>, files: &mut F) ->
         Request::Renaming(rename) => prepare_rename(alloc, rename, files),
         Request::Tokens(tokens) => prepare_tokens(alloc, tokens, files),
         Request::Skipped(ws) => prepare_skipped(alloc, ws, files),
+        Request::Class(class) => prepare_class(alloc, class, files),
     }
 }
 
@@ -64,7 +66,7 @@ fn prepare_rename<F: Files>(
     files: &mut F,
 ) -> Result<Ready, Stop>
     ensures answer { IfSome (F.held files.old) (λ fs.
-        Prepares rename.now.ws.now (rename_answer (rename_value rename.now) fs) result) }
+        Prepares rename.now.ws.now (IsRequestAnswer fs (renaming_asked (rename_value rename.now))) result) }
     ensures held { F.held files.new ≡ F.held files.old }
     ensures reads { StepReads rename.now.ws.now
         (F.failed_reads files.old) (F.failed_reads files.new) (F.last_failed files.new) result }
@@ -114,8 +116,8 @@ fn paths_of(alloc: Global, ws: &Workspace) -> Result<Vec<Text>, Memory>
 // The edits of the rename and the text that tells them.
 fn planned(alloc: Global, thin: &Thin, rename: &Rename<'_>) -> Result<Ready, Stop>
     ensures answer { Prepares rename.now.ws.now
-        (renaming_answer (renaming thin.now (rename_value rename.now).path rename.now.line
-        rename.now.column rename.now.name.now)) result }
+        (λ a. renaming_answer (renaming thin.now (rename_value rename.now).path rename.now.line
+        rename.now.column rename.now.name.now) ≡ a) result }
     ensures stops { IfErr result IsPlanStop }
 {
     let path = normal_path(alloc, rename.path.as_bytes())?;

@@ -1,7 +1,7 @@
 // What the words after the program's name ask for.
 ghost use Rattle.std.specs.Prelude.{◌≡◌, ◌≤◌, length, map, string_bytes, IsTrue};
 ghost use Rattle.std.specs.Option.{option_map};
-ghost use Rattle.cscout_cli.specs.Request.{asked, alone_of, workspace_command_of, unit_command_of, command_of, rename_of, is_number, are_digits, begins_with_zero, number_of};
+ghost use Rattle.cscout_cli.specs.Request.{asked, alone_of, workspace_command_of, unit_command_of, place_command_of, class_report_of, command_of, rename_of, is_number, are_digits, begins_with_zero, number_of};
 ghost use Rattle.cscout_cli.specs.Asking.{request_value, workspace_file};
 
 /// A rename in words: the path is as written.
@@ -21,6 +21,15 @@ pub struct UnitTokens<'a> {
     pub unit: u32,
 }
 
+/// A report on the class of a name, in words: the path is as written.
+#[derive(Drop)]
+pub struct NamedClass<'a> {
+    pub ws: &'a str,
+    pub path: &'a str,
+    pub line: u32,
+    pub column: u32,
+}
+
 /// What the program is asked for. `Skipped` has the workspace file.
 #[derive(Drop)]
 pub enum Request<'a> {
@@ -29,6 +38,7 @@ pub enum Request<'a> {
     Renaming(Rename<'a>),
     Tokens(UnitTokens<'a>),
     Skipped(&'a str),
+    Class(NamedClass<'a>),
 }
 
 /// The request of these words, or none where they are of no form. Takes no memory.
@@ -43,6 +53,15 @@ pub fn asked(words: &[String]) -> Option<Request<'_>>
     }
     if words.len() == 3 {
         return asked_of_unit(words[0].as_str(), words[1].as_str(), words[2].as_str());
+    }
+    if words.len() == 5 {
+        return asked_of_place(
+            words[0].as_str(),
+            words[1].as_str(),
+            words[2].as_str(),
+            words[3].as_str(),
+            words[4].as_str(),
+        );
     }
     if words.len() != 6 {
         return None;
@@ -86,6 +105,37 @@ fn asked_of_unit<'a>(ws: &'a str, command: &str, unit: &str) -> Option<Request<'
         Some(Request::Tokens(UnitTokens {
             ws,
             unit: number(unit.as_bytes()),
+        }))
+    } else {
+        None
+    }
+}
+
+fn asked_of_place<'a>(
+    ws: &'a str,
+    command: &str,
+    path: &'a str,
+    line: &str,
+    column: &str,
+) -> Option<Request<'a>>
+    ensures { option_map request_value result ≡ place_command_of ws.now command.now path.now line.now column.now }
+{
+    if command == "class" {
+        asked_class(ws, path, line, column)
+    } else {
+        None
+    }
+}
+
+fn asked_class<'a>(ws: &'a str, path: &'a str, line: &str, column: &str) -> Option<Request<'a>>
+    ensures { option_map request_value result ≡ class_report_of ws.now path.now line.now column.now }
+{
+    if is_number(line.as_bytes()) && is_number(column.as_bytes()) {
+        Some(Request::Class(NamedClass {
+            ws,
+            path,
+            line: number(line.as_bytes()),
+            column: number(column.as_bytes()),
         }))
     } else {
         None
@@ -178,6 +228,7 @@ pub fn workspace_file<'a>(request: &Request<'a>) -> &'a str
         Request::Renaming(rename) => rename.ws,
         Request::Tokens(tokens) => tokens.ws,
         Request::Skipped(ws) => ws,
+        Request::Class(class) => class.ws,
         _ => "",
     }
 }

@@ -1,10 +1,12 @@
 // Whole runs over files and sinks in memory, and the adapters over one real file.
+mod classes;
 mod reports;
 mod tables;
 
 use crate::host::HostFiles;
 use crate::status::Status;
 use crate::top::run;
+use classes::{CLASSES, FAILING_CLASSES};
 use cs_base::{Files, Got, MemFiles, MemSink, Memory, Put};
 use reports::{FAILING_REPORTS, REFUSED_REPORTS, REPORTS};
 use std::alloc::Global;
@@ -122,6 +124,23 @@ fn reports_answer_as_worked_by_hand(rt: HostRuntime) -> Result<(), Memory> {
         check(&rt, row, 0, 0, 0)?;
     }
     for failing in &FAILING_REPORTS {
+        check(
+            &rt,
+            &failing.row,
+            failing.call,
+            failing.out_call,
+            failing.err_call,
+        )?;
+    }
+    Ok(())
+}
+
+#[test]
+fn classes_are_told_as_worked_by_hand(rt: HostRuntime) -> Result<(), Memory> {
+    for row in &CLASSES {
+        check(&rt, row, 0, 0, 0)?;
+    }
+    for failing in &FAILING_CLASSES {
         check(
             &rt,
             &failing.row,

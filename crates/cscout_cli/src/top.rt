@@ -2,7 +2,7 @@
 ghost use Rattle.std.specs.Prelude.{◌≡◌, ◌↔◌, IfSome, map, string_bytes, None};
 ghost use Rattle.cs_base.specs.Outside.{Writes, Faults, write_failed};
 ghost use Rattle.cscout_cli.specs.Request.{asked};
-ghost use Rattle.cscout_cli.specs.Answer.{answer};
+ghost use Rattle.cscout_cli.specs.Answer.{IsAnswer};
 ghost use Rattle.cscout_cli.specs.Outcome.{world, Ends};
 ghost use Rattle.cscout_cli.specs.Promise.{KeepsPromise};
 
@@ -24,8 +24,8 @@ pub fn run<F: Files, O: Sink, E: Sink>(
 ) -> Status
     // Usage comes exactly where the words are of no form.
     ensures usage { (result ≡ Status.Usage) ↔ (asked (map string_bytes words.now) ≡ None) }
-    // Status, files, output and messages are those of the answer; what failed is answered, and nothing else.
-    ensures outcome { Ends (answer (map string_bytes words.now))
+    // Status, files, output and messages are those of an answer; what failed is answered, and nothing else.
+    ensures outcome { Ends (IsAnswer (map string_bytes words.now))
         (world (F.held files.old) (F.failed_reads files.old) (F.failed_puts files.old)
         (F.last_failed files.old) (O.bytes out.old) (O.failed_writes out.old)
         (E.bytes err.old) (E.failed_writes err.old))

@@ -7,7 +7,7 @@ use Rattle.cs_base.specs.declared.outside.Wrote.TheVariants as wrote
 use Rattle.cscout_cli.specs.declared.status.Status.{Status}
 use Rattle.cscout_cli.specs.Request.{asked}
 use Rattle.cscout_cli.specs.Asking.{request_value, workspace_file}
-use Rattle.cscout_cli.specs.Answer.{answer}
+use Rattle.cscout_cli.specs.Answer.{IsAnswer}
 use Rattle.cscout_cli.specs.Stopping.{line_of}
 use Rattle.cscout_cli.specs.Outcome.{World, world, Tells, Unmoved, FailedWrite, Ends}
 use Rattle.cscout_cli.proofs.RunLemmas.{ready-answer, stop-answer, failed_put, stop-not_done}
@@ -40,7 +40,7 @@ returns-in-Err-clause-outcome g c =
     let stops = stop-answer before.held words (request_value c.in-Some.request) ws c.in-Err.stop some c.in-Err.ensures.answer in
     let line : Tells (line_of ws c.in-Err.stop) before now = rw (← c.workspace_file.ensures) c.tell_stop.ensures.told in
     let unmoved : Unmoved before now = record { held = c.prepare.ensures.held; out = refl } in
-    let P : Status → Type 0 = λ s. Ends (answer words) before now s in
+    let P : Status → Type 0 = λ s. Ends (IsAnswer words) before now s in
     subst P (sym c.tell_stop.ensures.status)
     (stop-ends words ws c.in-Err.stop before now stops unmoved c.in-Err.ensures.reads c.prepare.ensures.puts refl line)
 

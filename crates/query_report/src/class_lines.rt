@@ -1,0 +1,131 @@
+// The report `class`: the members of the class that a place names.
+ghost use Rattle.std.specs.Prelude.{◌≡◌, ◌++◌, ℕ, Err, None, Some, false, IfOk, OnOk, slice_get, unwrap_or};
+ghost use Rattle.part_lexer.specs.Lines.{line_column_of};
+ghost use Rattle.include_tree.specs.Faults.{place_of};
+ghost use Rattle.include_tree.specs.KeptFiles.{kept_at};
+ghost use Rattle.ws_core.specs.ClassReport.{IsClassReport, part_line, part_lines, place_text};
+ghost use Rattle.ws_core.specs.Naming.{file_named};
+ghost use Rattle.ws_core.specs.Parts.{IsPart};
+ghost use Rattle.ws_core.specs.Places.{place_at};
+ghost use Rattle.query_report.specs.Paths.{has_path};
+ghost use Rattle.query_report.specs.declared.queries.QueryRefusal.TheVariants.{NoName};
+
+use crate::queries::QueryRefusal;
+use cs_base::{Memory, Part, Place, Pos};
+use include_tree::KeptFile;
+use itoa::Buffer;
+use std::alloc::Global;
+use std::str;
+use ws_core::Analysis;
+
+/// The members of the class of the name at a place, each as `PATH:LINE:COL TEXT` on a line, in the order of
+/// their places.
+pub(crate) fn class_report(
+    alloc: Global,
+    a: &Analysis,
+    place: &Place,
+) -> Result<Vec<u8>, QueryRefusal>
+    ensures answer { IfOk result (λ text. IsClassReport a.now.value place.now.path place.now.line place.now.column (Some text.items)) }
+    ensures no_name { result ≡ Err NoName → IsClassReport a.now.value place.now.path place.now.line place.now.column None }
+{
+    let Ok(path) = str::from_utf8(place.path.bytes()) else {
+        return unreadable(a, place);
+    };
+    match a.part_at(path, place.line, place.column) {
+        Some(part) => Ok(part_lines(alloc, a, a.members(part))?),
+        None => Err(QueryRefusal::NoName),
+    }
+}
+
+// A place whose path is no text: files that are read have paths that are, so it names nothing.
+fn unreadable(a: &Analysis, place: &Place) -> Result<Vec<u8>, QueryRefusal>
+    ensures answer { IfOk result (λ text. IsClassReport a.now.value place.now.path place.now.line place.now.column (Some text.items)) }
+    ensures no_name { result ≡ Err NoName → IsClassReport a.now.value place.now.path place.now.line place.now.column None }
+{
+    if is_kept(a, place.path.bytes()) {
+        Err(QueryRefusal::Memory)
+    } else {
+        Err(QueryRefusal::NoName)
+    }
+}
+
+// Whether a kept file has the path.
+fn is_kept(a: &Analysis, path: &[u8]) -> bool
+    ensures { result ≡ false → file_named path.now 0 a.now.value.table ≡ None }
+{
+    for number in 0..a.files() {
+        if has_path(a, number, path) {
+            return true;
+        }
+    }
+    false
+}
+
+// Whether the kept file with a number has the path.
+fn has_path(a: &Analysis, number: u32, path: &[u8]) -> bool
+    ensures { result ≡ has_path path.now (kept_at a.now.value.table number) }
+{
+    match a.file(number) {
+        Some(file) => path == file.path(),
+        None => false,
+    }
+}
+
+#[tactic(auto, unfolding(ws_core::specs::ClassReport::part_lines))]
+// The lines of parts, in order.
+fn part_lines(alloc: Global, a: &Analysis, parts: &[Part]) -> Result<Vec<u8>, Memory>
+    requires parts { (k : ℕ) (part : Part) → slice_get parts.now k ≡ Some part → IsPart a.now.value part }
+    ensures { IfOk result (λ text. text.items ≡ part_lines a.now.value parts.now) }
+{
+    let mut text = Vec::new(alloc);
+    for part in parts {
+        push_part(&mut text, a, *part)?;
+    }
+    Ok(text)
+}
+
+// Adds the line of a part.
+fn push_part(text: &mut Vec<u8>, a: &Analysis, part: Part) -> Result<(), Memory>
+    requires { IsPart a.now.value part }
+    ensures { OnOk result (text.new.items ≡ text.old.items ++ part_line a.now.value part) }
+{
+    push_position(text, a, part.start)?;
+    text.extend_from_slice(b" ")?;
+    text.extend_from_slice(a.spelling(part))?;
+    text.extend_from_slice(b"\n")?;
+    Ok(())
+}
+
+// Adds the place of a position.
+fn push_position(text: &mut Vec<u8>, a: &Analysis, at: Pos) -> Result<(), Memory>
+    ensures { OnOk result (text.new.items ≡ text.old.items ++ place_text (place_at a.now.value.table at)) }
+{
+    match a.file(at.file) {
+        Some(file) => push_place(text, file.path(), line_column(file, at.at)),
+        None => push_place(text, b"<lines>", (at.at / 8 + 1, at.at % 8 + 1)),
+    }
+}
+
+// The line and the column of a character of a file.
+fn line_column(file: &KeptFile, at: u32) -> (u32, u32)
+    ensures { result ≡ unwrap_or (line_column_of file.now.bytes at) (1, 1) }
+{
+    match file.text().line_column(at) {
+        Some(place) => place,
+        None => (1, 1),
+    }
+}
+
+// Adds a place of this path.
+fn push_place(text: &mut Vec<u8>, path: &[u8], place: (u32, u32)) -> Result<(), Memory>
+    ensures { OnOk result (text.new.items ≡ text.old.items ++ place_text (place_of path.now place)) }
+{
+    let mut line = Buffer::new();
+    let mut column = Buffer::new();
+    text.extend_from_slice(path)?;
+    text.extend_from_slice(b":")?;
+    text.extend_from_slice(line.format(place.0).as_bytes())?;
+    text.extend_from_slice(b":")?;
+    text.extend_from_slice(column.format(place.1).as_bytes())?;
+    Ok(())
+}
