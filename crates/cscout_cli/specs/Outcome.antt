@@ -151,7 +151,8 @@ ShowsAnswer IsAnswer before now ReadFault = (a : Answer) → IsEndOf a before no
 ShowsAnswer IsAnswer before now Memory = (a : Answer) → IsEndOf a before now Memory
 ShowsAnswer IsAnswer before now ended = (a : Answer) × IsAnswer a × IsEndOf a before now ended
 
--- How a run ends. `IsAnswer` says what is an answer over the files held before, where they are told.
+-- How a run ends. `IsAnswer` says what is an answer over the files held before, where they are told. Where it is an
+-- equation, as for every command but `class`, the end is one of that answer.
 pub record Ends (IsAnswer : FileMap → Answer → Type 0) (before now : World) (ended : Status) : Type 0 where
   pub shows : IfSome before.held (λ fs. ShowsAnswer (IsAnswer fs) before now ended)
   pub causes : HasCauses before now ended
