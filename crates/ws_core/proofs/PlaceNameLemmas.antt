@@ -1,12 +1,12 @@
 -- Which part a place names.
 use Rattle.std.proofs.Common.{◌≡◌, ℕ, zero, suc, ◌+◌, ◌<◌, ◌≤◌, Bool, true, false, cond, List, [], ◌∷◌, drop, length, Option, None, Some, refl, sym, ap, subst, ◌∙◌, inl, inr, arith}
-use Rattle.std.specs.Prelude.{slice_get, get_or, ◌||◌}
+use Rattle.std.specs.Prelude.{slice_get, get_or}
 use Rattle.std.specs.List.{list_any}
 use Rattle.std.specs.Option.{option_map, option_and_then}
 use Rattle.std.specs.Str.{bytes_eq}
 use Rattle.std.proofs.lemmas.Bool.{cases_Bool, both_ways, false_from_ne_true}
 use Rattle.std.proofs.lemmas.List.{at_drop_more, at_drop_all}
-use Rattle.std.proofs.lemmas.Option.{same_Some, slice_get-get_or, slice_get_within}
+use Rattle.std.proofs.lemmas.Option.{same_Some, slice_get-get_or}
 use Rattle.cs_base.specs.declared.positions.Part.{Part}
 use Rattle.cs_base.specs.declared.positions.Pos.{Pos}
 use Rattle.cs_base.specs.Token.{Token}
@@ -19,9 +19,8 @@ use Rattle.include_tree.specs.KeptFiles.{KeptValue, kept, kept_bytes, kept_in, k
 use Rattle.ws_core.specs.Analysis.{AnalysisValue}
 use Rattle.ws_core.specs.Classes.{AreItsClasses}
 use Rattle.ws_core.specs.FileTokens.{span_of}
-use Rattle.ws_core.specs.Marking.{is_marked, IsMarkedToken, AreMarked}
-use Rattle.ws_core.specs.Naming.{names_processed, is_processed, file_named, character_of, where_processed, named_position, Names}
-use Rattle.ws_core.specs.Parts.{IsCharacter}
+use Rattle.ws_core.specs.Marking.{is_marked, AreMarked}
+use Rattle.ws_core.specs.Naming.{names_processed, is_processed, file_named, named_position, Names}
 use Rattle.ws_core.specs.TokenSearch.{AreInLine, IsOver}
 use Rattle.ws_core.proofs.ClassLemmas.{held_by}
 use Rattle.ws_core.proofs.NamingLemmas.{any_in, named_character}

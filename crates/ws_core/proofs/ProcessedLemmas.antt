@@ -1,6 +1,6 @@
 -- The identifiers of items that were reached, and their marks.
 use Rattle.std.proofs.Common.{◌≡◌, ℕ, zero, suc, ◌+◌, ◌-◌, ◌<◌, ◌≤◌, Bool, true, false, nat_lt, List, [], ◌∷◌, ◌++◌, map, take, drop, length, Option, None, Some, Ok, refl, sym, ap, subst, ◌∙◌, inl, inr, arith, append-nil, append_assoc, take_all}
-use Rattle.std.specs.Prelude.{slice_get, slice_range, ◌⊎◌, Result, Err, OnOk}
+use Rattle.std.specs.Prelude.{slice_get, slice_range, Result, Err, OnOk}
 use Rattle.std.specs.List.{filter, flat_map}
 use Rattle.std.specs.Option.{option_map_or, option_and_then}
 use Rattle.std.proofs.lemmas.Bool.{cases_Bool, both_ways}
@@ -14,8 +14,8 @@ use Rattle.line_shape.specs.Signs.{is_name}
 use Rattle.include_tree.specs.declared.events.Reached.{Reached}
 use Rattle.include_tree.specs.Files.{Table}
 use Rattle.include_tree.specs.KeptFiles.{KeptValue, kept_at}
-use Rattle.include_tree.specs.Walk.{ItemText, item_text, item_texts}
-use Rattle.ws_core.specs.Marking.{is_marked, IsNameIn, MarksItem, Has, IsMarkedToken, MarksTokens, AreMarked}
+use Rattle.include_tree.specs.Walk.{ItemText, item_text}
+use Rattle.ws_core.specs.Marking.{is_marked, MarksItem, Has, IsMarkedToken, MarksTokens, AreMarked}
 use Rattle.ws_core.specs.Naming.{nameable, item_at, names_in_item, names_reached}
 use Rattle.ws_core.proofs.NamingLemmas.{in_left, in_right, split_at, map_at, in_filter, filter_in}
 

@@ -1,7 +1,7 @@
 -- How parts are spelled.
-use Rattle.std.proofs.Common.{◌≡◌, ℕ, zero, suc, ◌+◌, ◌-◌, ◌<◌, ◌≤◌, Bool, true, false, min, List, [], ◌∷◌, ◌++◌, map, take, drop, length, Option, None, Some, refl, sym, ap, subst, ◌∙◌, inl, inr, arith}
+use Rattle.std.proofs.Common.{◌≡◌, ℕ, zero, suc, ◌+◌, ◌-◌, ◌≤◌, Bool, true, min, List, [], ◌∷◌, map, take, drop, length, Option, None, Some, refl, sym, ap, subst, ◌∙◌, inl, inr, arith}
 use Rattle.std.specs.Prelude.{slice_get, slice_range, find}
-use Rattle.std.specs.List.{flat_map, filter}
+use Rattle.std.specs.List.{flat_map}
 use Rattle.std.specs.Option.{option_map_or, option_and_then}
 use Rattle.std.proofs.lemmas.Bool.{cases_Bool, cases_lt, both_ways}
 use Rattle.std.proofs.lemmas.Option.{same_Some}
@@ -11,11 +11,11 @@ use Rattle.cs_base.specs.Token.{Token, has_origins}
 use Rattle.part_lexer.specs.Tokens.{tokens_of}
 use Rattle.eclass_map.specs.Positions.{holds}
 use Rattle.eclass_map.proofs.TokenFacts.{holding}
-use Rattle.include_tree.specs.Files.{Entry, Table}
+use Rattle.include_tree.specs.Files.{Table}
 use Rattle.include_tree.specs.KeptFiles.{KeptValue, kept_in, kept_at}
 use Rattle.ws_core.specs.Analysis.{UnitAnalysis, AnalysisValue}
-use Rattle.ws_core.specs.BroughtNumbers.{AreNumbers, AreInOrder, all_brought}
-use Rattle.ws_core.specs.FileTokens.{kept_tokens, entry_tokens, table_tokens, numbers_brought, file_tokens, span_of, IsFileToken}
+use Rattle.ws_core.specs.BroughtNumbers.{AreNumbers, all_brought}
+use Rattle.ws_core.specs.FileTokens.{kept_tokens, entry_tokens, table_tokens, numbers_brought, file_tokens, span_of}
 use Rattle.ws_core.specs.Parts.{IsCharacter}
 use Rattle.ws_core.specs.Spellings.{token_over, spelling_in, spelling_of}
 use Rattle.ws_core.specs.TokenSearch.{AreInLine}

@@ -1,7 +1,6 @@
-use Rattle.std.proofs.Common.{◌≡◌, ◌+◌, ◌<◌, ◌≤◌, length, List, Bool, Some, sym, ap, subst, ◌∙◌, arith}
+use Rattle.std.proofs.Common.{◌≡◌, ◌<◌, length, Some, sym, ap, ◌∙◌, arith}
 use Rattle.std.specs.Prelude.{slice_get}
 use Rattle.std.proofs.lemmas.Option.{slice_get-get_or}
-use Rattle.ws_core.specs.Marking.{MarksNames, SetsMark}
 use Rattle.ws_core.proofs.MarkLemmas.{names_more, names_same, names_end}
 use Rattle.ws_core.proofs.marks.mark_names.Goals as goal
 use Rattle.ws_core.proofs.marks.mark_names.Goals.{then-is_name+in-Ok, else-is_name}

@@ -1,7 +1,6 @@
-use Rattle.std.proofs.Common.{◌≡◌, ◌<◌, length, Some, ap, sym, ◌∙◌, arith}
-use Rattle.std.specs.Prelude.{slice_get}
+use Rattle.std.proofs.Common.{◌<◌, length, Some, ap, sym, ◌∙◌, arith}
 use Rattle.std.proofs.lemmas.Option.{slice_get-get_or}
-use Rattle.ws_core.proofs.NameableLemmas.{computed_none, computed_all, computed_past}
+use Rattle.ws_core.proofs.NameableLemmas.{computed_none}
 use Rattle.ws_core.proofs.nameable.computed_end.Goals as goal
 
 pub returns-then-is_header-clause-answer : goal.returns-then-is_header-clause-answer

@@ -1,4 +1,4 @@
-use Rattle.std.proofs.Common.{ap, ◌∙◌, ◌+◌}
+use Rattle.std.proofs.Common.{ap, ◌∙◌}
 use Rattle.ws_core.specs.Naming.{computed_name}
 use Rattle.ws_core.proofs.NameableLemmas.{drop_range, named_first}
 use Rattle.ws_core.proofs.nameable.nameable_range.Goals as goal

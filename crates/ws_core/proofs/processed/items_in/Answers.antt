@@ -1,4 +1,4 @@
-use Rattle.std.proofs.Common.{◌≡◌, ◌∙◌, ap, List, Bool}
+use Rattle.std.proofs.Common.{◌∙◌, ap, List}
 use Rattle.cs_base.specs.Token.{Token}
 use Rattle.line_shape.specs.Items.{items_of}
 use Rattle.ws_core.proofs.ProcessedLemmas.{text_told}

@@ -1,8 +1,7 @@
-use Rattle.std.proofs.Common.{◌≡◌, ◌<◌, ◌≤◌, List, length, Some, ap, sym, subst, ◌∙◌}
+use Rattle.std.proofs.Common.{◌≡◌, ◌≤◌, List, length, Some, ap, sym, subst, ◌∙◌}
 use Rattle.std.specs.Prelude.{slice_get}
 use Rattle.std.specs.List.{flat_map}
 use Rattle.std.proofs.lemmas.Option.{slice_get-get_or}
-use Rattle.cs_base.specs.Token.{Token}
 use Rattle.include_tree.specs.declared.events.Reached.{Reached}
 use Rattle.include_tree.specs.Texts.{UnitTextValue}
 use Rattle.ws_core.specs.Analysis.{UnitAnalysis}

@@ -1,6 +1,5 @@
 use Rattle.std.proofs.Common.{◌≡◌, List, None, Some, sym, ap, subst, ◌∙◌}
 use Rattle.cs_base.specs.declared.positions.Part.{Part}
-use Rattle.eclass_map.specs.ClassTable.{class_in}
 use Rattle.ws_core.specs.Analysed.{Analysed}
 use Rattle.ws_core.specs.Analysis.{AnalysisValue}
 use Rattle.ws_core.specs.Parts.{AreMembers, IsPart}
