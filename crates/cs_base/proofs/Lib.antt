@@ -1,4 +1,5 @@
 pub mod EditLemmas
+pub mod NeighbourLemmas
 pub mod FileMapLemmas
 pub mod CountLemmas
 pub mod WorldLemmas

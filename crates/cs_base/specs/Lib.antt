@@ -12,6 +12,9 @@ pub mod Written
 pub mod Paths
 pub mod Units
 -- What contracts see of private fields.
+pub mod Spelling
+pub mod Neighbours
+pub mod KeptToken
 pub mod EditList
 pub mod Stored
 pub mod HeldFiles

@@ -74,6 +74,26 @@ fn tokens_and_edits_find_memory(rt: HostRuntime) -> Result<(), Fail> {
     let tok = Tok::new(alloc, Kind::Punct, b"++", &[Some(at)], true, at, 7, true)?;
     let copy = tok.share(false, at, 9, false)?;
     assert_eq!(rt; copy.text(), b"++".as_slice());
+    let last = Pos {
+        file: 1,
+        at: u32::MAX,
+    };
+    let end = Tok::new(alloc, Kind::Punct, b";", &[Some(last)], true, last, 7, true)?;
+    assert_eq!(rt; end.origins(0), Some(last));
+    let long = Tok::new(
+        alloc,
+        Kind::Str,
+        b"\"sixteen bytes.\"",
+        &[],
+        true,
+        at,
+        8,
+        true,
+    )?;
+    assert_eq!(rt;
+        long.share(true, at, 8, true)?.text(),
+        b"\"sixteen bytes.\"".as_slice()
+    );
     let mut edits = Edits::new(alloc);
     let path = Text::new(alloc, b"a.c")?;
     edits.push(path, Vec::from_slice(alloc, b"int b;\n")?, 1)?;

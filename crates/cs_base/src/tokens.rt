@@ -1,6 +1,9 @@
-// Preprocessing tokens as values whose text and origins are shared (ISO/IEC 9899:1999, 6.4).
+// Preprocessing tokens as values, which share their text and origins where these are long (ISO/IEC 9899:1999, 6.4).
 ghost use Rattle.cs_base.specs.Padding.{padded};
-ghost use Rattle.std.specs.Prelude.{◌≡◌, ◌≤◌, ◌<◌, ◌^◌, length, slice_get, IfOk, IsTrue, unwrap_or};
+ghost use Rattle.std.specs.Prelude.{◌≡◌, ◌≤◌, ◌<◌, ◌+◌, ◌^◌, length, slice_get, IfOk, IfSome, IsTrue, unwrap_or};
+ghost use Rattle.std.specs.Option.{option_and_then};
+ghost use Rattle.cs_base.specs.Neighbours.{neighbours, origins_of, IsOf};
+ghost use Rattle.cs_base.specs.Spelling.{spelled, IsSpelled};
 
 use crate::no_memory::Memory;
 use crate::positions::Pos;
@@ -20,28 +23,109 @@ pub enum Kind {
     Header,
 }
 
+// A spelling. Most are short and lie in the token; the others lie in memory once for all copies.
+enum Spelling {
+    Short(ShortText),
+    Long(RcSlice<u8>),
+}
+
+// A text of at most 15 bytes: the first `len` of these.
+#[derive(Clone, Copy)]
+struct ShortText {
+    bytes: [u8; 15],
+    len: u8,
+}
+
+// The origins of a token's characters. Those of a file's token are mostly neighbours: the first one
+// tells them all, and takes no memory of its own.
+enum Origins {
+    Neighbours(Pos),
+    Each(RcSlice<Option<Pos>>),
+}
+
 /// A preprocessing token. Contracts see the record of its kind, text, origins and labels; copies made
-/// by `share` have the same text and origins, which lie in memory once.
+/// by `share` have the same text and origins. A text of up to 15 bytes and the origins of characters that
+/// are neighbours in a file lie in the token; others lie in memory once for all copies.
 #[derive(Drop)]
 pub struct Tok {
-    kind: Kind,
-    text: RcSlice<u8>,
-    origins: RcSlice<Option<Pos>>,
-    gap: bool,
+    text: Spelling,
+    origins: Origins,
     at: Pos,
     line: u32,
+    kind: Kind,
+    gap: bool,
     direct: bool,
 }
 
+// What drops a token need not know of the two forms.
+impl Drop for Spelling {
+    fn drop(self) {
+        match self {
+            Spelling::Short(_) => {}
+            Spelling::Long(_long) => {}
+        }
+    }
+}
+
+impl Drop for Origins {
+    fn drop(self) {
+        match self {
+            Origins::Neighbours(_) => {}
+            Origins::Each(_each) => {}
+        }
+    }
+}
+
+impl Spelling {
+    fn new(alloc: Global, text: &[u8]) -> Result<Spelling, Memory>
+        ensures same { IfOk result (λ kept. spelled kept ≡ text.now) }
+        ensures sound { IfOk result IsSpelled }
+    {
+        if text.len() > 15 {
+            return Ok(Spelling::Long(RcSlice::from_slice(alloc, text)?));
+        }
+        let mut bytes = [0; 15];
+        bytes[..text.len()].copy_from_slice(text);
+        Ok(Spelling::Short(ShortText {
+            bytes,
+            len: text.len() as u8,
+        }))
+    }
+
+    fn share(&self) -> Result<Spelling, Memory>
+        requires { IsSpelled self.now }
+        ensures same { IfOk result (λ kept. spelled kept ≡ spelled self.now) }
+        ensures sound { IfOk result IsSpelled }
+    {
+        match self {
+            Spelling::Short(short) => Ok(Spelling::Short(*short)),
+            Spelling::Long(long) => Ok(Spelling::Long(long.clone()?)),
+        }
+    }
+
+    fn as_slice(&self) -> &[u8]
+        requires { IsSpelled self.now }
+        ensures { result.now ≡ spelled self.now }
+    {
+        match self {
+            Spelling::Short(short) => &short.bytes[..short.len as usize],
+            Spelling::Long(long) => long.as_slice(),
+        }
+    }
+}
+
 impl Model for Tok {
-    ghost use Rattle.cs_base.specs.Token.{Token, token, IsToken};
-    ghost use Rattle.std.specs.Rc.{rc_slice_items};
+    ghost use Rattle.cs_base.specs.Token.{Token, token};
+    ghost use Rattle.cs_base.specs.Spelling.{spelled};
+    ghost use Rattle.cs_base.specs.Neighbours.{origins_of};
+    ghost use Rattle.cs_base.specs.KeptToken.{IsKept};
+    ghost use Rattle.std.specs.Prelude.{length};
 
     ghost Value = { Token };
 
-    ghost view = { λ t. token t.kind (rc_slice_items t.text) (rc_slice_items t.origins) t.gap t.at t.line t.direct };
+    ghost view = { λ t. token t.kind (spelled t.text) (origins_of (length (spelled t.text)) t.origins) t.gap t.at t.line t.direct };
 
-    ghost invariant = { λ t. IsToken (token t.kind (rc_slice_items t.text) (rc_slice_items t.origins) t.gap t.at t.line t.direct) };
+    ghost invariant = { λ t. IsKept t.kind t.text t.origins };
 }
 
 impl Tok {
@@ -67,14 +151,13 @@ impl Tok {
         if text.len() > u32::MAX as usize {
             return Err(Memory);
         }
-        let origins = padded_origins(alloc, origins, text.len())?;
         Ok(Tok {
-            kind,
-            text: RcSlice::from_slice(alloc, text)?,
-            origins: RcSlice::from_vec(origins)?,
-            gap,
+            text: Spelling::new(alloc, text)?,
+            origins: kept_origins(alloc, origins, text.len())?,
             at,
             line,
+            kind,
+            gap,
             direct,
         })
     }
@@ -83,13 +166,17 @@ impl Tok {
     pub fn share(&self, gap: bool, at: Pos, line: u32, direct: bool) -> Result<Tok, Memory>
         ensures answer { IfOk result (λ t. t ≡ record self.now { gap = gap; at = at; line = line; direct = direct }) }
     {
+        let origins = match &self.origins {
+            Origins::Neighbours(first) => Origins::Neighbours(*first),
+            Origins::Each(origins) => Origins::Each(origins.clone()?),
+        };
         Ok(Tok {
-            kind: self.kind,
-            text: self.text.clone()?,
-            origins: self.origins.clone()?,
-            gap,
+            text: self.text.share()?,
+            origins,
             at,
             line,
+            kind: self.kind,
+            gap,
             direct,
         })
     }
@@ -112,9 +199,13 @@ impl Tok {
     pub fn origins(&self, k: u32) -> Option<Pos>
         ensures answer { result ≡ origin_at self.now k }
     {
-        match self.origins.as_slice().get(k as usize) {
-            Some(origin) => *origin,
-            None => None,
+        match &self.origins {
+            Origins::Neighbours(first) if (k as usize) < self.text.as_slice().len() => Some(Pos {
+                file: first.file,
+                at: first.at + k,
+            }),
+            Origins::Neighbours(_) => None,
+            Origins::Each(origins) => origin_of(origins.as_slice(), k),
         }
     }
 
@@ -141,6 +232,50 @@ impl Tok {
     {
         self.direct
     }
+}
+
+fn origin_of(origins: &[Option<Pos>], k: u32) -> Option<Pos>
+    ensures { result ≡ option_and_then (λ origin. origin) (slice_get origins.now k) }
+{
+    match origins.get(k as usize) {
+        Some(origin) => *origin,
+        None => None,
+    }
+}
+
+// The origins of `len` characters: these, and then none.
+fn kept_origins(alloc: Global, origins: &[Option<Pos>], len: usize) -> Result<Origins, Memory>
+    requires { length origins.now ≤ len }
+    ensures same { IfOk result (λ kept. origins_of len kept ≡ padded len origins.now) }
+    ensures fits { IfOk result (λ kept. IsOf len kept) }
+{
+    if let Some(first) = first_of_neighbours(origins, len) {
+        return Ok(Origins::Neighbours(first));
+    }
+    let all = padded_origins(alloc, origins, len)?;
+    Ok(Origins::Each(RcSlice::from_vec(all)?))
+}
+
+// The first origin, where there are `len` and each is the character behind the one before.
+fn first_of_neighbours(origins: &[Option<Pos>], len: usize) -> Option<Pos>
+    ensures neighbours { IfSome result (λ first. origins.now ≡ neighbours first.file first.at len) }
+    ensures fits { IfSome result (λ first. first.at + len ≤ 2 ^ 32) }
+{
+    if origins.len() != len {
+        return None;
+    }
+    let first = match origins.get(0) {
+        Some(Some(first)) => *first,
+        _ => return None,
+    };
+    let from = first.at as usize;
+    for k in 0..len {
+        match origins[k] {
+            Some(origin) if origin.file == first.file && origin.at as usize == from + k => {}
+            _ => return None,
+        }
+    }
+    Some(first)
 }
 
 // The origins, and then none for each character up to `len`.

@@ -7,8 +7,8 @@ use Rattle.std.proofs.lemmas.List.{append-nil}
 use Rattle.cs_base.specs.declared.positions.Pos.{Pos}
 use Rattle.cs_base.specs.Padding.{padded}
 use Rattle.cs_base.specs.Token.{Token, token}
-use Rattle.cs_base.specs.declared.tokens.Kind.TheVariants.{Number}
-use Rattle.macro_expand.specs.Substitution.{digit_origins, line_number}
+use Rattle.cs_base.specs.declared.tokens.Kind.TheVariants.{Number, Str}
+use Rattle.macro_expand.specs.Substitution.{digit_origins, line_number, path_text, path_string}
 
 abbrev origin : ℕ → Option Pos
 origin at = Some (record { file = 0; at = at })
@@ -60,3 +60,21 @@ line_number-made name t line line2 line3 text os gap at line_is line2_is line3_i
     ∙ ap (λ (b : Bool). token Number (decimal name.line) (digit_origins (8 * name.line) (length (decimal name.line))) b at line3 false) gap_is
     ∙ ap (λ (p : Pos). token Number (decimal name.line) (digit_origins (8 * name.line) (length (decimal name.line))) name.gap p line3 false) at_is
     ∙ ap (λ (n : ℕ). token Number (decimal name.line) (digit_origins (8 * name.line) (length (decimal name.line))) name.gap name.at n false) line3_is
+
+-- The string of a path, of what the program has.
+
+padded-none : (n : ℕ) → padded n [] ≡ replicate n None
+padded-none n =
+    let all : n - 0 ≡ n = omega arith in
+    ap (λ (k : ℕ). replicate k None) all
+
+pub path_string-made : (path : List ℕ) (name t : Token) (text : List ℕ) (gap : Bool) (at : Pos) (line : ℕ)
+    → text ≡ path_text path → gap ≡ name.gap → at ≡ name.at → line ≡ name.line
+    → t ≡ token Str text (padded (length text) []) gap at line false → t ≡ path_string path name
+path_string-made path name t text gap at line text_is gap_is at_is line_is is =
+    is
+    ∙ ap (λ (os : List (Option Pos)). token Str text os gap at line false) (padded-none (length text))
+    ∙ ap (λ (s : List ℕ). token Str s (replicate (length s) None) gap at line false) text_is
+    ∙ ap (λ (b : Bool). token Str (path_text path) (replicate (length (path_text path)) None) b at line false) gap_is
+    ∙ ap (λ (p : Pos). token Str (path_text path) (replicate (length (path_text path)) None) name.gap p line false) at_is
+    ∙ ap (λ (n : ℕ). token Str (path_text path) (replicate (length (path_text path)) None) name.gap name.at n false) line_is
