@@ -54,12 +54,12 @@ pub enum Child<'a> {
     Node(&'a Tree),
 }
 
-// Adds a child. Most nodes have one: they take no more room than that.
+// Adds a child. Most nodes have few: up to four they take no more room than they need.
 fn push(children: &mut Vec<Branch>, branch: Branch) -> Result<(), Memory>
     ensures items { OnOk result (children.new.items ≡ children.old.items ++ branch ∷ []) }
     ensures unchanged { OnErr result (children.new.items ≡ children.old.items) }
 {
-    if children.is_empty() {
+    if children.len() < 4 {
         children.reserve_exact(1)?;
     }
     children.push(branch)?;
