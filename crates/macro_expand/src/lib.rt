@@ -61,4 +61,5 @@ pub use laws::{
     expansion_goes_step_by_step,
 };
 pub use notes::{Notes, Replacement, Work};
+pub use predefined::line_number;
 pub use table::Macros;

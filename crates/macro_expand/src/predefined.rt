@@ -9,8 +9,8 @@ use cs_base::{Kind, Memory, Pos, Tok};
 use itoa::Buffer;
 use std::alloc::Global;
 
-/// The number that stands for `__LINE__`: the line of the name. Its characters come from the digits of
-/// the line in the file with number 0.
+/// The number that stands for `__LINE__` (6.10.8): the line of the name, counted from 1. Its characters come
+/// from the digits of the line in the file with number 0. `Memory` where memory ran out.
 pub fn line_number(alloc: Global, name: &Tok) -> Result<Tok, Memory>
     requires low { name.now.line ≤ 2 ^ 22 }
     ensures { IfOk result (λ t. t ≡ line_number name.now) }

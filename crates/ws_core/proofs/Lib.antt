@@ -15,7 +15,6 @@ pub mod ExternalLemmas
 pub mod PushedLemmas
 pub mod AddingLemmas
 pub mod NumberLemmas
-pub mod LineNumberLemmas
 pub mod FileTokenLemmas
 pub mod SegmentLemmas
 pub mod ListingLemmas

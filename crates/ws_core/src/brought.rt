@@ -7,9 +7,9 @@ ghost use Rattle.ws_core.specs.BroughtNumbers.{all_brought};
 ghost use Rattle.ws_core.specs.FileTokens.{number_of_event, numbers_brought};
 
 use crate::accepted::UnitParts;
-use crate::line_numbers::line_number;
 use cs_base::{Memory, Tok};
 use include_tree::{Event, EventKind, UnitText};
+use macro_expand::line_number;
 use std::alloc::Global;
 
 /// The numbers that the units bring, each for each time that it is brought.

@@ -30,7 +30,6 @@ mod file_tokens;
 #[cfg(test)]
 mod file_tokens_tests;
 mod joining;
-mod line_numbers;
 mod linking;
 #[cfg(test)]
 mod linking_tests;
