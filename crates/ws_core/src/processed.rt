@@ -1,5 +1,6 @@
 // Which identifiers some unit processes: a mark for each token of each kept file.
-ghost use Rattle.std.specs.Prelude.{◌≡◌, ℕ, false, Some, IfOk, OnOk};
+ghost use Rattle.std.specs.Prelude.{◌≡◌, ℕ, false, Some, IfOk, OnOk, length};
+ghost use Rattle.std.specs.Option.{option_map_or};
 ghost use Rattle.std.specs.List.{flat_map};
 ghost use Rattle.part_lexer.specs.Tokens.{tokens_of, firsts_of};
 ghost use Rattle.line_shape.specs.Items.{items_of};
@@ -17,7 +18,9 @@ use line_shape::Item;
 use std::alloc::Global;
 
 // How many tokens the kept file with a number has.
-fn token_count(a: &Accepted, number: u32) -> usize {
+fn token_count(a: &Accepted, number: u32) -> usize
+    ensures { result ≡ option_map_or (λ file. length (tokens_of file.number file.bytes)) (kept_at a.now.table number) 0 }
+{
     match a.file(number) {
         Some(file) => file.text().toks().len(),
         None => 0,
