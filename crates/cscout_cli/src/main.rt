@@ -1,4 +1,4 @@
-//! CScout: renames identifiers of C programs, and preprocesses their units.
+//! CScout: renames identifiers of C programs, preprocesses their units, and tells what must be spelled alike.
 //!
 //! `run` is the whole program over an outside that is handed in: the words, files, a sink for output and
 //! one for messages. It answers as `specs/Answer.antt` says over the files held, and `specs/Outcome.antt`

@@ -8,8 +8,9 @@
 //! part of its class. This crate knows positions and links, and neither why tokens are linked nor what
 //! they spell. `join` and the readers take no memory: `add_token` takes the room for every part that its
 //! token can be cut into. Of two classes the one with fewer parts gets the other's number, a tick of
-//! `Steps` for each. `resize` gives the parts of a class another length, and moves what stands behind
-//! them in their files. Read `specs/Chain.antt`, `specs/ClassTable.antt` and `specs/Resized.antt`, then
+//! `Steps` for each. `is_whole` tells before a link is joined whether the origins of its tokens are whole
+//! added tokens. `resize` gives the parts of a class another length, and moves what stands behind them in
+//! their files. Read `specs/Chain.antt`, `specs/ClassTable.antt` and `specs/Resized.antt`, then
 //! `class_table.rt`; the parts by number stand in `partition.rt`.
 #![tactic(auto)]
 
