@@ -1,33 +1,13 @@
 //! CScout: renames identifiers of C programs, preprocesses their units, and tells what must be spelled alike.
 //!
-//! `run` is the whole program over an outside that is handed in: the words, files, a sink for output and
-//! one for messages. It answers as `specs/Answer.antt` says over the files held, and `specs/Outcome.antt`
-//! says what stands where the outside fails. `main` hands it the real files and streams (`host.rt`) and
-//! ends with the number of the status. All that may want memory is done in `preparing.rt` and
-//! `reporting.rt`, before the first put; messages are told in pieces and want none. Read
-//! `specs/Request.antt`, `specs/Answer.antt`, `specs/Outcome.antt`, then `top.rt`.
+//! `main` hands the words behind the program's name and the real files and streams to `run` of `cscout_run`, which is
+//! the whole program, and ends with the number of the status. Start from `cscout_run`.
 #![tactic(auto)]
 
-mod help;
-mod host;
-mod preparing;
-mod reporting;
-mod requests;
-mod status;
-mod stops;
-mod telling;
-#[cfg(test)]
-mod tests;
-mod top;
-mod workspace_files;
-
 use cs_base::Sink;
-use host::{HostFiles, HostSink};
-use status::Status;
+use cscout_run::{HostFiles, HostSink, Status, run, tell};
 use std::process::ExitCode;
 use std::{env, io};
-use telling::tell;
-use top::run;
 
 fn main(rt: HostRuntime) -> ExitCode {
     ExitCode::from(run_over_host(&rt) as u8)

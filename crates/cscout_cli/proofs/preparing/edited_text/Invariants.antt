@@ -1,6 +1,0 @@
-use Rattle.std.proofs.Common.{◌≡◌, ◌++◌, drop}
-use Rattle.cscout_cli.specs.Message.{edited_lines}
-use Rattle.cscout_cli.proofs.preparing.edited_text.Given as goal
-
-abbrev pub invariant-loop-k : goal.invariant-loop-k
-invariant-loop-k l = l.text.items ++ edited_lines (drop l.k l.edits) ≡ edited_lines l.edits

@@ -1,6 +1,0 @@
-use Rattle.std.proofs.Common.{◌≡◌, ◌<◌, ◌^◌, take}
-use Rattle.cscout_cli.specs.Request.{number_of}
-use Rattle.cscout_cli.proofs.requests.number.Given as goal
-
-abbrev pub invariant-loop-digit : goal.invariant-loop-digit
-invariant-loop-digit l = (l.n ≡ number_of (take l.digit-index l.digits)) × (l.n < 10 ^ l.digit-index)

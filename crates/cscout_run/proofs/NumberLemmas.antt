@@ -1,0 +1,25 @@
+-- Nine decimal digits spell a number below 10^9.
+use Rattle.std.proofs.Common.{◌≡◌, ℕ, Bool, true, ◌&&◌, zero, suc, [], ◌∷◌, ◌-◌, ◌+◌, ◌*◌, ◌<◌, ◌≤◌, ◌^◌, List, IsTrue, length, get_or, arith, add-one, lit<}
+use Rattle.std.proofs.lemmas.Bool.Decides.{nat_tests}
+use Rattle.std.specs.Char.{is_ascii_digit}
+use Rattle.std.specs.Str.{byte}
+use Rattle.cscout_run.specs.Request.{are_digits}
+use Rattle.std.proofs.Math.Nat.{pow-succ', pow-le-pow_right}
+
+pub below_pow : (n d i : ℕ) → n < 10 ^ i → d ≤ 9 → 10 * n + d < 10 ^ (i + 1)
+below_pow n d i below digit = rw (add-one i, pow-succ' 10 i) (omega arith)
+
+pub pow_small : (i : ℕ) → i < 9 → 10 ^ i ≤ 100000000
+pow_small i small = let eight : i ≤ 8 = omega arith in pow-le-pow_right {n = 10} (lit< tt) eight
+
+and-right : (a b : Bool) → (a && b) ≡ true → b ≡ true
+and-right a b h = grind (arith, h)
+
+-- a byte of decimal digits spells at most nine
+pub digit_small : (digits : List ℕ) (i d : ℕ) → i < length digits → IsTrue (are_digits digits)
+    → get_or digits i d - byte "0" ≤ 9
+digit_small [] i d within digits = absurd (omega arith)
+digit_small (b ∷ bs) zero d within digits = grind (arith, nat_tests)
+digit_small (b ∷ bs) (suc i) d within digits =
+    let within' : i < length bs = omega arith in
+    digit_small bs i d within' (and-right (is_ascii_digit b) (are_digits bs) digits)

@@ -1,0 +1,263 @@
+-- What each end of a run says of the answer and of the outside.
+use Rattle.std.proofs.Common.{◌≡◌, ℕ, ◌<◌, zero, suc, List, [], ◌∷◌, Option, None, Some, Result, Ok, Err, refl, ap, sym, subst, ◌∙◌, inl, ⊎_elim, length, arith}
+use Rattle.std.specs.Prelude.{IfSome, slice_get}
+use Rattle.cs_base.specs.Edit.{Edit}
+use Rattle.cs_base.specs.Outside.{FileMap, Rose}
+use Rattle.ws_file.specs.Workspace.{WorkspaceValue}
+use Rattle.ws_file.specs.Reading.{WsFault}
+use Rattle.include_tree.specs.Files.{Source, source_of}
+use Rattle.ws_core.specs.Analysis.{AnalysisValue, analysis_of}
+use Rattle.ws_core.specs.ClassReport.{IsClassReport}
+use Rattle.ws_core.specs.Texts.{UnitFault}
+use Rattle.cscout_run.specs.declared.status.Status.{Status}
+use Rattle.cscout_run.specs.declared.status.Status.TheVariants.{Done, Refused, Usage, Workspace, ReadFault, WriteFault, Memory}
+use Rattle.cscout_run.specs.declared.stops.Stop.{Stop}
+use Rattle.cscout_run.specs.declared.stops.Stop.TheVariants as stop
+use Rattle.cscout_run.specs.Request.{RequestValue, ClassValue, help_asked, version_asked, renaming_asked, tokens_asked, skipped_asked, class_asked, asked}
+use Rattle.cscout_run.specs.Answer.{Answer, IsAnswer, IsAnswerTo, IsRequestAnswer, IsClassAnswer, IsOverWorkspace, answer_of, class_answer, stopped, workspace_at}
+use Rattle.cscout_run.specs.Message.{usage_line}
+use Rattle.cscout_run.specs.Outcome.{World, StatusIs, HasCauses, IsComplete, ShowsAnswer, Tells, FailedPut, Unmoved}
+use Rattle.cscout_run.specs.Steps.{Prepares}
+use Rattle.cscout_run.specs.declared.preparing.Ready.{Ready}
+use Rattle.rename_edit.specs.Applying.{Applies}
+use Rattle.rename_edit.specs.declared.applying.Applied.TheVariants as applied
+use Rattle.cscout_run.specs.Stopping.{Stops, StopReads, status_of, line_of}
+
+-- what holds of every value holds of one that is told
+pub if_told : {A : Type 0} (o : Option A) (P : A → Type 0) → ((x : A) → P x) → IfSome o P
+if_told None P always = tt
+if_told (Some x) P always = always x
+
+-- what follows of every value follows of one that is told
+pub if_told-map : {A : Type 0} (o : Option A) (P Q : A → Type 0) → IfSome o P → ((x : A) → P x → Q x) → IfSome o Q
+if_told-map None P Q p follows = tt
+if_told-map (Some x) P Q p follows = follows x p
+
+-- the answer to words of no form
+pub answer-usage : (words : List (List ℕ)) (files : FileMap) → asked words ≡ None → IsAnswer words files (stopped Usage usage_line)
+unfolding IsAnswer
+answer-usage words files none = rw none refl
+
+-- an answer to what the words ask for is one to the words
+pub answer-request : (words : List (List ℕ)) (files : FileMap) (request : RequestValue) (a : Answer) → asked words ≡ Some request
+    → IsRequestAnswer files request a → IsAnswer words files a
+unfolding IsAnswer
+answer-request words files request a some is = rw some is
+
+-- ---- answers to the same words have the same status
+
+same-status : (x a b : Answer) → x ≡ a → x ≡ b → a.status ≡ b.status
+same-status x a b p q = ap (λ (c : Answer). c.status) (sym p ∙ q)
+
+told-alike : (q : ClassValue) (value : AnalysisValue) (told told' : Option (List ℕ)) (a b : Answer)
+    → IsClassReport value q.path q.line q.column told → IsClassReport value q.path q.line q.column told' → class_answer told ≡ a
+    → class_answer told' ≡ b → a.status ≡ b.status
+told-alike q value None None a b report report' is is' = same-status (class_answer None) a b is is'
+told-alike q value (Some text) (Some text') a b report report' is is' =
+    sym (ap (λ (c : Answer). c.status) is) ∙ ap (λ (c : Answer). c.status) is'
+told-alike q value None (Some text) a b report report' is is' =
+    let other : None ≡ Some report'.names.0 = sym report ∙ report'.names.1 in cc
+told-alike q value (Some text) None a b report report' is is' =
+    let other : None ≡ Some report.names.0 = sym report' ∙ report.names.1 in cc
+
+class-alike : (q : ClassValue) (analysed : Result AnalysisValue UnitFault) (a b : Answer) → IsClassAnswer q analysed a
+    → IsClassAnswer q analysed b → a.status ≡ b.status
+class-alike q (Ok value) a b p p' = told-alike q value p.0 p'.0 a b p.1 p'.1 p.2 p'.2
+class-alike q (Err fault) a b p p' = same-status _ a b p p'
+
+over-alike : (q : ClassValue) (source : Source) (read : Option (Result WorkspaceValue WsFault)) (a b : Answer)
+    → IsOverWorkspace q.ws (λ w. IsClassAnswer q (analysis_of source w)) read a
+    → IsOverWorkspace q.ws (λ w. IsClassAnswer q (analysis_of source w)) read b → a.status ≡ b.status
+over-alike q source None a b p p' = same-status _ a b p p'
+over-alike q source (Some (Ok w)) a b p p' = class-alike q (analysis_of source w) a b p p'
+over-alike q source (Some (Err fault)) a b p p' = same-status _ a b p p'
+
+request-alike : (files : FileMap) (request : Option RequestValue) (a b : Answer) → IsAnswerTo files request a → IsAnswerTo files request b
+    → a.status ≡ b.status
+request-alike files None a b p p' = same-status _ a b p p'
+request-alike files (Some help_asked) a b p p' = same-status _ a b p p'
+request-alike files (Some version_asked) a b p p' = same-status _ a b p p'
+request-alike files (Some (renaming_asked q)) a b p p' = same-status _ a b p p'
+request-alike files (Some (tokens_asked q)) a b p p' = same-status _ a b p p'
+request-alike files (Some (skipped_asked ws)) a b p p' = same-status _ a b p p'
+request-alike files (Some (class_asked q)) a b p p' = over-alike q (source_of files) (workspace_at q.ws files) a b p p'
+
+pub answer-alike : (words : List (List ℕ)) (files : FileMap) (a b : Answer) → IsAnswer words files a → IsAnswer words files b
+    → a.status ≡ b.status
+unfolding IsAnswer
+answer-alike words files a b p p' = request-alike files (asked words) a b p p'
+
+-- ---- early ends
+
+-- the message of the early end is what its answers are
+pub stops-map : (ws : List ℕ) (P Q : Answer → Type 0) (end : Stop) → ((a : Answer) → P a → Q a) → Stops ws P end → Stops ws Q end
+stops-map ws P Q stop.NoWorkspace follows p = follows _ p
+stops-map ws P Q (stop.BadLine line) follows p = follows _ p
+stops-map ws P Q (stop.TooManyUnits line) follows p = follows _ p
+stops-map ws P Q stop.UnreadWorkspace follows p = tt
+stops-map ws P Q (stop.UnitFault unit place cause) follows p = follows _ p
+stops-map ws P Q (stop.UnreadFile path) follows p = tt
+stops-map ws P Q stop.NoUnit follows p = follows _ p
+stops-map ws P Q stop.BadName follows p = follows _ p
+stops-map ws P Q stop.NoName follows p = follows _ p
+stops-map ws P Q (stop.Offence place cause) follows p = follows _ p
+stops-map ws P Q stop.Memory follows p = tt
+
+-- any answer has the status of the early end
+pub stop-status : (ws : List ℕ) (IsOne : Answer → Type 0) (end : Stop) (a : Answer)
+    → ((b c : Answer) → IsOne b → IsOne c → b.status ≡ c.status) → Stops ws IsOne end → IsOne a → StatusIs a (status_of end)
+stop-status ws IsOne stop.NoWorkspace a alike p q = alike a _ q p
+stop-status ws IsOne (stop.BadLine line) a alike p q = alike a _ q p
+stop-status ws IsOne (stop.TooManyUnits line) a alike p q = alike a _ q p
+stop-status ws IsOne stop.UnreadWorkspace a alike p q = tt
+stop-status ws IsOne (stop.UnitFault unit place cause) a alike p q = alike a _ q p
+stop-status ws IsOne (stop.UnreadFile path) a alike p q = tt
+stop-status ws IsOne stop.NoUnit a alike p q = alike a _ q p
+stop-status ws IsOne stop.BadName a alike p q = alike a _ q p
+stop-status ws IsOne stop.NoName a alike p q = alike a _ q p
+stop-status ws IsOne (stop.Offence place cause) a alike p q = alike a _ q p
+stop-status ws IsOne stop.Memory a alike p q = tt
+
+-- the early end shows its answer
+pub stop-shows : (ws : List ℕ) (IsOne : Answer → Type 0) (end : Stop) (before now : World) → Stops ws IsOne end → Unmoved before now
+    → Tells (line_of ws end) before now → StopReads ws before.reads now.reads now.last end
+    → ShowsAnswer IsOne before now (status_of end)
+stop-shows ws IsOne stop.NoWorkspace before now p unmoved told reads = (_, p, record { status = refl; leaves = unmoved; says = told })
+stop-shows ws IsOne (stop.BadLine line) before now p unmoved told reads = (_, p, record { status = refl; leaves = unmoved; says = told })
+stop-shows ws IsOne (stop.TooManyUnits line) before now p unmoved told reads = (_, p, record { status = refl; leaves = unmoved; says = told })
+stop-shows ws IsOne stop.UnreadWorkspace before now p unmoved told reads = λ a. record { status = tt; leaves = unmoved; says = (ws, told, reads.told) }
+stop-shows ws IsOne (stop.UnitFault unit place cause) before now p unmoved told reads = (_, p, record { status = refl; leaves = unmoved; says = told })
+stop-shows ws IsOne (stop.UnreadFile path) before now p unmoved told reads = λ a. record { status = tt; leaves = unmoved; says = (path, told, reads.told) }
+stop-shows ws IsOne stop.NoUnit before now p unmoved told reads = (_, p, record { status = refl; leaves = unmoved; says = told })
+stop-shows ws IsOne stop.BadName before now p unmoved told reads = (_, p, record { status = refl; leaves = unmoved; says = told })
+stop-shows ws IsOne stop.NoName before now p unmoved told reads = (_, p, record { status = refl; leaves = unmoved; says = told })
+stop-shows ws IsOne (stop.Offence place cause) before now p unmoved told reads = (_, p, record { status = refl; leaves = unmoved; says = told })
+stop-shows ws IsOne stop.Memory before now p unmoved told reads = λ a. record { status = tt; leaves = unmoved; says = told }
+
+-- nothing stands against a run whose answer is done, unless a count rose
+pub complete : (a : Answer) (before now : World) (status : Status) → StatusIs a status → HasCauses before now status
+    → IsComplete a before now status
+complete a before now Done s causes = λ done read put out. tt
+complete a before now Memory s causes = λ done read put out. tt
+complete a before now Usage s causes = λ done read put out. cc
+complete a before now Refused s causes = λ done read put out. cc
+complete a before now Workspace s causes = λ done read put out. cc
+complete a before now ReadFault s causes = λ done read put out. absurd (read (causes.read refl))
+complete a before now WriteFault s causes = λ done read put out. ⊎_elim (λ p. absurd (put p)) (λ p. absurd (out p)) (causes.write refl)
+
+-- what stands ready is an answer to the words
+pub ready-answer : (o : Option FileMap) (words : List (List ℕ)) (request : RequestValue) (ws : List ℕ) (ready : Ready)
+    → asked words ≡ Some request → IfSome o (λ fs. Prepares ws (IsRequestAnswer fs request) (Ok ready))
+    → IfSome o (λ fs. IsAnswer words fs (answer_of Done ready.text.items [] ready.edits))
+ready-answer o words request ws ready some p = if_told-map o _ _ p (λ fs is. answer-request words fs request _ some is)
+
+-- the message of the early end is an answer to the words
+pub stop-answer : (o : Option FileMap) (words : List (List ℕ)) (request : RequestValue) (ws : List ℕ) (end : Stop)
+    → asked words ≡ Some request → IfSome o (λ fs. Prepares ws (IsRequestAnswer fs request) (Err end))
+    → IfSome o (λ fs. Stops ws (IsAnswer words fs) end)
+stop-answer o words request ws end some p =
+    if_told-map o _ _ p (λ fs is. stops-map ws (IsRequestAnswer fs request) (IsAnswer words fs) end (λ a h. answer-request words fs request a some h) is)
+
+-- no count rose
+pub quiet-causes : (before now : World) (status : Status) → now.reads ≡ before.reads → now.puts ≡ before.puts
+    → now.outs ≡ before.outs → (status ≡ ReadFault → ⊥) → (status ≡ WriteFault → ⊥) → HasCauses before now status
+quiet-causes before now status reads puts outs no_read no_write = record {
+  read = λ e. absurd (no_read e);
+  reads_stay = λ _. reads;
+  write = λ e. absurd (no_write e);
+  puts_stay = λ _. puts;
+  outs_stay = λ _. outs;
+}
+
+-- the count of the reads rose
+pub read-causes : (before now : World) → Rose before.reads now.reads → now.puts ≡ before.puts
+    → now.outs ≡ before.outs → HasCauses before now ReadFault
+read-causes before now rose puts outs = record {
+  read = λ _. rose;
+  reads_stay = λ e. cc;
+  write = λ e. cc;
+  puts_stay = λ _. puts;
+  outs_stay = λ _. outs;
+}
+
+-- the reads are not told where memory ran out
+pub memory-causes : (before now : World) → now.puts ≡ before.puts → now.outs ≡ before.outs → HasCauses before now Memory
+memory-causes before now puts outs = record {
+  read = λ e. cc;
+  reads_stay = λ e. cc;
+  write = λ e. cc;
+  puts_stay = λ _. puts;
+  outs_stay = λ _. outs;
+}
+
+-- the counts of an early end
+pub stop-causes : (ws : List ℕ) (end : Stop) (before now : World) → StopReads ws before.reads now.reads now.last end
+    → now.puts ≡ before.puts → now.outs ≡ before.outs → HasCauses before now (status_of end)
+stop-causes ws stop.NoWorkspace before now reads puts outs = quiet-causes before now Workspace reads puts outs (λ e. cc) (λ e. cc)
+stop-causes ws (stop.BadLine line) before now reads puts outs = quiet-causes before now Workspace reads puts outs (λ e. cc) (λ e. cc)
+stop-causes ws (stop.TooManyUnits line) before now reads puts outs = quiet-causes before now Workspace reads puts outs (λ e. cc) (λ e. cc)
+stop-causes ws stop.UnreadWorkspace before now reads puts outs = read-causes before now reads.rose puts outs
+stop-causes ws (stop.UnitFault unit place cause) before now reads puts outs = quiet-causes before now Workspace reads puts outs (λ e. cc) (λ e. cc)
+stop-causes ws (stop.UnreadFile path) before now reads puts outs = read-causes before now reads.rose puts outs
+stop-causes ws stop.NoUnit before now reads puts outs = quiet-causes before now Refused reads puts outs (λ e. cc) (λ e. cc)
+stop-causes ws stop.BadName before now reads puts outs = quiet-causes before now Refused reads puts outs (λ e. cc) (λ e. cc)
+stop-causes ws stop.NoName before now reads puts outs = quiet-causes before now Refused reads puts outs (λ e. cc) (λ e. cc)
+stop-causes ws (stop.Offence place cause) before now reads puts outs = quiet-causes before now Refused reads puts outs (λ e. cc) (λ e. cc)
+stop-causes ws stop.Memory before now reads puts outs = memory-causes before now puts outs
+
+-- a put that failed
+pub failed_put : (edits : List Edit) (n : ℕ) (before now : World) (held : Option FileMap) (puts : ℕ) → held ≡ before.held
+    → puts ≡ before.puts → Applies edits held now.held (applied.Failed n) → Rose puts now.puts
+    → IfSome now.last (λ path. IfSome (slice_get edits n) (λ e. path ≡ e.path)) → now.out ≡ before.out → now.outs ≡ before.outs
+    → FailedPut edits n before now
+failed_put edits n before now held puts same same' applies rose last out outs =
+    let P : Option FileMap → Type 0 = λ h. Applies edits h now.held (applied.Failed n) in
+    let applied' = subst P same applies in
+    let Q : ℕ → Type 0 = λ p. Rose p now.puts in
+    record {
+      within = applied'.0;
+      held = applied'.1;
+      out = out;
+      outs = outs;
+      rose = subst Q same' rose;
+      last = last;
+    }
+
+-- the path of an edit is that of the last failed put, where it is told
+path-same : (edits : List Edit) (n : ℕ) (path last : List ℕ) → n < length edits → IfSome (slice_get edits n) (λ e. path ≡ e.path)
+    → IfSome (slice_get edits n) (λ e. last ≡ e.path) → last ≡ path
+path-same [] n path last within p l = absurd (omega arith)
+path-same (e ∷ es) zero path last within p l = l ∙ sym p
+path-same (e ∷ es) (suc n) path last within p l =
+    let within' : n < length es = omega arith in
+    path-same es n path last within' p l
+
+pub path-last : (edits : List Edit) (n : ℕ) (path : List ℕ) (last : Option (List ℕ)) → n < length edits
+    → IfSome (slice_get edits n) (λ e. path ≡ e.path) → IfSome last (λ l. IfSome (slice_get edits n) (λ e. l ≡ e.path))
+    → IfSome last (λ l. l ≡ path)
+path-last edits n path None within p l = tt
+path-last edits n path (Some last) within p l = path-same edits n path last within p l
+
+-- the counts where a put failed
+pub put-causes : (before now : World) → now.reads ≡ before.reads → Rose before.puts now.puts → HasCauses before now WriteFault
+put-causes before now reads rose = record {
+  read = λ e. cc;
+  reads_stay = λ _. reads;
+  write = λ _. inl rose;
+  puts_stay = λ e. cc;
+  outs_stay = λ e. cc;
+}
+
+-- no early end is done
+pub stop-not_done : (end : Stop) → status_of end ≡ Done → ⊥
+stop-not_done stop.NoWorkspace e = cc
+stop-not_done (stop.BadLine line) e = cc
+stop-not_done (stop.TooManyUnits line) e = cc
+stop-not_done stop.UnreadWorkspace e = cc
+stop-not_done (stop.UnitFault unit place cause) e = cc
+stop-not_done (stop.UnreadFile path) e = cc
+stop-not_done stop.NoUnit e = cc
+stop-not_done stop.BadName e = cc
+stop-not_done stop.NoName e = cc
+stop-not_done (stop.Offence place cause) e = cc
+stop-not_done stop.Memory e = cc

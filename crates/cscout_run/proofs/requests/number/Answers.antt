@@ -1,0 +1,16 @@
+use Rattle.std.proofs.Common.{◌<◌, arith}
+use Rattle.cscout_run.proofs.NumberLemmas.{pow_small, digit_small}
+use Rattle.cscout_run.proofs.requests.number.Goals as goal
+
+pub overflow_mul-n : goal.overflow_mul-n
+overflow_mul-n c =
+    let index : c.loop-digit.digit-index < 9 = omega arith in
+    let small = pow_small c.loop-digit.digit-index index in
+    omega arith
+
+pub overflow_add-n : goal.overflow_add-n
+overflow_add-n c =
+    let index : c.loop-digit.digit-index < 9 = omega arith in
+    let small = pow_small c.loop-digit.digit-index index in
+    let digit = digit_small c.args.digits.now c.loop-digit.digit-index 0 c.loop-digit-test.true c.requires.digits in
+    omega arith

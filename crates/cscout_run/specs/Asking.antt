@@ -1,0 +1,39 @@
+-- What contracts see of the request that words make.
+use Rattle.std.specs.Prelude.{List, ℕ, []}
+use Rattle.cs_base.specs.Paths.{normal_path_of}
+use Rattle.cscout_run.specs.declared.requests.NamedClass.{NamedClass}
+use Rattle.cscout_run.specs.declared.requests.Rename.{Rename}
+use Rattle.cscout_run.specs.declared.requests.Request.{Request}
+use Rattle.cscout_run.specs.declared.requests.Request.TheVariants.{Help, Version, Renaming, Tokens, Skipped, Class}
+use Rattle.cscout_run.specs.declared.requests.UnitTokens.{UnitTokens}
+use Rattle.cscout_run.specs.Request.{RenameValue, rename, TokensValue, tokens_of_unit, ClassValue, class_at, RequestValue, help_asked, version_asked, renaming_asked, tokens_asked, skipped_asked, class_asked}
+
+-- a rename in words, its path in its normal form
+abbrev pub rename_value : Rename → RenameValue
+rename_value r = rename r.ws.now (normal_path_of r.path.now) r.line r.column r.name.now
+
+-- a report on the tokens of a unit, in words
+abbrev pub tokens_value : UnitTokens → TokensValue
+tokens_value q = tokens_of_unit q.ws.now q.unit
+
+-- a report on the class of a name, in words, its path in its normal form
+abbrev pub class_value : NamedClass → ClassValue
+class_value q = class_at q.ws.now (normal_path_of q.path.now) q.line q.column
+
+-- the request that words make
+abbrev pub request_value : Request → RequestValue
+request_value Help = help_asked
+request_value Version = version_asked
+request_value (Renaming r) = renaming_asked (rename_value r)
+request_value (Tokens q) = tokens_asked (tokens_value q)
+request_value (Skipped ws) = skipped_asked ws.now
+request_value (Class q) = class_asked (class_value q)
+
+-- the workspace file of a request, or nothing where it has none
+abbrev pub workspace_file : Request → List ℕ
+workspace_file Help = []
+workspace_file Version = []
+workspace_file (Renaming r) = r.ws.now
+workspace_file (Tokens q) = q.ws.now
+workspace_file (Skipped ws) = ws.now
+workspace_file (Class q) = q.ws.now

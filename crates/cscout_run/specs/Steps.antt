@@ -1,0 +1,57 @@
+-- What the steps of a run promise each other.
+use Rattle.std.specs.Prelude.{ℕ, ◌≡◌, List, [], Option, None, Some, Result, Ok, Err}
+use Rattle.cs_base.specs.Outside.{FileMap}
+use Rattle.ws_file.specs.Workspace.{WorkspaceValue}
+use Rattle.ws_file.specs.Reading.{WsFault}
+use Rattle.ws_core.specs.declared.analyse_fault.AnalyseFault.{AnalyseFault}
+use Rattle.ws_core.specs.declared.analyse_fault.AnalyseFault.TheVariants as fault
+use Rattle.rename_edit.specs.Analysis.{ThinValue}
+use Rattle.rename_edit.specs.Renaming.{renaming}
+use Rattle.cscout_run.specs.declared.status.Status.TheVariants as status
+use Rattle.cscout_run.specs.declared.stops.Stop.{Stop}
+use Rattle.cscout_run.specs.declared.stops.Stop.TheVariants.{UnitFault, UnreadFile, BadName, NoName, Offence, Memory}
+use Rattle.cscout_run.specs.declared.preparing.Ready.{Ready}
+use Rattle.cscout_run.specs.Request.{RenameValue}
+use Rattle.cscout_run.specs.Answer.{Answer, answer_of, renaming_answer, stopped, workspace_at, ws_fault_line}
+use Rattle.cscout_run.specs.Message.{absent_line}
+use Rattle.cscout_run.specs.Stopping.{Stops, StopReads}
+
+-- what stands ready to be put and written is an answer, or the message of the early end is
+abbrev pub Prepares : List ℕ → (Answer → Type 0) → Result Ready Stop → Type 0
+Prepares ws IsAnswer (Ok ready) = IsAnswer (answer_of status.Done ready.text.items [] ready.edits)
+Prepares ws IsAnswer (Err stop) = Stops ws IsAnswer stop
+
+-- what every command answers where the workspace file has no workspace
+abbrev pub no_workspace : List ℕ → Option (Result WorkspaceValue WsFault) → Option Answer
+no_workspace ws None = Some (stopped status.Workspace (absent_line ws))
+no_workspace ws (Some (Ok w)) = None
+no_workspace ws (Some (Err fault)) = Some (stopped status.Workspace (ws_fault_line ws fault))
+
+-- the workspace file holds this workspace, or has none, and the message of the early end says so
+abbrev pub ReadsWorkspace : List ℕ → FileMap → Result WorkspaceValue Stop → Type 0
+ReadsWorkspace ws files (Ok w) = workspace_at ws files ≡ Some (Ok w)
+ReadsWorkspace ws files (Err stop) = Stops ws (λ a. no_workspace ws (workspace_at ws files) ≡ Some a) stop
+
+-- the answer to a rename is that over this analysis, or that of the early end
+abbrev pub Analyses : RenameValue → Answer → Result ThinValue Stop → Type 0
+Analyses q a (Ok thin) = a ≡ renaming_answer (renaming thin q.path q.line q.column q.name)
+Analyses q a (Err stop) = Stops q.ws (λ b. a ≡ b) stop
+
+-- why a workspace has no texts, as an early end
+abbrev pub stop_of : AnalyseFault → Stop
+stop_of (fault.WorkspaceFault unit place cause) = UnitFault unit place cause
+stop_of (fault.ReadFault path) = UnreadFile path
+stop_of fault.Memory = Memory
+
+-- what a step says of the reads: where it goes on, none failed
+abbrev pub StepReads : {X : Type 0} → List ℕ → ℕ → ℕ → Option (List ℕ) → Result X Stop → Type 0
+StepReads ws reads reads' last' (Ok x) = reads' ≡ reads
+StepReads ws reads reads' last' (Err stop) = StopReads ws reads reads' last' stop
+
+-- an early end after the analysis: no read follows
+abbrev pub IsPlanStop : Stop → Type 0
+IsPlanStop BadName = Unit {0}
+IsPlanStop NoName = Unit {0}
+IsPlanStop (Offence place cause) = Unit {0}
+IsPlanStop Memory = Unit {0}
+IsPlanStop _ = ⊥

@@ -1,0 +1,60 @@
+-- How a run that puts nothing stops: what its early end says of the answer and of the outside.
+use Rattle.std.specs.Prelude.{ℕ, ◌≡◌, List, codes, Option, IfSome}
+use Rattle.cs_base.specs.Outside.{Rose}
+use Rattle.rename_edit.specs.Analysis.{unit_fault, file_fault}
+use Rattle.rename_edit.specs.Offence.{offence}
+use Rattle.cscout_run.specs.declared.status.Status.{Status}
+use Rattle.cscout_run.specs.declared.status.Status.TheVariants as status
+use Rattle.cscout_run.specs.declared.stops.Stop.{Stop}
+use Rattle.cscout_run.specs.declared.stops.Stop.TheVariants.{NoWorkspace, BadLine, TooManyUnits, UnreadWorkspace, UnitFault, UnreadFile, NoUnit, BadName, NoName, Offence, Memory}
+use Rattle.cscout_run.specs.Answer.{Answer, stopped}
+use Rattle.cscout_run.specs.Message.{absent_line, ws_line, unit_line, refused_line, offence_line, unread_line, memory_line}
+
+-- the status of an early end
+abbrev pub status_of : Stop → Status
+status_of NoWorkspace = status.Workspace
+status_of (BadLine line) = status.Workspace
+status_of (TooManyUnits line) = status.Workspace
+status_of UnreadWorkspace = status.ReadFault
+status_of (UnitFault unit place cause) = status.Workspace
+status_of (UnreadFile path) = status.ReadFault
+status_of NoUnit = status.Refused
+status_of BadName = status.Refused
+status_of NoName = status.Refused
+status_of (Offence place cause) = status.Refused
+status_of Memory = status.Memory
+
+-- the line of an early end; `ws` is the workspace file
+abbrev pub line_of : List ℕ → Stop → List ℕ
+line_of ws NoWorkspace = absent_line ws
+line_of ws (BadLine line) = ws_line ws line (codes "bad workspace line")
+line_of ws (TooManyUnits line) = ws_line ws line (codes "too many units")
+line_of ws UnreadWorkspace = unread_line ws
+line_of ws (UnitFault unit place cause) =
+    unit_line (unit_fault unit place.path (file_fault place.line place.column cause))
+line_of ws (UnreadFile path) = unread_line path
+line_of ws NoUnit = refused_line (codes "no unit")
+line_of ws BadName = refused_line (codes "bad name")
+line_of ws NoName = refused_line (codes "no name")
+line_of ws (Offence place cause) =
+    offence_line (offence place.path (file_fault place.line place.column cause))
+line_of ws Memory = memory_line
+
+-- The message of the early end is an answer, unless a read failed or memory ran out.
+abbrev pub Stops : List ℕ → (Answer → Type 0) → Stop → Type 0
+Stops ws IsAnswer UnreadWorkspace = Unit {0}
+Stops ws IsAnswer (UnreadFile path) = Unit {0}
+Stops ws IsAnswer Memory = Unit {0}
+Stops ws IsAnswer stop = IsAnswer (stopped (status_of stop) (line_of ws stop))
+
+-- The count of the reads that failed rose, and the last of them is that of the path, where it is told.
+pub record FailedRead (path : List ℕ) (reads reads' : ℕ) (last' : Option (List ℕ)) : Type 0 where
+  pub rose : Rose reads reads'
+  pub told : IfSome last' (λ p. p ≡ path)
+
+-- what an early end says of the reads
+abbrev pub StopReads : List ℕ → ℕ → ℕ → Option (List ℕ) → Stop → Type 0
+StopReads ws reads reads' last' UnreadWorkspace = FailedRead ws reads reads' last'
+StopReads ws reads reads' last' (UnreadFile path) = FailedRead path reads reads' last'
+StopReads ws reads reads' last' Memory = Unit {0}
+StopReads ws reads reads' last' stop = reads' ≡ reads

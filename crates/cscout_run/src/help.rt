@@ -1,0 +1,41 @@
+// The texts of `--help` and `--version`.
+ghost use Rattle.std.specs.Prelude.{◌≡◌};
+ghost use Rattle.cscout_run.specs.Help.{help_text, version_text};
+
+const HELP: &[u8] = b"cscout renames identifiers in C programs, and preprocesses their units.
+
+cscout WS rename PATH LINE COL NAME
+    renames the name at line LINE and column COL of the file PATH, in all files of the
+    workspace file WS, to NAME. Prints `edited PATH COUNT` for each file that changes.
+cscout WS tokens UNIT
+    prints the preprocessing tokens of unit UNIT of the workspace file, one a line
+cscout WS skipped
+    prints `PATH:FIRST-LAST` for the lines of source files that no unit processes
+cscout WS class PATH LINE COL
+    prints `PATH:LINE:COL TEXT` for each place that must be spelled as the name at that place
+cscout --help
+    prints this text
+cscout --version
+    prints the version
+
+Exit status: 0 done, 1 refused, 2 bad command line, 3 fault of the workspace, 4 a file could
+not be read, 5 a file or the output could not be written, 6 out of memory.
+
+Example: cscout w.cs rename a.c 1 5 count
+";
+
+#[tactic(auto, unfolding(crate::specs::Help::help_text))]
+/// Every command, its words, the exit statuses and one example.
+pub fn help() -> &'static [u8]
+    ensures { result.now ≡ help_text }
+{
+    HELP
+}
+
+#[tactic(auto, unfolding(crate::specs::Help::version_text))]
+/// The program and its version.
+pub fn version() -> &'static [u8]
+    ensures { result.now ≡ version_text }
+{
+    b"cscout 0.1\n"
+}

@@ -1,0 +1,26 @@
+//! The program behind its words: it renames identifiers of C programs, preprocesses their units, and tells what must
+//! be spelled alike.
+//!
+//! `run` is the whole program over an outside that is handed in: the words, files, a sink for output and
+//! one for messages. It answers as `specs/Answer.antt` says over the files held, and `specs/Outcome.antt`
+//! says what stands where the outside fails. `HostFiles` and `HostSink` are the real files and streams,
+//! which the program `cscout_cli` hands it; `tell` writes one line of a message. All that may want memory is
+//! done in `preparing.rt` and `reporting.rt`, before the first put; messages are told in pieces and want
+//! none. Read `specs/Request.antt`, `specs/Answer.antt`, `specs/Outcome.antt`, then `top.rt`.
+#![tactic(auto)]
+
+mod help;
+mod host;
+mod preparing;
+mod reporting;
+mod requests;
+mod status;
+mod stops;
+mod telling;
+mod top;
+mod workspace_files;
+
+pub use host::{HostFiles, HostSink};
+pub use status::Status;
+pub use telling::tell;
+pub use top::run;

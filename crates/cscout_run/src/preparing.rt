@@ -1,0 +1,177 @@
+// All of a run that may want memory: it puts nothing.
+ghost use Rattle.std.specs.Prelude.{◌≡◌, ◌≤◌, ◌++◌, IfSome, IfOk, IfErr, OnOk, IsUtf8, length, []};
+ghost use Rattle.cs_base.specs.Edit.{edit};
+ghost use Rattle.ws_file.specs.Workspace.{most_units};
+ghost use Rattle.rename_edit.specs.Analysis.{thin_of};
+ghost use Rattle.rename_edit.specs.Renaming.{renaming};
+ghost use Rattle.cscout_run.specs.Answer.{IsRequestAnswer, analysed_answer, renaming_answer, unit_paths};
+ghost use Rattle.cscout_run.specs.Asking.{request_value, rename_value, workspace_file};
+ghost use Rattle.cscout_run.specs.Message.{edited_line, edited_lines};
+ghost use Rattle.cscout_run.specs.Request.{renaming_asked};
+ghost use Rattle.cscout_run.specs.Steps.{IsPlanStop, Prepares, Analyses, StepReads};
+
+use crate::help::{help, version};
+use crate::reporting::{prepare_class, prepare_skipped, prepare_tokens};
+use crate::requests::{Rename, Request};
+use crate::stops::Stop;
+use crate::workspace_files::read_workspace;
+use cs_base::{Edits, Files, Memory, Text, normal_path};
+use itoa::Buffer;
+use rename_edit::{RenameRefusal, Thin, ThinFault, plan_thin, thin_analyse};
+use std::alloc::Global;
+use std::str;
+use ws_file::Workspace;
+
+/// What is left to do once nothing can want memory: the edits to put and the text to write.
+#[derive(Drop)]
+pub struct Ready {
+    pub edits: Edits,
+    pub text: Vec<u8>,
+}
+
+/// All of the answer to a request but its puts and its output.
+pub fn prepare<F: Files>(alloc: Global, request: &Request<'_>, files: &mut F) -> Result<Ready, Stop>
+    ensures answer { IfSome (F.held files.old) (λ fs.
+        Prepares (workspace_file request.now) (IsRequestAnswer fs (request_value request.now)) result) }
+    ensures held { F.held files.new ≡ F.held files.old }
+    ensures reads { StepReads (workspace_file request.now)
+        (F.failed_reads files.old) (F.failed_reads files.new) (F.last_failed files.new) result }
+    ensures puts { F.failed_puts files.new ≡ F.failed_puts files.old }
+{
+    match request {
+        Request::Help => Ok(shown(alloc, help())?),
+        Request::Version => Ok(shown(alloc, version())?),
+        Request::Renaming(rename) => prepare_rename(alloc, rename, files),
+        Request::Tokens(tokens) => prepare_tokens(alloc, tokens, files),
+        Request::Skipped(ws) => prepare_skipped(alloc, ws, files),
+        Request::Class(class) => prepare_class(alloc, class, files),
+    }
+}
+
+// A text for the output alone.
+fn shown(alloc: Global, text: &[u8]) -> Result<Ready, Memory>
+    ensures edits { IfOk result (λ ready. ready.edits ≡ []) }
+    ensures text { IfOk result (λ ready. ready.text.items ≡ text.now) }
+{
+    Ok(Ready {
+        edits: Edits::new(alloc),
+        text: Vec::from_slice(alloc, text)?,
+    })
+}
+
+// All of the answer to a rename but its puts and its output.
+fn prepare_rename<F: Files>(
+    alloc: Global,
+    rename: &Rename<'_>,
+    files: &mut F,
+) -> Result<Ready, Stop>
+    ensures answer { IfSome (F.held files.old) (λ fs.
+        Prepares rename.now.ws.now (IsRequestAnswer fs (renaming_asked (rename_value rename.now))) result) }
+    ensures held { F.held files.new ≡ F.held files.old }
+    ensures reads { StepReads rename.now.ws.now
+        (F.failed_reads files.old) (F.failed_reads files.new) (F.last_failed files.new) result }
+    ensures puts { F.failed_puts files.new ≡ F.failed_puts files.old }
+{
+    let ws = read_workspace(alloc, rename.ws, files)?;
+    let thin = analyse(alloc, &ws, rename, files)?;
+    planned(alloc, &thin, rename)
+}
+
+// The analysis of the units of the workspace.
+fn analyse<F: Files>(
+    alloc: Global,
+    ws: &Workspace,
+    rename: &Rename<'_>,
+    files: &mut F,
+) -> Result<Thin, Stop>
+    ensures answer { IfSome (F.held files.old) (λ fs.
+        Analyses (rename_value rename.now)
+        (analysed_answer (rename_value rename.now) (thin_of (unit_paths ws.now) fs)) result) }
+    ensures held { F.held files.new ≡ F.held files.old }
+    ensures reads { StepReads rename.now.ws.now
+        (F.failed_reads files.old) (F.failed_reads files.new) (F.last_failed files.new) result }
+    ensures puts { F.failed_puts files.new ≡ F.failed_puts files.old }
+{
+    let paths = paths_of(alloc, ws)?;
+    match thin_analyse(alloc, paths.as_slice(), files) {
+        Ok(thin) => Ok(thin),
+        Err(ThinFault::Fault { unit, place, cause }) => Err(Stop::UnitFault { unit, place, cause }),
+        Err(ThinFault::ReadFault { path }) => Err(Stop::UnreadFile { path }),
+        Err(ThinFault::Memory) => Err(Stop::Memory),
+    }
+}
+
+// The paths of the units, in order.
+fn paths_of(alloc: Global, ws: &Workspace) -> Result<Vec<Text>, Memory>
+    ensures paths { IfOk result (λ paths. paths.items ≡ unit_paths ws.now) }
+    ensures few { IfOk result (λ paths. length paths.items ≤ most_units) }
+{
+    let mut paths = Vec::new(alloc);
+    for unit in ws.units() {
+        paths.push(Text::new(alloc, unit.path().bytes())?)?;
+    }
+    Ok(paths)
+}
+
+// The edits of the rename and the text that tells them.
+fn planned(alloc: Global, thin: &Thin, rename: &Rename<'_>) -> Result<Ready, Stop>
+    ensures answer { Prepares rename.now.ws.now
+        (λ a. renaming_answer (renaming thin.now (rename_value rename.now).path rename.now.line
+        rename.now.column rename.now.name.now) ≡ a) result }
+    ensures stops { IfErr result IsPlanStop }
+{
+    let path = normal_path(alloc, rename.path.as_bytes())?;
+    let text = path_text(&path);
+    match plan_thin(
+        alloc,
+        thin,
+        text,
+        rename.line,
+        rename.column,
+        rename.name.as_bytes(),
+    ) {
+        Ok(edits) => {
+            let text = edited_text(alloc, &edits)?;
+            Ok(Ready { edits, text })
+        }
+        Err(RenameRefusal::BadName) => Err(Stop::BadName),
+        Err(RenameRefusal::NoName) => Err(Stop::NoName),
+        Err(RenameRefusal::Offence { place, cause }) => Err(Stop::Offence { place, cause }),
+        Err(RenameRefusal::Memory) => Err(Stop::Memory),
+    }
+}
+
+// The path as text.
+fn path_text(path: &Text) -> &str
+    requires { IsUtf8 path.now }
+    ensures { result.now ≡ path.now }
+{
+    match str::from_utf8(path.bytes()) {
+        Ok(text) => text,
+        Err(_) => unreachable!(),
+    }
+}
+
+// One line for each edit.
+fn edited_text(alloc: Global, edits: &Edits) -> Result<Vec<u8>, Memory>
+    ensures { IfOk result (λ text. text.items ≡ edited_lines edits.now) }
+{
+    let mut text = Vec::new(alloc);
+    for k in 0..edits.len() {
+        push_line(&mut text, edits.path(k), edits.count(k))?;
+    }
+    Ok(text)
+}
+
+// Adds the line of an edit of this path with so many places.
+fn push_line(text: &mut Vec<u8>, path: &[u8], count: u32) -> Result<(), Memory>
+    ensures { OnOk result (text.new.items ≡ text.old.items ++ edited_line (edit path.now [] count)) }
+{
+    let mut digits = Buffer::new();
+    text.extend_from_slice(b"edited ")?;
+    text.extend_from_slice(path)?;
+    text.extend_from_slice(b" ")?;
+    text.extend_from_slice(digits.format(count).as_bytes())?;
+    text.extend_from_slice(b"\n")?;
+    Ok(())
+}

@@ -1,0 +1,234 @@
+// What the words after the program's name ask for.
+ghost use Rattle.std.specs.Prelude.{◌≡◌, ◌≤◌, length, map, string_bytes, IsTrue};
+ghost use Rattle.std.specs.Option.{option_map};
+ghost use Rattle.cscout_run.specs.Request.{asked, alone_of, workspace_command_of, unit_command_of, place_command_of, class_report_of, command_of, rename_of, is_number, are_digits, begins_with_zero, number_of};
+ghost use Rattle.cscout_run.specs.Asking.{request_value, workspace_file};
+
+/// A rename in words: the path is as written.
+#[derive(Drop)]
+pub struct Rename<'a> {
+    pub ws: &'a str,
+    pub path: &'a str,
+    pub line: u32,
+    pub column: u32,
+    pub name: &'a str,
+}
+
+/// A report on the tokens of a unit, in words.
+#[derive(Drop)]
+pub struct UnitTokens<'a> {
+    pub ws: &'a str,
+    pub unit: u32,
+}
+
+/// A report on the class of a name, in words: the path is as written.
+#[derive(Drop)]
+pub struct NamedClass<'a> {
+    pub ws: &'a str,
+    pub path: &'a str,
+    pub line: u32,
+    pub column: u32,
+}
+
+/// What the program is asked for. `Skipped` has the workspace file.
+#[derive(Drop)]
+pub enum Request<'a> {
+    Help,
+    Version,
+    Renaming(Rename<'a>),
+    Tokens(UnitTokens<'a>),
+    Skipped(&'a str),
+    Class(NamedClass<'a>),
+}
+
+/// The request of these words, or none where they are of no form. Takes no memory.
+pub fn asked(words: &[String]) -> Option<Request<'_>>
+    ensures { option_map request_value result ≡ asked (map string_bytes words.now) }
+{
+    if words.len() == 1 {
+        return asked_alone(words[0].as_str());
+    }
+    if words.len() == 2 {
+        return asked_of_workspace(words[0].as_str(), words[1].as_str());
+    }
+    if words.len() == 3 {
+        return asked_of_unit(words[0].as_str(), words[1].as_str(), words[2].as_str());
+    }
+    if words.len() == 5 {
+        return asked_of_place(
+            words[0].as_str(),
+            words[1].as_str(),
+            words[2].as_str(),
+            words[3].as_str(),
+            words[4].as_str(),
+        );
+    }
+    if words.len() != 6 {
+        return None;
+    }
+    asked_command(
+        words[0].as_str(),
+        words[1].as_str(),
+        words[2].as_str(),
+        words[3].as_str(),
+        words[4].as_str(),
+        words[5].as_str(),
+    )
+}
+
+fn asked_alone<'a>(word: &str) -> Option<Request<'a>>
+    ensures { option_map request_value result ≡ alone_of word.now }
+{
+    if word == "--help" {
+        Some(Request::Help)
+    } else if word == "--version" {
+        Some(Request::Version)
+    } else {
+        None
+    }
+}
+
+fn asked_of_workspace<'a>(ws: &'a str, command: &str) -> Option<Request<'a>>
+    ensures { option_map request_value result ≡ workspace_command_of ws.now command.now }
+{
+    if command == "skipped" {
+        Some(Request::Skipped(ws))
+    } else {
+        None
+    }
+}
+
+fn asked_of_unit<'a>(ws: &'a str, command: &str, unit: &str) -> Option<Request<'a>>
+    ensures { option_map request_value result ≡ unit_command_of ws.now command.now unit.now }
+{
+    if command == "tokens" && is_number(unit.as_bytes()) {
+        Some(Request::Tokens(UnitTokens {
+            ws,
+            unit: number(unit.as_bytes()),
+        }))
+    } else {
+        None
+    }
+}
+
+fn asked_of_place<'a>(
+    ws: &'a str,
+    command: &str,
+    path: &'a str,
+    line: &str,
+    column: &str,
+) -> Option<Request<'a>>
+    ensures { option_map request_value result ≡ place_command_of ws.now command.now path.now line.now column.now }
+{
+    if command == "class" {
+        asked_class(ws, path, line, column)
+    } else {
+        None
+    }
+}
+
+fn asked_class<'a>(ws: &'a str, path: &'a str, line: &str, column: &str) -> Option<Request<'a>>
+    ensures { option_map request_value result ≡ class_report_of ws.now path.now line.now column.now }
+{
+    if is_number(line.as_bytes()) && is_number(column.as_bytes()) {
+        Some(Request::Class(NamedClass {
+            ws,
+            path,
+            line: number(line.as_bytes()),
+            column: number(column.as_bytes()),
+        }))
+    } else {
+        None
+    }
+}
+
+fn asked_command<'a>(
+    ws: &'a str,
+    command: &str,
+    path: &'a str,
+    line: &str,
+    column: &str,
+    name: &'a str,
+) -> Option<Request<'a>>
+    ensures { option_map request_value result
+        ≡ command_of ws.now command.now path.now line.now column.now name.now }
+{
+    if command == "rename" {
+        asked_rename(ws, path, line, column, name)
+    } else {
+        None
+    }
+}
+
+fn asked_rename<'a>(
+    ws: &'a str,
+    path: &'a str,
+    line: &str,
+    column: &str,
+    name: &'a str,
+) -> Option<Request<'a>>
+    ensures { option_map request_value result
+        ≡ rename_of ws.now path.now line.now column.now name.now }
+{
+    if is_number(line.as_bytes()) && is_number(column.as_bytes()) {
+        Some(Request::Renaming(Rename {
+            ws,
+            path,
+            line: number(line.as_bytes()),
+            column: number(column.as_bytes()),
+            name,
+        }))
+    } else {
+        None
+    }
+}
+
+// Whether the word is a number: one to nine decimal digits, the first not 0.
+fn is_number(word: &[u8]) -> bool
+    ensures answer { result ≡ is_number word.now }
+    ensures digits { IsTrue result → IsTrue (are_digits word.now) }
+    ensures few { IsTrue result → length word.now ≤ 9 }
+{
+    are_digits(word) && !begins_with_zero(word) && 0 < word.len() && word.len() <= 9
+}
+
+fn are_digits(word: &[u8]) -> bool
+    ensures { result ≡ are_digits word.now }
+{
+    word.iter().all(|b| b.is_ascii_digit())
+}
+
+fn begins_with_zero(word: &[u8]) -> bool
+    ensures { result ≡ begins_with_zero word.now }
+{
+    match word {
+        [] => false,
+        [first, ..] => *first == b'0',
+    }
+}
+
+// The number that the digits spell.
+fn number(digits: &[u8]) -> u32
+    requires digits { IsTrue (are_digits digits.now) }
+    requires few { length digits.now ≤ 9 }
+    ensures { result ≡ number_of digits.now }
+{
+    let mut n = 0u32;
+    for digit in digits {
+        n = 10 * n + (*digit - b'0') as u32;
+    }
+    n
+}
+
+/// The workspace file of a request, or nothing where it has none.
+pub fn workspace_file<'a>(request: &Request<'a>) -> &'a str
+    ensures { result.now ≡ workspace_file request.now }
+{
+    match request {
+        Request::Renaming(rename) => rename.ws,
+        Request::Tokens(tokens) => tokens.ws,
+        Request::Skipped(ws) => ws,
+        Request::Class(class) => class.ws,
+        _ => "",
+    }
+}

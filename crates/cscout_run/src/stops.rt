@@ -1,0 +1,52 @@
+// The early ends of a run: nothing is put.
+use cs_base::{Cause, Memory as NoMemory, Place, Text};
+
+/// Why a run ends before the first put.
+#[derive(Drop)]
+pub enum Stop {
+    /// The workspace file is not there.
+    NoWorkspace,
+    /// A line of the workspace file is refused.
+    BadLine {
+        line: u32,
+    },
+    /// A line of the workspace file is one `file` line too many.
+    TooManyUnits {
+        line: u32,
+    },
+    /// The workspace file could not be read.
+    UnreadWorkspace,
+    /// A unit is not accepted.
+    UnitFault {
+        unit: u32,
+        place: Place,
+        cause: Cause,
+    },
+    /// A file of a unit could not be read.
+    UnreadFile {
+        path: Text,
+    },
+    /// There is no unit with the number.
+    NoUnit,
+    /// The new name is no identifier.
+    BadName,
+    /// The place names nothing.
+    NoName,
+    /// Something stands against the renaming.
+    Offence {
+        place: Place,
+        cause: Cause,
+    },
+    Memory,
+}
+
+impl From<NoMemory> for Stop {
+    ghost use Rattle.std.specs.Prelude.{◌≡◌};
+    ghost use Rattle.cscout_run.specs.declared.stops.Stop.TheVariants.{Memory as no_memory};
+
+    ghost from_gives = { λ _ stop. stop ≡ no_memory };
+
+    fn from(_: NoMemory) -> Self {
+        Stop::Memory
+    }
+}

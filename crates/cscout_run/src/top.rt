@@ -1,0 +1,68 @@
+// The top call: the words, then everything that may want memory, then the puts, then one write.
+ghost use Rattle.std.specs.Prelude.{◌≡◌, ◌↔◌, IfSome, map, string_bytes, None};
+ghost use Rattle.cs_base.specs.Outside.{Writes, Faults, write_failed};
+ghost use Rattle.cscout_run.specs.Request.{asked};
+ghost use Rattle.cscout_run.specs.Answer.{IsAnswer};
+ghost use Rattle.cscout_run.specs.Outcome.{world, Ends};
+ghost use Rattle.cscout_run.specs.Promise.{KeepsPromise};
+
+use crate::preparing::prepare;
+use crate::requests::{asked, workspace_file};
+use crate::status::Status;
+use crate::telling::{tell, tell_stop};
+use cs_base::{Files, Sink, Wrote};
+use rename_edit::{Applied, apply};
+use std::alloc::Global;
+
+/// Runs the program on the words after its name.
+pub fn run<F: Files, O: Sink, E: Sink>(
+    alloc: Global,
+    words: &[String],
+    files: &mut F,
+    out: &mut O,
+    err: &mut E,
+) -> Status
+    // Usage comes exactly where the words are of no form.
+    ensures usage { (result ≡ Status.Usage) ↔ (asked (map string_bytes words.now) ≡ None) }
+    // Status, files, output and messages are those of an answer; what failed is answered, and nothing else.
+    ensures outcome { Ends (IsAnswer (map string_bytes words.now))
+        (world (F.held files.old) (F.failed_reads files.old) (F.failed_puts files.old)
+        (F.last_failed files.old) (O.bytes out.old) (O.failed_writes out.old)
+        (E.bytes err.old) (E.failed_writes err.old))
+        (world (F.held files.new) (F.failed_reads files.new) (F.failed_puts files.new)
+        (F.last_failed files.new) (O.bytes out.new) (O.failed_writes out.new)
+        (E.bytes err.new) (E.failed_writes err.new))
+        result }
+    // A rename that is done has changed the named class, and nothing else.
+    ensures promise { result ≡ Status.Done → IfSome (F.held files.old) (λ before.
+        IfSome (F.held files.new) (KeepsPromise (asked (map string_bytes words.now)) before)) }
+{
+    let Some(request) = asked(words) else {
+        tell(err, &[b"bad command line"]);
+        return Status::Usage;
+    };
+    let ready = match prepare(alloc, &request, files) {
+        Ok(ready) => ready,
+        Err(stop) => return tell_stop(err, workspace_file(&request), &stop),
+    };
+    if let Applied::Failed { written } = apply(&ready.edits, files) {
+        tell(err, &[b"cannot write ", ready.edits.path(written)]);
+        return Status::WriteFault;
+    }
+    if let Wrote::Failed = write_text(out, ready.text.as_slice()) {
+        tell(err, &[b"cannot write output"]);
+        return Status::WriteFault;
+    }
+    Status::Done
+}
+
+// Writes the text in one call, and makes none where it is empty.
+fn write_text<O: Sink>(out: &mut O, text: &[u8]) -> Wrote
+    ensures bytes { Writes text.now (O.bytes out.old) (O.bytes out.new) result }
+    ensures faults { Faults (write_failed result) (O.failed_writes out.old) (O.failed_writes out.new) }
+{
+    if text.is_empty() {
+        return Wrote::Done;
+    }
+    out.write(text)
+}
