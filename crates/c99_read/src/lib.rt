@@ -55,6 +55,3 @@ pub fn read(alloc: Global, toks: &[Tok]) -> Result<Tree, ReadRefusal>
     reader.produce(0, Production::TranslationUnit)?;
     Ok(reader.into_tree()?)
 }
-
-#[cfg(test)]
-mod tests;

@@ -14,6 +14,3 @@ mod visible;
 pub use production::{Label, Production};
 pub use tree::{Child, Tree};
 pub use visible::Visible;
-
-#[cfg(test)]
-mod tests;

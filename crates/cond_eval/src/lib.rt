@@ -45,6 +45,3 @@ pub fn eval(toks: &[Tok]) -> Result<bool, CondFault>
     let value = walk::conditional(toks, DEPTH_LIMIT, true, 0)?;
     Ok(value.number.is_nonzero())
 }
-
-#[cfg(test)]
-mod tests;

@@ -38,6 +38,3 @@ pub use step_count::Steps;
 pub use texts::Text;
 pub use tokens::{Kind, Link, Tok, Toks};
 pub use ws_units::{Setting, Unit};
-
-#[cfg(test)]
-mod tests;

@@ -24,6 +24,3 @@ mod wholeness;
 
 pub use class_table::Classes;
 pub use laws::joins_relabel_little;
-
-#[cfg(test)]
-mod tests;

@@ -42,8 +42,6 @@ mod signs;
 mod slot;
 mod source_text;
 mod status;
-#[cfg(test)]
-mod tests;
 mod unit_text;
 mod unit_walk;
 mod visits;

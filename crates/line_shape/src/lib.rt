@@ -15,8 +15,6 @@ mod macro_line;
 mod names;
 mod parameters;
 mod signs;
-#[cfg(test)]
-mod tests;
 mod walk;
 
 pub use items::{Item, ItemKind};

@@ -37,6 +37,3 @@ pub fn external_links(alloc: Global, units: &[UnitNames]) -> Result<Vec<Link>, M
     }
     Ok(links)
 }
-
-#[cfg(test)]
-mod tests;

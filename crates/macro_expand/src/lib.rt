@@ -25,22 +25,12 @@ mod costs;
 mod define_line;
 mod definitions;
 mod expansion;
-#[cfg(test)]
-mod expansion_rows;
-#[cfg(test)]
-mod expansion_tests;
-#[cfg(test)]
-mod expansion_texts;
 mod fault;
-#[cfg(test)]
-mod fault_rows;
 mod hidden;
 mod hide_set;
 mod laws;
 mod notes;
 mod operands;
-#[cfg(test)]
-mod operator_rows;
 mod parameters;
 mod pasting;
 mod predefined;
@@ -50,8 +40,6 @@ mod shared_tokens;
 mod signs;
 mod substitution;
 mod table;
-#[cfg(test)]
-mod tests;
 
 pub use definitions::{Definition, Form};
 pub use expansion::expand;

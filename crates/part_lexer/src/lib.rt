@@ -28,8 +28,6 @@ mod pieces;
 mod refusal;
 mod scan;
 mod single;
-#[cfg(test)]
-mod tests;
 
 pub use file_text::FileText;
 pub use front::is_identifier;

@@ -18,6 +18,3 @@ pub use glue_refusal::GlueRefusal;
 pub use pasting::glue;
 pub use string_refusal::StrRefusal;
 pub use strings::stringize;
-
-#[cfg(test)]
-mod tests;

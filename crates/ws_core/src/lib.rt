@@ -12,43 +12,31 @@
 //! `analysis.rt`.
 #![tactic(auto)]
 
-#[cfg(test)]
-mod accept_tests;
 mod accepted;
 mod accepting;
 mod adding;
 mod all_texts;
 mod analyse_fault;
-#[cfg(test)]
-mod analyse_tests;
 mod analysis;
 mod brought;
 mod class_lists;
 mod external_names;
 mod fault_places;
 mod file_tokens;
-#[cfg(test)]
-mod file_tokens_tests;
 mod joining;
 mod linking;
-#[cfg(test)]
-mod linking_tests;
 mod listed;
 mod marks;
 mod nameable;
 mod naming;
 mod number_order;
 mod occurrences;
-#[cfg(test)]
-mod order_tests;
 mod part_lists;
 mod place_order;
 mod preprocessing;
 mod processed;
 mod read_only;
 mod spelling;
-#[cfg(test)]
-mod tests;
 mod token_search;
 mod unit_reading;
 

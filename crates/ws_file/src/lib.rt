@@ -14,8 +14,6 @@ mod print;
 mod read;
 mod reader;
 mod refusal;
-#[cfg(test)]
-mod tests;
 mod text_tests;
 mod words;
 mod workspaces;

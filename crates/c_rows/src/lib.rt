@@ -1,0 +1,19 @@
+//! Worked texts of C, read and bound (ISO/IEC 9899:1999, 6.2.1 to 6.2.3 and Annex A.2).
+//!
+//! It has tests alone: `tree_tests` of trees and visible names, `reading_tests` of what is read or refused,
+//! `binding_tests` of the entity of each name, of what lists tell, and of the first fault (the rows stand in
+//! `entity_rows`, `list_rows` and `fault_rows`). What each text must give is worked outside.
+#![tactic(auto)]
+
+#[cfg(test)]
+mod binding_tests;
+#[cfg(test)]
+mod entity_rows;
+#[cfg(test)]
+mod fault_rows;
+#[cfg(test)]
+mod list_rows;
+#[cfg(test)]
+mod reading_tests;
+#[cfg(test)]
+mod tree_tests;

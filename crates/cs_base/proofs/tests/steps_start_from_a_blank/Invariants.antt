@@ -1,4 +1,0 @@
-use Rattle.cs_base.proofs.tests.steps_start_from_a_blank.Given as goal
-
-abbrev pub ghosts-two_ticks : goal.ghosts-two_ticks
-ghosts-two_ticks a = record { name = a.blank.name; parts = a.blank.parts }

@@ -1,7 +1,0 @@
-use Rattle.std.proofs.Common.{◌≡◌, ◌&&◌, true, take}
-use Rattle.std.specs.List.{list_all}
-use Rattle.macro_expand.specs.Sound.{is_traced, is_low}
-use Rattle.macro_expand.proofs.expansion_texts.are_sound.Given as goal
-
-abbrev pub invariant-loop-tok : goal.invariant-loop-tok
-invariant-loop-tok l = list_all (λ t. is_traced t && is_low t) (take l.tok-index l.toks) ≡ true

@@ -1,7 +1,0 @@
-use Rattle.macro_expand.specs.Live.{table_of}
-use Rattle.macro_expand.specs.Sound.{AllTraced}
-use Rattle.macro_expand.proofs.expansion_texts.expanded.Given as goal
-
--- each replacement list comes from somewhere
-abbrev pub invariant-loop-item : goal.invariant-loop-item
-invariant-loop-item l = AllTraced (table_of l.macros)

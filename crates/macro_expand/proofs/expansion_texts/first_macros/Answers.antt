@@ -1,6 +1,0 @@
-use Rattle.macro_expand.specs.Live.{table_of}
-use Rattle.macro_expand.proofs.TracedLemmas.{traced-none}
-use Rattle.macro_expand.proofs.expansion_texts.first_macros.Goals as goal
-
-pub define-requires-clause-traced : goal.define-requires-clause-traced
-define-requires-clause-traced c = traced-none (table_of c.new-macros.result) c.new-macros.ensures

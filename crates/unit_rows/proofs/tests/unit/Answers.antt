@@ -1,0 +1,31 @@
+use Rattle.std.proofs.Common.{◌≡◌, ℕ, true, List, [], codes, refl, sym, subst}
+use Rattle.cs_base.specs.declared.ws_units.Setting.{Setting}
+use Rattle.cs_base.specs.Paths.{kept_of, normal_path_of}
+use Rattle.cs_base.proofs.UnitLemmas.{is_utf8-ascii}
+use Rattle.cs_base.specs.Units.{unit, IsUnit, is_project, is_unit_path, is_writable, fixed_lines, defines_text, defines_fit}
+use Rattle.unit_rows.proofs.tests.unit.Goals as goal
+
+named : is_project (codes "p") ≡ true
+unfolding is_writable
+named = rw (is_utf8-ascii (codes "p") refl) refl
+
+placed : is_unit_path (codes "a.c") ≡ true
+unfolding is_writable kept_of normal_path_of
+placed = rw (is_utf8-ascii (codes "a.c") refl) refl
+
+alone : IsUnit (unit (codes "p") (codes "a.c") [] [])
+unfolding fixed_lines defines_text defines_fit
+alone = record { is_named = named; is_placed = placed; are_directories = refl; are_settings = refl; fits = refl }
+
+unit-is : (project path : List ℕ) (ipath : List (List ℕ)) (settings : List Setting) → project ≡ codes "p" → path ≡ codes "a.c" → ipath ≡ [] → settings ≡ []
+    → IsUnit (unit project path ipath settings)
+unit-is project path ipath settings p q r s =
+    subst (λ (x : List ℕ). IsUnit (unit x path ipath settings)) (sym p)
+    (subst (λ (x : List ℕ). IsUnit (unit (codes "p") x ipath settings)) (sym q)
+    (subst (λ (x : List (List ℕ)). IsUnit (unit (codes "p") (codes "a.c") x settings)) (sym r)
+    (subst (λ (x : List Setting). IsUnit (unit (codes "p") (codes "a.c") [] x)) (sym s) alone)))
+
+pub new-requires-5 : goal.new-requires-5
+new-requires-5 c = record {
+  sound = unit-is c.in_ok-project.project c.in_ok-path.path c.new-3.result.items c.new-4.result.items c.in_ok-project.ensures c.in_ok-path.ensures c.new-3.ensures.items c.new-4.ensures.items;
+}

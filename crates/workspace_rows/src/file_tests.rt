@@ -1,0 +1,177 @@
+// Rows of workspace files, with what they say; the values were worked by hand and with another program.
+use std::alloc::{AllocError, Global};
+use std::test::Fail;
+use ws_file::{WsRefusal, print_ws, read_ws};
+
+// What a file says: its workspace as it is printed, or the line that is refused.
+fn shown(alloc: Global, file: &[u8]) -> Result<Vec<u8>, Fail> {
+    match read_ws(alloc, file) {
+        Ok(ws) => Ok(print_ws(alloc, &ws)?),
+        Err(WsRefusal::BadLine { line }) => Ok(format!(in alloc; "bad {line}")?.into_bytes()),
+        Err(WsRefusal::TooManyUnits { line }) => Ok(format!(in alloc; "many {line}")?.into_bytes()),
+        Err(WsRefusal::Memory) => Err(AllocError)?,
+    }
+}
+
+// The byte as often as said, behind a front.
+fn filled(alloc: Global, front: &str, byte: u8, count: usize) -> Result<Vec<u8>, AllocError> {
+    let mut text = Vec::from_slice(alloc, front.as_bytes())?;
+    for _ in 0..count {
+        text.push(byte)?;
+    }
+    Ok(text)
+}
+
+#[test]
+fn each_line_says_what_it_may(rt: HostRuntime) -> Result<(), Fail> {
+    let alloc = rt.alloc();
+    for (file, want) in [
+        ("", ""),
+        ("file a.c\n", "project default\nfile a.c\n"),
+        ("# c\n\n \t\r\nfile a.c", "project default\nfile a.c\n"),
+        (" # x", ""),
+        (
+            "readonly /usr/\nproject lib\nipath ./inc/\nipath /opt/x/../y\nipath .\ndefine  NDEBUG 1 \nundefine  linux\nfile src//lib/./a.c\nproject tool\nfile ../t/main.c\r\n",
+            "readonly /usr/\nproject lib\nipath inc\nipath /opt/y\nipath .\ndefine NDEBUG 1\nundefine linux\nfile src/lib/a.c\nproject tool\nfile ../t/main.c\n",
+        ),
+        (
+            "file a.c\nreadonly x",
+            "readonly x\nproject default\nfile a.c\n",
+        ),
+        (
+            "ipath i\ndefine A\nfile a.c\nfile b.c\nproject p\nfile a.c",
+            "project default\nipath i\ndefine A\nfile a.c\nproject default\nipath i\ndefine A\nfile b.c\nproject p\nfile a.c\n",
+        ),
+        (
+            "ipath ..\nipath ../../a/..\nipath /..\nipath //a/../b//\nfile a/../../b",
+            "project default\nipath ..\nipath ../..\nipath /\nipath /b\nfile ../b\n",
+        ),
+        ("project\tp\nfile a", "project p\nfile a\n"),
+        ("file a.c # x", "project default\nfile a.c # x\n"),
+        ("file x/<y", "project default\nfile x/<y\n"),
+        ("file /", "project default\nfile /\n"),
+        ("file \u{e9}.c", "project default\nfile \u{e9}.c\n"),
+        ("ipath <x\ndefine _ 2", ""),
+    ] {
+        let text = shown(alloc, file.as_bytes())?;
+        assert_eq!(rt; text.as_slice(), want.as_bytes(), "{file:?}");
+        let again = shown(alloc, text.as_slice())?;
+        assert_eq!(rt; again.as_slice(), want.as_bytes(), "{file:?}, printed");
+    }
+    Ok(())
+}
+
+#[test]
+fn a_bad_line_is_named(rt: HostRuntime) -> Result<(), Fail> {
+    let alloc = rt.alloc();
+    for (file, want) in [
+        ("project p\nfle a.c", "bad 2"),
+        ("file a.c\nbad\nfile <", "bad 2"),
+        ("file", "bad 1"),
+        ("file \t", "bad 1"),
+        ("project", "bad 1"),
+        ("project a b", "bad 1"),
+        ("ipath", "bad 1"),
+        ("readonly ", "bad 1"),
+        ("define", "bad 1"),
+        ("define 1x", "bad 1"),
+        ("undefine a-b", "bad 1"),
+        ("undefine 1", "bad 1"),
+        ("undefine a b", "bad 1"),
+        ("File a.c", "bad 1"),
+        ("files a.c", "bad 1"),
+        ("\u{b}file a.c", "bad 1"),
+        ("file <x", "bad 1"),
+        ("file ./<x", "bad 1"),
+        ("file .", "bad 1"),
+        ("file a/..", "bad 1"),
+        ("file ./ a", "bad 1"),
+        ("file a /.", "bad 1"),
+        ("ipath ./ a", "bad 1"),
+        ("ipath b\\/.", "bad 1"),
+        ("file a\\", "bad 1"),
+        ("define f(x) x\\ ", "bad 1"),
+        ("# x\\", "bad 1"),
+        ("# x\\ ", "bad 1"),
+        ("\\", "bad 1"),
+    ] {
+        let text = shown(alloc, file.as_bytes())?;
+        assert_eq!(rt; text.as_slice(), want.as_bytes(), "{file:?}");
+    }
+    let text = shown(alloc, b"\n# \xff")?;
+    assert_eq!(rt; text.as_slice(), b"bad 2".as_slice(), "no UTF-8");
+    Ok(())
+}
+
+#[test]
+fn limits_hold_at_their_edge(rt: HostRuntime) -> Result<(), Fail> {
+    let alloc = rt.alloc();
+    // A file of 2^22 bytes, and what follows it.
+    for (count, end, want) in [
+        (4194303, "", ""),
+        (4194303, "\n", ""),
+        (4194304, "", "bad 1"),
+        (4194303, "\n\n", "bad 2"),
+        (4194302, "\n\n", ""),
+    ] {
+        let mut file = filled(alloc, "#", b'-', count)?;
+        file.extend_from_slice(end.as_bytes())?;
+        let text = shown(alloc, file.as_slice())?;
+        assert_eq!(rt; text.as_slice(), want.as_bytes(), "{count} and {end:?}");
+    }
+    // A pseudo file of 2^16 bytes.
+    for (front, count, fits) in [
+        ("define A", 65389, true),
+        ("define A", 65390, false),
+        ("undefine A", 65390, true),
+        ("undefine A", 65391, false),
+    ] {
+        let mut file = filled(alloc, front, b'A', count)?;
+        file.extend_from_slice(b"\nfile a.c")?;
+        let text = shown(alloc, file.as_slice())?;
+        assert_eq!(rt;
+            text.as_slice() != b"bad 2".as_slice(),
+            fits,
+            "{front} and {count}"
+        );
+    }
+    Ok(())
+}
+
+#[test]
+fn there_are_1024_units_at_most(rt: HostRuntime) -> Result<(), Fail> {
+    let alloc = rt.alloc();
+    let mut file = Vec::new(alloc);
+    for _ in 0..1024 {
+        file.extend_from_slice(b"file a\n")?;
+    }
+    let ws = read_ws(alloc, file.as_slice())?;
+    let copy = ws.copy(alloc)?;
+    assert_eq!(rt; copy.units().len(), 1024);
+    for (end, want) in [
+        ("file a", "many 1025"),
+        ("file <", "bad 1025"),
+        ("file a\nbad", "many 1025"),
+        ("bad\nfile a", "bad 1025"),
+    ] {
+        let mut more = file.clone()?;
+        more.extend_from_slice(end.as_bytes())?;
+        let text = shown(alloc, more.as_slice())?;
+        assert_eq!(rt; text.as_slice(), want.as_bytes(), "{end:?}");
+    }
+    Ok(())
+}
+
+#[test]
+fn a_copy_is_printed_alike(rt: HostRuntime) -> Result<(), Fail> {
+    let alloc = rt.alloc();
+    let ws = read_ws(
+        alloc,
+        b"readonly r\ndefine A 1\nundefine B\nipath .\nfile a.c",
+    )?;
+    let copy = ws.copy(alloc)?;
+    let text = print_ws(alloc, &copy)?;
+    let want = "readonly r\nproject default\nipath .\ndefine A 1\nundefine B\nfile a.c\n";
+    assert_eq!(rt; text.as_slice(), want.as_bytes());
+    Ok(())
+}
