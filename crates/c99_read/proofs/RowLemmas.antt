@@ -1,117 +1,205 @@
--- The rows of operands in the table.
-use Rattle.std.proofs.Common.{◌≡◌, ◌<◌, nat_lt, true, false, [], ◌∷◌, refl, lit<}
+-- What the rows of the table need so that they can be read.
+use Rattle.std.proofs.Common.{ℕ, ◌+◌, ◌≡◌, ◌<◌, ◌≤◌, Bool, true, false, if◌then◌else◌, nat_lt, List, [], ◌∷◌, Option, None, Some, refl, subst, lit<, arith}
+use Rattle.std.specs.List.{list_all}
+use Rattle.std.proofs.lemmas.Bool.{and_parts, ltb-true}
 use Rattle.c99_tree.specs.declared.production.Production.{Production}
 use Rattle.c99_tree.specs.declared.production.Production.TheVariants.{TranslationUnit, External, ExtRest, ExtTail, FunBody, Declaration, DeclRest, InitDecl, Specs, Main, Mod, Qual, Word, StructSpec, SuRest, Members, Member, Mdecl, EnumSpec, EnRest, Enumerators, Enumerator, Declarator, Pointer, Direct, Suffix, Bound, Params, Param, Pdecl, Pdirect, TypeName, Adecl, Adirect, Init, InitList, InitItem, Designator, Expr, Assign, Asgop, Cond, Lor, Land, Bor, Bxor, Band, Equal, Relate, Shift, Add, Mul, Cast, CastRest, Unary, SizeRest, SizeLit, Primary, Post, Args, Block, BlockItem, Statement, Sub, ForInit}
-use Rattle.c99_read.specs.declared.classes.Class.TheVariants.{Comma}
 use Rattle.c99_read.specs.Grammar.{table}
-use Rattle.c99_read.specs.First.{order}
-use Rattle.c99_read.specs.Items.{one, part, ◌·◌, many, own, plain}
-use Rattle.c99_read.specs.Levels.{level_of}
-use Rattle.c99_read.specs.Rows.{is_level, is_list, signs_of, operand_of}
+use Rattle.c99_read.specs.Items.{Item, one, part, end_of_text, act, ◌·◌, choice, maybe, many, deep, Alternative}
+use Rattle.c99_read.specs.ItemsOf.{Choice, chosen}
+use Rattle.c99_read.specs.Levels.{level_of, height, size, Met, is_ready}
+use Rattle.c99_read.specs.Reading.{may}
+use Rattle.c99_read.specs.Sound.{has_token, is_low}
+use Rattle.c99_read.specs.Standard.{c99}
+use Rattle.c99_read.specs.State.{State}
 
-false≢true : false ≡ true → ⊥
-false≢true e = cc
+pub level-small : (p : Production) → level_of p < 20
+level-small TranslationUnit = lit< tt
+level-small External = lit< tt
+level-small ExtRest = lit< tt
+level-small ExtTail = lit< tt
+level-small FunBody = lit< tt
+level-small Declaration = lit< tt
+level-small DeclRest = lit< tt
+level-small InitDecl = lit< tt
+level-small Specs = lit< tt
+level-small Main = lit< tt
+level-small Mod = lit< tt
+level-small Qual = lit< tt
+level-small Word = lit< tt
+level-small StructSpec = lit< tt
+level-small SuRest = lit< tt
+level-small Members = lit< tt
+level-small Member = lit< tt
+level-small Mdecl = lit< tt
+level-small EnumSpec = lit< tt
+level-small EnRest = lit< tt
+level-small Enumerators = lit< tt
+level-small Enumerator = lit< tt
+level-small Declarator = lit< tt
+level-small Pointer = lit< tt
+level-small Direct = lit< tt
+level-small Suffix = lit< tt
+level-small Bound = lit< tt
+level-small Params = lit< tt
+level-small Param = lit< tt
+level-small Pdecl = lit< tt
+level-small Pdirect = lit< tt
+level-small TypeName = lit< tt
+level-small Adecl = lit< tt
+level-small Adirect = lit< tt
+level-small Init = lit< tt
+level-small InitList = lit< tt
+level-small InitItem = lit< tt
+level-small Designator = lit< tt
+level-small Expr = lit< tt
+level-small Assign = lit< tt
+level-small Asgop = lit< tt
+level-small Cond = lit< tt
+level-small Lor = lit< tt
+level-small Land = lit< tt
+level-small Bor = lit< tt
+level-small Bxor = lit< tt
+level-small Band = lit< tt
+level-small Equal = lit< tt
+level-small Relate = lit< tt
+level-small Shift = lit< tt
+level-small Add = lit< tt
+level-small Mul = lit< tt
+level-small Cast = lit< tt
+level-small CastRest = lit< tt
+level-small Unary = lit< tt
+level-small SizeRest = lit< tt
+level-small SizeLit = lit< tt
+level-small Primary = lit< tt
+level-small Post = lit< tt
+level-small Args = lit< tt
+level-small Block = lit< tt
+level-small BlockItem = lit< tt
+level-small Statement = lit< tt
+level-small Sub = lit< tt
+level-small ForInit = lit< tt
 
-pub table-level : (p : Production) → is_level p ≡ true
-    → table p ≡ plain (part (operand_of p) · many own (one (signs_of p) · part (operand_of p))) ∷ []
-table-level Lor e = refl
-table-level Land e = refl
-table-level Bor e = refl
-table-level Bxor e = refl
-table-level Band e = refl
-table-level Equal e = refl
-table-level Relate e = refl
-table-level Shift e = refl
-table-level Add e = refl
-table-level Mul e = refl
-table-level _ e = absurd (false≢true e)
+-- each alternative of the table is ready to be read
+ready-at : (p : Production) → list_all (λ a. is_ready p a.body) (table p) ≡ true
+ready-at TranslationUnit = refl
+ready-at External = refl
+ready-at ExtRest = refl
+ready-at ExtTail = refl
+ready-at FunBody = refl
+ready-at Declaration = refl
+ready-at DeclRest = refl
+ready-at InitDecl = refl
+ready-at Specs = refl
+ready-at Main = refl
+ready-at Mod = refl
+ready-at Qual = refl
+ready-at Word = refl
+ready-at StructSpec = refl
+ready-at SuRest = refl
+ready-at Members = refl
+ready-at Member = refl
+ready-at Mdecl = refl
+ready-at EnumSpec = refl
+ready-at EnRest = refl
+ready-at Enumerators = refl
+ready-at Enumerator = refl
+ready-at Declarator = refl
+ready-at Pointer = refl
+ready-at Direct = refl
+ready-at Suffix = refl
+ready-at Bound = refl
+ready-at Params = refl
+ready-at Param = refl
+ready-at Pdecl = refl
+ready-at Pdirect = refl
+ready-at TypeName = refl
+ready-at Adecl = refl
+ready-at Adirect = refl
+ready-at Init = refl
+ready-at InitList = refl
+ready-at InitItem = refl
+ready-at Designator = refl
+ready-at Expr = refl
+ready-at Assign = refl
+ready-at Asgop = refl
+ready-at Cond = refl
+ready-at Lor = refl
+ready-at Land = refl
+ready-at Bor = refl
+ready-at Bxor = refl
+ready-at Band = refl
+ready-at Equal = refl
+ready-at Relate = refl
+ready-at Shift = refl
+ready-at Add = refl
+ready-at Mul = refl
+ready-at Cast = refl
+ready-at CastRest = refl
+ready-at Unary = refl
+ready-at SizeRest = refl
+ready-at SizeLit = refl
+ready-at Primary = refl
+ready-at Post = refl
+ready-at Args = refl
+ready-at Block = refl
+ready-at BlockItem = refl
+ready-at Statement = refl
+ready-at Sub = refl
+ready-at ForInit = refl
 
-pub table-list : (p : Production) → is_list p ≡ true → table p ≡ plain (part Assign · many own (one (Comma ∷ []) · part Assign)) ∷ []
-table-list Expr e = refl
-table-list Args e = refl
-table-list _ e = absurd (false≢true e)
+same-if : (b x : Bool) → (if b then x else x) ≡ true → x ≡ true
+same-if true x e = e
+same-if false x e = e
 
-pub level_of-operand : (p : Production) → is_level p ≡ true → level_of (operand_of p) < level_of p
-level_of-operand Lor e = lit< tt
-level_of-operand Land e = lit< tt
-level_of-operand Bor e = lit< tt
-level_of-operand Bxor e = lit< tt
-level_of-operand Band e = lit< tt
-level_of-operand Equal e = lit< tt
-level_of-operand Relate e = lit< tt
-level_of-operand Shift e = lit< tt
-level_of-operand Add e = lit< tt
-level_of-operand Mul e = lit< tt
-level_of-operand _ e = absurd (false≢true e)
+pub low-met : (item : Item) → is_low 64 item ≡ true → Met item
+low-met (one classes) low = tt
+low-met (part p) low = tt
+low-met end_of_text low = tt
+low-met (act a) low = tt
+low-met (a · b) low =
+    let both = and_parts (is_low 64 a) _ low in
+    (low-met a both.0, low-met b (same-if (has_token a) (is_low 64 b) both.1))
+low-met (choice a b) low =
+    let both = and_parts (is_low 64 a) _ low in
+    (low-met a both.0, low-met b both.1)
+low-met (maybe a) low = low-met a low
+low-met (many t a) low =
+    let both = and_parts (is_low 64 a) _ low in
+    (both.1, low-met a both.0)
+low-met (deep a) low = low-met a low
 
-pub level_of-list : (p : Production) → is_list p ≡ true → level_of Assign < level_of p
-level_of-list Expr e = lit< tt
-level_of-list Args e = lit< tt
-level_of-list _ e = absurd (false≢true e)
+-- what is known of an alternative that is ready
+pub record IsReady (p : Production) (body : Item) : Type 0 where
+  pub low : height body ≤ level_of p
+  pub short : size body < 100
+  pub met : Met body
 
-pub order-small : (p : Production) → nat_lt (order p) 64 ≡ true
-order-small TranslationUnit = refl
-order-small External = refl
-order-small ExtRest = refl
-order-small ExtTail = refl
-order-small FunBody = refl
-order-small Declaration = refl
-order-small DeclRest = refl
-order-small InitDecl = refl
-order-small Specs = refl
-order-small Main = refl
-order-small Mod = refl
-order-small Qual = refl
-order-small Word = refl
-order-small StructSpec = refl
-order-small SuRest = refl
-order-small Members = refl
-order-small Member = refl
-order-small Mdecl = refl
-order-small EnumSpec = refl
-order-small EnRest = refl
-order-small Enumerators = refl
-order-small Enumerator = refl
-order-small Declarator = refl
-order-small Pointer = refl
-order-small Direct = refl
-order-small Suffix = refl
-order-small Bound = refl
-order-small Params = refl
-order-small Param = refl
-order-small Pdecl = refl
-order-small Pdirect = refl
-order-small TypeName = refl
-order-small Adecl = refl
-order-small Adirect = refl
-order-small Init = refl
-order-small InitList = refl
-order-small InitItem = refl
-order-small Designator = refl
-order-small Expr = refl
-order-small Assign = refl
-order-small Asgop = refl
-order-small Cond = refl
-order-small Lor = refl
-order-small Land = refl
-order-small Bor = refl
-order-small Bxor = refl
-order-small Band = refl
-order-small Equal = refl
-order-small Relate = refl
-order-small Shift = refl
-order-small Add = refl
-order-small Mul = refl
-order-small Cast = refl
-order-small CastRest = refl
-order-small Unary = refl
-order-small SizeRest = refl
-order-small SizeLit = refl
-order-small Primary = refl
-order-small Post = refl
-order-small Args = refl
-order-small Block = refl
-order-small BlockItem = refl
-order-small Statement = refl
-order-small Sub = refl
-order-small ForInit = refl
+ready-parts : (p : Production) (body : Item) → is_ready p body ≡ true → IsReady p body
+ready-parts p body ready =
+    let both = and_parts (is_low 64 body) _ ready in
+    let sizes = and_parts (nat_lt (height body) (level_of p + 1)) _ both.1 in
+    let h : height body < level_of p + 1 = ltb-true _ _ sizes.0 in
+    record { low = omega (arith, h); short = ltb-true _ _ sizes.1; met = low-met body both.0 }
+
+ready-if : (b : Bool) (p : Production) (first c : Choice) (rest : Option Choice) → is_ready p first.body ≡ true
+    → (rest ≡ Some c → is_ready p c.body ≡ true) → (if b then Some first else rest) ≡ Some c → is_ready p c.body ≡ true
+ready-if true p first c rest here later e =
+    let ready_in : Option Choice → Type 0 = λ o. elim o [ None ↦ Unit {0} | Some x ↦ is_ready p x.body ≡ true ] in
+    subst ready_in e here
+ready-if false p first c rest here later e = later e
+
+chosen-ready : (p : Production) (s : State) (n : ℕ) (alternatives : List Alternative) (c : Choice)
+    → list_all (λ a. is_ready p a.body) alternatives ≡ true → chosen s n alternatives ≡ Some c → is_ready p c.body ≡ true
+chosen-ready p s n [] c ready e = absurd (none≢some e)
+  where
+    none≢some : ◌≡◌ {A = Option Choice} None (Some c) → ⊥
+    none≢some f = cc
+chosen-ready p s n (a ∷ more) c ready e =
+    let both = and_parts (is_ready p a.body) _ ready in
+    ready-if (may c99 a.test a.body s) p (record { number = n; body = a.body }) c (chosen s (n + 1) more) both.0
+    (chosen-ready p s (n + 1) more c both.1) e
+
+-- an alternative of the table that was chosen
+pub row-ready : (p : Production) (s : State) (c : Choice) → chosen s 1 (table p) ≡ Some c → IsReady p c.body
+row-ready p s c e = ready-parts p c.body (chosen-ready p s 1 (table p) c (ready-at p) e)

@@ -1,12 +1,14 @@
--- One turn of a repetition.
-use Rattle.std.proofs.Common.{ℕ, List, [], ◌∷◌, ◌<◌, ◌≡◌, true, if◌then◌else◌, Ok, refl, sym, ap, subst, ◌∙◌}
+-- One turn of a repetition, and the alternative that is chosen.
+use Rattle.std.proofs.Common.{ℕ, ◌+◌, List, [], ◌∷◌, length, drop, map, get_or, Option, None, Some, ◌<◌, ◌≤◌, ◌≡◌, Bool, true, false, if◌then◌else◌, Ok, Err, refl, sym, ap, subst, ◌∙◌}
 use Rattle.std.proofs.lemmas.Bool.{and_parts}
+use Rattle.std.proofs.lemmas.List.{drop_more, drop_all}
 use Rattle.c99_tree.specs.declared.production.Production.{Production}
-use Rattle.c99_read.specs.declared.classes.Class.{Class}
 use Rattle.c99_read.specs.Grammar.{table}
-use Rattle.c99_read.specs.Items.{Item, Test, one, part, ◌·◌, many, own, plain}
+use Rattle.c99_read.specs.Items.{Item, Test, many, Alternative}
+use Rattle.c99_read.specs.ItemsOf.{Choice, chosen, chosen_read, alternative_of, test_of, item_of}
+use Rattle.c99_read.specs.declared.items.Alternative as code
 use Rattle.c99_read.specs.State.{State}
-use Rattle.c99_read.specs.Reading.{Step, and_then, may, step, pick, run, whole, produce, repeat, tokens_left}
+use Rattle.c99_read.specs.Reading.{Step, and_then, may, step, alternative, pick, run, whole, produce, repeat, tokens_left, syntax}
 use Rattle.c99_read.specs.Sound.{has_token, is_low, is_met}
 use Rattle.c99_read.specs.Standard.{c99}
 use Rattle.c99_read.proofs.C99Sound.{c99-sound}
@@ -33,8 +35,49 @@ many-falls t a depth s s' met turn =
     let P : Step → Type 0 = Moves (has_token a) s in
     (subst P turn moves).1 both.0
 
--- a row of operands, as its line of the table says
-pub row-run : (p q : Production) (signs : List Class) (depth : ℕ) (s : State)
-    → table p ≡ plain (part q · many own (one signs · part q)) ∷ []
-    → run c99 (whole c99) depth (produce p) s ≡ pick c99 (whole c99) depth p 1 (plain (part q · many own (one signs · part q)) ∷ []) s
-row-run p q signs depth s line = ap (λ l. pick c99 (whole c99) depth p 1 l s) line
+-- the alternative that is chosen is the one that is read
+chosen-if : (b : Bool) (depth : ℕ) (p : Production) (c : Choice) (rest : Option Choice) (s : State) (later : Step)
+    → later ≡ chosen_read depth p rest s
+    → (if b then chosen_read depth p (Some c) s else later) ≡ chosen_read depth p (if b then Some c else rest) s
+chosen-if true depth p c rest s later e = refl
+chosen-if false depth p c rest s later e = e
+
+chosen-picked : (depth : ℕ) (p : Production) (n : ℕ) (alternatives : List Alternative) (s : State)
+    → pick c99 (whole c99) depth p n alternatives s ≡ chosen_read depth p (chosen s n alternatives) s
+chosen-picked depth p n [] s = refl
+chosen-picked depth p n (a ∷ more) s =
+    chosen-if (may c99 a.test a.body s) depth p (record { number = n; body = a.body }) (chosen s (n + 1) more) s _
+    (chosen-picked depth p (n + 1) more s)
+
+chosen-whole : (depth : ℕ) (p : Production) (s : State) → whole c99 depth (produce p) s ≡ chosen_read depth p (chosen s 1 (table p)) s
+chosen-whole depth p s = produced depth p s ∙ chosen-picked depth p 1 (table p) s
+
+pub read-chosen : (depth : ℕ) (p : Production) (s : State) (c : Choice) → chosen s 1 (table p) ≡ Some c
+    → alternative c99 (whole c99) depth p c.number c.body s ≡ whole c99 depth (produce p) s
+read-chosen depth p s c e = sym (chosen-whole depth p s ∙ ap (λ o. chosen_read depth p o s) e)
+
+pub read-none : (depth : ℕ) (p : Production) (s : State) → chosen s 1 (table p) ≡ None → whole c99 depth (produce p) s ≡ Err (syntax s.at)
+read-none depth p s e = chosen-whole depth p s ∙ ap (λ o. chosen_read depth p o s) e
+
+-- one row of the code's table, and those behind it
+chosen-at : (s : State) (n k : ℕ) (rows : List code.Alternative) (d : code.Alternative) → k < length rows
+    → chosen s n (map alternative_of (drop k rows)) ≡ chosen s n (map alternative_of (get_or rows k d ∷ drop (k + 1) rows))
+chosen-at s n k rows d within = ap (λ l. chosen s n (map alternative_of l)) (drop_more rows k d within)
+
+pub chosen-here : (s : State) (n k : ℕ) (rows : List code.Alternative) (d : code.Alternative) → k < length rows
+    → may c99 (test_of (get_or rows k d).test) (item_of (get_or rows k d).body) s ≡ true
+    → chosen s n (map alternative_of (drop k rows)) ≡ Some (record { number = n; body = item_of (get_or rows k d).body })
+chosen-here s n k rows d within starts =
+    chosen-at s n k rows d within
+    ∙ ap (λ b. if b then Some (record { number = n; body = item_of (get_or rows k d).body }) else chosen s (n + 1) (map alternative_of (drop (k + 1) rows))) starts
+
+pub chosen-behind : (s : State) (n k : ℕ) (rows : List code.Alternative) (d : code.Alternative) → k < length rows
+    → may c99 (test_of (get_or rows k d).test) (item_of (get_or rows k d).body) s ≡ false
+    → chosen s (n + 1) (map alternative_of (drop (k + 1) rows)) ≡ chosen s n (map alternative_of (drop k rows))
+chosen-behind s n k rows d within starts =
+    sym
+    (chosen-at s n k rows d within
+    ∙ ap (λ b. if b then Some (record { number = n; body = item_of (get_or rows k d).body }) else chosen s (n + 1) (map alternative_of (drop (k + 1) rows))) starts)
+
+pub chosen-end : (s : State) (n k : ℕ) (rows : List code.Alternative) → length rows ≤ k → chosen s n (map alternative_of (drop k rows)) ≡ None
+chosen-end s n k rows past = ap (λ l. chosen s n (map alternative_of l)) (drop_all k rows past)

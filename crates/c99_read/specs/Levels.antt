@@ -1,7 +1,10 @@
 -- How the productions stand over one another: what a production reads at its own depth has a lower level.
-use Rattle.std.specs.Prelude.{ℕ}
+use Rattle.std.specs.Prelude.{ℕ, ◌+◌, ◌≡◌, Bool, true, ◌&&◌, nat_lt, max}
 use Rattle.c99_tree.specs.declared.production.Production.{Production}
 use Rattle.c99_tree.specs.declared.production.Production.TheVariants.{TranslationUnit, External, ExtRest, ExtTail, FunBody, Declaration, DeclRest, InitDecl, Specs, Main, Mod, Qual, Word, StructSpec, SuRest, Members, Member, Mdecl, EnumSpec, EnRest, Enumerators, Enumerator, Declarator, Pointer, Direct, Suffix, Bound, Params, Param, Pdecl, Pdirect, TypeName, Adecl, Adirect, Init, InitList, InitItem, Designator, Expr, Assign, Asgop, Cond, Lor, Land, Bor, Bxor, Band, Equal, Relate, Shift, Add, Mul, Cast, CastRest, Unary, SizeRest, SizeLit, Primary, Post, Args, Block, BlockItem, Statement, Sub, ForInit}
+use Rattle.c99_read.specs.Items.{Item, one, part, end_of_text, act, ◌·◌, choice, maybe, many, deep}
+use Rattle.c99_read.specs.Reading.{repeat}
+use Rattle.c99_read.specs.Sound.{is_low, is_met}
 
 abbrev pub level_of : Production → ℕ
 level_of TranslationUnit = 11
@@ -69,3 +72,37 @@ level_of BlockItem = 9
 level_of Statement = 8
 level_of Sub = 0
 level_of ForInit = 7
+
+-- above the level of each production that the item reads at its own depth
+abbrev pub height : Item → ℕ
+height (one classes) = 0
+height (part p) = level_of p + 1
+height end_of_text = 0
+height (act a) = 0
+height (a · b) = max (height a) (height b)
+height (choice a b) = max (height a) (height b)
+height (maybe a) = height a
+height (many t a) = height a
+height (deep a) = 0
+
+-- how many items the item is made of
+abbrev pub size : Item → ℕ
+size (a · b) = size a + size b + 1
+size (choice a b) = size a + size b + 1
+size (maybe a) = size a + 1
+size (many t a) = size a + 1
+size (deep a) = size a + 1
+size _ = 1
+
+-- each repetition in the item is one that reading meets
+abbrev pub Met : Item → Type 0
+Met (a · b) = Met a × Met b
+Met (choice a b) = Met a × Met b
+Met (maybe a) = Met a
+Met (many t a) = (is_met (repeat t a) ≡ true) × Met a
+Met (deep a) = Met a
+Met _ = Unit {0}
+
+-- what an alternative of the production needs so that it can be read
+abbrev pub is_ready : Production → Item → Bool
+is_ready p body = is_low 64 body && (nat_lt (height body) (level_of p + 1) && nat_lt (size body) 100)

@@ -15,8 +15,7 @@ pub mod Children
 pub mod Kept
 pub mod OpenNode
 pub mod Words
-pub mod Asks
-pub mod Levels
-pub mod Rows
+pub mod ItemsOf
 pub mod Sound
+pub mod Levels
 pub mod Answer

@@ -1,223 +1,191 @@
-// External definitions (6.9) and declarations (6.7), each production by a procedure of its own.
-ghost use Rattle.std.specs.Prelude.{◌≡◌, ◌≤◌, ◌||◌, ◌∷◌, []};
-ghost use Rattle.c99_tree.specs.declared.production.Production.TheVariants.{BlockItem, DeclRest, Declaration, Declarator, ExtRest, ExtTail, External, FunBody, Init, InitDecl, Specs, TranslationUnit};
-ghost use Rattle.c99_read.specs.declared.classes.Class.TheVariants.{Comma, Eq, LeftBrace, RightBrace, Semicolon};
-ghost use Rattle.c99_read.specs.Answer.{Reads};
-ghost use Rattle.c99_read.specs.Classes.{among};
-ghost use Rattle.c99_read.specs.First.{first};
-ghost use Rattle.c99_read.specs.Items.{part, end_of_text, act, maybe, many, deep, tok, own, end, declare, again, ◌·◌};
-ghost use Rattle.c99_read.specs.Reading.{step, alternative, run, whole, produce};
-ghost use Rattle.c99_read.specs.Standard.{c99};
-ghost use Rattle.c99_read.specs.State.{class_at};
-
+// External definitions (6.9), declarations (6.7 to 6.7.2) and initialization (6.7.8): their rows of the table.
 use crate::classes::Class;
-use crate::first::starts_with;
-use crate::reader::{Read, Reader};
-use c99_tree::Production;
+use crate::items::Ask::{Is, IsNot, IsOrBegins};
+use crate::items::Item::{Act, Choice, Deep, EndOfText, Many, Maybe, Part};
+use crate::items::Test::{Next, NextTwo, Otherwise, Own};
+use crate::items::{Action, Alternative};
+use crate::rows::{plain, sequence, some, token, when};
+use c99_tree::Production::{
+    Assign, BlockItem, Cond, DeclRest, Declaration, Declarator, Designator, EnRest, EnumSpec,
+    Enumerator, Enumerators, ExtRest, ExtTail, External, FunBody, Init, InitDecl, InitItem,
+    InitList, Main, Mdecl, Member, Members, Mod, Qual, Specs, StructSpec, SuRest, Word,
+};
 
-impl<'a> Reader<'a> {
-    #[cycle(reading)]
-    // A whole text (6.9).
-    pub(crate) fn translation_unit(&mut self, depth: usize) -> Read
-        requires deep { depth ≤ 256 }
-        ensures { Reads result self.new (run c99 (whole c99) depth (produce TranslationUnit) self.old) }
-    {
-        if self.begins_or_is(Production::External, Class::End) {
-            self.unit_parts(depth)
-        } else {
-            self.syntax()
-        }
-    }
+// ---- External definitions (6.9)
 
-    #[cycle(reading)]
-    fn unit_parts(&mut self, depth: usize) -> Read
-        requires deep { depth ≤ 256 }
-        ensures { Reads result self.new (alternative c99 (whole c99) depth TranslationUnit 1 (many own (part External) · end_of_text) self.old) }
-    {
-        let outer = self.open(Production::TranslationUnit, 1)?;
-        self.repeated(depth, Production::External)?;
-        self.finish()?;
-        self.close(outer, Production::TranslationUnit)
-    }
+pub(crate) static TRANSLATION_UNIT: [Alternative; 1] = [plain![
+    Many(Own, &Part(External)),
+    EndOfText
+]];
 
-    #[cycle(reading)]
-    pub(crate) fn external(&mut self, depth: usize) -> Read
-        requires deep { depth ≤ 256 }
-        ensures { Reads result self.new (run c99 (whole c99) depth (produce External) self.old) }
-    {
-        if self.is(&[Class::Semicolon]) {
-            self.token(depth, Production::External, 1, Class::Semicolon)
-        } else if self.begins(Production::Specs) {
-            self.two_parts(
-                depth,
-                Production::External,
-                2,
-                Production::Specs,
-                Production::ExtRest,
-            )
-        } else {
-            self.syntax()
-        }
-    }
+pub(crate) static EXTERNAL: [Alternative; 2] = [
+    plain![token![Semicolon]],
+    plain![Part(Specs), Part(ExtRest)],
+];
 
-    #[cycle(reading)]
-    pub(crate) fn ext_rest(&mut self, depth: usize) -> Read
-        requires deep { depth ≤ 256 }
-        ensures { Reads result self.new (run c99 (whole c99) depth (produce ExtRest) self.old) }
-    {
-        if self.is(&[Class::Semicolon]) {
-            self.token(depth, Production::ExtRest, 1, Class::Semicolon)
-        } else if self.begins(Production::Declarator) {
-            self.declared_external(depth)
-        } else {
-            self.syntax()
-        }
-    }
+pub(crate) static EXT_REST: [Alternative; 2] = [
+    plain![token![Semicolon]],
+    plain![Part(Declarator), Act(Action::Declare), Part(ExtTail)],
+];
 
-    #[cycle(reading)]
-    fn declared_external(&mut self, depth: usize) -> Read
-        requires deep { depth ≤ 256 }
-        ensures { Reads result self.new (alternative c99 (whole c99) depth ExtRest 2 (part Declarator · act declare · part ExtTail) self.old) }
-    {
-        let outer = self.open(Production::ExtRest, 2)?;
-        self.produce(depth, Production::Declarator)?;
-        self.declare()?;
-        self.produce(depth, Production::ExtTail)?;
-        self.close(outer, Production::ExtRest)
-    }
+pub(crate) static EXT_TAIL: [Alternative; 2] = [
+    when![Next(IsOrBegins(&[Class::LeftBrace], Specs)) => Part(FunBody)],
+    when![
+        Otherwise =>
+        Maybe(&sequence![token![Eq], Deep(Init)]),
+        Many(Own, &sequence![token![Comma], Part(InitDecl)]),
+        token![Semicolon]
+    ],
+];
 
-    // The body of a function begins here, or the declarations of its parameters (6.9.1).
-    fn begins_body(&self) -> bool
-        ensures { result ≡ (among (LeftBrace ∷ []) (class_at c99 self.now self.now.at) || among (first Specs) (class_at c99 self.now self.now.at)) }
-    {
-        self.is(&[Class::LeftBrace]) || starts_with(Production::Specs, self.class_here())
-    }
+pub(crate) static FUN_BODY: [Alternative; 1] = [plain![
+    Act(Action::Again),
+    Many(Own, &Part(Declaration)),
+    token![LeftBrace],
+    Many(Own, &Deep(BlockItem)),
+    Act(Action::End),
+    token![RightBrace]
+]];
 
-    #[cycle(reading)]
-    pub(crate) fn ext_tail(&mut self, depth: usize) -> Read
-        requires deep { depth ≤ 256 }
-        ensures { Reads result self.new (run c99 (whole c99) depth (produce ExtTail) self.old) }
-    {
-        if self.begins_body() {
-            self.alone(depth, Production::ExtTail, 1, Production::FunBody)
-        } else {
-            self.external_end(depth)
-        }
-    }
+pub(crate) static DECLARATION: [Alternative; 1] = [plain![Part(Specs), Part(DeclRest)]];
 
-    #[cycle(reading)]
-    fn external_end(&mut self, depth: usize) -> Read
-        requires deep { depth ≤ 256 }
-        ensures { Reads result self.new (alternative c99 (whole c99) depth ExtTail 2 (maybe (tok Eq · deep (part Init)) · many own (tok Comma · part InitDecl) · tok Semicolon) self.old) }
-    {
-        let outer = self.open(Production::ExtTail, 2)?;
-        self.maybe_signed(depth, Class::Eq, Production::Init)?;
-        self.operands(depth, &[Class::Comma], Production::InitDecl)?;
-        self.take(&[Class::Semicolon])?;
-        self.close(outer, Production::ExtTail)
-    }
+pub(crate) static DECL_REST: [Alternative; 2] = [
+    plain![token![Semicolon]],
+    plain![
+        Part(InitDecl),
+        Many(Own, &sequence![token![Comma], Part(InitDecl)]),
+        token![Semicolon]
+    ],
+];
 
-    #[cycle(reading)]
-    pub(crate) fn fun_body(&mut self, depth: usize) -> Read
-        requires deep { depth ≤ 256 }
-        ensures { Reads result self.new (run c99 (whole c99) depth (produce FunBody) self.old) }
-    {
-        if self.begins_or_is(Production::Declaration, Class::LeftBrace) {
-            self.body_parts(depth)
-        } else {
-            self.syntax()
-        }
-    }
+pub(crate) static INIT_DECL: [Alternative; 1] = [plain![
+    Part(Declarator),
+    Act(Action::Declare),
+    Maybe(&sequence![token![Eq], Deep(Init)])
+]];
 
-    #[cycle(reading)]
-    fn body_parts(&mut self, depth: usize) -> Read
-        requires deep { depth ≤ 256 }
-        ensures { Reads result self.new (alternative c99 (whole c99) depth FunBody 1 (act again · many own (part Declaration) · tok LeftBrace · many own (deep (part BlockItem)) · act end · tok RightBrace) self.old) }
-    {
-        let outer = self.open(Production::FunBody, 1)?;
-        self.again()?;
-        self.repeated(depth, Production::Declaration)?;
-        self.body_block(depth)?;
-        self.close(outer, Production::FunBody)
-    }
+// ---- Declarations (6.7 to 6.7.2)
 
-    #[cycle(reading)]
-    fn body_block(&mut self, depth: usize) -> Read
-        requires deep { depth ≤ 256 }
-        ensures { Reads result self.new (step c99 (whole c99) depth (tok LeftBrace · many own (deep (part BlockItem)) · act end · tok RightBrace) self.old) }
-    {
-        self.take(&[Class::LeftBrace])?;
-        self.block_items(depth)?;
-        self.end_scope()?;
-        self.take(&[Class::RightBrace])
-    }
+pub(crate) static SPECS: [Alternative; 1] = [plain![Many(Own, &Part(Mod)), Part(Main)]];
 
-    #[cycle(reading)]
-    // A declaration (6.7).
-    pub(crate) fn declaration(&mut self, depth: usize) -> Read
-        requires deep { depth ≤ 256 }
-        ensures { Reads result self.new (run c99 (whole c99) depth (produce Declaration) self.old) }
-    {
-        if self.begins(Production::Specs) {
-            self.two_parts(
-                depth,
-                Production::Declaration,
-                1,
-                Production::Specs,
-                Production::DeclRest,
-            )
-        } else {
-            self.syntax()
-        }
-    }
+pub(crate) static MAIN: [Alternative; 4] = [
+    plain![Part(Word), Many(Own, &Choice(&Part(Word), &Part(Mod)))],
+    plain![Part(StructSpec), Many(Own, &Part(Mod))],
+    plain![Part(EnumSpec), Many(Own, &Part(Mod))],
+    plain![token![TypedefName], Many(Own, &Part(Mod))],
+];
 
-    #[cycle(reading)]
-    pub(crate) fn decl_rest(&mut self, depth: usize) -> Read
-        requires deep { depth ≤ 256 }
-        ensures { Reads result self.new (run c99 (whole c99) depth (produce DeclRest) self.old) }
-    {
-        if self.is(&[Class::Semicolon]) {
-            self.token(depth, Production::DeclRest, 1, Class::Semicolon)
-        } else if self.begins(Production::InitDecl) {
-            self.declared_list(depth)
-        } else {
-            self.syntax()
-        }
-    }
+pub(crate) static MOD: [Alternative; 7] = [
+    plain![token![Typedef]],
+    plain![token![Extern]],
+    plain![token![Static]],
+    plain![token![Auto]],
+    plain![token![Register]],
+    plain![token![Inline]],
+    plain![Part(Qual)],
+];
 
-    #[cycle(reading)]
-    fn declared_list(&mut self, depth: usize) -> Read
-        requires deep { depth ≤ 256 }
-        ensures { Reads result self.new (alternative c99 (whole c99) depth DeclRest 2 (part InitDecl · many own (tok Comma · part InitDecl) · tok Semicolon) self.old) }
-    {
-        let outer = self.open(Production::DeclRest, 2)?;
-        self.produce(depth, Production::InitDecl)?;
-        self.operands(depth, &[Class::Comma], Production::InitDecl)?;
-        self.take(&[Class::Semicolon])?;
-        self.close(outer, Production::DeclRest)
-    }
+pub(crate) static QUAL: [Alternative; 3] = [
+    plain![token![Const]],
+    plain![token![Restrict]],
+    plain![token![Volatile]],
+];
 
-    #[cycle(reading)]
-    pub(crate) fn init_decl(&mut self, depth: usize) -> Read
-        requires deep { depth ≤ 256 }
-        ensures { Reads result self.new (run c99 (whole c99) depth (produce InitDecl) self.old) }
-    {
-        if self.begins(Production::Declarator) {
-            self.initialized(depth)
-        } else {
-            self.syntax()
-        }
-    }
+pub(crate) static WORD: [Alternative; 12] = [
+    plain![token![Void]],
+    plain![token![Char]],
+    plain![token![Short]],
+    plain![token![Int]],
+    plain![token![Long]],
+    plain![token![Float]],
+    plain![token![Double]],
+    plain![token![Signed]],
+    plain![token![Unsigned]],
+    plain![token![BoolWord]],
+    plain![token![ComplexWord]],
+    plain![token![ImaginaryWord]],
+];
 
-    #[cycle(reading)]
-    fn initialized(&mut self, depth: usize) -> Read
-        requires deep { depth ≤ 256 }
-        ensures { Reads result self.new (alternative c99 (whole c99) depth InitDecl 1 (part Declarator · act declare · maybe (tok Eq · deep (part Init))) self.old) }
-    {
-        let outer = self.open(Production::InitDecl, 1)?;
-        self.produce(depth, Production::Declarator)?;
-        self.declare()?;
-        self.maybe_signed(depth, Class::Eq, Production::Init)?;
-        self.close(outer, Production::InitDecl)
-    }
-}
+pub(crate) static STRUCT_SPEC: [Alternative; 1] = [plain![token![Struct Union], Part(SuRest)]];
+
+pub(crate) static SU_REST: [Alternative; 2] = [
+    plain![
+        token![Identifier TypedefName],
+        Maybe(&sequence![token![LeftBrace], Deep(Members), token![RightBrace]])
+    ],
+    plain![token![LeftBrace], Deep(Members), token![RightBrace]],
+];
+
+pub(crate) static MEMBERS: [Alternative; 1] = [plain![some![Part(Member)]]];
+
+pub(crate) static MEMBER: [Alternative; 2] = [
+    plain![token![Semicolon]],
+    plain![
+        Part(Specs),
+        Part(Mdecl),
+        Many(Own, &sequence![token![Comma], Part(Mdecl)]),
+        token![Semicolon]
+    ],
+];
+
+pub(crate) static MDECL: [Alternative; 2] = [
+    plain![token![Colon], Deep(Cond)],
+    plain![
+        Part(Declarator),
+        Maybe(&sequence![token![Colon], Deep(Cond)])
+    ],
+];
+
+pub(crate) static ENUM_SPEC: [Alternative; 1] = [plain![token![Enum], Part(EnRest)]];
+
+pub(crate) static EN_REST: [Alternative; 2] = [
+    plain![
+        token![Identifier TypedefName],
+        Maybe(&sequence![token![LeftBrace], Deep(Enumerators), token![RightBrace]])
+    ],
+    plain![token![LeftBrace], Deep(Enumerators), token![RightBrace]],
+];
+
+pub(crate) static ENUMERATORS: [Alternative; 1] = [plain![
+    Part(Enumerator),
+    Many(
+        NextTwo(
+            Is(&[Class::Comma]),
+            Is(&[Class::Identifier, Class::TypedefName])
+        ),
+        &sequence![token![Comma], Part(Enumerator)]
+    ),
+    Maybe(&token![Comma])
+]];
+
+pub(crate) static ENUMERATOR: [Alternative; 1] = [plain![
+    token![Identifier TypedefName],
+    Maybe(&sequence![token![Eq], Deep(Cond)]),
+    Act(Action::Name)
+]];
+
+// ---- Initialization (6.7.8)
+
+pub(crate) static INIT: [Alternative; 2] = [
+    plain![token![LeftBrace], Deep(InitList), token![RightBrace]],
+    plain![Part(Assign)],
+];
+
+pub(crate) static INIT_LIST: [Alternative; 1] = [plain![
+    Part(InitItem),
+    Many(
+        NextTwo(Is(&[Class::Comma]), IsNot(&[Class::RightBrace])),
+        &sequence![token![Comma], Part(InitItem)]
+    ),
+    Maybe(&token![Comma])
+]];
+
+pub(crate) static INIT_ITEM: [Alternative; 2] = [
+    plain![some![Part(Designator)], token![Eq], Part(Init)],
+    plain![Part(Init)],
+];
+
+pub(crate) static DESIGNATOR: [Alternative; 2] = [
+    plain![token![Dot], token![Identifier TypedefName]],
+    plain![token![LeftBracket], Deep(Cond), token![RightBracket]],
+];

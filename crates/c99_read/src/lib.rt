@@ -6,10 +6,11 @@
 //! `specs/Grammar.antt`; a second standard is another table. A token counts by its class alone: its
 //! keyword, its punctuator, the kind of its constant, and whether a name is a typedef name where it
 //! stands (6.7.7), which the reader keeps for itself while it reads. Types, tags, members, labels and
-//! what is declared twice belong to the crate above. The code has a procedure a production, or one for
-//! a family; nesting is bounded, so a text of any length needs little stack. Trees, classes and names
-//! want memory. Read `specs/Grammar.antt` beside the standard's annex, `specs/Reading.antt`,
-//! `specs/State.antt`, then `reader.rt` and `declarations.rt`.
+//! what is declared twice belong to the crate above. The code has the same table once more, as data that
+//! costs nothing when it runs, and a few procedures that read any item of it; nesting is bounded, so a
+//! text of any length needs little stack. Trees, classes and names want memory. Read
+//! `specs/Grammar.antt` beside the standard's annex, `specs/Reading.antt`, `specs/State.antt`, then
+//! `table.rt`, `reading.rt` and `reader.rt`.
 #![tactic(auto)]
 
 ghost use Rattle.std.specs.Prelude.{◌≡◌, ◌<◌, ◌^◌, length};
@@ -26,18 +27,19 @@ mod expressions;
 mod faults;
 mod first;
 mod first_sets;
-mod groups;
 mod identifiers;
-mod initializers;
+mod items;
 mod laws;
 mod names;
 mod open_node;
 mod parts;
 mod reader;
-mod specifiers;
+mod reading;
+mod rows;
 mod spellings;
 mod starts;
 mod statements;
+mod table;
 
 use c99_tree::{Production, Tree};
 use cs_base::Tok;
