@@ -1,0 +1,7 @@
+-- For the crate of laws above: any fact of tokens, in place of a test.
+pub mod ListLemmas
+pub mod RuleLemmas
+pub mod ClosureLemmas
+pub mod PiecesLemmas
+pub mod TellingLemmas
+pub mod PassingLemmas

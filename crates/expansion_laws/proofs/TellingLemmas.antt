@@ -1,0 +1,90 @@
+-- What the notes of an expansion tell did happen.
+use Rattle.std.proofs.Common.{◌≡◌, ℕ, zero, suc, ◌-◌, Bool, true, false, cond, List, [], ◌∷◌, length, Option, None, Some, Result, Ok, Err, refl, sym, ap, ◌∙◌}
+use Rattle.std.specs.Prelude.{replicate}
+use Rattle.std.specs.List.{list_all}
+use Rattle.std.specs.Option.{is_none}
+use Rattle.cs_base.specs.declared.positions.Pos.{Pos}
+use Rattle.cs_base.specs.Token.{Token}
+use Rattle.part_lexer.specs.OneToken.{one_token_of}
+use Rattle.paste_origin.specs.Strings.{StringFault, NotAString, stringize_of, is_string, string_text, string_token}
+use Rattle.macro_expand.specs.Macro.{Table}
+use Rattle.macro_expand.specs.Notes.{Note, Replaced, Linked, Stringized, Pasted}
+use Rattle.macro_expand.specs.Expansion.{Setting}
+use Rattle.expansion_laws.specs.Telling.{StandUnderNames, AreAlike, LinksAreAlike, DidHappen, NotesAreTrue}
+use Rattle.expansion_laws.proofs.ListLemmas.{AllToks, each_tok, notes_at, all_notes}
+use Rattle.expansion_laws.proofs.RuleLemmas.{Rules}
+use Rattle.expansion_laws.proofs.ClosureLemmas.{expansion_keeps}
+
+-- no character has an origin
+abbrev no_origins : ℕ → List (Option Pos)
+no_origins n = replicate n None
+
+none_traced : (n : ℕ) → list_all is_none (no_origins n) ≡ true
+none_traced zero = refl
+none_traced (suc n) = none_traced n
+
+cond_made : (b : Bool) (a s : Token) → ◌≡◌ {A = Result Token StringFault} (cond b (Ok a) (Err NotAString)) (Ok s) → a ≡ s
+cond_made true a s e = cc
+cond_made false a s e = absurd (cc)
+
+-- the string that tokens make
+pub string_is : (toks : List Token) (s : Token) → stringize_of toks ≡ Ok s → s ≡ string_token (string_text toks)
+unfolding stringize_of
+string_is toks s e = sym (cond_made (is_string (one_token_of (string_text toks))) (string_token (string_text toks)) s e)
+
+string_untraced : (toks : List Token) (s : Token) → stringize_of toks ≡ Ok s → list_all is_none s.origins ≡ true
+string_untraced toks s e = ap (λ (t : Token). list_all is_none t.origins) (string_is toks s e) ∙ none_traced (length (string_text toks) - 0)
+
+-- nothing is asked of tokens or notes
+abbrev pub Any : {A : Type 0} → A → Type 0
+Any a = Unit {0}
+
+pub any_toks : (ts : List Token) → AllToks (λ t. (gap : Bool) → Any t) ts
+any_toks ts = each_tok (λ t. (gap : Bool) → Any t) ts (λ t k e gap. tt)
+
+rules_true : (set : Setting) → Rules Any Any (DidHappen set.table) set
+rules_true set = record {
+  spaced = λ t gap h. tt;
+  moved = λ t h. tt;
+  bodies = λ name m here found. any_toks m.body;
+  lines = λ name m before here found is brought. tt;
+  paths = λ name m here found is. tt;
+  strings = λ name gap toks s here all made. tt;
+  pastes = λ name x y z here px py made. tt;
+  replaced = λ name m before here is found. record { identifier = is; definition = m; defined = found; same = refl };
+  linked = λ name m here is found links. record { identifier = is; definition = m; defined = found; same = refl };
+  stringized = λ toks s all made. record { made = made; untraced = string_untraced toks s made };
+  pasted = λ name x y z px py pz made. record { token = z; made = made; same = record { kind = refl; text = refl; origins = refl } };
+}
+
+pub notes_are_true : NotesAreTrue
+notes_are_true = λ table path run work e is note at.
+    let set : Setting = record { table = table; path = path } in
+    let good = expansion_keeps Any Any (DidHappen table) table path (rules_true set) run work e (each_tok Any run (λ t k at. tt)) is (all_notes e.notes) in
+    notes_at (DidHappen table) e.notes good.1 note at.0 at.1
+
+-- the two tokens of a link are alike
+abbrev LinkIsAlike : Note → Type 0
+LinkIsAlike (Linked x y) = AreAlike x y
+LinkIsAlike _ = Unit {0}
+
+rules_alike : (set : Setting) → StandUnderNames set.table → Rules Any Any LinkIsAlike set
+rules_alike set names = record {
+  spaced = λ t gap h. tt;
+  moved = λ t h. tt;
+  bodies = λ name m here found. any_toks m.body;
+  lines = λ name m before here found is brought. tt;
+  paths = λ name m here found is. tt;
+  strings = λ name gap toks s here all made. tt;
+  pastes = λ name x y z here px py made. tt;
+  replaced = λ name m before here is found. tt;
+  linked = λ name m here is found links. record { first = is; second = names.identifier name.text m found links; text = sym (names.text name.text m found links) };
+  stringized = λ toks s all made. tt;
+  pasted = λ name x y z px py pz made. tt;
+}
+
+pub links_are_alike : LinksAreAlike
+links_are_alike = λ table path run work e is names x y at.
+    let set : Setting = record { table = table; path = path } in
+    let good = expansion_keeps Any Any LinkIsAlike table path (rules_alike set names) run work e (each_tok Any run (λ t k at. tt)) is (all_notes e.notes) in
+    notes_at LinkIsAlike e.notes good.1 (Linked x y) at.0 at.1

@@ -1,0 +1,4 @@
+-- What the public contracts rest on.
+pub mod Telling
+pub mod Passing
+pub mod Pieces

@@ -1,0 +1,33 @@
+// What is true of all expansions: laws that no caller runs, and that callers' proofs cite.
+ghost use Rattle.expansion_laws.specs.Passing.{TestsAreKept};
+ghost use Rattle.expansion_laws.specs.Pieces.{PlacesAreOfTheRun, TokensAreWhole};
+ghost use Rattle.expansion_laws.specs.Telling.{LinksAreAlike, NotesAreTrue};
+
+/// What the notes of an expansion tell did happen: a replaced name, and a linked one, is an identifier
+/// that the table has a macro for, whose name stands beside it; strings and pasted tokens are those that
+/// the definitions make. Where macros stand under their names, links join identifiers of equal spelling.
+pub fn notes_tell_what_happened()
+    ensures notes { NotesAreTrue }
+    ensures links { LinksAreAlike }
+{}
+
+/// A test that the tokens of the run pass, and what macros put in for names that pass, and strings and
+/// pasted tokens that are made of tokens that pass, each token of the expansion passes: of its result,
+/// and each of which its notes tell, in all argument expansions too. The test may look at all of a token
+/// but its white space and whether it is direct; of lines those alone must pass that were brought.
+pub fn expansion_keeps_tests()
+    ensures tests { TestsAreKept }
+{}
+
+/// Where each token of the run and of macros that is spelled with certain characters alone is made of
+/// whole tokens out of a list, one behind the other, so is each such token of the expansion: of its
+/// result, and each of which its notes tell. Any characters will do, but `"`, with which the strings
+/// begin that `#` and `__FILE__` make; so the law says nothing of tokens that hold one.
+pub fn expanded_tokens_are_whole()
+    ensures whole { TokensAreWhole }
+{}
+
+/// Each token of an expansion stands where a token of the run stands, and on its line.
+pub fn expanded_tokens_stand_in_the_run()
+    ensures places { PlacesAreOfTheRun }
+{}

@@ -1,0 +1,18 @@
+//! What expansions keep (ISO/IEC 9899:1999, 6.10.3): laws over the definition of `macro_expand`.
+//!
+//! No program stands here. Each law is the `ensures` of a function without a body, and is proved by one
+//! induction over the steps of an expansion (`proofs/ClosureLemmas.antt`): what is true of the tokens of
+//! the run, and of all that is put in or made, is true of each token of the expansion and of each of
+//! which its notes tell. `expansion_keeps_tests` says it of any test; the other laws are what comes of
+//! it: that notes tell what happened, and that links join identifiers of equal spelling; that tokens are
+//! made of whole tokens of files; and that they stand where tokens of the run stand. What an expansion
+//! with a fault gives is nothing here. Read `specs/Telling.antt`, `specs/Passing.antt` and
+//! `specs/Pieces.antt`.
+#![tactic(auto)]
+
+mod laws;
+
+pub use laws::{
+    expanded_tokens_are_whole, expanded_tokens_stand_in_the_run, expansion_keeps_tests,
+    notes_tell_what_happened,
+};
