@@ -4,4 +4,8 @@ pub mod RuleLemmas
 pub mod ClosureLemmas
 pub mod PiecesLemmas
 pub mod TellingLemmas
-pub mod PassingLemmas
+mod PassingLemmas
+mod FrontLemmas
+pub mod ShapeLemmas
+mod SpelledLemmas
+pub mod SpelledLaw

@@ -1,6 +1,5 @@
 -- Tests that an expansion keeps.
-use Rattle.std.proofs.Common.{◌≡◌, ℕ, ◌&&◌, Bool, true, false, List, refl, Ok, Some}
-use Rattle.std.specs.List.{list_all}
+use Rattle.std.proofs.Common.{◌≡◌, Bool, true, false, List, refl}
 use Rattle.cs_base.specs.Token.{Token}
 use Rattle.macro_expand.specs.Hides.{toks_of}
 use Rattle.macro_expand.specs.Notes.{Note}
@@ -8,7 +7,7 @@ use Rattle.macro_expand.specs.Substitution.{put_in}
 use Rattle.macro_expand.specs.Expansion.{Setting}
 use Rattle.expansion_laws.specs.Telling.{IsAmong}
 use Rattle.expansion_laws.specs.Passing.{Test, IsBlind, standing_at, MacrosPass, MadePass, note_passes, TestsAreKept}
-use Rattle.expansion_laws.proofs.ListLemmas.{AllToks, AllNotes, each_note, hidden_toks, toks_more, toks_pass, pass_toks, pass_notes}
+use Rattle.expansion_laws.proofs.ListLemmas.{each_note, hidden_toks, toks_more, toks_pass, pass_toks, pass_notes}
 use Rattle.expansion_laws.proofs.RuleLemmas.{Rules}
 use Rattle.expansion_laws.proofs.ClosureLemmas.{expansion_keeps}
 

@@ -1,24 +1,23 @@
 -- Where the tokens of an expansion come from.
-use Rattle.std.proofs.Common.{◌≡◌, ℕ, zero, suc, ◌+◌, ◌-◌, ◌<◌, ◌&&◌, Bool, true, false, List, [], ◌∷◌, ◌++◌, length, Option, Some, None, Result, Ok, Err, refl, sym, ap, ◌∙◌, subst, arith}
+use Rattle.std.proofs.Common.{◌≡◌, ℕ, zero, suc, ◌+◌, ◌-◌, ◌&&◌, Bool, true, false, List, [], ◌∷◌, ◌++◌, Option, Some, None, Ok, refl, sym, ap, ◌∙◌, subst}
 use Rattle.std.specs.Prelude.{slice_get}
 use Rattle.std.specs.List.{list_all, flat_map}
 use Rattle.std.proofs.lemmas.Grind.{flat_map-append}
 use Rattle.std.proofs.lemmas.List.Folds.{list_all-append}
-use Rattle.std.proofs.lemmas.Option.{none-some}
 use Rattle.cs_base.specs.declared.tokens.Kind.{Kind}
 use Rattle.cs_base.specs.declared.positions.Pos.{Pos}
 use Rattle.cs_base.specs.Token.{Token}
 use Rattle.part_lexer.specs.Characters.{double_quote}
 use Rattle.part_lexer.specs.OneToken.{one_token_of}
-use Rattle.paste_origin.specs.Pasting.{PasteFault, NotOneToken, joined, pasted_as, glue_of}
-use Rattle.paste_origin.specs.Strings.{stringize_of, spellings_of, string_text}
+use Rattle.paste_origin.specs.Pasting.{joined, pasted_as, glue_of}
+use Rattle.paste_origin.specs.Strings.{stringize_of, spellings_of}
 use Rattle.macro_expand.specs.Hides.{toks_of}
-use Rattle.macro_expand.specs.Notes.{Note, Replaced, Linked, Stringized, Pasted}
+use Rattle.macro_expand.specs.Notes.{Note, Replaced}
 use Rattle.macro_expand.specs.Substitution.{put_in}
 use Rattle.macro_expand.specs.Expansion.{Setting}
 use Rattle.expansion_laws.specs.Telling.{IsAmong}
-use Rattle.expansion_laws.specs.Pieces.{IsOneOf, IsMadeOf, Characters, IsWhole, AreWhole, MacrosAreWhole, NoteIsWhole, TokensAreWhole, StandsWith, PlacesAreOfTheRun}
-use Rattle.expansion_laws.proofs.ListLemmas.{AllToks, each_tok, toks_at, each_note, notes_at, all_notes, hidden_toks, toks_more}
+use Rattle.expansion_laws.specs.Pieces.{IsOneOf, IsMadeOf, Characters, IsWhole, MacrosAreWhole, NoteIsWhole, TokensAreWhole, StandsWith, PlacesAreOfTheRun}
+use Rattle.expansion_laws.proofs.ListLemmas.{each_tok, toks_at, each_note, notes_at, all_notes, hidden_toks}
 use Rattle.expansion_laws.proofs.RuleLemmas.{Rules}
 use Rattle.expansion_laws.proofs.ClosureLemmas.{expansion_keeps}
 use Rattle.expansion_laws.proofs.TellingLemmas.{string_is, Any}
@@ -65,7 +64,7 @@ joined_whole among files x y kind hx hy = λ h.
     let both = both_true (list_all among x.text) (list_all among y.text) (sym (list_all-append among x.text y.text) ∙ h) in
     made_of_both files x y (joined x y kind) refl refl (hx both.0) (hy both.1)
 
-pasted_whole : (among : Characters) (files : List Token) (name x y z : Token) → IsWhole among files x → IsWhole among files y → glue_of x y ≡ Ok z
+pub pasted_whole : (among : Characters) (files : List Token) (name x y z : Token) → IsWhole among files x → IsWhole among files y → glue_of x y ≡ Ok z
     → IsWhole among files (put_in name x.gap z)
 pasted_whole among files name x y z hx hy is =
     let i = glue_is x y z is in

@@ -1,10 +1,9 @@
 -- What an expansion keeps true of its tokens and of what happens in it, and what is made in a replacement.
-use Rattle.std.proofs.Common.{◌≡◌, ℕ, ◌-◌, Bool, true, false, cond, List, [], ◌∷◌, ◌++◌, map, get_or, Option, Some, None, Result, Ok, Err, is_some, refl, subst, nat_lt}
+use Rattle.std.proofs.Common.{◌≡◌, ℕ, Bool, true, false, List, [], ◌∷◌, ◌++◌, map, get_or, Option, Some, None, Result, Ok, Err, is_some, refl, subst}
 use Rattle.cs_base.specs.Token.{Token}
 use Rattle.line_shape.specs.Signs.{is_name, is_paste}
 use Rattle.paste_origin.specs.Pasting.{PasteFault, glue_of}
 use Rattle.paste_origin.specs.Strings.{StringFault, stringize_of}
-use Rattle.macro_expand.specs.declared.definitions.Form.{Form}
 use Rattle.macro_expand.specs.declared.definitions.Form.TheVariants as form
 use Rattle.macro_expand.specs.declared.definitions.Definition.{Definition}
 use Rattle.macro_expand.specs.Hides.{Hidden, hidden, in_both, toks_of}

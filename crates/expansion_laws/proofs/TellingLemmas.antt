@@ -1,5 +1,5 @@
 -- What the notes of an expansion tell did happen.
-use Rattle.std.proofs.Common.{◌≡◌, ℕ, zero, suc, ◌-◌, Bool, true, false, cond, List, [], ◌∷◌, length, Option, None, Some, Result, Ok, Err, refl, sym, ap, ◌∙◌}
+use Rattle.std.proofs.Common.{◌≡◌, ℕ, zero, suc, ◌-◌, Bool, true, false, cond, List, length, Option, None, Result, Ok, Err, refl, sym, ap, ◌∙◌}
 use Rattle.std.specs.Prelude.{replicate}
 use Rattle.std.specs.List.{list_all}
 use Rattle.std.specs.Option.{is_none}
@@ -7,8 +7,7 @@ use Rattle.cs_base.specs.declared.positions.Pos.{Pos}
 use Rattle.cs_base.specs.Token.{Token}
 use Rattle.part_lexer.specs.OneToken.{one_token_of}
 use Rattle.paste_origin.specs.Strings.{StringFault, NotAString, stringize_of, is_string, string_text, string_token}
-use Rattle.macro_expand.specs.Macro.{Table}
-use Rattle.macro_expand.specs.Notes.{Note, Replaced, Linked, Stringized, Pasted}
+use Rattle.macro_expand.specs.Notes.{Note, Linked}
 use Rattle.macro_expand.specs.Expansion.{Setting}
 use Rattle.expansion_laws.specs.Telling.{StandUnderNames, AreAlike, LinksAreAlike, DidHappen, NotesAreTrue}
 use Rattle.expansion_laws.proofs.ListLemmas.{AllToks, each_tok, notes_at, all_notes}

@@ -2,3 +2,4 @@
 pub mod Telling
 pub mod Passing
 pub mod Pieces
+pub mod Spelled

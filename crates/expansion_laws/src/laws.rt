@@ -1,6 +1,7 @@
 // What is true of all expansions: laws that no caller runs, and that callers' proofs cite.
 ghost use Rattle.expansion_laws.specs.Passing.{TestsAreKept};
 ghost use Rattle.expansion_laws.specs.Pieces.{PlacesAreOfTheRun, TokensAreWhole};
+ghost use Rattle.expansion_laws.specs.Spelled.{TokensAreSpelled, WordsAreNames};
 ghost use Rattle.expansion_laws.specs.Telling.{LinksAreAlike, NotesAreTrue};
 
 /// What the notes of an expansion tell did happen: a replaced name, and a linked one, is an identifier
@@ -30,4 +31,14 @@ pub fn expanded_tokens_are_whole()
 /// Each token of an expansion stands where a token of the run stands, and on its line.
 pub fn expanded_tokens_stand_in_the_run()
     ensures places { PlacesAreOfTheRun }
+{}
+
+/// Where the tokens of the run and of macros are spelled as their kinds say, so are those of the
+/// expansion, of its result, and each of which its notes tell: an identifier is spelled as an identifier,
+/// and a number as a pp-number. For character constants, strings and header names this speaks of their
+/// first characters alone. What is spelled so, with letters, digits and `_` alone, is an identifier or a
+/// number.
+pub fn expanded_tokens_are_spelled()
+    ensures spelled { TokensAreSpelled }
+    ensures words { WordsAreNames }
 {}

@@ -5,14 +5,14 @@
 //! the run, and of all that is put in or made, is true of each token of the expansion and of each of
 //! which its notes tell. `expansion_keeps_tests` says it of any test; the other laws are what comes of
 //! it: that notes tell what happened, and that links join identifiers of equal spelling; that tokens are
-//! made of whole tokens of files; and that they stand where tokens of the run stand. What an expansion
-//! with a fault gives is nothing here. Read `specs/Telling.antt`, `specs/Passing.antt` and
-//! `specs/Pieces.antt`.
+//! made of whole tokens of files; that they stand where tokens of the run stand; and that they are
+//! spelled as their kinds say, pasted ones too. What an expansion with a fault gives is nothing here. Read
+//! `specs/Telling.antt`, `specs/Passing.antt`, `specs/Pieces.antt` and `specs/Spelled.antt`.
 #![tactic(auto)]
 
 mod laws;
 
 pub use laws::{
-    expanded_tokens_are_whole, expanded_tokens_stand_in_the_run, expansion_keeps_tests,
-    notes_tell_what_happened,
+    expanded_tokens_are_spelled, expanded_tokens_are_whole, expanded_tokens_stand_in_the_run,
+    expansion_keeps_tests, notes_tell_what_happened,
 };
