@@ -1,0 +1,5 @@
+use Rattle.unit_laws.proofs.TextLemmas.{unit_tokens_stand_in_files}
+use Rattle.unit_laws.proofs.laws.unit_tokens_stand_in_files.Goals as goal
+
+pub returns : goal.returns
+returns c = record { places = unit_tokens_stand_in_files }

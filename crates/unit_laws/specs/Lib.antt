@@ -1,0 +1,4 @@
+-- What the public contracts rest on.
+pub mod UnitLinks
+pub mod UnitTokens
+pub mod UnitSpelling

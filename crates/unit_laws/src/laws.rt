@@ -1,0 +1,32 @@
+// What is true of all units: laws that no caller runs, and that callers' proofs cite.
+ghost use Rattle.unit_laws.specs.UnitLinks.{UnitLinksAreAlike};
+ghost use Rattle.unit_laws.specs.UnitSpelling.{FilesAreSpelled, UnitTokensAreSpelled};
+ghost use Rattle.unit_laws.specs.UnitTokens.{UnitTokensAreWhole, UnitTokensStandInFiles};
+
+/// Each link of a unit joins two identifiers of equal spelling: a replaced name with the name of its macro,
+/// a name of a directive or a condition with the first one of its spelling, and a use of a parameter with
+/// the parameter.
+pub fn unit_links_are_alike()
+    ensures alike { UnitLinksAreAlike }
+{}
+
+/// Where the tokens of kept files that are spelled with certain characters are made of whole tokens out of
+/// a list, one behind the other, and so are the numbers that the unit brought, so is each such token of
+/// the unit: of its result, of links, pasted tokens, strings' tokens, include lines and events. Any
+/// characters will do, but `"`.
+pub fn unit_tokens_are_whole()
+    ensures whole { UnitTokensAreWhole }
+{}
+
+/// Each token of a unit stands where a token of a kept file stands, and on its line; and so does each
+/// event.
+pub fn unit_tokens_stand_in_files()
+    ensures places { UnitTokensStandInFiles }
+{}
+
+/// The tokens of kept files are spelled as their kinds say, and so is each token of a unit: an identifier is
+/// spelled as an identifier, and a number as a pp-number.
+pub fn unit_tokens_are_spelled()
+    ensures files { FilesAreSpelled }
+    ensures spelled { UnitTokensAreSpelled }
+{}

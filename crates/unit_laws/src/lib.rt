@@ -1,0 +1,17 @@
+//! What units are made of (ISO/IEC 9899:1999, 5.1.1.2 phase 4, 6.10): laws over the definition of
+//! `include_tree`.
+//!
+//! No program stands here. Each law is the `ensures` of a function without a body. They are proved by one
+//! induction over the items of files (`proofs/WalkLemmas.antt`) above that over expansions in
+//! `expansion_laws`: what is true of the tokens of kept files, and kept where tokens are put in or made,
+//! is true of each token of a unit and of each of which its notes tell. Kept files are those of the table
+//! behind the unit. What a unit with a fault gives is nothing here. Read `specs/UnitLinks.antt`,
+//! `specs/UnitTokens.antt` and `specs/UnitSpelling.antt`.
+#![tactic(auto)]
+
+mod laws;
+
+pub use laws::{
+    unit_links_are_alike, unit_tokens_are_spelled, unit_tokens_are_whole,
+    unit_tokens_stand_in_files,
+};
