@@ -6,6 +6,8 @@ pub mod PiecesLemmas
 pub mod TellingLemmas
 mod PassingLemmas
 mod FrontLemmas
+mod BeginLemmas
+pub mod TextKindLemmas
 pub mod ShapeLemmas
 mod SpelledLemmas
 pub mod SpelledLaw

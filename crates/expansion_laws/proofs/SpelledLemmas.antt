@@ -13,7 +13,9 @@ use Rattle.part_lexer.specs.OneToken.{one_token_of}
 use Rattle.part_lexer.proofs.LogicalLemmas.{logical_from-stays}
 use Rattle.expansion_laws.specs.Spelled.{fits}
 use Rattle.expansion_laws.proofs.FrontLemmas.{begins_token, OneFront, is_dark, stays, logical_behind, logical_plain, one_front}
-use Rattle.expansion_laws.proofs.ShapeLemmas.{quote_token, begins_each, each_begins, begins_each-dark, IsSolid, Shape, Solid, Quoted, Wide, Less, shape_of, quote_fits, wide_fits, less_fits, inner_fits, inner_less_fits, kind_fits, slash_token, star_token, clash_of}
+use Rattle.expansion_laws.proofs.BeginLemmas.{quote_token, begins_each, each_begins, begins_each-dark, clash}
+use Rattle.expansion_laws.proofs.TextKindLemmas.{quote_fits, wide_fits, less_fits, inner_fits, inner_less_fits, kind_fits}
+use Rattle.expansion_laws.proofs.ShapeLemmas.{IsSolid, Shape, Solid, Quoted, Wide, Less, shape_of, slash_token, star_token}
 
 -- ---- the logical text of what begins so
 
@@ -78,7 +80,7 @@ covers x y k h i = by h.whole
 -- where a token begins behind it, the front has more
 goes_on : (x y : List ℕ) (k : Kind) (i : OneFront (x ++ y) k) (m : ℕ) → i.len ≡ length x + m → begins_token (drop m y) ≡ true → ⊥
 goes_on x y k i m is begins =
-    clash_of (begins_token (drop m y)) begins (ap begins_token (sym (drop_behind x y i.len m is)) ∙ i.rest)
+    clash (begins_token (drop m y)) begins (ap begins_token (sym (drop_behind x y i.len m is)) ∙ i.rest)
 
 left_over : (n len : ℕ) → len ≤ n → n ≡ len + (n - len)
 left_over n len h = omega arith
@@ -266,7 +268,7 @@ front_two c q cs k begins i = by i.len i.some i.kind i.rest
   where
     by : (n : ℕ) → 1 ≤ n → kind_of (take n (c ∷ q ∷ cs)) ≡ Some k → begins_token (drop n (c ∷ q ∷ cs)) ≡ false → (ws : List ℕ) × (kind_of (c ∷ q ∷ ws) ≡ Some k)
     by zero some e rest = absurd (omega arith)
-    by (suc zero) some e rest = absurd (clash_of (begins_token (q ∷ cs)) begins rest)
+    by (suc zero) some e rest = absurd (clash (begins_token (q ∷ cs)) begins rest)
     by (suc (suc n)) some e rest = (take n cs, e)
 
 shapes_fit : (x y : List ℕ) (k : Kind) → Shape x → Shape y → one_token_of (x ++ y) ≡ Some k → fits k (x ++ y) ≡ true

@@ -12,7 +12,7 @@ use Rattle.part_lexer.specs.FileText.{TextValue, most_bytes, text_value, text_or
 use Rattle.part_lexer.proofs.ScanLemmas.{line_at-bound}
 use Rattle.include_tree.proofs.OpeningLemmas.{readable-small}
 use Rattle.expansion_laws.specs.Spelled.{fits, is_lone, is_spelled}
-use Rattle.expansion_laws.proofs.ShapeLemmas.{kind_fits}
+use Rattle.expansion_laws.proofs.TextKindLemmas.{kind_fits}
 
 and_two : (a b : Bool) → (a && b) ≡ true → (a ≡ true) × (b ≡ true)
 and_two true b h = (refl, h)
