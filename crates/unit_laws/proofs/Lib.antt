@@ -6,3 +6,4 @@ mod UnitLemmas
 mod TextLemmas
 mod FileLemmas
 mod SpellingLemmas
+mod NameLemmas

@@ -2,3 +2,4 @@
 pub mod UnitLinks
 pub mod UnitTokens
 pub mod UnitSpelling
+pub mod UnitNames

@@ -1,5 +1,6 @@
 // What is true of all units: laws that no caller runs, and that callers' proofs cite.
 ghost use Rattle.unit_laws.specs.UnitLinks.{UnitLinksAreAlike};
+ghost use Rattle.unit_laws.specs.UnitNames.{UnitNamesAreMade};
 ghost use Rattle.unit_laws.specs.UnitSpelling.{FilesAreSpelled, UnitTokensAreSpelled};
 ghost use Rattle.unit_laws.specs.UnitTokens.{UnitTokensAreWhole, UnitTokensStandInFiles};
 
@@ -29,4 +30,12 @@ pub fn unit_tokens_stand_in_files()
 pub fn unit_tokens_are_spelled()
     ensures files { FilesAreSpelled }
     ensures spelled { UnitTokensAreSpelled }
+{}
+
+/// Each identifier of a unit is made of identifiers and pp-numbers of kept files, and of numbers that the
+/// unit brought, each whole, one behind the other: in its spelling, and in the origins of its characters.
+/// So is each token of its links. Of a pp-number `unit_tokens_are_whole` says the same only where letters,
+/// digits and `_` alone spell it: a `.` or a sign in it may have been a punctuator of a file.
+pub fn unit_names_are_made_of_names()
+    ensures made { UnitNamesAreMade }
 {}

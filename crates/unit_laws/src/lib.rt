@@ -6,12 +6,13 @@
 //! `expansion_laws`: what is true of the tokens of kept files, and kept where tokens are put in or made,
 //! is true of each token of a unit and of each of which its notes tell. Kept files are those of the table
 //! behind the unit. What a unit with a fault gives is nothing here. Read `specs/UnitLinks.antt`,
-//! `specs/UnitTokens.antt` and `specs/UnitSpelling.antt`.
+//! `specs/UnitTokens.antt`, `specs/UnitSpelling.antt`, and `specs/UnitNames.antt`, which is what comes of
+//! the three for identifiers.
 #![tactic(auto)]
 
 mod laws;
 
 pub use laws::{
-    unit_links_are_alike, unit_tokens_are_spelled, unit_tokens_are_whole,
-    unit_tokens_stand_in_files,
+    unit_links_are_alike, unit_names_are_made_of_names, unit_tokens_are_spelled,
+    unit_tokens_are_whole, unit_tokens_stand_in_files,
 };
