@@ -17,7 +17,7 @@ use Rattle.expansion_laws.proofs.ListLemmas.{toks_at, toks_pass}
 use Rattle.expansion_laws.proofs.ShapeLemmas.{words_are_names, names_are_words}
 use Rattle.unit_laws.specs.UnitTokens.{FilesAreWhole, NumbersAreWhole}
 use Rattle.unit_laws.specs.UnitNames.{HasNames, NamesAreMade, UnitNamesAreMade}
-use Rattle.unit_laws.proofs.TextLemmas.{unit_links_are_alike, unit_tokens_are_whole}
+use Rattle.unit_laws.proofs.TokenLemmas.{unit_links_are_alike, unit_tokens_are_whole}
 use Rattle.unit_laws.proofs.SpellingLemmas.{files_are_spelled, unit_tokens_are_spelled}
 
 and_two : (a b : Bool) → (a && b) ≡ true → (a ≡ true) × (b ≡ true)

@@ -17,7 +17,8 @@ use Rattle.unit_laws.specs.UnitLinks.{IsIn}
 use Rattle.unit_laws.specs.UnitSpelling.{FilesAreSpelled, UnitTokensAreSpelled}
 use Rattle.unit_laws.proofs.DoneLemmas.{UnitRules}
 use Rattle.unit_laws.proofs.FileLemmas.{text_spelled}
-use Rattle.unit_laws.proofs.TextLemmas.{LinkHas, EventHas, in_at, text_is, unit_text_has}
+use Rattle.unit_laws.proofs.NoteLemmas.{LinkHas, EventHas, in_at}
+use Rattle.unit_laws.proofs.TextLemmas.{text_is, unit_text_has}
 
 and_two : (a b : Bool) → (a && b) ≡ true → (a ≡ true) × (b ≡ true)
 and_two true b h = (refl, h)

@@ -30,7 +30,9 @@ use Rattle.include_tree.proofs.StayingLemmas.{source-grown}
 use Rattle.expansion_laws.proofs.ListLemmas.{AllToks}
 use Rattle.unit_laws.proofs.DoneLemmas.{AllIn, UnitRules, PlaceHas, StateHas, Done, done_more, done_noted, done_onward, done_cond, done_only}
 use Rattle.unit_laws.proofs.PartLemmas.{toks_drop, toks_both, ItemHas, items_have}
-use Rattle.unit_laws.proofs.StepLemmas.{expanded_done, run_done, define_done, undef_done, asks_done, holds_done}
+use Rattle.unit_laws.proofs.ExpandingLemmas.{expanded_done, run_done}
+use Rattle.unit_laws.proofs.DefiningLemmas.{define_done, undef_done, asks_done}
+use Rattle.unit_laws.proofs.ConditionLemmas.{holds_done}
 
 -- whatever the value
 abbrev Any : {A : Type 0} → A → Type 0
@@ -152,10 +154,10 @@ module _ (P : Token → Type 0) (M : Note → Type 0) (table : Table) (rules : U
       done_more P M table (AllToks P toks) (KindHas kind.Run at toks) (AllToks P) (AllToks P) s (processed ctx inner file kind.Run at toks s) (λ p. p.0) (λ a p k. k) (run_done P M table rules ctx file toks s)
   processed_done inner known file kind.Define at toks s =
       done_more P M table (LineHas kind.Define toks) (KindHas kind.Define at toks) (AllToks P) (AllToks P) s (processed ctx inner file kind.Define at toks s)
-      (λ p. (p.0, p.1 refl)) (λ a p k. k) (define_done P M table rules kind.Define file at toks s refl)
+      (λ p. (p.0, p.1 refl)) (λ a p k. k) (define_done P M table kind.Define file at toks s refl)
   processed_done inner known file kind.Undef at toks s =
       done_more P M table (LineHas kind.Undef toks) (KindHas kind.Undef at toks) (AllToks P) (AllToks P) s (processed ctx inner file kind.Undef at toks s)
-      (λ p. (p.0, p.1 refl)) (λ a p k. k) (undef_done P M table rules kind.Undef file at toks s refl)
+      (λ p. (p.0, p.1 refl)) (λ a p k. k) (undef_done P M table kind.Undef file at toks s refl)
   processed_done inner known file kind.Include at toks s =
       done_more P M table (AllToks P toks × PlaceHas P at) (KindHas kind.Include at toks) (AllToks P) (AllToks P) s (processed ctx inner file kind.Include at toks s) (λ p. (p.0, p.2)) (λ a p k. k) (include_done inner known file at toks s)
   processed_done inner known file kind.Error at toks s = tt
@@ -178,10 +180,10 @@ module _ (P : Token → Type 0) (M : Note → Type 0) (table : Table) (rules : U
       done_more P M table (AllToks P (drop 2 toks)) (KindHas kind.If at toks) AnyBool AnyBool s (opens_with kind.If file at toks s) (λ p. toks_drop P 2 toks p.0) (λ a p k. tt) (holds_done P M table rules file at (drop 2 toks) s)
   opens_with_done kind.Ifdef file at toks s =
       done_more P M table (LineHas kind.Ifdef toks) (KindHas kind.Ifdef at toks) AnyBool AnyBool s (opens_with kind.Ifdef file at toks s)
-      (λ p. (p.0, p.1 refl)) (λ a p k. tt) (asks_done P M table rules kind.Ifdef file at (λ b. b) toks s refl)
+      (λ p. (p.0, p.1 refl)) (λ a p k. tt) (asks_done P M table kind.Ifdef file at (λ b. b) toks s refl)
   opens_with_done kind.Ifndef file at toks s =
       done_more P M table (LineHas kind.Ifndef toks) (KindHas kind.Ifndef at toks) AnyBool AnyBool s (opens_with kind.Ifndef file at toks s)
-      (λ p. (p.0, p.1 refl)) (λ a p k. tt) (asks_done P M table rules kind.Ifndef file at not toks s refl)
+      (λ p. (p.0, p.1 refl)) (λ a p k. tt) (asks_done P M table kind.Ifndef file at not toks s refl)
   opens_with_done (kind.Bad c place nests) file at toks s = tt
   opens_with_done kind.Run file at toks s = tt
   opens_with_done kind.Define file at toks s = tt

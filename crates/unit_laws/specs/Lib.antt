@@ -1,5 +1,6 @@
 -- What the public contracts rest on.
 pub mod UnitLinks
 pub mod UnitTokens
+pub mod UnitTests
 pub mod UnitSpelling
 pub mod UnitNames

@@ -2,6 +2,7 @@
 ghost use Rattle.unit_laws.specs.UnitLinks.{UnitLinksAreAlike};
 ghost use Rattle.unit_laws.specs.UnitNames.{UnitNamesAreMade};
 ghost use Rattle.unit_laws.specs.UnitSpelling.{FilesAreSpelled, UnitTokensAreSpelled};
+ghost use Rattle.unit_laws.specs.UnitTests.{UnitKeepsTests};
 ghost use Rattle.unit_laws.specs.UnitTokens.{UnitTokensAreWhole, UnitTokensStandInFiles};
 
 /// Each link of a unit joins two identifiers of equal spelling: a replaced name with the name of its macro,
@@ -9,6 +10,14 @@ ghost use Rattle.unit_laws.specs.UnitTokens.{UnitTokensAreWhole, UnitTokensStand
 /// the parameter.
 pub fn unit_links_are_alike()
     ensures alike { UnitLinksAreAlike }
+{}
+
+/// A test that the tokens of kept files pass, also where they are put in for names that pass, and the numbers
+/// that the unit brought, the strings that stand for `__FILE__`, and strings and pasted tokens that are
+/// made of tokens that pass, each token of the unit passes: of its result, of links, pasted tokens,
+/// strings' tokens, include lines and events.
+pub fn unit_keeps_tests()
+    ensures tests { UnitKeepsTests }
 {}
 
 /// Where the tokens of kept files that are spelled with certain characters are made of whole tokens out of

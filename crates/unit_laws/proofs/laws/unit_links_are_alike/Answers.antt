@@ -1,4 +1,4 @@
-use Rattle.unit_laws.proofs.TextLemmas.{unit_links_are_alike}
+use Rattle.unit_laws.proofs.TokenLemmas.{unit_links_are_alike}
 use Rattle.unit_laws.proofs.laws.unit_links_are_alike.Goals as goal
 
 pub returns : goal.returns

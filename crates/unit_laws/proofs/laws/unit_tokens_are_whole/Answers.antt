@@ -1,4 +1,4 @@
-use Rattle.unit_laws.proofs.TextLemmas.{unit_tokens_are_whole}
+use Rattle.unit_laws.proofs.TokenLemmas.{unit_tokens_are_whole}
 use Rattle.unit_laws.proofs.laws.unit_tokens_are_whole.Goals as goal
 
 pub returns : goal.returns
