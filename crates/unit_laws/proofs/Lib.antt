@@ -9,6 +9,7 @@ mod ExpandingLemmas
 mod NamingLemmas
 mod DefiningLemmas
 mod ConditionLemmas
+mod IncludeLemmas
 mod WalkLemmas
 mod TokenLemmas
 mod TestLemmas

@@ -20,7 +20,8 @@ use Rattle.include_tree.specs.Unit.{first_state, outer_file, main_file, both_fil
 use Rattle.include_tree.proofs.TableLemmas.{grown_refl, widens_asked}
 use Rattle.expansion_laws.proofs.ListLemmas.{AllToks}
 use Rattle.unit_laws.proofs.DoneLemmas.{AllIn, UnitRules, NotedSo, MacroHas, Done, done_more, done_onward}
-use Rattle.unit_laws.proofs.WalkLemmas.{FileHas, grown_done, open_done, both_done, files_done}
+use Rattle.unit_laws.proofs.IncludeLemmas.{FileHas, grown_done, open_done}
+use Rattle.unit_laws.proofs.WalkLemmas.{both_done, files_done}
 
 -- the first macros
 cond_line : (P : Token → Type 0) (name : List ℕ) (m : Definition) (b : Bool) → (b ≡ true → name ≡ codes "__LINE__") → cond b (Some line_macro) None ≡ Some m → MacroHas P name m

@@ -1,7 +1,6 @@
--- The items of files, and included files: what is true of what they give.
-use Rattle.std.proofs.Common.{◌≡◌, ℕ, zero, suc, ◌+◌, Bool, true, false, not, cond, List, [], ◌∷◌, ◌++◌, drop, Option, Some, None, Ok, Err, refl}
+-- The items of files: what is true of what they give.
+use Rattle.std.proofs.Common.{◌≡◌, ℕ, zero, suc, ◌+◌, Bool, true, false, not, cond, List, [], ◌∷◌, ◌++◌, drop, Some, None, Err, refl}
 use Rattle.cs_base.specs.declared.causes.Cause.TheVariants as cause
-use Rattle.cs_base.specs.declared.positions.Place.{Place}
 use Rattle.cs_base.specs.declared.positions.Pos.{Pos}
 use Rattle.cs_base.specs.Token.{Token}
 use Rattle.part_lexer.specs.FileText.{file_text}
@@ -10,130 +9,30 @@ use Rattle.line_shape.specs.declared.items.ItemKind.TheVariants as kind
 use Rattle.line_shape.specs.Directives.{is_run}
 use Rattle.line_shape.specs.Items.{line_kind}
 use Rattle.include_tree.specs.Limits.{the_limits}
-use Rattle.include_tree.specs.Faults.{fault_at, place_in}
+use Rattle.include_tree.specs.Faults.{fault_at}
 use Rattle.include_tree.specs.Files.{Source, SourceFile, Table}
-use Rattle.include_tree.specs.Notes.{Note, Reaches, Entered, Exited}
-use Rattle.include_tree.specs.State.{Context, context, State, did, Outcome, only, onward}
-use Rattle.include_tree.specs.Search.{Header, Searched, candidates_of, search}
-use Rattle.include_tree.specs.Opening.{Opening, opening, with_opened, open_file}
-use Rattle.include_tree.specs.Expanding.{expanded_in}
-use Rattle.include_tree.specs.Including.{is_header, header_in, header_or, header_of_toks, computed_header, header_named, open_searched, open_header, Process, Inner, entered, included, include_of}
+use Rattle.include_tree.specs.Notes.{Note, Reaches}
+use Rattle.include_tree.specs.State.{Context, context, State, Outcome, only, onward}
+use Rattle.include_tree.specs.Including.{Inner}
 use Rattle.include_tree.specs.Sections.{Group, Processed, Awaited, Over, Skipped, Section, section, are_processed, group_if, group_after, group_of_else, Turn, Opens, GoesOn, GoesLast, Ends, Stays, turn_of}
 use Rattle.include_tree.specs.Conditions.{holds}
 use Rattle.include_tree.specs.Directives.{opens_with, is_if}
 use Rattle.include_tree.specs.Walk.{ItemText, items_in, processed, Stepped, stepped, reaching, reaching_alive, go_on, opens, goes_on, in_section, turned, item_step, file_end, walk, file_items}
-use Rattle.include_tree.specs.Laws.{IsGrown}
-use Rattle.include_tree.proofs.TableLemmas.{grown_refl, grown_trans}
-use Rattle.include_tree.proofs.SearchLemmas.{search_wide}
-use Rattle.include_tree.proofs.SourcesLemmas.{opening-as}
-use Rattle.include_tree.proofs.StayingLemmas.{source-grown}
 use Rattle.expansion_laws.proofs.ListLemmas.{AllToks}
-use Rattle.unit_laws.proofs.DoneLemmas.{AllIn, UnitRules, PlaceHas, StateHas, Done, done_more, done_noted, done_onward, done_cond, done_only}
+use Rattle.unit_laws.proofs.DoneLemmas.{AllIn, UnitRules, PlaceHas, Done, done_more, done_noted, done_onward, done_cond, done_only}
 use Rattle.unit_laws.proofs.PartLemmas.{toks_drop, toks_both, ItemHas, items_have}
-use Rattle.unit_laws.proofs.ExpandingLemmas.{expanded_done, run_done}
+use Rattle.unit_laws.proofs.ExpandingLemmas.{run_done}
 use Rattle.unit_laws.proofs.DefiningLemmas.{define_done, undef_done, asks_done}
 use Rattle.unit_laws.proofs.ConditionLemmas.{holds_done}
-
--- whatever the value
-abbrev Any : {A : Type 0} → A → Type 0
-Any a = Unit {0}
-
--- the tokens of a file, and of what an item gives
-abbrev pub FileHas : (Token → Type 0) → SourceFile → Type 0
-FileHas P file = AllToks P file.text.toks
+use Rattle.unit_laws.proofs.IncludeLemmas.{Any, FileHas, ProcessDone, InnerDone, include_done}
 
 abbrev SteppedHas : (Token → Type 0) → Stepped → Type 0
 SteppedHas P d = AllToks P d.toks
 
 module _ (P : Token → Type 0) (M : Note → Type 0) (table : Table) (rules : UnitRules P M table) (source : Source) (ipath : List (List ℕ)) (earlier : ℕ) where
   -- what stays the same
-  abbrev pub ctx : Context
+  abbrev ctx : Context
   ctx = context source file_text ipath the_limits earlier
-
-  -- ---- included files
-
-  with_table : (s : State) (t : Table) → StateHas P s → StateHas P (record s { table = t })
-  with_table s t has = record { macros = has.macros; names = has.names }
-
-  opened_done : (place : Place) (path : List ℕ) (s : State) (o : Opening) → opening the_limits file_text place path s.table ≡ o
-      → Done P M table (Unit {0}) (FileHas P) s (with_opened s o)
-  opened_done place path s (Err found) is = tt
-  opened_done place path s (Ok r) is =
-      let fresh = opening-as s.table r.1 place path r.0 is in
-      (fresh.grown, λ p reach has told. (rules.files r.0.number r.0 (source-grown r.1 table r.0.number r.0 reach fresh.is_kept), with_table s r.1 has, tt))
-
-  pub open_done : (place : Place) (path : List ℕ) (s : State) → Done P M table (Unit {0}) (FileHas P) s (open_file ctx place path s)
-  open_done place path s = opened_done place path s (opening the_limits file_text place path s.table) refl
-
-  -- a state with a table that has grown
-  pub grown_done : {A : Type 0} (pre : Type 0) (V : A → Type 0) (s : State) (t : Table) (m : Outcome A) → IsGrown s.table t
-      → Done P M table pre V (record s { table = t }) m → Done P M table pre V s m
-  grown_done pre V s t (Ok d) grown h = (grown_trans s.table t d.state.table grown h.0, λ p reach has told. h.1 p reach (with_table s t has) told)
-  grown_done pre V s t (Err found) grown h = tt
-
-  searched_done : (file : SourceFile) (at : Pos) (s : State) (found : Searched) (o : Option (List ℕ)) → IsGrown s.table found.table
-      → Done P M table (Unit {0}) (FileHas P) s (open_searched ctx file at s found o)
-  searched_done file at s found None grown = tt
-  searched_done file at s found (Some path) grown =
-      grown_done (Unit {0}) (FileHas P) s found.table (open_file ctx (place_in file at) path (record s { table = found.table })) grown
-      (open_done (place_in file at) path (record s { table = found.table }))
-
-  header_done : (file : SourceFile) (at : Pos) (h : Header) (s : State) → Done P M table (Unit {0}) (FileHas P) s (open_header ctx file at h s)
-  header_done file at h s =
-      let found : Searched = search source (candidates_of h file.path ipath) s.table in
-      searched_done file at s found found.path (search_wide source (candidates_of h file.path ipath) s.table).grown
-
-  or_done : (pre : Type 0) (file : SourceFile) (at : Pos) (toks : List Token) (s : State) (o : Option Header) → (pre → AllToks P toks)
-      → Done P M table pre (Any {A = Header}) s (header_or file at toks s o)
-  or_done pre file at toks s None h = tt
-  or_done pre file at toks s (Some header) h = (grown_refl s.table, λ p reach has told. (tt, has, (h p, tt)))
-
-  computed_done : (file : SourceFile) (at : Pos) (toks : List Token) (s : State) → Done P M table (AllToks P toks) (Any {A = Header}) s (computed_header file at toks s)
-  computed_done file at toks s =
-      done_onward P M table (AllToks P toks) (AllToks P) (Any {A = Header}) s (expanded_in false file toks s) (λ out t. header_or file at out t (header_of_toks out))
-      (expanded_done P M table rules false file toks s) (λ out t. or_done (AllToks P toks × AllToks P out) file at out t (header_of_toks out) (λ p. p.1))
-
-  named_done : (file : SourceFile) (at : Pos) (toks : List Token) (s : State) → Done P M table (AllToks P toks) (Any {A = Header}) s (header_named file at toks s)
-  named_done file at [] s = tt
-  named_done file at (t ∷ toks) s =
-      done_cond P M table (AllToks P (t ∷ toks)) (Any {A = Header}) s (is_header t.kind) (only (header_in t.text) s) (computed_header file at (t ∷ toks) s)
-      (done_only P M table (AllToks P (t ∷ toks)) (Any {A = Header}) s (header_in t.text) (λ p. tt)) (computed_done file at (t ∷ toks) s)
-
-  -- what is known of the items of included files
-  abbrev pub ProcessDone : Process → Type 0
-  ProcessDone process = (file : SourceFile) (s : State) → Done P M table (FileHas P file) (AllToks P) s (process file s)
-
-  abbrev pub InnerDone : Inner → Type 0
-  InnerDone None = Unit {0}
-  InnerDone (Some process) = ProcessDone process
-
-  exited_done : (pre : Type 0) (at : Pos) (file : SourceFile) (toks : List Token) (t : State) → (pre → AllToks P toks) → (pre → PlaceHas P at)
-      → Done P M table pre (AllToks P) t (Ok (did toks (Exited at file.number t.before ∷ []) t))
-  exited_done pre at file toks t h place = (grown_refl t.table, λ p reach has told. (h p, has, (place p, tt)))
-
-  entered_done : (process : Process) → ProcessDone process → (pre : Type 0) (at : Pos) (file : SourceFile) (s : State) → (pre → FileHas P file) → (pre → PlaceHas P at)
-      → Done P M table pre (AllToks P) s (entered process at file s)
-  entered_done process known pre at file s h place =
-      done_noted P M table pre (AllToks P) s (Entered at file.number s.before ∷ []) (onward (process file s) (λ toks t. Ok (did toks (Exited at file.number t.before ∷ []) t))) (λ p. (place p, tt))
-      (done_onward P M table pre (AllToks P) (AllToks P) s (process file s) (λ toks t. Ok (did toks (Exited at file.number t.before ∷ []) t))
-      (done_more P M table (FileHas P file) pre (AllToks P) (AllToks P) s (process file s) h (λ a p k. k) (known file s))
-      (λ toks t. exited_done (pre × AllToks P toks) at file toks t (λ p. p.1) (λ p. place p.0)))
-
-  included_done : (inner : Inner) → InnerDone inner → (pre : Type 0) (file : SourceFile) (at : Pos) (h : Header) (s : State) → (pre → PlaceHas P at)
-      → Done P M table pre (AllToks P) s (included ctx inner file at h s)
-  included_done None known pre file at h s place = tt
-  included_done (Some process) known pre file at h s place =
-      done_onward P M table pre (FileHas P) (AllToks P) s (open_header ctx file at h s) (entered process at)
-      (done_more P M table (Unit {0}) pre (FileHas P) (FileHas P) s (open_header ctx file at h s) (λ p. tt) (λ a p k. k) (header_done file at h s))
-      (λ f t. entered_done process known (pre × FileHas P f) at f t (λ p. p.1) (λ p. place p.0))
-
-  include_done : (inner : Inner) → InnerDone inner → (file : SourceFile) (at : Pos) (toks : List Token) (s : State)
-      → Done P M table (AllToks P toks × PlaceHas P at) (AllToks P) s (include_of ctx inner file at toks s)
-  include_done inner known file at toks s =
-      done_onward P M table (AllToks P toks × PlaceHas P at) (Any {A = Header}) (AllToks P) s (header_named file at (drop 2 toks) s) (included ctx inner file at)
-      (done_more P M table (AllToks P (drop 2 toks)) (AllToks P toks × PlaceHas P at) (Any {A = Header}) (Any {A = Header}) s (header_named file at (drop 2 toks) s)
-      (λ p. toks_drop P 2 toks p.0) (λ a p k. tt) (named_done file at (drop 2 toks) s))
-      (λ h t. included_done inner known ((AllToks P toks × PlaceHas P at) × Any h) file at h t (λ p. p.0.1))
 
   -- ---- items
 
@@ -148,7 +47,7 @@ module _ (P : Token → Type 0) (M : Note → Type 0) (table : Table) (rules : U
   nothing_done : (pre : Type 0) (s : State) → Done P M table pre (AllToks P) s (only [] s)
   nothing_done pre s = done_only P M table pre (AllToks P) s [] (λ p. tt)
 
-  processed_done : (inner : Inner) → InnerDone inner → (file : SourceFile) (k : ItemKind) (at : Pos) (toks : List Token) (s : State)
+  processed_done : (inner : Inner) → InnerDone P M table rules source ipath earlier inner → (file : SourceFile) (k : ItemKind) (at : Pos) (toks : List Token) (s : State)
       → Done P M table (KindHas k at toks) (AllToks P) s (processed ctx inner file k at toks s)
   processed_done inner known file kind.Run at toks s =
       done_more P M table (AllToks P toks) (KindHas kind.Run at toks) (AllToks P) (AllToks P) s (processed ctx inner file kind.Run at toks s) (λ p. p.0) (λ a p k. k) (run_done P M table rules ctx file toks s)
@@ -159,7 +58,7 @@ module _ (P : Token → Type 0) (M : Note → Type 0) (table : Table) (rules : U
       done_more P M table (LineHas kind.Undef toks) (KindHas kind.Undef at toks) (AllToks P) (AllToks P) s (processed ctx inner file kind.Undef at toks s)
       (λ p. (p.0, p.1 refl)) (λ a p k. k) (undef_done P M table kind.Undef file at toks s refl)
   processed_done inner known file kind.Include at toks s =
-      done_more P M table (AllToks P toks × PlaceHas P at) (KindHas kind.Include at toks) (AllToks P) (AllToks P) s (processed ctx inner file kind.Include at toks s) (λ p. (p.0, p.2)) (λ a p k. k) (include_done inner known file at toks s)
+      done_more P M table (AllToks P toks × PlaceHas P at) (KindHas kind.Include at toks) (AllToks P) (AllToks P) s (processed ctx inner file kind.Include at toks s) (λ p. (p.0, p.2)) (λ a p k. k) (include_done P M table rules source ipath earlier inner known file at toks s)
   processed_done inner known file kind.Error at toks s = tt
   processed_done inner known file (kind.Bad c place nests) at toks s = tt
   processed_done inner known file kind.If at toks s = nothing_done (KindHas kind.If at toks) s
@@ -270,7 +169,7 @@ module _ (P : Token → Type 0) (M : Note → Type 0) (table : Table) (rules : U
       done_onward P M table pre (AllToks P) (SteppedHas P) s m (λ toks t. only (stepped toks sections) t) h
       (λ toks t. only_done (pre × AllToks P toks) t (stepped toks sections) (λ p. p.1))
 
-  turned_done : (inner : Inner) → InnerDone inner → (file : SourceFile) (k : ℕ) (i : ItemText) (sections : List Section) (s : State) (turn : Turn)
+  turned_done : (inner : Inner) → InnerDone P M table rules source ipath earlier inner → (file : SourceFile) (k : ℕ) (i : ItemText) (sections : List Section) (s : State) (turn : Turn)
       → Done P M table (ItemHas P i) (SteppedHas P) s (turned ctx inner file k i sections s turn)
   turned_done inner known file k i sections s Opens = opens_done file k i sections s
   turned_done inner known file k i sections s GoesOn =
@@ -304,7 +203,7 @@ module _ (P : Token → Type 0) (M : Note → Type 0) (table : Table) (rules : U
       done_onward P M table pre (AllToks P) (AllToks P) s m (λ more u. only (toks ++ more) u) h
       (λ more u. done_only P M table (pre × AllToks P more) (AllToks P) u (toks ++ more) (λ p. toks_both P toks more (first p.0) p.1))
 
-  walk_done : (inner : Inner) → InnerDone inner → (file : SourceFile) (k : ℕ) (items : List ItemText) (sections : List Section) (s : State)
+  walk_done : (inner : Inner) → InnerDone P M table rules source ipath earlier inner → (file : SourceFile) (k : ℕ) (items : List ItemText) (sections : List Section) (s : State)
       → Done P M table (AllIn (ItemHas P) items) (AllToks P) s (walk ctx inner file k items sections s)
   unfolding walk
   walk_done inner known file k [] sections s = end_done (Unit {0}) file sections s
@@ -317,12 +216,12 @@ module _ (P : Token → Type 0) (M : Note → Type 0) (table : Table) (rules : U
       (done_more P M table (AllIn (ItemHas P) items) (AllIn (ItemHas P) (i ∷ items) × SteppedHas P d) (AllToks P) (AllToks P) t (walk ctx inner file (k + 1) items d.sections t) (λ p. p.0.1) (λ a p h. h)
       (walk_done inner known file (k + 1) items d.sections t)))
 
-  file_done : (inner : Inner) → InnerDone inner → (file : SourceFile) (s : State) → Done P M table (FileHas P file) (AllToks P) s (walk ctx inner file 0 (items_in file) [] s)
+  file_done : (inner : Inner) → InnerDone P M table rules source ipath earlier inner → (file : SourceFile) (s : State) → Done P M table (FileHas P file) (AllToks P) s (walk ctx inner file 0 (items_in file) [] s)
   file_done inner known file s =
       done_more P M table (AllIn (ItemHas P) (items_in file)) (FileHas P file) (AllToks P) (AllToks P) s (walk ctx inner file 0 (items_in file) [] s)
       (λ p. items_have P file.text.toks file.text.firsts p) (λ a p h. h) (walk_done inner known file 0 (items_in file) [] s)
 
-  pub files_done : (room : ℕ) → ProcessDone (file_items ctx room)
+  pub files_done : (room : ℕ) → ProcessDone P M table rules source ipath earlier (file_items ctx room)
   unfolding file_items
   files_done zero file s = file_done None tt file s
   files_done (suc room) file s = file_done (Some (file_items ctx room)) (files_done room) file s
