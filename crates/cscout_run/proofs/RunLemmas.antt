@@ -19,8 +19,8 @@ use Rattle.cscout_run.specs.Message.{usage_line}
 use Rattle.cscout_run.specs.Outcome.{World, StatusIs, HasCauses, IsComplete, ShowsAnswer, Tells, FailedPut, Unmoved}
 use Rattle.cscout_run.specs.Steps.{Prepares}
 use Rattle.cscout_run.specs.declared.preparing.Ready.{Ready}
-use Rattle.rename_edit.specs.Applying.{Applies}
-use Rattle.rename_edit.specs.declared.applying.Applied.TheVariants as applied
+use Rattle.edit_put.specs.Applying.{Applies}
+use Rattle.edit_put.specs.declared.applying.Applied.TheVariants as applied
 use Rattle.cscout_run.specs.Stopping.{Stops, StopReads, status_of, line_of}
 
 -- what holds of every value holds of one that is told

@@ -1,4 +1,3 @@
-pub mod ApplyingLemmas
 pub mod ThinUnitLemmas
 pub mod PlainFiles
 pub mod FileLemmas

@@ -8,5 +8,4 @@ pub mod Offence
 pub mod Renaming
 pub mod Refusals
 pub mod Meaning
-pub mod Applying
 pub mod Laws

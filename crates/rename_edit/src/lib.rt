@@ -2,14 +2,12 @@
 //!
 //! `thin_analyse` reads the files of the units and accepts exactly those whose units are thin
 //! (`specs/ThinUnit.antt`); `plan_thin` gives the edits of `renaming` in `specs/Renaming.antt`, or its
-//! first refusal; `apply` puts edits in order of path and is the one place of the program that writes
-//! files. What an accepted renaming keeps stands in `specs/Meaning.antt`. The crate makes no messages
-//! and knows no workspace file. `apply` takes no memory. Read `specs/ThinUnit.antt`, `specs/Class.antt`,
-//! `specs/Offence.antt`, `specs/Renaming.antt`, then `plan.rt`.
+//! first refusal; `apply`, named here again, puts them. What an accepted renaming keeps stands in
+//! `specs/Meaning.antt`. The crate makes no messages and knows no workspace file. Read
+//! `specs/ThinUnit.antt`, `specs/Class.antt`, `specs/Offence.antt`, `specs/Renaming.antt`, then `plan.rt`.
 #![tactic(auto)]
 
 mod analysis;
-mod applying;
 mod kept_files;
 mod laws;
 mod members;
@@ -22,7 +20,7 @@ mod thin_files;
 mod thin_unit;
 
 pub use analysis::{Thin, thin_analyse};
-pub use applying::{Applied, apply};
+pub use edit_put::{Applied, apply};
 pub use laws::{classes_are_chains, renaming_keeps_meaning};
 pub use plan::plan_thin;
 pub use refusals::{RenameRefusal, ThinFault};

@@ -1,7 +1,7 @@
 use Rattle.std.proofs.Common.{◌≡◌, take}
 use Rattle.std.specs.Option.{option_map}
 use Rattle.cs_base.specs.Edit.{with_edits}
-use Rattle.rename_edit.proofs.applying.apply.Given as goal
+use Rattle.edit_put.proofs.applying.apply.Given as goal
 
 abbrev pub invariant-loop-k : goal.invariant-loop-k
 invariant-loop-k g l = record {

@@ -1,6 +1,6 @@
 // Putting edits into files: the one place of the program that writes them.
 ghost use Rattle.cs_base.specs.Edit.{with_edits};
-ghost use Rattle.rename_edit.specs.Applying.{Applies, AppliesCounts};
+ghost use Rattle.edit_put.specs.Applying.{Applies, AppliesCounts};
 
 use cs_base::{Edits, Files, Put};
 

@@ -3,8 +3,8 @@ use Rattle.std.specs.Prelude.{ℕ, ◌≡◌, ◌⊎◌, ◌+◌, ◌<◌, ◌�
 use Rattle.std.specs.Option.{option_map}
 use Rattle.cs_base.specs.Edit.{Edit, with_edits}
 use Rattle.cs_base.specs.Outside.{FileMap, Rose}
-use Rattle.rename_edit.specs.declared.applying.Applied.{Applied}
-use Rattle.rename_edit.specs.declared.applying.Applied.TheVariants.{Done, Failed}
+use Rattle.edit_put.specs.declared.applying.Applied.{Applied}
+use Rattle.edit_put.specs.declared.applying.Applied.TheVariants.{Done, Failed}
 
 -- Done: every edit is put. Failed: so many edits are put, the next one or not, and no other.
 abbrev pub Applies : List Edit → Option FileMap → Option FileMap → Applied → Type 0

@@ -1,6 +1,6 @@
 use Rattle.std.proofs.Common.{arith, rules, inl, inr, ⊎_elim, ◌∙◌}
-use Rattle.rename_edit.proofs.ApplyingLemmas.{held_more}
-use Rattle.rename_edit.proofs.applying.apply.Goals as goal
+use Rattle.edit_put.proofs.ApplyingLemmas.{held_more}
+use Rattle.edit_put.proofs.applying.apply.Goals as goal
 
 pub returns-in-Failed-clause-held : goal.returns-in-Failed-clause-held
 returns-in-Failed-clause-held g c = (
