@@ -1,0 +1,130 @@
+-- Parts that hold one character, and the members of a class by its number.
+use Rattle.std.proofs.Common.{◌≡◌, ℕ, zero, suc, ◌-◌, ◌<◌, Bool, true, List, [], ◌∷◌, Some, None, slice_get, inl, inr, refl, sym, ap, ◌∙◌, subst, arith}
+use Rattle.std.specs.List.{find}
+use Rattle.std.proofs.lemmas.Bool.{cases_Bool, cases_lt}
+use Rattle.std.proofs.lemmas.Option.{same_Some}
+use Rattle.cs_base.specs.declared.positions.Part.{Part}
+use Rattle.cs_base.specs.declared.positions.Pos.{Pos}
+use Rattle.eclass_map.specs.ClassTable.{class_in}
+use Rattle.eclass_map.specs.Positions.{along, holds}
+use Rattle.eclass_map.proofs.TokenFacts.{Holding, holding}
+use Rattle.part_respell.specs.Respelled.{member_over}
+use Rattle.ws_core.specs.Analysed.{Analysed}
+use Rattle.ws_core.specs.Analysis.{AnalysisValue}
+use Rattle.ws_core.specs.Classes.{AreItsClasses}
+use Rattle.ws_core.specs.Parts.{IsCharacter, IsStart, IsPart}
+use Rattle.ws_core.proofs.ClassLemmas.{walked_member, member_walked}
+use Rattle.rename_rules.specs.Class.{IsClass}
+
+-- ---- one character lies in one part
+
+pub same_pos : (p q : Pos) → p.file ≡ q.file → p.at ≡ q.at → p ≡ q
+same_pos p q e f = ap (λ (n : ℕ). record { file = n; at = p.at }) e ∙ ap (λ (n : ℕ). record { file = q.file; at = n }) f
+
+same_part : (x y : Part) → x.start ≡ y.start → x.len ≡ y.len → x ≡ y
+same_part x y e f = ap (λ (p : Pos). record { start = p; len = x.len }) e ∙ ap (λ (n : ℕ). record { start = y.start; len = n }) f
+
+module _ (a : AnalysisValue) where
+  -- no part begins inside another
+  no_earlier : (x y : Part) (p : Pos) → IsPart a x → IsPart a y → Holding x p → Holding y p → x.start.at < y.start.at → ⊥
+  no_earlier x y p is other h k less =
+      let o = y.start.at - x.start.at in
+      let here : along x.start o ≡ y.start = same_pos (along x.start o) y.start (h.file ∙ sym k.file) (omega (arith, less)) in
+      let P : Pos → Type 0 = IsStart a in
+      (is.goes_on o (omega (arith, less)) (omega (arith, less, h, k))).1 (subst P (sym here) other.start)
+
+  no_longer : (x y : Part) → IsPart a x → IsPart a y → x.start ≡ y.start → x.len < y.len → ⊥
+  no_longer x y is other same less =
+      let some : 0 < x.len = is.some in
+      let on = other.goes_on x.len some less in
+      let P : Pos → Type 0 = λ s. IsCharacter a (along s x.len) in
+      let Q : Pos → Type 0 = λ s. IsStart a (along s x.len) in
+      on.1 (subst Q same (is.ends (subst P (sym same) on.0)))
+
+  pub part_once : (x y : Part) (p : Pos) → IsPart a x → IsPart a y → holds x p ≡ true → holds y p ≡ true → x ≡ y
+  part_once x y p is other hx hy =
+      let h = holding x p hx in
+      let k = holding y p hy in
+      let start : x.start ≡ y.start =
+      same_pos x.start y.start (h.file ∙ sym k.file)
+      (elim (cases_lt x.start.at y.start.at) [
+        | inl less ↦ absurd (no_earlier x y p is other h k less)
+        | inr most ↦ elim (cases_lt y.start.at x.start.at) [
+          | inl less ↦ absurd (no_earlier y x p other is k h less)
+          | inr least ↦ omega (arith, most, least)
+        ]
+      ]) in
+      same_part x y start
+      (elim (cases_lt x.len y.len) [
+        | inl less ↦ absurd (no_longer x y is other start less)
+        | inr most ↦ elim (cases_lt y.len x.len) [
+          | inl less ↦ absurd (no_longer y x other is (sym start) less)
+          | inr least ↦ omega (arith, most, least)
+        ]
+      ])
+
+  pub held_character : (x : Part) (p : Pos) → IsPart a x → holds x p ≡ true → IsCharacter a p
+  held_character x p is hx =
+      let h = holding x p hx in
+      let o = p.at - x.start.at in
+      let here : along x.start o ≡ p = same_pos (along x.start o) p h.file (omega (arith, h)) in
+      let P : Pos → Type 0 = IsCharacter a in
+      elim (cases_lt 0 o) [
+        | inl some ↦ subst P here (is.goes_on o some (omega (arith, h))).0
+        | inr none ↦ subst P (same_pos x.start p h.file (omega (arith, h, none))) is.held
+      ]
+
+-- ---- members by the number of their class
+
+-- the first of a list that passes, where all that pass are the same
+find_only : {X : Type 0} (p : X → Bool) (xs : List X) (x : X) (k : ℕ) → slice_get xs k ≡ Some x → p x ≡ true
+    → ((j : ℕ) (y : X) → slice_get xs j ≡ Some y → p y ≡ true → y ≡ x) → find p xs ≡ Some x
+find_only p [] x k at here only = absurd (cc)
+find_only {X = X} p (y ∷ xs) x zero at here only =
+    let same : y ≡ x = same_Some y x at in
+    let P : X → Type 0 = λ z. p z ≡ true in
+    let passes : p y ≡ true = subst P (sym same) here in
+    rw passes at
+find_only {X = X} p (y ∷ xs) x (suc k) at here only =
+    elim (cases_Bool (p y)) [
+      | inl passes ↦ rw passes (ap (λ (z : X). Some z) (only zero y refl passes))
+      | inr fails ↦ rw fails (find_only p xs x k at here (λ j z is. only (suc j) z is))
+    ]
+
+find_no : {X : Type 0} (p : X → Bool) (xs : List X) → ((j : ℕ) (y : X) → slice_get xs j ≡ Some y → p y ≡ true → ⊥) → find p xs ≡ None
+find_no p [] none = refl
+find_no p (y ∷ xs) none =
+    elim (cases_Bool (p y)) [
+      | inl passes ↦ absurd (none zero y refl passes)
+      | inr fails ↦ rw fails (find_no p xs (λ j z is. none (suc j) z is))
+    ]
+
+module _ (a : Analysed) (own : AreItsClasses a.value a.classes) (members : List Part) (number : ℕ) (is : IsClass a members number) where
+  -- a member has the number of the class, and what has it is a member
+  member_numbered : (m : Part) (k : ℕ) → slice_get members k ≡ Some m → class_in a.classes m ≡ Some number
+  member_numbered m k at =
+      let walked = member_walked a.value a.classes own is.part m number is.numbered (is.listed.each k m at) in
+      own.parts.walked m number walked.0 walked.1
+
+  numbered_member : (m : Part) → class_in a.classes m ≡ Some number → (k : ℕ) × (slice_get members k ≡ Some m)
+  numbered_member m same =
+      let walked = own.parts.member m number same in
+      is.listed.all m (walked_member a.value a.classes own is.part m number walked.0 is.numbered walked.1)
+
+  pub over_none : (p : Pos) → (IsCharacter a.value p → ⊥) → member_over members p ≡ None
+  over_none p nowhere =
+      find_no (λ m. holds m p) members (λ j m at h. nowhere (held_character a.value m p (is.listed.each j m at).is_part h))
+
+  pub over_other : (p : Pos) (part : Part) → IsPart a.value part → holds part p ≡ true → (class_in a.classes part ≡ Some number → ⊥)
+      → member_over members p ≡ None
+  over_other p part it held other =
+      let P : Part → Type 0 = λ m. class_in a.classes m ≡ Some number in
+      find_no (λ m. holds m p) members (λ j m at h.
+      other (subst P (part_once a.value m part p (is.listed.each j m at).is_part it h held) (member_numbered m j at)))
+
+  pub over_member : (p : Pos) (part : Part) → IsPart a.value part → holds part p ≡ true → class_in a.classes part ≡ Some number
+      → member_over members p ≡ Some part
+  over_member p part it held same =
+      let at = numbered_member part same in
+      find_only (λ m. holds m p) members part at.0 at.1 held
+      (λ j m is_at h. part_once a.value m part p (is.listed.each j m is_at).is_part it h held)

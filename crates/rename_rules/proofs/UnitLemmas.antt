@@ -1,0 +1,224 @@
+-- Units, files and tokens, one after another.
+use Rattle.std.proofs.Common.{◌≡◌, true, false, inl, inr, ℕ, zero, suc, ◌+◌, ◌-◌, ◌<◌, ◌≤◌, Bool, List, [], ◌∷◌, ◌++◌, length, take, drop, get_or, Option, Some, None, slice_get, refl, sym, ap, ◌∙◌, append_assoc, append-nil, arith}
+use Rattle.std.specs.Prelude.{◌||◌, filter, is_some}
+use Rattle.std.specs.List.{flat_map, list_any}
+use Rattle.std.specs.Option.{option_map, option_map_or}
+use Rattle.std.proofs.Math.Bool.{or-false}
+use Rattle.std.proofs.lemmas.Bool.{cases_Bool}
+use Rattle.std.proofs.lemmas.List.Folds.{list_any-append}
+use Rattle.std.proofs.lemmas.Grind.{flat_map-append}
+use Rattle.std.proofs.lemmas.List.{at_drop_more, at_drop_all, map-append, take_more, take_all}
+use Rattle.std.proofs.lemmas.List.Elements.{filter-append}
+use Rattle.std.proofs.lemmas.Option.{slice_get_within, slice_get-get_or, get_or_from_slice_get}
+use Rattle.cs_base.specs.declared.causes.Cause.{Cause}
+use Rattle.cs_base.specs.declared.positions.Part.{Part}
+use Rattle.cs_base.specs.declared.positions.Pos.{Pos}
+use Rattle.cs_base.specs.Token.{Token, origin_at}
+use Rattle.include_tree.specs.Files.{Table, Entry, Absent, entry}
+use Rattle.include_tree.specs.KeptFiles.{kept_at}
+use Rattle.include_tree.specs.Texts.{UnitTextValue}
+use Rattle.scope_bind.specs.Bound.{Bound}
+use Rattle.ws_core.specs.Analysis.{AnalysisValue, UnitAnalysis}
+use Rattle.ws_core.specs.BroughtNumbers.{all_brought}
+use Rattle.ws_core.specs.FileTokens.{file_tokens, kept_tokens as parted_tokens, numbers_brought, table_tokens}
+use Rattle.rename_rules.specs.declared.offences.Offence.{Offence}
+use Rattle.rename_rules.specs.First.{offence, standing, FirstThen}
+use Rattle.rename_rules.specs.Tokens.{file_toks, holders, holds_member, kept_tokens, member_of, pasted_tokens}
+use Rattle.rename_rules.proofs.FirstLemmas.{then_none, then_both, then_next}
+
+-- ---- units
+
+text_in : (r : Option UnitAnalysis) (text : UnitTextValue) → option_map (λ (u : UnitAnalysis). u.text) r ≡ Some text
+    → (u : UnitAnalysis) × (r ≡ Some u) × (u.text ≡ text)
+text_in None text e = absurd (cc)
+text_in (Some u) text e = (u, refl, cc)
+
+-- the unit whose text is told
+pub unit_of_text : (units : List UnitAnalysis) (k : ℕ) (text : UnitTextValue) → option_map (λ (u : UnitAnalysis). u.text) (slice_get units (k + 1 - 1)) ≡ Some text
+    → (u : UnitAnalysis) × (slice_get units k ≡ Some u) × (u.text ≡ text)
+unit_of_text units k text e =
+    let same : k + 1 - 1 ≡ k = omega arith in
+    let f : option_map (λ (u : UnitAnalysis). u.text) (slice_get units k) ≡ Some text = rw same at e in
+    text_in (slice_get units k) text f
+
+bound_in : (r : Option UnitAnalysis) (u : UnitAnalysis) (bound : Bound) → r ≡ Some u → option_map (λ (u : UnitAnalysis). u.bound) r ≡ Some bound → u.bound ≡ bound
+bound_in None u bound is e = absurd (cc)
+bound_in (Some v) u bound is e = cc
+
+pub bound_of_unit : (units : List UnitAnalysis) (k : ℕ) (u : UnitAnalysis) (bound : Bound) → slice_get units k ≡ Some u
+    → option_map (λ (u : UnitAnalysis). u.bound) (slice_get units (k + 1 - 1)) ≡ Some bound → u.bound ≡ bound
+bound_of_unit units k u bound is e =
+    let same : k + 1 - 1 ≡ k = omega arith in
+    let f : option_map (λ (u : UnitAnalysis). u.bound) (slice_get units k) ≡ Some bound = rw same at e in
+    bound_in (slice_get units k) u bound is f
+
+pub unit_next : (table : Table) (cause : Cause) (g : UnitAnalysis → List Pos) (units : List UnitAnalysis) (k : ℕ) (u : UnitAnalysis)
+    (a b c : Option Offence) → slice_get units k ≡ Some u → FirstThen table (standing cause (flat_map g (take k units))) a b
+    → FirstThen table (standing cause (g u)) b c → FirstThen table (standing cause (flat_map g (take (k + 1) units))) a c
+unit_next table cause g units k u a b c at before here =
+    then_next table cause g units k u a b c (slice_get_within units k u at) (sym (get_or_from_slice_get units k u u at)) before here
+
+-- the tokens of units, and what stands at them
+pub unit_tokens_next : (table : Table) (cause : Cause) (f : Token → List Pos) (g : UnitAnalysis → List Token) (units : List UnitAnalysis) (k : ℕ)
+    (u : UnitAnalysis) (a b c : Option Offence) → slice_get units k ≡ Some u
+    → FirstThen table (standing cause (flat_map f (flat_map g (take k units)))) a b → FirstThen table (standing cause (flat_map f (g u))) b c
+    → FirstThen table (standing cause (flat_map f (flat_map g (take (k + 1) units)))) a c
+unit_tokens_next table cause f g units k u a b c at before here =
+    let within = slice_get_within units k u at in
+    let more : take (k + 1) units ≡ take k units ++ u ∷ [] =
+    take_more units k u within ∙ ap (λ (v : UnitAnalysis). take k units ++ v ∷ []) (get_or_from_slice_get units k u u at) in
+    let old = flat_map g (take k units) in
+    let toks : flat_map g (take (k + 1) units) ≡ old ++ g u =
+    ap (flat_map g) more ∙ flat_map-append g (take k units) (u ∷ []) ∙ ap (λ (ts : List Token). old ++ ts) (append-nil (g u)) in
+    let all : standing cause (flat_map f (flat_map g (take (k + 1) units))) ≡ standing cause (flat_map f old) ++ standing cause (flat_map f (g u)) =
+    ap (λ (ts : List Token). standing cause (flat_map f ts)) toks
+    ∙ ap (standing cause) (flat_map-append f old (g u)) ∙ map-append (offence cause) (flat_map f old) (flat_map f (g u)) in
+    rw all (then_both table (standing cause (flat_map f old)) (standing cause (flat_map f (g u))) a b c before here)
+
+pub held_units_more : (p : Token → Bool) (g : UnitAnalysis → List Token) (units : List UnitAnalysis) (k : ℕ) (u : UnitAnalysis) (old out more : List Token)
+    → slice_get units k ≡ Some u → out ≡ old ++ filter p (flat_map g (take k units)) → more ≡ out ++ filter p (g u)
+    → more ≡ old ++ filter p (flat_map g (take (k + 1) units))
+held_units_more p g units k u old out more at before added =
+    let within = slice_get_within units k u at in
+    let next : take (k + 1) units ≡ take k units ++ u ∷ [] =
+    take_more units k u within ∙ ap (λ (v : UnitAnalysis). take k units ++ v ∷ []) (get_or_from_slice_get units k u u at) in
+    let here = flat_map g (take k units) in
+    let toks : flat_map g (take (k + 1) units) ≡ here ++ g u =
+    ap (flat_map g) next ∙ flat_map-append g (take k units) (u ∷ []) ∙ ap (λ (ts : List Token). here ++ ts) (append-nil (g u)) in
+    added
+    ∙ ap (λ (ts : List Token). ts ++ filter p (g u)) before
+    ∙ append_assoc old (filter p here) (filter p (g u))
+    ∙ ap (λ (ts : List Token). old ++ ts) (sym (filter-append p here (g u)))
+    ∙ ap (λ (ts : List Token). old ++ filter p ts) (sym toks)
+
+-- ---- files
+
+parted-more : (table : Table) (k : ℕ) → k < length table
+    → table_tokens k (drop k table) ≡ option_map_or parted_tokens (kept_at table k) [] ++ table_tokens (k + 1) (drop (k + 1) table)
+unfolding table_tokens
+parted-more table k within =
+    let d : Entry = entry [] Absent in
+    let found = slice_get-get_or table k d within in
+    at_drop_more (table_tokens k) table k d within ∙ rw found refl
+
+kept-more : (table : Table) (k : ℕ) → k < length table
+    → kept_tokens k (drop k table) ≡ option_map_or file_toks (kept_at table k) [] ++ kept_tokens (k + 1) (drop (k + 1) table)
+unfolding kept_tokens
+kept-more table k within =
+    let d : Entry = entry [] Absent in
+    let found = slice_get-get_or table k d within in
+    at_drop_more (kept_tokens k) table k d within ∙ rw found refl
+
+pub held_files_more : (p : Token → Bool) (table : Table) (k : ℕ) (out more whole : List Token) → k < length table
+    → out ++ filter p (table_tokens k (drop k table)) ≡ whole → more ≡ out ++ filter p (option_map_or parted_tokens (kept_at table k) [])
+    → more ++ filter p (table_tokens (k + 1) (drop (k + 1) table)) ≡ whole
+held_files_more p table k out more whole within so_far added =
+    let here = option_map_or parted_tokens (kept_at table k) [] in
+    let rest = table_tokens (k + 1) (drop (k + 1) table) in
+    ap (λ (ts : List Token). ts ++ filter p rest) added
+    ∙ append_assoc out (filter p here) (filter p rest)
+    ∙ ap (λ (ts : List Token). out ++ ts) (sym (filter-append p here rest))
+    ∙ ap (λ (ts : List Token). out ++ filter p ts) (sym (parted-more table k within))
+    ∙ so_far
+
+pub held_files_all : (p : Token → Bool) (table : Table) (k : ℕ) (out whole : List Token) → length table ≤ k
+    → out ++ filter p (table_tokens k (drop k table)) ≡ whole → out ≡ whole
+unfolding table_tokens
+held_files_all p table k out whole past so_far =
+    sym (append-nil out) ∙ ap (λ (ts : List Token). out ++ filter p ts) (sym (at_drop_all (table_tokens k) table k past)) ∙ so_far
+
+pub files_next : (table : Table) (all : List Offence) (cause : Cause) (f : Token → List Pos) (k : ℕ) (a b c : Option Offence) → k < length table
+    → ((last : Option Offence) → FirstThen table (standing cause (flat_map f (kept_tokens k (drop k table)))) b last → FirstThen table all a last)
+    → FirstThen table (standing cause (flat_map f (option_map_or file_toks (kept_at table k) []))) b c
+    → (last : Option Offence) → FirstThen table (standing cause (flat_map f (kept_tokens (k + 1) (drop (k + 1) table)))) c last → FirstThen table all a last
+files_next table all cause f k a b c within so_far here last later =
+    let toks = option_map_or file_toks (kept_at table k) [] in
+    let rest = kept_tokens (k + 1) (drop (k + 1) table) in
+    let both : standing cause (flat_map f (kept_tokens k (drop k table))) ≡ standing cause (flat_map f toks) ++ standing cause (flat_map f rest) =
+    ap (λ (ts : List Token). standing cause (flat_map f ts)) (kept-more table k within)
+    ∙ ap (standing cause) (flat_map-append f toks rest) ∙ map-append (offence cause) (flat_map f toks) (flat_map f rest) in
+    so_far last (rw both (then_both table (standing cause (flat_map f toks)) (standing cause (flat_map f rest)) b c last here later))
+
+pub files_all : (table : Table) (all : List Offence) (cause : Cause) (f : Token → List Pos) (k : ℕ) (a b : Option Offence) → length table ≤ k
+    → ((last : Option Offence) → FirstThen table (standing cause (flat_map f (kept_tokens k (drop k table)))) b last → FirstThen table all a last)
+    → FirstThen table all a b
+unfolding kept_tokens
+files_all table all cause f k a b past so_far =
+    let none : kept_tokens k (drop k table) ≡ [] = at_drop_all (kept_tokens k) table k past in
+    so_far b (rw none (then_none table b))
+
+-- ---- characters of a token
+
+pub origin_next : (table : Table) (cause : Cause) (f : Option Pos → List Pos) (t : Token) (k : ℕ) (a b c : Option Offence) → k < length t.origins
+    → FirstThen table (standing cause (flat_map f (take k t.origins))) a b → FirstThen table (standing cause (f (origin_at t k))) b c
+    → FirstThen table (standing cause (flat_map f (take (k + 1) t.origins))) a c
+origin_next table cause f t k a b c within before here =
+    let x : Option Pos = get_or t.origins k None in
+    let at : slice_get t.origins k ≡ Some x = slice_get-get_or t.origins k None within in
+    let here' : FirstThen table (standing cause (f x)) b c = rw at at here in
+    then_next table cause f t.origins k x a b c within (sym (get_or_from_slice_get t.origins k x x at)) before here'
+
+module _ (members : List Part) (t : Token) where
+  abbrev is_from : Option Pos → Bool
+  is_from origin = is_some (member_of members origin)
+
+  origin_is : (k : ℕ) → k < length t.origins → origin_at t k ≡ get_or t.origins k None
+  origin_is k within = rw (slice_get-get_or t.origins k None within) refl
+
+  take_next : (k : ℕ) → k < length t.origins → list_any is_from (take (k + 1) t.origins) ≡ (list_any is_from (take k t.origins) || is_from (origin_at t k))
+  take_next k within =
+      ap (list_any is_from) (take_more t.origins k None within)
+      ∙ list_any-append is_from (take k t.origins) (get_or t.origins k None ∷ [])
+      ∙ ap (λ (b : Bool). list_any is_from (take k t.origins) || b) (or-false (is_from (get_or t.origins k None)) ∙ ap is_from (sym (origin_is k within)))
+
+  any_front : {X : Type 0} (p : X → Bool) (xs : List X) (k : ℕ) → list_any p (take k xs) ≡ true → list_any p xs ≡ true
+  any_front p xs zero h = absurd (cc)
+  any_front p [] (suc k) h = h
+  any_front p (x ∷ xs) (suc k) h =
+      elim (cases_Bool (p x)) [
+        | inl passes ↦ rw passes refl
+        | inr fails ↦ rw fails (any_front p xs k (rw fails at h))
+      ]
+
+  or_last : (b c : Bool) → c ≡ true → (b || c) ≡ true
+  or_last true c e = refl
+  or_last false c e = e
+
+  or_neither : (b c : Bool) → b ≡ false → c ≡ false → (b || c) ≡ false
+  or_neither b c e f = rw (e, f) refl
+
+  pub origin_any : (k : ℕ) → k < length t.origins → is_from (origin_at t k) ≡ true → holds_member members t ≡ true
+  origin_any k within h =
+      any_front is_from t.origins (k + 1) (take_next k within ∙ or_last (list_any is_from (take k t.origins)) (is_from (origin_at t k)) h)
+
+  pub origin_none : (k : ℕ) → k < length t.origins → list_any is_from (take k t.origins) ≡ false → is_from (origin_at t k) ≡ false
+      → list_any is_from (take (k + 1) t.origins) ≡ false
+  origin_none k within before here = take_next k within ∙ or_neither (list_any is_from (take k t.origins)) (is_from (origin_at t k)) before here
+
+  pub origins_none : (k : ℕ) → length t.origins ≤ k → list_any is_from (take k t.origins) ≡ false → holds_member members t ≡ false
+  origins_none k past before = rw (← take_all k t.origins past) before
+
+-- ---- all tokens that hold members
+
+pub holders_are : (a : AnalysisValue) (members : List Part) (files numbers all : List Token)
+    → files ≡ filter (holds_member members) (table_tokens 0 a.table)
+    → numbers ≡ files ++ filter (holds_member members) (all_brought a.units)
+    → all ≡ numbers ++ filter (holds_member members) (pasted_tokens a) → all ≡ holders a members
+unfolding holders file_tokens
+holders_are a members files numbers all f n p =
+    let held : List Token → List Token = filter (holds_member members) in
+    let both : held (table_tokens 0 a.table ++ all_brought a.units) ≡ numbers =
+    filter-append (holds_member members) (table_tokens 0 a.table) (all_brought a.units) ∙ ap (λ (ts : List Token). ts ++ held (all_brought a.units)) (sym f) ∙ sym n in
+    p ∙ ap (λ (ts : List Token). ts ++ held (pasted_tokens a)) (sym both)
+    ∙ sym (filter-append (holds_member members) (table_tokens 0 a.table ++ all_brought a.units) (pasted_tokens a))
+
+pub numbers_next : (units : List UnitAnalysis) (k : ℕ) (u : UnitAnalysis) (all more : List Token) → slice_get units k ≡ Some u
+    → all ≡ all_brought (take k units) → more ≡ all ++ numbers_brought u.text → more ≡ all_brought (take (k + 1) units)
+numbers_next units k u all more at so_far added =
+    let within = slice_get_within units k u at in
+    let next : take (k + 1) units ≡ take k units ++ u ∷ [] =
+    take_more units k u within ∙ ap (λ (v : UnitAnalysis). take k units ++ v ∷ []) (get_or_from_slice_get units k u u at) in
+    added ∙ ap (λ (ts : List Token). ts ++ numbers_brought u.text) so_far
+    ∙ ap (λ (ts : List Token). all_brought (take k units) ++ ts) (sym (append-nil (numbers_brought u.text)))
+    ∙ sym (flat_map-append (λ (v : UnitAnalysis). numbers_brought v.text) (take k units) (u ∷ []))
+    ∙ ap all_brought (sym next)

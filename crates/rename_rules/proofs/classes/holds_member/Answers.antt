@@ -1,0 +1,16 @@
+use Rattle.std.proofs.Common.{◌<◌, length, arith, sym}
+use Rattle.rename_rules.proofs.UnitLemmas.{origin_any, origin_none, origins_none}
+use Rattle.rename_rules.proofs.classes.holds_member.Goals as goal
+
+pub returns-then-comes_from : goal.returns-then-comes_from
+returns-then-comes_from c =
+    let within : c.loop-k.k < length c.args.tok.now.origins = omega (arith, c.loop-k-test.true, c.length-count.ensures) in
+    sym (origin_any c.args.members.now c.args.tok.now c.loop-k.k within (sym c.if-comes_from.ensures))
+
+pub loop-k-preserved : goal.loop-k-preserved
+loop-k-preserved c =
+    let within : c.loop-k.k < length c.args.tok.now.origins = omega (arith, c.loop-k-test.true, c.length-count.ensures) in
+    origin_none c.args.members.now c.args.tok.now c.loop-k.k within c.loop-k.invariant (sym c.if-comes_from.ensures)
+
+pub returns : goal.returns
+returns c = sym (origins_none c.args.members.now c.args.tok.now c.loop-k.k (omega (arith, c.loop-k-test.false, c.length-count.ensures)) c.loop-k.invariant)

@@ -1,0 +1,9 @@
+use Rattle.std.proofs.Common.{◌≡◌, ◌++◌, drop}
+use Rattle.std.specs.Prelude.{filter}
+use Rattle.ws_core.specs.FileTokens.{table_tokens}
+use Rattle.rename_rules.specs.Tokens.{holds_member}
+use Rattle.rename_rules.proofs.held_tokens.push_files.Given as goal
+
+abbrev pub invariant-loop-file : goal.invariant-loop-file
+invariant-loop-file l =
+    l.out.items ++ filter (holds_member l.members) (table_tokens l.file (drop l.file l.a.value.table)) ≡ l.initial.out.items ++ filter (holds_member l.members) (table_tokens 0 l.a.value.table)

@@ -1,0 +1,19 @@
+use Rattle.std.proofs.Common.{arith}
+use Rattle.ws_core.specs.Analysis.{UnitAnalysis}
+use Rattle.rename_rules.specs.Tokens.{holds_member, pasted_tokens}
+use Rattle.std.proofs.lemmas.List.{take_all}
+use Rattle.rename_rules.proofs.UnitLemmas.{unit_of_text, held_units_more}
+use Rattle.rename_rules.proofs.held_tokens.push_pasted.Goals as goal
+
+pub loop-unit-preserved : goal.loop-unit-preserved
+loop-unit-preserved c =
+    let u = unit_of_text c.args.a.now.value.units c.loop-unit.unit c.text-text.result.now c.text-text.ensures in
+    held_units_more (holds_member c.args.members.now) (λ (u : UnitAnalysis). u.text.pasted) c.args.a.now.value.units c.loop-unit.unit u.0
+    c.args.out.now.items c.loop-unit.out.items c.push_all.new.out.items u.1 c.loop-unit.invariant
+    (rw (u.2, ← c.pasted.ensures) c.in_ok-push_all.ensures)
+
+pub returns : goal.returns
+unfolding pasted_tokens
+returns c =
+    let all = take_all c.loop-unit.unit c.args.a.now.value.units (omega (arith, c.units-unit-end.ensures)) in
+    rw (← all) c.loop-unit.invariant

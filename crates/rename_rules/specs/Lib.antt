@@ -1,0 +1,9 @@
+-- What the public contracts rest on.
+pub mod Tokens
+pub mod Runs
+pub mod Offences
+pub mod First
+pub mod Renaming
+-- What inner functions promise each other.
+pub mod Class
+pub mod Respellings

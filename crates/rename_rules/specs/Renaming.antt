@@ -1,0 +1,50 @@
+-- The renaming of the class that a place names (this project's): the edits of the files, or why it is refused.
+use Rattle.std.specs.Prelude.{ℕ, ◌≡◌, true, false, Option, Some, None, List, Result, Ok, Err, IfSome}
+use Rattle.cs_base.specs.declared.causes.Cause.{Cause}
+use Rattle.cs_base.specs.declared.positions.Part.{Part}
+use Rattle.cs_base.specs.declared.positions.Place.{Place}
+use Rattle.cs_base.specs.Edit.{Edit}
+use Rattle.part_lexer.specs.Spelling.{is_identifier_text}
+use Rattle.ws_core.specs.Analysis.{AnalysisValue}
+use Rattle.ws_core.specs.Naming.{Names}
+use Rattle.ws_core.specs.Parts.{AreMembers}
+use Rattle.ws_core.specs.Places.{place_at}
+use Rattle.rename_rules.specs.declared.offences.Offence.{Offence}
+use Rattle.rename_rules.specs.First.{IsFirst, offences_of}
+use Rattle.rename_rules.specs.Runs.{edits_of}
+
+-- ---- refusals
+
+-- Why a renaming is refused: the new name is no identifier, the place names nothing, or an offence stands there.
+pub data Refusal : Type 0 where
+  bad_name : Refusal
+  no_name : Refusal
+  refused : Place → Cause → Refusal
+
+-- the refusal for an offence
+abbrev pub refused_for : AnalysisValue → Offence → Refusal
+refused_for a o = refused (place_at a.table o.at) o.cause
+
+-- What is answered for a class: its edits where no offence stands, and else the first offence.
+abbrev pub IsRenamed : AnalysisValue → List Part → List ℕ → Result (List Edit) Refusal → Type 0
+IsRenamed a members name (Ok edits) = IsFirst a.table (offences_of a members name) None × (edits ≡ edits_of a members name)
+IsRenamed a members name (Err refusal) =
+    (o : Offence) × IsFirst a.table (offences_of a members name) (Some o) × (refusal ≡ refused_for a o)
+
+-- the same for the class of a part
+pub record IsClassRenamed (a : AnalysisValue) (part : Part) (name : List ℕ) (answer : Result (List Edit) Refusal) : Type 0 where
+  pub members : List Part
+  pub are_members : AreMembers a part members
+  pub renamed : IsRenamed a members name answer
+
+-- What is answered for a place and a new name, in the order in which it is looked: the name, the place, the offences.
+pub record IsRenaming (a : AnalysisValue) (path : List ℕ) (line column : ℕ) (name : List ℕ) (answer : Result (List Edit) Refusal) : Type 0 where
+  pub bad_name : is_identifier_text name ≡ false → answer ≡ Err bad_name
+  pub no_name : is_identifier_text name ≡ true → Names a path line column None → answer ≡ Err no_name
+  pub class : is_identifier_text name ≡ true → (part : Part) → Names a path line column (Some part) → IsClassRenamed a part name answer
+
+-- The call returned an answer that is allowed, its value or its refusal, unless memory ran out: `fault_of` is none for
+-- want of memory alone.
+abbrev pub GivesOne : {X Y E F : Type 0} → (X → Y) → (E → Option F) → Result X E → (Result Y F → Type 0) → Type 0
+GivesOne view fault_of (Ok x) IsAnswer = IsAnswer (Ok (view x))
+GivesOne view fault_of (Err e) IsAnswer = IfSome (fault_of e) (λ fault. IsAnswer (Err fault))

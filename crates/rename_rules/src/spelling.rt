@@ -1,0 +1,77 @@
+// The new spelling of a token.
+ghost use Rattle.std.specs.Prelude.{◌≡◌, ◌++◌, ◌∷◌, [], IfOk, OnOk};
+ghost use Rattle.std.specs.Option.{option_map_or};
+ghost use Rattle.cs_base.specs.Token.{origin_at};
+ghost use Rattle.part_respell.specs.Respelled.{put_for, put_in, spelled};
+ghost use Rattle.rename_rules.specs.Class.{IsClass};
+
+use crate::classes::member_over;
+use cs_base::{Memory, Part, Pos, Tok};
+use std::alloc::Global;
+use ws_core::Analysis;
+
+// Adds what stands for a character at a position, which lies in this member or in none.
+fn push_put(
+    out: &mut Vec<u8>,
+    member: Option<Part>,
+    name: &[u8],
+    pos: Pos,
+    byte: u8,
+) -> Result<(), Memory>
+    ensures { OnOk result (out.new.items ≡ out.old.items ++ option_map_or (put_in name.now pos) member (byte ∷ [])) }
+{
+    match member {
+        None => {
+            out.push(byte)?;
+        }
+        Some(part) => {
+            if part.start.at == pos.at {
+                out.extend_from_slice(name)?;
+            }
+        }
+    }
+    Ok(())
+}
+
+// Adds what stands for character `k` of a token.
+fn push_character(
+    out: &mut Vec<u8>,
+    a: &Analysis,
+    members: &[Part],
+    number: u32,
+    name: &[u8],
+    tok: &Tok,
+    k: u32,
+    byte: u8,
+) -> Result<(), Memory>
+    requires { IsClass a.now members.now number }
+    ensures { OnOk result (out.new.items ≡ out.old.items ++ put_for members.now name.now (origin_at tok.now k) byte) }
+{
+    match tok.origins(k) {
+        Some(pos) => push_put(out, member_over(a, members, number, pos), name, pos, byte),
+        None => {
+            out.push(byte)?;
+            Ok(())
+        }
+    }
+}
+
+/// The new spelling of a token: each member of the class in it is replaced by the name.
+pub fn spelled(
+    alloc: Global,
+    a: &Analysis,
+    members: &[Part],
+    number: u32,
+    name: &[u8],
+    tok: &Tok,
+) -> Result<Vec<u8>, Memory>
+    requires { IsClass a.now members.now number }
+    ensures { IfOk result (λ text. text.items ≡ spelled members.now name.now tok.now) }
+{
+    let mut out = Vec::new(alloc);
+    let text = tok.text();
+    for k in 0..text.len() {
+        push_character(&mut out, a, members, number, name, tok, k as u32, text[k])?;
+    }
+    Ok(out)
+}
