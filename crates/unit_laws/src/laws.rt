@@ -28,8 +28,8 @@ pub fn unit_tokens_are_whole()
     ensures whole { UnitTokensAreWhole }
 {}
 
-/// Each token of a unit stands where a token of a kept file stands, and on its line; and so does each
-/// event.
+/// Each token of a unit stands where a token of a kept file stands, and on its line; and each event stands
+/// where one stands.
 pub fn unit_tokens_stand_in_files()
     ensures places { UnitTokensStandInFiles }
 {}
