@@ -1,9 +1,9 @@
 // Reading by the table: a production, the items of an alternative, and repetitions.
-ghost use Rattle.std.specs.Prelude.{◌≡◌, ◌≤◌, ◌<◌, true, Ok};
+ghost use Rattle.std.specs.Prelude.{◌≡◌, ◌≤◌, ◌<◌, ◌+◌, max, true, Ok};
 ghost use Rattle.std.specs.Option.{option_map};
 ghost use Rattle.c99_read.specs.Answer.{Reads};
 ghost use Rattle.c99_read.specs.Grammar.{table};
-ghost use Rattle.c99_read.specs.Items.{choice, deep, many, maybe, own, part};
+ghost use Rattle.c99_read.specs.Items.{choice, deep, many, maybe, own, part, ◌·◌};
 ghost use Rattle.c99_read.specs.ItemsOf.{action_of, choice_of, chosen, item_of, test_of};
 ghost use Rattle.c99_read.specs.Levels.{height, level_of, size, Met};
 ghost use Rattle.c99_read.specs.Reading.{may, step, alternative, whole, produce, repeat};
@@ -83,9 +83,62 @@ impl<'a> Reader<'a> {
         requires met { Met (item_of body.now) }
         ensures { Reads result self.new (alternative c99 (whole c99) depth production number (item_of body.now) self.old) }
     {
+        match body {
+            Item::Then(first, second) => {
+                self.node_of_two(depth, production, number, first, second)
+            }
+            _ => self.node_of_one(depth, production, number, body),
+        }
+    }
+
+    #[cycle(reading)]
+    // A node with one item.
+    fn node_of_one(&mut self, depth: usize, production: Production, number: u8, body: &Item) -> Read
+        requires deep { depth ≤ 256 }
+        requires low { height (item_of body.now) ≤ level_of production }
+        requires short { size (item_of body.now) < 100 }
+        requires met { Met (item_of body.now) }
+        ensures { Reads result self.new (alternative c99 (whole c99) depth production number (item_of body.now) self.old) }
+    {
         let outer = self.open(production, number)?;
         self.item(depth, body)?;
         self.close(outer, production)
+    }
+
+    #[cycle(reading)]
+    // A node with one item after another. Most are so, and each such node has a call less on the stack.
+    fn node_of_two(
+        &mut self,
+        depth: usize,
+        production: Production,
+        number: u8,
+        first: &Item,
+        second: &Item,
+    ) -> Read
+        requires deep { depth ≤ 256 }
+        requires low { max (height (item_of first.now)) (height (item_of second.now)) ≤ level_of production }
+        requires short { size (item_of first.now) + size (item_of second.now) < 99 }
+        requires first { Met (item_of first.now) }
+        requires second { Met (item_of second.now) }
+        ensures { Reads result self.new (alternative c99 (whole c99) depth production number (item_of first.now · item_of second.now) self.old) }
+    {
+        let outer = self.open(production, number)?;
+        self.part_or_item(depth, first)?;
+        self.item(depth, second)?;
+        self.close(outer, production)
+    }
+
+    #[cycle(reading)]
+    // An item, which mostly is a production.
+    fn part_or_item(&mut self, depth: usize, item: &Item) -> Read
+        requires deep { depth ≤ 256 }
+        requires met { Met (item_of item.now) }
+        ensures { Reads result self.new (step c99 (whole c99) depth (item_of item.now) self.old) }
+    {
+        match item {
+            Item::Part(production) => self.produce(depth, *production),
+            _ => self.item(depth, item),
+        }
     }
 
     #[cycle(reading)]

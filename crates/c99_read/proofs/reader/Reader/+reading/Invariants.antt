@@ -12,6 +12,15 @@ decreases-produce l = 100000 * (257 - l.depth) + 1000 * level_of l.production + 
 abbrev pub decreases-node : goal.decreases-node
 decreases-node l = 100000 * (257 - l.depth) + 1000 * level_of l.production + 800
 
+abbrev pub decreases-node_of_one : goal.decreases-node_of_one
+decreases-node_of_one l = 100000 * (257 - l.depth) + 1000 * level_of l.production + 700
+
+abbrev pub decreases-node_of_two : goal.decreases-node_of_two
+decreases-node_of_two l = 100000 * (257 - l.depth) + 1000 * level_of l.production + 700
+
+abbrev pub decreases-part_or_item : goal.decreases-part_or_item
+decreases-part_or_item l = 100000 * (257 - l.depth) + 1000 * height (item_of l.item.now) + 4 * size (item_of l.item.now) + 2
+
 abbrev pub decreases-item : goal.decreases-item
 decreases-item l = 100000 * (257 - l.depth) + 1000 * height (item_of l.item.now) + 4 * size (item_of l.item.now) + 1
 
