@@ -4,3 +4,4 @@ pub mod ClassLemmas
 pub mod RespellingLemmas
 pub mod UnitLemmas
 pub mod SpelledLemmas
+pub mod OccurrenceLemmas

@@ -8,18 +8,22 @@
 //! what a renaming keeps, belong to the crates above. Read the four files in this order.
 #![tactic(auto)]
 
+mod bare_offences;
 mod classes;
 mod held_tokens;
 mod member_offences;
 mod numbers;
+mod occurrences;
 mod offences;
 mod respelling_table;
 mod spelling;
 mod token_offences;
 
+pub use bare_offences::shadowed;
 pub use classes::{holds_member, member_at, member_over};
 pub use held_tokens::holders;
 pub use member_offences::{header_names, no_identifiers, read_only, stringized};
+pub use occurrences::occurring;
 pub use offences::{Offence, first_with};
 pub use respelling_table::{Respelling, is_clash, is_new_spelling, is_old_spelling, respellings};
 pub use spelling::spelled;

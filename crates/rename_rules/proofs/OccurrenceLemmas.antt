@@ -1,0 +1,70 @@
+-- What a table of spellings tells of tokens, and all tokens together.
+use Rattle.std.proofs.Common.{◌≡◌, ℕ, Bool, List, [], ◌∷◌, ◌++◌, Option, Some, None, slice_get, refl, sym, ap, ◌∙◌}
+use Rattle.std.specs.Prelude.{◌&&◌, if◌then◌else◌}
+use Rattle.std.specs.List.{flat_map, list_any}
+use Rattle.std.specs.Option.{option_map_or}
+use Rattle.std.proofs.lemmas.Grind.{flat_map-append}
+use Rattle.std.proofs.lemmas.List.{map-append}
+use Rattle.cs_base.specs.declared.causes.Cause.TheVariants as cause
+use Rattle.cs_base.specs.declared.positions.Part.{Part}
+use Rattle.cs_base.specs.declared.positions.Pos.{Pos}
+use Rattle.cs_base.specs.Token.{Token}
+use Rattle.scope_bind.specs.declared.lists.Range.{Range}
+use Rattle.ws_core.specs.Analysis.{AnalysisValue, UnitAnalysis}
+use Rattle.ws_core.specs.BroughtNumbers.{all_brought}
+use Rattle.rename_rules.specs.declared.offences.Offence.{Offence}
+use Rattle.rename_rules.specs.First.{offence, standing, FirstThen}
+use Rattle.rename_rules.specs.Offences.{bare_place, bare_places, hides_typedef, occurring_place, occurring_places}
+use Rattle.rename_rules.specs.Respellings.{RespellingValue, AreRespellings, bare_place_by, bare_places_by, is_new, is_old}
+use Rattle.rename_rules.specs.Tokens.{all_file_tokens, first_place, holders, is_new_spelling, is_old_spelling, kept_tokens, pasted_tokens}
+use Rattle.rename_rules.proofs.FirstLemmas.{then_both}
+
+pub new_told : (members : List Part) (name : List ℕ) (toks : List Token) (t : Token) (table : List RespellingValue) (text : List ℕ) (b : Bool)
+    → AreRespellings members name toks table → text ≡ t.text → b ≡ list_any (is_new text) table → is_new_spelling members name toks t.text ≡ b
+new_told members name toks t table text b told same e =
+    sym (e ∙ ap (λ (word : List ℕ). list_any (is_new word) table) same ∙ told (is_new t.text))
+
+pub all_occurring : (a : AnalysisValue) (members : List Part) (name : List ℕ) (toks : List Token) (w x y z : Option Offence) → toks ≡ holders a members
+    → FirstThen a.table (standing cause.Occurs (flat_map (occurring_place members name toks) (kept_tokens 0 a.table))) w x
+    → FirstThen a.table (standing cause.Occurs (flat_map (occurring_place members name toks) (all_brought a.units))) x y
+    → FirstThen a.table (standing cause.Occurs (flat_map (occurring_place members name toks) (pasted_tokens a))) y z
+    → FirstThen a.table (standing cause.Occurs (occurring_places a members name)) w z
+unfolding occurring_places all_file_tokens
+all_occurring a members name toks w x y z same f g h =
+    let place : Token → List Pos = occurring_place members name toks in
+    let files = flat_map place (kept_tokens 0 a.table) in
+    let numbers = flat_map place (all_brought a.units) in
+    let pasted = flat_map place (pasted_tokens a) in
+    let stand : List Pos → List Offence = standing cause.Occurs in
+    let lists : flat_map place ((kept_tokens 0 a.table ++ all_brought a.units) ++ pasted_tokens a) ≡ (files ++ numbers) ++ pasted =
+    flat_map-append place (kept_tokens 0 a.table ++ all_brought a.units) (pasted_tokens a)
+    ∙ ap (λ (ps : List Pos). ps ++ pasted) (flat_map-append place (kept_tokens 0 a.table) (all_brought a.units)) in
+    let all : stand (flat_map place ((kept_tokens 0 a.table ++ all_brought a.units) ++ pasted_tokens a)) ≡ (stand files ++ stand numbers) ++ stand pasted =
+    ap stand lists ∙ map-append (offence cause.Occurs) (files ++ numbers) pasted
+    ∙ ap (λ (os : List Offence). os ++ stand pasted) (map-append (offence cause.Occurs) files numbers) in
+    rw (← same) (rw all (then_both a.table (stand files ++ stand numbers) (stand pasted) w y z (then_both a.table (stand files) (stand numbers) w x y f g) h))
+
+-- ---- bare names
+
+flat_map_same : {X Y : Type 0} (f g : X → List Y) (xs : List X) → ((x : X) → f x ≡ g x) → flat_map f xs ≡ flat_map g xs
+flat_map_same f g [] same = refl
+flat_map_same {Y = Y} f g (x ∷ xs) same = ap (λ (ys : List Y). ys ++ flat_map f xs) (same x) ∙ ap (λ (ys : List Y). g x ++ ys) (flat_map_same f g xs same)
+
+option_same : {X Y : Type 0} (f g : X → List Y) (r : Option X) → ((x : X) → f x ≡ g x) → option_map_or f r [] ≡ option_map_or g r []
+option_same f g None same = refl
+option_same f g (Some x) same = same x
+
+module _ (a : AnalysisValue) (members : List Part) (name : List ℕ) (toks : List Token) (table : List RespellingValue)
+    (same : toks ≡ holders a members) (told : AreRespellings members name toks table) (u : UnitAnalysis) where
+  bare_place_is : (k : ℕ) (t : Token) → bare_place_by table u.text.toks u.bound.typedefs k t ≡ bare_place a members u k t
+  bare_place_is k t =
+      let old : list_any (is_old t.text) table ≡ is_old_spelling (holders a members) t.text =
+      told (is_old t.text) ∙ ap (λ (ts : List Token). is_old_spelling ts t.text) same in
+      ap (λ (b : Bool). if hides_typedef u k t && b then first_place t else []) old
+
+  pub bare_unit : (utoks : List Token) (typedefs : List Range) (bare : List ℕ) → utoks ≡ u.text.toks → typedefs ≡ u.bound.typedefs → bare ≡ u.bound.bare
+      → flat_map (bare_places a members u) u.bound.bare ≡ flat_map (bare_places_by table utoks typedefs) bare
+  bare_unit utoks typedefs bare e f g =
+      rw (e, f, g)
+      (sym (flat_map_same (bare_places_by table u.text.toks u.bound.typedefs) (bare_places a members u) u.bound.bare
+      (λ k. option_same (bare_place_by table u.text.toks u.bound.typedefs k) (bare_place a members u k) (slice_get u.text.toks k) (bare_place_is k))))

@@ -1,0 +1,11 @@
+use Rattle.std.proofs.Common.{take}
+use Rattle.std.specs.List.{flat_map}
+use Rattle.cs_base.specs.declared.causes.Cause.TheVariants as cause
+use Rattle.ws_core.specs.Analysis.{UnitAnalysis}
+use Rattle.rename_rules.specs.First.{standing, FirstThen}
+use Rattle.rename_rules.specs.Offences.{bare_places}
+use Rattle.rename_rules.proofs.bare_offences.shadowed.Given as goal
+
+abbrev pub invariant-loop-unit : goal.invariant-loop-unit
+invariant-loop-unit l =
+    FirstThen l.a.value.table (standing cause.ShadowedTypedef (flat_map (λ (u : UnitAnalysis). flat_map (bare_places l.a.value l.members u) u.bound.bare) (take l.unit l.a.value.units))) l.initial.now l.now
