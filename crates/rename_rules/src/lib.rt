@@ -16,6 +16,7 @@ mod numbers;
 mod occurrences;
 mod offences;
 mod respelling_table;
+mod sizes;
 mod spelling;
 mod token_offences;
 
@@ -26,5 +27,6 @@ pub use member_offences::{header_names, no_identifiers, read_only, stringized};
 pub use occurrences::occurring;
 pub use offences::{Offence, first_with};
 pub use respelling_table::{Respelling, is_clash, is_new_spelling, is_old_spelling, respellings};
+pub use sizes::{run_length, too_large};
 pub use spelling::spelled;
 pub use token_offences::{clashing, reserved};
