@@ -9,6 +9,7 @@ mod RenamedWalk
 mod LatestLemmas
 mod ChildWalks
 pub mod ShapeLemmas
+mod FrontLemmas
 mod WalkLemmas
 mod KeptLemmas
 mod SpellingLemmas

@@ -3,8 +3,8 @@ use Rattle.std.proofs.Common.{ℕ, ◌≡◌, ◌&&◌, [], Option, None, Some, 
 use Rattle.c99_tree.specs.Tree.{Forest, none, token, node}
 use Rattle.c99_tree.specs.declared.production.Label.{Label}
 use Rattle.scope_bind.specs.Trees.{is_bare, name_below}
-use Rattle.scope_bind.specs.Lists.{call_in, definition_in, tail_of, declarator_in, name_in}
-use Rattle.scope_bind.specs.Shapes.{first_node, second_node, behind_token, are_two, is_bare_of, call_of, definition_of, definition_by, declarator_of, name_of_inner}
+use Rattle.scope_bind.specs.Lists.{commas_in, call_in, definition_in, tail_of, declarator_in, name_in}
+use Rattle.scope_bind.specs.Shapes.{first_node, inner_in, commas_of, second_node, behind_token, are_two, is_bare_of, call_of, definition_of, definition_by, declarator_of, name_of_inner}
 
 pub bare_shape : (f : Forest) → is_bare f ≡ (are_two f && is_bare_of (first_node f) (second_node f))
 bare_shape none = refl
@@ -14,6 +14,11 @@ bare_shape (node l first under (token i rest)) = refl
 bare_shape (node l first under (node m second below none)) = refl
 bare_shape (node l first under (node m second below (token i rest))) = refl
 bare_shape (node l first under (node m second below (node o third under' rest))) = refl
+
+pub commas_shape : (f : Forest) → commas_in f ≡ commas_of (inner_in f)
+commas_shape none = refl
+commas_shape (token i rest) = commas_shape rest
+commas_shape (node l first under rest) = refl
 
 pub call_shape : (f : Forest) → call_in f ≡ call_of (first_node f) (second_node f)
 call_shape none = refl

@@ -28,5 +28,6 @@ pub mod Chains
 pub mod Marks
 pub mod Children
 pub mod Shapes
+pub mod Fronts
 pub mod Places
 pub mod Told

@@ -8,12 +8,18 @@ use Rattle.scope_bind.specs.declared.lists.Range.{Range}
 use Rattle.scope_bind.specs.declared.trees.Part.{Part}
 use Rattle.scope_bind.specs.declared.trees.Part.TheVariants.{End, Node as Inner}
 use Rattle.scope_bind.specs.Trees.{name_below, is_node, is_at, is_lone_main, first_token, last_token}
-use Rattle.scope_bind.specs.Lists.{list_of, own_list, nearest_of}
+use Rattle.scope_bind.specs.Lists.{odd_tokens, list_of, own_list, nearest_of}
 
 -- the first child, where it is a node
 abbrev pub first_node : Forest → Option Node
 first_node (node l first under rest) = Some (node_of l first under)
 first_node _ = None
+
+-- the first of the children that are nodes
+abbrev pub inner_in : Forest → Option Node
+inner_in none = None
+inner_in (token i rest) = inner_in rest
+inner_in (node l first under rest) = Some (node_of l first under)
 
 -- the second child, where the first one and it are nodes
 abbrev pub second_node : Forest → Option Node
@@ -55,6 +61,10 @@ is_last_node (Inner t) ends = ends
 is_last_node _ ends = false
 
 -- ---- What is asked of them
+
+abbrev pub commas_of : Option Node → List ℕ
+commas_of (Some n) = odd_tokens 0 n.under
+commas_of None = []
 
 abbrev pub is_bare_of : Option Node → Option Node → Bool
 is_bare_of (Some specs) (Some rest) = (rest.label.alternative == 1) && is_lone_main specs.under

@@ -54,7 +54,7 @@ fn push_bare_here(tree: &Tree, out: &mut Vec<u32>) -> Result<(), Memory>
     ensures { OnOk result (out.new.items ≡ out.old.items ++ bare_at tree.now.label tree.now.under) }
 {
     if is_at(tree.label(), Production::Params, 1) {
-        push_odd(tree, 0, 1, out)
+        push_odd(tree, 1, out)
     } else if is_at(tree.label(), Production::Pdirect, 2) {
         push_name(tree, out)
     } else {

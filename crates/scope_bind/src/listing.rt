@@ -11,7 +11,7 @@ pub(crate) use crate::bare_names::push_bare;
 pub(crate) use crate::bodies::push_bodies;
 use crate::declarators::{name_below, nearest};
 use crate::lists::{Indices, List};
-use crate::shapes::{first_node, lone_token, second_node};
+use crate::shapes::{first_node, inner_in, lone_token, second_node};
 use crate::trees::{Part, child_at, first_token, is_at, is_node, last_token};
 use c99_tree::{Label, Production, Tree};
 use cs_base::Memory;
@@ -26,40 +26,51 @@ fn push_if(out: &mut Vec<u32>, wanted: bool, index: u32) -> Result<(), Memory>
     Ok(())
 }
 
-/// The tokens from child `n` on with an odd number of children before them, where `k` are counted.
-pub(crate) fn push_odd(tree: &Tree, n: u32, k: u32, out: &mut Vec<u32>) -> Result<(), Memory>
-    ensures { OnOk result (out.new.items ≡ out.old.items ++ odd_tokens k (from_child n tree.now.under)) }
+// Child `n`, where it is a token and an odd number `k` of children are counted before it; and the next number.
+fn push_odd_at(tree: &Tree, n: u32, k: u32, out: &mut Vec<u32>) -> Result<u32, Memory>
+    ensures next { IfOk result (λ next. next ≡ k + 1) }
+    ensures pushed { OnOk result (out.new.items ++ odd_tokens (k + 1) (from_child (n + 1) tree.now.under) ≡ out.old.items ++ odd_tokens k (from_child n tree.now.under)) }
 {
     let next = match k.checked_add(1) {
         Some(next) => next,
         None => return Err(Memory),
     };
     match child_at(tree, n) {
-        Part::End => Ok(()),
-        Part::Token(index) => {
-            push_if(out, k % 2 == 1, index)?;
-            push_odd(tree, n + 1, next, out)
-        }
-        Part::Node(_) => push_odd(tree, n + 1, next, out),
+        Part::End => {}
+        Part::Token(index) => push_if(out, k % 2 == 1, index)?,
+        Part::Node(_) => {}
     }
+    Ok(next)
+}
+
+/// The tokens among the children with an odd number of children before them, where `k` are counted.
+pub(crate) fn push_odd(tree: &Tree, k: u32, out: &mut Vec<u32>) -> Result<(), Memory>
+    ensures { OnOk result (out.new.items ≡ out.old.items ++ odd_tokens k tree.now.under) }
+{
+    let mut number = k;
+    let count = tree.len();
+    'children: for n in 0..count {
+        number = push_odd_at(tree, n, number, out)?;
+    }
+    Ok(())
 }
 
 fn odd_tokens(alloc: Global, list: &Tree) -> Result<Indices, Memory>
     ensures { IfOk result (λ tokens. tokens ≡ odd_tokens 0 list.now.under) }
 {
     let mut tokens = Vec::new(alloc);
-    push_odd(list, 0, 0, &mut tokens)?;
+    push_odd(list, 0, &mut tokens)?;
     Ok(Indices::new(tokens))
 }
 
-// The tokens between the items of the list that stands from child `k` on.
-fn commas_from(alloc: Global, tree: &Tree, k: u32) -> Result<Indices, Memory>
-    ensures { IfOk result (λ tokens. tokens ≡ commas_in (from_child k tree.now.under)) }
+// The tokens between the items of the list that stands in parentheses.
+#[tactic(auto, using(crate::proofs::ShapeLemmas::commas_shape))]
+fn commas_in(alloc: Global, tree: &Tree) -> Result<Indices, Memory>
+    ensures { IfOk result (λ tokens. tokens ≡ commas_in tree.now.under) }
 {
-    match child_at(tree, k) {
-        Part::End => Ok(Indices::new(Vec::new(alloc))),
-        Part::Token(_) => commas_from(alloc, tree, k + 1),
-        Part::Node(list) => odd_tokens(alloc, list),
+    match inner_in(tree) {
+        Some(list) => odd_tokens(alloc, list),
+        None => Ok(Indices::new(Vec::new(alloc))),
     }
 }
 
@@ -70,7 +81,7 @@ fn list_of(alloc: Global, name: u32, list: &Tree) -> Result<List, Memory>
         name,
         begin: first_token(list, 0),
         close: last_token(list, 0),
-        commas: commas_from(alloc, list, 0)?,
+        commas: commas_in(alloc, list)?,
     })
 }
 

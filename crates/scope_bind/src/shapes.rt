@@ -3,7 +3,7 @@ ghost use Rattle.std.specs.Prelude.{◌≡◌, ◌&&◌, ◌==◌};
 ghost use Rattle.std.specs.Option.{option_map};
 ghost use Rattle.scope_bind.specs.Trees.{is_bare};
 ghost use Rattle.scope_bind.specs.Children.{from_child};
-ghost use Rattle.scope_bind.specs.Shapes.{first_node, second_node, behind_token, lone_token, leading_token, is_end, token_if, is_last_node, are_two, is_bare_of};
+ghost use Rattle.scope_bind.specs.Shapes.{first_node, inner_in, second_node, behind_token, lone_token, leading_token, is_end, token_if, is_last_node, are_two, is_bare_of};
 
 use crate::trees::{Part, child_at, is_lone_main};
 use c99_tree::Tree;
@@ -19,15 +19,28 @@ pub(crate) fn first_node(tree: &Tree) -> Option<&Tree>
     }
 }
 
-// Child 1, where it is a node.
-fn node_behind(tree: &Tree) -> Option<&Tree>
-    ensures { option_map (λ t. t.now) result ≡ first_node (from_child 1 tree.now.under) }
+// Child `k`, where it is a node.
+fn node_at(tree: &Tree, k: u32) -> Option<&Tree>
+    ensures { option_map (λ t. t.now) result ≡ first_node (from_child k tree.now.under) }
 {
-    match child_at(tree, 1) {
+    match child_at(tree, k) {
         Part::Node(inner) => Some(inner),
         Part::Token(_) => None,
         Part::End => None,
     }
+}
+
+/// The first of the children that are nodes.
+pub(crate) fn inner_in(tree: &Tree) -> Option<&Tree>
+    ensures { option_map (λ t. t.now) result ≡ inner_in tree.now.under }
+{
+    let count = tree.len();
+    'children: for k in 0..count {
+        if let Some(inner) = node_at(tree, k) {
+            return Some(inner);
+        }
+    }
+    None
 }
 
 /// The second child, where the first one and it are nodes.
@@ -35,7 +48,7 @@ pub(crate) fn second_node(tree: &Tree) -> Option<&Tree>
     ensures { option_map (λ t. t.now) result ≡ second_node tree.now.under }
 {
     match child_at(tree, 0) {
-        Part::Node(_) => node_behind(tree),
+        Part::Node(_) => node_at(tree, 1),
         Part::Token(_) => None,
         Part::End => None,
     }
@@ -46,7 +59,7 @@ pub(crate) fn behind_token(tree: &Tree) -> Option<&Tree>
     ensures { option_map (λ t. t.now) result ≡ behind_token tree.now.under }
 {
     match child_at(tree, 0) {
-        Part::Token(_) => node_behind(tree),
+        Part::Token(_) => node_at(tree, 1),
         Part::Node(_) => None,
         Part::End => None,
     }

@@ -2,6 +2,7 @@
 ghost use Rattle.std.specs.Prelude.{◌≡◌, ◌+◌, ◌||◌};
 ghost use Rattle.std.specs.Option.{option_map};
 ghost use Rattle.scope_bind.specs.Children.{from_child, with_part, HasRoom, IsBelow, only_node, only_if};
+ghost use Rattle.scope_bind.specs.Shapes.{leading_token};
 ghost use Rattle.scope_bind.specs.Trees.{is_node, is_at, last_token, first_token, has_node, has_mod, words_of, is_one, is_lone_main, is_text, is_list};
 
 use crate::frames::Words;
@@ -78,14 +79,14 @@ fn last_at(tree: &Tree, k: u32, before: u32) -> u32
     }
 }
 
-// The first token among the children from number `k` on.
-fn first_from(tree: &Tree, k: u32, other: u32) -> u32
-    ensures { result ≡ first_token (from_child k tree.now.under) other }
+// Child `k`, where it is a token.
+fn token_at(tree: &Tree, k: u32) -> Option<u32>
+    ensures { result ≡ leading_token (from_child k tree.now.under) }
 {
     match child_at(tree, k) {
-        Part::End => other,
-        Part::Token(index) => index,
-        Part::Node(_) => first_from(tree, k + 1, other),
+        Part::End => None,
+        Part::Token(index) => Some(index),
+        Part::Node(_) => None,
     }
 }
 
@@ -93,7 +94,13 @@ fn first_from(tree: &Tree, k: u32, other: u32) -> u32
 pub(crate) fn first_token(tree: &Tree, other: u32) -> u32
     ensures { result ≡ first_token tree.now.under other }
 {
-    first_from(tree, 0, other)
+    let count = tree.len();
+    'children: for k in 0..count {
+        if let Some(index) = token_at(tree, k) {
+            return index;
+        }
+    }
+    other
 }
 
 /// A child of the node is a node of the production.
@@ -120,17 +127,31 @@ fn is_node_at(tree: &Tree, k: u32, production: Production) -> bool
     }
 }
 
-// A `mod` of the alternative stands among the specifiers from number `k` on.
-fn has_mod(tree: &Tree, k: u32, alternative: u8) -> bool
-    ensures { result ≡ has_mod alternative (from_child k tree.now.under) }
+// A `mod` of the alternative stands among the specifiers.
+#[cycle(mods)]
+fn has_mod(tree: &Tree, alternative: u8) -> bool
+    ensures { result ≡ has_mod alternative tree.now.under }
+{
+    let count = tree.len();
+    'specifiers: for k in 0..count {
+        if is_mod_at(tree, k, alternative) {
+            return true;
+        }
+    }
+    false
+}
+
+// Child `k` is one, or has one among its own words.
+#[cycle(mods)]
+fn is_mod_at(tree: &Tree, k: u32, alternative: u8) -> bool
+    ensures { has_mod alternative (from_child k tree.now.under) ≡ (result || has_mod alternative (from_child (k + 1) tree.now.under)) }
 {
     match child_at(tree, k) {
         Part::End => false,
-        Part::Token(_) => has_mod(tree, k + 1, alternative),
+        Part::Token(_) => false,
         Part::Node(inner) => {
             is_at(inner.label(), Production::Mod, alternative)
-                || ((is_node(inner.label(), Production::Main) && has_mod(inner, 0, alternative))
-                    || has_mod(tree, k + 1, alternative))
+                || (is_node(inner.label(), Production::Main) && has_mod(inner, alternative))
         }
     }
 }
@@ -139,15 +160,15 @@ fn has_mod(tree: &Tree, k: u32, alternative: u8) -> bool
 pub(crate) fn words_of(specs: &Tree) -> Words
     ensures { result ≡ words_of specs.now.under }
 {
-    let has_typedef = has_mod(specs, 0, 1);
-    let has_extern = has_mod(specs, 0, 2);
-    let has_static = has_mod(specs, 0, 3);
+    let has_typedef = has_mod(specs, 1);
+    let has_extern = has_mod(specs, 2);
+    let has_static = has_mod(specs, 3);
     Words {
         has_typedef,
         has_extern,
         has_static,
         has_any: has_typedef
-            || (has_extern || (has_static || (has_mod(specs, 0, 4) || has_mod(specs, 0, 5)))),
+            || (has_extern || (has_static || (has_mod(specs, 4) || has_mod(specs, 5)))),
     }
 }
 
