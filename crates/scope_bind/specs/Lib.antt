@@ -19,6 +19,7 @@ pub mod Lists
 pub mod Bound
 pub mod Names
 pub mod Renamed
+pub mod Named
 -- What inner functions promise each other.
 pub mod Known
 pub mod Latest

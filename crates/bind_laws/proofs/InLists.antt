@@ -1,0 +1,55 @@
+-- Elements of lists, and what is found among them.
+use Rattle.std.proofs.Common.{◌≡◌, Bool, true, false, ◌&&◌, cond, List, [], ◌∷◌, ◌++◌, map, reverse, Option, Some, ◌⊎◌, inl, inr, refl, subst}
+use mathlib.Core.List.{reverse-cons}
+use Rattle.std.specs.Prelude.{find}
+use Rattle.std.specs.List.{All}
+use Rattle.std.proofs.lemmas.List.Elements.{All-nil, All-cons, All-head, All-tail, All-push, All-same}
+
+pub false≢true : false ≡ true → ⊥
+false≢true e = cc
+
+pub and_left : (p q : Bool) → (p && q) ≡ true → p ≡ true
+and_left true q h = refl
+and_left false q h = h
+
+pub and_right : (p q : Bool) → (p && q) ≡ true → q ≡ true
+and_right true q h = h
+and_right false q h = absurd (false≢true h)
+
+abbrev pub In : {X : Type 0} → X → List X → Type 0
+In x [] = ⊥
+In x (y ∷ ys) = (y ≡ x) ⊎ In x ys
+
+found_step : {X : Type 0} (p : X → Bool) (b : Bool) (x y : X) (fp : Option X) → p x ≡ b → cond b (Some x) fp ≡ Some y
+    → (fp ≡ Some y → p y ≡ true) → p y ≡ true
+found_step p true x y fp e f rest = let s : x ≡ y = cc in subst (λ z. p z ≡ true) s e
+found_step p false x y fp e f rest = rest f
+
+-- what is found passes
+pub found_passes : {X : Type 0} (p : X → Bool) (xs : List X) (y : X) → find p xs ≡ Some y → p y ≡ true
+found_passes p [] y f = cc
+found_passes p (x ∷ xs) y f = found_step p (p x) x y (find p xs) refl f (found_passes p xs y)
+
+in_step : {X : Type 0} (b : Bool) (x y : X) (fp : Option X) (xs : List X) → cond b (Some x) fp ≡ Some y → (fp ≡ Some y → In y xs) → In y (x ∷ xs)
+in_step true x y fp xs f rest = inl cc
+in_step false x y fp xs f rest = inr (rest f)
+
+-- .. and is one of the list
+pub found_in : {X : Type 0} (p : X → Bool) (xs : List X) (y : X) → find p xs ≡ Some y → In y xs
+found_in p [] y f = absurd cc
+found_in p (x ∷ xs) y f = in_step (p x) x y (find p xs) xs f (found_in p xs y)
+
+-- what is true of each element is true of all
+pub all_in : {X : Type 0} (P : X → Type 0) (xs : List X) → ((x : X) → In x xs → P x) → All P xs
+all_in P [] h = All-nil P
+all_in P (x ∷ xs) h = All-cons P x xs (h x (inl refl)) (all_in P xs (λ y w. h y (inr w)))
+
+pub all_mapped : {X Y : Type 0} (P : Y → Type 0) (f : X → Y) (xs : List X) → ((x : X) → In x xs → P (f x)) → All P (map f xs)
+all_mapped P f [] h = All-nil P
+all_mapped P f (x ∷ xs) h = All-cons P (f x) (map f xs) (h x (inl refl)) (all_mapped P f xs (λ y w. h y (inr w)))
+
+pub all_reversed : {X : Type 0} (P : X → Type 0) (xs : List X) → All P xs → All P (reverse xs)
+all_reversed P [] h = All-nil P
+all_reversed P (x ∷ xs) h =
+    All-same P (reverse (x ∷ xs)) (reverse xs ++ x ∷ []) (reverse-cons x xs)
+    (All-push P (reverse xs) x (all_reversed P xs (All-tail P x xs h)) (All-head P x xs h))

@@ -1,0 +1,11 @@
+mod InLists
+mod Holding
+mod HeldTags
+mod HeldSteps
+mod HeldNames
+mod Noted
+mod Adding
+mod Counted
+mod Climbing
+mod OrderedLists
+mod OrderedNames

@@ -1,0 +1,30 @@
+// What is true of the binding of every text: laws that no caller runs, and that callers' proofs cite.
+ghost use Rattle.bind_laws.specs.Laws.{NamesAreSpelledAsTheirEntities, NamesStandInTheText, FaultsStandInTheText, EachTokenIsOneName, ParameterListsAreInOrder, ArgumentListsAreInOrder, BodiesStandInTheText, BodiesAreApart};
+
+/// Each name is spelled as the token that names its entity.
+pub fn names_are_spelled_as_their_entities()
+    ensures { NamesAreSpelledAsTheirEntities }
+{}
+
+/// Names, the tokens that name their entities, and faults stand in the text.
+pub fn names_stand_in_the_text()
+    ensures names { NamesStandInTheText }
+    ensures faults { FaultsStandInTheText }
+{}
+
+/// No token is two names.
+pub fn each_token_is_one_name()
+    ensures { EachTokenIsOneName }
+{}
+
+/// Parameter lists and argument lists stand in order of their names, and each name has one at most.
+pub fn lists_stand_in_order()
+    ensures parameters { ParameterListsAreInOrder }
+    ensures arguments { ArgumentListsAreInOrder }
+{}
+
+/// The body of a function stands behind its name, and before the name of the next function with a body.
+pub fn bodies_stand_apart()
+    ensures within { BodiesStandInTheText }
+    ensures apart { BodiesAreApart }
+{}
