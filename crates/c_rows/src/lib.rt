@@ -2,7 +2,8 @@
 //!
 //! It has tests alone: `tree_tests` of trees and visible names, `reading_tests` of what is read or refused,
 //! `binding_tests` of the entity of each name, of what lists tell, and of the first fault (the rows stand in
-//! `entity_rows`, `list_rows` and `fault_rows`). What each text must give is worked outside.
+//! `entity_rows`, `list_rows` and `fault_rows`), and `long_tests` of texts that are long and not deep. What each
+//! text must give is worked outside.
 #![tactic(auto)]
 
 #[cfg(test)]
@@ -13,6 +14,8 @@ mod entity_rows;
 mod fault_rows;
 #[cfg(test)]
 mod list_rows;
+#[cfg(test)]
+mod long_tests;
 #[cfg(test)]
 mod reading_tests;
 #[cfg(test)]
