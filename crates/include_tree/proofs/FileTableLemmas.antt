@@ -1,17 +1,22 @@
 -- The fields of the table of files, and the table that contracts see.
-use Rattle.std.proofs.Common.{◌≡◌, ◌||◌, ℕ, zero, suc, ◌+◌, ◌-◌, ◌≤◌, ◌<◌, ◌^◌, Bool, false, not, cond, nat_lt, List, [], ◌∷◌, ◌++◌, length, map, position, Option, None, Some, refl, sym, ◌∙◌, ap, subst, arith, slice_get, get_or, inl, inr, ltb-true, ltb-false, length-append}
+use Rattle.std.proofs.Common.{◌≡◌, ◌||◌, ℕ, zero, suc, ◌+◌, ◌-◌, ◌≤◌, ◌<◌, ◌^◌, Bool, false, not, cond, nat_lt, List, [], ◌∷◌, ◌++◌, length, map, position, true, Option, None, Some, refl, sym, ◌∙◌, ap, subst, arith, slice_get, get_or, inl, inr, ltb-true, ltb-false, length-append}
 use Rattle.std.specs.Option.{option_map, option_and_then}
-use Rattle.std.specs.List.{position_or_len, prefix_len, list_any}
-use Rattle.std.specs.Str.{bytes_eq}
+use Rattle.std.specs.List.{position_or_len, prefix_len, list_any, list_all}
+use Rattle.std.specs.Str.{bytes_eq, is_utf8, chars}
 use Rattle.std.proofs.lemmas.Bool.{cases_Bool}
+use Rattle.std.proofs.lemmas.List.Folds.{list_all-append}
 use Rattle.std.proofs.Math.ListN.{length-map}
 use Rattle.cs_base.proofs.FileMapLemmas.{bytes_eq-equal}
+use Rattle.line_shape.specs.MacroLine.{are_distinct}
+use Rattle.line_shape.proofs.NameLemmas.{are_distinct-new}
 use Rattle.include_tree.specs.declared.slot.Slot.{Slot}
 use Rattle.include_tree.specs.declared.slot.Slot.TheVariants as slot
-use Rattle.include_tree.specs.Files.{Found, Lines, entry, Table, lines_path, number_of, found_at, numbered}
+use Rattle.include_tree.specs.Files.{Found, Lines, entry, Table, lines_path, number_of, number_at, found_at, numbered}
 use Rattle.include_tree.specs.KeptFiles.{KeptValue, kept, kept_in, kept_at}
 use Rattle.include_tree.specs.Slots.{found_of, kept_of, IsNumbered}
+use Rattle.include_tree.specs.Laws.{paths_in, HasEachOnce, AreText}
 use Rattle.include_tree.specs.FileTableFields.{entries_of, table_of, AreNumbered, IsFileTable, Stands}
+use Rattle.include_tree.proofs.TableLemmas.{not_among}
 
 -- ---- the kept file of a number
 
@@ -155,6 +160,25 @@ pub none-at : (paths : List (List ℕ)) (slots : List Slot) (path : List ℕ) �
 unfolding found_at
 none-at paths slots path each other none = rw other (found-none path paths slots each (position-none (bytes_eq path) paths none))
 
+-- the number of a path, if it has one
+pub number_at-lines : (paths : List (List ℕ)) (slots : List Slot) (path : List ℕ) → bytes_eq path lines_path ≡ true → number_at path (table_of paths slots) ≡ Some 0
+unfolding found_at
+number_at-lines paths slots path same = rw same refl
+
+pub number_at-place : (paths : List (List ℕ)) (slots : List Slot) (path : List ℕ) (i : ℕ) → IsFileTable paths slots → bytes_eq path lines_path ≡ false
+    → position (bytes_eq path) paths ≡ Some i → number_at path (table_of paths slots) ≡ Some (i + 1)
+unfolding found_at
+number_at-place paths slots path i is other at =
+    let p : (position_or_len (bytes_eq path) paths ≡ i) × (i < length paths) = position-is (bytes_eq path) paths i at in
+    let within : position_or_len (bytes_eq path) paths < length paths = omega (arith, p.0, p.1) in
+    let there = found-first path paths slots slot.Absent is.each within in
+    let one : 1 + position_or_len (bytes_eq path) paths ≡ i + 1 = omega (arith, p.0) in
+    rw other (rw there (ap (λ (n : ℕ). Some (1 + n)) (number-from path paths slots is.each) ∙ ap (λ (n : ℕ). Some n) one))
+
+pub number_at-none : (paths : List (List ℕ)) (slots : List Slot) (path : List ℕ) → IsFileTable paths slots → bytes_eq path lines_path ≡ false
+    → position (bytes_eq path) paths ≡ None → number_at path (table_of paths slots) ≡ None
+number_at-none paths slots path is other none = rw (none-at paths slots path is.each other none) refl
+
 -- the keys are found by their spellings
 prefix_len-map : {K : Type 0} (spelling : K → List ℕ) (p : List ℕ → Bool) (ks : List K) → prefix_len (λ k. p (spelling k)) ks ≡ prefix_len p (map spelling ks)
 prefix_len-map spelling p [] = refl
@@ -194,14 +218,44 @@ length-table (p ∷ paths) [] each = absurd (omega (arith, each))
 length-table (p ∷ paths) (t ∷ slots) each =
     let h : length (table_of paths slots) ≡ length slots + 1 = length-table paths slots (omega (arith, each)) in omega (arith, h)
 
-pub file_table-push : (paths : List (List ℕ)) (slots : List Slot) (path : List ℕ) (s : Slot) → IsFileTable paths slots
-    → IsNumbered (length (table_of paths slots)) path s → length slots < 2 ^ 32 - 2 → IsFileTable (paths ++ path ∷ []) (slots ++ s ∷ [])
-file_table-push paths slots path s is new few =
+-- the paths that have a number
+paths-entries : (paths : List (List ℕ)) (slots : List Slot) → length slots ≡ length paths → paths_in (entries_of paths slots) ≡ paths
+paths-entries [] slots each = refl
+paths-entries (p ∷ paths) [] each = absurd (omega (arith, each))
+paths-entries (p ∷ paths) (s ∷ slots) each = ap (λ (ps : List (List ℕ)). p ∷ ps) (paths-entries paths slots (omega (arith, each)))
+
+paths-table : (paths : List (List ℕ)) (slots : List Slot) → length slots ≡ length paths → paths_in (table_of paths slots) ≡ lines_path ∷ paths
+paths-table paths slots each = ap (λ (ps : List (List ℕ)). lines_path ∷ ps) (paths-entries paths slots each)
+
+pub table-once : (paths : List (List ℕ)) (slots : List Slot) → IsFileTable paths slots → HasEachOnce (table_of paths slots)
+table-once paths slots is = subst (λ (ps : List (List ℕ)). are_distinct ps ≡ true) (sym (paths-table paths slots is.each)) is.once
+
+lines-text : is_utf8 lines_path ≡ true
+unfolding is_utf8 chars lib.Utf8.encode
+lines-text = refl
+
+pub table-text : (paths : List (List ℕ)) (slots : List Slot) → IsFileTable paths slots → AreText (table_of paths slots)
+table-text paths slots is = subst (λ (ps : List (List ℕ)). list_all is_utf8 ps ≡ true) (sym (paths-table paths slots is.each)) (rw lines-text is.text)
+
+once-push : (paths : List (List ℕ)) (slots : List Slot) (path : List ℕ) → IsFileTable paths slots → found_at path (table_of paths slots) ≡ None
+    → are_distinct (lines_path ∷ (paths ++ path ∷ [])) ≡ true
+once-push paths slots path is fresh =
+    are_distinct-new (lines_path ∷ paths) path is.once
+    (subst (λ (ps : List (List ℕ)). list_any (bytes_eq path) ps ≡ false) (paths-table paths slots is.each) (not_among path (table_of paths slots) fresh))
+
+text-push : (paths : List (List ℕ)) (path : List ℕ) → list_all is_utf8 paths ≡ true → is_utf8 path ≡ true → list_all is_utf8 (paths ++ path ∷ []) ≡ true
+text-push paths path all text = list_all-append is_utf8 paths (path ∷ []) ∙ rw (all, text) refl
+
+pub file_table-push : (paths : List (List ℕ)) (slots : List Slot) (path : List ℕ) (s : Slot) → IsFileTable paths slots → found_at path (table_of paths slots) ≡ None
+    → is_utf8 path ≡ true → IsNumbered (length (table_of paths slots)) path s → length slots < 2 ^ 32 - 2 → IsFileTable (paths ++ path ∷ []) (slots ++ s ∷ [])
+file_table-push paths slots path s is fresh text new few =
     let n : length (table_of paths slots) ≡ 1 + length slots = omega (arith, length-table paths slots is.each) in
     record {
       each = omega (arith, is.each, length-append paths (path ∷ []), length-append slots (s ∷ []));
       numbered = numbered-push paths slots 1 path s is.each is.numbered (rw n at new);
       few = omega (arith, few, length-append slots (s ∷ []));
+      once = once-push paths slots path is fresh;
+      text = text-push paths path is.text text;
     }
 
 any-from : (path : List ℕ) (paths : List (List ℕ)) (slots : List Slot) → length slots ≡ length paths
@@ -237,9 +291,9 @@ pub table-pushed : (paths paths' : List (List ℕ)) (slots slots' : List Slot) (
 table-pushed paths paths' slots slots' path s is h k = rw (h, k) (table-push paths slots path s is.each)
 
 pub file_table-pushed : (paths paths' : List (List ℕ)) (slots slots' : List Slot) (path : List ℕ) (s : Slot) → IsFileTable paths slots
-    → paths' ≡ paths ++ path ∷ [] → slots' ≡ slots ++ s ∷ [] → IsNumbered (length (table_of paths slots)) path s → length slots < 2 ^ 32 - 2
-    → IsFileTable paths' slots'
-file_table-pushed paths paths' slots slots' path s is h k new few = rw (h, k) (file_table-push paths slots path s is new few)
+    → paths' ≡ paths ++ path ∷ [] → slots' ≡ slots ++ s ∷ [] → found_at path (table_of paths slots) ≡ None → is_utf8 path ≡ true
+    → IsNumbered (length (table_of paths slots)) path s → length slots < 2 ^ 32 - 2 → IsFileTable paths' slots'
+file_table-pushed paths paths' slots slots' path s is h k fresh text new few = rw (h, k) (file_table-push paths slots path s is fresh text new few)
 
 pub slice_get-at : {X : Type 0} (xs : List X) (i : ℕ) (x : X) → i < length xs → x ≡ get_or xs i x → slice_get xs i ≡ Some x
 slice_get-at [] i x h k = absurd (omega (arith, h))

@@ -1,5 +1,6 @@
 pub mod OutcomeLemmas
 pub mod TableLemmas
+pub mod AgreeLemmas
 pub mod LeadsLemmas
 pub mod SearchLemmas
 pub mod StepLemmas

@@ -76,6 +76,8 @@ file_table-opened paths slots path i s is at number =
       each = length-set slots i s ∙ is.each;
       numbered = subst (λ (k : ℕ). AreNumbered 1 paths (set slots k s)) p.0 (numbered-opened paths slots 1 path s is.each is.numbered within (rw one at number));
       few = omega (arith, is.few, length-set slots i s);
+      once = is.once;
+      text = is.text;
     }
 
 -- ---- the step, by the place of the path

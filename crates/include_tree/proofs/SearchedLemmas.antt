@@ -1,11 +1,9 @@
 -- The search, one path at a time.
 use Rattle.std.proofs.Common.{◌≡◌, ℕ, zero, suc, ◌+◌, ◌<◌, Bool, true, false, ◌&&◌, List, [], ◌∷◌, length, drop, get_or, Option, None, Some, refl, subst, arith, inl, inr, ◌≤◌}
-use Rattle.std.specs.Prelude.{IfSome}
 use Rattle.std.specs.List.{list_all}
 use Rattle.std.specs.Str.{is_utf8, IsUtf8, bytes_eq}
 use Rattle.std.proofs.lemmas.Str.{IsUtf8-from_is_utf8}
 use Rattle.std.proofs.lemmas.Bool.{cases_Bool}
-use Rattle.cs_base.specs.Outside.{FileMap}
 use Rattle.cs_base.proofs.FileMapLemmas.{bytes_eq-equal}
 use Rattle.include_tree.specs.Files.{Source, Found, Lines, Absent, Unopened, Opened, Made, Table, found_at, asked, lines_path}
 use Rattle.include_tree.specs.Search.{Searched, searched, search, search_on, can_be_asked}
@@ -62,20 +60,6 @@ pub get_or-default : {X : Type 0} (xs : List X) (i : ℕ) (d e : X) → i < leng
 get_or-default [] i d e h = absurd (omega (arith, h))
 get_or-default (x ∷ xs) zero d e h = refl
 get_or-default (x ∷ xs) (suc i) d e h = get_or-default xs i d e (omega (arith, h))
-
--- ---- what holds where files are told
-
-pub told_all : (o : Option FileMap) (P : FileMap → Type 0) → ((m : FileMap) → P m) → IfSome o P
-told_all None P f = tt
-told_all (Some m) P f = f m
-
-pub told_one : (o : Option FileMap) (P Q : FileMap → Type 0) → IfSome o P → ((m : FileMap) → P m → Q m) → IfSome o Q
-told_one None P Q h f = tt
-told_one (Some m) P Q h f = f m h
-
-pub told_two : (o : Option FileMap) (P R Q : FileMap → Type 0) → IfSome o P → IfSome o R → ((m : FileMap) → P m → R m → Q m) → IfSome o Q
-told_two None P R Q h k f = tt
-told_two (Some m) P R Q h k f = f m h k
 
 -- ---- paths that can be asked for
 

@@ -5,26 +5,25 @@ use Rattle.std.specs.Option.{option_map, option_and_then}
 use Rattle.std.specs.Str.{bytes_eq}
 use Rattle.std.proofs.lemmas.Bool.{cases_Bool}
 use Rattle.std.proofs.lemmas.Option.{same_Some}
-use Rattle.cs_base.specs.declared.causes.Cause.TheVariants.{TooManyFiles, TooManyBytes}
+use Rattle.cs_base.specs.declared.causes.Cause.TheVariants.{MissingFile, TooManyFiles, TooManyBytes}
 use Rattle.cs_base.specs.declared.positions.Place.{Place}
 use Rattle.cs_base.specs.declared.positions.Pos.{Pos}
-use Rattle.cs_base.specs.Outside.{FileMap}
 use Rattle.cs_base.proofs.FileMapLemmas.{bytes_eq-equal, bytes_eq-same}
 use Rattle.part_lexer.specs.FileText.{TextValue, LexFault, FileTooLarge, OpenComment, file_text}
 use Rattle.include_tree.specs.declared.pre_fault.PreFault.{PreFault}
 use Rattle.include_tree.specs.Limits.{the_limits}
-use Rattle.include_tree.specs.Files.{Found, Lines, Absent, Unopened, Opened, Made, entry, Table, SourceFile, source_file, number_of, found_at, numbered, opened, files_opened, source_of, Carried}
+use Rattle.include_tree.specs.Files.{Found, Lines, Absent, Unopened, Opened, Made, entry, Table, SourceFile, source_file, number_of, found_at, numbered, opened, files_opened, Source, Carried}
 use Rattle.include_tree.specs.Faults.{Fault, fault, place_in}
 use Rattle.include_tree.specs.KeptFiles.{kept, kept_in, kept_at, kept_bytes}
 use Rattle.include_tree.specs.State.{State, Outcome}
 use Rattle.include_tree.specs.Opening.{Opening, file_read, readable, are_too_many, opened_as, opening, with_opened}
-use Rattle.include_tree.specs.Search.{Header, Searched, candidates_of, search}
+use Rattle.include_tree.specs.Search.{Header, Searched, searched, candidates_of, search}
 use Rattle.include_tree.specs.Including.{open_searched, open_header}
 use Rattle.include_tree.specs.Answers.{fault_of, OpensFile}
 use Rattle.include_tree.specs.Sources.{read_as, source_kept, source_at, unit_context, GivesFile, GivesOpening, opening_searched, opening_found}
 use Rattle.include_tree.specs.CacheFields.{IsCache}
-use Rattle.include_tree.specs.Laws.{IsGrown, OnlyAsks}
-use Rattle.include_tree.proofs.TableLemmas.{grown_refl, widens_opened}
+use Rattle.include_tree.specs.Laws.{OnlyAsks, Widens}
+use Rattle.include_tree.proofs.TableLemmas.{widens_refl, widens_opened}
 use Rattle.include_tree.proofs.OpeningLemmas.{refused_fault}
 
 -- ---- where a path stands in the table
@@ -65,23 +64,23 @@ kept-at path bytes f t h is =
 -- The file is kept under its number, and the table has grown.
 pub record OpenedAs (t u : Table) (file : SourceFile) : Type 0 where
   pub is_kept : source_at u file.number ≡ Some file
-  pub grown : IsGrown t u
+  pub widens : (source : Source) → Widens source t u
 
 same_ok : (a b : SourceFile × Table) → ◌≡◌ {A = Opening} (Ok a) (Ok b) → a ≡ b
 same_ok a b h = cc
 
 read-as : (t u v : Table) (place : Place) (number : ℕ) (path bytes : List ℕ) (file : SourceFile) (r : Result TextValue LexFault) → file_text number bytes ≡ r
-    → kept_at u number ≡ Some (kept number path bytes) → IsGrown t u → file_read place number path u r ≡ Ok (file, v) → OpenedAs t v file
-read-as t u v place number path bytes file (Ok text) is at grown h =
+    → kept_at u number ≡ Some (kept number path bytes) → ((source : Source) → Widens source t u) → file_read place number path u r ≡ Ok (file, v) → OpenedAs t v file
+read-as t u v place number path bytes file (Ok text) is at wide h =
     let file_is : source_at u number ≡ Some (source_file number path text) = ap (option_and_then source_kept) at ∙ ap (read_as number path) is in
-    subst (λ (p : SourceFile × Table). OpenedAs t p.1 p.0) (same_ok (source_file number path text, u) (file, v) h) (record { is_kept = file_is; grown = grown })
-read-as t u v place number path bytes file (Err FileTooLarge) is at grown h = absurd (cc)
-read-as t u v place number path bytes file (Err (OpenComment k line column)) is at grown h = absurd (cc)
+    subst (λ (p : SourceFile × Table). OpenedAs t p.1 p.0) (same_ok (source_file number path text, u) (file, v) h) (record { is_kept = file_is; widens = wide })
+read-as t u v place number path bytes file (Err FileTooLarge) is at wide h = absurd (cc)
+read-as t u v place number path bytes file (Err (OpenComment k line column)) is at wide h = absurd (cc)
 
-readable-as : (t u v : Table) (place : Place) (path bytes : List ℕ) (f : Found) (file : SourceFile) → found_at path u ≡ Some f → kept_bytes f ≡ Some bytes → IsGrown t u
+readable-as : (t u v : Table) (place : Place) (path bytes : List ℕ) (f : Found) (file : SourceFile) → found_at path u ≡ Some f → kept_bytes f ≡ Some bytes → ((source : Source) → Widens source t u)
     → readable file_text place path bytes u ≡ Ok (file, v) → OpenedAs t v file
-readable-as t u v place path bytes f file at is grown h =
-    read-as t u v place (number_of path u) path bytes file (file_text (number_of path u) bytes) refl (kept-at path bytes f u at is) grown h
+readable-as t u v place path bytes f file at is wide h =
+    read-as t u v place (number_of path u) path bytes file (file_text (number_of path u) bytes) refl (kept-at path bytes f u at is) wide h
 
 past_test : (b : Bool) (g : Fault) (o : Opening) (r : SourceFile × Table) → cond b (Err g) o ≡ Ok r → o ≡ Ok r
 past_test true g o r h = absurd (cc)
@@ -97,9 +96,9 @@ opened_as-as t v place path file (Some (Unopened bytes)) at h =
     (cond (are_too_many the_limits file_text path bytes t) (Err (fault place TooManyBytes)) (readable file_text place path bytes (opened path bytes t))) (file, v) h in
     let rest = past_test (are_too_many the_limits file_text path bytes t) (fault place TooManyBytes) (readable file_text place path bytes (opened path bytes t)) (file, v) fits in
     readable-as t (opened path bytes t) v place path bytes (Opened bytes) file (found-opened path bytes (Unopened bytes) t at) refl
-    (widens_opened (λ _. None) path bytes t at).grown rest
-opened_as-as t v place path file (Some (Opened bytes)) at h = readable-as t t v place path bytes (Opened bytes) file at refl (grown_refl t) h
-opened_as-as t v place path file (Some (Made bytes)) at h = readable-as t t v place path bytes (Made bytes) file at refl (grown_refl t) h
+    (λ source. widens_opened source path bytes t at) rest
+opened_as-as t v place path file (Some (Opened bytes)) at h = readable-as t t v place path bytes (Opened bytes) file at refl (λ source. widens_refl source t) h
+opened_as-as t v place path file (Some (Made bytes)) at h = readable-as t t v place path bytes (Made bytes) file at refl (λ source. widens_refl source t) h
 
 pub opening-as : (t v : Table) (place : Place) (path : List ℕ) (file : SourceFile) → opening the_limits file_text place path t ≡ Ok (file, v) → OpenedAs t v file
 opening-as t v place path file h = opened_as-as t v place path file (found_at path t) refl h
@@ -118,10 +117,11 @@ opens-there (Ok number) m v h = rw h.1 refl
 opens-there (Err e) m v h = tt
 
 -- the table behind an opening, or behind its fault
-pub opens-grown : (r : Result ℕ PreFault) (before after : Carried) (place : Place) (path : List ℕ) → OpensFile r (opening the_limits file_text place path before.table) after.table path
-    → OnErr r (after ≡ before) → IsGrown before.table after.table
-opens-grown (Ok number) before after place path h same = (opening-as before.table after.table place path (source_file number path h.0) h.1).grown
-opens-grown (Err e) before after place path h same = subst (λ (c : Carried). IsGrown before.table c.table) (sym same) (grown_refl before.table)
+pub opens-wide : (r : Result ℕ PreFault) (before after : Carried) (place : Place) (path : List ℕ) → OpensFile r (opening the_limits file_text place path before.table) after.table path
+    → OnErr r (after ≡ before) → (source : Source) → Widens source before.table after.table
+opens-wide (Ok number) before after place path h same source = (opening-as before.table after.table place path (source_file number path h.0) h.1).widens source
+opens-wide (Err e) before after place path h same source =
+    subst (λ (c : Carried). Widens source before.table c.table) (sym same) (widens_refl source before.table)
 
 some-fault : (o : Option Fault) (m : Opening) (s : State) → IfSome o (λ f. ◌≡◌ {A = Opening} m (Err f)) → IfSome o (λ f. ◌≡◌ {A = Outcome SourceFile} (with_opened s m) (Err f))
 some-fault None m s h = tt
@@ -136,19 +136,41 @@ other-table : (s : State) (t : Table) (m : Opening) → with_opened (record s { 
 other-table s t (Ok r) = refl
 other-table s t (Err f) = refl
 
-searched-step : (files : FileMap) (ipath : List (List ℕ)) (earlier : ℕ) (file : SourceFile) (at : Pos) (s : State) (found : Searched) (o : Option (List ℕ))
-    → open_searched (unit_context files ipath earlier) file at s found o ≡ with_opened s (opening_searched (place_in file at) found o)
-searched-step files ipath earlier file at s found None = refl
-searched-step files ipath earlier file at s found (Some path) =
+searched-step : (source : Source) (ipath : List (List ℕ)) (earlier : ℕ) (file : SourceFile) (at : Pos) (s : State) (found : Searched) (o : Option (List ℕ))
+    → open_searched (unit_context source ipath earlier) file at s found o ≡ with_opened s (opening_searched (place_in file at) found o)
+searched-step source ipath earlier file at s found None = refl
+searched-step source ipath earlier file at s found (Some path) =
     other-table s found.table (opening the_limits file_text (place_in file at) path found.table)
 
 -- the file of a header, by what the search for its paths opens
-pub header-file : (r : Result ℕ PreFault) (t v : Table) (files : FileMap) (ipath : List (List ℕ)) (earlier : ℕ) (file : SourceFile) (at : Pos) (h : Header) (s : State) → s.table ≡ t
-    → GivesOpening r (opening_found (place_in file at) (search (source_of files) (candidates_of h file.path ipath) t)) v
-    → GivesFile r (open_header (unit_context files ipath earlier) file at h s) v s
-header-file r t v files ipath earlier file at h s is gives =
-    rw (searched-step files ipath earlier file at s (search (source_of files) (candidates_of h file.path ipath) s.table) (search (source_of files) (candidates_of h file.path ipath) s.table).path)
+pub header-file : (r : Result ℕ PreFault) (t v : Table) (source : Source) (ipath : List (List ℕ)) (earlier : ℕ) (file : SourceFile) (at : Pos) (h : Header) (s : State) → s.table ≡ t
+    → GivesOpening r (opening_found (place_in file at) (search source (candidates_of h file.path ipath) t)) v
+    → GivesFile r (open_header (unit_context source ipath earlier) file at h s) v s
+header-file r t v source ipath earlier file at h s is gives =
+    rw (searched-step source ipath earlier file at s (search source (candidates_of h file.path ipath) s.table) (search source (candidates_of h file.path ipath) s.table).path)
     (gives-file r _ v s (rw (← is) at gives))
+
+-- the file that a search found
+pub found-opening : (r : Result ℕ PreFault) (v t u : Table) (source : Source) (paths : List (List ℕ)) (place : Place) (path : List ℕ) → search source paths t ≡ searched (Some path) u
+    → GivesOpening r (opening the_limits file_text place path u) v → GivesOpening r (opening_found place (search source paths t)) v
+found-opening r v t u source paths place path is h = subst (λ (s : Searched). GivesOpening r (opening_found place s) v) (sym is) h
+
+-- it found none
+pub found-missing : (o : Option Fault) (t u : Table) (source : Source) (paths : List (List ℕ)) (place : Place) → search source paths t ≡ searched None u
+    → IfSome o (λ f. f ≡ fault place MissingFile) → IfSome o (λ f. ◌≡◌ {A = Opening} (opening_found place (search source paths t)) (Err f))
+found-missing None t u source paths place is h = tt
+found-missing (Some f) t u source paths place is h = ap (opening_found place) is ∙ ap (λ (x : Fault). Err x) (sym h)
+
+-- the file of a header, by what an include line asks for
+pub header-asked : (r : Result ℕ PreFault) (t v : Table) (source : Source) (ipath : List (List ℕ)) (earlier : ℕ) (o : Option SourceFile) (at : Pos) (h : Header) (paths : List (List ℕ)) (place : Place)
+    → IfSome o (λ file. paths ≡ candidates_of h file.path ipath) → IfSome o (λ file. place ≡ place_in file at)
+    → GivesOpening r (opening_found place (search source paths t)) v
+    → IfSome o (λ file. (s : State) → s.table ≡ t → GivesFile r (open_header (unit_context source ipath earlier) file at h s) v s)
+header-asked r t v source ipath earlier None at h paths place asks stands gives = tt
+header-asked r t v source ipath earlier (Some file) at h paths place asks stands gives = λ s is.
+    header-file r t v source ipath earlier file at h s is
+    (subst (λ (ps : List (List ℕ)). GivesOpening r (opening_found (place_in file at) (search source ps t)) v) asks
+    (subst (λ (p : Place). GivesOpening r (opening_found p (search source paths t)) v) stands gives))
 
 -- ---- a pseudo file that is made
 
@@ -200,7 +222,7 @@ made-refused o l place place2 path bytes t number none is same reads told has =
     (opening-made place path bytes t none ∙ ap (λ (n : ℕ). file_read place n path (numbered path (Made bytes) t) (file_text n bytes)) (sym is))
 
 -- a table in which no file more is opened
-pub cache-made : (t v : Table) (files bytes toks : ℕ) → IsCache t files bytes toks → OnlyAsks t v → IsCache v files bytes toks
+pub cache-made : (t v : Table) (files bytes toks : ℕ) → IsCache t files bytes toks → OnlyAsks None t v → IsCache v files bytes toks
 cache-made t v files bytes toks is asks = record {
   counted = is.counted ∙ sym asks.files;
   measured = is.measured ∙ sym asks.bytes;
@@ -210,7 +232,6 @@ cache-made t v files bytes toks is asks = record {
 }
 
 -- a read that failed, or want of memory, tells of no fault
-pub none-told : {A : Type 0} (told : Option FileMap) (o : Option Fault) (m : FileMap → Result A Fault) → o ≡ None → IfSome told (λ held. IfSome o (λ f. m held ≡ Err f))
-none-told None o m none = tt
-none-told (Some held) None m none = tt
-none-told (Some held) (Some f) m none = absurd (cc)
+pub none-told : {A : Type 0} (o : Option Fault) (m : Result A Fault) → o ≡ None → IfSome o (λ f. m ≡ Err f)
+none-told None m none = tt
+none-told (Some f) m none = absurd (cc)

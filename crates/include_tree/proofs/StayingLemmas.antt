@@ -14,14 +14,6 @@ pub some_all : {A : Type 0} (o : Option A) (P : A → Type 0) → ((a : A) → P
 some_all None P f = tt
 some_all (Some a) P f = f a
 
-pub some_one : {A : Type 0} (o : Option A) (P Q : A → Type 0) → IfSome o P → ((a : A) → P a → Q a) → IfSome o Q
-some_one None P Q h f = tt
-some_one (Some a) P Q h f = f a h
-
-pub some_two : {A : Type 0} (o : Option A) (P R Q : A → Type 0) → IfSome o P → IfSome o R → ((a : A) → P a → R a → Q a) → IfSome o Q
-some_two None P R Q h k f = tt
-some_two (Some a) P R Q h k f = f a h k
-
 pub some_three : {A : Type 0} (o : Option A) (P R S Q : A → Type 0) → IfSome o P → IfSome o R → IfSome o S → ((a : A) → P a → R a → S a → Q a) → IfSome o Q
 some_three None P R S Q h k l f = tt
 some_three (Some a) P R S Q h k l f = f a h k l

@@ -1,13 +1,17 @@
 -- The table of files: how it grows.
 use Rattle.std.proofs.Common.{◌≡◌, ℕ, true, false, cond, List, [], ◌∷◌, ◌++◌, Option, None, Some, is_some, refl, sym, ◌∙◌, ap, subst, inl, inr, arith}
+use Rattle.std.specs.Prelude.{IfSome}
 use Rattle.std.specs.List.{list_any}
 use Rattle.std.specs.Str.{bytes_eq}
 use Rattle.std.proofs.lemmas.Bool.{cases_Bool}
+use Rattle.cs_base.specs.Outside.{FileMap, bytes_at}
 use Rattle.cs_base.proofs.FileMapLemmas.{bytes_eq-equal, bytes_eq-same}
 use Rattle.line_shape.proofs.NameLemmas.{are_distinct-new, map-push}
 use Rattle.line_shape.specs.MacroLine.{are_distinct}
-use Rattle.include_tree.specs.Files.{Source, Found, Unopened, Opened, Entry, entry, Table, found_at, found_in, numbered, asked, opened, files_opened, bytes_opened, one_more, more_bytes, opened_bytes}
-use Rattle.include_tree.specs.Laws.{OnlyAsks, Becomes, IsGrown, IsFound, AreFound, paths_in, HasEachOnce, Widens}
+use Rattle.include_tree.specs.Files.{Source, source_of, Found, Lines, Absent, Unopened, Opened, Made, Entry, Carried, entry, Table, found_at, found_in, numbered, asked, opened, files_opened, bytes_opened, one_more, more_bytes, opened_bytes}
+use Rattle.include_tree.specs.Laws.{StaysHeld, OnlyAsks, Becomes, IsGrown, IsFound, AreFound, paths_in, HasEachOnce, Widens}
+use Rattle.include_tree.specs.Slots.{IsRead}
+use Rattle.include_tree.specs.Answers.{ReadsOn}
 
 -- ---- one after another
 
@@ -38,6 +42,21 @@ widens_trans source a b c h k = record {
   once = λ o. k.once (h.once o);
 }
 
+-- ---- what an earlier table told
+
+becomes_found : (source : Source) (path : List ℕ) (old new : Found) → Becomes old new → IsFound source path new → IsFound source path old
+becomes_found source path old new (inl same) h = subst (λ (f : Found). IsFound source path f) same h
+becomes_found source path old new (inr opens) h =
+    subst (λ (f : Found). IsFound source path f) (sym opens.1) (subst (λ (f : Found). IsFound source path f) opens.2 h)
+
+pub earlier_found : (source : Source) (old new : Table) → IsGrown old new → AreFound source new → AreFound source old
+earlier_found source [] new grown found = tt
+earlier_found source (e ∷ old) [] grown found = absurd grown
+earlier_found source (e ∷ old) (f ∷ new) grown found = (
+  becomes_found source e.path e.found f.found grown.1 (subst (λ (p : List ℕ). IsFound source p f.found) grown.0 found.0),
+  earlier_found source old new grown.2 found.1,
+)
+
 -- ---- a new number
 
 grown_push : (t : Table) (e : Entry) → IsGrown t (t ++ e ∷ [])
@@ -49,7 +68,7 @@ found_push source [] e h all = (h, tt)
 found_push source (d ∷ t) e h all = (all.0, found_push source t e h all.1)
 
 -- a path that has no number is none of those that have one
-not_among : (path : List ℕ) (t : Table) → found_at path t ≡ None → list_any (bytes_eq path) (paths_in t) ≡ false
+pub not_among : (path : List ℕ) (t : Table) → found_at path t ≡ None → list_any (bytes_eq path) (paths_in t) ≡ false
 unfolding found_at
 not_among path [] h = refl
 not_among path (e ∷ t) h = elim (cases_Bool (bytes_eq path e.path)) [
@@ -137,6 +156,26 @@ widens_opened source path bytes t h = record {
   once = λ o. rw (paths-opened path bytes t) o;
 }
 
+-- what stays what files hold
+pub stays-refl : (told : Option FileMap) (t : Table) → StaysHeld told t t
+stays-refl None t = tt
+stays-refl (Some m) t = λ all. all
+
+pub stays-trans : (told : Option FileMap) (a b c : Table) → StaysHeld told a b → StaysHeld told b c → StaysHeld told a c
+stays-trans None a b c h k = tt
+stays-trans (Some m) a b c h k = λ all. k (h all)
+
+pub stays-widened : (told : Option FileMap) (a b : Table) → ((source : Source) → Widens source a b) → StaysHeld told a b
+stays-widened None a b h = tt
+stays-widened (Some m) a b h = (h (source_of m)).found
+
+stays-push : (told : Option FileMap) (path : List ℕ) (found : Found) (t : Table) → IfSome told (λ m. found ≡ found_in (bytes_at path m))
+    → StaysHeld told t (numbered path found t)
+stays-push None path found t h = tt
+stays-push (Some m) path found t h =
+    let here : IsFound (source_of m) path found = subst (λ (f : Found). IsFound (source_of m) path f) (sym h) (found_in_is (source_of m) path (bytes_at path m) refl) in
+    λ all. found_push (source_of m) t (entry path found) here all
+
 -- a path that got a number has one
 pub known-push : (path : List ℕ) (found : Found) (t : Table) → is_some (found_at path (numbered path found t)) ≡ true
 unfolding found_at
@@ -148,11 +187,16 @@ known-push path found (e ∷ t) = elim (cases_Bool (bytes_eq path e.path)) [
 
 -- ---- only asking
 
-pub only_asks-refl : (t : Table) → OnlyAsks t t
-only_asks-refl t = record { grown = grown_refl t; files = refl; bytes = refl }
+pub only_asks-refl : (told : Option FileMap) (t : Table) → OnlyAsks told t t
+only_asks-refl told t = record { grown = grown_refl t; found = stays-refl told t; files = refl; bytes = refl }
 
-pub only_asks-trans : (a b c : Table) → OnlyAsks a b → OnlyAsks b c → OnlyAsks a c
-only_asks-trans a b c h k = record { grown = grown_trans a b c h.grown k.grown; files = k.files ∙ h.files; bytes = k.bytes ∙ h.bytes }
+pub only_asks-trans : (told : Option FileMap) (a b c : Table) → OnlyAsks told a b → OnlyAsks told b c → OnlyAsks told a c
+only_asks-trans told a b c h k = record {
+  grown = grown_trans a b c h.grown k.grown;
+  found = stays-trans told a b c h.found k.found;
+  files = k.files ∙ h.files;
+  bytes = k.bytes ∙ h.bytes;
+}
 
 files-push : (path : List ℕ) (found : Found) (t : Table) → opened_bytes found ≡ None → files_opened (numbered path found t) ≡ files_opened t
 unfolding files_opened
@@ -164,6 +208,69 @@ unfolding bytes_opened
 bytes-push path found [] h = ap (λ o. more_bytes o 0) h
 bytes-push path found (e ∷ t) h = ap (more_bytes (opened_bytes e.found)) (bytes-push path found t h)
 
-pub only_asks-push : (path : List ℕ) (found : Found) (t u : Table) → opened_bytes found ≡ None → u ≡ numbered path found t → OnlyAsks t u
-only_asks-push path found t u h e =
-    rw e (record { grown = grown_push t (entry path found); files = files-push path found t h; bytes = bytes-push path found t h })
+pub only_asks-push : (told : Option FileMap) (path : List ℕ) (found : Found) (t u : Table) → opened_bytes found ≡ None
+    → IfSome told (λ m. found ≡ found_in (bytes_at path m)) → u ≡ numbered path found t → OnlyAsks told t u
+only_asks-push told path found t u h read e =
+    rw e (record {
+      grown = grown_push t (entry path found);
+      found = stays-push told path found t read;
+      files = files-push path found t h;
+      bytes = bytes-push path found t h;
+    })
+
+-- ---- what each source holds that agrees with the table
+
+read_none : (found : Found) → IsRead found → opened_bytes found ≡ None
+read_none Lines r = absurd r
+read_none Absent r = refl
+read_none (Unopened bytes) r = refl
+read_none (Opened bytes) r = absurd r
+read_none (Made bytes) r = absurd r
+
+read_is : (source : Source) (path : List ℕ) (found : Found) → IsRead found → IsFound source path found → found ≡ found_in (source path)
+read_is source path Lines r h = absurd r
+read_is source path Absent r h = ap found_in (sym h)
+read_is source path (Unopened bytes) r h = ap found_in (sym h)
+read_is source path (Opened bytes) r h = absurd r
+read_is source path (Made bytes) r h = absurd r
+
+found_last : (source : Source) (t : Table) (e : Entry) → AreFound source (t ++ e ∷ []) → IsFound source e.path e.found
+found_last source [] e all = all.0
+found_last source (d ∷ t) e all = found_last source t e all.1
+
+pub none_is : (o : Option Found) → is_some o ≡ false → o ≡ None
+none_is None h = refl
+none_is (Some found) h = absurd (cc)
+
+-- a path that has a number
+pub asked-known : (source : Source) (path : List ℕ) (t : Table) → is_some (found_at path t) ≡ true → t ≡ asked source path t
+asked-known source path t known = rw known refl
+
+-- one that got it, and was read
+pub asked-push : (source : Source) (path : List ℕ) (found : Found) (t u : Table) → IsRead found → found_at path t ≡ None → u ≡ numbered path found t → AreFound source u
+    → u ≡ asked source path t
+asked-push source path found t u read none is all =
+    let here : IsFound source path found = found_last source t (entry path found) (subst (λ (v : Table). AreFound source v) is all) in
+    is ∙ rw none (ap (λ (f : Found). numbered path f t) (read_is source path found read here))
+
+pub asks-push : (told : Option FileMap) (path : List ℕ) (found : Found) (t u : Table) → IsRead found
+    → IfSome told (λ m. found ≡ found_in (bytes_at path m)) → u ≡ numbered path found t → OnlyAsks told t u
+asks-push told path found t u read is e = only_asks-push told path found t u (read_none found read) is e
+
+-- ---- a cache behind a step
+
+pub reads-refl : (told : Option FileMap) (c : Carried) → ReadsOn told c c
+reads-refl told c = record { grown = grown_refl c.table; found = stays-refl told c.table; counted = refl }
+
+pub reads-trans : (told told2 : Option FileMap) (a b c : Carried) → told2 ≡ told → ReadsOn told a b → ReadsOn told2 b c → ReadsOn told a c
+reads-trans told told2 a b c same h k = record {
+  grown = grown_trans a.table b.table c.table h.grown k.grown;
+  found = stays-trans told a.table b.table c.table h.found (subst (λ (o : Option FileMap). StaysHeld o b.table c.table) same k.found);
+  counted = k.counted ∙ h.counted;
+}
+
+pub reads-asked : (told : Option FileMap) (a b : Carried) → OnlyAsks told a.table b.table → b.toks ≡ a.toks → ReadsOn told a b
+reads-asked told a b asks toks = record { grown = asks.grown; found = asks.found; counted = toks }
+
+pub reads-widened : (told : Option FileMap) (a b : Carried) → ((source : Source) → Widens source a.table b.table) → b.toks ≡ a.toks → ReadsOn told a b
+reads-widened told a b h toks = record { grown = (h (λ _. None)).grown; found = stays-widened told a.table b.table h; counted = toks }

@@ -1,17 +1,19 @@
 -- Units, one file after the other.
-use Rattle.std.proofs.Common.{◌≡◌, ℕ, ◌+◌, ◌==◌, ◌&&◌, Bool, true, false, not, is_some, List, ◌++◌, length, Option, Some, None, Result, Ok, Err, refl, sym, ◌∙◌, ap, subst, append_assoc}
-use Rattle.std.specs.Prelude.{IfSome}
-use Rattle.std.specs.Str.{bytes_eq, is_utf8}
+use Rattle.std.proofs.Common.{◌≡◌, ℕ, ◌+◌, ◌<◌, ◌^◌, ◌==◌, ◌&&◌, Bool, true, false, not, is_some, List, ◌++◌, length, Option, Some, None, Result, Ok, Err, refl, sym, ◌∙◌, ap, subst, append_assoc}
+use Rattle.std.specs.Prelude.{IfSome, codes}
+use Rattle.std.specs.Fmt.{decimal}
+use Rattle.std.specs.Str.{bytes_eq, is_utf8, chars}
 use Rattle.std.proofs.lemmas.List.{append-nil}
+use Rattle.std.proofs.lemmas.Fmt.{IsAscii-decimal}
+use Rattle.std.proofs.lemmas.Str.{IsUtf8-append, IsUtf8-from_ascii, IsUtf8-from_is_utf8, is_utf8-from_IsUtf8}
 use Rattle.cs_base.specs.Answer.{Gives}
-use Rattle.cs_base.specs.Outside.{FileMap}
 use Rattle.cs_base.specs.Token.{Token}
 use Rattle.cs_base.specs.declared.positions.Place.{Place}
 use Rattle.part_lexer.specs.FileText.{file_text}
 use Rattle.cs_base.specs.Units.{UnitValue, defines_text, IsUnit, is_unit_path, is_writable, begins_with, less_sign}
 use Rattle.include_tree.specs.declared.pre_fault.PreFault.{PreFault}
 use Rattle.include_tree.specs.Limits.{the_limits}
-use Rattle.include_tree.specs.Files.{Found, Made, Table, Carried, carried, lines_path, defines_path, numbered, asked, source_of}
+use Rattle.include_tree.specs.Files.{Source, Found, Made, Table, Carried, carried, lines_path, defines_path, numbered, asked}
 use Rattle.include_tree.specs.Faults.{Fault, first_place}
 use Rattle.include_tree.specs.Notes.{Note}
 use Rattle.include_tree.specs.State.{State, Did, Outcome, only, noted, onward}
@@ -67,21 +69,15 @@ outer-gives {X} view r k n m u s next opens walked =
     ap (λ (o : Opening). kept_after k (with_opened s o)) opens.2 ∙ ap (λ (t : UnitTextValue). Ok (opens.0, record s { table = u }, t)) (noted_in-nil k) in
     subst (λ (o : Result (State × UnitTextValue) Fault). Gives view fault_of r o) (sym (put-onward k k (with_opened s m) next opens.0 (record s { table = u }) opened)) here
 
--- the same where files are told, with what the program knows of the directories and of the tokens before
-pub outer-told : {X : Type 0} (told told2 : Option FileMap) (view : X → State × UnitTextValue) (r : Result X PreFault) (k : UnitTextValue) (n room : ℕ) (m : FileMap → Opening) (u : Table)
-    (s : FileMap → State) (ipath ipath2 : List (List ℕ)) (toks toks2 : ℕ) → told2 ≡ told → ipath2 ≡ ipath → toks2 ≡ toks → IfSome told (λ held. GivesOpening (Ok n) (m held) u)
-    → IfSome told2 (λ held. IfSome (source_at u n) (λ file. Gives view fault_of r (put_after k (file_items (unit_context held ipath2 toks2) room file (record (s held) { table = u })))))
-    → IfSome told (λ held. Gives view fault_of r (put_after k (onward (with_opened (s held) (m held)) (file_items (unit_context held ipath toks) room))))
-outer-told {X} told told2 view r k n room m u s ipath ipath2 toks toks2 same ipath_is toks_is opens walked =
-    here told opens (subst (λ (o : Option FileMap). IfSome o (λ held. IfSome (source_at u n) (λ file. Gives view fault_of r (put_after k (file_items (unit_context held ipath toks) room file (record (s held) { table = u })))))) same
-    (subst (λ (p : List (List ℕ)). IfSome told2 (λ held. IfSome (source_at u n) (λ file. Gives view fault_of r (put_after k (file_items (unit_context held p toks) room file (record (s held) { table = u })))))) ipath_is
-    (subst (λ (j : ℕ). IfSome told2 (λ held. IfSome (source_at u n) (λ file. Gives view fault_of r (put_after k (file_items (unit_context held ipath2 j) room file (record (s held) { table = u })))))) toks_is walked)))
-  where
-    here : (o : Option FileMap) → IfSome o (λ held. GivesOpening (Ok n) (m held) u)
-        → IfSome o (λ held. IfSome (source_at u n) (λ file. Gives view fault_of r (put_after k (file_items (unit_context held ipath toks) room file (record (s held) { table = u })))))
-        → IfSome o (λ held. Gives view fault_of r (put_after k (onward (with_opened (s held) (m held)) (file_items (unit_context held ipath toks) room))))
-    here None p q = tt
-    here (Some held) p q = outer-gives view r k n (m held) u (s held) (file_items (unit_context held ipath toks) room) p q
+-- the same with what the program knows of the directories and of the tokens before
+pub outer-walked : {X : Type 0} (source : Source) (view : X → State × UnitTextValue) (r : Result X PreFault) (k : UnitTextValue) (n room : ℕ) (m : Opening) (u : Table)
+    (s : State) (ipath ipath2 : List (List ℕ)) (toks toks2 : ℕ) → ipath2 ≡ ipath → toks2 ≡ toks → GivesOpening (Ok n) m u
+    → IfSome (source_at u n) (λ file. Gives view fault_of r (put_after k (file_items (unit_context source ipath2 toks2) room file (record s { table = u }))))
+    → Gives view fault_of r (put_after k (onward (with_opened s m) (file_items (unit_context source ipath toks) room)))
+outer-walked {X} source view r k n room m u s ipath ipath2 toks toks2 ipath_is toks_is opens walked =
+    outer-gives view r k n m u s (file_items (unit_context source ipath toks) room) opens
+    (subst (λ (p : List (List ℕ)). IfSome (source_at u n) (λ file. Gives view fault_of r (put_after k (file_items (unit_context source p toks) room file (record s { table = u }))))) ipath_is
+    (subst (λ (j : ℕ). IfSome (source_at u n) (λ file. Gives view fault_of r (put_after k (file_items (unit_context source ipath2 j) room file (record s { table = u }))))) toks_is walked))
 
 refused-fault : (k : UnitTextValue) (m : Opening) (s : State) (next : Process) (o : Option Fault) → IfSome o (λ f. ◌≡◌ {A = Opening} m (Err f))
     → IfSome o (λ f. put_after k (onward (with_opened s m) next) ≡ Err f)
@@ -89,10 +85,9 @@ refused-fault k m s next None h = tt
 refused-fault k m s next (Some f) h = put-onward_fault k (with_opened s m) next f (ap (λ (o : Opening). kept_after k (with_opened s o)) h)
 
 -- a file that is not opened
-pub outer-refused : (told : Option FileMap) (k : UnitTextValue) (e : PreFault) (m : FileMap → Opening) (u : Table) (s : FileMap → State) (next : FileMap → Process)
-    → IfSome told (λ held. GivesOpening (Err e) (m held) u) → IfSome told (λ held. IfSome (fault_of e) (λ f. put_after k (onward (with_opened (s held) (m held)) (next held)) ≡ Err f))
-outer-refused None k e m u s next h = tt
-outer-refused (Some held) k e m u s next h = refused-fault k (m held) (s held) (next held) (fault_of e) h
+pub outer-refused : (k : UnitTextValue) (e : PreFault) (m : Opening) (u : Table) (s : State) (next : Process)
+    → GivesOpening (Err e) m u → IfSome (fault_of e) (λ f. put_after k (onward (with_opened s m) next) ≡ Err f)
+outer-refused k e m u s next h = refused-fault k m s next (fault_of e) h
 
 -- ---- the pseudo file of a unit
 
@@ -103,8 +98,8 @@ abbrev pub defines_opening : ℕ → UnitValue → Table → Opening
 defines_opening number unit t = opening the_limits file_text (first_place (defines_path number)) (defines_path number) (with_defines number unit t)
 
 -- that of the unit's own file
-abbrev pub main_opening : List ℕ → Table → FileMap → Opening
-main_opening path t held = opening the_limits file_text (first_place path) path (asked (source_of held) path t)
+abbrev pub main_opening : List ℕ → Table → Source → Opening
+main_opening path t source = opening the_limits file_text (first_place path) path (asked source path t)
 
 -- what is opened at another path or in another table is the same
 pub gives-made : (r : Result ℕ PreFault) (v t : Table) (path path2 text : List ℕ) (number : ℕ) (unit : UnitValue) → path ≡ defines_path number → path2 ≡ path → text ≡ defines_text unit.settings
@@ -113,14 +108,11 @@ gives-made r v t path path2 text number unit is same text_is h =
     subst (λ (p : List ℕ). GivesOpening r (opening the_limits file_text (first_place p) p (numbered p (Made (defines_text unit.settings)) t)) v) (same ∙ is)
     (subst (λ (x : List ℕ). GivesOpening r (opening the_limits file_text (first_place path2) path2 (numbered path2 (Made x) t)) v) text_is h)
 
-pub gives-main : (told : Option FileMap) (r : Result ℕ PreFault) (v t u : Table) (path path2 : List ℕ) (place : Place) → path2 ≡ path → place ≡ first_place path2
-    → IfSome told (λ held. u ≡ asked (source_of held) path2 t) → GivesOpening r (opening the_limits file_text place path2 u) v
-    → IfSome told (λ held. GivesOpening r (main_opening path t held) v)
-gives-main None r v t u path path2 place same is asked_is h = tt
-gives-main (Some held) r v t u path path2 place same is asked_is h =
-    subst (λ (p : List ℕ). GivesOpening r (opening the_limits file_text (first_place p) p (asked (source_of held) p t)) v) same
-    (subst (λ (x : Table). GivesOpening r (opening the_limits file_text (first_place path2) path2 x) v) asked_is
-    (subst (λ (x : Place). GivesOpening r (opening the_limits file_text x path2 u) v) is h))
+pub gives-main : (source : Source) (r : Result ℕ PreFault) (v t u : Table) (path : List ℕ) (place : Place) → place ≡ first_place path
+    → u ≡ asked source path t → GivesOpening r (opening the_limits file_text place path u) v → GivesOpening r (main_opening path t source) v
+gives-main source r v t u path place is asked_is h =
+    subst (λ (x : Table). GivesOpening r (opening the_limits file_text (first_place path) path x) v) asked_is
+    (subst (λ (x : Place). GivesOpening r (opening the_limits file_text x path u) v) is h)
 
 -- ---- the unit
 
@@ -135,69 +127,63 @@ by-refused earlier (Ok d) f h = absurd (cc)
 by-refused earlier (Err g) f h = ap (λ (x : Fault). Err x) (put_fault g f h)
 
 -- the steps of the two files, the first of which begins with this text
-abbrev FirstGives : FileMap → ℕ → UnitValue → ℕ → State → UnitTextValue → Result (State × UnitTextValue) Fault → Type 0
-FirstGives held number unit earlier s k r = put_after k (outer_file (unit_context held unit.ipath earlier) (defines_path number) s) ≡ r
+abbrev pub FirstGives : Source → ℕ → UnitValue → ℕ → State → UnitTextValue → Result (State × UnitTextValue) Fault → Type 0
+FirstGives source number unit earlier s k r = put_after k (outer_file (unit_context source unit.ipath earlier) (defines_path number) s) ≡ r
 
-abbrev NextGives : FileMap → UnitValue → ℕ → State → UnitTextValue → Result (State × UnitTextValue) Fault → Type 0
-NextGives held unit earlier t k r = put_after k (main_file (unit_context held unit.ipath earlier) unit.path t) ≡ r
+abbrev pub NextGives : Source → UnitValue → ℕ → State → UnitTextValue → Result (State × UnitTextValue) Fault → Type 0
+NextGives source unit earlier t k r = put_after k (main_file (unit_context source unit.ipath earlier) unit.path t) ≡ r
 
 module _ (number : ℕ) (unit : UnitValue) (before : Carried) (s : State) (k : UnitTextValue)
     (begun : s ≡ first_state the_limits number unit before.table) (nothing : k ≡ no_text) where
-  first : (held : FileMap) (r : Result (State × UnitTextValue) Fault) → FirstGives held number unit before.toks s k r
-      → FirstGives held number unit before.toks (first_state the_limits number unit before.table) no_text r
-  first held r h =
-      subst (λ (x : State). FirstGives held number unit before.toks x no_text r) begun (subst (λ (x : UnitTextValue). FirstGives held number unit before.toks s x r) nothing h)
+  first : (source : Source) (r : Result (State × UnitTextValue) Fault) → FirstGives source number unit before.toks s k r
+      → FirstGives source number unit before.toks (first_state the_limits number unit before.table) no_text r
+  first source r h =
+      subst (λ (x : State). FirstGives source number unit before.toks x no_text r) begun (subst (λ (x : UnitTextValue). FirstGives source number unit before.toks s x r) nothing h)
 
-  done_with : (held : FileMap) (t u : State) (k2 k3 : UnitTextValue) (after : Carried) → FirstGives held number unit before.toks s k (Ok (t, k2))
-      → NextGives held unit before.toks t k2 (Ok (u, k3)) → after ≡ carried u.table (before.toks + length k3.toks)
-      → preprocessed (source_of held) number unit before ≡ Ok (with_text after k3)
+  -- both files are walked
+  pub unit-done : (source : Source) (t u : State) (k2 k3 : UnitTextValue) (after : Carried) → FirstGives source number unit before.toks s k (Ok (t, k2))
+      → NextGives source unit before.toks t k2 (Ok (u, k3)) → after ≡ carried u.table (before.toks + length k3.toks)
+      → preprocessed source number unit before ≡ Ok (with_text after k3)
   unfolding preprocessed
-  done_with held t u k2 k3 after h j is =
-      by-done before.toks _ u k3 (put-both no_text k2 _ (main_file (unit_context held unit.ipath before.toks) unit.path) t (first held (Ok (t, k2)) h) ∙ j)
+  unit-done source t u k2 k3 after h j is =
+      by-done before.toks _ u k3 (put-both no_text k2 _ (main_file (unit_context source unit.ipath before.toks) unit.path) t (first source (Ok (t, k2)) h) ∙ j)
       ∙ ap (λ (c : Carried). Ok (with_text c k3)) (sym is)
 
-  first_refused : (held : FileMap) (o : Option Fault) → IfSome o (λ f. FirstGives held number unit before.toks s k (Err f))
-      → IfSome o (λ f. preprocessed (source_of held) number unit before ≡ Err f)
-  unfolding preprocessed
-  first_refused held None h = tt
-  first_refused held (Some f) h = by-refused before.toks _ f (put-both_fault no_text _ _ f (first held (Err f) h))
-
-  next_refused : (held : FileMap) (o : Option Fault) (t : State) (k2 : UnitTextValue) → FirstGives held number unit before.toks s k (Ok (t, k2))
-      → IfSome o (λ f. NextGives held unit before.toks t k2 (Err f)) → IfSome o (λ f. preprocessed (source_of held) number unit before ≡ Err f)
-  unfolding preprocessed
-  next_refused held None t k2 h j = tt
-  next_refused held (Some f) t k2 h j =
-      by-refused before.toks _ f (put-both no_text k2 _ (main_file (unit_context held unit.ipath before.toks) unit.path) t (first held (Ok (t, k2)) h) ∙ j)
-
-  -- where files are told: both files are walked
-  pub unit-done : (told : Option FileMap) (t u : State) (k2 k3 : UnitTextValue) (after : Carried)
-      → IfSome told (λ held. put_after k (outer_file (unit_context held unit.ipath before.toks) (defines_path number) s) ≡ Ok (t, k2))
-      → IfSome told (λ held. put_after k2 (main_file (unit_context held unit.ipath before.toks) unit.path t) ≡ Ok (u, k3))
-      → after ≡ carried u.table (before.toks + length k3.toks)
-      → IfSome told (λ held. preprocessed (source_of held) number unit before ≡ Ok (with_text after k3))
-  unit-done None t u k2 k3 after h j is = tt
-  unit-done (Some held) t u k2 k3 after h j is = done_with held t u k2 k3 after h j is
-
   -- there is a fault in the first
-  pub unit-first_refused : (told : Option FileMap) (o : Option Fault)
-      → IfSome told (λ held. IfSome o (λ f. put_after k (outer_file (unit_context held unit.ipath before.toks) (defines_path number) s) ≡ Err f))
-      → IfSome told (λ held. IfSome o (λ f. preprocessed (source_of held) number unit before ≡ Err f))
-  unit-first_refused None o h = tt
-  unit-first_refused (Some held) o h = first_refused held o h
+  pub unit-first_refused : (source : Source) (o : Option Fault) → IfSome o (λ f. FirstGives source number unit before.toks s k (Err f))
+      → IfSome o (λ f. preprocessed source number unit before ≡ Err f)
+  unfolding preprocessed
+  unit-first_refused source None h = tt
+  unit-first_refused source (Some f) h = by-refused before.toks _ f (put-both_fault no_text _ _ f (first source (Err f) h))
 
   -- there is one in the file of the unit
-  pub unit-next_refused : (told : Option FileMap) (o : Option Fault) (t : State) (k2 : UnitTextValue)
-      → IfSome told (λ held. put_after k (outer_file (unit_context held unit.ipath before.toks) (defines_path number) s) ≡ Ok (t, k2))
-      → IfSome told (λ held. IfSome o (λ f. put_after k2 (main_file (unit_context held unit.ipath before.toks) unit.path t) ≡ Err f))
-      → IfSome told (λ held. IfSome o (λ f. preprocessed (source_of held) number unit before ≡ Err f))
-  unit-next_refused None o t k2 h j = tt
-  unit-next_refused (Some held) o t k2 h j = next_refused held o t k2 h j
+  pub unit-next_refused : (source : Source) (o : Option Fault) (t : State) (k2 : UnitTextValue) → FirstGives source number unit before.toks s k (Ok (t, k2))
+      → IfSome o (λ f. NextGives source unit before.toks t k2 (Err f)) → IfSome o (λ f. preprocessed source number unit before ≡ Err f)
+  unfolding preprocessed
+  unit-next_refused source None t k2 h j = tt
+  unit-next_refused source (Some f) t k2 h j =
+      by-refused before.toks _ f (put-both no_text k2 _ (main_file (unit_context source unit.ipath before.toks) unit.path) t (first source (Ok (t, k2)) h) ∙ j)
 
 -- ---- paths
 
 -- a pseudo file of settings is not that of lines
 pub defines-apart : (path : List ℕ) (number : ℕ) → path ≡ defines_path number → bytes_eq path lines_path ≡ false
 defines-apart path number is = subst (λ (p : List ℕ). bytes_eq p lines_path ≡ false) (sym is) refl
+
+front-text : is_utf8 (codes "<defines ") ≡ true
+unfolding is_utf8 chars lib.Utf8.encode
+front-text = refl
+
+end-text : is_utf8 (codes ">") ≡ true
+unfolding is_utf8 chars lib.Utf8.encode
+end-text = refl
+
+-- and is text
+pub defines-text : (path : List ℕ) (number : ℕ) → path ≡ defines_path number → number < 2 ^ 64 → is_utf8 path ≡ true
+defines-text path number is few =
+    let front = IsUtf8-append (codes "<defines ") (decimal number) (IsUtf8-from_is_utf8 (codes "<defines ") front-text) (IsUtf8-from_ascii (decimal number) (IsAscii-decimal number few)) in
+    subst (λ (p : List ℕ). is_utf8 p ≡ true) (sym is)
+    (is_utf8-from_IsUtf8 (defines_path number) (IsUtf8-append (codes "<defines " ++ decimal number) (codes ">") front (IsUtf8-from_is_utf8 (codes ">") end-text)))
 
 pub not_met : (o : Option Found) (b : Bool) → b ≡ is_some o → b ≡ false → o ≡ None
 not_met None b h other = refl
@@ -224,8 +210,3 @@ unit-asked path u is sound =
     let writable : is_writable u.path ≡ true = and-left _ _ (and-left _ _ (and-left _ _ placed)) in
     let text : is_utf8 u.path ≡ true = and-left _ _ (and-left _ _ writable) in
     subst (λ (p : List ℕ). can_be_asked p ≡ true) (sym is) (and-both (is_utf8 u.path) (not (begins_with (λ c. c == less_sign) u.path)) text other)
-
--- what is told at a later moment
-pub told-moved : (told told2 : Option FileMap) (toks toks2 : ℕ) (P : FileMap → ℕ → Type 0) → told2 ≡ told → toks2 ≡ toks → IfSome told2 (λ held. P held toks2) → IfSome told (λ held. P held toks)
-told-moved told told2 toks toks2 P same toks_is h =
-    subst (λ (o : Option FileMap). IfSome o (λ held. P held toks)) same (subst (λ (n : ℕ). IfSome told2 (λ held. P held n)) toks_is h)

@@ -158,6 +158,18 @@ entered-by k k2 note last (Ok d) t h =
     ∙ ap (λ (r : State × UnitTextValue). Ok (r.0, noted_in r.1 (last r.0 ∷ []))) (done_same (d.state, put_in (noted_in one d.notes) d.value) (t, k2) h)
 entered-by k k2 note last (Err f) t h = absurd (cc)
 
+enters-fault : (k : UnitTextValue) (note : Note) (m : Outcome (List Token)) (next : List Token → State → Outcome (List Token)) (f : Fault)
+    → put_after (noted_in k (note ∷ [])) m ≡ Err f → put_after k (noted (note ∷ []) (onward m next)) ≡ Err f
+enters-fault k note (Ok d) next f h = absurd (cc)
+enters-fault k note (Err g) next f h = h
+
+-- the fault of an included file
+pub entered-fault : (process : Process) (at : Pos) (file : SourceFile) (n : ℕ) (s : State) (k : UnitTextValue) (f : Fault) → file.number ≡ n
+    → put_after (noted_in k (Entered at n s.before ∷ [])) (process file s) ≡ Err f → put_after k (entered process at file s) ≡ Err f
+entered-fault process at file n s k f number h =
+    ap (λ (m : ℕ). put_after k (noted (Entered at m s.before ∷ []) (onward (process file s) (λ toks u. Ok (did toks (Exited at m u.before ∷ []) u))))) number
+    ∙ enters-fault k (Entered at n s.before) (process file s) (λ toks u. Ok (did toks (Exited at n u.before ∷ []) u)) f h
+
 -- the items of an included file, entered and left
 pub entered-done : (process : Process) (at : Pos) (file : SourceFile) (n : ℕ) (s t : State) (k k2 : UnitTextValue) → file.number ≡ n
     → put_after (noted_in k (Entered at n s.before ∷ [])) (process file s) ≡ Ok (t, k2)

@@ -1,6 +1,6 @@
 -- What `preprocess` answers, as contracts see it.
 use Rattle.std.specs.Prelude.{◌≡◌, ◌≤◌, ℕ, List, Option, Some, None, Result, Ok, Err, IfSome}
-use Rattle.cs_base.specs.Outside.{Rose}
+use Rattle.cs_base.specs.Outside.{Rose, FileMap}
 use Rattle.include_tree.specs.declared.pre_fault.PreFault.{PreFault}
 use Rattle.include_tree.specs.declared.pre_fault.PreFault.TheVariants as answer
 use Rattle.part_lexer.specs.FileText.{TextValue}
@@ -8,7 +8,7 @@ use Rattle.include_tree.specs.Opening.{Opening}
 use Rattle.include_tree.specs.Files.{source_file, Table, Carried}
 use Rattle.include_tree.specs.Faults.{Fault, fault}
 use Rattle.include_tree.specs.Texts.{UnitTextValue, Preprocessed}
-use Rattle.include_tree.specs.Laws.{IsGrown}
+use Rattle.include_tree.specs.Laws.{IsGrown, StaysHeld}
 
 -- the fault that a refusal names: none for a failed read and for want of memory
 abbrev pub fault_of : PreFault → Option Fault
@@ -40,9 +40,11 @@ pub record ReadCounts {X : Type 0} (reads reads' puts puts' : ℕ) (last last' :
   pub apart : puts' ≡ puts
   pub told : TellsReads reads reads' last last' result
 
--- A cache behind a refusal: the files that were read are kept, and no tokens are counted.
-pub record KeepsFiles (old new : Carried) : Type 0 where
+-- A cache behind a step over files: its table has grown and stays what they hold, where that is told, and no
+-- tokens are counted.
+pub record ReadsOn (told : Option FileMap) (old new : Carried) : Type 0 where
   pub grown : IsGrown old.table new.table
+  pub found : StaysHeld told old.table new.table
   pub counted : new.toks ≡ old.toks
 
 -- A file was opened, and its number is told; or the fault of opening it, which yields to want of memory.

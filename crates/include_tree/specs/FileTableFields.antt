@@ -1,5 +1,8 @@
 -- The private fields of the table of files as plain values.
 use Rattle.std.specs.Prelude.{◌≡◌, ◌<◌, ◌+◌, ◌-◌, ◌^◌, ℕ, Bool, true, false, List, [], ◌∷◌, length, map, Option, Some}
+use Rattle.std.specs.List.{list_all}
+use Rattle.std.specs.Str.{is_utf8}
+use Rattle.line_shape.specs.MacroLine.{are_distinct}
 use Rattle.include_tree.specs.declared.slot.Slot.{Slot}
 use Rattle.include_tree.specs.declared.file_table.FileTable.TheInside.{Inside}
 use Rattle.include_tree.specs.Files.{Found, Lines, Unopened, entry, Table, lines_path, number_of, found_at}
@@ -33,6 +36,8 @@ pub record IsFileTable (paths : List (List ℕ)) (slots : List Slot) : Type 0 wh
   pub each : length slots ≡ length paths
   pub numbered : AreNumbered 1 paths slots
   pub few : length slots < 2 ^ 32 - 1
+  pub once : are_distinct (lines_path ∷ paths) ≡ true
+  pub text : list_all is_utf8 paths ≡ true
 
 -- What a look-up of a path gives: its number and what it stands for.
 pub record Stands (table : Table) (path : List ℕ) (number : ℕ) (s : Slot) : Type 0 where

@@ -46,6 +46,10 @@ unfoldable pub found_at : List ℕ → Table → Option Found
 found_at path [] = None
 found_at path (e ∷ table) = if bytes_eq path e.path then Some e.found else found_at path table
 
+-- its number, if it has one
+abbrev pub number_at : List ℕ → Table → Option ℕ
+number_at path table = if is_some (found_at path table) then Some (number_of path table) else None
+
 -- the table with one number more
 abbrev pub numbered : List ℕ → Found → Table → Table
 numbered path found table = table ++ entry path found ∷ []

@@ -1,10 +1,13 @@
 -- What is true of all units.
-use Rattle.std.specs.Prelude.{◌≡◌, ℕ, ◌+◌, ◌≤◌, true, ◌⊎◌, List, [], ◌∷◌, length, map, None, Some, Ok, Err}
+use Rattle.std.specs.Prelude.{◌≡◌, ℕ, ◌+◌, ◌≤◌, true, ◌⊎◌, List, [], ◌∷◌, length, map, Option, None, Some, Ok, Err, IfSome}
+use Rattle.std.specs.List.{list_all}
+use Rattle.std.specs.Str.{is_utf8}
+use Rattle.cs_base.specs.Outside.{FileMap}
 use Rattle.cs_base.specs.Token.{Token}
 use Rattle.cs_base.specs.Units.{UnitValue}
 use Rattle.line_shape.specs.MacroLine.{are_distinct}
 use Rattle.include_tree.specs.Limits.{Limits}
-use Rattle.include_tree.specs.Files.{Source, Found, Absent, Unopened, Opened, Entry, Table, SourceFile, Carried, found_at, defines_path, files_opened, bytes_opened}
+use Rattle.include_tree.specs.Files.{Source, source_of, Found, Absent, Unopened, Opened, Entry, Table, SourceFile, Carried, found_at, defines_path, files_opened, bytes_opened}
 use Rattle.include_tree.specs.State.{Reader, Context, context, State, Did, Outcome}
 use Rattle.include_tree.specs.Expanding.{most_toks}
 use Rattle.include_tree.specs.Walk.{file_items}
@@ -38,6 +41,10 @@ abbrev pub AreFound : Source → Table → Type 0
 AreFound source [] = Unit {0}
 AreFound source (e ∷ table) = IsFound source e.path e.found × AreFound source table
 
+-- A source that holds what a table tells holds what an earlier one told.
+abbrev pub EarlierFound : Type 0
+EarlierFound = (source : Source) (old new : Table) → IsGrown old new → AreFound source new → AreFound source old
+
 -- the paths that have a number
 abbrev pub paths_in : Table → List (List ℕ)
 paths_in table = map (λ (e : Entry). e.path) table
@@ -46,15 +53,28 @@ paths_in table = map (λ (e : Entry). e.path) table
 abbrev pub HasEachOnce : Table → Type 0
 HasEachOnce table = are_distinct (paths_in table) ≡ true
 
+-- A source agrees with each table that has each path once.
+abbrev pub SomeAgrees : Type 0
+SomeAgrees = (table : Table) → HasEachOnce table → (source : Source) × AreFound source table
+
+-- each path is text
+abbrev pub AreText : Table → Type 0
+AreText table = list_all is_utf8 (paths_in table) ≡ true
+
 -- The table only grows, stays what the source holds, and has each path once.
 pub record Widens (source : Source) (old new : Table) : Type 0 where
   pub grown : IsGrown old new
   pub found : AreFound source old → AreFound source new
   pub once : HasEachOnce old → HasEachOnce new
 
--- A table that was asked for paths: it has grown, and nothing more is opened.
-pub record OnlyAsks (old new : Table) : Type 0 where
+-- It stays what files hold, where that is told.
+abbrev pub StaysHeld : Option FileMap → Table → Table → Type 0
+StaysHeld told old new = IfSome told (λ held. AreFound (source_of held) old → AreFound (source_of held) new)
+
+-- A table that was asked for paths of files: it has grown, stays what they hold, and nothing more is opened.
+pub record OnlyAsks (told : Option FileMap) (old new : Table) : Type 0 where
   pub grown : IsGrown old new
+  pub found : StaysHeld told old new
   pub files : files_opened new ≡ files_opened old
   pub bytes : bytes_opened new ≡ bytes_opened old
 

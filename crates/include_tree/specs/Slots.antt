@@ -11,6 +11,12 @@ found_of (slot.Unopened bytes) = Unopened bytes.items
 found_of (slot.Opened file) = Opened file.bytes
 found_of (slot.Made file) = Made file.bytes
 
+-- what is read of a path: that it is absent, or its bytes
+abbrev pub IsRead : Found → Type 0
+IsRead Absent = Unit {0}
+IsRead (Unopened bytes) = Unit {0}
+IsRead _ = ⊥
+
 -- a file that is there and was not opened
 abbrev pub is_unopened : Slot → Bool
 is_unopened (slot.Unopened bytes) = true

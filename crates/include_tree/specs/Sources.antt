@@ -1,13 +1,12 @@
 -- Source files that are kept, as they are processed.
 use Rattle.std.specs.Prelude.{◌≡◌, ℕ, ◌-◌, ◌^◌, min, Option, Some, None, List, [], Result, Ok, Err, IfSome}
 use Rattle.std.specs.Option.{option_and_then}
-use Rattle.cs_base.specs.Outside.{FileMap}
 use Rattle.part_lexer.specs.FileText.{TextValue, LexFault, file_text}
 use Rattle.cs_base.specs.declared.causes.Cause.TheVariants.{MissingFile}
 use Rattle.cs_base.specs.declared.positions.Place.{Place}
 use Rattle.include_tree.specs.declared.pre_fault.PreFault.{PreFault}
 use Rattle.include_tree.specs.Limits.{the_limits}
-use Rattle.include_tree.specs.Files.{SourceFile, source_file, source_of, Table}
+use Rattle.include_tree.specs.Files.{Source, SourceFile, source_file, Table}
 use Rattle.include_tree.specs.KeptFiles.{KeptValue, kept_at}
 use Rattle.include_tree.specs.State.{Context, context, State, did, Outcome}
 use Rattle.include_tree.specs.Faults.{fault}
@@ -28,10 +27,10 @@ source_kept k = read_as k.number k.path (file_text k.number k.bytes)
 abbrev pub source_at : Table → ℕ → Option SourceFile
 source_at table number = option_and_then source_kept (kept_at table number)
 
--- What stays the same in a unit over these files, with these include directories, behind so many tokens of
+-- What stays the same in a unit over this source, with these include directories, behind so many tokens of
 -- other units.
-abbrev pub unit_context : FileMap → List (List ℕ) → ℕ → Context
-unit_context files ipath earlier = context (source_of files) file_text ipath the_limits earlier
+abbrev pub unit_context : Source → List (List ℕ) → ℕ → Context
+unit_context source ipath earlier = context source file_text ipath the_limits earlier
 
 -- how many tokens the unit may have
 abbrev pub unit_most : ℕ → ℕ

@@ -2,9 +2,9 @@
 ghost use Rattle.std.specs.Prelude.{◌≡◌, ℕ, List, true, false, None, is_some, IfOk, IfErr, IfSome, OnOk, OnErr};
 ghost use Rattle.std.specs.Str.{bytes_eq};
 ghost use Rattle.cs_base.specs.Outside.{bytes_at};
-ghost use Rattle.include_tree.specs.Files.{lines_path, found_at, found_in, source_of, asked, opened_bytes};
-ghost use Rattle.include_tree.specs.Laws.{OnlyAsks};
-ghost use Rattle.include_tree.specs.Slots.{found_of, IsNumbered};
+ghost use Rattle.include_tree.specs.Files.{Source, lines_path, found_at, found_in, asked};
+ghost use Rattle.include_tree.specs.Laws.{AreFound, OnlyAsks};
+ghost use Rattle.include_tree.specs.Slots.{found_of, IsNumbered, IsRead};
 ghost use Rattle.include_tree.specs.Answers.{fault_of, ReadCounts, TellsOfRead};
 
 use crate::file_table::FileTable;
@@ -29,7 +29,7 @@ fn read_slot<F: Files>(alloc: Global, files: &mut F, path: &str) -> Result<Slot,
     ensures held { F.held files.new ≡ F.held files.old }
     ensures answer { IfSome (F.held files.old) (λ held. IfOk result (λ slot. found_of slot ≡ found_in (bytes_at path.now held))) }
     ensures numbered { IfOk result (λ slot. (number : ℕ) (name : List ℕ) → IsNumbered number name slot) }
-    ensures fresh { IfOk result (λ slot. opened_bytes (found_of slot) ≡ None) }
+    ensures read { IfOk result (λ slot. IsRead (found_of slot)) }
     ensures no_fault { IfErr result (λ e. fault_of e ≡ None) }
     ensures faults { ReadCounts (F.failed_reads files.old) (F.failed_reads files.new) (F.failed_puts files.old) (F.failed_puts files.new) (F.last_failed files.old) (F.last_failed files.new) result }
 {
@@ -50,10 +50,10 @@ pub(crate) fn ask<F: Files>(
 ) -> Result<(), PreFault>
     requires { bytes_eq path.now lines_path ≡ false }
     ensures held { F.held files.new ≡ F.held files.old }
-    ensures answer { IfSome (F.held files.old) (λ held. OnOk result (table.new ≡ asked (source_of held) path.now table.old)) }
+    ensures answer { (source : Source) → AreFound source table.new → OnOk result (table.new ≡ asked source path.now table.old) }
     ensures known { OnOk result (is_some (found_at path.now table.new) ≡ true) }
     ensures unchanged { OnErr result (table.new ≡ table.old) }
-    ensures only { OnlyAsks table.old table.new }
+    ensures only { OnlyAsks (F.held files.old) table.old table.new }
     ensures no_fault { IfErr result (λ e. fault_of e ≡ None) }
     ensures faults { ReadCounts (F.failed_reads files.old) (F.failed_reads files.new) (F.failed_puts files.old) (F.failed_puts files.new) (F.last_failed files.old) (F.last_failed files.new) result }
 {

@@ -5,10 +5,10 @@ ghost use Rattle.std.specs.Str.{bytes_eq};
 ghost use Rattle.part_lexer.specs.FileText.{file_text};
 ghost use Rattle.part_lexer.specs.Refusal.{fault_of as lex_fault_of};
 ghost use Rattle.include_tree.specs.Limits.{the_limits};
-ghost use Rattle.include_tree.specs.Files.{Table, lines_path, nothing_carried, asked, source_of, found_at};
+ghost use Rattle.include_tree.specs.Files.{Source, Table, lines_path, nothing_carried, asked, found_at, number_at};
 ghost use Rattle.include_tree.specs.Opening.{opening, file_read};
 ghost use Rattle.include_tree.specs.KeptFiles.{kept_at};
-ghost use Rattle.include_tree.specs.Laws.{OnlyAsks};
+ghost use Rattle.include_tree.specs.Laws.{AreFound, HasEachOnce, AreText, OnlyAsks};
 ghost use Rattle.include_tree.specs.Statuses.{IsUnread, is_missing};
 ghost use Rattle.include_tree.specs.Answers.{fault_of, OpensFile, IsNoReadFault, ReadCounts};
 
@@ -79,9 +79,18 @@ impl Cache {
         self.table.path(number)
     }
 
-    /// How many numbers are given: those from 0 to before this one. Takes no memory.
+    /// The number of a path: none exactly where it has none. Takes no memory.
+    pub fn number(&self, path: &[u8]) -> Option<u32>
+        ensures { result ≡ number_at path.now self.now.table }
+    {
+        self.table.number(path)
+    }
+
+    /// How many numbers are given: those from 0 to before this one, each to a path of its own. Takes no memory.
     pub fn numbers(&self) -> u32
-        ensures { result ≡ length self.now.table }
+        ensures answer { result ≡ length self.now.table }
+        ensures once { HasEachOnce self.now.table }
+        ensures text { AreText self.now.table }
     {
         self.table.next_number()
     }
@@ -95,9 +104,9 @@ impl Cache {
     ) -> Result<bool, PreFault>
         requires { bytes_eq path.now lines_path ≡ false }
         ensures held { F.held files.new ≡ F.held files.old }
-        ensures answer { IfSome (F.held files.old) (λ held. OnOk result (self.new.table ≡ asked (source_of held) path.now self.old.table)) }
+        ensures answer { (source : Source) → AreFound source self.new.table → OnOk result (self.new.table ≡ asked source path.now self.old.table) }
         ensures there { IfOk result (λ there. is_missing (found_at path.now self.new.table) ≡ not there) }
-        ensures only { OnlyAsks self.old.table self.new.table }
+        ensures only { OnlyAsks (F.held files.old) self.old.table self.new.table }
         ensures no_fault { IfErr result (λ e. fault_of e ≡ None) }
         ensures toks { self.new.toks ≡ self.old.toks }
         ensures faults { ReadCounts (F.failed_reads files.old) (F.failed_reads files.new) (F.failed_puts files.old) (F.failed_puts files.new) (F.last_failed files.old) (F.last_failed files.new) result }

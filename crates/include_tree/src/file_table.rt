@@ -1,11 +1,12 @@
 // The table of files: what is known of each path that has a number.
 ghost use Rattle.std.specs.Prelude.{◌≡◌, ◌∷◌, [], false, None, is_some, IfSome, OnOk, OnErr, option_copied, length, slice_get, true, Err, IfErr, is_ok};
 ghost use Rattle.std.specs.Option.{option_map};
-ghost use Rattle.std.specs.Str.{bytes_eq};
+ghost use Rattle.std.specs.Str.{bytes_eq, is_utf8};
 ghost use Rattle.part_lexer.specs.FileText.{file_text};
 ghost use Rattle.part_lexer.specs.Refusal.{fault_of};
-ghost use Rattle.include_tree.specs.Files.{lines_path, Lines, entry, found_at, number_of, numbered, opened};
+ghost use Rattle.include_tree.specs.Files.{lines_path, Lines, entry, found_at, number_of, number_at, numbered, opened};
 ghost use Rattle.include_tree.specs.KeptFiles.{kept_at};
+ghost use Rattle.include_tree.specs.Laws.{HasEachOnce, AreText};
 ghost use Rattle.include_tree.specs.Slots.{found_of, IsNumbered};
 
 use crate::kept_file::KeptFile;
@@ -24,6 +25,12 @@ const LINES_PATH: &[u8] = b"<lines>";
 pub(crate) struct FileTable {
     paths: IndexSet<Vec<u8>>,
     slots: Vec<Slot>,
+}
+
+fn is_lines(path: &[u8]) -> bool
+    ensures { result ≡ bytes_eq path.now lines_path }
+{
+    path == LINES_PATH
 }
 
 impl Model for FileTable {
@@ -51,7 +58,9 @@ impl FileTable {
 
     // The number that the next path gets.
     pub(crate) fn next_number(&self) -> u32
-        ensures { result ≡ length self.now }
+        ensures answer { result ≡ length self.now }
+        ensures once { HasEachOnce self.now }
+        ensures text { AreText self.now }
     {
         self.slots.len() as u32 + 1
     }
@@ -86,6 +95,20 @@ impl FileTable {
         }
     }
 
+    // The number of a path, if it has one.
+    pub(crate) fn number(&self, path: &[u8]) -> Option<u32>
+        ensures { result ≡ number_at path.now self.now }
+    {
+        let paths = &self.paths;
+        if is_lines(path) {
+            return Some(0);
+        }
+        match paths.get_index_of(path) {
+            Some(i) => Some(i as u32 + 1),
+            None => None,
+        }
+    }
+
     // The number of a path and what it stands for, if it has one.
     pub(crate) fn find(&self, path: &[u8]) -> Option<(u32, &Slot)>
         requires { bytes_eq path.now lines_path ≡ false }
@@ -101,6 +124,7 @@ impl FileTable {
     // A path gets the next number.
     pub(crate) fn push(&mut self, path: &[u8], slot: Slot) -> Result<(), Memory>
         requires fresh { found_at path.now self.old ≡ None }
+        requires text { is_utf8 path.now ≡ true }
         requires numbered { IsNumbered (length self.old) path.now slot }
         ensures ok { OnOk result (self.new ≡ numbered path.now (found_of slot) self.old) }
         ensures unchanged { OnErr result (self.new ≡ self.old) }

@@ -3,13 +3,13 @@ ghost use Rattle.std.specs.Prelude.{◌≡◌, ◌&&◌, true, IsTrue, IfOk, IfE
 ghost use Rattle.std.specs.List.{list_all};
 ghost use Rattle.cs_base.specs.Answer.{Gives};
 ghost use Rattle.macro_expand.specs.Sound.{is_traced, is_low};
-ghost use Rattle.include_tree.specs.Files.{Table, source_of};
+ghost use Rattle.include_tree.specs.Files.{Source, Table};
 ghost use Rattle.include_tree.specs.Faults.{place_in};
 ghost use Rattle.include_tree.specs.State.{State};
 ghost use Rattle.include_tree.specs.Search.{can_be_asked, candidates_of, search};
 ghost use Rattle.include_tree.specs.Including.{header_or, header_of_toks, computed_header, header_named, open_header};
-ghost use Rattle.include_tree.specs.Answers.{fault_of, IsNoReadFault, ReadCounts};
-ghost use Rattle.include_tree.specs.Laws.{IsGrown};
+ghost use Rattle.include_tree.specs.Answers.{fault_of, IsNoReadFault, ReadCounts, ReadsOn};
+ghost use Rattle.include_tree.specs.Laws.{AreFound};
 ghost use Rattle.include_tree.specs.Keeping.{kept_after};
 ghost use Rattle.include_tree.specs.SourceTexts.{source_in};
 ghost use Rattle.include_tree.specs.Moments.{state_in, IsAble};
@@ -122,6 +122,26 @@ fn asked_by(
     })
 }
 
+// What an include line of the kept file with this number asks for, whose `#` is there.
+fn asked_in(
+    alloc: Global,
+    cache: &Cache,
+    ipath: &[Text],
+    number: u32,
+    at: Pos,
+    header: &Header,
+) -> Result<Asked, Memory>
+    requires kept { IsSome (source_at cache.now.table number) }
+    ensures can { IfOk result (λ a. list_all can_be_asked a.paths.items ≡ true) }
+    ensures paths { IfOk result (λ a. IfSome (source_at cache.now.table number) (λ source. a.paths.items ≡ candidates_of header.now source.path ipath.now)) }
+    ensures place { IfOk result (λ a. IfSome (source_at cache.now.table number) (λ source. a.place ≡ place_in source at)) }
+{
+    match cache.file(number) {
+        Some(file) => asked_by(alloc, file, ipath, at, header),
+        None => unreachable!(),
+    }
+}
+
 // The number of the first of these files that is there; it is opened.
 fn open_asked<F: Files>(
     alloc: Global,
@@ -131,10 +151,10 @@ fn open_asked<F: Files>(
 ) -> Result<u32, PreFault>
     requires can { list_all can_be_asked asked.now.paths.items ≡ true }
     ensures held { F.held files.new ≡ F.held files.old }
-    ensures answer { IfSome (F.held files.old) (λ held. GivesOpening result (opening_found asked.now.place (search (source_of held) asked.now.paths.items cache.old.table)) cache.new.table) }
+    ensures answer { (source : Source) → AreFound source cache.new.table →
+        GivesOpening result (opening_found asked.now.place (search source asked.now.paths.items cache.old.table)) cache.new.table }
     ensures there { IfOk result (λ n. IsSome (source_at cache.new.table n)) }
-    ensures grown { IsGrown cache.old.table cache.new.table }
-    ensures toks { cache.new.toks ≡ cache.old.toks }
+    ensures reads { ReadsOn (F.held files.old) cache.old cache.new }
     ensures faults { ReadCounts (F.failed_reads files.old) (F.failed_reads files.new) (F.failed_puts files.old) (F.failed_puts files.new) (F.last_failed files.old) (F.last_failed files.new) result }
 {
     match search(alloc, cache, files, asked.paths.as_slice()) {
@@ -157,18 +177,14 @@ pub(crate) fn open_header<F: Files>(
 ) -> Result<u32, PreFault>
     requires kept { IsSome (source_at cache.old.table number) }
     ensures held { F.held files.new ≡ F.held files.old }
-    ensures answer { IfSome (F.held files.old) (λ held. IfSome (source_at cache.old.table number) (λ file. (s : State) → s.table ≡ cache.old.table → GivesFile result (open_header (unit_context held ipath.now cache.old.toks) file at header.now s) cache.new.table s)) }
+    ensures answer { (source : Source) → AreFound source cache.new.table → IfSome (source_at cache.old.table number) (λ file. (s : State) → s.table ≡ cache.old.table →
+        GivesFile result (open_header (unit_context source ipath.now cache.old.toks) file at header.now s) cache.new.table s) }
     ensures there { IfOk result (λ n. IsSome (source_at cache.new.table n)) }
-    ensures grown { IsGrown cache.old.table cache.new.table }
-    ensures toks { cache.new.toks ≡ cache.old.toks }
+    ensures reads { ReadsOn (F.held files.old) cache.old cache.new }
     ensures faults { ReadCounts (F.failed_reads files.old) (F.failed_reads files.new) (F.failed_puts files.old) (F.failed_puts files.new) (F.last_failed files.old) (F.last_failed files.new) result }
 {
-    let asked = match cache.file(number) {
-        Some(file) => match asked_by(alloc, file, ipath, at, header) {
-            Ok(asked) => asked,
-            Err(_) => return Err(PreFault::Memory),
-        },
-        None => unreachable!(),
-    };
-    open_asked(alloc, cache, files, &asked)
+    match asked_in(alloc, cache, ipath, number, at, header) {
+        Ok(asked) => open_asked(alloc, cache, files, &asked),
+        Err(_) => Err(PreFault::Memory),
+    }
 }

@@ -1,5 +1,5 @@
 // What is true of all units: laws that no caller runs, and that callers' proofs cite.
-ghost use Rattle.include_tree.specs.Laws.{FilesLead, UnitsEnd, DepthIsALimit};
+ghost use Rattle.include_tree.specs.Laws.{EarlierFound, SomeAgrees, FilesLead, UnitsEnd, DepthIsALimit};
 ghost use Rattle.include_tree.specs.PseudoFiles.{OthersStay};
 
 /// Tokens that are put out are counted, and stay within the limits; work never rises; and the table of
@@ -7,6 +7,13 @@ ghost use Rattle.include_tree.specs.PseudoFiles.{OthersStay};
 pub fn units_are_counted()
     ensures files { FilesLead }
     ensures units { UnitsEnd }
+{}
+
+/// A table only grows, so a source that agrees with what it tells agrees with what it told before; and some
+/// source agrees with each table that has each path once.
+pub fn tables_only_grow()
+    ensures earlier { EarlierFound }
+    ensures some { SomeAgrees }
 {}
 
 /// Where so many files suffice that may be open inside one another, more of them change nothing.

@@ -50,7 +50,9 @@ mod walking;
 pub use cache::Cache;
 pub use events::{Event, EventKind, Reached};
 pub use kept_file::KeptFile;
-pub use laws::{depth_is_a_limit, pseudo_files_are_of_their_units, units_are_counted};
+pub use laws::{
+    depth_is_a_limit, pseudo_files_are_of_their_units, tables_only_grow, units_are_counted,
+};
 pub use pre_fault::PreFault;
 pub use unit_text::UnitText;
 pub use unit_walk::preprocess;

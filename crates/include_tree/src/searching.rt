@@ -2,8 +2,8 @@
 ghost use Rattle.std.specs.Prelude.{◌≡◌, ◌<◌, true, not, None, IfOk, IfErr, OnOk, IfSome, get_or, length, []};
 ghost use Rattle.std.specs.List.{list_all};
 ghost use Rattle.std.specs.Option.{option_map};
-ghost use Rattle.include_tree.specs.Files.{source_of, asked, found_at};
-ghost use Rattle.include_tree.specs.Laws.{OnlyAsks};
+ghost use Rattle.include_tree.specs.Files.{Source, asked, found_at};
+ghost use Rattle.include_tree.specs.Laws.{AreFound, OnlyAsks};
 ghost use Rattle.include_tree.specs.Search.{can_be_asked, searched, search};
 ghost use Rattle.include_tree.specs.Statuses.{is_missing};
 ghost use Rattle.include_tree.specs.Answers.{fault_of, ReadCounts};
@@ -23,9 +23,9 @@ pub(crate) fn ask_bytes<F: Files>(
 ) -> Result<bool, PreFault>
     requires { can_be_asked path.now ≡ true }
     ensures held { F.held files.new ≡ F.held files.old }
-    ensures answer { IfSome (F.held files.old) (λ held. OnOk result (cache.new.table ≡ asked (source_of held) path.now cache.old.table)) }
+    ensures answer { (source : Source) → AreFound source cache.new.table → OnOk result (cache.new.table ≡ asked source path.now cache.old.table) }
     ensures there { IfOk result (λ there. is_missing (found_at path.now cache.new.table) ≡ not there) }
-    ensures only { OnlyAsks cache.old.table cache.new.table }
+    ensures only { OnlyAsks (F.held files.old) cache.old.table cache.new.table }
     ensures no_fault { IfErr result (λ e. fault_of e ≡ None) }
     ensures toks { cache.new.toks ≡ cache.old.toks }
     ensures faults { ReadCounts (F.failed_reads files.old) (F.failed_reads files.new) (F.failed_puts files.old) (F.failed_puts files.new) (F.last_failed files.old) (F.last_failed files.new) result }
@@ -45,9 +45,9 @@ pub(crate) fn search<F: Files>(
 ) -> Result<Option<usize>, PreFault>
     requires { list_all can_be_asked paths.now ≡ true }
     ensures held { F.held files.new ≡ F.held files.old }
-    ensures answer { IfSome (F.held files.old) (λ held. IfOk result (λ at. search (source_of held) paths.now cache.old.table ≡ searched (option_map (λ i. get_or paths.now i []) at) cache.new.table)) }
+    ensures answer { (source : Source) → AreFound source cache.new.table → IfOk result (λ at. search source paths.now cache.old.table ≡ searched (option_map (λ i. get_or paths.now i []) at) cache.new.table) }
     ensures within { IfOk result (λ at. IfSome at (λ i. i < length paths.now)) }
-    ensures only { OnlyAsks cache.old.table cache.new.table }
+    ensures only { OnlyAsks (F.held files.old) cache.old.table cache.new.table }
     ensures no_fault { IfErr result (λ e. fault_of e ≡ None) }
     ensures toks { cache.new.toks ≡ cache.old.toks }
     ensures faults { ReadCounts (F.failed_reads files.old) (F.failed_reads files.new) (F.failed_puts files.old) (F.failed_puts files.new) (F.last_failed files.old) (F.last_failed files.new) result }

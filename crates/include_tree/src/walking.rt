@@ -1,14 +1,15 @@
 // The walk over the items of a file and of those that it includes (6.10).
 ghost use Rattle.std.specs.Prelude.{◌≡◌, ◌-◌, IfOk, IfErr, IfSome, IsSome, OnOk, length, slice_get};
 ghost use Rattle.cs_base.specs.Answer.{Gives};
+ghost use Rattle.include_tree.specs.Files.{Source};
 ghost use Rattle.include_tree.specs.Faults.{fault_at};
 ghost use Rattle.include_tree.specs.State.{Context, State};
 ghost use Rattle.include_tree.specs.Expanding.{most_toks};
 ghost use Rattle.include_tree.specs.Including.{Inner, entered, included};
 ghost use Rattle.include_tree.specs.Walk.{items_in, item_step, file_end, file_items};
 ghost use Rattle.include_tree.specs.Texts.{UnitTextValue};
-ghost use Rattle.include_tree.specs.Answers.{fault_of, IsNoReadFault, ReadCounts};
-ghost use Rattle.include_tree.specs.Laws.{IsGrown};
+ghost use Rattle.include_tree.specs.Answers.{fault_of, IsNoReadFault, ReadCounts, ReadsOn};
+ghost use Rattle.include_tree.specs.Laws.{AreFound};
 ghost use Rattle.include_tree.specs.Keeping.{put_after};
 ghost use Rattle.include_tree.specs.Moments.{state_in, IsAble};
 ghost use Rattle.include_tree.specs.Sources.{source_kept, source_at, unit_context, unit_most};
@@ -107,13 +108,12 @@ pub(crate) fn walk_file<F: Files>(
     requires able { IsAble p.old }
     requires limited { p.old.most ≡ unit_most cache.old.toks }
     ensures held { F.held files.new ≡ F.held files.old }
-    ensures answer { IfSome (F.held files.old) (λ held. IfSome (source_at cache.old.table number) (λ file.
+    ensures answer { (source : Source) → AreFound source cache.new.table → IfSome (source_at cache.old.table number) (λ file.
         Gives (λ _. (state_in cache.new.table p.new, p.new.text)) fault_of result
-        (put_after p.old.text (file_items (unit_context held ipath.now cache.old.toks) room file (state_in cache.old.table p.old))))) }
+        (put_after p.old.text (file_items (unit_context source ipath.now cache.old.toks) room file (state_in cache.old.table p.old)))) }
     ensures able { OnOk result (IsAble p.new) }
     ensures most { p.new.most ≡ p.old.most }
-    ensures grown { IsGrown cache.old.table cache.new.table }
-    ensures toks { cache.new.toks ≡ cache.old.toks }
+    ensures reads { ReadsOn (F.held files.old) cache.old cache.new }
     ensures faults { ReadCounts (F.failed_reads files.old) (F.failed_reads files.new) (F.failed_puts files.old) (F.failed_puts files.new) (F.last_failed files.old) (F.last_failed files.new) result }
 {
     let mut sections = Sections::new(alloc);
@@ -154,13 +154,12 @@ fn walk_item<F: Files>(
     requires able { IsAble p.old }
     requires limited { p.old.most ≡ unit_most cache.old.toks }
     ensures held { F.held files.new ≡ F.held files.old }
-    ensures answer { IfSome (F.held files.old) (λ held. IfSome (source_at cache.old.table number) (λ file. IfSome (slice_get (items_in file) k) (λ i.
+    ensures answer { (source : Source) → AreFound source cache.new.table → IfSome (source_at cache.old.table number) (λ file. IfSome (slice_get (items_in file) k) (λ i.
         Gives (λ _. (sections.new, state_in cache.new.table p.new, p.new.text)) fault_of result
-        (stepped_after p.old.text (item_step (unit_context held ipath.now cache.old.toks) (inner_in (unit_context held ipath.now cache.old.toks) room) file k i sections.old (state_in cache.old.table p.old)))))) }
+        (stepped_after p.old.text (item_step (unit_context source ipath.now cache.old.toks) (inner_in (unit_context source ipath.now cache.old.toks) room) file k i sections.old (state_in cache.old.table p.old))))) }
     ensures able { OnOk result (IsAble p.new) }
     ensures most { p.new.most ≡ p.old.most }
-    ensures grown { IsGrown cache.old.table cache.new.table }
-    ensures toks { cache.new.toks ≡ cache.old.toks }
+    ensures reads { ReadsOn (F.held files.old) cache.old cache.new }
     ensures faults { ReadCounts (F.failed_reads files.old) (F.failed_reads files.new) (F.failed_puts files.old) (F.failed_puts files.new) (F.last_failed files.old) (F.last_failed files.new) result }
 {
     match next_item(cache, p, number, k, sections) {
@@ -197,13 +196,12 @@ fn include_file<F: Files>(
     requires able { IsAble p.old }
     requires limited { p.old.most ≡ unit_most cache.old.toks }
     ensures held { F.held files.new ≡ F.held files.old }
-    ensures answer { IfSome (F.held files.old) (λ held. IfSome (source_at cache.old.table number) (λ file.
+    ensures answer { (source : Source) → AreFound source cache.new.table → IfSome (source_at cache.old.table number) (λ file.
         Gives (λ _. (state_in cache.new.table p.new, p.new.text)) fault_of result
-        (put_after p.old.text (included (unit_context held ipath.now cache.old.toks) (inner_in (unit_context held ipath.now cache.old.toks) room) file at header.now (state_in cache.old.table p.old))))) }
+        (put_after p.old.text (included (unit_context source ipath.now cache.old.toks) (inner_in (unit_context source ipath.now cache.old.toks) room) file at header.now (state_in cache.old.table p.old)))) }
     ensures able { OnOk result (IsAble p.new) }
     ensures most { p.new.most ≡ p.old.most }
-    ensures grown { IsGrown cache.old.table cache.new.table }
-    ensures toks { cache.new.toks ≡ cache.old.toks }
+    ensures reads { ReadsOn (F.held files.old) cache.old cache.new }
     ensures faults { ReadCounts (F.failed_reads files.old) (F.failed_reads files.new) (F.failed_puts files.old) (F.failed_puts files.new) (F.last_failed files.old) (F.last_failed files.new) result }
 {
     if room == 0 {
@@ -231,17 +229,19 @@ fn enter_file<F: Files>(
     requires able { IsAble p.old }
     requires limited { p.old.most ≡ unit_most cache.old.toks }
     ensures held { F.held files.new ≡ F.held files.old }
-    ensures answer { IfSome (F.held files.old) (λ held. IfSome (source_at cache.old.table number) (λ file.
+    ensures answer { (source : Source) → AreFound source cache.new.table → IfSome (source_at cache.old.table number) (λ file.
         Gives (λ _. (state_in cache.new.table p.new, p.new.text)) fault_of result
-        (put_after p.old.text (entered (file_items (unit_context held ipath.now cache.old.toks) room) at file (state_in cache.old.table p.old))))) }
+        (put_after p.old.text (entered (file_items (unit_context source ipath.now cache.old.toks) room) at file (state_in cache.old.table p.old)))) }
     ensures able { OnOk result (IsAble p.new) }
     ensures most { p.new.most ≡ p.old.most }
-    ensures grown { IsGrown cache.old.table cache.new.table }
-    ensures toks { cache.new.toks ≡ cache.old.toks }
+    ensures reads { ReadsOn (F.held files.old) cache.old cache.new }
     ensures faults { ReadCounts (F.failed_reads files.old) (F.failed_reads files.new) (F.failed_puts files.old) (F.failed_puts files.new) (F.last_failed files.old) (F.last_failed files.new) result }
 {
     p.enter(at, number)?;
-    walk_file(alloc, cache, files, p, ipath, number, room)?;
+    match walk_file(alloc, cache, files, p, ipath, number, room) {
+        Ok(()) => {}
+        Err(fault) => return Err(fault),
+    }
     p.leave(at, number)?;
     Ok(())
 }

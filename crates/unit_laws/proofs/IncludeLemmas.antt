@@ -44,7 +44,7 @@ module _ (P : Token → Type 0) (M : Note → Type 0) (table : Table) (rules : U
   opened_done place path s (Err found) is = tt
   opened_done place path s (Ok r) is =
       let fresh = opening-as s.table r.1 place path r.0 is in
-      (fresh.grown, λ p reach has told. (rules.files r.0.number r.0 (source-grown r.1 table r.0.number r.0 reach fresh.is_kept), with_table s r.1 has, tt))
+      ((fresh.widens source).grown, λ p reach has told. (rules.files r.0.number r.0 (source-grown r.1 table r.0.number r.0 reach fresh.is_kept), with_table s r.1 has, tt))
 
   pub open_done : (place : Place) (path : List ℕ) (s : State) → Done P M table (Unit {0}) (FileHas P) s (open_file ctx place path s)
   open_done place path s = opened_done place path s (opening the_limits file_text place path s.table) refl

@@ -10,13 +10,15 @@ use Rattle.include_tree.specs.Answers as pre
 use Rattle.include_tree.specs.Faults.{Fault}
 use Rattle.include_tree.specs.Files.{Source, Carried, nothing_carried}
 use Rattle.include_tree.specs.Texts.{UnitTextValue, Preprocessed, preprocessed}
+use Rattle.include_tree.specs.Laws.{AreFound, HasEachOnce}
+use Rattle.include_tree.proofs.AgreeLemmas.{some_source}
 use Rattle.include_tree.proofs.FileTableLemmas.{slice_get-at}
 use Rattle.ws_core.specs.declared.analyse_fault.AnalyseFault.{AnalyseFault}
 use Rattle.ws_core.specs.declared.analyse_fault.AnalyseFault.TheVariants as answer
 use Rattle.ws_core.specs.Texts.{UnitFault, unit_fault, unit_with, unit_at, alone, one_text_of}
 use Rattle.ws_core.specs.Answers.{fault_of, ReadCounts}
-use Rattle.ws_core.specs.Carrying.{IsCarried, in_unit}
-use Rattle.ws_core.proofs.CarryLemmas.{carried_on}
+use Rattle.ws_core.specs.Carrying.{IsFresh, in_unit}
+use Rattle.ws_core.proofs.CarryLemmas.{fresh_on}
 
 pub gives_in : {X Y : Type 0} (view : X → Y) (number : ℕ) (r : Result X PreFault) (expected : Result Y Fault) → Gives view pre.fault_of r expected
     → Gives view fault_of (result_map_err (in_unit number) r) (result_map_err (unit_fault number) expected)
@@ -32,12 +34,14 @@ counts_in number reads reads' puts puts' last last' (Err (unit.Fault place cause
 counts_in number reads reads' puts puts' last last' (Err (unit.ReadFault path)) h = record { grows = h.grows; apart = h.apart; told = h.told }
 counts_in number reads reads' puts puts' last last' (Err unit.Memory) h = record { grows = h.grows; apart = h.apart; told = h.told }
 
--- what is carried behind a unit
-pub carried_in : (source : Source) (number : ℕ) (u : UnitValue) (before after : Carried) (r : Result UnitTextValue PreFault) → IsUnit u → number < 2 ^ 32
-    → IsCarried source number before.table → Gives (pre.with_text after) pre.fault_of r (preprocessed source number u before)
-    → OnOk (result_map_err (in_unit number) r) (IsCarried source (number + 1) after.table)
-carried_in source number u before after (Ok text) is few k h = carried_on source number u before (pre.with_text after text) is few k h
-carried_in source number u before after (Err e) is few k h = tt
+-- what was not met behind a unit, by the answer over some source that agrees with what is carried then
+pub fresh_in : (number : ℕ) (u : UnitValue) (before after : Carried) (r : Result UnitTextValue PreFault) → IsUnit u → number < 2 ^ 32 → HasEachOnce after.table
+    → IsFresh number before.table → ((source : Source) → AreFound source after.table → Gives (pre.with_text after) pre.fault_of r (preprocessed source number u before))
+    → OnOk (result_map_err (in_unit number) r) (IsFresh (number + 1) after.table)
+fresh_in number u before after (Ok text) is few once fresh h =
+    let some : (source : Source) × AreFound source after.table = some_source after.table once in
+    fresh_on some.0 number u before (pre.with_text after text) is few fresh (h some.0 some.1)
+fresh_in number u before after (Err e) is few once fresh h = tt
 
 -- the text alone
 gives_text : (after : Carried) (r : Result UnitTextValue AnalyseFault) (expected : Result Preprocessed UnitFault) → Gives (pre.with_text after) fault_of r expected

@@ -1,19 +1,20 @@
 -- What is carried from unit to unit.
-use Rattle.std.proofs.Common.{◌≡◌, ℕ, ◌+◌, ◌<◌, ◌^◌, Bool, true, false, not, ◌&&◌, List, length, None, Result, Ok, Err, refl, subst, arith}
+use Rattle.std.proofs.Common.{◌≡◌, ℕ, ◌+◌, ◌<◌, ◌^◌, Bool, true, false, not, ◌&&◌, List, Option, Some, None, Result, Ok, Err, refl, subst, arith}
+use Rattle.std.specs.Prelude.{IfSome}
+use Rattle.cs_base.specs.Outside.{FileMap}
 use Rattle.cs_base.specs.Units.{UnitValue, IsUnit}
 use Rattle.cs_base.specs.Token.{Token}
 use Rattle.part_lexer.specs.FileText.{file_text}
 use Rattle.include_tree.specs.Limits.{the_limits}
 use Rattle.include_tree.specs.Faults.{Fault}
-use Rattle.include_tree.specs.Files.{Source, Table, Carried, nothing_carried, found_at, defines_path}
-use Rattle.include_tree.specs.State.{Context, context, Outcome}
+use Rattle.include_tree.specs.Files.{Source, source_of, Table, Carried, nothing_carried, found_at, defines_path}
+use Rattle.include_tree.specs.State.{Outcome}
 use Rattle.include_tree.specs.Unit.{unit_outcome}
 use Rattle.include_tree.specs.Texts.{Preprocessed, preprocessed, preprocessed_by}
-use Rattle.include_tree.specs.Laws.{IfDone, Widens, UnitEnds}
+use Rattle.include_tree.specs.Laws.{IfDone, AreFound, StaysHeld}
 use Rattle.include_tree.specs.PseudoFiles.{is_pseudo}
-use Rattle.include_tree.proofs.WalkLemmas.{units_end}
 use Rattle.include_tree.proofs.PseudoLemmas.{others_stay}
-use Rattle.ws_core.specs.Carrying.{IsCarried}
+use Rattle.ws_core.specs.Carrying.{IsFresh, IsOver}
 
 ok_holds : (P : Preprocessed → Type 0) (a b : Preprocessed) → ◌≡◌ {A = Result Preprocessed Fault} (Ok a) (Ok b) → P a → P b
 ok_holds P a b e h = let same : a ≡ b = cc in subst P same h
@@ -23,19 +24,6 @@ table_after : (P : Table → Type 0) (earlier : ℕ) (o : Outcome (List Token)) 
     → preprocessed_by earlier o ≡ Ok p → P p.after.table
 table_after P earlier (Ok d) p h e = ok_holds (λ q. P q.after.table) _ p e h
 table_after P earlier (Err found) p h e = absurd cc
-
-ends_wide : (ctx : Context) (before : Table) (o : Outcome (List Token)) → IfDone (λ toks t. UnitEnds ctx before (length toks) t) o
-    → IfDone (λ toks t. Widens ctx.source before t.table) o
-ends_wide ctx before (Ok d) h = h.table
-ends_wide ctx before (Err found) h = tt
-
-after_wide : (source : Source) (number : ℕ) (unit : UnitValue) (before : Carried) (p : Preprocessed) → found_at (defines_path number) before.table ≡ None
-    → preprocessed source number unit before ≡ Ok p → Widens source before.table p.after.table
-unfolding preprocessed
-after_wide source number unit before p none e =
-    table_after (λ t. Widens source before.table t) before.toks (unit_outcome the_limits file_text source number unit before) p
-    (ends_wide (context source file_text unit.ipath the_limits before.toks) before.table (unit_outcome the_limits file_text source number unit before)
-    (units_end the_limits file_text source number unit before none)) e
 
 after_others : (source : Source) (number other : ℕ) (unit : UnitValue) (before : Carried) (p : Preprocessed) → is_pseudo unit.path ≡ false
     → number < 2 ^ 64 → other < 2 ^ 64 → (other ≡ number → ⊥) → found_at (defines_path other) before.table ≡ None
@@ -53,16 +41,35 @@ unit_real : (u : UnitValue) → IsUnit u → is_pseudo u.path ≡ false
 unit_real u h = not_pseudo _ (is_pseudo u.path) h.is_placed
 
 -- before the first unit
-pub carried_first : (source : Source) (number : ℕ) → IsCarried source number nothing_carried.table
+pub fresh_first : (number : ℕ) → IsFresh number nothing_carried.table
 unfolding found_at
-carried_first source number = record { fresh = λ other later few. refl; found = (tt, tt) }
+fresh_first number = λ other later few. refl
+
+pub none_found : (told : Option FileMap) → IfSome told (λ held. AreFound (source_of held) nothing_carried.table)
+none_found None = tt
+none_found (Some m) = (tt, tt)
 
 -- behind a unit
-pub carried_on : (source : Source) (number : ℕ) (unit : UnitValue) (before : Carried) (p : Preprocessed) → IsUnit unit → number < 2 ^ 32
-    → IsCarried source number before.table → preprocessed source number unit before ≡ Ok p → IsCarried source (number + 1) p.after.table
-carried_on source number unit before p is few k e = record {
-  fresh = λ other later small.
-      after_others source number other unit before p (unit_real unit is) (omega arith) (omega arith) (λ same. omega arith)
-      (k.fresh other (omega arith) small) e;
-  found = (after_wide source number unit before p (k.fresh number (omega arith) few) e).found k.found;
-}
+pub fresh_on : (source : Source) (number : ℕ) (unit : UnitValue) (before : Carried) (p : Preprocessed) → IsUnit unit → number < 2 ^ 32
+    → IsFresh number before.table → preprocessed source number unit before ≡ Ok p → IsFresh (number + 1) p.after.table
+fresh_on source number unit before p is few fresh e = λ other later small.
+    after_others source number other unit before p (unit_real unit is) (omega arith) (omega arith) (λ same. omega arith) (fresh other (omega arith) small) e
+
+-- ---- an answer over what was read
+
+pub found_more : (told : Option FileMap) (old new : Table) → IfSome told (λ held. AreFound (source_of held) old) → StaysHeld told old new
+    → IfSome told (λ held. AreFound (source_of held) new)
+found_more None old new all stays = tt
+found_more (Some m) old new all stays = stays all
+
+-- it is so over what the files hold
+pub over_held : (told : Option FileMap) (table : Table) (P : Source → Type 0) → IsOver told table P → IfSome told (λ held. P (source_of held))
+over_held None table P over = tt
+over_held (Some m) table P over = over.each (source_of m) over.found
+
+-- nothing was read
+pub over_nothing : (told : Option FileMap) (P : Source → Type 0) → ((source : Source) → P source) → IsOver told nothing_carried.table P
+over_nothing told P h = record { once = refl; found = none_found told; each = λ source found. h source }
+
+pub over_map : (told : Option FileMap) (table : Table) (P Q : Source → Type 0) → IsOver told table P → ((source : Source) → P source → Q source) → IsOver told table Q
+over_map told table P Q over next = record { once = over.once; found = over.found; each = λ source found. next source (over.each source found) }

@@ -1,10 +1,11 @@
 // The units of a workspace, preprocessed, read and bound one after another.
 ghost use Rattle.std.specs.Prelude.{◌≡◌, ◌≤◌, ◌+◌, ◌++◌, ◌∷◌, [], IfOk, IfSome, OnOk, length};
 ghost use Rattle.cs_base.specs.Answer.{Gives};
-ghost use Rattle.include_tree.specs.Files.{source_of, nothing_carried};
+ghost use Rattle.include_tree.specs.Files.{Source, Table, nothing_carried};
+ghost use Rattle.include_tree.specs.Laws.{AreFound};
 ghost use Rattle.ws_core.specs.Answers.{fault_of, ReadCounts};
 ghost use Rattle.ws_core.specs.Analysis.{units_and, analysis_of};
-ghost use Rattle.ws_core.specs.Carrying.{IsCarried};
+ghost use Rattle.ws_core.specs.Carrying.{IsFresh, ReadsMore, IsOver};
 ghost use Rattle.ws_core.specs.Accepting.{passed, passed_with, units_of};
 
 use crate::accepted::{Accepted, UnitParts};
@@ -27,14 +28,20 @@ pub(crate) fn accept<F: Files>(
 ) -> Result<Accepted, AnalyseFault>
     ensures held { F.held files.new ≡ F.held files.old }
     ensures workspace { IfOk result (λ a. a.workspace ≡ ws.now) }
-    // The units over what the files hold, where that is told, or the first fault.
-    ensures answer { IfSome (F.held files.old) (λ held. Gives (λ a. a) fault_of result (analysis_of (source_of held) ws.now)) }
+    // The units, or the first fault, are so over every source that agrees with what was read; that is kept.
+    ensures over { (table : Table) × IfOk result (λ a. a.table ≡ table)
+        × IsOver (F.held files.old) table (λ source. Gives (λ a. a) fault_of result (analysis_of source ws.now)) }
     ensures faults { ReadCounts (F.failed_reads files.old) (F.failed_reads files.new) (F.failed_puts files.old) (F.failed_puts files.new) (F.last_failed files.old) (F.last_failed files.new) result }
 {
-    let workspace = ws.copy(alloc)?;
+    let workspace = match ws.copy(alloc) {
+        Ok(workspace) => workspace,
+        Err(_) => return Err(AnalyseFault::Memory),
+    };
     let mut cache = Cache::new(alloc);
-    let all = accepted_units(alloc, &mut cache, files, ws.units())?;
-    Ok(Accepted::new(workspace, all, cache))
+    match accepted_units(alloc, &mut cache, files, ws.units()) {
+        Ok(all) => Ok(Accepted::new(workspace, all, cache)),
+        Err(fault) => Err(fault),
+    }
 }
 
 // The units, from the first one on.
@@ -48,7 +55,7 @@ fn accepted_units<F: Files>(
     requires first { cache.old ≡ nothing_carried }
     ensures held { F.held files.new ≡ F.held files.old }
     ensures each { IfOk result (λ all. length all.items ≡ length units.now) }
-    ensures answer { IfSome (F.held files.old) (λ held. Gives (λ all. units_and all.items cache.new.table) fault_of result (units_of (source_of held) units.now)) }
+    ensures over { IsOver (F.held files.old) cache.new.table (λ source. Gives (λ all. units_and all.items cache.new.table) fault_of result (units_of source units.now)) }
     ensures faults { ReadCounts (F.failed_reads files.old) (F.failed_reads files.new) (F.failed_puts files.old) (F.failed_puts files.new) (F.last_failed files.old) (F.last_failed files.new) result }
 {
     let mut all = Vec::new(alloc);
@@ -76,10 +83,11 @@ fn next_unit<F: Files>(
     unit: &Unit,
     number: u32,
 ) -> Result<UnitParts, AnalyseFault>
-    requires carried { IfSome (F.held files.old) (λ held. IsCarried (source_of held) number cache.old.table) }
     ensures held { F.held files.new ≡ F.held files.old }
-    ensures answer { IfSome (F.held files.old) (λ held. Gives (passed cache.new) fault_of result (passed_with (source_of held) number unit.now cache.old)) }
-    ensures carried { IfSome (F.held files.old) (λ held. OnOk result (IsCarried (source_of held) (number + 1) cache.new.table)) }
+    ensures reads { ReadsMore (F.held files.old) cache.old.table cache.new.table }
+    ensures fresh { IsFresh number cache.old.table → OnOk result (IsFresh (number + 1) cache.new.table) }
+    ensures answer { IsFresh number cache.old.table → (source : Source) → AreFound source cache.new.table →
+        Gives (passed cache.new) fault_of result (passed_with source number unit.now cache.old) }
     ensures faults { ReadCounts (F.failed_reads files.old) (F.failed_reads files.new) (F.failed_puts files.old) (F.failed_puts files.new) (F.last_failed files.old) (F.last_failed files.new) result }
 {
     match next_text(alloc, cache, files, unit, number) {

@@ -1,11 +1,12 @@
 // The units of a workspace, preprocessed one after another.
 ghost use Rattle.std.specs.Prelude.{◌≡◌, ◌≤◌, ◌+◌, ◌++◌, ◌∷◌, [], IfOk, IfSome, OnOk, length};
 ghost use Rattle.cs_base.specs.Answer.{Gives, result_map_err};
-ghost use Rattle.include_tree.specs.Files.{source_of, nothing_carried};
+ghost use Rattle.include_tree.specs.Files.{Source, Table, source_of, nothing_carried};
+ghost use Rattle.include_tree.specs.Laws.{AreFound};
 ghost use Rattle.include_tree.specs.Answers.{with_text};
 ghost use Rattle.ws_core.specs.Texts.{texts_and, unit_with, texts_of, one_text_of};
 ghost use Rattle.ws_core.specs.Answers.{fault_of, ReadCounts};
-ghost use Rattle.ws_core.specs.Carrying.{IsCarried, in_unit};
+ghost use Rattle.ws_core.specs.Carrying.{IsFresh, ReadsMore, IsOver, in_unit};
 
 use crate::all_texts::Texts;
 use crate::analyse_fault::AnalyseFault;
@@ -21,13 +22,19 @@ use ws_file::Workspace;
 pub fn texts<F: Files>(alloc: Global, ws: &Workspace, files: &mut F) -> Result<Texts, AnalyseFault>
     ensures held { F.held files.new ≡ F.held files.old }
     ensures units { IfOk result (λ t. length t.texts ≡ length ws.now.units) }
-    // The texts over what the files hold, where that is told, or the first fault in order of units.
+    // The texts, or the first fault in order of units, are so over every source that agrees with what was read;
+    // behind texts that is what they keep.
+    ensures over { (table : Table) × IfOk result (λ t. t.table ≡ table)
+        × IsOver (F.held files.old) table (λ source. Gives (λ t. t) fault_of result (texts_of source ws.now.units)) }
+    // So it is over what the files hold, where that is told.
     ensures answer { IfSome (F.held files.old) (λ held. Gives (λ t. t) fault_of result (texts_of (source_of held) ws.now.units)) }
     ensures faults { ReadCounts (F.failed_reads files.old) (F.failed_reads files.new) (F.failed_puts files.old) (F.failed_puts files.new) (F.last_failed files.old) (F.last_failed files.new) result }
 {
     let mut cache = Cache::new(alloc);
-    let all = unit_texts(alloc, &mut cache, files, ws.units())?;
-    Ok(Texts::new(all, cache))
+    match unit_texts(alloc, &mut cache, files, ws.units()) {
+        Ok(all) => Ok(Texts::new(all, cache)),
+        Err(fault) => Err(fault),
+    }
 }
 
 /// Preprocesses one unit of a workspace by itself, with nothing of the units before; units count from 1.
@@ -41,7 +48,10 @@ pub fn one_text<F: Files>(
     requires first { 1 ≤ number }
     requires last { number ≤ length ws.now.units }
     ensures held { F.held files.new ≡ F.held files.old }
-    // The text over what the files hold, where that is told, or the fault.
+    // The text, or the fault, is so over every source that agrees with what was read.
+    ensures over { (table : Table) × IsOver (F.held files.old) table (λ source.
+        IfSome (one_text_of source ws.now.units number) (λ expected. Gives (λ t. t) fault_of result expected)) }
+    // So it is over what the files hold, where that is told.
     ensures answer { IfSome (F.held files.old) (λ held. IfSome (one_text_of (source_of held) ws.now.units number) (λ expected. Gives (λ t. t) fault_of result expected)) }
     ensures faults { ReadCounts (F.failed_reads files.old) (F.failed_reads files.new) (F.failed_puts files.old) (F.failed_puts files.new) (F.last_failed files.old) (F.last_failed files.new) result }
 {
@@ -67,7 +77,7 @@ fn unit_texts<F: Files>(
     requires first { cache.old ≡ nothing_carried }
     ensures held { F.held files.new ≡ F.held files.old }
     ensures each { IfOk result (λ all. length all.items ≡ length units.now) }
-    ensures answer { IfSome (F.held files.old) (λ held. Gives (λ all. texts_and all.items cache.new.table) fault_of result (texts_of (source_of held) units.now)) }
+    ensures over { IsOver (F.held files.old) cache.new.table (λ source. Gives (λ all. texts_and all.items cache.new.table) fault_of result (texts_of source units.now)) }
     ensures faults { ReadCounts (F.failed_reads files.old) (F.failed_reads files.new) (F.failed_puts files.old) (F.failed_puts files.new) (F.last_failed files.old) (F.last_failed files.new) result }
 {
     let mut all = Vec::new(alloc);
@@ -95,14 +105,16 @@ pub(crate) fn next_text<F: Files>(
     unit: &Unit,
     number: u32,
 ) -> Result<UnitText, AnalyseFault>
-    requires carried { IfSome (F.held files.old) (λ held. IsCarried (source_of held) number cache.old.table) }
     ensures held { F.held files.new ≡ F.held files.old }
-    ensures answer { IfSome (F.held files.old) (λ held. Gives (with_text cache.new) fault_of result (unit_with (source_of held) number unit.now cache.old)) }
-    ensures carried { IfSome (F.held files.old) (λ held. OnOk result (IsCarried (source_of held) (number + 1) cache.new.table)) }
+    ensures reads { ReadsMore (F.held files.old) cache.old.table cache.new.table }
+    ensures fresh { IsFresh number cache.old.table → OnOk result (IsFresh (number + 1) cache.new.table) }
+    ensures answer { IsFresh number cache.old.table → (source : Source) → AreFound source cache.new.table →
+        Gives (with_text cache.new) fault_of result (unit_with source number unit.now cache.old) }
     ensures faults { ReadCounts (F.failed_reads files.old) (F.failed_reads files.new) (F.failed_puts files.old) (F.failed_puts files.new) (F.last_failed files.old) (F.last_failed files.new) result }
 {
     let _path = unit.path();
     let answered = preprocess(alloc, cache, files, unit, number);
+    let _numbers = cache.numbers();
     in_its_unit(number, answered)
 }
 

@@ -1,12 +1,12 @@
 // Pseudo files, and tokens that are counted.
-ghost use Rattle.std.specs.Prelude.{◌≡◌, ◌≤◌, ◌+◌, ◌^◌, false, None, is_some, IfOk, IfErr, IsSome};
-ghost use Rattle.std.specs.Str.{bytes_eq};
+ghost use Rattle.std.specs.Prelude.{◌≡◌, ◌≤◌, ◌+◌, ◌^◌, true, false, None, is_some, IfOk, IfErr, IsSome};
+ghost use Rattle.std.specs.Str.{bytes_eq, is_utf8};
 ghost use Rattle.part_lexer.specs.FileText.{file_text};
 ghost use Rattle.include_tree.specs.Limits.{the_limits};
-ghost use Rattle.include_tree.specs.Files.{Made, lines_path, carried, found_at, numbered};
+ghost use Rattle.include_tree.specs.Files.{Source, Made, lines_path, carried, found_at, numbered};
 ghost use Rattle.include_tree.specs.Faults.{first_place};
 ghost use Rattle.include_tree.specs.Opening.{opening};
-ghost use Rattle.include_tree.specs.Laws.{IsGrown};
+ghost use Rattle.include_tree.specs.Laws.{Widens};
 ghost use Rattle.include_tree.specs.Sources.{unit_most, source_at, GivesOpening};
 ghost use Rattle.include_tree.specs.Answers.{IsNoReadFault};
 
@@ -61,9 +61,10 @@ impl Cache {
         bytes: Vec<u8>,
     ) -> Result<u32, PreFault>
         requires fresh { found_at path.now self.old.table ≡ None }
+        requires text { is_utf8 path.now ≡ true }
         ensures answer { GivesOpening result (opening the_limits file_text (first_place path.now) path.now (numbered path.now (Made bytes.items) self.old.table)) self.new.table }
         ensures there { IfOk result (λ n. IsSome (source_at self.new.table n)) }
-        ensures grown { IsGrown self.old.table self.new.table }
+        ensures widens { (source : Source) → Widens source self.old.table self.new.table }
         ensures toks { self.new.toks ≡ self.old.toks }
         ensures no_read { IfErr result IsNoReadFault }
     {

@@ -1,26 +1,45 @@
-use Rattle.std.proofs.Common.{subst, sym}
+use Rattle.std.proofs.Common.{◌≡◌, None, subst, sym, ◌∙◌}
+use Rattle.std.proofs.lemmas.Str.{is_utf8-from_IsUtf8}
+use Rattle.include_tree.specs.Files.{found_at, numbered}
 use Rattle.include_tree.specs.Slots.{found_of}
 use Rattle.include_tree.specs.Laws.{OnlyAsks}
-use Rattle.include_tree.proofs.TableLemmas.{known-push, only_asks-refl, only_asks-push}
+use Rattle.include_tree.proofs.TableLemmas.{known-push, only_asks-refl, asks-push, none_is, asked-known, asked-push}
 use Rattle.include_tree.proofs.asking.ask.Goals as goal
 
 pub push-requires-clause-numbered : goal.push-requires-clause-numbered
 push-requires-clause-numbered g c = c.in-Ok.ensures.numbered _ _
+
+pub push-requires-clause-text : goal.push-requires-clause-text
+push-requires-clause-text g c = rw c.as_bytes-2.ensures.value (is_utf8-from_IsUtf8 c.args.path.now c.utf8.path)
 
 pub returns-in-Ok-push-clause-known : goal.returns-in-Ok-push-clause-known
 returns-in-Ok-push-clause-known g c =
     rw c.in-Ok-push.ensures.ok (rw c.as_bytes-2.ensures.value (known-push c.args.path.now (found_of c.in-Ok.slot) c.args.table.now))
 
 pub returns-then-is_some-clause-only : goal.returns-then-is_some-clause-only
-returns-then-is_some-clause-only g c = only_asks-refl c.args.table.now
+returns-then-is_some-clause-only g c = only_asks-refl (g.F.Files.held c.args.files.now) c.args.table.now
 
 pub returns-in-Err-clause-only : goal.returns-in-Err-clause-only
-returns-in-Err-clause-only g c = only_asks-refl c.args.table.now
+returns-in-Err-clause-only g c = only_asks-refl (g.F.Files.held c.args.files.now) c.args.table.now
 
 pub returns-in-Ok-push-clause-only : goal.returns-in-Ok-push-clause-only
 returns-in-Ok-push-clause-only g c =
-    only_asks-push c.as_bytes-2.result.now (found_of c.in-Ok.slot) c.args.table.now c.push.new.self c.in-Ok.ensures.fresh c.in-Ok-push.ensures.ok
+    let new : c.push.new.self ≡ numbered c.args.path.now (found_of c.in-Ok.slot) c.args.table.now = rw c.as_bytes-2.ensures.value at c.in-Ok-push.ensures.ok in
+    asks-push (g.F.Files.held c.args.files.now) c.args.path.now (found_of c.in-Ok.slot) c.args.table.now c.push.new.self c.in-Ok.ensures.read c.in-Ok.ensures.answer new
 
 pub returns-in-Err-push-clause-only : goal.returns-in-Err-push-clause-only
 returns-in-Err-push-clause-only g c =
-    subst (OnlyAsks c.args.table.now) (sym c.in-Err-push.ensures.unchanged) (only_asks-refl c.args.table.now)
+    subst (OnlyAsks (g.F.Files.held c.args.files.now) c.args.table.now) (sym c.in-Err-push.ensures.unchanged)
+    (only_asks-refl (g.F.Files.held c.args.files.now) c.args.table.now)
+
+pub returns-then-is_some-clause-answer : goal.returns-then-is_some-clause-answer
+returns-then-is_some-clause-answer g c = λ source found.
+    asked-known source c.args.path.now c.args.table.now
+    (rw c.as_bytes.ensures.value at (sym c.find.ensures.none ∙ sym c.is_some.ensures ∙ c.if-is_some.true))
+
+pub returns-in-Ok-push-clause-answer : goal.returns-in-Ok-push-clause-answer
+returns-in-Ok-push-clause-answer g c = λ source found.
+    let new : c.push.new.self ≡ numbered c.args.path.now (found_of c.in-Ok.slot) c.args.table.now = rw c.as_bytes-2.ensures.value at c.in-Ok-push.ensures.ok in
+    let none : found_at c.args.path.now c.args.table.now ≡ None =
+    none_is (found_at c.args.path.now c.args.table.now) (rw c.as_bytes.ensures.value at (sym c.find.ensures.none ∙ sym c.is_some.ensures ∙ c.if-is_some.false)) in
+    asked-push source c.args.path.now (found_of c.in-Ok.slot) c.args.table.now c.push.new.self c.in-Ok.ensures.read none new found

@@ -1,7 +1,7 @@
 use Rattle.part_lexer.specs.FileText.{file_text}
 use Rattle.include_tree.specs.Limits.{the_limits}
 use Rattle.include_tree.specs.Opening.{opening}
-use Rattle.include_tree.proofs.SourcesLemmas.{gives-opening, opens-there, opens-grown}
+use Rattle.include_tree.proofs.SourcesLemmas.{gives-opening, opens-there, opens-wide}
 use Rattle.include_tree.proofs.opening.open_file.Goals as goal
 
 pub returns-clause-answer : goal.returns-clause-answer
@@ -13,6 +13,6 @@ returns-clause-there c =
     opens-there c.open.result (opening the_limits file_text c.args.place.now c.args.path.now c.args.cache.now.table) c.open.new.self.table
     (gives-opening c.open.result c.args.cache.now.table c.open.new.self.table c.args.place.now c.args.path.now c.open.ensures.answer)
 
-pub returns-clause-grown : goal.returns-clause-grown
-returns-clause-grown c =
-    opens-grown c.open.result c.args.cache.now c.open.new.self c.args.place.now c.args.path.now c.open.ensures.answer c.open.ensures.unchanged
+pub returns-clause-widens : goal.returns-clause-widens
+returns-clause-widens c =
+    opens-wide c.open.result c.args.cache.now c.open.new.self c.args.place.now c.args.path.now c.open.ensures.answer c.open.ensures.unchanged

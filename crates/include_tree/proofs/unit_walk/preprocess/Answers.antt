@@ -1,50 +1,73 @@
-use Rattle.std.proofs.Common.{◌≡◌, ℕ, ◌+◌, length, Ok, Err, refl, sym, subst, ◌∙◌, ap}
+use Rattle.std.proofs.Common.{◌≡◌, ℕ, ◌+◌, length, Ok, Err, sym, subst, ◌∙◌, ap}
 use Rattle.std.specs.Prelude.{IfSome}
-use Rattle.include_tree.specs.Files.{carried, source_of}
+use Rattle.include_tree.specs.Files.{Table, Carried, carried}
+use Rattle.include_tree.specs.Laws.{AreFound, IsGrown, StaysHeld}
 use Rattle.include_tree.specs.Unit.{main_file}
 use Rattle.include_tree.specs.Keeping.{put_after}
 use Rattle.include_tree.specs.Moments.{state_in}
 use Rattle.include_tree.specs.Answers.{fault_of, with_text}
 use Rattle.include_tree.specs.Texts.{UnitTextValue, preprocessed}
 use Rattle.include_tree.specs.Sources.{unit_context}
-use Rattle.include_tree.proofs.TableLemmas.{grown_refl, grown_trans}
-use Rattle.include_tree.proofs.UnitLemmas.{with_defines, unit-done, unit-first_refused, unit-next_refused, told-moved}
+use Rattle.include_tree.proofs.TableLemmas.{grown_refl, stays-refl, earlier_found, reads-trans}
+use Rattle.include_tree.proofs.UnitLemmas.{with_defines, unit-done, unit-first_refused, unit-next_refused}
 use Rattle.include_tree.proofs.unit_walk.preprocess.Goals as goal
 
-pub returns-in-Err-clause-kept : goal.returns-in-Err-clause-kept
-returns-in-Err-clause-kept g c = record { grown = grown_refl c.args.cache.now.table; counted = refl }
+pub returns-in-Err-clause-found : goal.returns-in-Err-clause-found
+returns-in-Err-clause-found g c = stays-refl (g.F.Files.held c.args.files.now) c.args.cache.now.table
+
+pub returns-in-Err-clause-grown : goal.returns-in-Err-clause-grown
+returns-in-Err-clause-grown g c = grown_refl c.args.cache.now.table
 
 pub returns-in-Err-walk_defines-clause-answer : goal.returns-in-Err-walk_defines-clause-answer
-returns-in-Err-walk_defines-clause-answer g c =
+returns-in-Err-walk_defines-clause-answer g c = λ none source found.
     unit-first_refused c.args.number c.args.unit.now c.args.cache.now (state_in (with_defines c.args.number c.args.unit.now c.args.cache.now.table) c.in-Ok.p) c.in-Ok.p.text
-    (c.in-Ok.ensures.state (with_defines c.args.number c.args.unit.now c.args.cache.now.table)) c.in-Ok.ensures.text (g.F.Files.held c.args.files.now) (fault_of c.in-Err-walk_defines.fault)
-    c.in-Err-walk_defines.ensures.answer
+    (c.in-Ok.ensures.state (with_defines c.args.number c.args.unit.now c.args.cache.now.table)) c.in-Ok.ensures.text source (fault_of c.in-Err-walk_defines.fault)
+    (c.in-Err-walk_defines.ensures.answer none source found)
 
 pub returns-in-Err-walk_main-clause-answer : goal.returns-in-Err-walk_main-clause-answer
-returns-in-Err-walk_main-clause-answer g c =
+returns-in-Err-walk_main-clause-answer g c = λ none source found.
     unit-next_refused c.args.number c.args.unit.now c.args.cache.now (state_in (with_defines c.args.number c.args.unit.now c.args.cache.now.table) c.in-Ok.p) c.in-Ok.p.text
-    (c.in-Ok.ensures.state (with_defines c.args.number c.args.unit.now c.args.cache.now.table)) c.in-Ok.ensures.text (g.F.Files.held c.args.files.now) (fault_of c.in-Err-walk_main.fault)
-    (state_in c.walk_defines.new.cache.table c.walk_defines.new.p) c.walk_defines.new.p.text c.in-Ok-walk_defines.ensures.answer
-    (told-moved (g.F.Files.held c.args.files.now) (g.F.Files.held c.walk_defines.new.files) c.args.cache.now.toks c.walk_defines.new.cache.toks
-    (λ held n. IfSome (fault_of c.in-Err-walk_main.fault) (λ f. put_after c.walk_defines.new.p.text (main_file (unit_context held c.args.unit.now.ipath n) c.args.unit.now.path (state_in c.walk_defines.new.cache.table c.walk_defines.new.p)) ≡ Err f))
-    c.in-Ok-walk_defines.ensures.held c.in-Ok-walk_defines.ensures.toks c.in-Err-walk_main.ensures.answer)
+    (c.in-Ok.ensures.state (with_defines c.args.number c.args.unit.now c.args.cache.now.table)) c.in-Ok.ensures.text source (fault_of c.in-Err-walk_main.fault)
+    (state_in c.walk_defines.new.cache.table c.walk_defines.new.p) c.walk_defines.new.p.text
+    (c.in-Ok-walk_defines.ensures.answer none source (earlier_found source c.walk_defines.new.cache.table c.walk_main.new.cache.table c.in-Err-walk_main.ensures.reads.grown found))
+    (subst (λ (n : ℕ). IfSome (fault_of c.in-Err-walk_main.fault) (λ f. put_after c.walk_defines.new.p.text (main_file (unit_context source c.args.unit.now.ipath n) c.args.unit.now.path (state_in c.walk_defines.new.cache.table c.walk_defines.new.p)) ≡ Err f))
+    c.in-Ok-walk_defines.ensures.reads.counted (c.in-Err-walk_main.ensures.answer source found))
 
-pub returns-in-Err-walk_main-clause-kept : goal.returns-in-Err-walk_main-clause-kept
-returns-in-Err-walk_main-clause-kept g c = record {
-  grown = grown_trans c.args.cache.now.table c.walk_defines.new.cache.table c.walk_main.new.cache.table c.in-Ok-walk_defines.ensures.grown c.in-Err-walk_main.ensures.grown;
-  counted = c.in-Err-walk_main.ensures.toks ∙ c.in-Ok-walk_defines.ensures.toks;
-}
+pub returns-in-Err-walk_main-clause-found : goal.returns-in-Err-walk_main-clause-found
+returns-in-Err-walk_main-clause-found g c =
+    (reads-trans (g.F.Files.held c.args.files.now) (g.F.Files.held c.walk_defines.new.files) c.args.cache.now c.walk_defines.new.cache c.walk_main.new.cache
+    c.in-Ok-walk_defines.ensures.held c.in-Ok-walk_defines.ensures.reads c.in-Err-walk_main.ensures.reads).found
+
+pub returns-in-Err-walk_main-clause-grown : goal.returns-in-Err-walk_main-clause-grown
+returns-in-Err-walk_main-clause-grown g c =
+    (reads-trans (g.F.Files.held c.args.files.now) (g.F.Files.held c.walk_defines.new.files) c.args.cache.now c.walk_defines.new.cache c.walk_main.new.cache
+    c.in-Ok-walk_defines.ensures.held c.in-Ok-walk_defines.ensures.reads c.in-Err-walk_main.ensures.reads).grown
+
+pub returns-in-Err-walk_main-clause-counted : goal.returns-in-Err-walk_main-clause-counted
+returns-in-Err-walk_main-clause-counted g c = c.in-Err-walk_main.ensures.reads.counted ∙ c.in-Ok-walk_defines.ensures.reads.counted
+
+pub returns-clause-found : goal.returns-clause-found
+returns-clause-found g c =
+    subst (λ (k : Carried). StaysHeld (g.F.Files.held c.args.files.now) c.args.cache.now.table k.table) (sym c.count.ensures)
+    (reads-trans (g.F.Files.held c.args.files.now) (g.F.Files.held c.walk_defines.new.files) c.args.cache.now c.walk_defines.new.cache c.walk_main.new.cache
+    c.in-Ok-walk_defines.ensures.held c.in-Ok-walk_defines.ensures.reads c.in-Ok-walk_main.ensures.reads).found
+
+pub returns-clause-grown : goal.returns-clause-grown
+returns-clause-grown g c =
+    subst (λ (k : Carried). IsGrown c.args.cache.now.table k.table) (sym c.count.ensures)
+    (reads-trans (g.F.Files.held c.args.files.now) (g.F.Files.held c.walk_defines.new.files) c.args.cache.now c.walk_defines.new.cache c.walk_main.new.cache
+    c.in-Ok-walk_defines.ensures.held c.in-Ok-walk_defines.ensures.reads c.in-Ok-walk_main.ensures.reads).grown
 
 pub returns-clause-answer : goal.returns-clause-answer
-returns-clause-answer g c =
-    subst (λ (t : UnitTextValue). IfSome (g.F.Files.held c.args.files.now) (λ held. preprocessed (source_of held) c.args.number c.args.unit.now c.args.cache.now ≡ Ok (with_text c.count.new.self t)))
+returns-clause-answer g c = λ none source found.
+    let walked = subst (λ (t : Table). AreFound source t) (ap (λ (k : Carried). k.table) c.count.ensures) found in
+    subst (λ (t : UnitTextValue). preprocessed source c.args.number c.args.unit.now c.args.cache.now ≡ Ok (with_text c.count.new.self t))
     (sym c.settled.ensures)
     (unit-done c.args.number c.args.unit.now c.args.cache.now (state_in (with_defines c.args.number c.args.unit.now c.args.cache.now.table) c.in-Ok.p) c.in-Ok.p.text
-    (c.in-Ok.ensures.state (with_defines c.args.number c.args.unit.now c.args.cache.now.table)) c.in-Ok.ensures.text (g.F.Files.held c.args.files.now)
+    (c.in-Ok.ensures.state (with_defines c.args.number c.args.unit.now c.args.cache.now.table)) c.in-Ok.ensures.text source
     (state_in c.walk_defines.new.cache.table c.walk_defines.new.p) (state_in c.walk_main.new.cache.table c.walk_main.new.p) c.walk_defines.new.p.text c.walk_main.new.p.text c.count.new.self
-    c.in-Ok-walk_defines.ensures.answer
-    (told-moved (g.F.Files.held c.args.files.now) (g.F.Files.held c.walk_defines.new.files) c.args.cache.now.toks c.walk_defines.new.cache.toks
-    (λ held n. put_after c.walk_defines.new.p.text (main_file (unit_context held c.args.unit.now.ipath n) c.args.unit.now.path (state_in c.walk_defines.new.cache.table c.walk_defines.new.p)) ≡ Ok (state_in c.walk_main.new.cache.table c.walk_main.new.p, c.walk_main.new.p.text))
-    c.in-Ok-walk_defines.ensures.held c.in-Ok-walk_defines.ensures.toks c.in-Ok-walk_main.ensures.answer)
+    (c.in-Ok-walk_defines.ensures.answer none source (earlier_found source c.walk_defines.new.cache.table c.walk_main.new.cache.table c.in-Ok-walk_main.ensures.reads.grown walked))
+    (subst (λ (n : ℕ). put_after c.walk_defines.new.p.text (main_file (unit_context source c.args.unit.now.ipath n) c.args.unit.now.path (state_in c.walk_defines.new.cache.table c.walk_defines.new.p)) ≡ Ok (state_in c.walk_main.new.cache.table c.walk_main.new.p, c.walk_main.new.p.text))
+    c.in-Ok-walk_defines.ensures.reads.counted (c.in-Ok-walk_main.ensures.answer source walked))
     (c.count.ensures ∙ ap (λ (n : ℕ). carried c.walk_main.new.cache.table (c.walk_main.new.cache.toks + n)) c.before-2.ensures
-    ∙ ap (λ (n : ℕ). carried c.walk_main.new.cache.table (n + length c.walk_main.new.p.text.toks)) (c.in-Ok-walk_main.ensures.toks ∙ c.in-Ok-walk_defines.ensures.toks)))
+    ∙ ap (λ (n : ℕ). carried c.walk_main.new.cache.table (n + length c.walk_main.new.p.text.toks)) (c.in-Ok-walk_main.ensures.reads.counted ∙ c.in-Ok-walk_defines.ensures.reads.counted)))

@@ -1,7 +1,9 @@
 use Rattle.std.proofs.Common.{◌≡◌, ◌+◌, ◌*◌, drop}
 use Rattle.std.specs.Prelude.{IfSome}
+use Rattle.include_tree.specs.Files.{Source}
 use Rattle.include_tree.specs.Walk.{items_in, walk, file_items}
-use Rattle.include_tree.specs.Laws.{IsGrown}
+use Rattle.include_tree.specs.Laws.{AreFound}
+use Rattle.include_tree.specs.Answers.{ReadsOn}
 use Rattle.include_tree.specs.Keeping.{put_after}
 use Rattle.include_tree.specs.Moments.{state_in, IsAble}
 use Rattle.include_tree.specs.Sources.{source_at, unit_context}
@@ -25,15 +27,14 @@ decreases-enter_file g l = 4 * l.room + 3
 abbrev pub invariant-walk_file-loop-k : goal.invariant-walk_file-loop-k
 invariant-walk_file-loop-k g l = record {
   held : g.F.Files.held l.files ≡ g.F.Files.held l.fn.files;
-  answer : IfSome (g.F.Files.held l.fn.files) (λ held. IfSome (source_at l.fn.cache.table l.number) (λ file.
-      put_after l.fn.p.text (file_items (unit_context held l.ipath l.fn.cache.toks) l.room file (state_in l.fn.cache.table l.fn.p))
-      ≡ put_after l.p.text (walk (unit_context held l.ipath l.fn.cache.toks) (inner_in (unit_context held l.ipath l.fn.cache.toks) l.room) file l.k
-      (drop l.k (items_in file)) l.sections (state_in l.cache.table l.p))));
+  answer : (source : Source) → AreFound source l.cache.table → IfSome (source_at l.fn.cache.table l.number) (λ file.
+      put_after l.fn.p.text (file_items (unit_context source l.ipath l.fn.cache.toks) l.room file (state_in l.fn.cache.table l.fn.p))
+      ≡ put_after l.p.text (walk (unit_context source l.ipath l.fn.cache.toks) (inner_in (unit_context source l.ipath l.fn.cache.toks) l.room) file l.k
+      (drop l.k (items_in file)) l.sections (state_in l.cache.table l.p)));
   same : source_at l.cache.table l.number ≡ source_at l.fn.cache.table l.number;
   able : IsAble l.p;
   most : l.p.most ≡ l.fn.p.most;
-  grown : IsGrown l.fn.cache.table l.cache.table;
-  toks : l.cache.toks ≡ l.fn.cache.toks;
+  cache : ReadsOn (g.F.Files.held l.fn.files) l.fn.cache l.cache;
   reads : g.F.Files.failed_reads l.files ≡ g.F.Files.failed_reads l.fn.files;
   puts : g.F.Files.failed_puts l.files ≡ g.F.Files.failed_puts l.fn.files;
   last : g.F.Files.last_failed l.files ≡ g.F.Files.last_failed l.fn.files;

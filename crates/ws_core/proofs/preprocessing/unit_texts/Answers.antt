@@ -1,10 +1,12 @@
-use Rattle.std.proofs.Common.{rules, refl, sym, subst}
-use Rattle.cs_base.specs.Outside.{FileMap}
+use Rattle.std.proofs.Common.{rules, arith, refl, sym, subst}
+use Rattle.std.proofs.lemmas.Grind.{common_steps}
+use Rattle.std.specs.Prelude.{IfSome}
 use Rattle.include_tree.specs.Files.{Carried, source_of}
-use Rattle.include_tree.proofs.SearchedLemmas.{told_all}
+use Rattle.include_tree.specs.Laws.{AreFound, HasEachOnce}
+use Rattle.include_tree.proofs.TableLemmas.{earlier_found}
 use Rattle.ws_core.specs.Answers.{fault_of}
-use Rattle.ws_core.specs.Carrying.{IsCarried}
-use Rattle.ws_core.proofs.CarryLemmas.{carried_first}
+use Rattle.ws_core.specs.Carrying.{IsFresh}
+use Rattle.ws_core.proofs.CarryLemmas.{fresh_first, none_found, found_more}
 use Rattle.ws_core.proofs.TextsLemmas.{length-more, rest_first, rest_fault, rest_more, rest_end}
 use Rattle.ws_core.proofs.preprocessing.unit_texts.Goals as goal
 
@@ -12,34 +14,63 @@ pub loop-i-init : goal.loop-i-init
 loop-i-init g c = record {
   held = refl;
   each = search rules;
-  carried = told_all (g.F.Files.held c.args.files.now) (λ (m : FileMap). IsCarried (source_of m) 1 c.args.cache.now.table)
-      (λ m. subst (λ (k : Carried). IsCarried (source_of m) 1 k.table) (sym c.requires.first) (carried_first (source_of m) 1));
-  rest = rw c.new-all.ensures.items (rest_first (g.F.Files.held c.args.files.now) c.args.units.now c.args.cache.now c.requires.first);
+  fresh = subst (λ (k : Carried). IsFresh 1 k.table) (sym c.requires.first) (fresh_first 1);
+  once = subst (λ (k : Carried). HasEachOnce k.table) (sym c.requires.first) refl;
+  found = subst (λ (k : Carried). IfSome (g.F.Files.held c.args.files.now) (λ held. AreFound (source_of held) k.table)) (sym c.requires.first)
+      (none_found (g.F.Files.held c.args.files.now));
+  rest = λ source found. rw c.new-all.ensures.items (rest_first source c.args.units.now c.args.cache.now c.requires.first);
   reads = refl;
   puts = refl;
   last = refl;
 }
 
-pub returns-in-Err-clause-answer : goal.returns-in-Err-clause-answer
-returns-in-Err-clause-answer g c =
-    let step = rw c.loop-i.invariant.held at c.in-Err.ensures.answer in
-    rest_fault (g.F.Files.held c.args.files.now) c.args.units.now c.loop-i.i c.index-units-i.result c.index-units-i.result c.loop-i.all.items c.loop-i.cache
-    (fault_of c.in-Err.fault) c.loop-i-test.true c.index-units-i.is c.loop-i.invariant.rest step
+pub returns-in-Err-clause-over : goal.returns-in-Err-clause-over
+returns-in-Err-clause-over g c =
+    let i = c.loop-i.invariant in
+    let reads = rw i.held at c.in-Err.ensures.reads in
+    record {
+      once = reads.once;
+      found = found_more (g.F.Files.held c.args.files.now) c.loop-i.cache.table c.next_text.new.cache.table i.found reads.found;
+      each = λ source found.
+          rest_fault source c.args.units.now c.loop-i.i c.index-units-i.result c.index-units-i.result c.loop-i.all.items c.loop-i.cache
+          (fault_of c.in-Err.fault) c.loop-i-test.true c.index-units-i.is (i.rest source (earlier_found source c.loop-i.cache.table c.next_text.new.cache.table reads.grown found))
+          (c.in-Err.ensures.answer i.fresh source found);
+    }
 
 pub loop-i-preserved : goal.loop-i-preserved
 loop-i-preserved g c =
-    let step = rw c.loop-i.invariant.held at c.in-Ok.ensures.answer in
+    let i = c.loop-i.invariant in
+    let reads = rw i.held at c.in-Ok.ensures.reads in
     record {
       held = search rules;
-      each = length-more c.loop-i.all.items c.add.new.all.items c.in-Ok.text c.loop-i.i c.in_ok-add-in-Ok.ensures c.loop-i.invariant.each;
-      carried = rw c.loop-i.invariant.held at c.in-Ok.ensures.carried;
-      rest = rest_more (g.F.Files.held c.args.files.now) c.args.units.now c.loop-i.i c.index-units-i.result c.index-units-i.result c.loop-i.all.items c.add.new.all.items
-          c.in-Ok.text c.loop-i.cache c.next_text.new.cache c.loop-i-test.true c.index-units-i.is c.in_ok-add-in-Ok.ensures c.loop-i.invariant.rest step;
+      each = length-more c.loop-i.all.items c.add.new.all.items c.in-Ok.text c.loop-i.i c.in_ok-add-in-Ok.ensures i.each;
+      fresh = c.in-Ok.ensures.fresh i.fresh;
+      once = reads.once;
+      found = found_more (g.F.Files.held c.args.files.now) c.loop-i.cache.table c.next_text.new.cache.table i.found reads.found;
+      rest = λ source found.
+          rest_more source c.args.units.now c.loop-i.i c.index-units-i.result c.index-units-i.result c.loop-i.all.items c.add.new.all.items
+          c.in-Ok.text c.loop-i.cache c.next_text.new.cache c.loop-i-test.true c.index-units-i.is c.in_ok-add-in-Ok.ensures
+          (i.rest source (earlier_found source c.loop-i.cache.table c.next_text.new.cache.table reads.grown found)) (c.in-Ok.ensures.answer i.fresh source found);
       reads = search rules;
       puts = search rules;
       last = search rules;
     }
 
-pub returns-clause-answer : goal.returns-clause-answer
-returns-clause-answer g c =
-    rest_end (g.F.Files.held c.args.files.now) c.args.units.now c.loop-i.i c.loop-i.all.items c.loop-i.cache c.loop-i-test.false c.loop-i.invariant.rest
+pub returns-in_err-add-in-Ok-clause-over : goal.returns-in_err-add-in-Ok-clause-over
+returns-in_err-add-in-Ok-clause-over g c =
+    let i = c.loop-i.invariant in
+    let reads = rw i.held at c.in-Ok.ensures.reads in
+    record {
+      once = reads.once;
+      found = found_more (g.F.Files.held c.args.files.now) c.loop-i.cache.table c.next_text.new.cache.table i.found reads.found;
+      each = λ source found. first_of (search rules, grind (arith, common_steps));
+    }
+
+pub returns-clause-over : goal.returns-clause-over
+returns-clause-over g c =
+    let i = c.loop-i.invariant in
+    record {
+      once = i.once;
+      found = i.found;
+      each = λ source found. rest_end source c.args.units.now c.loop-i.i c.loop-i.all.items c.loop-i.cache c.loop-i-test.false (i.rest source found);
+    }

@@ -1,8 +1,9 @@
 use Rattle.std.proofs.Common.{◌≡◌, ◌+◌, drop, length}
 use Rattle.std.specs.Prelude.{IfSome}
-use Rattle.include_tree.specs.Files.{source_of}
+use Rattle.include_tree.specs.Files.{Source, source_of}
+use Rattle.include_tree.specs.Laws.{AreFound, HasEachOnce}
 use Rattle.ws_core.specs.Texts.{texts_from, texts_of}
-use Rattle.ws_core.specs.Carrying.{IsCarried}
+use Rattle.ws_core.specs.Carrying.{IsFresh}
 use Rattle.ws_core.proofs.TextsLemmas.{behind}
 use Rattle.ws_core.proofs.preprocessing.unit_texts.Given as goal
 
@@ -10,8 +11,10 @@ abbrev pub invariant-loop-i : goal.invariant-loop-i
 invariant-loop-i g l = record {
   held : g.F.Files.held l.files ≡ g.F.Files.held l.fn.files;
   each : length l.all.items ≡ l.i;
-  carried : IfSome (g.F.Files.held l.fn.files) (λ held. IsCarried (source_of held) (l.i + 1) l.cache.table);
-  rest : IfSome (g.F.Files.held l.fn.files) (λ held. behind l.all.items (texts_from (source_of held) (l.i + 1) (drop l.i l.units) l.cache) ≡ texts_of (source_of held) l.units);
+  fresh : IsFresh (l.i + 1) l.cache.table;
+  once : HasEachOnce l.cache.table;
+  found : IfSome (g.F.Files.held l.fn.files) (λ held. AreFound (source_of held) l.cache.table);
+  rest : (source : Source) → AreFound source l.cache.table → behind l.all.items (texts_from source (l.i + 1) (drop l.i l.units) l.cache) ≡ texts_of source l.units;
   reads : g.F.Files.failed_reads l.files ≡ g.F.Files.failed_reads l.fn.files;
   puts : g.F.Files.failed_puts l.files ≡ g.F.Files.failed_puts l.fn.files;
   last : g.F.Files.last_failed l.files ≡ g.F.Files.last_failed l.fn.files;

@@ -6,26 +6,26 @@ use Rattle.include_tree.specs.Files.{Made, found_at, numbered}
 use Rattle.include_tree.specs.Faults.{first_place}
 use Rattle.include_tree.specs.KeptFiles.{KeptValue}
 use Rattle.include_tree.specs.Opening.{opening}
-use Rattle.include_tree.specs.Laws.{IsGrown}
+use Rattle.include_tree.specs.Laws.{Widens}
 use Rattle.include_tree.specs.Answers.{fault_of}
-use Rattle.include_tree.proofs.TableLemmas.{grown_refl, only_asks-push}
+use Rattle.include_tree.proofs.TableLemmas.{widens_refl, widens_push, only_asks-push}
 use Rattle.include_tree.proofs.OpeningLemmas.{ok_value}
 use Rattle.include_tree.proofs.SourcesLemmas.{made-gives, made-refused, opens-there, cache-made}
 use Rattle.include_tree.proofs.cache.Cache.make.Goals as goal
 
-pub returns-in_err-place-clause-grown : goal.returns-in_err-place-clause-grown
-returns-in_err-place-clause-grown c = grown_refl c.args.self.now.table
+pub returns-in_err-place-clause-widens : goal.returns-in_err-place-clause-widens
+returns-in_err-place-clause-widens c = λ source. widens_refl source c.args.self.now.table
 
-pub returns-in_err-push-in-Ok-clause-grown : goal.returns-in_err-push-in-Ok-clause-grown
-returns-in_err-push-in-Ok-clause-grown c =
-    rw (← c.self.view_is) (subst (IsGrown c.self.inside.table) (sym c.in_err-push-in-Ok.ensures.unchanged) (grown_refl c.self.inside.table))
+pub returns-in_err-push-in-Ok-clause-widens : goal.returns-in_err-push-in-Ok-clause-widens
+returns-in_err-push-in-Ok-clause-widens c = λ source.
+    rw (← c.self.view_is) (subst (Widens source c.self.inside.table) (sym c.in_err-push-in-Ok.ensures.unchanged) (widens_refl source c.self.inside.table))
 
 pub invariant_of-self-in-Ok : goal.invariant_of-self-in-Ok
 invariant_of-self-in-Ok c =
     let new : c.push.new.self ≡ numbered c.args.path.now (Made c.args.bytes.items) c.self.inside.table =
     c.in_ok-push-in-Ok.ensures.ok ∙ ap (λ (f : KeptValue). numbered c.args.path.now (Made f.bytes) c.self.inside.table) c.in-Ok.ensures.ok in
     cache-made c.self.inside.table c.push.new.self c.self.inside.files c.self.inside.bytes c.self.inside.toks c.self.invariant
-    (only_asks-push c.args.path.now (Made c.args.bytes.items) c.self.inside.table c.push.new.self refl new)
+    (only_asks-push None c.args.path.now (Made c.args.bytes.items) c.self.inside.table c.push.new.self refl tt new)
 
 pub returns-in-Ok-clause-answer : goal.returns-in-Ok-clause-answer
 returns-in-Ok-clause-answer c =
@@ -34,7 +34,7 @@ returns-in-Ok-clause-answer c =
     c.in_ok-push-in-Ok.ensures.ok ∙ ap (λ (f : KeptValue). numbered c.args.path.now (Made f.bytes) c.self.inside.table) c.in-Ok.ensures.ok in
     let text = ok_value (file_text c.next_number-number.result c.args.bytes.items) c.in-Ok.ensures.readable in
     rw (← c.self.view_is)
-    (made-gives (first_place c.args.path.now) c.args.path.now c.args.bytes.items c.self.inside.table c.push.new.self c.next_number-number.result text.0 none c.next_number-number.ensures text.1 new)
+    (made-gives (first_place c.args.path.now) c.args.path.now c.args.bytes.items c.self.inside.table c.push.new.self c.next_number-number.result text.0 none c.next_number-number.ensures.answer text.1 new)
 
 pub returns-in-Ok-clause-there : goal.returns-in-Ok-clause-there
 returns-in-Ok-clause-there c =
@@ -44,20 +44,21 @@ returns-in-Ok-clause-there c =
     let text = ok_value (file_text c.next_number-number.result c.args.bytes.items) c.in-Ok.ensures.readable in
     opens-there (Ok c.next_number-number.result)
     (opening the_limits file_text (first_place c.args.path.now) c.args.path.now (numbered c.args.path.now (Made c.args.bytes.items) c.self.inside.table)) c.push.new.self
-    (made-gives (first_place c.args.path.now) c.args.path.now c.args.bytes.items c.self.inside.table c.push.new.self c.next_number-number.result text.0 none c.next_number-number.ensures text.1 new)
+    (made-gives (first_place c.args.path.now) c.args.path.now c.args.bytes.items c.self.inside.table c.push.new.self c.next_number-number.result text.0 none c.next_number-number.ensures.answer text.1 new)
 
-pub returns-in-Ok-clause-grown : goal.returns-in-Ok-clause-grown
-returns-in-Ok-clause-grown c =
+pub returns-in-Ok-clause-widens : goal.returns-in-Ok-clause-widens
+returns-in-Ok-clause-widens c = λ source.
+    let none : found_at c.args.path.now c.self.inside.table ≡ None = rw (← c.self.view_is) at c.requires.fresh in
     let new : c.push.new.self ≡ numbered c.args.path.now (Made c.args.bytes.items) c.self.inside.table =
     c.in_ok-push-in-Ok.ensures.ok ∙ ap (λ (f : KeptValue). numbered c.args.path.now (Made f.bytes) c.self.inside.table) c.in-Ok.ensures.ok in
-    rw (← c.self.view_is) (only_asks-push c.args.path.now (Made c.args.bytes.items) c.self.inside.table c.push.new.self refl new).grown
+    rw (← c.self.view_is) (subst (Widens source c.self.inside.table) (sym new) (widens_push source c.args.path.now (Made c.args.bytes.items) c.self.inside.table none tt))
 
 pub returns-clause-answer : goal.returns-clause-answer
 returns-clause-answer c =
     let none : found_at c.args.path.now c.self.inside.table ≡ None = rw (← c.self.view_is) at c.requires.fresh in
     rw (← c.self.view_is)
     (made-refused (fault_of c.text_fault.result) (lex_fault_of c.in-Err.unread.refusal) (first_place c.args.path.now) c.in_ok-place.place c.args.path.now c.args.bytes.items c.self.inside.table c.next_number-number.result
-    none c.next_number-number.ensures c.in_ok-place.ensures c.text_fault.ensures.answer c.text_fault.ensures.no_memory c.in-Err.ensures.refused)
+    none c.next_number-number.ensures.answer c.in_ok-place.ensures c.text_fault.ensures.answer c.text_fault.ensures.no_memory c.in-Err.ensures.refused)
 
-pub returns-clause-grown : goal.returns-clause-grown
-returns-clause-grown c = grown_refl c.args.self.now.table
+pub returns-clause-widens : goal.returns-clause-widens
+returns-clause-widens c = λ source. widens_refl source c.args.self.now.table

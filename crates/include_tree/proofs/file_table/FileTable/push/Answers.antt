@@ -26,8 +26,9 @@ more_slots c = rw c.in_ok-reserve.ensures.items at (rw c.unwrap.ensures at c.pus
 pub invariant_of-self-2 : goal.invariant_of-self-2
 invariant_of-self-2 c =
     let new : IsNumbered (length (table_in c.self.inside)) c.args.path.now c.args.slot = rw (← c.self.view_is) at c.requires.numbered in
+    let fresh : found_at c.args.path.now (table_in c.self.inside) ≡ None = rw (← c.self.view_is) at c.requires.fresh in
     file_table-pushed (paths_in c.self.inside) (map (λ k. k.items) c.insert.new.self.keys) c.self.inside.slots.items c.push.new.self.items c.args.path.now c.args.slot
-    c.self.invariant (more_paths c) (more_slots c) new (omega (arith, c.if-len.false, c.len.ensures))
+    c.self.invariant (more_paths c) (more_slots c) fresh c.requires.text new (omega (arith, c.if-len.false, c.len.ensures))
 
 pub returns-clause-ok : goal.returns-clause-ok
 returns-clause-ok c =
