@@ -134,8 +134,8 @@ fn walk_main<F: Files>(
 /// `Fault` is the first fault of the definition; `ReadFault` comes where a read failed, and names its path;
 /// `Memory` where memory ran out, at any moment. After each of them the files that were read are kept, and
 /// no tokens are counted, so that another unit, or the same one under another number, may follow. A number
-/// whose pseudo file was made is used up: where it comes again, which only files that are not told allow,
-/// the pseudo file stays as it was made.
+/// whose pseudo file was made is used up: where it comes again, the pseudo file stays as it was made, and
+/// nothing is said of the unit.
 pub fn preprocess<F: Files>(
     alloc: Global,
     cache: &mut Cache,
