@@ -1,0 +1,45 @@
+-- What is answered for a place, by what is answered for a class.
+use Rattle.std.proofs.Common.{◌≡◌, ℕ, true, false, List, Option, Some, None, Result, Ok, Err, refl, sym, ◌∙◌, subst}
+use Rattle.std.specs.Prelude.{IfSome}
+use Rattle.std.specs.Ordering.{is_lt}
+use Rattle.std.specs.declared.cmp.Ordering.{Ordering}
+use Rattle.std.specs.declared.cmp.Ordering.TheVariants.{Less, Equal, Greater}
+use Rattle.std.proofs.lemmas.Option.{none-some, same_Some}
+use Rattle.cs_base.specs.declared.positions.Part.{Part}
+use Rattle.cs_base.specs.declared.positions.Pos.{Pos}
+use Rattle.cs_base.specs.Edit.{Edit}
+use Rattle.eclass_map.specs.Positions.{holds}
+use Rattle.part_lexer.specs.Spelling.{is_identifier_text}
+use Rattle.ws_core.specs.Analysis.{AnalysisValue}
+use Rattle.ws_core.specs.Naming.{Names}
+use Rattle.rename_rules.specs.Renaming.{GivesOne, IsClassRenamed, IsRenaming, Refusal}
+use Rattle.rename_rules.proofs.ClassLemmas.{part_once}
+
+pub not_less : (o : Ordering) → (o ≡ Less → ⊥) → is_lt o ≡ false
+not_less Less other = absurd (other refl)
+not_less Equal other = refl
+not_less Greater other = refl
+
+if_some : {F : Type 0} (o : Option F) (P Q : F → Type 0) → ((x : F) → P x → Q x) → IfSome o P → IfSome o Q
+if_some None P Q f h = tt
+if_some (Some x) P Q f h = f x h
+
+pub gives_also : {X Y E F : Type 0} (view : X → Y) (fault_of : E → Option F) (P Q : Result Y F → Type 0) → ((r : Result Y F) → P r → Q r)
+    → (r : Result X E) → GivesOne view fault_of r P → GivesOne view fault_of r Q
+gives_also view fault_of P Q f (Ok x) h = f (Ok (view x)) h
+gives_also view fault_of P Q f (Err e) h = if_some (fault_of e) (λ x. P (Err x)) (λ x. Q (Err x)) (λ x. f (Err x)) h
+
+not_both : (name : List ℕ) → is_identifier_text name ≡ true → is_identifier_text name ≡ false → ⊥
+not_both name good bad = let e : true ≡ false = sym good ∙ bad in cc
+
+pub named_class : (a : AnalysisValue) (path : List ℕ) (line column : ℕ) (name : List ℕ) (part : Part) (r : Result (List Edit) Refusal)
+    → is_identifier_text name ≡ true → Names a path line column (Some part) → IsClassRenamed a part name r → IsRenaming a path line column name r
+named_class a path line column name part r id n h = record {
+  bad_name = λ bad. absurd (not_both name id bad);
+  no_name = λ i none. absurd (none-some n.0 (sym none ∙ n.1));
+  class = λ i other m.
+      let same : m.0 ≡ n.0 = same_Some m.0 n.0 (sym m.1 ∙ n.1) in
+      let H : Pos → Type 0 = λ p. holds other p ≡ true in
+      let Q : Part → Type 0 = λ p. IsClassRenamed a p name r in
+      subst Q (part_once a part other n.0 n.2 m.2 n.3 (subst H same m.3)) h;
+}

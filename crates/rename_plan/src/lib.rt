@@ -1,0 +1,13 @@
+//! The plan of a renaming: the edits of all files, or the first reason against it.
+//!
+//! `plan_rename` takes an analysed workspace, a place in it and a new name. It gives the edits of every file that
+//! holds a member of the class of the named part, or says that the name is no identifier, that the place names
+//! nothing, or which offence stands first. It reads and writes no files.
+#![tactic(auto)]
+
+mod edits;
+mod plan;
+mod refusals;
+
+pub use plan::plan_rename;
+pub use refusals::RenameRefusal;

@@ -1,0 +1,126 @@
+// The edits of a renaming, or its first refusal.
+ghost use Rattle.std.specs.Prelude.{◌≡◌, None, IfOk};
+ghost use Rattle.rename_rules.specs.Class.{IsClass};
+ghost use Rattle.rename_rules.specs.First.{member_offences, offences_of, spelling_offences, FirstThen, IsFirst};
+ghost use Rattle.rename_rules.specs.Renaming.{GivesOne, IsClassRenamed, IsRenamed, IsRenaming};
+ghost use Rattle.rename_rules.specs.Tokens.{holders};
+ghost use Rattle.ws_core.specs.Parts.{IsPart};
+ghost use Rattle.rename_plan.specs.Refusals.{refusal_of};
+
+use crate::edits::edit_files;
+use crate::refusals::{RenameRefusal, refused};
+use cs_base::{Edits, Memory, Part, Tok};
+use part_lexer::is_identifier;
+use rename_rules::{
+    Offence, clashing, header_names, holders, no_identifiers, occurring, read_only, reserved,
+    respellings, shadowed, stringized, too_large,
+};
+use std::alloc::Global;
+use ws_core::Analysis;
+
+/// The edits that rename the class of the part which a place names, or the first refusal. Lines and columns count
+/// from 1.
+pub fn plan_rename(
+    alloc: Global,
+    a: &Analysis,
+    path: &str,
+    line: u32,
+    column: u32,
+    name: &[u8],
+) -> Result<Edits, RenameRefusal>
+    ensures { GivesOne (λ edits. edits) refusal_of result (IsRenaming a.now.value path.now line column name.now) }
+{
+    if !is_identifier(name) {
+        return Err(RenameRefusal::BadName);
+    }
+    match a.part_at(path, line, column) {
+        Some(part) => plan_part(alloc, a, part, name),
+        None => Err(RenameRefusal::NoName),
+    }
+}
+
+// The same for the class of a part.
+fn plan_part(alloc: Global, a: &Analysis, part: Part, name: &[u8]) -> Result<Edits, RenameRefusal>
+    requires { IsPart a.now.value part }
+    ensures { GivesOne (λ edits. edits) refusal_of result (IsClassRenamed a.now.value part name.now) }
+{
+    match a.classes().class_of(part) {
+        Some(number) => plan_class(alloc, a, a.members(part), number, name),
+        // Each part has a class.
+        None => Err(RenameRefusal::Memory),
+    }
+}
+
+// The same for the class with these members and this number.
+fn plan_class(
+    alloc: Global,
+    a: &Analysis,
+    members: &[Part],
+    number: u32,
+    name: &[u8],
+) -> Result<Edits, RenameRefusal>
+    requires { IsClass a.now members.now number }
+    ensures { GivesOne (λ edits. edits) refusal_of result (IsRenamed a.now.value members.now name.now) }
+{
+    match first_offence(alloc, a, members, number, name)? {
+        Some(offence) => Err(refused(alloc, a, offence)),
+        None => Ok(edit_files(alloc, a, members, name)?),
+    }
+}
+
+// The first offence, if one stands.
+fn first_offence(
+    alloc: Global,
+    a: &Analysis,
+    members: &[Part],
+    number: u32,
+    name: &[u8],
+) -> Result<Option<Offence>, Memory>
+    requires { IsClass a.now members.now number }
+    ensures { IfOk result (λ first. IsFirst a.now.value.table (offences_of a.now.value members.now name.now) first) }
+{
+    let toks = holders(alloc, a, members, number)?;
+    let at_members = member_offences(alloc, a, members, number, name, &toks)?;
+    spelling_offences(alloc, a, members, number, name, &toks, at_members)
+}
+
+// The first of those at members and the tokens that hold them.
+fn member_offences(
+    alloc: Global,
+    a: &Analysis,
+    members: &[Part],
+    number: u32,
+    name: &[u8],
+    toks: &[Tok],
+) -> Result<Option<Offence>, Memory>
+    requires class { IsClass a.now members.now number }
+    requires toks { toks.now ≡ holders a.now.value members.now }
+    ensures { IfOk result (λ first. FirstThen a.now.value.table (member_offences a.now.value members.now name.now) None first) }
+{
+    let kept = read_only(a, members, None);
+    let words = reserved(alloc, a, members, number, name, toks, kept)?;
+    let strings = stringized(a, members, number, words);
+    let headers = header_names(a, members, number, strings);
+    Ok(no_identifiers(a, members, number, toks, headers))
+}
+
+// The first of these and of those of new spellings among all others.
+fn spelling_offences(
+    alloc: Global,
+    a: &Analysis,
+    members: &[Part],
+    number: u32,
+    name: &[u8],
+    toks: &[Tok],
+    first: Option<Offence>,
+) -> Result<Option<Offence>, Memory>
+    requires class { IsClass a.now members.now number }
+    requires toks { toks.now ≡ holders a.now.value members.now }
+    ensures { IfOk result (λ now. FirstThen a.now.value.table (spelling_offences a.now.value members.now name.now) first now) }
+{
+    let table = respellings(alloc, a, members, number, name, toks)?;
+    let words = occurring(alloc, a, members, name, toks, &table, first)?;
+    let pairs = clashing(alloc, a, members, number, name, toks, &table, words)?;
+    let sizes = too_large(alloc, a, members, number, name, pairs)?;
+    Ok(shadowed(a, members, name, toks, &table, sizes))
+}

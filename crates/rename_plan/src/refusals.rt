@@ -1,0 +1,83 @@
+// Why a renaming is refused.
+ghost use Rattle.std.specs.Prelude.{◌≡◌, IfSome};
+ghost use Rattle.rename_rules.specs.Renaming.{refused_for};
+ghost use Rattle.rename_plan.specs.Refusals.{refusal_of};
+ghost use Rattle.std.specs.Prelude.{unwrap_or};
+ghost use Rattle.part_lexer.specs.Lines.{line_column_of};
+ghost use Rattle.include_tree.specs.Faults.{place_of as place_with};
+ghost use Rattle.ws_core.specs.Places.{place_at};
+ghost use Rattle.std.specs.Prelude.{IfOk};
+
+use cs_base::{Cause, Memory as NoMemory, Place, Pos, Text};
+use include_tree::KeptFile;
+use rename_rules::Offence;
+use std::alloc::Global;
+use ws_core::Analysis;
+
+/// What `plan_rename` answers where it gives no edits, in the order in which it looks.
+#[derive(Drop)]
+pub enum RenameRefusal {
+    /// The new name is no identifier.
+    BadName,
+    /// The place names no part.
+    NoName,
+    /// The first offence: by path, then by character, then by number.
+    Offence { place: Place, cause: Cause },
+    /// Memory ran out.
+    Memory,
+}
+
+impl From<NoMemory> for RenameRefusal {
+    ghost use Rattle.std.specs.Prelude.{◌≡◌};
+    ghost use Rattle.rename_plan.specs.declared.refusals.RenameRefusal.TheVariants.{Memory as no_memory};
+
+    ghost from_gives = { λ _ e. e ≡ no_memory };
+
+    fn from(_: NoMemory) -> Self {
+        RenameRefusal::Memory
+    }
+}
+
+// The line and the column of a character of a file.
+fn line_column(file: &KeptFile, at: u32) -> (u32, u32)
+    ensures { result ≡ unwrap_or (line_column_of file.now.bytes at) (1, 1) }
+{
+    match file.text().line_column(at) {
+        Some(place) => place,
+        None => (1, 1),
+    }
+}
+
+// A place of this path.
+fn place_in(alloc: Global, path: &[u8], place: (u32, u32)) -> Result<Place, NoMemory>
+    ensures { IfOk result (λ p. p ≡ place_with path.now place) }
+{
+    Ok(Place {
+        path: Text::new(alloc, path)?,
+        line: place.0,
+        column: place.1,
+    })
+}
+
+// The place of a position.
+fn place_at(alloc: Global, a: &Analysis, at: Pos) -> Result<Place, NoMemory>
+    ensures { IfOk result (λ p. p ≡ place_at a.now.value.table at) }
+{
+    match a.file(at.file) {
+        Some(file) => place_in(alloc, file.path(), line_column(file, at.at)),
+        None => place_in(alloc, b"<lines>", (at.at / 8 + 1, at.at % 8 + 1)),
+    }
+}
+
+/// The refusal for an offence.
+pub(crate) fn refused(alloc: Global, a: &Analysis, offence: Offence) -> RenameRefusal
+    ensures { IfSome (refusal_of result) (λ r. r ≡ refused_for a.now.value offence) }
+{
+    match place_at(alloc, a, offence.at) {
+        Ok(place) => RenameRefusal::Offence {
+            place,
+            cause: offence.cause,
+        },
+        Err(_) => RenameRefusal::Memory,
+    }
+}
