@@ -36,6 +36,10 @@ are_in_order [] = true
 are_in_order (e ∷ []) = true
 are_in_order (e ∷ f ∷ es) = comes_before e f && are_in_order (f ∷ es)
 
+-- the edges that lead from a caller
+abbrev pub edges_of : ℕ → List Edge → List Edge
+edges_of caller edges = filter (λ e. e.caller == caller) edges
+
 -- What is true of every graph.
 pub record IsGraph (g : GraphValue) : Type 0 where
   pub few : length g.nodes < 2 ^ 32

@@ -1,7 +1,7 @@
 // A graph of calls, and the questions that are asked of it.
 ghost use Rattle.std.specs.Prelude.{◌≡◌, ◌<◌, ◌^◌, length, All, IsTrue, IfOk, slice_get};
 ghost use Rattle.std.specs.Option.{option_copied};
-ghost use Rattle.call_graphs.specs.Graph.{graph, is_edge, IsWithin, are_in_order, callers_of, callees_of};
+ghost use Rattle.call_graphs.specs.Graph.{graph, is_edge, IsWithin, are_in_order, edges_of, callers_of, callees_of};
 ghost use Rattle.call_graphs.specs.Reaching.{Lists, Reaches};
 
 use crate::marks::Marks;
@@ -30,7 +30,7 @@ impl Model for Graph {
 }
 
 impl Graph {
-    ghost use Rattle.call_graphs.specs.Graph.{graph, is_edge, IsWithin, are_in_order, callers_of, callees_of};
+    ghost use Rattle.call_graphs.specs.Graph.{graph, is_edge, IsWithin, are_in_order, edges_of, callers_of, callees_of};
     ghost use Rattle.call_graphs.specs.Reaching.{Lists, Reaches};
 
     /// A graph of these nodes and edges.
@@ -57,6 +57,17 @@ impl Graph {
         self.nodes.get(k as usize)
     }
 
+    // The edges that lead from a node: they stand together.
+    fn edges_from(&self, node: u32) -> &[Edge]
+        ensures { result.now ≡ edges_of node self.now.edges }
+    {
+        let edges = self.edges.as_slice();
+        let start = edges.partition_point(|e| e.caller < node);
+        let rest = &edges[start..];
+        let count = rest.partition_point(|e| e.caller <= node);
+        &rest[..count]
+    }
+
     /// The nodes that call this one, in order and each once.
     pub fn callers(&self, alloc: Global, node: u32) -> Result<Vec<u32>, Memory>
         requires { node < length self.now.nodes }
@@ -77,10 +88,8 @@ impl Graph {
         ensures { IfOk result (λ ns. ns.items ≡ callees_of self.now node) }
     {
         let mut marks = Marks::new(alloc, self.nodes.len())?;
-        for edge in &self.edges {
-            if edge.caller == node {
-                marks.set(edge.callee);
-            }
+        for edge in self.edges_from(node) {
+            marks.set(edge.callee);
         }
         marks.numbers(alloc)
     }
@@ -93,7 +102,7 @@ impl Graph {
     {
         let mut walk = Walk::new(alloc, self.nodes.len(), node)?;
         while let Some(from) = walk.next() {
-            walk.follow(from, self.edges.as_slice())?;
+            walk.follow(from, self.edges_from(from))?;
         }
         walk.met(alloc)
     }

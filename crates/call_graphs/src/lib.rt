@@ -5,8 +5,9 @@
 //! those that a chain of one or more edges reaches, each in order and once; they equal `callers_of` and
 //! `callees_of` of `specs/Graph.antt`, and list what `Reaches` of `specs/Reaching.antt` tells. Which calls a
 //! program has belongs to who makes the graph: this crate knows no tokens and no units. Nothing is refused; what
-//! wants memory answers `Memory`. `callers` and `callees` look at each edge once, `reachable` at each edge for
-//! each node that it reaches. Read `specs/Graph.antt` and `specs/Reaching.antt`, then `graph.rt`.
+//! wants memory answers `Memory`. The edges of a caller are found by two searches in their order, so `reachable`
+//! looks at each edge at most twice; `callers` looks at each edge once. Read `specs/Graph.antt` and
+//! `specs/Reaching.antt`, then `graph.rt`.
 #![tactic(auto)]
 
 mod graph;

@@ -1,9 +1,11 @@
 use Rattle.std.proofs.Common.{◌≡◌, ◌<◌, ◌∙◌, List, ℕ, Bool, length, take, subst, ap, rules}
-use Rattle.std.specs.Prelude.{IfOk}
+use Rattle.std.specs.Prelude.{IfOk, ◌==◌}
+use Rattle.std.specs.List.{list_any}
 use Rattle.std.proofs.lemmas.List.{take_all}
 use Rattle.call_graphs.specs.declared.nodes.Edge.{Edge}
-use Rattle.call_graphs.specs.Graph.{is_edge, numbers_of, callees_of}
+use Rattle.call_graphs.specs.Graph.{is_edge, edges_of, numbers_of, callees_of}
 use Rattle.call_graphs.specs.Walking.{is_marked, marked_numbers}
+use Rattle.call_graphs.proofs.OrderLemmas.{any-own}
 use Rattle.call_graphs.proofs.ListLemmas.{numbers-agree}
 use Rattle.call_graphs.proofs.graph.Graph.callees.Goals as goal
 
@@ -12,9 +14,11 @@ returns c =
     let g = c.args.self.now in
     let marks = c.loop-edge.marks in
     let test : ℕ → Bool = λ (m : ℕ). is_edge g.edges c.args.node m in
-    let whole : take c.loop-edge.edge-index g.edges ≡ g.edges = search (rules, take_all) in
+    let own = c.edges_from-edge-items.result.now in
+    let whole : take c.loop-edge.edge-index own ≡ own = search (rules, take_all) in
+    let is : own ≡ edges_of c.args.node g.edges = c.edges_from-edge-items.ensures in
     let told : (m : ℕ) → m < length marks → is_marked marks m ≡ test m =
-    λ m below. c.loop-edge.invariant.1 m below ∙ ap (λ (es : List Edge). is_edge es c.args.node m) whole in
+    λ m below. c.loop-edge.invariant.1 m below ∙ ap (λ (es : List Edge). list_any (λ e. e.callee == m) es) (whole ∙ is) ∙ any-own g.edges c.args.node m in
     let same : marked_numbers marks ≡ callees_of g c.args.node =
     numbers-agree (is_marked marks) test (length marks) told ∙ ap (numbers_of test) c.loop-edge.invariant.0 in
     subst (λ (ms : List ℕ). IfOk c.numbers.result (λ ns. ns.items ≡ ms)) same c.numbers.ensures

@@ -1,9 +1,10 @@
 use Rattle.std.proofs.Common.{◌≡◌, ◌++◌, ◌∷◌, [], All, false, length, replicate, subst, sym, ap, ◌∙◌, rules}
 use Rattle.std.specs.List.{fold}
-use Rattle.call_graphs.specs.Graph.{IsWithin}
+use Rattle.call_graphs.specs.Graph.{edges_of, IsWithin}
 use Rattle.call_graphs.specs.Walking.{WalkValue, walk, marked_numbers, followed}
 use Rattle.call_graphs.specs.Reaching.{Lists, Reaches}
 use Rattle.call_graphs.proofs.ListLemmas.{ok-then}
+use Rattle.call_graphs.proofs.OrderLemmas.{fold-own}
 use Rattle.call_graphs.proofs.WalkLemmas.{Grown, IsWalk, walk-begins, walk-goes, walk-less, walk-ends, walk-parts, grown}
 use Rattle.call_graphs.proofs.graph.Graph.reachable.Goals as goal
 
@@ -19,9 +20,9 @@ follows c =
     let from = c.in-Some.from in
     let before : c.next.new.self ≡ walk c.loop-from.walk.marks c.next.new.self.work =
     walk-parts c.next.new.self c.loop-from.walk.marks c.in-Some.ensures.marks in
-    let after : c.follow.new.self ≡ fold (followed from) c.next.new.self edges = search rules in
+    let after : c.follow.new.self ≡ fold (followed from) c.next.new.self (edges_of from edges) = search rules in
     subst (Grown from edges (walk c.loop-from.walk.marks c.next.new.self.work))
-    (sym (after ∙ ap (λ (w : WalkValue). fold (followed from) w edges) before))
+    (sym (after ∙ fold-own from edges c.next.new.self ∙ ap (λ (w : WalkValue). fold (followed from) w edges) before))
     (grown from edges (walk c.loop-from.walk.marks c.next.new.self.work))
 
 waited : (c : goal.In_ok-follow) → c.loop-from.walk.work ≡ c.next.new.self.work ++ c.in-Some.from ∷ []
