@@ -1,0 +1,299 @@
+// Renamings of classes in whole workspaces, worked by hand from the definitions.
+use cs_base::Edits;
+use rename_plan::{RenameRefusal, plan_rename};
+use std::alloc::{AllocError, Global};
+use std::test::Fail;
+use ws_core::{Analysis, analyse};
+use ws_file::read_ws;
+
+// A workspace file, the files that are held, each as `PATH:TEXT` with `@` between them, the place and the new name,
+// and each edited file, behind its path and the number of its members, or the refusal.
+struct Row {
+    ws: &'static str,
+    files: &'static str,
+    path: &'static str,
+    line: u32,
+    column: u32,
+    name: &'static str,
+    want: &'static str,
+}
+
+const EXTERNAL: &str = "a.c:int x;\nint y = x;\n@b.c:extern int x;\n";
+
+const PASTED: &str = "a.c:#define F(x) x##_f\nint a_f;\nint b = F(a);\n";
+
+const OWN: &str = "a.c:int foo;\n#define foo (4 + foo)\nint y = foo;\n";
+
+const SHOWN: &str =
+    "a.c:#define SHOW(v) put(#v, v)\nint put(char *s, int n);\nint count;\nint r(void) { return SHOW(count); }\n";
+
+const COMPUTED: &str =
+    "inc/sys.h:extern int q;\n@a.c:#define NAME(x) <x.h>\n#include NAME(sys)\nint q;\n";
+
+const NUMBERED: &str = "a.c:#define N(d) v##d\nint v1;\nint w = N(1);\n";
+
+const TWO_PASTED: &str = "a.c:#define B(x) int x##a; int a##x;\nB(foo)\nint y = fooa;\n";
+
+const SKIPPED: &str = "a.c:int x;\n#if 0\nint fresh;\n#endif\n";
+
+const SPLICED: &str = "a.c:int lo\\\nng_name;\nint k = __LINE__;\n";
+
+const GUARDED: &str =
+    "h.h:#ifndef H_H\n#define H_H\nextern int n;\n#endif\n@a.c:#include \"h.h\"\n#include \"h.h\"\nint n;\n@b.c:#include \"h.h\"\nint f(void) { return n; }\n";
+
+const MEMBERS: &str =
+    "a.c:struct q { int x; };\nstruct r { int x; struct q q; };\nstruct r *p, *f(void), a[2];\nstruct q z = { .x = 1 };\nint g(void) { return p->q.x + (*f()).x + a[1].x + z.x; }\n";
+
+const PROJECTS: &str =
+    "a.c:#ifdef FAST\n#define get(p) (p)\n#else\nint get(int p);\n#endif\nint h(int k) { return get(k); }\n";
+
+const KEPT: &str = "inc/h.h:extern int n;\n@a.c:#include \"inc/h.h\"\nint n;\n";
+
+const SHADOWED: &str = "a.c:typedef int t;\nvoid f(int t) { int g(t); }\n";
+
+const ROWS: [Row; 20] = [
+    Row {
+        ws: "file a.c\nfile b.c\n",
+        files: EXTERNAL,
+        path: "a.c",
+        line: 1,
+        column: 5,
+        name: "count",
+        want: "a.c 2:int count;\nint y = count;\n@b.c 1:extern int count;\n@",
+    },
+    Row {
+        ws: "file a.c\n",
+        files: PASTED,
+        path: "a.c",
+        line: 2,
+        column: 5,
+        name: "c",
+        want: "a.c 2:#define F(x) x##_f\nint c_f;\nint b = F(c);\n@",
+    },
+    Row {
+        ws: "file a.c\n",
+        files: OWN,
+        path: "a.c",
+        line: 1,
+        column: 5,
+        name: "v",
+        want: "a.c 2:int v;\n#define foo (4 + v)\nint y = foo;\n@",
+    },
+    Row {
+        ws: "file a.c\n",
+        files: OWN,
+        path: "a.c",
+        line: 3,
+        column: 9,
+        name: "m",
+        want: "a.c 2:int foo;\n#define m (4 + foo)\nint y = m;\n@",
+    },
+    Row {
+        ws: "file a.c\n",
+        files: SHOWN,
+        path: "a.c",
+        line: 3,
+        column: 5,
+        name: "total",
+        want: "a.c:4:27: stringized",
+    },
+    Row {
+        ws: "ipath inc\nfile a.c\n",
+        files: COMPUTED,
+        path: "a.c",
+        line: 2,
+        column: 15,
+        name: "lib",
+        want: "a.c:2:15: header name",
+    },
+    Row {
+        ws: "file a.c\n",
+        files: NUMBERED,
+        path: "a.c",
+        line: 2,
+        column: 6,
+        name: "two",
+        want: "a.c:3:11: not an identifier",
+    },
+    Row {
+        ws: "file a.c\n",
+        files: NUMBERED,
+        path: "a.c",
+        line: 2,
+        column: 5,
+        name: "z",
+        want: "a.c 2:#define N(d) z##d\nint z1;\nint w = N(1);\n@",
+    },
+    Row {
+        ws: "file a.c\n",
+        files: TWO_PASTED,
+        path: "a.c",
+        line: 2,
+        column: 3,
+        name: "aa",
+        want: "a.c:2:3: clash",
+    },
+    Row {
+        ws: "file a.c\n",
+        files: SKIPPED,
+        path: "a.c",
+        line: 1,
+        column: 5,
+        name: "fresh",
+        want: "a.c:3:5: occurs",
+    },
+    Row {
+        ws: "file a.c\n",
+        files: SPLICED,
+        path: "a.c",
+        line: 1,
+        column: 5,
+        name: "v",
+        want: "a.c 1:int v\\\n;\nint k = __LINE__;\n@",
+    },
+    Row {
+        ws: "file a.c\nfile b.c\n",
+        files: GUARDED,
+        path: "h.h",
+        line: 1,
+        column: 9,
+        name: "GUARD",
+        want: "h.h 2:#ifndef GUARD\n#define GUARD\nextern int n;\n#endif\n@",
+    },
+    Row {
+        ws: "file a.c\n",
+        files: MEMBERS,
+        path: "a.c",
+        line: 1,
+        column: 16,
+        name: "u",
+        want: "a.c 4:struct q { int u; };\nstruct r { int x; struct q q; };\nstruct r *p, *f(void), a[2];\nstruct q z = { .u = 1 };\nint g(void) { return p->q.u + (*f()).x + a[1].x + z.u; }\n@",
+    },
+    Row {
+        ws: "project one\ndefine FAST 1\nfile a.c\nproject two\nfile a.c\n",
+        files: PROJECTS,
+        path: "a.c",
+        line: 6,
+        column: 23,
+        name: "take",
+        want: "a.c 3:#ifdef FAST\n#define take(p) (p)\n#else\nint take(int p);\n#endif\nint h(int k) { return take(k); }\n@",
+    },
+    Row {
+        ws: "file a.c\nfile b.c\n",
+        files: EXTERNAL,
+        path: "a.c",
+        line: 1,
+        column: 5,
+        name: "while",
+        want: "a.c:1:5: reserved",
+    },
+    Row {
+        ws: "file a.c\nfile b.c\n",
+        files: EXTERNAL,
+        path: "a.c",
+        line: 1,
+        column: 5,
+        name: "2x",
+        want: "bad name",
+    },
+    Row {
+        ws: "file a.c\nfile b.c\n",
+        files: EXTERNAL,
+        path: "a.c",
+        line: 1,
+        column: 5,
+        name: "x",
+        want: "a.c:1:5: occurs",
+    },
+    Row {
+        ws: "readonly inc/\nfile a.c\n",
+        files: KEPT,
+        path: "a.c",
+        line: 2,
+        column: 5,
+        name: "m",
+        want: "inc/h.h:1:12: read-only",
+    },
+    Row {
+        ws: "file a.c\n",
+        files: SHADOWED,
+        path: "a.c",
+        line: 2,
+        column: 12,
+        name: "v",
+        want: "a.c:2:23: shadowed typedef",
+    },
+    Row {
+        ws: "file a.c\n",
+        files: "a.c:int x;\n",
+        path: "a.c",
+        line: 1,
+        column: 5,
+        name: "define",
+        want: "<defines 1>:1:2: occurs",
+    },
+];
+
+fn show_edits(alloc: Global, edits: &Edits) -> Result<Vec<u8>, AllocError> {
+    let mut out = Vec::new(alloc);
+    for k in 0..edits.len() {
+        out.extend_from_slice(edits.path(k))?;
+        let count = edits.count(k);
+        out.extend_from_slice(format!(in alloc; " {count}:")?.as_bytes())?;
+        out.extend_from_slice(edits.bytes(k))?;
+        out.push(b'@')?;
+    }
+    Ok(out)
+}
+
+fn show_refusal(alloc: Global, refusal: &RenameRefusal) -> Result<Vec<u8>, AllocError> {
+    let mut out = Vec::new(alloc);
+    match refusal {
+        RenameRefusal::BadName => out.extend_from_slice(b"bad name")?,
+        RenameRefusal::NoName => out.extend_from_slice(b"no name")?,
+        RenameRefusal::Offence { place, cause } => {
+            let (line, column) = (place.line, place.column);
+            out.extend_from_slice(place.path.bytes())?;
+            out.extend_from_slice(format!(in alloc; ":{line}:{column}: ")?.as_bytes())?;
+            out.extend_from_slice(cause.words())?;
+        }
+        RenameRefusal::Memory => return Err(AllocError),
+    }
+    Ok(out)
+}
+
+fn analysed(alloc: Global, ws: &str, files: &str) -> Result<Analysis, Fail> {
+    let Ok(ws) = read_ws(alloc, ws.as_bytes()) else {
+        return Err(AllocError)?;
+    };
+    let mut files = row_tools::held(alloc, files)?;
+    match analyse(alloc, &ws, &mut files) {
+        Ok(analysis) => Ok(analysis),
+        Err(_) => Err(AllocError)?,
+    }
+}
+
+fn shown(alloc: Global, row: &Row) -> Result<Vec<u8>, Fail> {
+    let a = analysed(alloc, row.ws, row.files)?;
+    match plan_rename(
+        alloc,
+        &a,
+        row.path,
+        row.line,
+        row.column,
+        row.name.as_bytes(),
+    ) {
+        Ok(edits) => Ok(show_edits(alloc, &edits)?),
+        Err(refusal) => Ok(show_refusal(alloc, &refusal)?),
+    }
+}
+
+#[test]
+fn names_are_renamed_or_refused(rt: HostRuntime) -> Result<(), Fail> {
+    let alloc = rt.alloc();
+    for row in &ROWS {
+        let text = shown(alloc, row)?;
+        assert_eq!(rt; text.as_slice(), row.want.as_bytes(), "{}", row.files);
+    }
+    Ok(())
+}
