@@ -6,3 +6,5 @@ pub mod EndLemmas
 pub mod PathLemmas
 pub mod PromiseLemmas
 pub mod ReportLemmas
+pub mod AlikeLemmas
+pub mod PlannedLemmas

@@ -1,5 +1,5 @@
 -- From the workspace file to the answer: what a command says over its workspace, and what the reports say.
-use Rattle.std.proofs.Common.{◌≡◌, ℕ, zero, suc, ◌≤◌, List, Option, None, Some, Result, Ok, Err, length, refl, ap, sym, subst, ◌∙◌, ⊎_elim, arith}
+use Rattle.std.proofs.Common.{◌≡◌, ℕ, zero, suc, ◌≤◌, List, Option, None, Some, Result, Ok, Err, length, ap, sym, subst, ◌∙◌, ⊎_elim, arith}
 use Rattle.std.specs.Prelude.{IfSome, IsErrAnd, codes}
 use Rattle.std.specs.Option.{option_map, option_map_or}
 use Rattle.std.proofs.lemmas.Option.{slice_get_cases}
@@ -20,9 +20,8 @@ use Rattle.cscout_run.specs.declared.status.Status.TheVariants.{Refused, Workspa
 use Rattle.cscout_run.specs.declared.preparing.Ready.{Ready}
 use Rattle.cscout_run.specs.declared.stops.Stop.{Stop}
 use Rattle.cscout_run.specs.declared.stops.Stop.TheVariants.{UnitFault as UnitStop}
-use Rattle.cscout_run.specs.Request.{ClassValue}
-use Rattle.cscout_run.specs.Answer.{Answer, IsClassAnswer, IsOverWorkspace, shown, stopped, workspace_at, workspace_answer, text_answer, unit_answer}
-use Rattle.cscout_run.specs.Message.{refused_line}
+use Rattle.cscout_run.specs.Answer.{Answer, IsOverWorkspace, shown, stopped, workspace_at, workspace_answer, text_answer, unit_answer}
+use Rattle.cscout_run.specs.Message.{refused_line, text_fault_line}
 use Rattle.cscout_run.specs.Steps.{Prepares, ReadsWorkspace, no_workspace, stop_of}
 use Rattle.cscout_run.specs.Stopping.{Stops, line_of}
 use Rattle.cscout_run.proofs.RunLemmas.{if_told-map, stops-map}
@@ -125,32 +124,36 @@ tokens-stop o ws unit w f first last p =
     if_told-map o _ _ p
     (λ fs h. let x = unit-expects unit w fs (Err f) first last h in text-stops ws (unit_answer unit fs w) f x.expected x.answer x.gives)
 
--- ---- `class`
+-- ---- the commands that analyse
 
 -- what is prepared over an analysis is prepared over what the files hold
-pub class-prepared : (o : Option FileMap) (q : ClassValue) (w : WorkspaceValue) (value : AnalysisValue) (result : Result Ready Stop)
-    → IfSome o (λ fs. analysis_of (source_of fs) w ≡ Ok value) → Prepares q.ws (IsClassAnswer q (Ok value)) result
-    → IfSome o (λ fs. Prepares q.ws (IsClassAnswer q (analysis_of (source_of fs) w)) result)
-class-prepared o q w value result analysed p =
+pub analysed-prepared : (o : Option FileMap) (ws : List ℕ) (w : WorkspaceValue) (value : AnalysisValue) (IsNext : Result AnalysisValue UnitFault → Answer → Type 0)
+    (result : Result Ready Stop) → IfSome o (λ fs. analysis_of (source_of fs) w ≡ Ok value) → Prepares ws (IsNext (Ok value)) result
+    → IfSome o (λ fs. Prepares ws (IsNext (analysis_of (source_of fs) w)) result)
+analysed-prepared o ws w value IsNext result analysed p =
     if_told-map o _ _ analysed
     (λ fs is.
-    let P : Result AnalysisValue UnitFault → Type 0 = λ r. Prepares q.ws (IsClassAnswer q r) result in
+    let P : Result AnalysisValue UnitFault → Type 0 = λ r. Prepares ws (IsNext r) result in
     subst P (sym is) p)
 
-class-stops : (q : ClassValue) (f : AnalyseFault) (expected : Result AnalysisValue UnitFault)
-    → IfSome (fault_of f) (λ e. expected ≡ Err e) → Stops q.ws (IsClassAnswer q expected) (stop_of f)
-class-stops q (fault.WorkspaceFault unit place cause) expected same =
-    let a : Answer = stopped Workspace (line_of q.ws (UnitStop unit place cause)) in
-    let P : Result AnalysisValue UnitFault → Type 0 = λ r. IsClassAnswer q r a in
-    subst P (sym same) refl
-class-stops q (fault.ReadFault path) expected same = tt
-class-stops q fault.Memory expected same = tt
+-- the message of a unit's fault is an answer
+abbrev pub TellsFaults : (Result AnalysisValue UnitFault → Answer → Type 0) → Type 0
+TellsFaults IsNext = (fault : UnitFault) → IsNext (Err fault) (stopped Workspace (text_fault_line fault))
+
+analysed-stops : (ws : List ℕ) (IsNext : Result AnalysisValue UnitFault → Answer → Type 0) (f : AnalyseFault) (expected : Result AnalysisValue UnitFault)
+    → TellsFaults IsNext → IfSome (fault_of f) (λ e. expected ≡ Err e) → Stops ws (IsNext expected) (stop_of f)
+analysed-stops ws IsNext (fault.WorkspaceFault unit place cause) expected tells same =
+    let a : Answer = stopped Workspace (line_of ws (UnitStop unit place cause)) in
+    let P : Result AnalysisValue UnitFault → Type 0 = λ r. IsNext r a in
+    subst P (sym same) (tells _)
+analysed-stops ws IsNext (fault.ReadFault path) expected tells same = tt
+analysed-stops ws IsNext fault.Memory expected tells same = tt
 
 -- a fault of the analysis
-pub class-stop : (o : Option FileMap) (q : ClassValue) (w : WorkspaceValue) (f : AnalyseFault)
-    → IfSome o (λ fs. IfSome (fault_of f) (λ e. analysis_of (source_of fs) w ≡ Err e))
-    → IfSome o (λ fs. Stops q.ws (IsClassAnswer q (analysis_of (source_of fs) w)) (stop_of f))
-class-stop o q w f p = if_told-map o _ _ p (λ fs same. class-stops q f (analysis_of (source_of fs) w) same)
+pub analysed-stop : (o : Option FileMap) (ws : List ℕ) (w : WorkspaceValue) (IsNext : Result AnalysisValue UnitFault → Answer → Type 0) (f : AnalyseFault)
+    → TellsFaults IsNext → IfSome o (λ fs. IfSome (fault_of f) (λ e. analysis_of (source_of fs) w ≡ Err e))
+    → IfSome o (λ fs. Stops ws (IsNext (analysis_of (source_of fs) w)) (stop_of f))
+analysed-stop o ws w IsNext f tells p = if_told-map o _ _ p (λ fs same. analysed-stops ws IsNext f (analysis_of (source_of fs) w) tells same)
 
 -- ---- an early end that is handed on
 

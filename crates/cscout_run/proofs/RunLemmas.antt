@@ -5,7 +5,7 @@ use Rattle.cs_base.specs.Edit.{Edit}
 use Rattle.cs_base.specs.Outside.{FileMap, Rose}
 use Rattle.ws_file.specs.Workspace.{WorkspaceValue}
 use Rattle.ws_file.specs.Reading.{WsFault}
-use Rattle.include_tree.specs.Files.{Source, source_of}
+use Rattle.include_tree.specs.Files.{source_of}
 use Rattle.ws_core.specs.Analysis.{AnalysisValue, analysis_of}
 use Rattle.ws_core.specs.ClassReport.{IsClassReport}
 use Rattle.ws_core.specs.Texts.{UnitFault}
@@ -13,8 +13,8 @@ use Rattle.cscout_run.specs.declared.status.Status.{Status}
 use Rattle.cscout_run.specs.declared.status.Status.TheVariants.{Done, Refused, Usage, Workspace, ReadFault, WriteFault, Memory}
 use Rattle.cscout_run.specs.declared.stops.Stop.{Stop}
 use Rattle.cscout_run.specs.declared.stops.Stop.TheVariants as stop
-use Rattle.cscout_run.specs.Request.{RequestValue, ClassValue, help_asked, version_asked, renaming_asked, tokens_asked, skipped_asked, class_asked, asked}
-use Rattle.cscout_run.specs.Answer.{Answer, IsAnswer, IsAnswerTo, IsRequestAnswer, IsClassAnswer, IsOverWorkspace, answer_of, class_answer, stopped, workspace_at}
+use Rattle.cscout_run.specs.Request.{RequestValue, RenameValue, ClassValue, help_asked, version_asked, renaming_asked, tokens_asked, skipped_asked, class_asked, asked}
+use Rattle.cscout_run.specs.Answer.{Answer, IsAnswer, IsAnswerTo, IsRequestAnswer, IsClassAnswer, IsRenameAnswer, IsOverWorkspace, answer_of, class_answer, stopped, workspace_at}
 use Rattle.cscout_run.specs.Message.{usage_line}
 use Rattle.cscout_run.specs.Outcome.{World, StatusIs, HasCauses, IsComplete, ShowsAnswer, Tells, FailedPut, Unmoved}
 use Rattle.cscout_run.specs.Steps.{Prepares}
@@ -22,6 +22,7 @@ use Rattle.cscout_run.specs.declared.preparing.Ready.{Ready}
 use Rattle.edit_put.specs.Applying.{Applies}
 use Rattle.edit_put.specs.declared.applying.Applied.TheVariants as applied
 use Rattle.cscout_run.specs.Stopping.{Stops, StopReads, status_of, line_of}
+use Rattle.cscout_run.proofs.AlikeLemmas.{renamings_alike, statuses_alike}
 
 -- what holds of every value holds of one that is told
 pub if_told : {A : Type 0} (o : Option A) (P : A → Type 0) → ((x : A) → P x) → IfSome o P
@@ -65,22 +66,33 @@ class-alike : (q : ClassValue) (analysed : Result AnalysisValue UnitFault) (a b 
 class-alike q (Ok value) a b p p' = told-alike q value p.0 p'.0 a b p.1 p'.1 p.2 p'.2
 class-alike q (Err fault) a b p p' = same-status _ a b p p'
 
-over-alike : (q : ClassValue) (source : Source) (read : Option (Result WorkspaceValue WsFault)) (a b : Answer)
-    → IsOverWorkspace q.ws (λ w. IsClassAnswer q (analysis_of source w)) read a
-    → IsOverWorkspace q.ws (λ w. IsClassAnswer q (analysis_of source w)) read b → a.status ≡ b.status
-over-alike q source None a b p p' = same-status _ a b p p'
-over-alike q source (Some (Ok w)) a b p p' = class-alike q (analysis_of source w) a b p p'
-over-alike q source (Some (Err fault)) a b p p' = same-status _ a b p p'
+rename-alike : (q : RenameValue) (analysed : Result AnalysisValue UnitFault) (a b : Answer) → IsRenameAnswer q analysed a
+    → IsRenameAnswer q analysed b → a.status ≡ b.status
+rename-alike q (Ok value) a b p p' =
+    let alike = renamings_alike value q.path q.line q.column q.name p.0 p'.0 p.1 p'.1 in
+    sym (ap (λ (c : Answer). c.status) p.2) ∙ statuses_alike p.0 p'.0 alike ∙ ap (λ (c : Answer). c.status) p'.2
+rename-alike q (Err fault) a b p p' = same-status _ a b p p'
+
+over-alike : (ws : List ℕ) (IsNext : WorkspaceValue → Answer → Type 0) (read : Option (Result WorkspaceValue WsFault)) (a b : Answer)
+    → ((w : WorkspaceValue) → IsNext w a → IsNext w b → a.status ≡ b.status) → IsOverWorkspace ws IsNext read a
+    → IsOverWorkspace ws IsNext read b → a.status ≡ b.status
+over-alike ws IsNext None a b next p p' = same-status _ a b p p'
+over-alike ws IsNext (Some (Ok w)) a b next p p' = next w p p'
+over-alike ws IsNext (Some (Err fault)) a b next p p' = same-status _ a b p p'
 
 request-alike : (files : FileMap) (request : Option RequestValue) (a b : Answer) → IsAnswerTo files request a → IsAnswerTo files request b
     → a.status ≡ b.status
 request-alike files None a b p p' = same-status _ a b p p'
 request-alike files (Some help_asked) a b p p' = same-status _ a b p p'
 request-alike files (Some version_asked) a b p p' = same-status _ a b p p'
-request-alike files (Some (renaming_asked q)) a b p p' = same-status _ a b p p'
+request-alike files (Some (renaming_asked q)) a b p p' =
+    over-alike q.ws (λ w. IsRenameAnswer q (analysis_of (source_of files) w)) (workspace_at q.ws files) a b
+    (λ w. rename-alike q (analysis_of (source_of files) w) a b) p p'
 request-alike files (Some (tokens_asked q)) a b p p' = same-status _ a b p p'
 request-alike files (Some (skipped_asked ws)) a b p p' = same-status _ a b p p'
-request-alike files (Some (class_asked q)) a b p p' = over-alike q (source_of files) (workspace_at q.ws files) a b p p'
+request-alike files (Some (class_asked q)) a b p p' =
+    over-alike q.ws (λ w. IsClassAnswer q (analysis_of (source_of files) w)) (workspace_at q.ws files) a b
+    (λ w. class-alike q (analysis_of (source_of files) w) a b) p p'
 
 pub answer-alike : (words : List (List ℕ)) (files : FileMap) (a b : Answer) → IsAnswer words files a → IsAnswer words files b
     → a.status ≡ b.status

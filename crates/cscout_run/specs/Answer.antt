@@ -1,9 +1,8 @@
 -- The answer of the program to its words over the files held: status, output, messages and edits.
-use Rattle.std.specs.Prelude.{ℕ, ◌≡◌, List, [], Option, None, Some, Result, Ok, Err, codes, map}
+use Rattle.std.specs.Prelude.{ℕ, ◌≡◌, List, [], Option, None, Some, Result, Ok, Err, codes}
 use Rattle.std.specs.Option.{option_map, option_map_or}
 use Rattle.cs_base.specs.Edit.{Edit}
 use Rattle.cs_base.specs.Outside.{FileMap, bytes_at}
-use Rattle.cs_base.specs.Units.{UnitValue}
 use Rattle.ws_file.specs.Workspace.{WorkspaceValue}
 use Rattle.ws_file.specs.Reading.{WsFault, bad_line, too_many_units, workspace_of}
 use Rattle.include_tree.specs.Files.{source_of}
@@ -13,12 +12,11 @@ use Rattle.ws_core.specs.ClassReport.{IsClassReport}
 use Rattle.ws_core.specs.Texts as units
 use Rattle.query_report.specs.TokensText.{tokens_text}
 use Rattle.query_report.specs.Skipped.{skipped_text}
-use Rattle.rename_edit.specs.Analysis.{ThinValue, UnitFault, thin_of}
-use Rattle.rename_edit.specs.Renaming.{Refusal, bad_name, no_name, refused, renaming}
+use Rattle.rename_rules.specs.Renaming.{Refusal, bad_name, no_name, refused, IsRenaming}
 use Rattle.cscout_run.specs.declared.status.Status.{Status}
 use Rattle.cscout_run.specs.declared.status.Status.TheVariants.{Done, Refused, Usage, Workspace}
 use Rattle.cscout_run.specs.Request.{RequestValue, help_asked, version_asked, renaming_asked, tokens_asked, skipped_asked, class_asked, RenameValue, TokensValue, ClassValue, asked}
-use Rattle.cscout_run.specs.Message.{usage_line, absent_line, ws_line, unit_line, text_fault_line, refused_line, offence_line, edited_lines}
+use Rattle.cscout_run.specs.Message.{usage_line, absent_line, ws_line, text_fault_line, refused_line, offence_line, edited_lines}
 use Rattle.cscout_run.specs.Help.{help_text, version_text}
 
 -- What a run does: its status, the text for `out`, the text for `err`, and the edits that it puts.
@@ -40,10 +38,6 @@ shown text = answer_of Done text [] []
 abbrev pub stopped : Status → List ℕ → Answer
 stopped status line = answer_of status [] line []
 
--- the paths of the units of a workspace, in order
-abbrev pub unit_paths : WorkspaceValue → List (List ℕ)
-unit_paths ws = map (λ (u : UnitValue). u.path) ws.units
-
 -- a refused line of the workspace file
 abbrev pub ws_fault_line : List ℕ → WsFault → List ℕ
 ws_fault_line ws (bad_line line) = ws_line ws line (codes "bad workspace line")
@@ -53,9 +47,9 @@ ws_fault_line ws (too_many_units line) = ws_line ws line (codes "too many units"
 abbrev pub refusal_line : Refusal → List ℕ
 refusal_line bad_name = refused_line (codes "bad name")
 refusal_line no_name = refused_line (codes "no name")
-refusal_line (refused o) = offence_line o
+refusal_line (refused place cause) = offence_line place cause
 
--- the renaming over analysed files
+-- a renaming that is planned
 abbrev pub renaming_answer : Result (List Edit) Refusal → Answer
 renaming_answer (Ok edits) = answer_of Done (edited_lines edits) [] edits
 renaming_answer (Err refusal) = stopped Refused (refusal_line refusal)
@@ -71,21 +65,6 @@ abbrev pub workspace_answer : List ℕ → (WorkspaceValue → Answer) → Optio
 workspace_answer ws next None = stopped Workspace (absent_line ws)
 workspace_answer ws next (Some (Ok w)) = next w
 workspace_answer ws next (Some (Err fault)) = stopped Workspace (ws_fault_line ws fault)
-
--- ---- `rename`
-
--- the renaming over a workspace, once its units are analysed
-abbrev pub analysed_answer : RenameValue → Result ThinValue UnitFault → Answer
-analysed_answer q (Ok a) = renaming_answer (renaming a q.path q.line q.column q.name)
-analysed_answer q (Err fault) = stopped Workspace (unit_line fault)
-
--- the renaming over a workspace
-abbrev pub thin_answer : RenameValue → FileMap → WorkspaceValue → Answer
-thin_answer q files w = analysed_answer q (thin_of (unit_paths w) files)
-
--- the renaming over the files
-abbrev pub rename_answer : RenameValue → FileMap → Answer
-rename_answer q files = workspace_answer q.ws (thin_answer q files) (workspace_at q.ws files)
 
 -- ---- `tokens`
 
@@ -132,19 +111,28 @@ abbrev pub IsClassAnswer : ClassValue → Result AnalysisValue units.UnitFault �
 IsClassAnswer q (Ok value) a = (told : Option (List ℕ)) × IsClassReport value q.path q.line q.column told × (class_answer told ≡ a)
 IsClassAnswer q (Err fault) a = stopped Workspace (text_fault_line fault) ≡ a
 
+-- ---- `rename`
+
+-- The same for a renaming of the class that a place names: the answer is that of what is planned.
+abbrev pub IsRenameAnswer : RenameValue → Result AnalysisValue units.UnitFault → Answer → Type 0
+IsRenameAnswer q (Ok value) a =
+    (planned : Result (List Edit) Refusal) × IsRenaming value q.path q.line q.column q.name planned × (renaming_answer planned ≡ a)
+IsRenameAnswer q (Err fault) a = stopped Workspace (text_fault_line fault) ≡ a
+
+-- ---- the whole
+
 -- the answers over a workspace file: those over its workspace, and the message where it has none
 abbrev pub IsOverWorkspace : List ℕ → (WorkspaceValue → Answer → Type 0) → Option (Result WorkspaceValue WsFault) → Answer → Type 0
 IsOverWorkspace ws IsNext None a = stopped Workspace (absent_line ws) ≡ a
 IsOverWorkspace ws IsNext (Some (Ok w)) a = IsNext w a
 IsOverWorkspace ws IsNext (Some (Err fault)) a = stopped Workspace (ws_fault_line ws fault) ≡ a
 
--- ---- the whole
-
--- The answer to a request: the one that is computed, and for a class the one that tells it.
+-- The answer to a request: the one that is computed, and for a class and a rename the one that is told.
 abbrev pub IsRequestAnswer : FileMap → RequestValue → Answer → Type 0
 IsRequestAnswer files help_asked a = shown help_text ≡ a
 IsRequestAnswer files version_asked a = shown version_text ≡ a
-IsRequestAnswer files (renaming_asked q) a = rename_answer q files ≡ a
+IsRequestAnswer files (renaming_asked q) a =
+    IsOverWorkspace q.ws (λ w. IsRenameAnswer q (analysis_of (source_of files) w)) (workspace_at q.ws files) a
 IsRequestAnswer files (tokens_asked q) a = tokens_answer q files ≡ a
 IsRequestAnswer files (skipped_asked ws) a = skipped_answer ws files ≡ a
 IsRequestAnswer files (class_asked q) a =

@@ -2,9 +2,9 @@
 use Rattle.std.specs.Prelude.{ℕ, List, [], ◌∷◌, ◌++◌, codes, decimal, flat_map}
 use Rattle.cs_base.specs.Edit.{Edit}
 use Rattle.cs_base.specs.Words.{words_of}
-use Rattle.ws_core.specs.Texts as units
-use Rattle.rename_edit.specs.Analysis.{FileFault, UnitFault, file_fault, unit_fault}
-use Rattle.rename_edit.specs.Offence.{Offence}
+use Rattle.cs_base.specs.declared.causes.Cause.{Cause}
+use Rattle.cs_base.specs.declared.positions.Place.{Place}
+use Rattle.ws_core.specs.Texts.{UnitFault}
 
 -- pieces of text, one behind the other
 abbrev pub joined : List (List ℕ) → List ℕ
@@ -18,9 +18,9 @@ message pieces = codes "cscout: " ++ joined pieces ++ codes "\n"
 abbrev pub place_pieces : List ℕ → List ℕ → List ℕ → List ℕ → List (List ℕ)
 place_pieces path line column words = path ∷ codes ":" ∷ line ∷ codes ":" ∷ column ∷ codes ": " ∷ words ∷ []
 
--- the pieces of a fault in a file
-abbrev pub fault_pieces : List ℕ → FileFault → List (List ℕ)
-fault_pieces path fault = place_pieces path (decimal fault.line) (decimal fault.column) (words_of fault.cause)
+-- the pieces of what stands at a place
+abbrev pub fault_pieces : Place → Cause → List (List ℕ)
+fault_pieces place cause = place_pieces place.path (decimal place.line) (decimal place.column) (words_of cause)
 
 -- the pieces of a unit's fault and of a refusal
 abbrev pub unit_pieces : List ℕ → List (List ℕ) → List (List ℕ)
@@ -42,21 +42,19 @@ abbrev pub ws_line : List ℕ → ℕ → List ℕ → List ℕ
 ws_line ws line words = message (ws ∷ codes ":" ∷ decimal line ∷ codes ": " ∷ words ∷ [])
 
 -- a unit's fault
-abbrev pub unit_line : UnitFault → List ℕ
-unit_line f = message (unit_pieces (decimal f.unit) (fault_pieces f.path f.fault))
+abbrev pub unit_line : ℕ → Place → Cause → List ℕ
+unit_line unit place cause = message (unit_pieces (decimal unit) (fault_pieces place cause))
 
--- the same of a unit that is preprocessed
-abbrev pub text_fault_line : units.UnitFault → List ℕ
-text_fault_line f =
-    unit_line (unit_fault f.unit f.fault.place.path (file_fault f.fault.place.line f.fault.place.column f.fault.cause))
+abbrev pub text_fault_line : UnitFault → List ℕ
+text_fault_line f = unit_line f.unit f.fault.place f.fault.cause
 
 -- a refusal without a place
 abbrev pub refused_line : List ℕ → List ℕ
 refused_line words = message (refused_pieces (words ∷ []))
 
 -- a refusal with a place
-abbrev pub offence_line : Offence → List ℕ
-offence_line o = message (refused_pieces (fault_pieces o.path o.fault))
+abbrev pub offence_line : Place → Cause → List ℕ
+offence_line place cause = message (refused_pieces (fault_pieces place cause))
 
 -- a read or a put that failed
 abbrev pub unread_line : List ℕ → List ℕ

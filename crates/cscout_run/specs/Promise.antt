@@ -1,38 +1,50 @@
--- The promise of a rename that is done: exactly the named class changes, and every unit keeps its meaning.
-use Rattle.std.specs.Prelude.{ℕ, ◌≡◌, ◌≢◌, List, Option, Some, Ok, Contains}
-use Rattle.std.specs.Option.{option_map}
+-- The promise of a rename that is done: exactly the named class changes.
+use Rattle.std.specs.Prelude.{ℕ, ◌≡◌, ◌≢◌, List, Option, Some, None, Ok}
+use Rattle.cs_base.specs.declared.positions.Part.{Part}
 use Rattle.cs_base.specs.Outside.{FileMap, bytes_at}
 use Rattle.ws_file.specs.Workspace.{WorkspaceValue}
-use Rattle.ws_file.specs.Reading.{workspace_of}
-use Rattle.rename_edit.specs.Analysis.{ThinValue, thin_of}
-use Rattle.rename_edit.specs.Class.{Named, named_at}
-use Rattle.rename_edit.specs.Offence.{edited}
-use Rattle.rename_edit.specs.Meaning.{KeepsMeaning}
+use Rattle.include_tree.specs.Files.{source_of}
+use Rattle.include_tree.specs.KeptFiles.{KeptValue}
+use Rattle.ws_core.specs.Analysis.{AnalysisValue, analysis_of}
+use Rattle.ws_core.specs.Naming.{Names}
+use Rattle.ws_core.specs.Parts.{AreMembers}
+use Rattle.rename_rules.specs.First.{IsAmong, IsFirst, offences_of}
+use Rattle.rename_rules.specs.Runs.{runs, file_of, new_bytes}
 use Rattle.cscout_run.specs.Request.{RequestValue, renaming_asked, RenameValue}
-use Rattle.cscout_run.specs.Answer.{unit_paths}
+use Rattle.cscout_run.specs.Answer.{workspace_at}
 
--- The files before and after a renaming: the workspace `ws` is that of the workspace file, `a` the
--- analysis of its units, `n` the identifier at the place.
-pub record IsRenamed (q : RenameValue) (before now : FileMap) (ws : WorkspaceValue) (a : ThinValue) (n : Named) : Type 0 where
+-- What a class is renamed in: the workspace of the workspace file, its analysis, the part at the place, and the
+-- members of its class.
+pub record Renamed : Type 0 where
+  pub ws : WorkspaceValue
+  pub analysis : AnalysisValue
+  pub part : Part
+  pub members : List Part
+
+-- The file holds members: these are all that stand in it.
+abbrev pub HoldsMembers : Renamed → List Part → KeptValue → Type 0
+HoldsMembers r run f = IsAmong (runs r.members) run × (file_of r.analysis run ≡ Some f)
+
+-- The files before and after a renaming.
+pub record IsRenamed (q : RenameValue) (before now : FileMap) (r : Renamed) : Type 0 where
   -- the workspace file is there and accepted
-  pub workspace : option_map workspace_of (bytes_at q.ws before) ≡ Some (Ok ws)
+  pub workspace : workspace_at q.ws before ≡ Some (Ok r.ws)
   -- so is every unit
-  pub analysis : thin_of (unit_paths ws) before ≡ Ok a
-  -- the place names an identifier
-  pub named : named_at a q.path q.line q.column ≡ Some n
-  -- each file read holds its bytes with the members of the class respelled, and no other byte changed
-  pub edited_files : (file : List ℕ × List ℕ) → Contains a.files file
-      → (bytes_at file.0 before ≡ Some file.1) × (bytes_at file.0 now ≡ Some (edited n q.name file.0 file.1))
+  pub analysed : analysis_of (source_of before) r.ws ≡ Ok r.analysis
+  -- the place names the part
+  pub named : Names r.analysis q.path q.line q.column (Some r.part)
+  -- these are all that must be spelled as it is
+  pub class : AreMembers r.analysis r.part r.members
+  -- no reason stands against the renaming
+  pub clear : IsFirst r.analysis.table (offences_of r.analysis r.members q.name) None
+  -- each file that holds members had the bytes that were read, and has them with its members respelled: no other byte changed
+  pub edited : (run : List Part) (f : KeptValue) → HoldsMembers r run f
+      → (bytes_at f.path before ≡ Some f.bytes) × (bytes_at f.path now ≡ Some (new_bytes q.name run f))
   -- every other path holds what it held
-  pub others : (path : List ℕ) → ((file : List ℕ × List ℕ) → Contains a.files file → file.0 ≢ path)
+  pub others : (path : List ℕ) → ((run : List Part) (f : KeptValue) → HoldsMembers r run f → f.path ≢ path)
       → bytes_at path now ≡ bytes_at path before
-  -- every unit's file is among those read
-  pub units : (path : List ℕ) → Contains (unit_paths ws) path → (bytes : List ℕ) × Contains a.files (path, bytes)
-  -- every file read is thin still, its tokens are the old ones renamed, and names are spelled alike where they were
-  pub meaning : KeepsMeaning a n q.name
 
 -- the promise to these words: where they ask for a rename, the files are renamed
 abbrev pub KeepsPromise : Option RequestValue → FileMap → FileMap → Type 0
-KeepsPromise (Some (renaming_asked q)) before now =
-    (ws : WorkspaceValue) × (a : ThinValue) × (n : Named) × IsRenamed q before now ws a n
+KeepsPromise (Some (renaming_asked q)) before now = (r : Renamed) × IsRenamed q before now r
 KeepsPromise _ before now = Unit {0}

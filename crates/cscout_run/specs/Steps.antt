@@ -1,18 +1,23 @@
 -- What the steps of a run promise each other.
 use Rattle.std.specs.Prelude.{ℕ, ◌≡◌, List, [], Option, None, Some, Result, Ok, Err}
 use Rattle.cs_base.specs.Outside.{FileMap}
+use Rattle.cs_base.specs.Edit.{Edit, IsKept}
 use Rattle.ws_file.specs.Workspace.{WorkspaceValue}
 use Rattle.ws_file.specs.Reading.{WsFault}
+use Rattle.include_tree.specs.Files.{source_of}
+use Rattle.include_tree.specs.Laws.{AreFound}
+use Rattle.ws_core.specs.Analysis.{AnalysisValue, analysis_of}
 use Rattle.ws_core.specs.declared.analyse_fault.AnalyseFault.{AnalyseFault}
 use Rattle.ws_core.specs.declared.analyse_fault.AnalyseFault.TheVariants as fault
-use Rattle.rename_edit.specs.Analysis.{ThinValue}
-use Rattle.rename_edit.specs.Renaming.{renaming}
 use Rattle.cscout_run.specs.declared.status.Status.TheVariants as status
 use Rattle.cscout_run.specs.declared.stops.Stop.{Stop}
 use Rattle.cscout_run.specs.declared.stops.Stop.TheVariants.{UnitFault, UnreadFile, BadName, NoName, Offence, Memory}
 use Rattle.cscout_run.specs.declared.preparing.Ready.{Ready}
-use Rattle.cscout_run.specs.Request.{RenameValue}
-use Rattle.cscout_run.specs.Answer.{Answer, answer_of, renaming_answer, stopped, workspace_at, ws_fault_line}
+use Rattle.rename_rules.specs.Renaming.{IsRenaming}
+use Rattle.rename_edit.specs.declared.refusals.RenameRefusal.{RenameRefusal}
+use Rattle.rename_edit.specs.declared.refusals.RenameRefusal.TheVariants as refusal
+use Rattle.cscout_run.specs.Request.{RequestValue, RenameValue, renaming_asked}
+use Rattle.cscout_run.specs.Answer.{Answer, answer_of, stopped, workspace_at, ws_fault_line}
 use Rattle.cscout_run.specs.Message.{absent_line}
 use Rattle.cscout_run.specs.Stopping.{Stops, StopReads}
 
@@ -32,21 +37,44 @@ abbrev pub ReadsWorkspace : List ℕ → FileMap → Result WorkspaceValue Stop 
 ReadsWorkspace ws files (Ok w) = workspace_at ws files ≡ Some (Ok w)
 ReadsWorkspace ws files (Err stop) = Stops ws (λ a. no_workspace ws (workspace_at ws files) ≡ Some a) stop
 
--- the answer to a rename is that over this analysis, or that of the early end
-abbrev pub Analyses : RenameValue → Answer → Result ThinValue Stop → Type 0
-Analyses q a (Ok thin) = a ≡ renaming_answer (renaming thin q.path q.line q.column q.name)
-Analyses q a (Err stop) = Stops q.ws (λ b. a ≡ b) stop
-
 -- why a workspace has no texts, as an early end
 abbrev pub stop_of : AnalyseFault → Stop
 stop_of (fault.WorkspaceFault unit place cause) = UnitFault unit place cause
 stop_of (fault.ReadFault path) = UnreadFile path
 stop_of fault.Memory = Memory
 
+-- why a rename is refused, as an early end
+abbrev pub stop_for : RenameRefusal → Stop
+stop_for refusal.BadName = BadName
+stop_for refusal.NoName = NoName
+stop_for (refusal.Offence place cause) = Offence place cause
+stop_for refusal.Memory = Memory
+
 -- what a step says of the reads: where it goes on, none failed
 abbrev pub StepReads : {X : Type 0} → List ℕ → ℕ → ℕ → Option (List ℕ) → Result X Stop → Type 0
 StepReads ws reads reads' last' (Ok x) = reads' ≡ reads
 StepReads ws reads reads' last' (Err stop) = StopReads ws reads reads' last' stop
+
+-- An accepted renaming, as it stands before the first put: it is planned over the analysis of the workspace, each
+-- path has one number there, and stands for what the files hold; and paths of edits are in order.
+pub record Planned (q : RenameValue) (files : FileMap) (edits : List Edit) : Type 0 where
+  pub ws : WorkspaceValue
+  pub analysis : AnalysisValue
+  pub workspace : workspace_at q.ws files ≡ Some (Ok ws)
+  pub analysed : analysis_of (source_of files) ws ≡ Ok analysis
+  pub found : AreFound (source_of files) analysis.table
+  pub renaming : IsRenaming analysis q.path q.line q.column q.name (Ok edits)
+  pub sound : IsKept edits
+
+-- what stands ready for a rename is planned
+abbrev pub IsPlanned : RenameValue → FileMap → Result Ready Stop → Type 0
+IsPlanned q files (Ok ready) = Planned q files ready.edits
+IsPlanned q files (Err stop) = Unit {0}
+
+-- the same for what is asked for, where that is a rename
+abbrev pub IsPlannedFor : RequestValue → FileMap → Result Ready Stop → Type 0
+IsPlannedFor (renaming_asked q) files result = IsPlanned q files result
+IsPlannedFor _ files result = Unit {0}
 
 -- an early end after the analysis: no read follows
 abbrev pub IsPlanStop : Stop → Type 0

@@ -1,8 +1,6 @@
 -- How a run that puts nothing stops: what its early end says of the answer and of the outside.
 use Rattle.std.specs.Prelude.{ℕ, ◌≡◌, List, codes, Option, IfSome}
 use Rattle.cs_base.specs.Outside.{Rose}
-use Rattle.rename_edit.specs.Analysis.{unit_fault, file_fault}
-use Rattle.rename_edit.specs.Offence.{offence}
 use Rattle.cscout_run.specs.declared.status.Status.{Status}
 use Rattle.cscout_run.specs.declared.status.Status.TheVariants as status
 use Rattle.cscout_run.specs.declared.stops.Stop.{Stop}
@@ -30,14 +28,12 @@ line_of ws NoWorkspace = absent_line ws
 line_of ws (BadLine line) = ws_line ws line (codes "bad workspace line")
 line_of ws (TooManyUnits line) = ws_line ws line (codes "too many units")
 line_of ws UnreadWorkspace = unread_line ws
-line_of ws (UnitFault unit place cause) =
-    unit_line (unit_fault unit place.path (file_fault place.line place.column cause))
+line_of ws (UnitFault unit place cause) = unit_line unit place cause
 line_of ws (UnreadFile path) = unread_line path
 line_of ws NoUnit = refused_line (codes "no unit")
 line_of ws BadName = refused_line (codes "bad name")
 line_of ws NoName = refused_line (codes "no name")
-line_of ws (Offence place cause) =
-    offence_line (offence place.path (file_fault place.line place.column cause))
+line_of ws (Offence place cause) = offence_line place cause
 line_of ws Memory = memory_line
 
 -- The message of the early end is an answer, unless a read failed or memory ran out.

@@ -1,26 +1,24 @@
 // All of a run that may want memory: it puts nothing.
-ghost use Rattle.std.specs.Prelude.{◌≡◌, ◌≤◌, ◌++◌, IfSome, IfOk, IfErr, OnOk, IsUtf8, length, []};
-ghost use Rattle.cs_base.specs.Edit.{edit};
-ghost use Rattle.ws_file.specs.Workspace.{most_units};
-ghost use Rattle.rename_edit.specs.Analysis.{thin_of};
-ghost use Rattle.rename_edit.specs.Renaming.{renaming};
-ghost use Rattle.cscout_run.specs.Answer.{IsRequestAnswer, analysed_answer, renaming_answer, unit_paths};
+ghost use Rattle.std.specs.Prelude.{◌≡◌, ◌++◌, IfSome, IfOk, IfErr, OnOk, IsUtf8, Ok, []};
+ghost use Rattle.cs_base.specs.Edit.{edit, IsKept};
+ghost use Rattle.rename_rules.specs.Renaming.{IsRenaming};
+ghost use Rattle.cscout_run.specs.Answer.{IsRenameAnswer, IsRequestAnswer};
 ghost use Rattle.cscout_run.specs.Asking.{request_value, rename_value, workspace_file};
 ghost use Rattle.cscout_run.specs.Message.{edited_line, edited_lines};
 ghost use Rattle.cscout_run.specs.Request.{renaming_asked};
-ghost use Rattle.cscout_run.specs.Steps.{IsPlanStop, Prepares, Analyses, StepReads};
+ghost use Rattle.cscout_run.specs.Steps.{IsPlanStop, IsPlanned, IsPlannedFor, Prepares, StepReads, stop_for};
 
 use crate::help::{help, version};
-use crate::reporting::{prepare_class, prepare_skipped, prepare_tokens};
+use crate::reporting::{prepare_class, prepare_skipped, prepare_tokens, stop_of};
 use crate::requests::{Rename, Request};
 use crate::stops::Stop;
 use crate::workspace_files::read_workspace;
 use cs_base::{Edits, Files, Memory, Text, normal_path};
 use itoa::Buffer;
-use rename_edit::{RenameRefusal, Thin, ThinFault, plan_thin, thin_analyse};
+use rename_edit::{RenameRefusal, plan_rename};
 use std::alloc::Global;
 use std::str;
-use ws_file::Workspace;
+use ws_core::{Analysis, analyse};
 
 /// What is left to do once nothing can want memory: the edits to put and the text to write.
 #[derive(Drop)]
@@ -33,6 +31,7 @@ pub struct Ready {
 pub fn prepare<F: Files>(alloc: Global, request: &Request<'_>, files: &mut F) -> Result<Ready, Stop>
     ensures answer { IfSome (F.held files.old) (λ fs.
         Prepares (workspace_file request.now) (IsRequestAnswer fs (request_value request.now)) result) }
+    ensures planned { IfSome (F.held files.old) (λ fs. IsPlannedFor (request_value request.now) fs result) }
     ensures held { F.held files.new ≡ F.held files.old }
     ensures reads { StepReads (workspace_file request.now)
         (F.failed_reads files.old) (F.failed_reads files.new) (F.last_failed files.new) result }
@@ -67,65 +66,32 @@ fn prepare_rename<F: Files>(
 ) -> Result<Ready, Stop>
     ensures answer { IfSome (F.held files.old) (λ fs.
         Prepares rename.now.ws.now (IsRequestAnswer fs (renaming_asked (rename_value rename.now))) result) }
+    ensures planned { IfSome (F.held files.old) (λ fs. IsPlanned (rename_value rename.now) fs result) }
     ensures held { F.held files.new ≡ F.held files.old }
     ensures reads { StepReads rename.now.ws.now
         (F.failed_reads files.old) (F.failed_reads files.new) (F.last_failed files.new) result }
     ensures puts { F.failed_puts files.new ≡ F.failed_puts files.old }
 {
     let ws = read_workspace(alloc, rename.ws, files)?;
-    let thin = analyse(alloc, &ws, rename, files)?;
-    planned(alloc, &thin, rename)
-}
-
-// The analysis of the units of the workspace.
-fn analyse<F: Files>(
-    alloc: Global,
-    ws: &Workspace,
-    rename: &Rename<'_>,
-    files: &mut F,
-) -> Result<Thin, Stop>
-    ensures answer { IfSome (F.held files.old) (λ fs.
-        Analyses (rename_value rename.now)
-        (analysed_answer (rename_value rename.now) (thin_of (unit_paths ws.now) fs)) result) }
-    ensures held { F.held files.new ≡ F.held files.old }
-    ensures reads { StepReads rename.now.ws.now
-        (F.failed_reads files.old) (F.failed_reads files.new) (F.last_failed files.new) result }
-    ensures puts { F.failed_puts files.new ≡ F.failed_puts files.old }
-{
-    let paths = paths_of(alloc, ws)?;
-    match thin_analyse(alloc, paths.as_slice(), files) {
-        Ok(thin) => Ok(thin),
-        Err(ThinFault::Fault { unit, place, cause }) => Err(Stop::UnitFault { unit, place, cause }),
-        Err(ThinFault::ReadFault { path }) => Err(Stop::UnreadFile { path }),
-        Err(ThinFault::Memory) => Err(Stop::Memory),
+    match analyse(alloc, &ws, files) {
+        Ok(analysis) => planned(alloc, &analysis, rename),
+        Err(fault) => Err(stop_of(fault)),
     }
 }
 
-// The paths of the units, in order.
-fn paths_of(alloc: Global, ws: &Workspace) -> Result<Vec<Text>, Memory>
-    ensures paths { IfOk result (λ paths. paths.items ≡ unit_paths ws.now) }
-    ensures few { IfOk result (λ paths. length paths.items ≤ most_units) }
-{
-    let mut paths = Vec::new(alloc);
-    for unit in ws.units() {
-        paths.push(Text::new(alloc, unit.path().bytes())?)?;
-    }
-    Ok(paths)
-}
-
-// The edits of the rename and the text that tells them.
-fn planned(alloc: Global, thin: &Thin, rename: &Rename<'_>) -> Result<Ready, Stop>
-    ensures answer { Prepares rename.now.ws.now
-        (λ a. renaming_answer (renaming thin.now (rename_value rename.now).path rename.now.line
-        rename.now.column rename.now.name.now) ≡ a) result }
+// The edits of the rename and the text that tells them, once the workspace is analysed.
+fn planned(alloc: Global, a: &Analysis, rename: &Rename<'_>) -> Result<Ready, Stop>
+    ensures answer { Prepares rename.now.ws.now (IsRenameAnswer (rename_value rename.now) (Ok a.now.value)) result }
+    ensures renaming { IfOk result (λ ready.
+        IsRenaming a.now.value (rename_value rename.now).path rename.now.line rename.now.column rename.now.name.now (Ok ready.edits)) }
+    ensures sound { IfOk result (λ ready. IsKept ready.edits) }
     ensures stops { IfErr result IsPlanStop }
 {
     let path = normal_path(alloc, rename.path.as_bytes())?;
-    let text = path_text(&path);
-    match plan_thin(
+    match plan_rename(
         alloc,
-        thin,
-        text,
+        a,
+        path_text(&path),
         rename.line,
         rename.column,
         rename.name.as_bytes(),
@@ -134,10 +100,19 @@ fn planned(alloc: Global, thin: &Thin, rename: &Rename<'_>) -> Result<Ready, Sto
             let text = edited_text(alloc, &edits)?;
             Ok(Ready { edits, text })
         }
-        Err(RenameRefusal::BadName) => Err(Stop::BadName),
-        Err(RenameRefusal::NoName) => Err(Stop::NoName),
-        Err(RenameRefusal::Offence { place, cause }) => Err(Stop::Offence { place, cause }),
-        Err(RenameRefusal::Memory) => Err(Stop::Memory),
+        Err(refusal) => Err(stop_for(refusal)),
+    }
+}
+
+// Why a rename is refused, as an early end of the run.
+fn stop_for(refusal: RenameRefusal) -> Stop
+    ensures { result ≡ stop_for refusal }
+{
+    match refusal {
+        RenameRefusal::BadName => Stop::BadName,
+        RenameRefusal::NoName => Stop::NoName,
+        RenameRefusal::Offence { place, cause } => Stop::Offence { place, cause },
+        RenameRefusal::Memory => Stop::Memory,
     }
 }
 
@@ -154,7 +129,8 @@ fn path_text(path: &Text) -> &str
 
 // One line for each edit.
 fn edited_text(alloc: Global, edits: &Edits) -> Result<Vec<u8>, Memory>
-    ensures { IfOk result (λ text. text.items ≡ edited_lines edits.now) }
+    ensures lines { IfOk result (λ text. text.items ≡ edited_lines edits.now) }
+    ensures sound { IfOk result (λ _. IsKept edits.now) }
 {
     let mut text = Vec::new(alloc);
     for k in 0..edits.len() {

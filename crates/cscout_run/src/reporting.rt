@@ -113,8 +113,8 @@ fn has_unit(ws: &Workspace, number: u32) -> bool
     1 <= number && number as usize <= ws.units().len()
 }
 
-// Why a workspace has no texts, as an early end of the run.
-fn stop_of(fault: AnalyseFault) -> Stop
+/// Why a workspace has no texts, as an early end of the run.
+pub(crate) fn stop_of(fault: AnalyseFault) -> Stop
     ensures { result ≡ stop_of fault }
 {
     match fault {

@@ -2,8 +2,6 @@
 ghost use Rattle.std.specs.Prelude.{◌≡◌, map, flat_map};
 ghost use Rattle.cs_base.specs.Outside.{Writes, Faults, write_failed};
 ghost use Rattle.cscout_run.specs.Message.{message, place_pieces, unit_pieces, refused_pieces, ws_line, unit_line, offence_line};
-ghost use Rattle.rename_edit.specs.Analysis.{unit_fault, file_fault};
-ghost use Rattle.rename_edit.specs.Offence.{offence};
 ghost use Rattle.cscout_run.specs.Telling.{Told};
 ghost use Rattle.cscout_run.specs.Stopping.{status_of, line_of};
 
@@ -108,8 +106,7 @@ fn tell_line<E: Sink>(err: &mut E, ws: &[u8], line: u32, words: &[u8])
 
 // A unit's fault.
 fn tell_unit<E: Sink>(err: &mut E, unit: u32, place: &Place, cause: Cause)
-    ensures { Told (unit_line (unit_fault unit place.now.path
-        (file_fault place.now.line place.now.column cause)))
+    ensures { Told (unit_line unit place.now cause)
         (E.bytes err.old) (E.bytes err.new) (E.failed_writes err.old) (E.failed_writes err.new) }
 {
     let mut number = Buffer::new();
@@ -147,8 +144,7 @@ fn tell_unit_pieces<E: Sink>(
 
 // A refusal with a place.
 fn tell_offence<E: Sink>(err: &mut E, place: &Place, cause: Cause)
-    ensures { Told (offence_line (offence place.now.path
-        (file_fault place.now.line place.now.column cause)))
+    ensures { Told (offence_line place.now cause)
         (E.bytes err.old) (E.bytes err.new) (E.failed_writes err.old) (E.failed_writes err.new) }
 {
     let mut line = Buffer::new();

@@ -11,7 +11,7 @@ use crate::requests::{asked, workspace_file};
 use crate::status::Status;
 use crate::telling::{tell, tell_stop};
 use cs_base::{Files, Sink, Wrote};
-use rename_edit::{Applied, apply};
+use edit_put::{Applied, apply};
 use std::alloc::Global;
 
 /// Runs the program on the words after its name.

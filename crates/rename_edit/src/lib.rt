@@ -1,26 +1,15 @@
-//! Renaming the class of a name: the edits of the files, or the first reason against them.
+//! The plan of a renaming: the edits of all files, or the first reason against it.
 //!
-//! `thin_analyse` reads the files of the units and accepts exactly those whose units are thin
-//! (`specs/ThinUnit.antt`); `plan_thin` gives the edits of `renaming` in `specs/Renaming.antt`, or its
-//! first refusal; `apply`, named here again, puts them. What an accepted renaming keeps stands in
-//! `specs/Meaning.antt`. The crate makes no messages and knows no workspace file. Read
-//! `specs/ThinUnit.antt`, `specs/Class.antt`, `specs/Offence.antt`, `specs/Renaming.antt`, then `plan.rt`.
+//! `plan_rename` takes an analysed workspace, a place in it and a new name. It gives the edits of every file that
+//! holds a member of the class of the named part, or says that the name is no identifier, that the place names
+//! nothing, or which offence stands first. It reads and writes no files. `apply`, of the crate `edit_put` and named
+//! here again, puts the edits.
 #![tactic(auto)]
 
-mod analysis;
-mod kept_files;
-mod laws;
-mod members;
-mod offences;
+mod edits;
 mod plan;
 mod refusals;
-mod respelling;
-mod stages;
-mod thin_files;
-mod thin_unit;
 
-pub use analysis::{Thin, thin_analyse};
 pub use edit_put::{Applied, apply};
-pub use laws::{classes_are_chains, renaming_keeps_meaning};
-pub use plan::plan_thin;
-pub use refusals::{RenameRefusal, ThinFault};
+pub use plan::plan_rename;
+pub use refusals::RenameRefusal;

@@ -1,152 +1,126 @@
 // The edits of a renaming, or its first refusal.
-ghost use Rattle.std.specs.Prelude.{◌≡◌, ◌+◌, ◌<◌, ◌≤◌, ◌++◌, ◌∷◌, [], ◌^◌, IfOk, IfSome, IsTrue, IsUtf8, find, flat_map, length, bytes_eq};
-ghost use Rattle.std.specs.Option.{option_map};
-ghost use Rattle.cs_base.specs.Answer.{Gives};
-ghost use Rattle.cs_base.specs.Edit.{comes_last, edit};
-ghost use Rattle.rename_edit.specs.Analysis.{AreRead};
-ghost use Rattle.rename_edit.specs.Class.{named as named_token, token_at};
-ghost use Rattle.rename_edit.specs.Offence.{grows_too_large, offences_in};
+ghost use Rattle.std.specs.Prelude.{◌≡◌, None, IfOk};
+ghost use Rattle.rename_rules.specs.Class.{IsClass};
+ghost use Rattle.rename_rules.specs.First.{member_offences, offences_of, spelling_offences, FirstThen, IsFirst};
+ghost use Rattle.rename_rules.specs.Renaming.{GivesOne, IsClassRenamed, IsRenamed, IsRenaming};
+ghost use Rattle.rename_rules.specs.Tokens.{holders};
+ghost use Rattle.ws_core.specs.Parts.{IsPart};
 ghost use Rattle.rename_edit.specs.Refusals.{refusal_of};
-ghost use Rattle.rename_edit.specs.Renaming.{edit_of, renaming, unless_offence};
 
-use crate::analysis::Thin;
-use crate::members::{count_members, find_at};
-use crate::offences::first_offence;
-use crate::refusals::{RenameRefusal, offence_at};
-use crate::respelling::respell;
-use crate::thin_files::ThinFile;
-use cs_base::{Edits, Memory, Text, Tok};
+use crate::edits::edit_files;
+use crate::refusals::{RenameRefusal, refused};
+use cs_base::{Edits, Memory, Part, Tok};
 use part_lexer::is_identifier;
+use rename_rules::{
+    Offence, clashing, header_names, holders, no_identifiers, occurring, read_only, reserved,
+    respellings, shadowed, stringized, too_large,
+};
 use std::alloc::Global;
+use ws_core::Analysis;
 
-/// The edits that rename the class of the identifier at a place, or the first refusal.
-pub fn plan_thin(
+/// The edits that rename the class of the part which a place names, or the first refusal. Lines and columns count
+/// from 1.
+pub fn plan_rename(
     alloc: Global,
-    a: &Thin,
+    a: &Analysis,
     path: &str,
     line: u32,
     column: u32,
     name: &[u8],
 ) -> Result<Edits, RenameRefusal>
-    ensures { Gives (λ edits. edits) refusal_of result (renaming a.now path.now line column name.now) }
+    ensures { GivesOne (λ edits. edits) refusal_of result (IsRenaming a.now.value path.now line column name.now) }
 {
     if !is_identifier(name) {
         return Err(RenameRefusal::BadName);
     }
-    let Some(file) = find_file(a.files(), path.as_bytes()) else {
-        return Err(RenameRefusal::NoName);
-    };
-    let Some(named) = find_token(file, line, column) else {
-        return Err(RenameRefusal::NoName);
-    };
-    plan_files(alloc, path.as_bytes(), named, name, a.files())
-}
-
-fn has_path(file: &ThinFile, path: &[u8]) -> bool
-    ensures { result ≡ bytes_eq file.now.0 path.now }
-{
-    file.path() == path
-}
-
-// The file of this path.
-fn find_file<'a>(files: &'a [ThinFile], path: &[u8]) -> Option<&'a ThinFile>
-    ensures { option_map (λ file. file.now) result ≡ find (λ file. bytes_eq file.0 path.now) files.now }
-{
-    files.iter().find(|file| has_path(file, path))
-}
-
-// The identifier that holds the character at a line and a column.
-fn find_token(file: &ThinFile, line: u32, column: u32) -> Option<&Tok>
-    ensures { option_map (λ tok. tok.now) result ≡ token_at file.now.1 line column }
-{
-    match file.text().at_of(line, column) {
-        Some(at) => find_at(file.toks(), at),
-        None => None,
+    match a.part_at(path, line, column) {
+        Some(part) => plan_part(alloc, a, part, name),
+        None => Err(RenameRefusal::NoName),
     }
 }
 
-// The edits of all files, or the first offence.
-fn plan_files(
+// The same for the class of a part.
+fn plan_part(alloc: Global, a: &Analysis, part: Part, name: &[u8]) -> Result<Edits, RenameRefusal>
+    requires { IsPart a.now.value part }
+    ensures { GivesOne (λ edits. edits) refusal_of result (IsClassRenamed a.now.value part name.now) }
+{
+    match a.classes().class_of(part) {
+        Some(number) => plan_class(alloc, a, a.members(part), number, name),
+        // Each part has a class.
+        None => Err(RenameRefusal::Memory),
+    }
+}
+
+// The same for the class with these members and this number.
+fn plan_class(
     alloc: Global,
-    from: &[u8],
-    named: &Tok,
+    a: &Analysis,
+    members: &[Part],
+    number: u32,
     name: &[u8],
-    files: &[ThinFile],
 ) -> Result<Edits, RenameRefusal>
-    requires few { length files.now ≤ 1024 }
-    requires read { AreRead files.now }
-    ensures { Gives (λ edits. edits) refusal_of result (unless_offence (flat_map (offences_in (named_token from.now named.now) name.now) files.now) (flat_map (edit_of (named_token from.now named.now) name.now) files.now)) }
+    requires { IsClass a.now members.now number }
+    ensures { GivesOne (λ edits. edits) refusal_of result (IsRenamed a.now.value members.now name.now) }
 {
-    let mut edits = Edits::new(alloc);
-    for i in 0..files.len() {
-        edits = match with_edit(alloc, from, named, name, &files[i], edits) {
-            Ok(more) => more,
-            Err(refusal) => return Err(refusal),
-        };
+    match first_offence(alloc, a, members, number, name)? {
+        Some(offence) => Err(refused(alloc, a, offence)),
+        None => Ok(edit_files(alloc, a, members, name)?),
     }
-    Ok(edits)
 }
 
-// The edits with that of one more file, or its first offence.
-fn with_edit(
+// The first offence, if one stands.
+fn first_offence(
     alloc: Global,
-    from: &[u8],
-    named: &Tok,
+    a: &Analysis,
+    members: &[Part],
+    number: u32,
     name: &[u8],
-    file: &ThinFile,
-    edits: Edits,
-) -> Result<Edits, RenameRefusal>
-    requires after { IsTrue (comes_last file.now.0 edits) }
-    requires few { length edits + 1 < 2 ^ 32 }
-    ensures answer { Gives (λ e. e) refusal_of result (unless_offence (offences_in (named_token from.now named.now) name.now file.now) (edits ++ edit_of (named_token from.now named.now) name.now file.now)) }
-    ensures few { IfOk result (λ e. length e ≤ length edits + 1) }
+) -> Result<Option<Offence>, Memory>
+    requires { IsClass a.now members.now number }
+    ensures { IfOk result (λ first. IsFirst a.now.value.table (offences_of a.now.value members.now name.now) first) }
 {
-    let count = count_members(from, named, file.path(), file.toks());
-    if count == 0 {
-        return match check_file(alloc, from, named, name, file, false) {
-            Ok(()) => Ok(edits),
-            Err(refusal) => Err(refusal),
-        };
-    }
-    let made = respell(alloc, from, named, name, file)?;
-    match check_file(alloc, from, named, name, file, made.large) {
-        Ok(()) => Ok(pushed(alloc, edits, file.path(), made.bytes, count)?),
-        Err(refusal) => Err(refusal),
-    }
+    let toks = holders(alloc, a, members, number)?;
+    let at_members = member_offences(alloc, a, members, number, name, &toks)?;
+    spelling_offences(alloc, a, members, number, name, &toks, at_members)
 }
 
-// The first offence in a file, if there is one.
-fn check_file(
+// The first of those at members and the tokens that hold them.
+fn member_offences(
     alloc: Global,
-    from: &[u8],
-    named: &Tok,
+    a: &Analysis,
+    members: &[Part],
+    number: u32,
     name: &[u8],
-    file: &ThinFile,
-    large: bool,
-) -> Result<(), RenameRefusal>
-    requires { large ≡ grows_too_large (named_token from.now named.now) name.now file.now.0 file.now.1 }
-    ensures { Gives (λ _. []) refusal_of result (unless_offence (offences_in (named_token from.now named.now) name.now file.now) []) }
+    toks: &[Tok],
+) -> Result<Option<Offence>, Memory>
+    requires class { IsClass a.now members.now number }
+    requires toks { toks.now ≡ holders a.now.value members.now }
+    ensures { IfOk result (λ first. FirstThen a.now.value.table (member_offences a.now.value members.now name.now) None first) }
 {
-    match first_offence(from, named, name, file, large) {
-        Some((at, cause)) => Err(offence_at(alloc, file.path(), file.place(at), cause)),
-        None => Ok(()),
-    }
+    let kept = read_only(a, members, None);
+    let words = reserved(alloc, a, members, number, name, toks, kept)?;
+    let strings = stringized(a, members, number, words);
+    let headers = header_names(a, members, number, strings);
+    Ok(no_identifiers(a, members, number, toks, headers))
 }
 
-// The edits with one more.
-fn pushed(
+// The first of these and of those of new spellings among all others.
+fn spelling_offences(
     alloc: Global,
-    edits: Edits,
-    path: &[u8],
-    bytes: Vec<u8>,
-    count: u32,
-) -> Result<Edits, Memory>
-    requires utf8 { IsUtf8 path.now }
-    requires after { IsTrue (comes_last path.now edits) }
-    requires few { length edits + 1 < 2 ^ 32 }
-    ensures { IfOk result (λ e. e ≡ edits ++ edit path.now bytes.items count ∷ []) }
+    a: &Analysis,
+    members: &[Part],
+    number: u32,
+    name: &[u8],
+    toks: &[Tok],
+    first: Option<Offence>,
+) -> Result<Option<Offence>, Memory>
+    requires class { IsClass a.now members.now number }
+    requires toks { toks.now ≡ holders a.now.value members.now }
+    ensures { IfOk result (λ now. FirstThen a.now.value.table (spelling_offences a.now.value members.now name.now) first now) }
 {
-    let mut edits = edits;
-    edits.push(Text::new(alloc, path)?, bytes, count)?;
-    Ok(edits)
+    let table = respellings(alloc, a, members, number, name, toks)?;
+    let words = occurring(alloc, a, members, name, toks, &table, first)?;
+    let pairs = clashing(alloc, a, members, number, name, toks, &table, words)?;
+    let sizes = too_large(alloc, a, members, number, name, pairs)?;
+    Ok(shadowed(a, members, name, toks, &table, sizes))
 }

@@ -1,85 +1,27 @@
-// Why an analysis or a renaming of thin units is refused.
-ghost use Rattle.std.specs.Prelude.{◌≡◌, false, IfSome};
-ghost use Rattle.rename_edit.specs.Analysis.{unit_fault, file_fault};
-ghost use Rattle.rename_edit.specs.Reading.{fault_of, is_read_fault, TellsOfRead};
-ghost use Rattle.rename_edit.specs.Offence.{offence};
-ghost use Rattle.rename_edit.specs.Renaming.{refused};
+// Why a renaming is refused.
+ghost use Rattle.std.specs.Prelude.{◌≡◌, IfSome};
+ghost use Rattle.rename_rules.specs.Renaming.{refused_for};
 ghost use Rattle.rename_edit.specs.Refusals.{refusal_of};
+ghost use Rattle.std.specs.Prelude.{unwrap_or};
+ghost use Rattle.part_lexer.specs.Lines.{line_column_of};
+ghost use Rattle.include_tree.specs.Faults.{place_of as place_with};
+ghost use Rattle.ws_core.specs.Places.{place_at};
+ghost use Rattle.std.specs.Prelude.{IfOk};
 
-use cs_base::{Cause, Memory as NoMemory, Place, Text};
+use cs_base::{Cause, Memory as NoMemory, Place, Pos, Text};
+use include_tree::KeptFile;
+use rename_rules::Offence;
 use std::alloc::Global;
+use ws_core::Analysis;
 
-/// What `thin_analyse` answers where it gives no analysis. Units count from 1.
-#[derive(Drop)]
-pub enum ThinFault {
-    /// The file of this unit is not there, is too large, or is not thin from this place on.
-    Fault {
-        unit: u32,
-        place: Place,
-        cause: Cause,
-    },
-    /// A read of this path failed.
-    ReadFault {
-        path: Text,
-    },
-    /// Memory ran out.
-    Memory,
-}
-
-impl From<NoMemory> for ThinFault {
-    ghost use Rattle.std.specs.Prelude.{◌≡◌};
-    ghost use Rattle.rename_edit.specs.declared.refusals.ThinFault.TheVariants.{Memory as no_memory};
-
-    ghost from_gives = { λ _ e. e ≡ no_memory };
-
-    fn from(_: NoMemory) -> Self {
-        ThinFault::Memory
-    }
-}
-
-// The fault of a unit, at a line and a column of its file.
-pub(crate) fn unit_fault_at(
-    alloc: Global,
-    unit: u32,
-    path: &[u8],
-    place: (u32, u32),
-    cause: Cause,
-) -> ThinFault
-    ensures answer { IfSome (fault_of result) (λ f. f ≡ unit_fault unit path.now (file_fault place.0 place.1 cause)) }
-    ensures no_read { is_read_fault result ≡ false }
-{
-    match Text::new(alloc, path) {
-        Ok(path) => ThinFault::Fault {
-            unit,
-            place: Place {
-                path,
-                line: place.0,
-                column: place.1,
-            },
-            cause,
-        },
-        Err(_) => ThinFault::Memory,
-    }
-}
-
-// A failed read of the path.
-pub(crate) fn read_fault(alloc: Global, path: &[u8]) -> ThinFault
-    ensures { TellsOfRead path.now result }
-{
-    match Text::new(alloc, path) {
-        Ok(path) => ThinFault::ReadFault { path },
-        Err(_) => ThinFault::Memory,
-    }
-}
-
-/// What `plan_thin` answers where it gives no edits, in the order in which it looks.
+/// What `plan_rename` answers where it gives no edits, in the order in which it looks.
 #[derive(Drop)]
 pub enum RenameRefusal {
     /// The new name is no identifier.
     BadName,
-    /// The place names no identifier of a file of the analysis.
+    /// The place names no part.
     NoName,
-    /// The first offence: by path, then by character, then by cause.
+    /// The first offence: by path, then by character, then by number.
     Offence { place: Place, cause: Cause },
     /// Memory ran out.
     Memory,
@@ -96,23 +38,45 @@ impl From<NoMemory> for RenameRefusal {
     }
 }
 
-// The refusal for an offence at a line and a column of a file.
-pub(crate) fn offence_at(
-    alloc: Global,
-    path: &[u8],
-    place: (u32, u32),
-    cause: Cause,
-) -> RenameRefusal
-    ensures { IfSome (refusal_of result) (λ r. r ≡ refused (offence path.now (file_fault place.0 place.1 cause))) }
+// The line and the column of a character of a file.
+fn line_column(file: &KeptFile, at: u32) -> (u32, u32)
+    ensures { result ≡ unwrap_or (line_column_of file.now.bytes at) (1, 1) }
 {
-    match Text::new(alloc, path) {
-        Ok(path) => RenameRefusal::Offence {
-            place: Place {
-                path,
-                line: place.0,
-                column: place.1,
-            },
-            cause,
+    match file.text().line_column(at) {
+        Some(place) => place,
+        None => (1, 1),
+    }
+}
+
+// A place of this path.
+fn place_in(alloc: Global, path: &[u8], place: (u32, u32)) -> Result<Place, NoMemory>
+    ensures { IfOk result (λ p. p ≡ place_with path.now place) }
+{
+    Ok(Place {
+        path: Text::new(alloc, path)?,
+        line: place.0,
+        column: place.1,
+    })
+}
+
+// The place of a position.
+fn place_at(alloc: Global, a: &Analysis, at: Pos) -> Result<Place, NoMemory>
+    ensures { IfOk result (λ p. p ≡ place_at a.now.value.table at) }
+{
+    match a.file(at.file) {
+        Some(file) => place_in(alloc, file.path(), line_column(file, at.at)),
+        None => place_in(alloc, b"<lines>", (at.at / 8 + 1, at.at % 8 + 1)),
+    }
+}
+
+/// The refusal for an offence.
+pub(crate) fn refused(alloc: Global, a: &Analysis, offence: Offence) -> RenameRefusal
+    ensures { IfSome (refusal_of result) (λ r. r ≡ refused_for a.now.value offence) }
+{
+    match place_at(alloc, a, offence.at) {
+        Ok(place) => RenameRefusal::Offence {
+            place,
+            cause: offence.cause,
         },
         Err(_) => RenameRefusal::Memory,
     }

@@ -1,6 +1,6 @@
 // Renamings of classes in whole workspaces, worked by hand from the definitions.
 use cs_base::Edits;
-use rename_plan::{RenameRefusal, plan_rename};
+use rename_edit::{RenameRefusal, plan_rename};
 use std::alloc::{AllocError, Global};
 use std::test::Fail;
 use ws_core::{Analysis, analyse};

@@ -37,11 +37,15 @@ pub record IsClassRenamed (a : AnalysisValue) (part : Part) (name : List ℕ) (a
   pub are_members : AreMembers a part members
   pub renamed : IsRenamed a members name answer
 
+-- the same for what a place names: a part, or nothing
+abbrev pub IsNamedRenamed : AnalysisValue → List ℕ → Result (List Edit) Refusal → Option Part → Type 0
+IsNamedRenamed a name answer None = answer ≡ Err no_name
+IsNamedRenamed a name answer (Some part) = IsClassRenamed a part name answer
+
 -- What is answered for a place and a new name, in the order in which it is looked: the name, the place, the offences.
 pub record IsRenaming (a : AnalysisValue) (path : List ℕ) (line column : ℕ) (name : List ℕ) (answer : Result (List Edit) Refusal) : Type 0 where
   pub bad_name : is_identifier_text name ≡ false → answer ≡ Err bad_name
-  pub no_name : is_identifier_text name ≡ true → Names a path line column None → answer ≡ Err no_name
-  pub class : is_identifier_text name ≡ true → (part : Part) → Names a path line column (Some part) → IsClassRenamed a part name answer
+  pub named : is_identifier_text name ≡ true → (named : Option Part) × Names a path line column named × IsNamedRenamed a name answer named
 
 -- The call returned an answer that is allowed, its value or its refusal, unless memory ran out: `fault_of` is none for
 -- want of memory alone.

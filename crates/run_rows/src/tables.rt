@@ -188,59 +188,59 @@ pub const ROWS: [Row; 40] = [
         err: "cscout: unit 2: no.c:1:1: missing file\n",
         status: Status::Workspace,
     },
-    // A comment.
+    // A comment stays.
     Row {
-        files: "w.cs:file a.c\n@a.c:int x; /* c */\n",
+        files: "w.cs:file a.c\n@a.c:int x; /* x */\n",
         words: "w.cs rename a.c 1 5 z",
-        after: "w.cs:file a.c\n@a.c:int x; /* c */\n",
-        out: "",
-        err: "cscout: unit 1: a.c:1:8: not built\n",
-        status: Status::Workspace,
+        after: "w.cs:file a.c\n@a.c:int z; /* x */\n",
+        out: "edited a.c 1\n",
+        err: "",
+        status: Status::Done,
     },
-    // A directive.
+    // A directive is edited where it names the class.
     Row {
-        files: "w.cs:file a.c\n@a.c:int x;\n#define X 1\n",
+        files: "w.cs:file a.c\n@a.c:int x;\n#define X x\nint *p = &X;\n",
         words: "w.cs rename a.c 1 5 z",
-        after: "w.cs:file a.c\n@a.c:int x;\n#define X 1\n",
-        out: "",
-        err: "cscout: unit 1: a.c:2:1: not built\n",
-        status: Status::Workspace,
+        after: "w.cs:file a.c\n@a.c:int z;\n#define X z\nint *p = &X;\n",
+        out: "edited a.c 2\n",
+        err: "",
+        status: Status::Done,
     },
-    // A line splice.
+    // A line splice stays.
     Row {
         files: "w.cs:file a.c\n@a.c:int x\\\n;\n",
         words: "w.cs rename a.c 1 5 z",
-        after: "w.cs:file a.c\n@a.c:int x\\\n;\n",
-        out: "",
-        err: "cscout: unit 1: a.c:1:6: not built\n",
-        status: Status::Workspace,
+        after: "w.cs:file a.c\n@a.c:int z\\\n;\n",
+        out: "edited a.c 1\n",
+        err: "",
+        status: Status::Done,
     },
-    // A carriage return.
+    // A carriage return stays.
     Row {
         files: "w.cs:file a.c\n@a.c:int x;\r\n",
         words: "w.cs rename a.c 1 5 z",
-        after: "w.cs:file a.c\n@a.c:int x;\r\n",
-        out: "",
-        err: "cscout: unit 1: a.c:1:7: not built\n",
-        status: Status::Workspace,
+        after: "w.cs:file a.c\n@a.c:int z;\r\n",
+        out: "edited a.c 1\n",
+        err: "",
+        status: Status::Done,
     },
-    // A byte of a comment comes before a token that cannot follow.
+    // A token that no declaration begins with.
     Row {
         files: "w.cs:file a.c\n@a.c:+\n/",
         words: "w.cs rename a.c 1 5 z",
         after: "w.cs:file a.c\n@a.c:+\n/",
         out: "",
-        err: "cscout: unit 1: a.c:2:1: not built\n",
+        err: "cscout: unit 1: a.c:1:1: syntax\n",
         status: Status::Workspace,
     },
-    // A token that cannot follow.
+    // An expression stays.
     Row {
         files: "w.cs:file a.c\n@a.c:int x = 1 + 2;\n",
         words: "w.cs rename a.c 1 5 z",
-        after: "w.cs:file a.c\n@a.c:int x = 1 + 2;\n",
-        out: "",
-        err: "cscout: unit 1: a.c:1:11: not built\n",
-        status: Status::Workspace,
+        after: "w.cs:file a.c\n@a.c:int z = 1 + 2;\n",
+        out: "edited a.c 1\n",
+        err: "",
+        status: Status::Done,
     },
     // A keyword as a name.
     Row {
@@ -248,7 +248,7 @@ pub const ROWS: [Row; 40] = [
         words: "w.cs rename a.c 1 5 z",
         after: "w.cs:file a.c\n@a.c:int x;\nint if;\n",
         out: "",
-        err: "cscout: unit 1: a.c:2:5: not built\n",
+        err: "cscout: unit 1: a.c:2:5: syntax\n",
         status: Status::Workspace,
     },
     // A name that is not declared.
@@ -257,7 +257,7 @@ pub const ROWS: [Row; 40] = [
         words: "w.cs rename a.c 1 5 z",
         after: "w.cs:file a.c\n@a.c:int x = y;\nint y;\n",
         out: "",
-        err: "cscout: unit 1: a.c:1:9: not built\n",
+        err: "cscout: unit 1: a.c:1:9: undeclared\n",
         status: Status::Workspace,
     },
     // The file ends inside a declaration.
@@ -266,7 +266,7 @@ pub const ROWS: [Row; 40] = [
         words: "w.cs rename a.c 1 5 z",
         after: "w.cs:file a.c\n@a.c:int x;\nint y",
         out: "",
-        err: "cscout: unit 1: a.c:2:5: not built\n",
+        err: "cscout: unit 1: a.c:2:5: syntax\n",
         status: Status::Workspace,
     },
     // No such command.

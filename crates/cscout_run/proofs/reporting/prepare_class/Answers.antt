@@ -1,4 +1,4 @@
-use Rattle.std.proofs.Common.{Err, sym, subst}
+use Rattle.std.proofs.Common.{Err, refl, sym, subst}
 use Rattle.ws_core.specs.Analysis.{analysis_of}
 use Rattle.include_tree.specs.Files.{source_of}
 use Rattle.cs_base.specs.Outside.{FileMap}
@@ -8,7 +8,7 @@ use Rattle.cscout_run.specs.Request.{ClassValue, class_asked}
 use Rattle.cscout_run.specs.Answer.{Answer, IsClassAnswer, IsRequestAnswer}
 use Rattle.cscout_run.specs.Asking.{class_value}
 use Rattle.cscout_run.specs.Stopping.{Stops}
-use Rattle.cscout_run.proofs.ReportLemmas.{handed_on, over_told, reading-stops_told, class-prepared, class-stop}
+use Rattle.cscout_run.proofs.ReportLemmas.{handed_on, over_told, reading-stops_told, analysed-prepared, analysed-stop}
 use Rattle.cscout_run.proofs.RunLemmas.{if_told-map}
 use Rattle.cscout_run.proofs.reporting.prepare_class.Goals as goal
 
@@ -27,14 +27,14 @@ pub returns-in-Ok-clause-answer : goal.returns-in-Ok-clause-answer
 returns-in-Ok-clause-answer g c =
     let q : ClassValue = class_value c.args.q.now in
     let told = g.F.Files.held c.read_workspace.new.files in
-    let found = class-prepared told q c.in_ok-ws.ws c.in-Ok.analysis.value c.class_of_name.result c.in-Ok.ensures.answer c.class_of_name.ensures.answer in
+    let found = analysed-prepared told q.ws c.in_ok-ws.ws c.in-Ok.analysis.value (IsClassAnswer q) c.class_of_name.result c.in-Ok.ensures.answer c.class_of_name.ensures.answer in
     over_told (g.F.Files.held c.args.files.now) told q.ws c.in_ok-ws.ws (IsNext q) c.class_of_name.result c.read_workspace.ensures.held c.in_ok-ws.ensures.answer found
 
 pub returns-clause-answer : goal.returns-clause-answer
 returns-clause-answer g c =
     let q : ClassValue = class_value c.args.q.now in
     let told = g.F.Files.held c.read_workspace.new.files in
-    let found = class-stop told q c.in_ok-ws.ws c.in-Err.fault c.in-Err.ensures.answer in
+    let found = analysed-stop told q.ws c.in_ok-ws.ws (IsClassAnswer q) c.in-Err.fault (λ fault. refl) c.in-Err.ensures.answer in
     let P : FileMap → Stop → Type 0 = λ fs s. Stops q.ws (IsNext q fs c.in_ok-ws.ws) s in
     over_told (g.F.Files.held c.args.files.now) told q.ws c.in_ok-ws.ws (IsNext q) (Err c.stop_of.result) c.read_workspace.ensures.held c.in_ok-ws.ensures.answer
     (if_told-map told _ _ found (λ fs h. subst (P fs) (sym c.stop_of.ensures) h))

@@ -121,8 +121,5 @@ returns-clause-promise g c =
     let words : List (List ℕ) = map string_bytes c.args.words.now in
     let told = g.F.Files.held c.args.files.now in
     let some : asked words ≡ Some (request_value c.in-Some.request) = sym c.in-Some.ensures in
-    let text = c.in-Ok.ready.text.items in
-    let edits = c.in-Ok.ready.edits in
-    let ready = ready-answer told words (request_value c.in-Some.request) (workspace_file c.in-Some.request) c.in-Ok.ready some c.in-Ok.ensures.answer in
-    let held : g.F.Files.held c.apply.new.files ≡ option_map (with_edits edits) told = rw (← c.prepare.ensures.held) c.in_default-apply.ensures.held in
-    λ done. promise-told told (g.F.Files.held c.apply.new.files) words text edits ready held
+    let held : g.F.Files.held c.apply.new.files ≡ option_map (with_edits c.in-Ok.ready.edits) told = rw (← c.prepare.ensures.held) c.in_default-apply.ensures.held in
+    λ done. promise-told told (g.F.Files.held c.apply.new.files) (request_value c.in-Some.request) words c.in-Ok.ready some c.in-Ok.ensures.planned held

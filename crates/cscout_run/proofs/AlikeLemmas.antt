@@ -1,0 +1,151 @@
+-- Answers to a renaming have one status: a place names one part, the members of its class stand in one list, and a
+-- reason stands against the renaming or none does.
+use Rattle.std.proofs.Common.{◌≡◌, ℕ, zero, suc, Bool, true, false, List, [], ◌∷◌, Option, None, Some, Result, Ok, Err, refl, ap, sym, subst, ◌∙◌}
+use Rattle.std.specs.Prelude.{slice_get}
+use Rattle.std.specs.Cmp.{IsTotalOrder}
+use Rattle.std.specs.List.Sorted.{IsStrictlySortedBy}
+use Rattle.std.specs.Ordering.{ordering_reverse}
+use Rattle.std.specs.declared.cmp.Ordering.{Ordering}
+use Rattle.std.specs.declared.cmp.Ordering.TheVariants.{Less}
+use Rattle.std.specs.List.{AllByRecursion}
+use Rattle.std.proofs.lemmas.Option.{none-some, same_Some}
+use Rattle.cs_base.specs.declared.positions.Part.{Part}
+use Rattle.cs_base.specs.declared.positions.Pos.{Pos}
+use Rattle.cs_base.specs.Edit.{Edit}
+use Rattle.eclass_map.specs.Positions.{holds}
+use Rattle.part_lexer.specs.Spelling.{is_identifier_text}
+use Rattle.ws_core.specs.Analysis.{AnalysisValue}
+use Rattle.ws_core.specs.Naming.{Names}
+use Rattle.ws_core.specs.Parts.{AreMembers, part_cmp}
+use Rattle.ws_core.proofs.ListingLemmas.{part_cmp-total}
+use Rattle.rename_rules.specs.First.{IsAmong, offences_of}
+use Rattle.rename_rules.specs.Renaming.{Refusal, IsRenamed, IsClassRenamed, IsNamedRenamed, IsRenaming, bad_name, no_name}
+use Rattle.rename_rules.proofs.ClassLemmas.{part_once}
+use Rattle.cscout_run.specs.Answer.{renaming_answer}
+
+-- ---- lists in strict order
+
+both_less : {X : Type 0} (c : X → X → Ordering) → IsTotalOrder c → (x y : X) → c x y ≡ Less → c y x ≡ Less → ⊥
+both_less c total x y less back =
+    let e : Less ≡ ordering_reverse Less = sym less ∙ total.antisymm x y ∙ ap ordering_reverse back in cc
+
+each_at : {X : Type 0} (P : X → Type 0) (xs : List X) (k : ℕ) (y : X) → AllByRecursion P xs → slice_get xs k ≡ Some y → P y
+each_at P [] k y all at = absurd (none-some y at)
+each_at P (z ∷ xs) zero y all at = subst P (same_Some z y at) all.0
+each_at P (z ∷ xs) (suc k) y all at = each_at P xs k y all.1 at
+
+-- what stands in one list stands in the other
+abbrev AreIn : {X : Type 0} → List X → List X → Type 0
+AreIn {X} xs ys = (x : X) → IsAmong xs x → IsAmong ys x
+
+tail_at : {X : Type 0} (c : X → X → Ordering) → IsTotalOrder c → (x : X) (ys : List X) (k : ℕ) (z : X) → c x z ≡ Less
+    → slice_get (x ∷ ys) k ≡ Some z → IsAmong ys z
+tail_at c total x ys zero z less at = absurd (let e : c z z ≡ Less = subst (λ y. c y z ≡ Less) (same_Some x z at) less in both_less c total z z e e)
+tail_at c total x ys (suc k) z less at = (k, at)
+
+tails_in : {X : Type 0} (c : X → X → Ordering) → IsTotalOrder c → (x : X) (xs ys : List X) → IsStrictlySortedBy c (x ∷ xs)
+    → AreIn (x ∷ xs) (x ∷ ys) → AreIn xs ys
+unfolding IsStrictlySortedBy
+tails_in c total x xs ys sorted all z at =
+    let found = all z (suc at.0, at.1) in
+    tail_at c total x ys found.0 z (each_at (λ y. c x y ≡ Less) xs at.0 z sorted.0 at.1) found.1
+
+heads : {X : Type 0} (c : X → X → Ordering) → IsTotalOrder c → (x y : X) (xs ys : List X) → IsStrictlySortedBy c (x ∷ xs)
+    → IsStrictlySortedBy c (y ∷ ys) → (k j : ℕ) → slice_get (y ∷ ys) k ≡ Some x → slice_get (x ∷ xs) j ≡ Some y → y ≡ x
+unfolding IsStrictlySortedBy
+heads c total x y xs ys s t zero j at back = same_Some y x at
+heads c total x y xs ys s t (suc k) zero at back = sym (same_Some x y back)
+heads c total x y xs ys s t (suc k) (suc j) at back =
+    absurd (both_less c total x y (each_at (λ z. c x z ≡ Less) xs j y s.0 back) (each_at (λ z. c y z ≡ Less) ys k x t.0 at))
+
+-- lists in one strict order that have the same elements are one
+same_lists : {X : Type 0} (c : X → X → Ordering) → IsTotalOrder c → (xs ys : List X) → IsStrictlySortedBy c xs → IsStrictlySortedBy c ys
+    → AreIn xs ys → AreIn ys xs → xs ≡ ys
+unfolding IsStrictlySortedBy
+same_lists c total [] [] s t all back = refl
+same_lists c total [] (y ∷ ys) s t all back = absurd (let found = back y (0, refl) in none-some y found.1)
+same_lists c total (x ∷ xs) [] s t all back = absurd (let found = all x (0, refl) in none-some x found.1)
+same_lists {X} c total (x ∷ xs) (y ∷ ys) s t all back =
+    let found = all x (0, refl) in
+    let there = back y (0, refl) in
+    let head : y ≡ x = heads c total x y xs ys s t found.0 there.0 found.1 there.1 in
+    let t' : IsStrictlySortedBy c (x ∷ ys) = subst (λ (h : X). IsStrictlySortedBy c (h ∷ ys)) head t in
+    let all' : AreIn (x ∷ xs) (x ∷ ys) = subst (λ (h : X). AreIn (x ∷ xs) (h ∷ ys)) head all in
+    let back' : AreIn (x ∷ ys) (x ∷ xs) = subst (λ (h : X). AreIn (h ∷ ys) (x ∷ xs)) head back in
+    let tail = same_lists c total xs ys s.1 t'.1 (tails_in c total x xs ys s all') (tails_in c total x ys xs t' back') in
+    subst (λ (h : X). x ∷ xs ≡ h ∷ ys) (sym head) (ap (λ (zs : List X). x ∷ zs) tail)
+
+-- ---- a class
+
+members_in : (a : AnalysisValue) (part : Part) (ms ns : List Part) → AreMembers a part ms → AreMembers a part ns → AreIn ms ns
+members_in a part ms ns these those m at = those.all m (these.each at.0 m at.1)
+
+-- the members of a class stand in one list
+pub one_list : (a : AnalysisValue) (part : Part) (ms ns : List Part) → AreMembers a part ms → AreMembers a part ns → ms ≡ ns
+one_list a part ms ns these those =
+    same_lists (part_cmp a) (part_cmp-total a) ms ns these.sorted those.sorted (members_in a part ms ns these those) (members_in a part ns ms those these)
+
+-- ---- a place
+
+-- a place names one part, or nothing
+one_named : (a : AnalysisValue) (path : List ℕ) (line column : ℕ) (m n : Option Part) → Names a path line column m
+    → Names a path line column n → n ≡ m
+one_named a path line column None None p q = refl
+one_named a path line column None (Some part) p q = absurd (none-some q.0 (sym p ∙ q.1))
+one_named a path line column (Some part) None p q = absurd (none-some p.0 (sym q ∙ p.1))
+one_named a path line column (Some part) (Some other) p q =
+    let same : q.0 ≡ p.0 = same_Some q.0 p.0 (sym q.1 ∙ p.1) in
+    let held : holds other p.0 ≡ true = subst (λ (x : Pos). holds other x ≡ true) same q.3 in
+    ap (λ (x : Part). Some x) (part_once a other part p.0 q.2 p.2 held p.3)
+
+-- ---- answers
+
+-- two answers: both are edits, or both are refusals
+abbrev AreAlike : Result (List Edit) Refusal → Result (List Edit) Refusal → Type 0
+AreAlike (Ok es) (Ok fs) = es ≡ fs
+AreAlike (Err r) (Err s) = Unit {0}
+AreAlike _ _ = ⊥
+
+none_stands : {X : Type 0} (xs : List X) (x : X) → xs ≡ [] → IsAmong xs x → ⊥
+none_stands xs x none at = none-some x (subst (λ ys. slice_get ys at.0 ≡ Some x) none at.1)
+
+renamed_alike : (a : AnalysisValue) (members : List Part) (name : List ℕ) (r s : Result (List Edit) Refusal) → IsRenamed a members name r
+    → IsRenamed a members name s → AreAlike r s
+renamed_alike a members name (Ok es) (Ok fs) p q = p.1 ∙ sym q.1
+renamed_alike a members name (Ok es) (Err s) p q = absurd (none_stands (offences_of a members name) q.0 p.0 q.1.0)
+renamed_alike a members name (Err r) (Ok fs) p q = absurd (none_stands (offences_of a members name) p.0 q.0 p.1.0)
+renamed_alike a members name (Err r) (Err s) p q = tt
+
+class_alike : (a : AnalysisValue) (part : Part) (name : List ℕ) (r s : Result (List Edit) Refusal) → IsClassRenamed a part name r
+    → IsClassRenamed a part name s → AreAlike r s
+class_alike a part name r s p q =
+    renamed_alike a p.members name r s p.renamed
+    (subst (λ (ms : List Part). IsRenamed a ms name s) (one_list a part q.members p.members q.are_members p.are_members) q.renamed)
+
+both_refused : (r s : Result (List Edit) Refusal) (e f : Refusal) → r ≡ Err e → s ≡ Err f → AreAlike r s
+both_refused r s e f p q = rw (p, q) tt
+
+named_alike : (a : AnalysisValue) (name : List ℕ) (r s : Result (List Edit) Refusal) (part : Option Part) → IsNamedRenamed a name r part
+    → IsNamedRenamed a name s part → AreAlike r s
+named_alike a name r s None p q = both_refused r s no_name no_name p q
+named_alike a name r s (Some part) p q = class_alike a part name r s p q
+
+places_alike : (a : AnalysisValue) (path : List ℕ) (line column : ℕ) (name : List ℕ) (r s : Result (List Edit) Refusal) (good : Bool)
+    → is_identifier_text name ≡ good → IsRenaming a path line column name r → IsRenaming a path line column name s → AreAlike r s
+places_alike a path line column name r s false is p q = both_refused r s bad_name bad_name (p.bad_name is) (q.bad_name is)
+places_alike a path line column name r s true is p q =
+    let m = p.named is in
+    let n = q.named is in
+    named_alike a name r s m.0 m.2 (subst (λ (o : Option Part). IsNamedRenamed a name s o) (one_named a path line column m.0 n.0 m.1 n.1) n.2)
+
+-- all answers to a renaming are alike
+pub renamings_alike : (a : AnalysisValue) (path : List ℕ) (line column : ℕ) (name : List ℕ) (r s : Result (List Edit) Refusal)
+    → IsRenaming a path line column name r → IsRenaming a path line column name s → AreAlike r s
+renamings_alike a path line column name r s p q = places_alike a path line column name r s (is_identifier_text name) refl p q
+
+-- so they have one status
+pub statuses_alike : (r s : Result (List Edit) Refusal) → AreAlike r s → (renaming_answer r).status ≡ (renaming_answer s).status
+statuses_alike (Ok es) (Ok fs) h = refl
+statuses_alike (Err r) (Err s) h = refl
+statuses_alike (Ok es) (Err s) h = absurd h
+statuses_alike (Err r) (Ok fs) h = absurd h
