@@ -25,6 +25,16 @@ pub const TWO_FILES: &str =
 const TWO_RENAMED: &str =
     "w.cs:file a.c\nfile b.c\n@a.c:int count;\nint y = count;\n@b.c:extern int count;\n";
 
+// A class in a header, a macro's list and a unit.
+const HEADER: &str =
+    "w.cs:ipath i\nfile a.c\n@i/h.h:#define G t\nextern int t;\n@a.c:#include \"h.h\"\nint t;\nint f(void) { return G; }\n";
+
+const HEADER_STARTED: &str =
+    "w.cs:ipath i\nfile a.c\n@i/h.h:#define G t\nextern int t;\n@a.c:#include \"h.h\"\nint sum;\nint f(void) { return G; }\n";
+
+const HEADER_RENAMED: &str =
+    "w.cs:ipath i\nfile a.c\n@i/h.h:#define G sum\nextern int sum;\n@a.c:#include \"h.h\"\nint sum;\nint f(void) { return G; }\n";
+
 pub const ROWS: [Row; 40] = [
     // The names of two files are one class.
     Row {
@@ -388,7 +398,74 @@ pub const ROWS: [Row; 40] = [
     },
 ];
 
-pub const FAILING: [Failing; 11] = [
+pub const FAILING: [Failing; 16] = [
+    // The header is asked for beside the file that includes it.
+    Failing {
+        row: Row {
+            files: HEADER,
+            words: "w.cs rename a.c 2 5 sum",
+            after: HEADER,
+            out: "",
+            err: "cscout: cannot read h.h\n",
+            status: Status::ReadFault,
+        },
+        call: 3,
+        out_call: 0,
+        err_call: 0,
+    },
+    Failing {
+        row: Row {
+            files: HEADER,
+            words: "w.cs rename a.c 2 5 sum",
+            after: HEADER,
+            out: "",
+            err: "cscout: cannot read i/h.h\n",
+            status: Status::ReadFault,
+        },
+        call: 4,
+        out_call: 0,
+        err_call: 0,
+    },
+    Failing {
+        row: Row {
+            files: HEADER,
+            words: "w.cs rename a.c 2 5 sum",
+            after: HEADER,
+            out: "",
+            err: "cscout: cannot write a.c\n",
+            status: Status::WriteFault,
+        },
+        call: 5,
+        out_call: 0,
+        err_call: 0,
+    },
+    // The second put fails.
+    Failing {
+        row: Row {
+            files: HEADER,
+            words: "w.cs rename a.c 2 5 sum",
+            after: HEADER_STARTED,
+            out: "",
+            err: "cscout: cannot write i/h.h\n",
+            status: Status::WriteFault,
+        },
+        call: 6,
+        out_call: 0,
+        err_call: 0,
+    },
+    Failing {
+        row: Row {
+            files: HEADER,
+            words: "w.cs rename a.c 2 5 sum",
+            after: HEADER_RENAMED,
+            out: "edited a.c 1\nedited i/h.h 2\n",
+            err: "",
+            status: Status::Done,
+        },
+        call: 7,
+        out_call: 0,
+        err_call: 0,
+    },
     Failing {
         row: Row {
             files: TWO_FILES,
