@@ -57,7 +57,7 @@ def chosen(analysis, rng, count):
     places = []
     while len(places) < count and any(ours or theirs for ours, theirs in pools.values()):
         for kind, (ours, theirs) in pools.items():
-            pool = ours if ours and (rng.random() < .875 or not theirs) else theirs if len(ours) == 0 or rng.random() < .9 else ours
+            pool = ours if ours and (not theirs or rng.random() < .875) else theirs
             if pool and len(places) < count:
                 places.append((kind, pool.pop()))
     return places

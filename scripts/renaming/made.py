@@ -15,8 +15,24 @@ class Maker:
         sep = r.choice(["\n", "\n", "\n", "\r\n"])
         made = {"h.h": self.header(), "a.c": self.unit("a"), "b.c": self.unit("b"), "d/k.h": self.second_header()}
         files = {path: sep.join(lines) + r.choice(["\n", "\n", ""]) for path, lines in made.items()}
+        if r.random() < .4:
+            files = {path: self.respelled(text) for path, text in files.items()}
         files["w.cs"] = "\n".join(self.workspace()) + "\n"
         return {path.encode(): text.encode() for path, text in files.items()}
+
+    def respelled(self, text):
+        """The same tokens with other signs, with comments for blanks, and with splices anywhere."""
+        r = self.r
+        for sign, other in (("##", "%:%:"), ("#define", "%:define"), ("#define", "# define"), ("{", "<%"), (" ", "/* ga\n*/"),
+                            (" ", "\t"), (";\n", "; // gb\n"), ("#include", "#/**/include")):
+            places = [k for k in range(len(text)) if text.startswith(sign, k)]
+            for k in sorted(r.sample(places, min(len(places), r.choice([0, 0, 1, 3]))), reverse=True):
+                text = text[:k] + other + text[k + len(sign):]
+        for _ in range(r.choice([0, 2, 8])):
+            k = r.randrange(len(text) + 1)
+            if text[k:k + 1] not in ("", "\n"):
+                text = text[:k] + r.choice(["\\\n", "\\\r\n"]) + text[k:]
+        return text
 
     def value(self, names, depth=0):
         r = self.r
