@@ -1,0 +1,12 @@
+//! What is true of the tree of every text that is read (ISO/IEC 9899:1999, Annex A.2).
+//!
+//! Laws over `read_of` of the crate `c99_read`, which no caller runs and callers' proofs cite. The tokens of
+//! a tree stand in the order of the text, whatever the grammar, and are all tokens of the text where a
+//! unit ends with it. The laws are proved by one induction over reading (`proofs/Walked.antt`), for any
+//! relation between states that each step keeps. Read `specs/Shapes.antt`, `specs/Laws.antt`, then
+//! `laws.rt`.
+#![tactic(auto)]
+
+mod laws;
+
+pub use laws::tokens_stand_in_order;
