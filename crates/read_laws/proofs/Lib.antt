@@ -1,2 +1,7 @@
 mod Walked
 mod Ordered
+mod Each
+mod Growing
+mod Formed
+mod Forms
+mod OfTexts

@@ -3,8 +3,9 @@ use Rattle.std.specs.Prelude.{◌≡◌, true, List, length, Ok}
 use Rattle.cs_base.specs.Token.{Token}
 use Rattle.c99_tree.specs.Tree.{Node}
 use Rattle.c99_read.specs.Reading.{read_of}
+use Rattle.c99_read.specs.Standard.{c99}
 use Rattle.c99_read.specs.State.{Grammar}
-use Rattle.bind_laws.specs.Units.{AreFrom, token_count}
+use Rattle.bind_laws.specs.Units.{AreFrom, token_count, IsTreeOf}
 use Rattle.read_laws.specs.Shapes.{reads_all}
 
 -- the text has the tree by the grammar
@@ -19,3 +20,7 @@ TokensStandInOrder = (g : Grammar) (toks : List Token) (tree : Node) → Reads g
 abbrev pub AllTokensStandInTrees : Type 0
 AllTokensStandInTrees =
     (g : Grammar) (toks : List Token) (tree : Node) → reads_all g ≡ true → Reads g toks tree → token_count tree.under ≡ length toks
+
+-- the tree that is read is one of the text (ISO/IEC 9899:1999, Annex A.2)
+abbrev pub TreesAreOfTheirTexts : Type 0
+TreesAreOfTheirTexts = (toks : List Token) (tree : Node) → Reads c99 toks tree → IsTreeOf (length toks) tree

@@ -1,9 +1,9 @@
 -- What the items of a production say of the nodes that are read by it, whatever the text.
-use Rattle.std.specs.Prelude.{Bool, true, false, ◌&&◌}
+use Rattle.std.specs.Prelude.{Bool, true, false, ◌≡◌, ◌&&◌, ◌||◌, not}
 use Rattle.std.specs.List.{list_all}
 use Rattle.c99_tree.specs.declared.production.Production.{Production}
-use Rattle.c99_tree.specs.declared.production.Production.TheVariants.{TranslationUnit}
-use Rattle.c99_read.specs.Items.{Item, one, part, end_of_text, act, ◌·◌, choice, maybe, many, deep}
+use Rattle.c99_tree.specs.declared.production.Production.TheVariants.{TranslationUnit, External, ExtRest, ExtTail, FunBody, Declaration, DeclRest, InitDecl, Enumerator, Block, BlockItem, Statement, Sub, ForInit}
+use Rattle.c99_read.specs.Items.{Item, one, part, end_of_text, act, ◌·◌, choice, maybe, many, deep, Alternative}
 use Rattle.c99_read.specs.Reading.{Goal, produce, repeat}
 use Rattle.c99_read.specs.State.{Grammar}
 
@@ -24,6 +24,19 @@ abbrev pub goal_all : (Production → Bool) → Goal → Bool
 goal_all ok (produce p) = ok p
 goal_all ok (repeat t a) = parts_all ok a
 
+-- the item begins with a token
+abbrev pub begins : Item → Bool
+begins (one classes) = true
+begins (a · b) = begins a
+begins _ = false
+
+-- the item has a token that is no part of a production in it
+abbrev pub takes : Item → Bool
+takes (one classes) = true
+takes (a · b) = takes a || takes b
+takes (deep a) = takes a
+takes _ = false
+
 -- the item ends with the text
 abbrev pub ends : Item → Bool
 ends end_of_text = true
@@ -33,3 +46,48 @@ ends _ = false
 -- the whole text is read
 abbrev pub reads_all : Grammar → Bool
 reads_all g = list_all (λ a. ends a.body) (g.table TranslationUnit)
+
+-- ---- C99
+
+-- below a node of the production stands no body of a function (ISO/IEC 9899:1999, 6.9.1)
+abbrev pub has_no_body : Production → Bool
+has_no_body TranslationUnit = false
+has_no_body External = false
+has_no_body ExtRest = false
+has_no_body ExtTail = false
+has_no_body FunBody = false
+has_no_body _ = true
+
+-- .. no body, and no declaration but that of parameters and members (6.7, 6.7.5)
+abbrev pub has_no_declaring : Production → Bool
+has_no_declaring TranslationUnit = false
+has_no_declaring External = false
+has_no_declaring ExtRest = false
+has_no_declaring ExtTail = false
+has_no_declaring FunBody = false
+has_no_declaring Declaration = false
+has_no_declaring DeclRest = false
+has_no_declaring InitDecl = false
+has_no_declaring Block = false
+has_no_declaring BlockItem = false
+has_no_declaring Statement = false
+has_no_declaring Sub = false
+has_no_declaring ForInit = false
+has_no_declaring _ = true
+
+-- where nodes of the production are so, so are those of each production in the item
+abbrev pub passes_on : (Production → Bool) → Production → Item → Bool
+passes_on ok p body = not (ok p) || parts_all ok body
+
+-- an enumerator begins with its name (6.7.2.2); the body of a function has braces of its own, and no such body
+abbrev pub is_shaped : Production → Item → Bool
+is_shaped Enumerator body = begins body
+is_shaped FunBody body = takes body && parts_all has_no_body body
+is_shaped _ body = true
+
+abbrev pub is_formed : Production → Alternative → Bool
+is_formed p a = passes_on has_no_body p a.body && (passes_on has_no_declaring p a.body && is_shaped p a.body)
+
+-- the productions are so
+pub record IsFormed (g : Grammar) : Type 0 where
+  pub formed : (p : Production) → list_all (is_formed p) (g.table p) ≡ true

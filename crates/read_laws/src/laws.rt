@@ -1,9 +1,14 @@
 // What is true of the tree of every text that is read: laws that no caller runs, and that callers' proofs cite.
-ghost use Rattle.read_laws.specs.Laws.{TokensStandInOrder, AllTokensStandInTrees};
+ghost use Rattle.read_laws.specs.Laws.{TokensStandInOrder, AllTokensStandInTrees, TreesAreOfTheirTexts};
 
 /// By any grammar the tokens of a tree are those from the first one of the text on, one after another, and as
 /// many as the text has where a unit ends with the text.
 pub fn tokens_stand_in_order()
     ensures order { TokensStandInOrder }
     ensures all { AllTokensStandInTrees }
+{}
+
+/// The tree that is read of a text has its tokens in order, and its nodes have their forms.
+pub fn trees_are_of_their_texts()
+    ensures { TreesAreOfTheirTexts }
 {}
