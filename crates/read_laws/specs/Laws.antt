@@ -1,11 +1,17 @@
 -- What is true of the tree of every text that is read.
-use Rattle.std.specs.Prelude.{◌≡◌, true, List, length, Ok}
+use Rattle.std.specs.Prelude.{◌<◌, ◌≡◌, ◌≢◌, true, List, length, Ok, IfErr, All, AllPairs}
 use Rattle.cs_base.specs.Token.{Token}
 use Rattle.c99_tree.specs.Tree.{Node}
 use Rattle.c99_read.specs.Reading.{read_of}
 use Rattle.c99_read.specs.Standard.{c99}
 use Rattle.c99_read.specs.State.{Grammar}
+use Rattle.scope_bind.specs.declared.bound.Name.{Name}
+use Rattle.scope_bind.specs.declared.lists.List.{List as NameList}
+use Rattle.scope_bind.specs.declared.lists.Range.{Range}
+use Rattle.scope_bind.specs.Causes.{index_of}
+use Rattle.scope_bind.specs.Bound.{Bound, binding_of}
 use Rattle.bind_laws.specs.Units.{AreFrom, token_count, IsTreeOf}
+use Rattle.bind_laws.specs.Laws.{Binds, IsBody}
 use Rattle.read_laws.specs.Shapes.{reads_all}
 
 -- the text has the tree by the grammar
@@ -24,3 +30,38 @@ AllTokensStandInTrees =
 -- the tree that is read is one of the text (ISO/IEC 9899:1999, Annex A.2)
 abbrev pub TreesAreOfTheirTexts : Type 0
 TreesAreOfTheirTexts = (toks : List Token) (tree : Node) → Reads c99 toks tree → IsTreeOf (length toks) tree
+
+-- ---- Texts that are read and bound
+
+-- this is so of each text and its binding
+abbrev pub OfEachBinding : (List Token → Bound → Type 0) → Type 0
+OfEachBinding P = (toks : List Token) (tree : Node) (b : Bound) → Reads c99 toks tree → Binds toks tree b → P toks b
+
+-- a name is a token of the text, and so is the one that names its entity (6.2.1)
+abbrev pub ReadNamesStandInTheText : Type 0
+ReadNamesStandInTheText = OfEachBinding (λ toks b. All (λ (n : Name). (n.index < length toks) × (n.entity < length toks)) b.names)
+
+-- a fault of binding stands at a token of the text
+abbrev pub ReadFaultsStandInTheText : Type 0
+ReadFaultsStandInTheText =
+    (toks : List Token) (tree : Node) → Reads c99 toks tree → IfErr (binding_of toks tree) (λ f. index_of f < length toks)
+
+-- no token is two names
+abbrev pub EachReadTokenIsOneName : Type 0
+EachReadTokenIsOneName = OfEachBinding (λ toks b. AllPairs (λ (m n : Name). m.index ≢ n.index) b.names)
+
+-- the parameter lists stand in order of the declared names, each of which has one at most (6.7.5.3)
+abbrev pub ReadParameterListsAreInOrder : Type 0
+ReadParameterListsAreInOrder = OfEachBinding (λ toks b. AllPairs (λ (l m : NameList). l.name < m.name) b.declarators)
+
+-- the argument lists stand in order of the names that are called, each of which has one at most (6.5.2.2)
+abbrev pub ReadArgumentListsAreInOrder : Type 0
+ReadArgumentListsAreInOrder = OfEachBinding (λ toks b. AllPairs (λ (l m : NameList). l.name < m.name) b.calls)
+
+-- a body stands behind its name, and in the text (6.9.1)
+abbrev pub ReadBodiesStandInTheText : Type 0
+ReadBodiesStandInTheText = OfEachBinding (λ toks b. All (IsBody (length toks)) b.functions)
+
+-- each body ends before the name of a later one
+abbrev pub ReadBodiesAreApart : Type 0
+ReadBodiesAreApart = OfEachBinding (λ toks b. AllPairs (λ (r s : Range). r.to < s.name) b.functions)

@@ -1,0 +1,39 @@
+// What is true of each text that is read and bound: laws that no caller runs, and that callers' proofs cite.
+ghost use Rattle.read_laws.specs.Laws.{ReadNamesStandInTheText, ReadFaultsStandInTheText, EachReadTokenIsOneName, ReadParameterListsAreInOrder, ReadArgumentListsAreInOrder, ReadBodiesStandInTheText, ReadBodiesAreApart};
+
+use crate::laws::trees_are_of_their_texts;
+
+/// Names, the tokens that name their entities, and faults of binding stand in the text.
+pub fn read_names_stand_in_the_text()
+    ensures names { ReadNamesStandInTheText }
+    ensures faults { ReadFaultsStandInTheText }
+{
+    trees_are_of_their_texts();
+    bind_laws::names_stand_in_the_text();
+}
+
+/// No token is two names.
+pub fn each_read_token_is_one_name()
+    ensures { EachReadTokenIsOneName }
+{
+    trees_are_of_their_texts();
+    bind_laws::each_token_is_one_name();
+}
+
+/// Parameter lists and argument lists stand in order of their names, and each name has one at most.
+pub fn read_lists_stand_in_order()
+    ensures parameters { ReadParameterListsAreInOrder }
+    ensures arguments { ReadArgumentListsAreInOrder }
+{
+    trees_are_of_their_texts();
+    bind_laws::lists_stand_in_order();
+}
+
+/// The body of a function stands behind its name, and before the name of the next function with a body.
+pub fn read_bodies_stand_apart()
+    ensures within { ReadBodiesStandInTheText }
+    ensures apart { ReadBodiesAreApart }
+{
+    trees_are_of_their_texts();
+    bind_laws::bodies_stand_apart();
+}
