@@ -1,0 +1,5 @@
+mod ConditionLemmas
+mod EditedLemmas
+mod MacroLineLemmas
+mod BadLinesLemmas
+mod ItemLemmas

@@ -1,0 +1,4 @@
+-- What the public contracts rest on.
+pub mod Conditions
+pub mod EditedFiles
+pub mod Lines
