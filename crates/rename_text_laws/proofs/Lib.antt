@@ -3,3 +3,4 @@ mod EditedLemmas
 mod MacroLineLemmas
 mod BadLinesLemmas
 mod ItemLemmas
+mod UnitLineLemmas

@@ -40,11 +40,11 @@ pub paste-kept : (r : Renaming) (t : Token) → KeepsToken r t → is_paste (ren
 unfolding is_paste
 paste-kept r t kept = rw (sign-kept r (codes "##") t kept, sign-kept r (codes "%:%:") t kept) refl
 
-open-kept : (r : Renaming) (t : Token) → KeepsToken r t → is_open (renamed r t) ≡ is_open t
+pub open-kept : (r : Renaming) (t : Token) → KeepsToken r t → is_open (renamed r t) ≡ is_open t
 unfolding is_open
 open-kept r t kept = sign-kept r (codes "(") t kept
 
-close-kept : (r : Renaming) (t : Token) → KeepsToken r t → is_close (renamed r t) ≡ is_close t
+pub close-kept : (r : Renaming) (t : Token) → KeepsToken r t → is_close (renamed r t) ≡ is_close t
 unfolding is_close
 close-kept r t kept = sign-kept r (codes ")") t kept
 

@@ -2,3 +2,4 @@
 pub mod Conditions
 pub mod EditedFiles
 pub mod Lines
+pub mod UnitLines

@@ -2,6 +2,7 @@
 ghost use Rattle.rename_text_laws.specs.Conditions.{ConditionsCountAlike};
 ghost use Rattle.rename_text_laws.specs.EditedFiles.{EditedFilesKeepTokens};
 ghost use Rattle.rename_text_laws.specs.Lines.{DefinitionsAreRenamed, ItemsAreRenamed};
+ghost use Rattle.rename_text_laws.specs.UnitLines.{ConditionsStay, ItemTextsAreRenamed, OperandsAreRenamed};
 
 /// A file in which each member of a class is spelled as a name has the old tokens, each with the spelling that
 /// its origins give it, where identifiers alone change, each into an identifier.
@@ -24,4 +25,11 @@ pub fn definitions_are_renamed()
 /// and are spelled as before where they are no identifiers.
 pub fn conditions_count_alike()
     ensures { ConditionsCountAlike }
+{}
+
+/// The same of units: items with their tokens, the operands of `defined` in a condition, and its value.
+pub fn unit_lines_are_renamed()
+    ensures items { ItemTextsAreRenamed }
+    ensures operands { OperandsAreRenamed }
+    ensures values { ConditionsStay }
 {}
