@@ -1,6 +1,5 @@
 // The report `class`: the members of the class that a place names.
-ghost use Rattle.std.specs.Prelude.{◌≡◌, ◌++◌, ℕ, Err, None, Some, false, IfOk, OnOk, slice_get, unwrap_or};
-ghost use Rattle.part_lexer.specs.Lines.{line_column_of};
+ghost use Rattle.std.specs.Prelude.{◌≡◌, ◌++◌, ℕ, Err, None, Some, false, IfOk, OnOk, slice_get};
 ghost use Rattle.include_tree.specs.Faults.{place_of};
 ghost use Rattle.include_tree.specs.KeptFiles.{kept_at};
 ghost use Rattle.ws_core.specs.ClassReport.{IsClassReport, part_line, part_lines, place_text};
@@ -12,7 +11,6 @@ ghost use Rattle.query_report.specs.declared.queries.QueryRefusal.TheVariants.{N
 
 use crate::queries::QueryRefusal;
 use cs_base::{Memory, Part, Place, Pos};
-use include_tree::KeptFile;
 use itoa::Buffer;
 use std::alloc::Global;
 use std::str;
@@ -100,20 +98,8 @@ fn push_part(text: &mut Vec<u8>, a: &Analysis, part: Part) -> Result<(), Memory>
 fn push_position(text: &mut Vec<u8>, a: &Analysis, at: Pos) -> Result<(), Memory>
     ensures { OnOk result (text.new.items ≡ text.old.items ++ place_text (place_at a.now.value.table at)) }
 {
-    match a.file(at.file) {
-        Some(file) => push_place(text, file.path(), line_column(file, at.at)),
-        None => push_place(text, b"<lines>", (at.at / 8 + 1, at.at % 8 + 1)),
-    }
-}
-
-// The line and the column of a character of a file.
-fn line_column(file: &KeptFile, at: u32) -> (u32, u32)
-    ensures { result ≡ unwrap_or (line_column_of file.now.bytes at) (1, 1) }
-{
-    match file.text().line_column(at) {
-        Some(place) => place,
-        None => (1, 1),
-    }
+    let (path, line, column) = a.place(at);
+    push_place(text, path, (line, column))
 }
 
 // Adds a place of this path.

@@ -1,15 +1,10 @@
 // Why a renaming is refused.
-ghost use Rattle.std.specs.Prelude.{◌≡◌, IfSome};
+ghost use Rattle.std.specs.Prelude.{◌≡◌, IfOk, IfSome};
 ghost use Rattle.rename_rules.specs.Renaming.{refused_for};
 ghost use Rattle.rename_edit.specs.Refusals.{refusal_of};
-ghost use Rattle.std.specs.Prelude.{unwrap_or};
-ghost use Rattle.part_lexer.specs.Lines.{line_column_of};
-ghost use Rattle.include_tree.specs.Faults.{place_of as place_with};
 ghost use Rattle.ws_core.specs.Places.{place_at};
-ghost use Rattle.std.specs.Prelude.{IfOk};
 
 use cs_base::{Cause, Memory as NoMemory, Place, Pos, Text};
-use include_tree::KeptFile;
 use rename_rules::Offence;
 use std::alloc::Global;
 use ws_core::Analysis;
@@ -38,35 +33,16 @@ impl From<NoMemory> for RenameRefusal {
     }
 }
 
-// The line and the column of a character of a file.
-fn line_column(file: &KeptFile, at: u32) -> (u32, u32)
-    ensures { result ≡ unwrap_or (line_column_of file.now.bytes at) (1, 1) }
-{
-    match file.text().line_column(at) {
-        Some(place) => place,
-        None => (1, 1),
-    }
-}
-
-// A place of this path.
-fn place_in(alloc: Global, path: &[u8], place: (u32, u32)) -> Result<Place, NoMemory>
-    ensures { IfOk result (λ p. p ≡ place_with path.now place) }
-{
-    Ok(Place {
-        path: Text::new(alloc, path)?,
-        line: place.0,
-        column: place.1,
-    })
-}
-
 // The place of a position.
 fn place_at(alloc: Global, a: &Analysis, at: Pos) -> Result<Place, NoMemory>
     ensures { IfOk result (λ p. p ≡ place_at a.now.value.table at) }
 {
-    match a.file(at.file) {
-        Some(file) => place_in(alloc, file.path(), line_column(file, at.at)),
-        None => place_in(alloc, b"<lines>", (at.at / 8 + 1, at.at % 8 + 1)),
-    }
+    let (path, line, column) = a.place(at);
+    Ok(Place {
+        path: Text::new(alloc, path)?,
+        line,
+        column,
+    })
 }
 
 /// The refusal for an offence.

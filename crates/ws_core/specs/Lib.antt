@@ -8,6 +8,7 @@ pub mod FileTokens
 pub mod Parts
 pub mod Spellings
 pub mod Naming
+pub mod Placing
 pub mod ClassReport
 pub mod Classes
 pub mod Analysed

@@ -2,6 +2,7 @@
 ghost use Rattle.std.specs.Prelude.{◌≡◌, ◌≤◌, ◌-◌, Some, IfOk, IfSome, length, slice_get, option_copied};
 ghost use Rattle.std.specs.Option.{option_map};
 ghost use Rattle.cs_base.specs.Answer.{Gives};
+ghost use Rattle.include_tree.specs.Faults.{place_of};
 ghost use Rattle.include_tree.specs.Files.{Table, source_of};
 ghost use Rattle.include_tree.specs.KeptFiles.{kept_at};
 ghost use Rattle.ws_core.specs.Analysis.{analysis_of};
@@ -11,7 +12,8 @@ ghost use Rattle.ws_core.specs.Carrying.{IsOver};
 ghost use Rattle.ws_core.specs.Classes.{AreItsClasses};
 ghost use Rattle.ws_core.specs.Naming.{Names};
 ghost use Rattle.ws_core.specs.Parts.{AreFirsts, AreMembers, Holds, IsPart};
-ghost use Rattle.ws_core.specs.Places.{is_read_only};
+ghost use Rattle.ws_core.specs.Places.{is_read_only, place_at};
+ghost use Rattle.ws_core.specs.Placing.{byte_at, position_at};
 ghost use Rattle.ws_core.specs.Spellings.{spelling_of};
 
 use crate::accepted::Accepted;
@@ -23,6 +25,7 @@ use crate::linking::join_links;
 use crate::listed::Lists;
 use crate::marks::Marks;
 use crate::naming::part_named;
+use crate::placing::{byte, place_in_one, position};
 use crate::processed::processed;
 use crate::read_only::is_read_only_path;
 use crate::spelling::spelling;
@@ -173,6 +176,30 @@ impl Analysis {
         ensures { option_copied result ≡ kept_at self.now.value.table number }
     {
         self.accepted.file(number)
+    }
+
+    /// The path, the line and the column of a position. Those of a position in the pseudo file of lines are in
+    /// `<lines>`, as are those of a number without a kept file. Takes no memory.
+    pub fn place(&self, at: Pos) -> (&[u8], u32, u32)
+        ensures { place_of result.0.now (result.1, result.2) ≡ place_at self.now.value.table at }
+    {
+        place_in_one(self.accepted.file(at.file), at)
+    }
+
+    /// The byte of its file at which the character of a position begins: none in the pseudo file of lines, for a
+    /// number without a kept file, and past the last character. Takes no memory.
+    pub fn byte(&self, at: Pos) -> Option<u32>
+        ensures { result ≡ byte_at self.now.value.table at }
+    {
+        byte(&self.accepted, at)
+    }
+
+    /// The position at a place: a character of the kept file of the path, or a position in the pseudo file of
+    /// lines. Lines and columns count from 1. Takes no memory.
+    pub fn position(&self, path: &str, line: u32, column: u32) -> Option<Pos>
+        ensures { result ≡ position_at self.now.value.table path.now line column }
+    {
+        position(&self.accepted, path.as_bytes(), line, column)
     }
 
     /// Whether the number is that of a pseudo file, or of a file whose path begins with a read-only prefix.

@@ -33,6 +33,7 @@ mod number_order;
 mod occurrences;
 mod part_lists;
 mod place_order;
+mod placing;
 mod preprocessing;
 mod processed;
 mod read_only;

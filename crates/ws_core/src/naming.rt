@@ -25,8 +25,8 @@ fn is_path(a: &Accepted, number: u32, path: &[u8]) -> bool
     }
 }
 
-// The kept file of a path.
-fn file_named<'a>(a: &'a Accepted, path: &[u8]) -> Option<&'a KeptFile>
+/// The kept file of a path.
+pub(crate) fn file_named<'a>(a: &'a Accepted, path: &[u8]) -> Option<&'a KeptFile>
     ensures { option_copied result ≡ file_named path.now 0 a.now.table }
 {
     for number in 0..a.files() {
