@@ -1,4 +1,4 @@
--- Answers to a renaming have one status: a place names one part, the members of its class stand in one list, and a
+-- Answers to a renaming are alike: a place names one part, the members of its class stand in one list, and a
 -- reason stands against the renaming or none does.
 use Rattle.std.proofs.Common.{◌≡◌, ℕ, zero, suc, Bool, true, false, List, [], ◌∷◌, Option, None, Some, Result, Ok, Err, refl, ap, sym, subst, ◌∙◌}
 use Rattle.std.specs.Prelude.{slice_get}
@@ -21,7 +21,6 @@ use Rattle.ws_core.proofs.ListingLemmas.{part_cmp-total}
 use Rattle.rename_rules.specs.First.{IsAmong, offences_of}
 use Rattle.rename_rules.specs.Renaming.{Refusal, IsRenamed, IsClassRenamed, IsNamedRenamed, IsRenaming, bad_name, no_name}
 use Rattle.rename_rules.proofs.ClassLemmas.{part_once}
-use Rattle.cscout_run.specs.Answer.{renaming_answer}
 
 -- ---- lists in strict order
 
@@ -88,7 +87,7 @@ one_list a part ms ns these those =
 -- ---- a place
 
 -- a place names one part, or nothing
-one_named : (a : AnalysisValue) (path : List ℕ) (line column : ℕ) (m n : Option Part) → Names a path line column m
+pub one_named : (a : AnalysisValue) (path : List ℕ) (line column : ℕ) (m n : Option Part) → Names a path line column m
     → Names a path line column n → n ≡ m
 one_named a path line column None None p q = refl
 one_named a path line column None (Some part) p q = absurd (none-some q.0 (sym p ∙ q.1))
@@ -101,37 +100,37 @@ one_named a path line column (Some part) (Some other) p q =
 -- ---- answers
 
 -- two answers: both are edits, or both are refusals
-abbrev AreAlike : Result (List Edit) Refusal → Result (List Edit) Refusal → Type 0
-AreAlike (Ok es) (Ok fs) = es ≡ fs
-AreAlike (Err r) (Err s) = Unit {0}
-AreAlike _ _ = ⊥
+abbrev pub ArePlansAlike : Result (List Edit) Refusal → Result (List Edit) Refusal → Type 0
+ArePlansAlike (Ok es) (Ok fs) = es ≡ fs
+ArePlansAlike (Err r) (Err s) = Unit {0}
+ArePlansAlike _ _ = ⊥
 
 none_stands : {X : Type 0} (xs : List X) (x : X) → xs ≡ [] → IsAmong xs x → ⊥
 none_stands xs x none at = none-some x (subst (λ ys. slice_get ys at.0 ≡ Some x) none at.1)
 
 renamed_alike : (a : AnalysisValue) (members : List Part) (name : List ℕ) (r s : Result (List Edit) Refusal) → IsRenamed a members name r
-    → IsRenamed a members name s → AreAlike r s
+    → IsRenamed a members name s → ArePlansAlike r s
 renamed_alike a members name (Ok es) (Ok fs) p q = p.1 ∙ sym q.1
 renamed_alike a members name (Ok es) (Err s) p q = absurd (none_stands (offences_of a members name) q.0 p.0 q.1.0)
 renamed_alike a members name (Err r) (Ok fs) p q = absurd (none_stands (offences_of a members name) p.0 q.0 p.1.0)
 renamed_alike a members name (Err r) (Err s) p q = tt
 
 class_alike : (a : AnalysisValue) (part : Part) (name : List ℕ) (r s : Result (List Edit) Refusal) → IsClassRenamed a part name r
-    → IsClassRenamed a part name s → AreAlike r s
+    → IsClassRenamed a part name s → ArePlansAlike r s
 class_alike a part name r s p q =
     renamed_alike a p.members name r s p.renamed
     (subst (λ (ms : List Part). IsRenamed a ms name s) (one_list a part q.members p.members q.are_members p.are_members) q.renamed)
 
-both_refused : (r s : Result (List Edit) Refusal) (e f : Refusal) → r ≡ Err e → s ≡ Err f → AreAlike r s
+both_refused : (r s : Result (List Edit) Refusal) (e f : Refusal) → r ≡ Err e → s ≡ Err f → ArePlansAlike r s
 both_refused r s e f p q = rw (p, q) tt
 
 named_alike : (a : AnalysisValue) (name : List ℕ) (r s : Result (List Edit) Refusal) (part : Option Part) → IsNamedRenamed a name r part
-    → IsNamedRenamed a name s part → AreAlike r s
+    → IsNamedRenamed a name s part → ArePlansAlike r s
 named_alike a name r s None p q = both_refused r s no_name no_name p q
 named_alike a name r s (Some part) p q = class_alike a part name r s p q
 
 places_alike : (a : AnalysisValue) (path : List ℕ) (line column : ℕ) (name : List ℕ) (r s : Result (List Edit) Refusal) (good : Bool)
-    → is_identifier_text name ≡ good → IsRenaming a path line column name r → IsRenaming a path line column name s → AreAlike r s
+    → is_identifier_text name ≡ good → IsRenaming a path line column name r → IsRenaming a path line column name s → ArePlansAlike r s
 places_alike a path line column name r s false is p q = both_refused r s bad_name bad_name (p.bad_name is) (q.bad_name is)
 places_alike a path line column name r s true is p q =
     let m = p.named is in
@@ -140,12 +139,5 @@ places_alike a path line column name r s true is p q =
 
 -- all answers to a renaming are alike
 pub renamings_alike : (a : AnalysisValue) (path : List ℕ) (line column : ℕ) (name : List ℕ) (r s : Result (List Edit) Refusal)
-    → IsRenaming a path line column name r → IsRenaming a path line column name s → AreAlike r s
+    → IsRenaming a path line column name r → IsRenaming a path line column name s → ArePlansAlike r s
 renamings_alike a path line column name r s p q = places_alike a path line column name r s (is_identifier_text name) refl p q
-
--- so they have one status
-pub statuses_alike : (r s : Result (List Edit) Refusal) → AreAlike r s → (renaming_answer r).status ≡ (renaming_answer s).status
-statuses_alike (Ok es) (Ok fs) h = refl
-statuses_alike (Err r) (Err s) h = refl
-statuses_alike (Ok es) (Err s) h = absurd h
-statuses_alike (Err r) (Ok fs) h = absurd h

@@ -7,14 +7,19 @@ use Rattle.ws_file.specs.Workspace.{WorkspaceValue}
 use Rattle.ws_file.specs.Reading.{WsFault}
 use Rattle.include_tree.specs.Files.{source_of}
 use Rattle.ws_core.specs.Analysis.{AnalysisValue, analysis_of}
-use Rattle.ws_core.specs.ClassReport.{IsClassReport}
+use Rattle.ws_core.specs.ClassReport.{IsClassReport, PrintsClass, part_lines}
+use Rattle.ws_core.specs.Parts.{AreMembers}
+use Rattle.cs_base.specs.declared.positions.Part.{Part}
+use Rattle.std.proofs.lemmas.Option.{same_Some}
+use Rattle.rename_rules.specs.Renaming.{Refusal}
+use Rattle.cscout_run.specs.Alike.{AreAlike}
 use Rattle.ws_core.specs.Texts.{UnitFault}
 use Rattle.cscout_run.specs.declared.status.Status.{Status}
 use Rattle.cscout_run.specs.declared.status.Status.TheVariants.{Done, Refused, Usage, Workspace, ReadFault, WriteFault, Memory}
 use Rattle.cscout_run.specs.declared.stops.Stop.{Stop}
 use Rattle.cscout_run.specs.declared.stops.Stop.TheVariants as stop
 use Rattle.cscout_run.specs.Request.{RequestValue, RenameValue, ClassValue, help_asked, version_asked, renaming_asked, tokens_asked, skipped_asked, class_asked, asked}
-use Rattle.cscout_run.specs.Answer.{Answer, IsAnswer, IsAnswerTo, IsRequestAnswer, IsClassAnswer, IsRenameAnswer, IsOverWorkspace, answer_of, class_answer, stopped, workspace_at}
+use Rattle.cscout_run.specs.Answer.{Answer, IsAnswer, IsAnswerTo, IsRequestAnswer, IsClassAnswer, IsRenameAnswer, IsOverWorkspace, answer_of, class_answer, renaming_answer, stopped, workspace_at}
 use Rattle.cscout_run.specs.Message.{usage_line}
 use Rattle.cscout_run.specs.Outcome.{World, StatusIs, HasCauses, IsComplete, ShowsAnswer, Tells, FailedPut, Unmoved}
 use Rattle.cscout_run.specs.Steps.{Prepares}
@@ -22,7 +27,7 @@ use Rattle.cscout_run.specs.declared.preparing.Ready.{Ready}
 use Rattle.edit_put.specs.Applying.{Applies}
 use Rattle.edit_put.specs.declared.applying.Applied.TheVariants as applied
 use Rattle.cscout_run.specs.Stopping.{Stops, StopReads, status_of, line_of}
-use Rattle.cscout_run.proofs.AlikeLemmas.{renamings_alike, statuses_alike}
+use Rattle.cscout_run.proofs.AlikeLemmas.{ArePlansAlike, one_list, one_named, renamings_alike}
 
 -- what holds of every value holds of one that is told
 pub if_told : {A : Type 0} (o : Option A) (P : A → Type 0) → ((x : A) → P x) → IfSome o P
@@ -45,59 +50,79 @@ pub answer-request : (words : List (List ℕ)) (files : FileMap) (request : Requ
 unfolding IsAnswer
 answer-request words files request a some is = rw some is
 
--- ---- answers to the same words have the same status
+-- ---- answers to the same words are alike
 
-same-status : (x a b : Answer) → x ≡ a → x ≡ b → a.status ≡ b.status
-same-status x a b p q = ap (λ (c : Answer). c.status) (sym p ∙ q)
+same-answer : (x a b : Answer) → x ≡ a → x ≡ b → AreAlike a b
+same-answer x a b p q = record { status = ap (λ (c : Answer). c.status) (sym p ∙ q); same = λ other. sym p ∙ q }
+
+-- two lists of the members of the class that one place names are told alike
+one_text : (q : ClassValue) (value : AnalysisValue) (text text' : List ℕ) → PrintsClass value q.path q.line q.column text
+    → PrintsClass value q.path q.line q.column text' → text ≡ text'
+one_text q value text text' r r' =
+    let part : r'.part ≡ r.part = same_Some r'.part r.part (one_named value q.path q.line q.column (Some r.part) (Some r'.part) r.names r'.names) in
+    let those : AreMembers value r.part r'.members = subst (λ (p : Part). AreMembers value p r'.members) part r'.are_members in
+    r.lines ∙ ap (part_lines value) (one_list value r.part r.members r'.members r.are_members those) ∙ sym r'.lines
 
 told-alike : (q : ClassValue) (value : AnalysisValue) (told told' : Option (List ℕ)) (a b : Answer)
     → IsClassReport value q.path q.line q.column told → IsClassReport value q.path q.line q.column told' → class_answer told ≡ a
-    → class_answer told' ≡ b → a.status ≡ b.status
-told-alike q value None None a b report report' is is' = same-status (class_answer None) a b is is'
+    → class_answer told' ≡ b → AreAlike a b
+told-alike q value None None a b report report' is is' = same-answer (class_answer None) a b is is'
 told-alike q value (Some text) (Some text') a b report report' is is' =
-    sym (ap (λ (c : Answer). c.status) is) ∙ ap (λ (c : Answer). c.status) is'
+    same-answer (class_answer (Some text)) a b is (ap (λ (t : List ℕ). class_answer (Some t)) (one_text q value text text' report report') ∙ is')
 told-alike q value None (Some text) a b report report' is is' =
     let other : None ≡ Some report'.names.0 = sym report ∙ report'.names.1 in cc
 told-alike q value (Some text) None a b report report' is is' =
     let other : None ≡ Some report.names.0 = sym report' ∙ report.names.1 in cc
 
 class-alike : (q : ClassValue) (analysed : Result AnalysisValue UnitFault) (a b : Answer) → IsClassAnswer q analysed a
-    → IsClassAnswer q analysed b → a.status ≡ b.status
+    → IsClassAnswer q analysed b → AreAlike a b
 class-alike q (Ok value) a b p p' = told-alike q value p.0 p'.0 a b p.1 p'.1 p.2 p'.2
-class-alike q (Err fault) a b p p' = same-status _ a b p p'
+class-alike q (Err fault) a b p p' = same-answer _ a b p p'
+
+planned-alike : (r s : Result (List Edit) Refusal) (a b : Answer) → ArePlansAlike r s → renaming_answer r ≡ a → renaming_answer s ≡ b → AreAlike a b
+planned-alike (Ok es) (Ok fs) a b alike is is' =
+    same-answer (renaming_answer (Ok es)) a b is (ap (λ (edits : List Edit). renaming_answer (Ok edits)) alike ∙ is')
+planned-alike (Err r) (Err s) a b alike is is' = record {
+  status = sym (ap (λ (c : Answer). c.status) is) ∙ ap (λ (c : Answer). c.status) is';
+  same = λ other. absurd (other (sym (ap (λ (c : Answer). c.status) is)));
+}
+planned-alike (Ok es) (Err s) a b alike is is' = absurd alike
+planned-alike (Err r) (Ok fs) a b alike is is' = absurd alike
 
 rename-alike : (q : RenameValue) (analysed : Result AnalysisValue UnitFault) (a b : Answer) → IsRenameAnswer q analysed a
-    → IsRenameAnswer q analysed b → a.status ≡ b.status
+    → IsRenameAnswer q analysed b → AreAlike a b
 rename-alike q (Ok value) a b p p' =
-    let alike = renamings_alike value q.path q.line q.column q.name p.0 p'.0 p.1 p'.1 in
-    sym (ap (λ (c : Answer). c.status) p.2) ∙ statuses_alike p.0 p'.0 alike ∙ ap (λ (c : Answer). c.status) p'.2
-rename-alike q (Err fault) a b p p' = same-status _ a b p p'
+    planned-alike p.0 p'.0 a b (renamings_alike value q.path q.line q.column q.name p.0 p'.0 p.1 p'.1) p.2 p'.2
+rename-alike q (Err fault) a b p p' = same-answer _ a b p p'
 
 over-alike : (ws : List ℕ) (IsNext : WorkspaceValue → Answer → Type 0) (read : Option (Result WorkspaceValue WsFault)) (a b : Answer)
-    → ((w : WorkspaceValue) → IsNext w a → IsNext w b → a.status ≡ b.status) → IsOverWorkspace ws IsNext read a
-    → IsOverWorkspace ws IsNext read b → a.status ≡ b.status
-over-alike ws IsNext None a b next p p' = same-status _ a b p p'
+    → ((w : WorkspaceValue) → IsNext w a → IsNext w b → AreAlike a b) → IsOverWorkspace ws IsNext read a
+    → IsOverWorkspace ws IsNext read b → AreAlike a b
+over-alike ws IsNext None a b next p p' = same-answer _ a b p p'
 over-alike ws IsNext (Some (Ok w)) a b next p p' = next w p p'
-over-alike ws IsNext (Some (Err fault)) a b next p p' = same-status _ a b p p'
+over-alike ws IsNext (Some (Err fault)) a b next p p' = same-answer _ a b p p'
 
 request-alike : (files : FileMap) (request : Option RequestValue) (a b : Answer) → IsAnswerTo files request a → IsAnswerTo files request b
-    → a.status ≡ b.status
-request-alike files None a b p p' = same-status _ a b p p'
-request-alike files (Some help_asked) a b p p' = same-status _ a b p p'
-request-alike files (Some version_asked) a b p p' = same-status _ a b p p'
+    → AreAlike a b
+request-alike files None a b p p' = same-answer _ a b p p'
+request-alike files (Some help_asked) a b p p' = same-answer _ a b p p'
+request-alike files (Some version_asked) a b p p' = same-answer _ a b p p'
 request-alike files (Some (renaming_asked q)) a b p p' =
     over-alike q.ws (λ w. IsRenameAnswer q (analysis_of (source_of files) w)) (workspace_at q.ws files) a b
     (λ w. rename-alike q (analysis_of (source_of files) w) a b) p p'
-request-alike files (Some (tokens_asked q)) a b p p' = same-status _ a b p p'
-request-alike files (Some (skipped_asked ws)) a b p p' = same-status _ a b p p'
+request-alike files (Some (tokens_asked q)) a b p p' = same-answer _ a b p p'
+request-alike files (Some (skipped_asked ws)) a b p p' = same-answer _ a b p p'
 request-alike files (Some (class_asked q)) a b p p' =
     over-alike q.ws (λ w. IsClassAnswer q (analysis_of (source_of files) w)) (workspace_at q.ws files) a b
     (λ w. class-alike q (analysis_of (source_of files) w) a b) p p'
 
+pub answers_alike : (words : List (List ℕ)) (files : FileMap) (a b : Answer) → IsAnswer words files a → IsAnswer words files b → AreAlike a b
+unfolding IsAnswer
+answers_alike words files a b p p' = request-alike files (asked words) a b p p'
+
 pub answer-alike : (words : List (List ℕ)) (files : FileMap) (a b : Answer) → IsAnswer words files a → IsAnswer words files b
     → a.status ≡ b.status
-unfolding IsAnswer
-answer-alike words files a b p p' = request-alike files (asked words) a b p p'
+answer-alike words files a b p p' = (answers_alike words files a b p p').status
 
 -- ---- early ends
 

@@ -6,6 +6,7 @@ pub mod Answer
 pub mod Telling
 pub mod Outcome
 pub mod Promise
+pub mod Alike
 -- What inner functions promise each other.
 pub mod Asking
 pub mod Stopping

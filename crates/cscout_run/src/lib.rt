@@ -11,6 +11,7 @@
 
 mod help;
 mod host;
+mod laws;
 mod preparing;
 mod reporting;
 mod requests;
@@ -21,6 +22,7 @@ mod top;
 mod workspace_files;
 
 pub use host::{HostFiles, HostSink};
+pub use laws::words_and_files_decide;
 pub use status::Status;
 pub use telling::tell;
 pub use top::run;
