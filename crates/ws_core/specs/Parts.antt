@@ -5,6 +5,7 @@ use Rattle.std.specs.declared.cmp.Ordering.{Ordering}
 use Rattle.std.specs.declared.cmp.Ordering.TheVariants.{Less}
 use Rattle.cs_base.specs.declared.positions.Part.{Part}
 use Rattle.cs_base.specs.declared.positions.Pos.{Pos}
+use Rattle.include_tree.specs.KeptFiles.{kept_at}
 use Rattle.eclass_map.specs.Chain.{Chain}
 use Rattle.eclass_map.specs.ClassTable.{LinkedBy}
 use Rattle.eclass_map.specs.Positions.{along, holds}
@@ -21,6 +22,10 @@ AreSame a p q = Chain (LinkedBy (linked_pairs a)) p q
 -- a character of a file token
 abbrev pub IsCharacter : AnalysisValue → Pos → Type 0
 IsCharacter a p = (token : Part) × IsFileToken a token × (holds token p ≡ true)
+
+-- Each that stands in no kept file stands in the pseudo file of lines.
+abbrev pub StandInFiles : AnalysisValue → Type 0
+StandInFiles a = (p : Pos) → IsCharacter a p → kept_at a.table p.file ≡ None → p.file ≡ 0
 
 -- the position begins a file token
 abbrev pub Begins : AnalysisValue → Pos → Type 0

@@ -2,6 +2,7 @@
 ghost use Rattle.std.specs.Prelude.{◌≡◌, ◌≤◌, length, option_copied, slice_get};
 ghost use Rattle.std.specs.Option.{option_map};
 ghost use Rattle.include_tree.specs.KeptFiles.{kept_at};
+ghost use Rattle.include_tree.specs.Laws.{AreText, HasEachOnce};
 
 use c99_tree::Tree;
 use include_tree::{Cache, KeptFile, UnitText};
@@ -108,9 +109,12 @@ impl Accepted {
         self.units.as_slice()
     }
 
-    /// How many numbers of files are given: those from 0 to before this one.
+    /// How many numbers of files are given: those from 0 to before this one. Each is that of a path of its own,
+    /// which is text.
     pub(crate) fn files(&self) -> u32
-        ensures { result ≡ length self.now.table }
+        ensures answer { result ≡ length self.now.table }
+        ensures once { HasEachOnce self.now.table }
+        ensures text { AreText self.now.table }
     {
         self.cache.numbers()
     }

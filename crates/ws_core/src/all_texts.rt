@@ -1,6 +1,7 @@
 // The units of a workspace that are preprocessed.
 ghost use Rattle.std.specs.Prelude.{◌≡◌, ◌≤◌, ◌-◌, Some, length, slice_get, option_copied};
 ghost use Rattle.include_tree.specs.KeptFiles.{kept_at};
+ghost use Rattle.include_tree.specs.Laws.{AreText, HasEachOnce};
 
 use include_tree::{Cache, KeptFile, UnitText};
 use std::marker::Model;
@@ -50,9 +51,12 @@ impl Texts {
         &self.texts[unit as usize - 1]
     }
 
-    /// How many numbers of files are given: those from 0 to before this one.
+    /// How many numbers of files are given: those from 0 to before this one. Each is that of a path of its own,
+    /// which is text. Takes no memory.
     pub fn files(&self) -> u32
-        ensures { result ≡ length self.now.table }
+        ensures answer { result ≡ length self.now.table }
+        ensures once { HasEachOnce self.now.table }
+        ensures text { AreText self.now.table }
     {
         self.cache.numbers()
     }

@@ -5,13 +5,14 @@ ghost use Rattle.cs_base.specs.Answer.{Gives};
 ghost use Rattle.include_tree.specs.Faults.{place_of};
 ghost use Rattle.include_tree.specs.Files.{Table, source_of};
 ghost use Rattle.include_tree.specs.KeptFiles.{kept_at};
+ghost use Rattle.include_tree.specs.Laws.{AreText, HasEachOnce};
 ghost use Rattle.ws_core.specs.Analysis.{analysis_of};
 ghost use Rattle.ws_core.specs.AnalysisAnswers.{IsAnalysedOr};
 ghost use Rattle.ws_core.specs.Answers.{fault_of, ReadCounts};
 ghost use Rattle.ws_core.specs.Carrying.{IsOver};
 ghost use Rattle.ws_core.specs.Classes.{AreItsClasses};
 ghost use Rattle.ws_core.specs.Naming.{Names};
-ghost use Rattle.ws_core.specs.Parts.{AreFirsts, AreMembers, Holds, IsPart};
+ghost use Rattle.ws_core.specs.Parts.{AreFirsts, AreMembers, Holds, IsPart, StandInFiles};
 ghost use Rattle.ws_core.specs.Places.{is_read_only, place_at};
 ghost use Rattle.ws_core.specs.Placing.{byte_at, position_at};
 ghost use Rattle.ws_core.specs.Spellings.{spelling_of};
@@ -163,9 +164,14 @@ impl Analysis {
         self.accepted.units()[unit as usize - 1].bound()
     }
 
-    /// How many numbers of files are given: those from 0 to before this one.
+    /// How many numbers of files are given: those from 0 to before this one. Each is that of a path of its own,
+    /// which is text; a character of a file token that stands in no kept file stands in the pseudo file of lines.
+    /// Takes no memory.
     pub fn files(&self) -> u32
-        ensures { result ≡ length self.now.value.table }
+        ensures answer { result ≡ length self.now.value.table }
+        ensures once { HasEachOnce self.now.value.table }
+        ensures text { AreText self.now.value.table }
+        ensures lines { StandInFiles self.now.value }
     {
         self.accepted.files()
     }

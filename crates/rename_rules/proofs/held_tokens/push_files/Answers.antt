@@ -9,10 +9,10 @@ pub loop-file-preserved : goal.loop-file-preserved
 loop-file-preserved c =
     held_files_more (holds_member c.args.members.now) c.args.a.now.value.table c.loop-file.file c.loop-file.out.items c.push_numbered.new.out.items
     (c.args.out.now.items ++ filter (holds_member c.args.members.now) (table_tokens 0 c.args.a.now.value.table))
-    (omega (arith, c.files-file-end.ensures)) c.loop-file.invariant c.in_ok-push_numbered.ensures
+    (omega (arith, c.files-file-end.ensures.answer)) c.loop-file.invariant c.in_ok-push_numbered.ensures
 
 pub returns : goal.returns
 returns c =
     held_files_all (holds_member c.args.members.now) c.args.a.now.value.table c.loop-file.file c.loop-file.out.items
     (c.args.out.now.items ++ filter (holds_member c.args.members.now) (table_tokens 0 c.args.a.now.value.table))
-    (omega (arith, c.files-file-end.ensures)) c.loop-file.invariant
+    (omega (arith, c.files-file-end.ensures.answer)) c.loop-file.invariant

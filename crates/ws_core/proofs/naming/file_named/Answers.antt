@@ -9,7 +9,7 @@ returns-then-is_path c =
     let table = c.args.a.now.table in
     let path = c.args.path.now in
     let n = c.loop-number.number in
-    let within : n < length table = omega (arith, c.loop-number-test.true, c.files-number-end.ensures) in
+    let within : n < length table = omega (arith, c.loop-number-test.true, c.files-number-end.ensures.answer) in
     let step = named_here path table n c.is_path.result within c.is_path.ensures in
     let chosen = ap (λ (b : Bool). cond b (kept_at table n) (file_named path (n + 1) (drop (n + 1) table))) c.if-is_path.true in
     c.file.ensures ∙ sym (c.loop-number.invariant ∙ step ∙ chosen)
@@ -19,12 +19,12 @@ loop-number-preserved c =
     let table = c.args.a.now.table in
     let path = c.args.path.now in
     let n = c.loop-number.number in
-    let within : n < length table = omega (arith, c.loop-number-test.true, c.files-number-end.ensures) in
+    let within : n < length table = omega (arith, c.loop-number-test.true, c.files-number-end.ensures.answer) in
     let step = named_here path table n c.is_path.result within c.is_path.ensures in
     let passed = ap (λ (b : Bool). cond b (kept_at table n) (file_named path (n + 1) (drop (n + 1) table))) c.if-is_path.false in
     c.loop-number.invariant ∙ step ∙ passed
 
 pub returns : goal.returns
 returns c =
-    let past : length c.args.a.now.table ≤ c.loop-number.number = omega (arith, c.loop-number-test.false, c.files-number-end.ensures) in
+    let past : length c.args.a.now.table ≤ c.loop-number.number = omega (arith, c.loop-number-test.false, c.files-number-end.ensures.answer) in
     sym (c.loop-number.invariant ∙ named_past c.args.path.now c.args.a.now.table c.loop-number.number past)
