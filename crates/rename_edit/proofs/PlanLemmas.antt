@@ -1,20 +1,12 @@
 -- What is answered for a place, by what is answered for a class.
-use Rattle.std.proofs.Common.{◌≡◌, ℕ, true, false, List, Option, Some, None, Result, Ok, Err, refl, sym, ◌∙◌}
+use Rattle.std.proofs.Common.{◌≡◌, ℕ, true, false, List, Option, Some, None, Result, Ok, Err, sym, ◌∙◌}
 use Rattle.std.specs.Prelude.{IfSome}
-use Rattle.std.specs.Ordering.{is_lt}
-use Rattle.std.specs.declared.cmp.Ordering.{Ordering}
-use Rattle.std.specs.declared.cmp.Ordering.TheVariants.{Less, Equal, Greater}
 use Rattle.cs_base.specs.declared.positions.Part.{Part}
 use Rattle.cs_base.specs.Edit.{Edit}
 use Rattle.part_lexer.specs.Spelling.{is_identifier_text}
 use Rattle.ws_core.specs.Analysis.{AnalysisValue}
 use Rattle.ws_core.specs.Naming.{Names}
 use Rattle.rename_rules.specs.Renaming.{GivesOne, IsNamedRenamed, IsRenaming, Refusal}
-
-pub not_less : (o : Ordering) → (o ≡ Less → ⊥) → is_lt o ≡ false
-not_less Less other = absurd (other refl)
-not_less Equal other = refl
-not_less Greater other = refl
 
 if_some : {F : Type 0} (o : Option F) (P Q : F → Type 0) → ((x : F) → P x → Q x) → IfSome o P → IfSome o Q
 if_some None P Q f h = tt

@@ -1,7 +1,9 @@
 // The edits of the files that hold members of a class.
-ghost use Rattle.std.specs.Prelude.{◌≡◌, ◌++◌, ◌∷◌, [], IfOk, Some, length, slice_get};
+ghost use Rattle.std.specs.Prelude.{◌≡◌, ◌++◌, ◌∷◌, [], IfOk, IsTrue, IsUtf8, Some, length, slice_get};
 ghost use Rattle.cs_base.specs.Edit.{edit, comes_last};
+ghost use Rattle.include_tree.specs.Laws.{AreText};
 ghost use Rattle.part_respell.specs.Order.{AreInOrder};
+ghost use Rattle.rename_edit.specs.Order.{AreByPath, IsNext};
 ghost use Rattle.rename_rules.specs.Runs.{edit_of, edits_of, new_bytes, AreApart};
 ghost use Rattle.cs_base.specs.declared.positions.Part.{Part as APart};
 
@@ -10,27 +12,11 @@ use include_tree::KeptFile;
 use part_respell::respell;
 use rename_rules::run_length;
 use std::alloc::Global;
-use std::cmp::Ordering;
-use std::str;
 use ws_core::Analysis;
 
 const MOST_OF_ALL: usize = 1 << 25;
 
-// Whether a path stands behind those of the edits.
-fn comes_last(edits: &Edits, path: &[u8]) -> bool
-    ensures { result ≡ comes_last path.now edits.now }
-{
-    let count = edits.len();
-    if count == 0 {
-        return true;
-    }
-    match edits.path(count - 1).cmp(path) {
-        Ordering::Less => true,
-        _ => false,
-    }
-}
-
-// One edit more. Paths are text and stand in order, which is tested.
+// One edit more.
 fn pushed(
     alloc: Global,
     edits: Edits,
@@ -38,19 +24,16 @@ fn pushed(
     bytes: Vec<u8>,
     count: u32,
 ) -> Result<Edits, Memory>
+    requires last { IsTrue (comes_last path.now edits) }
+    requires text { IsUtf8 path.now }
     ensures { IfOk result (λ e. e ≡ edits ++ edit path.now bytes.items count ∷ []) }
 {
-    if !comes_last(&edits, path) || edits.len() == u32::MAX {
+    if edits.len() == u32::MAX {
         return Err(Memory);
     }
-    match str::from_utf8(path) {
-        Ok(text) => {
-            let mut edits = edits;
-            edits.push(Text::new(alloc, text.as_bytes())?, bytes, count)?;
-            Ok(edits)
-        }
-        Err(_) => Err(Memory),
-    }
+    let mut edits = edits;
+    edits.push(Text::new(alloc, path)?, bytes, count)?;
+    Ok(edits)
 }
 
 // The edits with that of one more file, whose members these are.
@@ -61,7 +44,9 @@ fn with_file(
     name: &[u8],
     edits: Edits,
 ) -> Result<Edits, Memory>
-    requires { AreInOrder file.now.number 0 run.now }
+    requires order { AreInOrder file.now.number 0 run.now }
+    requires last { IsTrue (comes_last file.now.path edits) }
+    requires text { IsUtf8 file.now.path }
     ensures { IfOk result (λ e. e ≡ edits ++ edit file.now.path (new_bytes name.now run.now file.now) (length run.now) ∷ []) }
 {
     let number = file.number();
@@ -92,7 +77,8 @@ fn with_run(
     name: &[u8],
     edits: Edits,
 ) -> Result<Edits, Memory>
-    requires { (m : APart) → slice_get run.now 0 ≡ Some m → AreInOrder m.start.file 0 run.now }
+    requires order { (m : APart) → slice_get run.now 0 ≡ Some m → AreInOrder m.start.file 0 run.now }
+    requires next { IsNext a.now.value.table edits run.now }
     ensures { IfOk result (λ e. e ≡ edits ++ edit_of a.now.value name.now run.now) }
 {
     match run {
@@ -112,7 +98,9 @@ pub(crate) fn edit_files(
     members: &[Part],
     name: &[u8],
 ) -> Result<Edits, Memory>
-    requires { AreApart members.now }
+    requires apart { AreApart members.now }
+    requires by_path { AreByPath a.now.value.table members.now }
+    requires text { AreText a.now.value.table }
     ensures { IfOk result (λ e. e ≡ edits_of a.now.value members.now name.now) }
 {
     let mut edits = Edits::new(alloc);

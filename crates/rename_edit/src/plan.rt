@@ -3,6 +3,7 @@ ghost use Rattle.std.specs.Prelude.{◌≡◌, None, IfOk};
 ghost use Rattle.rename_rules.specs.Class.{IsClass};
 ghost use Rattle.rename_rules.specs.First.{member_offences, offences_of, spelling_offences, FirstThen, IsFirst};
 ghost use Rattle.rename_rules.specs.Renaming.{GivesOne, IsClassRenamed, IsRenamed, IsRenaming};
+ghost use Rattle.rename_rules.specs.Runs.{edits_of};
 ghost use Rattle.rename_rules.specs.Tokens.{holders};
 ghost use Rattle.ws_core.specs.Parts.{IsPart};
 ghost use Rattle.rename_edit.specs.Refusals.{refusal_of};
@@ -64,8 +65,23 @@ fn plan_class(
 {
     match first_offence(alloc, a, members, number, name)? {
         Some(offence) => Err(refused(alloc, a, offence)),
-        None => Ok(edit_files(alloc, a, members, name)?),
+        None => Ok(class_edits(alloc, a, members, number, name)?),
     }
+}
+
+// The edits of a class against which nothing stands.
+fn class_edits(
+    alloc: Global,
+    a: &Analysis,
+    members: &[Part],
+    number: u32,
+    name: &[u8],
+) -> Result<Edits, Memory>
+    requires { IsClass a.now members.now number }
+    ensures { IfOk result (λ e. e ≡ edits_of a.now.value members.now name.now) }
+{
+    let _files = a.files();
+    edit_files(alloc, a, members, name)
 }
 
 // The first offence, if one stands.
