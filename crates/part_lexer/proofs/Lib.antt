@@ -20,4 +20,5 @@ pub mod RespelledLemmas
 pub mod OrderLemmas
 pub mod PlainLemmas
 pub mod RenameLaw
+pub mod KeptTokensLaw
 pub mod LoneLemmas

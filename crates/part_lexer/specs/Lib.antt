@@ -10,6 +10,7 @@ pub mod FileText
 pub mod Refusal
 pub mod OneToken
 pub mod Respelling
+pub mod KeptTokens
 -- What inner functions promise each other.
 pub mod Walk
 pub mod Front

@@ -2,6 +2,7 @@ use Rattle.part_lexer.proofs.EditedBytes.{edit_keeps_tokens}
 use Rattle.part_lexer.proofs.OrderLemmas.{tokens_of-in_order}
 use Rattle.part_lexer.proofs.PlainLemmas.{plain_characters}
 use Rattle.part_lexer.proofs.RenameLaw.{renames_in_place, renamed_length}
+use Rattle.part_lexer.proofs.KeptTokensLaw.{kept_tokens_keep_pieces}
 use Rattle.part_lexer.proofs.laws.tokens_can_be_renamed.Goals as goal
 
 pub returns : goal.returns
@@ -11,4 +12,5 @@ returns c = record {
   plain = plain_characters;
   renames = renames_in_place;
   lengths = renamed_length;
+  kept = kept_tokens_keep_pieces;
 }
