@@ -66,8 +66,6 @@ pub enum Cause {
     ParameterDependence,
     ArgumentCount,
     OddToken,
-    /// Input that this version of the program does not read yet.
-    NotBuilt,
 }
 
 impl Cause {
@@ -132,7 +130,6 @@ impl Cause {
             Cause::ParameterDependence => b"parameter dependence",
             Cause::ArgumentCount => b"argument count",
             Cause::OddToken => b"odd token",
-            Cause::NotBuilt => b"not built",
         }
     }
 }

@@ -1,8 +1,7 @@
 -- Edits that keep each token of a file keep each piece of its text.
-use Rattle.std.proofs.Common.{◌≡◌, ℕ, zero, suc, ◌+◌, ◌<◌, ◌≤◌, Bool, true, false, ◌&&◌, ◌||◌, if◌then◌else◌, nat_le, nat_lt, List, [], ◌∷◌, ◌++◌, length, take, drop, refl, sym, ap, subst, ◌∙◌, arith, length-append}
-use Rattle.std.specs.Str.{bytes_eq}
+use Rattle.std.proofs.Common.{◌≡◌, ℕ, zero, suc, ◌+◌, ◌<◌, ◌≤◌, Bool, true, false, ◌&&◌, ◌||◌, nat_le, nat_lt, List, [], ◌∷◌, ◌++◌, length, take, refl, sym, ap, subst, ◌∙◌, arith, length-append}
 use Rattle.std.proofs.Math.Seq.{take-append_seam}
-use Rattle.std.proofs.lemmas.Bool.{and_parts, and_from, le-ltb}
+use Rattle.std.proofs.lemmas.Bool.{and_parts, and_from, le-ltb, lt-leb}
 use Rattle.cs_base.proofs.FileMapLemmas.{bytes_eq-same}
 use Rattle.cs_base.specs.declared.tokens.Kind.{Kind}
 use Rattle.cs_base.specs.declared.tokens.Kind.TheVariants.{Ident, Number, Char, Str, Punct, Other, Header}
@@ -12,15 +11,33 @@ use Rattle.part_lexer.specs.declared.pieces.Piece.TheVariants.{Blank, LineEnd, O
 use Rattle.part_lexer.specs.declared.pieces.LineFront.{LineFront}
 use Rattle.part_lexer.specs.declared.pieces.LineFront.TheVariants.{Nothing, Hash, Include, Tokens}
 use Rattle.part_lexer.specs.Logical.{logical_of, spelling}
-use Rattle.part_lexer.specs.Tokens.{Found, FoundToken, FoundOpen, piece_of, piece_length, leaves_gap, expects_header, line_front_after, with_token, is_line_start, found_in, found_of, tokens_in, firsts_in, tokens_of, firsts_of}
-use Rattle.part_lexer.specs.Respelled.{lies_in}
-use Rattle.part_lexer.specs.Respelling.{Put, stays, keeps_word, keeps_piece, keeps_pieces}
-use Rattle.part_lexer.specs.KeptTokens.{keeps_spelled, front_before, keeps_tokens, ChangesTokens, KeptTokensKeepPieces}
-use Rattle.part_lexer.proofs.RespelledLemmas.{Later, lies_in-later}
-use Rattle.part_lexer.proofs.OrderLemmas.{InOrder-later, found-in_order}
+use Rattle.part_lexer.specs.Tokens.{Found, piece_of, piece_length, leaves_gap, expects_header, line_front_after, with_token, is_line_start, found_in, found_of, tokens_in, firsts_in, tokens_of}
+use Rattle.part_lexer.specs.Order.{InOrder}
+use Rattle.part_lexer.specs.Respelling.{Put, stays, keeps_piece, keeps_pieces}
+use Rattle.part_lexer.specs.KeptTokens.{keeps_spelled, front_before, keeps_tokens, lies_in, KeptTokensKeepPieces}
+use Rattle.part_lexer.proofs.OrderLemmas.{InOrder-weaken, found-in_order}
 use Rattle.part_lexer.proofs.KeptLemmas.{keeps_pieces-cut}
 use Rattle.part_lexer.proofs.ScanLemmas.{firsts_of-file}
 use Rattle.part_lexer.proofs.EditedTokens.{Lined, bytes_in, bytes_in-lined, bytes_in-append, lined, length-bytes_in, found_lined, found_from-lined, found_lined-cut, cut_lined}
+
+-- none of the tokens begins before character `at`
+abbrev Later : ℕ → List Token → Type 0
+Later at [] = Unit {0}
+Later at (t ∷ ts) = (at ≤ t.at.at) × Later at ts
+
+lies_in-later : (at b : ℕ) (ts : List Token) → at < b → Later b ts → lies_in ts at ≡ false
+lies_in-later at b [] before later = refl
+lies_in-later at b (t ∷ ts) before later =
+    let here = later.0 in
+    let behind : nat_le t.at.at at ≡ false = lt-leb t.at.at at (omega arith) in
+    rw behind (lies_in-later at b ts before later.1)
+
+-- no token of a list in order begins before the list does
+InOrder-later : (from to : ℕ) (ts : List Token) → InOrder from to ts → Later from ts
+InOrder-later from to [] tokens = tt
+InOrder-later from to (t ∷ ts) tokens =
+    let here = tokens.0 in
+    (tokens.0, InOrder-later from to ts (InOrder-weaken from (t.at.at + length t.text) to ts (omega arith) tokens.3))
 
 -- from character `at` on, what is in none of these tokens stays
 abbrev Outside : Put → ℕ → List Token → Type 0

@@ -16,9 +16,6 @@ pub mod FitLemmas
 pub mod KeptLemmas
 pub mod EditedTokens
 pub mod EditedBytes
-pub mod RespelledLemmas
 pub mod OrderLemmas
-pub mod PlainLemmas
-pub mod RenameLaw
 pub mod KeptTokensLaw
 pub mod LoneLemmas

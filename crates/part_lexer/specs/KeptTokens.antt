@@ -1,12 +1,12 @@
 -- Edits by what they change of each token of a file.
-use Rattle.std.specs.Prelude.{◌≡◌, ℕ, Bool, true, false, ◌&&◌, if◌then◌else◌, List, [], ◌∷◌, drop, get_or}
+use Rattle.std.specs.Prelude.{◌≡◌, ℕ, ◌+◌, nat_le, nat_lt, Bool, true, false, ◌&&◌, if◌then◌else◌, List, [], ◌∷◌, drop, get_or, length}
+use Rattle.std.specs.List.{list_any}
 use Rattle.cs_base.specs.declared.tokens.Kind.{Kind}
 use Rattle.cs_base.specs.declared.tokens.Kind.TheVariants.{Ident}
 use Rattle.cs_base.specs.Token.{Token}
 use Rattle.part_lexer.specs.declared.pieces.LineFront.{LineFront}
 use Rattle.part_lexer.specs.declared.pieces.LineFront.TheVariants.{Nothing}
 use Rattle.part_lexer.specs.Tokens.{with_token, tokens_of, firsts_of}
-use Rattle.part_lexer.specs.Respelled.{lies_in}
 use Rattle.part_lexer.specs.Respelling.{Put, stays, keeps_word, KeepsPieces}
 
 -- an identifier is kept as one, and every other token stays
@@ -25,6 +25,10 @@ keeps_tokens put front [] firsts = true
 keeps_tokens put front (t ∷ toks) firsts =
     keeps_spelled put (front_before (get_or firsts 0 false) front) t.kind t.at.at t.text
     && keeps_tokens put (with_token t.text (front_before (get_or firsts 0 false) front)) toks (drop 1 firsts)
+
+-- character `at` is one of these tokens' characters
+abbrev pub lies_in : List Token → ℕ → Bool
+lies_in toks at = list_any (λ t. nat_le t.at.at at && nat_lt at (t.at.at + length t.text)) toks
 
 -- a character that is in no token of the file stays
 abbrev pub ChangesTokens : Put → List Token → Type 0

@@ -5,7 +5,7 @@ pub mod Spelling
 pub mod Places
 pub mod Tokens
 pub mod Lines
-pub mod Respelled
+pub mod Order
 pub mod FileText
 pub mod Refusal
 pub mod OneToken

@@ -1,18 +1,14 @@
 // What is true of the tokens of all texts: laws that no caller runs, and that callers' proofs cite.
-ghost use Rattle.part_lexer.specs.Respelled.{RenamesInPlace, TokensInOrder, RenamedLength, PlainCharacters};
+ghost use Rattle.part_lexer.specs.Order.{TokensInOrder};
 ghost use Rattle.part_lexer.specs.Respelling.{EditKeepsTokens};
 ghost use Rattle.part_lexer.specs.KeptTokens.{KeptTokensKeepPieces};
 
 /// The tokens of a file stand one behind the other. An edit by which other identifiers stand for
 /// identifiers, and all else stays, splices too, keeps the tokens: their number and order, their kinds,
 /// gaps and lines, each at the place to which it moves. An edit is one if it keeps each token so, and changes
-/// no character outside of tokens. In a file without slashes, backslashes and carriage returns characters are
-/// bytes, and where it has no directive identifiers are renamed in place.
+/// no character outside of tokens.
 pub fn tokens_can_be_renamed()
     ensures in_order { TokensInOrder }
     ensures edited { EditKeepsTokens }
-    ensures plain { PlainCharacters }
-    ensures renames { RenamesInPlace }
-    ensures lengths { RenamedLength }
     ensures kept { KeptTokensKeepPieces }
 {}

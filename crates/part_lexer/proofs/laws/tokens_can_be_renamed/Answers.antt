@@ -1,7 +1,5 @@
 use Rattle.part_lexer.proofs.EditedBytes.{edit_keeps_tokens}
 use Rattle.part_lexer.proofs.OrderLemmas.{tokens_of-in_order}
-use Rattle.part_lexer.proofs.PlainLemmas.{plain_characters}
-use Rattle.part_lexer.proofs.RenameLaw.{renames_in_place, renamed_length}
 use Rattle.part_lexer.proofs.KeptTokensLaw.{kept_tokens_keep_pieces}
 use Rattle.part_lexer.proofs.laws.tokens_can_be_renamed.Goals as goal
 
@@ -9,8 +7,5 @@ pub returns : goal.returns
 returns c = record {
   in_order = tokens_of-in_order;
   edited = edit_keeps_tokens;
-  plain = plain_characters;
-  renames = renames_in_place;
-  lengths = renamed_length;
   kept = kept_tokens_keep_pieces;
 }
