@@ -55,8 +55,8 @@ abbrev pub StepReads : {X : Type 0} → List ℕ → ℕ → ℕ → Option (Lis
 StepReads ws reads reads' last' (Ok x) = reads' ≡ reads
 StepReads ws reads reads' last' (Err stop) = StopReads ws reads reads' last' stop
 
--- An accepted renaming, as it stands before the first put: it is planned over the analysis of the workspace, each
--- path has one number there, and stands for what the files hold; and paths of edits are in order.
+-- An accepted renaming, as it stands before the first put: it is planned over the analysis of the workspace, whose
+-- files are what the files hold; and paths of edits are in order.
 pub record Planned (q : RenameValue) (files : FileMap) (edits : List Edit) : Type 0 where
   pub ws : WorkspaceValue
   pub analysis : AnalysisValue
