@@ -1,1 +1,3 @@
 pub mod MadeLemmas
+pub mod CountLemmas
+pub mod ReadLemmas

@@ -25,7 +25,7 @@ use Rattle.table_laws.specs.Tables.{IsPseudoIfMade, MadeArePseudo}
 
 -- ---- one number more, and one file opened
 
-made-push : (path : List ℕ) (found : Found) (t : Table) → IsPseudoIfMade path found → MadeArePseudo t → MadeArePseudo (numbered path found t)
+pub made-push : (path : List ℕ) (found : Found) (t : Table) → IsPseudoIfMade path found → MadeArePseudo t → MadeArePseudo (numbered path found t)
 made-push path found [] new h = (new, tt)
 made-push path found (e ∷ t) new h = (h.0, made-push path found t new h.1)
 
@@ -33,7 +33,7 @@ read_not_made : (path : List ℕ) (o : Option (List ℕ)) → IsPseudoIfMade pat
 read_not_made path None = tt
 read_not_made path (Some bytes) = tt
 
-asked_made : (path : List ℕ) (bytes : Option (List ℕ)) (t : Table) (o : Option Found) → MadeArePseudo t
+pub asked_made : (path : List ℕ) (bytes : Option (List ℕ)) (t : Table) (o : Option Found) → MadeArePseudo t
     → MadeArePseudo (cond (is_some o) t (numbered path (found_in bytes) t))
 asked_made path bytes t None h = made-push path (found_in bytes) t (read_not_made path bytes) h
 asked_made path bytes t (Some found) h = h
@@ -54,7 +54,7 @@ made_stable source = record {
 
 -- ---- a unit
 
-outer_made : (ctx : Context) (path : List ℕ) (s : State) → MadeArePseudo s.table
+pub outer_made : (ctx : Context) (path : List ℕ) (s : State) → MadeArePseudo s.table
     → IfDone (Stays {A = List Token} MadeArePseudo) (outer_file ctx path s)
 outer_made ctx path s h =
     onward_done (Stays {A = SourceFile} MadeArePseudo) (Stays {A = List Token} MadeArePseudo) (open_file ctx (first_place path) path s) (file_items ctx (ctx.limits.open_files - 1))
@@ -76,7 +76,7 @@ unit_made limits reader source number unit before h =
     (λ toks t g. onward_done (Stays {A = List Token} MadeArePseudo) (Stays {A = List Token} MadeArePseudo) (main_file ctx unit.path t) _ (main_made ctx unit.path t g)
     (λ more u f. f))
 
-ok_holds : {X E : Type 0} (P : X → Type 0) (a b : X) → ◌≡◌ {A = Result X E} (Ok a) (Ok b) → P a → P b
+pub ok_holds : {X E : Type 0} (P : X → Type 0) (a b : X) → ◌≡◌ {A = Result X E} (Ok a) (Ok b) → P a → P b
 ok_holds P a b e h = let same : a ≡ b = cc in subst P same h
 
 made_by : (earlier : ℕ) (o : Outcome (List Token)) (p : Preprocessed) → IfDone (Stays {A = List Token} MadeArePseudo) o
@@ -84,7 +84,7 @@ made_by : (earlier : ℕ) (o : Outcome (List Token)) (p : Preprocessed) → IfDo
 made_by earlier (Ok d) p h e = ok_holds {E = Fault} (λ (q : Preprocessed). MadeArePseudo q.after.table) _ p e h
 made_by earlier (Err found) p h e = absurd cc
 
-made_after : (source : Source) (number : ℕ) (unit : UnitValue) (before : Carried) (p : Preprocessed) → MadeArePseudo before.table
+pub made_after : (source : Source) (number : ℕ) (unit : UnitValue) (before : Carried) (p : Preprocessed) → MadeArePseudo before.table
     → preprocessed source number unit before ≡ Ok p → MadeArePseudo p.after.table
 unfolding preprocessed
 made_after source number unit before p h e =
@@ -93,11 +93,11 @@ made_after source number unit before p h e =
 -- ---- units in order
 
 -- the value of a step that is done, and that of the step behind it
-done_first : {X Y E : Type 0} (r : Result X E) (next : X → Result Y E) (y : Y) → result_then next r ≡ Ok y → (x : X) × (r ≡ Ok x) × (next x ≡ Ok y)
+pub done_first : {X Y E : Type 0} (r : Result X E) (next : X → Result Y E) (y : Y) → result_then next r ≡ Ok y → (x : X) × (r ≡ Ok x) × (next x ≡ Ok y)
 done_first (Ok x) next y e = (x, refl, e)
 done_first (Err fault) next y e = absurd cc
 
-unmapped : {X E F : Type 0} (r : Result X E) (change : E → F) (x : X) → result_map_err change r ≡ Ok x → r ≡ Ok x
+pub unmapped : {X E F : Type 0} (r : Result X E) (change : E → F) (x : X) → result_map_err change r ≡ Ok x → r ≡ Ok x
 unmapped (Ok y) change x e = let same : y ≡ x = cc in rw same refl
 unmapped (Err fault) change x e = absurd cc
 

@@ -7,4 +7,4 @@
 
 mod laws;
 
-pub use laws::made_files_are_pseudo;
+pub use laws::{made_files_are_pseudo, tokens_are_few, unit_files_are_opened};

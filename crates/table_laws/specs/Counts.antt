@@ -1,0 +1,14 @@
+-- How many tokens the units of an analysis have (ISO/IEC 9899:1999, 5.2.4.1: a translation limit of this project).
+use Rattle.std.specs.Prelude.{ℕ, ◌≡◌, ◌≤◌, ◌+◌, ◌^◌, List, [], ◌∷◌, Ok, length}
+use Rattle.ws_file.specs.Workspace.{WorkspaceValue, IsWorkspace}
+use Rattle.include_tree.specs.Files.{Source}
+use Rattle.ws_core.specs.Analysis.{UnitAnalysis, AnalysisValue, analysis_of}
+
+-- the tokens of all units together
+abbrev pub tokens_in : List UnitAnalysis → ℕ
+tokens_in [] = 0
+tokens_in (u ∷ units) = length u.text.toks + tokens_in units
+
+-- They are at most the limit on those of all units.
+abbrev pub TokensAreFew : Type 0
+TokensAreFew = (source : Source) (ws : WorkspaceValue) (a : AnalysisValue) → IsWorkspace ws → analysis_of source ws ≡ Ok a → tokens_in a.units ≤ 2 ^ 23
