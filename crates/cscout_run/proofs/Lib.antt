@@ -8,3 +8,4 @@ pub mod PromiseLemmas
 pub mod ReportLemmas
 pub mod AlikeLemmas
 pub mod PlannedLemmas
+pub mod SizeLemmas

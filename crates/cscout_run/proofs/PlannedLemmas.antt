@@ -3,7 +3,7 @@ use Rattle.std.proofs.Common.{◌≡◌, Option, None, Some, Result, Ok, Err, sy
 use Rattle.std.specs.Prelude.{IfOk, IfSome}
 use Rattle.cs_base.specs.Edit.{IsKept}
 use Rattle.cs_base.specs.Outside.{FileMap}
-use Rattle.ws_file.specs.Workspace.{WorkspaceValue}
+use Rattle.ws_file.specs.Workspace.{WorkspaceValue, IsWorkspace}
 use Rattle.include_tree.specs.Files.{Source, Table, source_of}
 use Rattle.include_tree.specs.Laws.{AreFound}
 use Rattle.ws_core.specs.Analysis.{AnalysisValue, analysis_of}
@@ -16,28 +16,29 @@ use Rattle.cscout_run.specs.declared.stops.Stop.{Stop}
 
 -- what is planned over the files that are told
 planned_over : (fs : FileMap) (q : RenameValue) (w : WorkspaceValue) (a : AnalysisValue) (table : Table) (Answers : Source → Type 0) (result : Result Ready Stop)
-    → ReadsWorkspace q.ws fs (Ok w) → analysis_of (source_of fs) w ≡ Ok a → a.table ≡ table → IsOver (Some fs) table Answers
+    → IsWorkspace w → ReadsWorkspace q.ws fs (Ok w) → analysis_of (source_of fs) w ≡ Ok a → a.table ≡ table → IsOver (Some fs) table Answers
     → IfOk result (λ ready. IsRenaming a q.path q.line q.column q.name (Ok ready.edits)) → IfOk result (λ ready. IsKept ready.edits)
     → IsPlanned q fs result
-planned_over fs q w a table Answers (Ok ready) read analysed is over renaming sound = record {
+planned_over fs q w a table Answers (Ok ready) is_ws read analysed is over renaming sound = record {
   ws = w;
   analysis = a;
   workspace = read;
+  is = is_ws;
   analysed = analysed;
   found = subst (λ (t : Table). AreFound (source_of fs) t) (sym is) over.found;
   renaming = renaming;
   sound = sound;
 }
-planned_over fs q w a table Answers (Err stop) read analysed is over renaming sound = tt
+planned_over fs q w a table Answers (Err stop) is_ws read analysed is over renaming sound = tt
 
 -- the same where they may be told
 pub planned_told : (o o' : Option FileMap) (q : RenameValue) (w : WorkspaceValue) (a : AnalysisValue) (Answers : Source → Type 0) (result : Result Ready Stop)
-    → o' ≡ o → IfSome o (λ fs. ReadsWorkspace q.ws fs (Ok w)) → IfSome o' (λ fs. analysis_of (source_of fs) w ≡ Ok a)
+    → IsWorkspace w → o' ≡ o → IfSome o (λ fs. ReadsWorkspace q.ws fs (Ok w)) → IfSome o' (λ fs. analysis_of (source_of fs) w ≡ Ok a)
     → (table : Table) × (a.table ≡ table) × IsOver o' table Answers
     → IfOk result (λ ready. IsRenaming a q.path q.line q.column q.name (Ok ready.edits)) → IfOk result (λ ready. IsKept ready.edits)
     → IfSome o (λ fs. IsPlanned q fs result)
-planned_told None o' q w a Answers result same read analysed over renaming sound = tt
-planned_told (Some fs) o' q w a Answers result same read analysed over renaming sound =
+planned_told None o' q w a Answers result is_ws same read analysed over renaming sound = tt
+planned_told (Some fs) o' q w a Answers result is_ws same read analysed over renaming sound =
     let analysed' : analysis_of (source_of fs) w ≡ Ok a = rw same at analysed in
     let over' : IsOver (Some fs) over.0 Answers = rw same at over.2 in
-    planned_over fs q w a over.0 Answers result read analysed' over.1 over' renaming sound
+    planned_over fs q w a over.0 Answers result is_ws read analysed' over.1 over' renaming sound

@@ -21,11 +21,12 @@ use Rattle.ws_core.specs.Parts.{AreMembers}
 use Rattle.ws_core.specs.Places.{is_read_only, is_read_only_path}
 use Rattle.table_laws.specs.Tables.{IsPseudoIfMade, MadeArePseudo}
 use Rattle.table_laws.proofs.MadeLemmas.{made_files_pseudo}
+use Rattle.table_laws.proofs.ReadLemmas.{unit_files_opened}
 use Rattle.rename_rules.specs.First.{IsAmong, member_offences, offence, offences_of, spelling_offences, standing}
 use Rattle.rename_rules.specs.Offences.{read_only_place, read_only_places, reserved_places, stringized_places, header_places, no_identifier_places}
 use Rattle.rename_rules.specs.Renaming.{IsNamedRenamed, IsRenaming}
 use Rattle.rename_rules.specs.Runs.{edit_of, edits_of, file_of, new_bytes, runs, with_member}
-use Rattle.cscout_run.specs.Request.{RequestValue, RenameValue, asked, help_asked, version_asked, renaming_asked, tokens_asked, skipped_asked, class_asked}
+use Rattle.cscout_run.specs.Request.{RequestValue, RenameValue, asked, help_asked, version_asked, renaming_asked, tokens_asked, skipped_asked, class_asked, generated_asked}
 use Rattle.cscout_run.specs.Promise.{Renamed, IsRenamed, KeepsPromise}
 use Rattle.cscout_run.specs.Steps.{Planned, IsPlannedFor}
 use Rattle.cscout_run.specs.declared.preparing.Ready.{Ready}
@@ -268,6 +269,7 @@ kept q before edits p =
       record {
         workspace = p.workspace;
         analysed = p.analysed;
+        units = unit_files_opened (source_of before) p.ws p.analysis p.is p.analysed;
         named = c.named;
         class = c.class;
         clear = c.clear;
@@ -290,6 +292,7 @@ promise_at version_asked before ready p = tt
 promise_at (tokens_asked q) before ready p = tt
 promise_at (skipped_asked ws) before ready p = tt
 promise_at (class_asked q) before ready p = tt
+promise_at (generated_asked n) before ready p = tt
 promise_at (renaming_asked q) before ready p = kept q before ready.edits p
 
 -- where the files held are told, the promise is kept

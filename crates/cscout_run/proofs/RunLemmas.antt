@@ -1,5 +1,5 @@
 -- What each end of a run says of the answer and of the outside.
-use Rattle.std.proofs.Common.{◌≡◌, ℕ, ◌<◌, zero, suc, List, [], ◌∷◌, Option, None, Some, Result, Ok, Err, refl, ap, sym, subst, ◌∙◌, inl, ⊎_elim, length, arith}
+use Rattle.std.proofs.Common.{◌≡◌, ℕ, ◌<◌, zero, suc, List, [], ◌∷◌, Option, None, Some, Result, Ok, Err, refl, ap, sym, subst, ◌∙◌, codes, inl, ⊎_elim, length, arith}
 use Rattle.std.specs.Prelude.{IfSome, slice_get}
 use Rattle.cs_base.specs.Edit.{Edit}
 use Rattle.cs_base.specs.Outside.{FileMap, Rose}
@@ -14,12 +14,13 @@ use Rattle.std.proofs.lemmas.Option.{same_Some}
 use Rattle.rename_rules.specs.Renaming.{Refusal}
 use Rattle.cscout_run.specs.Alike.{AreAlike}
 use Rattle.ws_core.specs.Texts.{UnitFault}
+use Rattle.generated.specs.Generated.{header_path, workspace_path, generated_files}
 use Rattle.cscout_run.specs.declared.status.Status.{Status}
 use Rattle.cscout_run.specs.declared.status.Status.TheVariants.{Done, Refused, Usage, Workspace, ReadFault, WriteFault, Memory}
 use Rattle.cscout_run.specs.declared.stops.Stop.{Stop}
 use Rattle.cscout_run.specs.declared.stops.Stop.TheVariants as stop
-use Rattle.cscout_run.specs.Request.{RequestValue, RenameValue, ClassValue, help_asked, version_asked, renaming_asked, tokens_asked, skipped_asked, class_asked, asked}
-use Rattle.cscout_run.specs.Answer.{Answer, IsAnswer, IsAnswerTo, IsRequestAnswer, IsClassAnswer, IsRenameAnswer, IsOverWorkspace, answer_of, class_answer, renaming_answer, stopped, workspace_at}
+use Rattle.cscout_run.specs.Request.{RequestValue, RenameValue, ClassValue, help_asked, version_asked, renaming_asked, tokens_asked, skipped_asked, class_asked, generated_asked, asked}
+use Rattle.cscout_run.specs.Answer.{Answer, IsAnswer, IsAnswerTo, IsRequestAnswer, IsClassAnswer, IsRenameAnswer, IsSizeAnswer, IsOverWorkspace, answer_of, class_answer, renaming_answer, size_answer, stopped, workspace_at}
 use Rattle.cscout_run.specs.Message.{usage_line}
 use Rattle.cscout_run.specs.Outcome.{World, StatusIs, HasCauses, IsComplete, ShowsAnswer, Tells, FailedPut, Unmoved}
 use Rattle.cscout_run.specs.Steps.{Prepares}
@@ -102,6 +103,22 @@ over-alike ws IsNext None a b next p p' = same-answer _ a b p p'
 over-alike ws IsNext (Some (Ok w)) a b next p p' = next w p p'
 over-alike ws IsNext (Some (Err fault)) a b next p p' = same-answer _ a b p p'
 
+sizes-alike : (n : ℕ) (value : AnalysisValue) (r s : Result (List Edit) Refusal) (a b : Answer) → ArePlansAlike r s → size_answer n value r ≡ a
+    → size_answer n value s ≡ b → AreAlike a b
+sizes-alike n value (Ok es) (Ok fs) a b alike is is' =
+    same-answer (size_answer n value (Ok es)) a b is (ap (λ (edits : List Edit). size_answer n value (Ok edits)) alike ∙ is')
+sizes-alike n value (Err r) (Err s) a b alike is is' = record {
+  status = sym (ap (λ (c : Answer). c.status) is) ∙ ap (λ (c : Answer). c.status) is';
+  same = λ other. absurd (other (sym (ap (λ (c : Answer). c.status) is)));
+}
+sizes-alike n value (Ok es) (Err s) a b alike is is' = absurd alike
+sizes-alike n value (Err r) (Ok fs) a b alike is is' = absurd alike
+
+size-alike : (n : ℕ) (analysed : Result AnalysisValue UnitFault) (a b : Answer) → IsSizeAnswer n analysed a → IsSizeAnswer n analysed b → AreAlike a b
+size-alike n (Ok value) a b p p' =
+    sizes-alike n value p.0 p'.0 a b (renamings_alike value header_path 1 12 (codes "sum") p.0 p'.0 p.1 p'.1) p.2 p'.2
+size-alike n (Err fault) a b p p' = same-answer _ a b p p'
+
 request-alike : (files : FileMap) (request : Option RequestValue) (a b : Answer) → IsAnswerTo files request a → IsAnswerTo files request b
     → AreAlike a b
 request-alike files None a b p p' = same-answer _ a b p p'
@@ -115,6 +132,9 @@ request-alike files (Some (skipped_asked ws)) a b p p' = same-answer _ a b p p'
 request-alike files (Some (class_asked q)) a b p p' =
     over-alike q.ws (λ w. IsClassAnswer q (analysis_of (source_of files) w)) (workspace_at q.ws files) a b
     (λ w. class-alike q (analysis_of (source_of files) w) a b) p p'
+request-alike files (Some (generated_asked n)) a b p p' =
+    over-alike workspace_path (λ w. IsSizeAnswer n (analysis_of (source_of (generated_files n)) w)) (workspace_at workspace_path (generated_files n)) a b
+    (λ w. size-alike n (analysis_of (source_of (generated_files n)) w) a b) p p'
 
 pub answers_alike : (words : List (List ℕ)) (files : FileMap) (a b : Answer) → IsAnswer words files a → IsAnswer words files b → AreAlike a b
 unfolding IsAnswer

@@ -1,5 +1,5 @@
 -- The answer of the program to its words over the files held: status, output, messages and edits.
-use Rattle.std.specs.Prelude.{ℕ, ◌≡◌, List, [], Option, None, Some, Result, Ok, Err, codes}
+use Rattle.std.specs.Prelude.{ℕ, ◌≡◌, ◌+◌, List, [], ◌∷◌, Option, None, Some, Result, Ok, Err, codes}
 use Rattle.std.specs.Option.{option_map, option_map_or}
 use Rattle.cs_base.specs.Edit.{Edit}
 use Rattle.cs_base.specs.Outside.{FileMap, bytes_at}
@@ -10,13 +10,15 @@ use Rattle.include_tree.specs.Texts.{UnitTextValue}
 use Rattle.ws_core.specs.Analysis.{AnalysisValue, analysis_of}
 use Rattle.ws_core.specs.ClassReport.{IsClassReport}
 use Rattle.ws_core.specs.Texts as units
+use Rattle.table_laws.specs.Counts.{tokens_in}
 use Rattle.query_report.specs.TokensText.{tokens_text}
 use Rattle.query_report.specs.Skipped.{skipped_text}
 use Rattle.rename_rules.specs.Renaming.{Refusal, bad_name, no_name, refused, IsRenaming}
+use Rattle.generated.specs.Generated.{header_path, workspace_path, generated_files}
 use Rattle.cscout_run.specs.declared.status.Status.{Status}
 use Rattle.cscout_run.specs.declared.status.Status.TheVariants.{Done, Refused, Usage, Workspace}
-use Rattle.cscout_run.specs.Request.{RequestValue, help_asked, version_asked, renaming_asked, tokens_asked, skipped_asked, class_asked, RenameValue, TokensValue, ClassValue, asked}
-use Rattle.cscout_run.specs.Message.{usage_line, absent_line, ws_line, text_fault_line, refused_line, offence_line, edited_lines}
+use Rattle.cscout_run.specs.Request.{RequestValue, help_asked, version_asked, renaming_asked, tokens_asked, skipped_asked, class_asked, generated_asked, RenameValue, TokensValue, ClassValue, asked}
+use Rattle.cscout_run.specs.Message.{usage_line, absent_line, ws_line, text_fault_line, refused_line, offence_line, edited_lines, size_line}
 use Rattle.cscout_run.specs.Help.{help_text, version_text}
 
 -- What a run does: its status, the text for `out`, the text for `err`, and the edits that it puts.
@@ -119,6 +121,24 @@ IsRenameAnswer q (Ok value) a =
     (planned : Result (List Edit) Refusal) × IsRenaming value q.path q.line q.column q.name planned × (renaming_answer planned ≡ a)
 IsRenameAnswer q (Err fault) a = stopped Workspace (text_fault_line fault) ≡ a
 
+-- ---- `generate`
+
+-- the places that all edits change together
+abbrev pub places_in : List Edit → ℕ
+places_in [] = 0
+places_in (e ∷ edits) = e.count + places_in edits
+
+-- the size of a generated workspace in which `total` is renamed: nothing is put
+abbrev pub size_answer : ℕ → AnalysisValue → Result (List Edit) Refusal → Answer
+size_answer n value (Ok edits) = shown (size_line n (tokens_in value.units) (places_in edits))
+size_answer n value (Err refusal) = stopped Refused (refusal_line refusal)
+
+-- The same once it is analysed: the `total` that its header declares is renamed to `sum`.
+abbrev pub IsSizeAnswer : ℕ → Result AnalysisValue units.UnitFault → Answer → Type 0
+IsSizeAnswer n (Ok value) a =
+    (planned : Result (List Edit) Refusal) × IsRenaming value header_path 1 12 (codes "sum") planned × (size_answer n value planned ≡ a)
+IsSizeAnswer n (Err fault) a = stopped Workspace (text_fault_line fault) ≡ a
+
 -- ---- the whole
 
 -- the answers over a workspace file: those over its workspace, and the message where it has none
@@ -126,6 +146,12 @@ abbrev pub IsOverWorkspace : List ℕ → (WorkspaceValue → Answer → Type 0)
 IsOverWorkspace ws IsNext None a = stopped Workspace (absent_line ws) ≡ a
 IsOverWorkspace ws IsNext (Some (Ok w)) a = IsNext w a
 IsOverWorkspace ws IsNext (Some (Err fault)) a = stopped Workspace (ws_fault_line ws fault) ≡ a
+
+-- the answers to a generated workspace of so many units, which lies in memory
+abbrev pub IsGenerated : ℕ → Answer → Type 0
+IsGenerated n a =
+    IsOverWorkspace workspace_path (λ w. IsSizeAnswer n (analysis_of (source_of (generated_files n)) w))
+    (workspace_at workspace_path (generated_files n)) a
 
 -- The answer to a request: the one that is computed, and for a class and a rename the one that is told.
 abbrev pub IsRequestAnswer : FileMap → RequestValue → Answer → Type 0
@@ -137,6 +163,7 @@ IsRequestAnswer files (tokens_asked q) a = tokens_answer q files ≡ a
 IsRequestAnswer files (skipped_asked ws) a = skipped_answer ws files ≡ a
 IsRequestAnswer files (class_asked q) a =
     IsOverWorkspace q.ws (λ w. IsClassAnswer q (analysis_of (source_of files) w)) (workspace_at q.ws files) a
+IsRequestAnswer files (generated_asked n) a = IsGenerated n a
 
 -- the same to words, which may be of no form
 abbrev pub IsAnswerTo : FileMap → Option RequestValue → Answer → Type 0

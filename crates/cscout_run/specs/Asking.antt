@@ -1,12 +1,13 @@
 -- What contracts see of the request that words make.
 use Rattle.std.specs.Prelude.{List, ℕ, []}
 use Rattle.cs_base.specs.Paths.{normal_path_of}
+use Rattle.generated.specs.Generated.{workspace_path}
 use Rattle.cscout_run.specs.declared.requests.NamedClass.{NamedClass}
 use Rattle.cscout_run.specs.declared.requests.Rename.{Rename}
 use Rattle.cscout_run.specs.declared.requests.Request.{Request}
-use Rattle.cscout_run.specs.declared.requests.Request.TheVariants.{Help, Version, Renaming, Tokens, Skipped, Class}
+use Rattle.cscout_run.specs.declared.requests.Request.TheVariants.{Help, Version, Renaming, Tokens, Skipped, Class, Generated}
 use Rattle.cscout_run.specs.declared.requests.UnitTokens.{UnitTokens}
-use Rattle.cscout_run.specs.Request.{RenameValue, rename, TokensValue, tokens_of_unit, ClassValue, class_at, RequestValue, help_asked, version_asked, renaming_asked, tokens_asked, skipped_asked, class_asked}
+use Rattle.cscout_run.specs.Request.{RenameValue, rename, TokensValue, tokens_of_unit, ClassValue, class_at, RequestValue, help_asked, version_asked, renaming_asked, tokens_asked, skipped_asked, class_asked, generated_asked}
 
 -- a rename in words, its path in its normal form
 abbrev pub rename_value : Rename → RenameValue
@@ -28,6 +29,7 @@ request_value (Renaming r) = renaming_asked (rename_value r)
 request_value (Tokens q) = tokens_asked (tokens_value q)
 request_value (Skipped ws) = skipped_asked ws.now
 request_value (Class q) = class_asked (class_value q)
+request_value (Generated n) = generated_asked n
 
 -- the workspace file of a request, or nothing where it has none
 abbrev pub workspace_file : Request → List ℕ
@@ -37,3 +39,4 @@ workspace_file (Renaming r) = r.ws.now
 workspace_file (Tokens q) = q.ws.now
 workspace_file (Skipped ws) = ws.now
 workspace_file (Class q) = q.ws.now
+workspace_file (Generated n) = workspace_path

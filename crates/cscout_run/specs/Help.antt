@@ -19,6 +19,8 @@ help_text =
     ++ codes "    prints `PATH:FIRST-LAST` for the lines of source files that no unit processes\n"
     ++ codes "cscout WS class PATH LINE COL\n"
     ++ codes "    prints `PATH:LINE:COL TEXT` for each place that must be spelled as the name at that place\n"
+    ++ codes "cscout generate N\n"
+    ++ codes "    makes a workspace of N units in memory, from 1 to 1024, analyses it and renames a name of it\n"
     ++ codes "cscout --help\n"
     ++ codes "    prints this text\n"
     ++ codes "cscout --version\n"

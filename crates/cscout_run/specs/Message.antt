@@ -56,6 +56,11 @@ refused_line words = message (refused_pieces (words ∷ []))
 abbrev pub offence_line : Place → Cause → List ℕ
 offence_line place cause = message (refused_pieces (fault_pieces place cause))
 
+-- the size of a generated workspace: its units, their tokens, and the members of the class that was renamed
+abbrev pub size_line : ℕ → ℕ → ℕ → List ℕ
+size_line units tokens members =
+    codes "units " ++ decimal units ++ codes " tokens " ++ decimal tokens ++ codes " members " ++ decimal members ++ codes "\n"
+
 -- a read or a put that failed
 abbrev pub unread_line : List ℕ → List ℕ
 unread_line path = message (codes "cannot read " ∷ path ∷ [])

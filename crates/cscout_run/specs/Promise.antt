@@ -1,13 +1,15 @@
 -- The promise of a rename that is done: exactly the named class changes.
-use Rattle.std.specs.Prelude.{ℕ, ◌≡◌, ◌≢◌, List, Option, Some, None, Ok}
+use Rattle.std.specs.Prelude.{ℕ, ◌≡◌, ◌≢◌, List, Option, Some, None, Ok, All}
 use Rattle.cs_base.specs.declared.positions.Part.{Part}
 use Rattle.cs_base.specs.Outside.{FileMap, bytes_at}
+use Rattle.cs_base.specs.Units.{UnitValue}
 use Rattle.ws_file.specs.Workspace.{WorkspaceValue}
 use Rattle.include_tree.specs.Files.{source_of}
 use Rattle.include_tree.specs.KeptFiles.{KeptValue}
 use Rattle.ws_core.specs.Analysis.{AnalysisValue, analysis_of}
 use Rattle.ws_core.specs.Naming.{Names}
 use Rattle.ws_core.specs.Parts.{AreMembers}
+use Rattle.table_laws.specs.Tables.{IsOpened}
 use Rattle.rename_rules.specs.First.{IsAmong, IsFirst, offences_of}
 use Rattle.rename_rules.specs.Runs.{runs, file_of, new_bytes}
 use Rattle.cscout_run.specs.Request.{RequestValue, renaming_asked, RenameValue}
@@ -31,6 +33,8 @@ pub record IsRenamed (q : RenameValue) (before now : FileMap) (r : Renamed) : Ty
   pub workspace : workspace_at q.ws before ≡ Some (Ok r.ws)
   -- so is every unit
   pub analysed : analysis_of (source_of before) r.ws ≡ Ok r.analysis
+  -- the file of each unit is among those that were read
+  pub units : All (λ (unit : UnitValue). IsOpened unit.path r.analysis.table) r.ws.units
   -- the place names the part
   pub named : Names r.analysis q.path q.line q.column (Some r.part)
   -- these are all that must be spelled as it is

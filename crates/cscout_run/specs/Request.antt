@@ -45,6 +45,7 @@ pub data RequestValue : Type 0 where
   tokens_asked : TokensValue → RequestValue
   skipped_asked : List ℕ → RequestValue
   class_asked : ClassValue → RequestValue
+  generated_asked : ℕ → RequestValue
 
 -- the number that decimal digits spell
 abbrev pub number_of : List ℕ → ℕ
@@ -84,9 +85,19 @@ alone_of word =
     if bytes_eq word (codes "--help") then Some help_asked
     else (if bytes_eq word (codes "--version") then Some version_asked else None)
 
--- two words: the workspace file and a command
+-- how many units a generated workspace may have: 1 to 1,024
+abbrev pub is_size : List ℕ → Bool
+is_size word = is_number word && nat_le (number_of word) 1024
+
+-- the words of a generated workspace
+abbrev pub generated_of : List ℕ → List ℕ → Option RequestValue
+generated_of word size =
+    if bytes_eq word (codes "generate") && is_size size then Some (generated_asked (number_of size)) else None
+
+-- two words: the workspace file and a command, or `generate` and a number
 abbrev pub workspace_command_of : List ℕ → List ℕ → Option RequestValue
-workspace_command_of ws command = if bytes_eq command (codes "skipped") then Some (skipped_asked ws) else None
+workspace_command_of ws command =
+    if bytes_eq command (codes "skipped") then Some (skipped_asked ws) else generated_of ws command
 
 -- three words: the workspace file, a command, and the number of a unit
 abbrev pub unit_command_of : List ℕ → List ℕ → List ℕ → Option RequestValue

@@ -2,7 +2,7 @@
 use Rattle.std.specs.Prelude.{ℕ, ◌≡◌, List, [], Option, None, Some, Result, Ok, Err}
 use Rattle.cs_base.specs.Outside.{FileMap}
 use Rattle.cs_base.specs.Edit.{Edit, IsKept}
-use Rattle.ws_file.specs.Workspace.{WorkspaceValue}
+use Rattle.ws_file.specs.Workspace.{WorkspaceValue, IsWorkspace}
 use Rattle.ws_file.specs.Reading.{WsFault}
 use Rattle.include_tree.specs.Files.{source_of}
 use Rattle.include_tree.specs.Laws.{AreFound}
@@ -11,7 +11,7 @@ use Rattle.ws_core.specs.declared.analyse_fault.AnalyseFault.{AnalyseFault}
 use Rattle.ws_core.specs.declared.analyse_fault.AnalyseFault.TheVariants as fault
 use Rattle.cscout_run.specs.declared.status.Status.TheVariants as status
 use Rattle.cscout_run.specs.declared.stops.Stop.{Stop}
-use Rattle.cscout_run.specs.declared.stops.Stop.TheVariants.{UnitFault, UnreadFile, BadName, NoName, Offence, Memory}
+use Rattle.cscout_run.specs.declared.stops.Stop.TheVariants.{UnreadWorkspace, UnitFault, UnreadFile, BadName, NoName, Offence, Memory}
 use Rattle.cscout_run.specs.declared.preparing.Ready.{Ready}
 use Rattle.rename_rules.specs.Renaming.{IsRenaming}
 use Rattle.rename_edit.specs.declared.refusals.RenameRefusal.{RenameRefusal}
@@ -61,6 +61,7 @@ pub record Planned (q : RenameValue) (files : FileMap) (edits : List Edit) : Typ
   pub ws : WorkspaceValue
   pub analysis : AnalysisValue
   pub workspace : workspace_at q.ws files ≡ Some (Ok ws)
+  pub is : IsWorkspace ws
   pub analysed : analysis_of (source_of files) ws ≡ Ok analysis
   pub found : AreFound (source_of files) analysis.table
   pub renaming : IsRenaming analysis q.path q.line q.column q.name (Ok edits)
@@ -75,6 +76,12 @@ IsPlanned q files (Err stop) = Unit {0}
 abbrev pub IsPlannedFor : RequestValue → FileMap → Result Ready Stop → Type 0
 IsPlannedFor (renaming_asked q) files result = IsPlanned q files result
 IsPlannedFor _ files result = Unit {0}
+
+-- an early end without a read that failed
+abbrev pub IsQuiet : Stop → Type 0
+IsQuiet UnreadWorkspace = ⊥
+IsQuiet (UnreadFile path) = ⊥
+IsQuiet _ = Unit {0}
 
 -- an early end after the analysis: no read follows
 abbrev pub IsPlanStop : Stop → Type 0

@@ -13,6 +13,8 @@ cscout WS skipped
     prints `PATH:FIRST-LAST` for the lines of source files that no unit processes
 cscout WS class PATH LINE COL
     prints `PATH:LINE:COL TEXT` for each place that must be spelled as the name at that place
+cscout generate N
+    makes a workspace of N units in memory, from 1 to 1024, analyses it and renames a name of it
 cscout --help
     prints this text
 cscout --version

@@ -9,6 +9,7 @@
 //! none. Read `specs/Request.antt`, `specs/Answer.antt`, `specs/Outcome.antt`, then `top.rt`.
 #![tactic(auto)]
 
+mod generating;
 mod help;
 mod host;
 mod laws;

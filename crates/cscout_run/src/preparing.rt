@@ -8,6 +8,7 @@ ghost use Rattle.cscout_run.specs.Message.{edited_line, edited_lines};
 ghost use Rattle.cscout_run.specs.Request.{renaming_asked};
 ghost use Rattle.cscout_run.specs.Steps.{IsPlanStop, IsPlanned, IsPlannedFor, Prepares, StepReads, stop_for};
 
+use crate::generating::prepare_generated;
 use crate::help::{help, version};
 use crate::reporting::{prepare_class, prepare_skipped, prepare_tokens, stop_of};
 use crate::requests::{Rename, Request};
@@ -44,6 +45,7 @@ pub fn prepare<F: Files>(alloc: Global, request: &Request<'_>, files: &mut F) ->
         Request::Tokens(tokens) => prepare_tokens(alloc, tokens, files),
         Request::Skipped(ws) => prepare_skipped(alloc, ws, files),
         Request::Class(class) => prepare_class(alloc, class, files),
+        Request::Generated(n) => prepare_generated(alloc, *n),
     }
 }
 
@@ -104,8 +106,8 @@ fn planned(alloc: Global, a: &Analysis, rename: &Rename<'_>) -> Result<Ready, St
     }
 }
 
-// Why a rename is refused, as an early end of the run.
-fn stop_for(refusal: RenameRefusal) -> Stop
+/// Why a rename is refused, as an early end of the run.
+pub(crate) fn stop_for(refusal: RenameRefusal) -> Stop
     ensures { result ≡ stop_for refusal }
 {
     match refusal {

@@ -1,7 +1,7 @@
 // What the words after the program's name ask for.
 ghost use Rattle.std.specs.Prelude.{◌≡◌, ◌≤◌, length, map, string_bytes, IsTrue};
 ghost use Rattle.std.specs.Option.{option_map};
-ghost use Rattle.cscout_run.specs.Request.{asked, alone_of, workspace_command_of, unit_command_of, place_command_of, class_report_of, command_of, rename_of, is_number, are_digits, begins_with_zero, number_of};
+ghost use Rattle.cscout_run.specs.Request.{asked, alone_of, workspace_command_of, unit_command_of, place_command_of, class_report_of, command_of, rename_of, generated_of, is_number, is_size, are_digits, begins_with_zero, number_of};
 ghost use Rattle.cscout_run.specs.Asking.{request_value, workspace_file};
 
 /// A rename in words: the path is as written.
@@ -30,7 +30,7 @@ pub struct NamedClass<'a> {
     pub column: u32,
 }
 
-/// What the program is asked for. `Skipped` has the workspace file.
+/// What the program is asked for. `Skipped` has the workspace file, `Generated` the number of units.
 #[derive(Drop)]
 pub enum Request<'a> {
     Help,
@@ -39,6 +39,7 @@ pub enum Request<'a> {
     Tokens(UnitTokens<'a>),
     Skipped(&'a str),
     Class(NamedClass<'a>),
+    Generated(u32),
 }
 
 /// The request of these words, or none where they are of no form. Takes no memory.
@@ -93,6 +94,16 @@ fn asked_of_workspace<'a>(ws: &'a str, command: &str) -> Option<Request<'a>>
 {
     if command == "skipped" {
         Some(Request::Skipped(ws))
+    } else {
+        asked_generated(ws, command)
+    }
+}
+
+fn asked_generated<'a>(word: &str, size: &str) -> Option<Request<'a>>
+    ensures { option_map request_value result ≡ generated_of word.now size.now }
+{
+    if word == "generate" && is_size(size.as_bytes()) {
+        Some(Request::Generated(number(size.as_bytes())))
     } else {
         None
     }
@@ -192,6 +203,15 @@ fn is_number(word: &[u8]) -> bool
     are_digits(word) && !begins_with_zero(word) && 0 < word.len() && word.len() <= 9
 }
 
+// Whether the word is a number of units that a generated workspace may have.
+fn is_size(word: &[u8]) -> bool
+    ensures answer { result ≡ is_size word.now }
+    ensures digits { IsTrue result → IsTrue (are_digits word.now) }
+    ensures few { IsTrue result → length word.now ≤ 9 }
+{
+    is_number(word) && number(word) <= 1024
+}
+
 fn are_digits(word: &[u8]) -> bool
     ensures { result ≡ are_digits word.now }
 {
@@ -229,6 +249,7 @@ pub fn workspace_file<'a>(request: &Request<'a>) -> &'a str
         Request::Tokens(tokens) => tokens.ws,
         Request::Skipped(ws) => ws,
         Request::Class(class) => class.ws,
+        Request::Generated(_) => "w.cs",
         _ => "",
     }
 }

@@ -3,7 +3,7 @@ use crate::tables::{Failing, Row};
 use cscout_run::Status;
 
 // Runs that preprocess nothing.
-pub const REFUSED_REPORTS: [Row; 9] = [
+pub const REFUSED_REPORTS: [Row; 11] = [
     // No unit has the number.
     Row {
         files: "w.cs:file a.c\n@a.c:int x;\n",
@@ -76,6 +76,23 @@ pub const REFUSED_REPORTS: [Row; 9] = [
         err: "cscout: bad command line\n",
         status: Status::Usage,
     },
+    // A generated workspace has a unit, and not more than there may be.
+    Row {
+        files: "a.c:int x;\n",
+        words: "generate 0",
+        after: "a.c:int x;\n",
+        out: "",
+        err: "cscout: bad command line\n",
+        status: Status::Usage,
+    },
+    Row {
+        files: "a.c:int x;\n",
+        words: "generate 1025",
+        after: "a.c:int x;\n",
+        out: "",
+        err: "cscout: bad command line\n",
+        status: Status::Usage,
+    },
     // It is no word of the other report.
     Row {
         files: "w.cs:file a.c\n@a.c:int x;\n",
@@ -88,7 +105,16 @@ pub const REFUSED_REPORTS: [Row; 9] = [
 ];
 
 // Runs that preprocess units.
-pub const REPORTS: [Row; 20] = [
+pub const REPORTS: [Row; 21] = [
+    // The generated workspace: no file is read, whatever is there.
+    Row {
+        files: "h.h:int total;\n",
+        words: "generate 2",
+        after: "h.h:int total;\n",
+        out: "units 2 tokens 42 members 3\n",
+        err: "",
+        status: Status::Done,
+    },
     // EXAMPLE 3 of 6.10.3.5.
     Row {
         files: "w.cs:file a.c\n@a.c:#define x 3\n#define f(a) f(x * (a))\n#undef x\n#define x 2\n#define g f\n#define z z[0]\n#define h g(~\n#define m(a) a(w)\n#define w 0,1\n#define t(a) a\n#define p() int\n#define q(x) x\n#define r(x,y) x ## y\n#define str(x) # x\n\nf(y+1) + f(f(z)) % t(t(g)(0) + t)(1);\ng(x+(3,4)-w) | h 5) & m\n      (f)^m(m);\np() i[q()] = { q(1), r(2,3), r(4,), r(,5), r(,) };\nchar c[2][6] = { str(hello), str() };\n",

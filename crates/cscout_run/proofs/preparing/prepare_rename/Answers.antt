@@ -2,7 +2,7 @@ use Rattle.std.proofs.Common.{Err, refl, sym, subst}
 use Rattle.ws_core.specs.Analysis.{analysis_of}
 use Rattle.include_tree.specs.Files.{source_of}
 use Rattle.cs_base.specs.Outside.{FileMap}
-use Rattle.ws_file.specs.Workspace.{WorkspaceValue}
+use Rattle.ws_file.specs.Workspace.{WorkspaceValue, IsWorkspace}
 use Rattle.cscout_run.specs.declared.stops.Stop.{Stop}
 use Rattle.cscout_run.specs.Request.{RenameValue, renaming_asked}
 use Rattle.cscout_run.specs.Answer.{Answer, IsRenameAnswer, IsRequestAnswer}
@@ -43,4 +43,4 @@ returns-clause-answer g c =
 pub returns-in-Ok-clause-planned : goal.returns-in-Ok-clause-planned
 returns-in-Ok-clause-planned g c =
     planned_told (g.F.Files.held c.args.files.now) (g.F.Files.held c.read_workspace.new.files) (rename_value c.args.rename.now) c.in_ok-ws.ws c.in-Ok.analysis.value _
-    c.planned.result c.read_workspace.ensures.held c.in_ok-ws.ensures.answer c.in-Ok.ensures.answer c.in-Ok.ensures.over c.planned.ensures.renaming c.planned.ensures.sound
+    c.planned.result (subst (λ (w : WorkspaceValue). IsWorkspace w) c.ws.view_is c.ws.invariant) c.read_workspace.ensures.held c.in_ok-ws.ensures.answer c.in-Ok.ensures.answer c.in-Ok.ensures.over c.planned.ensures.renaming c.planned.ensures.sound

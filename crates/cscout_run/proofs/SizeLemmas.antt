@@ -1,0 +1,65 @@
+-- Counting over units and edits, and early ends without a read.
+use Rattle.std.proofs.Common.{◌≡◌, ℕ, zero, suc, ◌+◌, ◌-◌, ◌<◌, List, [], ◌∷◌, drop, length, add-one, Some, Result, Ok, Err, ap, refl, arith}
+use Rattle.std.specs.Prelude.{IfErr, IfSome, slice_get}
+use Rattle.std.specs.Option.{option_map}
+use Rattle.std.proofs.lemmas.Option.{same_Some, none-some}
+use Rattle.cs_base.specs.Edit.{Edit}
+use Rattle.cs_base.specs.Token.{Token}
+use Rattle.include_tree.specs.Texts.{UnitTextValue}
+use Rattle.ws_core.specs.Analysis.{UnitAnalysis}
+use Rattle.table_laws.specs.Counts.{tokens_in}
+use Rattle.cscout_run.specs.Answer.{places_in}
+use Rattle.cscout_run.specs.declared.stops.Stop.{Stop}
+use Rattle.cscout_run.specs.declared.stops.Stop.TheVariants as stop
+use Rattle.cscout_run.specs.Steps.{IsPlanStop, IsQuiet}
+
+tokens_in-suc : (units : List UnitAnalysis) (k : ℕ) (t : UnitTextValue) → option_map (λ u. u.text) (slice_get units k) ≡ Some t
+    → tokens_in (drop k units) ≡ length t.toks + tokens_in (drop (suc k) units)
+tokens_in-suc [] k t at = absurd (none-some t at)
+tokens_in-suc (u ∷ units) zero t at =
+    let same : length u.text.toks ≡ length t.toks = ap (λ (x : UnitTextValue). length x.toks) (same_Some u.text t at) in
+    ap (λ n. n + tokens_in units) same
+tokens_in-suc (u ∷ units) (suc k) t at = tokens_in-suc units k t at
+
+-- the tokens from a unit on are its own and those after it
+pub tokens_in-drop : (units : List UnitAnalysis) (k : ℕ) (t : UnitTextValue) → option_map (λ u. u.text) (slice_get units k) ≡ Some t
+    → tokens_in (drop k units) ≡ length t.toks + tokens_in (drop (k + 1) units)
+tokens_in-drop units k t at = rw add-one (tokens_in-suc units k t at)
+
+-- the same for the tokens of a unit that counts from 1
+pub tokens-step : (units : List UnitAnalysis) (k : ℕ) (t : UnitTextValue) (toks : List Token)
+    → option_map (λ u. u.text) (slice_get units (k + 1 - 1)) ≡ Some t → toks ≡ t.toks
+    → tokens_in (drop k units) ≡ length toks + tokens_in (drop (k + 1) units)
+tokens-step units k t toks at is =
+    let same : k + 1 - 1 ≡ k = omega arith in
+    let there : option_map (λ u. u.text) (slice_get units k) ≡ Some t = rw same at at in
+    rw is (tokens_in-drop units k t there)
+
+places_in-suc : (edits : List Edit) (k count : ℕ) → k < length edits → IfSome (slice_get edits k) (λ e. count ≡ e.count)
+    → places_in (drop k edits) ≡ count + places_in (drop (suc k) edits)
+places_in-suc [] k count below n = absurd (omega arith)
+places_in-suc (e ∷ edits) zero count below n = rw n refl
+places_in-suc (e ∷ edits) (suc k) count below n = places_in-suc edits k count (omega arith) n
+
+-- so with the places of edits
+pub places_in-drop : (edits : List Edit) (k count : ℕ) → k < length edits → IfSome (slice_get edits k) (λ e. count ≡ e.count)
+    → places_in (drop k edits) ≡ count + places_in (drop (k + 1) edits)
+places_in-drop edits k count below n = rw add-one (places_in-suc edits k count below n)
+
+-- a plan's early end tells of no read
+pub plan-quiet : (end : Stop) → IsPlanStop end → IsQuiet end
+plan-quiet stop.BadName p = tt
+plan-quiet stop.NoName p = tt
+plan-quiet (stop.Offence place cause) p = tt
+plan-quiet stop.Memory p = tt
+plan-quiet stop.NoWorkspace p = absurd p
+plan-quiet (stop.BadLine line) p = absurd p
+plan-quiet (stop.TooManyUnits line) p = absurd p
+plan-quiet stop.UnreadWorkspace p = absurd p
+plan-quiet (stop.UnitFault unit place cause) p = absurd p
+plan-quiet (stop.UnreadFile path) p = absurd p
+plan-quiet stop.NoUnit p = absurd p
+
+pub plans-quiet : {X : Type 0} (r : Result X Stop) → IfErr r IsPlanStop → IfErr r IsQuiet
+plans-quiet (Ok x) p = tt
+plans-quiet (Err end) p = plan-quiet end p

@@ -1,0 +1,80 @@
+// The generated workspace: made, analysed and renamed in memory, and counted. It touches no file.
+ghost use Rattle.std.specs.Prelude.{◌≡◌, ◌≤◌, ◌^◌, IfErr, IfOk, Ok};
+ghost use Rattle.table_laws.specs.Counts.{tokens_in};
+ghost use Rattle.generated.specs.Generated.{workspace_path};
+ghost use Rattle.cscout_run.specs.Answer.{IsGenerated, IsSizeAnswer, places_in};
+ghost use Rattle.cscout_run.specs.Message.{size_line};
+ghost use Rattle.cscout_run.specs.Steps.{IsPlanStop, IsQuiet, Prepares};
+
+use crate::preparing::{Ready, stop_for};
+use crate::reporting::stop_of;
+use crate::stops::Stop;
+use crate::workspace_files::read_workspace;
+use cs_base::{Edits, Memory};
+use generated::{Unfailing, generate};
+use rename_edit::plan_rename;
+use std::alloc::Global;
+use std::format;
+use ws_core::{Analysis, analyse};
+
+/// All of the answer to a generated workspace of so many units but its output. No file is read.
+pub(crate) fn prepare_generated(alloc: Global, n: u32) -> Result<Ready, Stop>
+    ensures answer { Prepares workspace_path (IsGenerated n) result }
+    ensures stops { IfErr result IsQuiet }
+{
+    let mut files = Unfailing::new(generate(alloc, n)?);
+    let ws = read_workspace(alloc, "w.cs", &mut files)?;
+    match analyse(alloc, &ws, &mut files) {
+        Ok(analysis) => size_of(alloc, &analysis, n),
+        Err(fault) => Err(stop_of(fault)),
+    }
+}
+
+// What is told of the generated workspace, once it is analysed.
+fn size_of(alloc: Global, a: &Analysis, n: u32) -> Result<Ready, Stop>
+    requires { tokens_in a.now.value.units ≤ 2 ^ 23 }
+    ensures answer { Prepares workspace_path (IsSizeAnswer n (Ok a.now.value)) result }
+    ensures stops { IfErr result IsPlanStop }
+{
+    match plan_rename(alloc, a, "h.h", 1, 12, b"sum") {
+        Ok(edits) => {
+            let text = size_text(alloc, n, tokens(a), places(&edits))?;
+            Ok(Ready {
+                edits: Edits::new(alloc),
+                text,
+            })
+        }
+        Err(refusal) => Err(stop_for(refusal)),
+    }
+}
+
+// How many tokens the units have.
+fn tokens(a: &Analysis) -> u32
+    requires { tokens_in a.now.value.units ≤ 2 ^ 23 }
+    ensures { result ≡ tokens_in a.now.value.units }
+{
+    let mut sum = 0;
+    for k in 0..a.units() {
+        sum += a.text(k + 1).toks().len() as u32;
+    }
+    sum
+}
+
+// How many places the edits change.
+fn places(edits: &Edits) -> u64
+    ensures { result ≡ places_in edits.now }
+{
+    let mut sum = 0;
+    for k in 0..edits.len() {
+        sum += edits.count(k) as u64;
+    }
+    sum
+}
+
+// The line that tells the size.
+fn size_text(alloc: Global, n: u32, tokens: u32, places: u64) -> Result<Vec<u8>, Memory>
+    ensures { IfOk result (λ text. text.items ≡ size_line n tokens places) }
+{
+    let line = format!(in alloc; "units {n} tokens {tokens} members {places}\n")?;
+    Ok(Vec::from_slice(alloc, line.as_bytes())?)
+}
