@@ -1,0 +1,8 @@
+pub mod AnswerLemmas
+pub mod InclusionLemmas
+pub mod UseLemmas
+pub mod LineLemmas
+pub mod UnneededLemmas
+pub mod OrderLemmas
+pub mod MarkLemmas
+pub mod UnusedLemmas

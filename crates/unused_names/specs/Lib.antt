@@ -1,0 +1,11 @@
+-- What the public contracts rest on.
+pub mod Inclusions
+pub mod Order
+pub mod Unneeded
+pub mod Roles
+pub mod Unused
+-- What inner functions promise each other.
+pub mod Spans
+pub mod LastUses
+pub mod Lines
+pub mod Marks

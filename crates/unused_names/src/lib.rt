@@ -1,0 +1,26 @@
+//! Names that are declared and never used, and include lines that bring nothing which is used.
+//!
+//! Both look at an analysed workspace as a whole. `unneeded` gives the include lines each inclusion of which shares no
+//! entity with the rest of its unit and gives no macro name a meaning that is asked for behind it
+//! (ISO/IEC 9899:1999, 6.2.1, 6.10.2, 6.10.3): it is `AreUnneeded` of `specs/Unneeded.antt`. `unused` gives the first
+//! member of each class that some name declares and none uses: it is `AreUnused` of `specs/Unused.antt`. Lines in
+//! read-only files and classes with a member there are left out. How a workspace is analysed belongs to the crate
+//! below, and how the answers are printed to those above. Nothing is refused; want of memory is answered `Memory`.
+//! `unused` walks over all names twice; `unneeded` looks at each token and event of a unit once for each inclusion that
+//! is open there, whose number is limited. Read `specs/Inclusions.antt`, `specs/Unneeded.antt`, `specs/Roles.antt` and
+//! `specs/Unused.antt`, then `unneeded_lines.rt` and `unused_classes.rt`.
+#![tactic(auto)]
+
+mod inclusions;
+mod last_uses;
+mod lines;
+mod marks;
+mod order;
+mod roles;
+mod spans;
+mod unneeded_lines;
+mod unused_classes;
+
+pub use roles::Role;
+pub use unneeded_lines::unneeded;
+pub use unused_classes::unused;

@@ -1,0 +1,100 @@
+// Names that are declared and not used.
+ghost use Rattle.std.specs.Prelude.{◌≡◌, IfOk, MatchBool, codes};
+ghost use Rattle.std.specs.Str.{bytes_eq};
+ghost use Rattle.ws_core.specs.Parts.{IsFirst, IsPart};
+ghost use Rattle.unused_names.specs.Marks.{AreMarked};
+ghost use Rattle.unused_names.specs.Roles.{names_with};
+ghost use Rattle.unused_names.specs.Unused.{AreUnused, IsDeclaredAlone, IsReadOnlyClass, IsUnused};
+ghost use Rattle.unused_names.specs.declared.roles.Role.TheVariants as role;
+
+use crate::marks::{is_marked, marks_of};
+use crate::roles::Role;
+use cs_base::{Memory, Part};
+use std::alloc::Global;
+use ws_core::Analysis;
+
+// Whether some member of the class lies in a read-only file.
+fn has_read_only(a: &Analysis, part: Part) -> bool
+    requires { IsPart a.now.value part }
+    ensures { MatchBool result (IsReadOnlyClass a.now.value part) (IsReadOnlyClass a.now.value part → ⊥) }
+{
+    let members = a.members(part);
+    for member in members {
+        if a.read_only(member.start.file) {
+            return true;
+        }
+    }
+    false
+}
+
+// Whether the class of a part has a name that declares, and none that uses.
+fn is_declared_alone(a: &Analysis, declared: &[bool], used: &[bool], part: Part) -> bool
+    requires part { IsPart a.now.value part }
+    requires declared { AreMarked a.now.classes (names_with role.Declares a.now.value) declared.now }
+    requires used { AreMarked a.now.classes (names_with role.Uses a.now.value) used.now }
+    ensures { MatchBool result (IsDeclaredAlone a.now.value part) (IsDeclaredAlone a.now.value part → ⊥) }
+{
+    let classes = a.classes();
+    let Some(class) = classes.class_of(part) else {
+        return false;
+    };
+    if !is_marked(declared, class) {
+        return false;
+    }
+    let is_used = is_marked(used, class);
+    !is_used
+}
+
+// Whether this is the name of the function that a program begins with.
+fn is_main(name: &[u8]) -> bool
+    ensures { result ≡ bytes_eq name.now (codes "main") }
+{
+    name == b"main".as_slice()
+}
+
+// Whether this is the first member of a class that is unused.
+fn is_unused(a: &Analysis, declared: &[bool], used: &[bool], part: Part) -> bool
+    requires first { IsFirst a.now.value part }
+    requires declared { AreMarked a.now.classes (names_with role.Declares a.now.value) declared.now }
+    requires used { AreMarked a.now.classes (names_with role.Uses a.now.value) used.now }
+    ensures { MatchBool result (IsUnused a.now.value part) (IsUnused a.now.value part → ⊥) }
+{
+    if !is_declared_alone(a, declared, used, part) {
+        return false;
+    }
+    if has_read_only(a, part) {
+        return false;
+    }
+    let is_main = is_main(a.spelling(part));
+    !is_main
+}
+
+// Those of the first members of classes.
+fn chosen(
+    alloc: Global,
+    a: &Analysis,
+    declared: &[bool],
+    used: &[bool],
+) -> Result<Vec<Part>, Memory>
+    requires declared { AreMarked a.now.classes (names_with role.Declares a.now.value) declared.now }
+    requires used { AreMarked a.now.classes (names_with role.Uses a.now.value) used.now }
+    ensures { IfOk result (λ parts. AreUnused a.now.value parts.items) }
+{
+    let firsts = a.firsts();
+    let mut parts = Vec::new(alloc);
+    for part in firsts {
+        if is_unused(a, declared, used, *part) {
+            parts.push(*part)?;
+        }
+    }
+    Ok(parts)
+}
+
+/// The first member of each class that is unused, in the order of their places.
+pub fn unused(alloc: Global, a: &Analysis) -> Result<Vec<Part>, Memory>
+    ensures { IfOk result (λ parts. AreUnused a.now.value parts.items) }
+{
+    let declared = marks_of(alloc, a, Role::Declares)?;
+    let used = marks_of(alloc, a, Role::Uses)?;
+    chosen(alloc, a, &declared, &used)
+}
