@@ -1,9 +1,9 @@
 -- The table of the replacement lists of macros, as tokens come into it.
-use Rattle.std.proofs.Common.{ℕ, ◌+◌, ◌<◌, ◌≤◌, ◌≡◌, Bor, Bool, true, false, ◌&&◌, cond, List, [], ◌∷◌, ◌++◌, length, take, drop, Option, None, Some, slice_get, refl, sym, ap, ◌∙◌, inl, inr}
-use Rattle.std.specs.Prelude.{find, map, ◌==◌, if◌then◌else◌}
+use Rattle.std.proofs.Common.{ℕ, ◌+◌, ◌<◌, ◌≤◌, ◌≡◌, Bor, Bool, true, false, cond, List, [], ◌∷◌, ◌++◌, length, take, drop, Option, None, Some, refl, sym, ap, ◌∙◌, inl, inr}
+use Rattle.std.specs.Prelude.{find, map, ◌==◌}
 use Rattle.std.specs.Option.{option_copied, option_map, option_map_or, option_or}
 use Rattle.std.proofs.lemmas.Bool.{cases_Bool, eqb-true, and_parts}
-use Rattle.std.proofs.lemmas.List.{at_drop_more, at_drop_all, map-append, take_more, append-nil}
+use Rattle.std.proofs.lemmas.List.{at_drop_more, at_drop_all, map-append, append-nil}
 use Rattle.std.specs.List.{flat_map}
 use Rattle.std.proofs.lemmas.Grind.{flat_map-append}
 use Rattle.std.proofs.lemmas.List.Folds.{find-append}

@@ -1,6 +1,6 @@
 -- The calls of an analysis (this project's, over ISO/IEC 9899:1999, 6.5.2.2, 6.9.1 and 6.10.3): a macro that replaces
 -- a name is called, and so is a function whose name stands directly before the parentheses of its arguments.
-use Rattle.std.specs.Prelude.{ℕ, ◌&&◌, nat_lt, nat_le, if◌then◌else◌, Bool, false, Option, Some, None, List, [], ◌∷◌, ◌++◌, find, slice_get}
+use Rattle.std.specs.Prelude.{ℕ, ◌&&◌, nat_lt, nat_le, if◌then◌else◌, Bool, false, Option, Some, List, [], ◌∷◌, ◌++◌, find, slice_get}
 use Rattle.std.specs.List.{flat_map}
 use Rattle.std.specs.Option.{option_map, option_map_or, option_and_then, option_or}
 use Rattle.cs_base.specs.declared.positions.Pos.{Pos}

@@ -4,3 +4,4 @@ pub mod Calls
 pub mod Graphs
 -- What inner functions promise each other.
 pub mod Owners
+pub mod Externals

@@ -1,0 +1,131 @@
+// The first token of each name of external linkage, in its project (ISO/IEC 9899:1999, 6.2.2 paragraph 2).
+ghost use Rattle.std.specs.Prelude.{◌≡◌, ◌∷◌, [], List, ℕ, None, IfOk, OnOk};
+ghost use Rattle.std.specs.Option.{option_copied};
+ghost use Rattle.linkage_join.specs.Firsts.{first_at};
+ghost use Rattle.scope_bind.specs.Declarations.{is_linkage};
+ghost use Rattle.scope_bind.specs.declared.entity.Linkage.TheVariants.{External};
+ghost use Rattle.ws_core.specs.Links.{external_names_from, is_bound_to, is_external_name, names_of_units};
+ghost use Rattle.calls_of.specs.Calls.{first_in};
+ghost use Rattle.calls_of.specs.Externals.{own_name, Adds, AddsUnits};
+
+use cs_base::{Memory, Tok, Unit};
+use indexmap::IndexMap;
+use scope_bind::{Bound, Linkage};
+use std::alloc::Global;
+use ws_core::Analysis;
+use ws_file::Workspace;
+
+/// For a project and a spelling the first token, where there is one. The keys and the tokens are lent.
+#[derive(Drop)]
+pub(crate) struct Firsts<'a> {
+    toks: IndexMap<(&'a [u8], &'a [u8]), &'a Tok>,
+}
+
+impl<'a> Firsts<'a> {
+    fn new(alloc: Global) -> Firsts<'a>
+        ensures { (project text : List ℕ) → first_at result.toks project text ≡ None }
+    {
+        Firsts {
+            toks: IndexMap::new(alloc),
+        }
+    }
+
+    /// The first token of a spelling in a project.
+    pub(crate) fn first(&self, project: &'a [u8], text: &'a [u8]) -> Option<&'a Tok>
+        ensures { option_copied result ≡ first_at self.now.toks project.now text.now }
+    {
+        self.toks.get(&(project, text)).copied()
+    }
+
+    // A name becomes first, where its spelling has no token yet.
+    fn keep(&mut self, project: &'a [u8], name: &'a Tok) -> Result<(), Memory>
+        ensures { OnOk result (Adds project.now (name.now ∷ []) (first_at self.old.toks) (first_at self.new.toks)) }
+    {
+        if self.first(project, name.text()).is_none() {
+            self.toks.insert((project, name.text()), name)?;
+        }
+        Ok(())
+    }
+
+    // So does token `k`, if it is the first that declares an entity of external linkage.
+    fn keep_own(
+        &mut self,
+        project: &'a [u8],
+        tok: &'a Tok,
+        bound: &Bound,
+        k: u32,
+    ) -> Result<(), Memory>
+        ensures { OnOk result (Adds project.now (own_name bound.now.names k tok.now) (first_at self.old.toks) (first_at self.new.toks)) }
+    {
+        if is_external_name(bound, k) {
+            self.keep(project, tok)
+        } else {
+            Ok(())
+        }
+    }
+
+    // So do those of a unit.
+    fn keep_unit(&mut self, project: &'a [u8], toks: &'a [Tok], bound: &Bound) -> Result<(), Memory>
+        ensures { OnOk result (Adds project.now (external_names_from bound.now.names 0 toks.now) (first_at self.old.toks) (first_at self.new.toks)) }
+    {
+        if toks.len() > u32::MAX as usize {
+            return Err(Memory);
+        }
+        for k in 0..toks.len() {
+            self.keep_own(project, &toks[k], bound, k as u32)?;
+        }
+        Ok(())
+    }
+
+    // So do those of all units.
+    fn keep_units(&mut self, units: &'a [Unit], a: &'a Analysis) -> Result<(), Memory>
+        ensures { OnOk result (AddsUnits (names_of_units units.now a.now.value.units) (first_at self.old.toks) (first_at self.new.toks)) }
+    {
+        for i in 0..units.len().min(a.units() as usize) {
+            let text = a.text(i as u32 + 1);
+            let bound = a.bound(i as u32 + 1);
+            self.keep_unit(units[i].project().bytes(), text.toks(), bound)?;
+        }
+        Ok(())
+    }
+
+    /// The table of an analysis of a workspace.
+    pub(crate) fn of(
+        alloc: Global,
+        ws: &'a Workspace,
+        a: &'a Analysis,
+    ) -> Result<Firsts<'a>, Memory>
+        requires { a.now.value.workspace ≡ ws.now }
+        ensures { IfOk result (λ f. (project text : List ℕ) → first_at f.toks project text ≡ first_in a.now.value project text) }
+    {
+        let mut firsts = Firsts::new(alloc);
+        firsts.keep_units(ws.units(), a)?;
+        Ok(firsts)
+    }
+}
+
+// Whether a token is the first that declares an entity of external linkage.
+fn is_external_name(bound: &Bound, k: u32) -> bool
+    ensures { result ≡ is_external_name bound.now.names k }
+{
+    is_own_entity(bound, k) && is_external(bound.linkage(k))
+}
+
+// Whether the token is bound to the entity that it is the first to declare.
+fn is_own_entity(bound: &Bound, k: u32) -> bool
+    ensures { result ≡ is_bound_to bound.now.names k k }
+{
+    match bound.entity(k) {
+        Some(entity) => entity == k,
+        None => false,
+    }
+}
+
+pub(crate) fn is_external(linkage: Linkage) -> bool
+    ensures { result ≡ is_linkage linkage External }
+{
+    match linkage {
+        Linkage::External => true,
+        _ => false,
+    }
+}
