@@ -57,6 +57,13 @@ impl Graph {
         self.nodes.get(k as usize)
     }
 
+    /// The edges, in order of the caller and then of the callee, each once. Takes no memory.
+    pub fn edges(&self) -> &[Edge]
+        ensures { result.now ≡ self.now.edges }
+    {
+        self.edges.as_slice()
+    }
+
     // The edges that lead from a node: they stand together.
     fn edges_from(&self, node: u32) -> &[Edge]
         ensures { result.now ≡ edges_of node self.now.edges }
