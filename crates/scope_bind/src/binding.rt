@@ -69,9 +69,9 @@ fn count_of(toks: &[Tok]) -> Result<u32, Memory>
 fn facts_of<'a>(alloc: Global, toks: &'a [Tok], tree: &Tree) -> Result<Facts<'a>, Memory>
     ensures { IfOk result (λ f. f ≡ known toks.now (facts_of toks.now tree.now.under)) }
 {
-    let begin = outermost(alloc, count_of(toks)?);
+    let mut frame = outermost(alloc, count_of(toks)?);
     let mut facts = Facts::new(alloc, toks)?;
-    walk(&mut facts, alloc, tree, begin)?;
+    walk(&mut facts, alloc, tree, &mut frame)?;
     Ok(facts)
 }
 

@@ -1,18 +1,15 @@
 // What is known once a node is left: what it declares, and the frame around it.
-ghost use Rattle.std.specs.Prelude.{◌≡◌, [], if◌then◌else◌, IfOk, OnOk};
-ghost use Rattle.c99_tree.specs.declared.production.Production.TheVariants.{Specs as SpecsNode};
+ghost use Rattle.std.specs.Prelude.{◌≡◌, [], OnOk};
 ghost use Rattle.scope_bind.specs.Known.{known};
-ghost use Rattle.scope_bind.specs.Trees.{is_node, words_of};
 ghost use Rattle.scope_bind.specs.Walk.{declared_in, parameter_in, facts_after, kept_after, frame_after};
 
 use crate::declarators::{first_list, name_below};
 use crate::expressions::found_after;
 use crate::facts::Facts;
-use crate::frames::{Body, Frame, Words};
+use crate::frames::{Body, Frame};
 use crate::initializers::position_after;
 use crate::tags::number_in;
 use crate::trees::{is_node, last_token, words_of};
-use crate::types::CType;
 use c99_tree::{Production, Tree};
 use cs_base::{Memory, Tok};
 use std::alloc::Global;
@@ -40,6 +37,7 @@ impl Facts<'_> {
     }
 
     /// A node is left.
+    #[inline(never)]
     pub(crate) fn leave(
         &mut self,
         alloc: Global,
@@ -74,55 +72,31 @@ fn kept_after(f: &Frame, tree: &Tree) -> Option<u32>
     }
 }
 
-/// The frame around, once a child is left.
-pub(crate) fn frame_after(
+/// A child is left: the frame around goes on with what it has found.
+#[inline(never)]
+pub(crate) fn go_on(
     alloc: Global,
     toks: &[Tok],
-    f: &Frame,
+    f: &mut Frame,
     tree: &Tree,
-    child: Frame,
-) -> Result<Frame, Memory>
-    ensures { IfOk result (λ g. g ≡ frame_after toks.now f.now tree.now.label tree.now.under child) }
+    child: &Frame,
+) -> Result<(), Memory>
+    ensures { OnOk result (f.new ≡ frame_after toks.now f.old tree.now.label tree.now.under child.now) }
 {
     let nth = match f.nth.checked_add(1) {
         Some(nth) => nth,
         None => return Err(Memory),
     };
-    Ok(Frame {
-        label: f.label,
-        nth,
-        token: f.token,
-        scope: f.scope,
-        body: f.body,
-        listing: f.listing,
-        alone: f.alone,
-        has_body: f.has_body,
-        base: base_after(f, tree, &child)?,
-        words: words_after(f, tree),
-        kept: kept_after(f, tree),
-        owner: f.owner,
-        given: f.given.copied()?,
-        found: found_after(alloc, toks, f, tree, &child)?,
-        position: position_after(f, tree, &child)?,
-    })
-}
-
-fn base_after(f: &Frame, tree: &Tree, child: &Frame) -> Result<CType, Memory>
-    ensures { IfOk result (λ t. t ≡ (if is_node tree.now.label SpecsNode then child.now.found else f.now.base)) }
-{
+    let found = found_after(alloc, toks, f, tree, child)?;
+    let position = position_after(f, tree, child)?;
+    let kept = kept_after(f, tree);
     if is_node(tree.label(), Production::Specs) {
-        child.found.copied()
-    } else {
-        f.base.copied()
+        f.base = child.found.copied()?;
+        f.words = words_of(tree);
     }
-}
-
-fn words_after(f: &Frame, tree: &Tree) -> Words
-    ensures { result ≡ (if is_node tree.now.label SpecsNode then words_of tree.now.under else f.now.words) }
-{
-    if is_node(tree.label(), Production::Specs) {
-        words_of(tree)
-    } else {
-        f.words
-    }
+    f.nth = nth;
+    f.kept = kept;
+    f.found = found;
+    f.position = position;
+    Ok(())
 }

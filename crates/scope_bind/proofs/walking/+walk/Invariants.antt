@@ -17,5 +17,5 @@ decreases-walk_node l = 3 * size_of l.inner.now.under + 2
 abbrev pub invariant-walk-children : goal.invariant-walk-children
 invariant-walk-children l = record {
   toks : l.facts.toks ≡ l.initial.facts.toks;
-  rest : walked l.facts.toks (from_child l.k l.tree.under) (state l.facts.facts l.f) ≡ walked l.initial.facts.toks l.tree.under (state l.initial.facts.facts l.fn.begin);
+  rest : walked l.facts.toks (from_child l.k l.tree.under) (state l.facts.facts l.f) ≡ walked l.initial.facts.toks l.tree.under (state l.initial.facts.facts l.initial.f);
 }
