@@ -7,22 +7,21 @@ use Rattle.std.proofs.lemmas.List.{reverse-append, length-reverse, length-take-l
 use Rattle.std.proofs.Math.Seq.{take-length}
 use Rattle.scope_bind.specs.declared.declarations.Declaration.{Declaration}
 use Rattle.scope_bind.specs.Latest.{tested}
-use Rattle.scope_bind.specs.Links.{latest_place, AreLinked, IsLeft, IsGathered, all_at, passing}
+use Rattle.scope_bind.specs.Links.{latest_place, AreLinked, IsLeft}
 use Rattle.scope_bind.proofs.LatestLemmas.{take_one_more, slice_get_some, find_step}
-use Rattle.scope_bind.proofs.Reversed.{map_reversed, filter_twice}
 
-back_more : (xs : List Declaration) (k : ℕ) (x : Declaration) → slice_get xs k ≡ Some x
+pub back_more : (xs : List Declaration) (k : ℕ) (x : Declaration) → slice_get xs k ≡ Some x
     → reverse (take (suc k) xs) ≡ x ∷ reverse (take k xs)
 back_more xs k x e = ap reverse (take_one_more xs k x e) ∙ reverse-append (take k xs) (x ∷ [])
 
-length_back : (xs : List Declaration) (k : ℕ) → k ≤ length xs → length (reverse (take k xs)) ≡ k
+pub length_back : (xs : List Declaration) (k : ℕ) → k ≤ length xs → length (reverse (take k xs)) ≡ k
 length_back xs k l = length-reverse (take k xs) ∙ length-take-le k xs l
 
 place_one : (b : Bool) (n m : ℕ) → m ≤ n → cond b (n + 1) m ≤ suc n
 place_one true n m l = omega arith
 place_one false n m l = omega (arith, l)
 
-place_within : (test : Declaration → Bool) (ds : List Declaration) → latest_place test ds ≤ length ds
+pub place_within : (test : Declaration → Bool) (ds : List Declaration) → latest_place test ds ≤ length ds
 place_within test [] = omega arith
 place_within test (d ∷ ds) = place_one (test d) (length ds) (latest_place test ds) (place_within test ds)
 
@@ -149,44 +148,3 @@ module _ (test sought : Declaration → Bool) (apart : (d : Declaration) → tes
       let step = ap (λ j. find sought (reverse (take j xs))) (sym (add-one k)) ∙ find_step sought xs k (omega (arith, left.within)) in
       let some = ap (λ o. option_or o (find sought (reverse (take k xs)))) (sym at ∙ g) in
       sym (sym left.rest ∙ (step ∙ some))
-
--- ---- All that pass
-
-module _ (test : Declaration → Bool) (xs : List Declaration) where
-  skip_passing : (d : Declaration) (ds : List Declaration) → test d ≡ false → passing test (d ∷ ds) ≡ passing test ds
-  skip_passing d ds fails = ap (map Some) (cond-false (test d) (d ∷ filter test ds) (filter test ds) fails)
-
-  pub gather_all : (before : List ℕ) (newest : ℕ) → AreLinked test xs before newest → IsGathered test xs [] newest
-  gather_all before newest linked =
-      let left = left_all test (passing test) skip_passing xs before newest linked in
-      record { within = left.within; again = left.again; told = left.rest }
-
-  -- one more is told
-  pub gather_on : (before : List ℕ) (newest p : ℕ) (places longer : List ℕ) → AreLinked test xs before newest → IsGathered test xs places p → 0 < p
-      → longer ≡ places ++ (p - 1) ∷ [] → IsGathered test xs longer (get_or before (p - 1) 0)
-  gather_on before newest zero places longer linked g l e = absurd (omega (arith, l))
-  gather_on before newest (suc k) places longer linked g l e =
-      let m : suc k - 1 ≡ k = omega arith in
-      let x = slice_get_some xs k (omega (arith, g.within)) in
-      let here = passes_here test xs k x.0 g.within x.1 g.again in
-      let down = left_of test (passing test) skip_passing xs k (omega (arith, g.within)) in
-      let one = ap (passing test) (back_more xs k x.0 x.1) ∙ ap (map Some) (cond-true (test x.0) (x.0 ∷ filter test (reverse (take k xs))) (filter test (reverse (take k xs))) here) in
-      let shown = ap (all_at xs) e ∙ (map-append (slice_get xs) places ((suc k - 1) ∷ []) ∙ ap (λ o. all_at xs places ++ o ∷ []) (ap (slice_get xs) m ∙ x.1)) in
-      subst (IsGathered test xs longer) (sym (ap (λ j. get_or before j 0) m ∙ leads_to test xs before newest k linked g.within g.again))
-      (record {
-        within = down.within;
-        again = down.again;
-        told = ap (λ ys. all_at xs longer ++ ys) down.rest
-            ∙ (ap (λ ys. ys ++ passing test (reverse (take k xs))) shown
-            ∙ (append_assoc (all_at xs places) (Some x.0 ∷ []) (passing test (reverse (take k xs)))
-            ∙ (ap (λ ys. all_at xs places ++ ys) (sym one) ∙ g.told)));
-      })
-
-  -- all are told, and put the other way round
-  pub gathered : (p : ℕ) (places turned : List ℕ) → IsGathered test xs places p → p ≡ 0 → turned ≡ reverse places
-      → all_at xs turned ≡ passing test xs
-  gathered p places turned g e f =
-      ap (all_at xs) f
-      ∙ (map_reversed (slice_get xs) places
-      ∙ (ap reverse (sym (append-nil (all_at xs places)) ∙ (ap (λ j. all_at xs places ++ passing test (reverse (take j xs))) (sym e) ∙ g.told))
-      ∙ (sym (map_reversed Some (filter test (reverse xs))) ∙ ap (map Some) (filter_twice test xs))))

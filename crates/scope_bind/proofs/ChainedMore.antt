@@ -15,7 +15,7 @@ use Rattle.scope_bind.specs.declared.declarations.Space.TheVariants.{Ordinary as
 use Rattle.scope_bind.specs.Places.{is_member_of}
 use Rattle.scope_bind.specs.Spellings.{number_at, AreNumbers}
 use Rattle.scope_bind.specs.Links.{Links, with_link, TellsSame, HasRoom, has_key, latest_place, AreChained, AreLinked}
-use Rattle.scope_bind.specs.Chains.{sort_of, name_key, name_key_of, member_key, member_key_of, AreEnded, with_end}
+use Rattle.scope_bind.specs.Chains.{count_of, space_key, name_key, name_key_of, member_key, member_key_of, AreEnded, with_end}
 
 None≢Some : (x : Declaration) → None ≡ Some x → ⊥
 None≢Some x e = cc
@@ -118,23 +118,23 @@ named_by numbers xs links space i n p a m e =
     subst (AreLinked (has_key (name_key_of numbers) (name_key numbers space i)) xs links.before) (sym (e ∙ ap (λ j. get_or links.newest j 0) m))
     (linked_by (name_key_of numbers) xs links (name_key numbers space i) a)
 
-same_sort : (s t : Space) → is_space s t ≡ true → sort_of s ≡ sort_of t
-same_sort ordinary ordinary e = refl
-same_sort ordinary tags e = cc
-same_sort ordinary (members n) e = cc
-same_sort ordinary (labels n) e = cc
-same_sort tags ordinary e = cc
-same_sort tags tags e = refl
-same_sort tags (members n) e = cc
-same_sort tags (labels n) e = cc
-same_sort (members m) ordinary e = cc
-same_sort (members m) tags e = cc
-same_sort (members m) (members n) e = refl
-same_sort (members m) (labels n) e = cc
-same_sort (labels m) ordinary e = cc
-same_sort (labels m) tags e = cc
-same_sort (labels m) (members n) e = cc
-same_sort (labels m) (labels n) e = refl
+pub same_space : (s t : Space) → is_space s t ≡ true → s ≡ t
+same_space ordinary ordinary e = refl
+same_space ordinary tags e = cc
+same_space ordinary (members n) e = cc
+same_space ordinary (labels n) e = cc
+same_space tags ordinary e = cc
+same_space tags tags e = refl
+same_space tags (members n) e = cc
+same_space tags (labels n) e = cc
+same_space (members m) ordinary e = cc
+same_space (members m) tags e = cc
+same_space (members m) (members n) e = ap members (eqb-true m n e)
+same_space (members m) (labels n) e = cc
+same_space (labels m) ordinary e = cc
+same_space (labels m) tags e = cc
+same_space (labels m) (members n) e = cc
+same_space (labels m) (labels n) e = ap labels (eqb-true m n e)
 
 -- what has another key has not the name
 module _ (toks : List Token) (numbers : List ℕ) (are : AreNumbers toks numbers) (space : Space) (i : ℕ) where
@@ -146,8 +146,9 @@ module _ (toks : List Token) (numbers : List ℕ) (are : AreNumbers toks numbers
           | inr other ↦ rw (alike_space, other) refl
           | inl alike_name ↦
               let n : number_at numbers i ≡ number_at numbers d.name_at = eqb-true (number_at numbers i) (number_at numbers d.name_at) (sym (are.same i d.name_at) ∙ alike_name) in
-              let s : sort_of d.space ≡ sort_of space = same_sort d.space space alike_space in
-              absurd (true≢false (sym (eq-eqb (name_key numbers space i) (name_key_of numbers d) (omega (arith, n, s))) ∙ fails))
+              let k : name_key numbers space i ≡ name_key_of numbers d =
+              ap (space_key (count_of numbers) space) n ∙ ap (λ s. space_key (count_of numbers) s (number_at numbers d.name_at)) (sym (same_space d.space space alike_space)) in
+              absurd (true≢false (sym (eq-eqb (name_key numbers space i) (name_key_of numbers d) k) ∙ fails))
         ]
       ]
 

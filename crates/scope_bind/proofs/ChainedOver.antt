@@ -9,7 +9,7 @@ use Rattle.cs_base.specs.Token.{Token}
 use Rattle.scope_bind.specs.declared.declarations.Declaration.{Declaration}
 use Rattle.scope_bind.specs.declared.declarations.Space.{Space}
 use Rattle.scope_bind.specs.declared.latest.Asked.{Asked}
-use Rattle.scope_bind.specs.declared.latest.Asked.TheVariants.{Live, Within, Tag, Anywhere, Linked, Other}
+use Rattle.scope_bind.specs.declared.latest.Asked.TheVariants.{Live, Within, Tag, Anywhere}
 use Rattle.scope_bind.specs.Declarations.{is_live, is_named}
 use Rattle.scope_bind.specs.Latest.{passes}
 use Rattle.scope_bind.specs.Spellings.{AreNumbers}
@@ -19,7 +19,7 @@ use Rattle.scope_bind.proofs.LatestLemmas.{slice_get_some}
 use Rattle.scope_bind.proofs.ChainLemmas.{passes_here, leads_to, left_whole, left_all, left_on}
 use Rattle.scope_bind.proofs.ChainedMore.{get_front, take_front, apart}
 
-not_true : (b : Bool) → not b ≡ true → b ≡ false
+pub not_true : (b : Bool) → not b ≡ true → b ≡ false
 not_true true e = cc
 not_true false e = refl
 
@@ -174,8 +174,6 @@ ended_fails (Live m) at d e l = let s : m ≡ at = cc in rw (s, not_live at d l)
 ended_fails (Within m depth) at d e l = let s : m ≡ at = cc in rw (s, not_live at d l) refl
 ended_fails (Tag m anew depth) at d e l = let s : m ≡ at = cc in rw (s, not_live at d l) refl
 ended_fails Anywhere at d e l = cc
-ended_fails Linked at d e l = cc
-ended_fails (Other linkage) at d e l = cc
 
 module _ (toks : List Token) (numbers : List ℕ) (are : AreNumbers toks numbers) (space : Space) (i : ℕ) (asked : Asked) where
   abbrev key : ℕ

@@ -1,7 +1,8 @@
 -- Walks over the children of a node.
-use Rattle.std.proofs.Common.{ℕ, zero, suc, ◌+◌, ◌<◌, ◌≤◌, ◌≡◌, Bool, true, false, ◌||◌, Option, None, Some, refl, sym, ap, subst, ◌∙◌, add-one, arith}
+use Rattle.std.proofs.Common.{ℕ, zero, suc, ◌+◌, ◌<◌, ◌≤◌, ◌≡◌, Bool, true, false, ◌||◌, Option, None, Some, refl, sym, ap, subst, ◌∙◌, add-one, arith, unwrap_or}
 use Rattle.c99_tree.specs.Tree.{Forest, none, token, node, Node, node_of, Part, leaf, inner, count_of, part_at, size_of}
 use Rattle.scope_bind.specs.Children.{from_child}
+use Rattle.scope_bind.specs.Trees.{last_token}
 
 -- a child, in front of others
 abbrev pub in_front : Option Part → Forest → Forest
@@ -55,6 +56,26 @@ part_at-falls (token j rest) (suc k) n at = let h = part_at-falls rest k n at in
 part_at-falls (node l first under rest) (suc k) n at = let h = part_at-falls rest k n at in omega (arith, h)
 
 -- ---- What children say
+
+-- the last token is that of the children from one on, where these have one
+pub last_of_rest : (f : Forest) (k i : ℕ) → ((x : ℕ) → last_token (from_child k f) x ≡ i) → (before : ℕ) → last_token f before ≡ i
+last_of_rest f zero i e before = e before
+last_of_rest none (suc k) i e before = e before
+last_of_rest (token j rest) (suc k) i e before = last_of_rest rest k i e j
+last_of_rest (node l first under rest) (suc k) i e before = last_of_rest rest k i e (last_token under before)
+
+module _ (f : Forest) (j k : ℕ) (r : Option ℕ) (later : k ≡ j + 1) (step : (x : ℕ) → last_token (from_child j f) x ≡ last_token (from_child (j + 1) f) (unwrap_or r x))
+    (empty : (x : ℕ) → last_token (from_child k f) x ≡ x) where
+  last_step : (x : ℕ) → last_token (from_child j f) x ≡ unwrap_or r x
+  last_step x = step x ∙ (ap (λ n. last_token (from_child n f) (unwrap_or r x)) (sym later) ∙ empty (unwrap_or r x))
+
+  -- a child has the last one
+  pub last_found : (i : ℕ) → r ≡ Some i → (before : ℕ) → last_token f before ≡ i
+  last_found i e = last_of_rest f j i (λ x. last_step x ∙ ap (λ o. unwrap_or o x) e)
+
+  -- or no token
+  pub last_passed : r ≡ None → (before : ℕ) → last_token (from_child j f) before ≡ before
+  last_passed e before = last_step before ∙ ap (λ o. unwrap_or o before) e
 
 -- one child after another is asked
 pub asked-yes : (here whole found rest : Bool) → here ≡ whole → here ≡ (found || rest) → found ≡ true → true ≡ whole

@@ -14,10 +14,12 @@ mod WalkLemmas
 mod KeptLemmas
 mod SpellingLemmas
 mod ChainLemmas
+mod LinkedLemmas
 mod ChainedMore
 mod ChainedOver
 mod ChainTables
 mod KeptChains
+mod RankLemmas
 mod MemberLemmas
 mod PlaceLemmas
 mod Reversed

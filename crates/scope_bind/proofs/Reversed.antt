@@ -1,6 +1,8 @@
 -- Lists that are put the other way round.
-use Rattle.std.proofs.Common.{◌≡◌, Bool, true, false, cond, List, [], ◌∷◌, ◌++◌, map, reverse, refl, sym, ap, ◌∙◌}
+use Rattle.std.proofs.Common.{◌≡◌, Bool, true, false, ◌||◌, cond, List, [], ◌∷◌, ◌++◌, map, reverse, refl, sym, ap, ◌∙◌}
 use Rattle.std.specs.Prelude.{filter}
+use Rattle.std.specs.List.{list_any}
+use Rattle.std.proofs.lemmas.List.Folds.{list_any-append}
 use Rattle.std.proofs.lemmas.List.{reverse-append, reverse-reverse, map-append}
 
 module _ {A : Type 0} (p : A → Bool) where
@@ -8,7 +10,7 @@ module _ {A : Type 0} (p : A → Bool) where
   filter_put true x xs ys = refl
   filter_put false x xs ys = refl
 
-  filter_append : (xs ys : List A) → filter p (xs ++ ys) ≡ filter p xs ++ filter p ys
+  pub filter_append : (xs ys : List A) → filter p (xs ++ ys) ≡ filter p xs ++ filter p ys
   filter_append [] ys = refl
   filter_append (x ∷ xs) ys = ap (λ zs. cond (p x) (x ∷ zs) zs) (filter_append xs ys) ∙ filter_put (p x) x (filter p xs) (filter p ys)
 
@@ -26,6 +28,19 @@ module _ {A : Type 0} (p : A → Bool) where
   -- the list, put the other way round twice
   pub filter_twice : (xs : List A) → reverse (filter p (reverse xs)) ≡ filter p xs
   filter_twice xs = ap reverse (filter_reversed xs) ∙ reverse-reverse (filter p xs)
+
+  any_put : (b c : Bool) → (c || (b || false)) ≡ (b || c)
+  any_put true true = refl
+  any_put true false = refl
+  any_put false true = refl
+  any_put false false = refl
+
+  pub any_reversed : (xs : List A) → list_any p (reverse xs) ≡ list_any p xs
+  any_reversed [] = refl
+  any_reversed (x ∷ xs) =
+      ap (list_any p) (reverse-append (x ∷ []) xs)
+      ∙ (list_any-append p (reverse xs) (x ∷ [])
+      ∙ (ap (λ c. c || (p x || false)) (any_reversed xs) ∙ any_put (p x) (list_any p xs)))
 
 module _ {A B : Type 0} (f : A → B) where
   pub map_reversed : (xs : List A) → map f (reverse xs) ≡ reverse (map f xs)

@@ -1,29 +1,38 @@
 -- How the declarations of a unit are found: by the spelling of the name, by the structure or union, and by the end
 -- of the range.
-use Rattle.std.specs.Prelude.{ℕ, ◌+◌, ◌*◌, ◌<◌, ◌≤◌, ◌≡◌, Bool, false, ◌&&◌, not, List, length, take, reverse, filter, get_or, slice_get, slice_set, Option, None, Some, nat_lt, ◌==◌, if◌then◌else◌}
+use Rattle.std.specs.Prelude.{ℕ, ◌+◌, ◌*◌, ◌%◌, ◌<◌, ◌≤◌, ◌≡◌, min, Bool, false, ◌&&◌, not, List, length, take, reverse, filter, get_or, slice_get, slice_set, Option, None, Some, nat_lt, ◌==◌, if◌then◌else◌}
 use Rattle.cs_base.specs.Token.{Token}
 use Rattle.scope_bind.specs.declared.declarations.Space.{Space}
 use Rattle.scope_bind.specs.declared.declarations.Space.TheVariants.{Ordinary as ordinary, Tags as tags, Members as members, Labels as labels}
 use Rattle.scope_bind.specs.declared.declarations.Declaration.{Declaration}
 use Rattle.scope_bind.specs.declared.latest.Asked.{Asked}
-use Rattle.scope_bind.specs.declared.latest.Asked.TheVariants.{Live, Within, Tag, Anywhere, Linked, Other}
+use Rattle.scope_bind.specs.declared.latest.Asked.TheVariants.{Live, Within, Tag, Anywhere}
 use Rattle.scope_bind.specs.Spellings.{number_at, AreNumbers}
 use Rattle.scope_bind.specs.Links.{Links, has_key, AreChained, IsLeft}
+use Rattle.scope_bind.specs.Linked.{linkage_key_of}
+use Rattle.scope_bind.specs.declared.structures.Rank.{Rank}
+use Rattle.scope_bind.specs.Ranks.{AreRanked}
 
 -- the tokens of a unit, and its declarations, the latest first
 pub record Chains : Type 0 where
   pub toks : List Token
   pub declared : List Declaration
 
-abbrev pub sort_of : Space → ℕ
-sort_of ordinary = 0
-sort_of tags = 1
-sort_of (members n) = 2
-sort_of (labels n) = 3
+-- how many numbers there are, as far as it matters
+abbrev pub count_of : List ℕ → ℕ
+count_of numbers = min (length numbers) 4294967295
+
+-- The key of a spelling by its number in a name space. Each structure, union and body has a name space of its own (6.2.3),
+-- so the keys in these are spread over a table, by a factor that is prime; two may have one key.
+abbrev pub space_key : ℕ → Space → ℕ → ℕ
+space_key count ordinary number = count + 1 + number * 2
+space_key count tags number = count + 2 + number * 2
+space_key count (members n) number = (number * 2654435761 + n * 2) % (count + 1)
+space_key count (labels n) number = (number * 2654435761 + n * 2 + 1) % (count + 1)
 
 -- what declarations in a name space that are named as token k have in common
 abbrev pub name_key : List ℕ → Space → ℕ → ℕ
-name_key numbers space k = number_at numbers k * 4 + sort_of space
+name_key numbers space k = space_key (count_of numbers) space (number_at numbers k)
 
 abbrev pub name_key_of : List ℕ → Declaration → ℕ
 name_key_of numbers d = name_key numbers d.space d.name_at
@@ -83,13 +92,13 @@ asked_at (Live at) = Some at
 asked_at (Within at depth) = Some at
 asked_at (Tag at anew depth) = Some at
 asked_at Anywhere = None
-asked_at Linked = None
-asked_at (Other linkage) = None
 
 -- the tables are those of the declarations
-pub record IsTabled (toks : List Token) (numbers : List ℕ) (declared : List Declaration) (names structures : Links) (over ends : List ℕ) : Type 0 where
+pub record IsTabled (toks : List Token) (numbers : List ℕ) (declared : List Declaration) (names linked structures : Links) (over ends : List ℕ) (ranks : List Rank) : Type 0 where
   pub numbered : AreNumbers toks numbers
   pub named : AreChained (name_key_of numbers) declared names
+  pub joined : AreChained (linkage_key_of numbers) declared linked
   pub passed : AreOver (name_key_of numbers) declared over
-  pub joined : AreChained member_key_of declared structures
+  pub owned : AreChained member_key_of declared structures
   pub ended : AreEnded declared ends
+  pub ranked : AreRanked declared ranks

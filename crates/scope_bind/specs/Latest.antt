@@ -2,8 +2,8 @@
 use Rattle.std.specs.Prelude.{Bool, true, ◌&&◌, ◌||◌, not, Option, None, Some, ◌==◌, if◌then◌else◌}
 use Rattle.scope_bind.specs.declared.declarations.Declaration.{Declaration}
 use Rattle.scope_bind.specs.declared.latest.Asked.{Asked}
-use Rattle.scope_bind.specs.declared.latest.Asked.TheVariants.{Live, Within, Tag, Anywhere, Linked, Other}
-use Rattle.scope_bind.specs.Declarations.{is_live, has_linkage, is_linkage}
+use Rattle.scope_bind.specs.declared.latest.Asked.TheVariants.{Live, Within, Tag, Anywhere}
+use Rattle.scope_bind.specs.Declarations.{is_live}
 
 -- what is asked of a declaration, beside its name
 abbrev pub passes : Asked → Declaration → Bool
@@ -11,8 +11,6 @@ passes (Live at) d = is_live at d
 passes (Within at depth) d = is_live at d && (d.depth == depth)
 passes (Tag at anew depth) d = is_live at d && (not anew || (d.depth == depth))
 passes Anywhere d = true
-passes Linked d = has_linkage d.linkage
-passes (Other linkage) d = has_linkage d.linkage && not (is_linkage d.linkage linkage)
 
 -- the element, where there is one and it passes
 abbrev pub tested : (Declaration → Bool) → Option Declaration → Option Declaration

@@ -25,6 +25,8 @@ pub mod Known
 pub mod Latest
 pub mod Spellings
 pub mod Links
+pub mod Linked
+pub mod Ranks
 pub mod Chains
 pub mod Marks
 pub mod Children

@@ -1,5 +1,5 @@
 -- Declarations that have a key, and how those with one key are found, the latest first.
-use Rattle.std.specs.Prelude.{ℕ, ◌+◌, ◌<◌, ◌≤◌, ◌≡◌, Bool, true, List, [], ◌∷◌, ◌++◌, length, take, map, filter, reverse, get_or, slice_get, slice_set, Option, Some, ◌==◌, if◌then◌else◌}
+use Rattle.std.specs.Prelude.{ℕ, ◌+◌, ◌<◌, ◌≤◌, ◌≡◌, Bool, true, List, [], ◌∷◌, length, take, reverse, get_or, slice_get, slice_set, Some, ◌==◌, if◌then◌else◌}
 use Rattle.scope_bind.specs.declared.declarations.Declaration.{Declaration}
 
 -- For each declaration one more than the place of the one before it that has its key, or 0; for each key one more
@@ -55,17 +55,3 @@ pub record IsLeft {T : Type 0} (test : Declaration → Bool) (asked : List Decla
   pub within : place ≤ length declared
   pub again : latest_place test (reverse (take place declared)) ≡ place
   pub rest : asked (reverse (take place declared)) ≡ asked latest
-
--- what is at the places
-abbrev pub all_at : List Declaration → List ℕ → List (Option Declaration)
-all_at declared places = map (slice_get declared) places
-
--- those that pass
-abbrev pub passing : (Declaration → Bool) → List Declaration → List (Option Declaration)
-passing test declared = map Some (filter test declared)
-
--- A way through those that pass has come down to the place, and has told those that it passed.
-pub record IsGathered (test : Declaration → Bool) (declared : List Declaration) (places : List ℕ) (place : ℕ) : Type 0 where
-  pub within : place ≤ length declared
-  pub again : latest_place test (reverse (take place declared)) ≡ place
-  pub told : all_at declared places ++ passing test (reverse (take place declared)) ≡ passing test (reverse declared)

@@ -1,39 +1,47 @@
 // Declarations, and the latest one that a name may denote.
-ghost use Rattle.std.specs.Prelude.{◌≡◌, ◌&&◌, ℕ, ◌++◌, [], ◌∷◌, find, filter, filter_map, reverse, take, get_or, slice_get, IfOk, OnOk, OnErr};
+ghost use Rattle.std.specs.Prelude.{◌≡◌, ◌&&◌, not, ℕ, ◌++◌, [], ◌∷◌, find, filter, filter_map, reverse, take, get_or, slice_get, IfOk, OnOk, OnErr};
+ghost use Rattle.std.specs.List.{list_any};
 ghost use Rattle.std.specs.Option.{option_map, option_to_list};
-ghost use Rattle.scope_bind.specs.Declarations.{is_named};
+ghost use Rattle.scope_bind.specs.declared.declarations.Space.TheVariants.{Ordinary};
+ghost use Rattle.scope_bind.specs.Declarations.{is_named, has_linkage, is_linkage};
 ghost use Rattle.scope_bind.specs.Entering.{kept_here};
 ghost use Rattle.scope_bind.specs.Latest.{passes};
 ghost use Rattle.scope_bind.specs.Places.{is_member_of, place_of};
-ghost use Rattle.scope_bind.specs.Spellings.{number_at, AreNumbers};
+ghost use Rattle.scope_bind.specs.Spellings.{AreNumbers};
 ghost use Rattle.scope_bind.specs.Links.{has_key, AreChained, IsLeft};
-ghost use Rattle.scope_bind.specs.Chains.{sort_of, name_key, name_key_of, with_end, lasts, has_begun, has_ended, next_at, next_place, asked_at, AreOver};
+ghost use Rattle.scope_bind.specs.Chains.{count_of, space_key, name_key, name_key_of, with_end, lasts, has_begun, has_ended, next_at, next_place, asked_at, AreOver};
 
 use crate::declarations::{Declaration, Space};
+use crate::entity::Linkage;
 use crate::keeping::kept_at;
 use crate::latest::{Asked, tested};
+use crate::linked::{declaration_at, has_other, linkage_key, linked_place};
 use crate::links::{Links, place_at};
-use crate::spellings::numbers_of;
-use crate::structures::{declaration_among, member_key, place_among, places_of_members};
+use crate::spellings::{number_at, numbers_of};
+use crate::structures::{Rank, member_key, member_numbered, members_before, rank_of};
 use cs_base::{Memory, Tok};
 use std::alloc::Global;
 use std::marker::Model;
 
 /// The declarations of a unit of these tokens. The latest one of a name is found among those of its name
-/// space that are spelled alike, and members among those of their structure or union. Contracts see the
-/// latest declaration first.
+/// space that are spelled alike, one with linkage among those of its linkage, and members among those of their
+/// structure or union. Contracts see the latest declaration first.
 #[derive(Drop)]
 pub(crate) struct Chains<'a> {
     toks: &'a [Tok],
     // for each token the number of its spelling
     numbers: Vec<u32>,
     declared: Vec<Declaration>,
+    // by name space and spelling, by linkage and spelling, and by structure or union
     names: Links,
+    linked: Links,
     structures: Links,
     // for each declaration a place to go on from, where only those matter that have not ended as its range begins
     over: Vec<usize>,
     // for each token one more than the place of the first declaration whose range ends there, or 0
     ends: Vec<usize>,
+    // for each declaration, where it is a member, how it is found by its number and by its name
+    ranks: Vec<Rank>,
 }
 
 impl<'a> Model for Chains<'a> {
@@ -44,7 +52,7 @@ impl<'a> Model for Chains<'a> {
 
     ghost view = { λ c. record { toks = c.toks.now; declared = reverse c.declared.items } };
 
-    ghost invariant = { λ c. IsTabled c.toks.now c.numbers.items c.declared.items c.names c.structures c.over.items c.ends.items };
+    ghost invariant = { λ c. IsTabled c.toks.now c.numbers.items c.declared.items c.names c.linked c.structures c.over.items c.ends.items c.ranks.items };
 }
 
 // A table that tells no place.
@@ -54,30 +62,36 @@ fn blank(alloc: Global, count: usize) -> Result<Vec<usize>, Memory>
     Ok(vec![in alloc; 0usize; count]?)
 }
 
-fn sort_of(space: Space) -> usize
-    ensures { result ≡ sort_of space }
+fn count_of(numbers: &[u32]) -> u32
+    ensures { result ≡ count_of numbers.now }
+{
+    if numbers.len() < u32::MAX as usize {
+        numbers.len() as u32
+    } else {
+        u32::MAX
+    }
+}
+
+fn space_key(count: u32, space: Space, number: u32) -> usize
+    ensures { result ≡ space_key count space number }
 {
     match space {
-        Space::Ordinary => 0,
-        Space::Tags => 1,
-        Space::Members(_) => 2,
-        Space::Labels(_) => 3,
+        Space::Ordinary => count as usize + 1 + number as usize * 2,
+        Space::Tags => count as usize + 2 + number as usize * 2,
+        Space::Members(n) => {
+            (number as usize * 2_654_435_761 + n as usize * 2) % (count as usize + 1)
+        }
+        Space::Labels(n) => {
+            (number as usize * 2_654_435_761 + n as usize * 2 + 1) % (count as usize + 1)
+        }
     }
 }
 
-fn number_at(numbers: &[u32], k: u32) -> u32
-    ensures { result ≡ number_at numbers.now k }
-{
-    match numbers.get(k as usize) {
-        Some(number) => *number,
-        None => 0,
-    }
-}
-
-fn name_key(numbers: &[u32], space: Space, k: u32) -> usize
+/// What declarations in the name space that are spelled as token `k` have in common.
+pub(crate) fn name_key(numbers: &[u32], space: Space, k: u32) -> usize
     ensures { result ≡ name_key numbers.now space k }
 {
-    number_at(numbers, k) as usize * 4 + sort_of(space)
+    space_key(count_of(numbers), space, number_at(numbers, k))
 }
 
 // The range of declaration `k` has begun at the token.
@@ -124,7 +138,7 @@ fn next_place(
         Asked::Live(at) | Asked::Within(at, _) | Asked::Tag(at, _, _) => next_at(
             declared, names, over, at, k,
         ),
-        Asked::Anywhere | Asked::Linked | Asked::Other(_) => names.before(k),
+        Asked::Anywhere => names.before(k),
     }
 }
 
@@ -194,10 +208,12 @@ impl<'a> Chains<'a> {
             numbers: numbers_of(alloc, toks)?,
             declared: Vec::new(alloc),
             names: Links::new(alloc),
+            linked: Links::new(alloc),
             structures: Links::new(alloc),
             over: Vec::new(alloc),
             // The outermost scope ends at the count of the tokens.
             ends: blank(alloc, toks.len() + 1)?,
+            ranks: Vec::new(alloc),
         })
     }
 
@@ -221,6 +237,7 @@ impl<'a> Chains<'a> {
     {
         let count = self.declared.len();
         let name = name_key(self.numbers.as_slice(), d.space, d.name_at);
+        let linkage = linkage_key(self.numbers.as_slice(), d.space, d.linkage, d.name_at);
         let structure = member_key(d.space);
         let over = place_over(
             self.declared.as_slice(),
@@ -229,13 +246,25 @@ impl<'a> Chains<'a> {
             self.numbers.as_slice(),
             &d,
         );
+        let rank = rank_of(
+            self.declared.as_slice(),
+            &self.names,
+            &self.structures,
+            self.ranks.as_slice(),
+            self.numbers.as_slice(),
+            &d,
+        )?;
         self.names.grow(count, name)?;
+        self.linked.grow(count, linkage)?;
         self.structures.grow(count, structure)?;
         self.over.reserve(1)?;
+        self.ranks.reserve(1)?;
         self.declared.reserve(1)?;
         self.names.link(count, name);
+        self.linked.link(count, linkage);
         self.structures.link(count, structure);
         self.over.push(over).unwrap();
+        self.ranks.push(rank).unwrap();
         tell_end(&mut self.ends, d.to, count + 1);
         self.declared.push(d).unwrap();
         Ok(())
@@ -255,6 +284,21 @@ impl<'a> Chains<'a> {
             i,
             asked,
         )
+    }
+
+    /// The latest declaration with linkage that is named as token `i`.
+    pub(crate) fn linked(&self, i: u32) -> Option<&Declaration>
+        ensures { option_map (λ d. d.now) result ≡ find (λ d. is_named self.now.toks Ordinary i d && has_linkage d.linkage) self.now.declared }
+    {
+        let place = linked_place(&self.linked, self.numbers.as_slice(), i);
+        declaration_at(self.declared.as_slice(), place)
+    }
+
+    /// One that has linkage, and another one.
+    pub(crate) fn is_mixed(&self, linkage: Linkage, i: u32) -> bool
+        ensures { result ≡ list_any (λ d. is_named self.now.toks Ordinary i d && (has_linkage d.linkage && not (is_linkage d.linkage linkage))) self.now.declared }
+    {
+        has_other(&self.linked, self.numbers.as_slice(), linkage, i)
     }
 
     // How many declarations stand before the first one whose range ends at the token.
@@ -294,20 +338,30 @@ impl<'a> Chains<'a> {
     }
 
     /// Member number `n` of the structure or union.
-    pub(crate) fn member(&self, number: u32, n: u32) -> Result<Option<&Declaration>, Memory>
-        ensures { IfOk result (λ r. option_map (λ d. d.now) r ≡ slice_get (reverse (filter (is_member_of number) self.now.declared)) n) }
+    pub(crate) fn member(&self, number: u32, n: u32) -> Option<&Declaration>
+        ensures { option_map (λ d. d.now) result ≡ slice_get (reverse (filter (is_member_of number) self.now.declared)) n }
     {
-        let alloc = *self.declared.allocator();
-        let places = places_of_members(alloc, self.declared.as_slice(), &self.structures, number)?;
-        Ok(declaration_among(self.declared.as_slice(), places.as_slice(), n))
+        member_numbered(
+            self.declared.as_slice(),
+            &self.structures,
+            self.ranks.as_slice(),
+            number,
+            n,
+        )
     }
 
-    /// How many members of the structure or union stand before the one with the name.
-    pub(crate) fn members_before(&self, number: u32, name_at: u32) -> Result<u32, Memory>
-        ensures { IfOk result (λ r. r ≡ place_of (reverse (filter (is_member_of number) self.now.declared)) name_at) }
+    /// How many members of the structure or union stand before the first one with the name.
+    pub(crate) fn members_before(&self, number: u32, name_at: u32) -> usize
+        ensures { result ≡ place_of (reverse (filter (is_member_of number) self.now.declared)) name_at }
     {
-        let alloc = *self.declared.allocator();
-        let places = places_of_members(alloc, self.declared.as_slice(), &self.structures, number)?;
-        place_among(self.declared.as_slice(), places.as_slice(), name_at)
+        members_before(
+            self.declared.as_slice(),
+            &self.names,
+            &self.structures,
+            self.ranks.as_slice(),
+            self.numbers.as_slice(),
+            number,
+            name_at,
+        )
     }
 }

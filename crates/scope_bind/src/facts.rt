@@ -77,6 +77,15 @@ fn first(found: Option<Fault>, fault: Fault) -> Fault
     }
 }
 
+fn count_of(k: usize) -> Result<u32, Memory>
+    ensures { IfOk result (λ n. n ≡ k) }
+{
+    if k > u32::MAX as usize {
+        return Err(Memory);
+    }
+    Ok(k as u32)
+}
+
 impl<'a> Facts<'a> {
     pub(crate) fn new(alloc: Global, toks: &'a [Tok]) -> Result<Facts<'a>, Memory>
         ensures { IfOk result (λ f. f ≡ known toks.now no_facts) }
@@ -207,8 +216,8 @@ impl<'a> Facts<'a> {
     }
 
     /// Member number `n` of the structure or union.
-    pub(crate) fn member(&self, number: u32, n: u32) -> Result<Option<&Declaration>, Memory>
-        ensures { IfOk result (λ r. option_map (λ d. d.now) r ≡ slice_get (members_of number self.now.facts) n) }
+    pub(crate) fn member(&self, number: u32, n: u32) -> Option<&Declaration>
+        ensures { option_map (λ d. d.now) result ≡ slice_get (members_of number self.now.facts) n }
     {
         self.chains.member(number, n)
     }
@@ -217,7 +226,7 @@ impl<'a> Facts<'a> {
     pub(crate) fn number_before(&self, number: u32, name_at: u32) -> Result<u32, Memory>
         ensures { IfOk result (λ r. r ≡ place_of (members_of number self.now.facts) name_at) }
     {
-        self.chains.members_before(number, name_at)
+        count_of(self.chains.members_before(number, name_at))
     }
 
     pub(crate) fn visible(&self, space: Space, i: u32, k: u32) -> Option<&Declaration>
@@ -249,14 +258,12 @@ impl<'a> Facts<'a> {
     pub(crate) fn linked(&self, i: u32) -> Option<&Declaration>
         ensures { option_map (λ d. d.now) result ≡ linked self.now.toks i self.now.facts }
     {
-        self.chains.latest(Space::Ordinary, i, Asked::Linked)
+        self.chains.linked(i)
     }
 
     pub(crate) fn is_mixed(&self, linkage: Linkage, i: u32) -> bool
         ensures { result ≡ is_mixed self.now.toks linkage i self.now.facts }
     {
-        self.chains
-            .latest(Space::Ordinary, i, Asked::Other(linkage))
-            .is_some()
+        self.chains.is_mixed(linkage, i)
     }
 }

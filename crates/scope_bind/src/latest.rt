@@ -2,7 +2,7 @@
 ghost use Rattle.std.specs.Prelude.{◌≡◌, ◌&&◌, slice_get};
 ghost use Rattle.std.specs.Option.{option_map};
 ghost use Rattle.std.specs.Str.{bytes_eq};
-ghost use Rattle.scope_bind.specs.Declarations.{is_live, is_space, has_linkage, is_linkage, spelling_at, alike, is_named};
+ghost use Rattle.scope_bind.specs.Declarations.{is_live, is_space, has_linkage, spelling_at, alike, is_named};
 ghost use Rattle.scope_bind.specs.Latest.{passes, tested};
 
 use crate::declarations::{Declaration, Space};
@@ -10,15 +10,13 @@ use crate::entity::Linkage;
 use cs_base::Tok;
 
 /// What is asked of a declaration: that its range holds the token; that it does, in the scope of the depth;
-/// the same of a tag, where it is declared anew; nothing; that it has linkage; and that it has the other one.
+/// the same of a tag, where it is declared anew; and nothing.
 #[derive(Clone, Copy)]
 pub(crate) enum Asked {
     Live(u32),
     Within(u32, u32),
     Tag(u32, bool, u32),
     Anywhere,
-    Linked,
-    Other(Linkage),
 }
 
 fn spelling(toks: &[Tok], k: u32) -> &[u8]
@@ -43,7 +41,8 @@ fn alike(toks: &[Tok], i: u32, j: u32) -> bool
     spelling(toks, i) == spelling(toks, j)
 }
 
-fn is_space(space: Space, other: Space) -> bool
+/// They are one name space.
+pub(crate) fn is_space(space: Space, other: Space) -> bool
     ensures { result ≡ is_space space other }
 {
     match (space, other) {
@@ -73,17 +72,6 @@ pub(crate) fn has_linkage(linkage: Linkage) -> bool
     !matches!(linkage, Linkage::Absent)
 }
 
-fn is_linkage(linkage: Linkage, other: Linkage) -> bool
-    ensures { result ≡ is_linkage linkage other }
-{
-    match (linkage, other) {
-        (Linkage::External, Linkage::External) => true,
-        (Linkage::Internal, Linkage::Internal) => true,
-        (Linkage::Absent, Linkage::Absent) => true,
-        _ => false,
-    }
-}
-
 fn passes(asked: Asked, d: &Declaration) -> bool
     ensures { result ≡ passes asked d.now }
 {
@@ -92,8 +80,6 @@ fn passes(asked: Asked, d: &Declaration) -> bool
         Asked::Within(at, depth) => is_live(at, d) && d.depth == depth,
         Asked::Tag(at, anew, depth) => is_live(at, d) && (!anew || d.depth == depth),
         Asked::Anywhere => true,
-        Asked::Linked => has_linkage(d.linkage),
-        Asked::Other(linkage) => has_linkage(d.linkage) && !is_linkage(d.linkage, linkage),
     }
 }
 

@@ -31,6 +31,7 @@ mod latest;
 mod laws;
 mod leaving;
 mod linkage;
+mod linked;
 mod links;
 mod listing;
 mod lists;

@@ -29,6 +29,6 @@ impl Facts<'_> {
     ) -> Result<CType, Memory>
         ensures { IfOk result (λ r. r ≡ option_map_or (λ d. d.ctype) (slice_get (members_of number self.now.facts) n) arithmetic) }
     {
-        type_or(alloc, self.member(number, n)?)
+        type_or(alloc, self.member(number, n))
     }
 }

@@ -1,7 +1,7 @@
 // The spellings of the tokens of a unit, each by a number.
 ghost use Rattle.std.specs.Prelude.{◌≡◌, [], position, None, Some, IfOk};
 ghost use Rattle.std.specs.Str.{bytes_eq};
-ghost use Rattle.scope_bind.specs.Spellings.{AreNumbers, AreNumbered, IsNumberOf};
+ghost use Rattle.scope_bind.specs.Spellings.{number_at, AreNumbers, AreNumbered, IsNumberOf};
 
 use cs_base::{Memory, Tok};
 use indexmap::IndexSet;
@@ -75,6 +75,16 @@ fn told(alloc: Global, toks: &[Tok], spellings: &mut Spellings) -> Result<Vec<u3
         numbers.push(number as u32)?;
     }
     Ok(numbers)
+}
+
+/// The number of the spelling of token `k`.
+pub(crate) fn number_at(numbers: &[u32], k: u32) -> u32
+    ensures { result ≡ number_at numbers.now k }
+{
+    match numbers.get(k as usize) {
+        Some(number) => *number,
+        None => 0,
+    }
 }
 
 /// For each token the number of its spelling: tokens that are spelled alike have one, and others have

@@ -1,5 +1,5 @@
 // What a tree says by itself, without the spelling of a token.
-ghost use Rattle.std.specs.Prelude.{◌≡◌, ◌+◌, ◌||◌};
+ghost use Rattle.std.specs.Prelude.{◌≡◌, ◌+◌, ◌||◌, ℕ, unwrap_or};
 ghost use Rattle.std.specs.Option.{option_map};
 ghost use Rattle.scope_bind.specs.Children.{from_child, with_part, HasRoom, IsBelow, only_node, only_if};
 ghost use Rattle.scope_bind.specs.Shapes.{leading_token};
@@ -55,27 +55,39 @@ pub(crate) fn is_list(label: Label) -> bool
 }
 
 /// The last token below the node, or the index given where there is none.
-#[cycle(last)]
 pub(crate) fn last_token(tree: &Tree, before: u32) -> u32
     ensures { result ≡ last_token tree.now.under before }
 {
-    let mut last = before;
-    let count = tree.len();
-    'children: for k in 0..count {
-        last = last_at(tree, k, last);
+    match last_below(tree) {
+        Some(index) => index,
+        None => before,
     }
-    last
 }
 
-// The last token once child `k` is read.
+// The last token below the node: that of its last child with one.
 #[cycle(last)]
-fn last_at(tree: &Tree, k: u32, before: u32) -> u32
-    ensures { last_token (from_child (k + 1) tree.now.under) result ≡ last_token (from_child k tree.now.under) before }
+fn last_below(tree: &Tree) -> Option<u32>
+    ensures { (before : ℕ) → last_token tree.now.under before ≡ unwrap_or result before }
+{
+    let mut k = tree.len();
+    'children: while k > 0 {
+        k -= 1;
+        if let Some(index) = last_at(tree, k) {
+            return Some(index);
+        }
+    }
+    None
+}
+
+// That of child `k`.
+#[cycle(last)]
+fn last_at(tree: &Tree, k: u32) -> Option<u32>
+    ensures { (before : ℕ) → last_token (from_child k tree.now.under) before ≡ last_token (from_child (k + 1) tree.now.under) (unwrap_or result before) }
 {
     match child_at(tree, k) {
-        Part::End => before,
-        Part::Token(index) => index,
-        Part::Node(inner) => last_token(inner, before),
+        Part::End => None,
+        Part::Token(index) => Some(index),
+        Part::Node(inner) => last_below(inner),
     }
 }
 

@@ -1,12 +1,18 @@
-use Rattle.std.proofs.Common.{sym, ap, ◌∙◌, arith}
+use Rattle.std.proofs.Common.{◌≡◌, ◌+◌, ◌-◌, sym, ap, ◌∙◌, arith}
 use Rattle.scope_bind.specs.Trees.{last_token}
-use Rattle.scope_bind.proofs.ChildWalks.{from_child-end}
+use Rattle.scope_bind.proofs.ChildWalks.{from_child-end, last_found, last_passed}
 use Rattle.scope_bind.proofs.trees.+last.Goals as goal
 
-pub last_token-children-preserved : goal.last_token-children-preserved
-last_token-children-preserved t c = c.last_at-last.ensures ∙ c.children.invariant
+pub last_below-children-init : goal.last_below-children-init
+last_below-children-init t c before =
+    ap (λ f. last_token f before) (from_child-end c.args.tree.now.under c.len-k.result (omega (arith, c.len-k.ensures)))
 
-pub last_token-returns : goal.last_token-returns
-last_token-returns t c =
-    ap (λ f. last_token f c.children.last) (sym (from_child-end c.args.tree.now.under c.children.k (omega (arith, c.children-test.false, c.len-count.ensures))))
-    ∙ c.children.invariant
+pub last_below-returns-in-Some : goal.last_below-returns-in-Some
+last_below-returns-in-Some t c before =
+    last_found c.args.tree.now.under (c.children.k - 1) c.children.k c.last_at.result (omega (arith, c.children-test.true)) c.last_at.ensures
+    c.children.invariant c.in-Some.index c.in-Some.is before
+
+pub last_below-children-preserved : goal.last_below-children-preserved
+last_below-children-preserved t c before =
+    last_passed c.args.tree.now.under (c.children.k - 1) c.children.k c.last_at.result (omega (arith, c.children-test.true)) c.last_at.ensures
+    c.children.invariant c.in_default.is before

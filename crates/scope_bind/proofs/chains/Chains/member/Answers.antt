@@ -1,14 +1,11 @@
-use Rattle.std.proofs.Common.{reverse, sym, ap, ◌∙◌}
-use Rattle.std.specs.Prelude.{filter}
+use Rattle.std.proofs.Common.{sym, ap, ◌∙◌}
+use Rattle.std.specs.Prelude.{slice_get}
 use Rattle.scope_bind.specs.Places.{is_member_of}
-use Rattle.scope_bind.specs.Chains.{Chains}
-use Rattle.scope_bind.proofs.MemberLemmas.{members_told, member_at}
+use Rattle.scope_bind.proofs.Reversed.{filter_twice}
 use Rattle.scope_bind.proofs.chains.Chains.member.Goals as goal
 
 pub returns : goal.returns
 returns c =
-    c.declaration_among.ensures
-    ∙ sym (member_at c.as_slice-2.result.now c.as_slice-3.result.now (reverse (filter (is_member_of c.args.number) c.args.self.now.declared)) c.args.n
-    (members_told c.args.number c.self.inside.declared.items c.args.self.now.declared c.as_slice.result.now c.as_slice-2.result.now
-    c.in_ok-places.places.items c.as_slice-3.result.now (ap (λ (x : Chains). x.declared) c.self.view_is) c.as_slice.ensures.value
-    c.as_slice-2.ensures.value c.as_slice-3.ensures.value c.in_ok-places.ensures))
+    rw (← c.self.view_is)
+    (rw c.as_slice.ensures.value at c.member_numbered.ensures
+    ∙ ap (λ ds. slice_get ds c.args.n) (sym (filter_twice (is_member_of c.args.number) c.self.inside.declared.items)))
