@@ -70,8 +70,8 @@ fn has_path(a: &Analysis, number: u32, path: &[u8]) -> bool
 }
 
 #[tactic(auto, unfolding(ws_core::specs::ClassReport::part_lines))]
-// The lines of parts, in order.
-fn part_lines(alloc: Global, a: &Analysis, parts: &[Part]) -> Result<Vec<u8>, Memory>
+/// The lines of parts, in order.
+pub(crate) fn part_lines(alloc: Global, a: &Analysis, parts: &[Part]) -> Result<Vec<u8>, Memory>
     requires parts { (k : ℕ) (part : Part) → slice_get parts.now k ≡ Some part → IsPart a.now.value part }
     ensures { IfOk result (λ text. text.items ≡ part_lines a.now.value parts.now) }
 {
@@ -94,8 +94,8 @@ fn push_part(text: &mut Vec<u8>, a: &Analysis, part: Part) -> Result<(), Memory>
     Ok(())
 }
 
-// Adds the place of a position.
-fn push_position(text: &mut Vec<u8>, a: &Analysis, at: Pos) -> Result<(), Memory>
+/// Adds the place of a position.
+pub(crate) fn push_position(text: &mut Vec<u8>, a: &Analysis, at: Pos) -> Result<(), Memory>
     ensures { OnOk result (text.new.items ≡ text.old.items ++ place_text (place_at a.now.value.table at)) }
 {
     let (path, line, column) = a.place(at);

@@ -4,6 +4,7 @@ ghost use Rattle.query_report.specs.Queries.{IsReport};
 ghost use Rattle.query_report.specs.declared.queries.QueryRefusal.TheVariants.{NoName};
 
 use crate::class_lines::class_report;
+use crate::list_lines::{includes_report, unused_report};
 use cs_base::{Memory as NoMemory, Place};
 use std::alloc::Global;
 use ws_core::Analysis;
@@ -13,6 +14,10 @@ use ws_core::Analysis;
 pub enum Query {
     /// The members of the class of the name at a place, whose path is as files are named.
     Class(Place),
+    /// The first member of each class that some name declares and none uses.
+    Unused,
+    /// The include lines that no inclusion needs.
+    Includes,
 }
 
 /// Why there is no report.
@@ -43,5 +48,7 @@ pub fn report(alloc: Global, a: &Analysis, q: &Query) -> Result<Vec<u8>, QueryRe
 {
     match q {
         Query::Class(place) => class_report(alloc, a, place),
+        Query::Unused => Ok(unused_report(alloc, a)?),
+        Query::Includes => Ok(includes_report(alloc, a)?),
     }
 }
