@@ -104,7 +104,7 @@ module _ (P : Token → Type 0) (M : Note → Type 0) (table : Table) (rules : U
         (here, k.0),
         k.1,
         all_both (NotedSo P) (test_notes name s ++ Answered a ∷ []) (answered pieces (with_name name s)).notes
-            (all_both (NotedSo P) (test_notes name s) (Answered a ∷ []) (h.0.1.0, links) (here, tt)) k.2,
+            (all_both (NotedSo P) (test_notes name s) (Answered a ∷ []) (h.0.1.0, links) ((here, (word, is_macro name s, refl)), tt)) k.2,
       )
 
   answered_done : (pieces : List Piece) (s : State) → Done P M table (AllIn (PieceHas P) pieces) (AllToks P) s (Ok (answered pieces s))

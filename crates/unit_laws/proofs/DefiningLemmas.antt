@@ -1,5 +1,5 @@
 -- Definitions, and directives that ask for a name: what is true of what they give.
-use Rattle.std.proofs.Common.{◌≡◌, ℕ, Bool, true, false, cond, List, [], ◌∷◌, Option, Some, None, refl, sym, subst, inl, inr}
+use Rattle.std.proofs.Common.{◌≡◌, ℕ, Bool, true, false, cond, List, [], ◌∷◌, take, drop, Option, Some, None, refl, sym, subst, inl, inr}
 use Rattle.std.specs.List.{flat_map}
 use Rattle.std.specs.Option.{option_map}
 use Rattle.std.specs.Str.{bytes_eq}
@@ -69,12 +69,12 @@ module _ (P : Token → Type 0) (M : Note → Type 0) (table : Table) where
       let k = h parts refl in
       subst (DefinitionHas P) (same_Some (definition_of name parts) m e) (record { name = here; params = k.params; body = k.body; line = no_line parts.function })
 
-  defined_by_has : (k : ItemKind) (toks : List Token) (m : Definition) → takes_name k ≡ true → AllToks P toks → line_kind toks ≡ k → defined_by toks ≡ Some m → DefinitionHas P m
+  defined_by_has : (k : ItemKind) (toks : List Token) (m : Definition) → takes_name k ≡ true → AllToks P (drop 2 toks) → line_kind toks ≡ k → defined_by toks ≡ Some m → DefinitionHas P m
   defined_by_has k [] m takes h is e = absurd (none-some m e)
   defined_by_has k (hash ∷ []) m takes h is e = absurd (none-some m e)
   defined_by_has k (hash ∷ word ∷ []) m takes h is e = absurd (none-some m e)
   defined_by_has k (hash ∷ word ∷ name ∷ toks) m takes h is e =
-      defined_parts name (macro_of toks) m (h.1.1.0, directive_name k hash word name toks takes is) (λ parts p. macro_has P toks parts h.1.1.1 p) e
+      defined_parts name (macro_of toks) m (h.0, directive_name k hash word name toks takes is) (λ parts p. macro_has P toks parts h.1 p) e
 
   after_define_has : (m : Definition) (s : State) → DefinitionHas P m → StateHas P s → StateHas P (after_define m s)
   after_define_has m s d has =
@@ -99,16 +99,16 @@ module _ (P : Token → Type 0) (M : Note → Type 0) (table : Table) where
   )
 
   pub define_done : (k : ItemKind) (file : SourceFile) (at : Pos) (toks : List Token) (s : State) → takes_name k ≡ true
-      → Done P M table (AllToks P toks × (line_kind toks ≡ k)) (AllToks P) s (define_of file at toks s)
+      → Done P M table (AllToks P (drop 2 toks) × (line_kind toks ≡ k)) (AllToks P) s (define_of file at toks s)
   define_done k file at toks s takes =
-      defined_as_done (AllToks P toks × (line_kind toks ≡ k)) file at s (defined_by toks) (λ m e p. defined_by_has k toks m takes p.0 p.1 e)
+      defined_as_done (AllToks P (drop 2 toks) × (line_kind toks ≡ k)) file at s (defined_by toks) (λ m e p. defined_by_has k toks m takes p.0 p.1 e)
 
-  operand_has : (k : ItemKind) (toks : List Token) (name : Token) → takes_name k ≡ true → AllToks P toks → line_kind toks ≡ k → operand_in toks ≡ Some name → NameHas P name
+  operand_has : (k : ItemKind) (toks : List Token) (name : Token) → takes_name k ≡ true → AllToks P (take 1 (drop 2 toks)) → line_kind toks ≡ k → operand_in toks ≡ Some name → NameHas P name
   operand_has k [] name takes h is e = absurd (none-some name e)
   operand_has k (hash ∷ []) name takes h is e = absurd (none-some name e)
   operand_has k (hash ∷ word ∷ []) name takes h is e = absurd (none-some name e)
   operand_has k (hash ∷ word ∷ t ∷ toks) name takes h is e =
-      subst (NameHas P) (same_Some t name e) (h.1.1.0, directive_name k hash word t toks takes is)
+      subst (NameHas P) (same_Some t name e) (h.0, directive_name k hash word t toks takes is)
 
   undefined_as_done : (pre : Type 0) (file : SourceFile) (at : Pos) (s : State) (o : Option Token) → ((name : Token) → o ≡ Some name → pre → NameHas P name)
       → Done P M table pre (AllToks P) s (undefined_as file at s o)
@@ -128,9 +128,9 @@ module _ (P : Token → Type 0) (M : Note → Type 0) (table : Table) where
   )
 
   pub undef_done : (k : ItemKind) (file : SourceFile) (at : Pos) (toks : List Token) (s : State) → takes_name k ≡ true
-      → Done P M table (AllToks P toks × (line_kind toks ≡ k)) (AllToks P) s (undef_of file at toks s)
+      → Done P M table (AllToks P (take 1 (drop 2 toks)) × (line_kind toks ≡ k)) (AllToks P) s (undef_of file at toks s)
   undef_done k file at toks s takes =
-      undefined_as_done (AllToks P toks × (line_kind toks ≡ k)) file at s (operand_in toks) (λ name e p. operand_has k toks name takes p.0 p.1 e)
+      undefined_as_done (AllToks P (take 1 (drop 2 toks)) × (line_kind toks ≡ k)) file at s (operand_in toks) (λ name e p. operand_has k toks name takes p.0 p.1 e)
 
   asks_as_done : (pre : Type 0) (file : SourceFile) (at : Pos) (answer : Bool → Bool) (s : State) (o : Option Token) → ((name : Token) → o ≡ Some name → pre → NameHas P name)
       → Done P M table pre (λ (b : Bool). Unit {0}) s (asks_name file at answer s o)
@@ -143,6 +143,6 @@ module _ (P : Token → Type 0) (M : Note → Type 0) (table : Table) where
   )
 
   pub asks_done : (k : ItemKind) (file : SourceFile) (at : Pos) (answer : Bool → Bool) (toks : List Token) (s : State) → takes_name k ≡ true
-      → Done P M table (AllToks P toks × (line_kind toks ≡ k)) (λ (b : Bool). Unit {0}) s (asks_name file at answer s (operand_in toks))
+      → Done P M table (AllToks P (take 1 (drop 2 toks)) × (line_kind toks ≡ k)) (λ (b : Bool). Unit {0}) s (asks_name file at answer s (operand_in toks))
   asks_done k file at answer toks s takes =
-      asks_as_done (AllToks P toks × (line_kind toks ≡ k)) file at answer s (operand_in toks) (λ name e p. operand_has k toks name takes p.0 p.1 e)
+      asks_as_done (AllToks P (take 1 (drop 2 toks)) × (line_kind toks ≡ k)) file at answer s (operand_in toks) (λ name e p. operand_has k toks name takes p.0 p.1 e)

@@ -1,7 +1,9 @@
 -- What is true of a unit at each moment, and of what its steps give.
 use Rattle.std.proofs.Common.{◌≡◌, ℕ, Bool, true, false, cond, List, [], ◌∷◌, ◌++◌, Some, Ok, Err, codes}
+use Rattle.std.specs.Prelude.{slice_get}
 use Rattle.cs_base.specs.declared.positions.Pos.{Pos}
 use Rattle.cs_base.specs.Token.{Token}
+use Rattle.line_shape.specs.Directives.{is_include}
 use Rattle.line_shape.specs.Signs.{is_name}
 use Rattle.paste_origin.specs.Pasting.{glue_of}
 use Rattle.paste_origin.specs.Strings.{stringize_of}
@@ -18,9 +20,11 @@ use Rattle.include_tree.specs.State.{State, Did, Outcome, only, noted, onward}
 use Rattle.include_tree.specs.Conditions.{answer_for}
 use Rattle.include_tree.specs.Laws.{IsGrown}
 use Rattle.include_tree.specs.Sources.{source_at}
+use Rattle.include_tree.specs.Walk.{ItemText, items_in}
 use Rattle.include_tree.proofs.TableLemmas.{grown_refl, grown_trans}
-use Rattle.expansion_laws.specs.Telling.{AreAlike}
+use Rattle.expansion_laws.specs.Telling.{AreAlike, IsPasted}
 use Rattle.expansion_laws.proofs.ListLemmas.{AllToks}
+use Rattle.unit_laws.specs.UnitItems.{taken}
 
 -- each of these has it
 abbrev pub AllIn : {X : Type 0} → (X → Type 0) → List X → Type 0
@@ -35,12 +39,22 @@ pub all_both : {X : Type 0} (Q : X → Type 0) (xs ys : List X) → AllIn Q xs �
 all_both Q [] ys h k = k
 all_both Q (x ∷ xs) ys h k = (h.0, all_both Q xs ys h.1 k)
 
+-- something stands where such a token stands
+abbrev pub PlaceHas : (Token → Type 0) → Pos → Type 0
+PlaceHas P at = (t : Token) × (P t × (t.at ≡ at))
+
+-- what is taken from an item has P, and an include line stands where such a token stands
+pub record TakenHas (P : Token → Type 0) (evaluated : Bool) (i : ItemText) : Type 0 where
+  pub toks : AllToks P (taken i.kind evaluated i.toks)
+  pub at : is_include i.kind ≡ true → PlaceHas P i.at
+
 -- What keeps P of tokens: of the notes of a unit M is known, and of the kept files the table behind it.
 pub record UnitRules (P : Token → Type 0) (M : Note → Type 0) (table : Table) : Type 0 where
   pub spaced : (t : Token) (gap : Bool) → P t → P (record t { gap = gap })
   pub moved : (t : Token) → P t → P (record t { direct = false })
   pub placed : (name t : Token) (gap : Bool) → P name → P t → P (put_in name gap t)
-  pub files : (number : ℕ) (file : SourceFile) → source_at table number ≡ Some file → AllToks P file.text.toks
+  pub items : (number k : ℕ) (evaluated : Bool) (before : ℕ) (file : SourceFile) (i : ItemText) → source_at table number ≡ Some file
+      → slice_get (items_in file) k ≡ Some i → M (Reaches number k evaluated before) → TakenHas P evaluated i
   pub lines : (name : Token) (run : Bool) (before more : ℕ) → P name → name.text ≡ codes "__LINE__"
       → M (Happened run before (expansion.Replaced name line_macro.name more)) → P (line_number name)
   pub answers : (word : Token) (b : Bool) → P word → M (Answered (answer_for word b)) → P (answer_for word b)
@@ -53,12 +67,12 @@ pub record UnitRules (P : Token → Type 0) (M : Note → Type 0) (table : Table
 abbrev pub HappenedSo : (Token → Type 0) → expansion.Note → Type 0
 HappenedSo P (expansion.Replaced name m more) = P name
 HappenedSo P (expansion.Linked x y) = P x × P y × AreAlike x y
-HappenedSo P (expansion.Stringized toks s) = AllToks P toks
-HappenedSo P (expansion.Pasted x y z) = P x × P y × P z
+HappenedSo P (expansion.Stringized toks s) = AllToks P toks × (stringize_of toks ≡ Ok s)
+HappenedSo P (expansion.Pasted x y z) = P x × P y × P z × IsPasted x y z
 
--- something stands where such a token stands
-abbrev pub PlaceHas : (Token → Type 0) → Pos → Type 0
-PlaceHas P at = (t : Token) × (P t × (t.at ≡ at))
+-- the number that stands for an operand of `defined` (6.10.1 paragraph 4)
+abbrev pub IsAnswer : Token → Type 0
+IsAnswer t = (word : Token) × (b : Bool) × (t ≡ answer_for word b)
 
 abbrev pub NotedSo : (Token → Type 0) → Note → Type 0
 NotedSo P (Reaches file item evaluated before) = Unit {0}
@@ -68,7 +82,7 @@ NotedSo P (Undefined name before) = P name
 NotedSo P (Tested name before) = P name
 NotedSo P (Left name before) = P name
 NotedSo P (Linked x y) = P x × P y × AreAlike x y
-NotedSo P (Answered t) = P t
+NotedSo P (Answered t) = P t × IsAnswer t
 NotedSo P (Named toks) = AllToks P toks
 NotedSo P (Entered at file before) = PlaceHas P at
 NotedSo P (Exited at file before) = PlaceHas P at
@@ -115,6 +129,17 @@ module _ (P : Token → Type 0) (M : Note → Type 0) (table : Table) where
         (r.0, r.1, all_both (NotedSo P) notes d.notes (so p) r.2),
   )
   done_noted pre V s notes (Err found) so k = tt
+
+  -- what happened before is known, and tells more of what is needed
+  pub done_told : {A : Type 0} (pre pre2 : Type 0) (V : A → Type 0) (s : State) (note : Note) (m : Outcome A) → NotedSo P note → (pre → M note → pre2)
+      → Done pre2 V s m → Done pre V s (noted (note ∷ []) m)
+  done_told pre pre2 V s note (Ok d) so more k = (
+    k.0,
+    λ p reach has told.
+        let r = k.1 (more p told.0) reach has told.1 in
+        (r.0, r.1, (so, r.2)),
+  )
+  done_told pre pre2 V s note (Err found) so more k = tt
 
   -- one step behind another
   behind_done : {A B : Type 0} (pre : Type 0) (V : A → Type 0) (W : B → Type 0) (s : State) (d : Did A) (m : Outcome B)

@@ -42,8 +42,8 @@ module _ (P : Token → Type 0) (M : Note → Type 0) (table : Table) (rules : U
     linked = λ name m here is found links.
         let own = (let has = macros name.text m found in has.own) links in
         (here, own.0.0, record { first = is; second = own.0.1; text = sym own.1 });
-    stringized = λ toks s all is. all;
-    pasted = λ name x y z px py pz is. (px, py, pz);
+    stringized = λ toks s all is. (all, is);
+    pasted = λ name x y z px py pz is. (px, py, pz, record { token = z; made = is; same = record { kind = refl; text = refl; origins = refl } });
   }
 
   with_work : (s : State) (work : ℕ) → StateHas P s → StateHas P (record s { work = work })

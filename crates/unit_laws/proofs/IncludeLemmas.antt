@@ -1,5 +1,5 @@
 -- Included files, entered and left: what is true of what they give.
-use Rattle.std.proofs.Common.{◌≡◌, ℕ, false, List, [], ◌∷◌, drop, Option, Some, None, Ok, Err, refl}
+use Rattle.std.proofs.Common.{◌≡◌, ℕ, Bool, true, false, cond, List, [], ◌∷◌, drop, Option, Some, None, Ok, Err, refl}
 use Rattle.cs_base.specs.declared.positions.Place.{Place}
 use Rattle.cs_base.specs.declared.positions.Pos.{Pos}
 use Rattle.cs_base.specs.Token.{Token}
@@ -14,22 +14,23 @@ use Rattle.include_tree.specs.Opening.{Opening, opening, with_opened, open_file}
 use Rattle.include_tree.specs.Expanding.{expanded_in}
 use Rattle.include_tree.specs.Including.{is_header, header_in, header_or, header_of_toks, computed_header, header_named, open_searched, open_header, Process, Inner, entered, included, include_of}
 use Rattle.include_tree.specs.Laws.{IsGrown}
+use Rattle.include_tree.specs.Sources.{source_at}
 use Rattle.include_tree.proofs.TableLemmas.{grown_refl, grown_trans}
 use Rattle.include_tree.proofs.SearchLemmas.{search_wide}
 use Rattle.include_tree.proofs.SourcesLemmas.{opening-as}
 use Rattle.include_tree.proofs.StayingLemmas.{source-grown}
 use Rattle.expansion_laws.proofs.ListLemmas.{AllToks}
-use Rattle.unit_laws.proofs.DoneLemmas.{UnitRules, PlaceHas, StateHas, Done, done_more, done_noted, done_onward, done_cond, done_only}
-use Rattle.unit_laws.proofs.PartLemmas.{toks_drop}
+use Rattle.unit_laws.specs.UnitItems.{expanded_name}
+use Rattle.unit_laws.proofs.DoneLemmas.{UnitRules, PlaceHas, StateHas, Done, done_more, done_noted, done_onward, done_only}
 use Rattle.unit_laws.proofs.ExpandingLemmas.{expanded_done}
 
 -- whatever the value
 abbrev pub Any : {A : Type 0} → A → Type 0
 Any a = Unit {0}
 
--- the tokens of a file, and of what an item gives
-abbrev pub FileHas : (Token → Type 0) → SourceFile → Type 0
-FileHas P file = AllToks P file.text.toks
+-- the file is kept in the table
+abbrev pub FileIs : Table → SourceFile → Type 0
+FileIs table file = source_at table file.number ≡ Some file
 
 module _ (P : Token → Type 0) (M : Note → Type 0) (table : Table) (rules : UnitRules P M table) (source : Source) (ipath : List (List ℕ)) (earlier : ℕ) where
   -- what stays the same
@@ -40,13 +41,13 @@ module _ (P : Token → Type 0) (M : Note → Type 0) (table : Table) (rules : U
   with_table s t has = record { macros = has.macros; names = has.names }
 
   opened_done : (place : Place) (path : List ℕ) (s : State) (o : Opening) → opening the_limits file_text place path s.table ≡ o
-      → Done P M table (Unit {0}) (FileHas P) s (with_opened s o)
+      → Done P M table (Unit {0}) (FileIs table) s (with_opened s o)
   opened_done place path s (Err found) is = tt
   opened_done place path s (Ok r) is =
       let fresh = opening-as s.table r.1 place path r.0 is in
-      ((fresh.widens source).grown, λ p reach has told. (rules.files r.0.number r.0 (source-grown r.1 table r.0.number r.0 reach fresh.is_kept), with_table s r.1 has, tt))
+      ((fresh.widens source).grown, λ p reach has told. (source-grown r.1 table r.0.number r.0 reach fresh.is_kept, with_table s r.1 has, tt))
 
-  pub open_done : (place : Place) (path : List ℕ) (s : State) → Done P M table (Unit {0}) (FileHas P) s (open_file ctx place path s)
+  pub open_done : (place : Place) (path : List ℕ) (s : State) → Done P M table (Unit {0}) (FileIs table) s (open_file ctx place path s)
   open_done place path s = opened_done place path s (opening the_limits file_text place path s.table) refl
 
   -- a state with a table that has grown
@@ -56,13 +57,13 @@ module _ (P : Token → Type 0) (M : Note → Type 0) (table : Table) (rules : U
   grown_done pre V s t (Err found) grown h = tt
 
   searched_done : (file : SourceFile) (at : Pos) (s : State) (found : Searched) (o : Option (List ℕ)) → IsGrown s.table found.table
-      → Done P M table (Unit {0}) (FileHas P) s (open_searched ctx file at s found o)
+      → Done P M table (Unit {0}) (FileIs table) s (open_searched ctx file at s found o)
   searched_done file at s found None grown = tt
   searched_done file at s found (Some path) grown =
-      grown_done (Unit {0}) (FileHas P) s found.table (open_file ctx (place_in file at) path (record s { table = found.table })) grown
+      grown_done (Unit {0}) (FileIs table) s found.table (open_file ctx (place_in file at) path (record s { table = found.table })) grown
       (open_done (place_in file at) path (record s { table = found.table }))
 
-  header_done : (file : SourceFile) (at : Pos) (h : Header) (s : State) → Done P M table (Unit {0}) (FileHas P) s (open_header ctx file at h s)
+  header_done : (file : SourceFile) (at : Pos) (h : Header) (s : State) → Done P M table (Unit {0}) (FileIs table) s (open_header ctx file at h s)
   header_done file at h s =
       let found : Searched = search source (candidates_of h file.path ipath) s.table in
       searched_done file at s found found.path (search_wide source (candidates_of h file.path ipath) s.table).grown
@@ -77,15 +78,18 @@ module _ (P : Token → Type 0) (M : Note → Type 0) (table : Table) (rules : U
       done_onward P M table (AllToks P toks) (AllToks P) (Any {A = Header}) s (expanded_in false file toks s) (λ out t. header_or file at out t (header_of_toks out))
       (expanded_done P M table rules false file toks s) (λ out t. or_done (AllToks P toks × AllToks P out) file at out t (header_of_toks out) (λ p. p.1))
 
-  named_done : (file : SourceFile) (at : Pos) (toks : List Token) (s : State) → Done P M table (AllToks P toks) (Any {A = Header}) s (header_named file at toks s)
+  named_by : (file : SourceFile) (at : Pos) (t : Token) (toks : List Token) (s : State) (b : Bool)
+      → Done P M table (AllToks P (cond b [] (t ∷ toks))) (Any {A = Header}) s (cond b (only (header_in t.text) s) (computed_header file at (t ∷ toks) s))
+  named_by file at t toks s true = done_only P M table (Unit {0}) (Any {A = Header}) s (header_in t.text) (λ p. tt)
+  named_by file at t toks s false = computed_done file at (t ∷ toks) s
+
+  named_done : (file : SourceFile) (at : Pos) (toks : List Token) (s : State) → Done P M table (AllToks P (expanded_name toks)) (Any {A = Header}) s (header_named file at toks s)
   named_done file at [] s = tt
-  named_done file at (t ∷ toks) s =
-      done_cond P M table (AllToks P (t ∷ toks)) (Any {A = Header}) s (is_header t.kind) (only (header_in t.text) s) (computed_header file at (t ∷ toks) s)
-      (done_only P M table (AllToks P (t ∷ toks)) (Any {A = Header}) s (header_in t.text) (λ p. tt)) (computed_done file at (t ∷ toks) s)
+  named_done file at (t ∷ toks) s = named_by file at t toks s (is_header t.kind)
 
   -- what is known of the items of included files
   abbrev pub ProcessDone : Process → Type 0
-  ProcessDone process = (file : SourceFile) (s : State) → Done P M table (FileHas P file) (AllToks P) s (process file s)
+  ProcessDone process = (file : SourceFile) (s : State) → Done P M table (FileIs table file) (AllToks P) s (process file s)
 
   abbrev pub InnerDone : Inner → Type 0
   InnerDone None = Unit {0}
@@ -95,26 +99,26 @@ module _ (P : Token → Type 0) (M : Note → Type 0) (table : Table) (rules : U
       → Done P M table pre (AllToks P) t (Ok (did toks (Exited at file.number t.before ∷ []) t))
   exited_done pre at file toks t h place = (grown_refl t.table, λ p reach has told. (h p, has, (place p, tt)))
 
-  entered_done : (process : Process) → ProcessDone process → (pre : Type 0) (at : Pos) (file : SourceFile) (s : State) → (pre → FileHas P file) → (pre → PlaceHas P at)
+  entered_done : (process : Process) → ProcessDone process → (pre : Type 0) (at : Pos) (file : SourceFile) (s : State) → (pre → FileIs table file) → (pre → PlaceHas P at)
       → Done P M table pre (AllToks P) s (entered process at file s)
   entered_done process known pre at file s h place =
       done_noted P M table pre (AllToks P) s (Entered at file.number s.before ∷ []) (onward (process file s) (λ toks t. Ok (did toks (Exited at file.number t.before ∷ []) t))) (λ p. (place p, tt))
       (done_onward P M table pre (AllToks P) (AllToks P) s (process file s) (λ toks t. Ok (did toks (Exited at file.number t.before ∷ []) t))
-      (done_more P M table (FileHas P file) pre (AllToks P) (AllToks P) s (process file s) h (λ a p k. k) (known file s))
+      (done_more P M table (FileIs table file) pre (AllToks P) (AllToks P) s (process file s) h (λ a p k. k) (known file s))
       (λ toks t. exited_done (pre × AllToks P toks) at file toks t (λ p. p.1) (λ p. place p.0)))
 
   included_done : (inner : Inner) → InnerDone inner → (pre : Type 0) (file : SourceFile) (at : Pos) (h : Header) (s : State) → (pre → PlaceHas P at)
       → Done P M table pre (AllToks P) s (included ctx inner file at h s)
   included_done None known pre file at h s place = tt
   included_done (Some process) known pre file at h s place =
-      done_onward P M table pre (FileHas P) (AllToks P) s (open_header ctx file at h s) (entered process at)
-      (done_more P M table (Unit {0}) pre (FileHas P) (FileHas P) s (open_header ctx file at h s) (λ p. tt) (λ a p k. k) (header_done file at h s))
-      (λ f t. entered_done process known (pre × FileHas P f) at f t (λ p. p.1) (λ p. place p.0))
+      done_onward P M table pre (FileIs table) (AllToks P) s (open_header ctx file at h s) (entered process at)
+      (done_more P M table (Unit {0}) pre (FileIs table) (FileIs table) s (open_header ctx file at h s) (λ p. tt) (λ a p k. k) (header_done file at h s))
+      (λ f t. entered_done process known (pre × FileIs table f) at f t (λ p. p.1) (λ p. place p.0))
 
   pub include_done : (inner : Inner) → InnerDone inner → (file : SourceFile) (at : Pos) (toks : List Token) (s : State)
-      → Done P M table (AllToks P toks × PlaceHas P at) (AllToks P) s (include_of ctx inner file at toks s)
+      → Done P M table (AllToks P (expanded_name (drop 2 toks)) × PlaceHas P at) (AllToks P) s (include_of ctx inner file at toks s)
   include_done inner known file at toks s =
-      done_onward P M table (AllToks P toks × PlaceHas P at) (Any {A = Header}) (AllToks P) s (header_named file at (drop 2 toks) s) (included ctx inner file at)
-      (done_more P M table (AllToks P (drop 2 toks)) (AllToks P toks × PlaceHas P at) (Any {A = Header}) (Any {A = Header}) s (header_named file at (drop 2 toks) s)
-      (λ p. toks_drop P 2 toks p.0) (λ a p k. tt) (named_done file at (drop 2 toks) s))
-      (λ h t. included_done inner known ((AllToks P toks × PlaceHas P at) × Any h) file at h t (λ p. p.0.1))
+      done_onward P M table (AllToks P (expanded_name (drop 2 toks)) × PlaceHas P at) (Any {A = Header}) (AllToks P) s (header_named file at (drop 2 toks) s) (included ctx inner file at)
+      (done_more P M table (AllToks P (expanded_name (drop 2 toks))) (AllToks P (expanded_name (drop 2 toks)) × PlaceHas P at) (Any {A = Header}) (Any {A = Header}) s (header_named file at (drop 2 toks) s)
+      (λ p. p.0) (λ a p k. tt) (named_done file at (drop 2 toks) s))
+      (λ h t. included_done inner known ((AllToks P (expanded_name (drop 2 toks)) × PlaceHas P at) × Any h) file at h t (λ p. p.0.1))

@@ -2,9 +2,12 @@
 pub mod DoneLemmas
 pub mod UnitLemmas
 pub mod NoteLemmas
+pub mod PartLemmas
 pub mod TextLemmas
+pub mod ReachedLemmas
+pub mod SpellingLemmas
+pub mod NameLemmas
 -- What the proofs of this crate rest on.
-mod PartLemmas
 mod ExpandingLemmas
 mod NamingLemmas
 mod DefiningLemmas
@@ -14,5 +17,3 @@ mod WalkLemmas
 mod TokenLemmas
 mod TestLemmas
 mod FileLemmas
-mod SpellingLemmas
-mod NameLemmas

@@ -13,9 +13,9 @@ use Rattle.include_tree.specs.declared.events.EventKind.TheVariants as kind
 use Rattle.include_tree.specs.Notes.{Note, Reaches, Happened, Defined, Undefined, Tested, Left, Linked, Answered, Named, Entered, Exited, links_of, links_then, pasted_of, pasted_then, stringized_of, stringized_then, header_of, answers_of, events_of, events_then, named_event, file_event, before_in}
 use Rattle.include_tree.specs.Texts.{UnitTextValue, unit_text}
 use Rattle.expansion_laws.specs.Telling.{AreAlike}
-use Rattle.expansion_laws.proofs.ListLemmas.{AllToks}
+use Rattle.expansion_laws.proofs.ListLemmas.{AllToks, toks_more}
 use Rattle.unit_laws.specs.UnitLinks.{IsIn}
-use Rattle.unit_laws.proofs.DoneLemmas.{AllIn, all_both, PlaceHas, HappenedSo, NotedSo}
+use Rattle.unit_laws.proofs.DoneLemmas.{AllIn, all_both, PlaceHas, IsAnswer, HappenedSo, NotedSo}
 use Rattle.unit_laws.proofs.PartLemmas.{toks_both}
 
 -- ---- lists
@@ -64,6 +64,7 @@ pub record TextHas (P : Token → Type 0) (text : UnitTextValue) : Type 0 where
   pub stringized : AllToks P text.stringized
   pub header : AllToks P text.header
   pub answers : AllToks P text.answers
+  pub answered : AllToks IsAnswer text.answers
   pub events : AllIn (EventHas P) text.events
 
 module _ (P : Token → Type 0) where
@@ -116,7 +117,7 @@ module _ (P : Token → Type 0) where
   stringized_then_has : (n : expansion.Note) → HappenedSo P n → AllToks P (stringized_then n)
   stringized_then_has (expansion.Linked x y) h = tt
   stringized_then_has (expansion.Replaced name m more) h = tt
-  stringized_then_has (expansion.Stringized toks s) h = h
+  stringized_then_has (expansion.Stringized toks s) h = h.0
   stringized_then_has (expansion.Pasted x y z) h = tt
 
   stringized_has : (n : Note) → NotedSo P n → AllToks P (stringized_of n)
@@ -145,8 +146,8 @@ module _ (P : Token → Type 0) where
   header_has (Entered at file before) h = tt
   header_has (Exited at file before) h = tt
 
-  answers_have : (n : Note) → NotedSo P n → AllToks P (answers_of n)
-  answers_have (Answered t) h = (h, tt)
+  answers_have : (n : Note) → NotedSo P n → AllToks (λ t. P t × IsAnswer t) (answers_of n)
+  answers_have (Answered t) h = ((h.0, h.1), tt)
   answers_have (Named toks) h = tt
   answers_have (Happened run before n) h = tt
   answers_have (Linked x y) h = tt
@@ -157,6 +158,10 @@ module _ (P : Token → Type 0) where
   answers_have (Left name before) h = tt
   answers_have (Entered at file before) h = tt
   answers_have (Exited at file before) h = tt
+
+  flat_answers : (notes : List Note) → AllIn (NotedSo P) notes → AllToks (λ t. P t × IsAnswer t) (flat_map answers_of notes)
+  flat_answers [] so = tt
+  flat_answers (n ∷ notes) so = toks_both (λ t. P t × IsAnswer t) (answers_of n) (flat_map answers_of notes) (answers_have n so.0) (flat_answers notes so.1)
 
   named_has : (k : EventKind) (t : Token) (def : Option Pos) (before : ℕ) → P t → EventHas P (named_event k t def before)
   named_has k t def before h = record { name = λ name e. subst P (same_Some t name e) h; at = (t, (h, refl)) }
@@ -190,6 +195,7 @@ module _ (P : Token → Type 0) where
     pasted = flat_toks pasted_of pasted_has notes so;
     stringized = flat_toks stringized_of stringized_has notes so;
     header = flat_toks header_of header_has notes so;
-    answers = flat_toks answers_of answers_have notes so;
+    answers = (let both = flat_answers notes so in toks_more (λ t. P t × IsAnswer t) P (flat_map answers_of notes) both (λ t h. h.0));
+    answered = (let both = flat_answers notes so in toks_more (λ t. P t × IsAnswer t) IsAnswer (flat_map answers_of notes) both (λ t h. h.1));
     events = flat_has (EventHas P) events_of events_have notes so;
   }

@@ -1,6 +1,6 @@
 -- Parts of lines: their tokens, the names in them, and what definitions take from them.
 use Rattle.std.proofs.Common.{◌≡◌, ℕ, zero, suc, ◌+◌, ◌-◌, ◌&&◌, Bool, true, false, cond, List, [], ◌∷◌, ◌++◌, length, take, drop, map, get_or, Option, Some, None, refl, ap, ◌∙◌, subst, arith, inl, inr}
-use Rattle.std.specs.Prelude.{All}
+use Rattle.std.specs.Prelude.{All, slice_get}
 use Rattle.std.specs.Str.{bytes_eq}
 use Rattle.std.proofs.lemmas.Bool.{cases_Bool}
 use Rattle.std.proofs.lemmas.Option.{none-some, same_Some}
@@ -10,6 +10,7 @@ use Rattle.cs_base.specs.declared.positions.Pos.{Pos}
 use Rattle.cs_base.specs.Token.{Token}
 use Rattle.line_shape.specs.declared.items.Item.{Item}
 use Rattle.line_shape.specs.declared.items.ItemKind.{ItemKind}
+use Rattle.line_shape.specs.declared.items.ItemKind.TheVariants as kind
 use Rattle.line_shape.specs.declared.items.ItemKind.TheVariants.{Run, Bad}
 use Rattle.line_shape.specs.Signs.{is_name, is_hash, is_close}
 use Rattle.line_shape.specs.Directives.{directive_named, takes_name, is_run, nests_when_bad}
@@ -18,10 +19,14 @@ use Rattle.line_shape.specs.Items.{onto_lines, lines_of, line_kind, named_kind, 
 use Rattle.line_shape.specs.MacroLine.{MacroParts, macro, before_close, behind_close, is_function_like, is_parameter_list, params_in, function_macro, macro_of}
 use Rattle.macro_expand.proofs.CallLemmas.{cond_has}
 use Rattle.macro_expand.proofs.TracedLemmas.{IsLine, lines-items_of}
-use Rattle.include_tree.specs.Walk.{ItemText, item_text, item_texts}
+use Rattle.include_tree.specs.Files.{SourceFile, Table}
+use Rattle.include_tree.specs.Including.{is_header}
+use Rattle.include_tree.specs.Sources.{source_at}
+use Rattle.include_tree.specs.Walk.{ItemText, item_text, item_texts, items_in}
 use Rattle.include_tree.specs.Names.{spelled_in}
 use Rattle.expansion_laws.proofs.ListLemmas.{AllToks}
-use Rattle.unit_laws.proofs.DoneLemmas.{AllIn, all_both, NameHas, PlaceHas}
+use Rattle.unit_laws.specs.UnitItems.{expanded_name, taken}
+use Rattle.unit_laws.proofs.DoneLemmas.{AllIn, all_both, NameHas, PlaceHas, TakenHas}
 
 -- ---- parts of lists
 
@@ -98,6 +103,46 @@ pub items_have : (P : Token → Type 0) (toks : List Token) (firsts : List Bool)
 unfolding items_of
 items_have P toks firsts h =
     texts_have P toks (items_of toks firsts) h (places_have P 0 (pieces_of (lines_of toks firsts)) (pieces_have P (lines_of toks firsts) (lines_have P toks firsts h))) (lines-items_of toks firsts)
+
+item_at : {X : Type 0} (Q : X → Type 0) (xs : List X) → AllIn Q xs → (x : X) (k : ℕ) → slice_get xs k ≡ Some x → Q x
+item_at Q [] h x k e = absurd (none-some x e)
+item_at Q (y ∷ ys) h x zero e = subst Q (same_Some y x e) h.0
+item_at Q (y ∷ ys) h x (suc k) e = item_at Q ys h.1 x k e
+
+-- an item of a file whose tokens have it
+pub item_has : (P : Token → Type 0) (file : SourceFile) (k : ℕ) (i : ItemText) → AllToks P file.text.toks → slice_get (items_in file) k ≡ Some i → ItemHas P i
+item_has P file k i h at = item_at (ItemHas P) (items_in file) (items_have P file.text.toks file.text.firsts h) i k at
+
+expanded_has : (P : Token → Type 0) (toks : List Token) → AllToks P toks → AllToks P (expanded_name toks)
+expanded_has P [] h = tt
+expanded_has P (t ∷ toks) h = cond_has (AllToks P) (is_header t.kind) [] (t ∷ toks) tt h
+
+taken_has : (P : Token → Type 0) (k : ItemKind) (evaluated : Bool) (toks : List Token) → AllToks P toks → AllToks P (taken k evaluated toks)
+taken_has P Run evaluated toks h = h
+taken_has P kind.Define evaluated toks h = toks_drop P 2 toks h
+taken_has P kind.Undef evaluated toks h = toks_take P 1 (drop 2 toks) (toks_drop P 2 toks h)
+taken_has P kind.Ifdef evaluated toks h = toks_take P 1 (drop 2 toks) (toks_drop P 2 toks h)
+taken_has P kind.Ifndef evaluated toks h = toks_take P 1 (drop 2 toks) (toks_drop P 2 toks h)
+taken_has P kind.If true toks h = toks_drop P 2 toks h
+taken_has P kind.If false toks h = tt
+taken_has P kind.Elif true toks h = toks_drop P 2 toks h
+taken_has P kind.Elif false toks h = tt
+taken_has P kind.Include evaluated toks h = expanded_has P (drop 2 toks) (toks_drop P 2 toks h)
+taken_has P kind.Else evaluated toks h = tt
+taken_has P kind.Endif evaluated toks h = tt
+taken_has P kind.Line evaluated toks h = tt
+taken_has P kind.Error evaluated toks h = tt
+taken_has P kind.Pragma evaluated toks h = tt
+taken_has P kind.Empty evaluated toks h = tt
+taken_has P (Bad cause at nests) evaluated toks h = tt
+
+-- what is taken from the items of kept files has it, where all their tokens do
+pub from_files : (P : Token → Type 0) (table : Table) → ((number : ℕ) (file : SourceFile) → source_at table number ≡ Some file → AllToks P file.text.toks)
+    → (number k : ℕ) (evaluated : Bool) (file : SourceFile) (i : ItemText) → source_at table number ≡ Some file → slice_get (items_in file) k ≡ Some i
+    → TakenHas P evaluated i
+from_files P table files number k evaluated file i is at =
+    let has = item_has P file k i (files number file is) at in
+    record { toks = taken_has P i.kind evaluated i.toks has.toks; at = λ include. has.at }
 
 -- ---- the name that a directive takes
 

@@ -18,6 +18,7 @@ use Rattle.unit_laws.specs.UnitSpelling.{FilesAreSpelled, UnitTokensAreSpelled}
 use Rattle.unit_laws.proofs.DoneLemmas.{UnitRules}
 use Rattle.unit_laws.proofs.FileLemmas.{text_spelled}
 use Rattle.unit_laws.proofs.NoteLemmas.{LinkHas, EventHas, in_at}
+use Rattle.unit_laws.proofs.PartLemmas.{from_files}
 use Rattle.unit_laws.proofs.TextLemmas.{text_is, unit_text_has}
 
 and_two : (a b : Bool) → (a && b) ≡ true → (a ≡ true) × (b ≡ true)
@@ -53,7 +54,7 @@ rules_spelled M table = record {
   spaced = λ t gap h. h;
   moved = λ t h. h;
   placed = λ name t gap here h. standing_spelled name t here h;
-  files = λ number file is. toks_pass is_spelled file.text.toks (files_are_spelled table number file is);
+  items = λ number k evaluated before file i is at told. from_files IsSpelled table (λ number file is. toks_pass is_spelled file.text.toks (files_are_spelled table number file is)) number k evaluated file i is at;
   lines = λ name run before more here is brought. number_spelled name here;
   answers = λ word b here brought. answer_spelled word b here;
   paths = λ path name here. path_spelled path name here;

@@ -11,6 +11,7 @@ use Rattle.unit_laws.specs.UnitLinks.{IsIn}
 use Rattle.unit_laws.specs.UnitTests.{FilesPass, BroughtPass, UnitKeepsTests}
 use Rattle.unit_laws.proofs.DoneLemmas.{UnitRules}
 use Rattle.unit_laws.proofs.NoteLemmas.{LinkHas, EventHas, in_at}
+use Rattle.unit_laws.proofs.PartLemmas.{from_files}
 use Rattle.unit_laws.proofs.TextLemmas.{text_is, unit_text_has, line_event, answer_among}
 
 abbrev Passes : Test → Token → Type 0
@@ -22,7 +23,7 @@ rules_pass p text notes toks table is blind files brought made = record {
   spaced = λ t gap h. blind t gap t.direct h;
   moved = λ t h. blind t t.gap false h;
   placed = λ name t gap here h. blind (standing_at name t) gap false (files.placed name t here h);
-  files = λ number file at. toks_pass p file.text.toks (files.toks number file at);
+  items = λ number k evaluated before file i is at told. from_files (Passes p) table (λ number file at. toks_pass p file.text.toks (files.toks number file at)) number k evaluated file i is at;
   lines = λ name run before more here spelled at.
       let e = line_event text notes toks name run before more is spelled at in
       brought.lines e.0 name e.1.0 e.1.1 here;

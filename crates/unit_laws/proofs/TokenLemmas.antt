@@ -14,6 +14,7 @@ use Rattle.unit_laws.specs.UnitLinks.{IsIn, UnitLinksAreAlike}
 use Rattle.unit_laws.specs.UnitTokens.{FilesAreWhole, NumbersAreWhole, UnitTokensAreWhole, StandsInFile, UnitTokensStandInFiles}
 use Rattle.unit_laws.proofs.DoneLemmas.{UnitRules}
 use Rattle.unit_laws.proofs.NoteLemmas.{in_at, LinkHas, EventHas}
+use Rattle.unit_laws.proofs.PartLemmas.{from_files}
 use Rattle.unit_laws.proofs.TextLemmas.{text_is, unit_text_has, line_event, answer_among}
 
 -- ---- links
@@ -26,7 +27,7 @@ rules_any M table = record {
   spaced = λ t gap h. tt;
   moved = λ t h. tt;
   placed = λ name t gap here h. tt;
-  files = λ number file is. each_tok Any file.text.toks (λ t k at. tt);
+  items = λ number k evaluated before file i is at told. from_files Any table (λ number file is. each_tok Any file.text.toks (λ t k at. tt)) number k evaluated file i is at;
   lines = λ name run before more here is brought. tt;
   answers = λ word b here brought. tt;
   paths = λ path name here. tt;
@@ -49,7 +50,7 @@ rules_whole among files text notes toks table quote is whole numbers = record {
   spaced = λ t gap h. whole_as among files t (record t { gap = gap }) refl refl h;
   moved = λ t h. whole_as among files t (record t { direct = false }) refl refl h;
   placed = λ name t gap here h. whole_as among files t (put_in name gap t) refl refl h;
-  files = λ number file at. each_tok (IsWhole among files) file.text.toks (λ t k e. whole number file at t (k, e));
+  items = λ number k evaluated before file i is at told. from_files (IsWhole among files) table (λ number file at. each_tok (IsWhole among files) file.text.toks (λ t k e. whole number file at t (k, e))) number k evaluated file i is at;
   lines = λ name run before more here spelled brought.
       let e = line_event text notes toks name run before more is spelled brought in
       numbers.lines e.0 name e.1.0 e.1.1;
@@ -89,12 +90,12 @@ rules_stand M table = record {
   spaced = λ t gap h. stands_as table t (record t { gap = gap }) h refl refl;
   moved = λ t h. stands_as table t (record t { direct = false }) h refl refl;
   placed = λ name t gap here h. stands_as table name (put_in name gap t) here refl refl;
-  files = λ number file is. each_tok (StandsInFile table) file.text.toks (λ t k at. record {
+  items = λ number k evaluated before file i is at told. from_files (StandsInFile table) table (λ number file is. each_tok (StandsInFile table) file.text.toks (λ t k at. record {
     number = number;
     file = file;
     is_kept = is;
     place = record { token = t; one = (k, at); at = refl; line = refl };
-  });
+  })) number k evaluated file i is at;
   lines = λ name run before more here is brought. stands_as table name (line_number name) here refl refl;
   answers = λ word b here brought. stands_as table word (answer_for word b) here refl refl;
   paths = λ path name here. stands_as table name (path_string path name) here refl refl;

@@ -20,7 +20,7 @@ use Rattle.include_tree.specs.Unit.{first_state, outer_file, main_file, both_fil
 use Rattle.include_tree.proofs.TableLemmas.{grown_refl, widens_asked}
 use Rattle.expansion_laws.proofs.ListLemmas.{AllToks}
 use Rattle.unit_laws.proofs.DoneLemmas.{AllIn, UnitRules, NotedSo, MacroHas, Done, done_more, done_onward}
-use Rattle.unit_laws.proofs.IncludeLemmas.{FileHas, grown_done, open_done}
+use Rattle.unit_laws.proofs.IncludeLemmas.{FileIs, grown_done, open_done}
 use Rattle.unit_laws.proofs.WalkLemmas.{both_done, files_done}
 
 -- the first macros
@@ -43,9 +43,9 @@ module _ (P : Token → Type 0) (M : Note → Type 0) (table : Table) (rules : U
   outer_done : (pre : Type 0) (path : List ℕ) (s : State) → Done P M table pre (AllToks P) s (outer_file (context source file_text ipath the_limits earlier) path s)
   outer_done pre path s =
       let cx : Context = context source file_text ipath the_limits earlier in
-      done_onward P M table pre (FileHas P) (AllToks P) s (open_file cx (first_place path) path s) (file_items cx (cx.limits.open_files - 1))
-      (done_more P M table (Unit {0}) pre (FileHas P) (FileHas P) s (open_file cx (first_place path) path s) (λ p. tt) (λ a p h. h) (open_done P M table rules source ipath earlier (first_place path) path s))
-      (λ f t. done_more P M table (FileHas P f) (pre × FileHas P f) (AllToks P) (AllToks P) t (file_items cx (cx.limits.open_files - 1) f t) (λ p. p.1) (λ a p h. h)
+      done_onward P M table pre (FileIs table) (AllToks P) s (open_file cx (first_place path) path s) (file_items cx (cx.limits.open_files - 1))
+      (done_more P M table (Unit {0}) pre (FileIs table) (FileIs table) s (open_file cx (first_place path) path s) (λ p. tt) (λ a p h. h) (open_done P M table rules source ipath earlier (first_place path) path s))
+      (λ f t. done_more P M table (FileIs table f) (pre × FileIs table f) (AllToks P) (AllToks P) t (file_items cx (cx.limits.open_files - 1) f t) (λ p. p.1) (λ a p h. h)
       (files_done P M table rules source ipath earlier (cx.limits.open_files - 1) f t))
 
   main_done : (pre : Type 0) (path : List ℕ) (s : State) → Done P M table pre (AllToks P) s (main_file (context source file_text ipath the_limits earlier) path s)

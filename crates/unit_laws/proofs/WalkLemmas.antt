@@ -1,12 +1,13 @@
 -- The items of files: what is true of what they give.
-use Rattle.std.proofs.Common.{◌≡◌, ℕ, zero, suc, ◌+◌, Bool, true, false, not, cond, List, [], ◌∷◌, ◌++◌, drop, Some, None, Err, refl}
+use Rattle.std.proofs.Common.{◌≡◌, ℕ, zero, suc, ◌+◌, Bool, true, false, not, cond, List, [], ◌∷◌, ◌++◌, take, drop, Some, None, Err, refl, subst, arith}
+use Rattle.std.specs.Prelude.{slice_get}
 use Rattle.cs_base.specs.declared.causes.Cause.TheVariants as cause
 use Rattle.cs_base.specs.declared.positions.Pos.{Pos}
 use Rattle.cs_base.specs.Token.{Token}
 use Rattle.part_lexer.specs.FileText.{file_text}
 use Rattle.line_shape.specs.declared.items.ItemKind.{ItemKind}
 use Rattle.line_shape.specs.declared.items.ItemKind.TheVariants as kind
-use Rattle.line_shape.specs.Directives.{is_run}
+use Rattle.line_shape.specs.Directives.{is_run, is_include}
 use Rattle.line_shape.specs.Items.{line_kind}
 use Rattle.include_tree.specs.Limits.{the_limits}
 use Rattle.include_tree.specs.Faults.{fault_at}
@@ -18,13 +19,17 @@ use Rattle.include_tree.specs.Sections.{Group, Processed, Awaited, Over, Skipped
 use Rattle.include_tree.specs.Conditions.{holds}
 use Rattle.include_tree.specs.Directives.{opens_with, is_if}
 use Rattle.include_tree.specs.Walk.{ItemText, items_in, processed, Stepped, stepped, reaching, reaching_alive, go_on, opens, goes_on, in_section, turned, item_step, file_end, walk, file_items}
-use Rattle.expansion_laws.proofs.ListLemmas.{AllToks}
-use Rattle.unit_laws.proofs.DoneLemmas.{AllIn, UnitRules, PlaceHas, Done, done_more, done_noted, done_onward, done_cond, done_only}
-use Rattle.unit_laws.proofs.PartLemmas.{toks_drop, toks_both, ItemHas, items_have}
+use Rattle.expansion_laws.proofs.ListLemmas.{AllToks, each_tok}
+use Rattle.unit_laws.specs.UnitItems.{expanded_name, taken}
+use Rattle.unit_laws.proofs.DoneLemmas.{UnitRules, PlaceHas, Done, done_more, done_told, done_onward, done_cond, done_only}
+use Rattle.unit_laws.proofs.PartLemmas.{toks_both, item_has}
 use Rattle.unit_laws.proofs.ExpandingLemmas.{run_done}
 use Rattle.unit_laws.proofs.DefiningLemmas.{define_done, undef_done, asks_done}
 use Rattle.unit_laws.proofs.ConditionLemmas.{holds_done}
-use Rattle.unit_laws.proofs.IncludeLemmas.{Any, FileHas, ProcessDone, InnerDone, include_done}
+use Rattle.unit_laws.proofs.IncludeLemmas.{Any, FileIs, ProcessDone, InnerDone, include_done}
+
+abbrev AnyTok : Token → Type 0
+AnyTok t = Unit {0}
 
 abbrev SteppedHas : (Token → Type 0) → Stepped → Type 0
 SteppedHas P d = AllToks P d.toks
@@ -36,52 +41,62 @@ module _ (P : Token → Type 0) (M : Note → Type 0) (table : Table) (rules : U
 
   -- ---- items
 
-  -- the tokens of an item of this kind
-  abbrev LineHas : ItemKind → List Token → Type 0
-  LineHas k toks = AllToks P toks × (line_kind toks ≡ k)
+  -- what an item of this kind has, a condition that is evaluated or not
+  abbrev KindHas : ItemKind → Bool → Pos → List Token → Type 0
+  KindHas k evaluated at toks =
+      AllToks P (taken k evaluated toks) × (is_run k ≡ false → line_kind toks ≡ k) × (is_include k ≡ true → PlaceHas P at)
 
-  -- what an item of this kind has
-  abbrev KindHas : ItemKind → Pos → List Token → Type 0
-  KindHas k at toks = AllToks P toks × (is_run k ≡ false → line_kind toks ≡ k) × PlaceHas P at
+  -- item k of a kept file
+  pub record IsItem (file : SourceFile) (k : ℕ) (i : ItemText) : Type 0 where
+    pub is_kept : FileIs table file
+    pub at : slice_get (items_in file) k ≡ Some i
+
+  -- what an item that is reached has
+  reached_has : (file : SourceFile) (k : ℕ) (i : ItemText) (evaluated : Bool) (before : ℕ) → IsItem file k i → M (Reaches file.number k evaluated before)
+      → KindHas i.kind evaluated i.at i.toks
+  reached_has file k i evaluated before is told =
+      let has = rules.items file.number k evaluated before file i is.is_kept is.at told in
+      let any = item_has AnyTok file k i (each_tok AnyTok file.text.toks (λ t n at. tt)) is.at in
+      (has.toks, any.line, has.at)
 
   nothing_done : (pre : Type 0) (s : State) → Done P M table pre (AllToks P) s (only [] s)
   nothing_done pre s = done_only P M table pre (AllToks P) s [] (λ p. tt)
 
   processed_done : (inner : Inner) → InnerDone P M table rules source ipath earlier inner → (file : SourceFile) (k : ItemKind) (at : Pos) (toks : List Token) (s : State)
-      → Done P M table (KindHas k at toks) (AllToks P) s (processed ctx inner file k at toks s)
+      → Done P M table (KindHas k false at toks) (AllToks P) s (processed ctx inner file k at toks s)
   processed_done inner known file kind.Run at toks s =
-      done_more P M table (AllToks P toks) (KindHas kind.Run at toks) (AllToks P) (AllToks P) s (processed ctx inner file kind.Run at toks s) (λ p. p.0) (λ a p k. k) (run_done P M table rules ctx file toks s)
+      done_more P M table (AllToks P toks) (KindHas kind.Run false at toks) (AllToks P) (AllToks P) s (processed ctx inner file kind.Run at toks s) (λ p. p.0) (λ a p k. k) (run_done P M table rules ctx file toks s)
   processed_done inner known file kind.Define at toks s =
-      done_more P M table (LineHas kind.Define toks) (KindHas kind.Define at toks) (AllToks P) (AllToks P) s (processed ctx inner file kind.Define at toks s)
+      done_more P M table (AllToks P (drop 2 toks) × (line_kind toks ≡ kind.Define)) (KindHas kind.Define false at toks) (AllToks P) (AllToks P) s (processed ctx inner file kind.Define at toks s)
       (λ p. (p.0, p.1 refl)) (λ a p k. k) (define_done P M table kind.Define file at toks s refl)
   processed_done inner known file kind.Undef at toks s =
-      done_more P M table (LineHas kind.Undef toks) (KindHas kind.Undef at toks) (AllToks P) (AllToks P) s (processed ctx inner file kind.Undef at toks s)
+      done_more P M table (AllToks P (take 1 (drop 2 toks)) × (line_kind toks ≡ kind.Undef)) (KindHas kind.Undef false at toks) (AllToks P) (AllToks P) s (processed ctx inner file kind.Undef at toks s)
       (λ p. (p.0, p.1 refl)) (λ a p k. k) (undef_done P M table kind.Undef file at toks s refl)
   processed_done inner known file kind.Include at toks s =
-      done_more P M table (AllToks P toks × PlaceHas P at) (KindHas kind.Include at toks) (AllToks P) (AllToks P) s (processed ctx inner file kind.Include at toks s) (λ p. (p.0, p.2)) (λ a p k. k) (include_done P M table rules source ipath earlier inner known file at toks s)
+      done_more P M table (AllToks P (expanded_name (drop 2 toks)) × PlaceHas P at) (KindHas kind.Include false at toks) (AllToks P) (AllToks P) s (processed ctx inner file kind.Include at toks s) (λ p. (p.0, p.2 refl)) (λ a p k. k) (include_done P M table rules source ipath earlier inner known file at toks s)
   processed_done inner known file kind.Error at toks s = tt
   processed_done inner known file (kind.Bad c place nests) at toks s = tt
-  processed_done inner known file kind.If at toks s = nothing_done (KindHas kind.If at toks) s
-  processed_done inner known file kind.Ifdef at toks s = nothing_done (KindHas kind.Ifdef at toks) s
-  processed_done inner known file kind.Ifndef at toks s = nothing_done (KindHas kind.Ifndef at toks) s
-  processed_done inner known file kind.Elif at toks s = nothing_done (KindHas kind.Elif at toks) s
-  processed_done inner known file kind.Else at toks s = nothing_done (KindHas kind.Else at toks) s
-  processed_done inner known file kind.Endif at toks s = nothing_done (KindHas kind.Endif at toks) s
-  processed_done inner known file kind.Line at toks s = nothing_done (KindHas kind.Line at toks) s
-  processed_done inner known file kind.Pragma at toks s = nothing_done (KindHas kind.Pragma at toks) s
-  processed_done inner known file kind.Empty at toks s = nothing_done (KindHas kind.Empty at toks) s
+  processed_done inner known file kind.If at toks s = nothing_done (KindHas kind.If false at toks) s
+  processed_done inner known file kind.Ifdef at toks s = nothing_done (KindHas kind.Ifdef false at toks) s
+  processed_done inner known file kind.Ifndef at toks s = nothing_done (KindHas kind.Ifndef false at toks) s
+  processed_done inner known file kind.Elif at toks s = nothing_done (KindHas kind.Elif false at toks) s
+  processed_done inner known file kind.Else at toks s = nothing_done (KindHas kind.Else false at toks) s
+  processed_done inner known file kind.Endif at toks s = nothing_done (KindHas kind.Endif false at toks) s
+  processed_done inner known file kind.Line at toks s = nothing_done (KindHas kind.Line false at toks) s
+  processed_done inner known file kind.Pragma at toks s = nothing_done (KindHas kind.Pragma false at toks) s
+  processed_done inner known file kind.Empty at toks s = nothing_done (KindHas kind.Empty false at toks) s
 
   abbrev AnyBool : Bool → Type 0
   AnyBool b = Unit {0}
 
-  opens_with_done : (k : ItemKind) (file : SourceFile) (at : Pos) (toks : List Token) (s : State) → Done P M table (KindHas k at toks) AnyBool s (opens_with k file at toks s)
+  opens_with_done : (k : ItemKind) (file : SourceFile) (at : Pos) (toks : List Token) (s : State) → Done P M table (KindHas k (is_if k) at toks) AnyBool s (opens_with k file at toks s)
   opens_with_done kind.If file at toks s =
-      done_more P M table (AllToks P (drop 2 toks)) (KindHas kind.If at toks) AnyBool AnyBool s (opens_with kind.If file at toks s) (λ p. toks_drop P 2 toks p.0) (λ a p k. tt) (holds_done P M table rules file at (drop 2 toks) s)
+      done_more P M table (AllToks P (drop 2 toks)) (KindHas kind.If true at toks) AnyBool AnyBool s (opens_with kind.If file at toks s) (λ p. p.0) (λ a p k. tt) (holds_done P M table rules file at (drop 2 toks) s)
   opens_with_done kind.Ifdef file at toks s =
-      done_more P M table (LineHas kind.Ifdef toks) (KindHas kind.Ifdef at toks) AnyBool AnyBool s (opens_with kind.Ifdef file at toks s)
+      done_more P M table (AllToks P (take 1 (drop 2 toks)) × (line_kind toks ≡ kind.Ifdef)) (KindHas kind.Ifdef false at toks) AnyBool AnyBool s (opens_with kind.Ifdef file at toks s)
       (λ p. (p.0, p.1 refl)) (λ a p k. tt) (asks_done P M table kind.Ifdef file at (λ b. b) toks s refl)
   opens_with_done kind.Ifndef file at toks s =
-      done_more P M table (LineHas kind.Ifndef toks) (KindHas kind.Ifndef at toks) AnyBool AnyBool s (opens_with kind.Ifndef file at toks s)
+      done_more P M table (AllToks P (take 1 (drop 2 toks)) × (line_kind toks ≡ kind.Ifndef)) (KindHas kind.Ifndef false at toks) AnyBool AnyBool s (opens_with kind.Ifndef file at toks s)
       (λ p. (p.0, p.1 refl)) (λ a p k. tt) (asks_done P M table kind.Ifndef file at not toks s refl)
   opens_with_done (kind.Bad c place nests) file at toks s = tt
   opens_with_done kind.Run file at toks s = tt
@@ -96,9 +111,10 @@ module _ (P : Token → Type 0) (M : Note → Type 0) (table : Table) (rules : U
   opens_with_done kind.Pragma file at toks s = tt
   opens_with_done kind.Empty file at toks s = tt
 
-  reaching_done : (pre : Type 0) (file : SourceFile) (k : ℕ) (evaluated : Bool) (s : State) (m : Outcome Stepped) → Done P M table pre (SteppedHas P) s m
-      → Done P M table pre (SteppedHas P) s (reaching file k evaluated s m)
-  reaching_done pre file k evaluated s m h = done_noted P M table pre (SteppedHas P) s (Reaches file.number k evaluated s.before ∷ []) m (λ p. (tt, tt)) h
+  -- what a reached item gives, where it is known that it is reached
+  reaching_done : (pre pre2 : Type 0) (file : SourceFile) (k : ℕ) (evaluated : Bool) (s : State) (m : Outcome Stepped) → (pre → M (Reaches file.number k evaluated s.before) → pre2)
+      → Done P M table pre2 (SteppedHas P) s m → Done P M table pre (SteppedHas P) s (reaching file k evaluated s m)
+  reaching_done pre pre2 file k evaluated s m more h = done_told P M table pre pre2 (SteppedHas P) s (Reaches file.number k evaluated s.before) m tt more h
 
   only_done : (pre : Type 0) (s : State) (d : Stepped) → (pre → AllToks P d.toks) → Done P M table pre (SteppedHas P) s (only d s)
   only_done pre s d h = done_only P M table pre (SteppedHas P) s d h
@@ -109,33 +125,54 @@ module _ (P : Token → Type 0) (M : Note → Type 0) (table : Table) (rules : U
   then_only {A = A} pre s m next none h =
       done_onward P M table pre (Any {A = A}) (SteppedHas P) s m (λ a t. only (next a) t) h (λ a t. only_done (pre × Any a) t (next a) (λ p. none a))
 
-  opens_done : (file : SourceFile) (k : ℕ) (i : ItemText) (sections : List Section) (s : State) → Done P M table (ItemHas P i) (SteppedHas P) s (opens file k i sections s)
+  opens_done : (file : SourceFile) (k : ℕ) (i : ItemText) (sections : List Section) (s : State) → Done P M table (IsItem file k i) (SteppedHas P) s (opens file k i sections s)
   opens_done file k i sections s =
-      done_cond P M table (ItemHas P i) (SteppedHas P) s (are_processed sections)
+      done_cond P M table (IsItem file k i) (SteppedHas P) s (are_processed sections)
       (reaching file k (is_if i.kind) s (onward (opens_with i.kind file i.at i.toks s) (λ b t. only (stepped [] (section i.at (group_if b) false ∷ sections)) t)))
       (only (stepped [] (section i.at Skipped false ∷ sections)) s)
-      (reaching_done (ItemHas P i) file k (is_if i.kind) s (onward (opens_with i.kind file i.at i.toks s) (λ b t. only (stepped [] (section i.at (group_if b) false ∷ sections)) t))
-      (then_only (ItemHas P i) s (opens_with i.kind file i.at i.toks s) (λ b. stepped [] (section i.at (group_if b) false ∷ sections)) (λ b. tt)
-      (done_more P M table (KindHas i.kind i.at i.toks) (ItemHas P i) AnyBool AnyBool s (opens_with i.kind file i.at i.toks s) (λ p. (p.toks, p.line, p.at)) (λ a p k. tt) (opens_with_done i.kind file i.at i.toks s))))
-      (only_done (ItemHas P i) s (stepped [] (section i.at Skipped false ∷ sections)) (λ p. tt))
+      (reaching_done (IsItem file k i) (KindHas i.kind (is_if i.kind) i.at i.toks) file k (is_if i.kind) s (onward (opens_with i.kind file i.at i.toks s) (λ b t. only (stepped [] (section i.at (group_if b) false ∷ sections)) t))
+      (λ is told. reached_has file k i (is_if i.kind) s.before is told)
+      (then_only (KindHas i.kind (is_if i.kind) i.at i.toks) s (opens_with i.kind file i.at i.toks s) (λ b. stepped [] (section i.at (group_if b) false ∷ sections)) (λ b. tt)
+      (opens_with_done i.kind file i.at i.toks s)))
+      (only_done (IsItem file k i) s (stepped [] (section i.at Skipped false ∷ sections)) (λ p. tt))
 
-  goes_on_done : (file : SourceFile) (k : ℕ) (i : ItemText) (open_ : Section) (sections : List Section) (s : State) (g : Group)
-      → Done P M table (ItemHas P i) (SteppedHas P) s (goes_on file k i open_ sections s g)
-  goes_on_done file k i open_ sections s Awaited =
-      reaching_done (ItemHas P i) file k true s (onward (holds file i.at (drop 2 i.toks) s) (λ b t. only (go_on open_ (group_if b) false sections) t))
-      (then_only (ItemHas P i) s (holds file i.at (drop 2 i.toks) s) (λ b. go_on open_ (group_if b) false sections) (λ b. tt)
-      (done_more P M table (AllToks P (drop 2 i.toks)) (ItemHas P i) AnyBool AnyBool s (holds file i.at (drop 2 i.toks) s) (λ p. toks_drop P 2 i.toks p.toks) (λ a p k. tt) (holds_done P M table rules file i.at (drop 2 i.toks) s)))
-  goes_on_done file k i open_ sections s Skipped = only_done (ItemHas P i) s (go_on open_ Skipped false sections) (λ p. tt)
-  goes_on_done file k i open_ sections s Processed =
-      reaching_done (ItemHas P i) file k false s (only (go_on open_ (group_after Processed) false sections) s) (only_done (ItemHas P i) s (go_on open_ (group_after Processed) false sections) (λ p. tt))
-  goes_on_done file k i open_ sections s Over =
-      reaching_done (ItemHas P i) file k false s (only (go_on open_ (group_after Over) false sections) s) (only_done (ItemHas P i) s (go_on open_ (group_after Over) false sections) (λ p. tt))
+  -- only an `elif` line goes on with a section
+  elif_has : (k : ItemKind) (toks : List Token) → turn_of k ≡ GoesOn → AllToks P (taken k true toks) → AllToks P (drop 2 toks)
+  elif_has kind.Elif toks is h = h
+  elif_has kind.If toks is h = absurd (cc)
+  elif_has kind.Ifdef toks is h = absurd (cc)
+  elif_has kind.Ifndef toks is h = absurd (cc)
+  elif_has (kind.Bad c place true) toks is h = absurd (cc)
+  elif_has (kind.Bad c place false) toks is h = absurd (cc)
+  elif_has kind.Run toks is h = absurd (cc)
+  elif_has kind.Define toks is h = absurd (cc)
+  elif_has kind.Undef toks is h = absurd (cc)
+  elif_has kind.Else toks is h = absurd (cc)
+  elif_has kind.Endif toks is h = absurd (cc)
+  elif_has kind.Include toks is h = absurd (cc)
+  elif_has kind.Line toks is h = absurd (cc)
+  elif_has kind.Error toks is h = absurd (cc)
+  elif_has kind.Pragma toks is h = absurd (cc)
+  elif_has kind.Empty toks is h = absurd (cc)
+
+  goes_on_done : (file : SourceFile) (k : ℕ) (i : ItemText) (open_ : Section) (sections : List Section) (s : State) (g : Group) → turn_of i.kind ≡ GoesOn
+      → Done P M table (IsItem file k i) (SteppedHas P) s (goes_on file k i open_ sections s g)
+  goes_on_done file k i open_ sections s Awaited elif =
+      reaching_done (IsItem file k i) (AllToks P (drop 2 i.toks)) file k true s (onward (holds file i.at (drop 2 i.toks) s) (λ b t. only (go_on open_ (group_if b) false sections) t))
+      (λ is told. elif_has i.kind i.toks elif (reached_has file k i true s.before is told).0)
+      (then_only (AllToks P (drop 2 i.toks)) s (holds file i.at (drop 2 i.toks) s) (λ b. go_on open_ (group_if b) false sections) (λ b. tt)
+      (holds_done P M table rules file i.at (drop 2 i.toks) s))
+  goes_on_done file k i open_ sections s Skipped elif = only_done (IsItem file k i) s (go_on open_ Skipped false sections) (λ p. tt)
+  goes_on_done file k i open_ sections s Processed elif =
+      reaching_done (IsItem file k i) (Unit {0}) file k false s (only (go_on open_ (group_after Processed) false sections) s) (λ is told. tt) (only_done (Unit {0}) s (go_on open_ (group_after Processed) false sections) (λ p. tt))
+  goes_on_done file k i open_ sections s Over elif =
+      reaching_done (IsItem file k i) (Unit {0}) file k false s (only (go_on open_ (group_after Over) false sections) s) (λ is told. tt) (only_done (Unit {0}) s (go_on open_ (group_after Over) false sections) (λ p. tt))
 
   alive_done : (pre : Type 0) (file : SourceFile) (k : ℕ) (g : Group) (s : State) (d : Stepped) → AllToks P d.toks
       → Done P M table pre (SteppedHas P) s (reaching_alive file k g s (only d s))
-  alive_done pre file k Processed s d h = reaching_done pre file k false s (only d s) (only_done pre s d (λ p. h))
-  alive_done pre file k Awaited s d h = reaching_done pre file k false s (only d s) (only_done pre s d (λ p. h))
-  alive_done pre file k Over s d h = reaching_done pre file k false s (only d s) (only_done pre s d (λ p. h))
+  alive_done pre file k Processed s d h = reaching_done pre pre file k false s (only d s) (λ p told. p) (only_done pre s d (λ p. h))
+  alive_done pre file k Awaited s d h = reaching_done pre pre file k false s (only d s) (λ p told. p) (only_done pre s d (λ p. h))
+  alive_done pre file k Over s d h = reaching_done pre pre file k false s (only d s) (λ p told. p) (only_done pre s d (λ p. h))
   alive_done pre file k Skipped s d h = only_done pre s d (λ p. h)
 
   in_section_done : (pre : Type 0) (s : State) (file : SourceFile) (i : ItemText) (turn : Turn) (sections : List Section) (next : Section → List Section → Outcome Stepped)
@@ -169,26 +206,26 @@ module _ (P : Token → Type 0) (M : Note → Type 0) (table : Table) (rules : U
       done_onward P M table pre (AllToks P) (SteppedHas P) s m (λ toks t. only (stepped toks sections) t) h
       (λ toks t. only_done (pre × AllToks P toks) t (stepped toks sections) (λ p. p.1))
 
-  turned_done : (inner : Inner) → InnerDone P M table rules source ipath earlier inner → (file : SourceFile) (k : ℕ) (i : ItemText) (sections : List Section) (s : State) (turn : Turn)
-      → Done P M table (ItemHas P i) (SteppedHas P) s (turned ctx inner file k i sections s turn)
-  turned_done inner known file k i sections s Opens = opens_done file k i sections s
-  turned_done inner known file k i sections s GoesOn =
-      in_section_done (ItemHas P i) s file i GoesOn sections (λ open_ around. goes_on file k i open_ around s open_.group) (λ o around. goes_on_done file k i o around s o.group)
-  turned_done inner known file k i sections s GoesLast =
-      in_section_done (ItemHas P i) s file i GoesLast sections (λ open_ around. reaching_alive file k open_.group s (only (go_on open_ (group_of_else open_.group) true around) s))
-      (λ o around. alive_done (ItemHas P i) file k o.group s (go_on o (group_of_else o.group) true around) tt)
-  turned_done inner known file k i sections s Ends =
-      in_section_done (ItemHas P i) s file i Ends sections (λ open_ around. reaching_alive file k open_.group s (only (stepped [] around) s))
-      (λ o around. alive_done (ItemHas P i) file k o.group s (stepped [] around) tt)
-  turned_done inner known file k i sections s Stays =
-      done_cond P M table (ItemHas P i) (SteppedHas P) s (are_processed sections)
+  turned_done : (inner : Inner) → InnerDone P M table rules source ipath earlier inner → (file : SourceFile) (k : ℕ) (i : ItemText) (sections : List Section) (s : State) (turn : Turn) → turn_of i.kind ≡ turn
+      → Done P M table (IsItem file k i) (SteppedHas P) s (turned ctx inner file k i sections s turn)
+  turned_done inner known file k i sections s Opens turn = opens_done file k i sections s
+  turned_done inner known file k i sections s GoesOn turn =
+      in_section_done (IsItem file k i) s file i GoesOn sections (λ open_ around. goes_on file k i open_ around s open_.group) (λ o around. goes_on_done file k i o around s o.group turn)
+  turned_done inner known file k i sections s GoesLast turn =
+      in_section_done (IsItem file k i) s file i GoesLast sections (λ open_ around. reaching_alive file k open_.group s (only (go_on open_ (group_of_else open_.group) true around) s))
+      (λ o around. alive_done (IsItem file k i) file k o.group s (go_on o (group_of_else o.group) true around) tt)
+  turned_done inner known file k i sections s Ends turn =
+      in_section_done (IsItem file k i) s file i Ends sections (λ open_ around. reaching_alive file k open_.group s (only (stepped [] around) s))
+      (λ o around. alive_done (IsItem file k i) file k o.group s (stepped [] around) tt)
+  turned_done inner known file k i sections s Stays turn =
+      done_cond P M table (IsItem file k i) (SteppedHas P) s (are_processed sections)
       (reaching file k false s (onward (processed ctx inner file i.kind i.at i.toks s) (λ toks t. only (stepped toks sections) t)))
       (only (stepped [] sections) s)
-      (reaching_done (ItemHas P i) file k false s (onward (processed ctx inner file i.kind i.at i.toks s) (λ toks t. only (stepped toks sections) t))
-      (put_done (ItemHas P i) s sections (processed ctx inner file i.kind i.at i.toks s)
-      (done_more P M table (KindHas i.kind i.at i.toks) (ItemHas P i) (AllToks P) (AllToks P) s (processed ctx inner file i.kind i.at i.toks s) (λ p. (p.toks, p.line, p.at)) (λ a p k. k)
-      (processed_done inner known file i.kind i.at i.toks s))))
-      (only_done (ItemHas P i) s (stepped [] sections) (λ p. tt))
+      (reaching_done (IsItem file k i) (KindHas i.kind false i.at i.toks) file k false s (onward (processed ctx inner file i.kind i.at i.toks s) (λ toks t. only (stepped toks sections) t))
+      (λ is told. reached_has file k i false s.before is told)
+      (put_done (KindHas i.kind false i.at i.toks) s sections (processed ctx inner file i.kind i.at i.toks s)
+      (processed_done inner known file i.kind i.at i.toks s)))
+      (only_done (IsItem file k i) s (stepped [] sections) (λ p. tt))
 
   -- ---- files
 
@@ -203,23 +240,47 @@ module _ (P : Token → Type 0) (M : Note → Type 0) (table : Table) (rules : U
       done_onward P M table pre (AllToks P) (AllToks P) s m (λ more u. only (toks ++ more) u) h
       (λ more u. done_only P M table (pre × AllToks P more) (AllToks P) u (toks ++ more) (λ p. toks_both P toks more (first p.0) p.1))
 
+  -- the items of a kept file from number k on
+  pub record AreItems (file : SourceFile) (k : ℕ) (items : List ItemText) : Type 0 where
+    pub is_kept : FileIs table file
+    pub at : (j : ℕ) (i : ItemText) → slice_get items j ≡ Some i → slice_get (items_in file) (k + j) ≡ Some i
+
+  first_item : (file : SourceFile) (k : ℕ) (i : ItemText) (items : List ItemText) → AreItems file k (i ∷ items) → IsItem file k i
+  first_item file k i items h =
+      let same : k + 0 ≡ k = omega arith in
+      record { is_kept = h.is_kept; at = subst (λ (n : ℕ). slice_get (items_in file) n ≡ Some i) same (h.at 0 i refl) }
+
+  later_items : (file : SourceFile) (k : ℕ) (i : ItemText) (items : List ItemText) → AreItems file k (i ∷ items) → AreItems file (k + 1) items
+  later_items file k i items h = record {
+    is_kept = h.is_kept;
+    at = λ j x e.
+        let same : k + suc j ≡ k + 1 + j = omega arith in
+        subst (λ (n : ℕ). slice_get (items_in file) n ≡ Some x) same (h.at (suc j) x e);
+  }
+
   walk_done : (inner : Inner) → InnerDone P M table rules source ipath earlier inner → (file : SourceFile) (k : ℕ) (items : List ItemText) (sections : List Section) (s : State)
-      → Done P M table (AllIn (ItemHas P) items) (AllToks P) s (walk ctx inner file k items sections s)
+      → Done P M table (AreItems file k items) (AllToks P) s (walk ctx inner file k items sections s)
   unfolding walk
-  walk_done inner known file k [] sections s = end_done (Unit {0}) file sections s
+  walk_done inner known file k [] sections s = end_done (AreItems file k []) file sections s
   walk_done inner known file k (i ∷ items) sections s =
-      done_onward P M table (AllIn (ItemHas P) (i ∷ items)) (SteppedHas P) (AllToks P) s (item_step ctx inner file k i sections s)
+      done_onward P M table (AreItems file k (i ∷ items)) (SteppedHas P) (AllToks P) s (item_step ctx inner file k i sections s)
       (λ d t. onward (walk ctx inner file (k + 1) items d.sections t) (λ toks u. only (d.toks ++ toks) u))
-      (done_more P M table (ItemHas P i) (AllIn (ItemHas P) (i ∷ items)) (SteppedHas P) (SteppedHas P) s (item_step ctx inner file k i sections s) (λ p. p.0) (λ a p h. h)
-      (turned_done inner known file k i sections s (turn_of i.kind)))
-      (λ d t. both_done (AllIn (ItemHas P) (i ∷ items) × SteppedHas P d) d.toks t (walk ctx inner file (k + 1) items d.sections t) (λ p. p.1)
-      (done_more P M table (AllIn (ItemHas P) items) (AllIn (ItemHas P) (i ∷ items) × SteppedHas P d) (AllToks P) (AllToks P) t (walk ctx inner file (k + 1) items d.sections t) (λ p. p.0.1) (λ a p h. h)
+      (done_more P M table (IsItem file k i) (AreItems file k (i ∷ items)) (SteppedHas P) (SteppedHas P) s (item_step ctx inner file k i sections s) (λ p. first_item file k i items p) (λ a p h. h)
+      (turned_done inner known file k i sections s (turn_of i.kind) refl))
+      (λ d t. both_done (AreItems file k (i ∷ items) × SteppedHas P d) d.toks t (walk ctx inner file (k + 1) items d.sections t) (λ p. p.1)
+      (done_more P M table (AreItems file (k + 1) items) (AreItems file k (i ∷ items) × SteppedHas P d) (AllToks P) (AllToks P) t (walk ctx inner file (k + 1) items d.sections t) (λ p. later_items file k i items p.0) (λ a p h. h)
       (walk_done inner known file (k + 1) items d.sections t)))
 
-  file_done : (inner : Inner) → InnerDone P M table rules source ipath earlier inner → (file : SourceFile) (s : State) → Done P M table (FileHas P file) (AllToks P) s (walk ctx inner file 0 (items_in file) [] s)
+  all_items : (file : SourceFile) → FileIs table file → AreItems file 0 (items_in file)
+  all_items file is = record {
+    is_kept = is;
+    at = λ j i e. let same : j ≡ 0 + j = omega arith in subst (λ (n : ℕ). slice_get (items_in file) n ≡ Some i) same e;
+  }
+
+  file_done : (inner : Inner) → InnerDone P M table rules source ipath earlier inner → (file : SourceFile) (s : State) → Done P M table (FileIs table file) (AllToks P) s (walk ctx inner file 0 (items_in file) [] s)
   file_done inner known file s =
-      done_more P M table (AllIn (ItemHas P) (items_in file)) (FileHas P file) (AllToks P) (AllToks P) s (walk ctx inner file 0 (items_in file) [] s)
-      (λ p. items_have P file.text.toks file.text.firsts p) (λ a p h. h) (walk_done inner known file 0 (items_in file) [] s)
+      done_more P M table (AreItems file 0 (items_in file)) (FileIs table file) (AllToks P) (AllToks P) s (walk ctx inner file 0 (items_in file) [] s)
+      (λ p. all_items file p) (λ a p h. h) (walk_done inner known file 0 (items_in file) [] s)
 
   pub files_done : (room : ℕ) → ProcessDone P M table rules source ipath earlier (file_items ctx room)
   unfolding file_items

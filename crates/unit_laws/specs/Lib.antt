@@ -1,6 +1,7 @@
 -- What the public contracts rest on.
 pub mod UnitLinks
 pub mod UnitTokens
+pub mod UnitItems
 pub mod UnitTests
 pub mod UnitSpelling
 pub mod UnitNames

@@ -1,4 +1,5 @@
 // What is true of all units: laws that no caller runs, and that callers' proofs cite.
+ghost use Rattle.unit_laws.specs.UnitItems.{ReachedTokensAreWhole};
 ghost use Rattle.unit_laws.specs.UnitLinks.{UnitLinksAreAlike};
 ghost use Rattle.unit_laws.specs.UnitNames.{UnitNamesAreMade};
 ghost use Rattle.unit_laws.specs.UnitSpelling.{FilesAreSpelled, UnitTokensAreSpelled};
@@ -26,6 +27,13 @@ pub fn unit_keeps_tests()
 /// characters will do, but `"`.
 pub fn unit_tokens_are_whole()
     ensures whole { UnitTokensAreWhole }
+{}
+
+/// The same where it is so of the tokens that a unit takes from the items that it reached: of runs, of names,
+/// parameters and replacement lists, of conditions that are evaluated and of include lines that are expanded. So
+/// nothing of a unit comes from the word of a directive, or from a line that no unit processes.
+pub fn reached_tokens_are_whole()
+    ensures whole { ReachedTokensAreWhole }
 {}
 
 /// Each token of a unit stands where a token of a kept file stands, and on its line; and each event stands

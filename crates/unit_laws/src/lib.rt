@@ -14,6 +14,6 @@
 mod laws;
 
 pub use laws::{
-    unit_keeps_tests, unit_links_are_alike, unit_names_are_made_of_names, unit_tokens_are_spelled,
-    unit_tokens_are_whole, unit_tokens_stand_in_files,
+    reached_tokens_are_whole, unit_keeps_tests, unit_links_are_alike, unit_names_are_made_of_names,
+    unit_tokens_are_spelled, unit_tokens_are_whole, unit_tokens_stand_in_files,
 };

@@ -1,0 +1,48 @@
+-- What a unit takes from the items of its files (ISO/IEC 9899:1999, 6.10): its tokens are made of whole tokens of the
+-- items that it reached, one behind the other, or of a number that was brought; the words of directives are none of
+-- these.
+use Rattle.std.specs.Prelude.{ℕ, ◌≡◌, if◌then◌else◌, Bool, true, false, List, [], ◌∷◌, Some, Ok, take, drop, slice_get}
+use Rattle.cs_base.specs.Token.{Token}
+use Rattle.cs_base.specs.Units.{UnitValue}
+use Rattle.part_lexer.specs.Characters.{double_quote}
+use Rattle.line_shape.specs.declared.items.ItemKind.{ItemKind}
+use Rattle.line_shape.specs.declared.items.ItemKind.TheVariants as kind
+use Rattle.include_tree.specs.declared.events.Reached.{Reached}
+use Rattle.include_tree.specs.Files.{Source, SourceFile, Table, Carried}
+use Rattle.include_tree.specs.Including.{is_header}
+use Rattle.include_tree.specs.Sources.{source_at}
+use Rattle.include_tree.specs.Texts.{UnitTextValue, Preprocessed, preprocessed}
+use Rattle.include_tree.specs.Walk.{ItemText, items_in}
+use Rattle.expansion_laws.specs.Pieces.{Characters, AreWhole}
+use Rattle.unit_laws.specs.UnitLinks.{IsIn}
+use Rattle.unit_laws.specs.UnitTokens.{NumbersAreWhole, UnitIsWhole}
+
+-- the tokens behind the word of an include line, unless a header name is the first (6.10.2 paragraph 4)
+abbrev pub expanded_name : List Token → List Token
+expanded_name [] = []
+expanded_name (t ∷ toks) = if is_header t.kind then [] else t ∷ toks
+
+-- The tokens that are taken from an item: all of a run; the name, the parameters and the replacement list of a
+-- definition; the name behind `undef`, `ifdef` and `ifndef`; what stands behind the word in a condition that is
+-- evaluated, and in an include line that is expanded.
+abbrev pub taken : ItemKind → Bool → List Token → List Token
+taken kind.Run evaluated toks = toks
+taken kind.Define evaluated toks = drop 2 toks
+taken kind.Undef evaluated toks = take 1 (drop 2 toks)
+taken kind.Ifdef evaluated toks = take 1 (drop 2 toks)
+taken kind.Ifndef evaluated toks = take 1 (drop 2 toks)
+taken kind.If true toks = drop 2 toks
+taken kind.Elif true toks = drop 2 toks
+taken kind.Include evaluated toks = expanded_name (drop 2 toks)
+taken _ evaluated toks = []
+
+-- what is taken from the items that a unit reached, spelled with such characters, is made of these tokens
+abbrev pub ReachedAreWhole : Characters → List Token → Table → UnitTextValue → Type 0
+ReachedAreWhole among files table text = (r : Reached) (file : SourceFile) (i : ItemText) → IsIn text.reached r → source_at table r.file ≡ Some file
+    → slice_get (items_in file) r.item ≡ Some i → AreWhole among files (taken i.kind r.evaluated i.toks)
+
+-- The law: where that is so, and the numbers that were brought are whole, so are the tokens of the unit.
+abbrev pub ReachedTokensAreWhole : Type 0
+ReachedTokensAreWhole = (among : Characters) (files : List Token) (source : Source) (number : ℕ) (unit : UnitValue) (before : Carried) (p : Preprocessed)
+    → among double_quote ≡ false → preprocessed source number unit before ≡ Ok p
+    → ReachedAreWhole among files p.after.table p.text → NumbersAreWhole among files p.text → UnitIsWhole among files p.text
