@@ -16,3 +16,4 @@ mod OpenLemmas
 mod IncludeLemmas
 mod WalkLemmas
 mod StepLaws
+mod RespelledLemmas

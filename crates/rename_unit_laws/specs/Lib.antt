@@ -6,3 +6,4 @@ pub mod Steps
 pub mod StepLaws
 pub mod Units
 pub mod Texts
+pub mod EditedFiles

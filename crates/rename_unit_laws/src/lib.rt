@@ -7,12 +7,12 @@
 //! same paths and the edited bytes, which the next unit begins with. The steps go alike kind by kind: runs,
 //! definitions, conditions, inclusions, files. What must be kept are premises here: this crate knows no class and
 //! no offence. Read `specs/Edited.antt`, `specs/Renamed.antt`, `specs/Keeping.antt`, `specs/Steps.antt`,
-//! `specs/StepLaws.antt`, `specs/Units.antt`, `specs/Texts.antt`, then `laws.rt`.
+//! `specs/StepLaws.antt`, `specs/Units.antt`, `specs/Texts.antt`, `specs/EditedFiles.antt`, then `laws.rt`.
 #![tactic(auto)]
 
 mod laws;
 
 pub use laws::{
     conditions_go_alike, definitions_keep_macros, files_go_alike, inclusions_go_alike,
-    texts_are_renamed, units_are_renamed,
+    respelled_files_are_kept, texts_are_renamed, units_are_renamed,
 };

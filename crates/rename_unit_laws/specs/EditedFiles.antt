@@ -1,0 +1,32 @@
+-- Kept files in which the members of a class are spelled otherwise (ISO/IEC 9899:1999, 5.1.1.2 phases 1 to 3).
+use Rattle.std.specs.Prelude.{◌≡◌, ℕ, ◌≤◌, List, Some, length}
+use Rattle.cs_base.specs.declared.positions.Part.{Part}
+use Rattle.cs_base.specs.Token.{Token}
+use Rattle.part_lexer.specs.FileText.{most_bytes}
+use Rattle.part_lexer.specs.Respelling.{KeepsPieces}
+use Rattle.part_respell.specs.Respelled.{put_of, respelled}
+use Rattle.line_shape.specs.Items.{lines_of}
+use Rattle.macro_expand.specs.Renaming.{renamed}
+use Rattle.include_tree.specs.Files.{SourceFile}
+use Rattle.include_tree.specs.KeptFiles.{kept, kept_at}
+use Rattle.include_tree.specs.Sources.{source_at}
+use Rattle.rename_text_laws.specs.EditedFiles.{edited_token}
+use Rattle.rename_text_laws.specs.Lines.{Each, KeepsLine}
+use Rattle.rename_unit_laws.specs.Keeping.{Change, edited_files, Fits, KeepsFile}
+
+-- What makes a kept file one that is kept over the edit: the edited file has its bytes with the members respelled, where
+-- identifiers alone change, each into an identifier; it is not too large; each of its tokens is renamed as its origins
+-- say, and fits; and its lines keep what they mean.
+pub record IsRespelled (c : Change) (members : List Part) (name : List ℕ) (file : SourceFile) (bytes : List ℕ) : Type 0 where
+  pub old : kept_at c.files file.number ≡ Some (kept file.number file.path bytes)
+  pub new : kept_at (edited_files c) file.number ≡ Some (kept file.number file.path (respelled members name file.number bytes))
+  pub pieces : KeepsPieces (put_of members name file.number) bytes
+  pub small : length (respelled members name file.number bytes) ≤ most_bytes
+  pub renames : Each (λ (t : Token). edited_token members name file.number bytes t ≡ renamed c.renaming t) file.text.toks
+  pub fits : Each (Fits c) file.text.toks
+  pub lines : Each (KeepsLine c.renaming) (lines_of file.text.toks file.text.firsts)
+
+-- The law: such a file is kept.
+abbrev pub RespelledFilesAreKept : Type 0
+RespelledFilesAreKept = (c : Change) (members : List Part) (name : List ℕ) (file : SourceFile) (bytes : List ℕ)
+    → source_at c.files file.number ≡ Some file → IsRespelled c members name file bytes → KeepsFile c file
