@@ -5,7 +5,7 @@ use Rattle.cs_base.specs.Token.{Token}
 use Rattle.cs_base.specs.Units.{UnitValue}
 use Rattle.part_lexer.specs.FileText.{file_text}
 use Rattle.include_tree.specs.Faults.{Fault}
-use Rattle.include_tree.specs.Files.{Source, Carried, carried}
+use Rattle.include_tree.specs.Files.{Source, Carried, carried, nothing_carried}
 use Rattle.include_tree.specs.Laws.{IsGrown}
 use Rattle.include_tree.specs.Limits.{the_limits}
 use Rattle.include_tree.specs.State.{Did, Outcome}
@@ -16,7 +16,7 @@ use Rattle.ws_core.specs.Texts.{TextsValue, texts_and, UnitFault, unit_fault, wi
 use Rattle.rename_unit_laws.specs.Texts.{renamed_text}
 use Rattle.rename_unit_laws.proofs.UnitLemmas.{unit-grows}
 use Rattle.rename_unit_laws.proofs.SeenLemmas.{unit_texts_are_renamed}
-use Rattle.rename_texts_laws.specs.Texts.{change_in, KeepsUnits, renamed_texts, WorkspacesAreRenamed}
+use Rattle.rename_texts_laws.specs.Texts.{change_in, KeepsUnits, renamed_texts, WorkspacesAreRenamed, WorkspaceIsRenamed}
 
 ok-same : {A E : Type 0} (a b : A) → ◌≡◌ {A = Result A E} (Ok a) (Ok b) → a ≡ b
 ok-same a b h = cc
@@ -85,3 +85,7 @@ workspaces_are_renamed c names old new number (unit ∷ units) before t h reach 
     ap (λ (r : Result Preprocessed Fault). result_then (λ q. result_then (λ l. Ok (with_front q.text l)) (texts_from new (number + 1) units q.after)) (result_map_err (unit_fault number) r)) anew
     ∙ ap (λ (r : Result TextsValue UnitFault). result_then (λ l. Ok (with_front (renamed_text c.renaming p.text) l)) r) later
     ∙ ap (λ (x : TextsValue). Ok (renamed_texts c x)) whole
+
+pub workspace_is_renamed : WorkspaceIsRenamed
+workspace_is_renamed = λ c names old new units t h same keeps.
+    workspaces_are_renamed c names old new 1 units nothing_carried t h (subst (IsGrown t.table) same (grown_refl t.table)) keeps

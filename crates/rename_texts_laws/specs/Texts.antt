@@ -3,12 +3,12 @@ use Rattle.std.specs.Prelude.{◌≡◌, ℕ, ◌+◌, List, [], ◌∷◌, leng
 use Rattle.cs_base.specs.Token.{Token}
 use Rattle.cs_base.specs.Units.{UnitValue}
 use Rattle.part_lexer.specs.FileText.{file_text}
-use Rattle.include_tree.specs.Files.{Source, Carried, carried}
+use Rattle.include_tree.specs.Files.{Source, Carried, carried, nothing_carried}
 use Rattle.include_tree.specs.Laws.{IsGrown}
 use Rattle.include_tree.specs.Limits.{the_limits}
 use Rattle.include_tree.specs.State.{Did}
 use Rattle.include_tree.specs.Unit.{unit_outcome}
-use Rattle.ws_core.specs.Texts.{TextsValue, texts_and, texts_from}
+use Rattle.ws_core.specs.Texts.{TextsValue, texts_and, texts_from, texts_of}
 use Rattle.rename_text_laws.specs.Lines.{Each}
 use Rattle.rename_unit_laws.specs.Edited.{edited_table, edited_carried}
 use Rattle.rename_unit_laws.specs.Keeping.{Change, KeepsUnit}
@@ -39,3 +39,9 @@ abbrev pub WorkspacesAreRenamed : Type 0
 WorkspacesAreRenamed = (c : Change) (names : MacroNames) (old new : Source) (number : ℕ) (units : List UnitValue) (before : Carried) (t : TextsValue)
     → texts_from old number units before ≡ Ok t → IsGrown t.table c.files → KeepsUnits c names old new number units before
     → texts_from new number units (edited_carried c.editing before) ≡ Ok (renamed_texts c t)
+
+-- The same of all units of a workspace, where the files of the change are those that they have in the end.
+abbrev pub WorkspaceIsRenamed : Type 0
+WorkspaceIsRenamed = (c : Change) (names : MacroNames) (old new : Source) (units : List UnitValue) (t : TextsValue)
+    → texts_of old units ≡ Ok t → t.table ≡ c.files → KeepsUnits c names old new 1 units nothing_carried
+    → texts_of new units ≡ Ok (renamed_texts c t)
