@@ -1,5 +1,5 @@
 -- The tokens of a unit are made of what it takes from the items that it reached.
-use Rattle.std.proofs.Common.{◌≡◌, ℕ, zero, suc, ◌+◌, Bool, true, false, List, [], ◌∷◌, ◌++◌, length, Option, Some, None, refl, sym, ap, subst, inl, inr}
+use Rattle.std.proofs.Common.{◌≡◌, ℕ, zero, suc, ◌+◌, Bool, false, List, [], ◌∷◌, ◌++◌, length, Some, refl, sym, subst}
 use Rattle.std.specs.Prelude.{slice_get}
 use Rattle.std.proofs.lemmas.Option.{none-some, same_Some}
 use Rattle.cs_base.specs.declared.positions.Pos.{Pos}
@@ -13,14 +13,14 @@ use Rattle.include_tree.specs.Conditions.{answer_for}
 use Rattle.include_tree.specs.Sources.{source_at}
 use Rattle.include_tree.specs.Texts.{UnitTextValue, reached_in, unit_text}
 use Rattle.include_tree.specs.Walk.{ItemText, items_in}
-use Rattle.macro_expand.specs.Substitution.{put_in, line_number, path_string}
+use Rattle.macro_expand.specs.Substitution.{put_in}
 use Rattle.expansion_laws.specs.Pieces.{Characters, IsWhole, AreWhole}
-use Rattle.expansion_laws.proofs.ListLemmas.{AllToks, toks_at, each_tok}
+use Rattle.expansion_laws.proofs.ListLemmas.{toks_at, each_tok}
 use Rattle.expansion_laws.proofs.PiecesLemmas.{whole_as, pasted_whole, string_whole, quoted_fails}
 use Rattle.unit_laws.specs.UnitItems.{taken, ReachedAreWhole, ReachedTokensAreWhole}
 use Rattle.unit_laws.specs.UnitLinks.{IsIn}
-use Rattle.unit_laws.specs.UnitTokens.{NumbersAreWhole, UnitIsWhole}
-use Rattle.unit_laws.proofs.DoneLemmas.{AllIn, UnitRules, PlaceHas, TakenHas}
+use Rattle.unit_laws.specs.UnitTokens.{NumbersAreWhole}
+use Rattle.unit_laws.proofs.DoneLemmas.{UnitRules, PlaceHas, TakenHas}
 use Rattle.unit_laws.proofs.NoteLemmas.{in_at, LinkHas, EventHas}
 use Rattle.unit_laws.proofs.TextLemmas.{text_is, unit_text_has, line_event, answer_among}
 

@@ -6,7 +6,7 @@
 //! `expansion_laws`: what is true of the tokens of kept files, and kept where tokens are put in or made,
 //! is true of each token of a unit and of each of which its notes tell. Kept files are those of the table
 //! behind the unit. `unit_keeps_tests` says it of any test; the other laws are of links, of whole tokens and
-//! places, and of spellings. What a unit with a fault gives is nothing here. Read `specs/UnitTests.antt`,
+//! places, and of spellings. What a unit with a fault gives is nothing here. Read `specs/UnitTests.antt`, `specs/UnitItems.antt`,
 //! `specs/UnitLinks.antt`, `specs/UnitTokens.antt`, `specs/UnitSpelling.antt`, and `specs/UnitNames.antt`,
 //! which is what comes of the last three for identifiers.
 #![tactic(auto)]
