@@ -1,0 +1,9 @@
+-- What the public contracts rest on.
+pub mod Allowed
+pub mod KeptFiles
+pub mod NamedClasses
+pub mod Spellings
+pub mod KeptTokens
+pub mod KeptLines
+pub mod Renamings
+pub mod MadeTokens
