@@ -12,7 +12,7 @@ use Rattle.include_tree.specs.Sources.{read_as, source_kept, source_at}
 use Rattle.rename_text_laws.specs.EditedFiles.{moved_to, edited_token}
 use Rattle.rename_text_laws.specs.Lines.{Each}
 use Rattle.rename_text_laws.proofs.EditedLemmas.{edited_files_keep_tokens}
-use Rattle.rename_unit_laws.specs.EditedFiles.{RespelledFilesAreKept}
+use Rattle.rename_unit_laws.specs.EditedFiles.{EditedFilesAreKept, RespelledFilesAreKept}
 
 file-same : (a b : SourceFile) → ◌≡◌ {A = Option SourceFile} (Some a) (Some b) → a ≡ b
 file-same a b h = cc
@@ -49,22 +49,40 @@ all-same : (r : Renaming) (edit : Token → Token) (ts : List Token) → Each (�
 all-same r edit [] h = refl
 all-same r edit (t ∷ ts) h = ap (λ (u : Token). u ∷ map edit ts) h.0 ∙ ap (λ (us : List Token). renamed r t ∷ us) (all-same r edit ts h.1)
 
-pub respelled_files_are_kept : RespelledFilesAreKept
+pub edited_files_are_kept : EditedFilesAreKept
 unfolding text_value
-respelled_files_are_kept = λ c members name file bytes at h.
+edited_files_are_kept = λ c file bytes edited at h.
     let n : ℕ = file.number in
-    let bytes2 : List ℕ = respelled members name n bytes in
     let read : source_at c.files n ≡ read_as n file.path (file_text n bytes) = ap (option_and_then source_kept) h.old in
     let had = has-text n bytes file.text (read-text n file.path (file_text n bytes) file (sym read ∙ at)) in
     let toks : tokens_of n bytes ≡ file.text.toks = ap (λ (t : TextValue). t.toks) had.is in
     let firsts : firsts_of bytes ≡ file.text.firsts = ap (λ (t : TextValue). t.firsts) had.is in
-    let edited = edited_files_keep_tokens members name n bytes h.pieces in
-    let none : open_comment_of bytes2 ≡ None = edited.2 ∙ ap (option_map (moved_to members name n bytes)) had.none in
     record {
       tokens = h.fits;
       lines = h.lines;
-      text = text_value n bytes2;
-      edited = ap (option_and_then source_kept) h.new ∙ ap (read_as n file.path) (text-of n bytes2 h.small none);
-      toks = edited.0 ∙ ap (map (edited_token members name n bytes)) toks ∙ all-same c.renaming (edited_token members name n bytes) file.text.toks h.renames;
-      firsts = edited.1 ∙ firsts;
+      text = text_value n edited;
+      edited = ap (option_and_then source_kept) h.new ∙ ap (read_as n file.path) (text-of n edited h.small (h.ends had.none));
+      toks = h.toks ∙ ap (map (renamed c.renaming)) toks;
+      firsts = h.firsts ∙ firsts;
     }
+
+pub respelled_files_are_kept : RespelledFilesAreKept
+unfolding text_value
+respelled_files_are_kept = λ c members name file bytes at h.
+    let n : ℕ = file.number in
+    let read : source_at c.files n ≡ read_as n file.path (file_text n bytes) = ap (option_and_then source_kept) h.old in
+    let had = has-text n bytes file.text (read-text n file.path (file_text n bytes) file (sym read ∙ at)) in
+    let toks : tokens_of n bytes ≡ file.text.toks = ap (λ (t : TextValue). t.toks) had.is in
+    let anew = edited_files_keep_tokens members name n bytes h.pieces in
+    edited_files_are_kept c file bytes (respelled members name n bytes) at
+    (record {
+      old = h.old;
+      new = h.new;
+      small = h.small;
+      toks = anew.0 ∙ ap (map (edited_token members name n bytes)) toks ∙ all-same c.renaming (edited_token members name n bytes) file.text.toks h.renames
+          ∙ ap (map (renamed c.renaming)) (sym toks);
+      firsts = anew.1;
+      ends = λ none. anew.2 ∙ ap (option_map (moved_to members name n bytes)) none;
+      fits = h.fits;
+      lines = h.lines;
+    })

@@ -1,13 +1,15 @@
 // What is true of units over edited files: laws that no caller runs, and that callers' proofs cite.
-ghost use Rattle.rename_unit_laws.specs.EditedFiles.{RespelledFilesAreKept};
+ghost use Rattle.rename_unit_laws.specs.EditedFiles.{EditedFilesAreKept, RespelledFilesAreKept};
 ghost use Rattle.rename_unit_laws.specs.StepLaws.{ConditionsGoAlike, DefinitionsGoAlike, FilesGoAlike, InclusionsGoAlike, NamesAreAskedAlike, TextsAreRenamed, UndefinitionsGoAlike};
 ghost use Rattle.rename_unit_laws.specs.Texts.{UnitTextsAreRenamed};
 ghost use Rattle.rename_unit_laws.specs.Units.{UnitsAreRenamed};
 
 /// A kept file whose members are respelled is kept over the edit: its edited file has the renamed tokens, where
-/// identifiers alone change, each into an identifier, and each token and line keeps what it means.
+/// identifiers alone change, each into an identifier, and each token and line keeps what it means. So is each file
+/// whose edited bytes have the renamed tokens.
 pub fn respelled_files_are_kept()
     ensures files { RespelledFilesAreKept }
+    ensures edited { EditedFilesAreKept }
 {}
 
 /// A run of renamed tokens gives the renamed tokens.
