@@ -17,3 +17,4 @@ mod IncludeLemmas
 mod WalkLemmas
 mod StepLaws
 mod RespelledLemmas
+mod FoundLemmas

@@ -1,5 +1,6 @@
 -- Kept files in which the members of a class are spelled otherwise (ISO/IEC 9899:1999, 5.1.1.2 phases 1 to 3).
-use Rattle.std.specs.Prelude.{◌≡◌, ℕ, ◌≤◌, List, Some, None, length, map}
+use Rattle.std.specs.Prelude.{◌≡◌, ℕ, ◌≤◌, List, Some, None, length, map, slice_get}
+use Rattle.std.specs.Option.{option_map}
 use Rattle.cs_base.specs.declared.positions.Part.{Part}
 use Rattle.cs_base.specs.Token.{Token}
 use Rattle.part_lexer.specs.FileText.{most_bytes}
@@ -8,8 +9,9 @@ use Rattle.part_lexer.specs.Tokens.{tokens_of, firsts_of, open_comment_of}
 use Rattle.part_respell.specs.Respelled.{put_of, respelled}
 use Rattle.line_shape.specs.Items.{lines_of}
 use Rattle.macro_expand.specs.Renaming.{renamed}
-use Rattle.include_tree.specs.Files.{SourceFile}
+use Rattle.include_tree.specs.Files.{Source, SourceFile, Entry}
 use Rattle.include_tree.specs.KeptFiles.{kept, kept_at}
+use Rattle.include_tree.specs.Laws.{AreFound}
 use Rattle.include_tree.specs.Sources.{source_at}
 use Rattle.rename_text_laws.specs.EditedFiles.{edited_token}
 use Rattle.rename_text_laws.specs.Lines.{Each, KeepsLine}
@@ -49,3 +51,11 @@ pub record IsRespelled (c : Change) (members : List Part) (name : List ℕ) (fil
 abbrev pub RespelledFilesAreKept : Type 0
 RespelledFilesAreKept = (c : Change) (members : List Part) (name : List ℕ) (file : SourceFile) (bytes : List ℕ)
     → source_at c.files file.number ≡ Some file → IsRespelled c members name file bytes → KeepsFile c file
+
+-- Each path that has a number holds anew what it held, edited by that number; one that held nothing holds nothing.
+abbrev pub HoldsEdited : Change → Source → Source → Type 0
+HoldsEdited c old new = (number : ℕ) (e : Entry) → slice_get c.files number ≡ Some e → new e.path ≡ option_map (c.editing number) (old e.path)
+
+-- The law: then it holds what the edited table tells, where the old one held what the table told.
+abbrev pub EditedTablesAreFound : Type 0
+EditedTablesAreFound = (c : Change) (old new : Source) → AreFound old c.files → HoldsEdited c old new → AreFound new (edited_files c)

@@ -1,5 +1,5 @@
 // What is true of units over edited files: laws that no caller runs, and that callers' proofs cite.
-ghost use Rattle.rename_unit_laws.specs.EditedFiles.{EditedFilesAreKept, RespelledFilesAreKept};
+ghost use Rattle.rename_unit_laws.specs.EditedFiles.{EditedFilesAreKept, EditedTablesAreFound, RespelledFilesAreKept};
 ghost use Rattle.rename_unit_laws.specs.StepLaws.{ConditionsGoAlike, DefinitionsGoAlike, FilesGoAlike, InclusionsGoAlike, NamesAreAskedAlike, TextsAreRenamed, UndefinitionsGoAlike};
 ghost use Rattle.rename_unit_laws.specs.Texts.{UnitTextsAreRenamed};
 ghost use Rattle.rename_unit_laws.specs.Units.{UnitsAreRenamed};
@@ -10,6 +10,11 @@ ghost use Rattle.rename_unit_laws.specs.Units.{UnitsAreRenamed};
 pub fn respelled_files_are_kept()
     ensures files { RespelledFilesAreKept }
     ensures edited { EditedFilesAreKept }
+{}
+
+/// Files that hold their edited bytes hold what the edited table tells.
+pub fn edited_tables_are_found()
+    ensures found { EditedTablesAreFound }
 {}
 
 /// A run of renamed tokens gives the renamed tokens.

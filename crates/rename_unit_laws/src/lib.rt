@@ -13,6 +13,6 @@
 mod laws;
 
 pub use laws::{
-    conditions_go_alike, definitions_keep_macros, files_go_alike, inclusions_go_alike,
-    respelled_files_are_kept, texts_are_renamed, units_are_renamed,
+    conditions_go_alike, definitions_keep_macros, edited_tables_are_found, files_go_alike,
+    inclusions_go_alike, respelled_files_are_kept, texts_are_renamed, units_are_renamed,
 };
