@@ -7,20 +7,27 @@ use Rattle.std.proofs.lemmas.Bool.{cases_Bool}
 use Rattle.cs_base.specs.declared.positions.Part.{Part}
 use Rattle.cs_base.specs.declared.positions.Pos.{Pos}
 use Rattle.cs_base.specs.Token.{Token, has_origins}
+use Rattle.cs_base.specs.declared.tokens.Kind.{Kind}
+use Rattle.cs_base.specs.declared.tokens.Kind.TheVariants.{Ident}
+use Rattle.line_shape.specs.Signs.{is_identifier, is_name}
+use Rattle.expansion_laws.specs.Spelled.{fits}
 use Rattle.part_lexer.specs.Places.{pos, origins_from}
 use Rattle.part_lexer.specs.Tokens.{tokens_of}
 use Rattle.part_lexer.proofs.OriginLemmas.{length-origins}
 use Rattle.include_tree.specs.KeptFiles.{KeptValue, kept_at}
 use Rattle.part_respell.specs.Respelled.{member_over, spelled}
 use Rattle.ws_core.specs.Analysed.{Analysed}
-use Rattle.ws_core.specs.Analysis.{AnalysisValue}
+use Rattle.ws_core.specs.Analysis.{UnitAnalysis, AnalysisValue}
 use Rattle.ws_core.specs.FileTokens.{file_tokens}
-use Rattle.ws_core.proofs.NamingLemmas.{in_left}
+use Rattle.ws_core.proofs.NamingLemmas.{in_left, in_right}
 use Rattle.ws_core.proofs.TokenPlaceLemmas.{token_placed}
 use Rattle.rename_rules.specs.Tokens.{all_file_tokens, first_place, holds_member, pasted_tokens}
 use Rattle.rename_premise_laws.specs.Allowed.{IsAllowed}
-use Rattle.rename_premise_laws.specs.Spellings.{OthersStayApart}
-use Rattle.rename_premise_laws.proofs.ListLemmas.{In, cons_nil}
+use Rattle.rename_premise_laws.specs.Spellings.{IsPasted, IsOfFileOrName, OthersStayApart}
+use Rattle.rename_premise_laws.proofs.ListLemmas.{In, all_at, cons_nil, in_flat}
+use Rattle.rename_premise_laws.proofs.LinkLemmas.{IsWhole, pasted_whole, whole_chained}
+use Rattle.rename_premise_laws.proofs.TracedLemmas.{AreChained, spelled_fits}
+use Rattle.rename_premise_laws.proofs.UnitsLemmas.{unit_is}
 use Rattle.rename_premise_laws.proofs.FileLemmas.{token_stands}
 use Rattle.rename_premise_laws.proofs.SpellLemmas.{is_from, spelled-kept}
 use Rattle.rename_premise_laws.proofs.NoneLemmas.{NoneStand, none_stand, holder, holders_alike, never_occurs}
@@ -36,7 +43,18 @@ pub record IsTold (a : AnalysisValue) (members : List Part) (t : Token) : Type 0
   pub placed : first_place t ≡ [] → ⊥
   pub parted : holds_member members t ≡ true → In t (file_tokens a ++ pasted_tokens a)
 
+-- The same without a place.
+pub record IsParted (a : AnalysisValue) (members : List Part) (t : Token) : Type 0 where
+  pub each : length t.origins ≡ length t.text
+  pub parted : holds_member members t ≡ true → In t (file_tokens a ++ pasted_tokens a)
+
+pub parted_of : (a : AnalysisValue) (members : List Part) (t : Token) → IsTold a members t → IsParted a members t
+parted_of a members t h = record { each = h.each; parted = h.parted }
+
 module _ (a : AnalysisValue) (members : List Part) (name : List ℕ) (none : NoneStand a members name) where
+  pub parted_stays : (t : Token) → IsParted a members t → holds_member members t ≡ false → spelled members name t ≡ t.text
+  parted_stays t h free = spelled-kept members name t.origins t.text h.each free
+
   pub free-stays : (t : Token) → IsTold a members t → holds_member members t ≡ false → spelled members name t ≡ t.text
   free-stays t h free = spelled-kept members name t.origins t.text h.each free
 
@@ -109,8 +127,52 @@ module _ (a : Analysed) (members : List Part) (name : List ℕ) (h : IsAllowed a
         parted = λ held. in_left t (file_tokens a.value) (pasted_tokens a.value) (file_token a.value n f t is i (held_parted t i held));
       }
 
+-- ---- pasted tokens
+
+first_some : (a : AnalysisValue) (os : List (Option Pos)) → AreChained a os → 1 ≤ length os
+    → option_map_or (λ p. p ∷ []) (option_and_then (λ (o : Option Pos). o) (slice_get os 0)) [] ≡ [] → ⊥
+first_some a [] chained some nothing = absurd (omega arith)
+first_some a (None ∷ os) chained some nothing = absurd chained
+first_some a (Some p ∷ os) chained some nothing = cons_nil p [] nothing
+
+fits_some : (k : Kind) (text : List ℕ) → is_identifier k ≡ true → fits k text ≡ true → 1 ≤ length text
+fits_some Ident [] h fit = absurd (cc)
+fits_some Ident (c ∷ cs) h fit = omega arith
+fits_some _ text h fit = absurd (cc)
+
+module _ (a : Analysed) (members : List Part) (name : List ℕ) (h : IsAllowed a members name) (t : Token) (p : IsPasted a.value t) where
+  whole : IsWhole a.value t
+  whole =
+      let is = unit_is h.source h.workspace a.value h.accepted p.unit p.there in
+      all_at (IsWhole a.value) p.unit.text.pasted (pasted_whole a.value p.unit p.there is) t p.pasted
+
+  among : In t (pasted_tokens a.value)
+  unfolding pasted_tokens
+  among = in_flat (λ (u : UnitAnalysis). u.text.pasted) a.value.units p.unit t p.there p.pasted
+
+  pub pasted_parted : IsParted a.value members t
+  pasted_parted = record {
+    each = (let w = whole in let traced = w.traced in traced.each);
+    parted = λ held. in_right t (file_tokens a.value) (pasted_tokens a.value) among;
+  }
+
+  pasted_told : is_name t ≡ true → IsTold a.value members t
+  pasted_told named =
+      let w = whole in
+      let parted = pasted_parted in
+      let size = parted.each in
+      let some = fits_some t.kind t.text named (spelled_fits t w.spelled) in
+      record {
+        all = in_right t (all_file_tokens a.value) (pasted_tokens a.value) among;
+        each = size;
+        placed = first_some a.value t.origins (whole_chained a.value t w named) (omega (arith, size, some));
+        parted = parted.parted;
+      }
+
+told_one : (a : Analysed) (members : List Part) (name : List ℕ) → IsAllowed a members name → (t : Token) → IsOfFileOrName a.value t → IsTold a.value members t
+told_one a members name h t (inl f) = file_told a members name h f.number f.file f.is_kept t f.there
+told_one a members name h t (inr p) = pasted_told a members name h t p.0 p.1
+
 pub others_stay_apart : OthersStayApart
 others_stay_apart = λ a members name h t u i j same.
-    apart a.value members name (none_stand a.value members name h.first) t u
-    (file_told a members name h i.number i.file i.is_kept t i.there)
-    (file_told a members name h j.number j.file j.is_kept u j.there) same
+    apart a.value members name (none_stand a.value members name h.first) t u (told_one a members name h t i) (told_one a members name h u j) same

@@ -41,7 +41,8 @@ use Rattle.rename_premise_laws.proofs.PutLemmas.{BeginsAt, HoldsNone, put-stays,
 use Rattle.rename_premise_laws.proofs.SpellLemmas.{is_from, respell-spelled, none_from, from_member}
 use Rattle.rename_premise_laws.proofs.WordLemmas.{WordIs, StaysIn, KeptIn, lines_all, tokens-kept}
 use Rattle.rename_premise_laws.proofs.NoneLemmas.{NoneStand, none_stand, no_line, holder, holder_name, holder_free}
-use Rattle.rename_premise_laws.proofs.MemberLemmas.{file_token, span_is, character_file, over_in, over_character, over_begins}
+use Rattle.rename_premise_laws.proofs.MemberLemmas.{file_token, span_is, over_in, over_character, over_begins}
+use Rattle.rename_premise_laws.proofs.CharacterLemmas.{character_file}
 
 -- `L` is reserved
 l_reserved : is_reserved_text (codes "L") ≡ true
@@ -83,7 +84,7 @@ module _ (a : Analysed) (members : List Part) (name : List ℕ) (h : IsAllowed a
       let i = over_in a.value members part listed p m over in
       let same : m.start.file ≡ f.number = (holding m p i.1).file in
       let no : f.number ≡ 0 → ⊥ = λ zero_file. no_line a.value members name none m i.0 (same ∙ zero_file) in
-      let r = character_file a.value h.numbers h.numbered p (over_character a.value members part listed p m over) no in
+      let r = character_file a.value h.source h.workspace h.accepted p (over_character a.value members part listed p m over) no in
       let k : kept_at a.value.table f.number ≡ Some f = subst (λ (j : ℕ). kept_at a.value.table j ≡ Some f) (sym number_is) is in
       let file : r.1.file ≡ f = same_Some r.1.file f (sym r.1.is_kept ∙ k) in
       (r.0, subst (λ (g : KeptValue). In r.0 (tokens_of g.number g.bytes)) file r.1.there, r.1.parted, r.1.held)

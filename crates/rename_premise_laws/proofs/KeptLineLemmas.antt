@@ -22,7 +22,7 @@ use Rattle.rename_premise_laws.specs.KeptLines.{UsesStayAlike, LineStaysAlike, L
 use Rattle.rename_premise_laws.specs.KeptTokens.{Spells}
 use Rattle.rename_premise_laws.proofs.ListLemmas.{AllOf, all_of}
 use Rattle.rename_premise_laws.proofs.NoneLemmas.{none_stand}
-use Rattle.rename_premise_laws.proofs.ApartLemmas.{IsTold, apart, file_told}
+use Rattle.rename_premise_laws.proofs.ApartLemmas.{IsTold, apart, file_told, parted_of}
 use Rattle.rename_premise_laws.proofs.KeptTokenLemmas.{free_same}
 use Rattle.rename_premise_laws.proofs.WordLemmas.{lines_all}
 
@@ -95,7 +95,7 @@ module _ (a : Analysed) (members : List Part) (name : List ℕ) (r : Renaming) (
 
   word_named : (word : Token) → Told word → holds_member members word ≡ false → directive_named (renamed r word) ≡ directive_named word
   word_named word told free =
-      ap (λ (w : List ℕ). cond (is_name word) (directive_spelled w) None) (free_same a members name r h spells word told free)
+      ap (λ (w : List ℕ). cond (is_name word) (directive_spelled w) None) (free_same a members name r h spells word (parted_of a.value members word told) free)
 
   line_kept : (line : List Token) → AllOf Told line → WordIsFree members line → LineStaysAlike members name line → KeepsLine r line
   line_kept [] told free alike = tt

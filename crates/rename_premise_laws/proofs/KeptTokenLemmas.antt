@@ -15,10 +15,10 @@ use Rattle.ws_core.specs.Analysed.{Analysed}
 use Rattle.rename_rules.specs.Tokens.{holds_member}
 use Rattle.rename_text_laws.specs.Lines.{Each, KeepsToken}
 use Rattle.rename_premise_laws.specs.Allowed.{IsAllowed}
-use Rattle.rename_premise_laws.specs.KeptTokens.{Spells, TokensAreKept}
+use Rattle.rename_premise_laws.specs.KeptTokens.{Spells, TokensAreKept, PastedTokensAreKept}
 use Rattle.rename_premise_laws.proofs.ListLemmas.{In}
 use Rattle.rename_premise_laws.proofs.NoneLemmas.{NoneStand, none_stand, holder, holder_free, holder_name}
-use Rattle.rename_premise_laws.proofs.ApartLemmas.{IsTold, free-stays, file_told}
+use Rattle.rename_premise_laws.proofs.ApartLemmas.{IsParted, parted_of, parted_stays, file_told, pasted_parted}
 
 defined_reserved : is_reserved_text (codes "defined") ≡ true
 unfolding is_reserved_text
@@ -41,15 +41,15 @@ module _ (a : Analysed) (members : List Part) (name : List ℕ) (r : Renaming) (
   none : NoneStand a.value members name
   none = none_stand a.value members name h.first
 
-  new_text : (t : Token) → IsTold a.value members t → macros.spelled r t ≡ spelled members name t
+  new_text : (t : Token) → IsParted a.value members t → macros.spelled r t ≡ spelled members name t
   new_text t told = spells t told.each
 
   -- what holds no member stays
-  pub free_same : (t : Token) → IsTold a.value members t → holds_member members t ≡ false → macros.spelled r t ≡ t.text
-  free_same t told free = new_text t told ∙ free-stays a.value members name none t told free
+  pub free_same : (t : Token) → IsParted a.value members t → holds_member members t ≡ false → macros.spelled r t ≡ t.text
+  free_same t told free = new_text t told ∙ parted_stays a.value members name none t told free
 
   -- a reserved word stays, and none is made
-  reserved_kept : (word : List ℕ) (t : Token) → is_reserved_text word ≡ true → IsTold a.value members t
+  reserved_kept : (word : List ℕ) (t : Token) → is_reserved_text word ≡ true → IsParted a.value members t
       → bytes_eq (macros.spelled r t) word ≡ bytes_eq t.text word
   reserved_kept word t reserved told = elim (cases_Bool (holds_member members t)) [
     | inl held ↦
@@ -59,14 +59,14 @@ module _ (a : Analysed) (members : List Part) (name : List ℕ) (r : Renaming) (
     | inr free ↦ ap (λ (w : List ℕ). bytes_eq w word) (free_same t told free)
   ]
 
-  other_same : (t : Token) → IsTold a.value members t → is_name t ≡ false → macros.spelled r t ≡ t.text
+  other_same : (t : Token) → IsParted a.value members t → is_name t ≡ false → macros.spelled r t ≡ t.text
   other_same t told other = elim (cases_Bool (holds_member members t)) [
     | inl held ↦
         absurd (both_ways (is_name t) other (holder_name a.value members name none t (holder a.value members name none t (told.parted held) held) held))
     | inr free ↦ free_same t told free
   ]
 
-  pub told_kept : (t : Token) → IsTold a.value members t → KeepsToken r t
+  pub told_kept : (t : Token) → IsParted a.value members t → KeepsToken r t
   unfolding is_va_args
   told_kept t told = record {
     others = other_same t told;
@@ -81,4 +81,7 @@ each_of P (x ∷ xs) h = (h x (0, refl), each_of P xs (λ y i. h y (suc i.0, i.1
 
 pub tokens_are_kept : TokensAreKept
 tokens_are_kept = λ a members name r h spells n f is.
-    each_of (KeepsToken r) (tokens_of f.number f.bytes) (λ t i. told_kept a members name r h spells t (file_told a members name h n f is t i))
+    each_of (KeepsToken r) (tokens_of f.number f.bytes) (λ t i. told_kept a members name r h spells t (parted_of a.value members t (file_told a members name h n f is t i)))
+
+pub pasted_tokens_are_kept : PastedTokensAreKept
+pasted_tokens_are_kept = λ a members name r h spells t p. told_kept a members name r h spells t (pasted_parted a members name h t p)

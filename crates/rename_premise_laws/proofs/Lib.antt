@@ -8,6 +8,7 @@ mod MemberLemmas
 mod KeptLemmas
 mod TracedLemmas
 mod UnitsLemmas
+mod CharacterLemmas
 mod AlikeLemmas
 mod LinkLemmas
 mod ApartLemmas

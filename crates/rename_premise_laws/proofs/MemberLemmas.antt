@@ -16,12 +16,9 @@ use Rattle.include_tree.specs.Files.{Table}
 use Rattle.include_tree.specs.KeptFiles.{KeptValue, kept_in, kept_at}
 use Rattle.part_respell.specs.Respelled.{member_over}
 use Rattle.ws_core.specs.Analysis.{UnitAnalysis, AnalysisValue}
-use Rattle.ws_core.specs.BroughtNumbers.{AreNumbers, all_brought}
 use Rattle.ws_core.specs.FileTokens.{kept_tokens, entry_tokens, table_tokens, numbers_brought, file_tokens, span_of, IsFileToken}
 use Rattle.ws_core.specs.Parts.{IsCharacter, IsStart, IsPart, AreMembers}
-use Rattle.ws_core.proofs.NamingLemmas.{split_at, in_left, in_right, in_filter, filter_in}
-use Rattle.ws_core.proofs.PlaceNameLemmas.{kept_number}
-use Rattle.ws_core.proofs.TokenPlaceLemmas.{tokens_in_line}
+use Rattle.ws_core.proofs.NamingLemmas.{split_at, in_left, in_right, in_filter}
 use Rattle.rename_rules.proofs.ClassLemmas.{same_pos, held_character}
 use Rattle.rename_rules.specs.Tokens.{file_toks, entry_tokens as entry_toks, kept_tokens as kept_toks, all_file_tokens}
 use Rattle.rename_premise_laws.proofs.ListLemmas.{In, found}
@@ -32,7 +29,7 @@ in_entry : (n : ℕ) (o : Option KeptValue) (t : Token) → In t (option_map_or 
 in_entry n None t i = absurd (cc)
 in_entry n (Some f) t i = (f, refl, i)
 
-in_table : (table : Table) (n : ℕ) (t : Token) → In t (table_tokens n table)
+pub in_table : (table : Table) (n : ℕ) (t : Token) → In t (table_tokens n table)
     → (k : ℕ) × (f : KeptValue) × (option_and_then (kept_in (n + k)) (slice_get table k) ≡ Some f) × In t (kept_tokens f)
 unfolding table_tokens
 in_table [] n t i = absurd (cc)
@@ -91,7 +88,7 @@ module _ (a : AnalysisValue) where
 
 -- ---- the token of a character
 
-span_among : (toks : List Token) (k : ℕ) (part : Part) → slice_get (map span_of toks) k ≡ Some part → (t : Token) × In t toks × (span_of t ≡ part)
+pub span_among : (toks : List Token) (k : ℕ) (part : Part) → slice_get (map span_of toks) k ≡ Some part → (t : Token) × In t toks × (span_of t ≡ part)
 span_among [] k part e = absurd (cc)
 span_among (t ∷ toks) zero part e = (t, (0, refl), same_Some (span_of t) part e)
 span_among (t ∷ toks) (suc k) part e = let r = span_among toks k part e in (r.0, (suc r.1.0, r.1.1), r.2)
@@ -106,39 +103,6 @@ pub record InFile (table : Table) (p : Pos) (t : Token) : Type 0 where
   pub there : In t (tokens_of file.number file.bytes)
   pub parted : has_origins t.kind ≡ true
   pub held : holds (span_of t) p ≡ true
-
-module _ (a : AnalysisValue) (numbers : List Token) (are : AreNumbers (all_brought a.units) numbers) where
-  in_lines : (t : Token) (p : Pos) → In t (all_brought a.units) → holds (span_of t) p ≡ true → p.file ≡ 0
-  in_lines t p i held =
-      let s = are.all t i in
-      let line = are.in_order.lines s.among.0 s.token s.among.1 in
-      sym (holding (span_of t) p held).file ∙ ap (λ (q : Part). q.start.file) (sym s.place) ∙ line
-
-  kept_token : (t : Token) (p : Pos) → In t (table_tokens 0 a.table) → holds (span_of t) p ≡ true → InFile a.table p t
-  kept_token t p i held =
-      let r = in_table a.table 0 t i in
-      let same : 0 + r.0 ≡ r.0 = omega arith in
-      let there : kept_at a.table r.0 ≡ Some r.1 = subst (λ (m : ℕ). option_and_then (kept_in m) (slice_get a.table r.0) ≡ Some r.1) same r.2 in
-      let f = filter_in (λ (u : Token). has_origins u.kind) t (tokens_of r.1.number r.1.bytes) r.3 in
-      let placed = (tokens_in_line r.1.number r.1.bytes).placed f.0.0 t f.0.1 in
-      let number : r.0 ≡ p.file = sym (kept_number a.table r.0 r.1 there) ∙ sym placed ∙ (holding (span_of t) p held).file in
-      record {
-        file = r.1;
-        is_kept = subst (λ (m : ℕ). kept_at a.table m ≡ Some r.1) number there;
-        there = f.0;
-        parted = f.1;
-        held = held;
-      }
-
-  -- a character of a file token that does not stand in the pseudo file of lines
-  pub character_file : (p : Pos) → IsCharacter a p → (p.file ≡ 0 → ⊥) → (t : Token) × InFile a.table p t
-  unfolding file_tokens
-  character_file p c no_line =
-      let s = span_among (file_tokens a) c.1.0 c.0 c.1.1 in
-      let held : holds (span_of s.0) p ≡ true = subst (λ (q : Part). holds q p ≡ true) (sym s.2) c.2 in
-      split_at _ s.0 (table_tokens 0 a.table) (flat_map (λ (u : UnitAnalysis). numbers_brought u.text) a.units) s.1.0 s.1.1
-      (λ j. (s.0, kept_token s.0 p j held))
-      (λ j. absurd (no_line (in_lines s.0 p j held)))
 
 -- ---- members
 

@@ -1,26 +1,21 @@
 -- Renamings against which no offence stands (this project's).
 use Rattle.std.specs.Prelude.{ℕ, ◌≡◌, true, None, List, Ok}
 use Rattle.cs_base.specs.declared.positions.Part.{Part}
-use Rattle.cs_base.specs.Token.{Token}
 use Rattle.part_lexer.specs.Spelling.{is_identifier_text}
 use Rattle.ws_file.specs.Workspace.{WorkspaceValue}
 use Rattle.include_tree.specs.Files.{Source}
 use Rattle.ws_core.specs.Analysed.{Analysed}
 use Rattle.ws_core.specs.Analysis.{analysis_of}
-use Rattle.ws_core.specs.BroughtNumbers.{AreNumbers, all_brought}
 use Rattle.ws_core.specs.Classes.{AreItsClasses}
 use Rattle.rename_rules.specs.Class.{IsClass}
 use Rattle.rename_rules.specs.First.{IsFirst, offences_of}
 
 -- The members of a class of an analysis, and an identifier that they may be spelled as: no offence stands against it.
--- The numbers that units brought stand in the pseudo file of lines.
 pub record IsAllowed (a : Analysed) (members : List Part) (name : List ℕ) : Type 0 where
   pub source : Source
   pub workspace : WorkspaceValue
   pub accepted : analysis_of source workspace ≡ Ok a.value
   pub own : AreItsClasses a.value a.classes
-  pub numbers : List Token
-  pub numbered : AreNumbers (all_brought a.value.units) numbers
   pub number : ℕ
   pub class : IsClass a members number
   pub identifier : is_identifier_text name ≡ true

@@ -9,6 +9,7 @@ use Rattle.part_respell.specs.Respelled.{spelled}
 use Rattle.rename_text_laws.specs.Lines.{Each, KeepsToken}
 use Rattle.ws_core.specs.Analysed.{Analysed}
 use Rattle.rename_premise_laws.specs.Allowed.{IsAllowed}
+use Rattle.rename_premise_laws.specs.Spellings.{IsPasted}
 
 -- A renaming spells each token with the name for each member.
 abbrev pub Spells : List Part → List ℕ → macros.Renaming → Type 0
@@ -19,3 +20,8 @@ Spells members name r = (t : Token) → length t.origins ≡ length t.text → m
 abbrev pub TokensAreKept : Type 0
 TokensAreKept = (a : Analysed) (members : List Part) (name : List ℕ) (r : macros.Renaming) → IsAllowed a members name → Spells members name r
     → (n : ℕ) (f : KeptValue) → kept_at a.value.table n ≡ Some f → Each (KeepsToken r) (tokens_of f.number f.bytes)
+
+-- The law: so it does each pasted token (6.10.3.3).
+abbrev pub PastedTokensAreKept : Type 0
+PastedTokensAreKept = (a : Analysed) (members : List Part) (name : List ℕ) (r : macros.Renaming) → IsAllowed a members name → Spells members name r
+    → (t : Token) → IsPasted a.value t → KeepsToken r t

@@ -1,10 +1,11 @@
 -- New spellings of tokens under a renaming against which nothing stands (this project's): what is linked stays alike, and
 -- what was apart stays apart.
-use Rattle.std.specs.Prelude.{ℕ, ◌≡◌, List, Some, slice_get}
+use Rattle.std.specs.Prelude.{ℕ, ◌≡◌, ◌⊎◌, true, List, Some, slice_get}
 use Rattle.cs_base.specs.declared.positions.Part.{Part}
 use Rattle.cs_base.specs.declared.tokens.Link.{Link}
 use Rattle.cs_base.specs.Token.{Token}
 use Rattle.part_lexer.specs.Tokens.{tokens_of}
+use Rattle.line_shape.specs.Signs.{is_name}
 use Rattle.include_tree.specs.KeptFiles.{KeptValue, kept_at}
 use Rattle.part_respell.specs.Respelled.{spelled}
 use Rattle.ws_core.specs.Analysed.{Analysed}
@@ -34,7 +35,11 @@ pub record IsPasted (a : AnalysisValue) (t : Token) : Type 0 where
   pub there : IsIn a.units unit
   pub pasted : IsIn unit.text.pasted t
 
--- The law: tokens of kept files that get one new spelling had one old spelling.
+-- a token of a kept file, or a pasted identifier
+abbrev pub IsOfFileOrName : AnalysisValue → Token → Type 0
+IsOfFileOrName a t = IsOfFile a t ⊎ (IsPasted a t × (is_name t ≡ true))
+
+-- The law: those that get one new spelling had one old spelling.
 abbrev pub OthersStayApart : Type 0
 OthersStayApart = (a : Analysed) (members : List Part) (name : List ℕ) → IsAllowed a members name
-    → (t u : Token) → IsOfFile a.value t → IsOfFile a.value u → spelled members name t ≡ spelled members name u → t.text ≡ u.text
+    → (t u : Token) → IsOfFileOrName a.value t → IsOfFileOrName a.value u → spelled members name t ≡ spelled members name u → t.text ≡ u.text

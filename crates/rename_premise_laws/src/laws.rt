@@ -1,7 +1,7 @@
 // What is true of a renaming against which no offence stands: laws that no caller runs, and that callers' proofs cite.
 ghost use Rattle.rename_premise_laws.specs.KeptFiles.{FilesKeepPieces};
 ghost use Rattle.rename_premise_laws.specs.KeptLines.{LinesAreKept};
-ghost use Rattle.rename_premise_laws.specs.KeptTokens.{TokensAreKept};
+ghost use Rattle.rename_premise_laws.specs.KeptTokens.{PastedTokensAreKept, TokensAreKept};
 ghost use Rattle.rename_premise_laws.specs.MadeTokens.{StringsAndHeadersStay, TokensAreMadeAnew};
 ghost use Rattle.rename_premise_laws.specs.NamedClasses.{WordsAreFreeWhereNamed};
 ghost use Rattle.rename_premise_laws.specs.Renamings.{EditedFilesAreRenamed, RenamingsKeepUnedited, RenamingsSpell};
@@ -26,14 +26,16 @@ pub fn linked_stay_alike()
     ensures { LinkedStayAlike }
 {}
 
-/// Tokens of kept files that get one new spelling had one old spelling.
+/// Tokens of kept files and pasted identifiers that get one new spelling had one old spelling.
 pub fn others_stay_apart()
     ensures { OthersStayApart }
 {}
 
-/// Each token of a kept file is kept: what is no identifier stays, and so do `defined` and `__VA_ARGS__`.
+/// Each token of a kept file is kept, and each pasted one: what is no identifier stays, and so do `defined` and
+/// `__VA_ARGS__`.
 pub fn tokens_are_kept()
-    ensures { TokensAreKept }
+    ensures files { TokensAreKept }
+    ensures pasted { PastedTokensAreKept }
 {}
 
 /// Each line of a kept file names the directive that it named, and an identifier of a definition the parameter that
