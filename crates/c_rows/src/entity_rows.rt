@@ -1,9 +1,11 @@
-// Programs with a blank between every two tokens, and what their identifiers denote by the clauses of the standard.
+// Programs, most of them with a blank between every two tokens, and what their identifiers denote by the clauses of the
+// standard.
 
 // Beside each program a word for each of its tokens: the index of the token that first declares what it denotes, from
 // 0, or `.` where it denotes nothing.
-pub(crate) const BOUND: [(&[u8], &str); 63] = [
+pub(crate) const BOUND: [(&[u8], &str); 65] = [
     // 6.2.1: file scope, and a block that begins with the parameters.
+    (b"int x;", ". 1 ."),
     (
         b"int x ; int f ( int a ) { return x + a ; }",
         ". 1 . . 4 . . 7 . . . 1 . 7 . .",
@@ -73,6 +75,10 @@ pub(crate) const BOUND: [(&[u8], &str); 63] = [
     (
         b"extern int x ; int x ; extern int x ; int f ( void ) { extern int x ; return x ; }",
         ". . 2 . . 2 . . . 2 . . 12 . . . . . . 2 . . 2 . .",
+    ),
+    (
+        b"static int x; int f(void) { extern int x; return x; }",
+        ". . 2 . . 5 . . . . . . 2 . . 2 . .",
     ),
     (
         b"static int i ; void f ( void ) { extern int i ; i = 1 ; }",

@@ -1,7 +1,7 @@
-// Programs with a blank between every two tokens, and the clauses of the standard that they break.
+// Programs, most of them with a blank between every two tokens, and the clauses of the standard that they break.
 
 // The first fault of each program.
-pub(crate) const FAULTS: [(&[u8], &str); 36] = [
+pub(crate) const FAULTS: [(&[u8], &str); 39] = [
     // 6.2.1: not visible.
     (b"int f ( void ) { return x ; }", "undeclared at token 7"),
     (
@@ -60,6 +60,7 @@ pub(crate) const FAULTS: [(&[u8], &str); 36] = [
         "no label at token 17",
     ),
     (b"void f ( void ) { goto a ; x ; }", "no label at token 7"),
+    (b"int f(void) { goto e; }", "no label at token 7"),
     // 6.7.2.3: tags.
     (
         b"struct s { int a ; } ; struct s { int b ; } ;",
@@ -80,6 +81,7 @@ pub(crate) const FAULTS: [(&[u8], &str); 36] = [
     // 6.2.2 paragraph 7: both linkages.
     (b"static int x ; int x ;", "mixed linkage at token 5"),
     (b"int x ; static int x ;", "mixed linkage at token 5"),
+    (b"int x; static int x;", "mixed linkage at token 5"),
     (
         b"static int i ; void f ( void ) { int i ; { extern int i ; } }",
         "mixed linkage at token 16",
@@ -89,6 +91,10 @@ pub(crate) const FAULTS: [(&[u8], &str); 36] = [
         "mixed linkage at token 13",
     ),
     // 6.5.2.3: no member.
+    (
+        b"struct s { int a; } v; int y = v.b;",
+        "no member at token 14",
+    ),
     (
         b"struct s { int a ; } x ; int f ( void ) { return x . b ; }",
         "no member at token 18",

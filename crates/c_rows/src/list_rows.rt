@@ -1,7 +1,8 @@
-// Programs with a blank between every two tokens, and what is told of them beside what each identifier denotes.
+// Programs, most of them with a blank between every two tokens, and what is told of them beside what each identifier
+// denotes.
 
 // Each entity of a program by its first token, with its kind and its linkage (6.2.2).
-pub(crate) const KINDS: [(&[u8], &str); 6] = [
+pub(crate) const KINDS: [(&[u8], &str); 7] = [
     (
         b"int x ; static int y ; extern int z ; int f ( int a ) { static int b ; extern int c ; enum { d } ; struct s { int m ; } e ; l : return a ; }",
         "1 Object External, 5 Object Internal, 9 Object External, 12 Function External, 15 Parameter Absent, 20 Object Absent, 24 Object External, 28 Enumerator Absent, 32 Tag Absent, 35 Member Absent, 38 Object Absent, 40 Label Absent",
@@ -12,6 +13,10 @@ pub(crate) const KINDS: [(&[u8], &str); 6] = [
     ),
     (
         b"static int i ; void f ( void ) { extern int i ; }",
+        "2 Object Internal, 5 Function External",
+    ),
+    (
+        b"static int x; int f(void) { extern int x; return x; }",
         "2 Object Internal, 5 Function External",
     ),
     (
