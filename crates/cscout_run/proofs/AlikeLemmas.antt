@@ -21,6 +21,10 @@ use Rattle.ws_core.proofs.ListingLemmas.{part_cmp-total}
 use Rattle.rename_rules.specs.First.{IsAmong, offences_of}
 use Rattle.rename_rules.specs.Renaming.{Refusal, IsRenamed, IsClassRenamed, IsNamedRenamed, IsRenaming, bad_name, no_name}
 use Rattle.rename_rules.proofs.ClassLemmas.{part_once}
+use Rattle.unused_names.specs.Order.{position_cmp}
+use Rattle.unused_names.specs.Unneeded.{AreUnneeded}
+use Rattle.unused_names.specs.Unused.{AreUnused}
+use Rattle.unused_names.proofs.OrderLemmas.{position_cmp-total}
 
 -- ---- lists in strict order
 
@@ -83,6 +87,24 @@ members_in a part ms ns these those m at = those.all m (these.each at.0 m at.1)
 pub one_list : (a : AnalysisValue) (part : Part) (ms ns : List Part) → AreMembers a part ms → AreMembers a part ns → ms ≡ ns
 one_list a part ms ns these those =
     same_lists (part_cmp a) (part_cmp-total a) ms ns these.sorted those.sorted (members_in a part ms ns these those) (members_in a part ns ms those these)
+
+-- ---- lists of a whole workspace
+
+unused_in : (a : AnalysisValue) (ms ns : List Part) → AreUnused a ms → AreUnused a ns → AreIn ms ns
+unused_in a ms ns these those m at = those.all m (these.each at.0 m at.1)
+
+-- what is unused stands in one list
+pub one_unused : (a : AnalysisValue) (ms ns : List Part) → AreUnused a ms → AreUnused a ns → ms ≡ ns
+one_unused a ms ns these those =
+    same_lists (part_cmp a) (part_cmp-total a) ms ns these.sorted those.sorted (unused_in a ms ns these those) (unused_in a ns ms those these)
+
+unneeded_in : (a : AnalysisValue) (ps qs : List Pos) → AreUnneeded a ps → AreUnneeded a qs → AreIn ps qs
+unneeded_in a ps qs these those p at = those.all p (these.each at.0 p at.1)
+
+pub one_unneeded : (a : AnalysisValue) (ps qs : List Pos) → AreUnneeded a ps → AreUnneeded a qs → ps ≡ qs
+one_unneeded a ps qs these those =
+    same_lists (position_cmp a.table) (position_cmp-total a.table) ps qs these.sorted those.sorted (unneeded_in a ps qs these those)
+    (unneeded_in a qs ps those these)
 
 -- ---- a place
 

@@ -12,6 +12,8 @@ use Rattle.ws_core.specs.Parts.{AreMembers}
 use Rattle.cs_base.specs.declared.positions.Part.{Part}
 use Rattle.std.proofs.lemmas.Option.{same_Some}
 use Rattle.rename_rules.specs.Renaming.{Refusal}
+use Rattle.query_report.specs.Queries.{IsIncludesReport, IsUnusedReport, lines_of}
+use Rattle.query_report.specs.declared.queries.Query.TheVariants.{Unused, Includes}
 use Rattle.cscout_run.specs.Alike.{AreAlike}
 use Rattle.ws_core.specs.Texts.{UnitFault}
 use Rattle.generated.specs.Generated.{header_path, workspace_path, generated_files}
@@ -19,8 +21,8 @@ use Rattle.cscout_run.specs.declared.status.Status.{Status}
 use Rattle.cscout_run.specs.declared.status.Status.TheVariants.{Done, Refused, Usage, Workspace, ReadFault, WriteFault, Memory}
 use Rattle.cscout_run.specs.declared.stops.Stop.{Stop}
 use Rattle.cscout_run.specs.declared.stops.Stop.TheVariants as stop
-use Rattle.cscout_run.specs.Request.{RequestValue, RenameValue, ClassValue, help_asked, version_asked, renaming_asked, tokens_asked, skipped_asked, class_asked, generated_asked, asked}
-use Rattle.cscout_run.specs.Answer.{Answer, IsAnswer, IsAnswerTo, IsRequestAnswer, IsClassAnswer, IsRenameAnswer, IsSizeAnswer, IsOverWorkspace, answer_of, class_answer, renaming_answer, size_answer, stopped, workspace_at}
+use Rattle.cscout_run.specs.Request.{RequestValue, RenameValue, ClassValue, help_asked, version_asked, renaming_asked, tokens_asked, skipped_asked, class_asked, unused_asked, includes_asked, asked, generated_asked}
+use Rattle.cscout_run.specs.Answer.{Answer, IsAnswer, IsAnswerTo, IsRequestAnswer, IsClassAnswer, IsListAnswer, IsRenameAnswer, IsOverWorkspace, answer_of, class_answer, renaming_answer, stopped, workspace_at, IsSizeAnswer, size_answer}
 use Rattle.cscout_run.specs.Message.{usage_line}
 use Rattle.cscout_run.specs.Outcome.{World, StatusIs, HasCauses, IsComplete, ShowsAnswer, Tells, FailedPut, Unmoved}
 use Rattle.cscout_run.specs.Steps.{Prepares}
@@ -28,7 +30,7 @@ use Rattle.cscout_run.specs.declared.preparing.Ready.{Ready}
 use Rattle.edit_put.specs.Applying.{Applies}
 use Rattle.edit_put.specs.declared.applying.Applied.TheVariants as applied
 use Rattle.cscout_run.specs.Stopping.{Stops, StopReads, status_of, line_of}
-use Rattle.cscout_run.proofs.AlikeLemmas.{ArePlansAlike, one_list, one_named, renamings_alike}
+use Rattle.cscout_run.proofs.AlikeLemmas.{ArePlansAlike, one_list, one_named, one_unneeded, one_unused, renamings_alike}
 
 -- what holds of every value holds of one that is told
 pub if_told : {A : Type 0} (o : Option A) (P : A → Type 0) → ((x : A) → P x) → IfSome o P
@@ -79,6 +81,30 @@ class-alike : (q : ClassValue) (analysed : Result AnalysisValue UnitFault) (a b 
     → IsClassAnswer q analysed b → AreAlike a b
 class-alike q (Ok value) a b p p' = told-alike q value p.0 p'.0 a b p.1 p'.1 p.2 p'.2
 class-alike q (Err fault) a b p p' = same-answer _ a b p p'
+
+-- so are the lists that the whole workspace makes
+unused-told : (value : AnalysisValue) (told told' : Option (List ℕ)) → IsUnusedReport value told → IsUnusedReport value told' → told ≡ told'
+unused-told value None told' r r' = absurd r
+unused-told value (Some text) None r r' = absurd r'
+unused-told value (Some text) (Some text') r r' =
+    ap (λ (t : List ℕ). Some t)
+    (r.lines ∙ ap (part_lines value) (one_unused value r.parts r'.parts r.are_unused r'.are_unused) ∙ sym r'.lines)
+
+unused-alike : (analysed : Result AnalysisValue UnitFault) (a b : Answer) → IsListAnswer Unused analysed a → IsListAnswer Unused analysed b → AreAlike a b
+unused-alike (Ok value) a b p p' = same-answer (class_answer p.0) a b p.2 (ap class_answer (unused-told value p.0 p'.0 p.1 p'.1) ∙ p'.2)
+unused-alike (Err fault) a b p p' = same-answer _ a b p p'
+
+includes-told : (value : AnalysisValue) (told told' : Option (List ℕ)) → IsIncludesReport value told → IsIncludesReport value told' → told ≡ told'
+includes-told value None told' r r' = absurd r
+includes-told value (Some text) None r r' = absurd r'
+includes-told value (Some text) (Some text') r r' =
+    ap (λ (t : List ℕ). Some t)
+    (r.lines ∙ ap (lines_of value) (one_unneeded value r.places r'.places r.are_unneeded r'.are_unneeded) ∙ sym r'.lines)
+
+includes-alike : (analysed : Result AnalysisValue UnitFault) (a b : Answer) → IsListAnswer Includes analysed a → IsListAnswer Includes analysed b
+    → AreAlike a b
+includes-alike (Ok value) a b p p' = same-answer (class_answer p.0) a b p.2 (ap class_answer (includes-told value p.0 p'.0 p.1 p'.1) ∙ p'.2)
+includes-alike (Err fault) a b p p' = same-answer _ a b p p'
 
 planned-alike : (r s : Result (List Edit) Refusal) (a b : Answer) → ArePlansAlike r s → renaming_answer r ≡ a → renaming_answer s ≡ b → AreAlike a b
 planned-alike (Ok es) (Ok fs) a b alike is is' =
@@ -132,6 +158,12 @@ request-alike files (Some (skipped_asked ws)) a b p p' = same-answer _ a b p p'
 request-alike files (Some (class_asked q)) a b p p' =
     over-alike q.ws (λ w. IsClassAnswer q (analysis_of (source_of files) w)) (workspace_at q.ws files) a b
     (λ w. class-alike q (analysis_of (source_of files) w) a b) p p'
+request-alike files (Some (unused_asked ws)) a b p p' =
+    over-alike ws (λ w. IsListAnswer Unused (analysis_of (source_of files) w)) (workspace_at ws files) a b
+    (λ w. unused-alike (analysis_of (source_of files) w) a b) p p'
+request-alike files (Some (includes_asked ws)) a b p p' =
+    over-alike ws (λ w. IsListAnswer Includes (analysis_of (source_of files) w)) (workspace_at ws files) a b
+    (λ w. includes-alike (analysis_of (source_of files) w) a b) p p'
 request-alike files (Some (generated_asked n)) a b p p' =
     over-alike workspace_path (λ w. IsSizeAnswer n (analysis_of (source_of (generated_files n)) w)) (workspace_at workspace_path (generated_files n)) a b
     (λ w. size-alike n (analysis_of (source_of (generated_files n)) w) a b) p p'

@@ -13,11 +13,14 @@ use Rattle.ws_core.specs.Texts as units
 use Rattle.table_laws.specs.Counts.{tokens_in}
 use Rattle.query_report.specs.TokensText.{tokens_text}
 use Rattle.query_report.specs.Skipped.{skipped_text}
+use Rattle.query_report.specs.Queries.{IsReport}
+use Rattle.query_report.specs.declared.queries.Query.{Query}
+use Rattle.query_report.specs.declared.queries.Query.TheVariants.{Unused, Includes}
 use Rattle.rename_rules.specs.Renaming.{Refusal, bad_name, no_name, refused, IsRenaming}
 use Rattle.generated.specs.Generated.{header_path, workspace_path, generated_files}
 use Rattle.cscout_run.specs.declared.status.Status.{Status}
 use Rattle.cscout_run.specs.declared.status.Status.TheVariants.{Done, Refused, Usage, Workspace}
-use Rattle.cscout_run.specs.Request.{RequestValue, help_asked, version_asked, renaming_asked, tokens_asked, skipped_asked, class_asked, generated_asked, RenameValue, TokensValue, ClassValue, asked}
+use Rattle.cscout_run.specs.Request.{RequestValue, help_asked, version_asked, renaming_asked, tokens_asked, skipped_asked, class_asked, unused_asked, includes_asked, RenameValue, TokensValue, ClassValue, asked, generated_asked}
 use Rattle.cscout_run.specs.Message.{usage_line, absent_line, ws_line, text_fault_line, refused_line, offence_line, edited_lines, size_line}
 use Rattle.cscout_run.specs.Help.{help_text, version_text}
 
@@ -113,6 +116,13 @@ abbrev pub IsClassAnswer : ClassValue → Result AnalysisValue units.UnitFault �
 IsClassAnswer q (Ok value) a = (told : Option (List ℕ)) × IsClassReport value q.path q.line q.column told × (class_answer told ≡ a)
 IsClassAnswer q (Err fault) a = stopped Workspace (text_fault_line fault) ≡ a
 
+-- ---- `unused` and `includes`
+
+-- The same for a report that is asked of a whole workspace.
+abbrev pub IsListAnswer : Query → Result AnalysisValue units.UnitFault → Answer → Type 0
+IsListAnswer q (Ok value) a = (told : Option (List ℕ)) × IsReport value q told × (class_answer told ≡ a)
+IsListAnswer q (Err fault) a = stopped Workspace (text_fault_line fault) ≡ a
+
 -- ---- `rename`
 
 -- The same for a renaming of the class that a place names: the answer is that of what is planned.
@@ -153,7 +163,12 @@ IsGenerated n a =
     IsOverWorkspace workspace_path (λ w. IsSizeAnswer n (analysis_of (source_of (generated_files n)) w))
     (workspace_at workspace_path (generated_files n)) a
 
--- The answer to a request: the one that is computed, and for a class and a rename the one that is told.
+-- the answers to such a report over the files
+abbrev pub IsListRequest : FileMap → List ℕ → Query → Answer → Type 0
+IsListRequest files ws q a = IsOverWorkspace ws (λ w. IsListAnswer q (analysis_of (source_of files) w)) (workspace_at ws files) a
+
+-- The answer to a request: the one that is computed, and for what is told of an analysis and a rename the one that is
+-- told.
 abbrev pub IsRequestAnswer : FileMap → RequestValue → Answer → Type 0
 IsRequestAnswer files help_asked a = shown help_text ≡ a
 IsRequestAnswer files version_asked a = shown version_text ≡ a
@@ -163,6 +178,8 @@ IsRequestAnswer files (tokens_asked q) a = tokens_answer q files ≡ a
 IsRequestAnswer files (skipped_asked ws) a = skipped_answer ws files ≡ a
 IsRequestAnswer files (class_asked q) a =
     IsOverWorkspace q.ws (λ w. IsClassAnswer q (analysis_of (source_of files) w)) (workspace_at q.ws files) a
+IsRequestAnswer files (unused_asked ws) a = IsListRequest files ws Unused a
+IsRequestAnswer files (includes_asked ws) a = IsListRequest files ws Includes a
 IsRequestAnswer files (generated_asked n) a = IsGenerated n a
 
 -- the same to words, which may be of no form

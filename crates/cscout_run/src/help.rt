@@ -13,6 +13,10 @@ cscout WS skipped
     prints `PATH:FIRST-LAST` for the lines of source files that no unit processes
 cscout WS class PATH LINE COL
     prints `PATH:LINE:COL TEXT` for each place that must be spelled as the name at that place
+cscout WS unused
+    prints `PATH:LINE:COL NAME` for the first place of each name that is declared and never used
+cscout WS includes
+    prints `PATH:LINE:COL` for each include line that brings nothing which is used
 cscout generate N
     makes a workspace of N units in memory, from 1 to 1024, analyses it and renames a name of it
 cscout --help

@@ -10,12 +10,14 @@ ghost use Rattle.cscout_run.specs.Steps.{IsPlanStop, IsPlanned, IsPlannedFor, Pr
 
 use crate::generating::prepare_generated;
 use crate::help::{help, version};
+use crate::listing::prepare_list;
 use crate::reporting::{prepare_class, prepare_skipped, prepare_tokens, stop_of};
 use crate::requests::{Rename, Request};
 use crate::stops::Stop;
 use crate::workspace_files::read_workspace;
 use cs_base::{Edits, Files, Memory, Text, normal_path};
 use itoa::Buffer;
+use query_report::Query;
 use rename_edit::{RenameRefusal, plan_rename};
 use std::alloc::Global;
 use std::str;
@@ -45,6 +47,8 @@ pub fn prepare<F: Files>(alloc: Global, request: &Request<'_>, files: &mut F) ->
         Request::Tokens(tokens) => prepare_tokens(alloc, tokens, files),
         Request::Skipped(ws) => prepare_skipped(alloc, ws, files),
         Request::Class(class) => prepare_class(alloc, class, files),
+        Request::Unused(ws) => prepare_list(alloc, ws, &Query::Unused, files),
+        Request::Includes(ws) => prepare_list(alloc, ws, &Query::Includes, files),
         Request::Generated(n) => prepare_generated(alloc, *n),
     }
 }

@@ -95,8 +95,8 @@ fn class_of_name(alloc: Global, a: &Analysis, q: &NamedClass<'_>) -> Result<Read
     }
 }
 
-// A text for the output alone.
-fn to_show(alloc: Global, text: Vec<u8>) -> Ready
+/// A text for the output alone.
+pub(crate) fn to_show(alloc: Global, text: Vec<u8>) -> Ready
     ensures edits { result.edits ≡ [] }
     ensures text { result.text ≡ text }
 {

@@ -30,7 +30,8 @@ pub struct NamedClass<'a> {
     pub column: u32,
 }
 
-/// What the program is asked for. `Skipped` has the workspace file, `Generated` the number of units.
+/// What the program is asked for. `Skipped`, `Unused` and `Includes` have the workspace file, `Generated` the number of
+/// units.
 #[derive(Drop)]
 pub enum Request<'a> {
     Help,
@@ -39,6 +40,8 @@ pub enum Request<'a> {
     Tokens(UnitTokens<'a>),
     Skipped(&'a str),
     Class(NamedClass<'a>),
+    Unused(&'a str),
+    Includes(&'a str),
     Generated(u32),
 }
 
@@ -94,6 +97,10 @@ fn asked_of_workspace<'a>(ws: &'a str, command: &str) -> Option<Request<'a>>
 {
     if command == "skipped" {
         Some(Request::Skipped(ws))
+    } else if command == "unused" {
+        Some(Request::Unused(ws))
+    } else if command == "includes" {
+        Some(Request::Includes(ws))
     } else {
         asked_generated(ws, command)
     }
@@ -249,6 +256,8 @@ pub fn workspace_file<'a>(request: &Request<'a>) -> &'a str
         Request::Tokens(tokens) => tokens.ws,
         Request::Skipped(ws) => ws,
         Request::Class(class) => class.ws,
+        Request::Unused(ws) => ws,
+        Request::Includes(ws) => ws,
         Request::Generated(_) => "w.cs",
         _ => "",
     }

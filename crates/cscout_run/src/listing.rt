@@ -1,0 +1,44 @@
+// The reports `unused` and `includes` on a whole workspace: they put nothing.
+ghost use Rattle.std.specs.Prelude.{◌≡◌, Ok, IfErr, IfSome};
+ghost use Rattle.cscout_run.specs.Answer.{IsListAnswer, IsListRequest};
+ghost use Rattle.cscout_run.specs.Steps.{IsPlanStop, Prepares, StepReads};
+
+use crate::preparing::Ready;
+use crate::reporting::{stop_of, to_show};
+use crate::stops::Stop;
+use crate::workspace_files::read_workspace;
+use cs_base::Files;
+use query_report::{Query, QueryRefusal, report};
+use std::alloc::Global;
+use ws_core::{Analysis, analyse};
+
+/// All of the answer to a report on a whole workspace but its output.
+pub(crate) fn prepare_list<F: Files>(
+    alloc: Global,
+    ws: &str,
+    q: &Query,
+    files: &mut F,
+) -> Result<Ready, Stop>
+    ensures answer { IfSome (F.held files.old) (λ fs. Prepares ws.now (IsListRequest fs ws.now q.now) result) }
+    ensures held { F.held files.new ≡ F.held files.old }
+    ensures reads { StepReads ws.now (F.failed_reads files.old) (F.failed_reads files.new) (F.last_failed files.new) result }
+    ensures puts { F.failed_puts files.new ≡ F.failed_puts files.old }
+{
+    let workspace = read_workspace(alloc, ws, files)?;
+    match analyse(alloc, &workspace, files) {
+        Ok(analysis) => listed(alloc, &analysis, ws, q),
+        Err(fault) => Err(stop_of(fault)),
+    }
+}
+
+// The report, once the workspace is analysed.
+fn listed(alloc: Global, a: &Analysis, _ws: &str, q: &Query) -> Result<Ready, Stop>
+    ensures answer { Prepares _ws.now (IsListAnswer q.now (Ok a.now.value)) result }
+    ensures stops { IfErr result IsPlanStop }
+{
+    match report(alloc, a, q) {
+        Ok(text) => Ok(to_show(alloc, text)),
+        Err(QueryRefusal::NoName) => Err(Stop::NoName),
+        Err(QueryRefusal::Memory) => Err(Stop::Memory),
+    }
+}
