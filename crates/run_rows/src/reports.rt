@@ -1,4 +1,4 @@
-// The runs of the two reports, and what each must tell. No file changes.
+// The runs of the reports `tokens` and `skipped`, and what each must tell. No file changes.
 use crate::tables::{Failing, Row};
 use cscout_run::Status;
 

@@ -1,5 +1,6 @@
 // Whole runs over files and sinks in memory, and the adapters over one real file.
 use crate::classes::{CLASSES, FAILING_CLASSES};
+use crate::lists::{FAILING_LISTS, LISTS};
 use crate::reports::{FAILING_REPORTS, REFUSED_REPORTS, REPORTS};
 use crate::tables::{FAILING, ROWS, Row, TWO_FILES};
 use cs_base::{Files, Got, MemFiles, MemSink, Memory, Put};
@@ -105,6 +106,23 @@ fn reports_answer_as_worked_by_hand(rt: HostRuntime) -> Result<(), Memory> {
         check(&rt, row, 0, 0, 0)?;
     }
     for failing in &FAILING_REPORTS {
+        check(
+            &rt,
+            &failing.row,
+            failing.call,
+            failing.out_call,
+            failing.err_call,
+        )?;
+    }
+    Ok(())
+}
+
+#[test]
+fn lists_are_told_as_worked_by_hand(rt: HostRuntime) -> Result<(), Memory> {
+    for row in &LISTS {
+        check(&rt, row, 0, 0, 0)?;
+    }
+    for failing in &FAILING_LISTS {
         check(
             &rt,
             &failing.row,
