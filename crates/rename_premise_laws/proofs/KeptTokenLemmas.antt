@@ -29,7 +29,7 @@ unfolding is_reserved_text
 va_args_reserved = refl
 
 -- a text that is not reserved is none that is
-other_word : (word text : List ℕ) → is_reserved_text word ≡ true → is_reserved_text text ≡ false → bytes_eq text word ≡ false
+pub other_word : (word text : List ℕ) → is_reserved_text word ≡ true → is_reserved_text text ≡ false → bytes_eq text word ≡ false
 other_word word text reserved free =
     false_from_ne_true (bytes_eq text word) (λ same.
     both_ways (is_reserved_text text) free (ap is_reserved_text (bytes_eq-equal text word same) ∙ reserved))
@@ -59,7 +59,7 @@ module _ (a : Analysed) (members : List Part) (name : List ℕ) (r : Renaming) (
     | inr free ↦ ap (λ (w : List ℕ). bytes_eq w word) (free_same t told free)
   ]
 
-  other_same : (t : Token) → IsParted a.value members t → is_name t ≡ false → macros.spelled r t ≡ t.text
+  pub other_same : (t : Token) → IsParted a.value members t → is_name t ≡ false → macros.spelled r t ≡ t.text
   other_same t told other = elim (cases_Bool (holds_member members t)) [
     | inl held ↦
         absurd (both_ways (is_name t) other (holder_name a.value members name none t (holder a.value members name none t (told.parted held) held) held))

@@ -13,6 +13,7 @@ mod AlikeLemmas
 mod LinkLemmas
 mod ApartLemmas
 mod KeptTokenLemmas
+mod OccurringLemmas
 mod KeptLineLemmas
 mod RenamingLemmas
 mod UneditedLemmas

@@ -52,7 +52,7 @@ table_in (e ∷ table) n (suc k) f t is i =
     in_right t (entry_tokens n e) (table_tokens (n + 1) table)
     (table_in table (n + 1) k f t (subst (λ (m : ℕ). option_and_then (kept_in m) (slice_get table k) ≡ Some f) on is) i)
 
-toks_in : (table : Table) (n k : ℕ) (f : KeptValue) (t : Token) → option_and_then (kept_in (n + k)) (slice_get table k) ≡ Some f → In t (file_toks f)
+pub toks_in : (table : Table) (n k : ℕ) (f : KeptValue) (t : Token) → option_and_then (kept_in (n + k)) (slice_get table k) ≡ Some f → In t (file_toks f)
     → In t (kept_toks n table)
 unfolding kept_toks
 toks_in [] n k f t is i = absurd (cc)

@@ -5,5 +5,6 @@ pub mod NamedClasses
 pub mod Spellings
 pub mod KeptTokens
 pub mod KeptLines
+pub mod Occurring
 pub mod Renamings
 pub mod MadeTokens

@@ -4,6 +4,7 @@ ghost use Rattle.rename_premise_laws.specs.KeptLines.{LinesAreKept};
 ghost use Rattle.rename_premise_laws.specs.KeptTokens.{PastedTokensAreKept, TokensAreKept};
 ghost use Rattle.rename_premise_laws.specs.MadeTokens.{StringsAndHeadersStay, TokensAreMadeAnew};
 ghost use Rattle.rename_premise_laws.specs.NamedClasses.{WordsAreFreeWhereNamed};
+ghost use Rattle.rename_premise_laws.specs.Occurring.{FileTokensOccur, OccurringAreKept, PastedTokensOccur};
 ghost use Rattle.rename_premise_laws.specs.Renamings.{EditedFilesAreRenamed, RenamingsKeepUnedited, RenamingsSpell};
 ghost use Rattle.rename_premise_laws.specs.Spellings.{LinkedStayAlike, OthersStayApart};
 
@@ -29,6 +30,14 @@ pub fn linked_stay_alike()
 /// Tokens of kept files and pasted identifiers that get one new spelling had one old spelling.
 pub fn others_stay_apart()
     ensures { OthersStayApart }
+{}
+
+/// Tokens of kept files and pasted ones occur; of what occurs, identifiers of different spellings stay different, none
+/// becomes a reserved word, and punctuators stay.
+pub fn occurring_are_kept()
+    ensures kept { OccurringAreKept }
+    ensures files { FileTokensOccur }
+    ensures pasted { PastedTokensOccur }
 {}
 
 /// Each token of a kept file is kept, and each pasted one: what is no identifier stays, and so do `defined` and

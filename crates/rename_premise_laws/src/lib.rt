@@ -14,6 +14,6 @@ mod laws;
 
 pub use laws::{
     edited_files_are_renamed, files_keep_pieces, lines_are_kept, linked_stay_alike,
-    others_stay_apart, tokens_are_kept, tokens_are_made_anew, unedited_text_stays,
-    words_are_free_where_named,
+    occurring_are_kept, others_stay_apart, tokens_are_kept, tokens_are_made_anew,
+    unedited_text_stays, words_are_free_where_named,
 };
