@@ -1,8 +1,8 @@
 -- Names that are declared: at the end of a declarator, and in an identifier list.
-use Rattle.std.proofs.Common.{ℕ, ◌+◌, ◌<◌, ◌≤◌, ◌≡◌, Bool, true, false, ◌&&◌, ◌||◌, not, if◌then◌else◌, ◌==◌, ◌%◌, List, [], ◌∷◌, length, Option, None, Some, Ok, Err, nat_lt, inl, inr, refl, sym, ap, subst, ◌∙◌, arith}
+use Rattle.std.proofs.Common.{ℕ, ◌+◌, ◌<◌, ◌≤◌, ◌≡◌, Bool, true, false, ◌&&◌, ◌||◌, if◌then◌else◌, ◌==◌, List, [], ◌∷◌, Option, None, Some, Ok, Err, inl, inr, refl, sym, ap, subst, ◌∙◌, arith}
 use Rattle.std.proofs.lemmas.Bool.{false≢true, and_parts}
 use Rattle.cs_base.specs.Token.{Token}
-use Rattle.c99_tree.specs.Tree.{Forest, none, token, node, Node, leaf, inner, put, count_of}
+use Rattle.c99_tree.specs.Tree.{Forest, none, token, node, Node, inner, put, count_of}
 use Rattle.c99_tree.specs.declared.production.Label.{Label}
 use Rattle.c99_tree.specs.declared.production.Production.{Production}
 use Rattle.c99_tree.specs.declared.production.Production.TheVariants.{InitDecl, Specs, Declarator, Direct, Param, Pdecl, Pdirect}

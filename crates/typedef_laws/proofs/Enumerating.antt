@@ -1,24 +1,22 @@
 -- Enumerators (6.7.2.2), and parameters in parentheses (6.7.5.3 paragraph 11).
-use Rattle.std.proofs.Common.{ℕ, ◌+◌, ◌<◌, ◌≤◌, ◌≡◌, Bool, true, false, ◌&&◌, ◌||◌, not, if◌then◌else◌, List, [], ◌∷◌, length, None, Some, Ok, Err, nat_lt, inl, inr, refl, sym, ap, subst, ◌∙◌, arith}
-use Rattle.std.proofs.lemmas.Bool.{false≢true, and_parts}
+use Rattle.std.proofs.Common.{ℕ, ◌+◌, ◌<◌, ◌≡◌, Bool, true, false, List, length, None, Some, Ok, Err, nat_lt, inl, inr, refl, sym, ap, subst, ◌∙◌, arith}
 use Rattle.cs_base.specs.Token.{Token}
-use Rattle.c99_tree.specs.Tree.{Forest, none, Node, leaf, put}
+use Rattle.c99_tree.specs.Tree.{none, Node}
 use Rattle.c99_tree.specs.declared.production.Label.{Label}
-use Rattle.c99_tree.specs.declared.production.Production.TheVariants.{Enumerator, Cond, Pdecl, Pdirect}
+use Rattle.c99_tree.specs.declared.production.Production.TheVariants.{Enumerator, Cond}
 use Rattle.c99_read.specs.Classes.{among}
 use Rattle.c99_read.specs.Items.{Item, one, part, act, ◌·◌, maybe, deep, own, names, name}
 use Rattle.c99_read.specs.Standard.{c99}
-use Rattle.c99_read.specs.State.{State, base_at, is_identifier, is_typedef_at, class_at, last_identifier, declaration, in_innermost, acted, opened}
+use Rattle.c99_read.specs.State.{State, class_at, last_identifier, declaration, in_innermost, acted, opened}
 use Rattle.c99_read.specs.Reading.{Goal, produce, Step, and_then, deepest, take_one, enter, may, step}
 use Rattle.scope_bind.specs.Trees.{last_token}
-use Rattle.typedef_laws.proofs.Private.{Class}
 use Rattle.typedef_laws.proofs.Classes.{equals, name_is, equals_is}
-use Rattle.typedef_laws.proofs.Outline.{Outline, begun, outlined, node_agrees, typedef_among}
-use Rattle.typedef_laws.proofs.Matching.{Matches, Bounds, IsOpen, outer_further, outer_open, bounds_sooner}
+use Rattle.typedef_laws.proofs.Outline.{Outline, begun, outlined}
+use Rattle.typedef_laws.proofs.Matching.{Bounds, outer_further, outer_open, bounds_sooner}
 use Rattle.typedef_laws.proofs.Places.{EndsAt, ends_none}
-use Rattle.typedef_laws.proofs.Rules.{labelled, all_hold}
-use Rattle.typedef_laws.proofs.Goes.{After, with_token, IsIn, Fits, Goes, goes_further, Makes, Body}
-use Rattle.typedef_laws.proofs.Steps.{Reads, Grows, after_if, taken, quiet_goes, goes_step, opened_in, opened_fits, opened_outer}
+use Rattle.typedef_laws.proofs.Rules.{labelled}
+use Rattle.typedef_laws.proofs.Goes.{After, with_token, IsIn, Goes, goes_further, Makes, Body}
+use Rattle.typedef_laws.proofs.Steps.{Reads, Grows, after_if, taken, quiet_goes, goes_step, opened_fits, opened_outer}
 use Rattle.typedef_laws.proofs.Declaring.{naming, outer_declared, put_matches}
 use Rattle.typedef_laws.proofs.Listing.{last_put, last_other, last_node, named_is}
 

@@ -1,5 +1,5 @@
 -- Reading goes on beside the outline of binding.
-use Rattle.std.proofs.Common.{ℕ, ◌+◌, ◌<◌, ◌≤◌, ◌≡◌, Bool, true, false, ◌&&◌, not, if◌then◌else◌, ◌==◌, List, [], ◌∷◌, length, Ok, Err, nat_lt, refl, sym, ap, subst, ◌∙◌, arith}
+use Rattle.std.proofs.Common.{ℕ, ◌+◌, ◌<◌, ◌≤◌, ◌≡◌, Bool, true, false, ◌&&◌, if◌then◌else◌, List, length, Ok, Err, refl, sym, ap, subst, ◌∙◌, arith}
 use Rattle.std.proofs.lemmas.Bool.{false≢true, and_parts}
 use Rattle.cs_base.specs.Token.{Token}
 use Rattle.c99_tree.specs.Tree.{Forest, none, token, node, Node, node_of, leaf, inner, put, count_of, lone, collapsed}
@@ -7,13 +7,13 @@ use Rattle.c99_tree.specs.declared.production.Label.{Label}
 use Rattle.c99_tree.specs.declared.production.Production.{Production}
 use Rattle.c99_tree.specs.declared.production.Production.TheVariants.{Specs}
 use Rattle.c99_read.specs.State.{State, Names, collapses, finished, is_declarator, head_closed, names_closed, nearest, closed}
-use Rattle.c99_read.specs.Reading.{Step, and_then}
+use Rattle.c99_read.specs.Reading.{Step}
 use Rattle.scope_bind.specs.Named.{Scope}
 use Rattle.scope_bind.specs.Trees.{is_node, has_mod}
 use Rattle.scope_bind.specs.Entering.{scope_in}
 use Rattle.typedef_laws.proofs.Outline.{Outline, Entry, added, begun, entries_in, outlined, stepped, is_listing, token_agrees, node_agrees, all_agree}
 use Rattle.typedef_laws.proofs.Matching.{Matches, Bounds, IsOpen, SameOuter, matches_later, outer_still, outer_further, outer_open, bounds_sooner}
-use Rattle.typedef_laws.proofs.Places.{EndsAt, TokenAgrees, ends_none, ends_leaf, ends_inner, count_leaf, count_inner, outlined_leaf, outlined_inner, behind, agree_leaf, agree_inner}
+use Rattle.typedef_laws.proofs.Places.{EndsAt, ends_leaf, ends_inner, count_leaf, count_inner, outlined_leaf, outlined_inner, behind, agree_leaf, agree_inner}
 use Rattle.typedef_laws.proofs.Rules.{labelled, is_tame, is_main_apart, main_apart, may_hold, stands, may_stand, all_hold, hold_leaf, hold_inner, entries_alone, after_alone, after_tame, tame_alone, tame_apart, tame_specs, nearest_same, collapsed_scope, collapsed_entries, collapsed_alone, collapsed_tame, collapsed_held, collapsed_nearest}
 
 -- this is so of the state that is left, if reading does not stop

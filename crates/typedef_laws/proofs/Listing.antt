@@ -1,26 +1,25 @@
 -- Names that are declared where they stand: in an identifier list, and at the end of an enumerator.
-use Rattle.std.proofs.Common.{ℕ, ◌+◌, ◌<◌, ◌≤◌, ◌≡◌, Bool, true, false, ◌&&◌, not, if◌then◌else◌, ◌==◌, ◌%◌, List, [], ◌∷◌, length, Option, None, Some, Ok, Err, nat_lt, inl, inr, refl, sym, ap, subst, ◌∙◌, arith}
-use Rattle.std.proofs.lemmas.Bool.{false≢true, eqb-false, eqb-true, eq-eqb, ne_eqb}
+use Rattle.std.proofs.Common.{ℕ, ◌+◌, ◌<◌, ◌≡◌, true, false, not, if◌then◌else◌, ◌==◌, ◌%◌, List, length, Option, None, Some, Ok, Err, refl, sym, ap, subst, ◌∙◌, arith}
+use Rattle.std.proofs.lemmas.Bool.{eqb-false, eqb-true, eq-eqb, ne_eqb}
 use Rattle.cs_base.specs.Token.{Token}
 use Rattle.c99_tree.specs.Tree.{Forest, none, token, node, Node, leaf, inner, put, count_of}
 use Rattle.c99_tree.specs.declared.production.Label.{Label}
-use Rattle.c99_tree.specs.declared.production.Production.TheVariants.{Enumerator, Params, Cond}
+use Rattle.c99_tree.specs.declared.production.Production.TheVariants.{Params}
 use Rattle.c99_read.specs.Classes.{among}
-use Rattle.c99_read.specs.Items.{Item, one, part, act, ◌·◌, maybe, many, deep, own, names, name}
+use Rattle.c99_read.specs.Items.{Item, one, act, ◌·◌, many, own, name}
 use Rattle.c99_read.specs.Grammar.{table}
 use Rattle.c99_read.specs.Standard.{c99}
-use Rattle.c99_read.specs.State.{State, base_at, is_identifier, class_at, last_identifier, declaration, in_innermost, with_declared, acted, opened}
-use Rattle.c99_read.specs.Reading.{Goal, produce, repeat, Step, and_then, deepest, take_one, enter, may, step}
+use Rattle.c99_read.specs.State.{State, base_at, is_identifier, class_at, last_identifier, declaration, in_innermost, acted, opened}
+use Rattle.c99_read.specs.Reading.{Goal, repeat, Step, and_then, take_one, may, step}
 use Rattle.scope_bind.specs.Named.{Scope}
-use Rattle.scope_bind.specs.Trees.{last_token}
-use Rattle.typedef_laws.proofs.Private.{Class, Declaration}
+use Rattle.typedef_laws.proofs.Private.{Class}
 use Rattle.typedef_laws.proofs.Parts.{first_body, rest_of, front_of, inside_of, classes_of}
-use Rattle.typedef_laws.proofs.Classes.{identifiers, equals, identifier_is, name_is, equals_is}
-use Rattle.typedef_laws.proofs.Outline.{Outline, added, is_listing, begun, stepped, outlined, token_agrees, typedef_among, all_agree}
-use Rattle.typedef_laws.proofs.Matching.{Matches, Bounds, SameOuter, matches_later, outer_open, bounds_sooner}
-use Rattle.typedef_laws.proofs.Places.{EndsAt, ends_leaf, count_leaf, outlined_leaf, agree_leaf}
+use Rattle.typedef_laws.proofs.Classes.{identifiers, identifier_is}
+use Rattle.typedef_laws.proofs.Outline.{Outline, added, is_listing, stepped, outlined, token_agrees, typedef_among}
+use Rattle.typedef_laws.proofs.Matching.{Matches, Bounds, matches_later, outer_open, bounds_sooner}
+use Rattle.typedef_laws.proofs.Places.{ends_leaf, count_leaf, outlined_leaf, agree_leaf}
 use Rattle.typedef_laws.proofs.Rules.{labelled, hold_leaf}
-use Rattle.typedef_laws.proofs.Goes.{After, with_token, IsIn, Fits, Goes, goes_still, goes_further, token_goes, Makes, Body}
+use Rattle.typedef_laws.proofs.Goes.{After, with_token, Fits, Goes, goes_still, goes_further, token_goes, Body}
 use Rattle.typedef_laws.proofs.Steps.{after_if, taken, goes_body}
 use Rattle.typedef_laws.proofs.Taking.{no_typedef, if_held}
 use Rattle.typedef_laws.proofs.Declaring.{naming, outer_declared, put_matches}

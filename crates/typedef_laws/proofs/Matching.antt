@@ -1,11 +1,11 @@
 -- The reader's open scopes beside the declarations of the walk: at each token from the next one on, the same names
 -- are visible.
-use Rattle.std.proofs.Common.{ℕ, ◌+◌, ◌<◌, ◌≤◌, ◌≡◌, Bool, true, false, ◌&&◌, not, if◌then◌else◌, List, [], ◌∷◌, ◌++◌, Option, None, Some, nat_lt, refl, sym, ap, subst, ◌∙◌, arith, unwrap_or}
+use Rattle.std.proofs.Common.{ℕ, ◌+◌, ◌≤◌, ◌≡◌, Bool, true, false, ◌&&◌, not, if◌then◌else◌, List, [], ◌∷◌, ◌++◌, Option, None, Some, nat_lt, refl, sym, ap, subst, ◌∙◌, arith, unwrap_or}
 use Rattle.std.proofs.lemmas.Bool.{le-ltb, lt-ltb}
 use Rattle.std.specs.Str.{bytes_eq}
 use Rattle.cs_base.specs.Token.{Token}
-use Rattle.c99_tree.specs.Names.{is_typedef, latest}
-use Rattle.c99_read.specs.State.{declaration, spelling_at, spelled_scope, spelled_scopes, is_typedef_at}
+use Rattle.c99_tree.specs.Names.{latest}
+use Rattle.c99_read.specs.State.{declaration, spelling_at, spelled_scope, is_typedef_at}
 use Rattle.scope_bind.specs.Declarations.{alike}
 use Rattle.typedef_laws.proofs.Private.{Declaration}
 use Rattle.typedef_laws.proofs.Outline.{Entry, entry, is_open, typedef_among}

@@ -11,7 +11,7 @@ use Rattle.c99_tree.specs.declared.production.Production.TheVariants.{Translatio
 use Rattle.c99_read.specs.Standard.{c99}
 use Rattle.c99_read.specs.State.{base_at, is_identifier}
 use Rattle.scope_bind.specs.declared.entity.EntityKind.TheVariants.{Object, Function, Typedef, Parameter, Enumerator as Constant}
-use Rattle.scope_bind.specs.Named.{Body, Cause, Declaration, Declared, Frame, Role, Scope, Space, ordinary, tags, labels, undeclared, tag_redefined, redeclared, mixed_linkage, designator_after_elision}
+use Rattle.scope_bind.specs.Named.{Body, Cause, Declaration, Declared, Frame, Role, Scope, ordinary, tags, labels, undeclared, tag_redefined, redeclared, mixed_linkage, designator_after_elision}
 use Rattle.scope_bind.specs.Types.{CType, adjusted, arithmetic, is_function, is_unknown, target_of}
 use Rattle.scope_bind.specs.Trees.{last_token, name_below, is_at, is_node, words_of, declarator_type}
 use Rattle.scope_bind.specs.Declarations.{Facts, is_space, is_live, is_typedef_name, has_linkage, alike, is_named, in_scope, is_mixed, with_fault, with_use, with_declaration, with_begun, visible, anywhere}
@@ -23,8 +23,8 @@ use Rattle.scope_bind.specs.Labels.{with_label, with_jumps, jump_to, with_labels
 use Rattle.scope_bind.specs.Entering.{is_member, kept_here, with_kept, facts_in, entered}
 use Rattle.scope_bind.specs.Roles.{role_of}
 use Rattle.scope_bind.specs.Walk.{facts_at, passed, declared_in, parameter_in, facts_after, left, walked}
-use Rattle.typedef_laws.specs.Agreeing.{denotes_typedef, is_read_so, is_named_so, agrees}
-use Rattle.typedef_laws.proofs.Outline.{Entry, entry, Outline, added, is_listing, token_entries, stepped, copies, kept_entries, entries_in, begun, named_entries, in_declaration, in_parameter, entries_after, ended, outlined, is_open, typedef_among, token_agrees, node_agrees, all_agree}
+use Rattle.typedef_laws.specs.Agreeing.{is_read_so, is_named_so, agrees}
+use Rattle.typedef_laws.proofs.Outline.{Entry, entry, Outline, added, is_listing, stepped, copies, kept_entries, entries_in, begun, named_entries, in_declaration, in_parameter, entries_after, ended, outlined, is_open, typedef_among, token_agrees, node_agrees, all_agree}
 
 -- the ordinary declarations
 abbrev pub entry_of : Declaration → Entry

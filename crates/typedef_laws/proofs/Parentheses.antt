@@ -1,6 +1,5 @@
 -- A parameter's declarator in parentheses (6.7.5.3 paragraph 11).
-use Rattle.std.proofs.Common.{ℕ, ◌+◌, ◌<◌, ◌≤◌, ◌≡◌, Bool, true, false, ◌&&◌, ◌||◌, not, List, length, Ok, Err, refl, sym, ap, subst, ◌∙◌, arith}
-use Rattle.std.proofs.lemmas.Bool.{false≢true}
+use Rattle.std.proofs.Common.{ℕ, ◌+◌, ◌<◌, ◌≡◌, Bool, true, false, ◌||◌, not, List, length, Ok, Err, refl, sym, ap, subst, ◌∙◌, arith}
 use Rattle.cs_base.specs.Token.{Token}
 use Rattle.c99_tree.specs.declared.production.Label.{Label}
 use Rattle.c99_tree.specs.declared.production.Production.TheVariants.{Pdirect}
@@ -17,7 +16,7 @@ use Rattle.typedef_laws.proofs.Outline.{Outline, Entry, typedef_among}
 use Rattle.typedef_laws.proofs.Matching.{Matches, Bounds, IsOpen, bounds_within, bounds_sooner, same_typedef}
 use Rattle.typedef_laws.proofs.Rules.{labelled, fine}
 use Rattle.typedef_laws.proofs.Goes.{After, with_token, IsIn, Goes, goes_further, Body}
-use Rattle.typedef_laws.proofs.Steps.{Reads, taken, goes_step, quiet_goes, goes_named, opened_in, opened_outer}
+use Rattle.typedef_laws.proofs.Steps.{Reads, taken, goes_step, quiet_goes, goes_named, opened_outer}
 
 module _ (toks : List Token) where
   abbrev in_parentheses : Label

@@ -1,8 +1,7 @@
 -- Nodes that are scopes: blocks, parameter lists, statements and substatements (6.2.1 paragraph 4).
-use Rattle.std.proofs.Common.{ℕ, ◌+◌, ◌<◌, ◌≤◌, ◌≡◌, ◌⊎◌, Bool, true, false, List, [], ◌∷◌, length, Ok, Err, inl, inr, refl, sym, ap, subst, ◌∙◌, arith}
-use Rattle.std.proofs.lemmas.Bool.{false≢true}
+use Rattle.std.proofs.Common.{ℕ, ◌+◌, ◌<◌, ◌≤◌, ◌≡◌, true, List, [], ◌∷◌, length, inl, inr, refl, sym, ap, subst, ◌∙◌, arith}
 use Rattle.cs_base.specs.Token.{Token}
-use Rattle.c99_tree.specs.Tree.{Forest, leaf, put, node_of}
+use Rattle.c99_tree.specs.Tree.{Forest, leaf, put}
 use Rattle.c99_tree.specs.declared.production.Label.{Label}
 use Rattle.c99_tree.specs.declared.production.Production.{Production}
 use Rattle.c99_read.specs.Items.{scope, end}
@@ -13,11 +12,11 @@ use Rattle.scope_bind.specs.Trees.{last_token}
 use Rattle.scope_bind.specs.Entering.{inner, scope_in}
 use Rattle.typedef_laws.proofs.Private.{Declaration}
 use Rattle.typedef_laws.proofs.Outline.{Outline, Entry, begun, entries_in, outlined, node_agrees}
-use Rattle.typedef_laws.proofs.Matching.{Matches, Bounds, Within, IsOpen, SameOuter, matches_begun, matches_left, bounds_within, bounds_inner, within_sooner, outer_still}
-use Rattle.typedef_laws.proofs.Places.{EndsAt, ends_none, ends_leaf, last_leaf}
+use Rattle.typedef_laws.proofs.Matching.{Matches, Bounds, Within, IsOpen, SameOuter, matches_begun, matches_left, bounds_within, bounds_inner, within_sooner}
+use Rattle.typedef_laws.proofs.Places.{EndsAt, ends_none, ends_leaf}
 use Rattle.typedef_laws.proofs.Rules.{labelled, all_hold, hold_leaf, is_quiet, entries_alone}
-use Rattle.typedef_laws.proofs.Goes.{After, with_token, IsIn, Fits, Goes, Made, Body}
-use Rattle.typedef_laws.proofs.Steps.{quiet_fits, opened_in, opened_fits, opened_scopes}
+use Rattle.typedef_laws.proofs.Goes.{with_token, IsIn, Fits, Goes, Body}
+use Rattle.typedef_laws.proofs.Steps.{quiet_fits, opened_fits, opened_scopes}
 
 -- the scopes once the innermost one, in which others may have stood, has ended
 pub ended_scopes : (names : Names) (scopes x : List (List Declaration)) → IsOpen scopes → SameOuter ([] ∷ scopes) x → (with_scope_ended names x).scopes ≡ scopes

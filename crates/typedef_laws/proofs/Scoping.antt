@@ -1,5 +1,5 @@
 -- Reading nodes that are scopes.
-use Rattle.std.proofs.Common.{ℕ, ◌+◌, ◌<◌, ◌≤◌, ◌≡◌, Bool, true, false, ◌&&◌, ◌||◌, if◌then◌else◌, List, [], ◌∷◌, length, Ok, Err, refl, sym, ap, subst, ◌∙◌, arith}
+use Rattle.std.proofs.Common.{ℕ, ◌+◌, ◌<◌, ◌≡◌, Bool, true, false, ◌&&◌, if◌then◌else◌, List, [], ◌∷◌, length, Ok, Err, refl, sym, ap, subst, ◌∙◌, arith}
 use Rattle.std.proofs.lemmas.Bool.{false≢true, and_parts}
 use Rattle.cs_base.specs.Token.{Token}
 use Rattle.c99_tree.specs.Tree.{Forest, leaf, put}
@@ -9,19 +9,18 @@ use Rattle.c99_tree.specs.declared.production.Production.TheVariants.{Suffix, Bl
 use Rattle.c99_read.specs.Items.{Item, one, part, end_of_text, act, ◌·◌, choice, maybe, many, deep, scope, end, declare, name, keep, again}
 use Rattle.c99_read.specs.Standard.{c99}
 use Rattle.c99_read.specs.Sound.{has_token, is_low, is_met, goal_has_token}
-use Rattle.c99_read.specs.State.{State, Names, with_scope_ended, given_names, acted, opened}
+use Rattle.c99_read.specs.State.{State, with_scope_ended, acted, opened}
 use Rattle.c99_read.specs.Reading.{Goal, Step, and_then, take_one, step}
 use Rattle.c99_read.proofs.Moves.{Moves, Moves-step}
-use Rattle.scope_bind.specs.Named.{Scope}
 use Rattle.scope_bind.specs.Trees.{last_token}
 use Rattle.scope_bind.specs.Entering.{inner, is_scoped}
-use Rattle.typedef_laws.proofs.Private.{Class, Declaration}
-use Rattle.typedef_laws.proofs.Matching.{IsOpen, SameOuter}
+use Rattle.typedef_laws.proofs.Private.{Class}
+use Rattle.typedef_laws.proofs.Matching.{SameOuter}
 use Rattle.typedef_laws.proofs.Places.{last_leaf}
-use Rattle.typedef_laws.proofs.Rules.{labelled, is_quiet, fine}
+use Rattle.typedef_laws.proofs.Rules.{labelled, fine}
 use Rattle.typedef_laws.proofs.Goes.{After, with_token, IsIn, Goes, goes_still, goes_further, Body}
 use Rattle.typedef_laws.proofs.Steps.{Reads, taken, goes_step, opened_in, opened_scopes}
-use Rattle.typedef_laws.proofs.ScopeNodes.{ended_scopes, IsScope, scoped_scopes, scoped_in, scoped_at, scoped_toks, bracket_body, whole_body}
+use Rattle.typedef_laws.proofs.ScopeNodes.{ended_scopes, IsScope, scoped_scopes, scoped_in, bracket_body, whole_body}
 
 -- ---- Statements that are scopes (6.8.4 paragraph 3, 6.8.5 paragraph 5)
 

@@ -1,8 +1,8 @@
 -- Reading an item in which no scope begins and nothing is declared, and a node that is made of such items.
-use Rattle.std.proofs.Common.{ℕ, ◌+◌, ◌<◌, ◌≤◌, ◌≡◌, Bool, true, false, ◌&&◌, ◌||◌, not, if◌then◌else◌, ◌==◌, List, [], ◌∷◌, length, Ok, Err, nat_lt, refl, sym, ap, subst, ◌∙◌, arith}
+use Rattle.std.proofs.Common.{ℕ, ◌+◌, ◌<◌, ◌≡◌, Bool, true, false, ◌&&◌, if◌then◌else◌, ◌==◌, List, length, Ok, Err, nat_lt, refl, sym, subst}
 use Rattle.std.proofs.lemmas.Bool.{false≢true, and_parts, ltb-true}
 use Rattle.cs_base.specs.Token.{Token}
-use Rattle.c99_tree.specs.Tree.{Forest, none, leaf, put, node_of}
+use Rattle.c99_tree.specs.Tree.{Forest}
 use Rattle.c99_tree.specs.declared.production.Label.{Label}
 use Rattle.c99_tree.specs.declared.production.Production.{Production}
 use Rattle.c99_tree.specs.declared.production.Production.TheVariants.{Pdirect}
@@ -20,8 +20,8 @@ use Rattle.typedef_laws.proofs.Private.{Class}
 use Rattle.typedef_laws.proofs.Outline.{Outline, begun, entries_in, outlined, node_agrees}
 use Rattle.typedef_laws.proofs.Matching.{Matches, Bounds, IsOpen, SameOuter}
 use Rattle.typedef_laws.proofs.Places.{ends_none}
-use Rattle.typedef_laws.proofs.Rules.{labelled, may_hold, all_hold, is_quiet, fine, is_simple, simple_scope, simple_entries, simple_alone, quiet_token, quiet_listing, plain_named, held_told}
-use Rattle.typedef_laws.proofs.Goes.{After, with_token, IsIn, Fits, Goes, goes_still, goes_further, token_fits, token_goes, Made, Makes, node_goes, Body, body_makes}
+use Rattle.typedef_laws.proofs.Rules.{labelled, may_hold, is_quiet, fine, is_simple, simple_scope, simple_entries, simple_alone, quiet_token, quiet_listing, plain_named, held_told}
+use Rattle.typedef_laws.proofs.Goes.{After, with_token, IsIn, Fits, Goes, goes_still, goes_further, token_fits, token_goes, Makes, node_goes, Body, body_makes}
 
 pub after_if : (P : State → Type 0) (b : Bool) (r r' : Step) → After P r → After P r' → After P (if b then r else r')
 after_if P true r r' m m' = m

@@ -1,8 +1,6 @@
 -- Tokens that are read by their class: type names and primary expressions.
-use Rattle.std.proofs.Common.{ℕ, ◌+◌, ◌≤◌, ◌≡◌, Bool, true, false, ◌&&◌, not, if◌then◌else◌, ◌==◌, List, [], ◌∷◌, length, Ok, Err, nat_lt, refl, sym, ap, subst, ◌∙◌, arith}
-use Rattle.std.proofs.lemmas.Bool.{false≢true}
+use Rattle.std.proofs.Common.{ℕ, ◌+◌, ◌≡◌, Bool, true, false, not, if◌then◌else◌, ◌==◌, List, Ok, Err, refl, sym, ap, ◌∙◌, arith}
 use Rattle.cs_base.specs.Token.{Token}
-use Rattle.c99_tree.specs.Tree.{none, count_of}
 use Rattle.c99_tree.specs.declared.production.Label.{Label}
 use Rattle.c99_tree.specs.declared.production.Production.TheVariants.{Main, Mod, Primary}
 use Rattle.c99_read.specs.Classes.{among}
@@ -10,12 +8,11 @@ use Rattle.c99_read.specs.Items.{one, part, ◌·◌, many, own}
 use Rattle.c99_read.specs.Standard.{c99}
 use Rattle.c99_read.specs.State.{State, class_at, is_typedef_at, opened}
 use Rattle.c99_read.specs.Reading.{Goal, Step, take_one, step}
-use Rattle.typedef_laws.proofs.Private.{Class}
 use Rattle.typedef_laws.proofs.Classes.{identifiers, typedef_names, identifier_is, typedef_is}
 use Rattle.typedef_laws.proofs.Outline.{Entry, Outline, outlined, typedef_among, token_agrees}
 use Rattle.typedef_laws.proofs.Matching.{Bounds, bounds_within, same_typedef}
 use Rattle.typedef_laws.proofs.Rules.{labelled}
-use Rattle.typedef_laws.proofs.Goes.{After, with_token, IsIn, Fits, Goes, token_goes, Body}
+use Rattle.typedef_laws.proofs.Goes.{After, with_token, Fits, Goes, token_goes, Body}
 use Rattle.typedef_laws.proofs.Steps.{Reads, taken, goes_then, goes_step, goes_body, opened_in}
 
 module _ (toks : List Token) where

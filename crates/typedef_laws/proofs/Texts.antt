@@ -1,16 +1,16 @@
 -- A text that is read as one production.
-use Rattle.std.proofs.Common.{ℕ, ◌≤◌, ◌≡◌, Bool, true, false, ◌&&◌, if◌then◌else◌, List, [], ◌∷◌, ◌++◌, length, Result, Ok, Err, nat_lt, refl, sym, ap, subst, ◌∙◌, arith}
+use Rattle.std.proofs.Common.{ℕ, ◌≤◌, ◌≡◌, Bool, true, false, if◌then◌else◌, List, [], ◌∷◌, ◌++◌, length, Result, Ok, Err, nat_lt, refl, sym, ap, subst, ◌∙◌, arith}
 use Rattle.cs_base.specs.Token.{Token}
-use Rattle.c99_tree.specs.Tree.{none, node, Node, node_of, lone, inner, put}
+use Rattle.c99_tree.specs.Tree.{none, node, Node, lone}
 use Rattle.c99_tree.specs.declared.production.Production.{Production}
 use Rattle.c99_read.specs.State.{State}
 use Rattle.c99_read.specs.Reading.{Step, Stop, produce, steps_for, read_within, whole, at_first, tree_of}
 use Rattle.c99_read.specs.Standard.{c99}
 use Rattle.scope_bind.specs.Frames.{at_first as before}
 use Rattle.typedef_laws.specs.Agreeing.{agrees}
-use Rattle.typedef_laws.specs.Laws.{NamesAreReadAsTheyAreBound, is_bodiless}
+use Rattle.typedef_laws.specs.Laws.{NamesAreReadAsTheyAreBound}
 use Rattle.typedef_laws.proofs.Private.{Declaration}
-use Rattle.typedef_laws.proofs.Outline.{begun, node_agrees, all_agree}
+use Rattle.typedef_laws.proofs.Outline.{node_agrees}
 use Rattle.typedef_laws.proofs.Outlines.{outline, agrees_same}
 use Rattle.typedef_laws.proofs.Matching.{Matches, Bounds, Within, SameOuter}
 use Rattle.typedef_laws.proofs.Places.{and_both}
