@@ -1,0 +1,4 @@
+pub mod AnalysesLemmas
+pub mod LinksLemmas
+pub mod FileTokensLemmas
+pub mod AloneLemmas
