@@ -1,5 +1,5 @@
 -- What is true of all units.
-use Rattle.std.specs.Prelude.{◌≡◌, ℕ, ◌+◌, ◌≤◌, true, ◌⊎◌, List, [], ◌∷◌, length, map, Option, None, Some, Ok, Err, IfSome}
+use Rattle.std.specs.Prelude.{◌≡◌, ℕ, ◌+◌, ◌≤◌, true, ◌⊎◌, List, [], ◌∷◌, length, map, Option, None, Some, Ok, Err, IfSome, slice_get}
 use Rattle.std.specs.List.{list_all}
 use Rattle.std.specs.Str.{is_utf8}
 use Rattle.cs_base.specs.Outside.{FileMap}
@@ -7,7 +7,7 @@ use Rattle.cs_base.specs.Token.{Token}
 use Rattle.cs_base.specs.Units.{UnitValue}
 use Rattle.line_shape.specs.MacroLine.{are_distinct}
 use Rattle.include_tree.specs.Limits.{Limits}
-use Rattle.include_tree.specs.Files.{Source, source_of, Found, Absent, Unopened, Opened, Entry, Table, SourceFile, Carried, found_at, defines_path, files_opened, bytes_opened}
+use Rattle.include_tree.specs.Files.{Source, source_of, Found, Lines, Absent, Unopened, Opened, Entry, entry, Table, SourceFile, Carried, found_at, lines_path, defines_path, files_opened, bytes_opened}
 use Rattle.include_tree.specs.State.{Reader, Context, context, State, Did, Outcome}
 use Rattle.include_tree.specs.Expanding.{most_toks}
 use Rattle.include_tree.specs.Walk.{file_items}
@@ -56,6 +56,10 @@ HasEachOnce table = are_distinct (paths_in table) ≡ true
 -- A source agrees with each table that has each path once.
 abbrev pub SomeAgrees : Type 0
 SomeAgrees = (table : Table) → HasEachOnce table → (source : Source) × AreFound source table
+
+-- number 0 is that of the pseudo file of lines
+abbrev pub BeginsWithLines : Table → Type 0
+BeginsWithLines table = slice_get table 0 ≡ Some (entry lines_path Lines)
 
 -- each path is text
 abbrev pub AreText : Table → Type 0

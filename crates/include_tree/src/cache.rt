@@ -8,7 +8,7 @@ ghost use Rattle.include_tree.specs.Limits.{the_limits};
 ghost use Rattle.include_tree.specs.Files.{Source, Table, lines_path, nothing_carried, asked, found_at, number_at};
 ghost use Rattle.include_tree.specs.Opening.{opening, file_read};
 ghost use Rattle.include_tree.specs.KeptFiles.{kept_at};
-ghost use Rattle.include_tree.specs.Laws.{AreFound, HasEachOnce, AreText, OnlyAsks};
+ghost use Rattle.include_tree.specs.Laws.{AreFound, AreText, BeginsWithLines, HasEachOnce, OnlyAsks};
 ghost use Rattle.include_tree.specs.Statuses.{IsUnread, is_missing};
 ghost use Rattle.include_tree.specs.Answers.{fault_of, OpensFile, IsNoReadFault, ReadCounts};
 
@@ -86,11 +86,13 @@ impl Cache {
         self.table.number(path)
     }
 
-    /// How many numbers are given: those from 0 to before this one, each to a path of its own. Takes no memory.
+    /// How many numbers are given: those from 0 to before this one, each to a path of its own, and the first to the
+    /// pseudo file of lines. Takes no memory.
     pub fn numbers(&self) -> u32
         ensures answer { result ≡ length self.now.table }
         ensures once { HasEachOnce self.now.table }
         ensures text { AreText self.now.table }
+        ensures lines { BeginsWithLines self.now.table }
     {
         self.table.next_number()
     }

@@ -6,7 +6,7 @@ ghost use Rattle.part_lexer.specs.FileText.{file_text};
 ghost use Rattle.part_lexer.specs.Refusal.{fault_of};
 ghost use Rattle.include_tree.specs.Files.{lines_path, Lines, entry, found_at, number_of, number_at, numbered, opened};
 ghost use Rattle.include_tree.specs.KeptFiles.{kept_at};
-ghost use Rattle.include_tree.specs.Laws.{HasEachOnce, AreText};
+ghost use Rattle.include_tree.specs.Laws.{AreText, BeginsWithLines, HasEachOnce};
 ghost use Rattle.include_tree.specs.Slots.{found_of, IsNumbered};
 
 use crate::kept_file::KeptFile;
@@ -61,6 +61,7 @@ impl FileTable {
         ensures answer { result ≡ length self.now }
         ensures once { HasEachOnce self.now }
         ensures text { AreText self.now }
+        ensures lines { BeginsWithLines self.now }
     {
         self.slots.len() as u32 + 1
     }
