@@ -19,5 +19,6 @@ pub mod FileTokenLemmas
 pub mod SegmentLemmas
 pub mod ListingLemmas
 pub mod PlaceNameLemmas
+pub mod PositionLemmas
 pub mod SpellingLemmas
 pub mod JoinedLemmas

@@ -29,11 +29,11 @@ use Rattle.ws_core.proofs.TokenSearchLemmas.{over_once}
 
 -- ---- numbers of kept files
 
-mapped_some : {X Y : Type 0} (f : X → Y) (o : Option X) (y : Y) → option_map f o ≡ Some y → (x : X) × (o ≡ Some x) × (y ≡ f x)
+pub mapped_some : {X Y : Type 0} (f : X → Y) (o : Option X) (y : Y) → option_map f o ≡ Some y → (x : X) × (o ≡ Some x) × (y ≡ f x)
 mapped_some f None y e = absurd (cc)
 mapped_some f (Some x) y e = (x, refl, sym (same_Some (f x) y e))
 
-then_some : {X Y : Type 0} (f : X → Option Y) (o : Option X) (y : Y) → option_and_then f o ≡ Some y → (x : X) × (o ≡ Some x) × (f x ≡ Some y)
+pub then_some : {X Y : Type 0} (f : X → Option Y) (o : Option X) (y : Y) → option_and_then f o ≡ Some y → (x : X) × (o ≡ Some x) × (f x ≡ Some y)
 then_some f None y e = absurd (cc)
 then_some f (Some x) y e = (x, refl, e)
 
@@ -95,7 +95,7 @@ named_past path table n past = at_drop_all (file_named path n) table n past
 
 -- ---- processed identifiers
 
-any_from : {X : Type 0} (test : X → Bool) (xs : List X) (k : ℕ) (x : X) → slice_get xs k ≡ Some x → test x ≡ true → list_any test xs ≡ true
+pub any_from : {X : Type 0} (test : X → Bool) (xs : List X) (k : ℕ) (x : X) → slice_get xs k ≡ Some x → test x ≡ true → list_any test xs ≡ true
 any_from test [] k x e h = absurd (cc)
 any_from test (y ∷ xs) zero x e h = let here : test y ≡ true = ap test (same_Some y x e) ∙ h in rw here refl
 any_from test (y ∷ xs) (suc k) x e h = elim (cases_Bool (test y)) [

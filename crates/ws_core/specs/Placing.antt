@@ -1,15 +1,16 @@
--- From a position to its byte, and from a place back to its position (this project's). Columns count characters as
--- they stand in the file, so that the byte of a character is that of its place.
-use Rattle.std.specs.Prelude.{ℕ, ◌+◌, ◌-◌, ◌*◌, ◌^◌, ◌&&◌, nat_le, if◌then◌else◌, Bool, Option, Some, None, List}
+-- From a position to its byte, and from a place back to its position (this project's). Columns count bytes as they
+-- stand in the file, so that the byte of a character is that of its place.
+use Rattle.std.specs.Prelude.{ℕ, ◌≡◌, ◌↔◌, ◌⊎◌, ◌<◌, ◌+◌, ◌-◌, ◌*◌, ◌^◌, ◌&&◌, nat_le, if◌then◌else◌, Bool, Option, Some, None, IsSome, List}
 use Rattle.std.specs.Option.{option_and_then}
 use Rattle.std.specs.Str.{bytes_eq}
+use Rattle.cs_base.specs.declared.positions.Place.{Place}
 use Rattle.cs_base.specs.declared.positions.Pos.{Pos}
 use Rattle.part_lexer.specs.Lines.{byte_offset_of}
 use Rattle.part_lexer.specs.Places.{pos}
 use Rattle.include_tree.specs.Files.{Table, lines_path}
 use Rattle.include_tree.specs.KeptFiles.{KeptValue, kept_at}
 use Rattle.ws_core.specs.Naming.{character_of, file_named}
-use Rattle.ws_core.specs.Places.{digits_apart}
+use Rattle.ws_core.specs.Places.{digits_apart, place_at}
 
 -- ---- bytes
 
@@ -23,6 +24,17 @@ abbrev pub byte_at : Table → Pos → Option ℕ
 byte_at table at = option_and_then (byte_in_file at) (kept_at table at.file)
 
 -- ---- positions
+
+-- A position is one of a file where it is a character of a kept one, or one of the pseudo file of lines, whose
+-- characters have numbers of 32 bits.
+abbrev pub StandsIn : Table → Pos → Type 0
+StandsIn table p = IsSome (byte_at table p) ⊎ ((p.file ≡ 0) × (p.at < 2 ^ 32))
+
+-- The position at a place: the one of a file that has this place, or none.
+abbrev pub IsPositionAt : Table → Place → Option Pos → Type 0
+IsPositionAt table place found = (p : Pos) → (found ≡ Some p) ↔ (StandsIn table p × (place_at table p ≡ place))
+
+-- ---- positions, found by a path
 
 -- the last line of the pseudo file of lines that begins at a character below 2 ^ 32
 abbrev pub most_lines : ℕ

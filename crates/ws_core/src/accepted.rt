@@ -2,7 +2,7 @@
 ghost use Rattle.std.specs.Prelude.{◌≡◌, ◌≤◌, length, option_copied, slice_get};
 ghost use Rattle.std.specs.Option.{option_map};
 ghost use Rattle.include_tree.specs.KeptFiles.{kept_at};
-ghost use Rattle.include_tree.specs.Laws.{AreText, HasEachOnce};
+ghost use Rattle.include_tree.specs.Laws.{AreText, BeginsWithLines, HasEachOnce};
 
 use c99_tree::Tree;
 use include_tree::{Cache, KeptFile, UnitText};
@@ -110,11 +110,12 @@ impl Accepted {
     }
 
     /// How many numbers of files are given: those from 0 to before this one. Each is that of a path of its own,
-    /// which is text.
+    /// which is text, and the first that of the pseudo file of lines.
     pub(crate) fn files(&self) -> u32
         ensures answer { result ≡ length self.now.table }
         ensures once { HasEachOnce self.now.table }
         ensures text { AreText self.now.table }
+        ensures lines { BeginsWithLines self.now.table }
     {
         self.cache.numbers()
     }

@@ -14,7 +14,7 @@ ghost use Rattle.ws_core.specs.Classes.{AreItsClasses};
 ghost use Rattle.ws_core.specs.Naming.{Names};
 ghost use Rattle.ws_core.specs.Parts.{AreFirsts, AreMembers, Holds, IsPart, StandInFiles};
 ghost use Rattle.ws_core.specs.Places.{is_read_only, place_at};
-ghost use Rattle.ws_core.specs.Placing.{byte_at, position_at};
+ghost use Rattle.ws_core.specs.Placing.{byte_at, IsPositionAt};
 ghost use Rattle.ws_core.specs.Spellings.{spelling_of};
 
 use crate::accepted::Accepted;
@@ -100,13 +100,12 @@ fn analysed(alloc: Global, accepted: Accepted) -> Result<Analysis, AnalyseFault>
     }
 }
 
+#[tactic(auto, using(crate::proofs::PositionLemmas::lines_not_kept))]
 fn with_classes(alloc: Global, accepted: Accepted) -> Result<Analysis, Memory>
     ensures { IfOk result (λ a. (a.value ≡ accepted) × AreItsClasses a.value a.classes) }
 {
-    // The number of the pseudo file of lines is that of no kept file.
-    if accepted.file(0).is_some() {
-        return Err(Memory);
-    }
+    // The first number is that of the pseudo file of lines, which is not kept.
+    let _files = accepted.files();
     let classes = joined_classes(alloc, &accepted)?;
     let lists = lists(alloc, &accepted, &classes)?;
     let marks = processed(alloc, &accepted)?;
@@ -200,10 +199,10 @@ impl Analysis {
         byte(&self.accepted, at)
     }
 
-    /// The position at a place: a character of the kept file of the path, or a position in the pseudo file of
-    /// lines. Lines and columns count from 1. Takes no memory.
+    /// The position whose place this is: a character of a kept file, or one of the pseudo file of lines. Lines and
+    /// columns count from 1. Takes no memory.
     pub fn position(&self, path: &str, line: u32, column: u32) -> Option<Pos>
-        ensures { result ≡ position_at self.now.value.table path.now line column }
+        ensures { IsPositionAt self.now.value.table (place_of path.now (line, column)) result }
     {
         position(&self.accepted, path.as_bytes(), line, column)
     }

@@ -37,6 +37,19 @@ pub(crate) fn file_named<'a>(a: &'a Accepted, path: &[u8]) -> Option<&'a KeptFil
     None
 }
 
+/// The character of a file at a line and a column.
+pub(crate) fn character_of(file: &KeptFile, line: u32, column: u32) -> Option<Pos>
+    ensures { result ≡ character_of line column file.now }
+{
+    match file.text().at_of(line, column) {
+        Some(at) => Some(Pos {
+            file: file.number(),
+            at,
+        }),
+        None => None,
+    }
+}
+
 // Whether a character of a file lies in an identifier that some unit processes.
 fn is_processed(a: &Accepted, marks: &[Marks], file: &KeptFile, pos: Pos) -> bool
     requires kept { kept_at a.now.table pos.file ≡ Some file.now }
@@ -72,12 +85,8 @@ fn position_in(
     requires marked { AreMarked a.now.table (names_processed a.now) marks.now }
     ensures { result ≡ option_and_then (where_processed a.now) (character_of line column file.now) }
 {
-    match file.text().at_of(line, column) {
-        Some(at) => {
-            let pos = Pos {
-                file: file.number(),
-                at,
-            };
+    match character_of(file, line, column) {
+        Some(pos) => {
             if is_processed(a, marks, file, pos) {
                 Some(pos)
             } else {

@@ -5,12 +5,11 @@ ghost use Rattle.std.specs.Str.{bytes_eq};
 ghost use Rattle.part_lexer.specs.Lines.{line_column_of};
 ghost use Rattle.include_tree.specs.Faults.{place_of};
 ghost use Rattle.include_tree.specs.Files.{lines_path};
-ghost use Rattle.ws_core.specs.Naming.{character_of};
 ghost use Rattle.ws_core.specs.Places.{place_in_file, place_in_lines};
-ghost use Rattle.ws_core.specs.Placing.{byte_at, has_place_in_lines, position_at, position_in_lines};
+ghost use Rattle.ws_core.specs.Placing.{IsPositionAt, byte_at, has_place_in_lines, position_at, position_in_lines};
 
 use crate::accepted::Accepted;
-use crate::naming::file_named;
+use crate::naming::{character_of, file_named};
 use cs_base::Pos;
 use include_tree::KeptFile;
 
@@ -69,8 +68,17 @@ pub(crate) fn byte(a: &Accepted, at: Pos) -> Option<u32>
     }
 }
 
-/// The position at a place.
+/// The position at a place: the one of a file that has this place.
 pub(crate) fn position(a: &Accepted, path: &[u8], line: u32, column: u32) -> Option<Pos>
+    ensures { IsPositionAt a.now.table (place_of path.now (line, column)) result }
+{
+    // Each path has one number, and the first is that of the pseudo file of lines.
+    let _files = a.files();
+    found_at(a, path, line, column)
+}
+
+// The same, found by the path.
+fn found_at(a: &Accepted, path: &[u8], line: u32, column: u32) -> Option<Pos>
     ensures { result ≡ position_at a.now.table path.now line column }
 {
     if is_lines(path) {
@@ -104,17 +112,4 @@ fn has_place_in_lines(line: u32, column: u32) -> bool
     ensures { result ≡ has_place_in_lines line column }
 {
     1 <= line && line <= MOST_LINES && 1 <= column && column <= DIGITS_APART
-}
-
-/// The character of a file at a line and a column.
-pub(crate) fn character_of(file: &KeptFile, line: u32, column: u32) -> Option<Pos>
-    ensures { result ≡ character_of line column file.now }
-{
-    match file.text().at_of(line, column) {
-        Some(at) => Some(Pos {
-            file: file.number(),
-            at,
-        }),
-        None => None,
-    }
 }
