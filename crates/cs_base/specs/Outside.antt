@@ -29,14 +29,44 @@ with_file path bytes (file ∷ files) =
 abbrev pub Rose : ℕ → ℕ → Type 0
 Rose before now = min (before + 1) (2 ^ 64 - 1) ≤ now
 
--- What one call does to the counts of its object. `count` is the count of the calls of its kind that
--- failed and `other` that of the other kind; `last` is the path of the last failed call, where told.
-pub record Counts (path : List ℕ) (failed : Bool) (count count' other other' : ℕ) (last last' : Option (List ℕ)) : Type 0 where
-  pub grows : count ≤ count'
-  pub rises : IsTrue failed → Rose count count'
-  pub told : IsTrue failed → IfSome last' (λ p. p ≡ path)
-  pub stays : failed ≡ false → (count' ≡ count) × (last' ≡ last)
-  pub apart : other' ≡ other
+-- What files tell at one moment: what they hold, where that is told; how many reads and how many puts failed; and
+-- the path of the last call that failed, where it is told.
+pub record FilesTold : Type 0 where
+  pub held : Option FileMap
+  pub reads : ℕ
+  pub puts : ℕ
+  pub last : Option (List ℕ)
+
+-- files that tell this
+abbrev pub files_told : Option FileMap → ℕ → ℕ → Option (List ℕ) → FilesTold
+files_told held reads puts last = record { held = held; reads = reads; puts = puts; last = last }
+
+-- What an answer says of the reads behind it: none failed; the last one failed, which was of this path; or one may
+-- have failed.
+pub data ReadEnd : Type 0 where
+  NoneFailed : ReadEnd
+  FailedAt : List ℕ → ReadEnd
+  MayHaveFailed : ReadEnd
+
+-- so it is with what files tell: all of it stays where none failed
+abbrev pub TellsReads : FilesTold → FilesTold → ReadEnd → Type 0
+TellsReads old new NoneFailed = new ≡ old
+TellsReads old new (FailedAt path) = Rose old.reads new.reads × IfSome new.last (λ p. p ≡ path)
+TellsReads old new MayHaveFailed = old.reads ≤ new.reads
+
+-- Between two moments files were read, and no more: they hold what they held, and no put failed.
+pub record ReadsOnly (old new : FilesTold) (ended : ReadEnd) : Type 0 where
+  pub held : new.held ≡ old.held
+  pub grows : old.reads ≤ new.reads
+  pub apart : new.puts ≡ old.puts
+  pub told : TellsReads old new ended
+
+-- what one read of a path says; one that wants memory did not fail
+abbrev pub read_end : List ℕ → Got → ReadEnd
+read_end path (got.Bytes v) = NoneFailed
+read_end path got.Absent = NoneFailed
+read_end path got.Failed = FailedAt path
+read_end path got.Memory = NoneFailed
 
 -- a read that failed
 abbrev pub read_failed : Got → Bool
@@ -56,6 +86,15 @@ GivesHeld path files got.Memory = Unit {0}
 abbrev pub put_failed : Put → Bool
 put_failed put.Done = false
 put_failed put.Failed = true
+
+-- What one put of a path does to the counts and to the last failed path: the count of failed puts rises exactly
+-- where it fails, and that of failed reads stays.
+pub record PutsOnly (path : List ℕ) (failed : Bool) (old new : FilesTold) : Type 0 where
+  pub grows : old.puts ≤ new.puts
+  pub rises : IsTrue failed → Rose old.puts new.puts
+  pub told : IsTrue failed → IfSome new.last (λ p. p ≡ path)
+  pub stays : failed ≡ false → (new.puts ≡ old.puts) × (new.last ≡ old.last)
+  pub apart : new.reads ≡ old.reads
 
 -- a put that is done leaves the new bytes, and one that failed the old or the new
 abbrev pub Puts : List ℕ → List ℕ → Option FileMap → Option FileMap → Put → Type 0

@@ -4,7 +4,7 @@ use Rattle.cs_base.specs.declared.outside.Got.{Got}
 use Rattle.cs_base.specs.declared.outside.Got.TheVariants as got
 use Rattle.cs_base.specs.declared.outside.Put.{Put}
 use Rattle.cs_base.specs.declared.outside.Put.TheVariants as put
-use Rattle.cs_base.specs.Outside.{FileMap, bytes_at, with_file}
+use Rattle.cs_base.specs.Outside.{FileMap, FilesTold, files_told, bytes_at, with_file}
 use Rattle.cs_base.specs.Calls.{raised, is_listed}
 
 -- The files in the order in which they were added, the numbers of the calls that are to fail, the bytes
@@ -30,6 +30,10 @@ world files fails room calls failed_reads failed_puts last_failed = record {
   failed_puts = failed_puts;
   last_failed = last_failed;
 }
+
+-- what such files tell
+abbrev pub told_of : World → FilesTold
+told_of w = files_told (Some w.files) w.failed_reads w.failed_puts w.last_failed
 
 -- no file, no failing call, no room, and no call made yet
 abbrev pub empty_world : World

@@ -3,8 +3,8 @@ ghost use Rattle.std.specs.Prelude.{◌≡◌, ◌≤◌, ◌+◌, ◌∷◌, []
 ghost use Rattle.std.specs.List.{position};
 ghost use Rattle.std.specs.Option.{option_copied};
 ghost use Rattle.std.specs.Str.{bytes_eq};
-ghost use Rattle.cs_base.specs.Outside.{bytes_at, GivesHeld, Counts, Puts, read_failed, put_failed};
-ghost use Rattle.cs_base.specs.World.{empty_world, read_fails, put_fails, Reads, after_read, after_put};
+ghost use Rattle.cs_base.specs.Outside.{bytes_at, GivesHeld, ReadsOnly, read_end, Puts, PutsOnly, read_failed, put_failed};
+ghost use Rattle.cs_base.specs.World.{empty_world, read_fails, put_fails, told_of, Reads, after_read, after_put};
 ghost use Rattle.cs_base.specs.HeldFiles.{files_in, IsRange};
 
 use crate::call_list::CallList;
@@ -114,18 +114,11 @@ impl MemFiles {
 }
 
 impl Files for MemFiles {
-    ghost held = { λ w. Some w.files };
-
-    ghost failed_reads = { λ w. w.failed_reads };
-
-    ghost failed_puts = { λ w. w.failed_puts };
-
-    ghost last_failed = { λ w. w.last_failed };
+    ghost told = { told_of };
 
     fn read(&mut self, alloc: Global, path: &str) -> Got
-        ensures held { Some self.new.files ≡ Some self.old.files }
         ensures answer { GivesHeld path.now self.old.files result }
-        ensures faults { Counts path.now (read_failed result) self.old.failed_reads self.new.failed_reads self.old.failed_puts self.new.failed_puts self.old.last_failed self.new.last_failed }
+        ensures faults { ReadsOnly (told_of self.old) (told_of self.new) (read_end path.now result) }
         ensures reads { Reads path.now self.old result }
         ensures after { self.new ≡ after_read path.now (read_failed result) self.old }
     {
@@ -149,7 +142,7 @@ impl Files for MemFiles {
 
     fn put(&mut self, path: &str, bytes: &[u8]) -> Put
         ensures held { Puts path.now bytes.now (Some self.old.files) (Some self.new.files) result }
-        ensures faults { Counts path.now (put_failed result) self.old.failed_puts self.new.failed_puts self.old.failed_reads self.new.failed_reads self.old.last_failed self.new.last_failed }
+        ensures faults { PutsOnly path.now (put_failed result) (told_of self.old) (told_of self.new) }
         ensures answer { put_failed result ≡ put_fails path.now bytes.now self.old }
         ensures after { self.new ≡ after_put path.now bytes.now self.old result }
     {

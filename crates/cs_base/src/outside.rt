@@ -1,6 +1,6 @@
 // The outside, as far as the program knows it: files by their paths, and sinks of bytes.
-ghost use Rattle.std.specs.Prelude.{◌≡◌, ℕ, List, Option, IfSome};
-ghost use Rattle.cs_base.specs.Outside.{FileMap, Counts, read_failed, GivesHeld, put_failed, Puts, write_failed, Writes, Faults};
+ghost use Rattle.std.specs.Prelude.{ℕ, List, Option, IfSome};
+ghost use Rattle.cs_base.specs.Outside.{FilesTold, GivesHeld, ReadsOnly, read_end, put_failed, Puts, PutsOnly, write_failed, Writes, Faults};
 
 use std::alloc::Global;
 
@@ -30,28 +30,19 @@ pub enum Wrote {
 
 /// Files by their paths. What they hold is told or not; the calls that failed are counted.
 pub trait Files {
-    /// The files held, where that is told.
-    ghost held: { Self → Option FileMap };
-
-    /// How many reads failed. It never falls, and stands still at 2^64 - 1.
-    ghost failed_reads: { Self → ℕ };
-
-    /// How many puts failed, likewise.
-    ghost failed_puts: { Self → ℕ };
-
-    /// The path of the last call that failed, where that is told.
-    ghost last_failed: { Self → Option (List ℕ) };
+    /// What is told: the files held; how many reads and how many puts failed, which never fall and stand still at
+    /// 2^64 - 1; and the path of the last call that failed.
+    ghost told: { Self → FilesTold };
 
     /// The bytes of the path.
     fn read(&mut self, alloc: Global, path: &str) -> Got
-        ensures held { held self.new ≡ held self.old }
-        ensures answer { IfSome (held self.old) (λ files. GivesHeld path.now files result) }
-        ensures faults { Counts path.now (read_failed result) (failed_reads self.old) (failed_reads self.new) (failed_puts self.old) (failed_puts self.new) (last_failed self.old) (last_failed self.new) };
+        ensures answer { IfSome (told self.old).held (λ files. GivesHeld path.now files result) }
+        ensures faults { ReadsOnly (told self.old) (told self.new) (read_end path.now result) };
 
     /// Lets the path hold these bytes, whether it was there or not.
     fn put(&mut self, path: &str, bytes: &[u8]) -> Put
-        ensures held { Puts path.now bytes.now (held self.old) (held self.new) result }
-        ensures faults { Counts path.now (put_failed result) (failed_puts self.old) (failed_puts self.new) (failed_reads self.old) (failed_reads self.new) (last_failed self.old) (last_failed self.new) };
+        ensures held { Puts path.now bytes.now (told self.old).held (told self.new).held result }
+        ensures faults { PutsOnly path.now (put_failed result) (told self.old) (told self.new) };
 }
 
 /// A sink of bytes, which are told or not; the writes that failed are counted.

@@ -2,15 +2,15 @@
 use Rattle.std.proofs.Common.{◌≡◌, ℕ, List, [], Option, refl, inl, inr}
 use Rattle.std.specs.Prelude.{None, IfSome, slice_get}
 use Rattle.cs_base.specs.Edit.{Edit}
-use Rattle.cs_base.specs.Outside.{FileMap}
+use Rattle.cs_base.specs.Outside.{FileMap, TellsReads}
 use Rattle.cscout_run.specs.declared.status.Status.{Status}
 use Rattle.cscout_run.specs.declared.status.Status.TheVariants.{Done, Usage, WriteFault}
 use Rattle.cscout_run.specs.declared.stops.Stop.{Stop}
 use Rattle.cscout_run.specs.Request.{asked}
 use Rattle.cscout_run.specs.Answer.{Answer, IsAnswer, answer_of, stopped}
 use Rattle.cscout_run.specs.Message.{usage_line, unwritten_line, no_output_line}
-use Rattle.cscout_run.specs.Outcome.{World, HasCauses, IsComplete, ShowsAnswer, Tells, FailedPut, FailedWrite, IsDone, Unmoved, Ends}
-use Rattle.cscout_run.specs.Stopping.{Stops, StopReads, status_of, line_of}
+use Rattle.cscout_run.specs.Outcome.{World, told_in, HasCauses, IsComplete, ShowsAnswer, Tells, FailedPut, FailedWrite, IsDone, Unmoved, Ends}
+use Rattle.cscout_run.specs.Stopping.{Stops, stop_reads, status_of, line_of}
 use Rattle.cscout_run.proofs.RunLemmas.{if_told, if_told-map, answer-usage, answer-alike, quiet-causes, put-causes, stop-causes, stop-shows, stop-status, complete, path-last}
 
 -- the run ends at once
@@ -30,7 +30,7 @@ usage-ends words before now none unmoved reads puts outs line =
 -- the run ends before the first put
 pub stop-ends : (words : List (List ℕ)) (ws : List ℕ) (end : Stop) (before now : World)
     → IfSome before.held (λ fs. Stops ws (IsAnswer words fs) end) → Unmoved before now
-    → StopReads ws before.reads now.reads now.last end → now.puts ≡ before.puts → now.outs ≡ before.outs
+    → TellsReads (told_in before) (told_in now) (stop_reads ws end) → now.puts ≡ before.puts → now.outs ≡ before.outs
     → Tells (line_of ws end) before now → Ends (IsAnswer words) before now (status_of end)
 stop-ends words ws end before now stops unmoved reads puts outs line =
     let causes = stop-causes ws end before now reads puts outs in

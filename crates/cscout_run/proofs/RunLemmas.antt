@@ -2,7 +2,7 @@
 use Rattle.std.proofs.Common.{◌≡◌, ℕ, ◌<◌, zero, suc, List, [], ◌∷◌, Option, None, Some, Result, Ok, Err, refl, ap, sym, subst, ◌∙◌, codes, inl, ⊎_elim, length, arith}
 use Rattle.std.specs.Prelude.{IfSome, slice_get}
 use Rattle.cs_base.specs.Edit.{Edit}
-use Rattle.cs_base.specs.Outside.{FileMap, Rose}
+use Rattle.cs_base.specs.Outside.{FileMap, FilesTold, TellsReads, Rose}
 use Rattle.ws_file.specs.Workspace.{WorkspaceValue}
 use Rattle.ws_file.specs.Reading.{WsFault}
 use Rattle.include_tree.specs.Files.{source_of}
@@ -24,12 +24,12 @@ use Rattle.cscout_run.specs.declared.stops.Stop.TheVariants as stop
 use Rattle.cscout_run.specs.Request.{RequestValue, RenameValue, ClassValue, help_asked, version_asked, renaming_asked, tokens_asked, skipped_asked, class_asked, unused_asked, includes_asked, asked, generated_asked}
 use Rattle.cscout_run.specs.Answer.{Answer, IsAnswer, IsAnswerTo, IsRequestAnswer, IsClassAnswer, IsListAnswer, IsRenameAnswer, IsOverWorkspace, answer_of, class_answer, renaming_answer, stopped, workspace_at, IsSizeAnswer, size_answer}
 use Rattle.cscout_run.specs.Message.{usage_line}
-use Rattle.cscout_run.specs.Outcome.{World, StatusIs, HasCauses, IsComplete, ShowsAnswer, Tells, FailedPut, Unmoved}
+use Rattle.cscout_run.specs.Outcome.{World, told_in, StatusIs, HasCauses, IsComplete, ShowsAnswer, Tells, FailedPut, Unmoved}
 use Rattle.cscout_run.specs.Steps.{Prepares}
 use Rattle.cscout_run.specs.declared.preparing.Ready.{Ready}
 use Rattle.edit_put.specs.Applying.{Applies}
 use Rattle.edit_put.specs.declared.applying.Applied.TheVariants as applied
-use Rattle.cscout_run.specs.Stopping.{Stops, StopReads, status_of, line_of}
+use Rattle.cscout_run.specs.Stopping.{Stops, stop_reads, status_of, line_of}
 use Rattle.cscout_run.proofs.AlikeLemmas.{ArePlansAlike, one_list, one_named, one_unneeded, one_unused, renamings_alike}
 
 -- what holds of every value holds of one that is told
@@ -209,14 +209,14 @@ stop-status ws IsOne stop.Memory a alike p q = tt
 
 -- the early end shows its answer
 pub stop-shows : (ws : List ℕ) (IsOne : Answer → Type 0) (end : Stop) (before now : World) → Stops ws IsOne end → Unmoved before now
-    → Tells (line_of ws end) before now → StopReads ws before.reads now.reads now.last end
+    → Tells (line_of ws end) before now → TellsReads (told_in before) (told_in now) (stop_reads ws end)
     → ShowsAnswer IsOne before now (status_of end)
 stop-shows ws IsOne stop.NoWorkspace before now p unmoved told reads = (_, p, record { status = refl; leaves = unmoved; says = told })
 stop-shows ws IsOne (stop.BadLine line) before now p unmoved told reads = (_, p, record { status = refl; leaves = unmoved; says = told })
 stop-shows ws IsOne (stop.TooManyUnits line) before now p unmoved told reads = (_, p, record { status = refl; leaves = unmoved; says = told })
-stop-shows ws IsOne stop.UnreadWorkspace before now p unmoved told reads = λ a. record { status = tt; leaves = unmoved; says = (ws, told, reads.told) }
+stop-shows ws IsOne stop.UnreadWorkspace before now p unmoved told reads = λ a. record { status = tt; leaves = unmoved; says = (ws, told, reads.1) }
 stop-shows ws IsOne (stop.UnitFault unit place cause) before now p unmoved told reads = (_, p, record { status = refl; leaves = unmoved; says = told })
-stop-shows ws IsOne (stop.UnreadFile path) before now p unmoved told reads = λ a. record { status = tt; leaves = unmoved; says = (path, told, reads.told) }
+stop-shows ws IsOne (stop.UnreadFile path) before now p unmoved told reads = λ a. record { status = tt; leaves = unmoved; says = (path, told, reads.1) }
 stop-shows ws IsOne stop.NoUnit before now p unmoved told reads = (_, p, record { status = refl; leaves = unmoved; says = told })
 stop-shows ws IsOne stop.BadName before now p unmoved told reads = (_, p, record { status = refl; leaves = unmoved; says = told })
 stop-shows ws IsOne stop.NoName before now p unmoved told reads = (_, p, record { status = refl; leaves = unmoved; says = told })
@@ -279,19 +279,22 @@ memory-causes before now puts outs = record {
   outs_stay = λ _. outs;
 }
 
+reads_stay : (before now : World) → told_in now ≡ told_in before → now.reads ≡ before.reads
+reads_stay before now same = ap (λ (o : FilesTold). o.reads) same
+
 -- the counts of an early end
-pub stop-causes : (ws : List ℕ) (end : Stop) (before now : World) → StopReads ws before.reads now.reads now.last end
+pub stop-causes : (ws : List ℕ) (end : Stop) (before now : World) → TellsReads (told_in before) (told_in now) (stop_reads ws end)
     → now.puts ≡ before.puts → now.outs ≡ before.outs → HasCauses before now (status_of end)
-stop-causes ws stop.NoWorkspace before now reads puts outs = quiet-causes before now Workspace reads puts outs (λ e. cc) (λ e. cc)
-stop-causes ws (stop.BadLine line) before now reads puts outs = quiet-causes before now Workspace reads puts outs (λ e. cc) (λ e. cc)
-stop-causes ws (stop.TooManyUnits line) before now reads puts outs = quiet-causes before now Workspace reads puts outs (λ e. cc) (λ e. cc)
-stop-causes ws stop.UnreadWorkspace before now reads puts outs = read-causes before now reads.rose puts outs
-stop-causes ws (stop.UnitFault unit place cause) before now reads puts outs = quiet-causes before now Workspace reads puts outs (λ e. cc) (λ e. cc)
-stop-causes ws (stop.UnreadFile path) before now reads puts outs = read-causes before now reads.rose puts outs
-stop-causes ws stop.NoUnit before now reads puts outs = quiet-causes before now Refused reads puts outs (λ e. cc) (λ e. cc)
-stop-causes ws stop.BadName before now reads puts outs = quiet-causes before now Refused reads puts outs (λ e. cc) (λ e. cc)
-stop-causes ws stop.NoName before now reads puts outs = quiet-causes before now Refused reads puts outs (λ e. cc) (λ e. cc)
-stop-causes ws (stop.Offence place cause) before now reads puts outs = quiet-causes before now Refused reads puts outs (λ e. cc) (λ e. cc)
+stop-causes ws stop.NoWorkspace before now reads puts outs = quiet-causes before now Workspace (reads_stay before now reads) puts outs (λ e. cc) (λ e. cc)
+stop-causes ws (stop.BadLine line) before now reads puts outs = quiet-causes before now Workspace (reads_stay before now reads) puts outs (λ e. cc) (λ e. cc)
+stop-causes ws (stop.TooManyUnits line) before now reads puts outs = quiet-causes before now Workspace (reads_stay before now reads) puts outs (λ e. cc) (λ e. cc)
+stop-causes ws stop.UnreadWorkspace before now reads puts outs = read-causes before now reads.0 puts outs
+stop-causes ws (stop.UnitFault unit place cause) before now reads puts outs = quiet-causes before now Workspace (reads_stay before now reads) puts outs (λ e. cc) (λ e. cc)
+stop-causes ws (stop.UnreadFile path) before now reads puts outs = read-causes before now reads.0 puts outs
+stop-causes ws stop.NoUnit before now reads puts outs = quiet-causes before now Refused (reads_stay before now reads) puts outs (λ e. cc) (λ e. cc)
+stop-causes ws stop.BadName before now reads puts outs = quiet-causes before now Refused (reads_stay before now reads) puts outs (λ e. cc) (λ e. cc)
+stop-causes ws stop.NoName before now reads puts outs = quiet-causes before now Refused (reads_stay before now reads) puts outs (λ e. cc) (λ e. cc)
+stop-causes ws (stop.Offence place cause) before now reads puts outs = quiet-causes before now Refused (reads_stay before now reads) puts outs (λ e. cc) (λ e. cc)
 stop-causes ws stop.Memory before now reads puts outs = memory-causes before now puts outs
 
 -- a put that failed

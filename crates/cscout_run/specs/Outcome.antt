@@ -3,7 +3,7 @@
 use Rattle.std.specs.Prelude.{ℕ, ◌≡◌, ◌⊎◌, ◌+◌, ◌<◌, Bool, true, false, List, ◌++◌, Option, IfSome, length, take, slice_get}
 use Rattle.std.specs.Option.{option_map}
 use Rattle.cs_base.specs.Edit.{Edit, with_edits}
-use Rattle.cs_base.specs.Outside.{FileMap, Rose, IsFront}
+use Rattle.cs_base.specs.Outside.{FileMap, FilesTold, files_told, Rose, IsFront}
 use Rattle.cscout_run.specs.declared.status.Status.{Status}
 use Rattle.cscout_run.specs.declared.status.Status.TheVariants.{Done, Refused, Usage, Workspace, ReadFault, WriteFault, Memory}
 use Rattle.cscout_run.specs.Answer.{Answer}
@@ -22,18 +22,22 @@ pub record World : Type 0 where
   pub err : Option (List ℕ)
   pub errs : ℕ
 
--- a moment of these parts
-abbrev pub world : Option FileMap → ℕ → ℕ → Option (List ℕ) → Option (List ℕ) → ℕ → Option (List ℕ) → ℕ → World
-world held reads puts last out outs err errs = record {
-  held = held;
-  reads = reads;
-  puts = puts;
-  last = last;
+-- a moment at which files and sinks tell this
+abbrev pub world : FilesTold → Option (List ℕ) → ℕ → Option (List ℕ) → ℕ → World
+world files out outs err errs = record {
+  held = files.held;
+  reads = files.reads;
+  puts = files.puts;
+  last = files.last;
   out = out;
   outs = outs;
   err = err;
   errs = errs;
 }
+
+-- what the files tell then
+abbrev pub told_in : World → FilesTold
+told_in w = files_told w.held w.reads w.puts w.last
 
 -- The status is that of the answer. Want of memory and a failed read may take its place, and a failed
 -- put or write that of a run that would be done.

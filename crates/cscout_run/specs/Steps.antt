@@ -1,6 +1,6 @@
 -- What the steps of a run promise each other.
 use Rattle.std.specs.Prelude.{ℕ, ◌≡◌, List, [], Option, None, Some, Result, Ok, Err}
-use Rattle.cs_base.specs.Outside.{FileMap}
+use Rattle.cs_base.specs.Outside.{FileMap, ReadEnd, NoneFailed}
 use Rattle.cs_base.specs.Edit.{Edit, IsKept}
 use Rattle.ws_file.specs.Workspace.{WorkspaceValue, IsWorkspace}
 use Rattle.ws_file.specs.Reading.{WsFault}
@@ -19,7 +19,7 @@ use Rattle.rename_edit.specs.declared.refusals.RenameRefusal.TheVariants as refu
 use Rattle.cscout_run.specs.Request.{RequestValue, RenameValue, renaming_asked}
 use Rattle.cscout_run.specs.Answer.{Answer, answer_of, stopped, workspace_at, ws_fault_line}
 use Rattle.cscout_run.specs.Message.{absent_line}
-use Rattle.cscout_run.specs.Stopping.{Stops, StopReads}
+use Rattle.cscout_run.specs.Stopping.{Stops, stop_reads}
 
 -- what stands ready to be put and written is an answer, or the message of the early end is
 abbrev pub Prepares : List ℕ → (Answer → Type 0) → Result Ready Stop → Type 0
@@ -50,10 +50,10 @@ stop_for refusal.NoName = NoName
 stop_for (refusal.Offence place cause) = Offence place cause
 stop_for refusal.Memory = Memory
 
--- what a step says of the reads: where it goes on, none failed
-abbrev pub StepReads : {X : Type 0} → List ℕ → ℕ → ℕ → Option (List ℕ) → Result X Stop → Type 0
-StepReads ws reads reads' last' (Ok x) = reads' ≡ reads
-StepReads ws reads reads' last' (Err stop) = StopReads ws reads reads' last' stop
+-- what a step says of reads: where it goes on, none failed
+abbrev pub reads_of : {X : Type 0} → List ℕ → Result X Stop → ReadEnd
+reads_of ws (Ok x) = NoneFailed
+reads_of ws (Err stop) = stop_reads ws stop
 
 -- An accepted renaming, as it stands before the first put: it is planned over the analysis of the workspace, whose
 -- files are what the files hold; and paths of edits are in order.

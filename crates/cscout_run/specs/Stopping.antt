@@ -1,6 +1,6 @@
 -- How a run that puts nothing stops: what its early end says of the answer and of the outside.
-use Rattle.std.specs.Prelude.{ℕ, ◌≡◌, List, codes, Option, IfSome}
-use Rattle.cs_base.specs.Outside.{Rose}
+use Rattle.std.specs.Prelude.{ℕ, List, codes}
+use Rattle.cs_base.specs.Outside.{ReadEnd, NoneFailed, FailedAt, MayHaveFailed}
 use Rattle.cscout_run.specs.declared.status.Status.{Status}
 use Rattle.cscout_run.specs.declared.status.Status.TheVariants as status
 use Rattle.cscout_run.specs.declared.stops.Stop.{Stop}
@@ -43,14 +43,9 @@ Stops ws IsAnswer (UnreadFile path) = Unit {0}
 Stops ws IsAnswer Memory = Unit {0}
 Stops ws IsAnswer stop = IsAnswer (stopped (status_of stop) (line_of ws stop))
 
--- The count of the reads that failed rose, and the last of them is that of the path, where it is told.
-pub record FailedRead (path : List ℕ) (reads reads' : ℕ) (last' : Option (List ℕ)) : Type 0 where
-  pub rose : Rose reads reads'
-  pub told : IfSome last' (λ p. p ≡ path)
-
--- what an early end says of the reads
-abbrev pub StopReads : List ℕ → ℕ → ℕ → Option (List ℕ) → Stop → Type 0
-StopReads ws reads reads' last' UnreadWorkspace = FailedRead ws reads reads' last'
-StopReads ws reads reads' last' (UnreadFile path) = FailedRead path reads reads' last'
-StopReads ws reads reads' last' Memory = Unit {0}
-StopReads ws reads reads' last' stop = reads' ≡ reads
+-- what an early end says of reads
+abbrev pub stop_reads : List ℕ → Stop → ReadEnd
+stop_reads ws UnreadWorkspace = FailedAt ws
+stop_reads ws (UnreadFile path) = FailedAt path
+stop_reads ws Memory = MayHaveFailed
+stop_reads ws stop = NoneFailed

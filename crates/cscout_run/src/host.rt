@@ -1,5 +1,6 @@
 // The real files and streams. They tell no content, and count what failed.
 ghost use Rattle.std.specs.Prelude.{None};
+ghost use Rattle.cs_base.specs.Outside.{files_told};
 
 use cs_base::{Files, Got, Memory, Put, Sink, Wrote};
 use std::alloc::Global;
@@ -39,13 +40,7 @@ impl<'a> HostFiles<'a> {
 }
 
 impl<'a> Files for HostFiles<'a> {
-    ghost held = { λ _. None };
-
-    ghost failed_reads = { λ f. f.failed_reads };
-
-    ghost failed_puts = { λ f. f.failed_puts };
-
-    ghost last_failed = { λ _. None };
+    ghost told = { λ f. files_told None f.failed_reads f.failed_puts None };
 
     fn read(&mut self, alloc: Global, path: &str) -> Got {
         match read_file(self.rt, alloc, path) {

@@ -1,12 +1,13 @@
 // All of a run that may want memory: it puts nothing.
 ghost use Rattle.std.specs.Prelude.{◌≡◌, ◌++◌, IfSome, IfOk, IfErr, OnOk, IsUtf8, Ok, []};
+ghost use Rattle.cs_base.specs.Outside.{ReadsOnly};
 ghost use Rattle.cs_base.specs.Edit.{edit, IsKept};
 ghost use Rattle.rename_rules.specs.Renaming.{IsRenaming};
 ghost use Rattle.cscout_run.specs.Answer.{IsRenameAnswer, IsRequestAnswer};
 ghost use Rattle.cscout_run.specs.Asking.{request_value, rename_value, workspace_file};
 ghost use Rattle.cscout_run.specs.Message.{edited_line, edited_lines};
 ghost use Rattle.cscout_run.specs.Request.{renaming_asked};
-ghost use Rattle.cscout_run.specs.Steps.{IsPlanStop, IsPlanned, IsPlannedFor, Prepares, StepReads, stop_for};
+ghost use Rattle.cscout_run.specs.Steps.{IsPlanStop, IsPlanned, IsPlannedFor, Prepares, reads_of, stop_for};
 
 use crate::generating::prepare_generated;
 use crate::help::{help, version};
@@ -32,13 +33,10 @@ pub struct Ready {
 
 /// All of the answer to a request but its puts and its output.
 pub fn prepare<F: Files>(alloc: Global, request: &Request<'_>, files: &mut F) -> Result<Ready, Stop>
-    ensures answer { IfSome (F.held files.old) (λ fs.
+    ensures answer { IfSome (F.told files.old).held (λ fs.
         Prepares (workspace_file request.now) (IsRequestAnswer fs (request_value request.now)) result) }
-    ensures planned { IfSome (F.held files.old) (λ fs. IsPlannedFor (request_value request.now) fs result) }
-    ensures held { F.held files.new ≡ F.held files.old }
-    ensures reads { StepReads (workspace_file request.now)
-        (F.failed_reads files.old) (F.failed_reads files.new) (F.last_failed files.new) result }
-    ensures puts { F.failed_puts files.new ≡ F.failed_puts files.old }
+    ensures planned { IfSome (F.told files.old).held (λ fs. IsPlannedFor (request_value request.now) fs result) }
+    ensures faults { ReadsOnly (F.told files.old) (F.told files.new) (reads_of (workspace_file request.now) result) }
 {
     match request {
         Request::Help => Ok(shown(alloc, help())?),
@@ -70,13 +68,10 @@ fn prepare_rename<F: Files>(
     rename: &Rename<'_>,
     files: &mut F,
 ) -> Result<Ready, Stop>
-    ensures answer { IfSome (F.held files.old) (λ fs.
+    ensures answer { IfSome (F.told files.old).held (λ fs.
         Prepares rename.now.ws.now (IsRequestAnswer fs (renaming_asked (rename_value rename.now))) result) }
-    ensures planned { IfSome (F.held files.old) (λ fs. IsPlanned (rename_value rename.now) fs result) }
-    ensures held { F.held files.new ≡ F.held files.old }
-    ensures reads { StepReads rename.now.ws.now
-        (F.failed_reads files.old) (F.failed_reads files.new) (F.last_failed files.new) result }
-    ensures puts { F.failed_puts files.new ≡ F.failed_puts files.old }
+    ensures planned { IfSome (F.told files.old).held (λ fs. IsPlanned (rename_value rename.now) fs result) }
+    ensures faults { ReadsOnly (F.told files.old) (F.told files.new) (reads_of rename.now.ws.now result) }
 {
     let ws = read_workspace(alloc, rename.ws, files)?;
     match analyse(alloc, &ws, files) {

@@ -1,10 +1,11 @@
 // The reports `tokens`, `skipped` and `class`: they put nothing.
 ghost use Rattle.std.specs.Prelude.{◌≡◌, ◌≤◌, MatchBool, None, Ok, IfErr, IfSome, [], length};
 ghost use Rattle.ws_core.specs.Texts.{unit_at};
+ghost use Rattle.cs_base.specs.Outside.{ReadsOnly};
 ghost use Rattle.cscout_run.specs.Answer.{IsClassAnswer, IsRequestAnswer};
 ghost use Rattle.cscout_run.specs.Asking.{class_value, tokens_value};
 ghost use Rattle.cscout_run.specs.Request.{class_asked, skipped_asked, tokens_asked};
-ghost use Rattle.cscout_run.specs.Steps.{IsPlanStop, Prepares, StepReads, stop_of};
+ghost use Rattle.cscout_run.specs.Steps.{IsPlanStop, Prepares, reads_of, stop_of};
 
 use crate::preparing::Ready;
 use crate::requests::{NamedClass, UnitTokens};
@@ -22,12 +23,9 @@ pub(crate) fn prepare_tokens<F: Files>(
     q: &UnitTokens<'_>,
     files: &mut F,
 ) -> Result<Ready, Stop>
-    ensures answer { IfSome (F.held files.old) (λ fs.
+    ensures answer { IfSome (F.told files.old).held (λ fs.
         Prepares q.now.ws.now (IsRequestAnswer fs (tokens_asked (tokens_value q.now))) result) }
-    ensures held { F.held files.new ≡ F.held files.old }
-    ensures reads { StepReads q.now.ws.now
-        (F.failed_reads files.old) (F.failed_reads files.new) (F.last_failed files.new) result }
-    ensures puts { F.failed_puts files.new ≡ F.failed_puts files.old }
+    ensures faults { ReadsOnly (F.told files.old) (F.told files.new) (reads_of q.now.ws.now result) }
 {
     let ws = read_workspace(alloc, q.ws, files)?;
     if !has_unit(&ws, q.unit) {
@@ -45,10 +43,8 @@ pub(crate) fn prepare_skipped<F: Files>(
     ws: &str,
     files: &mut F,
 ) -> Result<Ready, Stop>
-    ensures answer { IfSome (F.held files.old) (λ fs. Prepares ws.now (IsRequestAnswer fs (skipped_asked ws.now)) result) }
-    ensures held { F.held files.new ≡ F.held files.old }
-    ensures reads { StepReads ws.now (F.failed_reads files.old) (F.failed_reads files.new) (F.last_failed files.new) result }
-    ensures puts { F.failed_puts files.new ≡ F.failed_puts files.old }
+    ensures answer { IfSome (F.told files.old).held (λ fs. Prepares ws.now (IsRequestAnswer fs (skipped_asked ws.now)) result) }
+    ensures faults { ReadsOnly (F.told files.old) (F.told files.new) (reads_of ws.now result) }
 {
     let workspace = read_workspace(alloc, ws, files)?;
     match texts(alloc, &workspace, files) {
@@ -63,12 +59,9 @@ pub(crate) fn prepare_class<F: Files>(
     q: &NamedClass<'_>,
     files: &mut F,
 ) -> Result<Ready, Stop>
-    ensures answer { IfSome (F.held files.old) (λ fs.
+    ensures answer { IfSome (F.told files.old).held (λ fs.
         Prepares q.now.ws.now (IsRequestAnswer fs (class_asked (class_value q.now))) result) }
-    ensures held { F.held files.new ≡ F.held files.old }
-    ensures reads { StepReads q.now.ws.now
-        (F.failed_reads files.old) (F.failed_reads files.new) (F.last_failed files.new) result }
-    ensures puts { F.failed_puts files.new ≡ F.failed_puts files.old }
+    ensures faults { ReadsOnly (F.told files.old) (F.told files.new) (reads_of q.now.ws.now result) }
 {
     let ws = read_workspace(alloc, q.ws, files)?;
     match analyse(alloc, &ws, files) {

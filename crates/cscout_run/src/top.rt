@@ -26,16 +26,12 @@ pub fn run<F: Files, O: Sink, E: Sink>(
     ensures usage { (result ≡ Status.Usage) ↔ (asked (map string_bytes words.now) ≡ None) }
     // Status, files, output and messages are those of an answer; what failed is answered, and nothing else.
     ensures outcome { Ends (IsAnswer (map string_bytes words.now))
-        (world (F.held files.old) (F.failed_reads files.old) (F.failed_puts files.old)
-        (F.last_failed files.old) (O.bytes out.old) (O.failed_writes out.old)
-        (E.bytes err.old) (E.failed_writes err.old))
-        (world (F.held files.new) (F.failed_reads files.new) (F.failed_puts files.new)
-        (F.last_failed files.new) (O.bytes out.new) (O.failed_writes out.new)
-        (E.bytes err.new) (E.failed_writes err.new))
+        (world (F.told files.old) (O.bytes out.old) (O.failed_writes out.old) (E.bytes err.old) (E.failed_writes err.old))
+        (world (F.told files.new) (O.bytes out.new) (O.failed_writes out.new) (E.bytes err.new) (E.failed_writes err.new))
         result }
     // A rename that is done has changed the named class, and nothing else.
-    ensures promise { result ≡ Status.Done → IfSome (F.held files.old) (λ before.
-        IfSome (F.held files.new) (KeepsPromise (asked (map string_bytes words.now)) before)) }
+    ensures promise { result ≡ Status.Done → IfSome (F.told files.old).held (λ before.
+        IfSome (F.told files.new).held (KeepsPromise (asked (map string_bytes words.now)) before)) }
 {
     let Some(request) = asked(words) else {
         tell(err, &[b"bad command line"]);

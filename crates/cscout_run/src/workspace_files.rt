@@ -1,6 +1,7 @@
 // Reading the workspace file.
 ghost use Rattle.std.specs.Prelude.{◌≡◌, IfSome};
-ghost use Rattle.cscout_run.specs.Steps.{ReadsWorkspace, StepReads};
+ghost use Rattle.cs_base.specs.Outside.{ReadsOnly};
+ghost use Rattle.cscout_run.specs.Steps.{ReadsWorkspace, reads_of};
 
 use crate::stops::Stop;
 use cs_base::{Files, Got};
@@ -13,10 +14,8 @@ pub(crate) fn read_workspace<F: Files>(
     ws: &str,
     files: &mut F,
 ) -> Result<Workspace, Stop>
-    ensures answer { IfSome (F.held files.old) (λ fs. ReadsWorkspace ws.now fs result) }
-    ensures held { F.held files.new ≡ F.held files.old }
-    ensures reads { StepReads ws.now (F.failed_reads files.old) (F.failed_reads files.new) (F.last_failed files.new) result }
-    ensures puts { F.failed_puts files.new ≡ F.failed_puts files.old }
+    ensures answer { IfSome (F.told files.old).held (λ fs. ReadsWorkspace ws.now fs result) }
+    ensures faults { ReadsOnly (F.told files.old) (F.told files.new) (reads_of ws.now result) }
 {
     match files.read(alloc, ws) {
         Got::Bytes(bytes) => match read_ws(alloc, bytes.as_slice()) {

@@ -2,7 +2,7 @@
 use Rattle.std.specs.Prelude.{ℕ, ◌≡◌, ◌⊎◌, ◌+◌, ◌<◌, ◌≤◌, List, Option, IfSome, length, take, slice_get}
 use Rattle.std.specs.Option.{option_map}
 use Rattle.cs_base.specs.Edit.{Edit, with_edits}
-use Rattle.cs_base.specs.Outside.{FileMap, Rose}
+use Rattle.cs_base.specs.Outside.{FileMap, FilesTold, Rose}
 use Rattle.edit_put.specs.declared.applying.Applied.{Applied}
 use Rattle.edit_put.specs.declared.applying.Applied.TheVariants.{Done, Failed}
 
@@ -16,9 +16,9 @@ Applies edits before now (Failed written) =
 
 -- The counts: that of the reads stands; that of the puts, and the last failed path, stand where all is
 -- done. Where a put failed its count rose, and the last failed path, where told, is that of this edit.
-pub record AppliesCounts (edits : List Edit) (reads reads' puts puts' : ℕ) (last last' : Option (List ℕ)) (applied : Applied) : Type 0 where
-  pub reads_stay : reads' ≡ reads
-  pub grows : puts ≤ puts'
-  pub done : applied ≡ Done → (puts' ≡ puts) × (last' ≡ last)
+pub record AppliesCounts (edits : List Edit) (old new : FilesTold) (applied : Applied) : Type 0 where
+  pub reads_stay : new.reads ≡ old.reads
+  pub grows : old.puts ≤ new.puts
+  pub done : applied ≡ Done → (new.puts ≡ old.puts) × (new.last ≡ old.last)
   pub failed : (written : ℕ) → applied ≡ Failed written
-      → Rose puts puts' × IfSome last' (λ path. IfSome (slice_get edits written) (λ e. path ≡ e.path))
+      → Rose old.puts new.puts × IfSome new.last (λ path. IfSome (slice_get edits written) (λ e. path ≡ e.path))

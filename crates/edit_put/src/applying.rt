@@ -13,8 +13,8 @@ pub enum Applied {
 
 /// Puts each edit in order of path, and stops at the first put that fails. Takes no memory.
 pub fn apply<F: Files>(edits: &Edits, files: &mut F) -> Applied
-    ensures held { Applies edits.now (F.held files.old) (F.held files.new) result }
-    ensures faults { AppliesCounts edits.now (F.failed_reads files.old) (F.failed_reads files.new) (F.failed_puts files.old) (F.failed_puts files.new) (F.last_failed files.old) (F.last_failed files.new) result }
+    ensures held { Applies edits.now (F.told files.old).held (F.told files.new).held result }
+    ensures faults { AppliesCounts edits.now (F.told files.old) (F.told files.new) result }
 {
     for k in 0..edits.len() {
         match files.put(edits.path_text(k), edits.bytes(k)) {

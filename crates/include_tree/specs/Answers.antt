@@ -1,14 +1,14 @@
 -- What `preprocess` answers, as contracts see it.
-use Rattle.std.specs.Prelude.{◌≡◌, ◌≤◌, ℕ, List, Option, Some, None, Result, Ok, Err, IfSome}
-use Rattle.cs_base.specs.Outside.{Rose, FileMap}
+use Rattle.std.specs.Prelude.{◌≡◌, ℕ, true, is_some, List, Option, Some, None, Result, Ok, Err, IfSome}
+use Rattle.cs_base.specs.Outside.{FileMap, ReadEnd, NoneFailed, FailedAt, MayHaveFailed}
 use Rattle.include_tree.specs.declared.pre_fault.PreFault.{PreFault}
 use Rattle.include_tree.specs.declared.pre_fault.PreFault.TheVariants as answer
 use Rattle.part_lexer.specs.FileText.{TextValue}
 use Rattle.include_tree.specs.Opening.{Opening}
-use Rattle.include_tree.specs.Files.{source_file, Table, Carried}
+use Rattle.include_tree.specs.Files.{Source, source_file, Table, Carried, found_at}
 use Rattle.include_tree.specs.Faults.{Fault, fault}
 use Rattle.include_tree.specs.Texts.{UnitTextValue, Preprocessed}
-use Rattle.include_tree.specs.Laws.{IsGrown, StaysHeld}
+use Rattle.include_tree.specs.Laws.{IsGrown, OnlyAsks, StaysHeld, Widens}
 
 -- the fault that a refusal names: none for a failed read and for want of memory
 abbrev pub fault_of : PreFault → Option Fault
@@ -26,19 +26,28 @@ TellsOfRead path (answer.Fault place cause) = ⊥
 TellsOfRead path (answer.ReadFault told) = told ≡ path
 TellsOfRead path answer.Memory = Unit {0}
 
--- What an answer says of the count of failed reads and of the path of the last one: after a failed read the
--- count rose and that is its path; every other answer but want of memory leaves both.
-abbrev pub TellsReads : {X : Type 0} → ℕ → ℕ → Option (List ℕ) → Option (List ℕ) → Result X PreFault → Type 0
-TellsReads reads reads' last last' (Ok x) = (reads' ≡ reads) × (last' ≡ last)
-TellsReads reads reads' last last' (Err (answer.Fault place cause)) = (reads' ≡ reads) × (last' ≡ last)
-TellsReads reads reads' last last' (Err (answer.ReadFault path)) = Rose reads reads' × IfSome last' (λ p. p ≡ path)
-TellsReads reads reads' last last' (Err answer.Memory) = reads ≤ reads'
+-- What an answer says of reads: the fault of one is that of the last, and before want of memory one may have
+-- failed; every other answer says that none did.
+abbrev pub reads_of : {X : Type 0} → Result X PreFault → ReadEnd
+reads_of (Ok x) = NoneFailed
+reads_of (Err (answer.Fault place cause)) = NoneFailed
+reads_of (Err (answer.ReadFault path)) = FailedAt path
+reads_of (Err answer.Memory) = MayHaveFailed
 
--- What reads do to the counts of failed reads and puts and to the last failed path.
-pub record ReadCounts {X : Type 0} (reads reads' puts puts' : ℕ) (last last' : Option (List ℕ)) (result : Result X PreFault) : Type 0 where
-  pub grows : reads ≤ reads'
-  pub apart : puts' ≡ puts
-  pub told : TellsReads reads reads' last last' result
+-- A path that was asked for has a number; a refusal names no fault, and leaves the table.
+abbrev pub IsAsked : {X : Type 0} → List ℕ → Table → Table → Result X PreFault → Type 0
+IsAsked path old new (Ok x) = is_some (found_at path new) ≡ true
+IsAsked path old new (Err e) = (new ≡ old) × (fault_of e ≡ None)
+
+-- A cache behind a step that reads no file, over any source: its table only grows, and no tokens are counted.
+pub record Keeps (old new : Carried) : Type 0 where
+  pub widens : (source : Source) → Widens source old.table new.table
+  pub counted : new.toks ≡ old.toks
+
+-- A cache behind paths that were asked for: nothing is opened, and no tokens are counted.
+pub record AsksOn (told : Option FileMap) (old new : Carried) : Type 0 where
+  pub only : OnlyAsks told old.table new.table
+  pub counted : new.toks ≡ old.toks
 
 -- A cache behind a step over files: its table has grown and stays what they hold, where that is told, and no
 -- tokens are counted.

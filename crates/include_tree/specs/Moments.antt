@@ -1,5 +1,5 @@
 -- What the program knows at each moment, and the state of the definition.
-use Rattle.std.specs.Prelude.{◌≤◌, ◌^◌, ◌++◌, ◌∷◌, [], None, length}
+use Rattle.std.specs.Prelude.{◌≡◌, ◌≤◌, ◌^◌, ◌++◌, ◌∷◌, [], ℕ, None, OnOk, Result, length}
 use Rattle.cs_base.specs.Token.{Token}
 use Rattle.macro_expand.specs.Live.{table_of}
 use Rattle.macro_expand.specs.Sound.{AllTraced}
@@ -28,6 +28,16 @@ pub record IsAble (p : Progress) : Type 0 where
   pub low : p.most ≤ 2 ^ 22
   pub little : p.work.left ≤ 2 ^ 22
   pub traced : AllTraced (table_of p.macros)
+
+-- A step goes on: where it is done, all this is true behind it; and it leaves the limit.
+pub record GoesOn {X E : Type 0} (old new : Progress) (result : Result X E) : Type 0 where
+  pub able : OnOk result (IsAble new)
+  pub most : new.most ≡ old.most
+
+-- A walk can begin, in a unit that may have so many tokens.
+pub record IsReady (p : Progress) (most : ℕ) : Type 0 where
+  pub able : IsAble p
+  pub limited : p.most ≡ most
 
 -- what is known behind a name that is processed
 abbrev pub named_in : Token → Progress → Progress

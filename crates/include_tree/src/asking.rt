@@ -1,11 +1,11 @@
 // Asking for paths: each is read once.
-ghost use Rattle.std.specs.Prelude.{◌≡◌, ℕ, List, true, false, None, is_some, IfOk, IfErr, IfSome, OnOk, OnErr};
+ghost use Rattle.std.specs.Prelude.{◌≡◌, ℕ, List, false, None, IfOk, IfErr, IfSome, OnOk};
 ghost use Rattle.std.specs.Str.{bytes_eq};
-ghost use Rattle.cs_base.specs.Outside.{bytes_at};
-ghost use Rattle.include_tree.specs.Files.{Source, lines_path, found_at, found_in, asked};
+ghost use Rattle.cs_base.specs.Outside.{bytes_at, ReadsOnly};
+ghost use Rattle.include_tree.specs.Files.{Source, lines_path, found_in, asked};
 ghost use Rattle.include_tree.specs.Laws.{AreFound, OnlyAsks};
 ghost use Rattle.include_tree.specs.Slots.{found_of, IsNumbered, IsRead};
-ghost use Rattle.include_tree.specs.Answers.{fault_of, ReadCounts, TellsOfRead};
+ghost use Rattle.include_tree.specs.Answers.{fault_of, reads_of, IsAsked, TellsOfRead};
 
 use crate::file_table::FileTable;
 use crate::pre_fault::PreFault;
@@ -26,12 +26,11 @@ fn read_fault(alloc: Global, path: &[u8]) -> PreFault
 
 // What a path stands for that was not asked for before.
 fn read_slot<F: Files>(alloc: Global, files: &mut F, path: &str) -> Result<Slot, PreFault>
-    ensures held { F.held files.new ≡ F.held files.old }
-    ensures answer { IfSome (F.held files.old) (λ held. IfOk result (λ slot. found_of slot ≡ found_in (bytes_at path.now held))) }
+    ensures answer { IfSome (F.told files.old).held (λ held. IfOk result (λ slot. found_of slot ≡ found_in (bytes_at path.now held))) }
     ensures numbered { IfOk result (λ slot. (number : ℕ) (name : List ℕ) → IsNumbered number name slot) }
     ensures read { IfOk result (λ slot. IsRead (found_of slot)) }
     ensures no_fault { IfErr result (λ e. fault_of e ≡ None) }
-    ensures faults { ReadCounts (F.failed_reads files.old) (F.failed_reads files.new) (F.failed_puts files.old) (F.failed_puts files.new) (F.last_failed files.old) (F.last_failed files.new) result }
+    ensures faults { ReadsOnly (F.told files.old) (F.told files.new) (reads_of result) }
 {
     match files.read(alloc, path) {
         Got::Bytes(bytes) => Ok(Slot::Unopened(bytes)),
@@ -49,13 +48,10 @@ pub(crate) fn ask<F: Files>(
     path: &str,
 ) -> Result<(), PreFault>
     requires { bytes_eq path.now lines_path ≡ false }
-    ensures held { F.held files.new ≡ F.held files.old }
     ensures answer { (source : Source) → AreFound source table.new → OnOk result (table.new ≡ asked source path.now table.old) }
-    ensures known { OnOk result (is_some (found_at path.now table.new) ≡ true) }
-    ensures unchanged { OnErr result (table.new ≡ table.old) }
-    ensures only { OnlyAsks (F.held files.old) table.old table.new }
-    ensures no_fault { IfErr result (λ e. fault_of e ≡ None) }
-    ensures faults { ReadCounts (F.failed_reads files.old) (F.failed_reads files.new) (F.failed_puts files.old) (F.failed_puts files.new) (F.last_failed files.old) (F.last_failed files.new) result }
+    ensures asked { IsAsked path.now table.old table.new result }
+    ensures only { OnlyAsks (F.told files.old).held table.old table.new }
+    ensures faults { ReadsOnly (F.told files.old) (F.told files.new) (reads_of result) }
 {
     if table.find(path.as_bytes()).is_some() {
         return Ok(());

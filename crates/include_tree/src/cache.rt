@@ -4,13 +4,14 @@ ghost use Rattle.std.specs.Option.{option_map};
 ghost use Rattle.std.specs.Str.{bytes_eq};
 ghost use Rattle.part_lexer.specs.FileText.{file_text};
 ghost use Rattle.part_lexer.specs.Refusal.{fault_of as lex_fault_of};
+ghost use Rattle.cs_base.specs.Outside.{ReadsOnly};
 ghost use Rattle.include_tree.specs.Limits.{the_limits};
 ghost use Rattle.include_tree.specs.Files.{Source, Table, lines_path, nothing_carried, asked, found_at, number_at};
 ghost use Rattle.include_tree.specs.Opening.{opening, file_read};
 ghost use Rattle.include_tree.specs.KeptFiles.{kept_at};
-ghost use Rattle.include_tree.specs.Laws.{AreFound, AreText, BeginsWithLines, HasEachOnce, OnlyAsks};
+ghost use Rattle.include_tree.specs.Laws.{AreFound, AreText, BeginsWithLines, HasEachOnce};
 ghost use Rattle.include_tree.specs.Statuses.{IsUnread, is_missing};
-ghost use Rattle.include_tree.specs.Answers.{fault_of, OpensFile, IsNoReadFault, ReadCounts};
+ghost use Rattle.include_tree.specs.Answers.{fault_of, OpensFile, IsNoReadFault, reads_of, AsksOn};
 
 mod making;
 
@@ -105,13 +106,11 @@ impl Cache {
         path: &str,
     ) -> Result<bool, PreFault>
         requires { bytes_eq path.now lines_path ≡ false }
-        ensures held { F.held files.new ≡ F.held files.old }
         ensures answer { (source : Source) → AreFound source self.new.table → OnOk result (self.new.table ≡ asked source path.now self.old.table) }
         ensures there { IfOk result (λ there. is_missing (found_at path.now self.new.table) ≡ not there) }
-        ensures only { OnlyAsks (F.held files.old) self.old.table self.new.table }
+        ensures asks { AsksOn (F.told files.old).held self.old self.new }
         ensures no_fault { IfErr result (λ e. fault_of e ≡ None) }
-        ensures toks { self.new.toks ≡ self.old.toks }
-        ensures faults { ReadCounts (F.failed_reads files.old) (F.failed_reads files.new) (F.failed_puts files.old) (F.failed_puts files.new) (F.last_failed files.old) (F.last_failed files.new) result }
+        ensures faults { ReadsOnly (F.told files.old) (F.told files.new) (reads_of result) }
     {
         match ask(alloc, &mut self.table, files, path) {
             Ok(()) => Ok(is_there(&self.table, path.as_bytes())),

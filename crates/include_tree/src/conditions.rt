@@ -15,7 +15,7 @@ ghost use Rattle.include_tree.specs.Keeping.{noted_in, kept_after};
 ghost use Rattle.include_tree.specs.Answering.{answer_notes, asked_in, behind, left_kept};
 ghost use Rattle.include_tree.specs.SourceTexts.{source_in};
 ghost use Rattle.include_tree.specs.FirstNames.{names_with};
-ghost use Rattle.include_tree.specs.Moments.{state_in, IsAble};
+ghost use Rattle.include_tree.specs.Moments.{state_in, IsAble, GoesOn};
 
 use crate::events::EventKind;
 use crate::pre_fault::PreFault;
@@ -157,8 +157,7 @@ impl Progress {
         out: &mut Vec<Tok>,
     ) -> Result<Option<usize>, Memory>
         requires able { IsAble self.old }
-        ensures able { OnOk result (IsAble self.new) }
-        ensures most { self.new.most ≡ self.old.most }
+        ensures goes_on { GoesOn self.old self.new result }
         ensures within { IfOk result (λ next. IfSome next (λ n. n ≤ length after.now)) }
         ensures answer { (table : Table) → IfOk result (λ next. MatchOption next
             (asked_in self.old.text 0 (word.now ∷ after.now) (state_in table self.old) ≡ None)
@@ -180,8 +179,7 @@ impl Progress {
     // The tokens with each operand of `defined` answered; none where some `defined` has no operand.
     fn answered(&mut self, toks: &[Tok]) -> Result<Option<Vec<Tok>>, Memory>
         requires able { IsAble self.old }
-        ensures able { OnOk result (IsAble self.new) }
-        ensures most { self.new.most ≡ self.old.most }
+        ensures goes_on { GoesOn self.old self.new result }
         ensures answer { (table : Table) → IfOk result (λ out. asked_in self.old.text 0 toks.now (state_in table self.old) ≡ option_map (λ v. (v.items, state_in table self.new, self.new.text)) out) }
     {
         let mut out = Vec::new(self.alloc);
@@ -198,8 +196,7 @@ impl Progress {
     // A name that is left over is processed.
     fn left_name(&mut self, tok: &Tok) -> Result<(), Memory>
         requires able { IsAble self.old }
-        ensures able { OnOk result (IsAble self.new) }
-        ensures most { self.new.most ≡ self.old.most }
+        ensures goes_on { GoesOn self.old self.new result }
         ensures answer { (table : Table) (toks : List Token) → OnOk result (left_kept self.old.text (left_over (tok.now ∷ toks) (state_in table self.old)) ≡ left_kept self.new.text (left_over toks (state_in table self.new))) }
     {
         if is_name(tok) {
@@ -211,8 +208,7 @@ impl Progress {
     // The names left over.
     fn left_over(&mut self, toks: &[Tok]) -> Result<(), Memory>
         requires able { IsAble self.old }
-        ensures able { OnOk result (IsAble self.new) }
-        ensures most { self.new.most ≡ self.old.most }
+        ensures goes_on { GoesOn self.old self.new result }
         ensures answer { (table : Table) → OnOk result (left_kept self.old.text (left_over toks.now (state_in table self.old)) ≡ (state_in table self.new, self.new.text)) }
     {
         for tok in toks {
@@ -225,8 +221,7 @@ impl Progress {
     fn judged(&mut self, file: &SourceText, at: Pos, toks: &[Tok]) -> Result<bool, PreFault>
         requires few { length toks.now < 2 ^ 32 }
         requires able { IsAble self.old }
-        ensures able { OnOk result (IsAble self.new) }
-        ensures most { self.new.most ≡ self.old.most }
+        ensures goes_on { GoesOn self.old self.new result }
         ensures no_read { IfErr result IsNoReadFault }
         ensures answer { (table : Table) → Gives (λ b. (b, state_in table self.new, self.new.text)) fault_of result (kept_after self.old.text (judged (source_in file.now) at toks.now (state_in table self.old))) }
     {
@@ -246,8 +241,7 @@ impl Progress {
     fn valued(&mut self, file: &SourceText, at: Pos, toks: &[Tok]) -> Result<bool, PreFault>
         requires sound { IsTrue (list_all (λ t. is_traced t && is_low t) toks.now) }
         requires able { IsAble self.old }
-        ensures able { OnOk result (IsAble self.new) }
-        ensures most { self.new.most ≡ self.old.most }
+        ensures goes_on { GoesOn self.old self.new result }
         ensures no_read { IfErr result IsNoReadFault }
         ensures answer { (table : Table) → Gives (λ b. (b, state_in table self.new, self.new.text)) fault_of result (kept_after self.old.text (onward (expanded_in false (source_in file.now) toks.now (state_in table self.old)) (judged (source_in file.now) at))) }
     {
@@ -264,8 +258,7 @@ impl Progress {
     ) -> Result<bool, PreFault>
         requires sound { IsTrue (list_all (λ t. is_traced t && is_low t) toks.now) }
         requires able { IsAble self.old }
-        ensures able { OnOk result (IsAble self.new) }
-        ensures most { self.new.most ≡ self.old.most }
+        ensures goes_on { GoesOn self.old self.new result }
         ensures no_read { IfErr result IsNoReadFault }
         ensures answer { (table : Table) → Gives (λ b. (b, state_in table self.new, self.new.text)) fault_of result (kept_after self.old.text (holds (source_in file.now) at toks.now (state_in table self.old))) }
     {

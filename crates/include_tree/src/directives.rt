@@ -15,7 +15,7 @@ ghost use Rattle.include_tree.specs.Answers.{fault_of, IsNoReadFault};
 ghost use Rattle.include_tree.specs.Keeping.{noted_in, kept_after, put_after};
 ghost use Rattle.include_tree.specs.SourceTexts.{source_in};
 ghost use Rattle.include_tree.specs.FirstNames.{names_with};
-ghost use Rattle.include_tree.specs.Moments.{state_in, IsAble};
+ghost use Rattle.include_tree.specs.Moments.{state_in, IsAble, GoesOn};
 
 use crate::events::EventKind;
 use crate::first_names::FirstNames;
@@ -85,8 +85,7 @@ impl Progress {
         requires defines { line_kind toks.now ≡ Define }
         requires traced { (m : Macro) → defined_by toks.now ≡ Some m → IsTrue (list_all is_traced m.body) }
         requires able { IsAble self.old }
-        ensures able { OnOk result (IsAble self.new) }
-        ensures most { self.new.most ≡ self.old.most }
+        ensures goes_on { GoesOn self.old self.new result }
         ensures no_read { IfErr result IsNoReadFault }
         ensures answer { (table : Table) (file : SourceFile) (at : Pos) → Gives (λ _. (state_in table self.new, self.new.text)) fault_of result (put_after self.old.text (define_of file at toks.now (state_in table self.old))) }
     {
@@ -99,8 +98,7 @@ impl Progress {
     /// An `undef` line whose `#` is there.
     pub(crate) fn undef(&mut self, file: &SourceText, at: Pos, toks: &[Tok]) -> Result<(), PreFault>
         requires able { IsAble self.old }
-        ensures able { OnOk result (IsAble self.new) }
-        ensures most { self.new.most ≡ self.old.most }
+        ensures goes_on { GoesOn self.old self.new result }
         ensures no_read { IfErr result IsNoReadFault }
         ensures answer { (table : Table) → Gives (λ _. (state_in table self.new, self.new.text)) fault_of result (put_after self.old.text (undef_of (source_in file.now) at toks.now (state_in table self.old))) }
     {
@@ -135,8 +133,7 @@ impl Progress {
         toks: &[Tok],
     ) -> Result<bool, PreFault>
         requires able { IsAble self.old }
-        ensures able { OnOk result (IsAble self.new) }
-        ensures most { self.new.most ≡ self.old.most }
+        ensures goes_on { GoesOn self.old self.new result }
         ensures no_read { IfErr result IsNoReadFault }
         ensures answer { (table : Table) → Gives (λ b. (b, state_in table self.new, self.new.text)) fault_of result (kept_after self.old.text (asks_name (source_in file.now) at (λ b. cond opposite (not b) b) (state_in table self.old) (operand_in toks.now))) }
     {

@@ -3,16 +3,17 @@ ghost use Rattle.std.specs.Prelude.{◌≡◌, ◌&&◌, true, IsTrue, IfOk, IfE
 ghost use Rattle.std.specs.List.{list_all};
 ghost use Rattle.cs_base.specs.Answer.{Gives};
 ghost use Rattle.macro_expand.specs.Sound.{is_traced, is_low};
+ghost use Rattle.cs_base.specs.Outside.{ReadsOnly};
 ghost use Rattle.include_tree.specs.Files.{Source, Table};
 ghost use Rattle.include_tree.specs.Faults.{place_in};
 ghost use Rattle.include_tree.specs.State.{State};
 ghost use Rattle.include_tree.specs.Search.{can_be_asked, candidates_of, search};
 ghost use Rattle.include_tree.specs.Including.{header_or, header_of_toks, computed_header, header_named, open_header};
-ghost use Rattle.include_tree.specs.Answers.{fault_of, IsNoReadFault, ReadCounts, ReadsOn};
+ghost use Rattle.include_tree.specs.Answers.{fault_of, IsNoReadFault, reads_of, ReadsOn};
 ghost use Rattle.include_tree.specs.Laws.{AreFound};
 ghost use Rattle.include_tree.specs.Keeping.{kept_after};
 ghost use Rattle.include_tree.specs.SourceTexts.{source_in};
-ghost use Rattle.include_tree.specs.Moments.{state_in, IsAble};
+ghost use Rattle.include_tree.specs.Moments.{state_in, IsAble, GoesOn};
 ghost use Rattle.include_tree.specs.Sources.{source_kept, source_at, unit_context, GivesFile, GivesOpening, opening_found};
 
 use crate::cache::Cache;
@@ -38,8 +39,7 @@ impl Progress {
     ) -> Result<Header, PreFault>
         requires sound { IsTrue (list_all (λ t. is_traced t && is_low t) toks.now) }
         requires able { IsAble self.old }
-        ensures able { OnOk result (IsAble self.new) }
-        ensures most { self.new.most ≡ self.old.most }
+        ensures goes_on { GoesOn self.old self.new result }
         ensures no_read { IfErr result IsNoReadFault }
         ensures answer { (table : Table) → Gives (λ h. (h, state_in table self.new, self.new.text)) fault_of result (kept_after self.old.text (header_named (source_in file.now) at toks.now (state_in table self.old))) }
     {
@@ -64,8 +64,7 @@ impl Progress {
     ) -> Result<Header, PreFault>
         requires sound { IsTrue (list_all (λ t. is_traced t && is_low t) toks.now) }
         requires able { IsAble self.old }
-        ensures able { OnOk result (IsAble self.new) }
-        ensures most { self.new.most ≡ self.old.most }
+        ensures goes_on { GoesOn self.old self.new result }
         ensures no_read { IfErr result IsNoReadFault }
         ensures answer { (table : Table) → Gives (λ h. (h, state_in table self.new, self.new.text)) fault_of result (kept_after self.old.text (computed_header (source_in file.now) at toks.now (state_in table self.old))) }
     {
@@ -76,8 +75,7 @@ impl Progress {
     // The header of the tokens that it is expanded to.
     fn header_or(&mut self, file: &SourceText, at: Pos, out: &[Tok]) -> Result<Header, PreFault>
         requires able { IsAble self.old }
-        ensures able { OnOk result (IsAble self.new) }
-        ensures most { self.new.most ≡ self.old.most }
+        ensures goes_on { GoesOn self.old self.new result }
         ensures no_read { IfErr result IsNoReadFault }
         ensures answer { (table : Table) → Gives (λ h. (h, state_in table self.new, self.new.text)) fault_of result (kept_after self.old.text (header_or (source_in file.now) at out.now (state_in table self.old) (header_of_toks out.now))) }
     {
@@ -150,12 +148,11 @@ fn open_asked<F: Files>(
     asked: &Asked,
 ) -> Result<u32, PreFault>
     requires can { list_all can_be_asked asked.now.paths.items ≡ true }
-    ensures held { F.held files.new ≡ F.held files.old }
     ensures answer { (source : Source) → AreFound source cache.new.table →
         GivesOpening result (opening_found asked.now.place (search source asked.now.paths.items cache.old.table)) cache.new.table }
     ensures there { IfOk result (λ n. IsSome (source_at cache.new.table n)) }
-    ensures reads { ReadsOn (F.held files.old) cache.old cache.new }
-    ensures faults { ReadCounts (F.failed_reads files.old) (F.failed_reads files.new) (F.failed_puts files.old) (F.failed_puts files.new) (F.last_failed files.old) (F.last_failed files.new) result }
+    ensures reads { ReadsOn (F.told files.old).held cache.old cache.new }
+    ensures faults { ReadsOnly (F.told files.old) (F.told files.new) (reads_of result) }
 {
     match search(alloc, cache, files, asked.paths.as_slice()) {
         Ok(Some(i)) => open_file(alloc, cache, asked.paths[i].bytes(), &asked.place),
@@ -176,12 +173,11 @@ pub(crate) fn open_header<F: Files>(
     header: &Header,
 ) -> Result<u32, PreFault>
     requires kept { IsSome (source_at cache.old.table number) }
-    ensures held { F.held files.new ≡ F.held files.old }
     ensures answer { (source : Source) → AreFound source cache.new.table → IfSome (source_at cache.old.table number) (λ file. (s : State) → s.table ≡ cache.old.table →
         GivesFile result (open_header (unit_context source ipath.now cache.old.toks) file at header.now s) cache.new.table s) }
     ensures there { IfOk result (λ n. IsSome (source_at cache.new.table n)) }
-    ensures reads { ReadsOn (F.held files.old) cache.old cache.new }
-    ensures faults { ReadCounts (F.failed_reads files.old) (F.failed_reads files.new) (F.failed_puts files.old) (F.failed_puts files.new) (F.last_failed files.old) (F.last_failed files.new) result }
+    ensures reads { ReadsOn (F.told files.old).held cache.old cache.new }
+    ensures faults { ReadsOnly (F.told files.old) (F.told files.new) (reads_of result) }
 {
     match asked_in(alloc, cache, ipath, number, at, header) {
         Ok(asked) => open_asked(alloc, cache, files, &asked),

@@ -16,7 +16,7 @@ ghost use Rattle.include_tree.specs.Answers.{IsNoReadFault};
 ghost use Rattle.include_tree.specs.Keeping.{put_after};
 ghost use Rattle.include_tree.specs.SourceTexts.{source_in};
 ghost use Rattle.include_tree.specs.ItemTexts.{item_in};
-ghost use Rattle.include_tree.specs.Moments.{state_in, IsAble};
+ghost use Rattle.include_tree.specs.Moments.{state_in, IsAble, GoesOn};
 ghost use Rattle.include_tree.specs.Walking.{stepped_after, GivesLine, GivesItem};
 
 use crate::header::Header;
@@ -47,8 +47,7 @@ fn processed(
     requires sound { IsTrue (list_all (λ t. is_traced t && is_low t) item.now.toks.now) }
     requires defines { item.now.kind ≡ Define → (line_kind item.now.toks.now ≡ Define) × ((m : Macro) → defined_by item.now.toks.now ≡ Some m → IsTrue (list_all is_traced m.body)) }
     requires able { IsAble p.old }
-    ensures able { OnOk result (IsAble p.new) }
-    ensures most { p.new.most ≡ p.old.most }
+    ensures goes_on { GoesOn p.old p.new result }
     ensures no_read { IfErr result IsNoReadFault }
     ensures answer { (ctx : Context) (inner : Inner) (table : Table) → most_toks ctx ≡ p.old.most → GivesLine ctx inner (source_in file.now) result (state_in table p.new) p.new.text (put_after p.old.text (processed ctx inner (source_in file.now) item.now.kind item.now.at item.now.toks.now (state_in table p.old))) }
 {
@@ -89,8 +88,7 @@ fn stay(
     requires sound { IsTrue (list_all (λ t. is_traced t && is_low t) item.now.toks.now) }
     requires defines { item.now.kind ≡ Define → (line_kind item.now.toks.now ≡ Define) × ((m : Macro) → defined_by item.now.toks.now ≡ Some m → IsTrue (list_all is_traced m.body)) }
     requires able { IsAble p.old }
-    ensures able { OnOk result (IsAble p.new) }
-    ensures most { p.new.most ≡ p.old.most }
+    ensures goes_on { GoesOn p.old p.new result }
     ensures no_read { IfErr result IsNoReadFault }
     ensures answer { (ctx : Context) (inner : Inner) (table : Table) → most_toks ctx ≡ p.old.most → GivesItem ctx inner (source_in file.now) result sections.now (state_in table p.new) p.new.text (stepped_after p.old.text (turned ctx inner (source_in file.now) k (item_in item.now) sections.now (state_in table p.old) Stays)) }
 {
@@ -113,8 +111,7 @@ pub(crate) fn item_step(
     requires sound { IsTrue (list_all (λ t. is_traced t && is_low t) item.now.toks.now) }
     requires defines { item.now.kind ≡ Define → (line_kind item.now.toks.now ≡ Define) × ((m : Macro) → defined_by item.now.toks.now ≡ Some m → IsTrue (list_all is_traced m.body)) }
     requires able { IsAble p.old }
-    ensures able { OnOk result (IsAble p.new) }
-    ensures most { p.new.most ≡ p.old.most }
+    ensures goes_on { GoesOn p.old p.new result }
     ensures no_read { IfErr result IsNoReadFault }
     ensures answer { (ctx : Context) (inner : Inner) (table : Table) → most_toks ctx ≡ p.old.most → GivesItem ctx inner (source_in file.now) result sections.new (state_in table p.new) p.new.text (stepped_after p.old.text (item_step ctx inner (source_in file.now) k (item_in item.now) sections.old (state_in table p.old))) }
 {

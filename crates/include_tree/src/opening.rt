@@ -3,11 +3,10 @@ ghost use Rattle.std.specs.Prelude.{◌≡◌, false, IfOk, IfErr, IsSome};
 ghost use Rattle.std.specs.Str.{bytes_eq};
 ghost use Rattle.part_lexer.specs.FileText.{file_text};
 ghost use Rattle.include_tree.specs.Limits.{the_limits};
-ghost use Rattle.include_tree.specs.Files.{Source, lines_path};
+ghost use Rattle.include_tree.specs.Files.{lines_path};
 ghost use Rattle.include_tree.specs.Faults.{first_place};
 ghost use Rattle.include_tree.specs.Opening.{opening};
-ghost use Rattle.include_tree.specs.Answers.{IsNoReadFault};
-ghost use Rattle.include_tree.specs.Laws.{Widens};
+ghost use Rattle.include_tree.specs.Answers.{IsNoReadFault, Keeps};
 ghost use Rattle.include_tree.specs.Sources.{source_at, GivesOpening};
 
 use crate::cache::Cache;
@@ -26,8 +25,7 @@ pub(crate) fn open_file(
     requires other { bytes_eq path.now lines_path ≡ false }
     ensures answer { GivesOpening result (opening the_limits file_text place.now path.now cache.old.table) cache.new.table }
     ensures there { IfOk result (λ n. IsSome (source_at cache.new.table n)) }
-    ensures widens { (source : Source) → Widens source cache.old.table cache.new.table }
-    ensures toks { cache.new.toks ≡ cache.old.toks }
+    ensures keeps { Keeps cache.old cache.new }
     ensures no_read { IfErr result IsNoReadFault }
 {
     cache.open(alloc, path, place)

@@ -46,7 +46,7 @@ pub(crate) fn link_name(text: &mut UnitText, names: &FirstNames, name: &Tok) -> 
 }
 
 impl Progress {
-    ghost use Rattle.include_tree.specs.Moments.{state_in, IsAble, named_in, with_event};
+    ghost use Rattle.include_tree.specs.Moments.{state_in, IsAble, named_in, with_event, GoesOn};
 
     /// A name that is processed: it is linked with the first one of its spelling, or is the first.
     pub(crate) fn process_name(&mut self, name: &Tok) -> Result<(), Memory>
@@ -86,9 +86,8 @@ impl Progress {
     ) -> Result<Vec<Tok>, PreFault>
         requires sound { IsTrue (list_all (λ t. is_traced t && is_low t) toks.now) }
         requires able { IsAble self.old }
-        ensures able { OnOk result (IsAble self.new) }
+        ensures goes_on { GoesOn self.old self.new result }
         ensures few { IfOk result (λ out. length out.items < 2 ^ 32) }
-        ensures most { self.new.most ≡ self.old.most }
         ensures no_read { IfErr result IsNoReadFault }
         ensures answer { (table : Table) → Gives (λ out. (out.items, state_in table self.new, self.new.text)) fault_of result (kept_after self.old.text (expanded_in run (source_in file.now) toks.now (state_in table self.old))) }
     {
@@ -116,8 +115,7 @@ impl Progress {
     /// Tokens are put out.
     pub(crate) fn put_out(&mut self, file: &SourceText, out: Vec<Tok>) -> Result<(), PreFault>
         requires able { IsAble self.old }
-        ensures able { OnOk result (IsAble self.new) }
-        ensures most { self.new.most ≡ self.old.most }
+        ensures goes_on { GoesOn self.old self.new result }
         ensures no_read { IfErr result IsNoReadFault }
         ensures answer { (ctx : Context) (table : Table) → most_toks ctx ≡ self.old.most → Gives (λ _. (state_in table self.new, self.new.text)) fault_of result (put_after self.old.text (put_out ctx (source_in file.now) out.items (state_in table self.old))) }
     {
@@ -133,8 +131,7 @@ impl Progress {
     pub(crate) fn run_of(&mut self, file: &SourceText, toks: &[Tok]) -> Result<(), PreFault>
         requires sound { IsTrue (list_all (λ t. is_traced t && is_low t) toks.now) }
         requires able { IsAble self.old }
-        ensures able { OnOk result (IsAble self.new) }
-        ensures most { self.new.most ≡ self.old.most }
+        ensures goes_on { GoesOn self.old self.new result }
         ensures no_read { IfErr result IsNoReadFault }
         ensures answer { (ctx : Context) (table : Table) → most_toks ctx ≡ self.old.most → Gives (λ _. (state_in table self.new, self.new.text)) fault_of result (put_after self.old.text (run_of ctx (source_in file.now) toks.now (state_in table self.old))) }
     {

@@ -2,11 +2,12 @@
 ghost use Rattle.std.specs.Prelude.{◌≡◌, ◌<◌, true, not, None, IfOk, IfErr, OnOk, IfSome, get_or, length, []};
 ghost use Rattle.std.specs.List.{list_all};
 ghost use Rattle.std.specs.Option.{option_map};
+ghost use Rattle.cs_base.specs.Outside.{ReadsOnly};
 ghost use Rattle.include_tree.specs.Files.{Source, asked, found_at};
-ghost use Rattle.include_tree.specs.Laws.{AreFound, OnlyAsks};
+ghost use Rattle.include_tree.specs.Laws.{AreFound};
 ghost use Rattle.include_tree.specs.Search.{can_be_asked, searched, search};
 ghost use Rattle.include_tree.specs.Statuses.{is_missing};
-ghost use Rattle.include_tree.specs.Answers.{fault_of, ReadCounts};
+ghost use Rattle.include_tree.specs.Answers.{fault_of, reads_of, AsksOn};
 
 use crate::cache::Cache;
 use crate::pre_fault::PreFault;
@@ -22,13 +23,11 @@ pub(crate) fn ask_bytes<F: Files>(
     path: &[u8],
 ) -> Result<bool, PreFault>
     requires { can_be_asked path.now ≡ true }
-    ensures held { F.held files.new ≡ F.held files.old }
     ensures answer { (source : Source) → AreFound source cache.new.table → OnOk result (cache.new.table ≡ asked source path.now cache.old.table) }
     ensures there { IfOk result (λ there. is_missing (found_at path.now cache.new.table) ≡ not there) }
-    ensures only { OnlyAsks (F.held files.old) cache.old.table cache.new.table }
+    ensures asks { AsksOn (F.told files.old).held cache.old cache.new }
     ensures no_fault { IfErr result (λ e. fault_of e ≡ None) }
-    ensures toks { cache.new.toks ≡ cache.old.toks }
-    ensures faults { ReadCounts (F.failed_reads files.old) (F.failed_reads files.new) (F.failed_puts files.old) (F.failed_puts files.new) (F.last_failed files.old) (F.last_failed files.new) result }
+    ensures faults { ReadsOnly (F.told files.old) (F.told files.new) (reads_of result) }
 {
     match str::from_utf8(path) {
         Ok(text) => cache.ask(alloc, files, text),
@@ -44,13 +43,11 @@ pub(crate) fn search<F: Files>(
     paths: &[Text],
 ) -> Result<Option<usize>, PreFault>
     requires { list_all can_be_asked paths.now ≡ true }
-    ensures held { F.held files.new ≡ F.held files.old }
     ensures answer { (source : Source) → AreFound source cache.new.table → IfOk result (λ at. search source paths.now cache.old.table ≡ searched (option_map (λ i. get_or paths.now i []) at) cache.new.table) }
     ensures within { IfOk result (λ at. IfSome at (λ i. i < length paths.now)) }
-    ensures only { OnlyAsks (F.held files.old) cache.old.table cache.new.table }
+    ensures asks { AsksOn (F.told files.old).held cache.old cache.new }
     ensures no_fault { IfErr result (λ e. fault_of e ≡ None) }
-    ensures toks { cache.new.toks ≡ cache.old.toks }
-    ensures faults { ReadCounts (F.failed_reads files.old) (F.failed_reads files.new) (F.failed_puts files.old) (F.failed_puts files.new) (F.last_failed files.old) (F.last_failed files.new) result }
+    ensures faults { ReadsOnly (F.told files.old) (F.told files.new) (reads_of result) }
 {
     for i in 0..paths.len() {
         match ask_bytes(alloc, cache, files, paths[i].bytes()) {

@@ -12,7 +12,7 @@ ghost use Rattle.include_tree.specs.Answers.{fault_of, IsNoReadFault};
 ghost use Rattle.include_tree.specs.Keeping.{kept_after};
 ghost use Rattle.include_tree.specs.SourceTexts.{source_in};
 ghost use Rattle.include_tree.specs.ItemTexts.{item_in};
-ghost use Rattle.include_tree.specs.Moments.{state_in, IsAble};
+ghost use Rattle.include_tree.specs.Moments.{state_in, IsAble, GoesOn};
 ghost use Rattle.include_tree.specs.OpenSections.{group_of, turn_in};
 ghost use Rattle.include_tree.specs.Walking.{stepped_after, elif_of, else_of, endif_of};
 
@@ -86,8 +86,7 @@ impl Progress {
     fn opens_with(&mut self, file: &SourceText, item: &ItemToks) -> Result<bool, PreFault>
         requires sound { IsTrue (list_all (λ t. is_traced t && is_low t) item.now.toks.now) }
         requires able { IsAble self.old }
-        ensures able { OnOk result (IsAble self.new) }
-        ensures most { self.new.most ≡ self.old.most }
+        ensures goes_on { GoesOn self.old self.new result }
         ensures no_read { IfErr result IsNoReadFault }
         ensures answer { (table : Table) → Gives (λ b. (b, state_in table self.new, self.new.text)) fault_of result (kept_after self.old.text (opens_with item.now.kind (source_in file.now) item.now.at item.now.toks.now (state_in table self.old))) }
     {
@@ -110,8 +109,7 @@ pub(crate) fn open_section(
 ) -> Result<(), PreFault>
     requires sound { IsTrue (list_all (λ t. is_traced t && is_low t) item.now.toks.now) }
     requires able { IsAble p.old }
-    ensures able { OnOk result (IsAble p.new) }
-    ensures most { p.new.most ≡ p.old.most }
+    ensures goes_on { GoesOn p.old p.new result }
     ensures no_read { IfErr result IsNoReadFault }
     ensures answer { (table : Table) → Gives (λ _. (sections.new, state_in table p.new, p.new.text)) fault_of result (stepped_after p.old.text (opens (source_in file.now) k (item_in item.now) sections.old (state_in table p.old))) }
 {
@@ -138,8 +136,7 @@ fn asked_group(
 ) -> Result<Group, PreFault>
     requires sound { IsTrue (list_all (λ t. is_traced t && is_low t) item.now.toks.now) }
     requires able { IsAble p.old }
-    ensures able { OnOk result (IsAble p.new) }
-    ensures most { p.new.most ≡ p.old.most }
+    ensures goes_on { GoesOn p.old p.new result }
     ensures no_read { IfErr result IsNoReadFault }
     ensures answer { (table : Table) (open_ : Section) (around : List Section) → Gives (λ g. (section open_.opening (group_of g) false ∷ around, state_in table p.new, p.new.text)) fault_of result (stepped_after p.old.text (goes_on (source_in file.now) k (item_in item.now) open_ around (state_in table p.old) Awaited)) }
 {
@@ -160,8 +157,7 @@ fn next_group(
 ) -> Result<Group, PreFault>
     requires sound { IsTrue (list_all (λ t. is_traced t && is_low t) item.now.toks.now) }
     requires able { IsAble p.old }
-    ensures able { OnOk result (IsAble p.new) }
-    ensures most { p.new.most ≡ p.old.most }
+    ensures goes_on { GoesOn p.old p.new result }
     ensures no_read { IfErr result IsNoReadFault }
     ensures answer { (table : Table) (open_ : Section) (around : List Section) → Gives (λ g. (section open_.opening (group_of g) false ∷ around, state_in table p.new, p.new.text)) fault_of result (stepped_after p.old.text (goes_on (source_in file.now) k (item_in item.now) open_ around (state_in table p.old) (group_of group))) }
 {
@@ -189,8 +185,7 @@ pub(crate) fn elif_line(
 ) -> Result<(), PreFault>
     requires sound { IsTrue (list_all (λ t. is_traced t && is_low t) item.now.toks.now) }
     requires able { IsAble p.old }
-    ensures able { OnOk result (IsAble p.new) }
-    ensures most { p.new.most ≡ p.old.most }
+    ensures goes_on { GoesOn p.old p.new result }
     ensures no_read { IfErr result IsNoReadFault }
     ensures answer { (table : Table) → Gives (λ _. (sections.new, state_in table p.new, p.new.text)) fault_of result (stepped_after p.old.text (elif_of (source_in file.now) k (item_in item.now) sections.old (state_in table p.old))) }
 {
@@ -214,8 +209,7 @@ pub(crate) fn elif_line(
 // An item is reached unless its section is skipped.
 fn reach_alive(p: &mut Progress, file: &SourceText, k: u32, group: Group) -> Result<(), Memory>
     requires able { IsAble p.old }
-    ensures able { OnOk result (IsAble p.new) }
-    ensures most { p.new.most ≡ p.old.most }
+    ensures goes_on { GoesOn p.old p.new result }
     ensures answer { (table : Table) (sections : List Section) → IfOk result (λ _. stepped_after p.old.text (reaching_alive (source_in file.now) k (group_of group) (state_in table p.old) (only (stepped [] sections) (state_in table p.old))) ≡ Ok (sections, state_in table p.new, p.new.text)) }
 {
     if !is_alive(group) {
@@ -234,8 +228,7 @@ pub(crate) fn else_line(
     sections: &mut Sections,
 ) -> Result<(), PreFault>
     requires able { IsAble p.old }
-    ensures able { OnOk result (IsAble p.new) }
-    ensures most { p.new.most ≡ p.old.most }
+    ensures goes_on { GoesOn p.old p.new result }
     ensures no_read { IfErr result IsNoReadFault }
     ensures answer { (table : Table) → Gives (λ _. (sections.new, state_in table p.new, p.new.text)) fault_of result (stepped_after p.old.text (else_of (source_in file.now) k (item_in item.now) sections.old (state_in table p.old))) }
 {
@@ -261,8 +254,7 @@ pub(crate) fn endif_line(
     sections: &mut Sections,
 ) -> Result<(), PreFault>
     requires able { IsAble p.old }
-    ensures able { OnOk result (IsAble p.new) }
-    ensures most { p.new.most ≡ p.old.most }
+    ensures goes_on { GoesOn p.old p.new result }
     ensures no_read { IfErr result IsNoReadFault }
     ensures answer { (table : Table) → Gives (λ _. (sections.new, state_in table p.new, p.new.text)) fault_of result (stepped_after p.old.text (endif_of (source_in file.now) k (item_in item.now) sections.old (state_in table p.old))) }
 {

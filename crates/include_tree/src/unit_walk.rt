@@ -3,18 +3,19 @@ ghost use Rattle.std.specs.Prelude.{◌≡◌, None, true, IfOk, IfErr, IfSome, 
 ghost use Rattle.cs_base.specs.Answer.{Gives};
 ghost use Rattle.cs_base.specs.Units.{defines_text};
 ghost use Rattle.part_lexer.specs.FileText.{file_text};
+ghost use Rattle.cs_base.specs.Outside.{ReadsOnly};
 ghost use Rattle.include_tree.specs.Limits.{the_limits};
 ghost use Rattle.include_tree.specs.Files.{Source, Made, defines_path, found_at, numbered, asked};
 ghost use Rattle.include_tree.specs.Faults.{first_place};
 ghost use Rattle.include_tree.specs.Search.{can_be_asked};
 ghost use Rattle.include_tree.specs.Opening.{opening};
 ghost use Rattle.include_tree.specs.Unit.{outer_file, main_file};
-ghost use Rattle.include_tree.specs.Laws.{AreFound, IsGrown, Widens, StaysHeld};
+ghost use Rattle.include_tree.specs.Laws.{AreFound, IsGrown, StaysHeld};
 ghost use Rattle.include_tree.specs.Texts.{preprocessed};
 ghost use Rattle.include_tree.specs.Keeping.{put_after};
-ghost use Rattle.include_tree.specs.Moments.{state_in, IsAble};
+ghost use Rattle.include_tree.specs.Moments.{state_in, GoesOn, IsReady};
 ghost use Rattle.include_tree.specs.Sources.{source_at, unit_context, unit_most, GivesOpening};
-ghost use Rattle.include_tree.specs.Answers.{fault_of, with_text, IsNoReadFault, ReadCounts, ReadsOn};
+ghost use Rattle.include_tree.specs.Answers.{fault_of, with_text, IsNoReadFault, reads_of, ReadsOn, Keeps};
 
 use crate::cache::Cache;
 use crate::opening::{first_place, open_file};
@@ -35,8 +36,7 @@ fn make_defines(alloc: Global, cache: &mut Cache, unit: &Unit, number: u32) -> R
     ensures answer { found_at (defines_path number) cache.old.table ≡ None → GivesOpening result (opening the_limits file_text (first_place (defines_path number)) (defines_path number)
         (numbered (defines_path number) (Made (defines_text unit.now.settings)) cache.old.table)) cache.new.table }
     ensures there { IfOk result (λ n. IsSome (source_at cache.new.table n)) }
-    ensures widens { (source : Source) → Widens source cache.old.table cache.new.table }
-    ensures toks { cache.new.toks ≡ cache.old.toks }
+    ensures keeps { Keeps cache.old cache.new }
     ensures no_read { IfErr result IsNoReadFault }
 {
     let path = defines_path(alloc, number)?;
@@ -57,16 +57,13 @@ fn walk_defines<F: Files>(
     unit: &Unit,
     number: u32,
 ) -> Result<(), PreFault>
-    requires able { IsAble p.old }
-    requires limited { p.old.most ≡ unit_most cache.old.toks }
-    ensures held { F.held files.new ≡ F.held files.old }
+    requires ready { IsReady p.old (unit_most cache.old.toks) }
     ensures answer { found_at (defines_path number) cache.old.table ≡ None → (source : Source) → AreFound source cache.new.table →
         Gives (λ _. (state_in cache.new.table p.new, p.new.text)) fault_of result (put_after p.old.text (outer_file (unit_context source unit.now.ipath cache.old.toks) (defines_path number)
         (state_in (numbered (defines_path number) (Made (defines_text unit.now.settings)) cache.old.table) p.old))) }
-    ensures able { OnOk result (IsAble p.new) }
-    ensures most { p.new.most ≡ p.old.most }
-    ensures reads { ReadsOn (F.held files.old) cache.old cache.new }
-    ensures faults { ReadCounts (F.failed_reads files.old) (F.failed_reads files.new) (F.failed_puts files.old) (F.failed_puts files.new) (F.last_failed files.old) (F.last_failed files.new) result }
+    ensures goes_on { GoesOn p.old p.new result }
+    ensures reads { ReadsOn (F.told files.old).held cache.old cache.new }
+    ensures faults { ReadsOnly (F.told files.old) (F.told files.new) (reads_of result) }
 {
     match make_defines(alloc, cache, unit, number) {
         Ok(defines) => walk_file(alloc, cache, files, p, unit.ipath(), defines, MOST_INSIDE),
@@ -82,12 +79,11 @@ fn open_main<F: Files>(
     path: &[u8],
 ) -> Result<u32, PreFault>
     requires can { can_be_asked path.now ≡ true }
-    ensures held { F.held files.new ≡ F.held files.old }
     ensures answer { (source : Source) → AreFound source cache.new.table →
         GivesOpening result (opening the_limits file_text (first_place path.now) path.now (asked source path.now cache.old.table)) cache.new.table }
     ensures there { IfOk result (λ n. IsSome (source_at cache.new.table n)) }
-    ensures reads { ReadsOn (F.held files.old) cache.old cache.new }
-    ensures faults { ReadCounts (F.failed_reads files.old) (F.failed_reads files.new) (F.failed_puts files.old) (F.failed_puts files.new) (F.last_failed files.old) (F.last_failed files.new) result }
+    ensures reads { ReadsOn (F.told files.old).held cache.old cache.new }
+    ensures faults { ReadsOnly (F.told files.old) (F.told files.new) (reads_of result) }
 {
     match ask_bytes(alloc, cache, files, path) {
         Ok(_there) => match first_place(alloc, path) {
@@ -106,15 +102,12 @@ fn walk_main<F: Files>(
     p: &mut Progress,
     unit: &Unit,
 ) -> Result<(), PreFault>
-    requires able { IsAble p.old }
-    requires limited { p.old.most ≡ unit_most cache.old.toks }
-    ensures held { F.held files.new ≡ F.held files.old }
+    requires ready { IsReady p.old (unit_most cache.old.toks) }
     ensures answer { (source : Source) → AreFound source cache.new.table → Gives (λ _. (state_in cache.new.table p.new, p.new.text)) fault_of result
         (put_after p.old.text (main_file (unit_context source unit.now.ipath cache.old.toks) unit.now.path (state_in cache.old.table p.old))) }
-    ensures able { OnOk result (IsAble p.new) }
-    ensures most { p.new.most ≡ p.old.most }
-    ensures reads { ReadsOn (F.held files.old) cache.old cache.new }
-    ensures faults { ReadCounts (F.failed_reads files.old) (F.failed_reads files.new) (F.failed_puts files.old) (F.failed_puts files.new) (F.last_failed files.old) (F.last_failed files.new) result }
+    ensures goes_on { GoesOn p.old p.new result }
+    ensures reads { ReadsOn (F.told files.old).held cache.old cache.new }
+    ensures faults { ReadsOnly (F.told files.old) (F.told files.new) (reads_of result) }
 {
     match open_main(alloc, cache, files, unit.path().bytes()) {
         Ok(main) => walk_file(alloc, cache, files, p, unit.ipath(), main, MOST_INSIDE),
@@ -143,17 +136,15 @@ pub fn preprocess<F: Files>(
     unit: &Unit,
     number: u32,
 ) -> Result<UnitText, PreFault>
-    ensures held { F.held files.new ≡ F.held files.old }
     // What is kept stays what the files hold, where that is told.
-    ensures found { StaysHeld (F.held files.old) cache.old.table cache.new.table }
+    ensures found { StaysHeld (F.told files.old).held cache.old.table cache.new.table }
     // The files that were read are kept, also after a refusal, and then no tokens are counted.
     ensures grown { IsGrown cache.old.table cache.new.table }
     ensures counted { OnErr result (cache.new.toks ≡ cache.old.toks) }
     // Where the pseudo file of the unit was not met yet: over every source that holds what is then kept.
     ensures answer { found_at (defines_path number) cache.old.table ≡ None → (source : Source) → AreFound source cache.new.table →
         Gives (with_text cache.new) fault_of result (preprocessed source number unit.now cache.old) }
-    ensures faults { ReadCounts (F.failed_reads files.old) (F.failed_reads files.new)
-        (F.failed_puts files.old) (F.failed_puts files.new) (F.last_failed files.old) (F.last_failed files.new) result }
+    ensures faults { ReadsOnly (F.told files.old) (F.told files.new) (reads_of result) }
 {
     let mut p = match Progress::begin(alloc, cache.most()) {
         Ok(p) => p,

@@ -8,13 +8,12 @@ use crate::progress::Progress;
 use cs_base::{Memory, Pos};
 
 impl Progress {
-    ghost use Rattle.include_tree.specs.Moments.{IsAble};
+    ghost use Rattle.include_tree.specs.Moments.{IsAble, GoesOn};
 
     /// Item number `item` of a file stands in a processed group.
     pub(crate) fn reach(&mut self, file: u32, item: u32, evaluated: bool) -> Result<(), Memory>
         requires able { IsAble self.old }
-        ensures able { OnOk result (IsAble self.new) }
-        ensures most { self.new.most ≡ self.old.most }
+        ensures goes_on { GoesOn self.old self.new result }
         ensures noted { IfOk result (λ _. self.new ≡ record self.old { text = noted_in self.old.text (Reaches file item evaluated (length self.old.text.toks) ∷ []) }) }
     {
         let before = self.text.before();
@@ -25,8 +24,7 @@ impl Progress {
     /// The items of a file begin, which an include line whose `#` is there includes.
     pub(crate) fn enter(&mut self, at: Pos, file: u32) -> Result<(), Memory>
         requires able { IsAble self.old }
-        ensures able { OnOk result (IsAble self.new) }
-        ensures most { self.new.most ≡ self.old.most }
+        ensures goes_on { GoesOn self.old self.new result }
         ensures noted { IfOk result (λ _. self.new ≡ record self.old { text = noted_in self.old.text (Entered at file (length self.old.text.toks) ∷ []) }) }
     {
         let before = self.text.before();
@@ -37,8 +35,7 @@ impl Progress {
     /// They end.
     pub(crate) fn leave(&mut self, at: Pos, file: u32) -> Result<(), Memory>
         requires able { IsAble self.old }
-        ensures able { OnOk result (IsAble self.new) }
-        ensures most { self.new.most ≡ self.old.most }
+        ensures goes_on { GoesOn self.old self.new result }
         ensures noted { IfOk result (λ _. self.new ≡ record self.old { text = noted_in self.old.text (Exited at file (length self.old.text.toks) ∷ []) }) }
     {
         let before = self.text.before();

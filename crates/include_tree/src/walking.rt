@@ -1,6 +1,7 @@
 // The walk over the items of a file and of those that it includes (6.10).
 ghost use Rattle.std.specs.Prelude.{◌≡◌, ◌-◌, IfOk, IfErr, IfSome, IsSome, OnOk, length, slice_get};
 ghost use Rattle.cs_base.specs.Answer.{Gives};
+ghost use Rattle.cs_base.specs.Outside.{ReadsOnly};
 ghost use Rattle.include_tree.specs.Files.{Source};
 ghost use Rattle.include_tree.specs.Faults.{fault_at};
 ghost use Rattle.include_tree.specs.State.{Context, State};
@@ -8,10 +9,10 @@ ghost use Rattle.include_tree.specs.Expanding.{most_toks};
 ghost use Rattle.include_tree.specs.Including.{Inner, entered, included};
 ghost use Rattle.include_tree.specs.Walk.{items_in, item_step, file_end, file_items};
 ghost use Rattle.include_tree.specs.Texts.{UnitTextValue};
-ghost use Rattle.include_tree.specs.Answers.{fault_of, IsNoReadFault, ReadCounts, ReadsOn};
+ghost use Rattle.include_tree.specs.Answers.{fault_of, IsNoReadFault, reads_of, ReadsOn};
 ghost use Rattle.include_tree.specs.Laws.{AreFound};
 ghost use Rattle.include_tree.specs.Keeping.{put_after};
-ghost use Rattle.include_tree.specs.Moments.{state_in, IsAble};
+ghost use Rattle.include_tree.specs.Moments.{state_in, IsAble, GoesOn, IsReady};
 ghost use Rattle.include_tree.specs.Sources.{source_kept, source_at, unit_context, unit_most};
 ghost use Rattle.include_tree.specs.Walking.{stepped_after, inner_in, GivesItem};
 
@@ -81,8 +82,7 @@ fn next_item(
 ) -> Result<Option<IncludeLine>, PreFault>
     requires kept { IsSome (source_at cache.now.table number) }
     requires able { IsAble p.old }
-    ensures able { OnOk result (IsAble p.new) }
-    ensures most { p.new.most ≡ p.old.most }
+    ensures goes_on { GoesOn p.old p.new result }
     ensures no_read { IfErr result IsNoReadFault }
     ensures answer { (ctx : Context) (inner : Inner) → most_toks ctx ≡ p.old.most → IfSome (source_at cache.now.table number) (λ file. IfSome (slice_get (items_in file) k) (λ i. GivesItem ctx inner file result sections.new (state_in cache.now.table p.new) p.new.text (stepped_after p.old.text (item_step ctx inner file k i sections.old (state_in cache.now.table p.old))))) }
 {
@@ -105,16 +105,13 @@ pub(crate) fn walk_file<F: Files>(
     room: u32,
 ) -> Result<(), PreFault>
     requires kept { IsSome (source_at cache.old.table number) }
-    requires able { IsAble p.old }
-    requires limited { p.old.most ≡ unit_most cache.old.toks }
-    ensures held { F.held files.new ≡ F.held files.old }
+    requires ready { IsReady p.old (unit_most cache.old.toks) }
     ensures answer { (source : Source) → AreFound source cache.new.table → IfSome (source_at cache.old.table number) (λ file.
         Gives (λ _. (state_in cache.new.table p.new, p.new.text)) fault_of result
         (put_after p.old.text (file_items (unit_context source ipath.now cache.old.toks) room file (state_in cache.old.table p.old)))) }
-    ensures able { OnOk result (IsAble p.new) }
-    ensures most { p.new.most ≡ p.old.most }
-    ensures reads { ReadsOn (F.held files.old) cache.old cache.new }
-    ensures faults { ReadCounts (F.failed_reads files.old) (F.failed_reads files.new) (F.failed_puts files.old) (F.failed_puts files.new) (F.last_failed files.old) (F.last_failed files.new) result }
+    ensures goes_on { GoesOn p.old p.new result }
+    ensures reads { ReadsOn (F.told files.old).held cache.old cache.new }
+    ensures faults { ReadsOnly (F.told files.old) (F.told files.new) (reads_of result) }
 {
     let mut sections = Sections::new(alloc);
     let count = item_count(cache, number)?;
@@ -151,16 +148,13 @@ fn walk_item<F: Files>(
     sections: &mut Sections,
 ) -> Result<(), PreFault>
     requires kept { IsSome (source_at cache.old.table number) }
-    requires able { IsAble p.old }
-    requires limited { p.old.most ≡ unit_most cache.old.toks }
-    ensures held { F.held files.new ≡ F.held files.old }
+    requires ready { IsReady p.old (unit_most cache.old.toks) }
     ensures answer { (source : Source) → AreFound source cache.new.table → IfSome (source_at cache.old.table number) (λ file. IfSome (slice_get (items_in file) k) (λ i.
         Gives (λ _. (sections.new, state_in cache.new.table p.new, p.new.text)) fault_of result
         (stepped_after p.old.text (item_step (unit_context source ipath.now cache.old.toks) (inner_in (unit_context source ipath.now cache.old.toks) room) file k i sections.old (state_in cache.old.table p.old))))) }
-    ensures able { OnOk result (IsAble p.new) }
-    ensures most { p.new.most ≡ p.old.most }
-    ensures reads { ReadsOn (F.held files.old) cache.old cache.new }
-    ensures faults { ReadCounts (F.failed_reads files.old) (F.failed_reads files.new) (F.failed_puts files.old) (F.failed_puts files.new) (F.last_failed files.old) (F.last_failed files.new) result }
+    ensures goes_on { GoesOn p.old p.new result }
+    ensures reads { ReadsOn (F.told files.old).held cache.old cache.new }
+    ensures faults { ReadsOnly (F.told files.old) (F.told files.new) (reads_of result) }
 {
     match next_item(cache, p, number, k, sections) {
         Ok(Some(line)) => include_file(
@@ -193,16 +187,13 @@ fn include_file<F: Files>(
     header: &Header,
 ) -> Result<(), PreFault>
     requires kept { IsSome (source_at cache.old.table number) }
-    requires able { IsAble p.old }
-    requires limited { p.old.most ≡ unit_most cache.old.toks }
-    ensures held { F.held files.new ≡ F.held files.old }
+    requires ready { IsReady p.old (unit_most cache.old.toks) }
     ensures answer { (source : Source) → AreFound source cache.new.table → IfSome (source_at cache.old.table number) (λ file.
         Gives (λ _. (state_in cache.new.table p.new, p.new.text)) fault_of result
         (put_after p.old.text (included (unit_context source ipath.now cache.old.toks) (inner_in (unit_context source ipath.now cache.old.toks) room) file at header.now (state_in cache.old.table p.old)))) }
-    ensures able { OnOk result (IsAble p.new) }
-    ensures most { p.new.most ≡ p.old.most }
-    ensures reads { ReadsOn (F.held files.old) cache.old cache.new }
-    ensures faults { ReadCounts (F.failed_reads files.old) (F.failed_reads files.new) (F.failed_puts files.old) (F.failed_puts files.new) (F.last_failed files.old) (F.last_failed files.new) result }
+    ensures goes_on { GoesOn p.old p.new result }
+    ensures reads { ReadsOn (F.told files.old).held cache.old cache.new }
+    ensures faults { ReadsOnly (F.told files.old) (F.told files.new) (reads_of result) }
 {
     if room == 0 {
         return Err(fault_in(alloc, cache, number, at, Cause::IncludeDepth));
@@ -226,16 +217,13 @@ fn enter_file<F: Files>(
     at: Pos,
 ) -> Result<(), PreFault>
     requires kept { IsSome (source_at cache.old.table number) }
-    requires able { IsAble p.old }
-    requires limited { p.old.most ≡ unit_most cache.old.toks }
-    ensures held { F.held files.new ≡ F.held files.old }
+    requires ready { IsReady p.old (unit_most cache.old.toks) }
     ensures answer { (source : Source) → AreFound source cache.new.table → IfSome (source_at cache.old.table number) (λ file.
         Gives (λ _. (state_in cache.new.table p.new, p.new.text)) fault_of result
         (put_after p.old.text (entered (file_items (unit_context source ipath.now cache.old.toks) room) at file (state_in cache.old.table p.old)))) }
-    ensures able { OnOk result (IsAble p.new) }
-    ensures most { p.new.most ≡ p.old.most }
-    ensures reads { ReadsOn (F.held files.old) cache.old cache.new }
-    ensures faults { ReadCounts (F.failed_reads files.old) (F.failed_reads files.new) (F.failed_puts files.old) (F.failed_puts files.new) (F.last_failed files.old) (F.last_failed files.new) result }
+    ensures goes_on { GoesOn p.old p.new result }
+    ensures reads { ReadsOn (F.told files.old).held cache.old cache.new }
+    ensures faults { ReadsOnly (F.told files.old) (F.told files.new) (reads_of result) }
 {
     p.enter(at, number)?;
     match walk_file(alloc, cache, files, p, ipath, number, room) {

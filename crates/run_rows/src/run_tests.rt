@@ -235,15 +235,9 @@ struct Forgetful {
 }
 
 impl Files for Forgetful {
-    ghost use Rattle.std.specs.Prelude.{Some};
+    ghost use Rattle.cs_base.specs.World.{told_of};
 
-    ghost held = { λ f. Some f.files.files };
-
-    ghost failed_reads = { λ f. f.files.failed_reads };
-
-    ghost failed_puts = { λ f. f.files.failed_puts };
-
-    ghost last_failed = { λ f. f.files.last_failed };
+    ghost told = { λ f. told_of f.files };
 
     fn read(&mut self, alloc: Global, path: &str) -> Got {
         self.reads = self.reads.saturating_add(1);

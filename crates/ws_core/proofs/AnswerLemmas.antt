@@ -1,5 +1,5 @@
 -- The answer of one unit, with its number.
-use Rattle.std.proofs.Common.{◌≡◌, ℕ, zero, suc, ◌+◌, ◌-◌, ◌<◌, ◌≤◌, ◌^◌, List, length, get_or, Option, None, Some, Result, Ok, Err, ap, arith}
+use Rattle.std.proofs.Common.{◌≡◌, ℕ, zero, suc, ◌+◌, ◌-◌, ◌<◌, ◌≤◌, ◌^◌, List, length, get_or, Option, None, Some, Result, Ok, Err, refl, ap, arith}
 use Rattle.std.specs.Prelude.{IfSome, OnOk}
 use Rattle.std.specs.Option.{option_map}
 use Rattle.cs_base.specs.Answer.{Gives, result_then, result_map_err}
@@ -16,7 +16,7 @@ use Rattle.include_tree.proofs.FileTableLemmas.{slice_get-at}
 use Rattle.ws_core.specs.declared.analyse_fault.AnalyseFault.{AnalyseFault}
 use Rattle.ws_core.specs.declared.analyse_fault.AnalyseFault.TheVariants as answer
 use Rattle.ws_core.specs.Texts.{UnitFault, unit_fault, unit_with, unit_at, alone, one_text_of}
-use Rattle.ws_core.specs.Answers.{fault_of, ReadCounts}
+use Rattle.ws_core.specs.Answers.{fault_of, reads_of}
 use Rattle.ws_core.specs.Carrying.{IsFresh, in_unit}
 use Rattle.ws_core.proofs.CarryLemmas.{fresh_on}
 
@@ -27,12 +27,12 @@ gives_in view number (Err (unit.Fault place cause)) expected h = ap (result_map_
 gives_in view number (Err (unit.ReadFault path)) expected h = tt
 gives_in view number (Err unit.Memory) expected h = tt
 
-pub counts_in : {X : Type 0} (number reads reads' puts puts' : ℕ) (last last' : Option (List ℕ)) (r : Result X PreFault)
-    → pre.ReadCounts reads reads' puts puts' last last' r → ReadCounts reads reads' puts puts' last last' (result_map_err (in_unit number) r)
-counts_in number reads reads' puts puts' last last' (Ok x) h = record { grows = h.grows; apart = h.apart; told = h.told }
-counts_in number reads reads' puts puts' last last' (Err (unit.Fault place cause)) h = record { grows = h.grows; apart = h.apart; told = h.told }
-counts_in number reads reads' puts puts' last last' (Err (unit.ReadFault path)) h = record { grows = h.grows; apart = h.apart; told = h.told }
-counts_in number reads reads' puts puts' last last' (Err unit.Memory) h = record { grows = h.grows; apart = h.apart; told = h.told }
+-- the refusal of a unit says of reads what that with its number says
+pub reads_in : {X : Type 0} (number : ℕ) (r : Result X PreFault) → pre.reads_of r ≡ reads_of (result_map_err (in_unit number) r)
+reads_in number (Ok x) = refl
+reads_in number (Err (unit.Fault place cause)) = refl
+reads_in number (Err (unit.ReadFault path)) = refl
+reads_in number (Err unit.Memory) = refl
 
 -- what was not met behind a unit, by the answer over some source that agrees with what is carried then
 pub fresh_in : (number : ℕ) (u : UnitValue) (before after : Carried) (r : Result UnitTextValue PreFault) → IsUnit u → number < 2 ^ 32 → HasEachOnce after.table

@@ -1,6 +1,6 @@
 -- What `texts` and `one_text` answer, as contracts see it.
-use Rattle.std.specs.Prelude.{◌≡◌, ◌≤◌, ℕ, List, Option, Some, None, Result, Ok, Err, IfSome}
-use Rattle.cs_base.specs.Outside.{Rose}
+use Rattle.std.specs.Prelude.{Option, Some, None, Result, Ok, Err}
+use Rattle.cs_base.specs.Outside.{ReadEnd, NoneFailed, FailedAt, MayHaveFailed}
 use Rattle.include_tree.specs.Faults.{fault}
 use Rattle.ws_core.specs.declared.analyse_fault.AnalyseFault.{AnalyseFault}
 use Rattle.ws_core.specs.declared.analyse_fault.AnalyseFault.TheVariants as answer
@@ -12,16 +12,10 @@ fault_of (answer.WorkspaceFault unit place cause) = Some (unit_fault unit (fault
 fault_of (answer.ReadFault path) = None
 fault_of answer.Memory = None
 
--- What an answer says of the count of failed reads and of the path of the last one: after a failed read the
--- count rose and that is its path; every other answer but want of memory leaves both.
-abbrev pub TellsReads : {X : Type 0} → ℕ → ℕ → Option (List ℕ) → Option (List ℕ) → Result X AnalyseFault → Type 0
-TellsReads reads reads' last last' (Ok x) = (reads' ≡ reads) × (last' ≡ last)
-TellsReads reads reads' last last' (Err (answer.WorkspaceFault unit place cause)) = (reads' ≡ reads) × (last' ≡ last)
-TellsReads reads reads' last last' (Err (answer.ReadFault path)) = Rose reads reads' × IfSome last' (λ p. p ≡ path)
-TellsReads reads reads' last last' (Err answer.Memory) = reads ≤ reads'
-
--- What the reads do to the counts of failed reads and puts and to the last failed path.
-pub record ReadCounts {X : Type 0} (reads reads' puts puts' : ℕ) (last last' : Option (List ℕ)) (result : Result X AnalyseFault) : Type 0 where
-  pub grows : reads ≤ reads'
-  pub apart : puts' ≡ puts
-  pub told : TellsReads reads reads' last last' result
+-- What an answer says of reads: the fault of one is that of the last, and before want of memory one may have
+-- failed; every other answer says that none did.
+abbrev pub reads_of : {X : Type 0} → Result X AnalyseFault → ReadEnd
+reads_of (Ok x) = NoneFailed
+reads_of (Err (answer.WorkspaceFault unit place cause)) = NoneFailed
+reads_of (Err (answer.ReadFault path)) = FailedAt path
+reads_of (Err answer.Memory) = MayHaveFailed

@@ -1,9 +1,10 @@
 // The units of a workspace, preprocessed, read and bound one after another.
 ghost use Rattle.std.specs.Prelude.{◌≡◌, ◌≤◌, ◌+◌, ◌++◌, ◌∷◌, [], IfOk, IfSome, OnOk, length};
 ghost use Rattle.cs_base.specs.Answer.{Gives};
+ghost use Rattle.cs_base.specs.Outside.{ReadsOnly};
 ghost use Rattle.include_tree.specs.Files.{Source, Table, nothing_carried};
 ghost use Rattle.include_tree.specs.Laws.{AreFound};
-ghost use Rattle.ws_core.specs.Answers.{fault_of, ReadCounts};
+ghost use Rattle.ws_core.specs.Answers.{fault_of, reads_of};
 ghost use Rattle.ws_core.specs.Analysis.{units_and, analysis_of};
 ghost use Rattle.ws_core.specs.Carrying.{IsFresh, ReadsMore, IsOver};
 ghost use Rattle.ws_core.specs.Accepting.{passed, passed_with, units_of};
@@ -26,12 +27,11 @@ pub(crate) fn accept<F: Files>(
     ws: &Workspace,
     files: &mut F,
 ) -> Result<Accepted, AnalyseFault>
-    ensures held { F.held files.new ≡ F.held files.old }
     ensures workspace { IfOk result (λ a. a.workspace ≡ ws.now) }
     // The units, or the first fault, are so over every source that agrees with what was read; that is kept.
     ensures over { (table : Table) × IfOk result (λ a. a.table ≡ table)
-        × IsOver (F.held files.old) table (λ source. Gives (λ a. a) fault_of result (analysis_of source ws.now)) }
-    ensures faults { ReadCounts (F.failed_reads files.old) (F.failed_reads files.new) (F.failed_puts files.old) (F.failed_puts files.new) (F.last_failed files.old) (F.last_failed files.new) result }
+        × IsOver (F.told files.old).held table (λ source. Gives (λ a. a) fault_of result (analysis_of source ws.now)) }
+    ensures faults { ReadsOnly (F.told files.old) (F.told files.new) (reads_of result) }
 {
     let workspace = match ws.copy(alloc) {
         Ok(workspace) => workspace,
@@ -53,10 +53,9 @@ fn accepted_units<F: Files>(
 ) -> Result<Vec<UnitParts>, AnalyseFault>
     requires few { length units.now ≤ 1024 }
     requires first { cache.old ≡ nothing_carried }
-    ensures held { F.held files.new ≡ F.held files.old }
     ensures each { IfOk result (λ all. length all.items ≡ length units.now) }
-    ensures over { IsOver (F.held files.old) cache.new.table (λ source. Gives (λ all. units_and all.items cache.new.table) fault_of result (units_of source units.now)) }
-    ensures faults { ReadCounts (F.failed_reads files.old) (F.failed_reads files.new) (F.failed_puts files.old) (F.failed_puts files.new) (F.last_failed files.old) (F.last_failed files.new) result }
+    ensures over { IsOver (F.told files.old).held cache.new.table (λ source. Gives (λ all. units_and all.items cache.new.table) fault_of result (units_of source units.now)) }
+    ensures faults { ReadsOnly (F.told files.old) (F.told files.new) (reads_of result) }
 {
     let mut all = Vec::new(alloc);
     for i in 0..units.len() {
@@ -83,12 +82,11 @@ fn next_unit<F: Files>(
     unit: &Unit,
     number: u32,
 ) -> Result<UnitParts, AnalyseFault>
-    ensures held { F.held files.new ≡ F.held files.old }
-    ensures reads { ReadsMore (F.held files.old) cache.old.table cache.new.table }
+    ensures reads { ReadsMore (F.told files.old).held cache.old.table cache.new.table }
     ensures fresh { IsFresh number cache.old.table → OnOk result (IsFresh (number + 1) cache.new.table) }
     ensures answer { IsFresh number cache.old.table → (source : Source) → AreFound source cache.new.table →
         Gives (passed cache.new) fault_of result (passed_with source number unit.now cache.old) }
-    ensures faults { ReadCounts (F.failed_reads files.old) (F.failed_reads files.new) (F.failed_puts files.old) (F.failed_puts files.new) (F.last_failed files.old) (F.last_failed files.new) result }
+    ensures faults { ReadsOnly (F.told files.old) (F.told files.new) (reads_of result) }
 {
     match next_text(alloc, cache, files, unit, number) {
         Ok(text) => read_text(alloc, cache, number, unit.path().bytes(), text),

@@ -2,13 +2,14 @@
 ghost use Rattle.std.specs.Prelude.{◌≡◌, ◌≤◌, ◌-◌, Some, IfOk, IfSome, length, slice_get, option_copied};
 ghost use Rattle.std.specs.Option.{option_map};
 ghost use Rattle.cs_base.specs.Answer.{Gives};
+ghost use Rattle.cs_base.specs.Outside.{ReadsOnly};
 ghost use Rattle.include_tree.specs.Faults.{place_of};
 ghost use Rattle.include_tree.specs.Files.{Table, source_of};
 ghost use Rattle.include_tree.specs.KeptFiles.{kept_at};
 ghost use Rattle.include_tree.specs.Laws.{AreText, HasEachOnce};
 ghost use Rattle.ws_core.specs.Analysis.{analysis_of};
 ghost use Rattle.ws_core.specs.AnalysisAnswers.{IsAnalysedOr};
-ghost use Rattle.ws_core.specs.Answers.{fault_of, ReadCounts};
+ghost use Rattle.ws_core.specs.Answers.{fault_of, reads_of};
 ghost use Rattle.ws_core.specs.Carrying.{IsOver};
 ghost use Rattle.ws_core.specs.Classes.{AreItsClasses};
 ghost use Rattle.ws_core.specs.Naming.{Names};
@@ -74,15 +75,14 @@ pub fn analyse<F: Files>(
     ws: &Workspace,
     files: &mut F,
 ) -> Result<Analysis, AnalyseFault>
-    ensures held { F.held files.new ≡ F.held files.old }
     // The workspace is kept, and the classes are those of the links of its units.
     ensures whole { IfOk result (λ a. (a.value.workspace ≡ ws.now) × AreItsClasses a.value a.classes) }
     // The analysis, or the first fault, is so over every source that agrees with what was read; that is kept.
     ensures over { (table : Table) × IfOk result (λ a. a.value.table ≡ table)
-        × IsOver (F.held files.old) table (λ source. Gives (λ a. a.value) fault_of result (analysis_of source ws.now)) }
+        × IsOver (F.told files.old).held table (λ source. Gives (λ a. a.value) fault_of result (analysis_of source ws.now)) }
     // So it is over what the files hold, where that is told.
-    ensures answer { IfSome (F.held files.old) (λ held. Gives (λ a. a.value) fault_of result (analysis_of (source_of held) ws.now)) }
-    ensures faults { ReadCounts (F.failed_reads files.old) (F.failed_reads files.new) (F.failed_puts files.old) (F.failed_puts files.new) (F.last_failed files.old) (F.last_failed files.new) result }
+    ensures answer { IfSome (F.told files.old).held (λ held. Gives (λ a. a.value) fault_of result (analysis_of (source_of held) ws.now)) }
+    ensures faults { ReadsOnly (F.told files.old) (F.told files.new) (reads_of result) }
 {
     match accept(alloc, ws, files) {
         Ok(accepted) => analysed(alloc, accepted),

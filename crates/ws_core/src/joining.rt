@@ -1,9 +1,7 @@
 // One link, joined.
-ghost use Rattle.std.specs.Prelude.{◌≡◌, ◌<◌, ◌++◌, ◌∷◌, [], List, OnOk};
-ghost use Rattle.cs_base.specs.Token.{Token};
-ghost use Rattle.eclass_map.specs.ClassTable.{AreLinks, AreWhole, HasParts, added_tokens};
+ghost use Rattle.std.specs.Prelude.{◌≡◌, ◌<◌, ◌∷◌, [], OnOk};
 ghost use Rattle.line_shape.specs.Signs.{is_name};
-ghost use Rattle.ws_core.specs.Joins.{Joins, link_of};
+ghost use Rattle.ws_core.specs.Joins.{CanBeJoined, Joins, JoinsPair, link_of};
 ghost use Rattle.ws_core.specs.Links.{are_alike};
 
 use cs_base::{Kind, Memory, Steps, Tok};
@@ -47,12 +45,8 @@ fn join_whole<L: Ledger>(x: &Tok, y: &Tok, classes: &mut Classes, blank: Blank)
     requires name { blank.name ≡ L.name }
     requires parts { blank.parts ≡ L.parts }
     requires some { 0 < blank.parts }
-    requires equal { x.now.text ≡ y.now.text }
-    requires whole_x { AreWhole classes.old x.now.origins }
-    requires whole_y { AreWhole classes.old y.now.origins }
-    ensures tokens { added_tokens classes.new ≡ added_tokens classes.old }
-    ensures parts { HasParts classes.new }
-    ensures links { (links : List (Token × Token)) → AreLinks links classes.old → AreLinks (links ++ (x.now, y.now) ∷ []) classes.new }
+    requires can { CanBeJoined classes.old x.now y.now }
+    ensures { JoinsPair x.now y.now classes.old classes.new }
 {
     let mut steps = Steps::<L>::new(blank);
     classes.join(x, y, &mut steps);

@@ -1,11 +1,12 @@
 // The units of a workspace, preprocessed one after another.
 ghost use Rattle.std.specs.Prelude.{◌≡◌, ◌≤◌, ◌+◌, ◌++◌, ◌∷◌, [], IfOk, IfSome, OnOk, length};
 ghost use Rattle.cs_base.specs.Answer.{Gives, result_map_err};
+ghost use Rattle.cs_base.specs.Outside.{ReadsOnly};
 ghost use Rattle.include_tree.specs.Files.{Source, Table, source_of, nothing_carried};
 ghost use Rattle.include_tree.specs.Laws.{AreFound};
 ghost use Rattle.include_tree.specs.Answers.{with_text};
 ghost use Rattle.ws_core.specs.Texts.{texts_and, unit_with, texts_of, one_text_of};
-ghost use Rattle.ws_core.specs.Answers.{fault_of, ReadCounts};
+ghost use Rattle.ws_core.specs.Answers.{fault_of, reads_of};
 ghost use Rattle.ws_core.specs.Carrying.{IsFresh, ReadsMore, IsOver, in_unit};
 
 use crate::all_texts::Texts;
@@ -20,15 +21,14 @@ use ws_file::Workspace;
 /// one; `ReadFault` where a read failed, with its path; `Memory` where memory ran out. Nothing is read behind
 /// a refusal and no text is handed back; the files hold what they held.
 pub fn texts<F: Files>(alloc: Global, ws: &Workspace, files: &mut F) -> Result<Texts, AnalyseFault>
-    ensures held { F.held files.new ≡ F.held files.old }
     ensures units { IfOk result (λ t. length t.texts ≡ length ws.now.units) }
     // The texts, or the first fault in order of units, are so over every source that agrees with what was read;
     // behind texts that is what they keep.
     ensures over { (table : Table) × IfOk result (λ t. t.table ≡ table)
-        × IsOver (F.held files.old) table (λ source. Gives (λ t. t) fault_of result (texts_of source ws.now.units)) }
+        × IsOver (F.told files.old).held table (λ source. Gives (λ t. t) fault_of result (texts_of source ws.now.units)) }
     // So it is over what the files hold, where that is told.
-    ensures answer { IfSome (F.held files.old) (λ held. Gives (λ t. t) fault_of result (texts_of (source_of held) ws.now.units)) }
-    ensures faults { ReadCounts (F.failed_reads files.old) (F.failed_reads files.new) (F.failed_puts files.old) (F.failed_puts files.new) (F.last_failed files.old) (F.last_failed files.new) result }
+    ensures answer { IfSome (F.told files.old).held (λ held. Gives (λ t. t) fault_of result (texts_of (source_of held) ws.now.units)) }
+    ensures faults { ReadsOnly (F.told files.old) (F.told files.new) (reads_of result) }
 {
     let mut cache = Cache::new(alloc);
     match unit_texts(alloc, &mut cache, files, ws.units()) {
@@ -47,13 +47,12 @@ pub fn one_text<F: Files>(
 ) -> Result<UnitText, AnalyseFault>
     requires first { 1 ≤ number }
     requires last { number ≤ length ws.now.units }
-    ensures held { F.held files.new ≡ F.held files.old }
     // The text, or the fault, is so over every source that agrees with what was read.
-    ensures over { (table : Table) × IsOver (F.held files.old) table (λ source.
+    ensures over { (table : Table) × IsOver (F.told files.old).held table (λ source.
         IfSome (one_text_of source ws.now.units number) (λ expected. Gives (λ t. t) fault_of result expected)) }
     // So it is over what the files hold, where that is told.
-    ensures answer { IfSome (F.held files.old) (λ held. IfSome (one_text_of (source_of held) ws.now.units number) (λ expected. Gives (λ t. t) fault_of result expected)) }
-    ensures faults { ReadCounts (F.failed_reads files.old) (F.failed_reads files.new) (F.failed_puts files.old) (F.failed_puts files.new) (F.last_failed files.old) (F.last_failed files.new) result }
+    ensures answer { IfSome (F.told files.old).held (λ held. IfSome (one_text_of (source_of held) ws.now.units number) (λ expected. Gives (λ t. t) fault_of result expected)) }
+    ensures faults { ReadsOnly (F.told files.old) (F.told files.new) (reads_of result) }
 {
     let mut cache = Cache::new(alloc);
     let units = ws.units();
@@ -75,10 +74,9 @@ fn unit_texts<F: Files>(
 ) -> Result<Vec<UnitText>, AnalyseFault>
     requires few { length units.now ≤ 1024 }
     requires first { cache.old ≡ nothing_carried }
-    ensures held { F.held files.new ≡ F.held files.old }
     ensures each { IfOk result (λ all. length all.items ≡ length units.now) }
-    ensures over { IsOver (F.held files.old) cache.new.table (λ source. Gives (λ all. texts_and all.items cache.new.table) fault_of result (texts_of source units.now)) }
-    ensures faults { ReadCounts (F.failed_reads files.old) (F.failed_reads files.new) (F.failed_puts files.old) (F.failed_puts files.new) (F.last_failed files.old) (F.last_failed files.new) result }
+    ensures over { IsOver (F.told files.old).held cache.new.table (λ source. Gives (λ all. texts_and all.items cache.new.table) fault_of result (texts_of source units.now)) }
+    ensures faults { ReadsOnly (F.told files.old) (F.told files.new) (reads_of result) }
 {
     let mut all = Vec::new(alloc);
     for i in 0..units.len() {
@@ -105,12 +103,11 @@ pub(crate) fn next_text<F: Files>(
     unit: &Unit,
     number: u32,
 ) -> Result<UnitText, AnalyseFault>
-    ensures held { F.held files.new ≡ F.held files.old }
-    ensures reads { ReadsMore (F.held files.old) cache.old.table cache.new.table }
+    ensures reads { ReadsMore (F.told files.old).held cache.old.table cache.new.table }
     ensures fresh { IsFresh number cache.old.table → OnOk result (IsFresh (number + 1) cache.new.table) }
     ensures answer { IsFresh number cache.old.table → (source : Source) → AreFound source cache.new.table →
         Gives (with_text cache.new) fault_of result (unit_with source number unit.now cache.old) }
-    ensures faults { ReadCounts (F.failed_reads files.old) (F.failed_reads files.new) (F.failed_puts files.old) (F.failed_puts files.new) (F.last_failed files.old) (F.last_failed files.new) result }
+    ensures faults { ReadsOnly (F.told files.old) (F.told files.new) (reads_of result) }
 {
     let _path = unit.path();
     let answered = preprocess(alloc, cache, files, unit, number);

@@ -3,12 +3,11 @@ ghost use Rattle.std.specs.Prelude.{◌≡◌, ◌≤◌, ◌+◌, ◌^◌, true
 ghost use Rattle.std.specs.Str.{bytes_eq, is_utf8};
 ghost use Rattle.part_lexer.specs.FileText.{file_text};
 ghost use Rattle.include_tree.specs.Limits.{the_limits};
-ghost use Rattle.include_tree.specs.Files.{Source, Made, lines_path, carried, found_at, numbered};
+ghost use Rattle.include_tree.specs.Files.{Made, lines_path, carried, found_at, numbered};
 ghost use Rattle.include_tree.specs.Faults.{first_place};
 ghost use Rattle.include_tree.specs.Opening.{opening};
-ghost use Rattle.include_tree.specs.Laws.{Widens};
 ghost use Rattle.include_tree.specs.Sources.{unit_most, source_at, GivesOpening};
-ghost use Rattle.include_tree.specs.Answers.{IsNoReadFault};
+ghost use Rattle.include_tree.specs.Answers.{IsNoReadFault, Keeps};
 
 use super::{Cache, text_fault};
 use crate::kept_file::KeptFile;
@@ -64,8 +63,7 @@ impl Cache {
         requires text { is_utf8 path.now ≡ true }
         ensures answer { GivesOpening result (opening the_limits file_text (first_place path.now) path.now (numbered path.now (Made bytes.items) self.old.table)) self.new.table }
         ensures there { IfOk result (λ n. IsSome (source_at self.new.table n)) }
-        ensures widens { (source : Source) → Widens source self.old.table self.new.table }
-        ensures toks { self.new.toks ≡ self.old.toks }
+        ensures keeps { Keeps self.old self.new }
         ensures no_read { IfErr result IsNoReadFault }
     {
         let place = first_place(alloc, path)?;

@@ -20,27 +20,27 @@ IsNext q fs w = IsRenameAnswer q (analysis_of (source_of fs) w)
 pub returns-in_err-ws-clause-answer : goal.returns-in_err-ws-clause-answer
 returns-in_err-ws-clause-answer g c =
     let q : RenameValue = rename_value c.args.rename.now in
-    let stops = reading-stops_told (g.F.Files.held c.args.files.now) q.ws c.in_err-ws.field-0.0 (IsNext q) c.in_err-ws.ensures.answer in
-    handed_on (g.F.Files.held c.args.files.now) q.ws (λ fs. IsRequestAnswer fs (renaming_asked q)) c.in_err-ws.field-0.0
+    let stops = reading-stops_told (g.F.Files.told c.args.files.now).held q.ws c.in_err-ws.field-0.0 (IsNext q) c.in_err-ws.ensures.answer in
+    handed_on (g.F.Files.told c.args.files.now).held q.ws (λ fs. IsRequestAnswer fs (renaming_asked q)) c.in_err-ws.field-0.0
     c.from_residual.result c.from_residual.ensures.1 stops
 
 pub returns-in-Ok-clause-answer : goal.returns-in-Ok-clause-answer
 returns-in-Ok-clause-answer g c =
     let q : RenameValue = rename_value c.args.rename.now in
-    let told = g.F.Files.held c.read_workspace.new.files in
+    let told = (g.F.Files.told c.read_workspace.new.files).held in
     let found = analysed-prepared told q.ws c.in_ok-ws.ws c.in-Ok.analysis.value (IsRenameAnswer q) c.planned.result c.in-Ok.ensures.answer c.planned.ensures.answer in
-    over_told (g.F.Files.held c.args.files.now) told q.ws c.in_ok-ws.ws (IsNext q) c.planned.result c.read_workspace.ensures.held c.in_ok-ws.ensures.answer found
+    over_told (g.F.Files.told c.args.files.now).held told q.ws c.in_ok-ws.ws (IsNext q) c.planned.result c.read_workspace.ensures.faults.held c.in_ok-ws.ensures.answer found
 
 pub returns-clause-answer : goal.returns-clause-answer
 returns-clause-answer g c =
     let q : RenameValue = rename_value c.args.rename.now in
-    let told = g.F.Files.held c.read_workspace.new.files in
+    let told = (g.F.Files.told c.read_workspace.new.files).held in
     let found = analysed-stop told q.ws c.in_ok-ws.ws (IsRenameAnswer q) c.in-Err.fault (λ fault. refl) c.in-Err.ensures.answer in
     let P : FileMap → Stop → Type 0 = λ fs s. Stops q.ws (IsNext q fs c.in_ok-ws.ws) s in
-    over_told (g.F.Files.held c.args.files.now) told q.ws c.in_ok-ws.ws (IsNext q) (Err c.stop_of.result) c.read_workspace.ensures.held c.in_ok-ws.ensures.answer
+    over_told (g.F.Files.told c.args.files.now).held told q.ws c.in_ok-ws.ws (IsNext q) (Err c.stop_of.result) c.read_workspace.ensures.faults.held c.in_ok-ws.ensures.answer
     (if_told-map told _ _ found (λ fs h. subst (P fs) (sym c.stop_of.ensures) h))
 
 pub returns-in-Ok-clause-planned : goal.returns-in-Ok-clause-planned
 returns-in-Ok-clause-planned g c =
-    planned_told (g.F.Files.held c.args.files.now) (g.F.Files.held c.read_workspace.new.files) (rename_value c.args.rename.now) c.in_ok-ws.ws c.in-Ok.analysis.value _
-    c.planned.result (subst (λ (w : WorkspaceValue). IsWorkspace w) c.ws.view_is c.ws.invariant) c.read_workspace.ensures.held c.in_ok-ws.ensures.answer c.in-Ok.ensures.answer c.in-Ok.ensures.over c.planned.ensures.renaming c.planned.ensures.sound
+    planned_told (g.F.Files.told c.args.files.now).held (g.F.Files.told c.read_workspace.new.files).held (rename_value c.args.rename.now) c.in_ok-ws.ws c.in-Ok.analysis.value _
+    c.planned.result (subst (λ (w : WorkspaceValue). IsWorkspace w) c.ws.view_is c.ws.invariant) c.read_workspace.ensures.faults.held c.in_ok-ws.ensures.answer c.in-Ok.ensures.answer c.in-Ok.ensures.over c.planned.ensures.renaming c.planned.ensures.sound

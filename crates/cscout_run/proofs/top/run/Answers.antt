@@ -1,8 +1,8 @@
-use Rattle.std.proofs.Common.{◌≡◌, ℕ, List, Some, refl, sym, subst, ◌∙◌}
+use Rattle.std.proofs.Common.{◌≡◌, ℕ, List, Some, refl, sym, ap, subst, ◌∙◌}
 use Rattle.std.specs.Prelude.{map, string_bytes}
 use Rattle.std.specs.Option.{option_map}
 use Rattle.cs_base.specs.Edit.{with_edits}
-use Rattle.cs_base.specs.Outside.{Writes}
+use Rattle.cs_base.specs.Outside.{FilesTold, Writes}
 use Rattle.cs_base.specs.declared.outside.Wrote.TheVariants as wrote
 use Rattle.cscout_run.specs.declared.status.Status.{Status}
 use Rattle.cscout_run.specs.Request.{asked}
@@ -19,10 +19,10 @@ pub returns-in_default-clause-outcome : goal.returns-in_default-clause-outcome
 returns-in_default-clause-outcome g c =
     let words : List (List ℕ) = map string_bytes c.args.words.now in
     let before : World = world
-    (g.F.Files.held c.args.files.now) (g.F.Files.failed_reads c.args.files.now) (g.F.Files.failed_puts c.args.files.now) (g.F.Files.last_failed c.args.files.now)
+    (g.F.Files.told c.args.files.now)
     (g.O.Sink.bytes c.args.out.now) (g.O.Sink.failed_writes c.args.out.now) (g.E.Sink.bytes c.args.err.now) (g.E.Sink.failed_writes c.args.err.now) in
     let now : World = world
-    (g.F.Files.held c.args.files.now) (g.F.Files.failed_reads c.args.files.now) (g.F.Files.failed_puts c.args.files.now) (g.F.Files.last_failed c.args.files.now)
+    (g.F.Files.told c.args.files.now)
     (g.O.Sink.bytes c.args.out.now) (g.O.Sink.failed_writes c.args.out.now) (g.E.Sink.bytes c.tell.new.err) (g.E.Sink.failed_writes c.tell.new.err) in
     usage-ends words before now (sym c.in_default.ensures) record { held = refl; out = refl } refl refl refl c.tell.ensures
 
@@ -30,55 +30,55 @@ pub returns-in-Err-clause-outcome : goal.returns-in-Err-clause-outcome
 returns-in-Err-clause-outcome g c =
     let words : List (List ℕ) = map string_bytes c.args.words.now in
     let before : World = world
-    (g.F.Files.held c.args.files.now) (g.F.Files.failed_reads c.args.files.now) (g.F.Files.failed_puts c.args.files.now) (g.F.Files.last_failed c.args.files.now)
+    (g.F.Files.told c.args.files.now)
     (g.O.Sink.bytes c.args.out.now) (g.O.Sink.failed_writes c.args.out.now) (g.E.Sink.bytes c.args.err.now) (g.E.Sink.failed_writes c.args.err.now) in
     let now : World = world
-    (g.F.Files.held c.prepare.new.files) (g.F.Files.failed_reads c.prepare.new.files) (g.F.Files.failed_puts c.prepare.new.files) (g.F.Files.last_failed c.prepare.new.files)
+    (g.F.Files.told c.prepare.new.files)
     (g.O.Sink.bytes c.args.out.now) (g.O.Sink.failed_writes c.args.out.now) (g.E.Sink.bytes c.tell_stop.new.err) (g.E.Sink.failed_writes c.tell_stop.new.err) in
     let some : asked words ≡ Some (request_value c.in-Some.request) = sym c.in-Some.ensures in
     let ws = workspace_file c.in-Some.request in
     let stops = stop-answer before.held words (request_value c.in-Some.request) ws c.in-Err.stop some c.in-Err.ensures.answer in
     let line : Tells (line_of ws c.in-Err.stop) before now = rw (← c.workspace_file.ensures) c.tell_stop.ensures.told in
-    let unmoved : Unmoved before now = record { held = c.prepare.ensures.held; out = refl } in
+    let unmoved : Unmoved before now = record { held = c.prepare.ensures.faults.held; out = refl } in
     let P : Status → Type 0 = λ s. Ends (IsAnswer words) before now s in
     subst P (sym c.tell_stop.ensures.status)
-    (stop-ends words ws c.in-Err.stop before now stops unmoved c.in-Err.ensures.reads c.prepare.ensures.puts refl line)
+    (stop-ends words ws c.in-Err.stop before now stops unmoved c.in-Err.ensures.faults.told c.prepare.ensures.faults.apart refl line)
 
 pub returns-in-Failed-clause-outcome : goal.returns-in-Failed-clause-outcome
 returns-in-Failed-clause-outcome g c =
     let words : List (List ℕ) = map string_bytes c.args.words.now in
     let before : World = world
-    (g.F.Files.held c.args.files.now) (g.F.Files.failed_reads c.args.files.now) (g.F.Files.failed_puts c.args.files.now) (g.F.Files.last_failed c.args.files.now)
+    (g.F.Files.told c.args.files.now)
     (g.O.Sink.bytes c.args.out.now) (g.O.Sink.failed_writes c.args.out.now) (g.E.Sink.bytes c.args.err.now) (g.E.Sink.failed_writes c.args.err.now) in
     let now : World = world
-    (g.F.Files.held c.apply.new.files) (g.F.Files.failed_reads c.apply.new.files) (g.F.Files.failed_puts c.apply.new.files) (g.F.Files.last_failed c.apply.new.files)
+    (g.F.Files.told c.apply.new.files)
     (g.O.Sink.bytes c.args.out.now) (g.O.Sink.failed_writes c.args.out.now) (g.E.Sink.bytes c.tell-in-Failed.new.err) (g.E.Sink.failed_writes c.tell-in-Failed.new.err) in
     let some : asked words ≡ Some (request_value c.in-Some.request) = sym c.in-Some.ensures in
     let text = c.in-Ok.ready.text.items in
     let edits = c.in-Ok.ready.edits in
     let ready = ready-answer before.held words (request_value c.in-Some.request) (workspace_file c.in-Some.request) c.in-Ok.ready some c.in-Ok.ensures.answer in
     let failed = c.in-Failed.ensures.faults.failed c.in-Failed.written refl in
-    let put = failed_put edits c.in-Failed.written before now (g.F.Files.held c.prepare.new.files) (g.F.Files.failed_puts c.prepare.new.files) c.prepare.ensures.held c.prepare.ensures.puts c.in-Failed.ensures.held failed.0 failed.1 refl refl in
-    let reads : now.reads ≡ before.reads = c.in-Failed.ensures.faults.reads_stay ∙ c.in-Ok.ensures.reads in
+    let put = failed_put edits c.in-Failed.written before now (g.F.Files.told c.prepare.new.files).held (g.F.Files.told c.prepare.new.files).puts c.prepare.ensures.faults.held c.prepare.ensures.faults.apart c.in-Failed.ensures.held failed.0 failed.1 refl refl in
+    let reads : now.reads ≡ before.reads = c.in-Failed.ensures.faults.reads_stay ∙ ap (λ (o : FilesTold). o.reads) c.in-Ok.ensures.faults.told in
     put-ends words text edits c.in-Failed.written c.path.result.now before now ready put reads c.path.ensures.answer c.tell-in-Failed.ensures
 
 pub returns-in-Failed-write_text-clause-outcome : goal.returns-in-Failed-write_text-clause-outcome
 returns-in-Failed-write_text-clause-outcome g c =
     let words : List (List ℕ) = map string_bytes c.args.words.now in
     let before : World = world
-    (g.F.Files.held c.args.files.now) (g.F.Files.failed_reads c.args.files.now) (g.F.Files.failed_puts c.args.files.now) (g.F.Files.last_failed c.args.files.now)
+    (g.F.Files.told c.args.files.now)
     (g.O.Sink.bytes c.args.out.now) (g.O.Sink.failed_writes c.args.out.now) (g.E.Sink.bytes c.args.err.now) (g.E.Sink.failed_writes c.args.err.now) in
     let now : World = world
-    (g.F.Files.held c.apply.new.files) (g.F.Files.failed_reads c.apply.new.files) (g.F.Files.failed_puts c.apply.new.files) (g.F.Files.last_failed c.apply.new.files)
+    (g.F.Files.told c.apply.new.files)
     (g.O.Sink.bytes c.write_text.new.out) (g.O.Sink.failed_writes c.write_text.new.out) (g.E.Sink.bytes c.tell-in-Failed-write_text.new.err) (g.E.Sink.failed_writes c.tell-in-Failed-write_text.new.err) in
     let some : asked words ≡ Some (request_value c.in-Some.request) = sym c.in-Some.ensures in
     let text = c.in-Ok.ready.text.items in
     let edits = c.in-Ok.ready.edits in
     let ready = ready-answer before.held words (request_value c.in-Some.request) (workspace_file c.in-Some.request) c.in-Ok.ready some c.in-Ok.ensures.answer in
-    let held : now.held ≡ option_map (with_edits edits) before.held = rw (← c.prepare.ensures.held) c.in_default-apply.ensures.held in
+    let held : now.held ≡ option_map (with_edits edits) before.held = rw (← c.prepare.ensures.faults.held) c.in_default-apply.ensures.held in
     let counts = c.apply.ensures.faults.done c.in_default-apply.is in
-    let reads : now.reads ≡ before.reads = c.apply.ensures.faults.reads_stay ∙ c.in-Ok.ensures.reads in
-    let puts : now.puts ≡ before.puts = counts.0 ∙ c.prepare.ensures.puts in
+    let reads : now.reads ≡ before.reads = c.apply.ensures.faults.reads_stay ∙ ap (λ (o : FilesTold). o.reads) c.in-Ok.ensures.faults.told in
+    let puts : now.puts ≡ before.puts = counts.0 ∙ c.prepare.ensures.faults.apart in
     let out : Writes text before.out now.out wrote.Failed = rw (← c.as_slice.ensures.value) c.in-Failed-write_text.ensures.bytes in
     let failed : FailedWrite edits text before now = record { held = held; out = out; puts = puts; rose = c.in-Failed-write_text.ensures.faults.rises refl } in
     write-ends words text edits before now ready failed reads c.tell-in-Failed-write_text.ensures
@@ -87,19 +87,19 @@ pub returns-clause-outcome : goal.returns-clause-outcome
 returns-clause-outcome g c =
     let words : List (List ℕ) = map string_bytes c.args.words.now in
     let before : World = world
-    (g.F.Files.held c.args.files.now) (g.F.Files.failed_reads c.args.files.now) (g.F.Files.failed_puts c.args.files.now) (g.F.Files.last_failed c.args.files.now)
+    (g.F.Files.told c.args.files.now)
     (g.O.Sink.bytes c.args.out.now) (g.O.Sink.failed_writes c.args.out.now) (g.E.Sink.bytes c.args.err.now) (g.E.Sink.failed_writes c.args.err.now) in
     let now : World = world
-    (g.F.Files.held c.apply.new.files) (g.F.Files.failed_reads c.apply.new.files) (g.F.Files.failed_puts c.apply.new.files) (g.F.Files.last_failed c.apply.new.files)
+    (g.F.Files.told c.apply.new.files)
     (g.O.Sink.bytes c.write_text.new.out) (g.O.Sink.failed_writes c.write_text.new.out) (g.E.Sink.bytes c.args.err.now) (g.E.Sink.failed_writes c.args.err.now) in
     let some : asked words ≡ Some (request_value c.in-Some.request) = sym c.in-Some.ensures in
     let text = c.in-Ok.ready.text.items in
     let edits = c.in-Ok.ready.edits in
     let ready = ready-answer before.held words (request_value c.in-Some.request) (workspace_file c.in-Some.request) c.in-Ok.ready some c.in-Ok.ensures.answer in
-    let held : now.held ≡ option_map (with_edits edits) before.held = rw (← c.prepare.ensures.held) c.in_default-apply.ensures.held in
+    let held : now.held ≡ option_map (with_edits edits) before.held = rw (← c.prepare.ensures.faults.held) c.in_default-apply.ensures.held in
     let counts = c.apply.ensures.faults.done c.in_default-apply.is in
-    let reads : now.reads ≡ before.reads = c.apply.ensures.faults.reads_stay ∙ c.in-Ok.ensures.reads in
-    let puts : now.puts ≡ before.puts = counts.0 ∙ c.prepare.ensures.puts in
+    let reads : now.reads ≡ before.reads = c.apply.ensures.faults.reads_stay ∙ ap (λ (o : FilesTold). o.reads) c.in-Ok.ensures.faults.told in
+    let puts : now.puts ≡ before.puts = counts.0 ∙ c.prepare.ensures.faults.apart in
     let out : Writes text before.out now.out wrote.Done = rw (← c.as_slice.ensures.value) c.in_default-write_text.ensures.bytes in
     let outs : now.outs ≡ before.outs = c.in_default-write_text.ensures.faults.stays refl in
     done-ends words text edits before now ready record { held = held; out = out } reads puts outs refl
@@ -119,7 +119,7 @@ returns-in-Failed-write_text-clause-promise g c = λ done. absurd cc
 pub returns-clause-promise : goal.returns-clause-promise
 returns-clause-promise g c =
     let words : List (List ℕ) = map string_bytes c.args.words.now in
-    let told = g.F.Files.held c.args.files.now in
+    let told = (g.F.Files.told c.args.files.now).held in
     let some : asked words ≡ Some (request_value c.in-Some.request) = sym c.in-Some.ensures in
-    let held : g.F.Files.held c.apply.new.files ≡ option_map (with_edits c.in-Ok.ready.edits) told = rw (← c.prepare.ensures.held) c.in_default-apply.ensures.held in
-    λ done. promise-told told (g.F.Files.held c.apply.new.files) (request_value c.in-Some.request) words c.in-Ok.ready some c.in-Ok.ensures.planned held
+    let held : (g.F.Files.told c.apply.new.files).held ≡ option_map (with_edits c.in-Ok.ready.edits) told = rw (← c.prepare.ensures.faults.held) c.in_default-apply.ensures.held in
+    λ done. promise-told told (g.F.Files.told c.apply.new.files).held (request_value c.in-Some.request) words c.in-Ok.ready some c.in-Ok.ensures.planned held

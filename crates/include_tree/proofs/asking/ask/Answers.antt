@@ -12,25 +12,25 @@ push-requires-clause-numbered g c = c.in-Ok.ensures.numbered _ _
 pub push-requires-clause-text : goal.push-requires-clause-text
 push-requires-clause-text g c = rw c.as_bytes-2.ensures.value (is_utf8-from_IsUtf8 c.args.path.now c.utf8.path)
 
-pub returns-in-Ok-push-clause-known : goal.returns-in-Ok-push-clause-known
-returns-in-Ok-push-clause-known g c =
+pub returns-in-Ok-push-clause-asked : goal.returns-in-Ok-push-clause-asked
+returns-in-Ok-push-clause-asked g c =
     rw c.in-Ok-push.ensures.ok (rw c.as_bytes-2.ensures.value (known-push c.args.path.now (found_of c.in-Ok.slot) c.args.table.now))
 
 pub returns-then-is_some-clause-only : goal.returns-then-is_some-clause-only
-returns-then-is_some-clause-only g c = only_asks-refl (g.F.Files.held c.args.files.now) c.args.table.now
+returns-then-is_some-clause-only g c = only_asks-refl (g.F.Files.told c.args.files.now).held c.args.table.now
 
 pub returns-in-Err-clause-only : goal.returns-in-Err-clause-only
-returns-in-Err-clause-only g c = only_asks-refl (g.F.Files.held c.args.files.now) c.args.table.now
+returns-in-Err-clause-only g c = only_asks-refl (g.F.Files.told c.args.files.now).held c.args.table.now
 
 pub returns-in-Ok-push-clause-only : goal.returns-in-Ok-push-clause-only
 returns-in-Ok-push-clause-only g c =
     let new : c.push.new.self ≡ numbered c.args.path.now (found_of c.in-Ok.slot) c.args.table.now = rw c.as_bytes-2.ensures.value at c.in-Ok-push.ensures.ok in
-    asks-push (g.F.Files.held c.args.files.now) c.args.path.now (found_of c.in-Ok.slot) c.args.table.now c.push.new.self c.in-Ok.ensures.read c.in-Ok.ensures.answer new
+    asks-push (g.F.Files.told c.args.files.now).held c.args.path.now (found_of c.in-Ok.slot) c.args.table.now c.push.new.self c.in-Ok.ensures.read c.in-Ok.ensures.answer new
 
 pub returns-in-Err-push-clause-only : goal.returns-in-Err-push-clause-only
 returns-in-Err-push-clause-only g c =
-    subst (OnlyAsks (g.F.Files.held c.args.files.now) c.args.table.now) (sym c.in-Err-push.ensures.unchanged)
-    (only_asks-refl (g.F.Files.held c.args.files.now) c.args.table.now)
+    subst (OnlyAsks (g.F.Files.told c.args.files.now).held c.args.table.now) (sym c.in-Err-push.ensures.unchanged)
+    (only_asks-refl (g.F.Files.told c.args.files.now).held c.args.table.now)
 
 pub returns-then-is_some-clause-answer : goal.returns-then-is_some-clause-answer
 returns-then-is_some-clause-answer g c = λ source found.

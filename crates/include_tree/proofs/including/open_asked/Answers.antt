@@ -9,9 +9,9 @@ use Rattle.include_tree.proofs.including.open_asked.Goals as goal
 
 pub returns-in-Ok-Some-clause-reads : goal.returns-in-Ok-Some-clause-reads
 returns-in-Ok-Some-clause-reads g c =
-    reads-trans (g.F.Files.held c.args.files.now) (g.F.Files.held c.args.files.now) c.args.cache.now c.search.new.cache c.open_file.new.cache refl
-    (reads-asked (g.F.Files.held c.args.files.now) c.args.cache.now c.search.new.cache c.in-Ok-Some.ensures.only c.in-Ok-Some.ensures.toks)
-    (reads-widened (g.F.Files.held c.args.files.now) c.search.new.cache c.open_file.new.cache c.open_file.ensures.widens c.open_file.ensures.toks)
+    reads-trans (g.F.Files.told c.args.files.now).held (g.F.Files.told c.args.files.now).held c.args.cache.now c.search.new.cache c.open_file.new.cache refl
+    (reads-asked (g.F.Files.told c.args.files.now).held c.args.cache.now c.search.new.cache c.in-Ok-Some.ensures.asks.only c.in-Ok-Some.ensures.asks.counted)
+    (reads-widened (g.F.Files.told c.args.files.now).held c.search.new.cache c.open_file.new.cache c.open_file.ensures.keeps.widens c.open_file.ensures.keeps.counted)
 
 pub returns-in-Ok-Some-clause-answer : goal.returns-in-Ok-Some-clause-answer
 returns-in-Ok-Some-clause-answer g c =
@@ -21,7 +21,7 @@ returns-in-Ok-Some-clause-answer g c =
     c.bytes.ensures ∙ c.index.ensures ∙ get_or-default c.args.asked.now.paths.items c.in-Ok-Some.i c.index.result.now [] within in
     λ source found.
     found-opening c.open_file.result c.open_file.new.cache.table c.args.cache.now.table c.search.new.cache.table source c.args.asked.now.paths.items c.args.asked.now.place c.bytes.result.now
-    (at source (earlier_found source c.search.new.cache.table c.open_file.new.cache.table (c.open_file.ensures.widens source).grown found)
+    (at source (earlier_found source c.search.new.cache.table c.open_file.new.cache.table (c.open_file.ensures.keeps.widens source).grown found)
     ∙ ap (λ (p : List ℕ). searched (Some p) c.search.new.cache.table) (sym path))
     c.open_file.ensures.answer
 
@@ -34,10 +34,10 @@ returns-in-Ok-None-clause-answer g c =
 
 pub returns-in-Ok-None-clause-reads : goal.returns-in-Ok-None-clause-reads
 returns-in-Ok-None-clause-reads g c =
-    reads-asked (g.F.Files.held c.args.files.now) c.args.cache.now c.search.new.cache c.in-Ok-None.ensures.only c.in-Ok-None.ensures.toks
+    reads-asked (g.F.Files.told c.args.files.now).held c.args.cache.now c.search.new.cache c.in-Ok-None.ensures.asks.only c.in-Ok-None.ensures.asks.counted
 
 pub returns-in-Err-clause-reads : goal.returns-in-Err-clause-reads
-returns-in-Err-clause-reads g c = reads-asked (g.F.Files.held c.args.files.now) c.args.cache.now c.search.new.cache c.in-Err.ensures.only c.in-Err.ensures.toks
+returns-in-Err-clause-reads g c = reads-asked (g.F.Files.told c.args.files.now).held c.args.cache.now c.search.new.cache c.in-Err.ensures.asks.only c.in-Err.ensures.asks.counted
 
 pub returns-in-Err-clause-answer : goal.returns-in-Err-clause-answer
 returns-in-Err-clause-answer g c =

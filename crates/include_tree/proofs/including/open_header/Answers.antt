@@ -9,4 +9,4 @@ returns-in-Ok-clause-answer g c = λ source found.
     c.args.header.now c.in-Ok.asked.paths.items c.in-Ok.asked.place c.in-Ok.ensures.paths c.in-Ok.ensures.place (c.open_asked.ensures.answer source found)
 
 pub returns-in-Err-clause-reads : goal.returns-in-Err-clause-reads
-returns-in-Err-clause-reads g c = reads-refl (g.F.Files.held c.args.files.now) c.args.cache.now
+returns-in-Err-clause-reads g c = reads-refl (g.F.Files.told c.args.files.now).held c.args.cache.now

@@ -12,8 +12,7 @@ returns-in_ok-header-in-Include-clause-answer c = λ ctx inner table limit.
 
 pub returns-in_default : goal.returns-in_default
 returns-in_default c = record {
-  able = c.requires.able;
-  most = refl;
+  goes_on = record { able = c.requires.able; most = refl };
   no_read = tt;
   answer = λ ctx inner table limit.
       processed-rest ctx inner (source_in c.args.file.now) c.args.item.now.kind c.args.item.now.at c.args.item.now.toks.now (state_in table c.args.p.now) c.args.p.now.text

@@ -14,4 +14,4 @@ pub returns-clause-answer : goal.returns-clause-answer
 returns-clause-answer c = λ ctx inner table limit.
     stays-step ctx inner (source_in c.args.file.now) c.args.k (item_in c.args.item.now) c.args.sections.now table c.args.p.now c.reach.new.self c.processed.result
     (state_in table c.processed.new.p) c.processed.new.p.text c.in_ok-reach.ensures.noted (sym c.are_processed.ensures ∙ c.if-not-are_processed.false)
-    (c.processed.ensures.answer ctx inner table (limit ∙ sym c.in_ok-reach.ensures.most))
+    (c.processed.ensures.answer ctx inner table (limit ∙ sym c.in_ok-reach.ensures.goes_on.most))

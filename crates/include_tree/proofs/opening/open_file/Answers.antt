@@ -13,6 +13,8 @@ returns-clause-there c =
     opens-there c.open.result (opening the_limits file_text c.args.place.now c.args.path.now c.args.cache.now.table) c.open.new.self.table
     (gives-opening c.open.result c.args.cache.now.table c.open.new.self.table c.args.place.now c.args.path.now c.open.ensures.answer)
 
-pub returns-clause-widens : goal.returns-clause-widens
-returns-clause-widens c =
-    opens-wide c.open.result c.args.cache.now c.open.new.self c.args.place.now c.args.path.now c.open.ensures.answer c.open.ensures.unchanged
+pub returns-clause-keeps : goal.returns-clause-keeps
+returns-clause-keeps c = record {
+  widens = opens-wide c.open.result c.args.cache.now c.open.new.self c.args.place.now c.args.path.now c.open.ensures.answer c.open.ensures.unchanged;
+  counted = c.open.ensures.toks;
+}

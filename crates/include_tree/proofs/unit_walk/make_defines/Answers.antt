@@ -1,16 +1,16 @@
-use Rattle.std.proofs.Common.{◌<◌, ◌^◌, ◌∙◌, arith}
+use Rattle.std.proofs.Common.{◌<◌, ◌^◌, ◌∙◌, refl, arith}
 use Rattle.include_tree.proofs.TableLemmas.{widens_refl}
 use Rattle.include_tree.proofs.UnitLemmas.{defines-text}
 use Rattle.include_tree.proofs.unit_walk.make_defines.Goals as goal
 
-pub returns-in_err-path-clause-widens : goal.returns-in_err-path-clause-widens
-returns-in_err-path-clause-widens c = λ source. widens_refl source c.args.cache.now.table
+pub returns-in_err-path-clause-keeps : goal.returns-in_err-path-clause-keeps
+returns-in_err-path-clause-keeps c = record { widens = λ source. widens_refl source c.args.cache.now.table; counted = refl }
 
-pub returns-in_err-place-clause-widens : goal.returns-in_err-place-clause-widens
-returns-in_err-place-clause-widens c = λ source. widens_refl source c.args.cache.now.table
+pub returns-in_err-place-clause-keeps : goal.returns-in_err-place-clause-keeps
+returns-in_err-place-clause-keeps c = record { widens = λ source. widens_refl source c.args.cache.now.table; counted = refl }
 
-pub returns-in_err-text-clause-widens : goal.returns-in_err-text-clause-widens
-returns-in_err-text-clause-widens c = λ source. widens_refl source c.args.cache.now.table
+pub returns-in_err-text-clause-keeps : goal.returns-in_err-text-clause-keeps
+returns-in_err-text-clause-keeps c = record { widens = λ source. widens_refl source c.args.cache.now.table; counted = refl }
 
 pub make-requires-clause-text : goal.make-requires-clause-text
 make-requires-clause-text c =

@@ -13,7 +13,7 @@ use Rattle.include_tree.proofs.UnitLemmas.{with_defines, unit-done, unit-first_r
 use Rattle.include_tree.proofs.unit_walk.preprocess.Goals as goal
 
 pub returns-in-Err-clause-found : goal.returns-in-Err-clause-found
-returns-in-Err-clause-found g c = stays-refl (g.F.Files.held c.args.files.now) c.args.cache.now.table
+returns-in-Err-clause-found g c = stays-refl (g.F.Files.told c.args.files.now).held c.args.cache.now.table
 
 pub returns-in-Err-clause-grown : goal.returns-in-Err-clause-grown
 returns-in-Err-clause-grown g c = grown_refl c.args.cache.now.table
@@ -35,28 +35,28 @@ returns-in-Err-walk_main-clause-answer g c = λ none source found.
 
 pub returns-in-Err-walk_main-clause-found : goal.returns-in-Err-walk_main-clause-found
 returns-in-Err-walk_main-clause-found g c =
-    (reads-trans (g.F.Files.held c.args.files.now) (g.F.Files.held c.walk_defines.new.files) c.args.cache.now c.walk_defines.new.cache c.walk_main.new.cache
-    c.in-Ok-walk_defines.ensures.held c.in-Ok-walk_defines.ensures.reads c.in-Err-walk_main.ensures.reads).found
+    (reads-trans (g.F.Files.told c.args.files.now).held (g.F.Files.told c.walk_defines.new.files).held c.args.cache.now c.walk_defines.new.cache c.walk_main.new.cache
+    c.in-Ok-walk_defines.ensures.faults.held c.in-Ok-walk_defines.ensures.reads c.in-Err-walk_main.ensures.reads).found
 
 pub returns-in-Err-walk_main-clause-grown : goal.returns-in-Err-walk_main-clause-grown
 returns-in-Err-walk_main-clause-grown g c =
-    (reads-trans (g.F.Files.held c.args.files.now) (g.F.Files.held c.walk_defines.new.files) c.args.cache.now c.walk_defines.new.cache c.walk_main.new.cache
-    c.in-Ok-walk_defines.ensures.held c.in-Ok-walk_defines.ensures.reads c.in-Err-walk_main.ensures.reads).grown
+    (reads-trans (g.F.Files.told c.args.files.now).held (g.F.Files.told c.walk_defines.new.files).held c.args.cache.now c.walk_defines.new.cache c.walk_main.new.cache
+    c.in-Ok-walk_defines.ensures.faults.held c.in-Ok-walk_defines.ensures.reads c.in-Err-walk_main.ensures.reads).grown
 
 pub returns-in-Err-walk_main-clause-counted : goal.returns-in-Err-walk_main-clause-counted
 returns-in-Err-walk_main-clause-counted g c = c.in-Err-walk_main.ensures.reads.counted ∙ c.in-Ok-walk_defines.ensures.reads.counted
 
 pub returns-clause-found : goal.returns-clause-found
 returns-clause-found g c =
-    subst (λ (k : Carried). StaysHeld (g.F.Files.held c.args.files.now) c.args.cache.now.table k.table) (sym c.count.ensures)
-    (reads-trans (g.F.Files.held c.args.files.now) (g.F.Files.held c.walk_defines.new.files) c.args.cache.now c.walk_defines.new.cache c.walk_main.new.cache
-    c.in-Ok-walk_defines.ensures.held c.in-Ok-walk_defines.ensures.reads c.in-Ok-walk_main.ensures.reads).found
+    subst (λ (k : Carried). StaysHeld (g.F.Files.told c.args.files.now).held c.args.cache.now.table k.table) (sym c.count.ensures)
+    (reads-trans (g.F.Files.told c.args.files.now).held (g.F.Files.told c.walk_defines.new.files).held c.args.cache.now c.walk_defines.new.cache c.walk_main.new.cache
+    c.in-Ok-walk_defines.ensures.faults.held c.in-Ok-walk_defines.ensures.reads c.in-Ok-walk_main.ensures.reads).found
 
 pub returns-clause-grown : goal.returns-clause-grown
 returns-clause-grown g c =
     subst (λ (k : Carried). IsGrown c.args.cache.now.table k.table) (sym c.count.ensures)
-    (reads-trans (g.F.Files.held c.args.files.now) (g.F.Files.held c.walk_defines.new.files) c.args.cache.now c.walk_defines.new.cache c.walk_main.new.cache
-    c.in-Ok-walk_defines.ensures.held c.in-Ok-walk_defines.ensures.reads c.in-Ok-walk_main.ensures.reads).grown
+    (reads-trans (g.F.Files.told c.args.files.now).held (g.F.Files.told c.walk_defines.new.files).held c.args.cache.now c.walk_defines.new.cache c.walk_main.new.cache
+    c.in-Ok-walk_defines.ensures.faults.held c.in-Ok-walk_defines.ensures.reads c.in-Ok-walk_main.ensures.reads).grown
 
 pub returns-clause-answer : goal.returns-clause-answer
 returns-clause-answer g c = λ none source found.

@@ -12,7 +12,7 @@ open_main-requires g c = record { can = unit-asked c.bytes.result.now c.args.uni
 
 pub returns-in-Ok-clause-reads : goal.returns-in-Ok-clause-reads
 returns-in-Ok-clause-reads g c =
-    reads-trans (g.F.Files.held c.args.files.now) (g.F.Files.held c.open_main.new.files) c.args.cache.now c.open_main.new.cache c.walk_file.new.cache c.in-Ok.ensures.held
+    reads-trans (g.F.Files.told c.args.files.now).held (g.F.Files.told c.open_main.new.files).held c.args.cache.now c.open_main.new.cache c.walk_file.new.cache c.in-Ok.ensures.faults.held
     c.in-Ok.ensures.reads c.walk_file.ensures.reads
 
 pub returns-in-Ok-clause-answer : goal.returns-in-Ok-clause-answer

@@ -1,5 +1,6 @@
 use Rattle.std.proofs.Common.{◌<◌, None, Ok, Err, is_some, refl, ◌∙◌, ap, arith}
 use Rattle.std.specs.Prelude.{IsSome}
+use Rattle.cs_base.specs.Outside.{FilesTold}
 use Rattle.include_tree.specs.Answers.{fault_of}
 use Rattle.include_tree.specs.Moments.{state_in}
 use Rattle.include_tree.specs.Sources.{source_at}
@@ -15,14 +16,14 @@ walk_item-returns-in-Ok-None-clause-answer g t c =
     λ source found.
     item-told source (source_at c.args.cache.now.table c.args.number) c.args.ipath.now c.args.cache.now.toks c.args.p.now.most c.args.room c.args.k
     c.args.sections.now c.next_item.new.sections (state_in c.args.cache.now.table c.args.p.now) (state_in c.args.cache.now.table c.next_item.new.p) c.args.p.now.text
-    c.next_item.new.p.text (Ok None) c.requires.limited (rw c.in-Ok-None.field-0-is at c.in-Ok-None.ensures.answer)
+    c.next_item.new.p.text (Ok None) c.requires.ready.limited (rw c.in-Ok-None.field-0-is at c.in-Ok-None.ensures.answer)
 
 pub walk_item-returns-in-Err-clause-answer : goal.walk_item-returns-in-Err-clause-answer
 walk_item-returns-in-Err-clause-answer g t c =
     λ source found.
     item-told source (source_at c.args.cache.now.table c.args.number) c.args.ipath.now c.args.cache.now.toks c.args.p.now.most c.args.room c.args.k
     c.args.sections.now c.next_item.new.sections (state_in c.args.cache.now.table c.args.p.now) (state_in c.args.cache.now.table c.next_item.new.p) c.args.p.now.text
-    c.next_item.new.p.text (Err c.in-Err.fault) c.requires.limited c.in-Err.ensures.answer
+    c.next_item.new.p.text (Err c.in-Err.fault) c.requires.ready.limited c.in-Err.ensures.answer
 
 pub walk_item-returns-in-Ok-Some-clause-answer : goal.walk_item-returns-in-Ok-Some-clause-answer
 walk_item-returns-in-Ok-Some-clause-answer g t c =
@@ -30,7 +31,7 @@ walk_item-returns-in-Ok-Some-clause-answer g t c =
     item-included source (source_at c.args.cache.now.table c.args.number) c.args.ipath.now c.args.cache.now.toks c.args.p.now.most c.args.room c.args.k
     c.args.sections.now c.next_item.new.sections (state_in c.args.cache.now.table c.args.p.now) (state_in c.args.cache.now.table c.next_item.new.p)
     (state_in c.include_file.new.cache.table c.include_file.new.p) c.args.p.now.text c.next_item.new.p.text c.include_file.new.p.text c.in-Ok-Some.line c.include_file.result
-    c.requires.limited (rw c.in-Ok-Some.field-0-is at c.in-Ok-Some.ensures.answer) (c.include_file.ensures.answer source found)
+    c.requires.ready.limited (rw c.in-Ok-Some.field-0-is at c.in-Ok-Some.ensures.answer) (c.include_file.ensures.answer source found)
 
 -- ---- an include line
 
@@ -70,16 +71,13 @@ enter_file-returns-in-Err-clause-answer g t c =
 pub walk_file-loop-k-init : goal.walk_file-loop-k-init
 walk_file-loop-k-init g t c =
     record {
-      held = refl;
+      told = refl;
       answer = λ source found. walk-starts source (source_at c.args.cache.now.table c.args.number) c.args.ipath.now c.args.cache.now.toks c.args.room
           (state_in c.args.cache.now.table c.args.p.now) c.args.p.now.text c.new-sections.result c.new-sections.ensures;
       same = refl;
-      able = c.requires.able;
+      able = c.requires.ready.able;
       most = refl;
-      cache = reads-refl (g.F.Files.held c.args.files.now) c.args.cache.now;
-      reads = refl;
-      puts = refl;
-      last = refl;
+      cache = reads-refl (g.F.Files.told c.args.files.now).held c.args.cache.now;
     }
 
 pub walk_file-loop-k-preserved : goal.walk_file-loop-k-preserved
@@ -87,7 +85,7 @@ walk_file-loop-k-preserved g t c =
     let i = c.loop-k.invariant in
     let there : IsSome (source_at c.loop-k.cache.table c.args.number) = ap is_some i.same ∙ c.requires.kept in
     record {
-      held = c.in-Ok.ensures.held ∙ i.held;
+      told = c.in-Ok.ensures.faults.told ∙ i.told;
       answer = λ source found.
           walk-goes source (source_at c.args.cache.now.table c.args.number) c.args.ipath.now c.args.cache.now.toks c.args.room
           (state_in c.args.cache.now.table c.args.p.now) c.args.p.now.text (source_at c.loop-k.cache.table c.args.number) c.loop-k.cache.toks
@@ -95,12 +93,9 @@ walk_file-loop-k-preserved g t c =
           (i.answer source (earlier_found source c.loop-k.cache.table c.walk_item.new.cache.table c.in-Ok.ensures.reads.grown found))
           c.walk_item.new.sections (state_in c.walk_item.new.cache.table c.walk_item.new.p) c.walk_item.new.p.text (c.in-Ok.ensures.answer source found);
       same = source-same c.loop-k.cache.table c.walk_item.new.cache.table c.args.number c.in-Ok.ensures.reads.grown there ∙ i.same;
-      able = c.in-Ok.ensures.able;
-      most = c.in-Ok.ensures.most ∙ i.most;
-      cache = reads-trans (g.F.Files.held c.args.files.now) (g.F.Files.held c.loop-k.files) c.args.cache.now c.loop-k.cache c.walk_item.new.cache i.held i.cache c.in-Ok.ensures.reads;
-      reads = c.in-Ok.ensures.faults.told.0 ∙ i.reads;
-      puts = c.in-Ok.ensures.faults.apart ∙ i.puts;
-      last = c.in-Ok.ensures.faults.told.1 ∙ i.last;
+      able = c.in-Ok.ensures.goes_on.able;
+      most = c.in-Ok.ensures.goes_on.most ∙ i.most;
+      cache = reads-trans (g.F.Files.told c.args.files.now).held (g.F.Files.told c.loop-k.files).held c.args.cache.now c.loop-k.cache c.walk_item.new.cache (ap (λ (o : FilesTold). o.held) i.told) i.cache c.in-Ok.ensures.reads;
     }
 
 pub walk_file-returns-in-Err-clause-answer : goal.walk_file-returns-in-Err-clause-answer
@@ -125,29 +120,29 @@ walk_file-returns-clause-answer g t c =
 
 pub walk_item-returns-in-Ok-None-clause-reads : goal.walk_item-returns-in-Ok-None-clause-reads
 walk_item-returns-in-Ok-None-clause-reads g t c =
-    reads-refl (g.F.Files.held c.args.files.now) c.args.cache.now
+    reads-refl (g.F.Files.told c.args.files.now).held c.args.cache.now
 
 pub walk_item-returns-in-Err-clause-reads : goal.walk_item-returns-in-Err-clause-reads
 walk_item-returns-in-Err-clause-reads g t c =
-    reads-refl (g.F.Files.held c.args.files.now) c.args.cache.now
+    reads-refl (g.F.Files.told c.args.files.now).held c.args.cache.now
 
 pub include_file-returns-then-room-eq0-clause-reads : goal.include_file-returns-then-room-eq0-clause-reads
 include_file-returns-then-room-eq0-clause-reads g t c =
-    reads-refl (g.F.Files.held c.args.files.now) c.args.cache.now
+    reads-refl (g.F.Files.told c.args.files.now).held c.args.cache.now
 
 pub enter_file-returns-in_err-enter-clause-reads : goal.enter_file-returns-in_err-enter-clause-reads
 enter_file-returns-in_err-enter-clause-reads g t c =
-    reads-refl (g.F.Files.held c.args.files.now) c.args.cache.now
+    reads-refl (g.F.Files.told c.args.files.now).held c.args.cache.now
 
 pub walk_file-returns-in_err-count-clause-reads : goal.walk_file-returns-in_err-count-clause-reads
 walk_file-returns-in_err-count-clause-reads g t c =
-    reads-refl (g.F.Files.held c.args.files.now) c.args.cache.now
+    reads-refl (g.F.Files.told c.args.files.now).held c.args.cache.now
 
 pub include_file-returns-in-Ok-clause-reads : goal.include_file-returns-in-Ok-clause-reads
 include_file-returns-in-Ok-clause-reads g t c =
-    reads-trans (g.F.Files.held c.args.files.now) (g.F.Files.held c.open_header.new.files) c.args.cache.now c.open_header.new.cache c.enter_file.new.cache c.in-Ok.ensures.held c.in-Ok.ensures.reads
+    reads-trans (g.F.Files.told c.args.files.now).held (g.F.Files.told c.open_header.new.files).held c.args.cache.now c.open_header.new.cache c.enter_file.new.cache c.in-Ok.ensures.faults.held c.in-Ok.ensures.reads
     c.enter_file.ensures.reads
 
 pub walk_file-returns-in-Err-clause-reads : goal.walk_file-returns-in-Err-clause-reads
 walk_file-returns-in-Err-clause-reads g t c =
-    reads-trans (g.F.Files.held c.args.files.now) (g.F.Files.held c.loop-k.files) c.args.cache.now c.loop-k.cache c.walk_item.new.cache c.loop-k.invariant.held c.loop-k.invariant.cache c.in-Err.ensures.reads
+    reads-trans (g.F.Files.told c.args.files.now).held (g.F.Files.told c.loop-k.files).held c.args.cache.now c.loop-k.cache c.walk_item.new.cache (ap (λ (o : FilesTold). o.held) c.loop-k.invariant.told) c.loop-k.invariant.cache c.in-Err.ensures.reads

@@ -26,7 +26,7 @@ decreases-enter_file g l = 4 * l.room + 3
 -- The items that are left give what all of them give.
 abbrev pub invariant-walk_file-loop-k : goal.invariant-walk_file-loop-k
 invariant-walk_file-loop-k g l = record {
-  held : g.F.Files.held l.files ≡ g.F.Files.held l.fn.files;
+  told : g.F.Files.told l.files ≡ g.F.Files.told l.fn.files;
   answer : (source : Source) → AreFound source l.cache.table → IfSome (source_at l.fn.cache.table l.number) (λ file.
       put_after l.fn.p.text (file_items (unit_context source l.ipath l.fn.cache.toks) l.room file (state_in l.fn.cache.table l.fn.p))
       ≡ put_after l.p.text (walk (unit_context source l.ipath l.fn.cache.toks) (inner_in (unit_context source l.ipath l.fn.cache.toks) l.room) file l.k
@@ -34,8 +34,5 @@ invariant-walk_file-loop-k g l = record {
   same : source_at l.cache.table l.number ≡ source_at l.fn.cache.table l.number;
   able : IsAble l.p;
   most : l.p.most ≡ l.fn.p.most;
-  cache : ReadsOn (g.F.Files.held l.fn.files) l.fn.cache l.cache;
-  reads : g.F.Files.failed_reads l.files ≡ g.F.Files.failed_reads l.fn.files;
-  puts : g.F.Files.failed_puts l.files ≡ g.F.Files.failed_puts l.fn.files;
-  last : g.F.Files.last_failed l.files ≡ g.F.Files.last_failed l.fn.files;
+  cache : ReadsOn (g.F.Files.told l.fn.files).held l.fn.cache l.cache;
 }

@@ -7,7 +7,7 @@ use Rattle.ws_core.proofs.UnitsLemmas.{analysed-done, analysed-fault}
 use Rattle.ws_core.proofs.accepting.accept.Goals as goal
 
 pub returns-in-Err-clause-over : goal.returns-in-Err-clause-over
-returns-in-Err-clause-over g c = (nothing_carried.table, tt, over_nothing (g.F.Files.held c.args.files.now) (λ source. Unit {0}) (λ source. tt))
+returns-in-Err-clause-over g c = (nothing_carried.table, tt, over_nothing (g.F.Files.told c.args.files.now).held (λ source. Unit {0}) (λ source. tt))
 
 pub returns-in-Err-accepted_units-clause-over : goal.returns-in-Err-accepted_units-clause-over
 returns-in-Err-accepted_units-clause-over g c =

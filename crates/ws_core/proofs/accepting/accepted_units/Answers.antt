@@ -12,25 +12,22 @@ use Rattle.ws_core.proofs.accepting.accepted_units.Goals as goal
 
 pub loop-i-init : goal.loop-i-init
 loop-i-init g c = record {
-  held = refl;
+  told = refl;
   each = search rules;
   fresh = subst (λ (k : Carried). IsFresh 1 k.table) (sym c.requires.first) (fresh_first 1);
   once = subst (λ (k : Carried). HasEachOnce k.table) (sym c.requires.first) refl;
-  found = subst (λ (k : Carried). IfSome (g.F.Files.held c.args.files.now) (λ held. AreFound (source_of held) k.table)) (sym c.requires.first)
-      (none_found (g.F.Files.held c.args.files.now));
+  found = subst (λ (k : Carried). IfSome (g.F.Files.told c.args.files.now).held (λ held. AreFound (source_of held) k.table)) (sym c.requires.first)
+      (none_found (g.F.Files.told c.args.files.now).held);
   rest = λ source found. rw c.new-all.ensures.items (rest_first source c.args.units.now c.args.cache.now c.requires.first);
-  reads = refl;
-  puts = refl;
-  last = refl;
 }
 
 pub returns-in-Err-clause-over : goal.returns-in-Err-clause-over
 returns-in-Err-clause-over g c =
     let i = c.loop-i.invariant in
-    let reads = rw i.held at c.in-Err.ensures.reads in
+    let reads = rw i.told at c.in-Err.ensures.reads in
     record {
       once = reads.once;
-      found = found_more (g.F.Files.held c.args.files.now) c.loop-i.cache.table c.next_unit.new.cache.table i.found reads.found;
+      found = found_more (g.F.Files.told c.args.files.now).held c.loop-i.cache.table c.next_unit.new.cache.table i.found reads.found;
       each = λ source found.
           rest_fault source c.args.units.now c.loop-i.i c.index-units-i.result c.index-units-i.result c.loop-i.all.items c.loop-i.cache
           (fault_of c.in-Err.fault) c.loop-i-test.true c.index-units-i.is (i.rest source (earlier_found source c.loop-i.cache.table c.next_unit.new.cache.table reads.grown found))
@@ -40,29 +37,26 @@ returns-in-Err-clause-over g c =
 pub loop-i-preserved : goal.loop-i-preserved
 loop-i-preserved g c =
     let i = c.loop-i.invariant in
-    let reads = rw i.held at c.in-Ok.ensures.reads in
+    let reads = rw i.told at c.in-Ok.ensures.reads in
     record {
-      held = search rules;
+      told = c.in-Ok.ensures.faults.told ∙ i.told;
       each = length-more c.loop-i.all.items c.add.new.all.items c.in-Ok.unit c.loop-i.i c.in_ok-add-in-Ok.ensures i.each;
       fresh = c.in-Ok.ensures.fresh i.fresh;
       once = reads.once;
-      found = found_more (g.F.Files.held c.args.files.now) c.loop-i.cache.table c.next_unit.new.cache.table i.found reads.found;
+      found = found_more (g.F.Files.told c.args.files.now).held c.loop-i.cache.table c.next_unit.new.cache.table i.found reads.found;
       rest = λ source found.
           rest_more source c.args.units.now c.loop-i.i c.index-units-i.result c.index-units-i.result c.loop-i.all.items c.add.new.all.items
           c.in-Ok.unit c.loop-i.cache c.next_unit.new.cache c.loop-i-test.true c.index-units-i.is c.in_ok-add-in-Ok.ensures
           (i.rest source (earlier_found source c.loop-i.cache.table c.next_unit.new.cache.table reads.grown found)) (c.in-Ok.ensures.answer i.fresh source found);
-      reads = search rules;
-      puts = search rules;
-      last = search rules;
     }
 
 pub returns-in_err-add-in-Ok-clause-over : goal.returns-in_err-add-in-Ok-clause-over
 returns-in_err-add-in-Ok-clause-over g c =
     let i = c.loop-i.invariant in
-    let reads = rw i.held at c.in-Ok.ensures.reads in
+    let reads = rw i.told at c.in-Ok.ensures.reads in
     record {
       once = reads.once;
-      found = found_more (g.F.Files.held c.args.files.now) c.loop-i.cache.table c.next_unit.new.cache.table i.found reads.found;
+      found = found_more (g.F.Files.told c.args.files.now).held c.loop-i.cache.table c.next_unit.new.cache.table i.found reads.found;
       each = λ source found. first_of (search rules, grind (arith, common_steps));
     }
 

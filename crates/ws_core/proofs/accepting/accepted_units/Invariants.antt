@@ -10,13 +10,10 @@ use Rattle.ws_core.proofs.accepting.accepted_units.Given as goal
 
 abbrev pub invariant-loop-i : goal.invariant-loop-i
 invariant-loop-i g l = record {
-  held : g.F.Files.held l.files ≡ g.F.Files.held l.fn.files;
+  told : g.F.Files.told l.files ≡ g.F.Files.told l.fn.files;
   each : length l.all.items ≡ l.i;
   fresh : IsFresh (l.i + 1) l.cache.table;
   once : HasEachOnce l.cache.table;
-  found : IfSome (g.F.Files.held l.fn.files) (λ held. AreFound (source_of held) l.cache.table);
+  found : IfSome (g.F.Files.told l.fn.files).held (λ held. AreFound (source_of held) l.cache.table);
   rest : (source : Source) → AreFound source l.cache.table → behind l.all.items (analysed_from source (l.i + 1) (drop l.i l.units) l.cache) ≡ units_of source l.units;
-  reads : g.F.Files.failed_reads l.files ≡ g.F.Files.failed_reads l.fn.files;
-  puts : g.F.Files.failed_puts l.files ≡ g.F.Files.failed_puts l.fn.files;
-  last : g.F.Files.last_failed l.files ≡ g.F.Files.last_failed l.fn.files;
 }

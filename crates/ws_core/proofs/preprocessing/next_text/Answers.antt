@@ -1,12 +1,13 @@
 use Rattle.std.proofs.Common.{◌<◌, ◌^◌, sym, subst, arith}
 use Rattle.std.specs.Prelude.{Result}
 use Rattle.cs_base.specs.Answer.{Gives}
+use Rattle.cs_base.specs.Outside.{ReadsOnly}
 use Rattle.include_tree.specs.Answers as pre
 use Rattle.include_tree.specs.Texts.{UnitTextValue, preprocessed}
 use Rattle.ws_core.specs.declared.analyse_fault.AnalyseFault.{AnalyseFault}
 use Rattle.ws_core.specs.Texts.{unit_with}
 use Rattle.ws_core.specs.Answers.{fault_of}
-use Rattle.ws_core.proofs.AnswerLemmas.{gives_in, counts_in, fresh_in}
+use Rattle.ws_core.proofs.AnswerLemmas.{gives_in, reads_in, fresh_in}
 use Rattle.ws_core.proofs.preprocessing.next_text.Goals as goal
 
 pub returns-clause-reads : goal.returns-clause-reads
@@ -30,6 +31,5 @@ returns-clause-fresh g c = λ fresh.
 pub returns-clause-faults : goal.returns-clause-faults
 returns-clause-faults g c =
     rw c.in_its_unit.ensures
-    (counts_in c.args.number (g.F.Files.failed_reads c.args.files.now) (g.F.Files.failed_reads c.preprocess-answered.new.files)
-    (g.F.Files.failed_puts c.args.files.now) (g.F.Files.failed_puts c.preprocess-answered.new.files)
-    (g.F.Files.last_failed c.args.files.now) (g.F.Files.last_failed c.preprocess-answered.new.files) c.preprocess-answered.result c.preprocess-answered.ensures.faults)
+    (subst (ReadsOnly (g.F.Files.told c.args.files.now) (g.F.Files.told c.preprocess-answered.new.files))
+    (reads_in c.args.number c.preprocess-answered.result) c.preprocess-answered.ensures.faults)

@@ -18,8 +18,8 @@ returns-clause-over g c =
       c.next_text.new.cache.table,
       record {
         once = c.next_text.ensures.reads.once;
-        found = found_more (g.F.Files.held c.args.files.now) nothing_carried.table c.next_text.new.cache.table (none_found (g.F.Files.held c.args.files.now))
-            (subst (λ (k : Carried). StaysHeld (g.F.Files.held c.args.files.now) k.table c.next_text.new.cache.table) c.new-cache.ensures c.next_text.ensures.reads.found);
+        found = found_more (g.F.Files.told c.args.files.now).held nothing_carried.table c.next_text.new.cache.table (none_found (g.F.Files.told c.args.files.now).held)
+            (subst (λ (k : Carried). StaysHeld (g.F.Files.told c.args.files.now).held k.table c.next_text.new.cache.table) c.new-cache.ensures c.next_text.ensures.reads.found);
         each = λ source found.
             gives_one source c.args.ws.now.units c.args.number c.index-units-number.result c.next_text.new.cache c.next_text.result c.requires.first c.requires.last is
             (subst (λ (k : Carried). Gives (with_text c.next_text.new.cache) fault_of c.next_text.result (unit_with source c.args.number c.index-units-number.result k)) c.new-cache.ensures
@@ -30,4 +30,4 @@ returns-clause-over g c =
 pub returns-clause-answer : goal.returns-clause-answer
 returns-clause-answer g c =
     let over = returns-clause-over g c in
-    let held = over_held (g.F.Files.held c.args.files.now) over.0 _ over.1 in held
+    let held = over_held (g.F.Files.told c.args.files.now).held over.0 _ over.1 in held

@@ -9,7 +9,7 @@ returns-in-Err-clause-over g c = (c.unit_texts.new.cache.table, tt, rw c.units.e
 pub returns-in-Err-clause-answer : goal.returns-in-Err-clause-answer
 returns-in-Err-clause-answer g c =
     let over = rw c.units.ensures.answer at c.in-Err.ensures.over in
-    let held = over_held (g.F.Files.held c.args.files.now) c.unit_texts.new.cache.table _ over in held
+    let held = over_held (g.F.Files.told c.args.files.now).held c.unit_texts.new.cache.table _ over in held
 
 pub returns-in-Ok-clause-over : goal.returns-in-Ok-clause-over
 returns-in-Ok-clause-over g c =
@@ -19,5 +19,5 @@ returns-in-Ok-clause-over g c =
 pub returns-in-Ok-clause-answer : goal.returns-in-Ok-clause-answer
 returns-in-Ok-clause-answer g c =
     let over = rw c.units.ensures.answer at c.in-Ok.ensures.over in
-    let held = over_held (g.F.Files.held c.args.files.now) c.unit_texts.new.cache.table _ over in
+    let held = over_held (g.F.Files.told c.args.files.now).held c.unit_texts.new.cache.table _ over in
     rw c.new.ensures.answer held

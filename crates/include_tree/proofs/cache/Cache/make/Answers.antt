@@ -13,12 +13,15 @@ use Rattle.include_tree.proofs.OpeningLemmas.{ok_value}
 use Rattle.include_tree.proofs.SourcesLemmas.{made-gives, made-refused, opens-there, cache-made}
 use Rattle.include_tree.proofs.cache.Cache.make.Goals as goal
 
-pub returns-in_err-place-clause-widens : goal.returns-in_err-place-clause-widens
-returns-in_err-place-clause-widens c = λ source. widens_refl source c.args.self.now.table
+pub returns-in_err-place-clause-keeps : goal.returns-in_err-place-clause-keeps
+returns-in_err-place-clause-keeps c = record { widens = λ source. widens_refl source c.args.self.now.table; counted = refl }
 
-pub returns-in_err-push-in-Ok-clause-widens : goal.returns-in_err-push-in-Ok-clause-widens
-returns-in_err-push-in-Ok-clause-widens c = λ source.
-    rw (← c.self.view_is) (subst (Widens source c.self.inside.table) (sym c.in_err-push-in-Ok.ensures.unchanged) (widens_refl source c.self.inside.table))
+pub returns-in_err-push-in-Ok-clause-keeps : goal.returns-in_err-push-in-Ok-clause-keeps
+returns-in_err-push-in-Ok-clause-keeps c = record {
+  widens = λ source.
+      rw (← c.self.view_is) (subst (Widens source c.self.inside.table) (sym c.in_err-push-in-Ok.ensures.unchanged) (widens_refl source c.self.inside.table));
+  counted = rw (← c.self.view_is) refl;
+}
 
 pub invariant_of-self-in-Ok : goal.invariant_of-self-in-Ok
 invariant_of-self-in-Ok c =
@@ -46,12 +49,16 @@ returns-in-Ok-clause-there c =
     (opening the_limits file_text (first_place c.args.path.now) c.args.path.now (numbered c.args.path.now (Made c.args.bytes.items) c.self.inside.table)) c.push.new.self
     (made-gives (first_place c.args.path.now) c.args.path.now c.args.bytes.items c.self.inside.table c.push.new.self c.next_number-number.result text.0 none c.next_number-number.ensures.answer text.1 new)
 
-pub returns-in-Ok-clause-widens : goal.returns-in-Ok-clause-widens
-returns-in-Ok-clause-widens c = λ source.
+pub returns-in-Ok-clause-keeps : goal.returns-in-Ok-clause-keeps
+returns-in-Ok-clause-keeps c =
     let none : found_at c.args.path.now c.self.inside.table ≡ None = rw (← c.self.view_is) at c.requires.fresh in
     let new : c.push.new.self ≡ numbered c.args.path.now (Made c.args.bytes.items) c.self.inside.table =
     c.in_ok-push-in-Ok.ensures.ok ∙ ap (λ (f : KeptValue). numbered c.args.path.now (Made f.bytes) c.self.inside.table) c.in-Ok.ensures.ok in
-    rw (← c.self.view_is) (subst (Widens source c.self.inside.table) (sym new) (widens_push source c.args.path.now (Made c.args.bytes.items) c.self.inside.table none tt))
+    record {
+      widens = λ source.
+          rw (← c.self.view_is) (subst (Widens source c.self.inside.table) (sym new) (widens_push source c.args.path.now (Made c.args.bytes.items) c.self.inside.table none tt));
+      counted = rw (← c.self.view_is) refl;
+    }
 
 pub returns-clause-answer : goal.returns-clause-answer
 returns-clause-answer c =
@@ -60,5 +67,5 @@ returns-clause-answer c =
     (made-refused (fault_of c.text_fault.result) (lex_fault_of c.in-Err.unread.refusal) (first_place c.args.path.now) c.in_ok-place.place c.args.path.now c.args.bytes.items c.self.inside.table c.next_number-number.result
     none c.next_number-number.ensures.answer c.in_ok-place.ensures c.text_fault.ensures.answer c.text_fault.ensures.no_memory c.in-Err.ensures.refused)
 
-pub returns-clause-widens : goal.returns-clause-widens
-returns-clause-widens c = λ source. widens_refl source c.args.self.now.table
+pub returns-clause-keeps : goal.returns-clause-keeps
+returns-clause-keeps c = record { widens = λ source. widens_refl source c.args.self.now.table; counted = refl }

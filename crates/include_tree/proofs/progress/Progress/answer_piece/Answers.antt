@@ -18,10 +18,12 @@ returns-in-None-clause-answer c = λ table.
     piece-none c.args.self.now.text c.args.word.now c.args.after.now (state_in table c.args.self.now) (sym c.is_defined.ensures ∙ c.if-not-is_defined.false)
     c.in-None.ensures.answer
 
-pub returns-in_ok-answer-in-Some-clause-able : goal.returns-in_ok-answer-in-Some-clause-able
-returns-in_ok-answer-in-Some-clause-able c =
-    able-noted c.args.self.now c.answer.new.self c.in-Some.name.now (answer_notes c.args.word.now c.in-Some.name.now (state_in [] c.args.self.now))
-    (c.in_ok-answer-in-Some.ensures.noted []) c.requires.able
+pub returns-in_ok-answer-in-Some-clause-goes_on : goal.returns-in_ok-answer-in-Some-clause-goes_on
+returns-in_ok-answer-in-Some-clause-goes_on c = record {
+  able = able-noted c.args.self.now c.answer.new.self c.in-Some.name.now (answer_notes c.args.word.now c.in-Some.name.now (state_in [] c.args.self.now))
+      (c.in_ok-answer-in-Some.ensures.noted []) c.requires.able;
+  most = c.in_ok-answer-in-Some.ensures.most;
+}
 
 pub returns-in_ok-answer-in-Some-clause-answer : goal.returns-in_ok-answer-in-Some-clause-answer
 returns-in_ok-answer-in-Some-clause-answer c = λ table.

@@ -8,8 +8,8 @@ use Rattle.include_tree.proofs.progress.Progress.answered.Goals as goal
 
 pub pieces-preserved : goal.pieces-preserved
 pieces-preserved c = record {
-  able = c.in_ok-n.ensures.able;
-  most = c.in_ok-n.ensures.most ∙ c.pieces.invariant.most;
+  able = c.in_ok-n.ensures.goes_on.able;
+  most = c.in_ok-n.ensures.goes_on.most ∙ c.pieces.invariant.most;
   answer = λ table.
       c.pieces.invariant.answer table
       ∙ ap (λ (ts : List Token). behind c.pieces.out.items (asked_in c.pieces.self.text 0 ts (state_in table c.pieces.self))) c.in-Some.ensures.cases.0

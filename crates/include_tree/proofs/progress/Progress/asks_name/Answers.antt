@@ -6,10 +6,12 @@ use Rattle.include_tree.specs.Directives.{operand_in}
 use Rattle.include_tree.proofs.DefiningLemmas.{able-noted, asks-line}
 use Rattle.include_tree.proofs.progress.Progress.asks_name.Goals as goal
 
-pub returns-in_ok-known-in-Some-clause-able : goal.returns-in_ok-known-in-Some-clause-able
-returns-in_ok-known-in-Some-clause-able c =
-    able-noted c.args.self.now c.test.new.self c.in-Some.name.now (test_notes c.in-Some.name.now (state_in [] c.args.self.now)) (c.in_ok-known-in-Some.ensures.noted [])
-    c.requires.able
+pub returns-in_ok-known-in-Some-clause-goes_on : goal.returns-in_ok-known-in-Some-clause-goes_on
+returns-in_ok-known-in-Some-clause-goes_on c = record {
+  able = able-noted c.args.self.now c.test.new.self c.in-Some.name.now (test_notes c.in-Some.name.now (state_in [] c.args.self.now)) (c.in_ok-known-in-Some.ensures.noted [])
+      c.requires.able;
+  most = c.in_ok-known-in-Some.ensures.most;
+}
 
 pub returns-in_ok-known-in-Some-clause-answer : goal.returns-in_ok-known-in-Some-clause-answer
 returns-in_ok-known-in-Some-clause-answer c = λ table.

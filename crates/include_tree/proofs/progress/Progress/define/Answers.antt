@@ -4,10 +4,12 @@ use Rattle.include_tree.specs.Moments.{state_in}
 use Rattle.include_tree.proofs.DefiningLemmas.{define-line, define-able}
 use Rattle.include_tree.proofs.progress.Progress.define.Goals as goal
 
-pub returns-clause-able : goal.returns-clause-able
-returns-clause-able c =
-    define-able c.args.self.now c.note_define.new.self c.define.new.self c.in_ok-m.m (define_notes c.in_ok-m.m (state_in [] c.args.self.now)) (c.in_ok-note_define.ensures.noted [])
-    c.in_ok-define.ensures.answer (c.requires.traced c.in_ok-m.m c.in_ok-m.ensures) c.requires.able
+pub returns-clause-goes_on : goal.returns-clause-goes_on
+returns-clause-goes_on c = record {
+  able = define-able c.args.self.now c.note_define.new.self c.define.new.self c.in_ok-m.m (define_notes c.in_ok-m.m (state_in [] c.args.self.now)) (c.in_ok-note_define.ensures.noted [])
+      c.in_ok-define.ensures.answer (c.requires.traced c.in_ok-m.m c.in_ok-m.ensures) c.requires.able;
+  most = c.in_ok-note_define.ensures.most;
+}
 
 pub returns-clause-answer : goal.returns-clause-answer
 returns-clause-answer c = λ table file at.

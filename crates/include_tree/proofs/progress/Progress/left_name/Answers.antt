@@ -5,9 +5,11 @@ use Rattle.include_tree.proofs.DefiningLemmas.{able-event}
 use Rattle.include_tree.proofs.JudgingLemmas.{left-step, left-other}
 use Rattle.include_tree.proofs.progress.Progress.left_name.Goals as goal
 
-pub returns-in_ok-process_event-clause-able : goal.returns-in_ok-process_event-clause-able
-returns-in_ok-process_event-clause-able c =
-    able-event c.args.self.now c.process_event.new.self Left c.args.tok.now c.in_ok-process_event.ensures.named c.requires.able
+pub returns-in_ok-process_event-clause-goes_on : goal.returns-in_ok-process_event-clause-goes_on
+returns-in_ok-process_event-clause-goes_on c = record {
+  able = able-event c.args.self.now c.process_event.new.self Left c.args.tok.now c.in_ok-process_event.ensures.named c.requires.able;
+  most = c.in_ok-process_event.ensures.most;
+}
 
 pub returns-in_ok-process_event-clause-answer : goal.returns-in_ok-process_event-clause-answer
 returns-in_ok-process_event-clause-answer c = λ table toks.

@@ -4,10 +4,12 @@ use Rattle.include_tree.specs.SourceTexts.{source_in}
 use Rattle.include_tree.proofs.DefiningLemmas.{undef-line, undef-able}
 use Rattle.include_tree.proofs.progress.Progress.undef.Goals as goal
 
-pub returns-in_ok-process_event-in-Some-clause-able : goal.returns-in_ok-process_event-in-Some-clause-able
-returns-in_ok-process_event-in-Some-clause-able c =
-    undef-able c.args.self.now c.process_event.new.self c.undef.new.self c.in-Some.name.now c.in_ok-process_event-in-Some.ensures.named
-    (c.undef.ensures ∙ ap (λ (t : List ℕ). without_macro t (table_of c.process_event.new.self.macros)) c.text.ensures.answer) c.requires.able
+pub returns-in_ok-process_event-in-Some-clause-goes_on : goal.returns-in_ok-process_event-in-Some-clause-goes_on
+returns-in_ok-process_event-in-Some-clause-goes_on c = record {
+  able = undef-able c.args.self.now c.process_event.new.self c.undef.new.self c.in-Some.name.now c.in_ok-process_event-in-Some.ensures.named
+      (c.undef.ensures ∙ ap (λ (t : List ℕ). without_macro t (table_of c.process_event.new.self.macros)) c.text.ensures.answer) c.requires.able;
+  most = c.in_ok-process_event-in-Some.ensures.most;
+}
 
 pub returns-in_ok-process_event-in-Some-clause-answer : goal.returns-in_ok-process_event-in-Some-clause-answer
 returns-in_ok-process_event-in-Some-clause-answer c = λ table.
