@@ -11,3 +11,14 @@ pub mod TextKindLemmas
 pub mod ShapeLemmas
 mod SpelledLemmas
 pub mod SpelledLaw
+-- The definition as one step, part by part, and under a renaming.
+mod FollowsLemmas
+mod GroundLemmas
+mod MadeLemmas
+mod OriginLemmas
+mod PartLemmas
+mod PartsLemmas
+mod PastedLemmas
+mod RenamedLemmas
+mod SimulationLemmas
+mod WorldLemmas

@@ -6,13 +6,18 @@
 //! which its notes tell. `expansion_keeps_tests` says it of any test; the other laws are what comes of
 //! it: that notes tell what happened, and that links join identifiers of equal spelling; that tokens are
 //! made of whole tokens of files; that they stand where tokens of the run stand; and that they are
-//! spelled as their kinds say, pasted ones too. What an expansion with a fault gives is nothing here. Read
+//! spelled as their kinds say, pasted ones too. What an expansion with a fault gives is nothing here.
+//!
+//! Four more laws are of the definition as a whole: it is one step of itself and nothing else is, tokens are
+//! expanded part by part, each token comes from somewhere, and what a renaming rests on. Their statements
+//! stand in `specs/Laws.antt` and `specs/Renaming.antt` of `macro_expand`. Read these, then
 //! `specs/Telling.antt`, `specs/Passing.antt`, `specs/Pieces.antt` and `specs/Spelled.antt`.
 #![tactic(auto)]
 
 mod laws;
 
 pub use laws::{
-    expanded_tokens_are_spelled, expanded_tokens_are_whole, expanded_tokens_stand_in_the_run,
-    expansion_keeps_tests, notes_tell_what_happened,
+    expanded_tokens_are_spelled, expanded_tokens_are_whole, expanded_tokens_come_from_somewhere,
+    expanded_tokens_stand_in_the_run, expansion_can_be_renamed, expansion_goes_part_by_part,
+    expansion_goes_step_by_step, expansion_keeps_tests, notes_tell_what_happened,
 };

@@ -1,14 +1,13 @@
-//! Macro expansion (ISO/IEC 9899:1999, 6.10.3): its definition, the laws that callers rest on, and the
-//! program.
+//! Macro expansion (ISO/IEC 9899:1999, 6.10.3): its definition, and the program.
 //!
 //! `expand` takes the macros, the path of the file, the tokens of a run and the work that is left, and
 //! gives what `expansion` of `specs/Expansion.antt` says: the expanded tokens, and in `Notes` what
 //! happened on the way: replaced names, links to their macros' names, strings and pasted tokens; or the
 //! first fault at the position of a macro's name. The definition is one step over whole lists of tokens
-//! with their hide sets (`step`), closed by as many steps as the work and the tokens allow;
-//! `expansion_goes_step_by_step` shows that these suffice. `expansion_can_be_renamed` is what a renaming
-//! rests on. The run and `Work.left` together are below 2^32, and at most 200 arguments are expanded
-//! inside one another. What follows is a stack, so a replacement moves no more than it puts in.
+//! with their hide sets (`step`), closed by as many steps as the work and the tokens allow. That these
+//! suffice, and what a renaming rests on, are laws of the crate `expansion_laws`. The run and `Work.left`
+//! together are below 2^32, and at most 200 arguments are expanded inside one another. What follows is a
+//! stack, so a replacement moves no more than it puts in.
 //!
 //! `Macros` keeps the macros that are defined, a finite map by `specs/Live.antt`; `Definition::of` gives
 //! the definition of a `define` line, by `specs/Defining.antt`, which has the first definitions of
@@ -28,7 +27,6 @@ mod expansion;
 mod fault;
 mod hidden;
 mod hide_set;
-mod laws;
 mod notes;
 mod operands;
 mod parameters;
@@ -44,10 +42,6 @@ mod table;
 pub use definitions::{Definition, Form};
 pub use expansion::expand;
 pub use fault::ExpandFault;
-pub use laws::{
-    expanded_tokens_come_from_somewhere, expansion_can_be_renamed, expansion_goes_part_by_part,
-    expansion_goes_step_by_step,
-};
 pub use notes::{Notes, Replacement, Work};
 pub use predefined::line_number;
 pub use table::Macros;

@@ -14,9 +14,9 @@ use Rattle.macro_expand.specs.Calls.{Call, call_from, arguments_of}
 use Rattle.macro_expand.specs.Substitution.{with_gap, argument_for}
 use Rattle.macro_expand.specs.Expansion.{macro_of}
 use Rattle.macro_expand.specs.Renaming.{Renaming, spelled, renamed_hidden, renamed_macro, Occurring, occurs, Keeps}
-use Rattle.macro_expand.proofs.RenamedLemmas.{AllOccurHidden}
+use Rattle.expansion_laws.proofs.RenamedLemmas.{AllOccurHidden}
 use Rattle.macro_expand.specs.Laws.{AllDefined}
-use Rattle.macro_expand.proofs.GroundLemmas.{Ground, Good as GoodOn, GoodLists as GoodListsOn, GoodCall as GoodCallOn, Good-occur as on-Good-occur, Good-append as on-Good-append, Good-hide_more as on-Good-hide_more, Good-get_or as on-Good-get_or, Good-with_gap as on-Good-with_gap, Good-argument_for as on-Good-argument_for, good_call as on-good_call, good_arguments as on-good_arguments}
+use Rattle.expansion_laws.proofs.GroundLemmas.{Ground, Good as GoodOn, GoodLists as GoodListsOn, GoodCall as GoodCallOn, Good-occur as on-Good-occur, Good-append as on-Good-append, Good-hide_more as on-Good-hide_more, Good-get_or as on-Good-get_or, Good-with_gap as on-Good-with_gap, Good-argument_for as on-Good-argument_for, good_call as on-good_call, good_arguments as on-good_arguments}
 
 -- A renaming, with what it keeps.
 pub record World : Type 0 where

@@ -15,12 +15,12 @@ use Rattle.macro_expand.proofs.ResultLemmas.{ok_same, err_ok, onward_ok}
 use Rattle.macro_expand.proofs.CallLemmas.{AllWithin, none, Shorter, call_shorter, arguments_within}
 use Rattle.macro_expand.proofs.StepLemmas.{Below, put_for_puts}
 use Rattle.macro_expand.proofs.WholeLemmas.{whole_below_itself, whole_is_step}
-use Rattle.macro_expand.proofs.RenamedLemmas.{renamed_lists, renamed_call, is_sign-renamed, call_from-renamed, commas_of-renamed, arguments_of-renamed}
+use Rattle.expansion_laws.proofs.RenamedLemmas.{renamed_lists, renamed_call, is_sign-renamed, call_from-renamed, commas_of-renamed, arguments_of-renamed}
 use Rattle.macro_expand.specs.Laws.{AllDefined}
-use Rattle.macro_expand.proofs.GroundLemmas.{AllDefined-append, AllDefined-in_both}
-use Rattle.macro_expand.proofs.WorldLemmas.{World, Good, GoodLists, Good-occur, Good-append, Good-hide_more, in_both-renamed, with_names-renamed, GoodCall, good_call, good_arguments, macro_none, macro_same, macro_either, replaced_by}
-use Rattle.macro_expand.proofs.MadeLemmas.{notes_renamed, respected_split}
-use Rattle.macro_expand.proofs.SimulationLemmas.{Followed, Follows, stays_follows, put_for_follows}
+use Rattle.expansion_laws.proofs.GroundLemmas.{AllDefined-append, AllDefined-in_both}
+use Rattle.expansion_laws.proofs.WorldLemmas.{World, Good, GoodLists, Good-occur, Good-append, Good-hide_more, in_both-renamed, with_names-renamed, GoodCall, good_call, good_arguments, macro_none, macro_same, macro_either, replaced_by}
+use Rattle.expansion_laws.proofs.MadeLemmas.{notes_renamed, respected_split}
+use Rattle.expansion_laws.proofs.SimulationLemmas.{Followed, Follows, stays_follows, put_for_follows}
 
 -- what stays the same in the new expansion
 abbrev pub new_setting : World → List ℕ → Setting

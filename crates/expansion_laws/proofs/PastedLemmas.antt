@@ -9,10 +9,10 @@ use Rattle.macro_expand.specs.Notes.{Fault, Pasted, onward}
 use Rattle.macro_expand.specs.Substitution.{Arguments, Made, made, made_both, with_gap, put_in, is_alone, operand_made, operands_made, chains_made, token_pasted, pasted_behind, two_pasted, chain_pasted, chains_pasted, result_of}
 use Rattle.macro_expand.specs.Renaming.{renamed, renamed_hidden, renamed_note, AllRespected}
 use Rattle.macro_expand.proofs.ResultLemmas.{ok_same, err_ok, onward_ok}
-use Rattle.macro_expand.proofs.RenamedLemmas.{renamed_part, renamed_chains, renamed_lists, renamed_arguments, with_gap-renamed, is_alone-renamed}
-use Rattle.macro_expand.proofs.GroundLemmas.{AllDefined-in_both}
-use Rattle.macro_expand.proofs.WorldLemmas.{World, Good, GoodLists, Good-append, Good-with_gap, in_both-renamed}
-use Rattle.macro_expand.proofs.MadeLemmas.{notes_renamed, respected_split, PartsOccur, ChainsOccur, GoodArguments, made_renamed, lists_renamed, chains_renamed, GoodChains, IsMade, operand-renamed}
+use Rattle.expansion_laws.proofs.RenamedLemmas.{renamed_part, renamed_chains, renamed_lists, renamed_arguments, with_gap-renamed, is_alone-renamed}
+use Rattle.expansion_laws.proofs.GroundLemmas.{AllDefined-in_both}
+use Rattle.expansion_laws.proofs.WorldLemmas.{World, Good, GoodLists, Good-append, Good-with_gap, in_both-renamed}
+use Rattle.expansion_laws.proofs.MadeLemmas.{notes_renamed, respected_split, PartsOccur, ChainsOccur, GoodArguments, made_renamed, lists_renamed, chains_renamed, GoodChains, IsMade, operand-renamed}
 
 abbrev pub put_first : {A : Type 0} → Made A → Made (List A) → Result (Made (List A)) Fault
 put_first v vs = Ok (made_both (λ x xs. x ∷ xs) v vs)

@@ -20,10 +20,10 @@ use Rattle.macro_expand.specs.Renaming.{renamed, renamed_hidden, renamed_macro, 
 use Rattle.macro_expand.proofs.ResultLemmas.{ok_same, onward_ok, cond_ok, cond_ok_yes}
 use Rattle.macro_expand.proofs.CallLemmas.{AllWithin, none, more}
 use Rattle.macro_expand.proofs.StepLemmas.{Below}
-use Rattle.macro_expand.proofs.RenamedLemmas.{renamed_chains, renamed_lists, renamed_arguments, chains_of-renamed, occurs_alone-renamed, cost_of-renamed}
-use Rattle.macro_expand.proofs.WorldLemmas.{World, Good, GoodLists}
-use Rattle.macro_expand.proofs.MadeLemmas.{notes_renamed, respected_split, chains_of-occur, GoodArguments, IsMade}
-use Rattle.macro_expand.proofs.PastedLemmas.{result-renamed}
+use Rattle.expansion_laws.proofs.RenamedLemmas.{renamed_chains, renamed_lists, renamed_arguments, chains_of-renamed, occurs_alone-renamed, cost_of-renamed}
+use Rattle.expansion_laws.proofs.WorldLemmas.{World, Good, GoodLists}
+use Rattle.expansion_laws.proofs.MadeLemmas.{notes_renamed, respected_split, chains_of-occur, GoodArguments, IsMade}
+use Rattle.expansion_laws.proofs.PastedLemmas.{result-renamed}
 
 -- the new expansion is the old one, renamed; and its tokens are good
 abbrev pub Followed : World → Expanded → Result Expanded Fault → Type 0

@@ -10,7 +10,7 @@ use Rattle.macro_expand.specs.Macro.{arity}
 use Rattle.macro_expand.specs.Substitution.{with_gap, moved_in, argument_for}
 use Rattle.macro_expand.specs.Renaming.{Occurring}
 use Rattle.macro_expand.specs.Laws.{AllDefined, Held}
-use Rattle.macro_expand.proofs.RenamedLemmas.{AllOccurHidden}
+use Rattle.expansion_laws.proofs.RenamedLemmas.{AllOccurHidden}
 use Rattle.macro_expand.proofs.CallLemmas.{option_map_is, cond_has, cond_some}
 
 -- Which tokens occur, and the macros.

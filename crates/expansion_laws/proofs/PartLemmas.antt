@@ -6,7 +6,7 @@ use Rattle.macro_expand.specs.declared.definitions.Definition.{Definition}
 use Rattle.macro_expand.specs.Bodies.{Part, Plain, Param, Quote, Paste, quoted_parameter, param_or_plain, lone_part, quote_or, parts_from, is_operator, pasted_to, chains_in, chains_of}
 use Rattle.macro_expand.specs.Macro.{parameter_at}
 use Rattle.macro_expand.specs.Renaming.{occurs, AllOccur}
-use Rattle.macro_expand.proofs.GroundLemmas.{Ground}
+use Rattle.expansion_laws.proofs.GroundLemmas.{Ground}
 
 abbrev pub PartOccurs : Ground → Part → Type 0
 PartOccurs w (Plain t) = occurs w.o t ≡ true

@@ -22,8 +22,8 @@ use Rattle.macro_expand.proofs.ResultLemmas.{ok_same, err_ok, onward_ok, cond_ok
 use Rattle.macro_expand.proofs.CallLemmas.{AllWithin, none, more, call_shorter, arguments_within}
 use Rattle.macro_expand.proofs.StepLemmas.{Below, put_for_puts}
 use Rattle.macro_expand.proofs.WholeLemmas.{whole_below_itself, whole_is_step}
-use Rattle.macro_expand.proofs.GroundLemmas.{Ground, AllDefined-append, AllDefined-in_both, Good, GoodLists, Good-append, Good-hide_more, Good-get_or, Good-with_gap, Good-argument_for, good_call, good_arguments}
-use Rattle.macro_expand.proofs.PartLemmas.{PartOccurs, PartsOccur, ChainsOccur, chains_of-occur}
+use Rattle.expansion_laws.proofs.GroundLemmas.{Ground, AllDefined-append, AllDefined-in_both, Good, GoodLists, Good-append, Good-hide_more, Good-get_or, Good-with_gap, Good-argument_for, good_call, good_arguments}
+use Rattle.expansion_laws.proofs.PartLemmas.{PartOccurs, PartsOccur, ChainsOccur, chains_of-occur}
 
 made_split : (o : Occurring) (xs ys : List Note) → AllMadePass o (xs ++ ys) → AllMadePass o xs × AllMadePass o ys
 made_split o [] ys h = (tt, h)

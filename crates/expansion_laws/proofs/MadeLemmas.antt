@@ -10,9 +10,9 @@ use Rattle.macro_expand.specs.Notes.{Fault, Note, Stringized}
 use Rattle.macro_expand.specs.Substitution.{Arguments, Made, made, put_in, string_made, operand_made, argument_for}
 use Rattle.macro_expand.specs.Renaming.{renamed, renamed_hidden, renamed_note, occurs, AllOccur, KeepsBody, AllRespected}
 use Rattle.macro_expand.proofs.ResultLemmas.{ok_same, err_ok}
-use Rattle.macro_expand.proofs.RenamedLemmas.{renamed_part, renamed_lists, renamed_arguments, toks_of-renamed, get_or-renamed, tokens_for-renamed}
-use Rattle.macro_expand.proofs.PartLemmas.{PartOccurs as PartFits, PartsOccur as PartsFit, ChainsOccur as ChainsFit, chains_of-occur as chains_of-fit}
-use Rattle.macro_expand.proofs.WorldLemmas.{ground, World, Good, GoodLists, Good-get_or, Good-argument_for}
+use Rattle.expansion_laws.proofs.RenamedLemmas.{renamed_part, renamed_lists, renamed_arguments, toks_of-renamed, get_or-renamed, tokens_for-renamed}
+use Rattle.expansion_laws.proofs.PartLemmas.{PartOccurs as PartFits, PartsOccur as PartsFit, ChainsOccur as ChainsFit, chains_of-occur as chains_of-fit}
+use Rattle.expansion_laws.proofs.WorldLemmas.{ground, World, Good, GoodLists, Good-get_or, Good-argument_for}
 
 -- Notes.
 

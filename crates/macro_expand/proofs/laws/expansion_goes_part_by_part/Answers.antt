@@ -1,5 +1,0 @@
-use Rattle.macro_expand.proofs.PartsLemmas.{expands_in_parts}
-use Rattle.macro_expand.proofs.laws.expansion_goes_part_by_part.Goals as goal
-
-pub returns : goal.returns
-returns c = record { parts = expands_in_parts }
