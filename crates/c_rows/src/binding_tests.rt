@@ -1,11 +1,12 @@
 // The programs, read and bound.
 use crate::entity_rows::BOUND;
 use crate::fault_rows::FAULTS;
-use crate::list_rows::{KINDS, LISTS};
+use crate::list_rows::{KINDS, LISTS, PARAMETERS};
 use c99_read::read;
+use c99_tree::Tree;
 use cs_base::Tok;
 use part_lexer::lex;
-use scope_bind::{Bound, List, Range, bind};
+use scope_bind::{Bound, List, ParameterList, Range, bind, parameter_lists};
 use std::alloc::Global;
 use std::fmt::Write;
 use std::test::Fail;
@@ -78,18 +79,51 @@ fn lists(alloc: Global, bound: &Bound) -> Result<String, Fail> {
     Ok(out)
 }
 
+fn write_names(out: &mut String, list: &ParameterList) -> Result<(), Fail> {
+    for name in list.names.as_slice() {
+        match name {
+            Some(index) => write!(out, " {index}")?,
+            None => write!(out, " -")?,
+        }
+    }
+    Ok(())
+}
+
+// The parameters of a unit, as PARAMETERS has them.
+fn parameters(alloc: Global, tree: &Tree) -> Result<String, Fail> {
+    let lists = match parameter_lists(alloc, tree) {
+        Ok(lists) => lists,
+        Err(_) => return Ok(format!(in alloc; "no memory")?),
+    };
+    let mut out = String::new(alloc);
+    for list in lists.as_slice() {
+        separate(&mut out)?;
+        write!(out, "{} {:?}", list.name, list.form)?;
+        write_names(&mut out, list)?;
+    }
+    Ok(out)
+}
+
 #[derive(Clone, Copy)]
 enum Asked {
     Entities,
     Kinds,
     Lists,
+    Parameters,
 }
 
-fn told(alloc: Global, asked: Asked, bound: &Bound, count: u32) -> Result<String, Fail> {
+fn told(
+    alloc: Global,
+    asked: Asked,
+    tree: &Tree,
+    bound: &Bound,
+    count: u32,
+) -> Result<String, Fail> {
     match asked {
         Asked::Entities => entities(alloc, bound, count),
         Asked::Kinds => kinds(alloc, bound, count),
         Asked::Lists => lists(alloc, bound),
+        Asked::Parameters => parameters(alloc, tree),
     }
 }
 
@@ -107,7 +141,7 @@ fn answer_of(alloc: Global, asked: Asked, toks: &[Tok]) -> Result<String, Fail> 
     }
     match read(alloc, toks) {
         Ok(tree) => match bind(alloc, toks, &tree) {
-            Ok(bound) => told(alloc, asked, &bound, toks.len() as u32),
+            Ok(bound) => told(alloc, asked, &tree, &bound, toks.len() as u32),
             Err(refusal) => Ok(format!(in alloc; "{refusal}")?),
         },
         Err(refusal) => Ok(format!(in alloc; "not read: {refusal:?}")?),
@@ -135,5 +169,7 @@ fn worked_programs(rt: HostRuntime) -> Result<(), Fail> {
     assert_eq!(rt; kinds.as_str(), "", "KINDS");
     let lists = differing(rt.alloc(), Asked::Lists, &LISTS)?;
     assert_eq!(rt; lists.as_str(), "", "LISTS");
+    let parameters = differing(rt.alloc(), Asked::Parameters, &PARAMETERS)?;
+    assert_eq!(rt; parameters.as_str(), "", "PARAMETERS");
     Ok(())
 }

@@ -54,3 +54,49 @@ pub(crate) const LISTS: [(&[u8], &str); 5] = [
         "list 1 2 3, list 6 7 8, call 11 12 22 16, call 13 14 15, body 6 9 24",
     ),
 ];
+
+// The parameters of each name that has a parameter list (6.7.5.3): the name, how its list reads, and each parameter's
+// name, or `-` where it has none.
+pub(crate) const PARAMETERS: [(&[u8], &str); 11] = [
+    (
+        b"int f ( int a , int b ) { return f ( a , b ) ; }",
+        "1 Types 4 7",
+    ),
+    // The standard's first example.
+    (
+        b"int f ( void ) , * fip ( ) , ( * pfi ) ( ) ;",
+        "1 Types -, 7 Empty",
+    ),
+    (
+        b"void f ( ) , g ( int , ... ) , ( * h ( int a ) ) ( int b , int c ) ; int * k ( void ) ;",
+        "1 Empty, 5 Ellipsis -, 14 Types 17, 30 Types -",
+    ),
+    (
+        b"int printf ( const char * format , ... ) ;",
+        "1 Ellipsis 6",
+    ),
+    (
+        b"int f ( a , b , c ) int a ; char b , c ; { return a + b + c ; }",
+        "1 Identifiers 3 5 7",
+    ),
+    // Paragraph 11: in parentheses a typedef name is a type, and another name the parameter's.
+    (
+        b"typedef int t ; int f ( t ( t ) ) ; void g ( a ) int a ; { int ( * p ) ( int ) ; p ( 1 ) ; }",
+        "5 Types -, 14 Identifiers 16",
+    ),
+    (b"int f ( int ( a ) ) ;", "1 Types 5"),
+    (b"typedef int g ( int x , char * y [ ] ) ;", "2 Types 5 9"),
+    // A list inside another one is a parameter's, not a name's of its own.
+    (
+        b"void q ( int ( * compare ) ( int a , int b ) , int [ 2 ] , struct s { int m ; } * r , int h ( int z ) ) ;",
+        "1 Types 6 - 29 32",
+    ),
+    (
+        b"void f ( void ) { int g ( char c ) ; }",
+        "1 Types -, 7 Types 10",
+    ),
+    (
+        b"int x , ( * p ) ( int a ) ; struct s { int ( * m ) ( int b ) ; } ;",
+        "",
+    ),
+];

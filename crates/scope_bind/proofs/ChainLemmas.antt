@@ -1,9 +1,9 @@
 -- The way along a chain of declarations.
-use Rattle.std.proofs.Common.{ℕ, zero, suc, ◌+◌, ◌-◌, ◌<◌, ◌≤◌, ◌≡◌, Bool, true, false, cond, List, [], ◌∷◌, ◌++◌, reverse, take, map, length, get_or, Option, None, Some, refl, sym, ap, subst, ◌∙◌, inl, inr, if◌then◌else◌, add-one, arith, append_assoc}
-use Rattle.std.specs.Prelude.{find, filter, slice_get}
+use Rattle.std.proofs.Common.{ℕ, zero, suc, ◌+◌, ◌-◌, ◌<◌, ◌≤◌, ◌≡◌, Bool, true, false, cond, List, [], ◌∷◌, reverse, take, length, get_or, Option, None, Some, refl, sym, ap, subst, ◌∙◌, inl, inr, if◌then◌else◌, add-one, arith}
+use Rattle.std.specs.Prelude.{find, slice_get}
 use Rattle.std.specs.Option.{option_or}
 use Rattle.std.proofs.lemmas.Bool.{cases_Bool, cond-true, cond-false}
-use Rattle.std.proofs.lemmas.List.{reverse-append, length-reverse, length-take-le, take-take, map-append, append-nil}
+use Rattle.std.proofs.lemmas.List.{reverse-append, length-reverse, length-take-le, take-take}
 use Rattle.std.proofs.Math.Seq.{take-length}
 use Rattle.scope_bind.specs.declared.declarations.Declaration.{Declaration}
 use Rattle.scope_bind.specs.Latest.{tested}

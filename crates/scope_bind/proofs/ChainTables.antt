@@ -9,8 +9,8 @@ use Rattle.scope_bind.specs.declared.structures.Rank.{Rank}
 use Rattle.scope_bind.specs.Places.{is_member_of}
 use Rattle.scope_bind.specs.Ranks.{no_rank, rank_at, IsRank, AreRanked}
 use Rattle.scope_bind.specs.Links.{Links, with_link, TellsSame, HasRoom, has_key, AreChained, IsLeft}
-use Rattle.scope_bind.specs.Linked.{linkage_key, linkage_key_of}
-use Rattle.scope_bind.specs.Chains.{name_key, name_key_of, member_key, member_key_of, with_end, lasts, IsTabled}
+use Rattle.scope_bind.specs.Linked.{linkage_key_of}
+use Rattle.scope_bind.specs.Chains.{name_key_of, member_key_of, with_end, lasts, IsTabled}
 use Rattle.scope_bind.proofs.ChainedMore.{get_front, take_front, chained_more, chained_same, ended_more}
 use Rattle.scope_bind.proofs.ChainedOver.{over_more}
 

@@ -10,6 +10,7 @@ mod LatestLemmas
 mod ChildWalks
 pub mod ShapeLemmas
 mod FrontLemmas
+pub mod ParameterLemmas
 mod WalkLemmas
 mod KeptLemmas
 mod SpellingLemmas

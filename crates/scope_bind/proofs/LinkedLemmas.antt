@@ -1,5 +1,5 @@
 -- Declarations with linkage, and the latest of them.
-use Rattle.std.proofs.Common.{ℕ, zero, suc, ◌+◌, ◌-◌, ◌*◌, ◌<◌, ◌≤◌, ◌≡◌, Bool, true, false, ◌&&◌, ◌||◌, cond, max, List, [], ◌∷◌, ◌++◌, reverse, length, get_or, Option, None, Some, refl, sym, ap, ◌∙◌, inl, inr, arith}
+use Rattle.std.proofs.Common.{ℕ, zero, suc, ◌+◌, ◌-◌, ◌*◌, ◌<◌, ◌≤◌, ◌≡◌, Bool, true, false, ◌&&◌, ◌||◌, cond, max, List, [], ◌∷◌, ◌++◌, reverse, length, Option, None, Some, refl, sym, ap, ◌∙◌, inl, inr, arith}
 use Rattle.std.specs.Prelude.{not, find, slice_get, ◌==◌}
 use Rattle.std.specs.List.{list_any}
 use Rattle.std.proofs.lemmas.Bool.{cases_eq, eq-eqb, ne_eqb, cond-false}
@@ -13,7 +13,7 @@ use Rattle.scope_bind.specs.declared.declarations.Space.TheVariants.{Ordinary as
 use Rattle.scope_bind.specs.declared.declarations.Declaration.{Declaration}
 use Rattle.scope_bind.specs.Declarations.{is_space, is_linkage, has_linkage, alike, is_named}
 use Rattle.scope_bind.specs.Spellings.{number_at, AreNumbers}
-use Rattle.scope_bind.specs.Links.{Links, has_key, latest_place, AreChained}
+use Rattle.scope_bind.specs.Links.{Links, latest_place, AreChained}
 use Rattle.scope_bind.specs.Linked.{linkage_key, linkage_key_of, newest_linked, has_other, at_place}
 use Rattle.scope_bind.proofs.ChainLemmas.{place_within}
 

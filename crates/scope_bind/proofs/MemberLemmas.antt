@@ -1,5 +1,5 @@
 -- Members of a structure or union by their names.
-use Rattle.std.proofs.Common.{ℕ, zero, suc, ◌+◌, ◌-◌, ◌<◌, ◌≤◌, ◌≡◌, Bool, true, false, ◌&&◌, ◌||◌, true≢false, cond, List, [], ◌∷◌, ◌++◌, reverse, take, drop, length, get_or, Option, None, Some, refl, sym, ap, subst, ◌∙◌, inl, inr, arith, add-one, append_assoc}
+use Rattle.std.proofs.Common.{ℕ, zero, suc, ◌+◌, ◌-◌, ◌<◌, ◌≤◌, ◌≡◌, Bool, true, false, ◌&&◌, ◌||◌, true≢false, cond, List, [], ◌∷◌, ◌++◌, reverse, take, drop, length, get_or, Some, refl, sym, ap, subst, ◌∙◌, inl, inr, arith, add-one, append_assoc}
 use Rattle.std.specs.Prelude.{not, filter, slice_get, ◌==◌}
 use Rattle.std.specs.List.{list_any}
 use Rattle.std.specs.Option.{option_map_or}
@@ -8,9 +8,8 @@ use Rattle.std.proofs.lemmas.List.{length-take-le, take-append-drop}
 use Rattle.scope_bind.specs.declared.declarations.Declaration.{Declaration}
 use Rattle.scope_bind.specs.declared.declarations.Space.TheVariants.{Members as members}
 use Rattle.scope_bind.specs.declared.structures.Rank.{Rank}
-use Rattle.scope_bind.specs.Declarations.{is_space}
 use Rattle.scope_bind.specs.Places.{is_member_of, place_of}
-use Rattle.scope_bind.specs.Links.{Links, has_key, latest_place, AreChained, AreLinked, IsLeft}
+use Rattle.scope_bind.specs.Links.{has_key, latest_place, AreLinked, IsLeft}
 use Rattle.scope_bind.specs.Chains.{count_of, space_key, name_key, name_key_of}
 use Rattle.scope_bind.specs.Spellings.{number_at}
 use Rattle.scope_bind.specs.Ranks.{rank_at, AreRanked, is_member_at}
@@ -18,7 +17,7 @@ use Rattle.scope_bind.proofs.Reversed.{filter_append, any_reversed}
 use Rattle.scope_bind.proofs.LatestLemmas.{take_one_more, slice_get_some}
 use Rattle.scope_bind.proofs.LinkedLemmas.{any_at}
 use Rattle.scope_bind.proofs.ChainLemmas.{passes_here, leads_to, left_whole, left_all, left_on, back_more, length_back}
-use Rattle.scope_bind.proofs.ChainedMore.{same_space, named_by}
+use Rattle.scope_bind.proofs.ChainedMore.{same_space}
 
 both_first : (a b : Bool) → (a && b) ≡ true → a ≡ true
 both_first true b e = refl

@@ -1,9 +1,9 @@
 -- Members of a structure or union by their number.
 use borrow.Author.Tests.{ltb-true, ltb-false}
-use Rattle.std.proofs.Common.{ℕ, zero, suc, ◌+◌, ◌-◌, ◌<◌, ◌≤◌, ◌≡◌, Bool, true, false, cond, nat_lt, List, [], ◌∷◌, ◌++◌, reverse, take, drop, length, get_or, if◌then◌else◌, Option, None, Some, refl, sym, ap, subst, ◌∙◌, ◌⊎◌, inl, inr, arith, length-append}
+use Rattle.std.proofs.Common.{ℕ, zero, suc, ◌+◌, ◌-◌, ◌<◌, ◌≤◌, ◌≡◌, Bool, true, false, nat_lt, List, [], ◌∷◌, ◌++◌, reverse, take, drop, length, get_or, if◌then◌else◌, Option, None, Some, refl, sym, ap, subst, ◌∙◌, ◌⊎◌, inl, inr, arith}
 use Rattle.std.specs.Prelude.{not, filter, slice_get, ◌==◌}
 use Rattle.std.proofs.lemmas.Bool.{cases_eq, eq-eqb, ne_eqb, cond-true, cond-false, cond_both}
-use Rattle.std.proofs.lemmas.List.{reverse-append, length-reverse, length-take-le, take-take, take-append-drop, length_push}
+use Rattle.std.proofs.lemmas.List.{reverse-append, length-take-le, take-take, take-append-drop, length_push}
 use Rattle.std.proofs.lemmas.Option.{slice_get_past}
 use Rattle.scope_bind.specs.declared.declarations.Declaration.{Declaration}
 use Rattle.scope_bind.specs.declared.structures.Rank.{Rank}

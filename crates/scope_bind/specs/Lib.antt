@@ -16,6 +16,7 @@ pub mod Entering
 pub mod Roles
 pub mod Walk
 pub mod Lists
+pub mod Parameters
 pub mod Bound
 pub mod Names
 pub mod Renamed
@@ -32,5 +33,6 @@ pub mod Marks
 pub mod Children
 pub mod Shapes
 pub mod Fronts
+pub mod ParameterShapes
 pub mod Places
 pub mod Told

@@ -213,7 +213,8 @@ fn push_declarator_of(
     }
 }
 
-fn is_declaring(label: Label) -> bool
+/// The node begins with a declarator.
+pub(crate) fn is_declaring(label: Label) -> bool
     ensures { result ≡ is_declaring label }
 {
     is_node(label, Production::ExtRest) || is_node(label, Production::InitDecl)

@@ -1,4 +1,4 @@
-use Rattle.std.proofs.Common.{sym, ap, ◌∙◌, arith}
+use Rattle.std.proofs.Common.{sym, ◌∙◌, arith}
 use Rattle.scope_bind.proofs.RankLemmas.{way_begins, way_on, way_ends, way_over}
 use Rattle.scope_bind.proofs.structures.member_numbered.Goals as goal
 

@@ -1,4 +1,4 @@
-use Rattle.std.proofs.Common.{sym, ◌∙◌, arith}
+use Rattle.std.proofs.Common.{arith}
 use Rattle.scope_bind.specs.declared.declarations.Space.TheVariants.{Members as members}
 use Rattle.scope_bind.proofs.ChainedMore.{named_by}
 use Rattle.scope_bind.proofs.MemberLemmas.{name_begins, name_on, name_found, name_lost}

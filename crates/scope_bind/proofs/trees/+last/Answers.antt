@@ -1,4 +1,4 @@
-use Rattle.std.proofs.Common.{◌≡◌, ◌+◌, ◌-◌, sym, ap, ◌∙◌, arith}
+use Rattle.std.proofs.Common.{◌-◌, ap, arith}
 use Rattle.scope_bind.specs.Trees.{last_token}
 use Rattle.scope_bind.proofs.ChildWalks.{from_child-end, last_found, last_passed}
 use Rattle.scope_bind.proofs.trees.+last.Goals as goal

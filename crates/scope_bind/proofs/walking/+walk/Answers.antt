@@ -1,4 +1,4 @@
-use Rattle.std.proofs.Common.{sym, ap, ◌≡◌, ◌+◌, ◌∙◌, arith}
+use Rattle.std.proofs.Common.{sym, ap, ◌+◌, ◌∙◌, arith}
 use Rattle.std.proofs.lemmas.Result.{on_ok_weaker}
 use Rattle.scope_bind.specs.Children.{from_child}
 use Rattle.scope_bind.specs.Frames.{state}
