@@ -129,6 +129,13 @@ fn joined_classes(alloc: Global, accepted: &Accepted) -> Result<Classes, Memory>
 }
 
 impl Analysis {
+    /// The workspace that was analysed.
+    pub fn workspace(&self) -> &Workspace
+        ensures { result.now ≡ self.now.value.workspace }
+    {
+        self.accepted.workspace()
+    }
+
     /// How many units there are.
     pub fn units(&self) -> u32
         ensures { result ≡ length self.now.value.units }
