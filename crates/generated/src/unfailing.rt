@@ -1,6 +1,7 @@
 // Files in memory no read of which fails.
 ghost use Rattle.std.specs.Prelude.{◌≡◌, [], Some};
-ghost use Rattle.cs_base.specs.Outside.{Counts, GivesHeld, Puts, put_failed, read_failed};
+ghost use Rattle.cs_base.specs.Outside.{GivesHeld, ReadsOnly, read_end, Puts, PutsOnly, put_failed};
+ghost use Rattle.generated.specs.Unfailing.{told_unfailing};
 
 use cs_base::{Files, Got, MemFiles, Put};
 use std::alloc::Global;
@@ -35,25 +36,18 @@ impl Unfailing {
 }
 
 impl Files for Unfailing {
-    ghost held = { λ w. Some w.files };
-
-    ghost failed_reads = { λ w. 0 };
-
-    ghost failed_puts = { λ w. w.failed_puts };
-
-    ghost last_failed = { λ w. w.last_failed };
+    ghost told = { told_unfailing };
 
     fn read(&mut self, alloc: Global, path: &str) -> Got
-        ensures held { Some self.new.files ≡ Some self.old.files }
         ensures answer { GivesHeld path.now self.old.files result }
-        ensures faults { Counts path.now (read_failed result) 0 0 self.old.failed_puts self.new.failed_puts self.old.last_failed self.new.last_failed }
+        ensures faults { ReadsOnly (told_unfailing self.old) (told_unfailing self.new) (read_end path.now result) }
     {
         self.files.read(alloc, path)
     }
 
     fn put(&mut self, path: &str, bytes: &[u8]) -> Put
         ensures held { Puts path.now bytes.now (Some self.old.files) (Some self.new.files) result }
-        ensures faults { Counts path.now (put_failed result) self.old.failed_puts self.new.failed_puts 0 0 self.old.last_failed self.new.last_failed }
+        ensures faults { PutsOnly path.now (put_failed result) (told_unfailing self.old) (told_unfailing self.new) }
     {
         self.files.put(path, bytes)
     }
