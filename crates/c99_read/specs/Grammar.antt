@@ -15,14 +15,15 @@ table External =
     plain (part Specs · part ExtRest) ∷ []
 table ExtRest =
     plain (tok Semicolon) ∷
-    plain (part Declarator · act declare · part ExtTail) ∷ []
+    plain (part Declarator · act declare · act again · part ExtTail) ∷ []
+-- The names of the parameters are visible where a body or its declaration list is asked for (6.2.1 paragraph 4).
 table ExtTail =
     when (next (either (is (LeftBrace ∷ [])) (begins Specs))) (part FunBody) ∷
-    when otherwise (maybe (tok Eq · deep (part Init)) · many own (tok Comma · part InitDecl) ·
+    when otherwise (act end · maybe (tok Eq · deep (part Init)) · many own (tok Comma · part InitDecl) ·
     tok Semicolon) ∷ []
 table FunBody =
-    plain (act again · many own (part Declaration) · tok LeftBrace ·
-    many own (deep (part BlockItem)) · act end · tok RightBrace) ∷ []
+    plain (many own (part Declaration) · tok LeftBrace · many own (deep (part BlockItem)) · act end ·
+    tok RightBrace) ∷ []
 table Declaration = plain (part Specs · part DeclRest) ∷ []
 table DeclRest =
     plain (tok Semicolon) ∷

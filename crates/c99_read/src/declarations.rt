@@ -25,13 +25,19 @@ pub(crate) static EXTERNAL: [Alternative; 2] = [
 
 pub(crate) static EXT_REST: [Alternative; 2] = [
     plain![token![Semicolon]],
-    plain![Part(Declarator), Act(Action::Declare), Part(ExtTail)],
+    plain![
+        Part(Declarator),
+        Act(Action::Declare),
+        Act(Action::Again),
+        Part(ExtTail)
+    ],
 ];
 
 pub(crate) static EXT_TAIL: [Alternative; 2] = [
     when![Next(IsOrBegins(&[Class::LeftBrace], Specs)) => Part(FunBody)],
     when![
         Otherwise =>
+        Act(Action::End),
         Maybe(&sequence![token![Eq], Deep(Init)]),
         Many(Own, &sequence![token![Comma], Part(InitDecl)]),
         token![Semicolon]
@@ -39,7 +45,6 @@ pub(crate) static EXT_TAIL: [Alternative; 2] = [
 ];
 
 pub(crate) static FUN_BODY: [Alternative; 1] = [plain![
-    Act(Action::Again),
     Many(Own, &Part(Declaration)),
     token![LeftBrace],
     Many(Own, &Deep(BlockItem)),

@@ -8,7 +8,7 @@ use std::fmt::Write;
 use std::test::Fail;
 
 // Programs of the grammar, some of which C forbids elsewhere.
-const ACCEPTED: [&[u8]; 43] = [
+const ACCEPTED: [&[u8]; 46] = [
     b"",
     b";",
     b"int x ;",
@@ -52,10 +52,14 @@ const ACCEPTED: [&[u8]; 43] = [
     b"static inline _Bool f ( void ) ; extern _Complex double z ;",
     b"int typedef t ; t x ;",
     b"struct { typedef int a ; } t ; int f ( void ) { t * a ; }",
+    // Whether a declaration list stands behind a parameter list is decided by the parameters' names.
+    b"int f ( typedef int t ) t ; { return 0 ; }",
+    b"typedef int t ; int f ( typedef int t ) t ; { return 0 ; }",
+    b"typedef int t ; int f ( int t ) , g = sizeof ( t ) { 1 } ; t x ;",
 ];
 
 // Where nothing that may follow starts.
-const FAULTS: [(&[u8], u32); 26] = [
+const FAULTS: [(&[u8], u32); 28] = [
     (b"1", 0),
     (b"int", 1),
     (b"int x = ;", 3),
@@ -78,6 +82,8 @@ const FAULTS: [(&[u8], u32); 26] = [
     (b"typedef int t ; int x = t ;", 7),
     (b"typedef int t ; t t x ;", 6),
     (b"int f ( a , int b ) ;", 5),
+    (b"typedef int t ; int f ( int t ) t x ; { }", 10),
+    (b"int f ( typedef int t ) , g = sizeof ( t ) { 1 } ;", 14),
     (b"void f ( void ) { int ; long x = 1 ; y }", 14),
     (b"void f ( void ) { for ( ; ) ; }", 9),
     (b"int x = sizeof ( int ;", 6),
