@@ -9,3 +9,11 @@ mod Counted
 mod Climbing
 mod OrderedLists
 mod OrderedNames
+mod Lookups
+mod Renaming
+mod RenamedNames
+mod RenamedObjects
+mod RenamedMembers
+mod SecondRanges
+mod RenamedSteps
+mod RenamedWalk

@@ -1,5 +1,6 @@
 // What is true of the binding of every text: laws that no caller runs, and that callers' proofs cite.
 ghost use Rattle.bind_laws.specs.Laws.{NamesAreSpelledAsTheirEntities, NamesStandInTheText, FaultsStandInTheText, EachTokenIsOneName, ParameterListsAreInOrder, ArgumentListsAreInOrder, BodiesStandInTheText, BodiesAreApart};
+ghost use Rattle.bind_laws.specs.Renamed.{RenamedBindAlike};
 
 /// Each name is spelled as the token that names its entity.
 pub fn names_are_spelled_as_their_entities()
@@ -27,4 +28,10 @@ pub fn lists_stand_in_order()
 pub fn bodies_stand_apart()
     ensures within { BodiesStandInTheText }
     ensures apart { BodiesAreApart }
+{}
+
+/// A text that is renamed, with all names of an entity together and different spellings kept apart,
+/// and that is read to the same tree, binds name for name as before.
+pub fn renamed_names_bind_alike()
+    ensures { RenamedBindAlike }
 {}

@@ -1,11 +1,3 @@
-mod Lookups
-mod Renaming
-mod RenamedNames
-mod RenamedObjects
-mod RenamedMembers
-mod SecondRanges
-mod RenamedSteps
-mod RenamedWalk
 mod LatestLemmas
 mod ChildWalks
 pub mod ShapeLemmas

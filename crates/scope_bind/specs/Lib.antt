@@ -19,7 +19,6 @@ pub mod Lists
 pub mod Parameters
 pub mod Bound
 pub mod Names
-pub mod Renamed
 pub mod Named
 -- What inner functions promise each other.
 pub mod Known

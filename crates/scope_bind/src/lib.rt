@@ -6,7 +6,7 @@
 //! names. It is `binding_of` of `specs/Bound.antt`, a walk over the tree in which each declaration has
 //! its range of tokens, or the first of seven faults. Types are followed as far as members need them.
 //! A binding is told by indices and holds no spelling, so a renamed text binds to the same value: that is
-//! the law below. This crate knows neither how a tree is read nor macros, files or classes. Spellings,
+//! a law of `bind_laws`. This crate knows neither how a tree is read nor macros, files or classes. Spellings,
 //! declarations, names and types want memory. Read `specs/Declarations.antt`, `Ordinary.antt` and the files
 //! beside it, `Walk.antt`, `Bound.antt`, then `binding.rt`, `walking.rt`, `facts.rt` and `chains.rt`.
 #![tactic(auto)]
@@ -28,7 +28,6 @@ mod initializers;
 mod keeping;
 mod labels;
 mod latest;
-mod laws;
 mod leaving;
 mod linkage;
 mod linked;
@@ -57,6 +56,5 @@ pub use binding::bind;
 pub use bound::{Bound, Name};
 pub use entity::{EntityKind, Linkage};
 pub use faults::BindRefusal;
-pub use laws::renamed_names_bind_alike;
 pub use lists::{Indices, List, Range};
 pub use parameters::{ParameterForm, ParameterList, ParameterNames, parameter_lists};

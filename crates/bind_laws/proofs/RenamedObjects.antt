@@ -8,16 +8,13 @@ use Rattle.scope_bind.specs.declared.entity.Linkage.{Linkage}
 use Rattle.scope_bind.specs.declared.entity.Linkage.TheVariants.{External, Internal, Absent}
 use Rattle.scope_bind.specs.Types.{CType, is_function}
 use Rattle.scope_bind.specs.Trees.{last_token, declarator_type}
-use Rattle.scope_bind.specs.declared.declarations.Space.TheVariants.{Ordinary as ordinary}
-use Rattle.scope_bind.specs.declared.declarations.Declaration.{Declaration}
+use Rattle.scope_bind.specs.Named.{Declaration, Declared, Frame, ordinary}
 use Rattle.scope_bind.specs.Declarations.{Facts, has_linkage, is_linkage, is_live, alike, is_named, visible, in_scope, linked, is_mixed}
-use Rattle.scope_bind.specs.declared.frames.Frame.{Frame}
 use Rattle.scope_bind.specs.Linkage.{prior_linkage, follows_prior, own_linkage}
-use Rattle.scope_bind.specs.declared.ordinary.Declared.{Declared}
 use Rattle.scope_bind.specs.Ordinary.{entity_of, declared, declaration_of, is_listed, declared_faults, new_linkage, new_object, with_object, new_parameter, with_parameter}
-use Rattle.scope_bind.proofs.Lookups.{false≢true, and_left, and_both, In, found_passes, found_in, any_none, named_apart}
-use Rattle.scope_bind.proofs.Renaming.{Good, Kept, IsLinked, declaration_good, found_again}
-use Rattle.scope_bind.proofs.RenamedNames.{if_true, joined, IsClear, declared_clear, declared_back, declared_kept, declared_same}
+use Rattle.bind_laws.proofs.Lookups.{false≢true, and_left, and_both, In, found_passes, found_in, any_none, named_apart}
+use Rattle.bind_laws.proofs.Renaming.{Good, Kept, IsLinked, declaration_good, found_again}
+use Rattle.bind_laws.proofs.RenamedNames.{if_true, joined, IsClear, declared_clear, declared_back, declared_kept, declared_same}
 
 pub if_false : {A : Type 0} (c : Bool) (x y : A) → c ≡ false → (if c then x else y) ≡ y
 if_false true x y e = absurd (false≢true (sym e))

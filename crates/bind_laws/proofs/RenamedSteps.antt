@@ -9,14 +9,10 @@ use Rattle.c99_tree.specs.declared.production.Label.{Label}
 use Rattle.c99_tree.specs.declared.production.Production.{Production}
 use Rattle.c99_tree.specs.declared.production.Production.TheVariants.{ExtRest, FunBody, InitDecl, Members, Mdecl, Enumerators, Enumerator, Declarator, Param, Pdecl, SuRest, Unary, Add}
 use Rattle.scope_bind.specs.declared.entity.EntityKind.TheVariants.{Parameter, Enumerator as Constant}
-use Rattle.scope_bind.specs.declared.declarations.Cause.TheVariants.{DesignatorAfterElision as designator_after_elision}
+use Rattle.scope_bind.specs.Named.{Body, Frame, Role, by_role, designator_after_elision, ordinary}
 use Rattle.scope_bind.specs.Types.{is_unknown, CType, arithmetic, unknown, array, union, structure, pointer, pointed_to, sum_type, target_of}
 use Rattle.scope_bind.specs.Trees.{name_below, last_token}
-use Rattle.scope_bind.specs.declared.declarations.Space.TheVariants.{Ordinary as ordinary}
 use Rattle.scope_bind.specs.Declarations.{with_fault, Facts, spelling_at, alike, visible}
-use Rattle.scope_bind.specs.declared.frames.Body.{Body}
-use Rattle.scope_bind.specs.declared.frames.Frame.{Frame}
-use Rattle.scope_bind.specs.declared.frames.Position.{Position}
 use Rattle.scope_bind.specs.Frames.{State}
 use Rattle.scope_bind.specs.Ordinary.{used, used_as, used_type, is_func, plain_name}
 use Rattle.scope_bind.specs.Tags.{renumbered, tag_entity, with_tag_after}
@@ -24,15 +20,13 @@ use Rattle.scope_bind.specs.Members.{member_used, member_used_as, member_at, mem
 use Rattle.scope_bind.specs.Expressions.{is_sign, prefixed, found_after}
 use Rattle.scope_bind.specs.Initializers.{position_of}
 use Rattle.scope_bind.specs.Entering.{facts_in, found_in, frame_in, entered}
-use Rattle.scope_bind.specs.declared.roles.Role.{Role}
-use Rattle.scope_bind.specs.declared.roles.Role.TheVariants.{Plain as plain, Primary as primary, TypeName as type_name, Tag as tag, EnumerationTag as enumeration_tag, Listed as listed, Member as member, PointedMember as pointed_member, Designated as designated, Label as label, Jump as jump}
 use Rattle.scope_bind.specs.Walk.{facts_at, found_at, position_at, passed_as, declared_in, parameter_in, facts_after, frame_after, left}
-use Rattle.scope_bind.specs.Renamed.{is_own_word}
-use Rattle.scope_bind.proofs.Renaming.{Good, Kept}
-use Rattle.scope_bind.proofs.SecondRanges.{kept_with, good_with}
-use Rattle.scope_bind.proofs.RenamedNames.{declared_back, declared_kept, declared_same, used_back, used_kept, used_visible}
-use Rattle.scope_bind.proofs.RenamedObjects.{with_object_back, with_object_kept, with_object_same, with_parameter_back, with_parameter_kept, with_parameter_same}
-use Rattle.scope_bind.proofs.RenamedMembers.{with_tag_back, with_tag_kept, prior_tag_same, either_back, either_kept, either_same, either_type, member_used_back, member_used_kept, member_at_same, designated_back, designated_kept, designated_same, with_member_back, with_member_kept, with_member_same, with_label_back, with_label_kept, with_label_same, with_labels_back, with_labels_kept, with_labels_same}
+use Rattle.bind_laws.specs.Renamed.{is_own_word}
+use Rattle.bind_laws.proofs.Renaming.{Good, Kept}
+use Rattle.bind_laws.proofs.SecondRanges.{kept_with, good_with}
+use Rattle.bind_laws.proofs.RenamedNames.{declared_back, declared_kept, declared_same, used_back, used_kept, used_visible}
+use Rattle.bind_laws.proofs.RenamedObjects.{with_object_back, with_object_kept, with_object_same, with_parameter_back, with_parameter_kept, with_parameter_same}
+use Rattle.bind_laws.proofs.RenamedMembers.{with_tag_back, with_tag_kept, prior_tag_same, either_back, either_kept, either_same, either_type, member_used_back, member_used_kept, member_at_same, designated_back, designated_kept, designated_same, with_member_back, with_member_kept, with_member_same, with_label_back, with_label_kept, with_label_same, with_labels_back, with_labels_kept, with_labels_same}
 
 module _ (a b : List Token) (apart : (i j : ℕ) → alike b i j ≡ true → alike a i j ≡ true)
     (words : (word : List ℕ) (k : ℕ) → is_own_word word ≡ true → bytes_eq (spelling_at b k) word ≡ bytes_eq (spelling_at a k) word) where
@@ -97,30 +91,36 @@ module _ (a b : List Token) (apart : (i j : ℕ) → alike b i j ≡ true → al
     named_type_at false k h = type_same k h
 
   facts_at_back : (r : Role) (i : ℕ) (f : Frame) (facts : Facts) → Good b (facts_at a r i f facts) → Good b facts
-  facts_at_back plain i f facts h = h
-  facts_at_back primary i f facts h = named_goes i facts (is_func a f i) h
-  facts_at_back type_name i f facts h = used_goes i facts h
-  facts_at_back tag i f facts h = with_tag_back a b apart f i facts h
-  facts_at_back enumeration_tag i f facts h = either_back a b apart f i facts f.has_body h
-  facts_at_back listed i f facts h = declared_back a b apart f.scope (plain_name a i i Parameter arithmetic true) facts h
-  facts_at_back member i f facts h = member_used_back a b apart f.given i facts h
-  facts_at_back pointed_member i f facts h = member_used_back a b apart (target_of f.given) i facts h
-  facts_at_back designated i f facts h = designated_back a b apart f.given i facts (is_unknown f.given) h
-  facts_at_back label i f facts h = with_label_back a b apart f.body i facts h
-  facts_at_back jump i f facts h = record { clean = h.clean; good = h.good }
+  facts_at_back r i f facts =
+      by_role (λ r. Good b (facts_at a r i f facts) → Good b facts)
+      (λ h. h)
+      (λ h. named_goes i facts (is_func a f i) h)
+      (λ h. used_goes i facts h)
+      (λ h. with_tag_back a b apart f i facts h)
+      (λ h. either_back a b apart f i facts f.has_body h)
+      (λ h. declared_back a b apart f.scope (plain_name a i i Parameter arithmetic true) facts h)
+      (λ h. member_used_back a b apart f.given i facts h)
+      (λ h. member_used_back a b apart (target_of f.given) i facts h)
+      (λ h. designated_back a b apart f.given i facts (is_unknown f.given) h)
+      (λ h. with_label_back a b apart f.body i facts h)
+      (λ h. record { clean = h.clean; good = h.good })
+      r
 
   facts_at_kept : (r : Role) (i : ℕ) (f : Frame) (facts : Facts) → Kept a facts → Good b (facts_at a r i f facts) → Kept a (facts_at a r i f facts)
-  facts_at_kept plain i f facts k h = k
-  facts_at_kept primary i f facts k h = named_stays i facts (is_func a f i) k h
-  facts_at_kept type_name i f facts k h = used_stays i facts k h
-  facts_at_kept tag i f facts k h = with_tag_kept a b apart f i facts k h
-  facts_at_kept enumeration_tag i f facts k h = either_kept a b apart f i facts f.has_body k h
-  facts_at_kept listed i f facts k h = declared_kept a b apart f.scope (plain_name a i i Parameter arithmetic true) facts k h
-  facts_at_kept member i f facts k h = member_used_kept a b apart f.given i facts k h
-  facts_at_kept pointed_member i f facts k h = member_used_kept a b apart (target_of f.given) i facts k h
-  facts_at_kept designated i f facts k h = designated_kept a b apart f.given i facts (is_unknown f.given) k h
-  facts_at_kept label i f facts k h = with_label_kept a b apart f.body i facts k h
-  facts_at_kept jump i f facts k h = record { covered = k.covered; one = k.one }
+  facts_at_kept r i f facts =
+      by_role (λ r. Kept a facts → Good b (facts_at a r i f facts) → Kept a (facts_at a r i f facts))
+      (λ k h. k)
+      (λ k h. named_stays i facts (is_func a f i) k h)
+      (λ k h. used_stays i facts k h)
+      (λ k h. with_tag_kept a b apart f i facts k h)
+      (λ k h. either_kept a b apart f i facts f.has_body k h)
+      (λ k h. declared_kept a b apart f.scope (plain_name a i i Parameter arithmetic true) facts k h)
+      (λ k h. member_used_kept a b apart f.given i facts k h)
+      (λ k h. member_used_kept a b apart (target_of f.given) i facts k h)
+      (λ k h. designated_kept a b apart f.given i facts (is_unknown f.given) k h)
+      (λ k h. with_label_kept a b apart f.body i facts k h)
+      (λ k h. record { covered = k.covered; one = k.one })
+      r
 
   designated_at : (c : Bool) (t : CType) (i : ℕ) (facts : Facts) → member_at b t i facts ≡ member_at a t i facts
       → (if c then with_fault true designator_after_elision i facts else member_used b t i facts)
@@ -129,19 +129,20 @@ module _ (a b : List Token) (apart : (i j : ℕ) → alike b i j ≡ true → al
   designated_at false t i facts e = ap (λ r. member_used_as a i r facts) e
 
   facts_at_same : (r : Role) (i : ℕ) (f : Frame) (facts : Facts) → Kept a facts → Good b (facts_at a r i f facts) → facts_at b r i f facts ≡ facts_at a r i f facts
-  facts_at_same plain i f facts k h = refl
-  facts_at_same primary i f facts k h =
-      ap (λ c. if c then facts else used b i facts) (func_same f i) ∙ named_at i facts (is_func a f i) k h
-  facts_at_same type_name i f facts k h = used_same i facts k h
-  facts_at_same tag i f facts k h = ap (λ r. with_tag_after f i r facts) (prior_tag_same a b apart f i facts k h)
-  facts_at_same enumeration_tag i f facts k h = either_same a b apart f i facts f.has_body k h
-  facts_at_same listed i f facts k h = declared_same a b apart f.scope (plain_name a i i Parameter arithmetic true) facts k h
-  facts_at_same member i f facts k h = ap (λ r. member_used_as a i r facts) (member_at_same a b apart f.given i facts k h)
-  facts_at_same pointed_member i f facts k h = ap (λ r. member_used_as a i r facts) (member_at_same a b apart (target_of f.given) i facts k h)
-  facts_at_same designated i f facts k h =
-      designated_at (is_unknown f.given) f.given i facts (designated_same a b apart f.given i facts (is_unknown f.given) k h)
-  facts_at_same label i f facts k h = with_label_same a b apart f.body i facts k h
-  facts_at_same jump i f facts k h = refl
+  facts_at_same r i f facts =
+      by_role (λ r. Kept a facts → Good b (facts_at a r i f facts) → facts_at b r i f facts ≡ facts_at a r i f facts)
+      (λ k h. refl)
+      (λ k h. ap (λ c. if c then facts else used b i facts) (func_same f i) ∙ named_at i facts (is_func a f i) k h)
+      (λ k h. used_same i facts k h)
+      (λ k h. ap (λ r. with_tag_after f i r facts) (prior_tag_same a b apart f i facts k h))
+      (λ k h. either_same a b apart f i facts f.has_body k h)
+      (λ k h. declared_same a b apart f.scope (plain_name a i i Parameter arithmetic true) facts k h)
+      (λ k h. ap (λ r. member_used_as a i r facts) (member_at_same a b apart f.given i facts k h))
+      (λ k h. ap (λ r. member_used_as a i r facts) (member_at_same a b apart (target_of f.given) i facts k h))
+      (λ k h. designated_at (is_unknown f.given) f.given i facts (designated_same a b apart f.given i facts (is_unknown f.given) k h))
+      (λ k h. with_label_same a b apart f.body i facts k h)
+      (λ k h. refl)
+      r
 
   member_type_same : (t : CType) (i : ℕ) (other : CType) (facts : Facts) → member_at b t i facts ≡ member_at a t i facts
       → member_type b t i other facts ≡ member_type a t i other facts
@@ -153,26 +154,37 @@ module _ (a b : List Token) (apart : (i j : ℕ) → alike b i j ≡ true → al
   designated_type_at false t other i facts e = member_type_same t i other facts e
 
   found_at_same : (r : Role) (i : ℕ) (f : Frame) (facts : Facts) → Kept a facts → Good b (facts_at a r i f facts) → found_at b r i f facts ≡ found_at a r i f facts
-  found_at_same plain i f facts k h = refl
-  found_at_same primary i f facts k h =
-      ap (λ c. if c then array arithmetic else used_type b i facts) (func_same f i) ∙ named_type_at i facts (is_func a f i) k h
-  found_at_same type_name i f facts k h = type_same i facts k h
-  found_at_same tag i f facts k h = ap (λ r. renumbered f.found (tag_entity f i facts r)) (prior_tag_same a b apart f i facts k h)
-  found_at_same enumeration_tag i f facts k h = either_type a b apart f i facts f.has_body k h
-  found_at_same listed i f facts k h = refl
-  found_at_same member i f facts k h = member_type_same f.given i arithmetic facts (member_at_same a b apart f.given i facts k h)
-  found_at_same pointed_member i f facts k h =
-      member_type_same (target_of f.given) i arithmetic facts (member_at_same a b apart (target_of f.given) i facts k h)
-  found_at_same designated i f facts k h =
-      designated_type_at (is_unknown f.given) f.given unknown i facts (designated_same a b apart f.given i facts (is_unknown f.given) k h)
-  found_at_same label i f facts k h = refl
-  found_at_same jump i f facts k h = refl
+  found_at_same r i f facts =
+      by_role (λ r. Kept a facts → Good b (facts_at a r i f facts) → found_at b r i f facts ≡ found_at a r i f facts)
+      (λ k h. refl)
+      (λ k h. ap (λ c. if c then array arithmetic else used_type b i facts) (func_same f i) ∙ named_type_at i facts (is_func a f i) k h)
+      (λ k h. type_same i facts k h)
+      (λ k h. ap (λ r. renumbered f.found (tag_entity f i facts r)) (prior_tag_same a b apart f i facts k h))
+      (λ k h. either_type a b apart f i facts f.has_body k h)
+      (λ k h. refl)
+      (λ k h. member_type_same f.given i arithmetic facts (member_at_same a b apart f.given i facts k h))
+      (λ k h. member_type_same (target_of f.given) i arithmetic facts (member_at_same a b apart (target_of f.given) i facts k h))
+      (λ k h. designated_type_at (is_unknown f.given) f.given unknown i facts (designated_same a b apart f.given i facts (is_unknown f.given) k h))
+      (λ k h. refl)
+      (λ k h. refl)
+      r
 
   position_at_same : (r : Role) (i : ℕ) (f : Frame) (facts : Facts) → Kept a facts → Good b (facts_at a r i f facts)
       → position_at b r i f facts ≡ position_at a r i f facts
-  position_at_same designated i f facts k h =
-      ap (λ r. position_of a f.given facts r f.position) (designated_same a b apart f.given i facts (is_unknown f.given) k h)
-  position_at_same _ i f facts k h = refl
+  position_at_same r i f facts =
+      by_role (λ r. Kept a facts → Good b (facts_at a r i f facts) → position_at b r i f facts ≡ position_at a r i f facts)
+      (λ k h. refl)
+      (λ k h. refl)
+      (λ k h. refl)
+      (λ k h. refl)
+      (λ k h. refl)
+      (λ k h. refl)
+      (λ k h. refl)
+      (λ k h. refl)
+      (λ k h. ap (λ r. position_of a f.given facts r f.position) (designated_same a b apart f.given i facts (is_unknown f.given) k h))
+      (λ k h. refl)
+      (λ k h. refl)
+      r
 
   pub passed_back : (r : Role) (i : ℕ) (s : State) → Good b (passed_as a r i s).facts → Good b s.facts
   passed_back r i s h = facts_at_back r i s.frame s.facts h
@@ -180,17 +192,17 @@ module _ (a b : List Token) (apart : (i j : ℕ) → alike b i j ≡ true → al
   pub passed_kept : (r : Role) (i : ℕ) (s : State) → Kept a s.facts → Good b (passed_as a r i s).facts → Kept a (passed_as a r i s).facts
   passed_kept r i s k h = facts_at_kept r i s.frame s.facts k h
 
-  abbrev passed_so : ℕ → State → Facts → CType → Position → State
-  passed_so i s facts t p = record {
-    facts = facts;
-    frame = record s.frame { nth = s.frame.nth + 1; token = i; found = t; position = p };
-  }
+  abbrev passed_so : ℕ → State → Facts → CType → Frame → State
+  passed_so i s facts t placed = record { facts = facts; frame = record placed { nth = s.frame.nth + 1; token = i; found = t } }
 
   pub passed_same : (r : Role) (i : ℕ) (s : State) → Kept a s.facts → Good b (passed_as a r i s).facts → passed_as b r i s ≡ passed_as a r i s
   passed_same r i s k h =
-      ap (λ x. passed_so i s x (found_at b r i s.frame s.facts) (position_at b r i s.frame s.facts)) (facts_at_same r i s.frame s.facts k h)
-      ∙ (ap (λ t. passed_so i s (facts_at a r i s.frame s.facts) t (position_at b r i s.frame s.facts)) (found_at_same r i s.frame s.facts k h)
-      ∙ ap (λ p. passed_so i s (facts_at a r i s.frame s.facts) (found_at a r i s.frame s.facts) p) (position_at_same r i s.frame s.facts k h))
+      ap (λ x. passed_so i s x (found_at b r i s.frame s.facts) (record s.frame { position = position_at b r i s.frame s.facts }))
+      (facts_at_same r i s.frame s.facts k h)
+      ∙ (ap (λ t. passed_so i s (facts_at a r i s.frame s.facts) t (record s.frame { position = position_at b r i s.frame s.facts }))
+      (found_at_same r i s.frame s.facts k h)
+      ∙ ap (λ p. passed_so i s (facts_at a r i s.frame s.facts) (found_at a r i s.frame s.facts) (record s.frame { position = p }))
+      (position_at_same r i s.frame s.facts k h))
 
   -- ---- A node is left
 

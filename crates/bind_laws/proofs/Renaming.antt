@@ -3,15 +3,10 @@ use Rattle.std.proofs.Common.{ℕ, ◌≡◌, Bool, true, false, ◌&&◌, List,
 use Rattle.std.specs.Prelude.{IfSome}
 use Rattle.std.proofs.lemmas.Bool.{cases_Bool}
 use Rattle.cs_base.specs.Token.{Token}
-use Rattle.scope_bind.specs.declared.declarations.Cause.{Cause}
-use Rattle.scope_bind.specs.declared.declarations.Fault.{Fault}
+use Rattle.scope_bind.specs.Named.{Cause, Fault, Space, Declaration, Occurrence, ordinary}
 use Rattle.scope_bind.specs.Faults.{first_fault, comes_first}
-use Rattle.scope_bind.specs.declared.declarations.Space.{Space}
-use Rattle.scope_bind.specs.declared.declarations.Space.TheVariants.{Ordinary as ordinary}
-use Rattle.scope_bind.specs.declared.declarations.Declaration.{Declaration}
-use Rattle.scope_bind.specs.declared.declarations.Occurrence.{Occurrence}
 use Rattle.scope_bind.specs.Declarations.{Facts, has_linkage, with_fault, with_occurrence, with_declaration, alike, is_named, looked_up}
-use Rattle.scope_bind.proofs.Lookups.{false≢true, and_right, In, found_in, alike_same, looked_up_same}
+use Rattle.bind_laws.proofs.Lookups.{false≢true, and_right, In, found_in, alike_same, looked_up_same}
 
 abbrev pub occurrence : ℕ → ℕ → Bool → Occurrence
 occurrence index entity declares = record { index = index; entity = entity; declares = declares }

@@ -4,13 +4,11 @@ use Rattle.std.specs.Prelude.{filter_map}
 use Rattle.std.specs.List.{cons_option}
 use Rattle.cs_base.specs.Token.{Token}
 use Rattle.scope_bind.specs.declared.entity.Linkage.{Linkage}
-use Rattle.scope_bind.specs.declared.declarations.Space.{Space}
-use Rattle.scope_bind.specs.declared.declarations.Space.TheVariants.{Ordinary as ordinary}
-use Rattle.scope_bind.specs.declared.declarations.Declaration.{Declaration}
+use Rattle.scope_bind.specs.Named.{Space, Declaration, ordinary}
 use Rattle.scope_bind.specs.Declarations.{is_space, Facts, alike, has_linkage}
 use Rattle.scope_bind.specs.Entering.{is_member, kept_here, with_kept}
-use Rattle.scope_bind.proofs.Lookups.{In}
-use Rattle.scope_bind.proofs.Renaming.{Good, Kept, occurrence}
+use Rattle.bind_laws.proofs.Lookups.{In}
+use Rattle.bind_laws.proofs.Renaming.{Good, Kept, occurrence}
 
 -- what a look-up sees of a declaration
 pub record Key : Type 0 where

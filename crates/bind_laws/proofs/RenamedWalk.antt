@@ -6,7 +6,7 @@ use Rattle.std.specs.Str.{bytes_eq}
 use Rattle.std.proofs.lemmas.List.Folds.{list_all-append}
 use Rattle.cs_base.specs.Token.{Token}
 use Rattle.c99_tree.specs.Tree.{Forest, none, token, node}
-use Rattle.scope_bind.specs.declared.declarations.Fault.{Fault}
+use Rattle.scope_bind.specs.Named.{Fault}
 use Rattle.scope_bind.specs.Declarations.{Facts, spelling_at, alike}
 use Rattle.scope_bind.specs.Frames.{State, at_first}
 use Rattle.scope_bind.specs.Entering.{entered}
@@ -14,10 +14,10 @@ use Rattle.scope_bind.specs.Roles.{role_of}
 use Rattle.scope_bind.specs.Walk.{passed, left, walked}
 use Rattle.scope_bind.specs.Bound.{Bound, name_of, names_of, bound_of, bound_unless, bound_after, facts_of, binding_of}
 use Rattle.scope_bind.specs.declared.bound.Name.{Name}
-use Rattle.scope_bind.specs.Renamed.{is_own_word, RenamedBindAlike}
-use Rattle.scope_bind.proofs.Lookups.{and_left, and_right, In}
-use Rattle.scope_bind.proofs.Renaming.{Good, Kept}
-use Rattle.scope_bind.proofs.RenamedSteps.{entered_back, entered_kept, entered_same, passed_back, passed_kept, passed_same, left_back, left_kept, left_same}
+use Rattle.bind_laws.specs.Renamed.{is_own_word, RenamedBindAlike}
+use Rattle.bind_laws.proofs.Lookups.{and_left, and_right, In}
+use Rattle.bind_laws.proofs.Renaming.{Good, Kept}
+use Rattle.bind_laws.proofs.RenamedSteps.{entered_back, entered_kept, entered_same, passed_back, passed_kept, passed_same, left_back, left_kept, left_same}
 
 module _ (a b : List Token) (apart : (i j : ℕ) → alike b i j ≡ true → alike a i j ≡ true)
     (words : (word : List ℕ) (k : ℕ) → is_own_word word ≡ true → bytes_eq (spelling_at b k) word ≡ bytes_eq (spelling_at a k) word) where
