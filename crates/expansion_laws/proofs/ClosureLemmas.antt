@@ -79,13 +79,14 @@ module _ (P : Token → Type 0) (M N : Note → Type 0) (set : Setting) (rules :
       full_step_good (occurs_alone i chains) depth before name a work (full_from f depth before name chains (suc i) lists) good.0
       (λ left x x_is r. full_good depth before name chains (suc i) lists good.1 left x x_is r) v is told
 
-  spent_good : (name : Token) (cost work : ℕ) (r : Result (Made (List Hidden)) Fault) → ((m : Made (List Hidden)) → r ≡ Ok m → Fine P N m)
-      → (e : Expanded) → spent name cost work r ≡ Ok e → Good P N e
-  spent_good name cost work r fine e is =
+  spent_good : (name : Token) (cost work : ℕ) (r : Result (Made (List Hidden)) Fault) → ((m : Made (List Hidden)) → r ≡ Ok m → AllNotes M m.notes → Fine P N m)
+      → (e : Expanded) → spent name cost work r ≡ Ok e → AllNotes M e.notes → Good P N e
+  spent_good name cost work r fine e is told =
       let put : Made (List Hidden) → Result Expanded Fault = λ m. Ok (expanded m.value m.notes (work - cost)) in
       let c = cond_ok (nat_lt work cost) (TooMuchWork name.at) (onward r put) e is in
       let i = onward_ok {A = Made (List Hidden)} r put e c.1 in
-      subst (Good P N) (ok_same (expanded i.0.value i.0.notes (work - cost)) e i.2) (fine i.0 i.1)
+      let Q : Expanded → Type 0 = λ v. AllNotes M v.notes → Good P N v in
+      subst Q (ok_same (expanded i.0.value i.0.notes (work - cost)) e i.2) (λ all. fine i.0 i.1 all) told
 
   substituted_good : (depth before : ℕ) (name : Token) (m : Definition) → P name → AllToks (HasPutIn P name) m.body → (raw : List (List Hidden)) → AllLists P raw
       → (work : ℕ) (e : Expanded) → substituted f depth before name m raw work ≡ Ok e → AllNotes M e.notes → Good P N e
@@ -101,7 +102,7 @@ module _ (P : Token → Type 0) (M N : Note → Type 0) (set : Setting) (rules :
       let k = full_good depth before name (chains_of m) 0 raw good work i.0 i.1 each.0 in
       let fine_args : FineArguments P (args i.0.lists) = record { raw = good; full = k.0 } in
       let l = spent_good name cost i.0.left (result_of name (args i.0.lists) (chains_of m))
-      (λ v v_is. result_kept P M N set rules name here (args i.0.lists) fine_args (chains_of m) (chains_of_have (HasPutIn P name) m body) v v_is) j.0 j.1 in
+      (λ v v_is all. result_kept P M N set rules name here (args i.0.lists) fine_args (chains_of m) (chains_of_have (HasPutIn P name) m body) v v_is all) j.0 j.1 each.1 in
       (l.0, notes_both N i.0.notes j.0.notes k.1 l.1)) told
 
   one_fine : (t : Token) → P t → (m : Made (List Hidden)) → ◌≡◌ {A = Result (Made (List Hidden)) Fault} (Ok (made (hidden t [] ∷ []) [])) (Ok m) → Fine P N m
@@ -111,9 +112,9 @@ module _ (P : Token → Type 0) (M N : Note → Type 0) (set : Setting) (rules :
       → M (Replaced name m.name before) → (raw : List (List Hidden)) → AllLists P raw → (work : ℕ) (e : Expanded)
       → put_for kind set.path f depth before name m raw work ≡ Ok e → AllNotes M e.notes → Good P N e
   put_for_good form.Line depth before name m form_is here found brought raw good work e is told =
-      spent_good name 1 work (Ok (made (hidden (line_number name) [] ∷ []) [])) (one_fine (line_number name) (rules.lines name m before here found form_is brought)) e is
+      spent_good name 1 work (Ok (made (hidden (line_number name) [] ∷ []) [])) (λ v v_is all. one_fine (line_number name) (rules.lines name m before here found form_is brought) v v_is) e is told
   put_for_good form.File depth before name m form_is here found brought raw good work e is told =
-      spent_good name 1 work (Ok (made (hidden (path_string set.path name) [] ∷ []) [])) (one_fine (path_string set.path name) (rules.paths name m here found form_is)) e is
+      spent_good name 1 work (Ok (made (hidden (path_string set.path name) [] ∷ []) [])) (λ v v_is all. one_fine (path_string set.path name) (rules.paths name m here found form_is) v v_is) e is told
   put_for_good form.Object depth before name m form_is here found brought raw good work e is told =
       substituted_good depth before name m here (rules.bodies name m here found) raw good work e is told
   put_for_good form.Function depth before name m form_is here found brought raw good work e is told =

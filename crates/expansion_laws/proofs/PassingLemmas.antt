@@ -29,7 +29,7 @@ rules_pass p set notes blind macros made = record {
   lines = λ name m before here found is brought. macros.lines name m before here found is brought;
   paths = λ name m here found is. macros.paths name m here found is;
   strings = λ name gap toks s here all is. blind (standing_at name s) gap false (made.strings name toks s here (pass_toks p toks all) is);
-  pastes = λ name x y z here px py is. blind (standing_at name z) x.gap false (made.pastes name x y z here px py is);
+  pastes = λ name x y z here px py is told. blind (standing_at name z) x.gap false (made.pastes name x y z here px py is);
   replaced = λ name m before here is found. here;
   linked = λ name m here is found links. let other = macros.names name.text m found links in rw (here, other) refl;
   stringized = λ toks s all is. pass_toks p toks all;

@@ -14,7 +14,7 @@ use Rattle.macro_expand.specs.Substitution.{Arguments, Made, made, made_both, wi
 use Rattle.macro_expand.specs.Expansion.{Setting, links_name}
 use Rattle.macro_expand.proofs.ResultLemmas.{ok_same, err_ok, onward_ok}
 use Rattle.macro_expand.proofs.CallLemmas.{cond_has}
-use Rattle.expansion_laws.proofs.ListLemmas.{AllToks, AllHidden, AllLists, AllNotes, notes_both, hidden_both, hidden_at, hidden_toks}
+use Rattle.expansion_laws.proofs.ListLemmas.{AllToks, AllHidden, AllLists, AllNotes, notes_split, notes_both, hidden_both, hidden_at, hidden_toks}
 
 -- What keeps P of tokens: where a token comes from elsewhere, or is made; and what then is N of notes. Of the
 -- notes themselves M is known.
@@ -28,7 +28,7 @@ pub record Rules (P : Token → Type 0) (M N : Note → Type 0) (set : Setting) 
   pub paths : (name : Token) (m : Definition) → P name → set.table name.text ≡ Some m → m.form ≡ form.File → P (path_string set.path name)
   -- tokens that are made
   pub strings : (name : Token) (gap : Bool) (toks : List Token) (s : Token) → P name → AllToks P toks → stringize_of toks ≡ Ok s → P (put_in name gap s)
-  pub pastes : (name x y z : Token) → P name → P x → P y → glue_of x y ≡ Ok z → P (put_in name x.gap z)
+  pub pastes : (name x y z : Token) → P name → P x → P y → glue_of x y ≡ Ok z → M (Pasted x y (put_in name x.gap z)) → P (put_in name x.gap z)
   -- notes
   pub replaced : (name : Token) (m : Definition) (before : ℕ) → P name → is_name name ≡ true → set.table name.text ≡ Some m → N (Replaced name m.name before)
   pub linked : (name : Token) (m : Definition) → P name → is_name name ≡ true → set.table name.text ≡ Some m → links_name m.form ≡ true → N (Linked name m.name)
@@ -173,57 +173,69 @@ module _ (P : Token → Type 0) (M N : Note → Type 0) (set : Setting) (rules :
   -- What is pasted.
 
   token_kept : (x y : Hidden) → P x.tok → P y.tok → (r : Result Token PasteFault) → glue_of x.tok y.tok ≡ r → (m : Made Hidden)
-      → token_pasted name x y r ≡ Ok m → P m.value.tok × AllNotes N m.notes
-  token_kept x y px py (Err f) is m e = err_ok _ m e
-  token_kept x y px py (Ok z) is m e =
-      let pz = rules.pastes name x.tok y.tok z here px py is in
-      let Q : Made Hidden → Type 0 = λ v. P v.value.tok × AllNotes N v.notes in
+      → token_pasted name x y r ≡ Ok m → AllNotes M m.notes → P m.value.tok × AllNotes N m.notes
+  token_kept x y px py (Err f) is m e told = err_ok _ m e
+  token_kept x y px py (Ok z) is m e told =
+      let Q : Made Hidden → Type 0 = λ v. AllNotes M v.notes → P v.value.tok × AllNotes N v.notes in
       subst Q (ok_same (made (hidden (put_in name x.tok.gap z) (in_both x.hides y.hides)) (Pasted x.tok y.tok (put_in name x.tok.gap z) ∷ [])) m e)
-      (pz, (rules.pasted name x.tok y.tok z px py pz is, tt))
+      (λ here_told.
+      let pz = rules.pastes name x.tok y.tok z here px py is here_told.0 in
+      (pz, (rules.pasted name x.tok y.tok z px py pz is, tt))) told
 
   behind_kept : (x : Hidden) (xs ys : List Hidden) → AllHidden P (x ∷ xs) → AllHidden P ys → (m : Made (List Hidden))
-      → pasted_behind name x xs ys ≡ Ok m → Fine P N m
-  behind_kept x [] [] gx gy m e = subst (Fine P N) (ok_same (made (x ∷ []) []) m e) (gx, tt)
-  behind_kept x [] (y ∷ ys) gx gy m e =
+      → pasted_behind name x xs ys ≡ Ok m → AllNotes M m.notes → Fine P N m
+  behind_kept x [] [] gx gy m e told = subst (Fine P N) (ok_same (made (x ∷ []) []) m e) (gx, tt)
+  behind_kept x [] (y ∷ ys) gx gy m e told =
       let i = onward_ok {A = Made Hidden} (token_pasted name x y (glue_of x.tok y.tok)) (λ z. Ok (made (z.value ∷ ys) z.notes)) m e in
-      let k = token_kept x y gx.0 gy.0 (glue_of x.tok y.tok) refl i.0 i.1 in
-      subst (Fine P N) (ok_same (made (i.0.value ∷ ys) i.0.notes) m i.2) ((k.0, gy.1), k.1)
-  behind_kept x (x2 ∷ xs) ys gx gy m e =
+      let Q : Made (List Hidden) → Type 0 = λ v. AllNotes M v.notes → Fine P N v in
+      subst Q (ok_same (made (i.0.value ∷ ys) i.0.notes) m i.2) (λ all.
+      let k = token_kept x y gx.0 gy.0 (glue_of x.tok y.tok) refl i.0 i.1 all in
+      ((k.0, gy.1), k.1)) told
+  behind_kept x (x2 ∷ xs) ys gx gy m e told =
       let i = onward_ok {A = Made (List Hidden)} (pasted_behind name x2 xs ys) (λ zs. Ok (made (x ∷ zs.value) zs.notes)) m e in
-      let k = behind_kept x2 xs ys gx.1 gy i.0 i.1 in
-      subst (Fine P N) (ok_same (made (x ∷ i.0.value) i.0.notes) m i.2) ((gx.0, k.0), k.1)
+      let Q : Made (List Hidden) → Type 0 = λ v. AllNotes M v.notes → Fine P N v in
+      subst Q (ok_same (made (x ∷ i.0.value) i.0.notes) m i.2) (λ all.
+      let k = behind_kept x2 xs ys gx.1 gy i.0 i.1 all in
+      ((gx.0, k.0), k.1)) told
 
-  two_kept : (xs ys : List Hidden) → AllHidden P xs → AllHidden P ys → (m : Made (List Hidden)) → two_pasted name xs ys ≡ Ok m → Fine P N m
-  two_kept [] ys gx gy m e = subst (Fine P N) (ok_same (made ys []) m e) (gy, tt)
-  two_kept (x ∷ xs) ys gx gy m e = behind_kept x xs ys gx gy m e
+  two_kept : (xs ys : List Hidden) → AllHidden P xs → AllHidden P ys → (m : Made (List Hidden)) → two_pasted name xs ys ≡ Ok m → AllNotes M m.notes → Fine P N m
+  two_kept [] ys gx gy m e told = subst (Fine P N) (ok_same (made ys []) m e) (gy, tt)
+  two_kept (x ∷ xs) ys gx gy m e told = behind_kept x xs ys gx gy m e told
 
   chain_kept : (xs : List Hidden) (yss : List (List Hidden)) → AllHidden P xs → AllLists P yss → (m : Made (List Hidden))
-      → chain_pasted name xs yss ≡ Ok m → Fine P N m
-  chain_kept xs [] gx gy m e = subst (Fine P N) (ok_same (made xs []) m e) (gx, tt)
-  chain_kept xs (ys ∷ yss) gx gy m e =
+      → chain_pasted name xs yss ≡ Ok m → AllNotes M m.notes → Fine P N m
+  chain_kept xs [] gx gy m e told = subst (Fine P N) (ok_same (made xs []) m e) (gx, tt)
+  chain_kept xs (ys ∷ yss) gx gy m e told =
       let i = onward_ok {A = Made (List Hidden)} (two_pasted name xs ys) (λ z. onward (chain_pasted name z.value yss) (λ zs. Ok (made zs.value (z.notes ++ zs.notes)))) m e in
       let j = onward_ok {A = Made (List Hidden)} (chain_pasted name i.0.value yss) (λ zs. Ok (made zs.value (i.0.notes ++ zs.notes))) m i.2 in
-      let first = two_kept xs ys gx gy.0 i.0 i.1 in
-      let rest = chain_kept i.0.value yss first.0 gy.1 j.0 j.1 in
-      subst (Fine P N) (ok_same (made j.0.value (i.0.notes ++ j.0.notes)) m j.2) (rest.0, notes_both N i.0.notes j.0.notes first.1 rest.1)
+      let Q : Made (List Hidden) → Type 0 = λ v. AllNotes M v.notes → Fine P N v in
+      subst Q (ok_same (made j.0.value (i.0.notes ++ j.0.notes)) m j.2) (λ all.
+      let each = notes_split M i.0.notes j.0.notes all in
+      let first = two_kept xs ys gx gy.0 i.0 i.1 each.0 in
+      let rest = chain_kept i.0.value yss first.0 gy.1 j.0 j.1 each.1 in
+      (rest.0, notes_both N i.0.notes j.0.notes first.1 rest.1)) told
 
-  pasted_kept : (cs : List (List (List Hidden))) → AllChains P cs → (m : Made (List Hidden)) → chains_pasted name cs ≡ Ok m → Fine P N m
-  pasted_kept [] g m e = subst (Fine P N) (ok_same (made [] []) m e) (tt, tt)
-  pasted_kept (c ∷ cs) g m e =
+  pasted_kept : (cs : List (List (List Hidden))) → AllChains P cs → (m : Made (List Hidden)) → chains_pasted name cs ≡ Ok m → AllNotes M m.notes → Fine P N m
+  pasted_kept [] g m e told = subst (Fine P N) (ok_same (made [] []) m e) (tt, tt)
+  pasted_kept (c ∷ cs) g m e told =
       let i = onward_ok {A = Made (List Hidden)} (chain_pasted name [] c) (λ v. onward (chains_pasted name cs) (λ vs. Ok (made_both (λ x xs. x ++ xs) v vs))) m e in
       let j = onward_ok {A = Made (List Hidden)} (chains_pasted name cs) (λ vs. Ok (made_both (λ x xs. x ++ xs) i.0 vs)) m i.2 in
-      let first = chain_kept [] c tt g.0 i.0 i.1 in
-      let rest = pasted_kept cs g.1 j.0 j.1 in
-      subst (Fine P N) (ok_same (made_both (λ x xs. x ++ xs) i.0 j.0) m j.2)
-      (hidden_both P i.0.value j.0.value first.0 rest.0, notes_both N i.0.notes j.0.notes first.1 rest.1)
+      let Q : Made (List Hidden) → Type 0 = λ v. AllNotes M v.notes → Fine P N v in
+      subst Q (ok_same (made_both (λ x xs. x ++ xs) i.0 j.0) m j.2) (λ all.
+      let each = notes_split M i.0.notes j.0.notes all in
+      let first = chain_kept [] c tt g.0 i.0 i.1 each.0 in
+      let rest = pasted_kept cs g.1 j.0 j.1 each.1 in
+      (hidden_both P i.0.value j.0.value first.0 rest.0, notes_both N i.0.notes j.0.notes first.1 rest.1)) told
 
   pub result_kept : (args : Arguments) → FineArguments P args → (cs : List (List Part)) → ChainsHave (HasPutIn P name) cs → (m : Made (List Hidden))
-      → result_of name args cs ≡ Ok m → Fine P N m
+      → result_of name args cs ≡ Ok m → AllNotes M m.notes → Fine P N m
   unfolding result_of
-  result_kept args fine cs h m e =
+  result_kept args fine cs h m e told =
       let i = onward_ok {A = Made (List (List (List Hidden)))} (chains_made name args cs) (λ s. onward (chains_pasted name s.value) (λ v. Ok (made (with_gap name.gap v.value) (s.notes ++ v.notes)))) m e in
       let j = onward_ok {A = Made (List Hidden)} (chains_pasted name i.0.value) (λ v. Ok (made (with_gap name.gap v.value) (i.0.notes ++ v.notes))) m i.2 in
       let first = chains_kept args fine cs h i.0 i.1 in
-      let rest = pasted_kept i.0.value first.0 j.0 j.1 in
-      subst (Fine P N) (ok_same (made (with_gap name.gap j.0.value) (i.0.notes ++ j.0.notes)) m j.2)
-      (gap_kept name.gap j.0.value rest.0, notes_both N i.0.notes j.0.notes first.1 rest.1)
+      let Q : Made (List Hidden) → Type 0 = λ v. AllNotes M v.notes → Fine P N v in
+      subst Q (ok_same (made (with_gap name.gap j.0.value) (i.0.notes ++ j.0.notes)) m j.2) (λ all.
+      let each = notes_split M i.0.notes j.0.notes all in
+      let rest = pasted_kept i.0.value first.0 j.0 j.1 each.1 in
+      (gap_kept name.gap j.0.value rest.0, notes_both N i.0.notes j.0.notes first.1 rest.1)) told

@@ -49,7 +49,7 @@ rules_true set = record {
   lines = λ name m before here found is brought. tt;
   paths = λ name m here found is. tt;
   strings = λ name gap toks s here all made. tt;
-  pastes = λ name x y z here px py made. tt;
+  pastes = λ name x y z here px py made told. tt;
   replaced = λ name m before here is found. record { identifier = is; definition = m; defined = found; same = refl };
   linked = λ name m here is found links. record { identifier = is; definition = m; defined = found; same = refl };
   stringized = λ toks s all made. record { made = made; untraced = string_untraced toks s made };
@@ -75,7 +75,7 @@ rules_alike set names = record {
   lines = λ name m before here found is brought. tt;
   paths = λ name m here found is. tt;
   strings = λ name gap toks s here all made. tt;
-  pastes = λ name x y z here px py made. tt;
+  pastes = λ name x y z here px py made told. tt;
   replaced = λ name m before here is found. tt;
   linked = λ name m here is found links. record { first = is; second = names.identifier name.text m found links; text = sym (names.text name.text m found links) };
   stringized = λ toks s all made. tt;

@@ -250,7 +250,7 @@ module _ (a : AnalysisValue) (text : UnitTextValue) (notes : List Note) (toks : 
         let made = made_string ts s is in
         traced_as a s (put_in name gap s) refl refl
         (subst (Traced a) made (record { each = string_traced (string_text ts); chained = λ words. absurd (quoted (string_text ts) _ refl words) }));
-    pastes = λ name x y z here px py is.
+    pastes = λ name x y z run before here px py is told.
         let g = glue_is x y z is in
         let both : Traced a (record x { text = x.text ++ y.text; origins = x.origins ++ y.origins }) = record {
           each = length-append x.origins y.origins ∙ ap (λ (n : ℕ). n + length y.origins) px.each ∙ ap (λ (n : ℕ). length x.text + n) py.each ∙ sym (length-append x.text y.text);

@@ -60,7 +60,8 @@ pub record UnitRules (P : Token → Type 0) (M : Note → Type 0) (table : Table
   pub answers : (word : Token) (b : Bool) → P word → M (Answered (answer_for word b)) → P (answer_for word b)
   pub paths : (path : List ℕ) (name : Token) → P name → P (path_string path name)
   pub strings : (name : Token) (gap : Bool) (toks : List Token) (s : Token) → P name → AllToks P toks → stringize_of toks ≡ Ok s → P (put_in name gap s)
-  pub pastes : (name x y z : Token) → P name → P x → P y → glue_of x y ≡ Ok z → P (put_in name x.gap z)
+  pub pastes : (name x y z : Token) (run : Bool) (before : ℕ) → P name → P x → P y → glue_of x y ≡ Ok z
+      → M (Happened run before (expansion.Pasted x y (put_in name x.gap z))) → P (put_in name x.gap z)
 
 -- ---- what is true of notes
 

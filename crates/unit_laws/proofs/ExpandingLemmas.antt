@@ -37,7 +37,7 @@ module _ (P : Token → Type 0) (M : Note → Type 0) (table : Table) (rules : U
         rules.lines name run before more here line.1 (subst (λ (t : Token). M (Happened run before (expansion.Replaced name t more))) line.0 brought);
     paths = λ name m here found is. rules.paths set.path name here;
     strings = rules.strings;
-    pastes = rules.pastes;
+    pastes = λ name x y z here px py is told. rules.pastes name x y z run before here px py is told;
     replaced = λ name m more here is found. here;
     linked = λ name m here is found links.
         let own = (let has = macros name.text m found in has.own) links in

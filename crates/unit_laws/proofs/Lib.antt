@@ -7,6 +7,7 @@ pub mod TextLemmas
 pub mod ReachedLemmas
 pub mod SpellingLemmas
 pub mod NameLemmas
+pub mod TokenLemmas
 -- What the proofs of this crate rest on.
 mod ExpandingLemmas
 mod NamingLemmas
@@ -14,6 +15,5 @@ mod DefiningLemmas
 mod ConditionLemmas
 mod IncludeLemmas
 mod WalkLemmas
-mod TokenLemmas
 mod TestLemmas
 mod FileLemmas

@@ -87,7 +87,7 @@ module _ (among : Characters) (files : List Token) (text : UnitTextValue) (notes
     answers = λ word b here brought. numbers.answers (answer_for word b) (answer_among text notes toks (answer_for word b) is_text brought);
     paths = λ path name here. λ h. absurd (quoted_fails among _ _ quote refl h);
     strings = λ name gap ts s here all made. string_whole among files name gap ts s quote made;
-    pastes = λ name x y z here px py made. pasted_whole among files name x y z px py made;
+    pastes = λ name x y z run before here px py made told. pasted_whole among files name x y z px py made;
   }
 
 pub reached_tokens_are_whole : ReachedTokensAreWhole

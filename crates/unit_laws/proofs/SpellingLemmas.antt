@@ -59,7 +59,7 @@ rules_spelled M table = record {
   answers = λ word b here brought. answer_spelled word b here;
   paths = λ path name here. path_spelled path name here;
   strings = λ name gap toks s here all is. string_spelled name toks s here is;
-  pastes = λ name x y z here px py is. pasted_spelled name x y z here px py is;
+  pastes = λ name x y z run before here px py is told. pasted_spelled name x y z here px py is;
 }
 
 pub unit_tokens_are_spelled : UnitTokensAreSpelled

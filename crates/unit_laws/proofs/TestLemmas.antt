@@ -32,7 +32,7 @@ rules_pass p text notes toks table is blind files brought made = record {
       toks_at (Passes p) text.answers (toks_pass p text.answers brought.answers) (answer_for word b) among.0 among.1;
   paths = λ path name here. brought.paths path name here;
   strings = λ name gap ts s here all is. blind (standing_at name s) gap false (made.strings name ts s here (pass_toks p ts all) is);
-  pastes = λ name x y z here px py is. blind (standing_at name z) x.gap false (made.pastes name x y z here px py is);
+  pastes = λ name x y z run before here px py is told. blind (standing_at name z) x.gap false (made.pastes name x y z here px py is);
 }
 
 pub unit_keeps_tests : UnitKeepsTests

@@ -32,7 +32,7 @@ rules_any M table = record {
   answers = λ word b here brought. tt;
   paths = λ path name here. tt;
   strings = λ name gap toks s here all is. tt;
-  pastes = λ name x y z here px py is. tt;
+  pastes = λ name x y z run before here px py is told. tt;
 }
 
 pub unit_links_are_alike : UnitLinksAreAlike
@@ -57,7 +57,7 @@ rules_whole among files text notes toks table quote is whole numbers = record {
   answers = λ word b here brought. numbers.answers (answer_for word b) (answer_among text notes toks (answer_for word b) is brought);
   paths = λ path name here. λ h. absurd (quoted_fails among _ _ quote refl h);
   strings = λ name gap ts s here all made. string_whole among files name gap ts s quote made;
-  pastes = λ name x y z here px py made. pasted_whole among files name x y z px py made;
+  pastes = λ name x y z run before here px py made told. pasted_whole among files name x y z px py made;
 }
 
 pub unit_tokens_are_whole : UnitTokensAreWhole
@@ -100,7 +100,7 @@ rules_stand M table = record {
   answers = λ word b here brought. stands_as table word (answer_for word b) here refl refl;
   paths = λ path name here. stands_as table name (path_string path name) here refl refl;
   strings = λ name gap toks s here all is. stands_as table name (put_in name gap s) here refl refl;
-  pastes = λ name x y z here px py is. stands_as table name (put_in name x.gap z) here refl refl;
+  pastes = λ name x y z run before here px py is told. stands_as table name (put_in name x.gap z) here refl refl;
 }
 
 pub unit_tokens_stand_in_files : UnitTokensStandInFiles
