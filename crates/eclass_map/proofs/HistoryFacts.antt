@@ -3,7 +3,7 @@ use Rattle.std.proofs.Common.{ℕ, ◌+◌, ◌-◌, ◌≤◌, arith}
 use Rattle.eclass_map.specs.ClassTable.{Table, relabelled_in, weight_in}
 use Rattle.eclass_map.specs.History.{History, JoinsRelabelLittle}
 use Rattle.eclass_map.specs.History.History.{made, kept, joined}
-use Rattle.eclass_map.proofs.WeightFacts.{weight-most}
+use Rattle.class_labels.proofs.WeightFacts.{weight-most}
 
 within_weight : (t : Table) (r n : ℕ) → History t r n → (r ≤ n) × (n ≤ weight_in t)
 within_weight t r n (made none) = (omega arith, omega arith)

@@ -3,8 +3,8 @@ use Rattle.std.proofs.Common.{◌≡◌, List, [], refl, sym, arith, subst}
 use Rattle.std.proofs.lemmas.Option.{none-some}
 use Rattle.cs_base.specs.declared.positions.Pos.{Pos}
 use Rattle.eclass_map.specs.declared.token_list.Added.{Added}
-use Rattle.eclass_map.specs.Labels.{Labels, spot, no_labels}
-use Rattle.eclass_map.specs.Table.{IsTable}
+use Rattle.class_labels.specs.Labels.{Labels, spot, no_labels}
+use Rattle.class_labels.specs.Table.{IsTable}
 use Rattle.eclass_map.specs.Positions.{index_at}
 use Rattle.eclass_map.specs.ClassTable.{Table}
 use Rattle.eclass_map.specs.Kept.{IsKept}

@@ -7,19 +7,19 @@ use Rattle.std.proofs.lemmas.Option.{none-some, same_Some, slice_get_within}
 use Rattle.cs_base.specs.declared.positions.Pos.{Pos}
 use Rattle.cs_base.specs.Token.{Token, origin_at}
 use Rattle.eclass_map.specs.declared.token_list.Added.{Added}
-use Rattle.eclass_map.specs.declared.spots.Spot.{Spot}
-use Rattle.eclass_map.specs.Chain.{Chain, Least}
-use Rattle.eclass_map.specs.Chain.Chain.{here, along as step_along, back as step_back}
-use Rattle.eclass_map.specs.Labels.{Labels, spot}
+use Rattle.class_labels.specs.declared.spots.Spot.{Spot}
+use Rattle.class_labels.specs.Chain.{Chain, Least}
+use Rattle.class_labels.specs.Chain.Chain.{here, along as step_along, back as step_back}
+use Rattle.class_labels.specs.Labels.{Labels, spot}
 use Rattle.eclass_map.specs.Positions.{along, index_at, number_of, numbers, Begins}
-use Rattle.eclass_map.specs.Runs.{BeginsAt}
-use Rattle.eclass_map.specs.Walk.{Forced, AtPlace}
+use Rattle.class_labels.specs.Runs.{BeginsAt}
+use Rattle.class_labels.specs.Walk.{Forced, AtPlace}
 use Rattle.eclass_map.specs.ClassTable.{Table, label, IsHeld, Same, IsLinked, SameOrLinked, AreWhole}
 use Rattle.eclass_map.specs.Kept.{IsKept}
-use Rattle.eclass_map.proofs.ListFacts.{now_at, was_at}
-use Rattle.eclass_map.proofs.LookFacts.{look_below}
+use Rattle.class_labels.proofs.ListFacts.{now_at, was_at}
+use Rattle.class_labels.proofs.LookFacts.{look_below}
 use Rattle.eclass_map.proofs.TokenFacts.{index_of_token}
-use Rattle.eclass_map.proofs.JoinFacts.{Walked}
+use Rattle.class_labels.proofs.JoinFacts.{Walked}
 use Rattle.eclass_map.proofs.WholeFacts.{each_held_at, number_of_origin, WholeNumbers, whole_numbers}
 
 -- each token's numbers are those of characters

@@ -5,15 +5,15 @@ use Rattle.std.proofs.lemmas.Option.{same_Some, get_or_from_slice_get}
 use Rattle.std.proofs.lemmas.Bool.{cases_eq, cases_lt, cases_order, cond-true, cond-false, and_from, and_left, and_right, eq-eqb, ne_eqb, lt-ltb, le-ltb}
 use Rattle.cs_base.specs.declared.positions.Pos.{Pos}
 use Rattle.eclass_map.specs.declared.token_list.Added.{Added}
-use Rattle.eclass_map.specs.Labels.{walk_at}
+use Rattle.class_labels.specs.Labels.{walk_at}
 use Rattle.eclass_map.specs.Positions.{along, end_of, holds}
 use Rattle.eclass_map.specs.ClassTable.{Table, nowhere}
 use Rattle.eclass_map.specs.Kept.{IsKept}
-use Rattle.eclass_map.specs.Table.{In}
+use Rattle.class_labels.specs.Table.{In}
 use Rattle.eclass_map.specs.Resized.{members_before}
-use Rattle.eclass_map.proofs.LookFacts.{look_below}
+use Rattle.class_labels.proofs.LookFacts.{look_below}
 use Rattle.eclass_map.proofs.TokenFacts.{holding, holds_along, begun_where_held, not_held_before, found_in, index_of_token}
-use Rattle.eclass_map.proofs.TallyFacts.{tally, tally_even, tally_same, tally_none, count_tally, below, below_yes, below_no}
+use Rattle.class_labels.proofs.TallyFacts.{tally, tally_even, tally_same, tally_none, count_tally, below, below_yes, below_no}
 
 -- 1 where character number w stands before a position, in its file
 abbrev pub ahead : Table → Pos → ℕ → ℕ

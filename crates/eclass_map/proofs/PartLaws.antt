@@ -8,17 +8,17 @@ use Rattle.cs_base.specs.declared.positions.Pos.{Pos}
 use Rattle.cs_base.specs.declared.positions.Part.{Part}
 use Rattle.std.proofs.lemmas.List.{get_or_past}
 use Rattle.eclass_map.specs.declared.token_list.Added.{Added}
-use Rattle.eclass_map.specs.declared.spots.Spot.{Spot}
-use Rattle.eclass_map.specs.Labels.{Labels, spot, walk_at, length_at}
-use Rattle.eclass_map.specs.Table.{In, Distinct}
+use Rattle.class_labels.specs.declared.spots.Spot.{Spot}
+use Rattle.class_labels.specs.Labels.{Labels, spot, walk_at, length_at}
+use Rattle.class_labels.specs.Table.{In, Distinct}
 use Rattle.eclass_map.specs.Positions.{along, holds, index_at}
 use Rattle.eclass_map.specs.ClassTable.{Table, label, IsPart, part_from, class_in, part_with, members_of, nowhere, IsHeld, IsAdded, HasParts}
 use Rattle.eclass_map.specs.Kept.{IsKept}
-use Rattle.eclass_map.proofs.ListFacts.{was_at, now_at}
-use Rattle.eclass_map.proofs.LookFacts.{look_below}
-use Rattle.eclass_map.proofs.FieldFacts.{member_at}
-use Rattle.eclass_map.proofs.StepFacts.{starts_of}
-use Rattle.eclass_map.proofs.NextFacts.{In-slice_get}
+use Rattle.class_labels.proofs.ListFacts.{was_at, now_at}
+use Rattle.class_labels.proofs.LookFacts.{look_below}
+use Rattle.class_labels.proofs.FieldFacts.{member_at}
+use Rattle.class_labels.proofs.StepFacts.{starts_of}
+use Rattle.class_labels.proofs.NextFacts.{In-slice_get}
 use Rattle.eclass_map.proofs.LinkedFacts.{numbered, label_of, number_within}
 use Rattle.eclass_map.proofs.TokenFacts.{holds_from, index_of_token, found_in, index_of_holder}
 use Rattle.eclass_map.proofs.WholeFacts.{entry_of}

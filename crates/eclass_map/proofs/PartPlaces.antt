@@ -6,13 +6,13 @@ use Rattle.std.proofs.lemmas.Bool.{cases_lt, cases_order}
 use Rattle.cs_base.specs.declared.positions.Pos.{Pos}
 use Rattle.cs_base.specs.declared.positions.Part.{Part}
 use Rattle.eclass_map.specs.declared.token_list.Added.{Added}
-use Rattle.eclass_map.specs.declared.spots.Spot.{Spot}
-use Rattle.eclass_map.specs.Labels.{spot, length_at}
+use Rattle.class_labels.specs.declared.spots.Spot.{Spot}
+use Rattle.class_labels.specs.Labels.{spot, length_at}
 use Rattle.eclass_map.specs.Positions.{along, index_at, Begins}
 use Rattle.eclass_map.specs.ClassTable.{Table, label, IsStart}
 use Rattle.eclass_map.specs.Kept.{IsKept}
-use Rattle.eclass_map.proofs.ListFacts.{now_at}
-use Rattle.eclass_map.proofs.StepFacts.{starts_of, after_part}
+use Rattle.class_labels.proofs.ListFacts.{now_at}
+use Rattle.class_labels.proofs.StepFacts.{starts_of, after_part}
 use Rattle.eclass_map.proofs.TokenFacts.{holding, found_in, index_of_token}
 use Rattle.eclass_map.proofs.WholeFacts.{entry_of}
 use Rattle.eclass_map.proofs.LinkedFacts.{numbered, label_of}

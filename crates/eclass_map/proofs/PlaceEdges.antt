@@ -2,16 +2,16 @@
 use Rattle.std.proofs.Common.{◌≡◌, ℕ, ◌+◌, ◌*◌, ◌<◌, ◌≤◌, ◌⊎◌, length, ap, ◌∙◌, inl, inr, arith, Some}
 use Rattle.std.specs.Prelude.{slice_get}
 use Rattle.std.proofs.lemmas.Option.{slice_get_within, slice_get_past}
-use Rattle.eclass_map.specs.Labels.{spot, walk_at, length_at}
+use Rattle.class_labels.specs.Labels.{spot, walk_at, length_at}
 use Rattle.eclass_map.specs.Positions.{Begins}
 use Rattle.eclass_map.specs.ClassTable.{Table}
 use Rattle.eclass_map.specs.Kept.{IsKept}
-use Rattle.eclass_map.specs.Regrown.{place}
-use Rattle.eclass_map.proofs.LookFacts.{look_below}
-use Rattle.eclass_map.proofs.FieldFacts.{member_at}
+use Rattle.class_labels.specs.Regrown.{place}
+use Rattle.class_labels.proofs.LookFacts.{look_below}
+use Rattle.class_labels.proofs.FieldFacts.{member_at}
 use Rattle.eclass_map.proofs.LinkedFacts.{token_within}
-use Rattle.eclass_map.proofs.TallyFacts.{tally, below}
-use Rattle.eclass_map.proofs.PlaceCounts.{place_at, place_count, class_walk, to_come}
+use Rattle.class_labels.proofs.TallyFacts.{tally, below}
+use Rattle.class_labels.proofs.PlaceCounts.{place_at, place_count, class_walk, to_come}
 use Rattle.eclass_map.proofs.MovedPlaces.{AreCharacters}
 
 pub walk_characters : (t : Table) → IsKept t → (c : ℕ) → c < length t.labels.walks → AreCharacters t (walk_at t.labels c)

@@ -6,17 +6,17 @@ use Rattle.std.proofs.lemmas.Option.{get_or_from_slice_get}
 use Rattle.cs_base.specs.declared.positions.Pos.{Pos}
 use Rattle.cs_base.specs.declared.positions.Part.{Part}
 use Rattle.eclass_map.specs.declared.token_list.Added.{Added}
-use Rattle.eclass_map.specs.Labels.{Labels, walk_at, length_at}
+use Rattle.class_labels.specs.Labels.{Labels, walk_at, length_at}
 use Rattle.eclass_map.specs.Positions.{end_of}
 use Rattle.eclass_map.specs.ClassTable.{Table, part_with, members_of, IsAdded, HasParts}
 use Rattle.eclass_map.specs.Kept.{IsKept}
-use Rattle.eclass_map.specs.Weight.{weight}
-use Rattle.eclass_map.specs.Regrown.{place, regrown, ArePlaces}
+use Rattle.class_labels.specs.Weight.{weight}
+use Rattle.class_labels.specs.Regrown.{place, regrown, ArePlaces}
 use Rattle.eclass_map.specs.Settled.{no_text, settled, ArePlaced, Fits}
 use Rattle.eclass_map.specs.Resized.{moved_to, count_after, Resizes}
 use Rattle.eclass_map.proofs.KeptFacts.{table_of}
 use Rattle.eclass_map.proofs.PartLaws.{has_parts}
-use Rattle.eclass_map.proofs.PlaceCounts.{place_end}
+use Rattle.class_labels.proofs.PlaceCounts.{place_end}
 use Rattle.eclass_map.proofs.ResizedTokens.{ResizeIn}
 use Rattle.eclass_map.proofs.ResizedOrder.{new_tokens, new_fits}
 use Rattle.eclass_map.proofs.ResizedKept.{ResizedIn, new_table, IsKept-resized}

@@ -5,20 +5,20 @@ use Rattle.std.specs.List.{flat_map}
 use Rattle.std.proofs.lemmas.Option.{same_Some, slice_get_within}
 use Rattle.cs_base.specs.declared.positions.Pos.{Pos}
 use Rattle.eclass_map.specs.declared.token_list.Added.{Added}
-use Rattle.eclass_map.specs.declared.spots.Spot.{Spot}
-use Rattle.eclass_map.specs.Labels.{Labels, spot}
+use Rattle.class_labels.specs.declared.spots.Spot.{Spot}
+use Rattle.class_labels.specs.Labels.{Labels, spot}
 use Rattle.eclass_map.specs.Positions.{along, index_at, Begins, AreTokens}
 use Rattle.eclass_map.specs.ClassTable.{Table}
 use Rattle.eclass_map.specs.Kept.{IsKept}
-use Rattle.eclass_map.specs.Regrown.{piece, share, place, regrown}
+use Rattle.class_labels.specs.Regrown.{piece, share, place, regrown}
 use Rattle.eclass_map.specs.Settled.{ArePlaced, Fits}
-use Rattle.eclass_map.proofs.LookFacts.{look_below}
+use Rattle.class_labels.proofs.LookFacts.{look_below}
 use Rattle.eclass_map.proofs.KeptFacts.{table_of}
-use Rattle.eclass_map.proofs.AddFacts.{fresh_part-at}
+use Rattle.class_labels.proofs.AddFacts.{fresh_part-at}
 use Rattle.eclass_map.proofs.LinkedFacts.{token_within}
 use Rattle.eclass_map.proofs.TokenFacts.{holding, along_of, found_in, index_of_token}
-use Rattle.eclass_map.proofs.RegrownFacts.{first, gone, itself, piece_cases, at_place, from_of, place_next, place_grows, IsTable-regrown}
-use Rattle.eclass_map.proofs.RegrownRows.{length-regrown, share_first}
+use Rattle.class_labels.proofs.RegrownFacts.{first, gone, itself, piece_cases, at_place, from_of, place_next, place_grows, IsTable-regrown}
+use Rattle.class_labels.proofs.RegrownRows.{length-regrown, share_first}
 use Rattle.eclass_map.proofs.MovedPlaces.{holder}
 use Rattle.eclass_map.proofs.PlaceEdges.{begins_spot}
 use Rattle.eclass_map.proofs.ResizedTokens.{ResizeIn, stands}

@@ -9,25 +9,25 @@ use Rattle.std.proofs.lemmas.List.Sums.{sum_by-cons}
 use Rattle.cs_base.specs.declared.positions.Pos.{Pos}
 use Rattle.cs_base.specs.declared.positions.Part.{Part}
 use Rattle.eclass_map.specs.declared.token_list.Added.{Added}
-use Rattle.eclass_map.specs.Labels.{Labels, spot, walk_at, length_at}
-use Rattle.eclass_map.specs.Table.{In}
+use Rattle.class_labels.specs.Labels.{Labels, spot, walk_at, length_at}
+use Rattle.class_labels.specs.Table.{In}
 use Rattle.eclass_map.specs.Positions.{along, end_of}
 use Rattle.eclass_map.specs.ClassTable.{Table, part_with, members_of, added_tokens, nowhere}
-use Rattle.eclass_map.specs.Weight.{weight, weight_of}
-use Rattle.eclass_map.specs.Regrown.{place, regrown}
+use Rattle.class_labels.specs.Weight.{weight, weight_of}
+use Rattle.class_labels.specs.Regrown.{place, regrown}
 use Rattle.eclass_map.specs.Resized.{moved_to, moved_token, moved_part, count_after, Resizes}
-use Rattle.eclass_map.proofs.FieldFacts.{member_at}
+use Rattle.class_labels.proofs.FieldFacts.{member_at}
 use Rattle.eclass_map.proofs.LinkedFacts.{token_within}
 use Rattle.eclass_map.proofs.TokenFacts.{holding, along_of}
-use Rattle.eclass_map.proofs.RegrownFacts.{place_next, place_grows, walk-regrown}
-use Rattle.eclass_map.proofs.RegrownRows.{share_first}
-use Rattle.eclass_map.proofs.TallyFacts.{tally, below}
-use Rattle.eclass_map.proofs.PlaceCounts.{place_at, place_end}
+use Rattle.class_labels.proofs.RegrownFacts.{place_next, place_grows, walk-regrown}
+use Rattle.class_labels.proofs.RegrownRows.{share_first}
+use Rattle.class_labels.proofs.TallyFacts.{tally, below}
+use Rattle.class_labels.proofs.PlaceCounts.{place_at, place_end}
 use Rattle.eclass_map.proofs.MovedPlaces.{holder}
 use Rattle.eclass_map.proofs.ResizedTokens.{ResizeIn, stands, moves, moved_at}
 use Rattle.eclass_map.proofs.ResizedOrder.{new_tokens, length-settled, came, end_at, start_at}
 use Rattle.eclass_map.proofs.ResizedKept.{ResizedIn, new_table, IsKept-resized}
-use Rattle.eclass_map.proofs.ListFacts.{now_at}
+use Rattle.class_labels.proofs.ListFacts.{now_at}
 use Rattle.eclass_map.proofs.PartLaws.{has_parts}
 
 maps_same : {A B C D : Type 0} (f : B → D) (g : A → B) (h : C → D) (k : A → C) (xs : List A) → ((i : ℕ) (x : A) → slice_get xs i ≡ Some x → f (g x) ≡ h (k x)) → map f (map g xs) ≡ map h (map k xs)

@@ -6,19 +6,19 @@ use Rattle.std.proofs.lemmas.Bool.{cases_eq, cases_lt}
 use Rattle.cs_base.specs.declared.positions.Pos.{Pos}
 use Rattle.cs_base.specs.declared.positions.Part.{Part}
 use Rattle.eclass_map.specs.declared.token_list.Added.{Added}
-use Rattle.eclass_map.specs.Labels.{walk_at, length_at}
+use Rattle.class_labels.specs.Labels.{walk_at, length_at}
 use Rattle.eclass_map.specs.Positions.{along, end_of, holds, Before}
 use Rattle.eclass_map.specs.ClassTable.{Table, IsAdded}
 use Rattle.eclass_map.specs.Kept.{IsKept}
-use Rattle.eclass_map.specs.Regrown.{place}
+use Rattle.class_labels.specs.Regrown.{place}
 use Rattle.eclass_map.specs.Settled.{no_text, settled, settled_token, AreNumbered, AreApart, Fits}
 use Rattle.eclass_map.specs.Resized.{moved_to}
-use Rattle.eclass_map.proofs.LookFacts.{look_below}
-use Rattle.eclass_map.proofs.ListFacts.{now_at}
+use Rattle.class_labels.proofs.LookFacts.{look_below}
+use Rattle.class_labels.proofs.ListFacts.{now_at}
 use Rattle.eclass_map.proofs.LinkedFacts.{token_within}
 use Rattle.eclass_map.proofs.TokenFacts.{holds_along, begun_where_held, not_held_before, index_of_token}
-use Rattle.eclass_map.proofs.RegrownFacts.{place_grows}
-use Rattle.eclass_map.proofs.TallyFacts.{tally, below}
+use Rattle.class_labels.proofs.RegrownFacts.{place_grows}
+use Rattle.class_labels.proofs.TallyFacts.{tally, below}
 use Rattle.eclass_map.proofs.MovedPlaces.{ahead, tally_next}
 use Rattle.eclass_map.proofs.PlaceEdges.{walk_characters, place_edge}
 use Rattle.eclass_map.proofs.ResizedTokens.{ResizeIn, Stands, Moves, new_number, stands, moves, moved_at, token_some}

@@ -5,18 +5,18 @@ use Rattle.std.proofs.lemmas.Option.{none-some, same_Some, slice_get_within, get
 use Rattle.std.proofs.lemmas.Bool.{cases_eq, cond-true, cond-false, eq-eqb, ne_eqb}
 use Rattle.cs_base.specs.declared.positions.Pos.{Pos}
 use Rattle.eclass_map.specs.declared.token_list.Added.{Added}
-use Rattle.eclass_map.specs.Labels.{spot, walk_at, length_at}
+use Rattle.class_labels.specs.Labels.{spot, walk_at, length_at}
 use Rattle.eclass_map.specs.Positions.{along, end_of}
 use Rattle.eclass_map.specs.ClassTable.{Table}
 use Rattle.eclass_map.specs.Kept.{IsKept}
-use Rattle.eclass_map.specs.Regrown.{place, ArePlaces}
+use Rattle.class_labels.specs.Regrown.{place, ArePlaces}
 use Rattle.eclass_map.specs.Settled.{no_text, settled, settled_token}
 use Rattle.eclass_map.specs.Resized.{members_before, moved_to}
-use Rattle.eclass_map.proofs.LookFacts.{look_below}
+use Rattle.class_labels.proofs.LookFacts.{look_below}
 use Rattle.eclass_map.proofs.LinkedFacts.{token_within}
-use Rattle.eclass_map.proofs.RegrownFacts.{place_next, place_grows}
-use Rattle.eclass_map.proofs.RegrownRows.{share_first}
-use Rattle.eclass_map.proofs.TallyFacts.{tally, below, mul_even}
+use Rattle.class_labels.proofs.RegrownFacts.{place_next, place_grows}
+use Rattle.class_labels.proofs.RegrownRows.{share_first}
+use Rattle.class_labels.proofs.TallyFacts.{tally, below, mul_even}
 use Rattle.eclass_map.proofs.MovedPlaces.{ahead, members_ahead, tally_along, tally_next, tally_first}
 use Rattle.eclass_map.proofs.PlaceEdges.{walk_characters, begins_spot, place_edge}
 

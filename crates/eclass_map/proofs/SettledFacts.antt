@@ -7,7 +7,7 @@ use Rattle.cs_base.specs.declared.positions.Pos.{Pos}
 use Rattle.eclass_map.specs.declared.token_list.Added.{Added}
 use Rattle.eclass_map.specs.Positions.{end_of, AreTokens}
 use Rattle.eclass_map.specs.Settled.{settled, settled_token}
-use Rattle.eclass_map.proofs.AddFacts.{slice_get-append_right}
+use Rattle.class_labels.proofs.AddFacts.{slice_get-append_right}
 use Rattle.eclass_map.proofs.TokenFacts.{no_added}
 
 settled_none : (numbers : List ℕ) (from : Pos) (to : ℕ) → settled numbers from to [] ≡ []

@@ -8,10 +8,10 @@ use Rattle.cs_base.specs.declared.positions.Pos.{Pos}
 use Rattle.cs_base.specs.declared.positions.Part.{Part}
 use Rattle.eclass_map.specs.declared.token_list.Added.{Added}
 use Rattle.eclass_map.specs.Positions.{along, index_at, number_of, Begins}
-use Rattle.eclass_map.specs.Runs.{IsEnd, Follows, Runs}
+use Rattle.class_labels.specs.Runs.{IsEnd, Follows, Runs}
 use Rattle.eclass_map.specs.ClassTable.{Table, IsAdded, positions, AreWhole}
 use Rattle.eclass_map.specs.Kept.{IsKept}
-use Rattle.eclass_map.proofs.ListFacts.{was_at}
+use Rattle.class_labels.proofs.ListFacts.{was_at}
 use Rattle.eclass_map.proofs.TokenFacts.{index_of_token}
 
 -- an origin in an added token, with its number

@@ -13,7 +13,7 @@ use Rattle.eclass_map.specs.declared.token_list.Added.{Added}
 use Rattle.eclass_map.specs.Positions.{along, begins_by, AreTokens}
 use Rattle.eclass_map.specs.ClassTable.{positions, AreWhole}
 use Rattle.eclass_map.specs.Wholeness.{of_tokens, IsIn, LiesAt}
-use Rattle.eclass_map.proofs.ListFacts.{was_at, now_at}
+use Rattle.class_labels.proofs.ListFacts.{was_at, now_at}
 use Rattle.eclass_map.proofs.TokenFacts.{Halved, holds_along, begun_where_held, not_held_before}
 
 -- ---- lists of origins

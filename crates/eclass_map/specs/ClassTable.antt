@@ -6,10 +6,10 @@ use Rattle.cs_base.specs.declared.positions.Pos.{Pos}
 use Rattle.cs_base.specs.declared.positions.Part.{Part}
 use Rattle.cs_base.specs.Token.{Token, origin_at}
 use Rattle.eclass_map.specs.declared.token_list.Added.{Added}
-use Rattle.eclass_map.specs.declared.spots.Spot.{Spot}
-use Rattle.eclass_map.specs.Chain.{Chain}
-use Rattle.eclass_map.specs.Labels.{Labels, spot, walk_at, length_at, added}
-use Rattle.eclass_map.specs.Weight.{relabelled, weight, part_count}
+pub use Rattle.class_labels.specs.declared.spots.Spot.{Spot}
+use Rattle.class_labels.specs.Chain.{Chain}
+use Rattle.class_labels.specs.Labels.{Labels, spot, walk_at, length_at, added}
+use Rattle.class_labels.specs.Weight.{relabelled, weight, part_count}
 use Rattle.eclass_map.specs.Positions.{along, holds, index_at, begins_by}
 
 -- The added tokens in the order of their places, the position of each of their characters in the order of adding,

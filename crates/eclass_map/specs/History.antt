@@ -1,6 +1,6 @@
 -- A table after any calls: how many characters the joins gave another class number, and how many ticks they took.
 use Rattle.std.specs.Prelude.{ℕ, ◌+◌, ◌*◌, ◌≡◌, ◌≤◌}
-use Rattle.eclass_map.specs.Weight.{digits}
+use Rattle.class_labels.specs.Weight.{digits}
 use Rattle.eclass_map.specs.ClassTable.{Table, relabelled_in, weight_in, parts_in}
 
 -- r characters were relabelled and n ticks taken, in sum, when the table came to be

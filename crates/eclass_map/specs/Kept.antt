@@ -2,9 +2,9 @@
 use Rattle.std.specs.Prelude.{ℕ, ◌+◌, ◌^◌, ◌≡◌, ◌<◌, ◌⊎◌, length, Some, slice_get}
 use Rattle.cs_base.specs.declared.positions.Pos.{Pos}
 use Rattle.eclass_map.specs.declared.token_list.Added.{Added}
-use Rattle.eclass_map.specs.declared.spots.Spot.{Spot}
-use Rattle.eclass_map.specs.Labels.{spot}
-use Rattle.eclass_map.specs.Table.{IsTable}
+use Rattle.class_labels.specs.declared.spots.Spot.{Spot}
+use Rattle.class_labels.specs.Labels.{spot}
+use Rattle.class_labels.specs.Table.{IsTable}
 use Rattle.eclass_map.specs.Positions.{index_at, Begins, AreTokens}
 use Rattle.eclass_map.specs.ClassTable.{Table}
 

@@ -3,7 +3,7 @@ use Rattle.std.specs.Prelude.{ℕ, ◌+◌, ◌-◌, ◌*◌, ◌≡◌, Bool, �
 use Rattle.std.specs.List.{count_by}
 use Rattle.cs_base.specs.declared.positions.Pos.{Pos}
 use Rattle.cs_base.specs.declared.positions.Part.{Part}
-use Rattle.eclass_map.specs.Labels.{length_at}
+use Rattle.class_labels.specs.Labels.{length_at}
 use Rattle.eclass_map.specs.Positions.{end_of}
 use Rattle.eclass_map.specs.ClassTable.{Table, class_in, members_of, added_tokens, character_count}
 

@@ -4,7 +4,7 @@ use Rattle.cs_base.specs.declared.positions.Pos.{Pos}
 use Rattle.cs_base.specs.declared.positions.Part.{Part}
 use Rattle.eclass_map.specs.declared.token_list.Added.{Added}
 use Rattle.eclass_map.specs.ClassTable.{Table}
-use Rattle.eclass_map.specs.Labels.{no_labels}
+use Rattle.class_labels.specs.Labels.{no_labels}
 use Rattle.eclass_map.specs.Positions.{along}
 
 -- a table of these tokens alone

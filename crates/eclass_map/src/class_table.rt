@@ -3,20 +3,20 @@ ghost use Rattle.std.specs.Prelude.{ℕ, ◌≡◌, ◌+◌, ◌-◌, ◌*◌, �
 ghost use Rattle.eclass_map.specs.ClassTable.{Table, part_of, class_in, members_of, part_with, added_tokens, part_of_file, AddsToken, fresh_places, with_token, IsFree, AreWhole, SameOrLinked, HasParts, AreLinks, IsAdded, relabelled_in, weight_in, parts_in, character_count, label};
 ghost use Rattle.eclass_map.specs.History.{History};
 ghost use Rattle.eclass_map.specs.Resized.{moved_to, count_after, Resizes};
-ghost use Rattle.eclass_map.specs.Labels.{no_labels, joined, joined_parts};
-ghost use Rattle.eclass_map.specs.Chain.{Least};
-ghost use Rattle.eclass_map.specs.Walk.{AtPlace, Forced};
+ghost use Rattle.class_labels.specs.Labels.{no_labels, joined, joined_parts};
+ghost use Rattle.class_labels.specs.Chain.{Least};
+ghost use Rattle.class_labels.specs.Walk.{AtPlace, Forced};
 ghost use Rattle.eclass_map.specs.Positions.{end_of, index_at, numbers, Begins, AreTokens};
-ghost use Rattle.eclass_map.specs.Weight.{digits};
+ghost use Rattle.class_labels.specs.Weight.{digits};
 ghost use Rattle.eclass_map.specs.Kept.{IsKept};
 ghost use Rattle.cs_base.specs.Token.{Token};
 ghost use Rattle.cs_base.specs.declared.positions.Part.{Part};
 
 mod class_numbers;
 
-use crate::partition::Partition;
 use crate::token_list::{Added, count_begun, find, number, place_tokens, settle};
 use crate::wholeness::are_whole;
+use class_labels::Partition;
 use cs_base::{Memory, Part, Pos, Steps, Tok};
 use std::alloc::Global;
 use std::marker::Model;

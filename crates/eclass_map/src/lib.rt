@@ -10,15 +10,12 @@
 //! token can be cut into. Of two classes the one with fewer parts gets the other's number, a tick of
 //! `Steps` for each. `is_whole` tells before a link is joined whether the origins of its tokens are whole
 //! added tokens. `resize` gives the parts of a class another length, and moves what stands behind them in
-//! their files. Read `specs/Chain.antt`, `specs/ClassTable.antt` and `specs/Resized.antt`, then
-//! `class_table.rt`; the parts by number stand in `partition.rt`.
+//! their files. The parts by number are those of `class_labels`. Read `specs/Chain.antt` there,
+//! `specs/ClassTable.antt` and `specs/Resized.antt`, then `class_table.rt`.
 #![tactic(auto)]
 
 mod class_table;
 mod laws;
-mod partition;
-mod regrowth;
-mod spots;
 mod token_list;
 mod wholeness;
 

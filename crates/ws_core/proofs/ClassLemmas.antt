@@ -3,9 +3,8 @@ use Rattle.std.proofs.Common.{◌≡◌, ℕ, Option, None, Some, slice_get, ref
 use Rattle.std.specs.Option.{option_map, option_and_then}
 use Rattle.cs_base.specs.declared.positions.Part.{Part}
 use Rattle.cs_base.specs.declared.positions.Pos.{Pos}
-use Rattle.eclass_map.specs.declared.spots.Spot.{Spot}
 use Rattle.eclass_map.specs.Chain.{here, along as then_link, back}
-use Rattle.eclass_map.specs.ClassTable.{Table, IsHeld, BeginsToken, IsStart as IsTableStart, IsPart as IsTablePart, Same, label, class_in, members_of, part_of}
+use Rattle.eclass_map.specs.ClassTable.{Spot, Table, IsHeld, BeginsToken, IsStart as IsTableStart, IsPart as IsTablePart, Same, label, class_in, members_of, part_of}
 use Rattle.eclass_map.specs.Positions.{along}
 use Rattle.ws_core.specs.Analysis.{AnalysisValue}
 use Rattle.ws_core.specs.Classes.{AreItsClasses}

@@ -4,12 +4,12 @@ use Rattle.std.specs.Option.{option_and_then}
 use Rattle.std.proofs.lemmas.List.{length-map, drop_all}
 use Rattle.cs_base.specs.Token.{Token, origin_at}
 use Rattle.eclass_map.specs.declared.token_list.Added.{Added}
-use Rattle.eclass_map.specs.Labels.{Labels, class_at, joined, joined_parts, common, step_parts}
+use Rattle.class_labels.specs.Labels.{Labels, class_at, joined, joined_parts, common, step_parts}
 use Rattle.eclass_map.specs.Positions.{numbers, number_of, Begins}
-use Rattle.eclass_map.specs.Walk.{AtPlace, Forced}
-use Rattle.eclass_map.proofs.ListFacts.{now_at}
-use Rattle.eclass_map.proofs.LookFacts.{look_below}
-use Rattle.eclass_map.proofs.LoopFacts.{stepped, stepped_as, begins_first, begins_second, joined_end, parts_end}
+use Rattle.class_labels.specs.Walk.{AtPlace, Forced}
+use Rattle.class_labels.proofs.ListFacts.{now_at}
+use Rattle.class_labels.proofs.LookFacts.{look_below}
+use Rattle.class_labels.proofs.LoopFacts.{stepped, stepped_as, begins_first, begins_second, joined_end, parts_end}
 use Rattle.eclass_map.proofs.class_table.join_characters.Goals as goal
 
 -- the number at a place

@@ -1,7 +1,7 @@
 use Rattle.std.proofs.Common.{◌≡◌, ◌+◌, ◌-◌, ◌≤◌, length, drop}
-use Rattle.eclass_map.specs.Labels.{joined, joined_parts}
+use Rattle.class_labels.specs.Labels.{joined, joined_parts}
 use Rattle.eclass_map.specs.Positions.{numbers, Begins}
-use Rattle.eclass_map.specs.Walk.{AtPlace, Forced}
+use Rattle.class_labels.specs.Walk.{AtPlace, Forced}
 use Rattle.eclass_map.proofs.class_table.join_characters.Given as goal
 
 abbrev pub invariant-loop-at : goal.invariant-loop-at

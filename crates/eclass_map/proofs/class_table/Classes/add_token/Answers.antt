@@ -4,7 +4,7 @@ use Rattle.std.specs.List.{insert}
 use Rattle.cs_base.specs.declared.positions.Pos.{Pos}
 use Rattle.cs_base.specs.declared.positions.Part.{Part}
 use Rattle.eclass_map.specs.declared.token_list.Added.{Added}
-use Rattle.eclass_map.specs.Labels.{Labels, added}
+use Rattle.class_labels.specs.Labels.{Labels, added}
 use Rattle.eclass_map.specs.Positions.{begins_by}
 use Rattle.eclass_map.specs.ClassTable.{Table, weight_in, IsFree, AddsToken, AreLinks, part_of_file, begun_count, fresh_places, with_token}
 use Rattle.eclass_map.specs.Kept.{IsKept}
@@ -12,7 +12,7 @@ use Rattle.eclass_map.proofs.KeptFacts.{table_of, kept_as}
 use Rattle.eclass_map.proofs.TokenFacts.{Halved}
 use Rattle.cs_base.specs.Token.{Token}
 use Rattle.eclass_map.proofs.LinkLaws.{links_add}
-use Rattle.eclass_map.proofs.WeightFacts.{weight-added}
+use Rattle.class_labels.proofs.WeightFacts.{weight-added}
 use Rattle.eclass_map.proofs.PartLaws.{has_parts}
 use Rattle.eclass_map.proofs.AddTokenFacts.{AddIn, entry, IsKept-added}
 use Rattle.eclass_map.proofs.InsertFacts.{begun_count_is, length-fresh_places}

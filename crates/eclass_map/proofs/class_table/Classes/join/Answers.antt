@@ -1,19 +1,19 @@
 use Rattle.std.proofs.Common.{◌≡◌, ℕ, ◌+◌, ◌≤◌, List, [], ◌∷◌, ◌++◌, length, sym, ◌∙◌, ap, refl, arith, subst}
 use Rattle.cs_base.specs.Token.{Token}
 use Rattle.eclass_map.specs.declared.token_list.Added.{Added}
-use Rattle.eclass_map.specs.Chain.{Least}
-use Rattle.eclass_map.specs.Labels.{Labels, joined, joined_parts}
+use Rattle.class_labels.specs.Chain.{Least}
+use Rattle.class_labels.specs.Labels.{Labels, joined, joined_parts}
 use Rattle.eclass_map.specs.Positions.{numbers, Begins}
-use Rattle.eclass_map.specs.Walk.{AtPlace, Forced}
+use Rattle.class_labels.specs.Walk.{AtPlace, Forced}
 use Rattle.eclass_map.specs.ClassTable.{Table, AreWhole, SameOrLinked, AreLinks, label, relabelled_in, weight_in}
 use Rattle.eclass_map.specs.Kept.{IsKept}
 use Rattle.eclass_map.proofs.KeptFacts.{table_of}
-use Rattle.eclass_map.proofs.JoinFacts.{Walked, walked}
+use Rattle.class_labels.proofs.JoinFacts.{Walked, walked}
 use Rattle.eclass_map.proofs.LinkedFacts.{JoinIn, ForcedIn, numbers_in, join_place, join_kept, join_least, with_labels, held_after, linked_held}
 use Rattle.eclass_map.proofs.LinkLaws.{links_join}
 use Rattle.eclass_map.proofs.PartLaws.{has_parts}
-use Rattle.eclass_map.proofs.WeightFacts.{weight-joined, weight-most}
-use Rattle.eclass_map.proofs.TickFacts.{relabelled-joined}
+use Rattle.class_labels.proofs.WeightFacts.{weight-joined, weight-most}
+use Rattle.class_labels.proofs.TickFacts.{relabelled-joined}
 use Rattle.eclass_map.proofs.HistoryFacts.{joined_by}
 use Rattle.eclass_map.proofs.class_table.Classes.join.Goals as goal
 

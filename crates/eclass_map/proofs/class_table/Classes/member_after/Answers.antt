@@ -3,16 +3,16 @@ use Rattle.std.specs.Prelude.{slice_get, IsSome}
 use Rattle.std.proofs.lemmas.Option.{slice_get_within}
 use Rattle.std.proofs.lemmas.Bool.{false≢true}
 use Rattle.cs_base.specs.declared.positions.Part.{Part}
-use Rattle.eclass_map.specs.Labels.{spot, walk_at, class_at}
+use Rattle.class_labels.specs.Labels.{spot, walk_at, class_at}
 use Rattle.eclass_map.specs.Positions.{index_at}
 use Rattle.eclass_map.specs.ClassTable.{Table, class_in, members_of, part_with}
 use Rattle.eclass_map.specs.Kept.{IsKept}
-use Rattle.eclass_map.proofs.ListFacts.{now_at}
-use Rattle.eclass_map.proofs.LookFacts.{past_map}
-use Rattle.eclass_map.proofs.FieldFacts.{member_at}
-use Rattle.eclass_map.proofs.StepFacts.{starts_of}
-use Rattle.eclass_map.proofs.JoinFacts.{class_at_is}
-use Rattle.eclass_map.proofs.NextFacts.{In-slice_get}
+use Rattle.class_labels.proofs.ListFacts.{now_at}
+use Rattle.class_labels.proofs.LookFacts.{past_map}
+use Rattle.class_labels.proofs.FieldFacts.{member_at}
+use Rattle.class_labels.proofs.StepFacts.{starts_of}
+use Rattle.class_labels.proofs.JoinFacts.{class_at_is}
+use Rattle.class_labels.proofs.NextFacts.{In-slice_get}
 use Rattle.eclass_map.proofs.PartLaws.{In-place, member_index, class_index}
 use Rattle.eclass_map.proofs.class_table.Classes.member_after.Goals as goal
 

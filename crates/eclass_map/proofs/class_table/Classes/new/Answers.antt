@@ -1,8 +1,8 @@
 use Rattle.std.proofs.Common.{◌≡◌, [], sym, ◌∙◌, ap, subst}
 use Rattle.eclass_map.specs.ClassTable.{Table, AreLinks, weight_in}
-use Rattle.eclass_map.specs.Weight.{weight}
+use Rattle.class_labels.specs.Weight.{weight}
 use Rattle.eclass_map.specs.History.History.{made}
-use Rattle.eclass_map.specs.Labels.{no_labels}
+use Rattle.class_labels.specs.Labels.{no_labels}
 use Rattle.eclass_map.proofs.KeptFacts.{table_of, kept_empty, kept_as}
 use Rattle.eclass_map.proofs.LinkLaws.{links_empty}
 use Rattle.eclass_map.proofs.PartLaws.{has_parts}

@@ -2,7 +2,7 @@ use Rattle.std.proofs.Common.{◌≡◌, ℕ, ◌+◌, ◌≤◌, List, length, 
 use Rattle.std.specs.Prelude.{slice_get}
 use Rattle.std.proofs.lemmas.List.{get_or_read}
 use Rattle.eclass_map.specs.declared.token_list.Added.{Added}
-use Rattle.eclass_map.specs.Regrown.{place, regrown, ArePlaces}
+use Rattle.class_labels.specs.Regrown.{place, regrown, ArePlaces}
 use Rattle.eclass_map.specs.Settled.{AreNumbered, AreApart, ArePlaced, Fits}
 use Rattle.eclass_map.proofs.KeptFacts.{table_of}
 use Rattle.eclass_map.proofs.ResizedOrder.{new_tokens, are_numbered, are_apart, new_within}

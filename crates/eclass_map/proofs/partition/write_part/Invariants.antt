@@ -1,6 +1,0 @@
-use Rattle.std.proofs.Common.{◌≡◌}
-use Rattle.eclass_map.specs.Links.{with_part}
-use Rattle.eclass_map.proofs.partition.write_part.Given as goal
-
-abbrev pub invariant-loop-offset : goal.invariant-loop-offset
-invariant-loop-offset l = l.spots ≡ with_part l.class l.offset l.x l.initial.spots
