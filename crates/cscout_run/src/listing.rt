@@ -1,7 +1,8 @@
 // The reports `unused` and `includes` on a whole workspace: they put nothing.
-ghost use Rattle.std.specs.Prelude.{◌≡◌, Ok, IfErr, IfSome};
+ghost use Rattle.std.specs.Prelude.{Ok, IfErr, IfSome};
+ghost use Rattle.cs_base.specs.Outside.{ReadsOnly};
 ghost use Rattle.cscout_run.specs.Answer.{IsListAnswer, IsListRequest};
-ghost use Rattle.cscout_run.specs.Steps.{IsPlanStop, Prepares, StepReads};
+ghost use Rattle.cscout_run.specs.Steps.{IsPlanStop, Prepares, reads_of};
 
 use crate::preparing::Ready;
 use crate::reporting::{stop_of, to_show};
@@ -19,10 +20,8 @@ pub(crate) fn prepare_list<F: Files>(
     q: &Query,
     files: &mut F,
 ) -> Result<Ready, Stop>
-    ensures answer { IfSome (F.held files.old) (λ fs. Prepares ws.now (IsListRequest fs ws.now q.now) result) }
-    ensures held { F.held files.new ≡ F.held files.old }
-    ensures reads { StepReads ws.now (F.failed_reads files.old) (F.failed_reads files.new) (F.last_failed files.new) result }
-    ensures puts { F.failed_puts files.new ≡ F.failed_puts files.old }
+    ensures answer { IfSome (F.told files.old).held (λ fs. Prepares ws.now (IsListRequest fs ws.now q.now) result) }
+    ensures faults { ReadsOnly (F.told files.old) (F.told files.new) (reads_of ws.now result) }
 {
     let workspace = read_workspace(alloc, ws, files)?;
     match analyse(alloc, &workspace, files) {

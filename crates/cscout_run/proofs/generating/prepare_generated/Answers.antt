@@ -38,7 +38,7 @@ returns-in-Ok-clause-answer c =
     let read : FileMap = c.read_workspace.new.files.files in
     let same : fs ≡ generated_files c.args.n = ap (λ (w : World). w.files) (c.new-files.ensures ∙ c.in_ok-generate.ensures) in
     let found = analysed-prepared (Some read) workspace_path c.in_ok-ws.ws c.in-Ok.analysis.value (IsSizeAnswer c.args.n) c.size_of.result c.in-Ok.ensures.answer c.size_of.ensures.answer in
-    let over = over_told (Some fs) (Some read) workspace_path c.in_ok-ws.ws (IsNext c.args.n) c.size_of.result c.read_workspace.ensures.held c.in_ok-ws.ensures.answer found in
+    let over = over_told (Some fs) (Some read) workspace_path c.in_ok-ws.ws (IsNext c.args.n) c.size_of.result c.read_workspace.ensures.faults.held c.in_ok-ws.ensures.answer found in
     let P : FileMap → Type 0 = λ held. Prepares workspace_path (IsOver c.args.n held) c.size_of.result in
     subst P same over
 

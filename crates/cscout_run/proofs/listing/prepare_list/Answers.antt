@@ -19,24 +19,24 @@ pub returns-in_err-workspace-clause-answer : goal.returns-in_err-workspace-claus
 returns-in_err-workspace-clause-answer g c =
     let q : Query = c.args.q.now in
     let ws : List ℕ = c.args.ws.now in
-    let stops = reading-stops_told (g.F.Files.held c.args.files.now) ws c.in_err-workspace.field-0.0 (IsNext q) c.in_err-workspace.ensures.answer in
-    handed_on (g.F.Files.held c.args.files.now) ws (λ fs. IsListRequest fs ws q) c.in_err-workspace.field-0.0
+    let stops = reading-stops_told (g.F.Files.told c.args.files.now).held ws c.in_err-workspace.field-0.0 (IsNext q) c.in_err-workspace.ensures.answer in
+    handed_on (g.F.Files.told c.args.files.now).held ws (λ fs. IsListRequest fs ws q) c.in_err-workspace.field-0.0
     c.from_residual.result c.from_residual.ensures.1 stops
 
 pub returns-in-Ok-clause-answer : goal.returns-in-Ok-clause-answer
 returns-in-Ok-clause-answer g c =
     let q : Query = c.args.q.now in
     let ws : List ℕ = c.args.ws.now in
-    let told = g.F.Files.held c.read_workspace.new.files in
+    let told = (g.F.Files.told c.read_workspace.new.files).held in
     let found = analysed-prepared told ws c.in_ok-workspace.workspace c.in-Ok.analysis.value (IsListAnswer q) c.listed.result c.in-Ok.ensures.answer c.listed.ensures.answer in
-    over_told (g.F.Files.held c.args.files.now) told ws c.in_ok-workspace.workspace (IsNext q) c.listed.result c.read_workspace.ensures.held c.in_ok-workspace.ensures.answer found
+    over_told (g.F.Files.told c.args.files.now).held told ws c.in_ok-workspace.workspace (IsNext q) c.listed.result c.read_workspace.ensures.faults.held c.in_ok-workspace.ensures.answer found
 
 pub returns-clause-answer : goal.returns-clause-answer
 returns-clause-answer g c =
     let q : Query = c.args.q.now in
     let ws : List ℕ = c.args.ws.now in
-    let told = g.F.Files.held c.read_workspace.new.files in
+    let told = (g.F.Files.told c.read_workspace.new.files).held in
     let found = analysed-stop told ws c.in_ok-workspace.workspace (IsListAnswer q) c.in-Err.fault (λ fault. refl) c.in-Err.ensures.answer in
     let P : FileMap → Stop → Type 0 = λ fs s. Stops ws (IsNext q fs c.in_ok-workspace.workspace) s in
-    over_told (g.F.Files.held c.args.files.now) told ws c.in_ok-workspace.workspace (IsNext q) (Err c.stop_of.result) c.read_workspace.ensures.held c.in_ok-workspace.ensures.answer
+    over_told (g.F.Files.told c.args.files.now).held told ws c.in_ok-workspace.workspace (IsNext q) (Err c.stop_of.result) c.read_workspace.ensures.faults.held c.in_ok-workspace.ensures.answer
     (if_told-map told _ _ found (λ fs h. subst (P fs) (sym c.stop_of.ensures) h))
