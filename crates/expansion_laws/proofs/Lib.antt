@@ -12,13 +12,13 @@ pub mod ShapeLemmas
 mod SpelledLemmas
 pub mod SpelledLaw
 -- The definition as one step, part by part, and under a renaming.
-mod FollowsLemmas
+pub mod FollowsLemmas
 mod GroundLemmas
 mod MadeLemmas
-mod OriginLemmas
+pub mod OriginLemmas
 mod PartLemmas
 mod PartsLemmas
 mod PastedLemmas
-mod RenamedLemmas
+pub mod RenamedLemmas
 mod SimulationLemmas
 mod WorldLemmas

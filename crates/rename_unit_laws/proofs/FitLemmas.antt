@@ -21,7 +21,7 @@ use Rattle.macro_expand.specs.Notes.{Note, Replaced, Linked, Stringized, Pasted,
 use Rattle.macro_expand.specs.Substitution.{line_number, path_text, path_string}
 use Rattle.macro_expand.specs.Expansion.{Setting, expansion}
 use Rattle.macro_expand.specs.Renaming.{Renaming, spelled, Occurring, occurs, AllOccur, KeepsBody}
-use Rattle.macro_expand.proofs.OriginLemmas.{tokens_come_from_somewhere}
+use Rattle.expansion_laws.proofs.OriginLemmas.{tokens_come_from_somewhere}
 use Rattle.expansion_laws.specs.Telling.{DidHappen, IsStringized}
 use Rattle.expansion_laws.proofs.TellingLemmas.{string_is, notes_are_true}
 use Rattle.include_tree.specs.State.{State}

@@ -8,8 +8,8 @@ use Rattle.macro_expand.specs.Macro.{Table as Macros}
 use Rattle.macro_expand.specs.Notes as expansion
 use Rattle.macro_expand.specs.Expansion.{expansion}
 use Rattle.macro_expand.specs.Renaming.{Renaming, renamed, renamed_note, renamed_expansion, AllOccur, AllRespected}
-use Rattle.macro_expand.proofs.FollowsLemmas.{expansion_is_renamed}
-use Rattle.macro_expand.proofs.RenamedLemmas.{toks_of-renamed}
+use Rattle.expansion_laws.proofs.FollowsLemmas.{expansion_is_renamed}
+use Rattle.expansion_laws.proofs.RenamedLemmas.{toks_of-renamed}
 use Rattle.include_tree.specs.Expanding.{expanded_as, expanded_in, most_toks, past_limit, put_out, run_of}
 use Rattle.include_tree.specs.Files.{SourceFile}
 use Rattle.include_tree.specs.Notes.{Note, Happened}
