@@ -1,4 +1,4 @@
-mod Walked
+pub mod Walked
 mod Ordered
 mod Each
 mod Growing

@@ -16,4 +16,14 @@ mod Scoping
 mod Enumerating
 mod Parentheses
 mod Table
+mod Owned
+mod Twins
+mod Listed
+mod Heads
+mod Handing
+mod Declarators
+mod Steady
+mod Functions
+mod Beginning
+mod Units
 mod Texts

@@ -28,6 +28,10 @@ abbrev pub second_body : List Alternative → Item
 second_body (a ∷ (b ∷ more)) = b.body
 second_body _ = end_of_text
 
+abbrev pub first_test : List Alternative → Test
+first_test [] = own
+first_test (a ∷ more) = a.test
+
 abbrev pub second_test : List Alternative → Test
 second_test (a ∷ (b ∷ more)) = b.test
 second_test _ = own

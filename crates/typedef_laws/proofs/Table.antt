@@ -78,7 +78,7 @@ module _ (toks : List Token) where
         ]
 
     -- each alternative that may be read makes the items of a node
-    abbrev Bodies : Production → ℕ → List Alternative → State → Type 0
+    abbrev pub Bodies : Production → ℕ → List Alternative → State → Type 0
     Bodies p n [] s = Unit {0}
     Bodies p n (a ∷ more) s =
         (may c99 a.test a.body s ≡ true → After (Body toks p n s) (step c99 below depth a.body (opened p n s))) × Bodies p (n + 1) more s
@@ -202,7 +202,7 @@ module _ (toks : List Token) where
   listed_within zero depth first s odd = tt
   listed_within (suc fuel) depth first s odd = many_listed toks (read_within c99 fuel) (λ d f s' o. listed_within fuel d f s' o) first depth s odd
 
-  moves_within : (fuel depth : ℕ) (goal : Goal) (s : State) → is_met goal ≡ true → Moves (goal_has_token goal) s (read_within c99 fuel depth goal s)
+  pub moves_within : (fuel depth : ℕ) (goal : Goal) (s : State) → is_met goal ≡ true → Moves (goal_has_token goal) s (read_within c99 fuel depth goal s)
   moves_within fuel depth goal s met = Moves-read_within c99 c99-sound fuel depth goal s met
 
   grown : (p : Production) (s : State) (r : Step) → After (Makes toks p s) r → Moves (never_empty p) s r → After (λ s'. Makes toks p s s' × Grows p s s') r
@@ -220,3 +220,9 @@ module _ (toks : List Token) where
         (moves_within (suc fuel) depth (produce p) s refl);
     more = λ depth t a l first s h i. goes_step toks (read_within c99 fuel) (reads_within fuel) (many t a) l first depth s h i;
   }
+
+  -- what the alternatives of each production make
+  pub bodies_within : (fuel depth : ℕ) (p : Production) (s : State) → is_bodiless p ≡ true
+      → Bodies (read_within c99 fuel) (reads_within fuel) (moves_within fuel) depth p 1 (table p) s
+  bodies_within fuel depth p s h =
+      bodies_of (read_within c99 fuel) (reads_within fuel) (moves_within fuel) depth (λ d f s' o. listed_within fuel d f s' o) p s h

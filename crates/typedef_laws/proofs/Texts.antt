@@ -1,34 +1,24 @@
--- A text that is read as one production.
-use Rattle.std.proofs.Common.{ℕ, ◌≤◌, ◌≡◌, Bool, true, false, if◌then◌else◌, List, [], ◌∷◌, ◌++◌, length, Result, Ok, Err, nat_lt, refl, sym, ap, subst, ◌∙◌, arith}
+-- A text that is read as one production, and one that is read as a unit.
+use Rattle.std.proofs.Common.{◌≤◌, ◌≡◌, true, List, [], ◌∷◌, length, Result, Ok, Err, refl, ap, subst, ◌∙◌, arith}
 use Rattle.cs_base.specs.Token.{Token}
-use Rattle.c99_tree.specs.Tree.{none, node, Node, lone}
+use Rattle.c99_tree.specs.Tree.{none, node, Node, node_of, lone}
 use Rattle.c99_tree.specs.declared.production.Production.{Production}
+use Rattle.c99_tree.specs.declared.production.Production.TheVariants.{TranslationUnit}
 use Rattle.c99_read.specs.State.{State}
 use Rattle.c99_read.specs.Reading.{Step, Stop, produce, steps_for, read_within, whole, at_first, tree_of}
 use Rattle.c99_read.specs.Standard.{c99}
 use Rattle.scope_bind.specs.Frames.{at_first as before}
 use Rattle.typedef_laws.specs.Agreeing.{agrees}
-use Rattle.typedef_laws.specs.Laws.{NamesAreReadAsTheyAreBound}
-use Rattle.typedef_laws.proofs.Private.{Declaration}
+use Rattle.typedef_laws.specs.Laws.{NamesAreReadAsTheyAreBound, NamesOfPartsAreReadAsTheyAreBound}
 use Rattle.typedef_laws.proofs.Outline.{node_agrees}
 use Rattle.typedef_laws.proofs.Outlines.{outline, agrees_same}
-use Rattle.typedef_laws.proofs.Matching.{Matches, Bounds, Within, SameOuter}
+use Rattle.typedef_laws.proofs.Beginning.{first_matches, file_bounds}
 use Rattle.typedef_laws.proofs.Places.{and_both}
 use Rattle.typedef_laws.proofs.Goes.{After, Makes}
 use Rattle.typedef_laws.proofs.Steps.{Grows}
+use Rattle.typedef_laws.proofs.Rules.{labelled}
 use Rattle.typedef_laws.proofs.Table.{reads_within}
-
--- before the first token no name is visible
-none_seen : (c : Bool) (ds : List Declaration) → ds ≡ [] → ds ≡ (if c then [] else []) ++ []
-none_seen true ds e = e
-none_seen false ds e = e
-
-first_matches : (n : ℕ) → Matches 0 ([] ∷ []) (n ∷ []) []
-first_matches n = λ k w. none_seen (nat_lt k n) [] refl
-
-file_bounds : (k n : ℕ) (x : List (List Declaration)) → SameOuter ([] ∷ []) x → k ≤ n → Bounds k n x (n ∷ [])
-file_bounds k n [] same h = absurd same
-file_bounds k n (s ∷ x) same h = (refl, (h, subst (λ z. Within k z []) (sym same) tt))
+use Rattle.typedef_laws.proofs.Units.{UnitMade, unit_within}
 
 abbrev read_as : Node → Result Node Stop
 read_as n = Ok n
@@ -54,8 +44,27 @@ module _ (toks : List Token) (p : Production) where
   step_agrees (Err stop) m tree e = absurd (cc)
   step_agrees (Ok s) m tree e = made_agrees s m.0 tree e
 
-pub names_agree : NamesAreReadAsTheyAreBound
+pub parts_agree : NamesOfPartsAreReadAsTheyAreBound
 unfolding whole
-names_agree toks p tree told e =
+parts_agree toks p tree told e =
     step_agrees toks p (read_within c99 (steps_for (produce p) (at_first toks)) 0 (produce p) (at_first toks))
     ((reads_within toks (steps_for (produce p) (at_first toks))).made 0 p (at_first toks) told) tree e
+
+-- ---- A unit
+
+module _ (toks : List Token) where
+  unit_agrees : (s : State) → UnitMade toks s → (tree : Node) → tree_of (Ok s) ≡ Ok tree → agrees toks tree.under (before (length toks)) ≡ true
+  unit_agrees s m tree e =
+      let unit : Node = node_of (labelled TranslationUnit 1) 0 m.under in
+      let same : unit ≡ tree = ok_child (lone s.built.under s.built) tree unit e (ap (λ (n : Node). lone n.under n) m.built) in
+      subst (λ (n : Node). agrees toks n.under (before (length toks)) ≡ true) same (agrees_same toks m.under (before (length toks)) ∙ m.agrees)
+
+  read_agrees : (r : Step) → After (UnitMade toks) r → (tree : Node) → tree_of r ≡ Ok tree → agrees toks tree.under (before (length toks)) ≡ true
+  read_agrees (Err stop) m tree e = absurd (cc)
+  read_agrees (Ok s) m tree e = unit_agrees s m tree e
+
+pub units_agree : NamesAreReadAsTheyAreBound
+unfolding whole
+units_agree toks tree e =
+    read_agrees toks (read_within c99 (steps_for (produce TranslationUnit) (at_first toks)) 0 (produce TranslationUnit) (at_first toks))
+    (unit_within toks (steps_for (produce TranslationUnit) (at_first toks))) tree e

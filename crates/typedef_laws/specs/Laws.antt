@@ -4,7 +4,7 @@ use Rattle.cs_base.specs.Token.{Token}
 use Rattle.c99_tree.specs.Tree.{none, node, Node}
 use Rattle.c99_tree.specs.declared.production.Production.{Production}
 use Rattle.c99_tree.specs.declared.production.Production.TheVariants.{TranslationUnit, External, ExtRest, ExtTail, FunBody}
-use Rattle.c99_read.specs.Reading.{produce, at_first, whole, tree_of}
+use Rattle.c99_read.specs.Reading.{produce, at_first, whole, tree_of, read_of}
 use Rattle.c99_read.specs.Standard.{c99}
 use Rattle.scope_bind.specs.Frames.{at_first as before}
 use Rattle.typedef_laws.specs.Agreeing.{agrees}
@@ -18,10 +18,15 @@ is_bodiless ExtTail = false
 is_bodiless FunBody = false
 is_bodiless _ = true
 
--- In the tree that is read of a text as one such production, a declaration, a statement or an expression, each name is
--- read as it is bound (6.2.1 and 6.7.7): a type name where it denotes a typedef name, and a primary expression or the
--- bare name of a parameter where it denotes none.
+-- In the tree that is read of a unit each name is read as it is bound (6.2.1 and 6.7.7): a type name where it denotes a
+-- typedef name, and a primary expression or the bare name of a parameter where it denotes none; in bodies of functions
+-- and the declaration lists before them too.
 abbrev pub NamesAreReadAsTheyAreBound : Type 0
 NamesAreReadAsTheyAreBound =
+    (toks : List Token) (tree : Node) → read_of c99 toks ≡ Ok tree → agrees toks tree.under (before (length toks)) ≡ true
+
+-- So it is in the tree that is read of a text as one production by itself, a declaration, a statement or an expression.
+abbrev pub NamesOfPartsAreReadAsTheyAreBound : Type 0
+NamesOfPartsAreReadAsTheyAreBound =
     (toks : List Token) (p : Production) (tree : Node) → is_bodiless p ≡ true → tree_of (whole c99 0 (produce p) (at_first toks)) ≡ Ok tree
     → agrees toks (node tree.label tree.first tree.under none) (before (length toks)) ≡ true
