@@ -1,0 +1,15 @@
+mod Private
+mod Bases
+mod Twins
+mod Moods
+mod Table
+mod Knowing
+mod Deciding
+mod Steps
+mod Keeping
+mod Starting
+mod Locked
+mod Named
+mod Visible
+mod Texts
+mod Rows

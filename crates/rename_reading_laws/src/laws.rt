@@ -1,0 +1,8 @@
+// What is true of the trees of texts in which names are respelled: laws that no caller runs, and that callers' proofs cite.
+ghost use Rattle.rename_reading_laws.specs.Laws.{RespelledTextsReadAlike};
+
+/// A text in which names are respelled, so that each name that is read by what it denotes still denotes it, is read to
+/// the same tree.
+pub fn respelled_texts_read_alike()
+    ensures { RespelledTextsReadAlike }
+{}
