@@ -1,14 +1,15 @@
 mod InLists
+mod Noted
 mod Holding
 mod HeldTags
 mod HeldSteps
 mod HeldNames
-mod Noted
 mod Adding
 mod Counted
 mod Climbing
 mod OrderedLists
 mod OrderedNames
+mod EntityNames
 mod Lookups
 mod Renaming
 mod RenamedNames

@@ -120,7 +120,7 @@ enumerator_within none j form = absurd (false≢true form)
 enumerator_within (token i rest) j form = (omega arith, omega arith)
 enumerator_within (node l first under rest) j form = absurd (false≢true form)
 
-told_within : (p q : Production) (m : Label) (under : Forest) (j : ℕ) → AreFrom j under → has_form p under ≡ true
+pub told_within : (p q : Production) (m : Label) (under : Forest) (j : ℕ) → AreFrom j under → has_form p under ≡ true
     → IfSome (told_name p q j m under) (Within j (token_count under))
 told_within Declarator q m under j w form = if_within j (token_count under) (declares q) (name_below m under) None (name_within m under j w) tt
 told_within Pdecl q m under j w form = if_within j (token_count under) (is_parameter q) (name_below m under) None (name_within m under j w) tt

@@ -26,7 +26,7 @@ use Rattle.bind_laws.proofs.OrderedLists.{name_of_list, calls_climb, lists_climb
 
 -- ---- Each token once
 
-hit_itself : (t : ℕ) → hit t t ≡ 1
+pub hit_itself : (t : ℕ) → hit t t ≡ 1
 hit_itself t = ap (λ c. if c then 1 else 0) (eq-eqb t t refl)
 
 in_counted : (o : Occurrence) (os : List Occurrence) → In o os → 1 ≤ count_in o.index os
@@ -48,7 +48,7 @@ module _ (name : Occurrence → Name) (index_is : (o : Occurrence) → (name o).
       (all_reversed (λ (n : Name). n.index ≢ (name o).index) (map name os)
       (all_mapped (λ (n : Name). n.index ≢ (name o).index) name os (λ x w. apart_from o x os (once o.index) w))))
 
-facts_once : (toks : List Token) (tree : Node) → IsTreeOf (length toks) tree → (t : ℕ) → count_in t (facts_of toks tree.under).occurrences ≤ 1
+pub facts_once : (toks : List Token) (tree : Node) → IsTreeOf (length toks) tree → (t : ℕ) → count_in t (facts_of toks tree.under).occurrences ≤ 1
 facts_once toks tree w t =
     omega (
       arith,

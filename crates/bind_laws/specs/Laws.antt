@@ -1,5 +1,5 @@
 -- What is true of the binding of every text.
-use Rattle.std.specs.Prelude.{ℕ, ◌<◌, ◌≤◌, ◌≡◌, ◌≢◌, true, List, length, Ok, IfErr, All, AllPairs}
+use Rattle.std.specs.Prelude.{ℕ, ◌<◌, ◌≤◌, ◌≡◌, ◌≢◌, Bool, true, List, length, Some, Ok, IfErr, All, AllPairs}
 use Rattle.cs_base.specs.Token.{Token}
 use Rattle.c99_tree.specs.Tree.{Node}
 use Rattle.scope_bind.specs.declared.bound.Name.{Name}
@@ -7,8 +7,10 @@ use Rattle.scope_bind.specs.declared.lists.List.{List as NameList}
 use Rattle.scope_bind.specs.declared.lists.Range.{Range}
 use Rattle.scope_bind.specs.Causes.{index_of}
 use Rattle.scope_bind.specs.Declarations.{alike}
+use Rattle.scope_bind.specs.Frames.{outermost}
 use Rattle.scope_bind.specs.Bound.{Bound, binding_of}
-use Rattle.bind_laws.specs.Units.{IsTreeOf}
+use Rattle.scope_bind.specs.Names.{entity_at}
+use Rattle.bind_laws.specs.Units.{names_pass, IsTreeOf}
 
 -- the text binds so
 abbrev pub Binds : List Token → Node → Bound → Type 0
@@ -35,6 +37,20 @@ abbrev pub EachTokenIsOneName : Type 0
 EachTokenIsOneName =
     (toks : List Token) (tree : Node) (b : Bound) → IsTreeOf (length toks) tree → Binds toks tree b
     → AllPairs (λ (m n : Name). m.index ≢ n.index) b.names
+
+-- the token that names an entity is itself a name, and of this entity
+abbrev pub EntitiesAreNames : Type 0
+EntitiesAreNames =
+    (toks : List Token) (tree : Node) (b : Bound) → IsTreeOf (length toks) tree → Binds toks tree b
+    → All (λ (n : Name). (entity_at b.names n.index ≡ Some n.entity) × (entity_at b.names n.entity ≡ Some n.entity)) b.names
+
+-- what is true of each token that stands in the tree where names do is true of each name, and of the token that names
+-- its entity
+abbrev pub BoundNamesPass : Type 0
+BoundNamesPass =
+    (test : ℕ → Bool) (toks : List Token) (tree : Node) (b : Bound) → IsTreeOf (length toks) tree
+    → names_pass test (outermost 0).label 0 tree.under ≡ true → Binds toks tree b
+    → All (λ (n : Name). (test n.index ≡ true) × (test n.entity ≡ true)) b.names
 
 -- ---- Lists (6.7.5.3, 6.5.2.2) and bodies (6.9.1)
 

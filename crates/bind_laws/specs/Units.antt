@@ -1,9 +1,12 @@
 -- The tree of a translation unit over its tokens, as far as the laws of binding rest on it (ISO/IEC 9899:1999, Annex A.2).
-use Rattle.std.specs.Prelude.{ℕ, ◌+◌, ◌≡◌, Bool, true, false, ◌&&◌, ◌||◌, not}
+use Rattle.std.specs.Prelude.{ℕ, ◌+◌, ◌≡◌, Bool, true, false, ◌&&◌, ◌||◌, not, ◌==◌}
 use Rattle.c99_tree.specs.Tree.{Forest, none, token, node, Node}
+use Rattle.c99_tree.specs.declared.production.Label.{Label}
 use Rattle.c99_tree.specs.declared.production.Production.{Production}
 use Rattle.c99_tree.specs.declared.production.Production.TheVariants.{FunBody, Enumerator, Declarator}
-use Rattle.scope_bind.specs.Trees.{is_node}
+use Rattle.scope_bind.specs.Named.{is_plain_role}
+use Rattle.scope_bind.specs.Roles.{role_of}
+use Rattle.scope_bind.specs.Trees.{is_node, has_name}
 use Rattle.scope_bind.specs.Lists.{is_declaring}
 
 -- how many tokens stand below some children
@@ -56,6 +59,19 @@ abbrev pub have_forms : Forest → Bool
 have_forms none = true
 have_forms (token i rest) = have_forms rest
 have_forms (node l first under rest) = has_form l.production under && (have_forms under && have_forms rest)
+
+-- ---- Names
+
+-- A token that stands so among the children of a node is a name: one that is bound by itself, the name of a declarator
+-- or that of an enumerator (6.2.1, 6.7.5, 6.7.2.2). `k` children stand before it.
+abbrev pub is_name_place : Label → ℕ → Bool
+is_name_place l k = not (is_plain_role (role_of l.production l.alternative k)) || (has_name l || is_node l Enumerator && (k == 0))
+
+-- the test holds of each name among some children and below; so many children stand before them
+abbrev pub names_pass : (ℕ → Bool) → Label → ℕ → Forest → Bool
+names_pass test l k none = true
+names_pass test l k (token i rest) = (not (is_name_place l k) || test i) && names_pass test l (k + 1) rest
+names_pass test l k (node m first under rest) = names_pass test m 0 under && names_pass test l (k + 1) rest
 
 -- The tree has so many tokens, in order, and its nodes have their forms. Which trees a reader makes is not said here.
 pub record IsTreeOf (count : ℕ) (tree : Node) : Type 0 where

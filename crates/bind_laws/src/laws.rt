@@ -1,5 +1,5 @@
 // What is true of the binding of every text: laws that no caller runs, and that callers' proofs cite.
-ghost use Rattle.bind_laws.specs.Laws.{NamesAreSpelledAsTheirEntities, NamesStandInTheText, FaultsStandInTheText, EachTokenIsOneName, ParameterListsAreInOrder, ArgumentListsAreInOrder, BodiesStandInTheText, BodiesAreApart};
+ghost use Rattle.bind_laws.specs.Laws.{NamesAreSpelledAsTheirEntities, NamesStandInTheText, FaultsStandInTheText, EachTokenIsOneName, EntitiesAreNames, BoundNamesPass, ParameterListsAreInOrder, ArgumentListsAreInOrder, BodiesStandInTheText, BodiesAreApart};
 ghost use Rattle.bind_laws.specs.Renamed.{RenamedBindAlike};
 
 /// Each name is spelled as the token that names its entity.
@@ -16,6 +16,17 @@ pub fn names_stand_in_the_text()
 /// No token is two names.
 pub fn each_token_is_one_name()
     ensures { EachTokenIsOneName }
+{}
+
+/// The token that names an entity is a name of it.
+pub fn entities_are_names()
+    ensures { EntitiesAreNames }
+{}
+
+/// What is true of each token that stands in the tree where names do is true of each name, and of the token that names
+/// its entity.
+pub fn bound_names_pass()
+    ensures { BoundNamesPass }
 {}
 
 /// Parameter lists and argument lists stand in order of their names, and each name has one at most.
