@@ -1,3 +1,9 @@
-pub mod FileLemmas
-pub mod OwnerLemmas
+pub mod CallLemmas
 pub mod ExternalLemmas
+pub mod FileLemmas
+pub mod ListLemmas
+pub mod NodeLemmas
+pub mod OpenLemmas
+pub mod OrderLemmas
+pub mod OwnerLemmas
+pub mod UnitLemmas

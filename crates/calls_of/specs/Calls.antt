@@ -21,7 +21,6 @@ use Rattle.ws_core.specs.Links.{names_of_units}
 use Rattle.call_graphs.specs.declared.nodes.Node.{Node}
 use Rattle.call_graphs.specs.declared.nodes.NodeKind.{NodeKind}
 use Rattle.call_graphs.specs.declared.nodes.NodeKind.TheVariants.{Macro, Function}
-use Rattle.calls_of.specs.declared.call.Call.{Call}
 use Rattle.calls_of.specs.Bodies.{owner_of}
 
 -- ---- nodes
@@ -33,9 +32,17 @@ node sort name at = record { kind = sort; at = at; name = name }
 abbrev pub node_of : NodeKind → Token → Option Node
 node_of sort t = option_map (node sort t.text) (origin_at t 0)
 
+-- A call: the node that calls, and the node that is called.
+pub record Call : Type 0 where
+  pub caller : Node
+  pub callee : Node
+
+abbrev pub call : Node → Node → Call
+call caller callee = record { caller = caller; callee = callee }
+
 -- a call where there are both nodes
 abbrev pub call_for : Option Node → Option Node → List Call
-call_for (Some caller) (Some callee) = record { caller = caller; callee = callee } ∷ []
+call_for (Some caller) (Some callee) = call caller callee ∷ []
 call_for _ _ = []
 
 -- A body is open behind so many tokens of a unit: its `{` is among them, and its `}` is not (6.9.1).
@@ -109,11 +116,11 @@ first_in a project text = first_spelled text (names_of project (names_of_units a
 abbrev pub calls_in_unit : AnalysisValue → UnitValue → UnitAnalysis → List Call
 calls_in_unit a unit u = unit_calls (owner_of a) (first_in a) unit.project u.text.toks u.bound u.text.events
 
--- those in each of these units
-unfoldable pub calls_in : AnalysisValue → List UnitValue → List UnitAnalysis → List Call
-calls_in a (unit ∷ units) (u ∷ us) = calls_in_unit a unit u ++ calls_in a units us
-calls_in a _ _ = []
+-- what each of these units has, in order
+unfoldable pub in_units : {X : Type 0} → (UnitValue → UnitAnalysis → List X) → List UnitValue → List UnitAnalysis → List X
+in_units f (unit ∷ units) (u ∷ us) = f unit u ++ in_units f units us
+in_units f _ _ = []
 
 -- The calls of an analysis, one for each time that they happen.
 abbrev pub calls_of : AnalysisValue → List Call
-calls_of a = calls_in a a.workspace.units a.units
+calls_of a = in_units (calls_in_unit a) a.workspace.units a.units

@@ -1,60 +1,57 @@
 -- The graph of the calls of an analysis, and its report (this project's).
-use Rattle.std.specs.Prelude.{ℕ, ◌≡◌, ◌↔◌, ◌==◌, ◌&&◌, true, if◌then◌else◌, Option, Some, None, List, [], ◌∷◌, ◌++◌, codes, slice_get}
-use Rattle.std.specs.List.{flat_map, Contains}
+use Rattle.std.specs.Prelude.{ℕ, ◌≡◌, ◌↔◌, true, false, if◌then◌else◌, Option, Some, List, [], ◌∷◌, ◌++◌, codes, length, slice_get}
+use Rattle.std.specs.List.{flat_map, range_with_len, Contains}
 use Rattle.std.specs.List.Sorted.{IsStrictlySortedBy}
-use Rattle.std.specs.Option.{option_map_or}
+use Rattle.std.specs.Option.{option_map_or, option_to_list}
 use Rattle.std.specs.Cmp.Lexicographic.{slice_cmp}
 use Rattle.std.specs.Ordering.{nat_cmp, ordering_then}
 use Rattle.std.specs.declared.cmp.Ordering.{Ordering}
+use Rattle.cs_base.specs.declared.positions.Pos.{Pos}
 use Rattle.cs_base.specs.Token.{Token}
 use Rattle.cs_base.specs.Units.{UnitValue}
 use Rattle.include_tree.specs.declared.events.Event.{Event}
 use Rattle.include_tree.specs.declared.events.EventKind.{EventKind}
 use Rattle.include_tree.specs.declared.events.EventKind.TheVariants as kind
-use Rattle.include_tree.specs.Files.{Table}
-use Rattle.scope_bind.specs.declared.bound.Name.{Name}
-use Rattle.scope_bind.specs.Bound.{is_function_name}
+use Rattle.include_tree.specs.Files.{Table, lines_path}
+use Rattle.include_tree.specs.KeptFiles.{KeptValue, kept_at}
+use Rattle.scope_bind.specs.Bound.{Bound, is_function_name}
+use Rattle.scope_bind.specs.Names.{kind_at}
 use Rattle.ws_core.specs.Analysis.{UnitAnalysis, AnalysisValue}
 use Rattle.ws_core.specs.ClassReport.{place_text}
-use Rattle.ws_core.specs.Places.{place_at, place_cmp}
+use Rattle.ws_core.specs.Places.{place_at}
 use Rattle.call_graphs.specs.declared.nodes.Node.{Node}
 use Rattle.call_graphs.specs.declared.nodes.NodeKind.{NodeKind}
 use Rattle.call_graphs.specs.declared.nodes.NodeKind.TheVariants.{Macro, Function}
 use Rattle.call_graphs.specs.declared.nodes.Edge.{Edge}
-use Rattle.call_graphs.specs.Graph.{GraphValue, is_edge}
-use Rattle.calls_of.specs.declared.call.Call.{Call}
+use Rattle.call_graphs.specs.Graph.{GraphValue, IsGraph, is_edge}
 use Rattle.calls_of.specs.Bodies.{owner_of}
-use Rattle.calls_of.specs.Calls.{node_of, function_node, first_in, calls_of}
+use Rattle.calls_of.specs.Calls.{Call, node_of, function_node, first_in, in_units, calls_of}
 
 -- ---- nodes
 
--- the node, where there is one
-abbrev pub some_node : Option Node → List Node
-some_node None = []
-some_node (Some n) = n ∷ []
-
 -- the macro that a `define` line defines (6.10.3)
 abbrev pub defined_node : EventKind → Option Token → List Node
-defined_node kind.Defined (Some name) = some_node (node_of Macro name)
+defined_node kind.Defined (Some name) = option_to_list (node_of Macro name)
 defined_node _ _ = []
 
 abbrev pub event_node : Event → List Node
 event_node e = defined_node e.kind e.name
 
--- the function that a name is the first one of in its unit
-abbrev pub named_node : AnalysisValue → UnitValue → UnitAnalysis → Name → List Node
-named_node a unit u n =
-    if n.index == n.entity && is_function_name n.kind
-    then some_node (function_node (owner_of a) (first_in a) unit.project u.text.toks u.bound n.entity)
-    else []
+-- As with the calls, the project, the tokens and the binding are those of a unit.
+module _ (owner : Pos → Option Token) (first : List ℕ → List ℕ → Option Token) (project : List ℕ) (toks : List Token) (bound : Bound) where
+  -- the function that token k is the first one of in its unit
+  abbrev pub function_named : ℕ → List Node
+  function_named k =
+      if option_map_or is_function_name (kind_at bound.names k) false
+      then option_to_list (function_node owner first project toks bound k)
+      else []
 
--- the macros and functions of a unit
+  -- the macros and functions of the unit
+  abbrev pub unit_nodes : List Event → List Node
+  unit_nodes events = flat_map event_node events ++ flat_map function_named (range_with_len 0 (length toks))
+
 abbrev pub nodes_in_unit : AnalysisValue → UnitValue → UnitAnalysis → List Node
-nodes_in_unit a unit u = flat_map event_node u.text.events ++ flat_map (named_node a unit u) u.bound.names
-
-unfoldable pub nodes_in : AnalysisValue → List UnitValue → List UnitAnalysis → List Node
-nodes_in a (unit ∷ units) (u ∷ us) = nodes_in_unit a unit u ++ nodes_in a units us
-nodes_in a _ _ = []
+nodes_in_unit a unit u = unit_nodes (owner_of a) (first_in a) unit.project u.text.toks u.bound u.text.events
 
 -- the ends of a call
 abbrev pub ends_of : Call → List Node
@@ -62,7 +59,7 @@ ends_of c = c.caller ∷ c.callee ∷ []
 
 -- The macros that units define, their functions, and the ends of calls.
 abbrev pub nodes_of : AnalysisValue → List Node
-nodes_of a = nodes_in a a.workspace.units a.units ++ flat_map ends_of (calls_of a)
+nodes_of a = in_units (nodes_in_unit a) a.workspace.units a.units ++ flat_map ends_of (calls_of a)
 
 -- ---- order
 
@@ -70,11 +67,23 @@ abbrev pub kind_number : NodeKind → ℕ
 kind_number Macro = 0
 kind_number Function = 1
 
--- nodes are ordered by their places, at one place by their names, and then macros come first
+-- the path of a position: that of its kept file, or that of the pseudo file of lines
+abbrev pub path_of : Table → ℕ → List ℕ
+path_of table number = option_map_or (λ (f : KeptValue). f.path) (kept_at table number) lines_path
+
+-- positions by the bytes of their paths, and in a file by their characters
+abbrev pub pos_cmp : Table → Pos → Pos → Ordering
+pos_cmp table p q = ordering_then (slice_cmp nat_cmp (path_of table p.file) (path_of table q.file)) (nat_cmp p.at q.at)
+
+-- macros come before functions, and then the numbers of files decide
+abbrev pub kind_cmp : Node → Node → Ordering
+kind_cmp m n = ordering_then (nat_cmp (kind_number m.kind) (kind_number n.kind)) (nat_cmp m.at.file n.at.file)
+
+-- Nodes are ordered by their places, and at one place by the bytes of their names. So no two of an analysis tie, since a
+-- name of a `define` line is no name of a function and each path has one number; the rest of the order says it of all.
 abbrev pub node_cmp : Table → Node → Node → Ordering
 node_cmp table m n =
-    ordering_then (place_cmp table m.at n.at)
-    (ordering_then (slice_cmp nat_cmp m.name n.name) (nat_cmp (kind_number m.kind) (kind_number n.kind)))
+    ordering_then (pos_cmp table m.at n.at) (ordering_then (slice_cmp nat_cmp m.name n.name) (kind_cmp m n))
 
 -- ---- the graph
 
@@ -88,6 +97,7 @@ pub record IsCallIn (g : GraphValue) (c : Call) : Type 0 where
 
 -- The graph has each node once, in order, and its edges are the calls.
 pub record IsGraphOf (a : AnalysisValue) (g : GraphValue) : Type 0 where
+  pub sound : IsGraph g
   pub ordered : IsStrictlySortedBy (node_cmp a.table) g.nodes
   pub nodes : (n : Node) → Contains g.nodes n ↔ Contains (nodes_of a) n
   pub calls : (c : Call) → IsCallIn g c ↔ Contains (calls_of a) c

@@ -3,5 +3,9 @@ pub mod Bodies
 pub mod Calls
 pub mod Graphs
 -- What inner functions promise each other.
-pub mod Owners
 pub mod Externals
+pub mod InUnits
+pub mod Numbers
+pub mod OpenBodies
+pub mod Orders
+pub mod Owners

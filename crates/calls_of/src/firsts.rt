@@ -13,7 +13,6 @@ use indexmap::IndexMap;
 use scope_bind::{Bound, Linkage};
 use std::alloc::Global;
 use ws_core::Analysis;
-use ws_file::Workspace;
 
 /// For a project and a spelling the first token, where there is one. The keys and the tokens are lent.
 #[derive(Drop)]
@@ -89,17 +88,17 @@ impl<'a> Firsts<'a> {
         Ok(())
     }
 
-    /// The table of an analysis of a workspace.
+    /// The table of an analysis, the units of whose workspace are these.
     pub(crate) fn of(
         alloc: Global,
-        ws: &'a Workspace,
+        units: &'a [Unit],
         a: &'a Analysis,
     ) -> Result<Firsts<'a>, Memory>
-        requires { a.now.value.workspace ≡ ws.now }
+        requires { a.now.value.workspace.units ≡ units.now }
         ensures { IfOk result (λ f. (project text : List ℕ) → first_at f.toks project text ≡ first_in a.now.value project text) }
     {
         let mut firsts = Firsts::new(alloc);
-        firsts.keep_units(ws.units(), a)?;
+        firsts.keep_units(units, a)?;
         Ok(firsts)
     }
 }

@@ -2,7 +2,6 @@ use Rattle.std.proofs.Common.{List, Option, sym, ap, ◌∙◌}
 use Rattle.std.specs.Option.{option_or}
 use Rattle.cs_base.specs.Token.{Token}
 use Rattle.cs_base.specs.Units.{UnitValue}
-use Rattle.ws_file.specs.Workspace.{WorkspaceValue}
 use Rattle.linkage_join.specs.Linkage.{first_spelled, names_of}
 use Rattle.ws_core.specs.Links.{names_of_units}
 use Rattle.calls_of.proofs.firsts.Firsts.of.Goals as goal
@@ -11,6 +10,5 @@ pub returns : goal.returns
 returns c = λ project text.
     let us = c.args.a.now.value.units in
     c.in_ok-keep_units.ensures project text
-    ∙ ap (λ (o : Option Token). option_or o (first_spelled text (names_of project (names_of_units c.units.result.now us)))) (c.new-firsts.ensures project text)
-    ∙ ap (λ (units : List UnitValue). first_spelled text (names_of project (names_of_units units us)))
-    (c.units.ensures.answer ∙ sym (ap (λ (w : WorkspaceValue). w.units) c.requires))
+    ∙ ap (λ (o : Option Token). option_or o (first_spelled text (names_of project (names_of_units c.args.units.now us)))) (c.new-firsts.ensures project text)
+    ∙ ap (λ (units : List UnitValue). first_spelled text (names_of project (names_of_units units us))) (sym c.requires)
