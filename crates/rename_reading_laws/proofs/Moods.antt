@@ -78,8 +78,8 @@ is_asked _ n = false
 
 -- a token of these classes is asked for what it denotes, as a child of such a node
 abbrev pub is_told : Production → ℕ → List Class → Bool
-is_told Main n L = n == 4
-is_told Primary n L = n == 1
+is_told Main n L = (n == 4) && not (among L identifier)
+is_told Primary n L = (n == 1) && not (among L typedef_name)
 is_told Params n L = (n == 1) && not (among L typedef_name)
 is_told _ n L = false
 

@@ -8,12 +8,12 @@ use Rattle.c99_read.specs.Standard.{c99}
 use Rattle.c99_read.specs.State.{spelled_class, base_class, class_at, acted, opened, closed}
 use Rattle.c99_read.proofs.ReadRows.{tok}
 use Rattle.rename_reading_laws.specs.Along.{all_along, along_within}
-use Rattle.rename_reading_laws.specs.Respelled.{is_token_so, is_node_so}
+use Rattle.rename_reading_laws.specs.Respelled.{is_kind_so, is_token_so, is_node_so}
 
 abbrev names_so : List Token → List Token → Bool
 names_so a b =
     all_along c99 (λ s. is_token_so a b s.built.label.production s.built.label.alternative s.names.scopes s.at)
-    (λ p n s. is_node_so a b p n s.names.scopes s.at) a
+    (λ p n s. is_node_so b p n s.names.scopes s.at) a
 
 abbrev word : List ℕ → Token
 word text = tok Ident text
@@ -71,3 +71,17 @@ label-apart = refl
 pub list-taken : names_so (old_style (codes "a") (codes "T") (codes "a")) (old_style (codes "T") (codes "L") (codes "T")) ≡ false
 unfolding along_within read_within take_one at_end enter spelled_class base_class class_at acted opened closed
 list-taken = refl
+
+-- the same, asked by kinds alone
+abbrev kinds_so : List Token → List Token → Bool
+kinds_so a b =
+    all_along c99 (λ s. is_kind_so b s.built.label.production s.built.label.alternative s.names.scopes s.at)
+    (λ p n s. is_node_so b p n s.names.scopes s.at) a
+
+pub members-apart-kinds : kinds_so (members (codes "T") (codes "T") (codes "T")) (members (codes "T") (codes "U") (codes "U")) ≡ true
+unfolding along_within read_within take_one at_end enter spelled_class base_class class_at acted opened closed
+members-apart-kinds = refl
+
+pub use-left-kinds : kinds_so (members (codes "T") (codes "T") (codes "T")) (members (codes "T") (codes "U") (codes "T")) ≡ false
+unfolding along_within read_within take_one at_end enter spelled_class base_class class_at acted opened closed
+use-left-kinds = refl

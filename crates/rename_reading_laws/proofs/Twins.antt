@@ -105,6 +105,19 @@ module _ (s : State) (k : ℕ) where
   not_typedef L i n e =
       not_case L (base_at c99 s.toks k) (is_identifier (base_at c99 s.toks k)) (is_typedef_at s.toks s.names.scopes k) i n e
 
+  typedef_case : (L : List Class) (x : Class) (i t : Bool) → (i ≡ true → x ≡ identifier) → i ≡ true → among L identifier ≡ false
+      → among L (if i && t then typedef_name else x) ≡ true → t ≡ true
+  typedef_case L x true true h j n e = refl
+  typedef_case L x true false h j n e = absurd (false≢true (sym n ∙ (ap (among L) (sym (h refl)) ∙ e)))
+  typedef_case L x false t h j n e = absurd (false≢true j)
+
+  -- .. and one that does
+  pub some_typedef : (L : List Class) → is_identifier (base_at c99 s.toks k) ≡ true → among L identifier ≡ false → among L (class_at c99 s k) ≡ true
+      → is_typedef_at s.toks s.names.scopes k ≡ true
+  unfolding class_at
+  some_typedef L i n e =
+      typedef_case L (base_at c99 s.toks k) (is_identifier (base_at c99 s.toks k)) (is_typedef_at s.toks s.names.scopes k) (base_is s.toks k) i n e
+
 -- ---- Two lists
 
 module _ (a b : List Token) where

@@ -1,5 +1,11 @@
 // What is true of the trees of texts in which names are respelled: laws that no caller runs, and that callers' proofs cite.
-ghost use Rattle.rename_reading_laws.specs.Laws.{RespelledTextsReadAlike};
+ghost use Rattle.rename_reading_laws.specs.Laws.{RespelledTextsReadAlike, TextsOfOneKindReadAlike};
+
+/// A text in which each name that is read by its kind is of this kind, where another text is read, is read to the same
+/// tree.
+pub fn texts_of_one_kind_read_alike()
+    ensures { TextsOfOneKindReadAlike }
+{}
 
 /// A text in which names are respelled, so that each name that is read by what it denotes still denotes it, is read to
 /// the same tree.
