@@ -27,30 +27,30 @@ use Rattle.rename_premise_laws.proofs.ListLemmas.{In, AllOf}
 
 -- ---- lists
 
-in_more : {X : Type 0} (x y : X) (xs : List X) → In x xs → In x (y ∷ xs)
+pub in_more : {X : Type 0} (x y : X) (xs : List X) → In x xs → In x (y ∷ xs)
 in_more x y xs i = (suc i.0, i.1)
 
-either : {X : Type 0} (x : X) (xs ys : List X) (k : ℕ) → slice_get (xs ++ ys) k ≡ Some x → In x xs ⊎ In x ys
+pub either : {X : Type 0} (x : X) (xs ys : List X) (k : ℕ) → slice_get (xs ++ ys) k ≡ Some x → In x xs ⊎ In x ys
 either x [] ys k e = inr (k, e)
 either x (y ∷ xs) ys zero e = inl (0, e)
 either x (y ∷ xs) ys (suc k) e = elim (either x xs ys k e) [ inl i ↦ inl (in_more x y xs i) | inr i ↦ inr i ]
 
-first_or : {X : Type 0} (x y : X) (xs : List X) → In x (y ∷ xs) → (y ≡ x) ⊎ In x xs
+pub first_or : {X : Type 0} (x y : X) (xs : List X) → In x (y ∷ xs) → (y ≡ x) ⊎ In x xs
 first_or x y xs i = by i.0 i.1
   where
     by : (k : ℕ) → slice_get (y ∷ xs) k ≡ Some x → (y ≡ x) ⊎ In x xs
     by zero e = inl (same_Some y x e)
     by (suc k) e = inr (k, e)
 
-none_in : {X : Type 0} (x : X) → In x [] → ⊥
+pub none_in : {X : Type 0} (x : X) → In x [] → ⊥
 none_in x i = let e = i.1 in cc
 
-in_drop : {X : Type 0} (x : X) (n : ℕ) (xs : List X) → In x (drop n xs) → In x xs
+pub in_drop : {X : Type 0} (x : X) (n : ℕ) (xs : List X) → In x (drop n xs) → In x xs
 in_drop x zero xs i = i
 in_drop x (suc n) [] i = i
 in_drop x (suc n) (y ∷ xs) i = in_more x y xs (in_drop x n xs i)
 
-in_take : {X : Type 0} (x : X) (n : ℕ) (xs : List X) (k : ℕ) → slice_get (take n xs) k ≡ Some x → In x xs
+pub in_take : {X : Type 0} (x : X) (n : ℕ) (xs : List X) (k : ℕ) → slice_get (take n xs) k ≡ Some x → In x xs
 in_take x zero xs k e = absurd (cc)
 in_take x (suc n) [] k e = absurd (cc)
 in_take x (suc n) (y ∷ xs) zero e = (0, e)
@@ -59,7 +59,7 @@ in_take x (suc n) (y ∷ xs) (suc k) e = in_more x y xs (in_take x n xs k e)
 -- ---- lines
 
 -- the tokens of lines, one behind the other
-abbrev together : List (List Token) → List Token
+abbrev pub together : List (List Token) → List Token
 together lines = flat_map (λ (line : List Token). line) lines
 
 onto-together : (t : Token) (b : Bool) (lines : List (List Token)) → together (onto_lines t b lines) ≡ t ∷ together lines
@@ -67,7 +67,7 @@ onto-together t true lines = refl
 onto-together t false [] = refl
 onto-together t false (l ∷ lines) = refl
 
-lines-together : (toks : List Token) (firsts : List Bool) → together (lines_of toks firsts) ≡ toks
+pub lines-together : (toks : List Token) (firsts : List Bool) → together (lines_of toks firsts) ≡ toks
 unfolding lines_of
 lines-together [] firsts = refl
 lines-together (t ∷ toks) firsts =
@@ -85,10 +85,10 @@ open_part (t ∷ toks) = cond (is_hash t) (drop 1 toks) (t ∷ toks)
 -- ---- order
 
 -- tokens stand between two characters
-abbrev Between : ℕ → ℕ → List Token → Type 0
+abbrev pub Between : ℕ → ℕ → List Token → Type 0
 Between from to toks = (t : Token) → In t toks → (from ≤ t.at.at) × (t.at.at < to)
 
-order_between : (from to : ℕ) (toks : List Token) → InOrder from to toks → Between from to toks
+pub order_between : (from to : ℕ) (toks : List Token) → InOrder from to toks → Between from to toks
 order_between from to [] order t i = absurd (none_in t i)
 order_between from to (x ∷ toks) order t i = elim (first_or t x toks i) [
   | inl same ↦
@@ -103,7 +103,7 @@ order_between from to (x ∷ toks) order t i = elim (first_or t x toks i) [
 ]
 
 -- where the front of a list ends
-split_order : (from to : ℕ) (xs ys : List Token) → InOrder from to (xs ++ ys) → (mid : ℕ) × InOrder from mid xs × InOrder mid to ys × (from ≤ mid)
+pub split_order : (from to : ℕ) (xs ys : List Token) → InOrder from to (xs ++ ys) → (mid : ℕ) × InOrder from mid xs × InOrder mid to ys × (from ≤ mid)
 split_order from to [] ys order = (from, tt, order, omega arith)
 split_order from to (x ∷ xs) ys order =
     let r = split_order (x.at.at + length x.text) to xs ys order.3 in
@@ -141,14 +141,14 @@ in_word (hash ∷ word ∷ operands) w i = elim (cases_Bool (is_hash hash)) [
   | inr is_not ↦ let here : In w [] = rw is_not at i in absurd (none_in w here)
 ]
 
-in_open : (line : List Token) (t : Token) → In t (open_part line) → In t line
+pub in_open : (line : List Token) (t : Token) → In t (open_part line) → In t line
 in_open [] t i = i
 in_open (x ∷ toks) t i = elim (cases_Bool (is_hash x)) [
   | inl is ↦ let here : In t (drop 1 toks) = rw is at i in in_more t x toks (in_drop t 1 toks here)
   | inr is_not ↦ rw is_not at i
 ]
 
-in_together : (lines : List (List Token)) (line : List Token) (t : Token) → In line lines → In t line → In t (together lines)
+pub in_together : (lines : List (List Token)) (line : List Token) (t : Token) → In line lines → In t line → In t (together lines)
 in_together [] line t i j = absurd (none_in line i)
 in_together (l ∷ lines) line t i j = elim (first_or line l lines i) [
   | inl same ↦ let here : In t l = subst (λ (x : List Token). In t x) (sym same) j in left t l (together lines) here.0 here.1
@@ -231,13 +231,13 @@ kind_runs : (o : Option ItemKind) (at : Pos) (operands : List Token) → RunIn o
 kind_runs None at operands h = refl
 kind_runs (Some k) at operands h = unless_runs (cause_on k operands) at k h
 
-directive_runs : (at : Pos) (toks : List Token) → is_run (directive_kind at toks) ≡ false
+pub directive_runs : (at : Pos) (toks : List Token) → is_run (directive_kind at toks) ≡ false
 unfolding directive_kind
 directive_runs at [] = refl
 directive_runs at (word ∷ operands) = kind_runs (directive_named word) at operands (named_runs word)
 
 -- a line that is a run does not begin with `#`
-run_open : (line : List Token) → is_run (line_kind line) ≡ true → open_part line ≡ line
+pub run_open : (line : List Token) → is_run (line_kind line) ≡ true → open_part line ≡ line
 run_open [] h = refl
 run_open (t ∷ toks) h = elim (cases_Bool (is_hash t)) [
   | inl is ↦
@@ -310,7 +310,7 @@ unfolding pieces_of
 pieces_from [] = tt
 pieces_from (l ∷ lines) = from_onto l lines (pieces_of lines) (pieces_from lines)
 
-abbrev all_toks : List Piece → List Token
+abbrev pub all_toks : List Piece → List Token
 all_toks ps = flat_map (λ (p : Piece). p.toks) ps
 
 onto-toks : (l : List Token) (ps : List Piece) → all_toks (onto_pieces (piece (line_kind l) l) ps) ≡ l ++ all_toks ps
@@ -320,7 +320,7 @@ onto-toks l (next ∷ ps) = elim (cases_Bool (is_run (line_kind l) && is_run nex
   | inr apart ↦ rw apart refl
 ]
 
-pieces-toks : (lines : List (List Token)) → all_toks (pieces_of lines) ≡ together lines
+pub pieces-toks : (lines : List (List Token)) → all_toks (pieces_of lines) ≡ together lines
 unfolding pieces_of
 pieces-toks [] = refl
 pieces-toks (l ∷ lines) = onto-toks l (pieces_of lines) ∙ ap (λ (ts : List Token). l ++ ts) (pieces-toks lines)
@@ -375,7 +375,7 @@ text_by toks from p ps rest i split later (t ∷ ts) same there =
       | inr behind ↦ piece_later p ps i (later next behind)
     ]
 
-texts_from : (toks : List Token) (from : ℕ) (ps : List Piece) (rest : List Token) → drop from toks ≡ all_toks ps ++ rest
+pub texts_from : (toks : List Token) (from : ℕ) (ps : List Piece) (rest : List Token) → drop from toks ≡ all_toks ps ++ rest
     → (i : ItemText) → In i (map (item_text toks) (items_from from ps)) → IsPiece ps i
 unfolding items_from
 texts_from toks from [] rest e i there = absurd (none_in i there)
@@ -394,7 +394,7 @@ in_expanded t (x ∷ toks) i = by (is_header x.kind) i
     by false j = j
 
 -- all of a run, and of a directive what stands behind its word
-taken_from : (k : ItemKind) (evaluated : Bool) (toks : List Token) (t : Token) → In t (taken k evaluated toks)
+pub taken_from : (k : ItemKind) (evaluated : Bool) (toks : List Token) (t : Token) → In t (taken k evaluated toks)
     → ((is_run k ≡ true) × In t toks) ⊎ ((is_run k ≡ false) × In t (drop 2 toks))
 taken_from kind.Run evaluated toks t i = inl (refl, i)
 taken_from kind.Define evaluated toks t i = inr (refl, i)

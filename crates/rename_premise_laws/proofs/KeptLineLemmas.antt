@@ -27,7 +27,7 @@ use Rattle.rename_premise_laws.proofs.KeptTokenLemmas.{free_same}
 use Rattle.rename_premise_laws.proofs.WordLemmas.{lines_all}
 
 -- a fact of each element in one spelling and the other
-from_each : {X : Type 0} (P : X → Type 0) (xs : List X) → Each P xs → AllOf P xs
+pub from_each : {X : Type 0} (P : X → Type 0) (xs : List X) → Each P xs → AllOf P xs
 from_each P [] h = tt
 from_each P (x ∷ xs) h = (h.0, from_each P xs h.1)
 

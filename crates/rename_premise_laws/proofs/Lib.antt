@@ -1,23 +1,24 @@
-mod ListLemmas
-mod FileLemmas
-mod PutLemmas
-mod SpellLemmas
-mod WordLemmas
-mod NoneLemmas
-mod MemberLemmas
-mod KeptLemmas
-mod TracedLemmas
-mod UnitsLemmas
-mod CharacterLemmas
-mod AlikeLemmas
-mod LinkLemmas
-mod ApartLemmas
-mod KeptTokenLemmas
-mod OccurringLemmas
-mod KeptLineLemmas
-mod RenamingLemmas
-mod UneditedLemmas
-mod DirectiveLemmas
-mod ProcessedLemmas
-mod OneTokenLemmas
-mod MadeLemmas
+-- For the crates of laws above.
+pub mod ListLemmas
+pub mod FileLemmas
+pub mod PutLemmas
+pub mod SpellLemmas
+pub mod WordLemmas
+pub mod NoneLemmas
+pub mod MemberLemmas
+pub mod KeptLemmas
+pub mod TracedLemmas
+pub mod UnitsLemmas
+pub mod CharacterLemmas
+pub mod AlikeLemmas
+pub mod LinkLemmas
+pub mod ApartLemmas
+pub mod KeptTokenLemmas
+pub mod OccurringLemmas
+pub mod KeptLineLemmas
+pub mod RenamingLemmas
+pub mod UneditedLemmas
+pub mod DirectiveLemmas
+pub mod ProcessedLemmas
+pub mod OneTokenLemmas
+pub mod MadeLemmas

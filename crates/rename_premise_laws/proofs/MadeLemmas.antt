@@ -127,7 +127,7 @@ spell_untraced members name zero text size = refl
 spell_untraced members name (suc n) [] size = refl
 spell_untraced members name (suc n) (c ∷ text) size = ap (λ (w : List ℕ). c ∷ w) (spell_untraced members name n text (omega (arith, size)))
 
-trace_untraced : (a : AnalysisValue) (members : List Part) (name : List ℕ) (n : ℕ) (text : List ℕ) → length text ≡ n → trace_from a members name (replicate n None) text ≡ replicate n None
+pub trace_untraced : (a : AnalysisValue) (members : List Part) (name : List ℕ) (n : ℕ) (text : List ℕ) → length text ≡ n → trace_from a members name (replicate n None) text ≡ replicate n None
 unfolding trace_from
 trace_untraced a members name zero text size = refl
 trace_untraced a members name (suc n) [] size = refl
@@ -191,7 +191,7 @@ first_put name p c (Some m) is letter begins =
     rw here is
 
 module _ (a : AnalysisValue) (members : List Part) (part : Part) (listed : AreMembers a part members) (name : List ℕ) (is : is_identifier_text name ≡ true) where
-  begins_at : (p : Pos) → Begins a p → (m : Part) → member_over members p ≡ Some m → m.start.at ≡ p.at
+  pub begins_at : (p : Pos) → Begins a p → (m : Part) → member_over members p ≡ Some m → m.start.at ≡ p.at
   begins_at p b m over =
       over_begins a members part listed b.0 m b.1 (ap (member_over members) b.2 ∙ over) ∙ ap (λ (q : Pos). q.at) b.2
 

@@ -33,6 +33,7 @@ pub record NoneStand (a : AnalysisValue) (members : List Part) (name : List ℕ)
   pub no_identifier : no_identifier_places a members ≡ []
   pub occurring : occurring_places a members name ≡ []
   pub clashing : clashing_places a members name ≡ []
+  pub too_large : too_large_places a members name ≡ []
   pub shadowed : shadowed_places a members ≡ []
 
 module _ (a : AnalysisValue) (members : List Part) (name : List ℕ) where
@@ -63,6 +64,7 @@ module _ (a : AnalysisValue) (members : List Part) (name : List ℕ) where
         no_identifier = map_nil (offence cause.NotIdentifier) (no_identifier_places a members) (nil_right (((A ++ B) ++ C) ++ D) E front);
         occurring = map_nil (offence cause.Occurs) (occurring_places a members name) (nil_left F G s2);
         clashing = map_nil (offence cause.Clash) (clashing_places a members name) (nil_right F G s2);
+        too_large = map_nil (offence cause.TooLarge) (too_large_places a members name) (nil_right (F ++ G) H s1);
         shadowed = map_nil (offence cause.ShadowedTypedef) (shadowed_places a members) (nil_right ((F ++ G) ++ H) I rest);
       }
 

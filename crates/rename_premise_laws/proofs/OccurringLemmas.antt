@@ -34,7 +34,7 @@ use Rattle.rename_premise_laws.proofs.NoneLemmas.{none_stand, holder, holder_fre
 
 -- ---- origins
 
-origin_is : (o p : Option Pos) → same_origin o p ≡ true → o ≡ p
+pub origin_is : (o p : Option Pos) → same_origin o p ≡ true → o ≡ p
 origin_is None None h = refl
 origin_is None (Some q) h = absurd (cc)
 origin_is (Some p) None h = absurd (cc)
@@ -54,7 +54,7 @@ origins_are (o ∷ os) (p ∷ ps) h =
     let rest = origins_are os ps both.1 in
     ap (λ (x : Option Pos). x ∷ os) first ∙ ap (λ (xs : List (Option Pos)). p ∷ xs) rest
 
-origin_same : (o : Option Pos) → same_origin o o ≡ true
+pub origin_same : (o : Option Pos) → same_origin o o ≡ true
 origin_same None = refl
 origin_same (Some p) = and_from (p.file == p.file) (p.at == p.at) (eq-eqb p.file p.file refl) (eq-eqb p.at p.at refl)
 
@@ -131,7 +131,7 @@ neither_name Punct h = refl
 neither_name _ h = absurd (cc)
 
 module _ (a : Analysed) (members : List Part) (name : List ℕ) (r : Renaming) (h : IsAllowed a members name) (spells : Spells members name r) where
-  parted_one : (u : Token) → IsOfFile a.value u ⊎ IsPasted a.value u → IsParted a.value members u
+  pub parted_one : (u : Token) → IsOfFile a.value u ⊎ IsPasted a.value u → IsParted a.value members u
   parted_one u (inl f) = parted_of a.value members u (file_told a members name h f.number f.file f.is_kept u f.there)
   parted_one u (inr p) = pasted_parted a members name h u p
 
@@ -140,7 +140,7 @@ module _ (a : Analysed) (members : List Part) (name : List ℕ) (r : Renaming) (
   named_one u named (inr p) = inr (p, named)
 
   -- it is spelled as the other one
-  like_spelled : (t u : Token) → IsLike a.value t u → macros.spelled r t ≡ spelled members name u
+  pub like_spelled : (t u : Token) → IsLike a.value t u → macros.spelled r t ≡ spelled members name u
   like_spelled t u like =
       ap (λ (os : List (Option Pos)). r.spell os t.text) (sym like.origins) ∙ ap (λ (w : List ℕ). r.spell u.origins w) (sym like.text)
       ∙ spells u (let p = parted_one u like.told in p.each)
@@ -157,7 +157,7 @@ module _ (a : Analysed) (members : List Part) (name : List ℕ) (r : Renaming) (
     | inr both ↦ neither_name u.kind (and_parts (is_punctuator t.kind) (is_punctuator u.kind) both).1
   ]
 
-  name_like : (t : Token) → macros.occurs (occurring_in a.value) t ≡ true → is_name t ≡ true → (u : Token) × IsLike a.value t u
+  pub name_like : (t : Token) → macros.occurs (occurring_in a.value) t ≡ true → is_name t ≡ true → (u : Token) × IsLike a.value t u
   name_like t occurs named = occurs_like a.value t (or_left (is_identifier t.kind) (is_punctuator t.kind) named) occurs
 
   never_reserved : (t : Token) (word : List ℕ) → is_reserved_text word ≡ true → macros.occurs (occurring_in a.value) t ≡ true → is_name t ≡ true

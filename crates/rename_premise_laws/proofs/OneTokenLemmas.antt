@@ -13,7 +13,7 @@ use Rattle.part_lexer.specs.Spelling.{is_identifier_text, kind_of, kind_in}
 use Rattle.part_lexer.specs.Tokens.{front_length, kind_or_other, token_piece, piece_of, expects_header, with_token, found_from, found_of}
 
 -- a letter, a digit or `_` is none of some other characters
-word_apart : (c d : ℕ) → is_word d ≡ false → is_word c ≡ true → (c == d) ≡ false
+pub word_apart : (c d : ℕ) → is_word d ≡ false → is_word c ≡ true → (c == d) ≡ false
 word_apart c d other is = false_from_ne_true (c == d) (λ same. both_ways (is_word d) other (ap is_word (sym (eqb-true c d same)) ∙ is))
 
 word_stays : (c : ℕ) (cs : List ℕ) → is_word c ≡ true → gone_length c cs ≡ 0

@@ -66,14 +66,14 @@ use Rattle.rename_premise_laws.proofs.ApartLemmas.{any_member, held_parted}
 -- ---- what units take
 
 -- the tokens that are taken from a reached item
-abbrev taken_reached : Table → Reached → List Token
+abbrev pub taken_reached : Table → Reached → List Token
 taken_reached table r = option_map_or (λ (i : ItemText). taken i.kind r.evaluated i.toks) (option_and_then (item_at r.item) (kept_at table r.file)) []
 
-abbrev taken_by : AnalysisValue → UnitAnalysis → List Token
+abbrev pub taken_by : AnalysisValue → UnitAnalysis → List Token
 taken_by a u = flat_map (taken_reached a.table) u.text.reached
 
 -- those that are taken in some unit, and the numbers that units brought
-abbrev all_taken : AnalysisValue → List Token
+abbrev pub all_taken : AnalysisValue → List Token
 all_taken a = flat_map (taken_by a) a.units ++ all_brought a.units
 
 -- a token of the list is made of it
@@ -268,7 +268,7 @@ taken_from_by table r t (Some k) is j = by (item_at r.item k) refl j
 reached_from : (table : Table) (r : Reached) (t : Token) → In t (taken_reached table r) → TakenFrom table t
 reached_from table r t j = taken_from_by table r t (kept_at table r.file) refl j
 
-flat_element : {X Y : Type 0} (f : X → List Y) (y : Y) (xs : List X) → In y (flat_map f xs) → (x : X) × In x xs × In y (f x)
+pub flat_element : {X Y : Type 0} (f : X → List Y) (y : Y) (xs : List X) → In y (flat_map f xs) → (x : X) × In x xs × In y (f x)
 flat_element f y [] i = absurd (let e = i.1 in cc)
 flat_element f y (x ∷ xs) i =
     split_at _ y (f x) (flat_map f xs) i.0 i.1 (λ j. (x, (0, refl), j))
@@ -292,7 +292,7 @@ module _ (a : AnalysisValue) where
       (taken_in a u.0 r.0 t u.1 r.1 n.0, reached_from a.table r.0 t n.0, n.1)
 
   -- a part that holds a character of a file token begins in it
-  part_in_token : (part token : Part) (p : Pos) → IsPart a part → IsFileToken a token → holds part p ≡ true → holds token p ≡ true → holds token part.start ≡ true
+  pub part_in_token : (part token : Part) (p : Pos) → IsPart a part → IsFileToken a token → holds part p ≡ true → holds token p ≡ true → holds token part.start ≡ true
   part_in_token part token p is file held also =
       let h = holding part p held in
       let k = holding token p also in
@@ -338,7 +338,7 @@ module _ (a : Analysed) (members : List Part) (name : List ℕ) (h : IsAllowed a
       record { token = t; among = processed.0; place = origin.0; at = origin.1 }
 
   -- so does each member
-  member_lies : (path : List ℕ) (line column : ℕ) → Names a.value path line column (Some h.class.part) → (m : Part) → In m members → Lies a.value m.start
+  pub member_lies : (path : List ℕ) (line column : ℕ) → Names a.value path line column (Some h.class.part) → (m : Part) → In m members → Lies a.value m.start
   member_lies path line column named m i =
       let listed = h.class.listed in
       same_lies a members name h h.class.part.start m.start (listed.each i.0 m i.1).same (start_lies path line column named)

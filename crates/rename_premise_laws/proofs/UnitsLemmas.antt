@@ -57,7 +57,7 @@ use Rattle.rename_premise_laws.proofs.TracedLemmas.{source_of_kept, Traced, line
 -- ---- the table grows
 
 -- one number more
-grown_push : (t : Table) (path : List ℕ) (found : Found) → IsGrown t (numbered path found t)
+pub grown_push : (t : Table) (path : List ℕ) (found : Found) → IsGrown t (numbered path found t)
 grown_push [] path found = tt
 grown_push (e ∷ t) path found = (refl, inl refl, grown_push t path found)
 
@@ -91,7 +91,7 @@ unit_grown limits reader source number unit before =
     (λ toks t g. onward_done (Stays {A = List Token} J) (Stays {A = List Token} J) (main_file ctx unit.path t) _ (main_grown before.table ctx unit.path t g)
     (λ more u f. f))
 
-ok_same : {X E : Type 0} (a b : X) → ◌≡◌ {A = Result X E} (Ok a) (Ok b) → a ≡ b
+pub ok_same : {X E : Type 0} (a b : X) → ◌≡◌ {A = Result X E} (Ok a) (Ok b) → a ≡ b
 ok_same a b e = cc
 
 grown_by : (before : Carried) (o : Outcome (List Token)) (p : Preprocessed) → IfDone (Stays {A = List Token} (IsGrown before.table)) o
@@ -110,11 +110,11 @@ unit_grows source number unit before p e =
 
 -- ---- units in order
 
-done_first : {X Y E : Type 0} (r : Result X E) (next : X → Result Y E) (y : Y) → result_then next r ≡ Ok y → (x : X) × (r ≡ Ok x) × (next x ≡ Ok y)
+pub done_first : {X Y E : Type 0} (r : Result X E) (next : X → Result Y E) (y : Y) → result_then next r ≡ Ok y → (x : X) × (r ≡ Ok x) × (next x ≡ Ok y)
 done_first (Ok x) next y e = (x, refl, e)
 done_first (Err fault) next y e = absurd (cc)
 
-unmapped : {X E F : Type 0} (r : Result X E) (change : E → F) (x : X) → result_map_err change r ≡ Ok x → r ≡ Ok x
+pub unmapped : {X E F : Type 0} (r : Result X E) (change : E → F) (x : X) → result_map_err change r ≡ Ok x → r ≡ Ok x
 unmapped (Ok y) change x e = let same : y ≡ x = cc in rw same refl
 unmapped (Err fault) change x e = absurd (cc)
 
@@ -141,13 +141,13 @@ unit_later old new u more h = record {
   grown = (let text = h.text in grown_trans text.after.table old new h.grown more);
 }
 
-bound_text : (table : Table) (path : List ℕ) (text : UnitTextValue) (u : UnitAnalysis) → read_unit table path text ≡ Ok u → text ≡ u.text
+pub bound_text : (table : Table) (path : List ℕ) (text : UnitTextValue) (u : UnitAnalysis) → read_unit table path text ≡ Ok u → text ≡ u.text
 bound_text table path text u e =
     let r = done_first {E = Fault} _ (bound_unit table path text) u e in
     let b = done_first {E = Fault} _ (λ bound. Ok (unit_analysis text r.0 bound)) u r.2 in
     ap (λ (v : UnitAnalysis). v.text) (ok_same {E = Fault} (unit_analysis text r.0 b.0) u b.2)
 
-units_are : (source : Source) (number : ℕ) (units : List UnitValue) (before : Carried) (v : UnitsValue)
+pub units_are : (source : Source) (number : ℕ) (units : List UnitValue) (before : Carried) (v : UnitsValue)
     → analysed_from source number units before ≡ Ok v → IsGrown before.table v.table × ((u : UnitAnalysis) → In u v.units → IsUnit v.table u)
 unfolding analysed_from
 units_are source number [] before v e =

@@ -6,7 +6,7 @@
 //! Then linked tokens stay alike and others stay apart, tokens of files are kept, edited files have the renamed
 //! tokens, and strings and pasted tokens are made anew of renamed ones. That no word of a directive holds a member
 //! is so of each class that a place names. That uses of parameters stay alike with these is a premise of
-//! `lines_are_kept`. Nothing is said here of replaced names and of macros. Read `specs/Allowed.antt`,
+//! `lines_are_kept`, which `rename_keeping_laws` shows, as it does what is so of replaced names. Read `specs/Allowed.antt`,
 //! `specs/KeptFiles.antt`, `specs/Spellings.antt`, `specs/Renamings.antt`, then `laws.rt`.
 #![tactic(auto)]
 
