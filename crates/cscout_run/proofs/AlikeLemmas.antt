@@ -38,7 +38,7 @@ each_at P (z ∷ xs) zero y all at = subst P (same_Some z y at) all.0
 each_at P (z ∷ xs) (suc k) y all at = each_at P xs k y all.1 at
 
 -- what stands in one list stands in the other
-abbrev AreIn : {X : Type 0} → List X → List X → Type 0
+abbrev pub AreIn : {X : Type 0} → List X → List X → Type 0
 AreIn {X} xs ys = (x : X) → IsAmong xs x → IsAmong ys x
 
 tail_at : {X : Type 0} (c : X → X → Ordering) → IsTotalOrder c → (x : X) (ys : List X) (k : ℕ) (z : X) → c x z ≡ Less
@@ -62,7 +62,7 @@ heads c total x y xs ys s t (suc k) (suc j) at back =
     absurd (both_less c total x y (each_at (λ z. c x z ≡ Less) xs j y s.0 back) (each_at (λ z. c y z ≡ Less) ys k x t.0 at))
 
 -- lists in one strict order that have the same elements are one
-same_lists : {X : Type 0} (c : X → X → Ordering) → IsTotalOrder c → (xs ys : List X) → IsStrictlySortedBy c xs → IsStrictlySortedBy c ys
+pub same_lists : {X : Type 0} (c : X → X → Ordering) → IsTotalOrder c → (xs ys : List X) → IsStrictlySortedBy c xs → IsStrictlySortedBy c ys
     → AreIn xs ys → AreIn ys xs → xs ≡ ys
 unfolding IsStrictlySortedBy
 same_lists c total [] [] s t all back = refl

@@ -7,5 +7,6 @@ pub mod PathLemmas
 pub mod PromiseLemmas
 pub mod ReportLemmas
 pub mod AlikeLemmas
+pub mod CallsLemmas
 pub mod PlannedLemmas
 pub mod SizeLemmas

@@ -26,7 +26,7 @@ use Rattle.rename_rules.specs.First.{IsAmong, member_offences, offence, offences
 use Rattle.rename_rules.specs.Offences.{read_only_place, read_only_places, reserved_places, stringized_places, header_places, no_identifier_places}
 use Rattle.rename_rules.specs.Renaming.{IsNamedRenamed, IsRenaming}
 use Rattle.rename_rules.specs.Runs.{edit_of, edits_of, file_of, new_bytes, runs, with_member}
-use Rattle.cscout_run.specs.Request.{RequestValue, RenameValue, asked, help_asked, version_asked, renaming_asked, tokens_asked, skipped_asked, class_asked, unused_asked, includes_asked, generated_asked}
+use Rattle.cscout_run.specs.Request.{RequestValue, RenameValue, asked, help_asked, version_asked, renaming_asked, tokens_asked, skipped_asked, class_asked, unused_asked, includes_asked, calls_asked, generated_asked}
 use Rattle.cscout_run.specs.Promise.{Renamed, IsRenamed, KeepsPromise}
 use Rattle.cscout_run.specs.Steps.{Planned, IsPlannedFor}
 use Rattle.cscout_run.specs.declared.preparing.Ready.{Ready}
@@ -294,6 +294,7 @@ promise_at (skipped_asked ws) before ready p = tt
 promise_at (class_asked q) before ready p = tt
 promise_at (unused_asked ws) before ready p = tt
 promise_at (includes_asked ws) before ready p = tt
+promise_at (calls_asked ws) before ready p = tt
 promise_at (generated_asked n) before ready p = tt
 promise_at (renaming_asked q) before ready p = kept q before ready.edits p
 

@@ -21,14 +21,17 @@ use Rattle.cscout_run.specs.declared.status.Status.{Status}
 use Rattle.cscout_run.specs.declared.status.Status.TheVariants.{Done, Refused, Usage, Workspace, ReadFault, WriteFault, Memory}
 use Rattle.cscout_run.specs.declared.stops.Stop.{Stop}
 use Rattle.cscout_run.specs.declared.stops.Stop.TheVariants as stop
-use Rattle.cscout_run.specs.Request.{RequestValue, RenameValue, ClassValue, help_asked, version_asked, renaming_asked, tokens_asked, skipped_asked, class_asked, unused_asked, includes_asked, asked, generated_asked}
-use Rattle.cscout_run.specs.Answer.{Answer, IsAnswer, IsAnswerTo, IsRequestAnswer, IsClassAnswer, IsListAnswer, IsRenameAnswer, IsOverWorkspace, answer_of, class_answer, renaming_answer, stopped, workspace_at, IsSizeAnswer, size_answer}
+use Rattle.cscout_run.specs.Request.{RequestValue, RenameValue, ClassValue, help_asked, version_asked, renaming_asked, tokens_asked, skipped_asked, class_asked, unused_asked, includes_asked, calls_asked, asked, generated_asked}
+use Rattle.cscout_run.specs.Answer.{Answer, IsAnswer, IsAnswerTo, IsRequestAnswer, IsClassAnswer, IsListAnswer, IsCallsAnswer, IsRenameAnswer, IsOverWorkspace, answer_of, class_answer, renaming_answer, shown, stopped, workspace_at, IsSizeAnswer, size_answer}
 use Rattle.cscout_run.specs.Message.{usage_line}
 use Rattle.cscout_run.specs.Outcome.{World, told_in, StatusIs, HasCauses, IsComplete, ShowsAnswer, Tells, FailedPut, Unmoved}
 use Rattle.cscout_run.specs.Steps.{Prepares}
 use Rattle.cscout_run.specs.declared.preparing.Ready.{Ready}
 use Rattle.edit_put.specs.Applying.{Applies}
 use Rattle.edit_put.specs.declared.applying.Applied.TheVariants as applied
+use Rattle.call_graphs.specs.Graph.{GraphValue}
+use Rattle.calls_of.specs.Graphs.{calls_text}
+use Rattle.cscout_run.proofs.CallsLemmas.{one_graph}
 use Rattle.cscout_run.specs.Stopping.{Stops, stop_reads, status_of, line_of}
 use Rattle.cscout_run.proofs.AlikeLemmas.{ArePlansAlike, one_list, one_named, one_unneeded, one_unused, renamings_alike}
 
@@ -106,6 +109,13 @@ includes-alike : (analysed : Result AnalysisValue UnitFault) (a b : Answer) → 
 includes-alike (Ok value) a b p p' = same-answer (class_answer p.0) a b p.2 (ap class_answer (includes-told value p.0 p'.0 p.1 p'.1) ∙ p'.2)
 includes-alike (Err fault) a b p p' = same-answer _ a b p p'
 
+-- an analysis has one graph of calls
+calls-alike : (analysed : Result AnalysisValue UnitFault) (a b : Answer) → IsCallsAnswer analysed a → IsCallsAnswer analysed b → AreAlike a b
+calls-alike (Ok value) a b p p' =
+    same-answer (shown (calls_text value.table p.0)) a b p.2
+    (ap (λ (g : GraphValue). shown (calls_text value.table g)) (one_graph value p.0 p'.0 p.1 p'.1) ∙ p'.2)
+calls-alike (Err fault) a b p p' = same-answer _ a b p p'
+
 planned-alike : (r s : Result (List Edit) Refusal) (a b : Answer) → ArePlansAlike r s → renaming_answer r ≡ a → renaming_answer s ≡ b → AreAlike a b
 planned-alike (Ok es) (Ok fs) a b alike is is' =
     same-answer (renaming_answer (Ok es)) a b is (ap (λ (edits : List Edit). renaming_answer (Ok edits)) alike ∙ is')
@@ -164,6 +174,9 @@ request-alike files (Some (unused_asked ws)) a b p p' =
 request-alike files (Some (includes_asked ws)) a b p p' =
     over-alike ws (λ w. IsListAnswer Includes (analysis_of (source_of files) w)) (workspace_at ws files) a b
     (λ w. includes-alike (analysis_of (source_of files) w) a b) p p'
+request-alike files (Some (calls_asked ws)) a b p p' =
+    over-alike ws (λ w. IsCallsAnswer (analysis_of (source_of files) w)) (workspace_at ws files) a b
+    (λ w. calls-alike (analysis_of (source_of files) w) a b) p p'
 request-alike files (Some (generated_asked n)) a b p p' =
     over-alike workspace_path (λ w. IsSizeAnswer n (analysis_of (source_of (generated_files n)) w)) (workspace_at workspace_path (generated_files n)) a b
     (λ w. size-alike n (analysis_of (source_of (generated_files n)) w) a b) p p'

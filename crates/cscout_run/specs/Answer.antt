@@ -16,11 +16,13 @@ use Rattle.query_report.specs.Skipped.{skipped_text}
 use Rattle.query_report.specs.Queries.{IsReport}
 use Rattle.query_report.specs.declared.queries.Query.{Query}
 use Rattle.query_report.specs.declared.queries.Query.TheVariants.{Unused, Includes}
+use Rattle.call_graphs.specs.Graph.{GraphValue}
+use Rattle.calls_of.specs.Graphs.{IsGraphOf, calls_text}
 use Rattle.rename_rules.specs.Renaming.{Refusal, bad_name, no_name, refused, IsRenaming}
 use Rattle.generated.specs.Generated.{header_path, workspace_path, generated_files}
 use Rattle.cscout_run.specs.declared.status.Status.{Status}
 use Rattle.cscout_run.specs.declared.status.Status.TheVariants.{Done, Refused, Usage, Workspace}
-use Rattle.cscout_run.specs.Request.{RequestValue, help_asked, version_asked, renaming_asked, tokens_asked, skipped_asked, class_asked, unused_asked, includes_asked, RenameValue, TokensValue, ClassValue, asked, generated_asked}
+use Rattle.cscout_run.specs.Request.{RequestValue, help_asked, version_asked, renaming_asked, tokens_asked, skipped_asked, class_asked, unused_asked, includes_asked, calls_asked, RenameValue, TokensValue, ClassValue, asked, generated_asked}
 use Rattle.cscout_run.specs.Message.{usage_line, absent_line, ws_line, text_fault_line, refused_line, offence_line, edited_lines, size_line}
 use Rattle.cscout_run.specs.Help.{help_text, version_text}
 
@@ -123,6 +125,13 @@ abbrev pub IsListAnswer : Query → Result AnalysisValue units.UnitFault → Ans
 IsListAnswer q (Ok value) a = (told : Option (List ℕ)) × IsReport value q told × (class_answer told ≡ a)
 IsListAnswer q (Err fault) a = stopped Workspace (text_fault_line fault) ≡ a
 
+-- ---- `calls`
+
+-- The answers over a workspace, once it is analysed: the report on the graph of its calls. There is one such graph.
+abbrev pub IsCallsAnswer : Result AnalysisValue units.UnitFault → Answer → Type 0
+IsCallsAnswer (Ok value) a = (g : GraphValue) × IsGraphOf value g × (shown (calls_text value.table g) ≡ a)
+IsCallsAnswer (Err fault) a = stopped Workspace (text_fault_line fault) ≡ a
+
 -- ---- `rename`
 
 -- The same for a renaming of the class that a place names: the answer is that of what is planned.
@@ -167,6 +176,10 @@ IsGenerated n a =
 abbrev pub IsListRequest : FileMap → List ℕ → Query → Answer → Type 0
 IsListRequest files ws q a = IsOverWorkspace ws (λ w. IsListAnswer q (analysis_of (source_of files) w)) (workspace_at ws files) a
 
+-- the answers to a report on calls over the files
+abbrev pub IsCallsRequest : FileMap → List ℕ → Answer → Type 0
+IsCallsRequest files ws a = IsOverWorkspace ws (λ w. IsCallsAnswer (analysis_of (source_of files) w)) (workspace_at ws files) a
+
 -- The answer to a request: the one that is computed, and for what is told of an analysis and a rename the one that is
 -- told.
 abbrev pub IsRequestAnswer : FileMap → RequestValue → Answer → Type 0
@@ -180,6 +193,7 @@ IsRequestAnswer files (class_asked q) a =
     IsOverWorkspace q.ws (λ w. IsClassAnswer q (analysis_of (source_of files) w)) (workspace_at q.ws files) a
 IsRequestAnswer files (unused_asked ws) a = IsListRequest files ws Unused a
 IsRequestAnswer files (includes_asked ws) a = IsListRequest files ws Includes a
+IsRequestAnswer files (calls_asked ws) a = IsCallsRequest files ws a
 IsRequestAnswer files (generated_asked n) a = IsGenerated n a
 
 -- the same to words, which may be of no form

@@ -5,9 +5,9 @@ use Rattle.generated.specs.Generated.{workspace_path}
 use Rattle.cscout_run.specs.declared.requests.NamedClass.{NamedClass}
 use Rattle.cscout_run.specs.declared.requests.Rename.{Rename}
 use Rattle.cscout_run.specs.declared.requests.Request.{Request}
-use Rattle.cscout_run.specs.declared.requests.Request.TheVariants.{Help, Version, Renaming, Tokens, Skipped, Class, Unused, Includes, Generated}
+use Rattle.cscout_run.specs.declared.requests.Request.TheVariants.{Help, Version, Renaming, Tokens, Skipped, Class, Unused, Includes, Calls, Generated}
 use Rattle.cscout_run.specs.declared.requests.UnitTokens.{UnitTokens}
-use Rattle.cscout_run.specs.Request.{RenameValue, rename, TokensValue, tokens_of_unit, ClassValue, class_at, RequestValue, help_asked, version_asked, renaming_asked, tokens_asked, skipped_asked, class_asked, unused_asked, includes_asked, generated_asked}
+use Rattle.cscout_run.specs.Request.{RenameValue, rename, TokensValue, tokens_of_unit, ClassValue, class_at, RequestValue, help_asked, version_asked, renaming_asked, tokens_asked, skipped_asked, class_asked, unused_asked, includes_asked, calls_asked, generated_asked}
 
 -- a rename in words, its path in its normal form
 abbrev pub rename_value : Rename → RenameValue
@@ -31,6 +31,7 @@ request_value (Skipped ws) = skipped_asked ws.now
 request_value (Class q) = class_asked (class_value q)
 request_value (Unused ws) = unused_asked ws.now
 request_value (Includes ws) = includes_asked ws.now
+request_value (Calls ws) = calls_asked ws.now
 request_value (Generated n) = generated_asked n
 
 -- the workspace file of a request, or nothing where it has none
@@ -43,4 +44,5 @@ workspace_file (Skipped ws) = ws.now
 workspace_file (Class q) = q.ws.now
 workspace_file (Unused ws) = ws.now
 workspace_file (Includes ws) = ws.now
+workspace_file (Calls ws) = ws.now
 workspace_file (Generated n) = workspace_path

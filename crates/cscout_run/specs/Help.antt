@@ -23,6 +23,8 @@ help_text =
     ++ codes "    prints `PATH:LINE:COL NAME` for the first place of each name that is declared and never used\n"
     ++ codes "cscout WS includes\n"
     ++ codes "    prints `PATH:LINE:COL` for each include line that brings nothing which is used\n"
+    ++ codes "cscout WS calls\n"
+    ++ codes "    prints `PATH:LINE:COL NAME -> PATH:LINE:COL NAME` for each macro or function that another one calls\n"
     ++ codes "cscout generate N\n"
     ++ codes "    makes a workspace of N units in memory, from 1 to 1024, analyses it and renames a name of it\n"
     ++ codes "cscout --help\n"

@@ -37,8 +37,8 @@ pub record ClassValue : Type 0 where
 abbrev pub class_at : List ℕ → List ℕ → ℕ → ℕ → ClassValue
 class_at ws path line column = record { ws = ws; path = path; line = line; column = column }
 
--- What the program can be asked for. Reports on skipped groups, on unused names and on unneeded include lines have a
--- workspace file alone.
+-- What the program can be asked for. Reports on skipped groups, on unused names, on unneeded include lines and on calls
+-- have a workspace file alone.
 pub data RequestValue : Type 0 where
   help_asked : RequestValue
   version_asked : RequestValue
@@ -48,6 +48,7 @@ pub data RequestValue : Type 0 where
   class_asked : ClassValue → RequestValue
   unused_asked : List ℕ → RequestValue
   includes_asked : List ℕ → RequestValue
+  calls_asked : List ℕ → RequestValue
   generated_asked : ℕ → RequestValue
 
 -- the number that decimal digits spell
@@ -102,7 +103,8 @@ abbrev pub workspace_command_of : List ℕ → List ℕ → Option RequestValue
 workspace_command_of ws command =
     if bytes_eq command (codes "skipped") then Some (skipped_asked ws)
     else (if bytes_eq command (codes "unused") then Some (unused_asked ws)
-    else (if bytes_eq command (codes "includes") then Some (includes_asked ws) else generated_of ws command))
+    else (if bytes_eq command (codes "includes") then Some (includes_asked ws)
+    else (if bytes_eq command (codes "calls") then Some (calls_asked ws) else generated_of ws command)))
 
 -- three words: the workspace file, a command, and the number of a unit
 abbrev pub unit_command_of : List ℕ → List ℕ → List ℕ → Option RequestValue

@@ -17,6 +17,8 @@ cscout WS unused
     prints `PATH:LINE:COL NAME` for the first place of each name that is declared and never used
 cscout WS includes
     prints `PATH:LINE:COL` for each include line that brings nothing which is used
+cscout WS calls
+    prints `PATH:LINE:COL NAME -> PATH:LINE:COL NAME` for each macro or function that another one calls
 cscout generate N
     makes a workspace of N units in memory, from 1 to 1024, analyses it and renames a name of it
 cscout --help

@@ -9,6 +9,7 @@ ghost use Rattle.cscout_run.specs.Message.{edited_line, edited_lines};
 ghost use Rattle.cscout_run.specs.Request.{renaming_asked};
 ghost use Rattle.cscout_run.specs.Steps.{IsPlanStop, IsPlanned, IsPlannedFor, Prepares, reads_of, stop_for};
 
+use crate::calls::prepare_calls;
 use crate::generating::prepare_generated;
 use crate::help::{help, version};
 use crate::listing::prepare_list;
@@ -47,6 +48,7 @@ pub fn prepare<F: Files>(alloc: Global, request: &Request<'_>, files: &mut F) ->
         Request::Class(class) => prepare_class(alloc, class, files),
         Request::Unused(ws) => prepare_list(alloc, ws, &Query::Unused, files),
         Request::Includes(ws) => prepare_list(alloc, ws, &Query::Includes, files),
+        Request::Calls(ws) => prepare_calls(alloc, ws, files),
         Request::Generated(n) => prepare_generated(alloc, *n),
     }
 }

@@ -30,8 +30,8 @@ pub struct NamedClass<'a> {
     pub column: u32,
 }
 
-/// What the program is asked for. `Skipped`, `Unused` and `Includes` have the workspace file, `Generated` the number of
-/// units.
+/// What the program is asked for. `Skipped`, `Unused`, `Includes` and `Calls` have the workspace file, `Generated` the
+/// number of units.
 #[derive(Drop)]
 pub enum Request<'a> {
     Help,
@@ -42,6 +42,7 @@ pub enum Request<'a> {
     Class(NamedClass<'a>),
     Unused(&'a str),
     Includes(&'a str),
+    Calls(&'a str),
     Generated(u32),
 }
 
@@ -101,6 +102,8 @@ fn asked_of_workspace<'a>(ws: &'a str, command: &str) -> Option<Request<'a>>
         Some(Request::Unused(ws))
     } else if command == "includes" {
         Some(Request::Includes(ws))
+    } else if command == "calls" {
+        Some(Request::Calls(ws))
     } else {
         asked_generated(ws, command)
     }
@@ -258,6 +261,7 @@ pub fn workspace_file<'a>(request: &Request<'a>) -> &'a str
         Request::Class(class) => class.ws,
         Request::Unused(ws) => ws,
         Request::Includes(ws) => ws,
+        Request::Calls(ws) => ws,
         Request::Generated(_) => "w.cs",
         _ => "",
     }

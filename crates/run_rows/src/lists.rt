@@ -1,8 +1,8 @@
-// The runs of the reports on unused names and on include lines, and what each must tell. No file changes.
+// The runs of the reports on unused names, on include lines and on calls, and what each must tell. No file changes.
 use crate::tables::{Failing, Row};
 use cscout_run::Status;
 
-pub const LISTS: [Row; 10] = [
+pub const LISTS: [Row; 12] = [
     // A macro and a function that nothing uses; `main` is left out.
     Row {
         files: "w.cs:file a.c\n@a.c:#define UNUSED 1\nstatic int f(void) { return 0; }\nint used;\nint main(void) { return used; }\n",
@@ -82,6 +82,24 @@ pub const LISTS: [Row; 10] = [
         err: "cscout: unit 1: a.c:1:9: undeclared\n",
         status: Status::Workspace,
     },
+    // A macro calls a function, and a function both.
+    Row {
+        files: "w.cs:file a.c\n@a.c:#define TWO(x) add(x, x)\nint add(int a, int b);\nint top(int n) { return TWO(n) + add(n, 1); }\n",
+        words: "w.cs calls",
+        after: "w.cs:file a.c\n@a.c:#define TWO(x) add(x, x)\nint add(int a, int b);\nint top(int n) { return TWO(n) + add(n, 1); }\n",
+        out: "a.c:1:9 TWO -> a.c:2:5 add\na.c:3:5 top -> a.c:1:9 TWO\na.c:3:5 top -> a.c:2:5 add\n",
+        err: "",
+        status: Status::Done,
+    },
+    // A unit that is not bound has no calls.
+    Row {
+        files: "w.cs:file a.c\n@a.c:int f(void) { return g(); }\n",
+        words: "w.cs calls",
+        after: "w.cs:file a.c\n@a.c:int f(void) { return g(); }\n",
+        out: "",
+        err: "cscout: unit 1: a.c:1:22: undeclared\n",
+        status: Status::Workspace,
+    },
     // One word too many.
     Row {
         files: "w.cs:",
@@ -95,7 +113,7 @@ pub const LISTS: [Row; 10] = [
 
 const ONE_UNIT: &str = "w.cs:file a.c\n@a.c:int x;\n";
 
-pub const FAILING_LISTS: [Failing; 3] = [
+pub const FAILING_LISTS: [Failing; 4] = [
     Failing {
         row: Row {
             files: ONE_UNIT,
@@ -113,6 +131,19 @@ pub const FAILING_LISTS: [Failing; 3] = [
         row: Row {
             files: ONE_UNIT,
             words: "w.cs includes",
+            after: ONE_UNIT,
+            out: "",
+            err: "cscout: cannot read a.c\n",
+            status: Status::ReadFault,
+        },
+        call: 2,
+        out_call: 0,
+        err_call: 0,
+    },
+    Failing {
+        row: Row {
+            files: ONE_UNIT,
+            words: "w.cs calls",
             after: ONE_UNIT,
             out: "",
             err: "cscout: cannot read a.c\n",
