@@ -26,6 +26,9 @@ use Rattle.rename_rules.specs.First.{IsAmong, member_offences, offence, offences
 use Rattle.rename_rules.specs.Offences.{read_only_place, read_only_places, reserved_places, stringized_places, header_places, no_identifier_places}
 use Rattle.rename_rules.specs.Renaming.{IsNamedRenamed, IsRenaming}
 use Rattle.rename_rules.specs.Runs.{edit_of, edits_of, file_of, new_bytes, runs, with_member}
+use Rattle.rename_source_laws.specs.EditedSource.{AreRespelled}
+use Rattle.rename_source_laws.specs.RenamedSource.{IsAccepted}
+use Rattle.rename_source_laws.proofs.TextLemmas.{respelled_files_have_renamed_texts}
 use Rattle.cscout_run.specs.Request.{RequestValue, RenameValue, asked, help_asked, version_asked, renaming_asked, tokens_asked, skipped_asked, class_asked, unused_asked, includes_asked, calls_asked, generated_asked}
 use Rattle.cscout_run.specs.Promise.{Renamed, IsRenamed, KeepsPromise}
 use Rattle.cscout_run.specs.Steps.{Planned, IsPlannedFor}
@@ -239,17 +242,19 @@ record Accepted (q : RenameValue) (a : AnalysisValue) (edits : List Edit) : Type
   named : Names a q.path q.line q.column (Some part)
   members : List Part
   class : AreMembers a part members
+  identifier : is_identifier_text q.name ≡ true
   clear : offences_of a members q.name ≡ []
   edits_are : edits ≡ edits_of a members q.name
 
-accepted_class : (q : RenameValue) (a : AnalysisValue) (edits : List Edit) (part : Option Part) → Names a q.path q.line q.column part
+accepted_class : (q : RenameValue) (a : AnalysisValue) (edits : List Edit) (part : Option Part) → is_identifier_text q.name ≡ true → Names a q.path q.line q.column part
     → IsNamedRenamed a q.name (Ok edits) part → Accepted q a edits
-accepted_class q a edits None names is = cc
-accepted_class q a edits (Some part) names is = record {
+accepted_class q a edits None good names is = cc
+accepted_class q a edits (Some part) good names is = record {
   part = part;
   named = names;
   members = is.members;
   class = is.are_members;
+  identifier = good;
   clear = is.renamed.0;
   edits_are = is.renamed.1;
 }
@@ -257,14 +262,39 @@ accepted_class q a edits (Some part) names is = record {
 accepted_name : (q : RenameValue) (a : AnalysisValue) (edits : List Edit) (good : Bool) → is_identifier_text q.name ≡ good
     → IsRenaming a q.path q.line q.column q.name (Ok edits) → Accepted q a edits
 accepted_name q a edits false is r = let e = r.bad_name is in cc
-accepted_name q a edits true is r = let n = r.named is in accepted_class q a edits n.0 n.1 n.2
+accepted_name q a edits true is r = let n = r.named is in accepted_class q a edits n.0 is n.1 n.2
 
--- the files once the edits are put
+-- the files once the edits are put: those that hold members have these respelled
+respelled_files : (q : RenameValue) (before : FileMap) (edits : List Edit) (p : Planned q before edits) (c : Accepted q p.analysis edits)
+    → AreRespelled p.analysis c.members q.name (source_of before) (source_of (with_edits edits before))
+respelled_files q before edits p c =
+    let made = made_files_pseudo (source_of before) p.ws p.analysis p.analysed in
+    record {
+      edited = λ run f h. (
+        held_before q before p.analysis c.members run f c.clear p.found made h.0 h.1,
+        held_now edits before (edit_for q.name run f) p.sound
+            (subst (λ (es : List Edit). IsAmong es (edit_for q.name run f)) (sym c.edits_are) (edit_there p.analysis q.name c.members run f h.0 h.1)),
+      );
+      others = λ path apart. bytes_at-with_edits_other edits path before (λ k d below.
+          let at : IsAmong edits (get_or edits k d) = (k, slice_get-get_or edits k d below) in
+          edit_apart p.analysis q.name c.members path (get_or edits k d)
+          (subst (λ (es : List Edit). IsAmong es (get_or edits k d)) c.edits_are at) apart);
+    }
+
 kept : (q : RenameValue) (before : FileMap) (edits : List Edit) → Planned q before edits → (r : Renamed) × IsRenamed q before (with_edits edits before) r
 kept q before edits p =
     let c = accepted_name q p.analysis edits (is_identifier_text q.name) refl p.renaming in
-    let made = made_files_pseudo (source_of before) p.ws p.analysis p.analysed in
-    let r : Renamed = record { ws = p.ws; analysis = p.analysis; part = c.part; members = c.members } in (
+    let files = respelled_files q before edits p c in
+    let r : Renamed = record { ws = p.ws; analysis = p.analysis; part = c.part; members = c.members } in
+    let accepted : IsAccepted (source_of before) p.ws p.analysis p.classes c.part c.members q.name = record {
+      workspace = p.is;
+      analysed = p.analysed;
+      own = p.own;
+      once = p.once;
+      class = c.class;
+      identifier = c.identifier;
+      clear = c.clear;
+    } in (
       r,
       record {
         workspace = p.workspace;
@@ -273,15 +303,10 @@ kept q before edits p =
         named = c.named;
         class = c.class;
         clear = c.clear;
-        edited = λ run f h. (
-          held_before q before p.analysis c.members run f c.clear p.found made h.0 h.1,
-          held_now edits before (edit_for q.name run f) p.sound
-              (subst (λ (es : List Edit). IsAmong es (edit_for q.name run f)) (sym c.edits_are) (edit_there p.analysis q.name c.members run f h.0 h.1)),
-        );
-        others = λ path apart. bytes_at-with_edits_other edits path before (λ k d below.
-            let at : IsAmong edits (get_or edits k d) = (k, slice_get-get_or edits k d below) in
-            edit_apart p.analysis q.name c.members path (get_or edits k d)
-            (subst (λ (es : List Edit). IsAmong es (get_or edits k d)) c.edits_are at) apart);
+        edited = files.edited;
+        others = files.others;
+        texts = respelled_files_have_renamed_texts (source_of before) (source_of (with_edits edits before)) p.ws p.analysis p.classes c.part c.members q.name q.path q.line q.column
+            accepted c.named files;
       },
     )
 

@@ -12,6 +12,7 @@ use Rattle.ws_core.specs.Parts.{AreMembers}
 use Rattle.table_laws.specs.Tables.{IsOpened}
 use Rattle.rename_rules.specs.First.{IsAmong, IsFirst, offences_of}
 use Rattle.rename_rules.specs.Runs.{runs, file_of, new_bytes}
+use Rattle.rename_source_laws.specs.RenamedSource.{TextsAreRenamed}
 use Rattle.cscout_run.specs.Request.{RequestValue, renaming_asked, RenameValue}
 use Rattle.cscout_run.specs.Answer.{workspace_at}
 
@@ -47,6 +48,8 @@ pub record IsRenamed (q : RenameValue) (before now : FileMap) (r : Renamed) : Ty
   -- every other path holds what it held
   pub others : (path : List ℕ) → ((run : List Part) (f : KeptValue) → HoldsMembers r run f → f.path ≢ path)
       → bytes_at path now ≡ bytes_at path before
+  -- each unit preprocesses to the tokens that it had, with the members respelled
+  pub texts : TextsAreRenamed (source_of now) r.ws r.analysis r.members q.name
 
 -- the promise to these words: where they ask for a rename, the files are renamed
 abbrev pub KeepsPromise : Option RequestValue → FileMap → FileMap → Type 0

@@ -4,9 +4,11 @@ use Rattle.cs_base.specs.Outside.{FileMap, ReadEnd, NoneFailed}
 use Rattle.cs_base.specs.Edit.{Edit, IsKept}
 use Rattle.ws_file.specs.Workspace.{WorkspaceValue, IsWorkspace}
 use Rattle.ws_file.specs.Reading.{WsFault}
+use Rattle.eclass_map.specs.ClassTable as classes
 use Rattle.include_tree.specs.Files.{source_of}
-use Rattle.include_tree.specs.Laws.{AreFound}
+use Rattle.include_tree.specs.Laws.{AreFound, HasEachOnce}
 use Rattle.ws_core.specs.Analysis.{AnalysisValue, analysis_of}
+use Rattle.ws_core.specs.Classes.{AreItsClasses}
 use Rattle.ws_core.specs.declared.analyse_fault.AnalyseFault.{AnalyseFault}
 use Rattle.ws_core.specs.declared.analyse_fault.AnalyseFault.TheVariants as fault
 use Rattle.cscout_run.specs.declared.status.Status.TheVariants as status
@@ -56,7 +58,7 @@ reads_of ws (Ok x) = NoneFailed
 reads_of ws (Err stop) = stop_reads ws stop
 
 -- An accepted renaming, as it stands before the first put: it is planned over the analysis of the workspace, whose
--- files are what the files hold; and paths of edits are in order.
+-- files are what the files hold, with its classes; each path has one number; and paths of edits are in order.
 pub record Planned (q : RenameValue) (files : FileMap) (edits : List Edit) : Type 0 where
   pub ws : WorkspaceValue
   pub analysis : AnalysisValue
@@ -64,6 +66,9 @@ pub record Planned (q : RenameValue) (files : FileMap) (edits : List Edit) : Typ
   pub is : IsWorkspace ws
   pub analysed : analysis_of (source_of files) ws ≡ Ok analysis
   pub found : AreFound (source_of files) analysis.table
+  pub classes : classes.Table
+  pub own : AreItsClasses analysis classes
+  pub once : HasEachOnce analysis.table
   pub renaming : IsRenaming analysis q.path q.line q.column q.name (Ok edits)
   pub sound : IsKept edits
 

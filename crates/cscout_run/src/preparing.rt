@@ -77,7 +77,11 @@ fn prepare_rename<F: Files>(
 {
     let ws = read_workspace(alloc, rename.ws, files)?;
     match analyse(alloc, &ws, files) {
-        Ok(analysis) => planned(alloc, &analysis, rename),
+        Ok(analysis) => {
+            // Each path of the analysis has one number.
+            let _files = analysis.files();
+            planned(alloc, &analysis, rename)
+        }
         Err(fault) => Err(stop_of(fault)),
     }
 }
