@@ -8,7 +8,7 @@ use Rattle.c99_read.specs.Items.{Item, Action, Alternative}
 use Rattle.c99_read.specs.State.{Grammar, State, collapses, finished, acted, opened, closed}
 use Rattle.c99_read.specs.Reading.{Goal, step, read_within}
 use Rattle.read_laws.specs.Shapes.{goal_all, parts_all}
-use Rattle.read_laws.proofs.Walked.{After, IsKept, kept_step, kept_within}
+use Rattle.read_laws.proofs.Walked.{After, IsKept, fit_each, kept_step, kept_within}
 
 pub and_both : (p q : Bool) → p ≡ true → q ≡ true → (p && q) ≡ true
 and_both true q h k = k
@@ -108,10 +108,10 @@ module _ (good : Production → Forest → Bool) where
     pub keeps_within : AreGood → (fuel depth : ℕ) (goal : Goal) (s : State) → goal_all ok goal ≡ true
         → After (Keeps s) (read_within g fuel depth goal s)
     keeps_within are_good =
-        kept_within g Keeps (keeps_kept g) ok fits
+        kept_within g Keeps (keeps_kept g) ok (λ p n. fits p)
         (record {
-          fit = are_good.fit;
-          inside = are_good.inside;
+          fit = λ p. fit_each (fits p) 1 (g.table p) (are_good.fit p);
+          inside = λ p n a. are_good.inside p a;
           node = λ fuel depth p n a s s' of_ok fit is_read keeps. node_keeps p n s s' (are_good.made fuel depth p n a s s' of_ok fit is_read) keeps;
         })
 

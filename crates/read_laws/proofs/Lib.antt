@@ -5,3 +5,7 @@ mod Growing
 mod Formed
 mod Forms
 mod OfTexts
+mod NameClasses
+mod NamePlaces
+mod NameTable
+mod NamesRead

@@ -51,9 +51,22 @@ each_goal : (goal : Goal) → goal_all (λ p. true) goal ≡ true
 each_goal (produce p) = refl
 each_goal (repeat t a) = each_part a
 
-each_fits : (alternatives : List Alternative) → list_all (λ a. true) alternatives ≡ true
-each_fits [] = refl
-each_fits (a ∷ more) = each_fits more
+-- each alternative fits, the first of which has this number
+abbrev pub fit_from : (ℕ → Alternative → Bool) → ℕ → List Alternative → Bool
+fit_from fits n [] = true
+fit_from fits n (a ∷ more) = fits n a && fit_from fits (n + 1) more
+
+each_fits : (n : ℕ) (alternatives : List Alternative) → fit_from (λ m a. true) n alternatives ≡ true
+each_fits n [] = refl
+each_fits n (a ∷ more) = each_fits (n + 1) more
+
+-- .. where numbers do not matter
+pub fit_each : (fits : Alternative → Bool) (n : ℕ) (alternatives : List Alternative) → list_all fits alternatives ≡ true
+    → fit_from (λ m. fits) n alternatives ≡ true
+fit_each fits n [] all = refl
+fit_each fits n (a ∷ more) all =
+    let both = and_parts (fits a) (list_all fits more) all in
+    rw (both.0, fit_each fits (n + 1) more both.1) refl
 
 -- ---- What is kept
 
@@ -101,25 +114,25 @@ module _ (g : Grammar) (R : State → State → Type 0) (kept : IsKept g R) wher
         (λ s'. kept_step a (depth + 1) s' all)
 
   -- a node that is read by an alternative which fits is kept, where the items of the alternative are
-  abbrev pub NodesKeep : (Production → Bool) → (Production → Alternative → Bool) → Type 0
+  abbrev pub NodesKeep : (Production → Bool) → (Production → ℕ → Alternative → Bool) → Type 0
   NodesKeep ok fits =
-      (fuel depth : ℕ) (p : Production) (n : ℕ) (a : Alternative) (s s' : State) → ok p ≡ true → fits p a ≡ true
+      (fuel depth : ℕ) (p : Production) (n : ℕ) (a : Alternative) (s s' : State) → ok p ≡ true → fits p n a ≡ true
       → step g (read_within g fuel) depth a.body (opened p n s) ≡ Ok s' → R (opened p n s) s' → R s (closed p s s')
 
   -- each alternative of the table fits, and productions that are allowed have no others in them
-  pub record IsKeptByNodes (ok : Production → Bool) (fits : Production → Alternative → Bool) : Type 0 where
-    pub fit : (p : Production) → list_all (fits p) (g.table p) ≡ true
-    pub inside : (p : Production) (a : Alternative) → fits p a ≡ true → ok p ≡ true → parts_all ok a.body ≡ true
+  pub record IsKeptByNodes (ok : Production → Bool) (fits : Production → ℕ → Alternative → Bool) : Type 0 where
+    pub fit : (p : Production) → fit_from (fits p) 1 (g.table p) ≡ true
+    pub inside : (p : Production) (n : ℕ) (a : Alternative) → fits p n a ≡ true → ok p ≡ true → parts_all ok a.body ≡ true
     pub node : NodesKeep ok fits
 
-  module _ (ok : Production → Bool) (fits : Production → Alternative → Bool) (nodes : IsKeptByNodes ok fits) where
+  module _ (ok : Production → Bool) (fits : Production → ℕ → Alternative → Bool) (nodes : IsKeptByNodes ok fits) where
     module _ (fuel : ℕ)
         (reads : (depth : ℕ) (goal : Goal) (s : State) → goal_all ok goal ≡ true → After (R s) (read_within g fuel depth goal s)) where
-      kept_alternative : (depth : ℕ) (p : Production) (n : ℕ) (a : Alternative) (s : State) → ok p ≡ true → fits p a ≡ true
+      kept_alternative : (depth : ℕ) (p : Production) (n : ℕ) (a : Alternative) (s : State) → ok p ≡ true → fits p n a ≡ true
           → After (R s) (alternative g (read_within g fuel) depth p n a.body s)
       kept_alternative depth p n a s of_ok fit =
           by (step g (read_within g fuel) depth a.body (opened p n s)) refl
-          (kept_step ok (read_within g fuel) reads a.body depth (opened p n s) (nodes.inside p a fit of_ok))
+          (kept_step ok (read_within g fuel) reads a.body depth (opened p n s) (nodes.inside p n a fit of_ok))
         where
           by : (r : Step) → step g (read_within g fuel) depth a.body (opened p n s) ≡ r → After (R (opened p n s)) r
               → After (R s) (and_then r (λ s'. Ok (closed p s s')))
@@ -127,10 +140,10 @@ module _ (g : Grammar) (R : State → State → Type 0) (kept : IsKept g R) wher
           by (Ok s') is_read m = nodes.node fuel depth p n a s s' of_ok fit is_read m
 
       kept_pick : (depth : ℕ) (p : Production) (n : ℕ) (alternatives : List Alternative) (s : State) → ok p ≡ true
-          → list_all (fits p) alternatives ≡ true → After (R s) (pick g (read_within g fuel) depth p n alternatives s)
+          → fit_from (fits p) n alternatives ≡ true → After (R s) (pick g (read_within g fuel) depth p n alternatives s)
       kept_pick depth p n [] s of_ok fit = tt
       kept_pick depth p n (a ∷ more) s of_ok fit =
-          let both = and_parts (fits p a) (list_all (fits p) more) fit in
+          let both = and_parts (fits p n a) (fit_from (fits p) (n + 1) more) fit in
           after_if (R s) (may g a.test a.body s) _ _ (kept_alternative depth p n a s of_ok both.0)
           (kept_pick depth p (n + 1) more s of_ok both.1)
 
@@ -146,10 +159,10 @@ module _ (g : Grammar) (R : State → State → Type 0) (kept : IsKept g R) wher
   module _ (node : (p : Production) (n : ℕ) (s s' : State) → R (opened p n s) s' → R s (closed p s s')) where
     pub kept_anywhere : (fuel depth : ℕ) (goal : Goal) (s : State) → After (R s) (read_within g fuel depth goal s)
     kept_anywhere fuel depth goal s =
-        kept_within (λ p. true) (λ p a. true)
+        kept_within (λ p. true) (λ p n a. true)
         (record {
-          fit = λ p. each_fits (g.table p);
-          inside = λ p a fit of_ok. each_part a.body;
+          fit = λ p. each_fits 1 (g.table p);
+          inside = λ p n a fit of_ok. each_part a.body;
           node = λ fuel' depth' p n a s' s'' of_ok fit is_read m. node p n s' s'' m;
         })
         fuel depth goal s (each_goal goal)

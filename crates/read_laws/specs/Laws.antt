@@ -1,15 +1,16 @@
 -- What is true of the tree of every text that is read.
-use Rattle.std.specs.Prelude.{◌<◌, ◌≡◌, ◌≢◌, true, List, length, Ok, IfErr, All, AllPairs}
+use Rattle.std.specs.Prelude.{◌<◌, ◌≡◌, ◌≢◌, true, List, length, Some, Ok, IfErr, All, AllPairs}
 use Rattle.cs_base.specs.Token.{Token}
 use Rattle.c99_tree.specs.Tree.{Node}
 use Rattle.c99_read.specs.Reading.{read_of}
 use Rattle.c99_read.specs.Standard.{c99}
-use Rattle.c99_read.specs.State.{Grammar}
+use Rattle.c99_read.specs.State.{Grammar, base_at, is_identifier}
 use Rattle.scope_bind.specs.declared.bound.Name.{Name}
 use Rattle.scope_bind.specs.declared.lists.List.{List as NameList}
 use Rattle.scope_bind.specs.declared.lists.Range.{Range}
 use Rattle.scope_bind.specs.Causes.{index_of}
 use Rattle.scope_bind.specs.Bound.{Bound, binding_of}
+use Rattle.scope_bind.specs.Names.{entity_at}
 use Rattle.bind_laws.specs.Units.{AreFrom, token_count, IsTreeOf}
 use Rattle.bind_laws.specs.Laws.{Binds, IsBody}
 use Rattle.read_laws.specs.Shapes.{reads_all}
@@ -49,6 +50,16 @@ ReadFaultsStandInTheText =
 -- no token is two names
 abbrev pub EachReadTokenIsOneName : Type 0
 EachReadTokenIsOneName = OfEachBinding (λ toks b. AllPairs (λ (m n : Name). m.index ≢ n.index) b.names)
+
+-- a name is an identifier (6.4.2) that is no keyword, and so is the one that names its entity
+abbrev pub ReadNamesAreIdentifiers : Type 0
+ReadNamesAreIdentifiers =
+    OfEachBinding (λ toks b. All (λ (n : Name). (is_identifier (base_at c99 toks n.index) ≡ true) × (is_identifier (base_at c99 toks n.entity) ≡ true)) b.names)
+
+-- the token that names an entity is itself a name, and of this entity
+abbrev pub ReadEntitiesAreNames : Type 0
+ReadEntitiesAreNames =
+    OfEachBinding (λ toks b. All (λ (n : Name). (entity_at b.names n.index ≡ Some n.entity) × (entity_at b.names n.entity ≡ Some n.entity)) b.names)
 
 -- the parameter lists stand in order of the declared names, each of which has one at most (6.7.5.3)
 abbrev pub ReadParameterListsAreInOrder : Type 0

@@ -1,5 +1,5 @@
 // What is true of each text that is read and bound: laws that no caller runs, and that callers' proofs cite.
-ghost use Rattle.read_laws.specs.Laws.{ReadNamesStandInTheText, ReadFaultsStandInTheText, EachReadTokenIsOneName, ReadParameterListsAreInOrder, ReadArgumentListsAreInOrder, ReadBodiesStandInTheText, ReadBodiesAreApart};
+ghost use Rattle.read_laws.specs.Laws.{ReadNamesStandInTheText, ReadFaultsStandInTheText, EachReadTokenIsOneName, ReadNamesAreIdentifiers, ReadEntitiesAreNames, ReadParameterListsAreInOrder, ReadArgumentListsAreInOrder, ReadBodiesStandInTheText, ReadBodiesAreApart};
 
 use crate::laws::trees_are_of_their_texts;
 
@@ -18,6 +18,22 @@ pub fn each_read_token_is_one_name()
 {
     trees_are_of_their_texts();
     bind_laws::each_token_is_one_name();
+}
+
+/// A name is an identifier, and so is the token that names its entity.
+pub fn read_names_are_identifiers()
+    ensures { ReadNamesAreIdentifiers }
+{
+    trees_are_of_their_texts();
+    bind_laws::bound_names_pass();
+}
+
+/// The token that names an entity is a name of it.
+pub fn read_entities_are_names()
+    ensures { ReadEntitiesAreNames }
+{
+    trees_are_of_their_texts();
+    bind_laws::entities_are_names();
 }
 
 /// Parameter lists and argument lists stand in order of their names, and each name has one at most.
