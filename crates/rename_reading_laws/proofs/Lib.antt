@@ -1,5 +1,5 @@
-mod Private
-mod Bases
+pub mod Private
+pub mod Bases
 mod Twins
 mod Moods
 mod Table
@@ -11,5 +11,5 @@ mod Starting
 mod Locked
 mod Named
 mod Visible
-mod Texts
+pub mod Texts
 mod Rows

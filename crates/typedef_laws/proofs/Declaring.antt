@@ -174,7 +174,7 @@ module _ (toks : List Token) where
     init_items = rest_of (rest_of (first_body (table InitDecl)))
 
     -- a declarator in a declaration, and its initializer
-    declared_after : (depth : ℕ) (s s1 : State) → Makes toks Declarator (opened InitDecl 1 s) s1 → Grows Declarator (opened InitDecl 1 s) s1
+    pub declared_after : (depth : ℕ) (s s1 : State) → Makes toks Declarator (opened InitDecl 1 s) s1 → Grows Declarator (opened InitDecl 1 s) s1
         → Goes toks (labelled InitDecl 1) s.at (opened InitDecl 1 s) (acted c99 declare s1)
     unfolding acted opened
     declared_after depth s s1 m grows =

@@ -46,11 +46,11 @@ outer_specs : (p : Production) → is_outer p ≡ true → ghosts.eq p Specs ≡
 outer_specs Specs h = absurd (false≢true h)
 outer_specs _ h = refl
 
-outer_declarator : (p : Production) → is_outer p ≡ true → is_declarator p ≡ false
+pub outer_declarator : (p : Production) → is_outer p ≡ true → is_declarator p ≡ false
 outer_declarator Declarator h = absurd (false≢true h)
 outer_declarator _ h = refl
 
-outer_collapses : (p : Production) → is_outer p ≡ true → collapses p ≡ false
+pub outer_collapses : (p : Production) → is_outer p ≡ true → collapses p ≡ false
 outer_collapses External h = refl
 outer_collapses ExtRest h = refl
 outer_collapses ExtTail h = refl
@@ -220,28 +220,28 @@ module _ (toks : List Token) where
     abbrev ended_names : Names
     ended_names = with_scope_ended last_one.names last_one.names.scopes
 
-    ended_is : with_token (acted c99 end last_one) ≡ with_token (renamed_to last_one ended_names)
+    pub ended_is : with_token (acted c99 end last_one) ≡ with_token (renamed_to last_one ended_names)
     unfolding acted
     ended_is = refl
 
-    abbrev body_end_state : State
+    abbrev pub body_end_state : State
     body_end_state = with_token (renamed_to last_one ended_names)
 
     body_scopes : SameOuter s.names.scopes last_one.names.scopes
     unfolding opened
     body_scopes = w.goes.outer
 
-    body_outer : IsOpen (tail_of s.names.scopes) → SameOuter ([] ∷ tail_of s.names.scopes) last_one.names.scopes
+    pub body_outer : IsOpen (tail_of s.names.scopes) → SameOuter ([] ∷ tail_of s.names.scopes) last_one.names.scopes
     body_outer op = tail_outer s.names.scopes last_one.names.scopes op body_scopes
 
-    body_back : IsOpen (tail_of s.names.scopes) → ended_names.scopes ≡ tail_of s.names.scopes
+    pub body_back : IsOpen (tail_of s.names.scopes) → ended_names.scopes ≡ tail_of s.names.scopes
     body_back op = ended_scopes last_one.names (tail_of s.names.scopes) last_one.names.scopes op (body_outer op)
 
     cons_of : (x : List (List Declaration)) → IsOpen (tail_of x) → x ≡ head_of x ∷ tail_of x
     cons_of [] op = absurd op
     cons_of (a ∷ x) op = refl
 
-    body_begins : (o : Outline) (ends : List ℕ) → s.toks ≡ toks → IsOpen (tail_of s.names.scopes) → Matches s.at (tail_of s.names.scopes) ends o.entries
+    pub body_begins : (o : Outline) (ends : List ℕ) → s.toks ≡ toks → IsOpen (tail_of s.names.scopes) → Matches s.at (tail_of s.names.scopes) ends o.entries
         → o.typedef ≡ s.near → Kept (head_of s.names.scopes) o → Fits toks (labelled FunBody 1) (opened FunBody 1 s) (last_one.at ∷ ends) (begun (labelled FunBody 1) s.at body o)
     unfolding opened
     body_begins o ends t op m near kept =

@@ -276,14 +276,14 @@ module _ (toks : List Token) where
       by true e = leaves_lone p n s s' s'.built.under refl e b
       by false e = leaves_itself p n s s' b
 
-  closed_scopes : (p : Production) (names : Names) → (names_closed p names).scopes ≡ names.scopes
+  pub closed_scopes : (p : Production) (names : Names) → (names_closed p names).scopes ≡ names.scopes
   closed_scopes p names = by (is_declarator p)
     where
       by : (c : Bool) → (if c then head_closed names else names).scopes ≡ names.scopes
       by true = refl
       by false = refl
 
-  built_is : (p : Production) (n : ℕ) (s s' : State) → IsIn (labelled p n) s.at s' → s'.built ≡ node_of (labelled p n) s.at s'.built.under
+  pub built_is : (p : Production) (n : ℕ) (s s' : State) → IsIn (labelled p n) s.at s' → s'.built ≡ node_of (labelled p n) s.at s'.built.under
   built_is p n s s' h = ap (λ l. node_of l s'.built.first s'.built.under) h.label ∙ ap (λ k. node_of (labelled p n) k s'.built.under) h.begins
 
   -- the node is closed

@@ -1,29 +1,29 @@
-mod Private
-mod Parts
-mod Outline
-mod Outlines
-mod Matching
-mod Classes
-mod Places
-mod Rules
-mod Goes
-mod Steps
-mod Taking
-mod Declaring
-mod Listing
-mod ScopeNodes
-mod Scoping
+pub mod Private
+pub mod Parts
+pub mod Outline
+pub mod Outlines
+pub mod Matching
+pub mod Classes
+pub mod Places
+pub mod Rules
+pub mod Goes
+pub mod Steps
+pub mod Taking
+pub mod Declaring
+pub mod Listing
+pub mod ScopeNodes
+pub mod Scoping
 mod Enumerating
 mod Parentheses
-mod Table
+pub mod Table
 mod Owned
 mod Twins
-mod Listed
+pub mod Listed
 mod Heads
-mod Handing
-mod Declarators
-mod Steady
-mod Functions
-mod Beginning
-mod Units
+pub mod Handing
+pub mod Declarators
+pub mod Steady
+pub mod Functions
+pub mod Beginning
+pub mod Units
 mod Texts

@@ -62,10 +62,10 @@ IsOdd s = (count_of s.built.under % 2 == 0) ≡ false
 abbrev pub more_listed : Item
 more_listed = inside_of (rest_of (rest_of (first_body (table Params))))
 
-abbrev comma : List Class
+abbrev pub comma : List Class
 comma = classes_of (front_of more_listed)
 
-abbrev listed_items : Item
+abbrev pub listed_items : Item
 listed_items = one identifiers · act name
 
 module _ (toks : List Token) where
@@ -102,10 +102,10 @@ module _ (toks : List Token) where
           opens = outer_open s.names.scopes (in_innermost s.names.scopes (declaration s.at false)) f.opens (outer_declared s.names.scopes (declaration s.at false));
         }
 
-    listed_named : acted c99 name (with_token s) ≡ after_name
+    pub listed_named : acted c99 name (with_token s) ≡ after_name
     listed_named = named_is (with_token s) s.at (last_put s.toks s.built.under s.at None (identifier_is s s.at c).0)
 
-    listed_goes : Goes toks listing first s (acted c99 name (with_token s))
+    pub listed_goes : Goes toks listing first s (acted c99 name (with_token s))
     listed_goes = subst (Goes toks listing first s) (sym listed_named) (record {
       same_text = refl;
       later = omega arith;
@@ -117,15 +117,15 @@ module _ (toks : List Token) where
       fits = λ o ends b f. listed_fits o ends b f;
     })
 
-    listed_count : count_of (acted c99 name (with_token s)).built.under ≡ count_of s.built.under + 1
+    pub listed_count : count_of (acted c99 name (with_token s)).built.under ≡ count_of s.built.under + 1
     unfolding acted
     listed_count = count_leaf s.built.under s.at
 
   -- one name of the list; an odd number of children stands behind it
-  abbrev Listed : ℕ → State → State → Type 0
+  abbrev pub Listed : ℕ → State → State → Type 0
   Listed first s s' = Goes toks listing first s s' × (count_of s'.built.under ≡ count_of s.built.under + 1)
 
-  listed_step : (below : ℕ → Goal → State → Step) (first depth : ℕ) (s : State) → IsEven s → After (Listed first s) (step c99 below depth listed_items s)
+  pub listed_step : (below : ℕ → Goal → State → Step) (first depth : ℕ) (s : State) → IsEven s → After (Listed first s) (step c99 below depth listed_items s)
   listed_step below first depth s even =
       by (take_one c99 identifiers s) (taken (λ s'. (s' ≡ with_token s) × ((among identifiers (class_at c99 s s.at) ≡ true) × (s.at < length s.toks))) identifiers s (λ c more. (refl, (c, more))))
     where
@@ -134,13 +134,13 @@ module _ (toks : List Token) where
       by (Err stop) m = tt
       by (Ok s') m = subst (λ x. Listed first s (acted c99 name x)) (sym m.0) (listed_goes first s m.1.0 m.1.1 even, listed_count first s m.1.0 m.1.1 even)
 
-  even_next : (n : ℕ) → (n % 2 == 0) ≡ false → ((n + 1) % 2 == 0) ≡ true
+  pub even_next : (n : ℕ) → (n % 2 == 0) ≡ false → ((n + 1) % 2 == 0) ≡ true
   even_next n h = eq-eqb ((n + 1) % 2) 0 (let k = eqb-false (n % 2) 0 h in omega (arith, k))
 
-  odd_next : (n : ℕ) → (n % 2 == 0) ≡ true → ((n + 1) % 2 == 0) ≡ false
+  pub odd_next : (n : ℕ) → (n % 2 == 0) ≡ true → ((n + 1) % 2 == 0) ≡ false
   odd_next n h = ne_eqb ((n + 1) % 2) 0 (λ e. (let k : n % 2 ≡ 0 = eqb-true (n % 2) 0 h in omega arith))
 
-  comma_goes : (first : ℕ) (s : State) → s.at < length s.toks → IsOdd s → Goes toks listing first s (with_token s)
+  pub comma_goes : (first : ℕ) (s : State) → s.at < length s.toks → IsOdd s → Goes toks listing first s (with_token s)
   comma_goes first s more odd =
       token_goes toks listing first s more
       (λ o ends b f. (
@@ -149,7 +149,7 @@ module _ (toks : List Token) where
 
   -- what the items of a list make, name by name
   module _ (below : ℕ → Goal → State → Step) where
-    more_step : (first depth : ℕ) (s : State) → IsOdd s
+    pub more_step : (first depth : ℕ) (s : State) → IsOdd s
         → After (λ s'. Goes toks listing first s s' × IsOdd s') (step c99 below depth more_listed s)
     more_step first depth s odd =
         by (take_one c99 comma s) (taken (λ s'. (s' ≡ with_token s) × (s.at < length s.toks)) comma s (λ c more. (refl, more)))

@@ -43,7 +43,7 @@ whole_fine l _ = false
 module _ (toks : List Token) where
   -- ---- Blocks (6.8.2) and parameter lists (6.7.5.3)
 
-  block_scope : (f : Forest) (at : ℕ) → IsScope toks Block 1 (put f (leaf at)) at
+  pub block_scope : (f : Forest) (at : ℕ) → IsScope toks Block 1 (put f (leaf at)) at
   block_scope f at = record {
     scope = λ around. ap (inner around) (last_leaf f at 0);
     entries = λ first o. refl;
@@ -51,7 +51,7 @@ module _ (toks : List Token) where
     named = λ first o. refl;
   }
 
-  list_scope : (f : Forest) (at : ℕ) → IsScope toks Suffix 2 (put f (leaf at)) at
+  pub list_scope : (f : Forest) (at : ℕ) → IsScope toks Suffix 2 (put f (leaf at)) at
   list_scope f at = record {
     scope = λ around. ap (inner around) (last_leaf f at 0);
     entries = λ first o. refl;
@@ -59,7 +59,7 @@ module _ (toks : List Token) where
     named = λ first o. refl;
   }
 
-  with_token_in : (l : Label) (first : ℕ) (s : State) → IsIn l first s → IsIn l first (with_token s)
+  pub with_token_in : (l : Label) (first : ℕ) (s : State) → IsIn l first s → IsIn l first (with_token s)
   with_token_in l first s i = record { label = i.label; begins = i.begins }
 
   module _ (below : ℕ → Goal → State → Step) (reads : Reads toks below) (depth : ℕ) (s : State) where
@@ -121,7 +121,7 @@ module _ (toks : List Token) where
 
   -- ---- Statements (6.8.4 and 6.8.5)
 
-  whole_scope : (p : Production) (n : ℕ) (f : Forest) → is_whole p n ≡ true → IsScope toks p n f (last_token f 0 + 1)
+  pub whole_scope : (p : Production) (n : ℕ) (f : Forest) → is_whole p n ≡ true → IsScope toks p n f (last_token f 0 + 1)
   whole_scope Sub n f h = record { scope = λ around. refl; entries = λ first o. refl; alone = λ first o es. refl; named = λ first o. refl }
   whole_scope Statement n f h = record {
     scope = λ around. ap (λ c. if c then inner around (last_token f 0 + 1) else around) h;

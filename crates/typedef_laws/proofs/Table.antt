@@ -28,26 +28,26 @@ use Rattle.typedef_laws.proofs.Enumerating.{enumerator_body}
 use Rattle.typedef_laws.proofs.Parentheses.{parentheses_body}
 
 -- an alternative of items in which nothing is declared and no scope begins, or one that is a scope
-abbrev is_fine : Production → ℕ → Alternative → Bool
+abbrev pub is_fine : Production → ℕ → Alternative → Bool
 is_fine p n a = is_simple p n && (not (is_at (labelled p n) Pdirect 2) && fine (labelled p n) a.body)
 
-abbrev is_ok : Production → ℕ → Alternative → Bool
+abbrev pub is_ok : Production → ℕ → Alternative → Bool
 is_ok p n a = is_fine p n a || (is_whole p n && whole_fine (labelled p n) a.body)
 
-abbrev all_ok : Production → ℕ → List Alternative → Bool
+abbrev pub all_ok : Production → ℕ → List Alternative → Bool
 all_ok p n [] = true
 all_ok p n (a ∷ more) = is_ok p n a && all_ok p (n + 1) more
 
-abbrev later_of : List Alternative → List Alternative
+abbrev pub later_of : List Alternative → List Alternative
 later_of [] = []
 later_of (a ∷ more) = more
 
-abbrev nth_of : ℕ → List Alternative → Alternative
+abbrev pub nth_of : ℕ → List Alternative → Alternative
 nth_of k [] = plain end_of_text
 nth_of zero (a ∷ more) = a
 nth_of (suc k) (a ∷ more) = nth_of k more
 
-off : (c : Bool) → not c ≡ true → c ≡ false
+pub off : (c : Bool) → not c ≡ true → c ≡ false
 off true h = absurd (false≢true h)
 off false h = refl
 
@@ -197,7 +197,7 @@ module _ (toks : List Token) where
 
   -- ---- Reading, with so many steps inside each other
 
-  listed_within : (fuel depth first : ℕ) (s : State) → IsOdd s → After (Goes toks listing first s) (read_within c99 fuel depth (repeat own more_listed) s)
+  pub listed_within : (fuel depth first : ℕ) (s : State) → IsOdd s → After (Goes toks listing first s) (read_within c99 fuel depth (repeat own more_listed) s)
   unfolding read_within
   listed_within zero depth first s odd = tt
   listed_within (suc fuel) depth first s odd = many_listed toks (read_within c99 fuel) (λ d f s' o. listed_within fuel d f s' o) first depth s odd

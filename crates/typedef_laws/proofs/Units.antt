@@ -43,14 +43,14 @@ names_scope : (o o' : Outline) (x : Option ℕ) (es : List Entry) → o.scope �
 names_scope o o' None es e = refl
 names_scope o o' (Some list) es e = ap (λ (c : Scope). names_of (record o { scope = c }) (Some list) es) e
 
-listed_scope : (o o' : Outline) (list : ℕ) (es : List Entry) → o.scope ≡ o'.scope → listed o list es ≡ listed o' list es
+pub listed_scope : (o o' : Outline) (list : ℕ) (es : List Entry) → o.scope ≡ o'.scope → listed o list es ≡ listed o' list es
 listed_scope o o' list es e = ap (λ (c : Scope). listed (record o { scope = c }) list es) e
 
 declared_kept : (n : Names) (i : Option ℕ) (t : Bool) → (with_declared n i t).kept ≡ n.kept
 declared_kept n None t = refl
 declared_kept n (Some i) t = refl
 
-tail_back : (n : Names) (x : List (List Declaration)) → IsOpen (tail_of x) → (with_scope_ended n x).scopes ≡ tail_of x
+pub tail_back : (n : Names) (x : List (List Declaration)) → IsOpen (tail_of x) → (with_scope_ended n x).scopes ≡ tail_of x
 tail_back n [] op = absurd op
 tail_back n (a ∷ []) op = absurd op
 tail_back n (a ∷ (b ∷ outer)) op = refl
@@ -170,7 +170,7 @@ module _ (toks : List Token) where
         ∙ (ap (λ x. names_given (names_of o' x (now s1 o').entries)) (sym (declarator_list o'))
         ∙ ap names_given (names_scope o' (now s1 o') (now s1 o').kept (now s1 o').entries (sym (outlined_scope s1.built.under o'))))
 
-  some_length : (x : List (List Declaration)) → IsOpen x → 0 < length x
+  pub some_length : (x : List (List Declaration)) → IsOpen x → 0 < length x
   some_length [] op = absurd op
   some_length (a ∷ x) op = omega arith
 
@@ -179,16 +179,16 @@ module _ (toks : List Token) where
     abbrev declared_state : State
     declared_state = acted c99 declare s1
 
-    goes : Goes toks (labelled ExtRest 2) s.at (opened ExtRest 2 s) declared_state
+    pub goes : Goes toks (labelled ExtRest 2) s.at (opened ExtRest 2 s) declared_state
     goes = rest_declared s s1 m grows
 
     rest_outer : SameOuter s.names.scopes declared_state.names.scopes
     rest_outer = opened_outer toks ExtRest 2 s declared_state goes.outer
 
-    rest_open : IsOpen s.names.scopes → IsOpen declared_state.names.scopes
+    pub rest_open : IsOpen s.names.scopes → IsOpen declared_state.names.scopes
     rest_open op = outer_open s.names.scopes declared_state.names.scopes op rest_outer
 
-    tail_outer : IsOpen declared_state.names.scopes → SameOuter declared_state.names.scopes s'.names.scopes
+    pub tail_outer : IsOpen declared_state.names.scopes → SameOuter declared_state.names.scopes s'.names.scopes
     unfolding acted
     tail_outer = e.outer
 
@@ -196,7 +196,7 @@ module _ (toks : List Token) where
     unfolding acted
     tail_text = e.same_text
 
-    tail_later : declared_state.at ≤ s'.at
+    pub tail_later : declared_state.at ≤ s'.at
     unfolding acted
     tail_later = e.later
 
@@ -204,7 +204,7 @@ module _ (toks : List Token) where
     unfolding acted
     tail_within = e.within
 
-    tail_built : s'.built ≡ record declared_state.built { under = put declared_state.built.under (inner e.child) }
+    pub tail_built : s'.built ≡ record declared_state.built { under = put declared_state.built.under (inner e.child) }
     unfolding acted
     tail_built = e.built
 
@@ -212,7 +212,7 @@ module _ (toks : List Token) where
     unfolding acted
     tail_near = e.near
 
-    names_kept : (under : Forest) (o : Outline) → s.toks ≡ toks → 0 < length s.names.scopes → o.typedef ≡ s.near → IsFresh s o
+    pub names_kept : (under : Forest) (o : Outline) → s.toks ≡ toks → 0 < length s.names.scopes → o.typedef ≡ s.near → IsFresh s o
         → Kept declared_state.names.kept (now declared_state (begun (labelled ExtRest 2) s.at under o))
     unfolding acted
     names_kept under o t op near fresh =
@@ -267,16 +267,16 @@ module _ (toks : List Token) where
 
   module _ (s s1 s' : State) (m : Makes toks Specs (opened External 2 s) s1) (grows : s.at < s1.at) (w : Steady (opened External 2 s) s1)
       (e : Defines ExtRest s1 s') where
-    specs_goes : Goes toks (labelled External 2) s.at (opened External 2 s) s1
+    pub specs_goes : Goes toks (labelled External 2) s.at (opened External 2 s) s1
     specs_goes = node_goes toks (labelled External 2) s.at Specs (opened External 2 s) s1 refl m
 
     specs_outer : SameOuter s.names.scopes s1.names.scopes
     specs_outer = opened_outer toks External 2 s s1 specs_goes.outer
 
-    specs_open : IsOpen s.names.scopes → IsOpen s1.names.scopes
+    pub specs_open : IsOpen s.names.scopes → IsOpen s1.names.scopes
     specs_open op = outer_open s.names.scopes s1.names.scopes op specs_outer
 
-    specs_fresh : (under : Forest) (o : Outline) → IsFresh s o → IsFresh s1 (now s1 (begun (labelled External 2) s.at under o))
+    pub specs_fresh : (under : Forest) (o : Outline) → IsFresh s o → IsFresh s1 (now s1 (begun (labelled External 2) s.at under o))
     unfolding opened
     specs_fresh under o fresh =
         let o' : Outline = begun (labelled External 2) s.at under o in (
@@ -333,11 +333,11 @@ module _ (toks : List Token) where
   after_same P Q (Ok s) f m = f s m
 
   -- what reading makes of these productions
-  record OuterReads (below : ℕ → Goal → State → Step) : Type 0 where
-    bodies : (depth : ℕ) (s : State) → After (Tails FunBody s) (below depth (produce FunBody) s)
-    tails : (depth : ℕ) (s : State) → After (Tails ExtTail s) (below depth (produce ExtTail) s)
-    rests : (depth : ℕ) (s : State) → After (Defines ExtRest s) (below depth (produce ExtRest) s)
-    definitions : (depth : ℕ) (s : State) → After (Defines External s) (below depth (produce External) s)
+  pub record OuterReads (below : ℕ → Goal → State → Step) : Type 0 where
+    pub bodies : (depth : ℕ) (s : State) → After (Tails FunBody s) (below depth (produce FunBody) s)
+    pub tails : (depth : ℕ) (s : State) → After (Tails ExtTail s) (below depth (produce ExtTail) s)
+    pub rests : (depth : ℕ) (s : State) → After (Defines ExtRest s) (below depth (produce ExtRest) s)
+    pub definitions : (depth : ℕ) (s : State) → After (Defines External s) (below depth (produce External) s)
 
   module _ (below : ℕ → Goal → State → Step) (reads : Reads toks below) (outer : OuterReads below)
       (hands : (depth : ℕ) (s : State) → After (HandsOn toks Declarator s) (below depth (produce Declarator) s))
@@ -445,7 +445,7 @@ module _ (toks : List Token) where
         (opens_alternative s.names.scopes (IsFresh s) External 2 external_items s refl (external_body s))
         tt)
 
-  outer_within : (fuel : ℕ) → OuterReads (read_within c99 fuel)
+  pub outer_within : (fuel : ℕ) → OuterReads (read_within c99 fuel)
   unfolding read_within
   outer_within zero = record { bodies = λ depth s. tt; tails = λ depth s. tt; rests = λ depth s. tt; definitions = λ depth s. tt }
   outer_within (suc fuel) = record {
@@ -457,25 +457,25 @@ module _ (toks : List Token) where
 
   -- ---- The unit
 
-  abbrev unit_label : Label
+  abbrev pub unit_label : Label
   unit_label = labelled TranslationUnit 1
 
   -- beside the outline, what is known between definitions
-  record Between (s : State) (ends : List ℕ) (o : Outline) : Type 0 where
-    fits : Fits toks unit_label s ends o
-    heads : s.names.heads ≡ []
-    below : Below s.at s.built.under
-    past : (list : ℕ) → s.at < list → listed o list (now s o).entries ≡ []
+  pub record Between (s : State) (ends : List ℕ) (o : Outline) : Type 0 where
+    pub fits : Fits toks unit_label s ends o
+    pub heads : s.names.heads ≡ []
+    pub below : Below s.at s.built.under
+    pub past : (list : ℕ) → s.at < list → listed o list (now s o).entries ≡ []
 
-  record UnitGoes (s s' : State) : Type 0 where
-    same_text : s'.toks ≡ s.toks
-    within : s.at ≤ length s.toks → s'.at ≤ length s.toks
-    later : s.at ≤ s'.at
-    outer : IsOpen s.names.scopes → SameOuter s.names.scopes s'.names.scopes
-    inside : IsIn unit_label 0 s → IsIn unit_label 0 s'
-    goes : (o : Outline) (ends : List ℕ) → Bounds s'.at o.scope.to s'.names.scopes ends → Between s ends o → Between s' ends o
+  pub record UnitGoes (s s' : State) : Type 0 where
+    pub same_text : s'.toks ≡ s.toks
+    pub within : s.at ≤ length s.toks → s'.at ≤ length s.toks
+    pub later : s.at ≤ s'.at
+    pub outer : IsOpen s.names.scopes → SameOuter s.names.scopes s'.names.scopes
+    pub inside : IsIn unit_label 0 s → IsIn unit_label 0 s'
+    pub goes : (o : Outline) (ends : List ℕ) → Bounds s'.at o.scope.to s'.names.scopes ends → Between s ends o → Between s' ends o
 
-  unit_still : (s : State) → UnitGoes s s
+  pub unit_still : (s : State) → UnitGoes s s
   unit_still s = record {
     same_text = refl;
     within = λ h. h;
@@ -533,7 +533,7 @@ module _ (toks : List Token) where
       external_after : (q : Production) (first : ℕ) (o : Outline) (l : Label) (under : Forest) (es : List Entry) → q ≡ External → entries_after q first o l under es ≡ es
       external_after q first o l under es e = ap (λ x. entries_after x first o l under es) e
 
-  definitions_within : (fuel depth : ℕ) (s : State) → After (UnitGoes s) (read_within c99 fuel depth (produce External) s)
+  pub definitions_within : (fuel depth : ℕ) (s : State) → After (UnitGoes s) (read_within c99 fuel depth (produce External) s)
   definitions_within fuel depth s =
       by (read_within c99 fuel depth (produce External) s) ((outer_within fuel).definitions depth s) (steady_within fuel depth (produce External) s)
       (moves_within toks fuel depth (produce External) s refl)
@@ -542,7 +542,7 @@ module _ (toks : List Token) where
       by (Err stop) e w m = tt
       by (Ok s') e w m = definition_goes s s' e w (let f = m.1 refl in let t = ap length e.same_text in omega arith)
 
-  unit_then : (s : State) (r : Step) (next_step : State → Step) → After (UnitGoes s) r → ((s' : State) → After (UnitGoes s') (next_step s')) → After (UnitGoes s) (and_then r next_step)
+  pub unit_then : (s : State) (r : Step) (next_step : State → Step) → After (UnitGoes s) r → ((s' : State) → After (UnitGoes s') (next_step s')) → After (UnitGoes s) (and_then r next_step)
   unit_then s (Err stop) next_step m n = tt
   unit_then s (Ok s') next_step m n = onward (next_step s') (n s')
     where
@@ -550,7 +550,7 @@ module _ (toks : List Token) where
       onward (Err stop) n' = tt
       onward (Ok s'') n' = unit_further s s' s'' m n'
 
-  many_within : (fuel depth : ℕ) (s : State) → After (UnitGoes s) (read_within c99 fuel depth (repeat own (part External)) s)
+  pub many_within : (fuel depth : ℕ) (s : State) → After (UnitGoes s) (read_within c99 fuel depth (repeat own (part External)) s)
   unfolding read_within
   many_within zero depth s = tt
   many_within (suc fuel) depth s =
@@ -559,12 +559,12 @@ module _ (toks : List Token) where
       (unit_then s (read_within c99 fuel depth (produce External) s) (read_within c99 fuel depth (repeat own (part External))) (definitions_within fuel depth s) (many_within fuel depth))
       (unit_still s)
 
-  end_goes : (s : State) → After (UnitGoes s) (at_end s)
+  pub end_goes : (s : State) → After (UnitGoes s) (at_end s)
   unfolding at_end
   end_goes s = after_test (UnitGoes s) (s.at == length s.toks) (Ok s) (Err (syntax s.at)) (unit_still s) tt
 
   -- all definitions, and the end of the text
-  all_within : (fuel depth : ℕ) (s : State) → After (UnitGoes s) (step c99 (read_within c99 fuel) depth (many own (part External) · end_of_text) s)
+  pub all_within : (fuel depth : ℕ) (s : State) → After (UnitGoes s) (step c99 (read_within c99 fuel) depth (many own (part External) · end_of_text) s)
   all_within fuel depth s =
       unit_then s (step c99 (read_within c99 fuel) depth (many own (part External)) s) at_end
       (after_test (UnitGoes s) (may c99 own (part External) s)
@@ -579,7 +579,7 @@ module _ (toks : List Token) where
     pub built : s.built ≡ record (at_first toks).built { under = node unit_label 0 under none }
     pub agrees : all_agree toks under (outline (before (length toks))) ≡ true
 
-  unit_begins : (n : ℕ) → Between (opened TranslationUnit 1 (at_first toks)) (n ∷ []) (outline (before n))
+  pub unit_begins : (n : ℕ) → Between (opened TranslationUnit 1 (at_first toks)) (n ∷ []) (outline (before n))
   unfolding opened
   unit_begins n = record {
     fits = record {

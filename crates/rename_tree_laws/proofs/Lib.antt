@@ -1,0 +1,8 @@
+mod Asking
+mod KindTokens
+mod NamingTokens
+mod ScopeTokens
+mod AskTable
+mod OuterAsks
+mod UnitAsks
+mod Texts
