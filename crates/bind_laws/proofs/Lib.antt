@@ -10,11 +10,11 @@ mod Climbing
 mod OrderedLists
 mod OrderedNames
 mod EntityNames
-mod Lookups
-mod Renaming
-mod RenamedNames
+pub mod Lookups
+pub mod Renaming
+pub mod RenamedNames
 mod RenamedObjects
 mod RenamedMembers
 mod SecondRanges
-mod RenamedSteps
-mod RenamedWalk
+pub mod RenamedSteps
+pub mod RenamedWalk

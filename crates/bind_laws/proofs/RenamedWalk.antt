@@ -21,7 +21,7 @@ use Rattle.bind_laws.proofs.RenamedSteps.{entered_back, entered_kept, entered_sa
 
 module _ (a b : List Token) (apart : (i j : ℕ) → alike b i j ≡ true → alike a i j ≡ true)
     (words : (word : List ℕ) (k : ℕ) → is_own_word word ≡ true → bytes_eq (spelling_at b k) word ≡ bytes_eq (spelling_at a k) word) where
-  walked_back : (f : Forest) (s : State) → Good b (walked a f s).facts → Good b s.facts
+  pub walked_back : (f : Forest) (s : State) → Good b (walked a f s).facts → Good b s.facts
   unfolding walked
   walked_back none s h = h
   walked_back (token i rest) s h =
@@ -39,7 +39,7 @@ module _ (a b : List Token) (apart : (i j : ℕ) → alike b i j ≡ true → al
     pub kept : Kept a s.facts
     pub same : s' ≡ s
 
-  walked_same : (f : Forest) (s : State) → Kept a s.facts → Good b (walked a f s).facts → Follows (walked a f s) (walked b f s)
+  pub walked_same : (f : Forest) (s : State) → Kept a s.facts → Good b (walked a f s).facts → Follows (walked a f s) (walked b f s)
   unfolding walked
   walked_same none s k h = record { kept = k; same = refl }
   walked_same (token i rest) s k h =
@@ -82,7 +82,7 @@ in_map f [] x w = absurd w
 in_map f (y ∷ ys) x (inl s) = inl (ap f s)
 in_map f (y ∷ ys) x (inr w) = inr (in_map f ys x w)
 
-names_good : (b : List Token) (facts : Facts) → facts.fault ≡ None → list_all (λ n. alike b n.index n.entity) (names_of facts) ≡ true → Good b facts
+pub names_good : (b : List Token) (facts : Facts) → facts.fault ≡ None → list_all (λ n. alike b n.index n.entity) (names_of facts) ≡ true → Good b facts
 names_good b facts clean e = record {
   clean = clean;
   good = λ o w.
@@ -90,11 +90,11 @@ names_good b facts clean e = record {
       (in_map (name_of facts) facts.occurrences o w);
 }
 
-no_fault : (f : Forest) (facts : Facts) (o : Option Fault) (b : Bound) → bound_unless f facts o ≡ Ok b → o ≡ None
+pub no_fault : (f : Forest) (facts : Facts) (o : Option Fault) (b : Bound) → bound_unless f facts o ≡ Ok b → o ≡ None
 no_fault f facts None b e = refl
 no_fault f facts (Some x) b e = cc
 
-bound_is : (f : Forest) (facts : Facts) (o : Option Fault) (b : Bound) → bound_unless f facts o ≡ Ok b → b ≡ bound_of f facts
+pub bound_is : (f : Forest) (facts : Facts) (o : Option Fault) (b : Bound) → bound_unless f facts o ≡ Ok b → b ≡ bound_of f facts
 bound_is f facts None b e = cc
 bound_is f facts (Some x) b e = cc
 

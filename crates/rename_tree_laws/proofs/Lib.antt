@@ -6,3 +6,5 @@ mod AskTable
 mod OuterAsks
 mod UnitAsks
 mod Texts
+mod LooseNames
+mod RenamedTrees

@@ -26,4 +26,4 @@ pub mod Steady
 pub mod Functions
 pub mod Beginning
 pub mod Units
-mod Texts
+pub mod Texts

@@ -319,7 +319,7 @@ module _ (toks : List Token) where
   through true x y f = refl
   through false x y f = refl
 
-  left_same : (l : Label) (first : ℕ) (under : Forest) (s s' : State)
+  pub left_same : (l : Label) (first : ℕ) (under : Forest) (s s' : State)
       → outline (left toks l first under s s') ≡ ended l first under (outline s) (outline s')
   left_same l first under s s' =
       ap (λ es. record (outline (left toks l first under s s')) { entries = es }) (after_same l.production first s l under s'.frame.body s'.facts)
@@ -365,7 +365,7 @@ module _ (toks : List Token) where
   mixed true false l t x y same = same
   mixed false a l t x y same = same
 
-  denotes_among : (i : ℕ) (ds : List Declaration)
+  pub denotes_among : (i : ℕ) (ds : List Declaration)
       → option_map_or (λ (d : Declaration). is_typedef_name d.kind) (find (λ d. is_named toks ordinary i d && is_live i d) ds) false
       ≡ typedef_among toks i (entries_of ds)
   denotes_among i [] = refl
