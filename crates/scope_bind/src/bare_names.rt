@@ -1,13 +1,12 @@
 // Names that are parameters only since they are no typedef names (ISO/IEC 9899:1999, 6.7.5.3 paragraph 11).
-ghost use Rattle.std.specs.Prelude.{◌≡◌, ◌+◌, ◌++◌, OnOk};
+ghost use Rattle.std.specs.Prelude.{◌≡◌, ◌++◌, OnOk};
 ghost use Rattle.std.specs.Option.{option_map};
-ghost use Rattle.scope_bind.specs.Children.{from_child};
-ghost use Rattle.scope_bind.specs.Lists.{name_in, bare_at, bare_in};
+ghost use Rattle.scope_bind.specs.Lists.{name_in, bare_at};
 ghost use Rattle.scope_bind.specs.Shapes.{name_by, name_in_direct, name_of_inner};
 
 use crate::listing::push_odd;
 use crate::shapes::{behind_token, first_node, leading_token};
-use crate::trees::{Part, child_at, is_at};
+use crate::trees::is_at;
 use c99_tree::{Label, Production, Tree};
 use cs_base::Memory;
 
@@ -50,7 +49,8 @@ fn push_name(tree: &Tree, out: &mut Vec<u32>) -> Result<(), Memory>
     push_name_inner(behind_token(tree), out)
 }
 
-fn push_bare_here(tree: &Tree, out: &mut Vec<u32>) -> Result<(), Memory>
+/// What a node tells of the names that are parameters only since they are no typedef names where they stand.
+pub(crate) fn push_bare(tree: &Tree, out: &mut Vec<u32>) -> Result<(), Memory>
     ensures { OnOk result (out.new.items ≡ out.old.items ++ bare_at tree.now.label tree.now.under) }
 {
     if is_at(tree.label(), Production::Params, 1) {
@@ -59,31 +59,5 @@ fn push_bare_here(tree: &Tree, out: &mut Vec<u32>) -> Result<(), Memory>
         push_name(tree, out)
     } else {
         Ok(())
-    }
-}
-
-/// The names that are parameters only since they are no typedef names where they stand.
-#[cycle(bare)]
-pub(crate) fn push_bare(tree: &Tree, out: &mut Vec<u32>) -> Result<(), Memory>
-    ensures { OnOk result (out.new.items ≡ out.old.items ++ bare_in tree.now.under) }
-{
-    let count = tree.len();
-    'children: for k in 0..count {
-        push_bare_at(tree, k, out)?;
-    }
-    Ok(())
-}
-
-#[cycle(bare)]
-fn push_bare_at(tree: &Tree, k: u32, out: &mut Vec<u32>) -> Result<(), Memory>
-    ensures { OnOk result (out.new.items ++ bare_in (from_child (k + 1) tree.now.under) ≡ out.old.items ++ bare_in (from_child k tree.now.under)) }
-{
-    match child_at(tree, k) {
-        Part::End => Ok(()),
-        Part::Token(_) => Ok(()),
-        Part::Node(inner) => {
-            push_bare_here(inner, out)?;
-            push_bare(inner, out)
-        }
     }
 }

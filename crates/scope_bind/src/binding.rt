@@ -1,7 +1,7 @@
 // The binding of a unit (ISO/IEC 9899:1999, 6.2.1 to 6.2.3): the walk, and what is told of it.
 ghost use Rattle.std.specs.Prelude.{◌≡◌, map, filter, length, Some, IfOk};
 ghost use Rattle.cs_base.specs.Answer.{Gives};
-ghost use Rattle.scope_bind.specs.Lists.{calls_in, bodies_in, bare_in};
+ghost use Rattle.scope_bind.specs.Lists.{bodies_in};
 ghost use Rattle.scope_bind.specs.Frames.{outermost};
 ghost use Rattle.scope_bind.specs.Faults.{fault_of};
 ghost use Rattle.scope_bind.specs.Bound.{range_of, typedefs_of, bound_of, bound_after, facts_of, binding_of};
@@ -14,8 +14,8 @@ use crate::entity::EntityKind;
 use crate::facts::Facts;
 use crate::faults::BindRefusal;
 use crate::frames::{Frame, Position, Scope, Words};
-use crate::listing::{push_bare, push_bodies, push_calls};
-use crate::lists::{List, Range};
+use crate::listing::{push_bodies, shown_in};
+use crate::lists::Range;
 use crate::naming::{declarators_of, names_of};
 use crate::types::{Base, CType};
 use crate::walking::walk;
@@ -124,14 +124,6 @@ fn typedefs_of(alloc: Global, facts: &Facts<'_>) -> Result<Vec<Range>, Memory>
     ranges_in(alloc, facts.declared())
 }
 
-fn calls_in(alloc: Global, tree: &Tree) -> Result<Vec<List>, Memory>
-    ensures { IfOk result (λ v. v.items ≡ calls_in tree.now.under) }
-{
-    let mut calls = Vec::new(alloc);
-    push_calls(alloc, tree, &mut calls)?;
-    Ok(calls)
-}
-
 fn bodies_in(alloc: Global, tree: &Tree) -> Result<Vec<Range>, Memory>
     ensures { IfOk result (λ v. v.items ≡ bodies_in tree.now.under) }
 {
@@ -140,24 +132,17 @@ fn bodies_in(alloc: Global, tree: &Tree) -> Result<Vec<Range>, Memory>
     Ok(bodies)
 }
 
-fn bare_in(alloc: Global, tree: &Tree) -> Result<Vec<u32>, Memory>
-    ensures { IfOk result (λ v. v.items ≡ bare_in tree.now.under) }
-{
-    let mut bare = Vec::new(alloc);
-    push_bare(tree, &mut bare)?;
-    Ok(bare)
-}
-
 fn bound_of(alloc: Global, tree: &Tree, facts: &Facts<'_>) -> Result<Bound, Memory>
     ensures { IfOk result (λ b. b ≡ bound_of tree.now.under facts.now.facts) }
 {
     let count = facts.toks().len();
     let names = names_of(alloc, count, facts)?;
+    let shown = shown_in(alloc, tree)?;
     let told = Told {
-        declarators: declarators_of(alloc, count, names.as_slice(), tree)?,
-        calls: calls_in(alloc, tree)?,
+        declarators: declarators_of(alloc, count, names.as_slice(), shown.lists)?,
+        calls: shown.calls,
         functions: bodies_in(alloc, tree)?,
-        bare: bare_in(alloc, tree)?,
+        bare: shown.bare,
         typedefs: typedefs_of(alloc, facts)?,
     };
     Bound::new(alloc, count, names, told)

@@ -4,10 +4,10 @@ ghost use Rattle.std.specs.Option.{option_map};
 ghost use Rattle.c99_tree.specs.declared.production.Production.TheVariants.{Unary as AUnary, Primary as APrimary, Post as APost};
 ghost use Rattle.scope_bind.specs.Children.{from_child};
 ghost use Rattle.scope_bind.specs.Trees.{is_node, is_at};
-ghost use Rattle.scope_bind.specs.Lists.{odd_tokens, commas_in, list_of, own_list, call_in, calls_in, declarator_in, is_declaring, lists_in};
+ghost use Rattle.scope_bind.specs.Lists.{odd_tokens, commas_in, list_of, own_list, call_in, calls_in, declarator_in, is_declaring, lists_in, bare_at, bare_in};
 ghost use Rattle.scope_bind.specs.Shapes.{call_by, call_of, declarator_of};
 
-pub(crate) use crate::bare_names::push_bare;
+use crate::bare_names::push_bare;
 pub(crate) use crate::bodies::push_bodies;
 use crate::declarators::{name_below, nearest};
 use crate::lists::{Indices, List};
@@ -150,32 +150,6 @@ fn push_call(alloc: Global, tree: &Tree, out: &mut Vec<List>) -> Result<(), Memo
     }
 }
 
-/// The calls whose callee is a name, in order.
-#[cycle(calls)]
-pub(crate) fn push_calls(alloc: Global, tree: &Tree, out: &mut Vec<List>) -> Result<(), Memory>
-    ensures { OnOk result (out.new.items ≡ out.old.items ++ calls_in tree.now.under) }
-{
-    let count = tree.len();
-    'children: for k in 0..count {
-        push_calls_at(alloc, tree, k, out)?;
-    }
-    Ok(())
-}
-
-#[cycle(calls)]
-fn push_calls_at(alloc: Global, tree: &Tree, k: u32, out: &mut Vec<List>) -> Result<(), Memory>
-    ensures { OnOk result (out.new.items ++ calls_in (from_child (k + 1) tree.now.under) ≡ out.old.items ++ calls_in (from_child k tree.now.under)) }
-{
-    match child_at(tree, k) {
-        Part::End => Ok(()),
-        Part::Token(_) => Ok(()),
-        Part::Node(inner) => {
-            push_call(alloc, inner, out)?;
-            push_calls(alloc, inner, out)
-        }
-    }
-}
-
 fn push_own(
     alloc: Global,
     name: Option<u32>,
@@ -231,28 +205,84 @@ fn push_declarator(alloc: Global, tree: &Tree, out: &mut Vec<List>) -> Result<()
     }
 }
 
-/// The parameter lists of the names of declarators, in order of the names.
+// What a node tells by itself.
+fn push_here(
+    alloc: Global,
+    tree: &Tree,
+    lists: &mut Vec<List>,
+    calls: &mut Vec<List>,
+    bare: &mut Vec<u32>,
+) -> Result<(), Memory>
+    ensures lists { OnOk result (lists.new.items ≡ lists.old.items ++ (if is_declaring tree.now.label then declarator_in tree.now.under else [])) }
+    ensures calls { OnOk result (calls.new.items ≡ calls.old.items ++ (if is_node tree.now.label AUnary then call_in tree.now.under else [])) }
+    ensures bare { OnOk result (bare.new.items ≡ bare.old.items ++ bare_at tree.now.label tree.now.under) }
+{
+    push_declarator(alloc, tree, lists)?;
+    push_call(alloc, tree, calls)?;
+    push_bare(tree, bare)
+}
+
+// The parameter lists of the names of declarators, in order of the names; the calls whose callee is a name, in
+// order; and the names that are parameters only since they are no typedef names where they stand. One walk for all,
+// since a large tree costs mostly the time in which its memory comes.
 #[cycle(lists)]
-pub(crate) fn push_lists(alloc: Global, tree: &Tree, out: &mut Vec<List>) -> Result<(), Memory>
-    ensures { OnOk result (out.new.items ≡ out.old.items ++ lists_in tree.now.under) }
+fn push_lists(
+    alloc: Global,
+    tree: &Tree,
+    lists: &mut Vec<List>,
+    calls: &mut Vec<List>,
+    bare: &mut Vec<u32>,
+) -> Result<(), Memory>
+    ensures lists { OnOk result (lists.new.items ≡ lists.old.items ++ lists_in tree.now.under) }
+    ensures calls { OnOk result (calls.new.items ≡ calls.old.items ++ calls_in tree.now.under) }
+    ensures bare { OnOk result (bare.new.items ≡ bare.old.items ++ bare_in tree.now.under) }
 {
     let count = tree.len();
     'children: for k in 0..count {
-        push_lists_at(alloc, tree, k, out)?;
+        push_lists_at(alloc, tree, k, lists, calls, bare)?;
     }
     Ok(())
 }
 
 #[cycle(lists)]
-fn push_lists_at(alloc: Global, tree: &Tree, k: u32, out: &mut Vec<List>) -> Result<(), Memory>
-    ensures { OnOk result (out.new.items ++ lists_in (from_child (k + 1) tree.now.under) ≡ out.old.items ++ lists_in (from_child k tree.now.under)) }
+fn push_lists_at(
+    alloc: Global,
+    tree: &Tree,
+    k: u32,
+    lists: &mut Vec<List>,
+    calls: &mut Vec<List>,
+    bare: &mut Vec<u32>,
+) -> Result<(), Memory>
+    ensures lists { OnOk result (lists.new.items ++ lists_in (from_child (k + 1) tree.now.under) ≡ lists.old.items ++ lists_in (from_child k tree.now.under)) }
+    ensures calls { OnOk result (calls.new.items ++ calls_in (from_child (k + 1) tree.now.under) ≡ calls.old.items ++ calls_in (from_child k tree.now.under)) }
+    ensures bare { OnOk result (bare.new.items ++ bare_in (from_child (k + 1) tree.now.under) ≡ bare.old.items ++ bare_in (from_child k tree.now.under)) }
 {
     match child_at(tree, k) {
         Part::End => Ok(()),
         Part::Token(_) => Ok(()),
         Part::Node(inner) => {
-            push_declarator(alloc, inner, out)?;
-            push_lists(alloc, inner, out)
+            push_here(alloc, inner, lists, calls, bare)?;
+            push_lists(alloc, inner, lists, calls, bare)
         }
     }
+}
+
+/// What the tree of a unit tells by itself, but for the bodies of functions.
+#[derive(Drop)]
+pub(crate) struct Shown {
+    pub lists: Vec<List>,
+    pub calls: Vec<List>,
+    pub bare: Vec<u32>,
+}
+
+pub(crate) fn shown_in(alloc: Global, tree: &Tree) -> Result<Shown, Memory>
+    ensures lists { IfOk result (λ s. s.lists.items ≡ lists_in tree.now.under) }
+    ensures calls { IfOk result (λ s. s.calls.items ≡ calls_in tree.now.under) }
+    ensures bare { IfOk result (λ s. s.bare.items ≡ bare_in tree.now.under) }
+{
+    let mut lists = Vec::new(alloc);
+    let mut calls = Vec::new(alloc);
+    let mut bare = Vec::new(alloc);
+    push_lists(alloc, tree, &mut lists, &mut calls, &mut bare)?;
+    Ok(Shown { lists, calls, bare })
 }

@@ -3,7 +3,6 @@ ghost use Rattle.std.specs.Prelude.{◌≡◌, map, filter, is_some, IfOk};
 ghost use Rattle.std.specs.Option.{option_map, option_map_or};
 ghost use Rattle.scope_bind.specs.declared.entity.EntityKind.TheVariants.{Object as AnObject};
 ghost use Rattle.scope_bind.specs.declared.entity.Linkage.TheVariants.{Absent as NoLinkage};
-ghost use Rattle.scope_bind.specs.Lists.{lists_in};
 ghost use Rattle.scope_bind.specs.Names.{name_at};
 ghost use Rattle.scope_bind.specs.Bound.{names_of, is_of_function, is_function_name};
 ghost use Rattle.scope_bind.specs.Told.{told_name, name_with, name_by};
@@ -12,10 +11,8 @@ use crate::bound::Name;
 use crate::declarations::{Declaration, Occurrence};
 use crate::entity::{EntityKind, Linkage};
 use crate::facts::Facts;
-use crate::listing::push_lists;
 use crate::lists::List;
 use crate::name_table::NameTable;
-use c99_tree::Tree;
 use cs_base::Memory;
 use std::alloc::Global;
 
@@ -124,41 +121,33 @@ fn function_names(alloc: Global, names: &[Name]) -> Result<Vec<Name>, Memory>
     )
 }
 
-fn lists_in(alloc: Global, tree: &Tree) -> Result<Vec<List>, Memory>
-    ensures { IfOk result (λ v. v.items ≡ lists_in tree.now.under) }
-{
-    let mut lists = Vec::new(alloc);
-    push_lists(alloc, tree, &mut lists)?;
-    Ok(lists)
-}
-
 fn is_among(functions: &NameTable, k: u32) -> bool
     ensures { result ≡ is_some (name_at functions.now k) }
 {
     functions.at(k).is_some()
 }
 
-fn lists_of(alloc: Global, functions: &NameTable, tree: &Tree) -> Result<Vec<List>, Memory>
-    ensures { IfOk result (λ v. v.items ≡ filter (λ l. is_some (name_at functions.now l.name)) (lists_in tree.now.under)) }
+fn lists_of(alloc: Global, functions: &NameTable, lists: Vec<List>) -> Result<Vec<List>, Memory>
+    ensures { IfOk result (λ v. v.items ≡ filter (λ l. is_some (name_at functions.now l.name)) lists.items) }
 {
     Ok(
-        lists_in(alloc, tree)?
+        lists
             .into_iter()
             .filter(|l| is_among(functions, l.name))
             .collect(alloc)?,
     )
 }
 
-/// The parameter lists of functions, in a text of so many tokens.
+/// Those of the parameter lists that are of functions, in a text of so many tokens.
 pub(crate) fn declarators_of(
     alloc: Global,
     count: usize,
     names: &[Name],
-    tree: &Tree,
+    lists: Vec<List>,
 ) -> Result<Vec<List>, Memory>
-    ensures { IfOk result (λ v. v.items ≡ filter (λ l. is_of_function names.now l.name) (lists_in tree.now.under)) }
+    ensures { IfOk result (λ v. v.items ≡ filter (λ l. is_of_function names.now l.name) lists.items) }
 {
     let functions = function_names(alloc, names)?;
     let table = NameTable::new(alloc, count, functions)?;
-    lists_of(alloc, &table, tree)
+    lists_of(alloc, &table, lists)
 }
