@@ -1,5 +1,6 @@
 pub mod Walked
 mod Ordered
+mod Stopping
 mod Each
 mod Growing
 mod Formed

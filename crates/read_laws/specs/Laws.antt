@@ -1,8 +1,8 @@
 -- What is true of the tree of every text that is read.
-use Rattle.std.specs.Prelude.{◌<◌, ◌≡◌, ◌≢◌, true, List, length, Some, Ok, IfErr, All, AllPairs}
+use Rattle.std.specs.Prelude.{ℕ, ◌<◌, ◌≤◌, ◌≡◌, ◌≢◌, true, List, length, Some, Ok, IfErr, All, AllPairs}
 use Rattle.cs_base.specs.Token.{Token}
 use Rattle.c99_tree.specs.Tree.{Node}
-use Rattle.c99_read.specs.Reading.{read_of}
+use Rattle.c99_read.specs.Reading.{Stop, syntax, too_deep, read_of}
 use Rattle.c99_read.specs.Standard.{c99}
 use Rattle.c99_read.specs.State.{Grammar, base_at, is_identifier}
 use Rattle.scope_bind.specs.declared.bound.Name.{Name}
@@ -31,6 +31,15 @@ AllTokensStandInTrees =
 -- the tree that is read is one of the text (ISO/IEC 9899:1999, Annex A.2)
 abbrev pub TreesAreOfTheirTexts : Type 0
 TreesAreOfTheirTexts = (toks : List Token) (tree : Node) → Reads c99 toks tree → IsTreeOf (length toks) tree
+
+-- the index of the token at which reading stops
+abbrev pub place_of : Stop → ℕ
+place_of (syntax k) = k
+place_of (too_deep k) = k
+
+-- by any grammar reading stops at a token of the text, or where it ends
+abbrev pub ReadingStopsInTheText : Type 0
+ReadingStopsInTheText = (g : Grammar) (toks : List Token) → IfErr (read_of g toks) (λ stop. place_of stop ≤ length toks)
 
 -- ---- Texts that are read and bound
 
