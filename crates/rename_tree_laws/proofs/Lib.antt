@@ -7,4 +7,5 @@ mod OuterAsks
 mod UnitAsks
 mod Texts
 mod LooseNames
+mod BareNames
 mod RenamedTrees
