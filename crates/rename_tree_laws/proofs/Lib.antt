@@ -8,4 +8,6 @@ mod UnitAsks
 mod Texts
 mod LooseNames
 mod BareNames
+mod EnclosedNames
+mod Enclosing
 mod RenamedTrees
