@@ -10,4 +10,5 @@ mod LooseNames
 mod BareNames
 mod EnclosedNames
 mod Enclosing
+pub mod ReadBareNames
 mod RenamedTrees

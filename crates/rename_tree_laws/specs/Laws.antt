@@ -1,5 +1,6 @@
 -- What is true of a text whose names agree with the tree of another one.
 use Rattle.std.specs.Prelude.{ℕ, ◌≡◌, true, List, length, Ok}
+use Rattle.std.specs.List.{Contains}
 use Rattle.cs_base.specs.Token.{Token}
 use Rattle.c99_tree.specs.Tree.{Node}
 use Rattle.c99_read.specs.Reading.{read_of}
@@ -26,3 +27,10 @@ RenamedTextsReadAlike =
     (old new : List Token) (tree : Node) (b : Bound) → read_of c99 old ≡ Ok tree → binding_of old tree ≡ Ok b → IsRenamed old new b.names
     → ((k : ℕ) → base_at c99 old k ≡ base_at c99 new k) → AllLoose old (StaysWhole old new b.typedefs) (outermost 0).label 0 tree.under
     → read_of c99 new ≡ Ok tree
+
+-- Of a tree that is read, each name in an identifier list or directly behind the parenthesis of a parameter's declarator
+-- is one of the bare names of its binding (6.7.5.3 paragraphs 3 and 11).
+abbrev pub LooseNamesAreBare : Type 0
+LooseNamesAreBare =
+    (toks : List Token) (tree : Node) (b : Bound) → read_of c99 toks ≡ Ok tree → binding_of toks tree ≡ Ok b
+    → AllLoose toks (Contains b.bare) (outermost 0).label 0 tree.under

@@ -1,5 +1,5 @@
 // What is true of the trees of texts of which one respells names of the other: laws that no caller runs.
-ghost use Rattle.rename_tree_laws.specs.Laws.{AgreeingTextsReadAlike, RenamedTextsReadAlike};
+ghost use Rattle.rename_tree_laws.specs.Laws.{AgreeingTextsReadAlike, LooseNamesAreBare, RenamedTextsReadAlike};
 
 /// A text whose names agree with the tree of another text, token for token of the same class, is read to that tree.
 pub fn agreeing_texts_read_alike()
@@ -10,4 +10,9 @@ pub fn agreeing_texts_read_alike()
 /// stay no typedef names.
 pub fn renamed_texts_read_alike()
     ensures { RenamedTextsReadAlike }
+{}
+
+/// Each name that is read as no typedef name, though it is a use of nothing, is one of the bare names of the binding.
+pub fn loose_names_are_bare()
+    ensures { LooseNamesAreBare }
 {}

@@ -7,10 +7,11 @@
 //! so at each moment of the reading, and the second text is read to the same tree. The proof follows the reading once
 //! more beside the outline of the walk that `typedef_laws` keeps. Where all names of an entity are renamed together, names
 //! that are bound denote what they did; what is left are names that denote nothing, in identifier lists and behind the
-//! parenthesis of a parameter's declarator. Read `specs/Loose.antt`, `specs/Laws.antt`, then `proofs/Asking.antt` and
-//! `proofs/RenamedTrees.antt`.
+//! parenthesis of a parameter's declarator. Each of these is one of the bare names of the binding, so what is so of each
+//! bare name is so of them (`bare_names_are_loose` of `proofs/ReadBareNames.antt`). Read `specs/Loose.antt`,
+//! `specs/Laws.antt`, then `proofs/Asking.antt`, `proofs/RenamedTrees.antt` and `proofs/Enclosing.antt`.
 #![tactic(auto)]
 
 mod laws;
 
-pub use laws::{agreeing_texts_read_alike, renamed_texts_read_alike};
+pub use laws::{agreeing_texts_read_alike, loose_names_are_bare, renamed_texts_read_alike};
