@@ -3,13 +3,13 @@ mod Noted
 mod Holding
 mod HeldTags
 mod HeldSteps
-mod HeldNames
+pub mod HeldNames
 mod Adding
 mod Counted
 mod Climbing
 mod OrderedLists
 mod OrderedNames
-mod EntityNames
+pub mod EntityNames
 pub mod Lookups
 pub mod Renaming
 pub mod RenamedNames

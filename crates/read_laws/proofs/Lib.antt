@@ -5,8 +5,8 @@ mod Each
 mod Growing
 mod Formed
 mod Forms
-mod OfTexts
+pub mod OfTexts
 mod NameClasses
 mod NamePlaces
 mod NameTable
-mod NamesRead
+pub mod NamesRead

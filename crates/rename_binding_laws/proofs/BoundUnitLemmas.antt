@@ -11,9 +11,9 @@ use Rattle.c99_read.specs.State.{base_at, is_identifier}
 use Rattle.scope_bind.specs.declared.bound.Name.{Name}
 use Rattle.scope_bind.specs.Declarations.{spelling_at, alike}
 use Rattle.scope_bind.specs.Names.{entity_at}
-use Rattle.bind_laws.specs.Laws.{NamesAreSpelledAsTheirEntities}
-use Rattle.bind_laws.specs.Renamed.{IsRenamed, RenamedBindAlike}
-use Rattle.read_laws.specs.Laws.{ReadEntitiesAreNames, ReadNamesAreIdentifiers}
+use Rattle.bind_laws.specs.Renamed.{IsRenamed}
+use Rattle.bind_laws.proofs.HeldNames.{spelled_as_entities}
+use Rattle.bind_laws.proofs.RenamedWalk.{renamed_bind_alike}
 use Rattle.part_respell.specs.Respelled.{spelled}
 use Rattle.ws_core.specs.Analysed.{Analysed}
 use Rattle.ws_core.specs.Analysis.{UnitAnalysis}
@@ -24,13 +24,14 @@ use Rattle.rename_premise_laws.proofs.LinkLemmas.{linked_stay_alike}
 use Rattle.rename_premise_laws.proofs.ListLemmas.{In, all_of, all_at}
 use Rattle.rename_premise_laws.proofs.RenamingLemmas.{renamings_spell}
 use Rattle.rename_premise_laws.proofs.UneditedLemmas.{renamings_keep_unedited}
-use Rattle.rename_binding_laws.specs.BoundUnits.{NamesBindAsBefore, UnitsBindAsBefore}
+use Rattle.rename_binding_laws.specs.BoundUnits.{NamesBindAsBefore, UnitsAreRenamedWhole, UnitsBindAsBefore}
 use Rattle.rename_binding_laws.proofs.LinkedNameLemmas.{all_listed, all_pass, bound_name, IsFirst, first_bound, first_entity, joined, names_linked, named_token}
 use Rattle.rename_binding_laws.proofs.NamedLemmas.{alike_from, each_spelled, old_at, new_at, words_kept, apart_kept, as_long}
+use Rattle.rename_binding_laws.proofs.ReadNameLemmas.{entities_named, names_identify}
 use Rattle.rename_binding_laws.proofs.ReadUnitLemmas.{IsReadSo, unit_read_so}
 
-module _ (spelled_alike : NamesAreSpelledAsTheirEntities) (entities : ReadEntitiesAreNames) (identifiers : ReadNamesAreIdentifiers) (a : Analysed) (members : List Part)
-    (name : List ℕ) (r : Renaming) (h : IsAllowed a members name) (spells : Spells members name r) (keeps : KeepsUnedited r) (u : UnitAnalysis) (i : In u a.value.units) where
+module _ (a : Analysed) (members : List Part) (name : List ℕ) (r : Renaming) (h : IsAllowed a members name) (spells : Spells members name r)
+    (keeps : KeepsUnedited r) (u : UnitAnalysis) (i : In u a.value.units) where
   abbrev toks : List Token
   toks = u.text.toks
 
@@ -52,10 +53,10 @@ module _ (spelled_alike : NamesAreSpelledAsTheirEntities) (entities : ReadEntiti
   name_bound n j =
       let is = is_read in
       let one = all_at (λ (m : Name). (is_identifier (base_at c99 toks m.index) ≡ true) × (is_identifier (base_at c99 toks m.entity) ≡ true)) names
-      (all_listed _ names (identifiers toks u.tree u.bound is.reads is.binds)) n j in
+      (all_listed _ names (names_identify toks u.tree u.bound is.reads is.binds)) n j in
       let entity = all_at (λ (m : Name). (entity_at names m.index ≡ Some m.entity) × (entity_at names m.entity ≡ Some m.entity)) names
-      (all_listed _ names (entities toks u.tree u.bound is.reads is.binds)) n j in
-      let same = all_at (λ (m : Name). alike toks m.index m.entity ≡ true) names (all_listed _ names (spelled_alike toks u.tree u.bound is.binds)) n j in
+      (all_listed _ names (entities_named toks u.tree u.bound is.reads is.binds)) n j in
+      let same = all_at (λ (m : Name). alike toks m.index m.entity ≡ true) names (all_listed _ names (spelled_as_entities toks u.tree u.bound is.binds)) n j in
       let t = named_token toks n.index one.0 in
       record {
         token = t.0;
@@ -94,7 +95,7 @@ module _ (spelled_alike : NamesAreSpelledAsTheirEntities) (entities : ReadEntiti
       let is = is_read in
       let b = name_bound n j in
       let entity = all_at (λ (m : Name). (entity_at names m.index ≡ Some m.entity) × (entity_at names m.entity ≡ Some m.entity)) names
-      (all_listed _ names (entities toks u.tree u.bound is.reads is.binds)) n j in
+      (all_listed _ names (entities_named toks u.tree u.bound is.reads is.binds)) n j in
       let c = token_bound n.entity n.entity entity.1 in
       let f = first_bound names n.entity toks n.index b.token b.there b.entity in
       alike_from (spelling_at (map (renamed r) toks) n.index) (spelling_at (map (renamed r) toks) n.entity)
@@ -109,12 +110,15 @@ module _ (spelled_alike : NamesAreSpelledAsTheirEntities) (entities : ReadEntiti
         (all_of (λ (n : Name). alike (map (renamed r) toks) n.index n.entity ≡ true) names name_together);
   }
 
-pub names_bind_as_before : NamesAreSpelledAsTheirEntities → RenamedBindAlike → ReadEntitiesAreNames → ReadNamesAreIdentifiers → NamesBindAsBefore
-names_bind_as_before spelled_alike bind_alike entities identifiers = λ a members name r h spells keeps u i.
-    let is = unit_read_so h.source h.workspace a.value h.accepted u i in
-    bind_alike u.text.toks (map (renamed r) u.text.toks) u.tree u.bound is.binds
-    (unit_renamed spelled_alike entities identifiers a members name r h spells keeps u i)
+pub units_are_renamed_whole : UnitsAreRenamedWhole
+units_are_renamed_whole = λ a members name r h spells keeps u i. unit_renamed a members name r h spells keeps u i
 
-pub units_bind_as_before : NamesBindAsBefore → UnitsBindAsBefore
-units_bind_as_before names = λ a members name h u i.
-    names a members name (renaming a.value members name u.text) h (renamings_spell a.value members name u.text) (renamings_keep_unedited a members name u.text h) u i
+pub names_bind_as_before : NamesBindAsBefore
+names_bind_as_before = λ a members name r h spells keeps u i.
+    let is = unit_read_so h.source h.workspace a.value h.accepted u i in
+    renamed_bind_alike u.text.toks (map (renamed r) u.text.toks) u.tree u.bound is.binds (unit_renamed a members name r h spells keeps u i)
+
+pub units_bind_as_before : UnitsBindAsBefore
+units_bind_as_before = λ a members name h u i.
+    names_bind_as_before a members name (renaming a.value members name u.text) h (renamings_spell a.value members name u.text)
+    (renamings_keep_unedited a members name u.text h) u i

@@ -1,7 +1,9 @@
+-- For the crates of laws above.
 mod IdentifierLemmas
 mod SpelledLemmas
-mod UnitTokenLemmas
-mod ReadUnitLemmas
-mod NamedLemmas
+pub mod UnitTokenLemmas
+pub mod ReadUnitLemmas
+pub mod NamedLemmas
 mod LinkedNameLemmas
-mod BoundUnitLemmas
+mod ReadNameLemmas
+pub mod BoundUnitLemmas

@@ -47,7 +47,7 @@ module _ (a : Analysed) (members : List Part) (name : List ℕ) (r : Renaming) (
   abbrev pub new : List Token
   new = map (renamed r) u.text.toks
 
-  whole : (t : Token) → In t old → IsWhole a.value t
+  pub whole : (t : Token) → In t old → IsWhole a.value t
   whole t j = all_at (IsWhole a.value) old (toks_whole a.value u i (unit_is h.source h.workspace a.value h.accepted u i)) t j
 
   -- each token is spelled with the name for each member
@@ -58,7 +58,7 @@ module _ (a : Analysed) (members : List Part) (name : List ℕ) (r : Renaming) (
       spells t traced.each
 
   -- identifiers are spelled as such, before and anew, and what is none is not
-  old_identifier : (t : Token) → In t old → is_name t ≡ true → is_identifier_text t.text ≡ true
+  pub old_identifier : (t : Token) → In t old → is_name t ≡ true → is_identifier_text t.text ≡ true
   old_identifier t j named =
       let w = whole t j in
       fits_name t.kind t.text named (spelled_fits t w.spelled)
@@ -79,15 +79,15 @@ module _ (a : Analysed) (members : List Part) (name : List ℕ) (r : Renaming) (
   -- ---- places
 
   -- an identifier stands there
-  record NameAt (k : ℕ) : Type 0 where
-    token : Token
-    there : slice_get old k ≡ Some token
-    named : is_name token ≡ true
+  pub record NameAt (k : ℕ) : Type 0 where
+    pub token : Token
+    pub there : slice_get old k ≡ Some token
+    pub named : is_name token ≡ true
 
   -- nothing that changes
-  record StillAt (k : ℕ) : Type 0 where
-    same : spelling_at new k ≡ spelling_at old k
-    plain : is_identifier_text (spelling_at old k) ≡ false
+  pub record StillAt (k : ℕ) : Type 0 where
+    pub same : spelling_at new k ≡ spelling_at old k
+    pub plain : is_identifier_text (spelling_at old k) ≡ false
 
   abbrev text_of : Option Token → List ℕ
   text_of o = option_map_or (λ (t : Token). t.text) o []
@@ -109,7 +109,7 @@ module _ (a : Analysed) (members : List Part) (name : List ℕ) (r : Renaming) (
         plain = ap is_identifier_text (old_at k t e) ∙ other_plain t (k, e) other;
       }
 
-  look : (k : ℕ) → NameAt k ⊎ StillAt k
+  pub look : (k : ℕ) → NameAt k ⊎ StillAt k
   look k = by (slice_get old k) refl
     where
       by : (o : Option Token) → slice_get old k ≡ o → NameAt k ⊎ StillAt k
@@ -134,7 +134,7 @@ module _ (a : Analysed) (members : List Part) (name : List ℕ) (r : Renaming) (
   ]
 
   -- .. and of one of the unit
-  reserved_same : (t : Token) → In t old → is_name t ≡ true → (word : List ℕ) → is_reserved_text word ≡ true
+  pub reserved_same : (t : Token) → In t old → is_name t ≡ true → (word : List ℕ) → is_reserved_text word ≡ true
       → bytes_eq (macros.spelled r t) word ≡ bytes_eq t.text word
   reserved_same t j named word reserved =
       let kept = tokens_kept a members name r h spells keeps u i t j in

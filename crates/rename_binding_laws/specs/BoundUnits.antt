@@ -3,6 +3,7 @@ use Rattle.std.specs.Prelude.{◌≡◌, ℕ, List, map, Ok}
 use Rattle.cs_base.specs.declared.positions.Part.{Part}
 use Rattle.macro_expand.specs.Renaming.{Renaming, renamed}
 use Rattle.scope_bind.specs.Bound.{binding_of}
+use Rattle.bind_laws.specs.Renamed.{IsRenamed}
 use Rattle.ws_core.specs.Analysed.{Analysed}
 use Rattle.ws_core.specs.Analysis.{UnitAnalysis}
 use Rattle.rename_premise_laws.specs.Allowed.{IsAllowed}
@@ -20,3 +21,9 @@ NamesBindAsBefore = (a : Analysed) (members : List Part) (name : List ℕ) (r : 
 abbrev pub UnitsBindAsBefore : Type 0
 UnitsBindAsBefore = (a : Analysed) (members : List Part) (name : List ℕ) → IsAllowed a members name → (u : UnitAnalysis) → IsIn a.value.units u
     → binding_of (map (renamed (renaming a.value members name u.text)) u.text.toks) u.tree ≡ Ok u.bound
+
+-- The law: and they are a renaming of the text of the unit: the words that binding asks for stay, tokens that are spelled
+-- apart stay apart, and all names of an entity go together.
+abbrev pub UnitsAreRenamedWhole : Type 0
+UnitsAreRenamedWhole = (a : Analysed) (members : List Part) (name : List ℕ) (r : Renaming) → IsAllowed a members name → Spells members name r → KeepsUnedited r
+    → (u : UnitAnalysis) → IsIn a.value.units u → IsRenamed u.text.toks (map (renamed r) u.text.toks) u.bound.names

@@ -11,4 +11,4 @@ mod BareNames
 mod EnclosedNames
 mod Enclosing
 pub mod ReadBareNames
-mod RenamedTrees
+pub mod RenamedTrees
