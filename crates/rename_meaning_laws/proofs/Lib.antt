@@ -1,0 +1,4 @@
+-- For the crates of laws above.
+mod ClassLemmas
+mod BareLemmas
+pub mod ReadLemmas
