@@ -1,4 +1,4 @@
--- Over files in which members are respelled, units have the renamed texts.
+-- Over files in which members are respelled, units have the renamed texts, and the workspace the renamed analysis.
 use Rattle.std.proofs.Common.{ℕ, List, Some}
 use Rattle.cs_base.specs.declared.positions.Part.{Part}
 use Rattle.eclass_map.specs.ClassTable as classes
@@ -10,7 +10,8 @@ use Rattle.ws_core.specs.Naming.{Names}
 use Rattle.ws_core.proofs.ClassLemmas.{part_held}
 use Rattle.rename_premise_laws.specs.Allowed.{IsAllowed}
 use Rattle.rename_result_laws.proofs.KeptUnitLemmas.{texts_are_renamed_where_named}
-use Rattle.rename_source_laws.specs.RenamedSource.{IsAccepted, RespelledFilesHaveRenamedTexts}
+use Rattle.rename_meaning_laws.proofs.ReadLemmas.{edited_files_have_renamed_analysis}
+use Rattle.rename_source_laws.specs.RenamedSource.{IsAccepted, RespelledFilesHaveRenamedAnalysis, RespelledFilesHaveRenamedTexts}
 use Rattle.rename_source_laws.proofs.SourceLemmas.{respelled_files_hold_edited}
 
 abbrev allowed : (source : Source) (ws : WorkspaceValue) (a : AnalysisValue) (table : classes.Table) (part : Part) (members : List Part) (name path : List ℕ) (line column : ℕ)
@@ -34,4 +35,11 @@ respelled_files_have_renamed_texts = λ source now ws a table part members name 
     let d : Analysed = analysed a table in
     let k = allowed source ws a table part members name path line column h named in
     texts_are_renamed_where_named d members name path line column k h.workspace h.once named now
+    (respelled_files_hold_edited d members name k h.once now r)
+
+pub respelled_files_have_renamed_analysis : RespelledFilesHaveRenamedAnalysis
+respelled_files_have_renamed_analysis = λ source now ws a table part members name path line column h named r.
+    let d : Analysed = analysed a table in
+    let k = allowed source ws a table part members name path line column h named in
+    edited_files_have_renamed_analysis d members name path line column k h.workspace h.once named now
     (respelled_files_hold_edited d members name k h.once now r)

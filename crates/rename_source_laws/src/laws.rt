@@ -1,7 +1,7 @@
-// What files hold behind a renaming, and what units preprocess to over them: laws that no caller runs, and that callers'
-// proofs cite.
+// What files hold behind a renaming, what units preprocess to over them, and what analysis the workspace has: laws that no
+// caller runs, and that callers' proofs cite.
 ghost use Rattle.rename_source_laws.specs.EditedSource.{RespelledFilesHoldEdited};
-ghost use Rattle.rename_source_laws.specs.RenamedSource.{RespelledFilesHaveRenamedTexts};
+ghost use Rattle.rename_source_laws.specs.RenamedSource.{RespelledFilesHaveRenamedAnalysis, RespelledFilesHaveRenamedTexts};
 
 /// Files in which the members of a class are respelled, and that are left alone else, hold for each path of the analysis
 /// the edited bytes.
@@ -13,4 +13,10 @@ pub fn respelled_files_hold_edited()
 /// place names the class and nothing stands against the renaming.
 pub fn respelled_files_have_renamed_texts()
     ensures { RespelledFilesHaveRenamedTexts }
+{}
+
+/// So the workspace has the analysis that it had, renamed: these tokens are read to the trees that they had, and bound name
+/// for name as before.
+pub fn respelled_files_have_renamed_analysis()
+    ensures { RespelledFilesHaveRenamedAnalysis }
 {}
