@@ -28,7 +28,7 @@ use Rattle.rename_rules.specs.Renaming.{IsNamedRenamed, IsRenaming}
 use Rattle.rename_rules.specs.Runs.{edit_of, edits_of, file_of, new_bytes, runs, with_member}
 use Rattle.rename_source_laws.specs.EditedSource.{AreRespelled}
 use Rattle.rename_source_laws.specs.RenamedSource.{IsAccepted}
-use Rattle.rename_source_laws.proofs.TextLemmas.{respelled_files_have_renamed_texts}
+use Rattle.rename_source_laws.proofs.TextLemmas.{respelled_files_have_renamed_texts, respelled_files_have_renamed_analysis}
 use Rattle.cscout_run.specs.Request.{RequestValue, RenameValue, asked, help_asked, version_asked, renaming_asked, tokens_asked, skipped_asked, class_asked, unused_asked, includes_asked, calls_asked, generated_asked}
 use Rattle.cscout_run.specs.Promise.{Renamed, IsRenamed, KeepsPromise}
 use Rattle.cscout_run.specs.Steps.{Planned, IsPlannedFor}
@@ -306,6 +306,8 @@ kept q before edits p =
         edited = files.edited;
         others = files.others;
         texts = respelled_files_have_renamed_texts (source_of before) (source_of (with_edits edits before)) p.ws p.analysis p.classes c.part c.members q.name q.path q.line q.column
+            accepted c.named files;
+        meaning = respelled_files_have_renamed_analysis (source_of before) (source_of (with_edits edits before)) p.ws p.analysis p.classes c.part c.members q.name q.path q.line q.column
             accepted c.named files;
       },
     )

@@ -1,4 +1,4 @@
--- The promise of a rename that is done: exactly the named class changes.
+-- The promise of a rename that is done: exactly the named class changes, and meaning is kept.
 use Rattle.std.specs.Prelude.{ℕ, ◌≡◌, ◌≢◌, List, Option, Some, None, Ok, All}
 use Rattle.cs_base.specs.declared.positions.Part.{Part}
 use Rattle.cs_base.specs.Outside.{FileMap, bytes_at}
@@ -12,7 +12,7 @@ use Rattle.ws_core.specs.Parts.{AreMembers}
 use Rattle.table_laws.specs.Tables.{IsOpened}
 use Rattle.rename_rules.specs.First.{IsAmong, IsFirst, offences_of}
 use Rattle.rename_rules.specs.Runs.{runs, file_of, new_bytes}
-use Rattle.rename_source_laws.specs.RenamedSource.{TextsAreRenamed}
+use Rattle.rename_source_laws.specs.RenamedSource.{TextsAreRenamed, AnalysisIsRenamed}
 use Rattle.cscout_run.specs.Request.{RequestValue, renaming_asked, RenameValue}
 use Rattle.cscout_run.specs.Answer.{workspace_at}
 
@@ -50,6 +50,8 @@ pub record IsRenamed (q : RenameValue) (before now : FileMap) (r : Renamed) : Ty
       → bytes_at path now ≡ bytes_at path before
   -- each unit preprocesses to the tokens that it had, with the members respelled
   pub texts : TextsAreRenamed (source_of now) r.ws r.analysis r.members q.name
+  -- and these are read to the tree that it had, and bound name for name as before
+  pub meaning : AnalysisIsRenamed (source_of now) r.ws r.analysis r.members q.name
 
 -- the promise to these words: where they ask for a rename, the files are renamed
 abbrev pub KeepsPromise : Option RequestValue → FileMap → FileMap → Type 0
