@@ -1,0 +1,6 @@
+pub mod ClauseLemmas
+pub mod OffenceLemmas
+pub mod RowLemmas
+pub mod RowTokens
+pub mod BrokenRows
+pub mod PreprocessedRows

@@ -1,0 +1,14 @@
+use Rattle.std.proofs.Common.{refl}
+use Rattle.c99_read.specs.Reading.{read_within, whole, take_one, at_end, enter}
+use Rattle.c99_read.specs.State.{spelled_class, base_class, class_at, acted, opened, closed}
+use Rattle.scope_bind.specs.Bound.{binding_of}
+use Rattle.scope_bind.specs.Walk.{walked}
+use Rattle.rename_premise_laws.specs.Renamings.{spell_from}
+use Rattle.meaning_rows.specs.Rows.{pasted_names}
+use Rattle.meaning_rows.proofs.RowLemmas.{keeps}
+use Rattle.meaning_rows.proofs.RowTokens.{tree_of, bound_of, pasted_names_read}
+use Rattle.meaning_rows.proofs.rows.name_pasted_apart.Goals as goal
+
+pub returns : goal.returns
+unfolding read_within whole take_one at_end enter spelled_class base_class class_at acted opened closed binding_of walked spell_from
+returns c = keeps pasted_names _ _ (tree_of pasted_names.toks) (bound_of pasted_names.toks) pasted_names_read (λ a. record { reads = refl; binds = refl })

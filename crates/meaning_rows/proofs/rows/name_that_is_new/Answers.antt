@@ -1,0 +1,14 @@
+use Rattle.std.proofs.Common.{refl}
+use Rattle.c99_read.specs.Reading.{read_within, whole, take_one, at_end, enter}
+use Rattle.c99_read.specs.State.{spelled_class, base_class, class_at, acted, opened, closed}
+use Rattle.scope_bind.specs.Bound.{binding_of}
+use Rattle.scope_bind.specs.Walk.{walked}
+use Rattle.rename_premise_laws.specs.Renamings.{spell_from}
+use Rattle.meaning_rows.specs.Rows.{two_objects}
+use Rattle.meaning_rows.proofs.RowLemmas.{keeps}
+use Rattle.meaning_rows.proofs.RowTokens.{tree_of, bound_of, two_objects_read}
+use Rattle.meaning_rows.proofs.rows.name_that_is_new.Goals as goal
+
+pub returns : goal.returns
+unfolding read_within whole take_one at_end enter spelled_class base_class class_at acted opened closed binding_of walked spell_from
+returns c = keeps two_objects _ _ (tree_of two_objects.toks) (bound_of two_objects.toks) two_objects_read (λ a. record { reads = refl; binds = refl })
