@@ -19,7 +19,8 @@ use Rattle.include_tree.specs.Unit.{unit_outcome}
 use Rattle.ws_core.specs.Analysis.{UnitAnalysis, AnalysisValue}
 use Rattle.rename_analysis_laws.specs.Analyses.{IsRead}
 use Rattle.rename_rules.specs.First.{IsAmong, offence, offences_of}
-use Rattle.meaning_rows.specs.Clause.{MeaningIsKept, UnitsReadAlike}
+use Rattle.rename_source_laws.specs.RenamedSource.{AnalysisIsRenamed}
+use Rattle.meaning_rows.specs.Clause.{UnitsReadAlike}
 
 -- A row: the bytes of its file, which has number 2, the tokens of its unit, and those of them that were pasted.
 pub record Row : Type 0 where
@@ -69,7 +70,7 @@ KeepsUnits r at name = (a : AnalysisValue) → IsOf r a → UnitsReadAlike a (me
 
 -- meaning is not kept, whatever the files behind it are
 abbrev pub BreaksMeaning : Row → ℕ → List ℕ → Type 0
-BreaksMeaning r at name = (a : AnalysisValue) → IsOf r a → (now : Source) (ws : WorkspaceValue) → MeaningIsKept now ws a (member at) name → ⊥
+BreaksMeaning r at name = (a : AnalysisValue) → IsOf r a → (now : Source) (ws : WorkspaceValue) → AnalysisIsRenamed now ws a (member at) name → ⊥
 
 -- an offence of this cause stands against it, at this place
 abbrev pub IsOffence : Row → ℕ → List ℕ → Cause → ℕ → Type 0
