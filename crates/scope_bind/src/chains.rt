@@ -180,7 +180,7 @@ fn chained<'a>(
 {
     let mut place = names.newest(name_key(numbers, space, i));
     'chain: while place > 0 {
-        if let Some(d) = tested(declared, toks, space, i, asked, place - 1) {
+        if let Some(d) = tested(declared, toks, numbers, space, i, asked, place - 1) {
             return Some(d);
         }
         place = next_place(declared, names, over, asked, place - 1);

@@ -4,9 +4,11 @@ ghost use Rattle.std.specs.Option.{option_map};
 ghost use Rattle.std.specs.Str.{bytes_eq};
 ghost use Rattle.scope_bind.specs.Declarations.{is_live, is_space, has_linkage, spelling_at, alike, is_named};
 ghost use Rattle.scope_bind.specs.Latest.{passes, tested};
+ghost use Rattle.scope_bind.specs.Spellings.{AreNumbers};
 
 use crate::declarations::{Declaration, Space};
 use crate::entity::Linkage;
+use crate::spellings::number_at;
 use cs_base::Tok;
 
 /// What is asked of a declaration: that its range holds the token; that it does, in the scope of the depth;
@@ -35,10 +37,12 @@ pub(crate) fn is_spelled(toks: &[Tok], k: u32, word: &[u8]) -> bool
     spelling(toks, k) == word
 }
 
-fn alike(toks: &[Tok], i: u32, j: u32) -> bool
-    ensures { result ≡ alike toks.now i j }
+// The two tokens are spelled alike. Their numbers say it; the tokens are read by the clauses alone.
+fn alike(_toks: &[Tok], numbers: &[u32], i: u32, j: u32) -> bool
+    requires numbered { AreNumbers _toks.now numbers.now }
+    ensures { result ≡ alike _toks.now i j }
 {
-    spelling(toks, i) == spelling(toks, j)
+    number_at(numbers, i) == number_at(numbers, j)
 }
 
 /// They are one name space.
@@ -54,10 +58,11 @@ pub(crate) fn is_space(space: Space, other: Space) -> bool
     }
 }
 
-fn is_named(toks: &[Tok], space: Space, i: u32, d: &Declaration) -> bool
+fn is_named(toks: &[Tok], numbers: &[u32], space: Space, i: u32, d: &Declaration) -> bool
+    requires numbered { AreNumbers toks.now numbers.now }
     ensures { result ≡ is_named toks.now space i d.now }
 {
-    is_space(d.space, space) && alike(toks, i, d.name_at)
+    is_space(d.space, space) && alike(toks, numbers, i, d.name_at)
 }
 
 fn is_live(k: u32, d: &Declaration) -> bool
@@ -87,16 +92,18 @@ fn passes(asked: Asked, d: &Declaration) -> bool
 pub(crate) fn tested<'a>(
     declared: &'a [Declaration],
     toks: &[Tok],
+    numbers: &[u32],
     space: Space,
     i: u32,
     asked: Asked,
     n: usize,
 ) -> Option<&'a Declaration>
+    requires numbered { AreNumbers toks.now numbers.now }
     ensures { option_map (λ d. d.now) result ≡ tested (λ d. is_named toks.now space i d && passes asked d) (slice_get declared.now n) }
 {
     match declared.get(n) {
         Some(d) => {
-            if is_named(toks, space, i, d) && passes(asked, d) {
+            if is_named(toks, numbers, space, i, d) && passes(asked, d) {
                 Some(d)
             } else {
                 None
