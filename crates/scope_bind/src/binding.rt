@@ -1,7 +1,7 @@
 // The binding of a unit (ISO/IEC 9899:1999, 6.2.1 to 6.2.3): the walk, and what is told of it.
-ghost use Rattle.std.specs.Prelude.{◌≡◌, map, filter, length, Some, IfOk};
+ghost use Rattle.std.specs.Prelude.{◌≡◌, map, filter, length, Some, IfOk, OnOk, ◌++◌};
 ghost use Rattle.cs_base.specs.Answer.{Gives};
-ghost use Rattle.scope_bind.specs.Lists.{bodies_in};
+ghost use Rattle.scope_bind.specs.Lists.{bodies_in, lists_in, calls_in, bare_in};
 ghost use Rattle.scope_bind.specs.Frames.{outermost};
 ghost use Rattle.scope_bind.specs.Faults.{fault_of};
 ghost use Rattle.scope_bind.specs.Bound.{range_of, typedefs_of, bound_of, bound_after, facts_of, binding_of};
@@ -14,7 +14,7 @@ use crate::entity::EntityKind;
 use crate::facts::Facts;
 use crate::faults::BindRefusal;
 use crate::frames::{Frame, Position, Scope, Words};
-use crate::listing::{push_bodies, shown_in};
+use crate::listing::{Shown, push_bodies};
 use crate::lists::Range;
 use crate::naming::{declarators_of, names_of};
 use crate::types::{Base, CType};
@@ -65,13 +65,21 @@ fn count_of(toks: &[Tok]) -> Result<u32, Memory>
     Ok(toks.len() as u32)
 }
 
-// What is known at the end of the unit.
-fn facts_of<'a>(alloc: Global, toks: &'a [Tok], tree: &Tree) -> Result<Facts<'a>, Memory>
-    ensures { IfOk result (λ f. f ≡ known toks.now (facts_of toks.now tree.now.under)) }
+// What is known at the end of the unit. What its tree tells by itself is told as well.
+fn facts_of<'a>(
+    alloc: Global,
+    toks: &'a [Tok],
+    tree: &Tree,
+    shown: &mut Shown,
+) -> Result<Facts<'a>, Memory>
+    ensures facts { IfOk result (λ f. f ≡ known toks.now (facts_of toks.now tree.now.under)) }
+    ensures lists { OnOk result (shown.new.lists.items ≡ shown.old.lists.items ++ lists_in tree.now.under) }
+    ensures calls { OnOk result (shown.new.calls.items ≡ shown.old.calls.items ++ calls_in tree.now.under) }
+    ensures bare { OnOk result (shown.new.bare.items ≡ shown.old.bare.items ++ bare_in tree.now.under) }
 {
     let mut frame = outermost(alloc, count_of(toks)?);
     let mut facts = Facts::new(alloc, toks)?;
-    walk(&mut facts, alloc, tree, &mut frame)?;
+    walk(&mut facts, alloc, tree, &mut frame, shown)?;
     Ok(facts)
 }
 
@@ -132,12 +140,14 @@ fn bodies_in(alloc: Global, tree: &Tree) -> Result<Vec<Range>, Memory>
     Ok(bodies)
 }
 
-fn bound_of(alloc: Global, tree: &Tree, facts: &Facts<'_>) -> Result<Bound, Memory>
+fn bound_of(alloc: Global, tree: &Tree, facts: &Facts<'_>, shown: Shown) -> Result<Bound, Memory>
+    requires lists { shown.lists.items ≡ lists_in tree.now.under }
+    requires calls { shown.calls.items ≡ calls_in tree.now.under }
+    requires bare { shown.bare.items ≡ bare_in tree.now.under }
     ensures { IfOk result (λ b. b ≡ bound_of tree.now.under facts.now.facts) }
 {
     let count = facts.toks().len();
     let names = names_of(alloc, count, facts)?;
-    let shown = shown_in(alloc, tree)?;
     let told = Told {
         declarators: declarators_of(alloc, count, names.as_slice(), shown.lists)?,
         calls: shown.calls,
@@ -149,12 +159,20 @@ fn bound_of(alloc: Global, tree: &Tree, facts: &Facts<'_>) -> Result<Bound, Memo
 }
 
 // The binding, or the first fault.
-fn bound_unless(alloc: Global, tree: &Tree, facts: &Facts<'_>) -> Result<Bound, BindRefusal>
+fn bound_unless(
+    alloc: Global,
+    tree: &Tree,
+    facts: &Facts<'_>,
+    shown: Shown,
+) -> Result<Bound, BindRefusal>
+    requires lists { shown.lists.items ≡ lists_in tree.now.under }
+    requires calls { shown.calls.items ≡ calls_in tree.now.under }
+    requires bare { shown.bare.items ≡ bare_in tree.now.under }
     ensures { Gives (λ b. b) fault_of result (bound_after tree.now.under facts.now.facts) }
 {
     match facts.fault() {
         Some(fault) => Err(refusal(fault)),
-        None => Ok(bound_of(alloc, tree, facts)?),
+        None => Ok(bound_of(alloc, tree, facts, shown)?),
     }
 }
 
@@ -179,6 +197,7 @@ fn bound_unless(alloc: Global, tree: &Tree, facts: &Facts<'_>) -> Result<Bound, 
 pub fn bind(alloc: Global, toks: &[Tok], tree: &Tree) -> Result<Bound, BindRefusal>
     ensures answer { Gives (λ b. b) fault_of result (binding_of toks.now tree.now) }
 {
-    let facts = facts_of(alloc, toks, tree)?;
-    bound_unless(alloc, tree, &facts)
+    let mut shown = Shown::new(alloc);
+    let facts = facts_of(alloc, toks, tree, &mut shown)?;
+    bound_unless(alloc, tree, &facts, shown)
 }

@@ -4,7 +4,7 @@ ghost use Rattle.std.specs.Option.{option_map};
 ghost use Rattle.c99_tree.specs.declared.production.Production.TheVariants.{Unary as AUnary, Primary as APrimary, Post as APost};
 ghost use Rattle.scope_bind.specs.Children.{from_child};
 ghost use Rattle.scope_bind.specs.Trees.{is_node, is_at};
-ghost use Rattle.scope_bind.specs.Lists.{odd_tokens, commas_in, list_of, own_list, call_in, calls_in, declarator_in, is_declaring, lists_in, bare_at, bare_in};
+ghost use Rattle.scope_bind.specs.Lists.{odd_tokens, commas_in, list_of, own_list, call_in, declarator_in, is_declaring, bare_at};
 ghost use Rattle.scope_bind.specs.Shapes.{call_by, call_of, declarator_of};
 
 use crate::bare_names::push_bare;
@@ -205,69 +205,9 @@ fn push_declarator(alloc: Global, tree: &Tree, out: &mut Vec<List>) -> Result<()
     }
 }
 
-// What a node tells by itself.
-fn push_here(
-    alloc: Global,
-    tree: &Tree,
-    lists: &mut Vec<List>,
-    calls: &mut Vec<List>,
-    bare: &mut Vec<u32>,
-) -> Result<(), Memory>
-    ensures lists { OnOk result (lists.new.items ≡ lists.old.items ++ (if is_declaring tree.now.label then declarator_in tree.now.under else [])) }
-    ensures calls { OnOk result (calls.new.items ≡ calls.old.items ++ (if is_node tree.now.label AUnary then call_in tree.now.under else [])) }
-    ensures bare { OnOk result (bare.new.items ≡ bare.old.items ++ bare_at tree.now.label tree.now.under) }
-{
-    push_declarator(alloc, tree, lists)?;
-    push_call(alloc, tree, calls)?;
-    push_bare(tree, bare)
-}
-
-// The parameter lists of the names of declarators, in order of the names; the calls whose callee is a name, in
-// order; and the names that are parameters only since they are no typedef names where they stand. One walk for all,
-// since a large tree costs mostly the time in which its memory comes.
-#[cycle(lists)]
-fn push_lists(
-    alloc: Global,
-    tree: &Tree,
-    lists: &mut Vec<List>,
-    calls: &mut Vec<List>,
-    bare: &mut Vec<u32>,
-) -> Result<(), Memory>
-    ensures lists { OnOk result (lists.new.items ≡ lists.old.items ++ lists_in tree.now.under) }
-    ensures calls { OnOk result (calls.new.items ≡ calls.old.items ++ calls_in tree.now.under) }
-    ensures bare { OnOk result (bare.new.items ≡ bare.old.items ++ bare_in tree.now.under) }
-{
-    let count = tree.len();
-    'children: for k in 0..count {
-        push_lists_at(alloc, tree, k, lists, calls, bare)?;
-    }
-    Ok(())
-}
-
-#[cycle(lists)]
-fn push_lists_at(
-    alloc: Global,
-    tree: &Tree,
-    k: u32,
-    lists: &mut Vec<List>,
-    calls: &mut Vec<List>,
-    bare: &mut Vec<u32>,
-) -> Result<(), Memory>
-    ensures lists { OnOk result (lists.new.items ++ lists_in (from_child (k + 1) tree.now.under) ≡ lists.old.items ++ lists_in (from_child k tree.now.under)) }
-    ensures calls { OnOk result (calls.new.items ++ calls_in (from_child (k + 1) tree.now.under) ≡ calls.old.items ++ calls_in (from_child k tree.now.under)) }
-    ensures bare { OnOk result (bare.new.items ++ bare_in (from_child (k + 1) tree.now.under) ≡ bare.old.items ++ bare_in (from_child k tree.now.under)) }
-{
-    match child_at(tree, k) {
-        Part::End => Ok(()),
-        Part::Token(_) => Ok(()),
-        Part::Node(inner) => {
-            push_here(alloc, inner, lists, calls, bare)?;
-            push_lists(alloc, inner, lists, calls, bare)
-        }
-    }
-}
-
-/// What the tree of a unit tells by itself, but for the bodies of functions.
+/// What the tree of a unit tells by itself, but for the bodies of functions: the parameter lists of the names of
+/// declarators, in order of the names; the calls whose callee is a name, in order; and the names that are parameters
+/// only since they are no typedef names where they stand.
 #[derive(Drop)]
 pub(crate) struct Shown {
     pub lists: Vec<List>,
@@ -275,14 +215,28 @@ pub(crate) struct Shown {
     pub bare: Vec<u32>,
 }
 
-pub(crate) fn shown_in(alloc: Global, tree: &Tree) -> Result<Shown, Memory>
-    ensures lists { IfOk result (λ s. s.lists.items ≡ lists_in tree.now.under) }
-    ensures calls { IfOk result (λ s. s.calls.items ≡ calls_in tree.now.under) }
-    ensures bare { IfOk result (λ s. s.bare.items ≡ bare_in tree.now.under) }
-{
-    let mut lists = Vec::new(alloc);
-    let mut calls = Vec::new(alloc);
-    let mut bare = Vec::new(alloc);
-    push_lists(alloc, tree, &mut lists, &mut calls, &mut bare)?;
-    Ok(Shown { lists, calls, bare })
+impl Shown {
+    pub(crate) fn new(alloc: Global) -> Shown
+        ensures lists { result.lists.items ≡ [] }
+        ensures calls { result.calls.items ≡ [] }
+        ensures bare { result.bare.items ≡ [] }
+    {
+        Shown {
+            lists: Vec::new(alloc),
+            calls: Vec::new(alloc),
+            bare: Vec::new(alloc),
+        }
+    }
+
+    /// What a node tells by itself.
+    #[inline(never)]
+    pub(crate) fn add(&mut self, alloc: Global, tree: &Tree) -> Result<(), Memory>
+        ensures lists { OnOk result (self.new.lists.items ≡ self.old.lists.items ++ (if is_declaring tree.now.label then declarator_in tree.now.under else [])) }
+        ensures calls { OnOk result (self.new.calls.items ≡ self.old.calls.items ++ (if is_node tree.now.label AUnary then call_in tree.now.under else [])) }
+        ensures bare { OnOk result (self.new.bare.items ≡ self.old.bare.items ++ bare_at tree.now.label tree.now.under) }
+    {
+        push_declarator(alloc, tree, &mut self.lists)?;
+        push_call(alloc, tree, &mut self.calls)?;
+        push_bare(tree, &mut self.bare)
+    }
 }

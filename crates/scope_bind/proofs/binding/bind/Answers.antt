@@ -9,5 +9,5 @@ pub returns : goal.returns
 returns c = record {
   answer =
       subst (λ x. Gives (λ (b : Bound). b) fault_of c.bound_unless.result x)
-      (binding-after c.args.toks.now c.args.tree.now c.in_ok-facts.facts.facts (ap (λ k. k.facts) c.in_ok-facts.ensures)) c.bound_unless.ensures;
+      (binding-after c.args.toks.now c.args.tree.now c.in_ok-facts.facts.facts (ap (λ k. k.facts) c.in_ok-facts.ensures.facts)) c.bound_unless.ensures;
 }

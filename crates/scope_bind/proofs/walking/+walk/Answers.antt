@@ -1,7 +1,9 @@
-use Rattle.std.proofs.Common.{sym, ap, ◌+◌, ◌∙◌, arith}
+use Rattle.std.proofs.Common.{sym, ap, ◌+◌, ◌∙◌, ◌++◌, arith}
+use Rattle.std.proofs.lemmas.List.{append-nil}
 use Rattle.std.proofs.lemmas.Result.{on_ok_weaker}
 use Rattle.scope_bind.specs.Children.{from_child}
 use Rattle.scope_bind.specs.Frames.{state}
+use Rattle.scope_bind.specs.Lists.{calls_in, lists_in, bare_in}
 use Rattle.scope_bind.specs.Walk.{walked}
 use Rattle.scope_bind.proofs.ChildWalks.{from_child-end}
 use Rattle.scope_bind.proofs.WalkLemmas.{walked-end, walked-token, walked-node, known-left}
@@ -27,8 +29,8 @@ walk_at-returns-in-Token-clause-walked t c =
     (λ e. ap (walked toks rest) e ∙ walked-token toks here rest c.in-Token.i s c.in-Token.ensures.here)
     c.pass.ensures.passed
 
-pub walk_at-returns-in-Node-clause-walked : goal.walk_at-returns-in-Node-clause-walked
-walk_at-returns-in-Node-clause-walked t c =
+pub walk_at-returns-in_ok-add-in-Node-clause-walked : goal.walk_at-returns-in_ok-add-in-Node-clause-walked
+walk_at-returns-in_ok-add-in-Node-clause-walked t c =
     let toks = c.args.facts.now.toks in
     let rest = from_child (c.args.k + 1) c.args.tree.now.under in
     let here = from_child c.args.k c.args.tree.now.under in
@@ -48,3 +50,45 @@ walk_node-returns-clause-walked t c =
     c.args.f.now c.in_ok-child.child c.walk.new.f c.go_on.new.f
     c.in_ok-child.ensures c.in_ok-enter.ensures c.in_ok-walk.ensures.toks c.in_ok-walk.ensures.walked c.in_ok-leave.ensures c.toks.ensures e)
     c.go_on.ensures
+
+pub walk-returns-clause-lists : goal.walk-returns-clause-lists
+walk-returns-clause-lists t c =
+    sym (append-nil c.children.shown.lists.items)
+    ∙ (ap (λ f. c.children.shown.lists.items ++ lists_in f)
+    (sym (from_child-end c.args.tree.now.under c.children.k (omega (arith, c.children-test.false, c.len-count.ensures))))
+    ∙ c.children.invariant.lists)
+
+pub walk-returns-clause-calls : goal.walk-returns-clause-calls
+walk-returns-clause-calls t c =
+    sym (append-nil c.children.shown.calls.items)
+    ∙ (ap (λ f. c.children.shown.calls.items ++ calls_in f)
+    (sym (from_child-end c.args.tree.now.under c.children.k (omega (arith, c.children-test.false, c.len-count.ensures))))
+    ∙ c.children.invariant.calls)
+
+pub walk-returns-clause-bare : goal.walk-returns-clause-bare
+walk-returns-clause-bare t c =
+    sym (append-nil c.children.shown.bare.items)
+    ∙ (ap (λ f. c.children.shown.bare.items ++ bare_in f)
+    (sym (from_child-end c.args.tree.now.under c.children.k (omega (arith, c.children-test.false, c.len-count.ensures))))
+    ∙ c.children.invariant.bare)
+
+pub walk_at-returns-in-Token-clause-lists : goal.walk_at-returns-in-Token-clause-lists
+walk_at-returns-in-Token-clause-lists t c =
+    on_ok_weaker c.pass.result (λ _. ap (λ f. c.args.shown.now.lists.items ++ lists_in f) (sym c.in-Token.ensures.here)) c.pass.ensures.toks
+
+pub walk_at-returns-in-Token-clause-calls : goal.walk_at-returns-in-Token-clause-calls
+walk_at-returns-in-Token-clause-calls t c =
+    on_ok_weaker c.pass.result (λ _. ap (λ f. c.args.shown.now.calls.items ++ calls_in f) (sym c.in-Token.ensures.here)) c.pass.ensures.toks
+
+pub walk_at-returns-in-Token-clause-bare : goal.walk_at-returns-in-Token-clause-bare
+walk_at-returns-in-Token-clause-bare t c =
+    on_ok_weaker c.pass.result (λ _. ap (λ f. c.args.shown.now.bare.items ++ bare_in f) (sym c.in-Token.ensures.here)) c.pass.ensures.toks
+
+pub walk_node-returns-clause-lists : goal.walk_node-returns-clause-lists
+walk_node-returns-clause-lists t c = on_ok_weaker c.go_on.result (λ _. c.in_ok-walk.ensures.lists) c.go_on.ensures
+
+pub walk_node-returns-clause-calls : goal.walk_node-returns-clause-calls
+walk_node-returns-clause-calls t c = on_ok_weaker c.go_on.result (λ _. c.in_ok-walk.ensures.calls) c.go_on.ensures
+
+pub walk_node-returns-clause-bare : goal.walk_node-returns-clause-bare
+walk_node-returns-clause-bare t c = on_ok_weaker c.go_on.result (λ _. c.in_ok-walk.ensures.bare) c.go_on.ensures

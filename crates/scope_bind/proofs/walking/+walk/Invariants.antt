@@ -1,7 +1,8 @@
-use Rattle.std.proofs.Common.{◌≡◌, ◌+◌, ◌*◌}
+use Rattle.std.proofs.Common.{◌≡◌, ◌+◌, ◌*◌, ◌++◌}
 use Rattle.c99_tree.specs.Tree.{size_of}
 use Rattle.scope_bind.specs.Children.{from_child}
 use Rattle.scope_bind.specs.Frames.{state}
+use Rattle.scope_bind.specs.Lists.{calls_in, lists_in, bare_in}
 use Rattle.scope_bind.specs.Walk.{walked}
 use Rattle.scope_bind.proofs.walking.+walk.Given as goal
 
@@ -18,4 +19,7 @@ abbrev pub invariant-walk-children : goal.invariant-walk-children
 invariant-walk-children l = record {
   toks : l.facts.toks ≡ l.initial.facts.toks;
   rest : walked l.facts.toks (from_child l.k l.tree.under) (state l.facts.facts l.f) ≡ walked l.initial.facts.toks l.tree.under (state l.initial.facts.facts l.initial.f);
+  lists : l.shown.lists.items ++ lists_in (from_child l.k l.tree.under) ≡ l.initial.shown.lists.items ++ lists_in l.tree.under;
+  calls : l.shown.calls.items ++ calls_in (from_child l.k l.tree.under) ≡ l.initial.shown.calls.items ++ calls_in l.tree.under;
+  bare : l.shown.bare.items ++ bare_in (from_child l.k l.tree.under) ≡ l.initial.shown.bare.items ++ bare_in l.tree.under;
 }
