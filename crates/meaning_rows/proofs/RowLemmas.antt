@@ -10,7 +10,7 @@ use Rattle.ws_core.specs.Analysis.{UnitAnalysis, AnalysisValue}
 use Rattle.rename_text_laws.specs.Lines.{Each}
 use Rattle.rename_analysis_laws.specs.Analyses.{ReadsAlike}
 use Rattle.rename_result_laws.specs.KeptUnits.{change}
-use Rattle.meaning_rows.specs.Rows.{Row, IsOf, member, KeepsUnits, BreaksMeaning}
+use Rattle.meaning_rows.specs.Rows.{Row, IsOf, member, KeepsReading, BreaksMeaning}
 use Rattle.meaning_rows.proofs.ClauseLemmas.{one_answer, kept_meaning_reads_alike}
 
 -- the tokens are read to this tree, and bound so
@@ -36,7 +36,7 @@ module _ (r : Row) (tree : Node) (bound : Bound) (old : ReadSo r.toks tree bound
 
 -- renamed tokens that are read and bound as the row's keep the units of each analysis of it
 pub keeps : (r : Row) (at : ℕ) (name : List ℕ) (tree : Node) (bound : Bound) → ReadSo r.toks tree bound
-    → ((a : AnalysisValue) → ReadSo (map (renamed (renaming a at name)) r.toks) tree bound) → KeepsUnits r at name
+    → ((a : AnalysisValue) → ReadSo (map (renamed (renaming a at name)) r.toks) tree bound) → KeepsReading r at name
 keeps r at name tree bound old anew a h =
     let c : Renaming = renaming a at name in
     let u : UnitAnalysis = h.unit in

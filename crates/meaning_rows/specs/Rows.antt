@@ -65,8 +65,8 @@ pub record IsPreprocessed (r : Row) : Type 0 where
 -- ---- what a renaming of this class does
 
 -- its unit is read and bound as before
-abbrev pub KeepsUnits : Row → ℕ → List ℕ → Type 0
-KeepsUnits r at name = (a : AnalysisValue) → IsOf r a → UnitsReadAlike a (member at) name
+abbrev pub KeepsReading : Row → ℕ → List ℕ → Type 0
+KeepsReading r at name = (a : AnalysisValue) → IsOf r a → UnitsReadAlike a (member at) name
 
 -- meaning is not kept, whatever the files behind it are
 abbrev pub BreaksMeaning : Row → ℕ → List ℕ → Type 0

@@ -1,24 +1,24 @@
 // Renamings that keep how units are read and bound, each beside one that breaks it.
 ghost use Rattle.std.specs.Prelude.{[], codes, ◌∷◌};
-ghost use Rattle.meaning_rows.specs.Rows.{KeepsUnits, hidden_typedef, pasted_names, two_objects};
+ghost use Rattle.meaning_rows.specs.Rows.{KeepsReading, hidden_typedef, pasted_names, two_objects};
 
 /// A new name for the first object of `int x;int y;`, which occurs nowhere.
 pub fn name_that_is_new() -> u8
-    ensures { KeepsUnits two_objects 4 (result ∷ []) }
+    ensures { KeepsReading two_objects 4 (result ∷ []) }
 {
     b'z'
 }
 
 /// A new name for the argument of `A(x)`, with which the names that are pasted of it stay two.
 pub fn name_pasted_apart() -> u8
-    ensures { KeepsUnits pasted_names 32 (result ∷ []) }
+    ensures { KeepsReading pasted_names 32 (result ∷ []) }
 {
     b'w'
 }
 
 /// Where a name of one character begins in `typedef int T;void f(void){int T;int g(T);}` that may become `U`: that of `g`.
 pub fn place_that_hides_nothing() -> u32
-    ensures { KeepsUnits hidden_typedef result (codes "U") }
+    ensures { KeepsReading hidden_typedef result (codes "U") }
 {
     37
 }
