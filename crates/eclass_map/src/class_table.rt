@@ -14,6 +14,7 @@ ghost use Rattle.cs_base.specs.declared.positions.Part.{Part};
 
 mod class_numbers;
 
+use crate::file_hints::{add_hints, missing_hints};
 use crate::token_list::{Added, count_begun, find, number, place_tokens, settle};
 use crate::wholeness::are_whole;
 use class_labels::Partition;
@@ -28,6 +29,9 @@ pub struct Classes {
     tokens: Vec<Added>,
     places: Vec<Pos>,
     labels: Partition,
+    // For each file number how many tokens stood in front of its first when that was added. A guess: no contract
+    // rests on it, and each look-up tests what it takes from it.
+    files: Vec<usize>,
 }
 
 impl Model for Classes {
@@ -53,6 +57,7 @@ impl Classes {
             tokens: Vec::new(alloc),
             places: Vec::new(alloc),
             labels: Partition::new(alloc),
+            files: Vec::new(alloc),
         }
     }
 
@@ -75,13 +80,16 @@ impl Classes {
     {
         let start = Pos { file, at };
         let place = Part { start, len };
-        let index = count_begun(&self.tokens, start);
+        let index = count_begun(&self.tokens, &self.files, start);
+        let more = missing_hints(&self.files, file, self.tokens.len());
         self.tokens.reserve(1)?;
         self.places.reserve(len as usize)?;
+        self.files.reserve(more)?;
         self.labels.add(len)?;
         let first = self.places.len() as u32;
         self.tokens.insert(index, Added { place, first }).unwrap();
         add_places(&mut self.places, start, len);
+        add_hints(&mut self.files, more, index);
         Ok(())
     }
 
@@ -115,7 +123,7 @@ impl Classes {
         ensures answer { result ≡ part_of self.now pos }
         ensures parts { HasParts self.now }
     {
-        match find(&self.tokens, pos) {
+        match find(&self.tokens, &self.files, pos) {
             Some(index) => Some(self.part_of_character(pos, index)),
             None => None,
         }
@@ -141,7 +149,7 @@ impl Classes {
     pub fn class_of(&self, part: Part) -> Option<u32>
         ensures answer { result ≡ class_in self.now part }
     {
-        match find(&self.tokens, part.start) {
+        match find(&self.tokens, &self.files, part.start) {
             Some(index) => self.class_of_character(part, index),
             None => None,
         }
@@ -177,7 +185,7 @@ impl Classes {
         requires { IsSome (class_in self.now part) }
         ensures answer { (c k : ℕ) → class_in self.now part ≡ Some c → slice_get (members_of self.now c) k ≡ Some part → result ≡ slice_get (members_of self.now c) (k + 1) }
     {
-        match find(&self.tokens, part.start) {
+        match find(&self.tokens, &self.files, part.start) {
             Some(index) => self.member_after(part, index),
             None => None,
         }
@@ -212,7 +220,7 @@ impl Classes {
     pub fn is_whole(&self, tok: &Tok) -> bool
         ensures { MatchBool result (AreWhole self.now tok.now.origins) (AreWhole self.now tok.now.origins → ⊥) }
     {
-        are_whole(&self.tokens, tok)
+        are_whole(&self.tokens, &self.files, tok)
     }
 
     /// The characters of two tokens of equal spelling are the same from now on, first to first and so on. The
@@ -238,7 +246,15 @@ impl Classes {
         let len = text_length(x);
         let also = text_length(y);
         prove_eq!(len, also);
-        join_characters(&self.tokens, &mut self.labels, x, y, len, steps);
+        join_characters(
+            &self.tokens,
+            &self.files,
+            &mut self.labels,
+            x,
+            y,
+            len,
+            steps,
+        );
     }
 }
 
@@ -253,6 +269,7 @@ fn text_length(token: &Tok) -> u32
 // The parts of two tokens are joined, one after another.
 fn join_characters<L: Ledger>(
     tokens: &[Added],
+    files: &[usize],
     labels: &mut Partition,
     x: &Tok,
     y: &Tok,
@@ -267,8 +284,8 @@ fn join_characters<L: Ledger>(
 {
     let mut at = 0;
     while at < len {
-        let first = number(tokens, x.origins(at));
-        let second = number(tokens, y.origins(at));
+        let first = number(tokens, files, x.origins(at));
+        let second = number(tokens, files, y.origins(at));
         let part_len = labels.step(first, second, steps);
         at += part_len;
     }

@@ -6,15 +6,17 @@
 //! token's first to before the next such character, or to its token's end; a class is all parts whose
 //! first characters are the same. Where a part begins inside another, the other is cut, and so is every
 //! part of its class. This crate knows positions and links, and neither why tokens are linked nor what
-//! they spell. `join` and the readers take no memory: `add_token` takes the room for every part that its
-//! token can be cut into. Of two classes the one with fewer parts gets the other's number, a tick of
-//! `Steps` for each. `is_whole` tells before a link is joined whether the origins of its tokens are whole
-//! added tokens. `resize` gives the parts of a class another length, and moves what stands behind them in
-//! their files. The parts by number are those of `class_labels`. Read `specs/Chain.antt` there,
-//! `specs/ClassTable.antt` and `specs/Resized.antt`, then `class_table.rt`.
+//! they spell. A character is found by halving the tokens of its file. `join` and the readers take no
+//! memory: `add_token` takes the room for every part that its token can be cut into. Of two classes the one
+//! with fewer parts gets the other's number, a tick of `Steps` for each. `is_whole` tells before a link is
+//! joined whether the origins of its tokens are whole added tokens. `resize` gives the parts of a class
+//! another length, and moves what stands behind them in their files. The parts by number are those of
+//! `class_labels`. Read `specs/Chain.antt` there, `specs/ClassTable.antt` and `specs/Resized.antt`, then
+//! `class_table.rt`.
 #![tactic(auto)]
 
 mod class_table;
+mod file_hints;
 mod laws;
 mod token_list;
 mod wholeness;

@@ -3,6 +3,7 @@ ghost use Rattle.std.specs.Prelude.{ℕ, ◌≡◌, ◌+◌, ◌^◌, ◌<◌, �
 ghost use Rattle.eclass_map.specs.Positions.{along, holds, index_at, number_of, begins_by, AreTokens};
 ghost use Rattle.eclass_map.specs.Settled.{no_text, settled, settled_token, AreNumbered, AreApart, ArePlaced, Fits};
 
+use crate::file_hints::hint;
 use cs_base::{Memory, Part, Pos};
 use std::alloc::Global;
 
@@ -13,12 +14,12 @@ pub struct Added {
     pub first: u32,
 }
 
-/// The number of a character, by halving: none where no token holds it.
-pub fn find(tokens: &[Added], pos: Pos) -> Option<u32>
+/// The number of a character, by halving the tokens of its file: none where no token holds it.
+pub fn find(tokens: &[Added], files: &[usize], pos: Pos) -> Option<u32>
     requires { AreTokens tokens.now }
     ensures { result ≡ index_at tokens.now pos }
 {
-    let count = count_begun(tokens, pos);
+    let count = count_begun(tokens, files, pos);
     if count == 0 {
         return None;
     }
@@ -31,25 +32,25 @@ pub fn find(tokens: &[Added], pos: Pos) -> Option<u32>
 }
 
 /// The number of the origin of a character, 0 where it has none.
-pub fn number(tokens: &[Added], origin: Option<Pos>) -> u32
+pub fn number(tokens: &[Added], files: &[usize], origin: Option<Pos>) -> u32
     requires { AreTokens tokens.now }
     ensures { result ≡ number_of tokens.now origin }
 {
     match origin {
-        Some(pos) => find(tokens, pos).unwrap_or(0),
+        Some(pos) => find(tokens, files, pos).unwrap_or(0),
         None => 0,
     }
 }
 
-/// How many tokens begin at the character or before it.
-pub fn count_begun(tokens: &[Added], pos: Pos) -> usize
+/// How many tokens begin at the character or before it. Only those of its file are halved, if the hints are right.
+pub fn count_begun(tokens: &[Added], files: &[usize], pos: Pos) -> usize
     requires { AreTokens tokens.now }
     ensures within { result ≤ length tokens.now }
     ensures before { (k : ℕ) (r : Added) → k < result → slice_get tokens.now k ≡ Some r → begins_by r pos ≡ true }
     ensures behind { (k : ℕ) (r : Added) → result ≤ k → slice_get tokens.now k ≡ Some r → begins_by r pos ≡ false }
 {
-    let mut low = 0;
-    let mut high = tokens.len();
+    let mut low = first_to_halve(tokens, files, pos);
+    let mut high = end_to_halve(tokens, files, pos);
     while low < high {
         let middle = low + (high - low) / 2;
         if has_begun(tokens[middle], pos) {
@@ -59,6 +60,34 @@ pub fn count_begun(tokens: &[Added], pos: Pos) -> usize
         }
     }
     low
+}
+
+// Where halving begins: where the file's tokens are thought to begin, if those in front have begun.
+fn first_to_halve(tokens: &[Added], files: &[usize], pos: Pos) -> usize
+    requires { AreTokens tokens.now }
+    ensures within { result ≤ length tokens.now }
+    ensures before { (k : ℕ) (r : Added) → k < result → slice_get tokens.now k ≡ Some r → begins_by r pos ≡ true }
+{
+    let low = hint(files, pos.file as usize, tokens.len());
+    if 0 < low && low <= tokens.len() && has_begun(tokens[low - 1], pos) {
+        low
+    } else {
+        0
+    }
+}
+
+// Where halving ends: where the next file's tokens are thought to begin, if they have not begun.
+fn end_to_halve(tokens: &[Added], files: &[usize], pos: Pos) -> usize
+    requires { AreTokens tokens.now }
+    ensures within { result ≤ length tokens.now }
+    ensures behind { (k : ℕ) (r : Added) → result ≤ k → slice_get tokens.now k ≡ Some r → begins_by r pos ≡ false }
+{
+    let high = hint(files, pos.file as usize + 1, tokens.len());
+    if high < tokens.len() && !has_begun(tokens[high], pos) {
+        high
+    } else {
+        tokens.len()
+    }
 }
 
 fn has_begun(token: Added, pos: Pos) -> bool

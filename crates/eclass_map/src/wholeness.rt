@@ -9,7 +9,7 @@ use crate::token_list::{Added, count_begun};
 use cs_base::{Part, Pos, Tok};
 
 /// Whether the origins of a token are whole tokens of the list, one after another.
-pub fn are_whole(tokens: &[Added], tok: &Tok) -> bool
+pub fn are_whole(tokens: &[Added], files: &[usize], tok: &Tok) -> bool
     requires tokens { AreTokens tokens.now }
     requires fits { Fits tokens.now }
     ensures { MatchBool result (AreWhole (of_tokens tokens.now) tok.now.origins) (AreWhole (of_tokens tokens.now) tok.now.origins → ⊥) }
@@ -17,7 +17,7 @@ pub fn are_whole(tokens: &[Added], tok: &Tok) -> bool
     let count = tok.text().len() as u32;
     let mut at = 0;
     while at < count {
-        match token_at(tokens, tok, at) {
+        match token_at(tokens, files, tok, at) {
             Some(token) => at += token.len,
             None => return false,
         }
@@ -26,7 +26,7 @@ pub fn are_whole(tokens: &[Added], tok: &Tok) -> bool
 }
 
 // The token of the list whose characters the origins from number `at` on are.
-fn token_at(tokens: &[Added], tok: &Tok, at: u32) -> Option<Part>
+fn token_at(tokens: &[Added], files: &[usize], tok: &Tok, at: u32) -> Option<Part>
     requires tokens { AreTokens tokens.now }
     requires fits { Fits tokens.now }
     requires within { at < length tok.now.origins }
@@ -34,20 +34,20 @@ fn token_at(tokens: &[Added], tok: &Tok, at: u32) -> Option<Part>
     ensures { TellsToken tokens.now tok.now.origins at result }
 {
     match tok.origins(at) {
-        Some(start) => token_from(tokens, tok, at, start),
+        Some(start) => token_from(tokens, files, tok, at, start),
         None => None,
     }
 }
 
 // The same, where the first of these origins is the character `start`.
-fn token_from(tokens: &[Added], tok: &Tok, at: u32, start: Pos) -> Option<Part>
+fn token_from(tokens: &[Added], files: &[usize], tok: &Tok, at: u32, start: Pos) -> Option<Part>
     requires tokens { AreTokens tokens.now }
     requires fits { Fits tokens.now }
     requires short { length tok.now.origins < 2 ^ 32 }
     requires start { slice_get tok.now.origins at ≡ Some (Some start) }
     ensures { TellsToken tokens.now tok.now.origins at result }
 {
-    match beginning_at(tokens, start) {
+    match beginning_at(tokens, files, start) {
         Some(token) => {
             if goes_on(tok, at, token) {
                 Some(token)
@@ -60,11 +60,11 @@ fn token_from(tokens: &[Added], tok: &Tok, at: u32, start: Pos) -> Option<Part>
 }
 
 // The token of the list that begins at the character.
-fn beginning_at(tokens: &[Added], pos: Pos) -> Option<Part>
+fn beginning_at(tokens: &[Added], files: &[usize], pos: Pos) -> Option<Part>
     requires { AreTokens tokens.now }
     ensures { TellsBeginning tokens.now pos result }
 {
-    let count = count_begun(tokens, pos);
+    let count = count_begun(tokens, files, pos);
     if count == 0 {
         return None;
     }

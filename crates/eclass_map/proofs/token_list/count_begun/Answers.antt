@@ -12,7 +12,7 @@ loop-low-preserved c =
     let within : middle < length tokens = omega (arith, c.loop-low.invariant.within) in
     let later : begins_by (get_or tokens middle no_added) c.args.pos ≡ false = sym c.has_begun.ensures ∙ c.if-has_begun.false in
     record {
-      order = omega arith;
+      within_low = c.loop-low.invariant.within_low;
       within = omega arith;
       before = c.loop-low.invariant.before;
       behind = halve_down tokens c.args.pos middle (get_or tokens middle no_added) c.requires (slice_get-get_or tokens middle no_added within) later;

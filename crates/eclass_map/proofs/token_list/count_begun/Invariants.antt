@@ -6,7 +6,7 @@ use Rattle.eclass_map.proofs.token_list.count_begun.Given as goal
 
 abbrev pub invariant-loop-low : goal.invariant-loop-low
 invariant-loop-low l = record {
-  order : l.low ≤ l.high;
+  within_low : l.low ≤ length l.tokens;
   within : l.high ≤ length l.tokens;
   before : (k : ℕ) (r : Added) → k < l.low → slice_get l.tokens k ≡ Some r → begins_by r l.pos ≡ true;
   behind : (k : ℕ) (r : Added) → l.high ≤ k → slice_get l.tokens k ≡ Some r → begins_by r l.pos ≡ false;
