@@ -14,7 +14,7 @@ use Rattle.ws_core.specs.Analysis.{AnalysisValue}
 use Rattle.ws_core.specs.Classes.{AreItsClasses}
 use Rattle.ws_core.specs.Parts.{IsCharacter, IsStart, IsPart}
 use Rattle.ws_core.proofs.ClassLemmas.{walked_member, member_walked}
-use Rattle.rename_rules.specs.Class.{IsClass}
+use Rattle.rename_rules.specs.Class.{IsApart, IsClass}
 
 -- ---- one character lies in one part
 
@@ -128,3 +128,6 @@ module _ (a : Analysed) (own : AreItsClasses a.value a.classes) (members : List 
       let at = numbered_member part same in
       find_only (λ m. holds m p) members part at.0 at.1 held
       (λ j m is_at h. part_once a.value m part p (is.listed.each j m is_at).is_part it h held)
+
+  pub part_apart : (part : Part) → IsPart a.value part → (class_in a.classes part ≡ Some number → ⊥) → IsApart members part
+  part_apart part it other = λ p held. over_other p part it held other

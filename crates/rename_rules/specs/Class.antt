@@ -1,7 +1,10 @@
 -- A class of an analysis as inner functions know it.
-use Rattle.std.specs.Prelude.{ℕ, ◌≡◌, Some, List}
+use Rattle.std.specs.Prelude.{ℕ, ◌≡◌, true, Some, None, List}
 use Rattle.cs_base.specs.declared.positions.Part.{Part}
+use Rattle.cs_base.specs.declared.positions.Pos.{Pos}
 use Rattle.eclass_map.specs.ClassTable.{class_in}
+use Rattle.eclass_map.specs.Positions.{holds}
+use Rattle.part_respell.specs.Respelled.{member_over}
 use Rattle.ws_core.specs.Analysed.{Analysed}
 use Rattle.ws_core.specs.Parts.{AreMembers}
 
@@ -10,3 +13,7 @@ pub record IsClass (a : Analysed) (members : List Part) (number : ℕ) : Type 0 
   pub part : Part
   pub numbered : class_in a.classes part ≡ Some number
   pub listed : AreMembers a.value part members
+
+-- no member holds a character of the part
+abbrev pub IsApart : List Part → Part → Type 0
+IsApart members part = (p : Pos) → holds part p ≡ true → member_over members p ≡ None
