@@ -1,11 +1,12 @@
 -- Spellings with numbers, one token after another.
-use Rattle.std.proofs.Common.{ℕ, zero, suc, ◌+◌, ◌<◌, ◌≡◌, Bool, true, false, not, List, [], ◌∷◌, ◌++◌, map, take, length, get_or, None, Some, position, refl, sym, ap, cond, ◌∙◌, inl, inr, arith, length-append, nat_lt}
+use Rattle.std.proofs.Common.{ℕ, zero, suc, ◌+◌, ◌<◌, ◌≡◌, Bool, true, false, not, if◌then◌else◌, true≢false, List, [], ◌∷◌, ◌++◌, map, take, length, get_or, None, Some, position, refl, sym, ap, cond, ◌∙◌, inl, inr, arith, length-append, nat_lt}
 use borrow.Author.Tests.{ltb-false}
 use Rattle.std.specs.Prelude.{◌==◌}
 use Rattle.std.specs.List.{prefix_len, position_or_len, list_any}
 use Rattle.std.specs.Str.{bytes_eq}
-use Rattle.std.proofs.lemmas.Bool.{cases_Bool, cases_eq, eq-eqb, ne_eqb, lt-ltb, cond-true}
+use Rattle.std.proofs.lemmas.Bool.{cases_Bool, cases_eq, eq-eqb, ne_eqb, lt-ltb, cond-true, cond-false}
 use Rattle.std.proofs.lemmas.List.{map-append, take_more}
+use Rattle.std.proofs.lemmas.List.Folds.{list_any_at}
 use Rattle.std.proofs.lemmas.List.Quantifiers.{position-Some}
 use Rattle.std.proofs.lemmas.List.Sums.{fails_before_first, position_or_len_is}
 use Rattle.std.proofs.lemmas.Slice.Eq.{bytes_eq-Decides}
@@ -124,10 +125,47 @@ pub keys_more : {K : Type 0} (spelling : K → List ℕ) (old new : List K) (k :
     → map spelling new ≡ map spelling old ++ s ∷ []
 keys_more spelling old new k s e f = ap (map spelling) e ∙ (map-append spelling old (k ∷ []) ∙ ap (λ t. map spelling old ++ t ∷ []) f)
 
--- no key is the one that is put in
-pub absent_key : {K : Type 0} (spelling : K → List ℕ) (ks : List K) (k : K) (s : List ℕ) → spelling k ≡ s
-    → position (bytes_eq s) (map spelling ks) ≡ None → list_any (λ x. bytes_eq (spelling k) (spelling x)) ks ≡ false
-absent_key spelling ks k s e none = rw e (any_none (λ x. bytes_eq s (spelling x)) ks k (position-map spelling (bytes_eq s) ks ∙ none))
+-- where a key is looked for that is put in unless it is there
+module _ {K : Type 0} (p : K → Bool) (ks : List K) (k : K) where
+  abbrev place : ℕ
+  place = position_or_len p ks
+
+  abbrev below : Bool
+  below = nat_lt place (length ks)
+
+  placed : list_any p ks ≡ true → position p ks ≡ Some place
+  placed some = elim (cases_Bool below) [
+    | inl is ↦ cond-true below (Some place) None is
+    | inr past ↦ absurd (true≢false (sym some ∙ any_none p ks k (cond-false below (Some place) None past)))
+  ]
+
+  missing : list_any p ks ≡ false → position p ks ≡ None
+  missing none = elim (cases_Bool below) [
+    | inl is ↦
+        let at = position-Some p ks place k (cond-true below (Some place) None is) in
+        absurd (true≢false (sym (list_any_at p ks place k at.0 at.1) ∙ none))
+    | inr past ↦ cond-false below (Some place) None past
+  ]
+
+  behind : list_any p ks ≡ false → place ≡ length ks
+  behind none = position_or_len_is p ks (length ks) k (omega arith) (λ j l. fails_all p ks k (missing none) j l) (λ l. absurd (omega (arith, l)))
+
+-- a key is put in unless one is there that is spelled alike
+pub numbered_key : {K : Type 0} (spelling : K → List ℕ) (old new : List K) (k : K) (n : ℕ)
+    → new ≡ (if list_any (λ x. bytes_eq (spelling k) (spelling x)) old then old else old ++ k ∷ [])
+    → n ≡ position_or_len (λ x. bytes_eq (spelling k) (spelling x)) old → IsNumberOf (map spelling old) (map spelling new) (spelling k) n
+numbered_key {K = K} spelling old new k n e f =
+    let p : K → Bool = λ x. bytes_eq (spelling k) (spelling x) in
+    let found = position-map spelling (bytes_eq (spelling k)) old in
+    elim (cases_Bool (list_any p old)) [
+      | inl some ↦
+          rw (e ∙ cond-true (list_any p old) old (old ++ k ∷ []) some, f)
+          (IsNumberOf-found (map spelling old) (spelling k) (position_or_len p old) (sym found ∙ placed p old k some))
+      | inr none ↦
+          let last : n ≡ length (map spelling old) = f ∙ (behind p old k none ∙ sym (length-map old spelling)) in
+          rw (keys_more spelling old new k (spelling k) (e ∙ cond-false (list_any p old) old (old ++ k ∷ []) none) refl)
+          (IsNumberOf-added (map spelling old) (spelling k) n (sym found ∙ missing p old k none) last)
+    ]
 
 -- ---- One token more
 

@@ -1,6 +1,6 @@
 -- How the declarations of a unit are found: by the spelling of the name, by the structure or union, and by the end
 -- of the range.
-use Rattle.std.specs.Prelude.{ℕ, ◌+◌, ◌*◌, ◌%◌, ◌<◌, ◌≤◌, ◌≡◌, min, Bool, false, ◌&&◌, not, List, length, take, reverse, filter, get_or, slice_get, slice_set, Option, None, Some, nat_lt, ◌==◌, if◌then◌else◌}
+use Rattle.std.specs.Prelude.{ℕ, ◌+◌, ◌*◌, ◌/◌, ◌%◌, ◌<◌, ◌≤◌, ◌≡◌, min, Bool, false, ◌&&◌, not, List, length, take, reverse, filter, get_or, slice_get, slice_set, Option, None, Some, nat_lt, ◌==◌, if◌then◌else◌}
 use Rattle.cs_base.specs.Token.{Token}
 use Rattle.scope_bind.specs.declared.declarations.Space.{Space}
 use Rattle.scope_bind.specs.declared.declarations.Space.TheVariants.{Ordinary as ordinary, Tags as tags, Members as members, Labels as labels}
@@ -18,15 +18,16 @@ pub record Chains : Type 0 where
   pub toks : List Token
   pub declared : List Declaration
 
--- how many numbers there are, as far as it matters
+-- one less than how many keys tags and the names in structures, unions and bodies are spread over: a fourth of the tokens
 abbrev pub count_of : List ℕ → ℕ
-count_of numbers = min (length numbers) 4294967295
+count_of numbers = min (length numbers / 4) 4294967295
 
--- The key of a spelling by its number in a name space. Each structure, union and body has a name space of its own (6.2.3),
--- so the keys in these are spread over a table, by a factor that is prime; two may have one key.
+-- The key of a spelling by its number in a name space. An ordinary identifier has one of its own. Tags are few, and each
+-- structure, union and body has a name space of its own (6.2.3), so the keys in these are spread over a table, by a factor
+-- that is prime; two may have one key.
 abbrev pub space_key : ℕ → Space → ℕ → ℕ
-space_key count ordinary number = count + 1 + number * 2
-space_key count tags number = count + 2 + number * 2
+space_key count ordinary number = count + 1 + number
+space_key count tags number = (number * 2654435761) % (count + 1)
 space_key count (members n) number = (number * 2654435761 + n * 2) % (count + 1)
 space_key count (labels n) number = (number * 2654435761 + n * 2 + 1) % (count + 1)
 

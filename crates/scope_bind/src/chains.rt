@@ -65,8 +65,9 @@ fn blank(alloc: Global, count: usize) -> Result<Vec<usize>, Memory>
 fn count_of(numbers: &[u32]) -> u32
     ensures { result ≡ count_of numbers.now }
 {
-    if numbers.len() < u32::MAX as usize {
-        numbers.len() as u32
+    let fourth = numbers.len() / 4;
+    if fourth < u32::MAX as usize {
+        fourth as u32
     } else {
         u32::MAX
     }
@@ -76,8 +77,8 @@ fn space_key(count: u32, space: Space, number: u32) -> usize
     ensures { result ≡ space_key count space number }
 {
     match space {
-        Space::Ordinary => count as usize + 1 + number as usize * 2,
-        Space::Tags => count as usize + 2 + number as usize * 2,
+        Space::Ordinary => count as usize + 1 + number as usize,
+        Space::Tags => (number as usize * 2_654_435_761) % (count as usize + 1),
         Space::Members(n) => {
             (number as usize * 2_654_435_761 + n as usize * 2) % (count as usize + 1)
         }

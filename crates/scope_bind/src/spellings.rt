@@ -1,5 +1,5 @@
 // The spellings of the tokens of a unit, each by a number.
-ghost use Rattle.std.specs.Prelude.{◌≡◌, [], position, None, Some, IfOk};
+ghost use Rattle.std.specs.Prelude.{◌≡◌, ◌≤◌, [], position, Some, IfOk};
 ghost use Rattle.std.specs.Str.{bytes_eq};
 ghost use Rattle.scope_bind.specs.Spellings.{number_at, AreNumbers, AreNumbered, IsNumberOf};
 
@@ -10,22 +10,22 @@ use std::marker::Model;
 
 // The spellings in order of their numbers.
 #[derive(Drop)]
-struct Spellings {
-    spellings: IndexSet<Vec<u8>>,
+struct Spellings<'a> {
+    spellings: IndexSet<&'a [u8]>,
 }
 
-impl Model for Spellings {
+impl<'a> Model for Spellings<'a> {
     ghost use Rattle.std.specs.Prelude.{ℕ, List, map};
 
     ghost Value = { List (List ℕ) };
 
-    ghost view = { λ s. map (λ k. k.items) s.spellings.keys };
+    ghost view = { λ s. map (λ k. k.now) s.spellings.keys };
 }
 
-impl Spellings {
+impl<'a> Spellings<'a> {
     ghost use Rattle.std.specs.Prelude.{length};
 
-    fn new(alloc: Global) -> Spellings
+    fn new(alloc: Global) -> Spellings<'a>
         ensures { result ≡ [] }
     {
         Spellings {
@@ -33,42 +33,28 @@ impl Spellings {
         }
     }
 
-    fn number_of(&self, spelling: &[u8]) -> Option<usize>
-        ensures { result ≡ position (bytes_eq spelling.now) self.now }
-    {
-        self.spellings.get_index_of(spelling)
-    }
-
     // The number of the spelling, which is a new one where the spelling is new.
-    fn numbered(&mut self, alloc: Global, spelling: &[u8]) -> Result<usize, Memory>
-        ensures { IfOk result (λ number. IsNumberOf self.old self.new spelling.now number) }
-    {
-        match self.number_of(spelling) {
-            Some(number) => Ok(number),
-            None => self.add(alloc, spelling),
-        }
-    }
-
-    fn add(&mut self, alloc: Global, spelling: &[u8]) -> Result<usize, Memory>
-        requires absent { position (bytes_eq spelling.now) self.old ≡ None }
-        ensures last { IfOk result (λ number. number ≡ length self.old) }
+    fn numbered(&mut self, spelling: &'a [u8]) -> Result<usize, Memory>
         ensures numbered { IfOk result (λ number. IsNumberOf self.old self.new spelling.now number) }
+        ensures within { IfOk result (λ number. number ≤ length self.old) }
     {
-        let number = self.spellings.len();
-        let kept = Vec::from_slice(alloc, spelling)?;
-        self.spellings.insert(kept)?;
+        let (number, _) = self.spellings.insert_full(spelling)?;
         Ok(number)
     }
 }
 
 // The numbers of the tokens, each of which is put among the spellings.
-fn told(alloc: Global, toks: &[Tok], spellings: &mut Spellings) -> Result<Vec<u32>, Memory>
+fn told<'a>(
+    alloc: Global,
+    toks: &'a [Tok],
+    spellings: &mut Spellings<'a>,
+) -> Result<Vec<u32>, Memory>
     requires empty { position (bytes_eq []) spellings.old ≡ Some 0 }
     ensures { IfOk result (λ numbers. AreNumbered toks.now numbers.items spellings.new) }
 {
-    let mut numbers = Vec::new(alloc);
+    let mut numbers = Vec::with_capacity(alloc, toks.len())?;
     'toks: for tok in toks {
-        let number = spellings.numbered(alloc, tok.text())?;
+        let number = spellings.numbered(tok.text())?;
         if number > u32::MAX as usize {
             return Err(Memory);
         }
@@ -94,6 +80,6 @@ pub(crate) fn numbers_of(alloc: Global, toks: &[Tok]) -> Result<Vec<u32>, Memory
 {
     let mut spellings = Spellings::new(alloc);
     // Number 0 is that of tokens that are not there.
-    spellings.add(alloc, &[])?;
+    spellings.numbered(&[])?;
     told(alloc, toks, &mut spellings)
 }
