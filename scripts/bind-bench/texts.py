@@ -2,6 +2,7 @@
 import itertools
 import os
 import re
+import statistics
 import subprocess
 import sys
 
@@ -14,20 +15,29 @@ TOKEN = re.compile(r"""[A-Za-z_]\w*|L?"(?:\\.|[^"\\])*"|L?'(?:\\.|[^'\\])*'|\.?\
                    r"""|\.\.\.|->|\+\+|--|<<=|>>=|<<|>>|[-+*/%&|^<>=!]=|&&|\|\||\S""")
 
 
-def asked(texts):
-    """For each text how many tokens it has, the microseconds of `read` and of `bind`, and the outcome."""
-    paths = []
+def asked(texts, tokens=500000):
+    """For each text how many tokens it has, the microseconds of `read` and of `bind`, and the outcome. Each run has a process
+    of its own, so that no text, however small, finds memory that is there already. There are as many runs as make up so
+    many tokens, 5 to 41 (one, if `tokens` is 0), in turn with those of the other texts, and the times are their medians."""
+    paths, counts, found = [], [1] * len(texts), [[] for _ in texts]
     for number, text in enumerate(texts):
         paths.append(os.path.join(folder, str(number)))
         with open(paths[-1], "w") as out:
             out.write(text)
-    ran = subprocess.run([driver, *paths], stdout=subprocess.PIPE, text=True)
+    for turn in range(41):
+        for k, path in enumerate(paths):
+            if turn and turn >= (min(41, max(5, tokens // counts[k])) if tokens else 1):
+                continue
+            ran = subprocess.run([driver, path], stdout=subprocess.PIPE, text=True)
+            if ran.stdout:
+                count, reading, binding, outcome = ran.stdout.rstrip("\n").split(" ", 3)
+                found[k].append((int(reading), int(binding), outcome))
+                counts[k] = max(1, int(count))
+            else:
+                found[k].append((0, 0, f"ENDED BY {-ran.returncode}"))
     rows = []
-    for line in ran.stdout.splitlines():
-        count, reading, binding, outcome = line.split(" ", 3)
-        rows.append((int(count), int(reading), int(binding), outcome))
-    while len(rows) < len(texts):
-        rows.append((0, 0, 0, f"ENDED BY {-ran.returncode}"))
+    for count, runs in zip(counts, found):
+        rows.append((count, *(statistics.median(run[k] for run in runs) for k in range(2)), runs[0][2]))
     return rows
 
 
@@ -273,11 +283,11 @@ def deepest(made):
     low, high = 1, 300
     while high - low > 1:
         middle = (low + high) // 2
-        if asked([made(middle)])[0][3] == "too deep":
+        if asked([made(middle)], 0)[0][3] == "too deep":
             high = middle
         else:
             low = middle
-    there, behind = asked([made(low), made(low + 1)])
+    there, behind = asked([made(low), made(low + 1)], 0)
     return low, there[3], behind[3]
 
 
@@ -289,7 +299,7 @@ def limits():
         wrong += not good
         print(f"{'' if good else 'WRONG: '}nested {what}: {n} {there}, {n + 1} {behind}", flush=True)
     for what, made in WIDE.items():
-        count, reading, binding, outcome = asked([made()])[0]
+        count, reading, binding, outcome = asked([made()], 0)[0]
         wrong += "ENDED" in outcome or outcome == "syntax error"
         print(f"{what}: {count} tokens, read {reading / 1000:.0f} ms, bind {binding / 1000:.0f} ms, {outcome}", flush=True)
     print(f"{len(NESTED) + len(WIDE)} texts, {wrong} not as they should be")
