@@ -4,16 +4,16 @@ use Rattle.std.specs.Prelude.{is_some}
 use Rattle.std.specs.Option.{option_map_or}
 use Rattle.cs_base.specs.Token.{Token}
 use Rattle.c99_tree.specs.Tree.{Forest}
-use Rattle.scope_bind.specs.declared.entity.EntityKind.TheVariants.{Typedef, Parameter}
+use Rattle.c_types.specs.declared.entity.EntityKind.TheVariants.{Typedef, Parameter}
 use Rattle.scope_bind.specs.Named.{Cause, undeclared, no_member, no_label, redeclared, tag_redefined, mixed_linkage, designator_after_elision, ordinary, tags, members, labels, Declaration, Occurrence, Declared, Body, Frame, Scope}
-use Rattle.scope_bind.specs.Types.{CType, adjusted, is_unknown}
-use Rattle.scope_bind.specs.Trees.{last_token, declarator_type}
-use Rattle.scope_bind.specs.Declarations.{Facts, has_linkage, with_fault, with_occurrence, with_declaration, with_begun, visible, in_scope, linked, is_mixed, anywhere}
+use Rattle.c_types.specs.Types.{CType, adjusted, is_unknown}
+use Rattle.c_types.specs.Trees.{last_token, declarator_type}
+use Rattle.c_types.specs.Declarations.{Facts, has_linkage, with_fault, with_occurrence, with_declaration, with_begun, visible, in_scope, linked, is_mixed, anywhere}
 use Rattle.scope_bind.specs.Ordinary.{is_again, entity_of, is_listed, declaration_of, declared, used_as, used, plain_name, new_object, with_object, with_parameter}
-use Rattle.scope_bind.specs.Tags.{is_same_tag, tag_entity, is_declaring, tag_declaration, renumbered, prior_tag, tag_named, is_complete, is_sort, enumeration_used, with_tag, with_enumeration}
-use Rattle.scope_bind.specs.Members.{member_declaration, member_at, member_used_as, member_used, with_member}
+use Rattle.c_types.specs.Tags.{is_same_tag, tag_entity, is_declaring, tag_declaration, renumbered, prior_tag, tag_named, is_complete, is_sort, enumeration_used, with_tag, with_enumeration}
+use Rattle.name_chains.specs.Members.{member_declaration, member_at, member_used_as, member_used, with_member}
 use Rattle.scope_bind.specs.Labels.{label_declaration, with_label, jump_to}
-use Rattle.scope_bind.specs.Initializers.{designated_facts}
+use Rattle.name_chains.specs.Initializers.{designated_facts}
 use Rattle.bind_laws.proofs.Noted.{hit, hits}
 
 -- how often the token is among the names

@@ -3,7 +3,7 @@ use Rattle.std.proofs.Common.{ℕ, ◌+◌, ◌<◌, ◌≤◌, Bool, true, fals
 use Rattle.std.specs.Prelude.{filter, All, AllPairs}
 use Rattle.std.proofs.lemmas.List.Elements.{All-nil, All-cons, All-weaker}
 use Rattle.std.proofs.lemmas.List.Kept.{AllPairs-cons}
-use Rattle.scope_bind.specs.declared.lists.Range.{Range}
+use Rattle.c_types.specs.declared.lists.Range.{Range}
 use Rattle.bind_laws.specs.Laws.{IsBody}
 
 pub pairs_none : {X : Type 0} (Q : X → X → Type 0) → AllPairs Q []

@@ -7,15 +7,15 @@ use Rattle.c99_tree.specs.declared.production.Label.{Label}
 use Rattle.c99_tree.specs.declared.production.Production.{Production}
 use Rattle.c99_tree.specs.declared.production.Production.TheVariants.{ExtRest, FunBody, InitDecl, Members, Mdecl, Enumerators, Enumerator, Declarator, Param, Pdecl}
 use Rattle.c99_tree.specs.contracts.production.ProductionPartialEq.TheImpl.{ghosts}
-use Rattle.scope_bind.specs.declared.entity.EntityKind.TheVariants.{Parameter, Enumerator as Constant}
+use Rattle.c_types.specs.declared.entity.EntityKind.TheVariants.{Parameter, Enumerator as Constant}
 use Rattle.scope_bind.specs.Named.{labels, Declaration, Body, Frame, Role, by_role}
-use Rattle.scope_bind.specs.Types.{arithmetic, target_of}
-use Rattle.scope_bind.specs.Trees.{is_node, last_token, name_below}
-use Rattle.scope_bind.specs.Declarations.{Facts, anywhere}
-use Rattle.scope_bind.specs.Frames.{State}
+use Rattle.c_types.specs.Types.{arithmetic, target_of}
+use Rattle.c_types.specs.Trees.{is_node, last_token, name_below}
+use Rattle.c_types.specs.Declarations.{Facts, anywhere}
+use Rattle.name_chains.specs.Frames.{State}
 use Rattle.scope_bind.specs.Ordinary.{is_func, used, plain_name}
 use Rattle.scope_bind.specs.Labels.{with_jump, jump_to, with_jumps, with_labels}
-use Rattle.scope_bind.specs.Entering.{facts_in, with_kept, entered}
+use Rattle.name_chains.specs.Entering.{facts_in, with_kept, entered}
 use Rattle.scope_bind.specs.Roles.{role_of}
 use Rattle.scope_bind.specs.Walk.{facts_at, passed, declared_in, parameter_in, facts_after, left, walked}
 use Rattle.bind_laws.specs.Units.{has_token, has_body, has_form, have_forms}

@@ -5,7 +5,7 @@ use Rattle.std.specs.Option.{option_map}
 use Rattle.std.proofs.lemmas.Bool.{eq-eqb, ne_eqb}
 use Rattle.std.proofs.lemmas.List.{reverse-reverse}
 use Rattle.scope_bind.specs.Named.{Occurrence}
-use Rattle.scope_bind.specs.Declarations.{Facts}
+use Rattle.c_types.specs.Declarations.{Facts}
 use Rattle.scope_bind.specs.Bound.{Bound, name_of, names_of, facts_of}
 use Rattle.scope_bind.specs.Names.{entity_at}
 use Rattle.scope_bind.specs.declared.bound.Name.{Name}

@@ -9,10 +9,10 @@ use Rattle.c99_tree.specs.declared.production.Production.{Production}
 use Rattle.c99_tree.specs.declared.production.Production.TheVariants.{Enumerator, Declarator, Pdecl}
 use Rattle.scope_bind.specs.Named.{Fault, Occurrence, is_plain_role}
 use Rattle.scope_bind.specs.Causes.{index_of}
-use Rattle.scope_bind.specs.Declarations.{Facts, spelling_at, alike}
-use Rattle.scope_bind.specs.Frames.{at_first, outermost}
+use Rattle.c_types.specs.Declarations.{Facts, spelling_at, alike}
+use Rattle.name_chains.specs.Frames.{at_first, outermost}
 use Rattle.scope_bind.specs.Roles.{role_of}
-use Rattle.scope_bind.specs.Trees.{is_node, has_name, holds_name, name_below}
+use Rattle.c_types.specs.Trees.{is_node, has_name, holds_name, name_below}
 use Rattle.scope_bind.specs.Bound.{Bound, name_of, bound_of, bound_unless, facts_of, binding_of}
 use Rattle.scope_bind.specs.declared.bound.Name.{Name}
 use Rattle.bind_laws.specs.Units.{token_count, AreFrom, begins_with_token, has_form, have_forms, is_name_place, names_pass, IsTreeOf}

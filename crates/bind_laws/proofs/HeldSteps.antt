@@ -6,16 +6,16 @@ use Rattle.c99_tree.specs.Tree.{Forest, none, token, node}
 use Rattle.c99_tree.specs.declared.production.Label.{Label}
 use Rattle.c99_tree.specs.declared.production.Production.{Production}
 use Rattle.c99_tree.specs.declared.production.Production.TheVariants.{ExtRest, FunBody, InitDecl, Members, Mdecl, Enumerators, Enumerator, Declarator, Param, Pdecl}
-use Rattle.scope_bind.specs.declared.entity.EntityKind.TheVariants.{Parameter, Enumerator as Constant}
+use Rattle.c_types.specs.declared.entity.EntityKind.TheVariants.{Parameter, Enumerator as Constant}
 use Rattle.scope_bind.specs.Named.{Occurrence, Body, Frame, Role, is_plain_role, by_role}
-use Rattle.scope_bind.specs.Types.{arithmetic, target_of}
-use Rattle.scope_bind.specs.Trees.{last_token, name_below}
-use Rattle.scope_bind.specs.Declarations.{Facts}
-use Rattle.scope_bind.specs.Frames.{State}
+use Rattle.c_types.specs.Types.{arithmetic, target_of}
+use Rattle.c_types.specs.Trees.{last_token, name_below}
+use Rattle.c_types.specs.Declarations.{Facts}
+use Rattle.name_chains.specs.Frames.{State}
 use Rattle.scope_bind.specs.Ordinary.{is_func, used, plain_name}
-use Rattle.scope_bind.specs.Tags.{number_in}
+use Rattle.c_types.specs.Tags.{number_in}
 use Rattle.scope_bind.specs.Labels.{with_jump}
-use Rattle.scope_bind.specs.Entering.{facts_in, entered}
+use Rattle.name_chains.specs.Entering.{facts_in, entered}
 use Rattle.scope_bind.specs.Roles.{role_of}
 use Rattle.scope_bind.specs.Walk.{facts_at, passed, declared_in, parameter_in, facts_after, left, walked}
 use Rattle.bind_laws.proofs.Noted.{declares, is_parameter, told_name}

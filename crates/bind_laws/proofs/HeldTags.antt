@@ -4,16 +4,16 @@ use Rattle.std.specs.Prelude.{IfSome, is_some}
 use Rattle.std.specs.Option.{option_map_or}
 use Rattle.cs_base.specs.Token.{Token}
 use Rattle.c99_tree.specs.Tree.{Forest}
-use Rattle.scope_bind.specs.declared.entity.EntityKind.TheVariants.{Typedef, Parameter}
+use Rattle.c_types.specs.declared.entity.EntityKind.TheVariants.{Typedef, Parameter}
 use Rattle.scope_bind.specs.Named.{undeclared, no_member, no_label, redeclared, tag_redefined, mixed_linkage, designator_after_elision, ordinary, tags, members, labels, Declaration, Occurrence, Declared, Body, Frame, Scope}
-use Rattle.scope_bind.specs.Types.{CType, adjusted, is_unknown}
-use Rattle.scope_bind.specs.Trees.{last_token, declarator_type}
-use Rattle.scope_bind.specs.Declarations.{Facts, has_linkage, with_fault, with_use, is_live, visible, in_scope, linked, is_mixed, anywhere}
+use Rattle.c_types.specs.Types.{CType, adjusted, is_unknown}
+use Rattle.c_types.specs.Trees.{last_token, declarator_type}
+use Rattle.c_types.specs.Declarations.{Facts, has_linkage, with_fault, with_use, is_live, visible, in_scope, linked, is_mixed, anywhere}
 use Rattle.scope_bind.specs.Ordinary.{is_again, linked_entity, entity_of, is_listed, declaration_of, declared_faults, declared, used_as, used, plain_name, new_object, new_parameter, with_object, with_parameter}
-use Rattle.scope_bind.specs.Tags.{number_in, is_same_tag, tag_entity, is_declaring, tag_declaration, renumbered, is_prior_tag, prior_tag, tag_named, is_complete, is_sort, enumeration_used, with_tag, with_enumeration}
-use Rattle.scope_bind.specs.Members.{member_declaration, is_known, member_at, member_used_as, member_used, with_member}
+use Rattle.c_types.specs.Tags.{number_in, is_same_tag, tag_entity, is_declaring, tag_declaration, renumbered, is_prior_tag, prior_tag, tag_named, is_complete, is_sort, enumeration_used, with_tag, with_enumeration}
+use Rattle.name_chains.specs.Members.{member_declaration, is_known, member_at, member_used_as, member_used, with_member}
 use Rattle.scope_bind.specs.Labels.{label_declaration, with_label, jump_to, with_jumps, with_labels}
-use Rattle.scope_bind.specs.Initializers.{designated_facts}
+use Rattle.name_chains.specs.Initializers.{designated_facts}
 use Rattle.bind_laws.proofs.InLists.{In}
 use Rattle.bind_laws.proofs.Holding.{name_noted, GoesOn, Holds, noted_still, fault_held, occurrence_held, declaration_held, begun_held, looked_up_held}
 

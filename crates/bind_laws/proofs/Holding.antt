@@ -5,9 +5,9 @@ use Rattle.std.specs.Prelude.{IfSome, filter_map}
 use Rattle.std.specs.List.{cons_option}
 use Rattle.cs_base.specs.Token.{Token}
 use Rattle.scope_bind.specs.Named.{Cause, Fault, Space, Declaration, Occurrence}
-use Rattle.scope_bind.specs.Faults.{first_fault, comes_first, fault_at}
-use Rattle.scope_bind.specs.Declarations.{Facts, is_space, alike, is_named, looked_up, with_fault, with_occurrence, with_declaration, with_begun, with_complete}
-use Rattle.scope_bind.specs.Entering.{is_member, kept_here, with_kept}
+use Rattle.c_types.specs.Faults.{first_fault, comes_first, fault_at}
+use Rattle.c_types.specs.Declarations.{Facts, is_space, alike, is_named, looked_up, with_fault, with_occurrence, with_declaration, with_begun, with_complete}
+use Rattle.name_chains.specs.Entering.{is_member, kept_here, with_kept}
 use Rattle.bind_laws.proofs.InLists.{and_left, and_right, In, found_passes, found_in}
 
 -- the token is noted as a name of the entity

@@ -5,7 +5,7 @@ use Rattle.std.specs.List.{list_any}
 use Rattle.std.proofs.lemmas.Slice.Eq.{bytes_eq-Decides}
 use Rattle.cs_base.specs.Token.{Token}
 use Rattle.scope_bind.specs.Named.{Space, Declaration}
-use Rattle.scope_bind.specs.Declarations.{is_space, Facts, spelling_at, alike, is_named, looked_up}
+use Rattle.c_types.specs.Declarations.{is_space, Facts, spelling_at, alike, is_named, looked_up}
 
 -- ---- Tests
 

@@ -8,7 +8,7 @@ use Rattle.c99_tree.specs.declared.production.Production.{Production}
 use Rattle.c99_tree.specs.declared.production.Production.TheVariants.{ExtRest, InitDecl, Mdecl, Enumerator, Declarator, Direct, Param, Pdecl, Pdirect}
 use Rattle.c99_tree.specs.contracts.production.ProductionPartialEq.TheImpl.{ghosts}
 use Rattle.scope_bind.specs.Named.{Role, is_plain_role}
-use Rattle.scope_bind.specs.Trees.{has_name, holds_name, name_below}
+use Rattle.c_types.specs.Trees.{has_name, holds_name, name_below}
 use Rattle.scope_bind.specs.Roles.{role_of}
 use Rattle.bind_laws.specs.Units.{token_count, AreFrom, begins_with_token, has_form, have_forms}
 use Rattle.bind_laws.proofs.InLists.{false≢true, and_left, and_right}

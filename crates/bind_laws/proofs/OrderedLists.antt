@@ -6,10 +6,10 @@ use Rattle.c99_tree.specs.declared.production.Label.{Label}
 use Rattle.c99_tree.specs.declared.production.Production.{Production}
 use Rattle.c99_tree.specs.declared.production.Production.TheVariants.{ExtRest, InitDecl, Declarator, FunBody, Unary, Primary, Post}
 use Rattle.c99_tree.specs.contracts.production.ProductionPartialEq.TheImpl.{ghosts}
-use Rattle.scope_bind.specs.declared.lists.List.{List as NameList}
-use Rattle.scope_bind.specs.declared.lists.Range.{Range}
-use Rattle.scope_bind.specs.Trees.{is_node, is_at, name_below, first_token, last_token}
-use Rattle.scope_bind.specs.Lists.{list_of, call_in, calls_in, body_of, tail_of, definition_in, bodies_in, nearest_of, own_list, declarator_in, is_declaring, lists_in}
+use Rattle.c_types.specs.declared.lists.List.{List as NameList}
+use Rattle.c_types.specs.declared.lists.Range.{Range}
+use Rattle.c_types.specs.Trees.{is_node, is_at, name_below, first_token, last_token}
+use Rattle.c_types.specs.Lists.{list_of, call_in, calls_in, body_of, tail_of, definition_in, bodies_in, nearest_of, own_list, declarator_in, is_declaring, lists_in}
 use Rattle.bind_laws.specs.Units.{token_count, AreFrom, has_token, has_body, has_declaring, has_form, have_forms}
 use Rattle.bind_laws.proofs.InLists.{false≢true, and_left}
 use Rattle.bind_laws.proofs.Noted.{Within, name_within, form_here, forms_under, forms_behind}

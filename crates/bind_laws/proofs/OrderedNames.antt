@@ -8,11 +8,11 @@ use Rattle.cs_base.specs.Token.{Token}
 use Rattle.c99_tree.specs.Tree.{Node}
 use Rattle.scope_bind.specs.Named.{Occurrence}
 use Rattle.scope_bind.specs.declared.bound.Name.{Name}
-use Rattle.scope_bind.specs.declared.lists.List.{List as NameList}
-use Rattle.scope_bind.specs.declared.lists.Range.{Range}
-use Rattle.scope_bind.specs.Declarations.{Facts}
-use Rattle.scope_bind.specs.Frames.{at_first, outermost}
-use Rattle.scope_bind.specs.Lists.{calls_in, bodies_in, lists_in}
+use Rattle.c_types.specs.declared.lists.List.{List as NameList}
+use Rattle.c_types.specs.declared.lists.Range.{Range}
+use Rattle.c_types.specs.Declarations.{Facts}
+use Rattle.name_chains.specs.Frames.{at_first, outermost}
+use Rattle.c_types.specs.Lists.{calls_in, bodies_in, lists_in}
 use Rattle.scope_bind.specs.Bound.{Bound, name_of, names_of, is_of_function, facts_of}
 use Rattle.bind_laws.specs.Units.{token_count, IsTreeOf}
 use Rattle.bind_laws.specs.Laws.{EachTokenIsOneName, ParameterListsAreInOrder, ArgumentListsAreInOrder, IsBody, BodiesStandInTheText, BodiesAreApart}

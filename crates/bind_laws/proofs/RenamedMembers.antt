@@ -5,12 +5,12 @@ use Rattle.std.specs.Option.{option_map_or}
 use Rattle.cs_base.specs.Token.{Token}
 use Rattle.c99_tree.specs.Tree.{Forest}
 use Rattle.scope_bind.specs.Named.{Space, Declaration, Body, Frame, undeclared, no_member, no_label, redeclared, tag_redefined, designator_after_elision, tags, members, labels}
-use Rattle.scope_bind.specs.declared.entity.Linkage.TheVariants.{Absent}
-use Rattle.scope_bind.specs.Types.{CType}
-use Rattle.scope_bind.specs.Trees.{last_token, declarator_type}
-use Rattle.scope_bind.specs.Declarations.{Facts, with_fault, with_use, with_declaration, with_begun, has_linkage, alike, visible, anywhere, is_live}
-use Rattle.scope_bind.specs.Tags.{number_in, renumbered, is_same_tag, tag_entity, is_declaring, tag_declaration, tag_named, is_prior_tag, with_tag_after, prior_tag, with_tag, tag_type, is_complete, is_sort, enumeration_used}
-use Rattle.scope_bind.specs.Members.{member_declaration, is_known, with_member, member_at, member_used_as, member_used}
+use Rattle.c_types.specs.declared.entity.Linkage.TheVariants.{Absent}
+use Rattle.c_types.specs.Types.{CType}
+use Rattle.c_types.specs.Trees.{last_token, declarator_type}
+use Rattle.c_types.specs.Declarations.{Facts, with_fault, with_use, with_declaration, with_begun, has_linkage, alike, visible, anywhere, is_live}
+use Rattle.c_types.specs.Tags.{number_in, renumbered, is_same_tag, tag_entity, is_declaring, tag_declaration, tag_named, is_prior_tag, with_tag_after, prior_tag, with_tag, tag_type, is_complete, is_sort, enumeration_used}
+use Rattle.name_chains.specs.Members.{member_declaration, is_known, with_member, member_at, member_used_as, member_used}
 use Rattle.scope_bind.specs.Labels.{label_declaration, with_label, jump_to, with_jumps, with_labels}
 use Rattle.bind_laws.proofs.Lookups.{false≢true}
 use Rattle.bind_laws.proofs.Renaming.{Good, Kept, fault_back, fault_goes, fault_none, occurrence_back, occurrence_good, declaration_back, declaration_good, kept_declaration, kept_occurrence, joins_unlinked, found_again}

@@ -4,9 +4,9 @@ use Rattle.std.specs.Prelude.{IfSome}
 use Rattle.std.specs.Option.{option_map_or}
 use Rattle.std.proofs.lemmas.Bool.{cases_Bool}
 use Rattle.cs_base.specs.Token.{Token}
-use Rattle.scope_bind.specs.declared.entity.Linkage.{Linkage}
+use Rattle.c_types.specs.declared.entity.Linkage.{Linkage}
 use Rattle.scope_bind.specs.Named.{Declaration, Declared, Scope, undeclared, redeclared, mixed_linkage, ordinary}
-use Rattle.scope_bind.specs.Declarations.{is_space, Facts, has_linkage, is_linkage, is_live, with_fault, with_declaration, alike, is_named, looked_up, visible, in_scope, linked, is_mixed}
+use Rattle.c_types.specs.Declarations.{is_space, Facts, has_linkage, is_linkage, is_live, with_fault, with_declaration, alike, is_named, looked_up, visible, in_scope, linked, is_mixed}
 use Rattle.scope_bind.specs.Ordinary.{is_again, linked_entity, entity_of, is_listed, declaration_of, declared_faults, declared_after, declared, used_as, used}
 use Rattle.bind_laws.proofs.Lookups.{false≢true, and_left, and_right, and_both, In, found_passes, found_in, none_passes, any_same, alike_same, alike_turned, named_apart}
 use Rattle.bind_laws.proofs.Renaming.{Good, Kept, IsLinked, Joins, fault_back, fault_goes, fault_none, occurrence_back, occurrence_good, declaration_back, declaration_good, kept_declaration, kept_occurrence, found_again}

@@ -4,12 +4,12 @@ use Rattle.std.specs.Prelude.{IfSome}
 use Rattle.std.proofs.lemmas.Bool.{cases_Bool}
 use Rattle.cs_base.specs.Token.{Token}
 use Rattle.c99_tree.specs.Tree.{Forest}
-use Rattle.scope_bind.specs.declared.entity.Linkage.{Linkage}
-use Rattle.scope_bind.specs.declared.entity.Linkage.TheVariants.{External, Internal, Absent}
-use Rattle.scope_bind.specs.Types.{CType, is_function}
-use Rattle.scope_bind.specs.Trees.{last_token, declarator_type}
+use Rattle.c_types.specs.declared.entity.Linkage.{Linkage}
+use Rattle.c_types.specs.declared.entity.Linkage.TheVariants.{External, Internal, Absent}
+use Rattle.c_types.specs.Types.{CType, is_function}
+use Rattle.c_types.specs.Trees.{last_token, declarator_type}
 use Rattle.scope_bind.specs.Named.{Declaration, Declared, Frame, ordinary}
-use Rattle.scope_bind.specs.Declarations.{Facts, has_linkage, is_linkage, is_live, alike, is_named, visible, in_scope, linked, is_mixed}
+use Rattle.c_types.specs.Declarations.{Facts, has_linkage, is_linkage, is_live, alike, is_named, visible, in_scope, linked, is_mixed}
 use Rattle.scope_bind.specs.Linkage.{prior_linkage, follows_prior, own_linkage}
 use Rattle.scope_bind.specs.Ordinary.{entity_of, declared, declaration_of, is_listed, declared_faults, new_linkage, new_object, with_object, new_parameter, with_parameter}
 use Rattle.bind_laws.proofs.Lookups.{false≢true, and_left, and_both, In, found_passes, found_in, any_none, named_apart}

@@ -8,18 +8,18 @@ use Rattle.c99_tree.specs.Tree.{Forest}
 use Rattle.c99_tree.specs.declared.production.Label.{Label}
 use Rattle.c99_tree.specs.declared.production.Production.{Production}
 use Rattle.c99_tree.specs.declared.production.Production.TheVariants.{ExtRest, FunBody, InitDecl, Members, Mdecl, Enumerators, Enumerator, Declarator, Param, Pdecl, SuRest, Unary, Add}
-use Rattle.scope_bind.specs.declared.entity.EntityKind.TheVariants.{Parameter, Enumerator as Constant}
+use Rattle.c_types.specs.declared.entity.EntityKind.TheVariants.{Parameter, Enumerator as Constant}
 use Rattle.scope_bind.specs.Named.{Body, Frame, Role, by_role, designator_after_elision, ordinary}
-use Rattle.scope_bind.specs.Types.{is_unknown, CType, arithmetic, unknown, array, union, structure, pointer, pointed_to, sum_type, target_of}
-use Rattle.scope_bind.specs.Trees.{name_below, last_token}
-use Rattle.scope_bind.specs.Declarations.{with_fault, Facts, spelling_at, alike, visible}
-use Rattle.scope_bind.specs.Frames.{State}
+use Rattle.c_types.specs.Types.{is_unknown, CType, arithmetic, unknown, array, union, structure, pointer, pointed_to, sum_type, target_of}
+use Rattle.c_types.specs.Trees.{name_below, last_token}
+use Rattle.c_types.specs.Declarations.{with_fault, Facts, spelling_at, alike, visible}
+use Rattle.name_chains.specs.Frames.{State}
 use Rattle.scope_bind.specs.Ordinary.{used, used_as, used_type, is_func, plain_name}
-use Rattle.scope_bind.specs.Tags.{renumbered, tag_entity, with_tag_after}
-use Rattle.scope_bind.specs.Members.{member_used, member_used_as, member_at, member_type}
+use Rattle.c_types.specs.Tags.{renumbered, tag_entity, with_tag_after}
+use Rattle.name_chains.specs.Members.{member_used, member_used_as, member_at, member_type}
 use Rattle.scope_bind.specs.Expressions.{is_sign, prefixed, found_after}
-use Rattle.scope_bind.specs.Initializers.{position_of}
-use Rattle.scope_bind.specs.Entering.{facts_in, found_in, frame_in, entered}
+use Rattle.name_chains.specs.Initializers.{position_of}
+use Rattle.name_chains.specs.Entering.{facts_in, found_in, frame_in, entered}
 use Rattle.scope_bind.specs.Walk.{facts_at, found_at, position_at, passed_as, declared_in, parameter_in, facts_after, frame_after, left}
 use Rattle.bind_laws.specs.Renamed.{is_own_word}
 use Rattle.bind_laws.proofs.Renaming.{Good, Kept}

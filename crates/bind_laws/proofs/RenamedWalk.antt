@@ -7,9 +7,9 @@ use Rattle.std.proofs.lemmas.List.Folds.{list_all-append}
 use Rattle.cs_base.specs.Token.{Token}
 use Rattle.c99_tree.specs.Tree.{Forest, none, token, node}
 use Rattle.scope_bind.specs.Named.{Fault}
-use Rattle.scope_bind.specs.Declarations.{Facts, spelling_at, alike}
-use Rattle.scope_bind.specs.Frames.{State, at_first}
-use Rattle.scope_bind.specs.Entering.{entered}
+use Rattle.c_types.specs.Declarations.{Facts, spelling_at, alike}
+use Rattle.name_chains.specs.Frames.{State, at_first}
+use Rattle.name_chains.specs.Entering.{entered}
 use Rattle.scope_bind.specs.Roles.{role_of}
 use Rattle.scope_bind.specs.Walk.{passed, left, walked}
 use Rattle.scope_bind.specs.Bound.{Bound, name_of, names_of, bound_of, bound_unless, bound_after, facts_of, binding_of}

@@ -4,8 +4,8 @@ use Rattle.std.specs.Prelude.{IfSome}
 use Rattle.std.proofs.lemmas.Bool.{cases_Bool}
 use Rattle.cs_base.specs.Token.{Token}
 use Rattle.scope_bind.specs.Named.{Cause, Fault, Space, Declaration, Occurrence, ordinary}
-use Rattle.scope_bind.specs.Faults.{first_fault, comes_first}
-use Rattle.scope_bind.specs.Declarations.{Facts, has_linkage, with_fault, with_occurrence, with_declaration, alike, is_named, looked_up}
+use Rattle.c_types.specs.Faults.{first_fault, comes_first}
+use Rattle.c_types.specs.Declarations.{Facts, has_linkage, with_fault, with_occurrence, with_declaration, alike, is_named, looked_up}
 use Rattle.bind_laws.proofs.Lookups.{false≢true, and_right, In, found_in, alike_same, looked_up_same}
 
 abbrev pub occurrence : ℕ → ℕ → Bool → Occurrence

@@ -3,10 +3,10 @@ use Rattle.std.proofs.Common.{ℕ, ◌≡◌, Bool, true, false, ◌&&◌, not, 
 use Rattle.std.specs.Prelude.{filter_map}
 use Rattle.std.specs.List.{cons_option}
 use Rattle.cs_base.specs.Token.{Token}
-use Rattle.scope_bind.specs.declared.entity.Linkage.{Linkage}
+use Rattle.c_types.specs.declared.entity.Linkage.{Linkage}
 use Rattle.scope_bind.specs.Named.{Space, Declaration, ordinary}
-use Rattle.scope_bind.specs.Declarations.{is_space, Facts, alike, has_linkage}
-use Rattle.scope_bind.specs.Entering.{is_member, kept_here, with_kept}
+use Rattle.c_types.specs.Declarations.{is_space, Facts, alike, has_linkage}
+use Rattle.name_chains.specs.Entering.{is_member, kept_here, with_kept}
 use Rattle.bind_laws.proofs.Lookups.{In}
 use Rattle.bind_laws.proofs.Renaming.{Good, Kept, occurrence}
 

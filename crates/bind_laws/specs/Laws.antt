@@ -3,11 +3,11 @@ use Rattle.std.specs.Prelude.{ℕ, ◌<◌, ◌≤◌, ◌≡◌, ◌≢◌, Boo
 use Rattle.cs_base.specs.Token.{Token}
 use Rattle.c99_tree.specs.Tree.{Node}
 use Rattle.scope_bind.specs.declared.bound.Name.{Name}
-use Rattle.scope_bind.specs.declared.lists.List.{List as NameList}
-use Rattle.scope_bind.specs.declared.lists.Range.{Range}
+use Rattle.c_types.specs.declared.lists.List.{List as NameList}
+use Rattle.c_types.specs.declared.lists.Range.{Range}
 use Rattle.scope_bind.specs.Causes.{index_of}
-use Rattle.scope_bind.specs.Declarations.{alike}
-use Rattle.scope_bind.specs.Frames.{outermost}
+use Rattle.c_types.specs.Declarations.{alike}
+use Rattle.name_chains.specs.Frames.{outermost}
 use Rattle.scope_bind.specs.Bound.{Bound, binding_of}
 use Rattle.scope_bind.specs.Names.{entity_at}
 use Rattle.bind_laws.specs.Units.{names_pass, IsTreeOf}

@@ -4,7 +4,7 @@ use Rattle.std.specs.List.{list_any, list_all}
 use Rattle.std.specs.Str.{bytes_eq}
 use Rattle.cs_base.specs.Token.{Token}
 use Rattle.c99_tree.specs.Tree.{Node}
-use Rattle.scope_bind.specs.Declarations.{spelling_at, alike}
+use Rattle.c_types.specs.Declarations.{spelling_at, alike}
 use Rattle.scope_bind.specs.Bound.{Bound, binding_of}
 use Rattle.scope_bind.specs.declared.bound.Name.{Name}
 

@@ -6,8 +6,8 @@ use Rattle.c99_tree.specs.declared.production.Production.{Production}
 use Rattle.c99_tree.specs.declared.production.Production.TheVariants.{FunBody, Enumerator, Declarator}
 use Rattle.scope_bind.specs.Named.{is_plain_role}
 use Rattle.scope_bind.specs.Roles.{role_of}
-use Rattle.scope_bind.specs.Trees.{is_node, has_name}
-use Rattle.scope_bind.specs.Lists.{is_declaring}
+use Rattle.c_types.specs.Trees.{is_node, has_name}
+use Rattle.c_types.specs.Lists.{is_declaring}
 
 -- how many tokens stand below some children
 abbrev pub token_count : Forest → ℕ

@@ -1,9 +1,9 @@
 -- The classes of the next two tokens.
 use Rattle.std.proofs.Common.{ℕ, ◌≡◌, List, ap, ◌∙◌}
 use Rattle.c99_tree.specs.Names.{Declared}
-use Rattle.c99_read.specs.declared.classes.Class.{Class}
+use Rattle.c99_grammar.specs.declared.classes.Class.{Class}
 use Rattle.c99_read.specs.Kept.{class_among}
-use Rattle.c99_read.specs.Standard.{c99}
+use Rattle.c99_grammar.specs.Standard.{c99}
 use Rattle.c99_read.specs.State.{State, class_at, spelled_scopes}
 
 -- the class of a token, from the names that are visible

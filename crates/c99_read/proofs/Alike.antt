@@ -6,15 +6,17 @@ use Rattle.c99_tree.specs.Names.{latest}
 use Rattle.c99_tree.specs.Tree.{Forest, none, token, node}
 use Rattle.c99_tree.specs.declared.production.Production.{Production}
 use Rattle.c99_tree.specs.declared.production.Production.TheVariants.{TranslationUnit}
-use Rattle.c99_read.specs.Standard.{c99}
-use Rattle.c99_read.specs.declared.classes.Class.{Class}
+use Rattle.c99_grammar.specs.Standard.{c99}
+use Rattle.c99_grammar.specs.declared.classes.Class.{Class}
 use Rattle.c99_read.specs.declared.names.Declaration.{Declaration}
-use Rattle.c99_read.specs.declared.classes.Class.TheVariants.{TypedefName}
+use Rattle.c99_grammar.specs.declared.classes.Class.TheVariants.{TypedefName}
 use Rattle.c99_read.specs.Alike.{IsAlike, AlikeReadAlike}
-use Rattle.c99_read.specs.Classes.{among}
-use Rattle.c99_read.specs.Items.{Item, one, part, end_of_text, act, ◌·◌, choice, maybe, many, deep, Test, own, Action, scope, end, declare, name, keep, again, Alternative}
-use Rattle.c99_read.specs.State.{Grammar, State, base_at, spelling_at, spelled_scope, is_typedef_at, is_identifier, class_at, last_identifier, with_declared, acted, opened, closed}
-use Rattle.c99_read.specs.Reading.{Goal, produce, repeat, Step, and_then, goal_order, tree_of, at_first, take_one, at_end, enter, holds, starts, may, step, pick, run, read_within, whole}
+use Rattle.c99_grammar.specs.Classes.{among}
+use Rattle.c99_grammar.specs.Items.{Item, one, part, end_of_text, act, ◌·◌, choice, maybe, many, deep, Test, own, Action, scope, end, declare, name, keep, again, Alternative}
+use Rattle.c99_read.specs.State.{State, base_at, spelling_at, spelled_scope, is_typedef_at, is_identifier, class_at, last_identifier, with_declared, acted, opened, closed}
+use Rattle.c99_grammar.specs.Standard.{Grammar}
+use Rattle.c99_read.specs.Reading.{Goal, produce, repeat, Step, and_then, goal_order, tree_of, at_first, take_one, at_end, enter, may, step, pick, run, read_within, whole}
+use Rattle.c99_grammar.specs.Starting.{holds, starts}
 
 -- the state with the other tokens
 abbrev pub swapped : List Token → State → State

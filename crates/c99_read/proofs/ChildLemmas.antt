@@ -3,7 +3,8 @@ use Rattle.std.proofs.Common.{ℕ, zero, suc, ◌+◌, ◌<◌, ◌≤◌, ◌�
 use Rattle.cs_base.specs.Token.{Token}
 use Rattle.c99_tree.specs.Tree.{Forest, none, token, node, Node, node_of, Part, inner, count_of, part_at, size_of}
 use Rattle.c99_tree.specs.declared.production.Label.{Label}
-use Rattle.c99_read.specs.State.{has_name, is_declaring, name_below, typedef_word_in, has_typedef, last_declared, Grammar, is_identifier, base_at, last_identifier}
+use Rattle.c99_read.specs.State.{has_name, is_declaring, name_below, typedef_word_in, has_typedef, last_declared, is_identifier, base_at, last_identifier}
+use Rattle.c99_grammar.specs.Standard.{Grammar}
 use Rattle.c99_read.specs.Children.{from_child, identifier_found, declared_by, name_found, is_word_found, is_part_found}
 
 pub from_child-end : (f : Forest) (k : ℕ) → count_of f ≤ k → from_child k f ≡ none

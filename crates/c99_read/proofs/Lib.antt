@@ -4,11 +4,9 @@ pub mod C99Sound
 pub mod Alike
 pub mod HeadLemmas
 pub mod AheadLemmas
-pub mod AmongLemmas
 pub mod ChildLemmas
 pub mod OpenNodeLemmas
 pub mod StateLemmas
 pub mod TurnLemmas
 pub mod RowLemmas
-pub mod FirstLemmas
 pub mod ReadRows

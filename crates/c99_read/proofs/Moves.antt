@@ -4,12 +4,13 @@ use Rattle.std.specs.List.{list_all}
 use Rattle.std.proofs.lemmas.Bool.{false≢true, or_cases, and_parts, and_from, cases_cond}
 use borrow.Author.Tests.{ltb-true}
 use Rattle.c99_tree.specs.declared.production.Production.{Production}
-use Rattle.c99_read.specs.declared.classes.Class.{Class}
-use Rattle.c99_read.specs.Classes.{among}
-use Rattle.c99_read.specs.First.{order}
+use Rattle.c99_grammar.specs.declared.classes.Class.{Class}
+use Rattle.c99_grammar.specs.Classes.{among}
+use Rattle.c99_grammar.specs.First.{order}
 use Rattle.c99_tree.specs.Tree.{leaf, put}
-use Rattle.c99_read.specs.Items.{Item, one, part, end_of_text, act, ◌·◌, choice, maybe, many, deep, own, Action, Alternative}
-use Rattle.c99_read.specs.State.{Grammar, State, class_at, acted, opened, closed}
+use Rattle.c99_grammar.specs.Items.{Item, one, part, end_of_text, act, ◌·◌, choice, maybe, many, deep, own, Action, Alternative}
+use Rattle.c99_read.specs.State.{State, class_at, acted, opened, closed}
+use Rattle.c99_grammar.specs.Standard.{Grammar}
 use Rattle.c99_read.specs.Sound.{never_empty, has_token, is_low, is_sound, IsSound, is_met, goal_has_token}
 use Rattle.c99_read.specs.Reading.{syntax, too_deep, Goal, produce, repeat, Step, and_then, take_one, at_end, enter, may, step, alternative, pick, run, read_within, tokens_left}
 

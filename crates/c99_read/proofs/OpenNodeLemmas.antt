@@ -4,7 +4,7 @@ use Rattle.std.proofs.Math.Bool.{or_assoc}
 use Rattle.cs_base.specs.Token.{Token}
 use Rattle.c99_tree.specs.Tree.{Forest, none, token, node, Node, inner, put, count_of, collapsed}
 use Rattle.c99_read.specs.OpenNode.{with_last}
-use Rattle.c99_read.specs.Standard.{c99}
+use Rattle.c99_grammar.specs.Standard.{c99}
 use Rattle.c99_read.specs.State.{last_identifier, last_declared, name_below, has_typedef, is_typedef_part}
 
 -- no child: the only one is that which waits

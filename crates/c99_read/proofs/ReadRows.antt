@@ -9,8 +9,9 @@ use Rattle.c99_tree.specs.declared.production.Label.{Label}
 use Rattle.c99_tree.specs.declared.production.Production.{Production}
 use Rattle.c99_tree.specs.declared.production.Production.TheVariants.{TranslationUnit, External, Specs, Main, Word, ExtRest, Declarator, Direct, ExtTail}
 use Rattle.c99_read.specs.Reading.{syntax, read_of, read_within, whole, take_one, at_end, enter}
-use Rattle.c99_read.specs.Standard.{c99}
-use Rattle.c99_read.specs.State.{spelled_class, base_class, class_at, acted, opened, closed}
+use Rattle.c99_grammar.specs.Standard.{c99}
+use Rattle.c99_read.specs.State.{class_at, acted, opened, closed}
+use Rattle.c99_grammar.specs.TokenClasses.{spelled_class, base_class}
 
 abbrev pub tok : Kind → List ℕ → Token
 tok kind text = record { kind = kind; text = text; origins = []; gap = true; at = record { file = 1; at = 0 }; line = 1; direct = true }

@@ -3,9 +3,10 @@ use Rattle.std.proofs.Common.{ℕ, suc, zero, ◌+◌, ◌*◌, ◌<◌, ◌≤�
 use Rattle.std.specs.List.{list_all}
 use Rattle.std.proofs.lemmas.Bool.{and_parts, and_from, cases_Bool, ltb-true}
 use Rattle.c99_tree.specs.declared.production.Production.{Production}
-use Rattle.c99_read.specs.First.{order}
-use Rattle.c99_read.specs.Items.{Item, one, part, end_of_text, act, ◌·◌, choice, maybe, many, deep, own, Alternative}
-use Rattle.c99_read.specs.State.{Grammar, State, opened, closed}
+use Rattle.c99_grammar.specs.First.{order}
+use Rattle.c99_grammar.specs.Items.{Item, one, part, end_of_text, act, ◌·◌, choice, maybe, many, deep, own, Alternative}
+use Rattle.c99_read.specs.State.{State, opened, closed}
+use Rattle.c99_grammar.specs.Standard.{Grammar}
 use Rattle.c99_read.specs.Reading.{Goal, produce, repeat, Step, and_then, may, step, pick, run, read_within, tokens_left, goal_order, steps_for, whole}
 use Rattle.c99_read.specs.Sound.{has_token, is_low, is_sound, IsSound, is_met, goal_has_token}
 use Rattle.c99_read.proofs.Moves.{Moves, Moves-step, Moves-enter, Moves-read_within, opened-left}

@@ -3,14 +3,15 @@ use Rattle.std.proofs.Common.{ℕ, ◌+◌, List, [], ◌∷◌, length, drop, m
 use Rattle.std.proofs.lemmas.Bool.{and_parts}
 use Rattle.std.proofs.lemmas.List.{drop_more, drop_all}
 use Rattle.c99_tree.specs.declared.production.Production.{Production}
-use Rattle.c99_read.specs.Grammar.{table}
-use Rattle.c99_read.specs.Items.{Item, Test, many, Alternative}
-use Rattle.c99_read.specs.ItemsOf.{Choice, chosen, chosen_read, alternative_of, test_of, item_of}
-use Rattle.c99_read.specs.declared.items.Alternative as code
+use Rattle.c99_grammar.specs.Grammar.{table}
+use Rattle.c99_grammar.specs.Items.{Item, Test, many, Alternative}
+use Rattle.c99_grammar.specs.ItemsOf.{alternative_of, test_of, item_of}
+use Rattle.c99_read.specs.Choosing.{Choice, chosen, chosen_read}
+use Rattle.c99_grammar.specs.declared.items.Alternative as code
 use Rattle.c99_read.specs.State.{State}
 use Rattle.c99_read.specs.Reading.{Step, and_then, may, step, alternative, pick, run, whole, produce, repeat, tokens_left, syntax}
 use Rattle.c99_read.specs.Sound.{has_token, is_low, is_met}
-use Rattle.c99_read.specs.Standard.{c99}
+use Rattle.c99_grammar.specs.Standard.{c99}
 use Rattle.c99_read.proofs.C99Sound.{c99-sound}
 use Rattle.c99_read.proofs.Moves.{Moves, Moves-step}
 use Rattle.c99_read.proofs.Suffices.{whole-runs, whole-moves}

@@ -3,8 +3,9 @@ use Rattle.std.specs.Prelude.{ℕ, ◌≡◌, List, length}
 use Rattle.std.specs.Str.{bytes_eq}
 use Rattle.cs_base.specs.Token.{Token}
 use Rattle.c99_read.specs.Reading.{read_of}
-use Rattle.c99_read.specs.Standard.{c99}
-use Rattle.c99_read.specs.State.{Grammar, base_at, spelling_at}
+use Rattle.c99_grammar.specs.Standard.{c99}
+use Rattle.c99_read.specs.State.{base_at, spelling_at}
+use Rattle.c99_grammar.specs.Standard.{Grammar}
 
 -- as many tokens, of the same classes, and names alike in one list exactly where they are in the other
 pub record IsAlike (g : Grammar) (a b : List Token) : Type 0 where

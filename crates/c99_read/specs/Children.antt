@@ -3,7 +3,8 @@ use Rattle.std.specs.Prelude.{ℕ, zero, suc, Bool, false, List, Option, None, S
 use Rattle.cs_base.specs.Token.{Token}
 use Rattle.c99_tree.specs.Tree.{Forest, none, token, node, Part, leaf, inner}
 use Rattle.c99_tree.specs.declared.production.Label.{Label}
-use Rattle.c99_read.specs.State.{Grammar, is_identifier, base_at, has_name, is_declaring, name_below, is_typedef_word, is_typedef_part}
+use Rattle.c99_read.specs.State.{is_identifier, base_at, has_name, is_declaring, name_below, is_typedef_word, is_typedef_part}
+use Rattle.c99_grammar.specs.Standard.{Grammar}
 
 -- the children from number k on
 abbrev pub from_child : ℕ → Forest → Forest

@@ -2,11 +2,12 @@
 use Rattle.std.specs.Prelude.{ℕ, ◌≤◌, ◌<◌, ◌+◌, ◌^◌, ◌≡◌, List, length, map, if◌then◌else◌, ◌&&◌}
 use Rattle.cs_base.specs.Token.{Token}
 use Rattle.c99_tree.specs.Names.{Declared, is_typedef}
-use Rattle.c99_read.specs.declared.classes.Class.{Class}
-use Rattle.c99_read.specs.declared.classes.Class.TheVariants.{TypedefName}
+use Rattle.c99_grammar.specs.declared.classes.Class.{Class}
+use Rattle.c99_grammar.specs.declared.classes.Class.TheVariants.{TypedefName}
 use Rattle.c99_read.specs.declared.ahead.Ahead.{Ahead}
-use Rattle.c99_read.specs.State.{Names, base_class, base_at, spelling_at, is_identifier, spelled_scopes}
-use Rattle.c99_read.specs.Standard.{c99}
+use Rattle.c99_read.specs.State.{Names, base_at, spelling_at, is_identifier, spelled_scopes}
+use Rattle.c99_grammar.specs.TokenClasses.{base_class}
+use Rattle.c99_grammar.specs.Standard.{c99}
 
 -- the class of token k, where these names are visible
 unfoldable pub class_among : List Token → List (List Declared) → ℕ → Class

@@ -1,15 +1,16 @@
 -- One reader of every grammar: what a table of productions makes of a list of tokens.
-use Rattle.std.specs.Prelude.{ℕ, suc, zero, ◌+◌, ◌-◌, ◌*◌, Bool, true, false, List, [], ◌∷◌, length, Result, Ok, Err, if◌then◌else◌, nat_lt, ◌==◌, ◌&&◌, ◌||◌, not}
+use Rattle.std.specs.Prelude.{ℕ, suc, zero, ◌+◌, ◌-◌, ◌*◌, Bool, false, List, [], ◌∷◌, length, Result, Ok, Err, if◌then◌else◌, nat_lt, ◌==◌, ◌&&◌}
 use Rattle.cs_base.specs.Token.{Token}
 use Rattle.c99_tree.specs.Tree.{none, leaf, put, Node, node_of, lone}
 use Rattle.c99_tree.specs.declared.production.Production.{Production}
 use Rattle.c99_tree.specs.declared.production.Production.TheVariants.{TranslationUnit}
-use Rattle.c99_read.specs.declared.classes.Class.{Class}
-use Rattle.c99_read.specs.declared.classes.Class.TheVariants.{End, Colon}
-use Rattle.c99_read.specs.Classes.{among}
-use Rattle.c99_read.specs.First.{order}
-use Rattle.c99_read.specs.Items.{Item, one, part, end_of_text, act, ◌·◌, choice, maybe, many, deep, Test, own, otherwise, next, next_two, Ask, is, is_not, begins, either, Alternative}
-use Rattle.c99_read.specs.State.{Grammar, State, no_names, class_at, acted, opened, closed}
+use Rattle.c99_grammar.specs.declared.classes.Class.{Class}
+use Rattle.c99_grammar.specs.Classes.{among}
+use Rattle.c99_grammar.specs.First.{order}
+use Rattle.c99_grammar.specs.Items.{Item, one, part, end_of_text, act, ◌·◌, choice, maybe, many, deep, Test, own, Alternative}
+use Rattle.c99_read.specs.State.{State, no_names, class_at, acted, opened, closed}
+use Rattle.c99_grammar.specs.Standard.{Grammar}
+use Rattle.c99_grammar.specs.Starting.{holds, starts}
 
 -- why reading stops, and at which token: nothing that may follow starts, or the 257th level would begin
 pub data Stop : Type 0 where
@@ -27,14 +28,6 @@ Step = Result State Stop
 abbrev pub and_then : Step → (State → Step) → Step
 and_then (Ok s) next_step = next_step s
 and_then (Err stop) next_step = Err stop
-
--- actions and optional items are passed over
-abbrev pub is_passed : Item → Bool
-is_passed (act a) = true
-is_passed (maybe a) = true
-is_passed (many t a) = true
-is_passed (a · b) = is_passed a && is_passed b
-is_passed _ = false
 
 -- how deep constructs may nest
 abbrev pub deepest : ℕ
@@ -69,39 +62,10 @@ abbrev pub steps_for : Goal → State → ℕ
 steps_for goal s = 64 * tokens_left s + goal_order goal + 1
 
 module _ (g : Grammar) where
-  -- the production starts with c, or with c where d stands behind
-  abbrev pub production_starts : Production → Class → Class → Bool
-  production_starts p c d = among (g.first p) c || (among (g.labels p) c && among (Colon ∷ []) d)
-
-  -- what is asked of a token
-  abbrev pub asks : Ask → Class → Bool
-  asks (is classes) c = among classes c
-  asks (is_not classes) c = not (among classes c)
-  asks (begins p) c = among (g.first p) c
-  asks (either a b) c = asks a c || asks b c
-
-  -- the test holds of c before d; `started` says whether its item starts there
-  abbrev pub holds : Test → Bool → Class → Class → Bool
-  holds own started c d = started
-  holds otherwise started c d = true
-  holds (next a) started c d = asks a c
-  holds (next_two a b) started c d = asks a c && asks b d
-
-  -- the item starts with c before d
-  abbrev pub starts : Item → Class → Class → Bool
-  starts (one classes) c d = among classes c
-  starts (part p) c d = production_starts p c d
-  starts end_of_text c d = among (End ∷ []) c
-  starts (act a) c d = false
-  starts (a · b) c d = if is_passed a then starts a c d || starts b c d else starts a c d
-  starts (choice a b) c d = starts a c d || starts b c d
-  starts (maybe a) c d = starts a c d
-  starts (many t a) c d = holds t (starts a c d) c d
-  starts (deep a) c d = starts a c d
-
   -- the item may be read here
   abbrev pub may : Test → Item → State → Bool
-  may t a s = holds t (starts a (class_at g s s.at) (class_at g s (s.at + 1))) (class_at g s s.at) (class_at g s (s.at + 1))
+  may t a s =
+      holds g t (starts g a (class_at g s s.at) (class_at g s (s.at + 1))) (class_at g s s.at) (class_at g s (s.at + 1))
 
   -- A step is given what reads productions and the rest of repetitions, `below`; the depth comes first.
   module _ (below : ℕ → Goal → State → Step) where

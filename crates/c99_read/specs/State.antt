@@ -1,7 +1,6 @@
 -- How far a text has been read: the next token, the names that are visible, and the node that is open.
 use Rattle.std.specs.Prelude.{ℕ, ◌-◌, Bool, true, false, List, [], ◌∷◌, ◌++◌, length, take, slice_get, Option, None, Some, if◌then◌else◌, ◌==◌, ◌&&◌, ◌||◌, unwrap_or}
 use Rattle.std.specs.Option.{option_map_or}
-use Rattle.std.specs.Str.{bytes_eq}
 use Rattle.cs_base.specs.Token.{Token}
 use Rattle.cs_base.specs.declared.tokens.Kind.{Kind}
 use Rattle.cs_base.specs.declared.tokens.Kind.TheVariants as kind
@@ -10,20 +9,13 @@ use Rattle.c99_tree.specs.Tree.{Forest, none, token, node, Node, node_of, inner,
 use Rattle.c99_tree.specs.declared.production.Label.{Label}
 use Rattle.c99_tree.specs.declared.production.Production.{Production}
 use Rattle.c99_tree.specs.declared.production.Production.TheVariants.{Specs, Main, Mod, Declarator, Direct, Pdecl, Pdirect, Expr, Assign, Cond, Lor, Land, Bor, Bxor, Band, Equal, Relate, Shift, Add, Mul, Cast, Unary}
-use Rattle.c99_read.specs.declared.classes.Class.{Class}
+use Rattle.c99_grammar.specs.declared.classes.Class.{Class}
 use Rattle.c99_read.specs.declared.names.Declaration.{Declaration}
-use Rattle.c99_read.specs.declared.classes.Class.TheVariants.{Identifier, TypedefName, Constant, CharConstant, StringLiteral, End, NoClass}
-use Rattle.c99_read.specs.Classes.{is_same}
-use Rattle.c99_read.specs.Items.{Action, Alternative, scope, end, declare, name, keep, again}
-use Rattle.c99_read.specs.Spellings.{Spelled, punctuators}
-
--- A standard's grammar: its table of productions, with which classes each production starts, with which
--- it starts where a colon stands behind, and its keywords.
-pub record Grammar : Type 0 where
-  pub table : Production → List Alternative
-  pub first : Production → List Class
-  pub labels : Production → List Class
-  pub keywords : List Spelled
+use Rattle.c99_grammar.specs.declared.classes.Class.TheVariants.{Identifier, TypedefName, End, NoClass}
+use Rattle.c99_grammar.specs.Classes.{is_same}
+use Rattle.c99_grammar.specs.Items.{Action, scope, end, declare, name, keep, again}
+use Rattle.c99_grammar.specs.Standard.{Grammar}
+use Rattle.c99_grammar.specs.TokenClasses.{base_class}
 
 -- an open declarator: how many scopes were open when it began, and the names that were given to it
 pub record Head : Type 0 where
@@ -53,22 +45,6 @@ pub record State : Type 0 where
   pub built : Node
 
 -- ---- Classes
-
-unfoldable pub spelled_class : List Spelled → List ℕ → Class → Class
-spelled_class [] text other = other
-spelled_class (s ∷ more) text other = if bytes_eq text s.0 then s.1 else spelled_class more text other
-
--- the class of a token, where each identifier that is no keyword counts as no typedef name
-abbrev pub class_of_kind : Grammar → Kind → List ℕ → Class
-class_of_kind g kind.Ident text = spelled_class g.keywords text Identifier
-class_of_kind g kind.Punct text = spelled_class punctuators text NoClass
-class_of_kind g kind.Number text = Constant
-class_of_kind g kind.Char text = CharConstant
-class_of_kind g kind.Str text = StringLiteral
-class_of_kind g _ text = NoClass
-
-unfoldable pub base_class : Grammar → Token → Class
-base_class g t = class_of_kind g t.kind t.text
 
 abbrev pub is_identifier : Class → Bool
 is_identifier c = is_same c Identifier

@@ -1,11 +1,12 @@
 // The classes of the next two tokens, with the names that are visible.
-ghost use Rattle.std.specs.Prelude.{◌≡◌, ◌≤◌, ◌<◌, ◌+◌, ◌^◌, length, map};
+ghost use Rattle.std.specs.Prelude.{◌≡◌, ◌<◌, ◌+◌, ◌^◌, map};
 ghost use Rattle.c99_tree.specs.Names.{is_typedef};
 ghost use Rattle.c99_read.specs.Kept.{class_among, IsAhead};
-ghost use Rattle.c99_read.specs.Standard.{c99};
-ghost use Rattle.c99_read.specs.State.{base_at, base_class, spelling_at};
+ghost use Rattle.c99_grammar.specs.Standard.{c99};
+ghost use Rattle.c99_read.specs.State.{base_at, spelling_at};
+ghost use Rattle.c99_grammar.specs.TokenClasses.{base_class};
 
-use crate::classes::Class;
+use c99_grammar::Class;
 use c99_tree::Visible;
 use cs_base::Tok;
 

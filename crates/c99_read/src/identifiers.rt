@@ -2,11 +2,12 @@
 ghost use Rattle.std.specs.Prelude.{◌≡◌, None, Some, map};
 ghost use Rattle.c99_tree.specs.Tree.{part_at, leaf};
 ghost use Rattle.c99_read.specs.Children.{identifier_found};
-ghost use Rattle.c99_read.specs.Standard.{c99};
-ghost use Rattle.c99_read.specs.State.{base_class, last_identifier};
+ghost use Rattle.c99_grammar.specs.Standard.{c99};
+ghost use Rattle.c99_read.specs.State.{last_identifier};
+ghost use Rattle.c99_grammar.specs.TokenClasses.{base_class};
 
 use crate::ahead::base_at;
-use crate::classes::Class;
+use c99_grammar::Class;
 use c99_tree::{Child, Tree};
 use cs_base::Tok;
 

@@ -3,48 +3,36 @@
 //! `read` takes the tokens of a preprocessed translation unit and gives its tree, or the first fault:
 //! `Syntax` where nothing that may follow starts, `TooDeep` where the 257th level would begin. It equals
 //! `read_of` of `specs/Reading.antt`, one interpreter of a table of productions, at the table of
-//! `specs/Grammar.antt`; a second standard is another table. A token counts by its class alone: its
-//! keyword, its punctuator, the kind of its constant, and whether a name is a typedef name where it
-//! stands (6.7.7), which the reader keeps for itself while it reads. Types, tags, members, labels and
-//! what is declared twice belong to the crate above. The code has the same table once more, as data that
-//! costs nothing when it runs, and a few procedures that read any item of it; nesting is bounded, so a
-//! text of any length needs little stack. Trees, classes and names want memory. Read
-//! `specs/Grammar.antt` beside the standard's annex, `specs/Reading.antt`, `specs/State.antt`, then
-//! `table.rt`, `reading.rt` and `reader.rt`.
+//! `c99_grammar`; a second standard is another table. A token counts by its class alone, and whether a name
+//! is a typedef name where it stands (6.7.7) the reader keeps for itself while it reads. Types, tags,
+//! members, labels and what is declared twice belong to the crates above. A few procedures read any item of
+//! the table; nesting is bounded, so a text of any length needs little stack. Trees, classes and names want
+//! memory. Read `specs/Grammar.antt` of `c99_grammar` beside the standard's annex, `specs/Reading.antt`,
+//! `specs/State.antt`, then `reading.rt` and `reader.rt`.
 #![tactic(auto)]
 
-ghost use Rattle.std.specs.Prelude.{◌≡◌, ◌<◌, ◌^◌, length};
+ghost use Rattle.std.specs.Prelude.{◌<◌, ◌^◌, length};
 ghost use Rattle.cs_base.specs.Answer.{Gives};
 ghost use Rattle.c99_read.specs.Answer.{stop_of};
 ghost use Rattle.c99_read.specs.Reading.{read_of};
-ghost use Rattle.c99_read.specs.Standard.{c99};
+ghost use Rattle.c99_grammar.specs.Standard.{c99};
 
 mod ahead;
-mod classes;
-mod declarations;
-mod declarators;
-mod expressions;
+mod chosen;
 mod faults;
-mod first;
-mod first_sets;
 mod identifiers;
-mod items;
 mod laws;
 mod names;
 mod open_node;
 mod parts;
 mod reader;
 mod reading;
-mod rows;
-mod spellings;
-mod starts;
-mod statements;
-mod table;
 
+pub use c99_grammar::first_sets_are_the_tables;
 use c99_tree::{Production, Tree};
 use cs_base::Tok;
 pub use faults::ReadRefusal;
-pub use laws::{alike_tokens_read_alike, first_sets_are_the_tables};
+pub use laws::alike_tokens_read_alike;
 use reader::Reader;
 use std::alloc::Global;
 

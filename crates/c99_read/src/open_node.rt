@@ -2,9 +2,9 @@
 // no other child, which mostly takes the place of the open one, wants no memory.
 ghost use Rattle.std.specs.Prelude.{◌≡◌, ℕ, List, Option, IfOk, OnOk};
 ghost use Rattle.cs_base.specs.Token.{Token};
-ghost use Rattle.c99_tree.specs.Tree.{Forest, node_of, none, leaf, inner, put, collapsed};
+ghost use Rattle.c99_tree.specs.Tree.{node_of, none, leaf, inner, put, collapsed};
 ghost use Rattle.c99_read.specs.OpenNode.{with_last};
-ghost use Rattle.c99_read.specs.Standard.{c99};
+ghost use Rattle.c99_grammar.specs.Standard.{c99};
 ghost use Rattle.c99_read.specs.State.{last_declared, has_typedef, last_identifier};
 
 use crate::parts::{has_typedef, is_typedef_part, last_declared, name_below};

@@ -3,20 +3,20 @@ ghost use Rattle.std.specs.Prelude.{◌≡◌, ◌<◌, ◌+◌, ◌^◌, length
 ghost use Rattle.c99_tree.specs.Names.{outermost};
 ghost use Rattle.c99_tree.specs.Tree.{collapsed};
 ghost use Rattle.c99_read.specs.Answer.{Reads, Opens, IsAround, Starts};
-ghost use Rattle.c99_read.specs.Classes.{among};
-ghost use Rattle.c99_read.specs.Items.{scope, end, declare, name, keep, again};
+ghost use Rattle.c99_grammar.specs.Classes.{among};
+ghost use Rattle.c99_grammar.specs.Items.{scope, end, declare, name, keep, again};
 ghost use Rattle.c99_read.specs.Reading.{take_one, at_end, enter, syntax};
-ghost use Rattle.c99_read.specs.State.{State, base_class, class_at, acted, closed, is_declarator, is_specs, names_opened, names_closed, nearest, finished, spelled_scopes, with_scope_ended, with_declared, last_identifier, no_names};
-ghost use Rattle.c99_read.specs.Standard.{c99};
+ghost use Rattle.c99_read.specs.State.{State, class_at, acted, closed, is_declarator, is_specs, names_opened, names_closed, nearest, finished, spelled_scopes, with_scope_ended, with_declared, last_identifier, no_names};
+ghost use Rattle.c99_grammar.specs.TokenClasses.{base_class};
+ghost use Rattle.c99_grammar.specs.Standard.{c99};
 
 use crate::ahead::{Ahead, look_ahead, moved_on, spelling};
-use crate::classes::Class;
 use crate::faults::ReadRefusal;
 use crate::identifiers::last_identifier;
 use crate::names::NameTable;
 use crate::open_node::OpenNode;
 use crate::parts::collapses;
-use crate::spellings::base_class;
+use c99_grammar::{Class, base_class};
 use c99_tree::{Label, Production, Tree, Visible};
 use cs_base::{Memory, Tok};
 use std::alloc::{AllocError, Global};
@@ -327,7 +327,7 @@ impl<'a> Reader<'a> {
 fn classes_of(alloc: Global, toks: &[Tok]) -> Result<Vec<Class>, AllocError>
     ensures { IfOk result (λ classes. classes.items ≡ map (base_class c99) toks.now) }
 {
-    toks.iter().map(base_class).collect(alloc)
+    toks.iter().map(|tok| base_class(tok)).collect(alloc)
 }
 
 fn open_names(names: &mut NameTable, production: Production) -> Result<(), Memory>

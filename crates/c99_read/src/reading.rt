@@ -2,19 +2,19 @@
 ghost use Rattle.std.specs.Prelude.{◌≡◌, ◌≤◌, ◌<◌, ◌+◌, max, true, Ok};
 ghost use Rattle.std.specs.Option.{option_map};
 ghost use Rattle.c99_read.specs.Answer.{Reads};
-ghost use Rattle.c99_read.specs.Grammar.{table};
-ghost use Rattle.c99_read.specs.Items.{choice, deep, many, maybe, own, part, ◌·◌};
-ghost use Rattle.c99_read.specs.ItemsOf.{action_of, choice_of, chosen, item_of, test_of};
+ghost use Rattle.c99_grammar.specs.Grammar.{table};
+ghost use Rattle.c99_grammar.specs.Items.{choice, deep, many, maybe, own, part, ◌·◌};
+ghost use Rattle.c99_grammar.specs.ItemsOf.{action_of, item_of, test_of};
+ghost use Rattle.c99_read.specs.Choosing.{choice_of, chosen};
 ghost use Rattle.c99_read.specs.Levels.{height, level_of, size, Met};
 ghost use Rattle.c99_read.specs.Reading.{may, step, alternative, whole, produce, repeat};
 ghost use Rattle.c99_read.specs.Sound.{is_met};
-ghost use Rattle.c99_read.specs.Standard.{c99};
+ghost use Rattle.c99_grammar.specs.Standard.{c99};
 ghost use Rattle.c99_read.specs.State.{acted};
 
-use crate::items::{Action, Chosen, Item, Test};
+use crate::chosen::Chosen;
 use crate::reader::{Read, Reader};
-use crate::starts::{holds, production_starts, starts};
-use crate::table::alternatives;
+use c99_grammar::{Action, Item, Test, alternatives, holds, production_starts, starts};
 use c99_tree::Production;
 
 impl<'a> Reader<'a> {

@@ -12,7 +12,7 @@ use Rattle.std.proofs.lemmas.List.Folds.{find-append}
 use Rattle.std.proofs.lemmas.Option.{slice_get_within, get_or_from_slice_get}
 use Rattle.cs_base.specs.Token.{Token}
 use Rattle.cs_base.specs.Units.{UnitValue}
-use Rattle.include_tree.specs.Texts.{UnitTextValue}
+use Rattle.unit_steps.specs.Texts.{UnitTextValue}
 use Rattle.scope_bind.specs.declared.bound.Name.{Name}
 use Rattle.scope_bind.specs.Bound.{Bound}
 use Rattle.linkage_join.specs.Linkage.{UnitValue as ExternalNames, first_spelled, names_of}

@@ -12,8 +12,8 @@ use Rattle.line_shape.specs.declared.items.ItemKind.TheVariants as kind
 use Rattle.line_shape.specs.Signs.{is_close}
 use Rattle.line_shape.specs.Items.{items_of}
 use Rattle.line_shape.specs.MacroLine.{is_function_like}
-use Rattle.include_tree.specs.Files.{Entry, Table}
-use Rattle.include_tree.specs.KeptFiles.{KeptValue, kept_in}
+use Rattle.source_files.specs.Files.{Entry, Table}
+use Rattle.source_files.specs.KeptFiles.{KeptValue, kept_in}
 use Rattle.include_tree.specs.Walk.{ItemText, item_text}
 use Rattle.ws_core.specs.Analysis.{AnalysisValue}
 

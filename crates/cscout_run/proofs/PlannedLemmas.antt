@@ -5,8 +5,8 @@ use Rattle.cs_base.specs.Edit.{IsKept}
 use Rattle.cs_base.specs.Outside.{FileMap}
 use Rattle.ws_file.specs.Workspace.{WorkspaceValue, IsWorkspace}
 use Rattle.eclass_map.specs.ClassTable as classes
-use Rattle.include_tree.specs.Files.{Source, Table, source_of}
-use Rattle.include_tree.specs.Laws.{AreFound, HasEachOnce}
+use Rattle.source_files.specs.Files.{Source, Table, source_of}
+use Rattle.source_files.specs.Tables.{AreFound, HasEachOnce}
 use Rattle.ws_core.specs.Analysis.{AnalysisValue, analysis_of}
 use Rattle.ws_core.specs.Carrying.{IsOver}
 use Rattle.ws_core.specs.Classes.{AreItsClasses}

@@ -10,9 +10,9 @@ use Rattle.cs_base.specs.declared.positions.Part.{Part}
 use Rattle.cs_base.specs.Edit.{Edit, edit, with_edits, IsKept}
 use Rattle.cs_base.specs.Outside.{FileMap, bytes_at}
 use Rattle.cs_base.proofs.FileMapLemmas.{bytes_at-with_edits, bytes_at-with_edits_other, bytes_eq-equal}
-use Rattle.include_tree.specs.Files.{Source, Found, Lines, Absent, Unopened, Opened, Made, Table, source_of}
-use Rattle.include_tree.specs.KeptFiles.{KeptValue, kept as kept_file, kept_at, kept_bytes, kept_in}
-use Rattle.include_tree.specs.Laws.{IsFound, AreFound}
+use Rattle.source_files.specs.Files.{Source, Found, Lines, Absent, Unopened, Opened, Made, Table, source_of}
+use Rattle.source_files.specs.KeptFiles.{KeptValue, kept as kept_file, kept_at, kept_bytes, kept_in}
+use Rattle.source_files.specs.Tables.{IsFound, AreFound}
 use Rattle.include_tree.specs.PseudoFiles.{is_pseudo}
 use Rattle.part_lexer.specs.Spelling.{is_identifier_text}
 use Rattle.ws_core.specs.Analysis.{AnalysisValue}

@@ -5,7 +5,7 @@ use Rattle.cs_base.specs.Edit.{Edit}
 use Rattle.cs_base.specs.Outside.{FileMap, FilesTold, TellsReads, Rose}
 use Rattle.ws_file.specs.Workspace.{WorkspaceValue}
 use Rattle.ws_file.specs.Reading.{WsFault}
-use Rattle.include_tree.specs.Files.{source_of}
+use Rattle.source_files.specs.Files.{source_of}
 use Rattle.ws_core.specs.Analysis.{AnalysisValue, analysis_of}
 use Rattle.ws_core.specs.ClassReport.{IsClassReport, PrintsClass, part_lines}
 use Rattle.ws_core.specs.Parts.{AreMembers}

@@ -5,7 +5,7 @@ use Rattle.std.specs.Option.{option_map}
 use Rattle.std.proofs.lemmas.Option.{same_Some, none-some}
 use Rattle.cs_base.specs.Edit.{Edit}
 use Rattle.cs_base.specs.Token.{Token}
-use Rattle.include_tree.specs.Texts.{UnitTextValue}
+use Rattle.unit_steps.specs.Texts.{UnitTextValue}
 use Rattle.ws_core.specs.Analysis.{UnitAnalysis}
 use Rattle.table_laws.specs.Counts.{tokens_in}
 use Rattle.cscout_run.specs.Answer.{places_in}

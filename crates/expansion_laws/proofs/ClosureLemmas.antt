@@ -3,17 +3,17 @@ use Rattle.std.proofs.Common.{◌≡◌, ℕ, zero, suc, ◌+◌, ◌-◌, ◌&&
 use Rattle.std.proofs.lemmas.Option.{none-some}
 use Rattle.cs_base.specs.Token.{Token}
 use Rattle.line_shape.specs.Signs.{is_name, is_open}
-use Rattle.macro_expand.specs.declared.definitions.Form.{Form}
-use Rattle.macro_expand.specs.declared.definitions.Form.TheVariants as form
-use Rattle.macro_expand.specs.declared.definitions.Definition.{Definition}
-use Rattle.macro_expand.specs.Hides.{Hidden, hidden, hide_more, hides_name, unhidden}
-use Rattle.macro_expand.specs.Macro.{Table, is_function}
-use Rattle.macro_expand.specs.Bodies.{Part, chains_of, occurs_alone}
+use Rattle.macro_body.specs.declared.definitions.Form.{Form}
+use Rattle.macro_body.specs.declared.definitions.Form.TheVariants as form
+use Rattle.macro_body.specs.declared.definitions.Definition.{Definition}
+use Rattle.macro_body.specs.Hides.{Hidden, hidden, hide_more, hides_name, unhidden}
+use Rattle.macro_body.specs.Macro.{Table, is_function}
+use Rattle.macro_body.specs.Bodies.{Part, chains_of, occurs_alone}
 use Rattle.macro_expand.specs.Calls.{Call, call_from, commas_of, arguments_of}
-use Rattle.macro_expand.specs.Notes.{Fault, OpenCall, WrongArguments, TooMuchWork, TooDeep, Note, Replaced, Linked, Expanded, expanded, put_out, noted, onward}
-use Rattle.macro_expand.specs.Substitution.{Arguments, Made, made, result_of, cost_of, line_number, path_string}
+use Rattle.macro_body.specs.Notes.{Fault, OpenCall, WrongArguments, TooMuchWork, TooDeep, Note, Replaced, Linked, Expanded, expanded, put_out, noted, onward}
+use Rattle.macro_body.specs.Substitution.{Arguments, Made, made, result_of, cost_of, line_number, path_string}
 use Rattle.macro_expand.specs.Expansion.{Setting, Next, most_depth, one_more, stays, Full, full, with_full, without_full, alone, full_step, full_from, spent, substituted, put_for, links_name, first_notes, replaced, added_by, called_with, called, behind_name, act, macro_of, step, steps, whole, expansion}
-use Rattle.macro_expand.proofs.ResultLemmas.{ok_same, err_ok, onward_ok, cond_ok, cond_ok_yes}
+use Rattle.macro_body.proofs.ResultLemmas.{ok_same, err_ok, onward_ok, cond_ok, cond_ok_yes}
 use Rattle.expansion_laws.proofs.ListLemmas.{AllToks, AllHidden, AllLists, AllNotes, notes_split, notes_both, hidden_both, hidden_more, good_call, good_arguments}
 use Rattle.expansion_laws.proofs.RuleLemmas.{Rules, HasPutIn, Fine, FineArguments, chains_of_have, result_kept}
 

@@ -2,12 +2,12 @@
 use Rattle.std.proofs.Common.{◌≡◌, ℕ, zero, suc, ◌==◌, ◌&&◌, Bool, true, false, not, cond, List, [], ◌∷◌, ◌++◌, length, map, get_or, Option, Some, subst}
 use Rattle.std.proofs.lemmas.Option.{none-some, same_Some}
 use Rattle.cs_base.specs.Token.{Token}
-use Rattle.macro_expand.specs.declared.definitions.Definition.{Definition}
-use Rattle.macro_expand.specs.Hides.{Hidden, hides_name, in_both, lacking, with_names, hide_more}
-use Rattle.macro_expand.specs.Macro.{Table}
+use Rattle.macro_body.specs.declared.definitions.Definition.{Definition}
+use Rattle.macro_body.specs.Hides.{Hidden, hides_name, in_both, lacking, with_names, hide_more}
+use Rattle.macro_body.specs.Macro.{Table}
 use Rattle.macro_expand.specs.Calls.{Call, Role, Closes, Separates, Belongs, CallFrom, role_of, level_after, fewer, onto_first, with_token, with_argument, closed, call_step, call_from, completed, arguments_of, is_blank}
-use Rattle.macro_expand.specs.Macro.{arity}
-use Rattle.macro_expand.specs.Substitution.{with_gap, moved_in, argument_for}
+use Rattle.macro_body.specs.Macro.{arity}
+use Rattle.macro_body.specs.Substitution.{with_gap, moved_in, argument_for}
 use Rattle.macro_expand.specs.Renaming.{Occurring}
 use Rattle.macro_expand.specs.Laws.{AllDefined, Held}
 use Rattle.expansion_laws.proofs.RenamedLemmas.{AllOccurHidden}

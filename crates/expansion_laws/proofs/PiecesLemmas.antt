@@ -11,9 +11,9 @@ use Rattle.part_lexer.specs.Characters.{double_quote}
 use Rattle.part_lexer.specs.OneToken.{one_token_of}
 use Rattle.paste_origin.specs.Pasting.{joined, pasted_as, glue_of}
 use Rattle.paste_origin.specs.Strings.{stringize_of, spellings_of}
-use Rattle.macro_expand.specs.Hides.{toks_of}
-use Rattle.macro_expand.specs.Notes.{Note, Replaced}
-use Rattle.macro_expand.specs.Substitution.{put_in}
+use Rattle.macro_body.specs.Hides.{toks_of}
+use Rattle.macro_body.specs.Notes.{Note, Replaced}
+use Rattle.macro_body.specs.Substitution.{put_in}
 use Rattle.macro_expand.specs.Expansion.{Setting}
 use Rattle.expansion_laws.specs.Telling.{IsAmong}
 use Rattle.expansion_laws.specs.Pieces.{IsOneOf, IsMadeOf, Characters, IsWhole, MacrosAreWhole, NoteIsWhole, TokensAreWhole, StandsWith, PlacesAreOfTheRun}

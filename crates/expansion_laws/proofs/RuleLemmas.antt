@@ -4,15 +4,15 @@ use Rattle.cs_base.specs.Token.{Token}
 use Rattle.line_shape.specs.Signs.{is_name, is_paste}
 use Rattle.paste_origin.specs.Pasting.{PasteFault, glue_of}
 use Rattle.paste_origin.specs.Strings.{StringFault, stringize_of}
-use Rattle.macro_expand.specs.declared.definitions.Form.TheVariants as form
-use Rattle.macro_expand.specs.declared.definitions.Definition.{Definition}
-use Rattle.macro_expand.specs.Hides.{Hidden, hidden, in_both, toks_of}
-use Rattle.macro_expand.specs.Macro.{parameter_at}
-use Rattle.macro_expand.specs.Bodies.{Part, Plain, Param, Quote, Paste, quoted_parameter, param_or_plain, lone_part, quote_or, parts_from, is_operator, pasted_to, chains_in, chains_of}
-use Rattle.macro_expand.specs.Notes.{Fault, Note, Replaced, Linked, Stringized, Pasted, onward}
-use Rattle.macro_expand.specs.Substitution.{Arguments, Made, made, made_both, with_gap, put_in, moved_in, argument_for, is_alone, string_made, operand_made, operands_made, chains_made, token_pasted, pasted_behind, two_pasted, chain_pasted, chains_pasted, result_of, line_number, path_string}
+use Rattle.macro_body.specs.declared.definitions.Form.TheVariants as form
+use Rattle.macro_body.specs.declared.definitions.Definition.{Definition}
+use Rattle.macro_body.specs.Hides.{Hidden, hidden, in_both, toks_of}
+use Rattle.macro_body.specs.Macro.{parameter_at}
+use Rattle.macro_body.specs.Bodies.{Part, Plain, Param, Quote, Paste, quoted_parameter, param_or_plain, lone_part, quote_or, parts_from, is_operator, pasted_to, chains_in, chains_of}
+use Rattle.macro_body.specs.Notes.{Fault, Note, Replaced, Linked, Stringized, Pasted, onward}
+use Rattle.macro_body.specs.Substitution.{Arguments, Made, made, made_both, with_gap, put_in, moved_in, argument_for, is_alone, string_made, operand_made, operands_made, chains_made, token_pasted, pasted_behind, two_pasted, chain_pasted, chains_pasted, result_of, line_number, path_string}
 use Rattle.macro_expand.specs.Expansion.{Setting, links_name}
-use Rattle.macro_expand.proofs.ResultLemmas.{ok_same, err_ok, onward_ok}
+use Rattle.macro_body.proofs.ResultLemmas.{ok_same, err_ok, onward_ok}
 use Rattle.macro_expand.proofs.CallLemmas.{cond_has}
 use Rattle.expansion_laws.proofs.ListLemmas.{AllToks, AllHidden, AllLists, AllNotes, notes_split, notes_both, hidden_both, hidden_at, hidden_toks}
 

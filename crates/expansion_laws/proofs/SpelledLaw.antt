@@ -11,9 +11,9 @@ use Rattle.part_lexer.specs.Characters.{is_digit}
 use Rattle.part_lexer.specs.Spelling.{may_follow, all_follow, is_number_text}
 use Rattle.paste_origin.specs.Pasting.{glue_of}
 use Rattle.paste_origin.specs.Strings.{stringize_of}
-use Rattle.macro_expand.specs.Macro.{Table}
-use Rattle.macro_expand.specs.Notes.{Note}
-use Rattle.macro_expand.specs.Substitution.{line_number, path_string}
+use Rattle.macro_body.specs.Macro.{Table}
+use Rattle.macro_body.specs.Notes.{Note}
+use Rattle.macro_body.specs.Substitution.{line_number, path_string}
 use Rattle.expansion_laws.specs.Passing.{IsBlind, MacrosPass, MadePass, standing_at}
 use Rattle.expansion_laws.specs.Spelled.{fits, is_spelled, MacrosAreSpelled, TokensAreSpelled}
 use Rattle.expansion_laws.proofs.ListLemmas.{toks_more, toks_pass, pass_toks}

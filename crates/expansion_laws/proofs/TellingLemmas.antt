@@ -7,7 +7,7 @@ use Rattle.cs_base.specs.declared.positions.Pos.{Pos}
 use Rattle.cs_base.specs.Token.{Token}
 use Rattle.part_lexer.specs.OneToken.{one_token_of}
 use Rattle.paste_origin.specs.Strings.{StringFault, NotAString, stringize_of, is_string, string_text, string_token}
-use Rattle.macro_expand.specs.Notes.{Note, Linked}
+use Rattle.macro_body.specs.Notes.{Note, Linked}
 use Rattle.macro_expand.specs.Expansion.{Setting}
 use Rattle.expansion_laws.specs.Telling.{StandUnderNames, AreAlike, LinksAreAlike, DidHappen, NotesAreTrue}
 use Rattle.expansion_laws.proofs.ListLemmas.{AllToks, each_tok, notes_at, all_notes}

@@ -5,12 +5,12 @@ use Rattle.std.specs.List.{list_all}
 use Rattle.cs_base.specs.Token.{Token}
 use Rattle.paste_origin.specs.Pasting.{glue_of}
 use Rattle.paste_origin.specs.Strings.{stringize_of}
-use Rattle.macro_expand.specs.declared.definitions.Form.TheVariants as form
-use Rattle.macro_expand.specs.declared.definitions.Definition.{Definition}
-use Rattle.macro_expand.specs.Hides.{toks_of}
-use Rattle.macro_expand.specs.Macro.{Table}
-use Rattle.macro_expand.specs.Notes.{Note, Replaced, Linked, Stringized, Pasted, Expanded}
-use Rattle.macro_expand.specs.Substitution.{line_number, path_string}
+use Rattle.macro_body.specs.declared.definitions.Form.TheVariants as form
+use Rattle.macro_body.specs.declared.definitions.Definition.{Definition}
+use Rattle.macro_body.specs.Hides.{toks_of}
+use Rattle.macro_body.specs.Macro.{Table}
+use Rattle.macro_body.specs.Notes.{Note, Replaced, Linked, Stringized, Pasted, Expanded}
+use Rattle.macro_body.specs.Substitution.{line_number, path_string}
 use Rattle.macro_expand.specs.Expansion.{links_name, expansion}
 use Rattle.expansion_laws.specs.Telling.{IsAmong}
 

@@ -8,9 +8,9 @@ use Rattle.cs_base.specs.declared.tokens.Kind.TheVariants.{Ident, Number, Char, 
 use Rattle.cs_base.specs.Token.{Token, has_origins}
 use Rattle.part_lexer.specs.Characters.{less_than, double_quote, capital_l, is_quote, is_white, is_word, begins}
 use Rattle.part_lexer.specs.Spelling.{is_identifier_text, is_number_text, is_punctuator_text, kind_of}
-use Rattle.macro_expand.specs.declared.definitions.Definition.{Definition}
-use Rattle.macro_expand.specs.Macro.{Table}
-use Rattle.macro_expand.specs.Notes.{Expanded}
+use Rattle.macro_body.specs.declared.definitions.Definition.{Definition}
+use Rattle.macro_body.specs.Macro.{Table}
+use Rattle.macro_body.specs.Notes.{Expanded}
 use Rattle.macro_expand.specs.Expansion.{links_name, expansion}
 use Rattle.expansion_laws.specs.Passing.{ExpansionPasses}
 

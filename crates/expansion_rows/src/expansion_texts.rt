@@ -4,8 +4,8 @@ ghost use Rattle.std.specs.Bool.{OnTrue};
 ghost use Rattle.std.specs.List.{list_all};
 ghost use Rattle.line_shape.specs.Items.{line_kind};
 ghost use Rattle.line_shape.specs.declared.items.ItemKind.TheVariants.{Define};
-ghost use Rattle.macro_expand.specs.Live.{table_of};
-ghost use Rattle.macro_expand.specs.Sound.{is_traced, is_low, AllTraced};
+ghost use Rattle.macro_body.specs.Live.{table_of};
+ghost use Rattle.macro_body.specs.Sound.{is_traced, is_low, AllTraced};
 
 use cs_base::{Kind, Memory, Pos, Tok, Toks};
 use line_shape::{ItemKind, shape};

@@ -4,12 +4,13 @@ use Rattle.cs_base.specs.declared.positions.Pos.{Pos}
 use Rattle.cs_base.specs.Token.{Token}
 use Rattle.line_shape.specs.declared.items.ItemKind.{ItemKind}
 use Rattle.line_shape.specs.declared.items.ItemKind.TheVariants as kind
-use Rattle.include_tree.specs.Files.{SourceFile}
-use Rattle.include_tree.specs.Notes.{Note, Reaches, Entered, Exited}
-use Rattle.include_tree.specs.State.{Context, State, Did, did, Outcome, only, noted, onward}
+use Rattle.source_files.specs.Files.{SourceFile}
+use Rattle.unit_steps.specs.Notes.{Note, Reaches, Entered, Exited}
+use Rattle.unit_steps.specs.State.{Context, State, Did, did, Outcome, only, noted, onward}
 use Rattle.include_tree.specs.Sections.{Section, are_processed, Turn, Opens, GoesOn, GoesLast, Ends, Stays, turn_of}
-use Rattle.include_tree.specs.Search.{Header}
-use Rattle.include_tree.specs.Including.{header_named, open_header, Process, Inner, entered, included, include_of}
+use Rattle.source_files.specs.Search.{Header}
+use Rattle.include_tree.specs.Including.{open_header, Process, Inner, entered, included, include_of}
+use Rattle.unit_steps.specs.IncludeNames.{header_named}
 use Rattle.include_tree.specs.Walk.{ItemText, items_in, processed, stepped, turned, item_step, file_end, walk, file_items}
 
 -- the second outcome is the first one, where that has no fault

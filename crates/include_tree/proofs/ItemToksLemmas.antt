@@ -15,14 +15,14 @@ use Rattle.line_shape.specs.MacroLine.{MacroParts, macro, is_function_like, is_p
 use Rattle.line_shape.specs.Directives.{is_run}
 use Rattle.line_shape.specs.Items.{line_kind, items_of}
 use Rattle.line_shape.proofs.CoverLemmas.{Follow-items_of, Follow-within}
-use Rattle.macro_expand.specs.declared.definitions.Definition.{Definition}
-use Rattle.macro_expand.specs.Defining.{defined_by, definition_of}
-use Rattle.macro_expand.specs.Sound.{is_traced, is_low}
+use Rattle.macro_body.specs.declared.definitions.Definition.{Definition}
+use Rattle.macro_body.specs.Defining.{defined_by, definition_of}
+use Rattle.macro_body.specs.Sound.{is_traced, is_low}
 use Rattle.macro_expand.proofs.TracedLemmas.{list_all-left, IsLine, lines-items_of}
-use Rattle.include_tree.specs.KeptFiles.{KeptValue}
-use Rattle.include_tree.specs.Files.{source_file}
-use Rattle.include_tree.specs.Sources.{read_as, source_kept}
-use Rattle.include_tree.proofs.FileToksLemmas.{text-sound}
+use Rattle.source_files.specs.KeptFiles.{KeptValue}
+use Rattle.source_files.specs.Files.{source_file}
+use Rattle.source_files.specs.Sources.{read_as, source_kept}
+use Rattle.unit_steps.proofs.FileToksLemmas.{text-sound}
 use Rattle.include_tree.specs.Walk.{ItemText, item_text, item_texts, items_in}
 
 both_hold : (a b : Bool) → (a && b) ≡ true → (a ≡ true) × (b ≡ true)

@@ -1,10 +1,11 @@
 -- Steps that lead from one state to another.
 use Rattle.std.proofs.Common.{◌≡◌, ℕ, ◌+◌, ◌≤◌, Bool, true, false, cond, List, [], ◌∷◌, ◌++◌, refl, subst, arith, is_some}
 use Rattle.cs_base.specs.Token.{Token}
-use Rattle.include_tree.specs.State.{Context, State}
-use Rattle.include_tree.specs.Names.{with_name, spelled_in}
-use Rattle.include_tree.specs.Laws.{Widens, Leads}
-use Rattle.include_tree.proofs.TableLemmas.{widens_refl, widens_trans}
+use Rattle.unit_steps.specs.State.{Context, State}
+use Rattle.unit_steps.specs.Names.{with_name, spelled_in}
+use Rattle.include_tree.specs.Laws.{Leads}
+use Rattle.source_files.specs.Tables.{Widens}
+use Rattle.source_files.proofs.TableLemmas.{widens_refl, widens_trans}
 
 -- a step that puts out nothing
 pub leads_by : (ctx : Context) (s t : State) → t.before ≡ s.before → t.work ≤ s.work → Widens ctx.source s.table t.table → Leads ctx s 0 t

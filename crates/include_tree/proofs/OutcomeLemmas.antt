@@ -1,8 +1,8 @@
 -- One step behind another, where there is no fault.
 use Rattle.std.proofs.Common.{Bool, true, false, cond, List, Ok, Err}
-use Rattle.include_tree.specs.Faults.{Fault}
-use Rattle.include_tree.specs.Notes.{Note}
-use Rattle.include_tree.specs.State.{State, Outcome, noted, onward}
+use Rattle.source_files.specs.Faults.{Fault}
+use Rattle.unit_steps.specs.Notes.{Note}
+use Rattle.unit_steps.specs.State.{State, Outcome, noted, onward}
 use Rattle.include_tree.specs.Laws.{IfDone}
 
 pub noted_done : {A : Type 0} (P : A → State → Type 0) (notes : List Note) (m : Outcome A) → IfDone P m → IfDone P (noted notes m)

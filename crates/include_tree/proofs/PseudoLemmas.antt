@@ -7,9 +7,10 @@ use Rattle.std.proofs.lemmas.Fmt.{decimal_injective}
 use Rattle.std.proofs.lemmas.List.{append_cancel_left, append_cancel_right}
 use Rattle.cs_base.specs.Units.{UnitValue, defines_text}
 use Rattle.cs_base.proofs.FileMapLemmas.{bytes_eq-equal}
-use Rattle.include_tree.specs.Limits.{Limits}
-use Rattle.include_tree.specs.Files.{Source, Found, Made, Entry, Table, Carried, found_at, found_in, numbered, opened, defines_path}
-use Rattle.include_tree.specs.State.{Reader, Context, context, State}
+use Rattle.source_files.specs.Limits.{Limits}
+use Rattle.source_files.specs.Files.{Source, Found, Made, Entry, Table, Carried, found_at, found_in, numbered, opened, defines_path}
+use Rattle.unit_steps.specs.State.{Context, context, State}
+use Rattle.source_files.specs.Opening.{Reader}
 use Rattle.include_tree.specs.Unit.{first_state, unit_outcome}
 use Rattle.include_tree.specs.Laws.{IfDone}
 use Rattle.include_tree.specs.PseudoFiles.{is_pseudo}

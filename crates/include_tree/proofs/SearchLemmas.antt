@@ -3,14 +3,17 @@ use Rattle.std.proofs.Common.{◌≡◌, ℕ, nat_le, cond, Bool, true, false, L
 use Rattle.cs_base.specs.declared.causes.Cause.TheVariants.{TooManyFiles, TooManyBytes}
 use Rattle.cs_base.specs.declared.positions.Place.{Place}
 use Rattle.part_lexer.specs.FileText.{TextValue, LexFault, FileTooLarge, OpenComment}
-use Rattle.include_tree.specs.Limits.{Limits}
-use Rattle.include_tree.specs.Files.{Source, Found, Lines, Absent, Unopened, Opened, Made, Table, SourceFile, found_at, opened, asked, number_of, files_opened}
-use Rattle.include_tree.specs.Faults.{Fault, fault}
-use Rattle.include_tree.specs.State.{Reader, Context, State}
-use Rattle.include_tree.specs.Search.{Searched, search, search_on}
-use Rattle.include_tree.specs.Opening.{Opening, file_read, readable, first_opened, are_too_many, opened_as, opening, with_opened, open_file}
-use Rattle.include_tree.specs.Laws.{IfDone, Widens, Leads}
-use Rattle.include_tree.proofs.TableLemmas.{widens_refl, widens_trans, widens_asked, widens_opened}
+use Rattle.source_files.specs.Limits.{Limits}
+use Rattle.source_files.specs.Files.{Source, Found, Lines, Absent, Unopened, Opened, Made, Table, SourceFile, found_at, opened, asked, number_of, files_opened}
+use Rattle.source_files.specs.Faults.{Fault, fault}
+use Rattle.unit_steps.specs.State.{Context, State}
+use Rattle.source_files.specs.Opening.{Reader}
+use Rattle.source_files.specs.Search.{Searched, search, search_on}
+use Rattle.source_files.specs.Opening.{Opening, file_read, readable, first_opened, are_too_many, opened_as, opening}
+use Rattle.include_tree.specs.OpeningStep.{with_opened, open_file}
+use Rattle.include_tree.specs.Laws.{IfDone, Leads}
+use Rattle.source_files.specs.Tables.{Widens}
+use Rattle.source_files.proofs.TableLemmas.{widens_refl, widens_trans, widens_asked, widens_opened}
 use Rattle.include_tree.proofs.LeadsLemmas.{leads_by}
 
 -- what a search makes of the table it is given

@@ -12,20 +12,22 @@ use Rattle.part_lexer.specs.FileText.{TextValue, LexFault, FileTooLarge, OpenCom
 use Rattle.line_shape.specs.Signs.{is_name}
 use Rattle.cond_eval.specs.declared.faults.CondFault.{CondFault}
 use Rattle.cond_eval.specs.Evaluation.{condition}
-use Rattle.macro_expand.specs.declared.definitions.Definition.{Definition}
-use Rattle.macro_expand.specs.Notes as expansion
+use Rattle.macro_body.specs.declared.definitions.Definition.{Definition}
+use Rattle.macro_body.specs.Notes as expansion
 use Rattle.macro_expand.specs.Expansion.{expansion}
-use Rattle.macro_expand.specs.Defining.{defined_by}
-use Rattle.include_tree.specs.Limits.{Limits}
-use Rattle.include_tree.specs.Files.{Source, Found, Lines, Absent, Unopened, Opened, Made, Table, SourceFile, found_at, opened, asked, number_of, files_opened}
-use Rattle.include_tree.specs.Faults.{Fault, fault, fault_at}
-use Rattle.include_tree.specs.State.{Reader, Context, State, only, onward}
-use Rattle.include_tree.specs.Search.{Searched, can_be_asked, search, search_on}
-use Rattle.include_tree.specs.Opening.{Opening, file_read, readable, first_opened, are_too_many, opened_as, opening, with_opened, open_file}
-use Rattle.include_tree.specs.Names.{with_name, spelled_in}
-use Rattle.include_tree.specs.Expanding.{expanded_as, expanded_in, most_toks, put_out, run_of}
-use Rattle.include_tree.specs.Conditions.{Piece, Plain, Asks, pieces_from, answered, left_over, valued, judged, asked_pieces, holds, is_defined}
-use Rattle.include_tree.specs.Directives.{defined_as, define_of, undefined_as, undef_of, operand_in, asks_name}
+use Rattle.macro_body.specs.Defining.{defined_by}
+use Rattle.source_files.specs.Limits.{Limits}
+use Rattle.source_files.specs.Files.{Source, Found, Lines, Absent, Unopened, Opened, Made, Table, SourceFile, found_at, opened, asked, number_of, files_opened}
+use Rattle.source_files.specs.Faults.{Fault, fault, fault_at}
+use Rattle.unit_steps.specs.State.{Context, State, only, onward}
+use Rattle.source_files.specs.Opening.{Reader}
+use Rattle.source_files.specs.Search.{Searched, can_be_asked, search, search_on}
+use Rattle.source_files.specs.Opening.{Opening, file_read, readable, first_opened, are_too_many, opened_as, opening}
+use Rattle.include_tree.specs.OpeningStep.{with_opened, open_file}
+use Rattle.unit_steps.specs.Names.{with_name, spelled_in}
+use Rattle.unit_steps.specs.Expanding.{expanded_as, expanded_in, most_toks, put_out, run_of}
+use Rattle.unit_steps.specs.Conditions.{Piece, Plain, Asks, pieces_from, answered, left_over, valued, judged, asked_pieces, holds, is_defined}
+use Rattle.unit_steps.specs.Directives.{defined_as, define_of, undefined_as, undef_of, operand_in, asks_name}
 use Rattle.include_tree.specs.Laws.{IfDone}
 use Rattle.include_tree.specs.PseudoFiles.{is_pseudo}
 use Rattle.include_tree.proofs.OutcomeLemmas.{onward_done, test_done}

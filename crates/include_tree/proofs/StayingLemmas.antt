@@ -3,10 +3,10 @@ use Rattle.std.proofs.Common.{◌≡◌, ℕ, zero, suc, true, false, List, [], 
 use Rattle.std.specs.Prelude.{IfSome, IsSome, slice_get}
 use Rattle.std.specs.Option.{option_map, option_and_then}
 use Rattle.part_lexer.specs.FileText.{TextValue, LexFault, file_text}
-use Rattle.include_tree.specs.Files.{Found, Entry, Table, SourceFile, source_file}
-use Rattle.include_tree.specs.KeptFiles.{KeptValue, kept, kept_bytes, kept_in, kept_at}
-use Rattle.include_tree.specs.Sources.{read_as, source_kept, source_at}
-use Rattle.include_tree.specs.Laws.{Becomes, IsGrown}
+use Rattle.source_files.specs.Files.{Found, Entry, Table, SourceFile, source_file}
+use Rattle.source_files.specs.KeptFiles.{KeptValue, kept, kept_bytes, kept_in, kept_at}
+use Rattle.source_files.specs.Sources.{read_as, source_kept, source_at}
+use Rattle.source_files.specs.Tables.{Becomes, IsGrown}
 
 -- ---- what holds of a value, if there is one
 

@@ -8,24 +8,24 @@ use Rattle.cs_base.specs.Token.{Token}
 use Rattle.line_shape.specs.Signs.{is_name}
 use Rattle.cond_eval.specs.declared.faults.CondFault.{CondFault}
 use Rattle.cond_eval.specs.Evaluation.{condition}
-use Rattle.macro_expand.specs.declared.definitions.Definition.{Definition}
-use Rattle.macro_expand.specs.Hides.{unhidden}
-use Rattle.macro_expand.specs.Macro.{Table as Macros}
-use Rattle.macro_expand.specs.Notes as expansion
+use Rattle.macro_body.specs.declared.definitions.Definition.{Definition}
+use Rattle.macro_body.specs.Hides.{unhidden}
+use Rattle.macro_body.specs.Macro.{Table as Macros}
+use Rattle.macro_body.specs.Notes as expansion
 use Rattle.macro_expand.specs.Expansion.{expansion}
-use Rattle.macro_expand.specs.Defining.{defined_by}
-use Rattle.macro_expand.specs.Live.{with_macro, without_macro}
+use Rattle.macro_body.specs.Defining.{defined_by}
+use Rattle.macro_body.specs.Live.{with_macro, without_macro}
 use Rattle.macro_expand.proofs.WholeLemmas.{whole_falls}
-use Rattle.include_tree.specs.Files.{SourceFile}
-use Rattle.include_tree.specs.Faults.{fault_at}
-use Rattle.include_tree.specs.State.{Context, State, Outcome, onward}
-use Rattle.include_tree.specs.Names.{with_name}
-use Rattle.include_tree.specs.Expanding.{expanded_as, expanded_in, most_toks, put_out, run_of}
-use Rattle.include_tree.specs.Conditions.{Piece, Plain, Asks, pieces_from, answered, left_over, valued, judged, asked_pieces, holds, is_defined}
-use Rattle.include_tree.specs.Directives.{defined_as, define_of, undefined_as, undef_of, operand_in, asks_name}
+use Rattle.source_files.specs.Files.{SourceFile}
+use Rattle.source_files.specs.Faults.{fault_at}
+use Rattle.unit_steps.specs.State.{Context, State, Outcome, onward}
+use Rattle.unit_steps.specs.Names.{with_name}
+use Rattle.unit_steps.specs.Expanding.{expanded_as, expanded_in, most_toks, put_out, run_of}
+use Rattle.unit_steps.specs.Conditions.{Piece, Plain, Asks, pieces_from, answered, left_over, valued, judged, asked_pieces, holds, is_defined}
+use Rattle.unit_steps.specs.Directives.{defined_as, define_of, undefined_as, undef_of, operand_in, asks_name}
 use Rattle.include_tree.specs.Laws.{IfDone, Leads}
 use Rattle.include_tree.proofs.OutcomeLemmas.{onward_done, test_done}
-use Rattle.include_tree.proofs.TableLemmas.{widens_refl}
+use Rattle.source_files.proofs.TableLemmas.{widens_refl}
 use Rattle.include_tree.proofs.LeadsLemmas.{leads_by, leads_refl, leads_then, leads_name}
 
 -- a state behind a value that puts out nothing, and behind tokens that are put out

@@ -11,23 +11,27 @@ use Rattle.cs_base.specs.Token.{Token}
 use Rattle.cs_base.specs.declared.positions.Place.{Place}
 use Rattle.part_lexer.specs.FileText.{file_text}
 use Rattle.cs_base.specs.Units.{UnitValue, defines_text, IsUnit, is_unit_path, is_writable, begins_with, less_sign}
-use Rattle.include_tree.specs.declared.pre_fault.PreFault.{PreFault}
-use Rattle.include_tree.specs.Limits.{the_limits}
-use Rattle.include_tree.specs.Files.{Source, Found, Made, Table, Carried, carried, lines_path, defines_path, numbered, asked}
-use Rattle.include_tree.specs.Faults.{Fault, first_place}
-use Rattle.include_tree.specs.Notes.{Note}
-use Rattle.include_tree.specs.State.{State, Did, Outcome, only, noted, onward}
-use Rattle.include_tree.specs.Opening.{Opening, opening, with_opened}
-use Rattle.include_tree.specs.Search.{can_be_asked}
+use Rattle.source_files.specs.declared.pre_fault.PreFault.{PreFault}
+use Rattle.source_files.specs.Limits.{the_limits}
+use Rattle.source_files.specs.Files.{Source, Found, Made, Table, Carried, carried, lines_path, defines_path, numbered, asked}
+use Rattle.source_files.specs.Faults.{Fault, first_place}
+use Rattle.unit_steps.specs.Notes.{Note}
+use Rattle.unit_steps.specs.State.{State, Did, Outcome, only, noted, onward}
+use Rattle.source_files.specs.Opening.{Opening, opening}
+use Rattle.include_tree.specs.OpeningStep.{with_opened}
+use Rattle.source_files.specs.Search.{can_be_asked}
 use Rattle.include_tree.specs.Including.{Process}
 use Rattle.include_tree.specs.Walk.{file_items}
 use Rattle.include_tree.specs.Unit.{first_state, outer_file, main_file}
-use Rattle.include_tree.specs.Texts.{UnitTextValue, preprocessed_by, preprocessed}
-use Rattle.include_tree.specs.Keeping.{no_text, noted_in, put_in, kept_after, put_after}
-use Rattle.include_tree.specs.Answers.{fault_of, with_text}
-use Rattle.include_tree.specs.Sources.{source_at, unit_context, GivesOpening}
-use Rattle.include_tree.proofs.KeepingLemmas.{noted_in-append, noted_in-nil}
-use Rattle.include_tree.proofs.GoingLemmas.{put-onward, put-onward_fault}
+use Rattle.unit_steps.specs.Texts.{UnitTextValue}
+use Rattle.include_tree.specs.Preprocessed.{preprocessed_by, preprocessed}
+use Rattle.unit_steps.specs.Keeping.{no_text, noted_in, put_in, kept_after, put_after}
+use Rattle.source_files.specs.Answers.{fault_of}
+use Rattle.include_tree.specs.Preprocessed.{with_text}
+use Rattle.source_files.specs.Sources.{source_at, GivesOpening}
+use Rattle.include_tree.specs.GivenFiles.{unit_context}
+use Rattle.unit_steps.proofs.KeepingLemmas.{noted_in-append, noted_in-nil}
+use Rattle.unit_steps.proofs.GoingLemmas.{put-onward, put-onward_fault}
 
 -- ---- tokens behind tokens
 

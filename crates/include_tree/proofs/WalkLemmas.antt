@@ -5,23 +5,27 @@ use Rattle.cs_base.specs.Token.{Token}
 use Rattle.cs_base.specs.Units.{UnitValue, defines_text}
 use Rattle.line_shape.specs.declared.items.ItemKind.{ItemKind}
 use Rattle.line_shape.specs.declared.items.ItemKind.TheVariants as kind
-use Rattle.include_tree.specs.Limits.{Limits}
-use Rattle.include_tree.specs.Files.{Source, Made, Table, SourceFile, Carried, asked, found_at, defines_path}
-use Rattle.include_tree.specs.Faults.{place_in, first_place}
-use Rattle.include_tree.specs.Notes.{Reaches, Entered}
-use Rattle.include_tree.specs.State.{Reader, Context, context, State, Outcome, only}
+use Rattle.source_files.specs.Limits.{Limits}
+use Rattle.source_files.specs.Files.{Source, Made, Table, SourceFile, Carried, asked, found_at, defines_path}
+use Rattle.source_files.specs.Faults.{place_in, first_place}
+use Rattle.unit_steps.specs.Notes.{Reaches, Entered}
+use Rattle.unit_steps.specs.State.{Context, context, State, Outcome, only}
+use Rattle.source_files.specs.Opening.{Reader}
 use Rattle.include_tree.specs.Sections.{Group, Processed, Awaited, Over, Skipped, Section, section, are_processed, group_of_else, Turn, Opens, GoesOn, GoesLast, Ends, Stays, turn_of}
-use Rattle.include_tree.specs.Search.{Header, Searched, candidates_of, search}
-use Rattle.include_tree.specs.Opening.{open_file}
-use Rattle.include_tree.specs.Expanding.{expanded_in}
-use Rattle.include_tree.specs.Conditions.{holds}
-use Rattle.include_tree.specs.Directives.{opens_with, operand_in, is_if}
-use Rattle.include_tree.specs.Including.{header_of_toks, header_or, computed_header, header_named, is_header, open_searched, open_header, Process, Inner, entered, included, include_of, header_in}
+use Rattle.source_files.specs.Search.{Header, Searched, candidates_of, search}
+use Rattle.include_tree.specs.OpeningStep.{open_file}
+use Rattle.unit_steps.specs.Expanding.{expanded_in}
+use Rattle.unit_steps.specs.Conditions.{holds}
+use Rattle.unit_steps.specs.Directives.{opens_with, operand_in, is_if}
+use Rattle.include_tree.specs.Including.{open_searched, open_header, Process, Inner, entered, included, include_of}
+use Rattle.unit_steps.specs.IncludeNames.{header_or, computed_header, header_named}
+use Rattle.source_files.specs.HeaderNames.{header_of_toks, is_header, header_in}
 use Rattle.include_tree.specs.Walk.{ItemText, items_in, processed, Stepped, stepped, go_on, opens, goes_on, reaching_alive, in_section, turned, item_step, file_end, walk, file_items}
 use Rattle.include_tree.specs.Unit.{first_state, outer_file, main_file, both_files, unit_outcome}
-use Rattle.include_tree.specs.Laws.{IfDone, Widens, Leads, UnitEnds}
+use Rattle.include_tree.specs.Laws.{IfDone, Leads, UnitEnds}
+use Rattle.source_files.specs.Tables.{Widens}
 use Rattle.include_tree.proofs.OutcomeLemmas.{noted_done, onward_done, cond_done}
-use Rattle.include_tree.proofs.TableLemmas.{widens_trans, widens_asked, widens_push}
+use Rattle.source_files.proofs.TableLemmas.{widens_trans, widens_asked, widens_push}
 use Rattle.include_tree.proofs.LeadsLemmas.{leads_by, leads_refl, leads_trans, leads_as}
 use Rattle.include_tree.proofs.SearchLemmas.{search_wide, open_file_leads}
 use Rattle.include_tree.proofs.StepLemmas.{Behind, PutsOut, expanded_leads, run_leads, puts_then, behind_then, define_leads, undef_leads, asks_leads, holds_leads}

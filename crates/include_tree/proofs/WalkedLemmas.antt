@@ -4,19 +4,19 @@ use Rattle.std.specs.Prelude.{IfSome, slice_get}
 use Rattle.std.proofs.lemmas.List.{append-nil}
 use Rattle.cs_base.specs.Token.{Token}
 use Rattle.cs_base.specs.declared.positions.Pos.{Pos}
-use Rattle.include_tree.specs.Files.{SourceFile}
-use Rattle.include_tree.specs.Faults.{Fault}
-use Rattle.include_tree.specs.Notes.{Note, Entered, Exited}
-use Rattle.include_tree.specs.State.{Context, State, Did, did, Outcome, only, noted, onward}
+use Rattle.source_files.specs.Files.{SourceFile}
+use Rattle.source_files.specs.Faults.{Fault}
+use Rattle.unit_steps.specs.Notes.{Note, Entered, Exited}
+use Rattle.unit_steps.specs.State.{Context, State, Did, did, Outcome, only, noted, onward}
 use Rattle.include_tree.specs.Sections.{Section}
-use Rattle.include_tree.specs.Search.{Header}
+use Rattle.source_files.specs.Search.{Header}
 use Rattle.include_tree.specs.Including.{Process, Inner, open_header, entered, included}
 use Rattle.include_tree.specs.Walk.{ItemText, items_in, Stepped, item_step, file_end, walk, file_items}
-use Rattle.include_tree.specs.Texts.{UnitTextValue}
-use Rattle.include_tree.specs.Keeping.{noted_in, put_in, put_after}
+use Rattle.unit_steps.specs.Texts.{UnitTextValue}
+use Rattle.unit_steps.specs.Keeping.{noted_in, put_in, put_after}
 use Rattle.include_tree.specs.OpenSections.{innermost_of}
 use Rattle.include_tree.specs.Walking.{stepped_after, inner_in}
-use Rattle.include_tree.proofs.KeepingLemmas.{noted_in-append, noted_in-nil, put-noted}
+use Rattle.unit_steps.proofs.KeepingLemmas.{noted_in-append, noted_in-nil, put-noted}
 use Rattle.include_tree.proofs.StayingLemmas.{some_same}
 use Rattle.include_tree.proofs.WalkingLemmas.{put-only, fault_on}
 

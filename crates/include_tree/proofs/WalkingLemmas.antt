@@ -7,26 +7,27 @@ use Rattle.cs_base.specs.declared.causes.Cause.{Cause}
 use Rattle.cs_base.specs.declared.positions.Pos.{Pos}
 use Rattle.line_shape.specs.declared.items.ItemKind.{ItemKind}
 use Rattle.line_shape.specs.declared.items.ItemKind.TheVariants as item
-use Rattle.include_tree.specs.declared.pre_fault.PreFault.{PreFault}
-use Rattle.include_tree.specs.declared.progress.Progress.{Progress}
+use Rattle.source_files.specs.declared.pre_fault.PreFault.{PreFault}
+use Rattle.unit_steps.specs.declared.progress.Progress.{Progress}
 use Rattle.include_tree.specs.declared.item_steps.IncludeLine.{IncludeLine}
-use Rattle.include_tree.specs.Files.{Table, SourceFile}
-use Rattle.include_tree.specs.Faults.{Fault}
-use Rattle.include_tree.specs.Notes.{Note, Reaches}
-use Rattle.include_tree.specs.State.{Context, State, Outcome, only, noted, onward}
+use Rattle.source_files.specs.Files.{Table, SourceFile}
+use Rattle.source_files.specs.Faults.{Fault}
+use Rattle.unit_steps.specs.Notes.{Note, Reaches}
+use Rattle.unit_steps.specs.State.{Context, State, Outcome, only, noted, onward}
 use Rattle.include_tree.specs.Sections.{Group, Awaited, Skipped, Section, section, are_processed, is_alive, group_if, Turn, Stays}
-use Rattle.include_tree.specs.Search.{Header}
-use Rattle.include_tree.specs.Conditions.{holds}
-use Rattle.include_tree.specs.Directives.{opens_with, is_if}
-use Rattle.include_tree.specs.Including.{Inner, header_named, included}
+use Rattle.source_files.specs.Search.{Header}
+use Rattle.unit_steps.specs.Conditions.{holds}
+use Rattle.unit_steps.specs.Directives.{opens_with, is_if}
+use Rattle.include_tree.specs.Including.{Inner, included}
+use Rattle.unit_steps.specs.IncludeNames.{header_named}
 use Rattle.include_tree.specs.Walk.{ItemText, processed, Stepped, stepped, go_on, opens, goes_on, reaching_alive, turned}
-use Rattle.include_tree.specs.Texts.{UnitTextValue}
-use Rattle.include_tree.specs.Answers.{fault_of}
-use Rattle.include_tree.specs.Keeping.{noted_in, put_in, kept_after, put_after}
-use Rattle.include_tree.specs.Moments.{state_in}
+use Rattle.unit_steps.specs.Texts.{UnitTextValue}
+use Rattle.source_files.specs.Answers.{fault_of}
+use Rattle.unit_steps.specs.Keeping.{noted_in, put_in, kept_after, put_after}
+use Rattle.unit_steps.specs.Moments.{state_in}
 use Rattle.include_tree.specs.Walking.{stepped_after, with_sections, GivesLine, GivesItem}
-use Rattle.include_tree.proofs.KeepingLemmas.{noted_in-append, noted_in-nil}
-use Rattle.include_tree.proofs.GoingLemmas.{put-onward}
+use Rattle.unit_steps.proofs.KeepingLemmas.{noted_in-append, noted_in-nil}
+use Rattle.unit_steps.proofs.GoingLemmas.{put-onward}
 
 -- ---- faults
 

@@ -3,23 +3,24 @@ use Rattle.std.proofs.Common.{◌≡◌, ℕ, ◌+◌, ◌-◌, ◌<◌, ◌≤�
 use Rattle.std.specs.Prelude.{IfSome, slice_get}
 use Rattle.cs_base.specs.Answer.{Gives}
 use Rattle.cs_base.specs.declared.positions.Pos.{Pos}
-use Rattle.include_tree.specs.declared.pre_fault.PreFault.{PreFault}
-use Rattle.include_tree.specs.declared.progress.Progress.{Progress}
+use Rattle.source_files.specs.declared.pre_fault.PreFault.{PreFault}
+use Rattle.unit_steps.specs.declared.progress.Progress.{Progress}
 use Rattle.include_tree.specs.declared.item_steps.IncludeLine.{IncludeLine}
-use Rattle.include_tree.specs.Files.{Source, Table, SourceFile}
-use Rattle.include_tree.specs.Faults.{Fault}
-use Rattle.include_tree.specs.Notes.{Entered, Exited}
-use Rattle.include_tree.specs.State.{Context, State}
+use Rattle.source_files.specs.Files.{Source, Table, SourceFile}
+use Rattle.source_files.specs.Faults.{Fault}
+use Rattle.unit_steps.specs.Notes.{Entered, Exited}
+use Rattle.unit_steps.specs.State.{Context, State}
 use Rattle.include_tree.specs.Sections.{Section}
-use Rattle.include_tree.specs.Search.{Header}
-use Rattle.include_tree.specs.Expanding.{most_toks}
+use Rattle.source_files.specs.Search.{Header}
+use Rattle.unit_steps.specs.Expanding.{most_toks}
 use Rattle.include_tree.specs.Including.{Inner, open_header, entered, included}
 use Rattle.include_tree.specs.Walk.{ItemText, items_in, item_step, file_end, walk, file_items}
-use Rattle.include_tree.specs.Texts.{UnitTextValue}
-use Rattle.include_tree.specs.Sources.{source_at, unit_context, unit_most, GivesFile}
-use Rattle.include_tree.specs.Answers.{fault_of}
-use Rattle.include_tree.specs.Keeping.{noted_in, put_after}
-use Rattle.include_tree.specs.Moments.{state_in}
+use Rattle.unit_steps.specs.Texts.{UnitTextValue}
+use Rattle.source_files.specs.Sources.{source_at, unit_most}
+use Rattle.include_tree.specs.GivenFiles.{unit_context, GivesFile}
+use Rattle.source_files.specs.Answers.{fault_of}
+use Rattle.unit_steps.specs.Keeping.{noted_in, put_after}
+use Rattle.unit_steps.specs.Moments.{state_in}
 use Rattle.include_tree.specs.Walking.{stepped_after, with_sections, inner_in, GivesItem}
 use Rattle.include_tree.proofs.StayingLemmas.{some_all, some_three, some_at, source-number}
 use Rattle.include_tree.proofs.WalkingLemmas.{fault_on}

@@ -1,9 +1,9 @@
 -- Pseudo files (this project's own): which of them a unit gives a number.
 use Rattle.std.specs.Prelude.{◌≡◌, ◌==◌, ◌<◌, ◌^◌, ℕ, Bool, false, List, None}
 use Rattle.cs_base.specs.Units.{UnitValue, less_sign, begins_with}
-use Rattle.include_tree.specs.Limits.{Limits}
-use Rattle.include_tree.specs.Files.{Source, Carried, found_at, defines_path}
-use Rattle.include_tree.specs.State.{Reader}
+use Rattle.source_files.specs.Limits.{Limits}
+use Rattle.source_files.specs.Files.{Source, Carried, found_at, defines_path}
+use Rattle.source_files.specs.Opening.{Reader}
 use Rattle.include_tree.specs.Laws.{IfDone}
 use Rattle.include_tree.specs.Unit.{unit_outcome}
 

@@ -2,12 +2,13 @@
 use Rattle.std.specs.Prelude.{ℕ, ◌-◌, List, [], ◌++◌}
 use Rattle.cs_base.specs.Token.{Token}
 use Rattle.cs_base.specs.Units.{UnitValue, defines_text}
-use Rattle.macro_expand.specs.Defining.{first_macros}
-use Rattle.include_tree.specs.Limits.{Limits}
-use Rattle.include_tree.specs.Files.{Source, Made, Table, Carried, defines_path, numbered, asked}
-use Rattle.include_tree.specs.Faults.{first_place}
-use Rattle.include_tree.specs.State.{Reader, Context, context, State, Outcome, only, onward}
-use Rattle.include_tree.specs.Opening.{open_file}
+use Rattle.macro_body.specs.Defining.{first_macros}
+use Rattle.source_files.specs.Limits.{Limits}
+use Rattle.source_files.specs.Files.{Source, Made, Table, Carried, defines_path, numbered, asked}
+use Rattle.source_files.specs.Faults.{first_place}
+use Rattle.unit_steps.specs.State.{Context, context, State, Outcome, only, onward}
+use Rattle.source_files.specs.Opening.{Reader}
+use Rattle.include_tree.specs.OpeningStep.{open_file}
 use Rattle.include_tree.specs.Walk.{file_items}
 
 -- The state at the beginning of a unit (6.10.8). The pseudo file of its settings gets a number.

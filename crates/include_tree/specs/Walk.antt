@@ -7,14 +7,14 @@ use Rattle.line_shape.specs.declared.items.Item.{Item}
 use Rattle.line_shape.specs.declared.items.ItemKind.{ItemKind}
 use Rattle.line_shape.specs.declared.items.ItemKind.TheVariants as kind
 use Rattle.line_shape.specs.Items.{items_of}
-use Rattle.include_tree.specs.Files.{SourceFile}
-use Rattle.include_tree.specs.Faults.{fault_at}
-use Rattle.include_tree.specs.Notes.{Reaches}
-use Rattle.include_tree.specs.State.{Context, State, Outcome, only, noted, onward}
+use Rattle.source_files.specs.Files.{SourceFile}
+use Rattle.source_files.specs.Faults.{fault_at}
+use Rattle.unit_steps.specs.Notes.{Reaches}
+use Rattle.unit_steps.specs.State.{Context, State, Outcome, only, noted, onward}
 use Rattle.include_tree.specs.Sections.{Group, Awaited, Skipped, Section, section, is_alive, are_processed, group_if, group_after, group_of_else, Turn, Opens, GoesOn, GoesLast, Ends, Stays, turn_of}
-use Rattle.include_tree.specs.Expanding.{run_of}
-use Rattle.include_tree.specs.Conditions.{holds}
-use Rattle.include_tree.specs.Directives.{define_of, undef_of, opens_with, is_if}
+use Rattle.unit_steps.specs.Expanding.{run_of}
+use Rattle.unit_steps.specs.Conditions.{holds}
+use Rattle.unit_steps.specs.Directives.{define_of, undef_of, opens_with, is_if}
 use Rattle.include_tree.specs.Including.{Process, Inner, include_of}
 
 -- An item with its tokens.

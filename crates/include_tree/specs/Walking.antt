@@ -1,16 +1,16 @@
 -- The walk over the items of files (ISO/IEC 9899:1999, 6.10), as the program takes it.
 use Rattle.std.specs.Prelude.{◌≡◌, ℕ, zero, suc, true, List, [], Option, Some, None, Result, Ok, Err, IfSome}
-use Rattle.include_tree.specs.declared.pre_fault.PreFault.{PreFault}
+use Rattle.source_files.specs.declared.pre_fault.PreFault.{PreFault}
 use Rattle.include_tree.specs.declared.item_steps.IncludeLine.{IncludeLine}
-use Rattle.include_tree.specs.Files.{SourceFile}
-use Rattle.include_tree.specs.Faults.{Fault}
-use Rattle.include_tree.specs.State.{Context, State, Outcome, only}
+use Rattle.source_files.specs.Files.{SourceFile}
+use Rattle.source_files.specs.Faults.{Fault}
+use Rattle.unit_steps.specs.State.{Context, State, Outcome, only}
 use Rattle.include_tree.specs.Sections.{Section, GoesOn, GoesLast, Ends, group_of_else}
 use Rattle.include_tree.specs.Including.{Inner, included}
 use Rattle.include_tree.specs.Walk.{ItemText, Stepped, stepped, go_on, goes_on, reaching_alive, in_section, file_items}
-use Rattle.include_tree.specs.Texts.{UnitTextValue}
-use Rattle.include_tree.specs.Answers.{fault_of}
-use Rattle.include_tree.specs.Keeping.{noted_in, put_in, put_after}
+use Rattle.unit_steps.specs.Texts.{UnitTextValue}
+use Rattle.source_files.specs.Answers.{fault_of}
+use Rattle.unit_steps.specs.Keeping.{noted_in, put_in, put_after}
 
 -- What a step gives that may open or end sections: the sections, the state behind it, and the text with what
 -- happened and with its tokens; or the first fault.

@@ -1,93 +1,25 @@
-// Include lines (6.10.2): the name, and the file.
-ghost use Rattle.std.specs.Prelude.{◌≡◌, ◌&&◌, true, IsTrue, IfOk, IfErr, IfSome, IsSome, OnOk};
+// Include lines (6.10.2): the file.
+ghost use Rattle.std.specs.Prelude.{◌≡◌, true, IfOk, IfSome, IsSome};
 ghost use Rattle.std.specs.List.{list_all};
-ghost use Rattle.cs_base.specs.Answer.{Gives};
-ghost use Rattle.macro_expand.specs.Sound.{is_traced, is_low};
 ghost use Rattle.cs_base.specs.Outside.{ReadsOnly};
-ghost use Rattle.include_tree.specs.Files.{Source, Table};
-ghost use Rattle.include_tree.specs.Faults.{place_in};
-ghost use Rattle.include_tree.specs.State.{State};
-ghost use Rattle.include_tree.specs.Search.{can_be_asked, candidates_of, search};
-ghost use Rattle.include_tree.specs.Including.{header_or, header_of_toks, computed_header, header_named, open_header};
-ghost use Rattle.include_tree.specs.Answers.{fault_of, IsNoReadFault, reads_of, ReadsOn};
-ghost use Rattle.include_tree.specs.Laws.{AreFound};
-ghost use Rattle.include_tree.specs.Keeping.{kept_after};
-ghost use Rattle.include_tree.specs.SourceTexts.{source_in};
-ghost use Rattle.include_tree.specs.Moments.{state_in, IsAble, GoesOn};
-ghost use Rattle.include_tree.specs.Sources.{source_kept, source_at, unit_context, GivesFile, GivesOpening, opening_found};
+ghost use Rattle.source_files.specs.Files.{Source};
+ghost use Rattle.source_files.specs.Faults.{place_in};
+ghost use Rattle.unit_steps.specs.State.{State};
+ghost use Rattle.source_files.specs.Search.{can_be_asked, candidates_of, search};
+ghost use Rattle.include_tree.specs.Including.{open_header};
+ghost use Rattle.source_files.specs.Answers.{reads_of, ReadsOn};
+ghost use Rattle.source_files.specs.Tables.{AreFound};
+ghost use Rattle.source_files.specs.Sources.{source_kept, source_at, GivesOpening, opening_found};
+ghost use Rattle.include_tree.specs.GivenFiles.{unit_context, GivesFile};
 
-use crate::cache::Cache;
-use crate::candidates::candidates_of;
-use crate::header::{Header, header_in, header_of_toks, is_header};
 use crate::item_toks::source_of;
-use crate::kept_file::KeptFile;
-use crate::opening::open_file;
-use crate::pre_fault::{PreFault, fault_there};
-use crate::progress::Progress;
-use crate::searching::search;
-use crate::source_text::SourceText;
 use cs_base::{Cause, Files, Memory, Place, Pos, Text, Tok};
+use source_files::{
+    Cache, Header, KeptFile, PreFault, candidates_of, fault_there, header_in, header_of_toks,
+    is_header, open_file, search,
+};
 use std::alloc::Global;
-
-impl Progress {
-    /// The header that an include line whose `#` is there names, given by the tokens behind its word.
-    pub(crate) fn header_named(
-        &mut self,
-        file: &SourceText,
-        at: Pos,
-        toks: &[Tok],
-    ) -> Result<Header, PreFault>
-        requires sound { IsTrue (list_all (λ t. is_traced t && is_low t) toks.now) }
-        requires able { IsAble self.old }
-        ensures goes_on { GoesOn self.old self.new result }
-        ensures no_read { IfErr result IsNoReadFault }
-        ensures answer { (table : Table) → Gives (λ h. (h, state_in table self.new, self.new.text)) fault_of result (kept_after self.old.text (header_named (source_in file.now) at toks.now (state_in table self.old))) }
-    {
-        match toks {
-            [] => Err(file.fault(self.alloc, at, Cause::BadDirective)),
-            [first, ..] => {
-                if is_header(first) {
-                    Ok(header_in(self.alloc, first.text())?)
-                } else {
-                    self.computed_header(file, at, toks)
-                }
-            }
-        }
-    }
-
-    // The header of a line that is expanded.
-    fn computed_header(
-        &mut self,
-        file: &SourceText,
-        at: Pos,
-        toks: &[Tok],
-    ) -> Result<Header, PreFault>
-        requires sound { IsTrue (list_all (λ t. is_traced t && is_low t) toks.now) }
-        requires able { IsAble self.old }
-        ensures goes_on { GoesOn self.old self.new result }
-        ensures no_read { IfErr result IsNoReadFault }
-        ensures answer { (table : Table) → Gives (λ h. (h, state_in table self.new, self.new.text)) fault_of result (kept_after self.old.text (computed_header (source_in file.now) at toks.now (state_in table self.old))) }
-    {
-        let out = self.expanded(file, false, toks)?;
-        self.header_or(file, at, &out)
-    }
-
-    // The header of the tokens that it is expanded to.
-    fn header_or(&mut self, file: &SourceText, at: Pos, out: &[Tok]) -> Result<Header, PreFault>
-        requires able { IsAble self.old }
-        ensures goes_on { GoesOn self.old self.new result }
-        ensures no_read { IfErr result IsNoReadFault }
-        ensures answer { (table : Table) → Gives (λ h. (h, state_in table self.new, self.new.text)) fault_of result (kept_after self.old.text (header_or (source_in file.now) at out.now (state_in table self.old) (header_of_toks out.now))) }
-    {
-        match header_of_toks(self.alloc, out)? {
-            None => Err(file.fault(self.alloc, at, Cause::BadDirective)),
-            Some(header) => {
-                self.text.note_named(out)?;
-                Ok(header)
-            }
-        }
-    }
-}
+use unit_steps::{Progress, SourceText};
 
 // What an include line asks for: the paths, and where a fault of opening one of them stands.
 #[derive(Drop)]

@@ -1,35 +1,33 @@
 // The items of a file, one at a time: what each gives beside the files that it includes (6.10).
-ghost use Rattle.std.specs.Prelude.{◌≡◌, ◌&&◌, IsTrue, IfErr, OnOk, Some};
+ghost use Rattle.std.specs.Prelude.{◌≡◌, ◌&&◌, IsTrue, IfErr, Some};
 ghost use Rattle.std.specs.List.{list_all};
 ghost use Rattle.line_shape.specs.declared.items.ItemKind.TheVariants.{Define};
 ghost use Rattle.line_shape.specs.Items.{line_kind};
-ghost use Rattle.macro_expand.specs.declared.definitions.Definition.{Definition as Macro};
-ghost use Rattle.macro_expand.specs.Defining.{defined_by};
-ghost use Rattle.macro_expand.specs.Sound.{is_traced, is_low};
-ghost use Rattle.include_tree.specs.Files.{Table};
-ghost use Rattle.include_tree.specs.State.{Context};
+ghost use Rattle.macro_body.specs.declared.definitions.Definition.{Definition as Macro};
+ghost use Rattle.macro_body.specs.Defining.{defined_by};
+ghost use Rattle.macro_body.specs.Sound.{is_traced, is_low};
+ghost use Rattle.source_files.specs.Files.{Table};
+ghost use Rattle.unit_steps.specs.State.{Context};
 ghost use Rattle.include_tree.specs.Sections.{Stays};
-ghost use Rattle.include_tree.specs.Expanding.{most_toks};
+ghost use Rattle.unit_steps.specs.Expanding.{most_toks};
 ghost use Rattle.include_tree.specs.Including.{Inner};
 ghost use Rattle.include_tree.specs.Walk.{processed, turned, item_step};
-ghost use Rattle.include_tree.specs.Answers.{IsNoReadFault};
-ghost use Rattle.include_tree.specs.Keeping.{put_after};
-ghost use Rattle.include_tree.specs.SourceTexts.{source_in};
+ghost use Rattle.source_files.specs.Answers.{IsNoReadFault};
+ghost use Rattle.unit_steps.specs.Keeping.{put_after};
+ghost use Rattle.unit_steps.specs.SourceTexts.{source_in};
 ghost use Rattle.include_tree.specs.ItemTexts.{item_in};
-ghost use Rattle.include_tree.specs.Moments.{state_in, IsAble, GoesOn};
+ghost use Rattle.unit_steps.specs.Moments.{state_in, IsAble, GoesOn};
 ghost use Rattle.include_tree.specs.Walking.{stepped_after, GivesLine, GivesItem};
 
-use crate::header::Header;
 use crate::item_toks::ItemToks;
-use crate::pre_fault::PreFault;
-use crate::progress::Progress;
 use crate::section_lines::{
-    SectionLine, behind_word, elif_line, else_line, endif_line, open_section, section_line,
+    SectionLine, elif_line, else_line, endif_line, open_section, section_line,
 };
 use crate::sections::Sections;
-use crate::source_text::SourceText;
 use cs_base::{Cause, Pos};
 use line_shape::ItemKind;
+use source_files::{Header, PreFault};
+use unit_steps::{Progress, SourceText, behind_word};
 
 /// An include line in a processed group: where its `#` stands, and the header that it names.
 #[derive(Drop)]

@@ -4,18 +4,18 @@ ghost use Rattle.std.specs.List.{list_all};
 ghost use Rattle.std.specs.Option.{option_map};
 ghost use Rattle.line_shape.specs.declared.items.ItemKind.TheVariants.{Define};
 ghost use Rattle.line_shape.specs.Items.{line_kind};
-ghost use Rattle.macro_expand.specs.declared.definitions.Definition.{Definition as Macro};
-ghost use Rattle.macro_expand.specs.Defining.{defined_by};
-ghost use Rattle.macro_expand.specs.Sound.{is_traced, is_low};
-ghost use Rattle.include_tree.specs.Sources.{source_kept};
-ghost use Rattle.include_tree.specs.SourceTexts.{source_in};
+ghost use Rattle.macro_body.specs.declared.definitions.Definition.{Definition as Macro};
+ghost use Rattle.macro_body.specs.Defining.{defined_by};
+ghost use Rattle.macro_body.specs.Sound.{is_traced, is_low};
+ghost use Rattle.source_files.specs.Sources.{source_kept};
+ghost use Rattle.unit_steps.specs.SourceTexts.{source_in};
 ghost use Rattle.include_tree.specs.ItemTexts.{item_in};
 ghost use Rattle.include_tree.specs.Walk.{items_in};
 
-use crate::kept_file::KeptFile;
-use crate::source_text::SourceText;
 use cs_base::{Pos, Tok};
 use line_shape::{Item, ItemKind};
+use source_files::KeptFile;
+use unit_steps::SourceText;
 
 /// An item of a file: its kind, the position of its first token, and its tokens.
 #[derive(Clone, Copy)]

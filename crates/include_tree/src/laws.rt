@@ -1,5 +1,6 @@
 // What is true of all units: laws that no caller runs, and that callers' proofs cite.
-ghost use Rattle.include_tree.specs.Laws.{EarlierFound, SomeAgrees, FilesLead, UnitsEnd, DepthIsALimit};
+ghost use Rattle.include_tree.specs.Laws.{FilesLead, UnitsEnd, DepthIsALimit};
+ghost use Rattle.source_files.specs.Tables.{EarlierFound, SomeAgrees};
 ghost use Rattle.include_tree.specs.PseudoFiles.{OthersStay};
 
 /// Tokens that are put out are counted, and stay within the limits; work never rises; and the table of

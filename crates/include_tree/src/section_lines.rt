@@ -1,28 +1,26 @@
 // Lines that open if-sections, go on to further groups and end them (6.10.1 paragraph 6).
-ghost use Rattle.std.specs.Prelude.{◌≡◌, false, ◌∷◌, [], ◌&&◌, List, IsTrue, IfOk, IfErr, OnOk, drop};
+ghost use Rattle.std.specs.Prelude.{◌≡◌, false, ◌∷◌, [], ◌&&◌, List, IsTrue, IfOk, IfErr};
 ghost use Rattle.std.specs.List.{list_all};
 ghost use Rattle.cs_base.specs.Answer.{Gives};
-ghost use Rattle.macro_expand.specs.Sound.{is_traced, is_low};
-ghost use Rattle.include_tree.specs.Files.{Table};
-ghost use Rattle.include_tree.specs.State.{only};
+ghost use Rattle.macro_body.specs.Sound.{is_traced, is_low};
+ghost use Rattle.source_files.specs.Files.{Table};
+ghost use Rattle.unit_steps.specs.State.{only};
 ghost use Rattle.include_tree.specs.Sections.{Section, section, Awaited, turn_of, turn_of_bad};
-ghost use Rattle.include_tree.specs.Directives.{opens_with, is_if};
+ghost use Rattle.unit_steps.specs.Directives.{is_if};
 ghost use Rattle.include_tree.specs.Walk.{stepped, opens, goes_on, reaching_alive};
-ghost use Rattle.include_tree.specs.Answers.{fault_of, IsNoReadFault};
-ghost use Rattle.include_tree.specs.Keeping.{kept_after};
-ghost use Rattle.include_tree.specs.SourceTexts.{source_in};
+ghost use Rattle.source_files.specs.Answers.{fault_of, IsNoReadFault};
+ghost use Rattle.unit_steps.specs.SourceTexts.{source_in};
 ghost use Rattle.include_tree.specs.ItemTexts.{item_in};
-ghost use Rattle.include_tree.specs.Moments.{state_in, IsAble, GoesOn};
+ghost use Rattle.unit_steps.specs.Moments.{state_in, IsAble, GoesOn};
 ghost use Rattle.include_tree.specs.OpenSections.{group_of, turn_in};
 ghost use Rattle.include_tree.specs.Walking.{stepped_after, elif_of, else_of, endif_of};
 
 use crate::item_toks::ItemToks;
-use crate::pre_fault::PreFault;
-use crate::progress::Progress;
 use crate::sections::{Group, OpenSection, Sections, group_if, group_of_else, is_alive};
-use crate::source_text::SourceText;
 use cs_base::{Cause, Memory, Tok};
 use line_shape::ItemKind;
+use source_files::PreFault;
+use unit_steps::{Progress, SourceText, behind_word};
 
 /// What a line does to the sections: it opens one, goes on to the next group or to the last one, or ends it;
 /// any other item leaves them.
@@ -71,34 +69,6 @@ fn is_if(kind: ItemKind) -> bool
     }
 }
 
-// The tokens behind the `#` and the word of a line.
-pub(crate) fn behind_word(toks: &[Tok]) -> &[Tok]
-    ensures { result.now ≡ drop 2 toks.now }
-{
-    if toks.len() < 2 {
-        return &toks[toks.len()..];
-    }
-    &toks[2..]
-}
-
-impl Progress {
-    // Whether the first group of a section is processed, by the line that opens it.
-    fn opens_with(&mut self, file: &SourceText, item: &ItemToks) -> Result<bool, PreFault>
-        requires sound { IsTrue (list_all (λ t. is_traced t && is_low t) item.now.toks.now) }
-        requires able { IsAble self.old }
-        ensures goes_on { GoesOn self.old self.new result }
-        ensures no_read { IfErr result IsNoReadFault }
-        ensures answer { (table : Table) → Gives (λ b. (b, state_in table self.new, self.new.text)) fault_of result (kept_after self.old.text (opens_with item.now.kind (source_in file.now) item.now.at item.now.toks.now (state_in table self.old))) }
-    {
-        match item.kind {
-            ItemKind::If => self.holds(file, item.at, behind_word(item.toks)),
-            ItemKind::Ifdef => self.asks_name(file, item.at, false, item.toks),
-            ItemKind::Ifndef => self.asks_name(file, item.at, true, item.toks),
-            _ => Err(file.fault(self.alloc, item.at, Cause::BadDirective)),
-        }
-    }
-}
-
 /// A line that opens a section, which is item number `k` of the file.
 pub(crate) fn open_section(
     p: &mut Progress,
@@ -118,7 +88,7 @@ pub(crate) fn open_section(
         return Ok(());
     }
     p.reach(file.number, k, is_if(item.kind))?;
-    match p.opens_with(file, item) {
+    match p.opens_with(file, item.kind, item.at, item.toks) {
         Ok(holds) => {
             sections.push(OpenSection::new(item.at, group_if(holds), false))?;
             Ok(())

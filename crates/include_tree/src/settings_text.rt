@@ -2,7 +2,7 @@
 ghost use Rattle.std.specs.Prelude.{◌≡◌, ◌++◌, IfOk};
 ghost use Rattle.std.specs.List.{flat_map};
 ghost use Rattle.cs_base.specs.Units.{fixed_lines, ended_line, setting_line, defines_text};
-ghost use Rattle.include_tree.specs.Files.{defines_path};
+ghost use Rattle.source_files.specs.Files.{defines_path};
 
 use cs_base::{Memory, Setting};
 use std::alloc::Global;

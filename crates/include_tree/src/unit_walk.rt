@@ -1,32 +1,30 @@
 // A unit, preprocessed (5.1.1.2 phase 4).
-ghost use Rattle.std.specs.Prelude.{◌≡◌, None, true, IfOk, IfErr, IfSome, IsSome, OnOk, OnErr};
+ghost use Rattle.std.specs.Prelude.{◌≡◌, None, true, IfOk, IfErr, IsSome, OnErr};
 ghost use Rattle.cs_base.specs.Answer.{Gives};
 ghost use Rattle.cs_base.specs.Units.{defines_text};
 ghost use Rattle.part_lexer.specs.FileText.{file_text};
 ghost use Rattle.cs_base.specs.Outside.{ReadsOnly};
-ghost use Rattle.include_tree.specs.Limits.{the_limits};
-ghost use Rattle.include_tree.specs.Files.{Source, Made, defines_path, found_at, numbered, asked};
-ghost use Rattle.include_tree.specs.Faults.{first_place};
-ghost use Rattle.include_tree.specs.Search.{can_be_asked};
-ghost use Rattle.include_tree.specs.Opening.{opening};
+ghost use Rattle.source_files.specs.Limits.{the_limits};
+ghost use Rattle.source_files.specs.Files.{Source, Made, defines_path, found_at, numbered, asked};
+ghost use Rattle.source_files.specs.Faults.{first_place};
+ghost use Rattle.source_files.specs.Search.{can_be_asked};
+ghost use Rattle.source_files.specs.Opening.{opening};
 ghost use Rattle.include_tree.specs.Unit.{outer_file, main_file};
-ghost use Rattle.include_tree.specs.Laws.{AreFound, IsGrown, StaysHeld};
-ghost use Rattle.include_tree.specs.Texts.{preprocessed};
-ghost use Rattle.include_tree.specs.Keeping.{put_after};
-ghost use Rattle.include_tree.specs.Moments.{state_in, GoesOn, IsReady};
-ghost use Rattle.include_tree.specs.Sources.{source_at, unit_context, unit_most, GivesOpening};
-ghost use Rattle.include_tree.specs.Answers.{fault_of, with_text, IsNoReadFault, reads_of, ReadsOn, Keeps};
+ghost use Rattle.source_files.specs.Tables.{AreFound, IsGrown, StaysHeld};
+ghost use Rattle.include_tree.specs.Preprocessed.{preprocessed};
+ghost use Rattle.unit_steps.specs.Keeping.{put_after};
+ghost use Rattle.unit_steps.specs.Moments.{state_in, GoesOn, IsReady};
+ghost use Rattle.source_files.specs.Sources.{source_at, unit_most, GivesOpening};
+ghost use Rattle.include_tree.specs.GivenFiles.{unit_context};
+ghost use Rattle.source_files.specs.Answers.{fault_of, IsNoReadFault, reads_of, ReadsOn, Keeps};
+ghost use Rattle.include_tree.specs.Preprocessed.{with_text};
 
-use crate::cache::Cache;
-use crate::opening::{first_place, open_file};
-use crate::pre_fault::PreFault;
-use crate::progress::Progress;
-use crate::searching::ask_bytes;
 use crate::settings_text::{defines_path, defines_text};
-use crate::unit_text::UnitText;
 use crate::walking::walk_file;
 use cs_base::{Files, Unit};
+use source_files::{Cache, PreFault, ask_bytes, first_place, open_file};
 use std::alloc::Global;
+use unit_steps::{Progress, UnitText};
 
 // So many more files may be open inside the pseudo file, and inside that of the unit.
 const MOST_INSIDE: u32 = 199;

@@ -1,32 +1,30 @@
 // The walk over the items of a file and of those that it includes (6.10).
-ghost use Rattle.std.specs.Prelude.{◌≡◌, ◌-◌, IfOk, IfErr, IfSome, IsSome, OnOk, length, slice_get};
+ghost use Rattle.std.specs.Prelude.{◌≡◌, ◌-◌, IfOk, IfErr, IfSome, IsSome, length, slice_get};
 ghost use Rattle.cs_base.specs.Answer.{Gives};
 ghost use Rattle.cs_base.specs.Outside.{ReadsOnly};
-ghost use Rattle.include_tree.specs.Files.{Source};
-ghost use Rattle.include_tree.specs.Faults.{fault_at};
-ghost use Rattle.include_tree.specs.State.{Context, State};
-ghost use Rattle.include_tree.specs.Expanding.{most_toks};
+ghost use Rattle.source_files.specs.Files.{Source};
+ghost use Rattle.source_files.specs.Faults.{fault_at};
+ghost use Rattle.unit_steps.specs.State.{Context, State};
+ghost use Rattle.unit_steps.specs.Expanding.{most_toks};
 ghost use Rattle.include_tree.specs.Including.{Inner, entered, included};
 ghost use Rattle.include_tree.specs.Walk.{items_in, item_step, file_end, file_items};
-ghost use Rattle.include_tree.specs.Texts.{UnitTextValue};
-ghost use Rattle.include_tree.specs.Answers.{fault_of, IsNoReadFault, reads_of, ReadsOn};
-ghost use Rattle.include_tree.specs.Laws.{AreFound};
-ghost use Rattle.include_tree.specs.Keeping.{put_after};
-ghost use Rattle.include_tree.specs.Moments.{state_in, IsAble, GoesOn, IsReady};
-ghost use Rattle.include_tree.specs.Sources.{source_kept, source_at, unit_context, unit_most};
+ghost use Rattle.unit_steps.specs.Texts.{UnitTextValue};
+ghost use Rattle.source_files.specs.Answers.{fault_of, IsNoReadFault, reads_of, ReadsOn};
+ghost use Rattle.source_files.specs.Tables.{AreFound};
+ghost use Rattle.unit_steps.specs.Keeping.{put_after};
+ghost use Rattle.unit_steps.specs.Moments.{state_in, IsAble, GoesOn, IsReady};
+ghost use Rattle.source_files.specs.Sources.{source_kept, source_at, unit_most};
+ghost use Rattle.include_tree.specs.GivenFiles.{unit_context};
 ghost use Rattle.include_tree.specs.Walking.{stepped_after, inner_in, GivesItem};
 
-use crate::cache::Cache;
-use crate::header::Header;
 use crate::including::open_header;
 use crate::item_steps::{IncludeLine, item_step};
 use crate::item_toks::{item_at, source_of};
-use crate::kept_file::KeptFile;
-use crate::pre_fault::PreFault;
-use crate::progress::Progress;
 use crate::sections::Sections;
 use cs_base::{Cause, Files, Memory, Pos, Text};
+use source_files::{Cache, Header, KeptFile, PreFault};
 use std::alloc::Global;
+use unit_steps::Progress;
 
 // The kept file with this number.
 fn kept_file(cache: &Cache, number: u32) -> &KeptFile

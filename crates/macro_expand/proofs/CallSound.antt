@@ -6,18 +6,18 @@ use Rattle.std.proofs.lemmas.List.Folds.{list_all-append}
 use Rattle.std.proofs.lemmas.Option.{none-some, same_Some}
 use Rattle.cs_base.specs.Answer.{Gives}
 use Rattle.macro_expand.specs.declared.calls.CallToks.{CallToks}
-use Rattle.macro_expand.specs.declared.definitions.Definition.{Definition}
-use Rattle.macro_expand.specs.declared.fault.ExpandFault.{ExpandFault}
-use Rattle.macro_expand.specs.Hides.{Hidden}
-use Rattle.macro_expand.specs.Macro.{arity}
+use Rattle.macro_body.specs.declared.definitions.Definition.{Definition}
+use Rattle.macro_body.specs.declared.fault.ExpandFault.{ExpandFault}
+use Rattle.macro_body.specs.Hides.{Hidden}
+use Rattle.macro_body.specs.Macro.{arity}
 use Rattle.macro_expand.specs.Calls.{Call, Role, Closes, Separates, Belongs, CallFrom, role_of, level_after, fewer, onto_first, with_token, with_argument, closed, call_step, call_from, is_blank, completed, arguments_of}
 use Rattle.macro_expand.specs.Following.{call_before}
-use Rattle.macro_expand.specs.Notes.{Fault, WrongArguments}
+use Rattle.macro_body.specs.Notes.{Fault, WrongArguments}
 use Rattle.macro_expand.specs.Expansion.{added_by}
-use Rattle.macro_expand.specs.Faults.{fault_of}
-use Rattle.macro_expand.specs.Sound.{is_sound, all_sound, are_fitting}
+use Rattle.macro_body.specs.Faults.{fault_of}
+use Rattle.macro_body.specs.Sound.{is_sound, all_sound, are_fitting}
 use Rattle.macro_expand.specs.Going.{read_with}
-use Rattle.macro_expand.proofs.ResultLemmas.{ok_same, err_ok}
+use Rattle.macro_body.proofs.ResultLemmas.{ok_same, err_ok}
 use Rattle.macro_expand.proofs.CallLemmas.{AllWithin, none, more, option_map_is, cond_has, cond_some, arguments_within}
 
 -- What stands in a call, and what follows it.

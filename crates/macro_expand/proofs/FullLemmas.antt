@@ -4,18 +4,18 @@ use Rattle.std.proofs.lemmas.List.{drop_more}
 use Rattle.std.proofs.lemmas.Option.{none-some, same_Some}
 use Rattle.cs_base.specs.Answer.{Gives}
 use Rattle.cs_base.specs.Token.{Token}
-use Rattle.macro_expand.specs.declared.definitions.Definition.{Definition}
-use Rattle.macro_expand.specs.declared.fault.ExpandFault.{ExpandFault}
-use Rattle.macro_expand.specs.Hides.{Hidden}
-use Rattle.macro_expand.specs.Bodies.{Part, chains_of, occurs_alone}
-use Rattle.macro_expand.specs.Notes.{Fault, TooMuchWork, Expanded, expanded, noted, onward}
-use Rattle.macro_expand.specs.Substitution.{Arguments, Made, cost_of, result_of}
+use Rattle.macro_body.specs.declared.definitions.Definition.{Definition}
+use Rattle.macro_body.specs.declared.fault.ExpandFault.{ExpandFault}
+use Rattle.macro_body.specs.Hides.{Hidden}
+use Rattle.macro_body.specs.Bodies.{Part, chains_of, occurs_alone}
+use Rattle.macro_body.specs.Notes.{Fault, TooMuchWork, Expanded, expanded, noted, onward}
+use Rattle.macro_body.specs.Substitution.{Arguments, Made, cost_of, result_of}
 use Rattle.macro_expand.specs.Expansion.{Next, Full, with_full, full_step, full_from, spent, substituted}
-use Rattle.macro_expand.specs.Kept.{Kept, kept_with, made_kept, finished}
-use Rattle.macro_expand.specs.Faults.{fault_of}
+use Rattle.macro_body.specs.Kept.{Kept, kept_with, made_kept, finished}
+use Rattle.macro_body.specs.Faults.{fault_of}
 use Rattle.macro_expand.specs.Going.{full_of, all_full}
-use Rattle.macro_expand.proofs.ResultLemmas.{ok_same, err_ok}
-use Rattle.macro_expand.proofs.KeptLemmas.{kept_with-append}
+use Rattle.macro_body.proofs.ResultLemmas.{ok_same, err_ok}
+use Rattle.macro_body.proofs.KeptLemmas.{kept_with-append}
 use Rattle.macro_expand.proofs.GoingLemmas.{Ending, ok_err, fault_more, finished-noted}
 
 -- what arguments come to

@@ -3,18 +3,18 @@ use Rattle.std.proofs.Common.{◌≡◌, ℕ, Bool, true, false, cond, List, [],
 use Rattle.std.specs.Option.{IfSome}
 use Rattle.std.proofs.lemmas.List.{append-nil}
 use Rattle.cs_base.specs.Token.{Token}
-use Rattle.macro_expand.specs.declared.definitions.Definition.{Definition}
+use Rattle.macro_body.specs.declared.definitions.Definition.{Definition}
 use Rattle.line_shape.specs.Signs.{is_open}
-use Rattle.macro_expand.specs.Hides.{Hidden, hide_more}
-use Rattle.macro_expand.specs.Macro.{is_function}
+use Rattle.macro_body.specs.Hides.{Hidden, hide_more}
+use Rattle.macro_body.specs.Macro.{is_function}
 use Rattle.macro_expand.specs.Calls.{Call, call_from, commas_of, arguments_of}
-use Rattle.macro_expand.specs.Notes.{Fault, Note, Expanded, expanded, put_out, noted, onward}
+use Rattle.macro_body.specs.Notes.{Fault, Note, Expanded, expanded, put_out, noted, onward}
 use Rattle.macro_expand.specs.Expansion.{Setting, Next, stays, put_for, first_notes, replaced, called, called_with, behind_name, act, macro_of, whole}
 use Rattle.macro_expand.specs.Laws.{begins_open}
-use Rattle.macro_expand.specs.Kept.{Kept, kept_with, finished}
+use Rattle.macro_body.specs.Kept.{Kept, kept_with, finished}
 use Rattle.macro_expand.specs.Going.{brought, read_with, read_from}
-use Rattle.macro_expand.proofs.ResultLemmas.{ok_same, err_ok}
-use Rattle.macro_expand.proofs.KeptLemmas.{kept_with-append, kept_with-nil}
+use Rattle.macro_body.proofs.ResultLemmas.{ok_same, err_ok}
+use Rattle.macro_body.proofs.KeptLemmas.{kept_with-append, kept_with-nil}
 use Rattle.macro_expand.proofs.WholeLemmas.{whole_is_step}
 
 -- what an expansion comes to

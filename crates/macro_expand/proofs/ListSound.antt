@@ -6,9 +6,9 @@ use Rattle.std.proofs.lemmas.Bool.{and_parts, and_from, ltb-true, lt-ltb}
 use Rattle.std.proofs.lemmas.List.{length-map}
 use Rattle.std.proofs.lemmas.List.Folds.{list_all-append, list_all-map}
 use Rattle.cs_base.specs.Token.{Token}
-use Rattle.macro_expand.specs.Hides.{Hidden, hidden, hide_more, unhidden, toks_of}
+use Rattle.macro_body.specs.Hides.{Hidden, hidden, hide_more, unhidden, toks_of}
 use Rattle.macro_expand.specs.Expansion.{one_more}
-use Rattle.macro_expand.specs.Sound.{is_traced, is_low, is_sound, all_sound, is_argument, are_fitting}
+use Rattle.macro_body.specs.Sound.{is_traced, is_low, is_sound, all_sound, is_argument, are_fitting}
 use Rattle.macro_expand.specs.Going.{before_behind}
 
 -- two lists, one behind the other

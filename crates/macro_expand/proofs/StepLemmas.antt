@@ -3,19 +3,19 @@ use Rattle.std.proofs.Common.{◌≡◌, ℕ, suc, ◌+◌, ◌-◌, ◌<◌, �
 use Rattle.std.proofs.lemmas.List.{length-map}
 use Rattle.std.proofs.lemmas.Bool.{ltb-false}
 use Rattle.cs_base.specs.Token.{Token}
-use Rattle.macro_expand.specs.declared.definitions.Form.{Form}
-use Rattle.macro_expand.specs.declared.definitions.Form.TheVariants as form
-use Rattle.macro_expand.specs.declared.definitions.Definition.{Definition}
+use Rattle.macro_body.specs.declared.definitions.Form.{Form}
+use Rattle.macro_body.specs.declared.definitions.Form.TheVariants as form
+use Rattle.macro_body.specs.declared.definitions.Definition.{Definition}
 use Rattle.line_shape.specs.Signs.{is_open}
-use Rattle.macro_expand.specs.Hides.{Hidden, hidden, hide_more}
-use Rattle.macro_expand.specs.Macro.{is_function}
-use Rattle.macro_expand.specs.Bodies.{Part, chains_of, occurs_alone}
+use Rattle.macro_body.specs.Hides.{Hidden, hidden, hide_more}
+use Rattle.macro_body.specs.Macro.{is_function}
+use Rattle.macro_body.specs.Bodies.{Part, chains_of, occurs_alone}
 use Rattle.macro_expand.specs.Calls.{Call, call_from, commas_of, arguments_of}
-use Rattle.macro_expand.specs.Notes.{Fault, OpenCall, WrongArguments, TooMuchWork, TooDeep, Expanded, expanded, put_out, noted, onward}
-use Rattle.macro_expand.specs.Substitution.{Made, made, cost_of, result_of, line_number, path_string}
+use Rattle.macro_body.specs.Notes.{Fault, OpenCall, WrongArguments, TooMuchWork, TooDeep, Expanded, expanded, put_out, noted, onward}
+use Rattle.macro_body.specs.Substitution.{Made, made, cost_of, result_of, line_number, path_string}
 use Rattle.macro_expand.specs.Expansion.{Setting, Next, most_depth, one_more, stays, Full, full, with_full, without_full, alone, full_step, full_from, spent, substituted, put_for, first_notes, replaced, added_by, called_with, called, behind_name, act, macro_of, step}
-use Rattle.macro_expand.proofs.ResultLemmas.{ok_same, err_ok, onward_ok, onward_agree, cond_ok, cond_ok_yes}
-use Rattle.macro_expand.proofs.LengthLemmas.{length-result_of}
+use Rattle.macro_body.proofs.ResultLemmas.{ok_same, err_ok, onward_ok, onward_agree, cond_ok, cond_ok_yes}
+use Rattle.macro_body.proofs.LengthLemmas.{length-result_of}
 use Rattle.macro_expand.proofs.CallLemmas.{AllWithin, none, more, Shorter, call_shorter, arguments_within}
 
 -- Two expansions agree, and the work only falls.

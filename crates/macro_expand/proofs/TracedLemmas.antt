@@ -18,10 +18,10 @@ use Rattle.line_shape.specs.declared.items.ItemKind.TheVariants.{Run, Define}
 use Rattle.line_shape.specs.Directives.{is_run}
 use Rattle.line_shape.specs.Items.{onto_lines, lines_of, line_kind, Piece, piece, onto_pieces, pieces_of, item_of, items_from, items_of, Follow}
 use Rattle.line_shape.proofs.CoverLemmas.{Follow-within}
-use Rattle.macro_expand.specs.declared.definitions.Definition.{Definition}
-use Rattle.macro_expand.specs.Macro.{Table}
-use Rattle.macro_expand.specs.Live.{no_macro, with_macro, without_macro}
-use Rattle.macro_expand.specs.Sound.{is_traced, is_low, AllTraced}
+use Rattle.macro_body.specs.declared.definitions.Definition.{Definition}
+use Rattle.macro_body.specs.Macro.{Table}
+use Rattle.macro_body.specs.Live.{no_macro, with_macro, without_macro}
+use Rattle.macro_body.specs.Sound.{is_traced, is_low, AllTraced}
 use Rattle.macro_expand.proofs.CallLemmas.{cond_has}
 
 -- ---- tokens

@@ -3,20 +3,20 @@ use Rattle.std.proofs.Common.{◌≡◌, ℕ, true, false, List, [], ◌∷◌, 
 use Rattle.std.proofs.lemmas.Bool.{false≢true}
 use Rattle.std.proofs.lemmas.Option.{none-some}
 use Rattle.cs_base.specs.Token.{Token}
-use Rattle.macro_expand.specs.declared.definitions.Definition.{Definition}
-use Rattle.macro_expand.specs.declared.fault.ExpandFault.{ExpandFault}
+use Rattle.macro_body.specs.declared.definitions.Definition.{Definition}
+use Rattle.macro_body.specs.declared.fault.ExpandFault.{ExpandFault}
 use Rattle.line_shape.specs.Signs.{is_open}
-use Rattle.macro_expand.specs.Hides.{Hidden, hide_more, unhidden, toks_of}
-use Rattle.macro_expand.specs.Macro.{Table, is_function}
+use Rattle.macro_body.specs.Hides.{Hidden, hide_more, unhidden, toks_of}
+use Rattle.macro_body.specs.Macro.{Table, is_function}
 use Rattle.macro_expand.specs.Calls.{call_from, commas_of}
 use Rattle.macro_expand.specs.Following.{IsTaken}
-use Rattle.macro_expand.specs.Notes.{Fault, Expanded, onward}
+use Rattle.macro_body.specs.Notes.{Fault, Expanded, onward}
 use Rattle.macro_expand.specs.Expansion.{Setting, one_more, replaced, macro_of, whole, expansion}
 use Rattle.macro_expand.specs.Laws.{begins_open}
-use Rattle.macro_expand.specs.Kept.{Kept, kept_with, finished, expanded_kept}
-use Rattle.macro_expand.specs.Faults.{fault_of}
+use Rattle.macro_body.specs.Kept.{Kept, kept_with, finished, expanded_kept}
+use Rattle.macro_body.specs.Faults.{fault_of}
 use Rattle.macro_expand.specs.Going.{before_behind, brought, read_from}
-use Rattle.macro_expand.proofs.ResultLemmas.{ok_same, err_ok}
+use Rattle.macro_body.proofs.ResultLemmas.{ok_same, err_ok}
 use Rattle.macro_expand.proofs.GoingLemmas.{Ending, ok_err, fault_more, finished-stays, finished_turn, finished_fault, finished_end, finished-replaced, replaced_fault, whole-nothing, whole-stays, whole-object, whole-alone, whole-call}
 use Rattle.std.specs.Option.{IfSome}
 

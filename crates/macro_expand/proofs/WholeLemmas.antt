@@ -1,7 +1,7 @@
 -- The whole expansion is one step of itself, and nothing else is.
 use Rattle.std.proofs.Common.{refl, ◌≡◌, ℕ, zero, suc, ◌+◌, ◌<◌, ◌≤◌, List, length, Ok, sym, ◌∙◌, arith}
-use Rattle.macro_expand.specs.Hides.{Hidden}
-use Rattle.macro_expand.specs.Notes.{Expanded}
+use Rattle.macro_body.specs.Hides.{Hidden}
+use Rattle.macro_body.specs.Notes.{Expanded}
 use Rattle.macro_expand.specs.Expansion.{Setting, Next, step, steps, whole}
 use Rattle.macro_expand.proofs.StepLemmas.{Same, Below, step_below}
 

@@ -2,10 +2,10 @@
 use Rattle.std.specs.Prelude.{ℕ, zero, suc, ◌+◌, ◌-◌, ◌&&◌, ◌==◌, Bool, true, false, if◌then◌else◌, List, [], ◌∷◌, ◌++◌, length, Option, Some, None}
 use Rattle.std.specs.Option.{option_map}
 use Rattle.cs_base.specs.Token.{Token}
-use Rattle.macro_expand.specs.declared.definitions.Definition.{Definition}
+use Rattle.macro_body.specs.declared.definitions.Definition.{Definition}
 use Rattle.line_shape.specs.Signs.{is_open, is_close, is_comma}
-use Rattle.macro_expand.specs.Hides.{Hidden}
-use Rattle.macro_expand.specs.Macro.{arity}
+use Rattle.macro_body.specs.Hides.{Hidden}
+use Rattle.macro_body.specs.Macro.{arity}
 
 -- What stands behind the `(` of a call: the arguments as they stand, the hide set of the `)`, and what
 -- follows it.

@@ -3,16 +3,16 @@
 -- algorithm has them.
 use Rattle.std.specs.Prelude.{ℕ, zero, suc, ◌+◌, ◌-◌, ◌&&◌, Bool, true, false, not, if◌then◌else◌, nat_lt, List, [], ◌∷◌, ◌++◌, length, map, Option, Some, None, Result, Ok, Err}
 use Rattle.cs_base.specs.Token.{Token}
-use Rattle.macro_expand.specs.declared.definitions.Form.{Form}
-use Rattle.macro_expand.specs.declared.definitions.Form.TheVariants as form
-use Rattle.macro_expand.specs.declared.definitions.Definition.{Definition}
+use Rattle.macro_body.specs.declared.definitions.Form.{Form}
+use Rattle.macro_body.specs.declared.definitions.Form.TheVariants as form
+use Rattle.macro_body.specs.declared.definitions.Definition.{Definition}
 use Rattle.line_shape.specs.Signs.{is_name, is_open}
-use Rattle.macro_expand.specs.Hides.{Hidden, hidden, hides_name, in_both, hide_more, unhidden}
-use Rattle.macro_expand.specs.Macro.{Table, is_function}
-use Rattle.macro_expand.specs.Bodies.{Part, chains_of, occurs_alone}
+use Rattle.macro_body.specs.Hides.{Hidden, hidden, hides_name, in_both, hide_more, unhidden}
+use Rattle.macro_body.specs.Macro.{Table, is_function}
+use Rattle.macro_body.specs.Bodies.{Part, chains_of, occurs_alone}
 use Rattle.macro_expand.specs.Calls.{Call, call_from, commas_of, arguments_of}
-use Rattle.macro_expand.specs.Notes.{Fault, OpenCall, WrongArguments, TooMuchWork, TooDeep, Note, Replaced, Linked, Expanded, expanded, put_out, noted, onward}
-use Rattle.macro_expand.specs.Substitution.{Made, made, cost_of, result_of, line_number, path_string}
+use Rattle.macro_body.specs.Notes.{Fault, OpenCall, WrongArguments, TooMuchWork, TooDeep, Note, Replaced, Linked, Expanded, expanded, put_out, noted, onward}
+use Rattle.macro_body.specs.Substitution.{Made, made, cost_of, result_of, line_number, path_string}
 
 -- What stays the same in an expansion: the macros, and the path of the file.
 pub record Setting : Type 0 where

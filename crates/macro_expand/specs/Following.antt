@@ -1,7 +1,7 @@
 -- What follows in an expansion, token by token.
 use Rattle.std.specs.Prelude.{◌≡◌, List, [], ◌∷◌, Option, Some, None}
 use Rattle.macro_expand.specs.declared.calls.CallToks.{CallToks}
-use Rattle.macro_expand.specs.Hides.{Hidden}
+use Rattle.macro_body.specs.Hides.{Hidden}
 use Rattle.macro_expand.specs.declared.calls.CallRole.{CallRole}
 use Rattle.macro_expand.specs.declared.calls.CallRole.TheVariants as role
 use Rattle.macro_expand.specs.Calls.{Call, Role, Closes, Separates, Belongs}

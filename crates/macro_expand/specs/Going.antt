@@ -2,16 +2,16 @@
 -- and spends the work, where the definition gives them together at the end.
 use Rattle.std.specs.Prelude.{◌≡◌, ℕ, ◌-◌, Bool, true, false, if◌then◌else◌, nat_lt, List, [], ◌∷◌, ◌++◌, Option, Some, None, Result, Ok, Err, IfSome}
 use Rattle.cs_base.specs.Token.{Token}
-use Rattle.macro_expand.specs.declared.definitions.Definition.{Definition}
+use Rattle.macro_body.specs.declared.definitions.Definition.{Definition}
 use Rattle.macro_expand.specs.declared.context.Context.{Context}
-use Rattle.macro_expand.specs.declared.fault.ExpandFault.{ExpandFault}
-use Rattle.macro_expand.specs.Hides.{Hidden, hidden}
-use Rattle.macro_expand.specs.Live.{table_of}
+use Rattle.macro_body.specs.declared.fault.ExpandFault.{ExpandFault}
+use Rattle.macro_body.specs.Hides.{Hidden, hidden}
+use Rattle.macro_body.specs.Live.{table_of}
 use Rattle.macro_expand.specs.Calls.{Call, arguments_of}
-use Rattle.macro_expand.specs.Notes.{Fault, OpenCall, WrongArguments, TooMuchWork, Expanded, expanded, noted, onward}
+use Rattle.macro_body.specs.Notes.{Fault, OpenCall, WrongArguments, TooMuchWork, Expanded, expanded, noted, onward}
 use Rattle.macro_expand.specs.Expansion.{Setting, Next, one_more, alone, Full, put_for, first_notes, added_by, whole}
-use Rattle.macro_expand.specs.Kept.{Kept, kept_with}
-use Rattle.macro_expand.specs.Faults.{fault_of}
+use Rattle.macro_body.specs.Kept.{Kept, kept_with}
+use Rattle.macro_body.specs.Faults.{fault_of}
 
 -- what stays the same
 abbrev pub setting_of : Context → Setting

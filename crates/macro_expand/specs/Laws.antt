@@ -1,12 +1,12 @@
 -- What is true of all expansions.
 use Rattle.std.specs.Prelude.{◌≡◌, ℕ, zero, suc, ◌+◌, ◌≤◌, ◌&&◌, Bool, true, false, List, [], ◌∷◌, ◌++◌, length, Option, Some, None, Ok}
 use Rattle.line_shape.specs.Signs.{is_open}
-use Rattle.macro_expand.specs.declared.definitions.Definition.{Definition}
+use Rattle.macro_body.specs.declared.definitions.Definition.{Definition}
 use Rattle.cs_base.specs.Token.{Token}
-use Rattle.macro_expand.specs.Hides.{Hidden}
-use Rattle.macro_expand.specs.Macro.{Table, is_function}
-use Rattle.macro_expand.specs.Notes.{Note, Stringized, Pasted, Expanded, expanded}
-use Rattle.macro_expand.specs.Substitution.{line_number, path_string}
+use Rattle.macro_body.specs.Hides.{Hidden}
+use Rattle.macro_body.specs.Macro.{Table, is_function}
+use Rattle.macro_body.specs.Notes.{Note, Stringized, Pasted, Expanded, expanded}
+use Rattle.macro_body.specs.Substitution.{line_number, path_string}
 use Rattle.macro_expand.specs.Renaming.{Occurring, occurs, AllOccur}
 use Rattle.macro_expand.specs.Expansion.{Setting, Next, macro_of, step, whole}
 

@@ -1,20 +1,7 @@
 -- What the public contracts rest on.
-pub mod Hides
-pub mod Macro
-pub mod Live
-pub mod Defining
-pub mod Bodies
 pub mod Calls
-pub mod Notes
-pub mod Substitution
 pub mod Expansion
 pub mod Renaming
 pub mod Laws
-pub mod Kept
-pub mod Faults
-pub mod Sound
 pub mod Going
 pub mod Following
-pub mod BodyParts
-pub mod Costs
-pub mod Pastable

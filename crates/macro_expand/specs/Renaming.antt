@@ -8,12 +8,12 @@ use Rattle.cs_base.specs.declared.positions.Pos.{Pos}
 use Rattle.cs_base.specs.Token.{Token, token}
 use Rattle.paste_origin.specs.Pasting.{glue_of}
 use Rattle.paste_origin.specs.Strings.{stringize_of}
-use Rattle.macro_expand.specs.declared.definitions.Definition.{Definition}
+use Rattle.macro_body.specs.declared.definitions.Definition.{Definition}
 use Rattle.line_shape.specs.Signs.{is_name, is_identifier, is_punctuator}
-use Rattle.macro_expand.specs.Hides.{Hidden, hidden}
-use Rattle.macro_expand.specs.Macro.{Table, parameter_at}
-use Rattle.macro_expand.specs.Notes.{Note, Replaced, Linked, Stringized, Pasted, Expanded, expanded}
-use Rattle.macro_expand.specs.Substitution.{digit_origins}
+use Rattle.macro_body.specs.Hides.{Hidden, hidden}
+use Rattle.macro_body.specs.Macro.{Table, parameter_at}
+use Rattle.macro_body.specs.Notes.{Note, Replaced, Linked, Stringized, Pasted, Expanded, expanded}
+use Rattle.macro_body.specs.Substitution.{digit_origins}
 use Rattle.macro_expand.specs.Expansion.{expansion}
 
 -- A renaming: the new spelling and the new origins of a token, by the origins of its characters and its

@@ -1,22 +1,18 @@
 // A call of a function-like macro, read behind its `(` (6.10.3 paragraphs 4 and 10 to 12).
 ghost use Rattle.std.specs.Prelude.{◌≡◌, ◌+◌, ◌≤◌, ◌<◌, ◌^◌, ℕ, length, IfOk, OnOk, IsTrue, List};
 ghost use Rattle.cs_base.specs.Answer.{Gives};
-ghost use Rattle.macro_expand.specs.Hides.{Hidden};
+ghost use Rattle.macro_body.specs.Hides.{Hidden};
 ghost use Rattle.macro_expand.specs.Calls.{call_from, commas_of, arguments_of};
 ghost use Rattle.macro_expand.specs.Expansion.{added_by};
-ghost use Rattle.macro_expand.specs.Faults.{fault_of};
+ghost use Rattle.macro_body.specs.Faults.{fault_of};
 ghost use Rattle.macro_expand.specs.Going.{read_with, read_from};
 ghost use Rattle.macro_expand.specs.Laws.{begins_open};
-ghost use Rattle.macro_expand.specs.Sound.{all_sound, are_fitting};
+ghost use Rattle.macro_body.specs.Sound.{all_sound, are_fitting};
 
 use crate::calls::{CallToks, arguments_of, commas_of, take_call};
-use crate::definitions::Definition;
-use crate::fault::ExpandFault;
-use crate::hidden::{HiddenTok, HiddenToks};
-use crate::hide_set::HideSet;
 use crate::rest::Rest;
-use crate::signs::is_open;
 use cs_base::Memory;
+use macro_body::{Definition, ExpandFault, HiddenTok, HiddenToks, HideSet, is_open};
 use std::alloc::Global;
 
 /// The arguments of a call, and the names that are not available to its result.

@@ -1,16 +1,13 @@
 // Calls of function-like macros (6.10.3 paragraphs 4 and 10 to 12).
-ghost use Rattle.std.specs.Prelude.{◌≡◌, ◌+◌, ◌<◌, ◌^◌, map, length, IfOk};
+ghost use Rattle.std.specs.Prelude.{◌≡◌, ◌+◌, ◌<◌, ◌^◌, IfOk};
 ghost use Rattle.std.specs.Option.{option_map};
 ghost use Rattle.macro_expand.specs.Calls.{role_of, level_after, separates, fewer, call_from, commas_of, is_blank, completed, arguments_of};
-ghost use Rattle.macro_expand.specs.Macro.{arity};
+ghost use Rattle.macro_body.specs.Macro.{arity};
 ghost use Rattle.macro_expand.specs.Following.{role_as, call_before};
 
-use crate::definitions::Definition;
-use crate::hidden::HiddenToks;
-use crate::hide_set::HideSet;
 use crate::rest::Rest;
-use crate::signs::{is_close, is_comma, is_open};
 use cs_base::{Memory, Tok};
+use macro_body::{Definition, HiddenToks, HideSet, is_close, is_comma, is_open};
 use std::alloc::Global;
 use std::mem;
 

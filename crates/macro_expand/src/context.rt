@@ -1,14 +1,11 @@
 // What stays the same while a list of tokens is expanded.
 ghost use Rattle.std.specs.Prelude.{◌≡◌, ◌≤◌, ◌<◌, ◌+◌, option_copied, IfSome, IsTrue};
 ghost use Rattle.std.specs.List.{list_all};
-ghost use Rattle.macro_expand.specs.Live.{table_of};
+ghost use Rattle.macro_body.specs.Live.{table_of};
 ghost use Rattle.macro_expand.specs.Expansion.{macro_of};
-ghost use Rattle.macro_expand.specs.Sound.{is_traced, AllTraced};
+ghost use Rattle.macro_body.specs.Sound.{is_traced, AllTraced};
 
-use crate::definitions::Definition;
-use crate::hidden::HiddenTok;
-use crate::signs::is_name;
-use crate::table::Macros;
+use macro_body::{Definition, HiddenTok, Macros, is_name};
 use std::alloc::Global;
 
 /// So many arguments may be expanded inside one another (this project's limit).

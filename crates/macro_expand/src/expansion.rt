@@ -3,27 +3,23 @@
 ghost use Rattle.std.specs.Prelude.{◌≡◌, ◌+◌, ◌≤◌, ◌<◌, ◌^◌, ◌++◌, ◌∷◌, [], ◌&&◌, true, false, length, option_to_list, Some, IfOk, IfSome, OnOk, IsTrue};
 ghost use Rattle.std.specs.List.{list_all};
 ghost use Rattle.cs_base.specs.Answer.{Gives};
-ghost use Rattle.macro_expand.specs.Hides.{toks_of};
-ghost use Rattle.macro_expand.specs.Macro.{is_function};
-ghost use Rattle.macro_expand.specs.Live.{table_of};
+ghost use Rattle.macro_body.specs.Hides.{toks_of};
+ghost use Rattle.macro_body.specs.Macro.{is_function};
+ghost use Rattle.macro_body.specs.Live.{table_of};
 ghost use Rattle.macro_expand.specs.Expansion.{macro_of, expansion};
-ghost use Rattle.macro_expand.specs.Kept.{finished, expanded_kept};
-ghost use Rattle.macro_expand.specs.Faults.{fault_of};
+ghost use Rattle.macro_body.specs.Kept.{finished, expanded_kept};
+ghost use Rattle.macro_body.specs.Faults.{fault_of};
 ghost use Rattle.macro_expand.specs.Laws.{begins_open};
-ghost use Rattle.macro_expand.specs.Sound.{is_traced, is_low, is_sound, all_sound, AllTraced};
+ghost use Rattle.macro_body.specs.Sound.{is_traced, is_low, is_sound, all_sound, AllTraced};
 ghost use Rattle.macro_expand.specs.Going.{setting_of, whole_in, before_behind, GoesOn};
 
 use crate::call_reading::{begins_open, read_call};
 use crate::context::Context;
-use crate::definitions::Definition;
-use crate::fault::ExpandFault;
-use crate::hidden::{HiddenTok, unhidden};
-use crate::hide_set::HideSet;
-use crate::notes::{Notes, Work};
-use crate::parameters::is_function;
 use crate::rest::Rest;
-use crate::table::Macros;
 use cs_base::{Memory, Tok};
+use macro_body::{
+    Definition, ExpandFault, HiddenTok, HideSet, Macros, Notes, Work, is_function, unhidden,
+};
 use std::alloc::Global;
 
 /// Expands the macros of a run (6.10.3): the first name that can be replaced is replaced, and its result

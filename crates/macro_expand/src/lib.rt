@@ -9,39 +9,19 @@
 //! together are below 2^32, and at most 200 arguments are expanded inside one another. What follows is a
 //! stack, so a replacement moves no more than it puts in.
 //!
-//! `Macros` keeps the macros that are defined, a finite map by `specs/Live.antt`; `Definition::of` gives
-//! the definition of a `define` line, by `specs/Defining.antt`, which has the first definitions of
-//! `__LINE__` and `__FILE__` too. Read `specs/Hides.antt`, `specs/Bodies.antt`, `specs/Calls.antt`,
-//! `specs/Substitution.antt` and `specs/Expansion.antt`, then `specs/Renaming.antt`; of the program
-//! `expansion.rt` and `replacing.rt`.
+//! Macros, their definitions and what their bodies become are those of `macro_body`. Read its `specs/Hides.antt`,
+//! `specs/Bodies.antt` and `specs/Substitution.antt`, then `specs/Calls.antt`, `specs/Expansion.antt` and
+//! `specs/Renaming.antt` here; of the program `expansion.rt` and `replacing.rt`.
 #![tactic(auto)]
 
 mod call_reading;
 mod calls;
-mod chains;
 mod context;
-mod costs;
-mod define_line;
-mod definitions;
 mod expansion;
-mod fault;
-mod hidden;
-mod hide_set;
-mod notes;
-mod operands;
-mod parameters;
-mod pasting;
-mod predefined;
 mod replacing;
 mod rest;
-mod shared_tokens;
-mod signs;
-mod substitution;
-mod table;
 
-pub use definitions::{Definition, Form};
 pub use expansion::expand;
-pub use fault::ExpandFault;
-pub use notes::{Notes, Replacement, Work};
-pub use predefined::line_number;
-pub use table::Macros;
+pub use macro_body::{
+    Definition, ExpandFault, Form, Macros, Notes, Replacement, Work, line_number,
+};

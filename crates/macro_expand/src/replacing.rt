@@ -3,22 +3,18 @@ ghost use Rattle.std.specs.Prelude.{◌≡◌, ◌+◌, ◌≤◌, ◌<◌, ◌^
 ghost use Rattle.std.specs.List.{list_all};
 ghost use Rattle.cs_base.specs.Answer.{Gives};
 ghost use Rattle.macro_expand.specs.Expansion.{links_name, first_notes, put_for, substituted, full_from, alone, whole};
-ghost use Rattle.macro_expand.specs.Kept.{kept_with, finished};
-ghost use Rattle.macro_expand.specs.Faults.{fault_of};
-ghost use Rattle.macro_expand.specs.Sound.{is_traced, is_low, all_sound, are_fitting};
+ghost use Rattle.macro_body.specs.Kept.{kept_with, finished};
+ghost use Rattle.macro_body.specs.Faults.{fault_of};
+ghost use Rattle.macro_body.specs.Sound.{is_traced, is_low, all_sound, are_fitting};
 ghost use Rattle.macro_expand.specs.Going.{setting_of, brought, one_spent, full_of, all_full};
 
-use crate::chains::{Chain, chains_of, occurs_alone};
 use crate::context::{Context, DEEPEST};
-use crate::definitions::{Definition, Form};
-use crate::fault::ExpandFault;
-use crate::hidden::{HiddenTok, HiddenToks, only};
-use crate::hide_set::HideSet;
-use crate::notes::{Notes, Work};
-use crate::predefined::{line_number, path_string};
 use crate::rest::Rest;
-use crate::substitution::{result_of, work_left};
 use cs_base::{Memory, Tok};
+use macro_body::{
+    Chain, Definition, ExpandFault, Form, HiddenTok, HiddenToks, HideSet, Notes, Work, chains_of,
+    line_number, occurs_alone, only, path_string, result_of, work_left,
+};
 use std::alloc::Global;
 
 impl<'a> Context<'a> {

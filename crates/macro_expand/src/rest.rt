@@ -1,10 +1,9 @@
 // What follows in an expansion.
 ghost use Rattle.std.specs.Prelude.{◌≡◌, ◌++◌, length, map, reverse, option_copied, IfOk};
-ghost use Rattle.macro_expand.specs.Hides.{hide_more};
+ghost use Rattle.macro_body.specs.Hides.{hide_more};
 
-use crate::hidden::HiddenTok;
-use crate::hide_set::HideSet;
 use cs_base::Memory;
+use macro_body::{HiddenTok, HideSet};
 use std::marker::Model;
 
 /// The tokens that follow in an expansion. The next one is kept at the end, so that a replacement costs
@@ -16,7 +15,7 @@ pub struct Rest {
 
 impl Model for Rest {
     ghost use Rattle.std.specs.Prelude.{List, reverse};
-    ghost use Rattle.macro_expand.specs.Hides.{Hidden};
+    ghost use Rattle.macro_body.specs.Hides.{Hidden};
 
     ghost Value = { List Hidden };
 
@@ -25,7 +24,7 @@ impl Model for Rest {
 
 impl Rest {
     ghost use Rattle.std.specs.Prelude.{List};
-    ghost use Rattle.macro_expand.specs.Hides.{Hidden};
+    ghost use Rattle.macro_body.specs.Hides.{Hidden};
     ghost use Rattle.macro_expand.specs.Following.{first_of, IsTaken};
 
     pub fn new(toks: Vec<HiddenTok>) -> Rest

@@ -10,7 +10,8 @@ use Rattle.part_lexer.specs.Tokens.{file_token}
 use Rattle.part_respell.specs.Respelled.{spelled, spelled_from}
 use Rattle.c99_tree.specs.Tree.{Node, size_of}
 use Rattle.c99_read.specs.Reading.{Stop, read_within, whole, take_one, at_end, enter}
-use Rattle.c99_read.specs.State.{spelled_class, base_class, class_at, acted, opened, closed}
+use Rattle.c99_read.specs.State.{class_at, acted, opened, closed}
+use Rattle.c99_grammar.specs.TokenClasses.{spelled_class, base_class}
 use Rattle.scope_bind.specs.Named.{Fault}
 use Rattle.scope_bind.specs.declared.bound.Name.{Name}
 use Rattle.scope_bind.specs.Bound.{Bound, binding_of}

@@ -2,7 +2,7 @@
 use Rattle.std.proofs.Common.{◌≡◌, List, [], ◌∷◌, map, Result, Ok, Err, refl, subst}
 use Rattle.cs_base.specs.Answer.{result_then}
 use Rattle.macro_expand.specs.Renaming.{Renaming}
-use Rattle.include_tree.specs.Files.{nothing_carried}
+use Rattle.source_files.specs.Files.{nothing_carried}
 use Rattle.ws_core.specs.Analysis.{UnitAnalysis, UnitsValue, AnalysisValue, analysis_and, analysed_from}
 use Rattle.rename_text_laws.specs.Lines.{Each}
 use Rattle.rename_unit_laws.specs.Keeping.{Change}

@@ -9,8 +9,8 @@ use Rattle.cs_base.specs.declared.positions.Part.{Part}
 use Rattle.cs_base.specs.declared.positions.Pos.{Pos}
 use Rattle.cs_base.specs.Token.{Token, has_origins}
 use Rattle.part_lexer.specs.Tokens.{tokens_of}
-use Rattle.include_tree.specs.Files.{Entry}
-use Rattle.include_tree.specs.KeptFiles.{kept, kept_in, kept_at}
+use Rattle.source_files.specs.Files.{Entry}
+use Rattle.source_files.specs.KeptFiles.{kept, kept_in, kept_at}
 use Rattle.scope_bind.specs.Bound.{Bound}
 use Rattle.ws_core.specs.Analysis.{UnitAnalysis, AnalysisValue}
 use Rattle.ws_core.specs.FileTokens.{file_tokens}

@@ -18,12 +18,12 @@ use Rattle.line_shape.specs.Items.{lines_of, directive_kind, pieces_of, items_fr
 use Rattle.line_shape.specs.MacroLine.{macro_of}
 use Rattle.line_shape.specs.Signs.{is_hash, is_paste, is_open, is_close, is_comma, is_ellipsis, is_va_args, is_unfit_name}
 use Rattle.paste_origin.specs.Pasting.{glue_of}
-use Rattle.macro_expand.specs.Bodies.{chains_of, chains_in, parts_from}
+use Rattle.macro_body.specs.Bodies.{chains_of, chains_in, parts_from}
 use Rattle.macro_expand.specs.Calls.{call_from}
 use Rattle.macro_expand.specs.Expansion.{expansion, whole, steps}
-use Rattle.macro_expand.specs.Substitution.{result_of}
-use Rattle.include_tree.specs.Files.{found_at, opened, files_opened, bytes_opened}
-use Rattle.include_tree.specs.Texts.{reached_in}
+use Rattle.macro_body.specs.Substitution.{result_of}
+use Rattle.source_files.specs.Files.{found_at, opened, files_opened, bytes_opened}
+use Rattle.unit_steps.specs.Texts.{reached_in}
 use Rattle.include_tree.specs.Walk.{walk, file_items}
 use Rattle.meaning_rows.specs.Rows.{IsPreprocessed, two_objects, pasted_names, hidden_typedef}
 

@@ -4,7 +4,7 @@ use Rattle.cs_base.specs.Token.{Token}
 use Rattle.macro_expand.specs.Renaming.{Renaming, renamed}
 use Rattle.c99_tree.specs.Tree.{Node}
 use Rattle.c99_read.specs.Reading.{read_of}
-use Rattle.c99_read.specs.Standard.{c99}
+use Rattle.c99_grammar.specs.Standard.{c99}
 use Rattle.scope_bind.specs.Bound.{Bound, binding_of}
 use Rattle.ws_core.specs.Analysis.{UnitAnalysis, AnalysisValue}
 use Rattle.rename_text_laws.specs.Lines.{Each}

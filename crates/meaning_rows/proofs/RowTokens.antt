@@ -4,8 +4,9 @@ use Rattle.cs_base.specs.Token.{Token}
 use Rattle.c99_tree.specs.declared.production.Production.TheVariants.{TranslationUnit}
 use Rattle.c99_tree.specs.Tree.{none, Node, node_of}
 use Rattle.c99_read.specs.Reading.{Stop, read_of, read_within, whole, take_one, at_end, enter}
-use Rattle.c99_read.specs.Standard.{c99}
-use Rattle.c99_read.specs.State.{spelled_class, base_class, class_at, acted, opened, closed}
+use Rattle.c99_grammar.specs.Standard.{c99}
+use Rattle.c99_read.specs.State.{class_at, acted, opened, closed}
+use Rattle.c99_grammar.specs.TokenClasses.{spelled_class, base_class}
 use Rattle.part_lexer.specs.Logical.{gone_length, logical_from, logical_of}
 use Rattle.part_lexer.specs.Spelling.{kind_of, kind_in, is_punctuator_text}
 use Rattle.part_lexer.specs.Tokens.{front_length, token_piece, piece_of, found_from, found_of, tokens_of}

@@ -3,7 +3,7 @@
 use Rattle.std.specs.Prelude.{ℕ, List}
 use Rattle.cs_base.specs.declared.positions.Part.{Part}
 use Rattle.ws_file.specs.Workspace.{WorkspaceValue}
-use Rattle.include_tree.specs.Files.{Source}
+use Rattle.source_files.specs.Files.{Source}
 use Rattle.ws_core.specs.Analysis.{AnalysisValue}
 use Rattle.rename_text_laws.specs.Lines.{Each}
 use Rattle.rename_analysis_laws.specs.Analyses.{ReadsAlike}

@@ -11,10 +11,10 @@ use Rattle.ws_file.specs.Workspace.{WorkspaceValue}
 use Rattle.part_lexer.specs.FileText.{file_text}
 use Rattle.part_lexer.specs.Places.{pos}
 use Rattle.part_lexer.specs.Tokens.{file_token}
-use Rattle.include_tree.specs.Faults.{Fault}
-use Rattle.include_tree.specs.Files.{Source, source_of, Opened, entry, nothing_carried}
-use Rattle.include_tree.specs.Limits.{Limits, the_limits}
-use Rattle.include_tree.specs.Texts.{Preprocessed, preprocessed_by}
+use Rattle.source_files.specs.Faults.{Fault}
+use Rattle.source_files.specs.Files.{Source, source_of, Opened, entry, nothing_carried}
+use Rattle.source_files.specs.Limits.{Limits, the_limits}
+use Rattle.include_tree.specs.Preprocessed.{Preprocessed, preprocessed_by}
 use Rattle.include_tree.specs.Unit.{unit_outcome}
 use Rattle.ws_core.specs.Analysis.{UnitAnalysis, AnalysisValue}
 use Rattle.rename_analysis_laws.specs.Analyses.{IsRead}

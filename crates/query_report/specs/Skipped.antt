@@ -6,9 +6,9 @@ use Rattle.std.specs.Option.{option_map_or, option_to_list}
 use Rattle.part_lexer.specs.FileText.{TextValue, file_text}
 use Rattle.line_shape.specs.declared.items.Item.{Item}
 use Rattle.line_shape.specs.Items.{items_of}
-use Rattle.include_tree.specs.declared.events.Reached.{Reached}
-use Rattle.include_tree.specs.KeptFiles.{KeptValue, kept_at}
-use Rattle.include_tree.specs.Texts.{UnitTextValue}
+use Rattle.unit_steps.specs.declared.events.Reached.{Reached}
+use Rattle.source_files.specs.KeptFiles.{KeptValue, kept_at}
+use Rattle.unit_steps.specs.Texts.{UnitTextValue}
 use Rattle.ws_core.specs.Texts.{TextsValue}
 use Rattle.query_report.specs.declared.spans.Span.{Span}
 use Rattle.query_report.specs.Order.{file_cmp, numbers_from, in_order}

@@ -4,8 +4,9 @@ use Rattle.std.specs.List.{list_all}
 use Rattle.std.proofs.lemmas.Bool.{false≢true, and_parts}
 use Rattle.c99_tree.specs.Tree.{Forest, none, token, node, Node, leaf, inner, put, lone, collapsed}
 use Rattle.c99_tree.specs.declared.production.Production.{Production}
-use Rattle.c99_read.specs.Items.{Item, Action, Alternative}
-use Rattle.c99_read.specs.State.{Grammar, State, collapses, finished, acted, opened, closed}
+use Rattle.c99_grammar.specs.Items.{Item, Action, Alternative}
+use Rattle.c99_read.specs.State.{State, collapses, finished, acted, opened, closed}
+use Rattle.c99_grammar.specs.Standard.{Grammar}
 use Rattle.c99_read.specs.Reading.{Goal, step, read_within}
 use Rattle.read_laws.specs.Shapes.{goal_all, parts_all}
 use Rattle.read_laws.proofs.Walked.{After, IsKept, fit_each, kept_step, kept_within}

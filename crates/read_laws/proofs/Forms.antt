@@ -6,10 +6,11 @@ use Rattle.c99_tree.specs.declared.production.Label.{Label}
 use Rattle.c99_tree.specs.declared.production.Production.{Production}
 use Rattle.c99_tree.specs.declared.production.Production.TheVariants.{ExtRest, InitDecl, FunBody, Enumerator, Declarator}
 use Rattle.c99_tree.specs.contracts.production.ProductionPartialEq.TheImpl.{ghosts}
-use Rattle.c99_read.specs.Items.{Item, Alternative}
-use Rattle.c99_read.specs.State.{Grammar, State, opened}
+use Rattle.c99_grammar.specs.Items.{Item, Alternative}
+use Rattle.c99_read.specs.State.{State, opened}
+use Rattle.c99_grammar.specs.Standard.{Grammar}
 use Rattle.c99_read.specs.Reading.{Step, produce, step, read_within}
-use Rattle.scope_bind.specs.Lists.{is_declaring}
+use Rattle.c_types.specs.Lists.{is_declaring}
 use Rattle.bind_laws.specs.Units.{begins_with_token, has_token, has_body, has_declaring, has_form, have_forms}
 use Rattle.read_laws.specs.Shapes.{parts_all, begins, takes, has_no_body, has_no_declaring, passes_on, is_shaped, is_formed, IsFormed}
 use Rattle.read_laws.proofs.Walked.{After, each_part}

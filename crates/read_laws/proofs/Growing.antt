@@ -3,9 +3,10 @@ use Rattle.std.proofs.Common.{ℕ, ◌+◌, ◌≡◌, Bool, true, ◌&&◌, len
 use Rattle.std.proofs.lemmas.Bool.{false≢true, or_cases}
 use Rattle.c99_tree.specs.Tree.{Forest, none, token, node, Part, leaf, inner, put}
 use Rattle.c99_tree.specs.declared.production.Production.{Production}
-use Rattle.c99_read.specs.Classes.{among}
-use Rattle.c99_read.specs.Items.{Item, one, ◌·◌, deep, Action}
-use Rattle.c99_read.specs.State.{Grammar, State, class_at, finished, acted, closed}
+use Rattle.c99_grammar.specs.Classes.{among}
+use Rattle.c99_grammar.specs.Items.{Item, one, ◌·◌, deep, Action}
+use Rattle.c99_read.specs.State.{State, class_at, finished, acted, closed}
+use Rattle.c99_grammar.specs.Standard.{Grammar}
 use Rattle.c99_read.specs.Reading.{Step, and_then, take_one, step, read_within}
 use Rattle.bind_laws.specs.Units.{begins_with_token, has_token}
 use Rattle.read_laws.specs.Shapes.{begins, takes}

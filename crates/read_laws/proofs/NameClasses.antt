@@ -7,10 +7,11 @@ use Rattle.std.proofs.lemmas.Bool.{false≢true, and_parts}
 use Rattle.cs_base.specs.Token.{Token}
 use Rattle.cs_base.specs.declared.tokens.Kind.{Kind}
 use Rattle.cs_base.specs.declared.tokens.Kind.TheVariants as kind
-use Rattle.c99_read.specs.Classes.{among}
-use Rattle.c99_read.specs.Spellings.{Spelled, keywords, punctuators}
-use Rattle.c99_read.specs.Standard.{c99}
-use Rattle.c99_read.specs.State.{State, spelled_class, class_of_kind, base_class, base_at, is_identifier, is_typedef_at, class_at}
+use Rattle.c99_grammar.specs.Classes.{among}
+use Rattle.c99_grammar.specs.Spellings.{Spelled, keywords, punctuators}
+use Rattle.c99_grammar.specs.Standard.{c99}
+use Rattle.c99_read.specs.State.{State, base_at, is_identifier, is_typedef_at, class_at}
+use Rattle.c99_grammar.specs.TokenClasses.{spelled_class, class_of_kind, base_class}
 
 abbrev Given : {A B : Type 0} → (A → B) → Type 0
 Given {A} {B} f = B

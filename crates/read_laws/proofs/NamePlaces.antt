@@ -6,14 +6,14 @@ use Rattle.c99_tree.specs.Tree.{Forest, none, token, node, Node, leaf, inner, pu
 use Rattle.c99_tree.specs.declared.production.Label.{Label}
 use Rattle.c99_tree.specs.declared.production.Production.{Production}
 use Rattle.c99_tree.specs.declared.production.Production.TheVariants.{Main, SuRest, EnRest, Params, Designator, Primary, Post, Statement, Enumerator}
-use Rattle.c99_read.specs.Classes.{among}
-use Rattle.c99_read.specs.Items.{Item, one, part, end_of_text, act, ◌·◌, choice, maybe, many, deep, own, Test, Action}
-use Rattle.c99_read.specs.Standard.{c99}
+use Rattle.c99_grammar.specs.Classes.{among}
+use Rattle.c99_grammar.specs.Items.{Item, one, part, end_of_text, act, ◌·◌, choice, maybe, many, deep, own, Test, Action}
+use Rattle.c99_grammar.specs.Standard.{c99}
 use Rattle.c99_read.specs.State.{State, base_at, class_at, is_identifier, acted}
 use Rattle.c99_read.specs.Reading.{Goal, produce, repeat, Step, syntax, and_then, deepest, take_one, at_end, enter, may, step}
 use Rattle.scope_bind.specs.Named.{is_plain_role}
 use Rattle.scope_bind.specs.Roles.{role_of}
-use Rattle.scope_bind.specs.Trees.{is_node, has_name}
+use Rattle.c_types.specs.Trees.{is_node, has_name}
 use Rattle.bind_laws.specs.Units.{is_name_place, names_pass}
 use Rattle.read_laws.proofs.Walked.{After, with_token, after_if}
 use Rattle.read_laws.proofs.Each.{and_both}

@@ -3,8 +3,8 @@ use Rattle.std.specs.Prelude.{ℕ, Bool, ◌≡◌, true, refl}
 use Rattle.c99_tree.specs.declared.production.Label.{Label}
 use Rattle.c99_tree.specs.declared.production.Production.{Production}
 use Rattle.c99_tree.specs.declared.production.Production.TheVariants.{TranslationUnit, External, ExtRest, ExtTail, FunBody, Declaration, DeclRest, InitDecl, Specs, Main, Mod, Qual, Word, StructSpec, SuRest, Members, Member, Mdecl, EnumSpec, EnRest, Enumerators, Enumerator, Declarator, Pointer, Direct, Suffix, Bound, Params, Param, Pdecl, Pdirect, TypeName, Adecl, Adirect, Init, InitList, InitItem, Designator, Expr, Assign, Asgop, Cond, Lor, Land, Bor, Bxor, Band, Equal, Relate, Shift, Add, Mul, Cast, CastRest, Unary, SizeRest, SizeLit, Primary, Post, Args, Block, BlockItem, Statement, Sub, ForInit}
-use Rattle.c99_read.specs.Grammar.{table}
-use Rattle.c99_read.specs.Items.{Alternative}
+use Rattle.c99_grammar.specs.Grammar.{table}
+use Rattle.c99_grammar.specs.Items.{Alternative}
 use Rattle.read_laws.proofs.Walked.{fit_from}
 use Rattle.read_laws.proofs.NamePlaces.{is_first, fits}
 

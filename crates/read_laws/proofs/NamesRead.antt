@@ -6,12 +6,12 @@ use Rattle.c99_tree.specs.Tree.{Forest, none, token, node, Node, leaf, inner, pu
 use Rattle.c99_tree.specs.declared.production.Label.{Label}
 use Rattle.c99_tree.specs.declared.production.Production.{Production}
 use Rattle.c99_tree.specs.declared.production.Production.TheVariants.{TranslationUnit}
-use Rattle.c99_read.specs.Items.{Item, Test, Action, Alternative}
-use Rattle.c99_read.specs.Grammar.{table}
-use Rattle.c99_read.specs.Standard.{c99}
+use Rattle.c99_grammar.specs.Items.{Item, Test, Action, Alternative}
+use Rattle.c99_grammar.specs.Grammar.{table}
+use Rattle.c99_grammar.specs.Standard.{c99}
 use Rattle.c99_read.specs.State.{State, base_at, collapses, finished, acted, opened, closed, is_identifier}
 use Rattle.c99_read.specs.Reading.{produce, repeat, Step, and_then, may, step, alternative, pick, read_within, steps_for, whole, at_first, tree_of, read_of}
-use Rattle.scope_bind.specs.Frames.{outermost}
+use Rattle.name_chains.specs.Frames.{outermost}
 use Rattle.bind_laws.specs.Units.{names_pass}
 use Rattle.read_laws.proofs.Walked.{After, after_if, IsKept, fit_from, each_part, kept_step, kept_within, kept_by_item}
 use Rattle.read_laws.proofs.Each.{and_both}

@@ -4,7 +4,7 @@ use Rattle.cs_base.specs.Token.{Token}
 use Rattle.c99_tree.specs.Tree.{Node, lone}
 use Rattle.c99_tree.specs.declared.production.Production.TheVariants.{TranslationUnit}
 use Rattle.c99_read.specs.Reading.{Step, produce, steps_for, whole, at_first, tree_of, read_of}
-use Rattle.c99_read.specs.Standard.{c99}
+use Rattle.c99_grammar.specs.Standard.{c99}
 use Rattle.bind_laws.specs.Units.{has_form, have_forms}
 use Rattle.read_laws.specs.Laws.{TreesAreOfTheirTexts}
 use Rattle.read_laws.proofs.Walked.{After}

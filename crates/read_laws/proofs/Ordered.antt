@@ -6,8 +6,9 @@ use Rattle.cs_base.specs.Token.{Token}
 use Rattle.c99_tree.specs.Tree.{Forest, none, token, node, Node, leaf, inner, put, lone, collapsed}
 use Rattle.c99_tree.specs.declared.production.Production.{Production}
 use Rattle.c99_tree.specs.declared.production.Production.TheVariants.{TranslationUnit}
-use Rattle.c99_read.specs.Items.{Item, end_of_text, ◌·◌, Action, Alternative}
-use Rattle.c99_read.specs.State.{Grammar, State, collapses, finished, acted, opened, closed}
+use Rattle.c99_grammar.specs.Items.{Item, end_of_text, ◌·◌, Action, Alternative}
+use Rattle.c99_read.specs.State.{State, collapses, finished, acted, opened, closed}
+use Rattle.c99_grammar.specs.Standard.{Grammar}
 use Rattle.c99_read.specs.Reading.{Goal, produce, Step, syntax, at_end, and_then, may, step, alternative, pick, read_within, steps_for, whole, at_first, tree_of, read_of}
 use Rattle.bind_laws.specs.Units.{token_count, AreFrom}
 use Rattle.read_laws.specs.Shapes.{ends, reads_all}

@@ -3,11 +3,12 @@ use Rattle.std.specs.Prelude.{ℕ, ◌<◌, ◌≤◌, ◌≡◌, ◌≢◌, tru
 use Rattle.cs_base.specs.Token.{Token}
 use Rattle.c99_tree.specs.Tree.{Node}
 use Rattle.c99_read.specs.Reading.{Stop, syntax, too_deep, read_of}
-use Rattle.c99_read.specs.Standard.{c99}
-use Rattle.c99_read.specs.State.{Grammar, base_at, is_identifier}
+use Rattle.c99_grammar.specs.Standard.{c99}
+use Rattle.c99_read.specs.State.{base_at, is_identifier}
+use Rattle.c99_grammar.specs.Standard.{Grammar}
 use Rattle.scope_bind.specs.declared.bound.Name.{Name}
-use Rattle.scope_bind.specs.declared.lists.List.{List as NameList}
-use Rattle.scope_bind.specs.declared.lists.Range.{Range}
+use Rattle.c_types.specs.declared.lists.List.{List as NameList}
+use Rattle.c_types.specs.declared.lists.Range.{Range}
 use Rattle.scope_bind.specs.Causes.{index_of}
 use Rattle.scope_bind.specs.Bound.{Bound, binding_of}
 use Rattle.scope_bind.specs.Names.{entity_at}

@@ -3,9 +3,9 @@ use Rattle.std.specs.Prelude.{Bool, true, false, ◌≡◌, ◌&&◌, ◌||◌, 
 use Rattle.std.specs.List.{list_all}
 use Rattle.c99_tree.specs.declared.production.Production.{Production}
 use Rattle.c99_tree.specs.declared.production.Production.TheVariants.{TranslationUnit, External, ExtRest, ExtTail, FunBody, Declaration, DeclRest, InitDecl, Enumerator, Block, BlockItem, Statement, Sub, ForInit}
-use Rattle.c99_read.specs.Items.{Item, one, part, end_of_text, act, ◌·◌, choice, maybe, many, deep, Alternative}
+use Rattle.c99_grammar.specs.Items.{Item, one, part, end_of_text, act, ◌·◌, choice, maybe, many, deep, Alternative}
 use Rattle.c99_read.specs.Reading.{Goal, produce, repeat}
-use Rattle.c99_read.specs.State.{Grammar}
+use Rattle.c99_grammar.specs.Standard.{Grammar}
 
 -- each production in the item is one of these
 abbrev pub parts_all : (Production → Bool) → Item → Bool

@@ -5,14 +5,15 @@ use Rattle.cs_base.specs.Answer.{result_then, result_map_err}
 use Rattle.cs_base.specs.Token.{Token}
 use Rattle.cs_base.specs.Units.{UnitValue}
 use Rattle.part_lexer.specs.FileText.{file_text}
-use Rattle.include_tree.specs.Faults.{Fault}
-use Rattle.include_tree.specs.Files.{Source, carried, nothing_carried}
-use Rattle.include_tree.specs.Laws.{IsGrown}
-use Rattle.include_tree.specs.Limits.{the_limits}
-use Rattle.include_tree.specs.State.{Did, Outcome}
-use Rattle.include_tree.specs.Texts.{unit_text, Preprocessed, preprocessed_by, preprocessed, one_unit}
+use Rattle.source_files.specs.Faults.{Fault}
+use Rattle.source_files.specs.Files.{Source, carried, nothing_carried}
+use Rattle.source_files.specs.Tables.{IsGrown}
+use Rattle.source_files.specs.Limits.{the_limits}
+use Rattle.unit_steps.specs.State.{Did, Outcome}
+use Rattle.unit_steps.specs.Texts.{unit_text}
+use Rattle.include_tree.specs.Preprocessed.{Preprocessed, preprocessed_by, preprocessed, one_unit}
 use Rattle.include_tree.specs.Unit.{unit_outcome}
-use Rattle.include_tree.proofs.TableLemmas.{grown_refl}
+use Rattle.source_files.proofs.TableLemmas.{grown_refl}
 use Rattle.ws_core.specs.Texts.{unit_fault, alone}
 use Rattle.rename_unit_laws.proofs.SeenLemmas.{unit_texts_are_renamed}
 use Rattle.rename_analysis_laws.specs.Alone.{UnitAloneIsRenamed, OneTextIsRenamed}

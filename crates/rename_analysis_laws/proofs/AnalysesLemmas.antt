@@ -2,13 +2,14 @@
 use Rattle.std.proofs.Common.{◌≡◌, ℕ, ◌+◌, List, [], ◌∷◌, map, Result, Ok, Err, refl, ap, sym, subst, ◌∙◌}
 use Rattle.cs_base.specs.Answer.{result_then, result_map_err}
 use Rattle.macro_expand.specs.Renaming.{Renaming}
-use Rattle.include_tree.specs.Faults.{Fault}
-use Rattle.include_tree.specs.Files.{Table, nothing_carried}
-use Rattle.include_tree.specs.Laws.{IsGrown}
-use Rattle.include_tree.specs.Texts.{UnitTextValue, Preprocessed}
-use Rattle.include_tree.proofs.TableLemmas.{grown_refl}
+use Rattle.source_files.specs.Faults.{Fault}
+use Rattle.source_files.specs.Files.{Table, nothing_carried}
+use Rattle.source_files.specs.Tables.{IsGrown}
+use Rattle.unit_steps.specs.Texts.{UnitTextValue}
+use Rattle.include_tree.specs.Preprocessed.{Preprocessed}
+use Rattle.source_files.proofs.TableLemmas.{grown_refl}
 use Rattle.c99_read.specs.Reading.{Stop, read_of}
-use Rattle.c99_read.specs.Standard.{c99}
+use Rattle.c99_grammar.specs.Standard.{c99}
 use Rattle.scope_bind.specs.Named.{Fault as BindFault}
 use Rattle.scope_bind.specs.Bound.{Bound, binding_of}
 use Rattle.scope_bind.specs.Causes.{cause_of, index_of}

@@ -9,11 +9,11 @@ use Rattle.cs_base.specs.declared.positions.Pos.{Pos}
 use Rattle.cs_base.specs.declared.tokens.Kind.TheVariants.{Number}
 use Rattle.cs_base.specs.Token.{Token, token}
 use Rattle.macro_expand.specs.Renaming.{Renaming, spelled, renamed}
-use Rattle.macro_expand.specs.Substitution.{digit_origins, line_number}
-use Rattle.include_tree.specs.declared.events.Event.{Event}
-use Rattle.include_tree.specs.declared.events.EventKind.{EventKind}
-use Rattle.include_tree.specs.declared.events.EventKind.TheVariants as kind
-use Rattle.include_tree.specs.Files.{Entry, Table}
+use Rattle.macro_body.specs.Substitution.{digit_origins, line_number}
+use Rattle.unit_steps.specs.declared.events.Event.{Event}
+use Rattle.unit_steps.specs.declared.events.EventKind.{EventKind}
+use Rattle.unit_steps.specs.declared.events.EventKind.TheVariants as kind
+use Rattle.source_files.specs.Files.{Entry, Table}
 use Rattle.ws_core.specs.Analysis.{UnitAnalysis}
 use Rattle.ws_core.specs.FileTokens.{entry_tokens, table_tokens, number_for, number_of_event, numbers_brought, file_tokens}
 use Rattle.rename_text_laws.specs.Lines.{Each}

@@ -4,10 +4,10 @@ use Rattle.std.specs.Prelude.{◌≡◌, ℕ, List, Some, Ok}
 use Rattle.cs_base.specs.Token.{Token}
 use Rattle.cs_base.specs.Units.{UnitValue}
 use Rattle.part_lexer.specs.FileText.{file_text}
-use Rattle.include_tree.specs.Files.{Source, nothing_carried}
-use Rattle.include_tree.specs.Limits.{the_limits}
-use Rattle.include_tree.specs.State.{Did}
-use Rattle.include_tree.specs.Texts.{Preprocessed, one_unit}
+use Rattle.source_files.specs.Files.{Source, nothing_carried}
+use Rattle.source_files.specs.Limits.{the_limits}
+use Rattle.unit_steps.specs.State.{Did}
+use Rattle.include_tree.specs.Preprocessed.{Preprocessed, one_unit}
 use Rattle.include_tree.specs.Unit.{unit_outcome}
 use Rattle.ws_core.specs.Texts.{unit_at, one_text_of}
 use Rattle.rename_text_laws.specs.Lines.{Each}

@@ -3,11 +3,11 @@ use Rattle.std.specs.Prelude.{◌≡◌, ℕ, List, map, Ok}
 use Rattle.cs_base.specs.Units.{UnitValue}
 use Rattle.ws_file.specs.Workspace.{WorkspaceValue}
 use Rattle.macro_expand.specs.Renaming.{Renaming}
-use Rattle.include_tree.specs.Files.{Source, Table, Carried, nothing_carried}
-use Rattle.include_tree.specs.Laws.{IsGrown}
-use Rattle.include_tree.specs.Texts.{UnitTextValue}
+use Rattle.source_files.specs.Files.{Source, Table, Carried, nothing_carried}
+use Rattle.source_files.specs.Tables.{IsGrown}
+use Rattle.unit_steps.specs.Texts.{UnitTextValue}
 use Rattle.c99_read.specs.Reading.{read_of}
-use Rattle.c99_read.specs.Standard.{c99}
+use Rattle.c99_grammar.specs.Standard.{c99}
 use Rattle.scope_bind.specs.Bound.{binding_of}
 use Rattle.ws_core.specs.Texts.{texts_and, texts_from}
 use Rattle.ws_core.specs.Analysis.{UnitAnalysis, unit_analysis, UnitsValue, units_and, AnalysisValue, analysis_and, analysed_from, analysis_of}

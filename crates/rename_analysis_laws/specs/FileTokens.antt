@@ -3,9 +3,9 @@ use Rattle.std.specs.Prelude.{◌≡◌, ℕ, Some, List, codes, map, slice_get}
 use Rattle.std.specs.Str.{bytes_eq}
 use Rattle.cs_base.specs.Token.{Token}
 use Rattle.macro_expand.specs.Renaming.{Renaming, spelled, renamed}
-use Rattle.macro_expand.specs.Substitution.{digit_origins}
-use Rattle.include_tree.specs.declared.events.Event.{Event}
-use Rattle.include_tree.specs.Files.{Entry, entry}
+use Rattle.macro_body.specs.Substitution.{digit_origins}
+use Rattle.unit_steps.specs.declared.events.Event.{Event}
+use Rattle.source_files.specs.Files.{Entry, entry}
 use Rattle.ws_core.specs.Analysis.{UnitAnalysis, AnalysisValue}
 use Rattle.ws_core.specs.FileTokens.{entry_tokens, file_tokens}
 use Rattle.rename_text_laws.specs.Lines.{Each}

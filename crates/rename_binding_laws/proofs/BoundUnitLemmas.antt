@@ -6,10 +6,10 @@ use Rattle.cs_base.proofs.FileMapLemmas.{bytes_eq-equal}
 use Rattle.cs_base.specs.Token.{Token}
 use Rattle.line_shape.specs.Signs.{is_name}
 use Rattle.macro_expand.specs.Renaming.{Renaming, renamed}
-use Rattle.c99_read.specs.Standard.{c99}
+use Rattle.c99_grammar.specs.Standard.{c99}
 use Rattle.c99_read.specs.State.{base_at, is_identifier}
 use Rattle.scope_bind.specs.declared.bound.Name.{Name}
-use Rattle.scope_bind.specs.Declarations.{spelling_at, alike}
+use Rattle.c_types.specs.Declarations.{spelling_at, alike}
 use Rattle.scope_bind.specs.Names.{entity_at}
 use Rattle.bind_laws.specs.Renamed.{IsRenamed}
 use Rattle.bind_laws.proofs.HeldNames.{spelled_as_entities}

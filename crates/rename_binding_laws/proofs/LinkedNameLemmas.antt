@@ -15,9 +15,10 @@ use Rattle.cs_base.specs.Token.{Token}
 use Rattle.line_shape.specs.Signs.{is_name}
 use Rattle.line_shape.specs.Signs as signs
 use Rattle.linkage_join.specs.Linkage.{link_to, links_of as external_links}
-use Rattle.c99_read.specs.Spellings.{Spelled, punctuators}
-use Rattle.c99_read.specs.Standard.{c99}
-use Rattle.c99_read.specs.State.{spelled_class, class_of_kind, base_class, base_at, is_identifier}
+use Rattle.c99_grammar.specs.Spellings.{Spelled, punctuators}
+use Rattle.c99_grammar.specs.Standard.{c99}
+use Rattle.c99_read.specs.State.{base_at, is_identifier}
+use Rattle.c99_grammar.specs.TokenClasses.{spelled_class, class_of_kind, base_class}
 use Rattle.scope_bind.specs.declared.bound.Name.{Name}
 use Rattle.scope_bind.specs.Names.{entity_at}
 use Rattle.ws_core.specs.Analysis.{UnitAnalysis, AnalysisValue}

@@ -15,7 +15,7 @@ use Rattle.part_lexer.specs.Spelling.{is_identifier_text}
 use Rattle.line_shape.specs.Signs.{is_name}
 use Rattle.macro_expand.specs.Renaming.{Renaming, renamed}
 use Rattle.macro_expand.specs.Renaming as macros
-use Rattle.scope_bind.specs.Declarations.{spelling_at, alike}
+use Rattle.c_types.specs.Declarations.{spelling_at, alike}
 use Rattle.bind_laws.specs.Renamed.{is_own_word}
 use Rattle.part_respell.specs.Respelled.{spelled}
 use Rattle.rename_rules.specs.Tokens.{holds_member}

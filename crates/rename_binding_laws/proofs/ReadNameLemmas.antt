@@ -1,5 +1,5 @@
 -- Names of a text that is read and bound, and the tokens that name their entities.
-use Rattle.c99_read.specs.Standard.{c99}
+use Rattle.c99_grammar.specs.Standard.{c99}
 use Rattle.c99_read.specs.State.{base_at, is_identifier}
 use Rattle.bind_laws.proofs.EntityNames.{entities_are_names}
 use Rattle.bind_laws.proofs.HeldNames.{bound_names_pass}

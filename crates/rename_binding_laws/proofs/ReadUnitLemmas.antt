@@ -4,11 +4,11 @@ use Rattle.std.specs.Prelude.{slice_get}
 use Rattle.std.proofs.lemmas.Option.{same_Some}
 use Rattle.cs_base.specs.Units.{UnitValue}
 use Rattle.ws_file.specs.Workspace.{WorkspaceValue}
-use Rattle.include_tree.specs.Faults.{Fault}
-use Rattle.include_tree.specs.Files.{Source, Table, Carried, nothing_carried}
-use Rattle.include_tree.specs.Texts.{UnitTextValue}
+use Rattle.source_files.specs.Faults.{Fault}
+use Rattle.source_files.specs.Files.{Source, Table, Carried, nothing_carried}
+use Rattle.unit_steps.specs.Texts.{UnitTextValue}
 use Rattle.c99_read.specs.Reading.{read_of}
-use Rattle.c99_read.specs.Standard.{c99}
+use Rattle.c99_grammar.specs.Standard.{c99}
 use Rattle.scope_bind.specs.Bound.{binding_of}
 use Rattle.ws_core.specs.Analysis.{UnitAnalysis, UnitsValue, AnalysisValue, analysis_and, with_unit, unit_read, analysed_from, analysis_of, read_unit, bound_unit, unit_analysis}
 use Rattle.ws_core.specs.Texts.{UnitFault, unit_fault, unit_with}

@@ -13,15 +13,15 @@ use Rattle.cs_base.specs.Token.{Token}
 use Rattle.part_lexer.specs.Tokens.{tokens_of}
 use Rattle.paste_origin.specs.Strings.{string_text, string_token}
 use Rattle.line_shape.specs.Signs.{is_identifier, is_punctuator, is_name}
-use Rattle.macro_expand.specs.Notes as expansion
+use Rattle.macro_body.specs.Notes as expansion
 use Rattle.macro_expand.specs.Renaming.{Renaming, occurs, spelled}
-use Rattle.macro_expand.specs.Substitution.{put_in, line_number, path_string, path_text}
-use Rattle.include_tree.specs.Conditions.{answer_for}
-use Rattle.include_tree.specs.Files.{SourceFile, Table}
-use Rattle.include_tree.specs.Laws.{IsGrown}
-use Rattle.include_tree.specs.Notes.{Note, Happened, pasted_of}
-use Rattle.include_tree.specs.Sources.{source_at}
-use Rattle.include_tree.specs.Texts.{UnitTextValue, unit_text}
+use Rattle.macro_body.specs.Substitution.{put_in, line_number, path_string, path_text}
+use Rattle.unit_steps.specs.Conditions.{answer_for}
+use Rattle.source_files.specs.Files.{SourceFile, Table}
+use Rattle.source_files.specs.Tables.{IsGrown}
+use Rattle.unit_steps.specs.Notes.{Note, Happened, pasted_of}
+use Rattle.source_files.specs.Sources.{source_at}
+use Rattle.unit_steps.specs.Texts.{UnitTextValue, unit_text}
 use Rattle.include_tree.proofs.StayingLemmas.{source-grown}
 use Rattle.expansion_laws.proofs.ListLemmas.{AllToks, each_tok, toks_at}
 use Rattle.expansion_laws.proofs.TellingLemmas.{string_is}

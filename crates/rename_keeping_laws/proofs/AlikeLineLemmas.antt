@@ -16,11 +16,11 @@ use Rattle.line_shape.specs.declared.items.ItemKind.TheVariants as kind
 use Rattle.line_shape.specs.Items.{lines_of, line_kind}
 use Rattle.line_shape.specs.MacroLine.{is_function_like}
 use Rattle.line_shape.specs.Signs.{is_hash}
-use Rattle.macro_expand.specs.Defining.{defined_by}
-use Rattle.include_tree.specs.declared.events.Reached.{Reached}
-use Rattle.include_tree.specs.Files.{Table}
-use Rattle.include_tree.specs.KeptFiles.{KeptValue, kept_at}
-use Rattle.include_tree.specs.Texts.{UnitTextValue}
+use Rattle.macro_body.specs.Defining.{defined_by}
+use Rattle.unit_steps.specs.declared.events.Reached.{Reached}
+use Rattle.source_files.specs.Files.{Table}
+use Rattle.source_files.specs.KeptFiles.{KeptValue, kept_at}
+use Rattle.unit_steps.specs.Texts.{UnitTextValue}
 use Rattle.include_tree.specs.Walk.{ItemText, item_texts, items_in}
 use Rattle.eclass_map.specs.Positions.{holds}
 use Rattle.eclass_map.proofs.TokenFacts.{holding}

@@ -17,8 +17,8 @@ use Rattle.part_lexer.specs.Spelling.{is_punctuator_text}
 use Rattle.line_shape.specs.Signs.{is_identifier, is_name}
 use Rattle.linkage_join.specs.Linkage.{links_of as external_links}
 use Rattle.macro_expand.specs.Renaming.{Renaming}
-use Rattle.include_tree.specs.declared.events.Event.{Event}
-use Rattle.include_tree.specs.Texts.{UnitTextValue}
+use Rattle.unit_steps.specs.declared.events.Event.{Event}
+use Rattle.unit_steps.specs.Texts.{UnitTextValue}
 use Rattle.part_respell.specs.Respelled.{spelled}
 use Rattle.expansion_laws.specs.Spelled.{fits, is_spelled}
 use Rattle.unit_laws.proofs.NoteLemmas.{EventHas, in_at}

@@ -16,10 +16,10 @@ use Rattle.part_lexer.specs.Spelling.{is_identifier_text, is_header_text, header
 use Rattle.part_lexer.specs.Tokens.{kind_or_other}
 use Rattle.line_shape.specs.MacroLine.{MacroParts, macro, spellings, is_function_like, before_close, behind_close, is_parameter_list, is_identifier_list, params_in, are_distinct, function_macro, macro_of}
 use Rattle.line_shape.specs.Signs.{is_identifier, is_punctuator, is_name, is_open, is_close, is_ellipsis}
-use Rattle.macro_expand.specs.declared.definitions.Definition.{Definition}
-use Rattle.macro_expand.specs.Defining.{definition_of, defined_by}
-use Rattle.include_tree.specs.Names.{spelled_in, linked_with, parameter_named, definition_links}
-use Rattle.include_tree.specs.Notes.{Note, Linked, link, links_of}
+use Rattle.macro_body.specs.declared.definitions.Definition.{Definition}
+use Rattle.macro_body.specs.Defining.{definition_of, defined_by}
+use Rattle.unit_steps.specs.Names.{spelled_in, linked_with, parameter_named, definition_links}
+use Rattle.unit_steps.specs.Notes.{Note, Linked, link, links_of}
 use Rattle.rename_text_laws.specs.Lines.{Each, parameters_of}
 use Rattle.ws_core.proofs.NamingLemmas.{map_at, filter_in}
 use Rattle.rename_premise_laws.proofs.ListLemmas.{In, any_at, found, not_found, in_flat}

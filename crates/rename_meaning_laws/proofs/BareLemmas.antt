@@ -13,8 +13,8 @@ use Rattle.part_lexer.specs.Spelling.{is_identifier_text}
 use Rattle.line_shape.specs.Signs.{is_name}
 use Rattle.macro_expand.specs.Renaming.{Renaming, renamed}
 use Rattle.macro_expand.specs.Renaming as macros
-use Rattle.scope_bind.specs.declared.lists.Range.{Range}
-use Rattle.scope_bind.specs.Declarations.{spelling_at, alike}
+use Rattle.c_types.specs.declared.lists.Range.{Range}
+use Rattle.c_types.specs.Declarations.{spelling_at, alike}
 use Rattle.rename_tree_laws.specs.Loose.{is_hidden, StaysWhole}
 use Rattle.ws_core.specs.Analysed.{Analysed}
 use Rattle.ws_core.specs.Analysis.{UnitAnalysis, AnalysisValue}

@@ -14,9 +14,10 @@ use Rattle.cs_base.specs.Token.{Token}
 use Rattle.line_shape.specs.Signs as signs
 use Rattle.macro_expand.specs.Renaming.{Renaming, renamed}
 use Rattle.macro_expand.specs.Renaming as macros
-use Rattle.c99_read.specs.Spellings.{Spelled, keywords}
-use Rattle.c99_read.specs.Standard.{c99}
-use Rattle.c99_read.specs.State.{spelled_class, class_of_kind, base_class, base_at}
+use Rattle.c99_grammar.specs.Spellings.{Spelled, keywords}
+use Rattle.c99_grammar.specs.Standard.{c99}
+use Rattle.c99_read.specs.State.{base_at}
+use Rattle.c99_grammar.specs.TokenClasses.{spelled_class, class_of_kind, base_class}
 use Rattle.rename_reading_laws.proofs.Private.{Class, identifier, no_class, end_class}
 use Rattle.ws_core.specs.Analysed.{Analysed}
 use Rattle.ws_core.specs.Analysis.{UnitAnalysis}

@@ -2,8 +2,8 @@
 use Rattle.std.specs.Prelude.{ℕ, ◌≡◌, List, Ok, Some}
 use Rattle.cs_base.specs.declared.positions.Part.{Part}
 use Rattle.ws_file.specs.Workspace.{IsWorkspace}
-use Rattle.include_tree.specs.Files.{Source}
-use Rattle.include_tree.specs.Laws.{HasEachOnce}
+use Rattle.source_files.specs.Files.{Source}
+use Rattle.source_files.specs.Tables.{HasEachOnce}
 use Rattle.rename_text_laws.specs.Lines.{Each}
 use Rattle.rename_unit_laws.specs.EditedFiles.{HoldsEdited}
 use Rattle.rename_analysis_laws.specs.Analyses.{ReadsAlike, renamed_analysis}

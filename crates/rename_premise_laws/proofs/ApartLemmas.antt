@@ -14,7 +14,7 @@ use Rattle.expansion_laws.specs.Spelled.{fits}
 use Rattle.part_lexer.specs.Places.{pos, origins_from}
 use Rattle.part_lexer.specs.Tokens.{tokens_of}
 use Rattle.part_lexer.proofs.OriginLemmas.{length-origins}
-use Rattle.include_tree.specs.KeptFiles.{KeptValue, kept_at}
+use Rattle.source_files.specs.KeptFiles.{KeptValue, kept_at}
 use Rattle.part_respell.specs.Respelled.{member_over, spelled}
 use Rattle.ws_core.specs.Analysed.{Analysed}
 use Rattle.ws_core.specs.Analysis.{UnitAnalysis, AnalysisValue}

@@ -11,8 +11,8 @@ use Rattle.part_lexer.specs.Tokens.{tokens_of}
 use Rattle.eclass_map.specs.Positions.{holds}
 use Rattle.eclass_map.proofs.TokenFacts.{holding}
 use Rattle.ws_file.specs.Workspace.{WorkspaceValue}
-use Rattle.include_tree.specs.Files.{Source}
-use Rattle.include_tree.specs.KeptFiles.{kept_in, kept_at}
+use Rattle.source_files.specs.Files.{Source}
+use Rattle.source_files.specs.KeptFiles.{kept_in, kept_at}
 use Rattle.ws_core.specs.Analysis.{UnitAnalysis, AnalysisValue, analysis_of}
 use Rattle.ws_core.specs.FileTokens.{table_tokens, numbers_brought, file_tokens, span_of}
 use Rattle.ws_core.specs.Parts.{IsCharacter}

@@ -20,7 +20,7 @@ use Rattle.line_shape.specs.Directives.{directives, meaning_in, directive_spelle
 use Rattle.line_shape.specs.Items.{onto_lines, lines_of, kind_unless, named_kind, directive_kind, line_kind, Piece, piece, onto_pieces, pieces_of, item_of, items_from, items_of}
 use Rattle.line_shape.specs.BadLines.{cause_on}
 use Rattle.line_shape.specs.Signs.{is_name, is_hash}
-use Rattle.include_tree.specs.Including.{is_header}
+use Rattle.source_files.specs.HeaderNames.{is_header}
 use Rattle.include_tree.specs.Walk.{ItemText, item_text, item_texts}
 use Rattle.unit_laws.specs.UnitItems.{expanded_name, taken}
 use Rattle.rename_premise_laws.proofs.ListLemmas.{In, AllOf}

@@ -22,7 +22,7 @@ use Rattle.line_shape.specs.Signs.{is_identifier, is_name}
 use Rattle.eclass_map.specs.Positions.{holds}
 use Rattle.eclass_map.specs.ClassTable.{part_of_file}
 use Rattle.eclass_map.proofs.TokenFacts.{holding, holds_along}
-use Rattle.include_tree.specs.KeptFiles.{KeptValue, kept_at}
+use Rattle.source_files.specs.KeptFiles.{KeptValue, kept_at}
 use Rattle.part_respell.specs.Respelled.{member_over, put_of, spelled, spelled_from}
 use Rattle.ws_core.specs.Analysed.{Analysed}
 use Rattle.ws_core.specs.FileTokens.{file_tokens, span_of}

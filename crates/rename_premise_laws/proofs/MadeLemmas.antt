@@ -18,12 +18,12 @@ use Rattle.part_lexer.specs.Spelling.{is_identifier_text}
 use Rattle.line_shape.specs.Signs.{is_identifier}
 use Rattle.paste_origin.specs.Pasting.{pasted_as, joined, glue_of}
 use Rattle.paste_origin.specs.Strings.{space, NotAString, escaped, spelling_of, later_spelling, spellings_of, string_text, string_token, is_string, stringize_of}
-use Rattle.macro_expand.specs.Notes as expansion
+use Rattle.macro_body.specs.Notes as expansion
 use Rattle.macro_expand.specs.Renaming.{Renaming, renamed, labelled_as}
-use Rattle.include_tree.specs.KeptFiles.{KeptValue, kept_at}
-use Rattle.include_tree.specs.Notes.{Happened, pasted_of, stringized_of}
-use Rattle.include_tree.specs.State.{Did}
-use Rattle.include_tree.specs.Texts.{UnitTextValue}
+use Rattle.source_files.specs.KeptFiles.{KeptValue, kept_at}
+use Rattle.unit_steps.specs.Notes.{Happened, pasted_of, stringized_of}
+use Rattle.unit_steps.specs.State.{Did}
+use Rattle.unit_steps.specs.Texts.{UnitTextValue}
 use Rattle.expansion_laws.specs.Spelled.{fits}
 use Rattle.expansion_laws.specs.Telling.{IsPasted}
 use Rattle.expansion_laws.proofs.ListLemmas.{AllToks, toks_at}

@@ -12,8 +12,8 @@ use Rattle.part_lexer.specs.Tokens.{tokens_of}
 use Rattle.eclass_map.specs.Chain.{here}
 use Rattle.eclass_map.specs.Positions.{along, holds}
 use Rattle.eclass_map.proofs.TokenFacts.{holding}
-use Rattle.include_tree.specs.Files.{Table}
-use Rattle.include_tree.specs.KeptFiles.{KeptValue, kept_in, kept_at}
+use Rattle.source_files.specs.Files.{Table}
+use Rattle.source_files.specs.KeptFiles.{KeptValue, kept_in, kept_at}
 use Rattle.part_respell.specs.Respelled.{member_over}
 use Rattle.ws_core.specs.Analysis.{UnitAnalysis, AnalysisValue}
 use Rattle.ws_core.specs.FileTokens.{kept_tokens, entry_tokens, table_tokens, numbers_brought, file_tokens, span_of, IsFileToken}

@@ -12,7 +12,7 @@ use Rattle.cs_base.specs.declared.positions.Pos.{Pos}
 use Rattle.cs_base.specs.Reserved.{is_reserved_text}
 use Rattle.cs_base.specs.Token.{Token}
 use Rattle.line_shape.specs.Signs.{is_name}
-use Rattle.include_tree.specs.KeptFiles.{KeptValue, kept_at}
+use Rattle.source_files.specs.KeptFiles.{KeptValue, kept_at}
 use Rattle.part_respell.specs.Respelled.{spelled}
 use Rattle.ws_core.specs.Analysis.{AnalysisValue}
 use Rattle.ws_core.specs.FileTokens.{file_tokens}

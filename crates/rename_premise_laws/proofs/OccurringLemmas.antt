@@ -1,6 +1,6 @@
 -- Tokens that occur in an analysis, under a renaming.
-use Rattle.std.proofs.Common.{◌≡◌, ℕ, zero, suc, ◌+◌, ◌==◌, ◌&&◌, ◌||◌, Bool, true, false, List, [], ◌∷◌, ◌++◌, length, Option, Some, None, inl, inr, refl, sym, ap, ◌∙◌, subst, arith}
-use Rattle.std.specs.Prelude.{◌⊎◌, slice_get, cond}
+use Rattle.std.proofs.Common.{◌≡◌, ℕ, suc, ◌+◌, ◌==◌, ◌&&◌, ◌||◌, true, false, List, [], ◌∷◌, ◌++◌, Option, Some, None, inl, inr, refl, sym, ap, ◌∙◌, subst, arith}
+use Rattle.std.specs.Prelude.{◌⊎◌, slice_get}
 use Rattle.std.specs.List.{flat_map, list_any}
 use Rattle.std.specs.Option.{option_map_or, option_and_then}
 use Rattle.std.specs.Str.{bytes_eq}
@@ -9,14 +9,14 @@ use Rattle.cs_base.proofs.FileMapLemmas.{bytes_eq-equal, bytes_eq-same}
 use Rattle.cs_base.specs.declared.positions.Part.{Part}
 use Rattle.cs_base.specs.declared.positions.Pos.{Pos}
 use Rattle.cs_base.specs.declared.tokens.Kind.{Kind}
-use Rattle.cs_base.specs.declared.tokens.Kind.TheVariants.{Ident, Number, Char, Str, Punct, Header, Other}
+use Rattle.cs_base.specs.declared.tokens.Kind.TheVariants.{Ident, Punct}
 use Rattle.cs_base.specs.Reserved.{is_reserved_text}
 use Rattle.cs_base.specs.Token.{Token}
 use Rattle.line_shape.specs.Signs.{is_identifier, is_punctuator, is_name}
 use Rattle.macro_expand.specs.Renaming.{Renaming}
 use Rattle.macro_expand.specs.Renaming as macros
-use Rattle.include_tree.specs.Files.{Table}
-use Rattle.include_tree.specs.KeptFiles.{KeptValue, kept_in, kept_at}
+use Rattle.source_files.specs.Files.{Table}
+use Rattle.source_files.specs.KeptFiles.{KeptValue, kept_in}
 use Rattle.part_respell.specs.Respelled.{spelled}
 use Rattle.ws_core.specs.Analysed.{Analysed}
 use Rattle.ws_core.specs.Analysis.{UnitAnalysis, AnalysisValue}
@@ -27,7 +27,7 @@ use Rattle.rename_premise_laws.specs.KeptTokens.{Spells}
 use Rattle.rename_premise_laws.specs.Occurring.{same_origin, same_origins, is_alike, occurring_in, OccurringAreKept, FileTokensOccur, PastedTokensOccur}
 use Rattle.rename_premise_laws.specs.Spellings.{IsOfFile, IsPasted, IsOfFileOrName}
 use Rattle.rename_premise_laws.proofs.ApartLemmas.{IsParted, parted_of, file_told, pasted_parted, parted_stays, others_stay_apart}
-use Rattle.rename_premise_laws.proofs.KeptTokenLemmas.{other_same, other_word}
+use Rattle.rename_premise_laws.proofs.KeptTokenLemmas.{other_same}
 use Rattle.rename_premise_laws.proofs.ListLemmas.{In, any_at, in_flat}
 use Rattle.rename_premise_laws.proofs.MemberLemmas.{toks_in}
 use Rattle.rename_premise_laws.proofs.NoneLemmas.{none_stand, holder, holder_free}

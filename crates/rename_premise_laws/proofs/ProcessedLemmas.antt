@@ -20,9 +20,9 @@ use Rattle.line_shape.specs.declared.items.ItemKind.{ItemKind}
 use Rattle.line_shape.specs.declared.items.ItemKind.TheVariants as kind
 use Rattle.line_shape.specs.Items.{lines_of}
 use Rattle.line_shape.specs.Signs.{is_identifier, is_name}
-use Rattle.include_tree.specs.declared.events.Reached.{Reached}
-use Rattle.include_tree.specs.Files.{Table}
-use Rattle.include_tree.specs.KeptFiles.{KeptValue, kept_at}
+use Rattle.unit_steps.specs.declared.events.Reached.{Reached}
+use Rattle.source_files.specs.Files.{Table}
+use Rattle.source_files.specs.KeptFiles.{KeptValue, kept_at}
 use Rattle.include_tree.specs.Walk.{ItemText, item_texts, items_in}
 use Rattle.include_tree.proofs.StayingLemmas.{source-grown}
 use Rattle.eclass_map.specs.Chain.{here, along as then_link, back}

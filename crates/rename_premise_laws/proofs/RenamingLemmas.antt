@@ -11,8 +11,8 @@ use Rattle.part_lexer.specs.Respelling.{Put, respell, moved}
 use Rattle.part_lexer.specs.Tokens.{tokens_of}
 use Rattle.part_lexer.proofs.OriginLemmas.{length-origins}
 use Rattle.macro_expand.specs.Renaming.{renamed}
-use Rattle.include_tree.specs.KeptFiles.{KeptValue, kept_at}
-use Rattle.include_tree.specs.Texts.{UnitTextValue}
+use Rattle.source_files.specs.KeptFiles.{KeptValue, kept_at}
+use Rattle.unit_steps.specs.Texts.{UnitTextValue}
 use Rattle.part_respell.specs.Respelled.{member_over, put_in, put_at, put_of, put_for, spelled, spelled_from}
 use Rattle.rename_text_laws.specs.EditedFiles.{moved_to, edited_token, EditedFilesKeepTokens}
 use Rattle.ws_core.specs.Analysis.{AnalysisValue}

@@ -18,16 +18,16 @@ use Rattle.part_lexer.specs.Tokens.{tokens_of, firsts_of}
 use Rattle.part_lexer.proofs.OriginLemmas.{length-origins}
 use Rattle.paste_origin.specs.Strings.{NotAString, stringize_of, string_text, string_token, is_string}
 use Rattle.part_lexer.specs.OneToken.{one_token_of}
-use Rattle.macro_expand.specs.Substitution.{put_in, line_number, digit_origins, path_text}
-use Rattle.include_tree.specs.Conditions.{answer_for}
-use Rattle.include_tree.specs.Files.{Table, SourceFile, source_file}
-use Rattle.include_tree.specs.KeptFiles.{KeptValue, kept_at}
-use Rattle.include_tree.specs.Notes.{Note}
-use Rattle.include_tree.specs.Sources.{read_as, source_kept, source_at}
-use Rattle.include_tree.specs.declared.events.Event.{Event}
-use Rattle.include_tree.specs.declared.events.EventKind.TheVariants as kind
-use Rattle.include_tree.specs.Laws.{IsGrown}
-use Rattle.include_tree.specs.Texts.{UnitTextValue, unit_text}
+use Rattle.macro_body.specs.Substitution.{put_in, line_number, digit_origins, path_text}
+use Rattle.unit_steps.specs.Conditions.{answer_for}
+use Rattle.source_files.specs.Files.{Table, SourceFile, source_file}
+use Rattle.source_files.specs.KeptFiles.{KeptValue, kept_at}
+use Rattle.unit_steps.specs.Notes.{Note}
+use Rattle.source_files.specs.Sources.{read_as, source_kept, source_at}
+use Rattle.unit_steps.specs.declared.events.Event.{Event}
+use Rattle.unit_steps.specs.declared.events.EventKind.TheVariants as kind
+use Rattle.source_files.specs.Tables.{IsGrown}
+use Rattle.unit_steps.specs.Texts.{UnitTextValue, unit_text}
 use Rattle.include_tree.proofs.StayingLemmas.{source-grown}
 use Rattle.expansion_laws.specs.Spelled.{fits, is_spelled}
 use Rattle.expansion_laws.proofs.ListLemmas.{AllToks, each_tok, toks_at, toks_pass}

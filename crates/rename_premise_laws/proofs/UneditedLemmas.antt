@@ -5,14 +5,14 @@ use Rattle.std.specs.Option.{option_map_or, is_none}
 use Rattle.cs_base.specs.declared.positions.Part.{Part}
 use Rattle.cs_base.specs.declared.positions.Pos.{Pos}
 use Rattle.part_lexer.specs.Places.{pos, origins_from}
-use Rattle.macro_expand.specs.Substitution.{digit_origins}
-use Rattle.include_tree.specs.KeptFiles.{KeptValue}
+use Rattle.macro_body.specs.Substitution.{digit_origins}
+use Rattle.source_files.specs.KeptFiles.{KeptValue}
 use Rattle.eclass_map.proofs.TokenFacts.{holding}
 use Rattle.part_respell.specs.Respelled.{member_over, put_at}
 use Rattle.ws_core.specs.Analysed.{Analysed}
 use Rattle.ws_core.specs.Analysis.{AnalysisValue}
 use Rattle.rename_premise_laws.specs.Allowed.{IsAllowed}
-use Rattle.rename_premise_laws.specs.Renamings.{spell_from, moved_in, move_to, origins_for, trace_from, renaming, RenamingsKeepUnedited}
+use Rattle.rename_premise_laws.specs.Renamings.{spell_from, moved_in, move_to, origins_for, trace_from, RenamingsKeepUnedited}
 use Rattle.rename_premise_laws.proofs.KeptLemmas.{nothing}
 use Rattle.rename_premise_laws.proofs.MemberLemmas.{over_in}
 use Rattle.rename_premise_laws.proofs.NoneLemmas.{none_stand, no_line}

@@ -12,26 +12,29 @@ use Rattle.std.specs.Fmt.{decimal}
 use Rattle.cs_base.specs.declared.positions.Pos.{Pos}
 use Rattle.part_lexer.specs.Characters.{is_word}
 use Rattle.part_lexer.specs.Places.{pos}
-use Rattle.macro_expand.specs.Substitution.{line_number, digit_origins}
+use Rattle.macro_body.specs.Substitution.{line_number, digit_origins}
 use Rattle.ws_file.specs.Workspace.{WorkspaceValue}
-use Rattle.include_tree.specs.declared.events.EventKind.{EventKind}
-use Rattle.include_tree.specs.declared.events.EventKind.TheVariants as kind
-use Rattle.include_tree.specs.Conditions.{answer_for, digit_place}
-use Rattle.include_tree.specs.Faults.{Fault, first_place}
-use Rattle.include_tree.specs.Files.{Source, SourceFile, Table, Carried, nothing_carried, Found, Lines, Made, entry, lines_path, defines_path, numbered, asked, opened}
-use Rattle.include_tree.specs.KeptFiles.{kept_at}
-use Rattle.include_tree.specs.Limits.{Limits, the_limits}
-use Rattle.include_tree.specs.Opening.{open_file}
-use Rattle.include_tree.specs.State.{Reader, Context, context, State, Outcome}
+use Rattle.unit_steps.specs.declared.events.EventKind.{EventKind}
+use Rattle.unit_steps.specs.declared.events.EventKind.TheVariants as kind
+use Rattle.unit_steps.specs.Conditions.{answer_for, digit_place}
+use Rattle.source_files.specs.Faults.{Fault, first_place}
+use Rattle.source_files.specs.Files.{Source, SourceFile, Table, Carried, nothing_carried, Found, Lines, Made, entry, lines_path, defines_path, numbered, asked, opened}
+use Rattle.source_files.specs.KeptFiles.{kept_at}
+use Rattle.source_files.specs.Limits.{Limits, the_limits}
+use Rattle.include_tree.specs.OpeningStep.{open_file}
+use Rattle.unit_steps.specs.State.{Context, context, State, Outcome}
+use Rattle.source_files.specs.Opening.{Reader}
 use Rattle.include_tree.specs.Unit.{first_state, outer_file, main_file, unit_outcome}
 use Rattle.include_tree.specs.Walk.{file_items}
 use Rattle.include_tree.proofs.OutcomeLemmas.{onward_done}
 use Rattle.include_tree.proofs.StayLemmas.{IsStable, Stays, open_file_stays}
 use Rattle.include_tree.proofs.StayingWalk.{files_stay}
-use Rattle.include_tree.specs.Laws.{IsGrown, IfDone}
-use Rattle.include_tree.specs.Notes.{Note}
-use Rattle.include_tree.specs.Texts.{UnitTextValue, unit_text, Preprocessed, preprocessed, preprocessed_by}
-use Rattle.include_tree.proofs.TableLemmas.{grown_refl, grown_trans, widens_asked, widens_opened}
+use Rattle.include_tree.specs.Laws.{IfDone}
+use Rattle.source_files.specs.Tables.{IsGrown}
+use Rattle.unit_steps.specs.Notes.{Note}
+use Rattle.unit_steps.specs.Texts.{UnitTextValue, unit_text}
+use Rattle.include_tree.specs.Preprocessed.{Preprocessed, preprocessed, preprocessed_by}
+use Rattle.source_files.proofs.TableLemmas.{grown_refl, grown_trans, widens_asked, widens_opened}
 use Rattle.include_tree.proofs.StayingLemmas.{source-grown}
 use Rattle.expansion_laws.specs.Pieces.{IsMadeOf}
 use Rattle.expansion_laws.proofs.ListLemmas.{toks_at}

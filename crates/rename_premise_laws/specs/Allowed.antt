@@ -3,7 +3,7 @@ use Rattle.std.specs.Prelude.{ℕ, ◌≡◌, true, None, List, Ok}
 use Rattle.cs_base.specs.declared.positions.Part.{Part}
 use Rattle.part_lexer.specs.Spelling.{is_identifier_text}
 use Rattle.ws_file.specs.Workspace.{WorkspaceValue}
-use Rattle.include_tree.specs.Files.{Source}
+use Rattle.source_files.specs.Files.{Source}
 use Rattle.ws_core.specs.Analysed.{Analysed}
 use Rattle.ws_core.specs.Analysis.{analysis_of}
 use Rattle.ws_core.specs.Classes.{AreItsClasses}

@@ -6,7 +6,7 @@ use Rattle.part_lexer.specs.Tokens.{tokens_of, firsts_of}
 use Rattle.line_shape.specs.Items.{lines_of}
 use Rattle.line_shape.specs.Signs.{is_hash}
 use Rattle.macro_expand.specs.Renaming.{Renaming}
-use Rattle.include_tree.specs.KeptFiles.{KeptValue, kept_at}
+use Rattle.source_files.specs.KeptFiles.{KeptValue, kept_at}
 use Rattle.part_respell.specs.Respelled.{spelled}
 use Rattle.rename_text_laws.specs.Lines.{Each, KeepsLine, defines, parameters_of}
 use Rattle.ws_core.specs.Analysed.{Analysed}

@@ -4,7 +4,7 @@ use Rattle.cs_base.specs.declared.positions.Part.{Part}
 use Rattle.cs_base.specs.Token.{Token}
 use Rattle.part_lexer.specs.Tokens.{tokens_of}
 use Rattle.macro_expand.specs.Renaming as macros
-use Rattle.include_tree.specs.KeptFiles.{KeptValue, kept_at}
+use Rattle.source_files.specs.KeptFiles.{KeptValue, kept_at}
 use Rattle.part_respell.specs.Respelled.{spelled}
 use Rattle.rename_text_laws.specs.Lines.{Each, KeepsToken}
 use Rattle.ws_core.specs.Analysed.{Analysed}

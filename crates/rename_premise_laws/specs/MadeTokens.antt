@@ -7,14 +7,14 @@ use Rattle.cs_base.specs.Units.{UnitValue}
 use Rattle.part_lexer.specs.FileText.{file_text}
 use Rattle.paste_origin.specs.Pasting.{glue_of}
 use Rattle.paste_origin.specs.Strings.{stringize_of}
-use Rattle.macro_expand.specs.Notes as expansion
+use Rattle.macro_body.specs.Notes as expansion
 use Rattle.macro_expand.specs.Renaming.{Renaming, renamed, labelled_as}
-use Rattle.include_tree.specs.Files.{Source, Carried}
-use Rattle.include_tree.specs.Laws.{IsGrown}
-use Rattle.include_tree.specs.Limits.{the_limits}
-use Rattle.include_tree.specs.Notes.{Happened}
-use Rattle.include_tree.specs.State.{Did}
-use Rattle.include_tree.specs.Texts.{unit_text}
+use Rattle.source_files.specs.Files.{Source, Carried}
+use Rattle.source_files.specs.Tables.{IsGrown}
+use Rattle.source_files.specs.Limits.{the_limits}
+use Rattle.unit_steps.specs.Notes.{Happened}
+use Rattle.unit_steps.specs.State.{Did}
+use Rattle.unit_steps.specs.Texts.{unit_text}
 use Rattle.include_tree.specs.Unit.{unit_outcome}
 use Rattle.part_respell.specs.Respelled.{spelled}
 use Rattle.ws_core.specs.Analysed.{Analysed}

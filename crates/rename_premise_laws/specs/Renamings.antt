@@ -9,10 +9,10 @@ use Rattle.cs_base.specs.Token.{Token}
 use Rattle.part_lexer.specs.Places.{pos, origins_from}
 use Rattle.part_lexer.specs.Tokens.{tokens_of, firsts_of, open_comment_of}
 use Rattle.macro_expand.specs.Renaming.{Renaming, renamed}
-use Rattle.macro_expand.specs.Substitution.{digit_origins}
-use Rattle.include_tree.specs.declared.events.Event.{Event}
-use Rattle.include_tree.specs.KeptFiles.{KeptValue, kept_at}
-use Rattle.include_tree.specs.Texts.{UnitTextValue}
+use Rattle.macro_body.specs.Substitution.{digit_origins}
+use Rattle.unit_steps.specs.declared.events.Event.{Event}
+use Rattle.source_files.specs.KeptFiles.{KeptValue, kept_at}
+use Rattle.unit_steps.specs.Texts.{UnitTextValue}
 use Rattle.part_respell.specs.Respelled.{put_at, put_for, respelled, spelled}
 use Rattle.rename_text_laws.specs.EditedFiles.{moved_to}
 use Rattle.ws_core.specs.Analysed.{Analysed}

@@ -6,7 +6,7 @@ use Rattle.cs_base.specs.declared.tokens.Link.{Link}
 use Rattle.cs_base.specs.Token.{Token}
 use Rattle.part_lexer.specs.Tokens.{tokens_of}
 use Rattle.line_shape.specs.Signs.{is_name}
-use Rattle.include_tree.specs.KeptFiles.{KeptValue, kept_at}
+use Rattle.source_files.specs.KeptFiles.{KeptValue, kept_at}
 use Rattle.part_respell.specs.Respelled.{spelled}
 use Rattle.ws_core.specs.Analysed.{Analysed}
 use Rattle.ws_core.specs.Analysis.{UnitAnalysis, AnalysisValue}

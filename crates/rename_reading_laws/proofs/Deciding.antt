@@ -3,11 +3,12 @@ use Rattle.std.proofs.Common.{ℕ, ◌+◌, ◌≡◌, Bool, true, false, ◌&&�
 use Rattle.std.proofs.lemmas.Bool.{and_parts}
 use Rattle.cs_base.specs.Token.{Token}
 use Rattle.c99_tree.specs.declared.production.Production.{Production}
-use Rattle.c99_read.specs.Classes.{among}
-use Rattle.c99_read.specs.Items.{Item, one, part, end_of_text, act, ◌·◌, choice, maybe, many, deep, Test, own, otherwise, next, next_two, Ask, is, is_not, begins, either}
-use Rattle.c99_read.specs.Standard.{c99}
+use Rattle.c99_grammar.specs.Classes.{among}
+use Rattle.c99_grammar.specs.Items.{Item, one, part, end_of_text, act, ◌·◌, choice, maybe, many, deep, Test, own, otherwise, next, next_two, Ask, is, is_not, begins, either}
+use Rattle.c99_grammar.specs.Standard.{c99}
 use Rattle.c99_read.specs.State.{State, class_at, base_at}
-use Rattle.c99_read.specs.Reading.{is_passed, production_starts, asks, holds, starts, may}
+use Rattle.c99_read.specs.Reading.{may}
+use Rattle.c99_grammar.specs.Starting.{is_passed, production_starts, asks, holds, starts}
 use Rattle.c99_read.proofs.Alike.{swapped}
 use Rattle.rename_reading_laws.proofs.Private.{Class, end_class, colons}
 use Rattle.rename_reading_laws.proofs.Twins.{agree_is, blind, plain_class, alike_by, blind_same, same_class, Same}

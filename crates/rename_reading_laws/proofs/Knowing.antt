@@ -2,8 +2,8 @@
 use Rattle.std.proofs.Common.{ℕ, ◌+◌, ◌≡◌, ◌⊎◌, Bool, true, false, if◌then◌else◌, List, refl, sym, ap, ◌∙◌, inl}
 use Rattle.std.proofs.lemmas.Bool.{false≢true}
 use Rattle.cs_base.specs.Token.{Token}
-use Rattle.c99_read.specs.Classes.{among}
-use Rattle.c99_read.specs.Standard.{c99}
+use Rattle.c99_grammar.specs.Classes.{among}
+use Rattle.c99_grammar.specs.Standard.{c99}
 use Rattle.c99_read.specs.State.{base_at, is_identifier}
 use Rattle.rename_reading_laws.specs.Respelled.{Declaration}
 use Rattle.rename_reading_laws.proofs.Private.{identifier, colons}

@@ -5,11 +5,12 @@ use Rattle.cs_base.specs.Token.{Token}
 use Rattle.c99_tree.specs.Tree.{Forest, none, token, node}
 use Rattle.c99_tree.specs.declared.production.Label.{Label}
 use Rattle.c99_tree.specs.declared.production.Production.{Production}
-use Rattle.c99_read.specs.Classes.{among}
-use Rattle.c99_read.specs.Items.{Item, one, part, end_of_text, act, ◌·◌, choice, maybe, many, deep, own, otherwise, next, next_two, Test, Ask, is, Action, scope, end, declare, name, keep, again, Alternative}
-use Rattle.c99_read.specs.Standard.{c99}
+use Rattle.c99_grammar.specs.Classes.{among}
+use Rattle.c99_grammar.specs.Items.{Item, one, part, end_of_text, act, ◌·◌, choice, maybe, many, deep, own, otherwise, next, next_two, Test, Ask, is, Action, scope, end, declare, name, keep, again, Alternative}
+use Rattle.c99_grammar.specs.Standard.{c99}
 use Rattle.c99_read.specs.State.{State, base_at, is_identifier, class_at, last_identifier, with_declared, acted, opened, closed}
-use Rattle.c99_read.specs.Reading.{Goal, produce, repeat, Step, and_then, syntax, too_deep, take_one, at_end, enter, asks, may, step, pick, read_within}
+use Rattle.c99_read.specs.Reading.{Goal, produce, repeat, Step, and_then, syntax, too_deep, take_one, at_end, enter, may, step, pick, read_within}
+use Rattle.c99_grammar.specs.Starting.{asks}
 use Rattle.c99_read.proofs.Alike.{swapped}
 use Rattle.rename_reading_laws.specs.Along.{along_rest, along_item, along_first, along_within}
 use Rattle.rename_reading_laws.proofs.Private.{Class, identifier, typedef_name, colons, parens, covers}

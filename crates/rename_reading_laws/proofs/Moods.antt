@@ -3,11 +3,11 @@ use Rattle.std.proofs.Common.{ℕ, ◌+◌, Bool, true, false, ◌&&◌, ◌||�
 use Rattle.c99_tree.specs.declared.production.Label.{Label}
 use Rattle.c99_tree.specs.declared.production.Production.{Production}
 use Rattle.c99_tree.specs.declared.production.Production.TheVariants.{ExtRest, DeclRest, InitDecl, SuRest, Members, Mdecl, EnRest, Enumerators, Enumerator, Declarator, Direct, Pdecl, Pdirect, Cast, Unary, SizeRest, Primary, Suffix, Statement, BlockItem, Sub, Main, Params}
-use Rattle.c99_read.specs.Classes.{among}
-use Rattle.c99_read.specs.Items.{Item, one, part, end_of_text, act, ◌·◌, choice, maybe, many, deep, Test, own, otherwise, next, next_two, Ask, is, is_not, begins, either, scope, Alternative}
-use Rattle.c99_read.specs.Standard.{c99}
+use Rattle.c99_grammar.specs.Classes.{among}
+use Rattle.c99_grammar.specs.Items.{Item, one, part, end_of_text, act, ◌·◌, choice, maybe, many, deep, Test, own, otherwise, next, next_two, Ask, is, is_not, begins, either, scope, Alternative}
+use Rattle.c99_grammar.specs.Standard.{c99}
 use Rattle.c99_read.specs.State.{is_identifier, has_name}
-use Rattle.c99_read.specs.Reading.{is_passed}
+use Rattle.c99_grammar.specs.Starting.{is_passed}
 use Rattle.rename_reading_laws.proofs.Private.{Class, identifier, typedef_name, colons, parens, covers}
 use Rattle.rename_reading_laws.proofs.Twins.{agree, blind}
 

@@ -5,9 +5,9 @@ use Rattle.cs_base.specs.Token.{Token}
 use Rattle.c99_tree.specs.Tree.{Forest, none, token, node, Node, leaf, inner, put, lone, collapsed}
 use Rattle.c99_tree.specs.declared.production.Label.{Label}
 use Rattle.c99_tree.specs.declared.production.Production.{Production}
-use Rattle.c99_read.specs.Classes.{among}
-use Rattle.c99_read.specs.Items.{Action, scope, end, declare, name, keep, again}
-use Rattle.c99_read.specs.Standard.{c99}
+use Rattle.c99_grammar.specs.Classes.{among}
+use Rattle.c99_grammar.specs.Items.{Action, scope, end, declare, name, keep, again}
+use Rattle.c99_grammar.specs.Standard.{c99}
 use Rattle.c99_read.specs.State.{State, Names, Head, base_at, is_identifier, class_at, is_declaring, has_name, name_below, last_declared, last_identifier, declaration, in_innermost, with_declared, with_scope_ended, given_names, acted, is_declarator, collapses, with_head, head_closed, names_opened, names_closed, finished, opened, closed}
 use Rattle.rename_reading_laws.specs.Respelled.{Declaration}
 use Rattle.rename_reading_laws.proofs.Private.{Class, covers}

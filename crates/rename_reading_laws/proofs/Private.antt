@@ -3,11 +3,12 @@ use Rattle.std.proofs.Common.{Bool, ◌&&◌, List, [], ◌∷◌, drop}
 use Rattle.std.specs.List.{list_all}
 use Rattle.cs_base.specs.declared.tokens.Kind.TheVariants as kind
 use Rattle.c99_tree.specs.declared.production.Production.TheVariants.{Statement, Pdirect}
-use Rattle.c99_read.specs.Grammar.{table}
-use Rattle.c99_read.specs.Items.{names, Test, own, next_two, Ask, is, Alternative}
-use Rattle.c99_read.specs.Spellings.{keywords, punctuators}
-use Rattle.c99_read.specs.Standard.{c99}
-use Rattle.c99_read.specs.State.{base_class, class_of_kind, base_at}
+use Rattle.c99_grammar.specs.Grammar.{table}
+use Rattle.c99_grammar.specs.Items.{names, Test, own, next_two, Ask, is, Alternative}
+use Rattle.c99_grammar.specs.Spellings.{keywords, punctuators}
+use Rattle.c99_grammar.specs.Standard.{c99}
+use Rattle.c99_read.specs.State.{base_at}
+use Rattle.c99_grammar.specs.TokenClasses.{base_class, class_of_kind}
 use Rattle.rename_reading_laws.specs.Respelled.{Given}
 
 abbrev pub Class : Type 0

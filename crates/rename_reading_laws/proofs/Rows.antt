@@ -4,8 +4,9 @@ use Rattle.std.specs.Prelude.{codes}
 use Rattle.cs_base.specs.Token.{Token}
 use Rattle.cs_base.specs.declared.tokens.Kind.TheVariants.{Ident, Punct}
 use Rattle.c99_read.specs.Reading.{read_within, take_one, at_end, enter}
-use Rattle.c99_read.specs.Standard.{c99}
-use Rattle.c99_read.specs.State.{spelled_class, base_class, class_at, acted, opened, closed}
+use Rattle.c99_grammar.specs.Standard.{c99}
+use Rattle.c99_read.specs.State.{class_at, acted, opened, closed}
+use Rattle.c99_grammar.specs.TokenClasses.{spelled_class, base_class}
 use Rattle.c99_read.proofs.ReadRows.{tok}
 use Rattle.rename_reading_laws.specs.Along.{all_along, along_within}
 use Rattle.rename_reading_laws.specs.Respelled.{is_kind_so, is_token_so, is_node_so}

@@ -5,11 +5,13 @@ use Rattle.std.proofs.lemmas.Bool.{false≢true, and_parts, and_from, or_cases}
 use Rattle.cs_base.specs.Token.{Token}
 use Rattle.c99_tree.specs.declared.production.Label.{Label}
 use Rattle.c99_tree.specs.declared.production.Production.{Production}
-use Rattle.c99_read.specs.Classes.{among}
-use Rattle.c99_read.specs.Items.{Item, one, part, end_of_text, act, ◌·◌, choice, maybe, many, deep, own, Test, next_two, is, Action, scope, Alternative}
-use Rattle.c99_read.specs.Standard.{c99}
-use Rattle.c99_read.specs.State.{State, base_class, base_at, is_identifier, class_at, acted, opened, closed}
-use Rattle.c99_read.specs.Reading.{Goal, produce, repeat, Step, enter, asks, may, step, pick, run, read_within}
+use Rattle.c99_grammar.specs.Classes.{among}
+use Rattle.c99_grammar.specs.Items.{Item, one, part, end_of_text, act, ◌·◌, choice, maybe, many, deep, own, Test, next_two, is, Action, scope, Alternative}
+use Rattle.c99_grammar.specs.Standard.{c99}
+use Rattle.c99_read.specs.State.{State, base_at, is_identifier, class_at, acted, opened, closed}
+use Rattle.c99_grammar.specs.TokenClasses.{base_class}
+use Rattle.c99_read.specs.Reading.{Goal, produce, repeat, Step, enter, may, step, pick, run, read_within}
+use Rattle.c99_grammar.specs.Starting.{asks}
 use Rattle.rename_reading_laws.specs.Along.{along_rest, along_item, along_first, along_goal, along_within}
 use Rattle.rename_reading_laws.proofs.Private.{Class, identifier, typedef_name, end_class, no_class, colons, parens, covers}
 use Rattle.rename_reading_laws.proofs.Twins.{implied, refuted, plain_is, plain_class, class_so, Same}

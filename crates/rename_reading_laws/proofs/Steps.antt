@@ -4,8 +4,8 @@ use Rattle.std.proofs.lemmas.Bool.{false≢true}
 use Rattle.cs_base.specs.Token.{Token}
 use Rattle.c99_tree.specs.Tree.{leaf, put}
 use Rattle.c99_tree.specs.declared.production.Production.{Production}
-use Rattle.c99_read.specs.Classes.{among}
-use Rattle.c99_read.specs.Standard.{c99}
+use Rattle.c99_grammar.specs.Classes.{among}
+use Rattle.c99_grammar.specs.Standard.{c99}
 use Rattle.c99_read.specs.State.{State, Names, base_at, is_identifier, is_typedef_at, class_at, is_declarator, with_head, head_closed, names_opened, names_closed, opened, closed}
 use Rattle.c99_read.specs.Reading.{Stop, syntax, too_deep, Step, and_then, take_one, at_end, enter}
 use Rattle.rename_reading_laws.specs.Respelled.{Declaration}

@@ -5,9 +5,9 @@ use Rattle.cs_base.specs.Token.{Token}
 use Rattle.c99_tree.specs.Tree.{Node}
 use Rattle.c99_tree.specs.declared.production.Production.{Production}
 use Rattle.c99_tree.specs.declared.production.Production.TheVariants.{TranslationUnit, Main, Primary, Params, Pdirect}
-use Rattle.c99_read.specs.Classes.{among}
-use Rattle.c99_read.specs.First.{order}
-use Rattle.c99_read.specs.Standard.{c99}
+use Rattle.c99_grammar.specs.Classes.{among}
+use Rattle.c99_grammar.specs.First.{order}
+use Rattle.c99_grammar.specs.Standard.{c99}
 use Rattle.c99_read.specs.State.{State, base_at, is_identifier, is_typedef_at, class_at}
 use Rattle.c99_read.specs.Reading.{Goal, produce, Step, steps_for, read_within, whole, at_first, tree_of, read_of}
 use Rattle.c99_read.proofs.Alike.{swapped}

@@ -2,8 +2,8 @@
 use Rattle.std.proofs.Common.{ℕ, ◌≡◌, Bool, true, false, ◌&&◌, ◌||◌, not, if◌then◌else◌, List, refl, sym, ap, subst, ◌∙◌}
 use Rattle.std.proofs.lemmas.Bool.{false≢true}
 use Rattle.cs_base.specs.Token.{Token}
-use Rattle.c99_read.specs.Classes.{among}
-use Rattle.c99_read.specs.Standard.{c99}
+use Rattle.c99_grammar.specs.Classes.{among}
+use Rattle.c99_grammar.specs.Standard.{c99}
 use Rattle.c99_read.specs.State.{State, base_at, is_identifier, is_typedef_at, class_at}
 use Rattle.c99_read.proofs.Alike.{swapped}
 use Rattle.rename_reading_laws.specs.Respelled.{Declaration}

@@ -5,7 +5,7 @@ use Rattle.std.specs.Str.{bytes_eq}
 use Rattle.std.proofs.lemmas.Bool.{false≢true}
 use Rattle.cs_base.specs.Token.{Token}
 use Rattle.c99_tree.specs.Names.{latest}
-use Rattle.c99_read.specs.Standard.{c99}
+use Rattle.c99_grammar.specs.Standard.{c99}
 use Rattle.c99_read.specs.State.{base_at, is_identifier, is_typedef_at, spelling_at, spelled_scope}
 use Rattle.rename_reading_laws.specs.Respelled.{Declaration, declared_in, or_outer, denoted}
 use Rattle.rename_reading_laws.proofs.Named.{AllIn, AllScopes}

@@ -3,8 +3,9 @@ use Rattle.std.specs.Prelude.{ℕ, zero, suc, ◌+◌, ◌&&◌, Bool, true, Lis
 use Rattle.cs_base.specs.Token.{Token}
 use Rattle.c99_tree.specs.declared.production.Production.{Production}
 use Rattle.c99_tree.specs.declared.production.Production.TheVariants.{TranslationUnit}
-use Rattle.c99_read.specs.Items.{Item, one, part, end_of_text, act, ◌·◌, choice, maybe, many, deep, own, Alternative}
-use Rattle.c99_read.specs.State.{Grammar, State, opened}
+use Rattle.c99_grammar.specs.Items.{Item, one, part, end_of_text, act, ◌·◌, choice, maybe, many, deep, own, Alternative}
+use Rattle.c99_read.specs.State.{State, opened}
+use Rattle.c99_grammar.specs.Standard.{Grammar}
 use Rattle.c99_read.specs.Reading.{Goal, produce, repeat, Step, may, step, read_within, steps_for, at_first}
 
 -- it is so in the state that is left, or reading has stopped

@@ -11,20 +11,22 @@ use Rattle.cs_base.specs.Token.{Token}
 use Rattle.cs_base.specs.Units.{UnitValue, IsUnit, defines_text}
 use Rattle.part_lexer.specs.FileText.{file_text}
 use Rattle.ws_file.specs.Workspace.{WorkspaceValue, IsWorkspace}
-use Rattle.include_tree.specs.Faults.{Fault, first_place}
-use Rattle.include_tree.specs.Files.{Source, SourceFile, Found, Unopened, Opened, Made, Table, Carried, nothing_carried, defines_path, numbered, found_at, found_in, asked, opened}
-use Rattle.include_tree.specs.Laws.{AreFound, IfDone}
-use Rattle.include_tree.specs.Limits.{Limits, the_limits}
-use Rattle.include_tree.specs.Opening.{open_file}
+use Rattle.source_files.specs.Faults.{Fault, first_place}
+use Rattle.source_files.specs.Files.{Source, SourceFile, Found, Unopened, Opened, Made, Table, Carried, nothing_carried, defines_path, numbered, found_at, found_in, asked, opened}
+use Rattle.include_tree.specs.Laws.{IfDone}
+use Rattle.source_files.specs.Tables.{AreFound}
+use Rattle.source_files.specs.Limits.{Limits, the_limits}
+use Rattle.include_tree.specs.OpeningStep.{open_file}
 use Rattle.include_tree.specs.PseudoFiles.{is_pseudo}
-use Rattle.include_tree.specs.State.{Reader, Context, context, State, Outcome}
-use Rattle.include_tree.specs.Texts.{Preprocessed, preprocessed, preprocessed_by}
+use Rattle.unit_steps.specs.State.{Context, context, State, Outcome}
+use Rattle.source_files.specs.Opening.{Reader}
+use Rattle.include_tree.specs.Preprocessed.{Preprocessed, preprocessed, preprocessed_by}
 use Rattle.include_tree.specs.Unit.{first_state, outer_file, main_file, unit_outcome}
 use Rattle.include_tree.specs.Walk.{file_items}
 use Rattle.include_tree.proofs.OutcomeLemmas.{onward_done}
 use Rattle.include_tree.proofs.StayLemmas.{IsStable, Stays, open_file_stays}
 use Rattle.include_tree.proofs.StayingWalk.{files_stay}
-use Rattle.include_tree.proofs.TableLemmas.{widens_asked, widens_opened}
+use Rattle.source_files.proofs.TableLemmas.{widens_asked, widens_opened}
 use Rattle.ws_core.specs.Analysis.{UnitsValue, AnalysisValue, analysis_and, with_unit, unit_read, analysed_from, analysis_of}
 use Rattle.ws_core.specs.Texts.{UnitFault, unit_fault, unit_with}
 use Rattle.rename_premise_laws.proofs.UnitsLemmas.{done_first, unmapped, ok_same}

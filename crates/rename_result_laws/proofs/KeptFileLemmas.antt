@@ -13,10 +13,10 @@ use Rattle.part_lexer.specs.Places.{pos}
 use Rattle.part_lexer.specs.Respelling.{Put, edited_from as bytes_edited, edited}
 use Rattle.part_lexer.specs.Tokens.{tokens_of, firsts_of}
 use Rattle.line_shape.specs.Items.{lines_of}
-use Rattle.include_tree.specs.Files.{Source, SourceFile, source_file, Found, Lines, Absent, Unopened, Opened, Made, Entry, entry, Table}
-use Rattle.include_tree.specs.KeptFiles.{KeptValue, kept, kept_in, kept_at}
-use Rattle.include_tree.specs.Sources.{read_as, source_kept, source_at}
-use Rattle.include_tree.specs.Texts.{UnitTextValue, text_of}
+use Rattle.source_files.specs.Files.{Source, SourceFile, source_file, Found, Lines, Absent, Unopened, Opened, Made, Entry, entry, Table}
+use Rattle.source_files.specs.KeptFiles.{KeptValue, kept, kept_in, kept_at}
+use Rattle.source_files.specs.Sources.{read_as, source_kept, source_at}
+use Rattle.unit_steps.specs.Texts.{UnitTextValue, text_of}
 use Rattle.include_tree.specs.PseudoFiles.{is_pseudo}
 use Rattle.eclass_map.specs.Positions.{holds}
 use Rattle.eclass_map.proofs.TokenFacts.{holding}

@@ -10,16 +10,16 @@ use Rattle.cs_base.specs.Token.{Token, origin_at}
 use Rattle.part_lexer.specs.Places.{pos, origins_from}
 use Rattle.part_lexer.specs.Spelling.{is_identifier_text}
 use Rattle.line_shape.specs.Signs.{is_name}
-use Rattle.macro_expand.specs.Notes as expansion
+use Rattle.macro_body.specs.Notes as expansion
 use Rattle.macro_expand.specs.Renaming.{renamed}
 use Rattle.macro_expand.specs.Renaming as macros
-use Rattle.include_tree.specs.declared.events.Event.{Event}
-use Rattle.include_tree.specs.declared.events.EventKind.TheVariants as kind
-use Rattle.include_tree.specs.Files.{Source}
-use Rattle.include_tree.specs.KeptFiles.{KeptValue, kept_at}
-use Rattle.include_tree.specs.Notes.{Note, Reaches, Happened, Defined, Undefined, Tested, Left, Linked, Answered, Named, Entered, Exited, named_event, before_in, pasted_of, header_of, events_of}
-use Rattle.include_tree.specs.State.{Did}
-use Rattle.include_tree.specs.Texts.{UnitTextValue, unit_text}
+use Rattle.unit_steps.specs.declared.events.Event.{Event}
+use Rattle.unit_steps.specs.declared.events.EventKind.TheVariants as kind
+use Rattle.source_files.specs.Files.{Source}
+use Rattle.source_files.specs.KeptFiles.{KeptValue, kept_at}
+use Rattle.unit_steps.specs.Notes.{Note, Reaches, Happened, Defined, Undefined, Tested, Left, Linked, Answered, Named, Entered, Exited, named_event, before_in, pasted_of, header_of, events_of}
+use Rattle.unit_steps.specs.State.{Did}
+use Rattle.unit_steps.specs.Texts.{UnitTextValue, unit_text}
 use Rattle.part_respell.specs.Respelled.{member_over, put_in, put_at}
 use Rattle.expansion_laws.proofs.ListLemmas.{toks_at}
 use Rattle.unit_laws.specs.UnitLinks.{IsIn}

@@ -13,17 +13,17 @@ use Rattle.cs_base.specs.Token.{Token, has_origins}
 use Rattle.part_lexer.specs.Tokens.{tokens_of}
 use Rattle.paste_origin.specs.Strings.{string_text, string_token}
 use Rattle.line_shape.specs.Signs.{is_name}
-use Rattle.macro_expand.specs.Notes as expansion
+use Rattle.macro_body.specs.Notes as expansion
 use Rattle.macro_expand.specs.Renaming.{Renaming, renamed}
 use Rattle.macro_expand.specs.Renaming as macros
-use Rattle.macro_expand.specs.Substitution.{put_in, path_text, path_string}
-use Rattle.include_tree.specs.Conditions.{digit_of, digit_place}
-use Rattle.include_tree.specs.Files.{SourceFile, Found, Lines, Absent, Unopened, Opened, Made, entry, Table}
-use Rattle.include_tree.specs.KeptFiles.{KeptValue, kept, kept_in, kept_at}
-use Rattle.include_tree.specs.Laws.{IsGrown}
-use Rattle.include_tree.specs.Notes.{Note, Happened, pasted_of}
-use Rattle.include_tree.specs.Sources.{source_at}
-use Rattle.include_tree.specs.Texts.{UnitTextValue, unit_text}
+use Rattle.macro_body.specs.Substitution.{put_in, path_text, path_string}
+use Rattle.unit_steps.specs.Conditions.{digit_of, digit_place}
+use Rattle.source_files.specs.Files.{SourceFile, Found, Lines, Absent, Unopened, Opened, Made, entry, Table}
+use Rattle.source_files.specs.KeptFiles.{KeptValue, kept, kept_in, kept_at}
+use Rattle.source_files.specs.Tables.{IsGrown}
+use Rattle.unit_steps.specs.Notes.{Note, Happened, pasted_of}
+use Rattle.source_files.specs.Sources.{source_at}
+use Rattle.unit_steps.specs.Texts.{UnitTextValue, unit_text}
 use Rattle.include_tree.proofs.StayingLemmas.{source-grown}
 use Rattle.expansion_laws.proofs.ListLemmas.{AllToks, each_tok}
 use Rattle.expansion_laws.proofs.TellingLemmas.{string_is}

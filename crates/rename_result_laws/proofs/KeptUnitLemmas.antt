@@ -5,14 +5,15 @@ use Rattle.cs_base.specs.declared.positions.Part.{Part}
 use Rattle.cs_base.specs.Token.{Token}
 use Rattle.cs_base.specs.Units.{UnitValue}
 use Rattle.part_lexer.specs.FileText.{file_text}
-use Rattle.include_tree.specs.Faults.{Fault}
-use Rattle.include_tree.specs.Files.{Source, Table, Carried, carried, nothing_carried}
-use Rattle.include_tree.specs.Laws.{IsGrown}
-use Rattle.include_tree.specs.Limits.{the_limits}
-use Rattle.include_tree.specs.State.{Did}
-use Rattle.include_tree.specs.Texts.{unit_text, Preprocessed, preprocessed, preprocessed_by}
+use Rattle.source_files.specs.Faults.{Fault}
+use Rattle.source_files.specs.Files.{Source, Table, Carried, carried, nothing_carried}
+use Rattle.source_files.specs.Tables.{IsGrown}
+use Rattle.source_files.specs.Limits.{the_limits}
+use Rattle.unit_steps.specs.State.{Did}
+use Rattle.unit_steps.specs.Texts.{unit_text}
+use Rattle.include_tree.specs.Preprocessed.{Preprocessed, preprocessed, preprocessed_by}
 use Rattle.include_tree.specs.Unit.{unit_outcome}
-use Rattle.include_tree.proofs.TableLemmas.{grown_refl, grown_trans}
+use Rattle.source_files.proofs.TableLemmas.{grown_refl, grown_trans}
 use Rattle.rename_text_laws.specs.Lines.{Each}
 use Rattle.rename_unit_laws.specs.EditedFiles.{HoldsEdited}
 use Rattle.rename_unit_laws.specs.Keeping.{KeepsUnit}

@@ -17,9 +17,9 @@ use Rattle.std.proofs.lemmas.Option.{none-some, same_Some, slice_get_within}
 use Rattle.cs_base.specs.declared.positions.Part.{Part}
 use Rattle.cs_base.proofs.FileMapLemmas.{bytes_eq-same, bytes_eq-equal}
 use Rattle.line_shape.specs.MacroLine.{are_distinct}
-use Rattle.include_tree.specs.Files.{Entry, Table}
-use Rattle.include_tree.specs.KeptFiles.{KeptValue, kept_in, kept_at}
-use Rattle.include_tree.specs.Laws.{paths_in, HasEachOnce}
+use Rattle.source_files.specs.Files.{Entry, Table}
+use Rattle.source_files.specs.KeptFiles.{KeptValue, kept_in, kept_at}
+use Rattle.source_files.specs.Tables.{paths_in, HasEachOnce}
 use Rattle.ws_core.specs.Analysed.{Analysed}
 use Rattle.ws_core.specs.Analysis.{AnalysisValue}
 use Rattle.ws_core.specs.Parts.{part_cmp}

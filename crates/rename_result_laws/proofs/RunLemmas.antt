@@ -8,7 +8,7 @@ use Rattle.cs_base.specs.declared.positions.Pos.{Pos}
 use Rattle.part_lexer.specs.Logical.{gone_length}
 use Rattle.part_lexer.specs.Places.{pos}
 use Rattle.part_lexer.specs.Respelling.{Put, edited_from as bytes_edited, edited}
-use Rattle.include_tree.specs.KeptFiles.{KeptValue, kept_at}
+use Rattle.source_files.specs.KeptFiles.{KeptValue, kept_at}
 use Rattle.eclass_map.specs.Positions.{holds}
 use Rattle.eclass_map.proofs.TokenFacts.{holding}
 use Rattle.part_respell.specs.Respelled.{member_over, put_in, put_of, respelled}

@@ -7,8 +7,8 @@ use Rattle.std.proofs.lemmas.Bool.{cases_Bool, cases_lt, both_ways, eq-eqb, eqb-
 use Rattle.std.proofs.lemmas.Option.{same_Some}
 use Rattle.cs_base.specs.declared.positions.Part.{Part}
 use Rattle.part_lexer.specs.FileText.{most_bytes}
-use Rattle.include_tree.specs.Files.{Found, Lines, Absent, Unopened, Opened, Made, Entry, entry, Table, opened_bytes, more_bytes, bytes_opened}
-use Rattle.include_tree.specs.KeptFiles.{KeptValue, kept, kept_bytes, kept_in, kept_at}
+use Rattle.source_files.specs.Files.{Found, Lines, Absent, Unopened, Opened, Made, Entry, entry, Table, opened_bytes, more_bytes, bytes_opened}
+use Rattle.source_files.specs.KeptFiles.{KeptValue, kept, kept_bytes, kept_in, kept_at}
 use Rattle.include_tree.specs.PseudoFiles.{is_pseudo}
 use Rattle.part_respell.specs.Respelled.{respelled}
 use Rattle.rename_unit_laws.specs.Edited.{edited_found, edited_from}

@@ -3,8 +3,8 @@ use Rattle.std.specs.Prelude.{ℕ, ◌-◌, ◌≡◌, Option, Some, None, List,
 use Rattle.cs_base.specs.declared.positions.Part.{Part}
 use Rattle.part_respell.specs.Respelled.{respelled}
 use Rattle.ws_file.specs.Workspace.{IsWorkspace}
-use Rattle.include_tree.specs.Files.{Source, nothing_carried}
-use Rattle.include_tree.specs.Laws.{HasEachOnce}
+use Rattle.source_files.specs.Files.{Source, nothing_carried}
+use Rattle.source_files.specs.Tables.{HasEachOnce}
 use Rattle.rename_text_laws.specs.Lines.{Each}
 use Rattle.rename_unit_laws.specs.EditedFiles.{HoldsEdited}
 use Rattle.rename_unit_laws.specs.Keeping.{Change}

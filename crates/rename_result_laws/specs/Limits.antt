@@ -4,10 +4,10 @@ use Rattle.cs_base.specs.declared.positions.Part.{Part}
 use Rattle.part_lexer.specs.FileText.{most_bytes}
 use Rattle.part_respell.specs.Respelled.{respelled}
 use Rattle.ws_file.specs.Workspace.{IsWorkspace}
-use Rattle.include_tree.specs.Files.{bytes_opened}
-use Rattle.include_tree.specs.KeptFiles.{KeptValue, kept_at}
-use Rattle.include_tree.specs.Laws.{HasEachOnce}
-use Rattle.include_tree.specs.Limits.{the_limits}
+use Rattle.source_files.specs.Files.{bytes_opened}
+use Rattle.source_files.specs.KeptFiles.{KeptValue, kept_at}
+use Rattle.source_files.specs.Tables.{HasEachOnce}
+use Rattle.source_files.specs.Limits.{the_limits}
 use Rattle.rename_unit_laws.specs.Edited.{edited_table}
 use Rattle.ws_core.specs.Analysed.{Analysed}
 use Rattle.ws_core.specs.Analysis.{AnalysisValue}

@@ -1,11 +1,10 @@
 // New spellings that occur already.
-ghost use Rattle.std.specs.Prelude.{◌≡◌, ◌++◌, [], IfOk, Some, length, slice_get};
+ghost use Rattle.std.specs.Prelude.{◌≡◌, [], IfOk, Some};
 ghost use Rattle.std.specs.List.{flat_map};
 ghost use Rattle.std.specs.Option.{option_map_or};
 ghost use Rattle.cs_base.specs.declared.causes.Cause.TheVariants as cause;
-ghost use Rattle.include_tree.specs.KeptFiles.{kept_at};
+ghost use Rattle.source_files.specs.KeptFiles.{kept_at};
 ghost use Rattle.part_lexer.specs.Tokens.{tokens_of};
-ghost use Rattle.ws_core.specs.BroughtNumbers.{all_brought};
 ghost use Rattle.rename_rules.specs.First.{standing, FirstThen};
 ghost use Rattle.rename_rules.specs.Offences.{occurring_place, occurring_places};
 ghost use Rattle.rename_rules.specs.Respellings.{AreRespellings};

@@ -1,10 +1,10 @@
 // Files that would grow past the limits.
-ghost use Rattle.std.specs.Prelude.{◌≡◌, ◌≤◌, ◌<◌, ◌+◌, ◌==◌, ◌||◌, min, ℕ, IfOk, Ok, Some, length, take, drop, slice_get, if◌then◌else◌};
+ghost use Rattle.std.specs.Prelude.{◌≡◌, ◌≤◌, ◌<◌, ◌+◌, ◌==◌, ◌||◌, min, ℕ, IfOk, Ok, Some, length, slice_get};
 ghost use Rattle.std.specs.Prelude.{List};
-ghost use Rattle.std.specs.List.{flat_map, list_any, prefix_len};
+ghost use Rattle.std.specs.List.{flat_map, prefix_len};
 ghost use Rattle.std.specs.Option.{option_map_or};
 ghost use Rattle.cs_base.specs.declared.causes.Cause.TheVariants as cause;
-ghost use Rattle.include_tree.specs.KeptFiles.{kept_at};
+ghost use Rattle.source_files.specs.KeptFiles.{kept_at};
 ghost use Rattle.include_tree.specs.PseudoFiles.{is_pseudo};
 ghost use Rattle.part_respell.specs.Order.{AreInOrder};
 ghost use Rattle.rename_rules.specs.Class.{IsClass};

@@ -1,26 +1,23 @@
 -- Files in which members are respelled hold the edited bytes of each path.
-use Rattle.std.proofs.Common.{◌≡◌, ℕ, zero, suc, ◌+◌, ◌≤◌, ◌==◌, Bool, true, false, List, [], ◌∷◌, length, map, Option, Some, None, inl, inr, refl, sym, ap, subst, ◌∙◌, arith}
+use Rattle.std.proofs.Common.{◌≡◌, ℕ, zero, suc, ◌≤◌, ◌==◌, true, false, List, [], ◌∷◌, length, Option, Some, None, inl, inr, refl, sym, ap, ◌∙◌, arith}
 use Rattle.std.specs.Prelude.{slice_get}
-use Rattle.std.specs.List.{list_any}
 use Rattle.std.specs.Option.{option_map, option_and_then}
 use Rattle.std.proofs.lemmas.Bool.{cases_Bool, both_ways, eq-eqb, eqb-true}
 use Rattle.std.proofs.lemmas.Option.{none-some, same_Some}
 use Rattle.cs_base.specs.declared.positions.Part.{Part}
-use Rattle.include_tree.specs.Files.{Source, Found, Lines, Absent, Unopened, Opened, Made, Entry, Table}
-use Rattle.include_tree.specs.KeptFiles.{KeptValue, kept, kept_bytes, kept_in, kept_at}
-use Rattle.include_tree.specs.Laws.{paths_in, HasEachOnce}
+use Rattle.source_files.specs.Files.{Source, Entry, Table}
+use Rattle.source_files.specs.KeptFiles.{KeptValue, kept, kept_bytes, kept_in, kept_at}
+use Rattle.source_files.specs.Tables.{paths_in, HasEachOnce}
 use Rattle.part_respell.specs.Respelled.{respelled}
 use Rattle.rename_rules.specs.First.{IsAmong}
 use Rattle.rename_rules.specs.Runs.{runs, file_of, is_edited}
 use Rattle.rename_rules.proofs.RunLemmas.{runs-none}
 use Rattle.ws_core.specs.Analysed.{Analysed}
-use Rattle.ws_core.specs.Analysis.{AnalysisValue}
 use Rattle.rename_premise_laws.specs.Allowed.{IsAllowed}
 use Rattle.rename_premise_laws.proofs.CharacterLemmas.{character_file}
 use Rattle.rename_premise_laws.proofs.DirectiveLemmas.{in_drop}
 use Rattle.rename_premise_laws.proofs.ListLemmas.{In, any_at}
 use Rattle.rename_premise_laws.proofs.NoneLemmas.{none_stand, no_line}
-use Rattle.rename_result_laws.specs.KeptUnits.{change}
 use Rattle.rename_result_laws.proofs.KeptFileLemmas.{respelled_same}
 use Rattle.rename_result_laws.proofs.MemberOrderLemmas.{StandTogether, one_place, members_together}
 use Rattle.rename_result_laws.proofs.RunLemmas.{run_of, rest_of, runs_are, rest_less, rest_together, rest_edited, run_respelled, rest_respelled}

@@ -3,7 +3,7 @@ use Rattle.std.proofs.Common.{ℕ, List, Some}
 use Rattle.cs_base.specs.declared.positions.Part.{Part}
 use Rattle.eclass_map.specs.ClassTable as classes
 use Rattle.ws_file.specs.Workspace.{WorkspaceValue}
-use Rattle.include_tree.specs.Files.{Source}
+use Rattle.source_files.specs.Files.{Source}
 use Rattle.ws_core.specs.Analysed.{Analysed, analysed}
 use Rattle.ws_core.specs.Analysis.{AnalysisValue}
 use Rattle.ws_core.specs.Naming.{Names}

@@ -1,9 +1,9 @@
 -- The files behind a renaming against which nothing stands (this project's): they hold what the change of the analysis says.
 use Rattle.std.specs.Prelude.{◌≡◌, ◌≢◌, ℕ, List, Some}
 use Rattle.cs_base.specs.declared.positions.Part.{Part}
-use Rattle.include_tree.specs.Files.{Source}
-use Rattle.include_tree.specs.KeptFiles.{KeptValue}
-use Rattle.include_tree.specs.Laws.{HasEachOnce}
+use Rattle.source_files.specs.Files.{Source}
+use Rattle.source_files.specs.KeptFiles.{KeptValue}
+use Rattle.source_files.specs.Tables.{HasEachOnce}
 use Rattle.rename_rules.specs.First.{IsAmong}
 use Rattle.rename_rules.specs.Runs.{runs, file_of, new_bytes}
 use Rattle.rename_unit_laws.specs.EditedFiles.{HoldsEdited}

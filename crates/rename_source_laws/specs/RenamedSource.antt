@@ -5,8 +5,8 @@ use Rattle.cs_base.specs.declared.positions.Part.{Part}
 use Rattle.eclass_map.specs.ClassTable as classes
 use Rattle.part_lexer.specs.Spelling.{is_identifier_text}
 use Rattle.ws_file.specs.Workspace.{WorkspaceValue, IsWorkspace}
-use Rattle.include_tree.specs.Files.{Source}
-use Rattle.include_tree.specs.Laws.{HasEachOnce}
+use Rattle.source_files.specs.Files.{Source}
+use Rattle.source_files.specs.Tables.{HasEachOnce}
 use Rattle.rename_rules.specs.First.{IsFirst, offences_of}
 use Rattle.rename_texts_laws.specs.Texts.{renamed_texts}
 use Rattle.rename_analysis_laws.specs.Analyses.{renamed_analysis, texts_in}

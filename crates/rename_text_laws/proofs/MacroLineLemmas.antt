@@ -10,7 +10,7 @@ use Rattle.cs_base.specs.Token.{Token}
 use Rattle.line_shape.specs.Signs.{is_identifier, is_punctuator, is_name, is_sign, is_hash, is_paste, is_open, is_close, is_comma, is_ellipsis}
 use Rattle.line_shape.specs.MacroLine.{MacroParts, macro, spellings, is_function_like, before_close, behind_close, is_parameter, is_identifier_list, params_in, are_distinct, is_parameter_list, function_macro, macro_of}
 use Rattle.macro_expand.specs.Renaming.{Renaming, spelled, renamed, renamed_macro}
-use Rattle.macro_expand.specs.Defining.{definition_of}
+use Rattle.macro_body.specs.Defining.{definition_of}
 use Rattle.rename_text_laws.specs.Lines.{Each, KeepsToken, NamesAsBefore, KeepsParameters, DefinitionsAreRenamed}
 
 -- the parts of a definition, renamed

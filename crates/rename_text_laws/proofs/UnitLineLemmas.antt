@@ -8,7 +8,7 @@ use Rattle.line_shape.specs.declared.items.Item.{Item}
 use Rattle.line_shape.specs.Items.{items_of}
 use Rattle.line_shape.specs.Signs.{is_name, is_open, is_close}
 use Rattle.macro_expand.specs.Renaming.{Renaming, renamed}
-use Rattle.include_tree.specs.Conditions.{Piece, Plain, Asks, is_defined, in_parentheses, operand_of, onto_pieces, asks_with, pieces_from}
+use Rattle.unit_steps.specs.Conditions.{Piece, Plain, Asks, is_defined, in_parentheses, operand_of, onto_pieces, asks_with, pieces_from}
 use Rattle.include_tree.specs.Walk.{item_text}
 use Rattle.rename_text_laws.specs.Conditions.{AllCountAlike}
 use Rattle.rename_text_laws.specs.Lines.{Each, KeepsToken, renamed_item}

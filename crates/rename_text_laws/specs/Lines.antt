@@ -11,7 +11,7 @@ use Rattle.line_shape.specs.Directives.{directive_named, is_define}
 use Rattle.line_shape.specs.MacroLine.{is_function_like, before_close, params_in}
 use Rattle.line_shape.specs.Items.{lines_of, items_of}
 use Rattle.macro_expand.specs.Renaming.{Renaming, spelled, renamed, renamed_macro}
-use Rattle.macro_expand.specs.Defining.{defined_by}
+use Rattle.macro_body.specs.Defining.{defined_by}
 
 -- a fact is true of each element
 abbrev pub Each : {X : Type 0} → (X → Type 0) → List X → Type 0

@@ -6,7 +6,7 @@ use Rattle.cs_base.specs.Token.{Token}
 use Rattle.line_shape.specs.Items.{lines_of}
 use Rattle.cond_eval.specs.Evaluation.{condition}
 use Rattle.macro_expand.specs.Renaming.{Renaming, renamed}
-use Rattle.include_tree.specs.Conditions.{Piece, Plain, Asks, pieces_from}
+use Rattle.unit_steps.specs.Conditions.{Piece, Plain, Asks, pieces_from}
 use Rattle.include_tree.specs.Walk.{ItemText, item_texts}
 use Rattle.rename_text_laws.specs.Lines.{Each, KeepsToken, KeepsLine, renamed_kind}
 

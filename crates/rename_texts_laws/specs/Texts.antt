@@ -3,10 +3,10 @@ use Rattle.std.specs.Prelude.{◌≡◌, ℕ, ◌+◌, List, [], ◌∷◌, leng
 use Rattle.cs_base.specs.Token.{Token}
 use Rattle.cs_base.specs.Units.{UnitValue}
 use Rattle.part_lexer.specs.FileText.{file_text}
-use Rattle.include_tree.specs.Files.{Source, Carried, carried, nothing_carried}
-use Rattle.include_tree.specs.Laws.{IsGrown}
-use Rattle.include_tree.specs.Limits.{the_limits}
-use Rattle.include_tree.specs.State.{Did}
+use Rattle.source_files.specs.Files.{Source, Carried, carried, nothing_carried}
+use Rattle.source_files.specs.Tables.{IsGrown}
+use Rattle.source_files.specs.Limits.{the_limits}
+use Rattle.unit_steps.specs.State.{Did}
 use Rattle.include_tree.specs.Unit.{unit_outcome}
 use Rattle.ws_core.specs.Texts.{TextsValue, texts_and, texts_from, texts_of}
 use Rattle.rename_text_laws.specs.Lines.{Each}

@@ -7,15 +7,15 @@ use Rattle.c99_tree.specs.Tree.{Forest, none, token, node, Node, node_of, leaf, 
 use Rattle.c99_tree.specs.declared.production.Label.{Label}
 use Rattle.c99_tree.specs.declared.production.Production.{Production}
 use Rattle.c99_tree.specs.declared.production.Production.TheVariants.{Main, Params, Primary, Pdirect}
-use Rattle.c99_read.specs.Items.{Item, one, part, end_of_text, act, ◌·◌, choice, maybe, many, deep, Test, own, Alternative}
-use Rattle.c99_read.specs.Standard.{c99}
+use Rattle.c99_grammar.specs.Items.{Item, one, part, end_of_text, act, ◌·◌, choice, maybe, many, deep, Test, own, Alternative}
+use Rattle.c99_grammar.specs.Standard.{c99}
 use Rattle.c99_read.specs.Sound.{is_met, goal_has_token}
 use Rattle.c99_read.specs.State.{State, collapses, finished, opened, closed}
 use Rattle.c99_read.specs.Reading.{Goal, produce, repeat, Step, syntax, too_deep, and_then, deepest, at_end, enter, may, step, alternative, pick}
 use Rattle.c99_read.proofs.Moves.{Moves}
 use Rattle.scope_bind.specs.Named.{Scope}
-use Rattle.scope_bind.specs.Trees.{is_at}
-use Rattle.scope_bind.specs.Entering.{scope_in}
+use Rattle.c_types.specs.Trees.{is_at}
+use Rattle.name_chains.specs.Entering.{scope_in}
 use Rattle.typedef_laws.specs.Laws.{is_bodiless}
 use Rattle.typedef_laws.proofs.Private.{Declaration}
 use Rattle.typedef_laws.proofs.Outline.{Outline, stepped, begun, ended, entries_in, outlined, token_agrees, node_agrees, all_agree}

@@ -7,10 +7,10 @@ use Rattle.c99_tree.specs.declared.production.Label.{Label}
 use Rattle.c99_tree.specs.declared.production.Production.TheVariants.{Params, Pdirect}
 use Rattle.c99_tree.specs.contracts.production.ProductionPartialEq.TheImpl.{ghosts}
 use Rattle.c99_tree.specs.declared.production.Production.{Production}
-use Rattle.c99_read.specs.Standard.{c99}
+use Rattle.c99_grammar.specs.Standard.{c99}
 use Rattle.c99_read.specs.State.{base_at, is_identifier}
-use Rattle.scope_bind.specs.Trees.{is_at}
-use Rattle.scope_bind.specs.Lists.{odd_tokens, even_tokens, name_in, bare_at, bare_in}
+use Rattle.c_types.specs.Trees.{is_at}
+use Rattle.c_types.specs.Lists.{odd_tokens, even_tokens, name_in, bare_at, bare_in}
 use Rattle.bind_laws.proofs.Lookups.{false≢true, and_left, and_right, In}
 use Rattle.rename_tree_laws.specs.Loose.{is_enclosed, AllLoose}
 use Rattle.rename_tree_laws.proofs.LooseNames.{more_in}

@@ -5,14 +5,15 @@ use Rattle.c99_tree.specs.declared.production.Label.{Label}
 use Rattle.c99_tree.specs.declared.production.Production.{Production}
 use Rattle.c99_tree.specs.declared.production.Production.TheVariants.{Pdecl, Pdirect}
 use Rattle.c99_tree.specs.contracts.production.ProductionPartialEq.TheImpl.{ghosts}
-use Rattle.c99_read.specs.Classes.{among}
-use Rattle.c99_read.specs.Items.{Item, one, part, ◌·◌, deep, own, names, Action}
-use Rattle.c99_read.specs.Grammar.{table}
-use Rattle.c99_read.specs.Standard.{c99}
+use Rattle.c99_grammar.specs.Classes.{among}
+use Rattle.c99_grammar.specs.Items.{Item, one, part, ◌·◌, deep, own, names, Action}
+use Rattle.c99_grammar.specs.Grammar.{table}
+use Rattle.c99_grammar.specs.Standard.{c99}
 use Rattle.c99_read.specs.State.{State, base_at, is_identifier, is_typedef_at, class_at, collapses, finished, acted, opened, closed}
-use Rattle.c99_read.specs.Reading.{Goal, produce, Step, syntax, too_deep, and_then, deepest, take_one, enter, may, starts, step, alternative, read_within}
-use Rattle.scope_bind.specs.Trees.{is_at}
-use Rattle.scope_bind.specs.Lists.{name_in}
+use Rattle.c99_read.specs.Reading.{Goal, produce, Step, syntax, too_deep, and_then, deepest, take_one, enter, may, step, alternative, read_within}
+use Rattle.c99_grammar.specs.Starting.{starts}
+use Rattle.c_types.specs.Trees.{is_at}
+use Rattle.c_types.specs.Lists.{name_in}
 use Rattle.bind_laws.proofs.Lookups.{false≢true}
 use Rattle.read_laws.proofs.Walked.{After, with_token, after_if, kept_by_item}
 use Rattle.typedef_laws.proofs.Parts.{first_body, rest_of}

@@ -7,13 +7,13 @@ use Rattle.c99_tree.specs.declared.production.Label.{Label}
 use Rattle.c99_tree.specs.declared.production.Production.{Production}
 use Rattle.c99_tree.specs.declared.production.Production.TheVariants.{TranslationUnit, Pdirect}
 use Rattle.c99_tree.specs.contracts.production.ProductionPartialEq.TheImpl.{ghosts}
-use Rattle.c99_read.specs.Grammar.{table}
-use Rattle.c99_read.specs.Items.{Action, Alternative}
-use Rattle.c99_read.specs.Standard.{c99}
+use Rattle.c99_grammar.specs.Grammar.{table}
+use Rattle.c99_grammar.specs.Items.{Action, Alternative}
+use Rattle.c99_grammar.specs.Standard.{c99}
 use Rattle.c99_read.specs.State.{State, base_at, is_identifier, collapses, finished, acted, opened, closed}
 use Rattle.c99_read.specs.Reading.{produce, Step, steps_for, step, read_within, whole, at_first, tree_of, read_of}
-use Rattle.scope_bind.specs.Lists.{name_in}
-use Rattle.scope_bind.specs.Trees.{is_at}
+use Rattle.c_types.specs.Lists.{name_in}
+use Rattle.c_types.specs.Trees.{is_at}
 use Rattle.bind_laws.proofs.Lookups.{false≢true, and_left, and_right}
 use Rattle.read_laws.proofs.Walked.{After, IsKept, fit_from, each_part, kept_within}
 use Rattle.typedef_laws.proofs.Rules.{labelled}

@@ -6,9 +6,9 @@ use Rattle.c99_tree.specs.Tree.{count_of}
 use Rattle.c99_tree.specs.declared.production.Label.{Label}
 use Rattle.c99_tree.specs.declared.production.Production.{Production}
 use Rattle.c99_tree.specs.declared.production.Production.TheVariants.{Main, Mod, Params, Primary}
-use Rattle.c99_read.specs.Classes.{among}
-use Rattle.c99_read.specs.Items.{Item, one, part, act, ◌·◌, many, own, name}
-use Rattle.c99_read.specs.Standard.{c99}
+use Rattle.c99_grammar.specs.Classes.{among}
+use Rattle.c99_grammar.specs.Items.{Item, one, part, act, ◌·◌, many, own, name}
+use Rattle.c99_grammar.specs.Standard.{c99}
 use Rattle.c99_read.specs.State.{State, base_at, is_identifier, is_typedef_at, class_at, declaration, in_innermost, acted, opened}
 use Rattle.c99_read.specs.Reading.{Goal, repeat, Step, and_then, take_one, may, step}
 use Rattle.typedef_laws.proofs.Private.{Class}

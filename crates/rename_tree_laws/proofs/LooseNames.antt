@@ -8,9 +8,9 @@ use Rattle.c99_tree.specs.Tree.{Forest, none, token, node}
 use Rattle.c99_tree.specs.declared.production.Label.{Label}
 use Rattle.c99_tree.specs.declared.production.Production.{Production}
 use Rattle.c99_tree.specs.declared.production.Production.TheVariants.{ExtRest, FunBody, InitDecl, Enumerator, Declarator, Param, Pdecl}
-use Rattle.scope_bind.specs.declared.lists.Range.{Range}
-use Rattle.scope_bind.specs.Trees.{last_token, name_below}
-use Rattle.scope_bind.specs.Declarations.{alike}
+use Rattle.c_types.specs.declared.lists.Range.{Range}
+use Rattle.c_types.specs.Trees.{last_token, name_below}
+use Rattle.c_types.specs.Declarations.{alike}
 use Rattle.bind_laws.proofs.Lookups.{false≢true, and_left, and_right, and_both, In, find_same, found_passes, found_in, any_none}
 use Rattle.typedef_laws.proofs.Outline.{Entry, Outline, is_listing, stepped, copies, kept_entries, entries_in, begun, named_entries, in_declaration, in_parameter, entries_after, ended, outlined, is_open, typedef_among}
 use Rattle.rename_tree_laws.specs.Loose.{is_hidden, StaysWhole}

@@ -3,9 +3,9 @@ use Rattle.std.proofs.Common.{ℕ, ◌+◌, ◌<◌, ◌≡◌, Bool, true, fals
 use Rattle.cs_base.specs.Token.{Token}
 use Rattle.c99_tree.specs.declared.production.Label.{Label}
 use Rattle.c99_tree.specs.declared.production.Production.TheVariants.{InitDecl, Specs, Declarator, Enumerator, Cond, Param, Pdecl, Pdirect}
-use Rattle.c99_read.specs.Items.{Item, one, part, act, ◌·◌, maybe, deep, own, names, declare, name}
-use Rattle.c99_read.specs.Grammar.{table}
-use Rattle.c99_read.specs.Standard.{c99}
+use Rattle.c99_grammar.specs.Items.{Item, one, part, act, ◌·◌, maybe, deep, own, names, declare, name}
+use Rattle.c99_grammar.specs.Grammar.{table}
+use Rattle.c99_grammar.specs.Standard.{c99}
 use Rattle.c99_read.specs.Sound.{has_token, is_low, is_met, goal_has_token}
 use Rattle.c99_read.specs.State.{State, Names, base_at, is_identifier, declaration, with_declared, acted, opened}
 use Rattle.c99_read.specs.Reading.{Goal, produce, Step, and_then, take_one, may, step}

@@ -5,9 +5,9 @@ use Rattle.c99_tree.specs.Tree.{Forest, Node, node_of, leaf, inner, put, collaps
 use Rattle.c99_tree.specs.declared.production.Label.{Label}
 use Rattle.c99_tree.specs.declared.production.Production.{Production}
 use Rattle.c99_tree.specs.declared.production.Production.TheVariants.{External, ExtRest, ExtTail, FunBody, Specs, Declarator}
-use Rattle.c99_read.specs.Items.{Item, part, own, end, declare, again}
-use Rattle.c99_read.specs.Grammar.{table}
-use Rattle.c99_read.specs.Standard.{c99}
+use Rattle.c99_grammar.specs.Items.{Item, part, own, end, declare, again}
+use Rattle.c99_grammar.specs.Grammar.{table}
+use Rattle.c99_grammar.specs.Standard.{c99}
 use Rattle.c99_read.specs.State.{State, Names, head_closed, names_closed, finished, with_scope_ended, acted, opened, closed}
 use Rattle.c99_read.specs.Reading.{Goal, produce, Step, syntax, and_then, take_one, may, step, alternative, pick}
 use Rattle.scope_bind.specs.Named.{Scope}

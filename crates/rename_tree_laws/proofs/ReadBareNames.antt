@@ -5,10 +5,10 @@ use Rattle.std.proofs.lemmas.Option.{slice_get_within, get_or_from_slice_get}
 use Rattle.cs_base.specs.Token.{Token}
 use Rattle.c99_tree.specs.Tree.{Node}
 use Rattle.c99_read.specs.Reading.{read_of}
-use Rattle.c99_read.specs.Standard.{c99}
-use Rattle.scope_bind.specs.Declarations.{Facts}
-use Rattle.scope_bind.specs.Frames.{outermost}
-use Rattle.scope_bind.specs.Lists.{bare_in}
+use Rattle.c99_grammar.specs.Standard.{c99}
+use Rattle.c_types.specs.Declarations.{Facts}
+use Rattle.name_chains.specs.Frames.{outermost}
+use Rattle.c_types.specs.Lists.{bare_in}
 use Rattle.scope_bind.specs.Bound.{Bound, facts_of, binding_of}
 use Rattle.bind_laws.proofs.Lookups.{false≢true}
 use Rattle.bind_laws.proofs.RenamedWalk.{bound_is}

@@ -11,15 +11,15 @@ use Rattle.c99_tree.specs.Tree.{Forest, none, token, node}
 use Rattle.c99_tree.specs.declared.production.Label.{Label}
 use Rattle.c99_tree.specs.declared.production.Production.{Production}
 use Rattle.c99_tree.specs.declared.production.Production.TheVariants.{TranslationUnit, Main, Params, Primary, Pdirect}
-use Rattle.c99_read.specs.Standard.{c99}
+use Rattle.c99_grammar.specs.Standard.{c99}
 use Rattle.c99_read.specs.State.{base_at, is_identifier}
-use Rattle.scope_bind.specs.declared.lists.Range.{Range}
+use Rattle.c_types.specs.declared.lists.Range.{Range}
 use Rattle.scope_bind.specs.Named.{Declaration, Frame, ordinary}
-use Rattle.scope_bind.specs.Trees.{is_at}
-use Rattle.scope_bind.specs.Declarations.{Facts, is_space, is_typedef_name, spelling_at, alike, visible}
-use Rattle.scope_bind.specs.Frames.{State, at_first as before}
+use Rattle.c_types.specs.Trees.{is_at}
+use Rattle.c_types.specs.Declarations.{Facts, is_space, is_typedef_name, spelling_at, alike, visible}
+use Rattle.name_chains.specs.Frames.{State, at_first as before}
 use Rattle.scope_bind.specs.Ordinary.{used, is_func}
-use Rattle.scope_bind.specs.Entering.{entered}
+use Rattle.name_chains.specs.Entering.{entered}
 use Rattle.scope_bind.specs.Roles.{role_of}
 use Rattle.scope_bind.specs.Walk.{facts_at, passed, left, walked}
 use Rattle.scope_bind.specs.Bound.{Bound, names_of, bound_of, range_of as range_of_declaration, typedefs_of, facts_of, binding_of}

@@ -5,8 +5,8 @@ use Rattle.c99_tree.specs.Tree.{Node, node_of, lone}
 use Rattle.c99_tree.specs.declared.production.Production.TheVariants.{TranslationUnit}
 use Rattle.c99_read.specs.State.{base_at}
 use Rattle.c99_read.specs.Reading.{Step, Stop, produce, steps_for, read_within, read_of, whole, at_first, tree_of}
-use Rattle.c99_read.specs.Standard.{c99}
-use Rattle.scope_bind.specs.Frames.{at_first as before}
+use Rattle.c99_grammar.specs.Standard.{c99}
+use Rattle.name_chains.specs.Frames.{at_first as before}
 use Rattle.typedef_laws.specs.Agreeing.{agrees}
 use Rattle.typedef_laws.proofs.Outlines.{agrees_same}
 use Rattle.typedef_laws.proofs.Goes.{After}

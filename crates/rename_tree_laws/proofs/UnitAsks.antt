@@ -3,12 +3,12 @@ use Rattle.std.proofs.Common.{ℕ, zero, suc, ◌≡◌, Bool, true, false, ◌&
 use Rattle.cs_base.specs.Token.{Token}
 use Rattle.c99_tree.specs.Tree.{none, node}
 use Rattle.c99_tree.specs.declared.production.Production.TheVariants.{TranslationUnit, External}
-use Rattle.c99_read.specs.Items.{Item, part, end_of_text, many, own}
-use Rattle.c99_read.specs.Grammar.{table}
-use Rattle.c99_read.specs.Standard.{c99}
+use Rattle.c99_grammar.specs.Items.{Item, part, end_of_text, many, own}
+use Rattle.c99_grammar.specs.Grammar.{table}
+use Rattle.c99_grammar.specs.Standard.{c99}
 use Rattle.c99_read.specs.State.{State, base_at, opened, closed}
 use Rattle.c99_read.specs.Reading.{Goal, produce, repeat, Step, syntax, at_end, at_first, and_then, may, step, alternative, read_within}
-use Rattle.scope_bind.specs.Frames.{at_first as before}
+use Rattle.name_chains.specs.Frames.{at_first as before}
 use Rattle.typedef_laws.proofs.Parts.{first_body}
 use Rattle.typedef_laws.proofs.Outline.{Outline, all_agree}
 use Rattle.typedef_laws.proofs.Outlines.{outline}

@@ -5,9 +5,9 @@ use Rattle.cs_base.specs.Token.{Token}
 use Rattle.c99_tree.specs.Tree.{Node}
 use Rattle.c99_read.specs.Reading.{read_of}
 use Rattle.c99_read.specs.State.{base_at}
-use Rattle.c99_read.specs.Standard.{c99}
+use Rattle.c99_grammar.specs.Standard.{c99}
 use Rattle.scope_bind.specs.Bound.{Bound, binding_of}
-use Rattle.scope_bind.specs.Frames.{at_first as before, outermost}
+use Rattle.name_chains.specs.Frames.{at_first as before, outermost}
 use Rattle.bind_laws.specs.Renamed.{IsRenamed}
 use Rattle.typedef_laws.specs.Agreeing.{agrees}
 use Rattle.rename_tree_laws.specs.Loose.{AllLoose, StaysWhole}

@@ -5,11 +5,11 @@ use Rattle.cs_base.specs.Token.{Token}
 use Rattle.c99_tree.specs.Tree.{Forest, none, token, node}
 use Rattle.c99_tree.specs.declared.production.Label.{Label}
 use Rattle.c99_tree.specs.declared.production.Production.TheVariants.{Params, Pdirect}
-use Rattle.c99_read.specs.Standard.{c99}
+use Rattle.c99_grammar.specs.Standard.{c99}
 use Rattle.c99_read.specs.State.{base_at, is_identifier}
-use Rattle.scope_bind.specs.declared.lists.Range.{Range}
-use Rattle.scope_bind.specs.Trees.{is_at}
-use Rattle.scope_bind.specs.Declarations.{alike}
+use Rattle.c_types.specs.declared.lists.Range.{Range}
+use Rattle.c_types.specs.Trees.{is_at}
+use Rattle.c_types.specs.Declarations.{alike}
 
 -- a name in an identifier list (paragraph 3)
 abbrev pub is_listed : Label → ℕ → Bool

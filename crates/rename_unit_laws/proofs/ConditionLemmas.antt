@@ -13,17 +13,17 @@ use Rattle.part_lexer.specs.FileText.{TextValue}
 use Rattle.line_shape.specs.Signs.{is_name, is_open, is_close}
 use Rattle.cond_eval.specs.declared.faults.CondFault.{CondFault}
 use Rattle.cond_eval.specs.Evaluation.{condition}
-use Rattle.macro_expand.specs.Macro.{Table as Macros}
+use Rattle.macro_body.specs.Macro.{Table as Macros}
 use Rattle.macro_expand.specs.Renaming.{renamed}
-use Rattle.include_tree.specs.Faults.{fault_at}
-use Rattle.include_tree.specs.Files.{SourceFile}
-use Rattle.include_tree.specs.Notes.{Note, Tested, Left, Answered}
-use Rattle.include_tree.specs.State.{State, Did, did, onward}
-use Rattle.include_tree.specs.Names.{name_links, with_name}
-use Rattle.include_tree.specs.Expanding.{expanded_in}
-use Rattle.include_tree.specs.Conditions.{Piece, Plain, Asks, is_defined, in_parentheses, operand_of, onto_pieces, asks_with, pieces_from, answer_for, is_macro, test_notes, with_front, answered, left_name, left_over, valued, judged, asked_pieces, holds}
-use Rattle.include_tree.specs.Laws.{IsGrown}
-use Rattle.include_tree.proofs.TableLemmas.{grown_refl, grown_trans}
+use Rattle.source_files.specs.Faults.{fault_at}
+use Rattle.source_files.specs.Files.{SourceFile}
+use Rattle.unit_steps.specs.Notes.{Note, Tested, Left, Answered}
+use Rattle.unit_steps.specs.State.{State, Did, did, onward}
+use Rattle.unit_steps.specs.Names.{name_links, with_name}
+use Rattle.unit_steps.specs.Expanding.{expanded_in}
+use Rattle.unit_steps.specs.Conditions.{Piece, Plain, Asks, is_defined, in_parentheses, operand_of, onto_pieces, asks_with, pieces_from, answer_for, is_macro, test_notes, with_front, answered, left_name, left_over, valued, judged, asked_pieces, holds}
+use Rattle.source_files.specs.Tables.{IsGrown}
+use Rattle.source_files.proofs.TableLemmas.{grown_refl, grown_trans}
 use Rattle.rename_text_laws.specs.Lines.{Each}
 use Rattle.rename_text_laws.specs.UnitLines.{renamed_piece}
 use Rattle.rename_text_laws.proofs.MacroLineLemmas.{any-kept}

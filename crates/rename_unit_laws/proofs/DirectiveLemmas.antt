@@ -10,17 +10,17 @@ use Rattle.line_shape.specs.Directives.{takes_name}
 use Rattle.line_shape.specs.Items.{line_kind}
 use Rattle.line_shape.specs.Signs.{is_name}
 use Rattle.line_shape.specs.MacroLine.{MacroParts, macro_of}
-use Rattle.macro_expand.specs.declared.definitions.Definition.{Definition}
-use Rattle.macro_expand.specs.Defining.{definition_of, defined_by}
-use Rattle.macro_expand.specs.Live.{with_macro, without_macro}
-use Rattle.macro_expand.specs.Macro.{Table as Macros}
+use Rattle.macro_body.specs.declared.definitions.Definition.{Definition}
+use Rattle.macro_body.specs.Defining.{definition_of, defined_by}
+use Rattle.macro_body.specs.Live.{with_macro, without_macro}
+use Rattle.macro_body.specs.Macro.{Table as Macros}
 use Rattle.macro_expand.specs.Renaming.{spelled, renamed, renamed_macro, occurs}
-use Rattle.include_tree.specs.Files.{SourceFile}
-use Rattle.include_tree.specs.Notes.{Note, Defined, Undefined, Tested}
-use Rattle.include_tree.specs.State.{State, did}
-use Rattle.include_tree.specs.Names.{name_links, with_name, definition_links}
-use Rattle.include_tree.specs.Conditions.{is_macro, test_notes}
-use Rattle.include_tree.specs.Directives.{operand_in, define_notes, after_define, defined_as, define_of, undefined_as, undef_of, asks_name}
+use Rattle.source_files.specs.Files.{SourceFile}
+use Rattle.unit_steps.specs.Notes.{Note, Defined, Undefined, Tested}
+use Rattle.unit_steps.specs.State.{State, did}
+use Rattle.unit_steps.specs.Names.{name_links, with_name, definition_links}
+use Rattle.unit_steps.specs.Conditions.{is_macro, test_notes}
+use Rattle.unit_steps.specs.Directives.{operand_in, define_notes, after_define, defined_as, define_of, undefined_as, undef_of, asks_name}
 use Rattle.rename_text_laws.specs.Lines.{Each, KeepsToken, KeepsParameters, defines, KeepsLine}
 use Rattle.rename_text_laws.proofs.MacroLineLemmas.{definitions_are_renamed}
 use Rattle.rename_unit_laws.specs.Keeping.{Change, KeepsNames, Fits}

@@ -13,18 +13,18 @@ use Rattle.cs_base.specs.declared.tokens.Kind.TheVariants.{Number, Str}
 use Rattle.cs_base.specs.Token.{Token}
 use Rattle.line_shape.specs.Signs.{is_identifier, is_va_args}
 use Rattle.paste_origin.specs.Strings.{stringize_of}
-use Rattle.macro_expand.specs.declared.definitions.Definition.{Definition}
-use Rattle.macro_expand.specs.Hides.{Hidden, unhidden, toks_of}
+use Rattle.macro_body.specs.declared.definitions.Definition.{Definition}
+use Rattle.macro_body.specs.Hides.{Hidden, unhidden, toks_of}
 use Rattle.macro_expand.specs.Laws.{Held, Passes, AllMadePass}
-use Rattle.macro_expand.specs.Macro.{Table as Macros}
-use Rattle.macro_expand.specs.Notes.{Note, Replaced, Linked, Stringized, Pasted, Expanded}
-use Rattle.macro_expand.specs.Substitution.{line_number, path_text, path_string}
+use Rattle.macro_body.specs.Macro.{Table as Macros}
+use Rattle.macro_body.specs.Notes.{Note, Replaced, Linked, Stringized, Pasted, Expanded}
+use Rattle.macro_body.specs.Substitution.{line_number, path_text, path_string}
 use Rattle.macro_expand.specs.Expansion.{Setting, expansion}
 use Rattle.macro_expand.specs.Renaming.{Renaming, spelled, Occurring, occurs, AllOccur, KeepsBody}
 use Rattle.expansion_laws.proofs.OriginLemmas.{tokens_come_from_somewhere}
 use Rattle.expansion_laws.specs.Telling.{DidHappen, IsStringized}
 use Rattle.expansion_laws.proofs.TellingLemmas.{string_is, notes_are_true}
-use Rattle.include_tree.specs.State.{State}
+use Rattle.unit_steps.specs.State.{State}
 use Rattle.rename_text_laws.specs.Lines.{Each, KeepsToken}
 use Rattle.rename_unit_laws.specs.Keeping.{Change, KeepsNames, Fits, GoesWell}
 use Rattle.rename_unit_laws.specs.Steps.{KeepsState}

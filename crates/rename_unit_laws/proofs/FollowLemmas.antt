@@ -1,13 +1,13 @@
 -- One step behind another, over the files as they were and over the edited ones.
 use Rattle.std.proofs.Common.{Bool, true, false, cond, List, [], ◌∷◌, ◌++◌, map, Ok, Err, refl, ap, sym, ◌∙◌}
 use Rattle.std.proofs.lemmas.List.{map-append}
-use Rattle.macro_expand.specs.Macro.{Table as Macros}
-use Rattle.include_tree.specs.Faults.{Fault}
-use Rattle.include_tree.specs.Files.{Table}
-use Rattle.include_tree.specs.Notes.{Note}
-use Rattle.include_tree.specs.State.{State, Did, did, Outcome, only, noted, onward}
-use Rattle.include_tree.specs.Laws.{IsGrown}
-use Rattle.include_tree.proofs.TableLemmas.{grown_trans}
+use Rattle.macro_body.specs.Macro.{Table as Macros}
+use Rattle.source_files.specs.Faults.{Fault}
+use Rattle.source_files.specs.Files.{Table}
+use Rattle.unit_steps.specs.Notes.{Note}
+use Rattle.unit_steps.specs.State.{State, Did, did, Outcome, only, noted, onward}
+use Rattle.source_files.specs.Tables.{IsGrown}
+use Rattle.source_files.proofs.TableLemmas.{grown_trans}
 use Rattle.rename_text_laws.specs.Lines.{Each}
 use Rattle.rename_unit_laws.specs.Keeping.{Change, KeepsNote}
 use Rattle.rename_unit_laws.specs.Renamed.{renamed_happening}

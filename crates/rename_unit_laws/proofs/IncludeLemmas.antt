@@ -11,16 +11,18 @@ use Rattle.cs_base.specs.declared.tokens.Kind.TheVariants.{Ident, Number, Char, 
 use Rattle.cs_base.specs.Token.{Token}
 use Rattle.part_lexer.specs.FileText.{TextValue}
 use Rattle.line_shape.specs.Signs.{is_identifier, is_punctuator, is_sign}
-use Rattle.macro_expand.specs.Macro.{Table as Macros}
+use Rattle.macro_body.specs.Macro.{Table as Macros}
 use Rattle.macro_expand.specs.Renaming.{Renaming, spelled as respelled, renamed}
-use Rattle.include_tree.specs.Files.{Source, SourceFile}
-use Rattle.include_tree.specs.Notes.{Entered, Exited}
-use Rattle.include_tree.specs.State.{State, did, onward}
-use Rattle.include_tree.specs.Search.{Header, header}
-use Rattle.include_tree.specs.Sources.{unit_context}
-use Rattle.include_tree.specs.Expanding.{expanded_in}
-use Rattle.include_tree.specs.Including.{is_header, header_in, is_less, is_greater, before_greater, gap_text, spaced, spelled, header_of_signs, header_of_toks, header_or, computed_header, header_named, open_header, Process, Inner, entered, included, include_of}
-use Rattle.include_tree.proofs.TableLemmas.{grown_refl}
+use Rattle.source_files.specs.Files.{Source, SourceFile}
+use Rattle.unit_steps.specs.Notes.{Entered, Exited}
+use Rattle.unit_steps.specs.State.{State, did, onward}
+use Rattle.source_files.specs.Search.{Header, header}
+use Rattle.include_tree.specs.GivenFiles.{unit_context}
+use Rattle.unit_steps.specs.Expanding.{expanded_in}
+use Rattle.include_tree.specs.Including.{open_header, Process, Inner, entered, included, include_of}
+use Rattle.unit_steps.specs.IncludeNames.{header_or, computed_header, header_named}
+use Rattle.source_files.specs.HeaderNames.{is_header, header_in, is_less, is_greater, before_greater, gap_text, spaced, spelled, header_of_signs, header_of_toks}
+use Rattle.source_files.proofs.TableLemmas.{grown_refl}
 use Rattle.rename_text_laws.specs.Lines.{Each}
 use Rattle.rename_unit_laws.specs.Keeping.{Change, KeepsNames, KeepsFile, KeepsFiles, Fits}
 use Rattle.rename_unit_laws.specs.Steps.{moved, GoesAlike, AreRenamed, IsRenamed, IsSame, with_text, OpensAlike, ProcessAlike, InnerAlike, Grows, ProcessGrows, InnerGrows}

@@ -7,14 +7,14 @@ use Rattle.std.proofs.lemmas.Bool.Decides.{same_from_decides}
 use Rattle.std.proofs.lemmas.List.{map-append}
 use Rattle.std.proofs.lemmas.Slice.Eq.{bytes_eq-Decides}
 use Rattle.cs_base.specs.Token.{Token}
-use Rattle.macro_expand.specs.declared.definitions.Definition.{Definition}
-use Rattle.macro_expand.specs.Macro.{Table as Macros}
+use Rattle.macro_body.specs.declared.definitions.Definition.{Definition}
+use Rattle.macro_body.specs.Macro.{Table as Macros}
 use Rattle.macro_expand.specs.Renaming.{Renaming, spelled, renamed, renamed_macro}
-use Rattle.include_tree.specs.State.{State}
-use Rattle.include_tree.specs.Names.{spelled_in, linked_with, name_links, with_name}
-use Rattle.include_tree.specs.Conditions.{is_macro}
-use Rattle.include_tree.specs.Laws.{IsGrown}
-use Rattle.include_tree.proofs.TableLemmas.{grown_refl}
+use Rattle.unit_steps.specs.State.{State}
+use Rattle.unit_steps.specs.Names.{spelled_in, linked_with, name_links, with_name}
+use Rattle.unit_steps.specs.Conditions.{is_macro}
+use Rattle.source_files.specs.Tables.{IsGrown}
+use Rattle.source_files.proofs.TableLemmas.{grown_refl}
 use Rattle.rename_text_laws.specs.Lines.{Each}
 use Rattle.rename_unit_laws.specs.Keeping.{Change, KeepsNames}
 use Rattle.rename_unit_laws.specs.Renamed.{renamed_happening}

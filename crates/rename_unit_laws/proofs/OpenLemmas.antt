@@ -10,21 +10,23 @@ use Rattle.cs_base.specs.declared.causes.Cause.TheVariants.{TooManyFiles, TooMan
 use Rattle.cs_base.specs.declared.positions.Place.{Place}
 use Rattle.cs_base.specs.declared.positions.Pos.{Pos}
 use Rattle.part_lexer.specs.FileText.{TextValue, LexFault, FileTooLarge, OpenComment, file_text}
-use Rattle.macro_expand.specs.Macro.{Table as Macros}
-use Rattle.include_tree.specs.Faults.{Fault, fault, place_in}
-use Rattle.include_tree.specs.Files.{Source, Found, Lines, Absent, Unopened, Opened, Made, Entry, entry, Table, SourceFile, source_file, number_of, found_at, asked, opened, files_opened, bytes_opened}
-use Rattle.include_tree.specs.KeptFiles.{KeptValue, kept, kept_bytes, kept_in, kept_at}
-use Rattle.include_tree.specs.Laws.{Becomes, IsGrown, AreFound}
-use Rattle.include_tree.specs.Limits.{the_limits}
-use Rattle.include_tree.specs.Opening.{Opening, file_read, is_too_large, readable, are_too_many, first_opened, opened_as, opening, with_opened, open_file}
-use Rattle.include_tree.specs.Search.{Header, Searched, searched, candidates_of, search, search_on}
-use Rattle.include_tree.specs.Sources.{read_as, source_kept, source_at, unit_context}
-use Rattle.include_tree.specs.State.{State, Outcome}
+use Rattle.macro_body.specs.Macro.{Table as Macros}
+use Rattle.source_files.specs.Faults.{Fault, fault, place_in}
+use Rattle.source_files.specs.Files.{Source, Found, Lines, Absent, Unopened, Opened, Made, Entry, entry, Table, SourceFile, source_file, number_of, found_at, asked, opened, files_opened, bytes_opened}
+use Rattle.source_files.specs.KeptFiles.{KeptValue, kept, kept_bytes, kept_in, kept_at}
+use Rattle.source_files.specs.Tables.{Becomes, IsGrown, AreFound}
+use Rattle.source_files.specs.Limits.{the_limits}
+use Rattle.source_files.specs.Opening.{Opening, file_read, is_too_large, readable, are_too_many, first_opened, opened_as, opening}
+use Rattle.include_tree.specs.OpeningStep.{with_opened, open_file}
+use Rattle.source_files.specs.Search.{Header, Searched, searched, candidates_of, search, search_on}
+use Rattle.source_files.specs.Sources.{read_as, source_kept, source_at}
+use Rattle.include_tree.specs.GivenFiles.{unit_context}
+use Rattle.unit_steps.specs.State.{State, Outcome}
 use Rattle.include_tree.specs.Including.{open_searched, open_header}
-use Rattle.include_tree.proofs.TableLemmas.{grown_refl, grown_trans}
-use Rattle.include_tree.proofs.OpeningLemmas.{bytes-opened}
+use Rattle.source_files.proofs.TableLemmas.{grown_refl, grown_trans}
+use Rattle.source_files.proofs.OpeningLemmas.{bytes-opened}
 use Rattle.include_tree.proofs.SearchLemmas.{search_wide}
-use Rattle.include_tree.proofs.SourcesLemmas.{found-opened, opening-as}
+use Rattle.source_files.proofs.SourcesLemmas.{found-opened, opening-as}
 use Rattle.include_tree.proofs.StayingLemmas.{source-grown}
 use Rattle.rename_unit_laws.specs.Edited.{Editing, edited_found, edited_table}
 use Rattle.rename_unit_laws.specs.Keeping.{Change, edited_files, KeepsFile, KeepsFiles}

@@ -10,11 +10,11 @@ use Rattle.std.proofs.lemmas.Slice.Eq.{bytes_eq-Decides}
 use Rattle.cs_base.specs.Token.{Token}
 use Rattle.line_shape.specs.Signs.{is_name, is_identifier, is_va_args, is_ellipsis, is_close}
 use Rattle.line_shape.specs.MacroLine.{MacroParts, macro, is_function_like, before_close, behind_close, is_parameter_list, params_in, function_macro, macro_of}
-use Rattle.macro_expand.specs.declared.definitions.Definition.{Definition}
-use Rattle.macro_expand.specs.Macro.{rest_name, named_or_rest, parameter_at}
+use Rattle.macro_body.specs.declared.definitions.Definition.{Definition}
+use Rattle.macro_body.specs.Macro.{rest_name, named_or_rest, parameter_at}
 use Rattle.macro_expand.specs.Renaming.{Renaming, spelled, renamed, renamed_macro, KeepsBody}
-use Rattle.include_tree.specs.Names.{spelled_in, linked_with, parameter_named, definition_links}
-use Rattle.include_tree.specs.Notes.{Note}
+use Rattle.unit_steps.specs.Names.{spelled_in, linked_with, parameter_named, definition_links}
+use Rattle.unit_steps.specs.Notes.{Note}
 use Rattle.rename_text_laws.specs.Lines.{Each, KeepsToken, NamesAsBefore, KeepsParameters}
 use Rattle.rename_unit_laws.specs.Keeping.{Change, Fits}
 use Rattle.rename_unit_laws.specs.Renamed.{renamed_happening}

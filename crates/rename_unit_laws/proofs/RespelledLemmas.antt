@@ -7,8 +7,8 @@ use Rattle.part_lexer.specs.FileText.{TextValue, LexFault, FileTooLarge, most_by
 use Rattle.part_lexer.specs.Tokens.{tokens_of, firsts_of, open_comment_of}
 use Rattle.part_respell.specs.Respelled.{respelled}
 use Rattle.macro_expand.specs.Renaming.{Renaming, renamed}
-use Rattle.include_tree.specs.Files.{SourceFile, source_file}
-use Rattle.include_tree.specs.Sources.{read_as, source_kept, source_at}
+use Rattle.source_files.specs.Files.{SourceFile, source_file}
+use Rattle.source_files.specs.Sources.{read_as, source_kept, source_at}
 use Rattle.rename_text_laws.specs.EditedFiles.{moved_to, edited_token}
 use Rattle.rename_text_laws.specs.Lines.{Each}
 use Rattle.rename_text_laws.proofs.EditedLemmas.{edited_files_keep_tokens}

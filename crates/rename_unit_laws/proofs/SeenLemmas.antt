@@ -3,15 +3,16 @@ use Rattle.std.proofs.Common.{◌≡◌, ℕ, ◌+◌, Bool, List, [], ◌∷◌
 use Rattle.std.specs.List.{flat_map}
 use Rattle.std.proofs.lemmas.List.{map-append, length-map}
 use Rattle.cs_base.specs.Token.{Token}
-use Rattle.macro_expand.specs.Notes as expansion
+use Rattle.macro_body.specs.Notes as expansion
 use Rattle.macro_expand.specs.Renaming.{Renaming, renamed, renamed_note}
-use Rattle.include_tree.specs.declared.events.Event.{Event}
-use Rattle.include_tree.specs.declared.events.EventKind.TheVariants as kind
-use Rattle.include_tree.specs.declared.events.Reached.{Reached}
-use Rattle.include_tree.specs.Faults.{Fault}
-use Rattle.include_tree.specs.Files.{carried}
-use Rattle.include_tree.specs.Notes.{Note, Reaches, Happened, Defined, Undefined, Tested, Left, Linked, Answered, Named, Entered, Exited, links_then, pasted_then, stringized_then, events_then, links_of, pasted_of, stringized_of, header_of, answers_of, events_of, reached_of, named_event, before_in}
-use Rattle.include_tree.specs.Texts.{UnitTextValue, reached_in, unit_text, Preprocessed, preprocessed_by, preprocessed}
+use Rattle.unit_steps.specs.declared.events.Event.{Event}
+use Rattle.unit_steps.specs.declared.events.EventKind.TheVariants as kind
+use Rattle.unit_steps.specs.declared.events.Reached.{Reached}
+use Rattle.source_files.specs.Faults.{Fault}
+use Rattle.source_files.specs.Files.{carried}
+use Rattle.unit_steps.specs.Notes.{Note, Reaches, Happened, Defined, Undefined, Tested, Left, Linked, Answered, Named, Entered, Exited, links_then, pasted_then, stringized_then, events_then, links_of, pasted_of, stringized_of, header_of, answers_of, events_of, reached_of, named_event, before_in}
+use Rattle.unit_steps.specs.Texts.{UnitTextValue, reached_in, unit_text}
+use Rattle.include_tree.specs.Preprocessed.{Preprocessed, preprocessed_by, preprocessed}
 use Rattle.rename_text_laws.specs.Lines.{Each}
 use Rattle.rename_unit_laws.specs.Edited.{edited_table}
 use Rattle.rename_unit_laws.specs.Keeping.{Change}

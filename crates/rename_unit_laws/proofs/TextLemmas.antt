@@ -3,19 +3,19 @@ use Rattle.std.proofs.Common.{◌≡◌, ℕ, ◌+◌, ◌-◌, nat_lt, Bool, tr
 use Rattle.std.proofs.lemmas.List.{length-map}
 use Rattle.cs_base.specs.Token.{Token}
 use Rattle.part_lexer.specs.FileText.{TextValue}
-use Rattle.macro_expand.specs.Hides.{toks_of}
-use Rattle.macro_expand.specs.Macro.{Table as Macros}
-use Rattle.macro_expand.specs.Notes as expansion
+use Rattle.macro_body.specs.Hides.{toks_of}
+use Rattle.macro_body.specs.Macro.{Table as Macros}
+use Rattle.macro_body.specs.Notes as expansion
 use Rattle.macro_expand.specs.Expansion.{expansion}
 use Rattle.macro_expand.specs.Renaming.{Renaming, renamed, renamed_note, renamed_expansion, AllOccur, AllRespected}
 use Rattle.expansion_laws.proofs.FollowsLemmas.{expansion_is_renamed}
 use Rattle.expansion_laws.proofs.RenamedLemmas.{toks_of-renamed}
-use Rattle.include_tree.specs.Expanding.{expanded_as, expanded_in, most_toks, past_limit, put_out, run_of}
-use Rattle.include_tree.specs.Files.{SourceFile}
-use Rattle.include_tree.specs.Notes.{Note, Happened}
-use Rattle.include_tree.specs.Sources.{unit_context}
-use Rattle.include_tree.specs.State.{Context, State, did, only}
-use Rattle.include_tree.proofs.TableLemmas.{grown_refl}
+use Rattle.unit_steps.specs.Expanding.{expanded_as, expanded_in, most_toks, past_limit, put_out, run_of}
+use Rattle.source_files.specs.Files.{SourceFile}
+use Rattle.unit_steps.specs.Notes.{Note, Happened}
+use Rattle.include_tree.specs.GivenFiles.{unit_context}
+use Rattle.unit_steps.specs.State.{Context, State, did, only}
+use Rattle.source_files.proofs.TableLemmas.{grown_refl}
 use Rattle.rename_text_laws.specs.Lines.{Each}
 use Rattle.rename_unit_laws.specs.Keeping.{Change, KeepsNames, Fits, KeepsNote, GoesWell}
 use Rattle.rename_unit_laws.specs.Renamed.{renamed_happening}

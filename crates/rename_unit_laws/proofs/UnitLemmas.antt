@@ -11,22 +11,22 @@ use Rattle.cs_base.specs.Padding.{padded}
 use Rattle.cs_base.specs.Token.{Token, token}
 use Rattle.cs_base.specs.Units.{UnitValue, defines_text}
 use Rattle.part_lexer.specs.FileText.{file_text}
-use Rattle.macro_expand.specs.declared.definitions.Form.{Form}
-use Rattle.macro_expand.specs.declared.definitions.Form.TheVariants as form
-use Rattle.macro_expand.specs.declared.definitions.Definition.{Definition}
-use Rattle.macro_expand.specs.Defining.{first_definition, line_macro, file_macro, first_macros}
-use Rattle.macro_expand.specs.Macro.{Table as Macros}
+use Rattle.macro_body.specs.declared.definitions.Form.{Form}
+use Rattle.macro_body.specs.declared.definitions.Form.TheVariants as form
+use Rattle.macro_body.specs.declared.definitions.Definition.{Definition}
+use Rattle.macro_body.specs.Defining.{first_definition, line_macro, file_macro, first_macros}
+use Rattle.macro_body.specs.Macro.{Table as Macros}
 use Rattle.macro_expand.specs.Renaming.{renamed_macro, KeepsBody, Keeps}
-use Rattle.include_tree.specs.Faults.{first_place}
-use Rattle.include_tree.specs.Files.{Source, Made, entry, Table, SourceFile, Carried, defines_path, asked}
-use Rattle.include_tree.specs.Laws.{IsGrown}
-use Rattle.include_tree.specs.Limits.{the_limits}
-use Rattle.include_tree.specs.Opening.{open_file}
-use Rattle.include_tree.specs.Sources.{unit_context}
-use Rattle.include_tree.specs.State.{Context, State, Did, did, Outcome, only, onward}
+use Rattle.source_files.specs.Faults.{first_place}
+use Rattle.source_files.specs.Files.{Source, Made, entry, Table, SourceFile, Carried, defines_path, asked}
+use Rattle.source_files.specs.Tables.{IsGrown}
+use Rattle.source_files.specs.Limits.{the_limits}
+use Rattle.include_tree.specs.OpeningStep.{open_file}
+use Rattle.include_tree.specs.GivenFiles.{unit_context}
+use Rattle.unit_steps.specs.State.{Context, State, Did, did, Outcome, only, onward}
 use Rattle.include_tree.specs.Unit.{first_state, outer_file, main_file, both_files, unit_outcome}
 use Rattle.include_tree.specs.Walk.{file_items}
-use Rattle.include_tree.proofs.TableLemmas.{grown_refl, grown_trans, widens_asked}
+use Rattle.source_files.proofs.TableLemmas.{grown_refl, grown_trans, widens_asked}
 use Rattle.rename_text_laws.specs.Lines.{Each, KeepsToken}
 use Rattle.rename_unit_laws.specs.Edited.{edited_table}
 use Rattle.rename_unit_laws.specs.Keeping.{Change, KeepsName, KeepsNames, KeepsFiles}

@@ -7,21 +7,21 @@ use Rattle.cs_base.specs.Token.{Token}
 use Rattle.part_lexer.specs.FileText.{TextValue}
 use Rattle.line_shape.specs.declared.items.ItemKind.{ItemKind}
 use Rattle.line_shape.specs.declared.items.ItemKind.TheVariants as kind
-use Rattle.macro_expand.specs.Macro.{Table as Macros}
+use Rattle.macro_body.specs.Macro.{Table as Macros}
 use Rattle.macro_expand.specs.Renaming.{renamed}
-use Rattle.include_tree.specs.Faults.{fault_at}
-use Rattle.include_tree.specs.Files.{Source, SourceFile}
+use Rattle.source_files.specs.Faults.{fault_at}
+use Rattle.source_files.specs.Files.{Source, SourceFile}
 use Rattle.include_tree.specs.Laws.{IfDone}
-use Rattle.include_tree.specs.Notes.{Reaches}
-use Rattle.include_tree.specs.State.{Context, State, Outcome, only, onward}
-use Rattle.include_tree.specs.Sources.{unit_context}
+use Rattle.unit_steps.specs.Notes.{Reaches}
+use Rattle.unit_steps.specs.State.{Context, State, Outcome, only, onward}
+use Rattle.include_tree.specs.GivenFiles.{unit_context}
 use Rattle.include_tree.specs.Including.{Inner}
 use Rattle.include_tree.specs.Sections.{Group, Processed, Awaited, Over, Skipped, Section, section, are_processed, group_if, group_after, group_of_else, Turn, Opens, GoesOn, GoesLast, Ends, Stays, turn_of}
-use Rattle.include_tree.specs.Conditions.{holds}
-use Rattle.include_tree.specs.Directives.{opens_with, is_if}
+use Rattle.unit_steps.specs.Conditions.{holds}
+use Rattle.unit_steps.specs.Directives.{opens_with, is_if}
 use Rattle.include_tree.specs.Walk.{ItemText, item_texts, items_in, processed, Stepped, stepped, reaching, reaching_alive, go_on, opens, goes_on, in_section, turned, item_step, file_end, walk, file_items}
 use Rattle.include_tree.proofs.StepLemmas.{PutsOut}
-use Rattle.include_tree.proofs.TableLemmas.{grown_refl}
+use Rattle.source_files.proofs.TableLemmas.{grown_refl}
 use Rattle.include_tree.proofs.WalkLemmas.{InnerLeads, walk_leads, files_lead}
 use Rattle.rename_text_laws.specs.Lines.{Each, renamed_kind}
 use Rattle.rename_text_laws.specs.UnitLines.{renamed_item_text}

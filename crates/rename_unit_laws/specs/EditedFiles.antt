@@ -9,10 +9,10 @@ use Rattle.part_lexer.specs.Tokens.{tokens_of, firsts_of, open_comment_of}
 use Rattle.part_respell.specs.Respelled.{put_of, respelled}
 use Rattle.line_shape.specs.Items.{lines_of}
 use Rattle.macro_expand.specs.Renaming.{renamed}
-use Rattle.include_tree.specs.Files.{Source, SourceFile, Entry}
-use Rattle.include_tree.specs.KeptFiles.{kept, kept_at}
-use Rattle.include_tree.specs.Laws.{AreFound}
-use Rattle.include_tree.specs.Sources.{source_at}
+use Rattle.source_files.specs.Files.{Source, SourceFile, Entry}
+use Rattle.source_files.specs.KeptFiles.{kept, kept_at}
+use Rattle.source_files.specs.Tables.{AreFound}
+use Rattle.source_files.specs.Sources.{source_at}
 use Rattle.rename_text_laws.specs.EditedFiles.{edited_token}
 use Rattle.rename_text_laws.specs.Lines.{Each, KeepsLine}
 use Rattle.rename_unit_laws.specs.Keeping.{Change, edited_files, Fits, KeepsFile}

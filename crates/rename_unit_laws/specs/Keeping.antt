@@ -9,14 +9,14 @@ use Rattle.part_lexer.specs.FileText.{TextValue}
 use Rattle.part_lexer.specs.Places.{pos}
 use Rattle.line_shape.specs.Signs.{is_name, is_identifier, is_punctuator}
 use Rattle.line_shape.specs.Items.{lines_of}
-use Rattle.macro_expand.specs.Notes as expansion
+use Rattle.macro_body.specs.Notes as expansion
 use Rattle.macro_expand.specs.Renaming.{Renaming, spelled, renamed, Occurring, occurs, Respects}
-use Rattle.macro_expand.specs.Substitution.{digit_origins}
-use Rattle.include_tree.specs.Files.{Source, Table, SourceFile, source_file, bytes_opened}
-use Rattle.include_tree.specs.Laws.{AreFound}
-use Rattle.include_tree.specs.Limits.{the_limits}
-use Rattle.include_tree.specs.Notes.{Note, Happened, Defined, Undefined, Tested, Left, Named}
-use Rattle.include_tree.specs.Sources.{source_at}
+use Rattle.macro_body.specs.Substitution.{digit_origins}
+use Rattle.source_files.specs.Files.{Source, Table, SourceFile, source_file, bytes_opened}
+use Rattle.source_files.specs.Tables.{AreFound}
+use Rattle.source_files.specs.Limits.{the_limits}
+use Rattle.unit_steps.specs.Notes.{Note, Happened, Defined, Undefined, Tested, Left, Named}
+use Rattle.source_files.specs.Sources.{source_at}
 use Rattle.rename_text_laws.specs.Lines.{Each, KeepsToken, KeepsLine}
 use Rattle.rename_unit_laws.specs.Edited.{Editing, edited_table}
 

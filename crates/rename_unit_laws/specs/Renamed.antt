@@ -1,10 +1,10 @@
 -- Units under a renaming (ISO/IEC 9899:1999, 5.1.1.2 phase 4): what happens, states, and what steps give.
 use Rattle.std.specs.Prelude.{map}
-use Rattle.macro_expand.specs.Macro.{Table as Macros}
+use Rattle.macro_body.specs.Macro.{Table as Macros}
 use Rattle.macro_expand.specs.Renaming.{Renaming, renamed, renamed_macro, renamed_note}
-use Rattle.include_tree.specs.Notes.{Note, Reaches, Happened, Defined, Undefined, Tested, Left, Linked, Answered, Named, Entered, Exited}
+use Rattle.unit_steps.specs.Notes.{Note, Reaches, Happened, Defined, Undefined, Tested, Left, Linked, Answered, Named, Entered, Exited}
 use Rattle.include_tree.specs.Sections.{Section, section}
-use Rattle.include_tree.specs.State.{State}
+use Rattle.unit_steps.specs.State.{State}
 use Rattle.include_tree.specs.Walk.{Stepped, stepped}
 use Rattle.rename_unit_laws.specs.Edited.{Editing, edited_table}
 

@@ -7,15 +7,15 @@ use Rattle.line_shape.specs.declared.items.ItemKind.{ItemKind}
 use Rattle.line_shape.specs.declared.items.ItemKind.TheVariants.{Define, Undef}
 use Rattle.line_shape.specs.Directives.{takes_name}
 use Rattle.line_shape.specs.Items.{line_kind}
-use Rattle.macro_expand.specs.Macro.{Table as Macros}
+use Rattle.macro_body.specs.Macro.{Table as Macros}
 use Rattle.macro_expand.specs.Renaming.{renamed}
-use Rattle.include_tree.specs.Conditions.{holds}
-use Rattle.include_tree.specs.Directives.{operand_in, define_of, undef_of, asks_name}
-use Rattle.include_tree.specs.Expanding.{run_of}
-use Rattle.include_tree.specs.Files.{Source, SourceFile}
+use Rattle.unit_steps.specs.Conditions.{holds}
+use Rattle.unit_steps.specs.Directives.{operand_in, define_of, undef_of, asks_name}
+use Rattle.unit_steps.specs.Expanding.{run_of}
+use Rattle.source_files.specs.Files.{Source, SourceFile}
 use Rattle.include_tree.specs.Including.{Inner, include_of}
-use Rattle.include_tree.specs.Sources.{unit_context}
-use Rattle.include_tree.specs.State.{State}
+use Rattle.include_tree.specs.GivenFiles.{unit_context}
+use Rattle.unit_steps.specs.State.{State}
 use Rattle.include_tree.specs.Walk.{file_items}
 use Rattle.rename_text_laws.specs.Lines.{Each, KeepsLine}
 use Rattle.rename_unit_laws.specs.Keeping.{Change, Fits, KeepsNames, KeepsFiles}

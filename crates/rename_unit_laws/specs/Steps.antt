@@ -2,14 +2,14 @@
 use Rattle.std.specs.Prelude.{◌≡◌, ℕ, true, List, map, Some, None, Ok, Err}
 use Rattle.cs_base.specs.Token.{Token}
 use Rattle.line_shape.specs.Signs.{is_name}
-use Rattle.macro_expand.specs.declared.definitions.Definition.{Definition}
-use Rattle.macro_expand.specs.Macro.{Table as Macros}
+use Rattle.macro_body.specs.declared.definitions.Definition.{Definition}
+use Rattle.macro_body.specs.Macro.{Table as Macros}
 use Rattle.macro_expand.specs.Renaming.{renamed, occurs, Keeps}
 use Rattle.part_lexer.specs.FileText.{TextValue}
-use Rattle.include_tree.specs.Files.{SourceFile, source_file}
+use Rattle.source_files.specs.Files.{SourceFile, source_file}
 use Rattle.include_tree.specs.Including.{Process, Inner}
-use Rattle.include_tree.specs.Laws.{IsGrown}
-use Rattle.include_tree.specs.State.{State, Did, did, Outcome}
+use Rattle.source_files.specs.Tables.{IsGrown}
+use Rattle.unit_steps.specs.State.{State, Did, did, Outcome}
 use Rattle.include_tree.specs.Walk.{Stepped}
 use Rattle.rename_text_laws.specs.Lines.{Each, KeepsToken}
 use Rattle.rename_unit_laws.specs.Keeping.{Change, Fits, KeepsFile, KeepsMacro, KeepsNote}

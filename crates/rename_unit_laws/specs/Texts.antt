@@ -5,15 +5,16 @@ use Rattle.cs_base.specs.declared.tokens.Link.{Link}
 use Rattle.cs_base.specs.Token.{Token, origin_at}
 use Rattle.cs_base.specs.Units.{UnitValue}
 use Rattle.part_lexer.specs.FileText.{file_text}
-use Rattle.macro_expand.specs.Notes as expansion
+use Rattle.macro_body.specs.Notes as expansion
 use Rattle.macro_expand.specs.Renaming.{Renaming, renamed}
-use Rattle.include_tree.specs.declared.events.Event.{Event}
-use Rattle.include_tree.specs.Files.{Source, Carried}
-use Rattle.include_tree.specs.Laws.{IsGrown}
-use Rattle.include_tree.specs.Limits.{the_limits}
-use Rattle.include_tree.specs.Notes.{Note, Happened, link}
-use Rattle.include_tree.specs.State.{Did}
-use Rattle.include_tree.specs.Texts.{UnitTextValue, text_of, Preprocessed, preprocessed}
+use Rattle.unit_steps.specs.declared.events.Event.{Event}
+use Rattle.source_files.specs.Files.{Source, Carried}
+use Rattle.source_files.specs.Tables.{IsGrown}
+use Rattle.source_files.specs.Limits.{the_limits}
+use Rattle.unit_steps.specs.Notes.{Note, Happened, link}
+use Rattle.unit_steps.specs.State.{Did}
+use Rattle.unit_steps.specs.Texts.{UnitTextValue, text_of}
+use Rattle.include_tree.specs.Preprocessed.{Preprocessed, preprocessed}
 use Rattle.include_tree.specs.Unit.{unit_outcome}
 use Rattle.rename_text_laws.specs.Lines.{Each}
 use Rattle.rename_unit_laws.specs.Edited.{Editing, edited_carried}

@@ -3,12 +3,12 @@ use Rattle.std.specs.Prelude.{◌≡◌, ℕ, List, map, Ok}
 use Rattle.cs_base.specs.Token.{Token}
 use Rattle.cs_base.specs.Units.{UnitValue}
 use Rattle.part_lexer.specs.FileText.{file_text}
-use Rattle.macro_expand.specs.Macro.{Table as Macros}
+use Rattle.macro_body.specs.Macro.{Table as Macros}
 use Rattle.macro_expand.specs.Renaming.{renamed}
-use Rattle.include_tree.specs.Files.{Source, Carried}
-use Rattle.include_tree.specs.Laws.{IsGrown}
-use Rattle.include_tree.specs.Limits.{the_limits}
-use Rattle.include_tree.specs.State.{Did, did}
+use Rattle.source_files.specs.Files.{Source, Carried}
+use Rattle.source_files.specs.Tables.{IsGrown}
+use Rattle.source_files.specs.Limits.{the_limits}
+use Rattle.unit_steps.specs.State.{Did, did}
 use Rattle.include_tree.specs.Unit.{unit_outcome}
 use Rattle.rename_unit_laws.specs.Edited.{edited_carried}
 use Rattle.rename_unit_laws.specs.Keeping.{Change, KeepsUnit}

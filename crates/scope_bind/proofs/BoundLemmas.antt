@@ -3,11 +3,11 @@ use Rattle.std.proofs.Common.{◌≡◌, List, Option, Some, map, reverse, sym, 
 use Rattle.std.specs.Prelude.{filter, Err, IfSome}
 use Rattle.cs_base.specs.Token.{Token}
 use Rattle.c99_tree.specs.Tree.{Forest, Node}
-use Rattle.scope_bind.specs.declared.declarations.Fault.{Fault}
-use Rattle.scope_bind.specs.declared.declarations.Declaration.{Declaration}
-use Rattle.scope_bind.specs.Declarations.{Facts, is_typedef_name}
+use Rattle.c_types.specs.declared.declarations.Fault.{Fault}
+use Rattle.c_types.specs.declared.declarations.Declaration.{Declaration}
+use Rattle.c_types.specs.Declarations.{Facts, is_typedef_name}
 use Rattle.scope_bind.specs.Bound.{range_of, typedefs_of, bound_unless, bound_after, facts_of, binding_of}
-use Rattle.scope_bind.proofs.Reversed.{filter_reversed, map_twice}
+use Rattle.name_chains.proofs.Reversed.{filter_reversed, map_twice}
 
 pub typedefs-in : (f : Facts) (ds : List Declaration) → reverse ds ≡ f.declared
     → map range_of (filter (λ d. is_typedef_name d.kind) ds) ≡ typedefs_of f

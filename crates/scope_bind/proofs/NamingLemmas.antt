@@ -4,17 +4,17 @@ use Rattle.std.specs.Prelude.{filter, find, is_some, ◌==◌}
 use Rattle.std.specs.List.{list_any}
 use Rattle.std.specs.Option.{option_map, option_map_or}
 use Rattle.std.proofs.lemmas.List.Sorted.{list_any-IsPermutation, IsPermutation-reverse}
-use Rattle.scope_bind.specs.declared.entity.EntityKind.TheVariants.{Object}
-use Rattle.scope_bind.specs.declared.entity.Linkage.TheVariants.{Absent}
-use Rattle.scope_bind.specs.declared.declarations.Declaration.{Declaration}
-use Rattle.scope_bind.specs.declared.declarations.Occurrence.{Occurrence}
-use Rattle.scope_bind.specs.declared.lists.List.{List as NameList}
+use Rattle.c_types.specs.declared.entity.EntityKind.TheVariants.{Object}
+use Rattle.c_types.specs.declared.entity.Linkage.TheVariants.{Absent}
+use Rattle.c_types.specs.declared.declarations.Declaration.{Declaration}
+use Rattle.c_types.specs.declared.declarations.Occurrence.{Occurrence}
+use Rattle.c_types.specs.declared.lists.List.{List as NameList}
 use Rattle.scope_bind.specs.declared.bound.Name.{Name}
-use Rattle.scope_bind.specs.Declarations.{Facts}
+use Rattle.c_types.specs.Declarations.{Facts}
 use Rattle.scope_bind.specs.Names.{name_at}
 use Rattle.scope_bind.specs.Bound.{names_of, is_function_name, is_of_function}
 use Rattle.scope_bind.specs.Told.{told_name, name_with, name_by}
-use Rattle.scope_bind.proofs.Reversed.{map_reversed, map_twice, filter_reversed}
+use Rattle.name_chains.proofs.Reversed.{map_reversed, map_twice, filter_reversed}
 
 module _ {A B : Type 0} (f g : A → B) (same : (x : A) → f x ≡ g x) where
   map_same : (xs : List A) → map f xs ≡ map g xs

@@ -3,11 +3,11 @@ use Rattle.std.proofs.Common.{ℕ, ◌≡◌, List, refl, ap, ◌∙◌}
 use Rattle.cs_base.specs.Token.{Token}
 use Rattle.c99_tree.specs.Tree.{Forest, none, token, node}
 use Rattle.c99_tree.specs.declared.production.Label.{Label}
-use Rattle.scope_bind.specs.declared.frames.Frame.{Frame}
-use Rattle.scope_bind.specs.Declarations.{Facts}
+use Rattle.c_types.specs.declared.frames.Frame.{Frame}
+use Rattle.c_types.specs.Declarations.{Facts}
 use Rattle.scope_bind.specs.Known.{Known, known}
-use Rattle.scope_bind.specs.Frames.{State, state}
-use Rattle.scope_bind.specs.Entering.{facts_in, frame_in, entered}
+use Rattle.name_chains.specs.Frames.{State, state}
+use Rattle.name_chains.specs.Entering.{facts_in, frame_in, entered}
 use Rattle.scope_bind.specs.Walk.{passed, facts_after, frame_after, left, walked}
 
 module _ (toks : List Token) where

@@ -4,19 +4,19 @@ use Rattle.std.specs.List.{list_any}
 use Rattle.std.specs.Option.{option_map_or}
 use Rattle.cs_base.specs.Token.{Token}
 use Rattle.c99_tree.specs.Tree.{Forest, Node}
-use Rattle.scope_bind.specs.declared.entity.EntityKind.{EntityKind}
-use Rattle.scope_bind.specs.declared.entity.EntityKind.TheVariants.{Function, Object}
-use Rattle.scope_bind.specs.declared.entity.Linkage.TheVariants.{Absent}
-use Rattle.scope_bind.specs.declared.declarations.Fault.{Fault}
-use Rattle.scope_bind.specs.declared.declarations.Declaration.{Declaration}
-use Rattle.scope_bind.specs.declared.declarations.Occurrence.{Occurrence}
-use Rattle.scope_bind.specs.Declarations.{Facts, is_typedef_name}
-use Rattle.scope_bind.specs.Frames.{at_first}
+use Rattle.c_types.specs.declared.entity.EntityKind.{EntityKind}
+use Rattle.c_types.specs.declared.entity.EntityKind.TheVariants.{Function, Object}
+use Rattle.c_types.specs.declared.entity.Linkage.TheVariants.{Absent}
+use Rattle.c_types.specs.declared.declarations.Fault.{Fault}
+use Rattle.c_types.specs.declared.declarations.Declaration.{Declaration}
+use Rattle.c_types.specs.declared.declarations.Occurrence.{Occurrence}
+use Rattle.c_types.specs.Declarations.{Facts, is_typedef_name}
+use Rattle.name_chains.specs.Frames.{at_first}
 use Rattle.scope_bind.specs.Walk.{walked}
 use Rattle.scope_bind.specs.declared.bound.Name.{Name}
-use Rattle.scope_bind.specs.declared.lists.List.{List as NameList}
-use Rattle.scope_bind.specs.declared.lists.Range.{Range}
-use Rattle.scope_bind.specs.Lists.{calls_in, bodies_in, lists_in, bare_in}
+use Rattle.c_types.specs.declared.lists.List.{List as NameList}
+use Rattle.c_types.specs.declared.lists.Range.{Range}
+use Rattle.c_types.specs.Lists.{calls_in, bodies_in, lists_in, bare_in}
 
 -- The identifiers that are bound, in the order in which they are: a declared name at the end of its declarator, a
 -- name after `goto` at the end of its function. The parameter lists of functions and the argument lists of calls,

@@ -2,9 +2,9 @@
 use Rattle.std.specs.Prelude.{ℕ}
 use Rattle.cs_base.specs.declared.causes.Cause.{Cause}
 use Rattle.cs_base.specs.declared.causes.Cause.TheVariants as told
-use Rattle.scope_bind.specs.declared.declarations.Cause.{Cause as NameCause}
-use Rattle.scope_bind.specs.declared.declarations.Cause.TheVariants.{Undeclared as undeclared, NoMember as no_member, NoLabel as no_label, Redeclared as redeclared, TagRedefined as tag_redefined, MixedLinkage as mixed_linkage, DesignatorAfterElision as designator_after_elision}
-use Rattle.scope_bind.specs.declared.declarations.Fault.{Fault}
+use Rattle.c_types.specs.declared.declarations.Cause.{Cause as NameCause}
+use Rattle.c_types.specs.declared.declarations.Cause.TheVariants.{Undeclared as undeclared, NoMember as no_member, NoLabel as no_label, Redeclared as redeclared, TagRedefined as tag_redefined, MixedLinkage as mixed_linkage, DesignatorAfterElision as designator_after_elision}
+use Rattle.c_types.specs.declared.declarations.Fault.{Fault}
 
 abbrev pub told_as : NameCause → Cause
 told_as undeclared = told.Undeclared

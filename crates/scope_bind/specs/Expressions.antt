@@ -6,10 +6,10 @@ use Rattle.c99_tree.specs.Tree.{Forest}
 use Rattle.c99_tree.specs.declared.production.Label.{Label}
 use Rattle.c99_tree.specs.declared.production.Production.{Production}
 use Rattle.c99_tree.specs.declared.production.Production.TheVariants.{Expr, Assign, Cond, Add, Cast, CastRest, Unary, SizeRest, SizeLit, Primary, Post, TypeName, Specs, Main, StructSpec, Word, ExtRest, InitDecl, Declarator, Init, InitItem, Designator}
-use Rattle.scope_bind.specs.Types.{CType, arithmetic, nothing, pointer, subscripted, pointed_to, sum_type, chosen}
-use Rattle.scope_bind.specs.Trees.{is_node, is_at, declarator_type}
-use Rattle.scope_bind.specs.Declarations.{spelling_at}
-use Rattle.scope_bind.specs.declared.frames.Frame.{Frame}
+use Rattle.c_types.specs.Types.{CType, arithmetic, nothing, pointer, subscripted, pointed_to, sum_type, chosen}
+use Rattle.c_types.specs.Trees.{is_node, is_at, declarator_type}
+use Rattle.c_types.specs.Declarations.{spelling_at}
+use Rattle.c_types.specs.declared.frames.Frame.{Frame}
 
 -- the first operand's: assignment (6.5.16 paragraph 3)
 abbrev pub of_first : Frame → Frame → CType

@@ -1,7 +1,7 @@
 -- What is known once a part of a unit is read, beside the tokens of the unit.
 use Rattle.std.specs.Prelude.{List}
 use Rattle.cs_base.specs.Token.{Token}
-use Rattle.scope_bind.specs.Declarations.{Facts}
+use Rattle.c_types.specs.Declarations.{Facts}
 
 pub record Known : Type 0 where
   pub toks : List Token

@@ -1,14 +1,14 @@
 -- Label names (ISO/IEC 9899:1999, 6.2.1 paragraph 3 and 6.8.6.1): their scope is the function, before them too.
 use Rattle.std.specs.Prelude.{ℕ, true, false, List, [], ◌∷◌, ◌++◌, Option, None, Some, is_some}
 use Rattle.cs_base.specs.Token.{Token}
-use Rattle.scope_bind.specs.declared.entity.EntityKind.TheVariants.{Label}
-use Rattle.scope_bind.specs.declared.entity.Linkage.TheVariants.{Absent}
-use Rattle.scope_bind.specs.declared.declarations.Cause.TheVariants.{NoLabel as no_label, Redeclared as redeclared}
-use Rattle.scope_bind.specs.Types.{arithmetic}
-use Rattle.scope_bind.specs.declared.declarations.Space.TheVariants.{Labels as labels}
-use Rattle.scope_bind.specs.declared.declarations.Declaration.{Declaration}
-use Rattle.scope_bind.specs.Declarations.{Facts, with_fault, with_use, with_declaration, anywhere}
-use Rattle.scope_bind.specs.declared.frames.Body.{Body}
+use Rattle.c_types.specs.declared.entity.EntityKind.TheVariants.{Label}
+use Rattle.c_types.specs.declared.entity.Linkage.TheVariants.{Absent}
+use Rattle.c_types.specs.declared.declarations.Cause.TheVariants.{NoLabel as no_label, Redeclared as redeclared}
+use Rattle.c_types.specs.Types.{arithmetic}
+use Rattle.c_types.specs.declared.declarations.Space.TheVariants.{Labels as labels}
+use Rattle.c_types.specs.declared.declarations.Declaration.{Declaration}
+use Rattle.c_types.specs.Declarations.{Facts, with_fault, with_use, with_declaration, anywhere}
+use Rattle.c_types.specs.declared.frames.Body.{Body}
 
 abbrev pub label_declaration : Body → ℕ → Declaration
 label_declaration b i = record {

@@ -1,37 +1,15 @@
 -- What the public contracts rest on.
-pub mod Faults
 pub mod Causes
-pub mod Types
-pub mod Trees
-pub mod Declarations
-pub mod Frames
 pub mod Linkage
 pub mod Ordinary
-pub mod Tags
-pub mod Members
 pub mod Labels
 pub mod Expressions
-pub mod Initializers
-pub mod Entering
 pub mod Roles
 pub mod Walk
-pub mod Lists
-pub mod Parameters
 pub mod Bound
 pub mod Names
 pub mod Named
 -- What inner functions promise each other.
 pub mod Known
-pub mod Latest
-pub mod Spellings
-pub mod Links
-pub mod Linked
-pub mod Ranks
-pub mod Chains
 pub mod Marks
-pub mod Children
-pub mod Shapes
-pub mod Fronts
-pub mod ParameterShapes
-pub mod Places
 pub mod Told

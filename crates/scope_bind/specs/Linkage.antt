@@ -1,11 +1,11 @@
 -- Linkages of identifiers (ISO/IEC 9899:1999, 6.2.2).
 -- Differs: a declaration at file scope with `register` or `auto` has none.
 use Rattle.std.specs.Prelude.{ℕ, Bool, ◌&&◌, ◌||◌, not, Option, None, Some, if◌then◌else◌, ◌==◌}
-use Rattle.scope_bind.specs.declared.entity.Linkage.{Linkage}
-use Rattle.scope_bind.specs.declared.entity.Linkage.TheVariants.{External, Internal, Absent}
-use Rattle.scope_bind.specs.declared.frames.Words.{Words}
-use Rattle.scope_bind.specs.declared.declarations.Declaration.{Declaration}
-use Rattle.scope_bind.specs.Declarations.{has_linkage}
+use Rattle.c_types.specs.declared.entity.Linkage.{Linkage}
+use Rattle.c_types.specs.declared.entity.Linkage.TheVariants.{External, Internal, Absent}
+use Rattle.c_types.specs.declared.frames.Words.{Words}
+use Rattle.c_types.specs.declared.declarations.Declaration.{Declaration}
+use Rattle.c_types.specs.Declarations.{has_linkage}
 
 -- that of a prior declaration that is visible, if it has one, and else external (paragraph 4)
 abbrev pub prior_linkage : Option Declaration → Linkage

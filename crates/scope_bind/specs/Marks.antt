@@ -1,6 +1,6 @@
 -- Numbers of which it is known at once whether they are among others.
 use Rattle.std.specs.Prelude.{ℕ, ◌≡◌, Bool, false, List, get_or}
-use Rattle.scope_bind.specs.Declarations.{is_in}
+use Rattle.c_types.specs.Declarations.{is_in}
 
 -- each number has a mark where it is among the numbers
 pub record AreMarked (numbers : List ℕ) (marks : List Bool) : Type 0 where

@@ -1,17 +1,17 @@
 -- Names by which laws of other crates speak of what is private to this one: its types, its causes and name spaces, and
 -- the cases of a role.
 use Rattle.std.specs.Prelude.{ℕ, Bool, true, false}
-use Rattle.scope_bind.specs.declared.declarations.Cause.{Cause as ACause}
-use Rattle.scope_bind.specs.declared.declarations.Cause.TheVariants.{Undeclared, NoMember, NoLabel, Redeclared, TagRedefined, MixedLinkage, DesignatorAfterElision}
-use Rattle.scope_bind.specs.declared.declarations.Fault.{Fault as AFault}
-use Rattle.scope_bind.specs.declared.declarations.Space.{Space as ASpace}
-use Rattle.scope_bind.specs.declared.declarations.Space.TheVariants.{Ordinary as AnOrdinary, Tags as ATags, Members as AMembers, Labels as ALabels}
-use Rattle.scope_bind.specs.declared.declarations.Declaration.{Declaration as ADeclaration}
-use Rattle.scope_bind.specs.declared.declarations.Occurrence.{Occurrence as AnOccurrence}
+use Rattle.c_types.specs.declared.declarations.Cause.{Cause as ACause}
+use Rattle.c_types.specs.declared.declarations.Cause.TheVariants.{Undeclared, NoMember, NoLabel, Redeclared, TagRedefined, MixedLinkage, DesignatorAfterElision}
+use Rattle.c_types.specs.declared.declarations.Fault.{Fault as AFault}
+use Rattle.c_types.specs.declared.declarations.Space.{Space as ASpace}
+use Rattle.c_types.specs.declared.declarations.Space.TheVariants.{Ordinary as AnOrdinary, Tags as ATags, Members as AMembers, Labels as ALabels}
+use Rattle.c_types.specs.declared.declarations.Declaration.{Declaration as ADeclaration}
+use Rattle.c_types.specs.declared.declarations.Occurrence.{Occurrence as AnOccurrence}
 use Rattle.scope_bind.specs.declared.ordinary.Declared.{Declared as ADeclared}
-use Rattle.scope_bind.specs.declared.frames.Body.{Body as ABody}
-use Rattle.scope_bind.specs.declared.frames.Frame.{Frame as AFrame}
-use Rattle.scope_bind.specs.declared.frames.Scope.{Scope as AScope}
+use Rattle.c_types.specs.declared.frames.Body.{Body as ABody}
+use Rattle.c_types.specs.declared.frames.Frame.{Frame as AFrame}
+use Rattle.c_types.specs.declared.frames.Scope.{Scope as AScope}
 use Rattle.scope_bind.specs.declared.roles.Role.{Role as ARole}
 use Rattle.scope_bind.specs.declared.roles.Role.TheVariants.{Plain, Primary, TypeName, Tag, EnumerationTag, Listed, Member, PointedMember, Designated, Label, Jump}
 

@@ -2,9 +2,9 @@
 use Rattle.std.specs.Prelude.{ℕ, zero, suc, ◌≤◌, ◌≡◌, Bool, false, List, length, find, reverse, get_or, slice_get, Option, None, Some, ◌==◌, if◌then◌else◌}
 use Rattle.std.specs.Option.{option_map, option_map_or, option_and_then}
 use Rattle.scope_bind.specs.declared.bound.Name.{Name}
-use Rattle.scope_bind.specs.declared.entity.EntityKind.{EntityKind}
-use Rattle.scope_bind.specs.declared.entity.Linkage.{Linkage}
-use Rattle.scope_bind.specs.declared.entity.Linkage.TheVariants.{Absent}
+use Rattle.c_types.specs.declared.entity.EntityKind.{EntityKind}
+use Rattle.c_types.specs.declared.entity.Linkage.{Linkage}
+use Rattle.c_types.specs.declared.entity.Linkage.TheVariants.{Absent}
 
 -- the name that token k is
 abbrev pub name_at : List Name → ℕ → Option Name

@@ -4,19 +4,19 @@ use Rattle.std.specs.Option.{option_map_or}
 use Rattle.std.specs.Str.{bytes_eq}
 use Rattle.cs_base.specs.Token.{Token}
 use Rattle.c99_tree.specs.Tree.{Forest}
-use Rattle.scope_bind.specs.declared.entity.EntityKind.{EntityKind}
-use Rattle.scope_bind.specs.declared.entity.EntityKind.TheVariants.{Object, Function, Typedef, Parameter, Enumerator}
-use Rattle.scope_bind.specs.declared.entity.Linkage.{Linkage}
-use Rattle.scope_bind.specs.declared.entity.Linkage.TheVariants.{Absent}
-use Rattle.scope_bind.specs.declared.declarations.Cause.TheVariants.{Undeclared as undeclared, Redeclared as redeclared, MixedLinkage as mixed_linkage}
+use Rattle.c_types.specs.declared.entity.EntityKind.{EntityKind}
+use Rattle.c_types.specs.declared.entity.EntityKind.TheVariants.{Object, Function, Typedef, Parameter, Enumerator}
+use Rattle.c_types.specs.declared.entity.Linkage.{Linkage}
+use Rattle.c_types.specs.declared.entity.Linkage.TheVariants.{Absent}
+use Rattle.c_types.specs.declared.declarations.Cause.TheVariants.{Undeclared as undeclared, Redeclared as redeclared, MixedLinkage as mixed_linkage}
 use Rattle.scope_bind.specs.declared.ordinary.Declared.{Declared}
-use Rattle.scope_bind.specs.Types.{CType, arithmetic, array, is_function, adjusted}
-use Rattle.scope_bind.specs.Trees.{last_token, declarator_type}
-use Rattle.scope_bind.specs.declared.declarations.Space.TheVariants.{Ordinary as ordinary}
-use Rattle.scope_bind.specs.declared.declarations.Declaration.{Declaration}
-use Rattle.scope_bind.specs.Declarations.{spelling_at, Facts, has_linkage, is_typedef_name, with_fault, with_use, with_declaration, visible, in_scope, linked, is_mixed}
-use Rattle.scope_bind.specs.declared.frames.Scope.{Scope}
-use Rattle.scope_bind.specs.declared.frames.Frame.{Frame}
+use Rattle.c_types.specs.Types.{CType, arithmetic, array, is_function, adjusted}
+use Rattle.c_types.specs.Trees.{last_token, declarator_type}
+use Rattle.c_types.specs.declared.declarations.Space.TheVariants.{Ordinary as ordinary}
+use Rattle.c_types.specs.declared.declarations.Declaration.{Declaration}
+use Rattle.c_types.specs.Declarations.{spelling_at, Facts, has_linkage, is_typedef_name, with_fault, with_use, with_declaration, visible, in_scope, linked, is_mixed}
+use Rattle.c_types.specs.declared.frames.Scope.{Scope}
+use Rattle.c_types.specs.declared.frames.Frame.{Frame}
 use Rattle.scope_bind.specs.Linkage.{linkage_of}
 
 -- A second declaration in one scope is of the same entity where both have linkage, where both are typedef names,

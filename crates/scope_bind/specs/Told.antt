@@ -1,10 +1,10 @@
 -- How names are told from declarations and occurrences, by tables of them.
 use Rattle.std.specs.Prelude.{true, List, Option}
 use Rattle.std.specs.Option.{option_map_or}
-use Rattle.scope_bind.specs.declared.entity.EntityKind.TheVariants.{Object}
-use Rattle.scope_bind.specs.declared.entity.Linkage.TheVariants.{Absent}
-use Rattle.scope_bind.specs.declared.declarations.Declaration.{Declaration}
-use Rattle.scope_bind.specs.declared.declarations.Occurrence.{Occurrence}
+use Rattle.c_types.specs.declared.entity.EntityKind.TheVariants.{Object}
+use Rattle.c_types.specs.declared.entity.Linkage.TheVariants.{Absent}
+use Rattle.c_types.specs.declared.declarations.Declaration.{Declaration}
+use Rattle.c_types.specs.declared.declarations.Occurrence.{Occurrence}
 use Rattle.scope_bind.specs.declared.bound.Name.{Name}
 use Rattle.scope_bind.specs.Names.{name_at}
 

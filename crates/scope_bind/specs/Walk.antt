@@ -7,20 +7,20 @@ use Rattle.c99_tree.specs.Tree.{Forest, none, token, node}
 use Rattle.c99_tree.specs.declared.production.Label.{Label}
 use Rattle.c99_tree.specs.declared.production.Production.{Production}
 use Rattle.c99_tree.specs.declared.production.Production.TheVariants.{ExtRest, FunBody, InitDecl, Specs, Members, Mdecl, Enumerators, Enumerator, Declarator, Param, Pdecl}
-use Rattle.scope_bind.specs.Types.{CType, arithmetic, target_of}
-use Rattle.scope_bind.specs.Trees.{words_of, name_below, is_node, last_token, first_list}
-use Rattle.scope_bind.specs.Declarations.{Facts, with_complete}
-use Rattle.scope_bind.specs.declared.frames.Body.{Body}
-use Rattle.scope_bind.specs.declared.frames.Frame.{Frame}
-use Rattle.scope_bind.specs.declared.frames.Position.{Position}
-use Rattle.scope_bind.specs.Frames.{State}
+use Rattle.c_types.specs.Types.{CType, arithmetic, target_of}
+use Rattle.c_types.specs.Trees.{words_of, name_below, is_node, last_token, first_list}
+use Rattle.c_types.specs.Declarations.{Facts, with_complete}
+use Rattle.c_types.specs.declared.frames.Body.{Body}
+use Rattle.c_types.specs.declared.frames.Frame.{Frame}
+use Rattle.c_types.specs.declared.frames.Position.{Position}
+use Rattle.name_chains.specs.Frames.{State}
 use Rattle.scope_bind.specs.Ordinary.{used, used_type, named_facts, named_type, with_object, with_parameter, with_listed, with_enumerator}
-use Rattle.scope_bind.specs.Tags.{number_in, with_tag, tag_type, with_enumeration}
-use Rattle.scope_bind.specs.Members.{with_member, member_used, member_type}
+use Rattle.c_types.specs.Tags.{number_in, with_tag, tag_type, with_enumeration}
+use Rattle.name_chains.specs.Members.{with_member, member_used, member_type}
 use Rattle.scope_bind.specs.Labels.{with_label, with_jump, with_labels}
 use Rattle.scope_bind.specs.Expressions.{found_after}
-use Rattle.scope_bind.specs.Initializers.{position_after, designated_facts, designated_type, designated_position}
-use Rattle.scope_bind.specs.Entering.{entered}
+use Rattle.name_chains.specs.Initializers.{position_after, designated_facts, designated_type, designated_position}
+use Rattle.name_chains.specs.Entering.{entered}
 use Rattle.scope_bind.specs.declared.roles.Role.{Role}
 use Rattle.scope_bind.specs.declared.roles.Role.TheVariants.{Plain as plain, Primary as primary, TypeName as type_name, Tag as tag, EnumerationTag as enumeration_tag, Listed as listed, Member as member, PointedMember as pointed_member, Designated as designated, Label as label, Jump as jump}
 use Rattle.scope_bind.specs.Roles.{role_of}

@@ -1,24 +1,21 @@
 // The binding of a unit (ISO/IEC 9899:1999, 6.2.1 to 6.2.3): the walk, and what is told of it.
 ghost use Rattle.std.specs.Prelude.{◌≡◌, map, filter, length, Some, IfOk, OnOk, ◌++◌};
 ghost use Rattle.cs_base.specs.Answer.{Gives};
-ghost use Rattle.scope_bind.specs.Lists.{bodies_in, lists_in, calls_in, bare_in};
-ghost use Rattle.scope_bind.specs.Frames.{outermost};
-ghost use Rattle.scope_bind.specs.Faults.{fault_of};
+ghost use Rattle.c_types.specs.Lists.{bodies_in, lists_in, calls_in, bare_in};
+ghost use Rattle.name_chains.specs.Frames.{outermost};
+ghost use Rattle.c_types.specs.Faults.{fault_of};
 ghost use Rattle.scope_bind.specs.Bound.{range_of, typedefs_of, bound_of, bound_after, facts_of, binding_of};
-ghost use Rattle.scope_bind.specs.Declarations.{is_typedef_name};
+ghost use Rattle.c_types.specs.Declarations.{is_typedef_name};
 ghost use Rattle.scope_bind.specs.Known.{known};
 
 use crate::bound::{Bound, Told};
-use crate::declarations::{Cause, Declaration, Fault};
-use crate::entity::EntityKind;
 use crate::facts::Facts;
-use crate::faults::BindRefusal;
-use crate::frames::{Frame, Position, Scope, Words};
-use crate::listing::{Shown, push_bodies};
-use crate::lists::Range;
 use crate::naming::{declarators_of, names_of};
-use crate::types::{Base, CType};
 use crate::walking::walk;
+use c_types::{
+    Base, BindRefusal, CType, Cause, Declaration, EntityKind, Fault, Frame, Position, Range, Scope,
+    Shown, Words, push_bodies,
+};
 use c99_tree::{Label, Production, Tree};
 use cs_base::{Memory, Tok};
 use std::alloc::Global;

@@ -3,9 +3,8 @@ ghost use Rattle.std.specs.Prelude.{◌≡◌, IfOk};
 ghost use Rattle.std.specs.Option.{option_map};
 ghost use Rattle.scope_bind.specs.Names.{name_at, entity_at, declares_at, kind_at, linkage_at};
 
-use crate::entity::{EntityKind, Linkage};
-use crate::lists::{List, Range};
 use crate::name_table::NameTable;
+use c_types::{EntityKind, Linkage, List, Range};
 use cs_base::Memory;
 use std::alloc::Global;
 use std::marker::Model;

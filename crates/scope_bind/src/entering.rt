@@ -2,17 +2,17 @@
 ghost use Rattle.std.specs.Prelude.{◌≡◌, ◌+◌, ◌||◌, ◌==◌, [], if◌then◌else◌, IfOk, OnOk};
 ghost use Rattle.c99_tree.specs.declared.production.Production.TheVariants.{Members as MembersNode, Enumerators as EnumeratorsNode, InitItem as InitItemNode};
 ghost use Rattle.scope_bind.specs.Known.{known};
-ghost use Rattle.scope_bind.specs.Entering.{inner, is_scoped, scope_in, body_in, listing_in, alone_in, owner_in, given_in, position_in, with_kept, facts_in, found_in, frame_in};
-ghost use Rattle.scope_bind.specs.Trees.{last_token, has_node};
-ghost use Rattle.scope_bind.specs.Types.{called, array, arithmetic};
+ghost use Rattle.name_chains.specs.Entering.{inner, is_scoped, scope_in, body_in, listing_in, alone_in, owner_in, given_in, position_in, with_kept, facts_in, found_in, frame_in};
+ghost use Rattle.c_types.specs.Trees.{last_token, has_node};
+ghost use Rattle.c_types.specs.Types.{called, array, arithmetic};
 
 use crate::facts::Facts;
-use crate::frames::{Body, Frame, Position, Scope};
 use crate::initializers::element_of;
-use crate::shapes::is_bare;
 use crate::tags::{new_record, number_in};
-use crate::trees::{first_token, has_node, is_list, is_node, last_token};
-use crate::types::{Base, CType};
+use c_types::{
+    Base, Body, CType, Frame, Position, Scope, first_token, has_node, is_bare, is_list, is_node,
+    last_token,
+};
 use c99_tree::{Label, Production, Tree};
 use cs_base::Memory;
 use std::alloc::Global;

@@ -2,13 +2,10 @@
 ghost use Rattle.std.specs.Prelude.{◌≡◌, IfOk};
 ghost use Rattle.scope_bind.specs.Expressions.{of_first, of_conditional, of_cast, of_child, of_main, of_type_name, of_declarator, of_postfix, prefixed, of_unary, of_sum, found_after};
 
-use crate::declarators::declarator_type;
-use crate::frames::Frame;
-use crate::latest::is_spelled;
-use crate::trees::{is_at, is_node};
-use crate::types::{Base, CType};
+use c_types::{Base, CType, Frame, declarator_type, is_at, is_node};
 use c99_tree::{Label, Production, Tree};
 use cs_base::{Memory, Tok};
+use name_chains::is_spelled;
 use std::alloc::Global;
 
 fn of_first(f: &Frame, child: &Frame) -> Result<CType, Memory>

@@ -1,23 +1,21 @@
 // What is known once a part of a unit is read.
 ghost use Rattle.std.specs.Prelude.{◌≡◌, [], reverse, slice_get, IfOk, OnOk, Some};
 ghost use Rattle.std.specs.Option.{option_map};
-ghost use Rattle.scope_bind.specs.Faults.{number_of, comes_first, first_fault};
-ghost use Rattle.scope_bind.specs.Declarations.{no_facts, is_in, with_fault, with_occurrence, with_declaration, with_begun, with_complete, looked_up, visible, in_scope, anywhere, linked, is_mixed};
+ghost use Rattle.c_types.specs.Faults.{number_of, comes_first, first_fault};
+ghost use Rattle.c_types.specs.Declarations.{no_facts, is_in, with_fault, with_occurrence, with_declaration, with_begun, with_complete, looked_up, visible, in_scope, anywhere, linked, is_mixed};
 ghost use Rattle.scope_bind.specs.Known.{known};
-ghost use Rattle.scope_bind.specs.Latest.{passes};
-ghost use Rattle.scope_bind.specs.declared.latest.Asked.TheVariants.{Tag};
+ghost use Rattle.name_chains.specs.Latest.{passes};
+ghost use Rattle.name_chains.specs.declared.latest.Asked.TheVariants.{Tag};
 ghost use Rattle.scope_bind.specs.Labels.{with_jump};
-ghost use Rattle.scope_bind.specs.Members.{members_of};
-ghost use Rattle.scope_bind.specs.Places.{place_of};
-ghost use Rattle.scope_bind.specs.Entering.{with_kept};
-ghost use Rattle.scope_bind.specs.declared.declarations.Space.TheVariants.{Ordinary, Tags};
+ghost use Rattle.name_chains.specs.Members.{members_of};
+ghost use Rattle.name_chains.specs.Places.{place_of};
+ghost use Rattle.name_chains.specs.Entering.{with_kept};
+ghost use Rattle.c_types.specs.declared.declarations.Space.TheVariants.{Ordinary, Tags};
 
-use crate::chains::Chains;
-use crate::declarations::{Cause, Declaration, Fault, Occurrence, Space};
-use crate::entity::Linkage;
-use crate::latest::Asked;
 use crate::marks::Marks;
+use c_types::{Cause, Declaration, Fault, Linkage, Occurrence, Space};
 use cs_base::{Memory, Tok};
+use name_chains::{Asked, Chains};
 use std::alloc::Global;
 use std::marker::Model;
 

@@ -3,17 +3,14 @@ ghost use Rattle.std.specs.Prelude.{◌≡◌, ◌&&◌, not, IfOk, OnOk, if◌t
 ghost use Rattle.std.specs.Option.{option_map};
 ghost use Rattle.c99_tree.specs.declared.production.Production.TheVariants.{InitItem as InitItemNode, InitList as InitListNode};
 ghost use Rattle.scope_bind.specs.Known.{known};
-ghost use Rattle.scope_bind.specs.Types.{unknown, arithmetic, inner_of, is_array, is_arithmetic};
-ghost use Rattle.scope_bind.specs.Members.{members_of, member_at};
-ghost use Rattle.scope_bind.specs.Places.{position_by};
-ghost use Rattle.scope_bind.specs.Initializers.{member_place, is_union_base, place_at, next_member, is_lost, next_place, behind, element_of, is_part, is_elision, after_item, after_designator, position_after, designated_facts, designated_type, designated_position};
+ghost use Rattle.c_types.specs.Types.{unknown, arithmetic, inner_of, is_array, is_arithmetic};
+ghost use Rattle.name_chains.specs.Members.{members_of, member_at};
+ghost use Rattle.name_chains.specs.Places.{position_by};
+ghost use Rattle.name_chains.specs.Initializers.{member_place, is_union_base, place_at, next_member, is_lost, next_place, behind, element_of, is_part, is_elision, after_item, after_designator, position_after, designated_facts, designated_type, designated_position};
 
-use crate::declarations::Cause;
 use crate::facts::Facts;
-use crate::frames::{Frame, Position};
 use crate::tags::number_in;
-use crate::trees::{is_node, is_text};
-use crate::types::{Base, CType};
+use c_types::{Base, CType, Cause, Frame, Position, is_node, is_text};
 use c99_tree::{Production, Tree};
 use cs_base::Memory;
 use std::alloc::Global;

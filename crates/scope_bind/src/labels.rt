@@ -1,14 +1,13 @@
 // Labels behind `goto` (ISO/IEC 9899:1999, 6.8.6.1).
 ghost use Rattle.std.specs.Prelude.{◌≡◌, OnOk};
 ghost use Rattle.std.specs.Option.{option_map};
-ghost use Rattle.scope_bind.specs.declared.declarations.Space.TheVariants.{Labels};
-ghost use Rattle.scope_bind.specs.Declarations.{anywhere};
+ghost use Rattle.c_types.specs.declared.declarations.Space.TheVariants.{Labels};
+ghost use Rattle.c_types.specs.Declarations.{anywhere};
 ghost use Rattle.scope_bind.specs.Known.{known};
 ghost use Rattle.scope_bind.specs.Labels.{jump_to, with_jumps, with_labels};
 
-use crate::declarations::{Cause, Space};
 use crate::facts::Facts;
-use crate::frames::Body;
+use c_types::{Body, Cause, Space};
 use cs_base::Memory;
 
 impl Facts<'_> {

@@ -3,13 +3,11 @@ ghost use Rattle.std.specs.Prelude.{◌≡◌, [], OnOk};
 ghost use Rattle.scope_bind.specs.Known.{known};
 ghost use Rattle.scope_bind.specs.Walk.{declared_in, parameter_in, facts_after, kept_after, frame_after};
 
-use crate::declarators::{first_list, name_below};
 use crate::expressions::found_after;
 use crate::facts::Facts;
-use crate::frames::{Body, Frame};
 use crate::initializers::position_after;
 use crate::tags::number_in;
-use crate::trees::{is_node, last_token, words_of};
+use c_types::{Body, Frame, first_list, is_node, last_token, name_below, words_of};
 use c99_tree::{Production, Tree};
 use cs_base::{Memory, Tok};
 use std::alloc::Global;

@@ -7,54 +7,36 @@
 //! its range of tokens, or the first of seven faults. Types are followed as far as members need them.
 //! A binding is told by indices and holds no spelling, so a renamed text binds to the same value: that is
 //! a law of `bind_laws`. This crate knows neither how a tree is read nor macros, files or classes. Spellings,
-//! declarations, names and types want memory. Read `specs/Declarations.antt`, `Ordinary.antt` and the files
-//! beside it, `Walk.antt`, `Bound.antt`, then `binding.rt`, `walking.rt`, `facts.rt` and `chains.rt`.
+//! declarations, names and types want memory. What a tree says without a scope is in `c_types`, which of the
+//! declarations a name may denote in `name_chains`. Read `specs/Declarations.antt` of `c_types`, then
+//! `Ordinary.antt` and the files beside it, `Walk.antt`, `Bound.antt`, then `binding.rt`, `walking.rt` and
+//! `facts.rt`.
 #![tactic(auto)]
 
-mod bare_names;
 mod binding;
-mod bodies;
 mod bound;
-mod chains;
-mod declarations;
-mod declarators;
 mod entering;
-mod entity;
 mod expressions;
 mod facts;
-mod faults;
-mod frames;
 mod initializers;
-mod keeping;
 mod labels;
-mod latest;
 mod leaving;
 mod linkage;
-mod linked;
-mod links;
-mod listing;
-mod lists;
 mod marks;
 mod members;
 mod name_table;
 mod naming;
 mod objects;
 mod ordinary;
-mod parameters;
 mod places;
 mod reading;
 mod roles;
-mod shapes;
-mod spellings;
-mod structures;
 mod tags;
-mod trees;
-mod types;
 mod walking;
 
 pub use binding::bind;
 pub use bound::{Bound, Name};
-pub use entity::{EntityKind, Linkage};
-pub use faults::BindRefusal;
-pub use lists::{Indices, List, Range};
-pub use parameters::{ParameterForm, ParameterList, ParameterNames, parameter_lists};
+pub use c_types::{
+    BindRefusal, EntityKind, Indices, Linkage, List, ParameterForm, ParameterList, ParameterNames,
+    Range, parameter_lists,
+};

@@ -3,10 +3,8 @@ ghost use Rattle.std.specs.Prelude.{◌≡◌};
 ghost use Rattle.std.specs.Option.{option_map};
 ghost use Rattle.scope_bind.specs.Linkage.{prior_linkage, follows_prior, own_linkage, linkage_of};
 
-use crate::declarations::Declaration;
-use crate::entity::Linkage;
-use crate::frames::Words;
-use crate::latest::has_linkage;
+use c_types::{Declaration, Linkage, Words};
+use name_chains::has_linkage;
 
 fn prior_linkage(prior: Option<&Declaration>) -> Linkage
     ensures { result ≡ prior_linkage (option_map (λ d. d.now) prior.entry) }

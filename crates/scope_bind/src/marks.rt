@@ -1,6 +1,6 @@
 // Numbers with marks.
 ghost use Rattle.std.specs.Prelude.{◌≡◌, ◌≤◌, ℕ, ◌++◌, [], ◌∷◌, false, length, get_or, OnOk, OnErr};
-ghost use Rattle.scope_bind.specs.Declarations.{is_in};
+ghost use Rattle.c_types.specs.Declarations.{is_in};
 
 use cs_base::Memory;
 use std::alloc::Global;

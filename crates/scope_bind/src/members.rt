@@ -1,19 +1,16 @@
 // Members and labels (ISO/IEC 9899:1999, 6.2.3, 6.5.2.3, 6.7.2.1 and 6.8.1).
 ghost use Rattle.std.specs.Prelude.{◌≡◌, is_some, IfOk, OnOk};
-ghost use Rattle.std.specs.Option.{option_map, option_map_or};
-ghost use Rattle.scope_bind.specs.Declarations.{with_fault, with_declaration, anywhere};
+ghost use Rattle.std.specs.Option.{option_map};
+ghost use Rattle.c_types.specs.Declarations.{with_fault, with_declaration, anywhere};
 ghost use Rattle.scope_bind.specs.Known.{known};
-ghost use Rattle.scope_bind.specs.Members.{member_declaration, is_known, member_at, member_used, member_type};
+ghost use Rattle.name_chains.specs.Members.{member_declaration, is_known, member_at, member_used, member_type};
 ghost use Rattle.scope_bind.specs.Labels.{label_declaration, with_label};
-ghost use Rattle.scope_bind.specs.declared.declarations.Cause.TheVariants.{Redeclared};
-ghost use Rattle.scope_bind.specs.declared.declarations.Space.TheVariants.{Members, Labels};
+ghost use Rattle.c_types.specs.declared.declarations.Cause.TheVariants.{Redeclared};
+ghost use Rattle.c_types.specs.declared.declarations.Space.TheVariants.{Members, Labels};
 
-use crate::declarations::{Cause, Declaration, Space};
-use crate::entity::{EntityKind, Linkage};
 use crate::facts::Facts;
-use crate::frames::{Body, Frame};
 use crate::tags::number_in;
-use crate::types::{Base, CType};
+use c_types::{Base, Body, CType, Cause, Declaration, EntityKind, Frame, Linkage, Space};
 use cs_base::Memory;
 use std::alloc::Global;
 

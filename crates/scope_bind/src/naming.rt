@@ -1,18 +1,16 @@
 // The names of a unit and the parameter lists of its functions, from what is known at its end.
 ghost use Rattle.std.specs.Prelude.{◌≡◌, map, filter, is_some, IfOk};
 ghost use Rattle.std.specs.Option.{option_map, option_map_or};
-ghost use Rattle.scope_bind.specs.declared.entity.EntityKind.TheVariants.{Object as AnObject};
-ghost use Rattle.scope_bind.specs.declared.entity.Linkage.TheVariants.{Absent as NoLinkage};
+ghost use Rattle.c_types.specs.declared.entity.EntityKind.TheVariants.{Object as AnObject};
+ghost use Rattle.c_types.specs.declared.entity.Linkage.TheVariants.{Absent as NoLinkage};
 ghost use Rattle.scope_bind.specs.Names.{name_at};
 ghost use Rattle.scope_bind.specs.Bound.{names_of, is_of_function, is_function_name};
 ghost use Rattle.scope_bind.specs.Told.{told_name, name_with, name_by};
 
 use crate::bound::Name;
-use crate::declarations::{Declaration, Occurrence};
-use crate::entity::{EntityKind, Linkage};
 use crate::facts::Facts;
-use crate::lists::List;
 use crate::name_table::NameTable;
+use c_types::{Declaration, EntityKind, Linkage, List, Occurrence};
 use cs_base::Memory;
 use std::alloc::Global;
 

@@ -1,26 +1,21 @@
 // Names that declarators, parameters and enumerators declare, and identifiers in expressions.
 ghost use Rattle.std.specs.Prelude.{◌≡◌, ◌||◌, [], true, false, if◌then◌else◌, IfOk, OnOk};
 ghost use Rattle.std.specs.Option.{option_map_or};
-ghost use Rattle.scope_bind.specs.declared.entity.Linkage.TheVariants.{Absent as NoLinkage};
-ghost use Rattle.scope_bind.specs.declared.declarations.Space.TheVariants.{Ordinary};
-ghost use Rattle.scope_bind.specs.Declarations.{visible};
+ghost use Rattle.c_types.specs.declared.entity.Linkage.TheVariants.{Absent as NoLinkage};
+ghost use Rattle.c_types.specs.declared.declarations.Space.TheVariants.{Ordinary};
+ghost use Rattle.c_types.specs.Declarations.{visible};
 ghost use Rattle.scope_bind.specs.Known.{known};
 ghost use Rattle.scope_bind.specs.Linkage.{linkage_of};
-ghost use Rattle.scope_bind.specs.Members.{with_member};
+ghost use Rattle.name_chains.specs.Members.{with_member};
 ghost use Rattle.scope_bind.specs.Ordinary.{is_func, named_facts, named_type, new_kind, new_type, new_object, with_object, plain_name, new_parameter, with_parameter, with_listed, with_enumerator};
 
-use crate::declarations::Space;
-use crate::declarators::declarator_type;
-use crate::entity::{EntityKind, Linkage};
 use crate::facts::Facts;
-use crate::frames::{Body, Frame};
-use crate::latest::is_spelled;
 use crate::linkage::linkage_of;
 use crate::ordinary::Declared;
-use crate::trees::last_token;
-use crate::types::{Base, CType};
+use c_types::{Base, Body, CType, EntityKind, Frame, Linkage, Space, declarator_type, last_token};
 use c99_tree::Tree;
 use cs_base::{Memory, Tok};
+use name_chains::is_spelled;
 use std::alloc::Global;
 
 fn is_inside(body: Option<Body>) -> bool

@@ -1,18 +1,15 @@
 // Ordinary identifiers (ISO/IEC 9899:1999, 6.2.1, 6.2.2, 6.7 paragraph 3).
 ghost use Rattle.std.specs.Prelude.{◌≡◌, ◌&&◌, ◌||◌, not, false, IfOk, OnOk};
 ghost use Rattle.std.specs.Option.{option_map, option_map_or};
-ghost use Rattle.scope_bind.specs.Declarations.{has_linkage, is_typedef_name, in_scope, linked, is_mixed, visible};
+ghost use Rattle.c_types.specs.Declarations.{has_linkage, is_typedef_name, in_scope, linked, is_mixed, visible};
 ghost use Rattle.scope_bind.specs.Known.{known};
-ghost use Rattle.scope_bind.specs.Ordinary.{is_again, linked_entity, entity_of, is_listed, declaration_of, declared, used_as, used, used_type};
-ghost use Rattle.scope_bind.specs.declared.declarations.Space.TheVariants.{Ordinary};
+ghost use Rattle.scope_bind.specs.Ordinary.{is_again, linked_entity, entity_of, is_listed, declaration_of, declared, used, used_type};
+ghost use Rattle.c_types.specs.declared.declarations.Space.TheVariants.{Ordinary};
 
-use crate::declarations::{Cause, Declaration, Space};
-use crate::entity::{EntityKind, Linkage};
 use crate::facts::Facts;
-use crate::frames::Scope;
-use crate::latest::has_linkage;
-use crate::types::{Base, CType};
+use c_types::{Base, CType, Cause, Declaration, EntityKind, Linkage, Scope, Space};
 use cs_base::Memory;
+use name_chains::has_linkage;
 use std::alloc::Global;
 
 /// What is declared: its name, the last token before its range, its kind, type and linkage, whether it

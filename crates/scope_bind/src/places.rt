@@ -1,12 +1,11 @@
 // The types of members by their number in a structure or union.
 ghost use Rattle.std.specs.Prelude.{◌≡◌, slice_get, IfOk};
 ghost use Rattle.std.specs.Option.{option_map, option_map_or};
-ghost use Rattle.scope_bind.specs.Types.{arithmetic};
-ghost use Rattle.scope_bind.specs.Members.{members_of};
+ghost use Rattle.c_types.specs.Types.{arithmetic};
+ghost use Rattle.name_chains.specs.Members.{members_of};
 
-use crate::declarations::Declaration;
 use crate::facts::Facts;
-use crate::types::{Base, CType};
+use c_types::{Base, CType, Declaration};
 use cs_base::Memory;
 use std::alloc::Global;
 

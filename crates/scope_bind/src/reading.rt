@@ -5,9 +5,8 @@ ghost use Rattle.scope_bind.specs.declared.roles.Role.TheVariants.{PointedMember
 ghost use Rattle.scope_bind.specs.Walk.{facts_at, found_at, position_at};
 
 use crate::facts::Facts;
-use crate::frames::{Frame, Position};
 use crate::roles::Role;
-use crate::types::{Base, CType};
+use c_types::{Base, CType, Frame, Position};
 use cs_base::Memory;
 use std::alloc::Global;
 

@@ -1,18 +1,15 @@
 // Tags (ISO/IEC 9899:1999, 6.2.3 and 6.7.2.3).
 ghost use Rattle.std.specs.Prelude.{◌≡◌, ◌||◌, not, false, if◌then◌else◌, IfOk, OnOk};
 ghost use Rattle.std.specs.Option.{option_map, option_map_or};
-ghost use Rattle.scope_bind.specs.Declarations.{with_begun, with_declaration, with_use, visible};
+ghost use Rattle.c_types.specs.Declarations.{with_begun, with_declaration, with_use, visible};
 ghost use Rattle.scope_bind.specs.Known.{known};
-ghost use Rattle.scope_bind.specs.Tags.{number_in, renumbered, is_sort, is_same_tag, tag_entity, is_declaring, tag_declaration, prior_tag, with_tag, tag_type, is_complete, enumeration_used, with_enumeration, new_record};
-ghost use Rattle.scope_bind.specs.declared.declarations.Space.TheVariants.{Tags};
+ghost use Rattle.c_types.specs.Tags.{number_in, renumbered, is_sort, is_same_tag, tag_entity, is_declaring, tag_declaration, prior_tag, with_tag, tag_type, is_complete, enumeration_used, with_enumeration, new_record};
+ghost use Rattle.c_types.specs.declared.declarations.Space.TheVariants.{Tags};
 
-use crate::declarations::{Cause, Declaration, Space};
-use crate::entity::{EntityKind, Linkage};
 use crate::facts::Facts;
-use crate::frames::{Frame, Scope};
-use crate::latest::is_spelled;
-use crate::types::{Base, CType};
+use c_types::{Base, CType, Cause, Declaration, EntityKind, Frame, Linkage, Scope, Space};
 use cs_base::{Memory, Tok};
+use name_chains::is_spelled;
 use std::alloc::Global;
 
 /// The number of a structure, union or enumeration.

@@ -1,17 +1,15 @@
 // The walk over the tree of a unit, in the order of its tokens.
 ghost use Rattle.std.specs.Prelude.{◌≡◌, ◌+◌, ◌++◌, OnOk};
-ghost use Rattle.scope_bind.specs.Children.{from_child};
-ghost use Rattle.scope_bind.specs.Frames.{state};
-ghost use Rattle.scope_bind.specs.Lists.{calls_in, lists_in, bare_in};
+ghost use Rattle.c_types.specs.Children.{from_child};
+ghost use Rattle.name_chains.specs.Frames.{state};
+ghost use Rattle.c_types.specs.Lists.{calls_in, lists_in, bare_in};
 ghost use Rattle.scope_bind.specs.Walk.{passed, left, walked};
-ghost use Rattle.scope_bind.specs.Entering.{entered};
+ghost use Rattle.name_chains.specs.Entering.{entered};
 
 use crate::facts::Facts;
-use crate::frames::Frame;
 use crate::leaving::go_on;
-use crate::listing::Shown;
 use crate::roles::role_of;
-use crate::trees::{Part, child_at};
+use c_types::{Frame, Part, Shown, child_at};
 use c99_tree::Tree;
 use cs_base::Memory;
 use std::alloc::Global;

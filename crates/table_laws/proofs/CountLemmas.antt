@@ -5,12 +5,13 @@ use Rattle.std.proofs.lemmas.List.Elements.{All-head, All-tail}
 use Rattle.cs_base.specs.Token.{Token}
 use Rattle.cs_base.specs.Units.{UnitValue, IsUnit}
 use Rattle.part_lexer.specs.FileText.{file_text}
-use Rattle.include_tree.specs.Limits.{the_limits}
-use Rattle.include_tree.specs.Faults.{Fault}
-use Rattle.include_tree.specs.Files.{Source, Table, Carried, nothing_carried, found_at, defines_path}
-use Rattle.include_tree.specs.State.{Outcome, State, context}
+use Rattle.source_files.specs.Limits.{the_limits}
+use Rattle.source_files.specs.Faults.{Fault}
+use Rattle.source_files.specs.Files.{Source, Table, Carried, nothing_carried, found_at, defines_path}
+use Rattle.unit_steps.specs.State.{Outcome, State, context}
 use Rattle.include_tree.specs.Unit.{unit_outcome}
-use Rattle.include_tree.specs.Texts.{UnitTextValue, Preprocessed, preprocessed, preprocessed_by}
+use Rattle.unit_steps.specs.Texts.{UnitTextValue}
+use Rattle.include_tree.specs.Preprocessed.{Preprocessed, preprocessed, preprocessed_by}
 use Rattle.include_tree.specs.Laws.{IfDone, UnitEnds}
 use Rattle.include_tree.proofs.WalkLemmas.{units_end}
 use Rattle.c99_tree.specs.Tree.{Node}

@@ -7,14 +7,15 @@ use Rattle.cs_base.specs.Token.{Token}
 use Rattle.cs_base.specs.Units.{UnitValue, defines_text}
 use Rattle.part_lexer.specs.FileText.{file_text}
 use Rattle.ws_file.specs.Workspace.{WorkspaceValue}
-use Rattle.include_tree.specs.Faults.{Fault, first_place}
-use Rattle.include_tree.specs.Files.{Source, SourceFile, Found, Made, Table, Carried, nothing_carried, found_at, found_in, numbered, asked, opened, defines_path}
-use Rattle.include_tree.specs.Limits.{Limits, the_limits}
-use Rattle.include_tree.specs.State.{Reader, Context, context, State, Outcome}
-use Rattle.include_tree.specs.Opening.{open_file}
+use Rattle.source_files.specs.Faults.{Fault, first_place}
+use Rattle.source_files.specs.Files.{Source, SourceFile, Found, Made, Table, Carried, nothing_carried, found_at, found_in, numbered, asked, opened, defines_path}
+use Rattle.source_files.specs.Limits.{Limits, the_limits}
+use Rattle.unit_steps.specs.State.{Context, context, State, Outcome}
+use Rattle.source_files.specs.Opening.{Reader}
+use Rattle.include_tree.specs.OpeningStep.{open_file}
 use Rattle.include_tree.specs.Walk.{file_items}
 use Rattle.include_tree.specs.Unit.{first_state, outer_file, main_file, unit_outcome}
-use Rattle.include_tree.specs.Texts.{Preprocessed, preprocessed, preprocessed_by}
+use Rattle.include_tree.specs.Preprocessed.{Preprocessed, preprocessed, preprocessed_by}
 use Rattle.include_tree.specs.Laws.{IfDone}
 use Rattle.include_tree.proofs.OutcomeLemmas.{onward_done}
 use Rattle.include_tree.proofs.StayLemmas.{IsStable, Stays, open_file_stays}

@@ -11,18 +11,20 @@ use Rattle.cs_base.specs.Token.{Token}
 use Rattle.cs_base.specs.Units.{UnitValue, IsUnit, defines_text}
 use Rattle.cs_base.proofs.FileMapLemmas.{bytes_eq-equal}
 use Rattle.part_lexer.specs.FileText.{TextValue, LexFault, FileTooLarge, OpenComment, file_text}
-use Rattle.include_tree.specs.Faults.{Fault, fault, first_place}
-use Rattle.include_tree.specs.Files.{Source, SourceFile, Found, Lines, Absent, Unopened, Opened, Made, Table, Carried, nothing_carried, found_at, found_in, files_opened, number_of, numbered, asked, opened, defines_path}
-use Rattle.include_tree.specs.Limits.{Limits, the_limits}
-use Rattle.include_tree.specs.State.{Reader, Context, context, State, Outcome}
-use Rattle.include_tree.specs.Opening.{Opening, file_read, readable, are_too_many, first_opened, opened_as, opening, with_opened, open_file}
+use Rattle.source_files.specs.Faults.{Fault, fault, first_place}
+use Rattle.source_files.specs.Files.{Source, SourceFile, Found, Lines, Absent, Unopened, Opened, Made, Table, Carried, nothing_carried, found_at, found_in, files_opened, number_of, numbered, asked, opened, defines_path}
+use Rattle.source_files.specs.Limits.{Limits, the_limits}
+use Rattle.unit_steps.specs.State.{Context, context, State, Outcome}
+use Rattle.source_files.specs.Opening.{Reader}
+use Rattle.source_files.specs.Opening.{Opening, file_read, readable, are_too_many, first_opened, opened_as, opening}
+use Rattle.include_tree.specs.OpeningStep.{with_opened, open_file}
 use Rattle.include_tree.specs.PseudoFiles.{is_pseudo}
 use Rattle.include_tree.specs.Unit.{first_state, outer_file, main_file, unit_outcome}
-use Rattle.include_tree.specs.Texts.{Preprocessed, preprocessed, preprocessed_by}
+use Rattle.include_tree.specs.Preprocessed.{Preprocessed, preprocessed, preprocessed_by}
 use Rattle.include_tree.specs.Laws.{IfDone}
 use Rattle.include_tree.specs.Walk.{file_items}
 use Rattle.include_tree.proofs.OutcomeLemmas.{onward_done}
-use Rattle.include_tree.proofs.SourcesLemmas.{found-opened}
+use Rattle.source_files.proofs.SourcesLemmas.{found-opened}
 use Rattle.include_tree.proofs.StayLemmas.{IsStable, Stays, open_file_stays}
 use Rattle.include_tree.proofs.StayingWalk.{files_stay}
 use Rattle.ws_core.specs.Texts.{UnitFault, unit_fault, unit_with}

@@ -2,7 +2,7 @@
 use Rattle.std.specs.Prelude.{ℕ, ◌≡◌, true, List, [], ◌∷◌, Some, Ok, All}
 use Rattle.cs_base.specs.Units.{UnitValue}
 use Rattle.ws_file.specs.Workspace.{WorkspaceValue, IsWorkspace}
-use Rattle.include_tree.specs.Files.{Source, Found, Opened, Made, Table, found_at}
+use Rattle.source_files.specs.Files.{Source, Found, Opened, Made, Table, found_at}
 use Rattle.include_tree.specs.PseudoFiles.{is_pseudo}
 use Rattle.ws_core.specs.Analysis.{AnalysisValue, analysis_of}
 

@@ -8,12 +8,13 @@ use Rattle.cs_base.specs.Token.{Token}
 use Rattle.cs_base.specs.declared.tokens.Kind.{Kind}
 use Rattle.cs_base.specs.declared.tokens.Kind.TheVariants as kind
 use Rattle.c99_tree.specs.declared.production.Production.TheVariants.{Enumerator, Pdirect}
-use Rattle.c99_read.specs.Classes.{among}
-use Rattle.c99_read.specs.Items.{names}
-use Rattle.c99_read.specs.Grammar.{table}
-use Rattle.c99_read.specs.Spellings.{Spelled, keywords, punctuators}
-use Rattle.c99_read.specs.Standard.{c99}
-use Rattle.c99_read.specs.State.{State, spelled_class, class_of_kind, base_class, base_at, is_identifier, is_typedef_at, class_at}
+use Rattle.c99_grammar.specs.Classes.{among}
+use Rattle.c99_grammar.specs.Items.{names}
+use Rattle.c99_grammar.specs.Grammar.{table}
+use Rattle.c99_grammar.specs.Spellings.{Spelled, keywords, punctuators}
+use Rattle.c99_grammar.specs.Standard.{c99}
+use Rattle.c99_read.specs.State.{State, base_at, is_identifier, is_typedef_at, class_at}
+use Rattle.c99_grammar.specs.TokenClasses.{spelled_class, class_of_kind, base_class}
 use Rattle.typedef_laws.proofs.Private.{Class}
 use Rattle.typedef_laws.proofs.Parts.{first_body, rest_of, front_of, inside_of, classes_of, second_test, asked_second}
 

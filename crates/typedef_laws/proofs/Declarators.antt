@@ -8,15 +8,15 @@ use Rattle.c99_tree.specs.declared.production.Label.{Label}
 use Rattle.c99_tree.specs.declared.production.Production.{Production}
 use Rattle.c99_tree.specs.declared.production.Production.TheVariants.{TranslationUnit, External, ExtRest, ExtTail, FunBody, Declaration, DeclRest, InitDecl, Declarator, Suffix, Block, BlockItem, Statement, Sub, ForInit}
 use Rattle.c99_tree.specs.contracts.production.ProductionPartialEq.TheImpl.{ghosts}
-use Rattle.c99_read.specs.Items.{Item, one, part, end_of_text, act, ◌·◌, choice, maybe, many, deep, Test, own, scope, end, declare, name, keep, again, Alternative}
-use Rattle.c99_read.specs.Grammar.{table}
-use Rattle.c99_read.specs.Standard.{c99}
+use Rattle.c99_grammar.specs.Items.{Item, one, part, end_of_text, act, ◌·◌, choice, maybe, many, deep, Test, own, scope, end, declare, name, keep, again, Alternative}
+use Rattle.c99_grammar.specs.Grammar.{table}
+use Rattle.c99_grammar.specs.Standard.{c99}
 use Rattle.c99_read.specs.Sound.{is_met, goal_has_token}
 use Rattle.c99_read.specs.State.{State, Names, last_declared, last_identifier, declaration, in_innermost, with_declared, acted, opened, closed}
 use Rattle.c99_read.specs.Reading.{Goal, produce, repeat, Step, syntax, and_then, deepest, take_one, enter, may, step, alternative, pick, read_within}
 use Rattle.c99_read.proofs.Moves.{Moves}
-use Rattle.scope_bind.specs.Trees.{is_list, last_token}
-use Rattle.scope_bind.specs.Entering.{inner}
+use Rattle.c_types.specs.Trees.{is_list, last_token}
+use Rattle.name_chains.specs.Entering.{inner}
 use Rattle.typedef_laws.specs.Laws.{is_bodiless}
 use Rattle.typedef_laws.proofs.Private.{Class, Declaration as Declared}
 use Rattle.typedef_laws.proofs.Parts.{first_body, second_body, rest_of, front_of, classes_of}

@@ -7,13 +7,13 @@ use Rattle.c99_tree.specs.declared.production.Label.{Label}
 use Rattle.c99_tree.specs.declared.production.Production.{Production}
 use Rattle.c99_tree.specs.declared.production.Production.TheVariants.{InitDecl, Specs, Declarator, Direct, Param, Pdecl, Pdirect}
 use Rattle.c99_tree.specs.contracts.production.ProductionPartialEq.TheImpl.{ghosts}
-use Rattle.c99_read.specs.Items.{Item, part, act, ◌·◌, maybe, own, declare}
-use Rattle.c99_read.specs.Grammar.{table}
-use Rattle.c99_read.specs.Standard.{c99}
+use Rattle.c99_grammar.specs.Items.{Item, part, act, ◌·◌, maybe, own, declare}
+use Rattle.c99_grammar.specs.Grammar.{table}
+use Rattle.c99_grammar.specs.Standard.{c99}
 use Rattle.c99_read.specs.State.{State, name_below as reader_name, is_declaring, is_direct, last_declared, declaration, in_innermost, with_declared, acted, opened}
 use Rattle.c99_read.specs.Reading.{Goal, produce, Step, and_then, may, step}
 use Rattle.scope_bind.specs.Named.{Scope}
-use Rattle.scope_bind.specs.Trees.{is_node, has_mod, holds_name, has_name, name_below, last_token}
+use Rattle.c_types.specs.Trees.{is_node, has_mod, holds_name, has_name, name_below, last_token}
 use Rattle.typedef_laws.proofs.Private.{Declaration}
 use Rattle.typedef_laws.proofs.Parts.{first_body, rest_of}
 use Rattle.typedef_laws.proofs.Outline.{Outline, Entry, entry, begun, outlined, named_entries, in_declaration, in_parameter, entries_after, all_agree}

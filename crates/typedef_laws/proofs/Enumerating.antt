@@ -4,12 +4,12 @@ use Rattle.cs_base.specs.Token.{Token}
 use Rattle.c99_tree.specs.Tree.{none, Node}
 use Rattle.c99_tree.specs.declared.production.Label.{Label}
 use Rattle.c99_tree.specs.declared.production.Production.TheVariants.{Enumerator, Cond}
-use Rattle.c99_read.specs.Classes.{among}
-use Rattle.c99_read.specs.Items.{Item, one, part, act, ◌·◌, maybe, deep, own, names, name}
-use Rattle.c99_read.specs.Standard.{c99}
+use Rattle.c99_grammar.specs.Classes.{among}
+use Rattle.c99_grammar.specs.Items.{Item, one, part, act, ◌·◌, maybe, deep, own, names, name}
+use Rattle.c99_grammar.specs.Standard.{c99}
 use Rattle.c99_read.specs.State.{State, class_at, last_identifier, declaration, in_innermost, acted, opened}
 use Rattle.c99_read.specs.Reading.{Goal, produce, Step, and_then, deepest, take_one, enter, may, step}
-use Rattle.scope_bind.specs.Trees.{last_token}
+use Rattle.c_types.specs.Trees.{last_token}
 use Rattle.typedef_laws.proofs.Classes.{equals, name_is, equals_is}
 use Rattle.typedef_laws.proofs.Outline.{Outline, begun, outlined}
 use Rattle.typedef_laws.proofs.Matching.{Bounds, outer_further, outer_open, bounds_sooner}

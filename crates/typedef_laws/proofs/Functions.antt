@@ -7,11 +7,11 @@ use Rattle.c99_tree.specs.declared.production.Label.{Label}
 use Rattle.c99_tree.specs.declared.production.Production.{Production}
 use Rattle.c99_tree.specs.declared.production.Production.TheVariants.{External, ExtRest, ExtTail, FunBody, Specs, Declarator}
 use Rattle.c99_tree.specs.contracts.production.ProductionPartialEq.TheImpl.{ghosts}
-use Rattle.c99_read.specs.Items.{Item, one, act, ◌·◌, end}
-use Rattle.c99_read.specs.Standard.{c99}
+use Rattle.c99_grammar.specs.Items.{Item, one, act, ◌·◌, end}
+use Rattle.c99_grammar.specs.Standard.{c99}
 use Rattle.c99_read.specs.State.{State, Names, with_scope_ended, is_declarator, head_closed, names_closed, nearest, collapses, acted, opened, closed}
 use Rattle.c99_read.specs.Reading.{Goal, Step, and_then, take_one, step}
-use Rattle.scope_bind.specs.Trees.{has_mod, last_token}
+use Rattle.c_types.specs.Trees.{has_mod, last_token}
 use Rattle.typedef_laws.proofs.Private.{Class, Declaration}
 use Rattle.typedef_laws.proofs.Outline.{Entry, Outline, begun, copies, kept_entries, entries_after, outlined, is_open, all_agree}
 use Rattle.typedef_laws.proofs.Matching.{shown, Matches, Bounds, Within, IsOpen, SameOuter, outer_still, bounds_within, bounds_inner, within_sooner}

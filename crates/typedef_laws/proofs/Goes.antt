@@ -9,8 +9,8 @@ use Rattle.c99_tree.specs.declared.production.Production.TheVariants.{Specs}
 use Rattle.c99_read.specs.State.{State, Names, collapses, finished, is_declarator, head_closed, names_closed, nearest, closed}
 use Rattle.c99_read.specs.Reading.{Step}
 use Rattle.scope_bind.specs.Named.{Scope}
-use Rattle.scope_bind.specs.Trees.{is_node, has_mod}
-use Rattle.scope_bind.specs.Entering.{scope_in}
+use Rattle.c_types.specs.Trees.{is_node, has_mod}
+use Rattle.name_chains.specs.Entering.{scope_in}
 use Rattle.typedef_laws.proofs.Outline.{Outline, Entry, added, begun, entries_in, outlined, stepped, is_listing, token_agrees, node_agrees, all_agree}
 use Rattle.typedef_laws.proofs.Matching.{Matches, Bounds, IsOpen, SameOuter, matches_later, outer_still, outer_further, outer_open, bounds_sooner}
 use Rattle.typedef_laws.proofs.Places.{EndsAt, ends_leaf, ends_inner, count_leaf, count_inner, outlined_leaf, outlined_inner, behind, agree_leaf, agree_inner}

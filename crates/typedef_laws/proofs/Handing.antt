@@ -8,12 +8,12 @@ use Rattle.c99_tree.specs.declared.production.Label.{Label}
 use Rattle.c99_tree.specs.declared.production.Production.{Production}
 use Rattle.c99_tree.specs.declared.production.Production.TheVariants.{TranslationUnit, External, ExtRest, ExtTail, FunBody, Specs, Main, Mod, Enumerator, Declarator, Direct, Suffix, Pdecl, Pdirect}
 use Rattle.c99_tree.specs.contracts.production.ProductionPartialEq.TheImpl.{ghosts}
-use Rattle.c99_read.specs.Items.{scope, end, keep}
-use Rattle.c99_read.specs.Standard.{c99}
+use Rattle.c99_grammar.specs.Items.{scope, end, keep}
+use Rattle.c99_grammar.specs.Standard.{c99}
 use Rattle.c99_read.specs.State.{State, Names, given_names, with_scope_ended, is_declarator, with_head, names_opened, head_closed, names_closed, collapses, finished, acted, opened, closed}
 use Rattle.scope_bind.specs.Named.{Scope}
-use Rattle.scope_bind.specs.Trees.{is_node, is_list, has_mod, last_token, first_list}
-use Rattle.scope_bind.specs.Entering.{scope_in}
+use Rattle.c_types.specs.Trees.{is_node, is_list, has_mod, last_token, first_list}
+use Rattle.name_chains.specs.Entering.{scope_in}
 use Rattle.typedef_laws.proofs.Private.{Declaration}
 use Rattle.typedef_laws.proofs.Outline.{Entry, entry, Outline, stepped, entries_in, begun, ended, outlined}
 use Rattle.typedef_laws.proofs.Matching.{IsOpen, SameOuter}

@@ -6,7 +6,7 @@ use Rattle.std.proofs.lemmas.List.{length-append}
 use Rattle.std.proofs.Math.Seq.{take-append_seam}
 use Rattle.c99_tree.specs.Tree.{Forest, none, token, node, Node, leaf, inner, put}
 use Rattle.c99_read.specs.State.{Head, Names, given_names, head_closed}
-use Rattle.scope_bind.specs.Trees.{is_list, last_token, first_list}
+use Rattle.c_types.specs.Trees.{is_list, last_token, first_list}
 use Rattle.typedef_laws.proofs.Private.{Declaration}
 
 -- ---- Giving

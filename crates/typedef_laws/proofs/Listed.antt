@@ -5,11 +5,11 @@ use Rattle.cs_base.specs.Token.{Token}
 use Rattle.c99_tree.specs.Tree.{Forest, none, token, node, leaf, put}
 use Rattle.c99_tree.specs.declared.production.Label.{Label}
 use Rattle.c99_tree.specs.declared.production.Production.TheVariants.{Suffix}
-use Rattle.c99_read.specs.Items.{scope}
-use Rattle.c99_read.specs.Standard.{c99}
+use Rattle.c99_grammar.specs.Items.{scope}
+use Rattle.c99_grammar.specs.Standard.{c99}
 use Rattle.c99_read.specs.State.{State, declaration, acted, opened}
 use Rattle.scope_bind.specs.Named.{Scope}
-use Rattle.scope_bind.specs.Entering.{inner}
+use Rattle.name_chains.specs.Entering.{inner}
 use Rattle.typedef_laws.proofs.Private.{Declaration}
 use Rattle.typedef_laws.proofs.Outline.{Entry, entry, Outline, added, begun, outlined, is_listing, stepped}
 use Rattle.typedef_laws.proofs.Matching.{seen, shown, Within, IsOpen, SameOuter, bounds_inner}

@@ -6,7 +6,7 @@ use Rattle.std.specs.Str.{bytes_eq}
 use Rattle.cs_base.specs.Token.{Token}
 use Rattle.c99_tree.specs.Names.{latest}
 use Rattle.c99_read.specs.State.{declaration, spelling_at, spelled_scope, is_typedef_at}
-use Rattle.scope_bind.specs.Declarations.{alike}
+use Rattle.c_types.specs.Declarations.{alike}
 use Rattle.typedef_laws.proofs.Private.{Declaration}
 use Rattle.typedef_laws.proofs.Outline.{Entry, entry, is_open, typedef_among}
 use Rattle.typedef_laws.proofs.Outlines.{among_step}

@@ -7,12 +7,12 @@ use Rattle.c99_tree.specs.Tree.{Forest, none, token, node}
 use Rattle.c99_tree.specs.declared.production.Label.{Label}
 use Rattle.c99_tree.specs.declared.production.Production.{Production}
 use Rattle.c99_tree.specs.declared.production.Production.TheVariants.{ExtRest, FunBody, InitDecl, Main, Params, Primary, Pdirect, Specs, Enumerator, Declarator, Param, Pdecl}
-use Rattle.c99_read.specs.Standard.{c99}
+use Rattle.c99_grammar.specs.Standard.{c99}
 use Rattle.c99_read.specs.State.{base_at, is_identifier}
 use Rattle.scope_bind.specs.Named.{Scope}
-use Rattle.scope_bind.specs.Trees.{is_node, is_at, last_token, name_below, has_mod, first_list}
-use Rattle.scope_bind.specs.Declarations.{alike}
-use Rattle.scope_bind.specs.Entering.{scope_in}
+use Rattle.c_types.specs.Trees.{is_node, is_at, last_token, name_below, has_mod, first_list}
+use Rattle.c_types.specs.Declarations.{alike}
+use Rattle.name_chains.specs.Entering.{scope_in}
 
 -- a declaration of an ordinary identifier: its name, whether it is one of a typedef name, its scope, its range, and
 -- whether it is one of a member, which none is

@@ -6,8 +6,8 @@ use Rattle.c99_tree.specs.declared.production.Label.{Label}
 use Rattle.c99_tree.specs.declared.production.Production.{Production}
 use Rattle.c99_tree.specs.declared.production.Production.TheVariants.{ExtRest, FunBody, InitDecl, Enumerator, Declarator, Param, Pdecl, Block, Suffix, Sub, Statement}
 use Rattle.scope_bind.specs.Named.{Scope}
-use Rattle.scope_bind.specs.Trees.{is_list, last_token, name_below}
-use Rattle.scope_bind.specs.Entering.{inner, is_scoped, scope_in}
+use Rattle.c_types.specs.Trees.{is_list, last_token, name_below}
+use Rattle.name_chains.specs.Entering.{inner, is_scoped, scope_in}
 use Rattle.typedef_laws.proofs.Private.{Declaration}
 use Rattle.c99_read.specs.State.{declaration}
 use Rattle.typedef_laws.proofs.Outline.{Entry, entry, Outline, added, is_listing, token_entries, stepped, copies, kept_entries, entries_in, begun, named_entries, in_declaration, in_parameter, entries_after, ended, outlined, is_open}

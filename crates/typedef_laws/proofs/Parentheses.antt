@@ -3,9 +3,9 @@ use Rattle.std.proofs.Common.{ℕ, ◌+◌, ◌<◌, ◌≡◌, Bool, true, fals
 use Rattle.cs_base.specs.Token.{Token}
 use Rattle.c99_tree.specs.declared.production.Label.{Label}
 use Rattle.c99_tree.specs.declared.production.Production.TheVariants.{Pdirect}
-use Rattle.c99_read.specs.Classes.{among}
-use Rattle.c99_read.specs.Items.{Item, one, ◌·◌}
-use Rattle.c99_read.specs.Standard.{c99}
+use Rattle.c99_grammar.specs.Classes.{among}
+use Rattle.c99_grammar.specs.Items.{Item, one, ◌·◌}
+use Rattle.c99_grammar.specs.Standard.{c99}
 use Rattle.c99_read.specs.Sound.{has_token, is_low, is_met, goal_has_token}
 use Rattle.c99_read.specs.State.{State, base_at, is_identifier, is_typedef_at, class_at, opened}
 use Rattle.c99_read.specs.Reading.{Goal, Step, and_then, take_one, step}

@@ -3,7 +3,7 @@ use Rattle.std.proofs.Common.{ℕ, ◌+◌, ◌≡◌, Bool, true, false, ◌&&�
 use Rattle.std.proofs.lemmas.Bool.{and_parts}
 use Rattle.cs_base.specs.Token.{Token}
 use Rattle.c99_tree.specs.Tree.{Forest, none, token, node, Node, leaf, inner, put, count_of}
-use Rattle.scope_bind.specs.Trees.{last_token}
+use Rattle.c_types.specs.Trees.{last_token}
 use Rattle.typedef_laws.proofs.Outline.{Outline, stepped, begun, ended, outlined, token_agrees, node_agrees, all_agree}
 
 pub and_both : (p q : Bool) → p ≡ true → q ≡ true → (p && q) ≡ true

@@ -6,13 +6,13 @@ use Rattle.c99_tree.specs.Tree.{Forest, none, token, node, leaf, inner, Node, pu
 use Rattle.c99_tree.specs.declared.production.Label.{Label}
 use Rattle.c99_tree.specs.declared.production.Production.{Production}
 use Rattle.c99_tree.specs.declared.production.Production.TheVariants.{ExtRest, FunBody, InitDecl, Specs, Main, Mod, Enumerator, Declarator, Direct, Suffix, Params, Param, Pdecl, Pdirect, Primary, Block, Statement, Sub, Expr, Assign, Cond, Lor, Land, Bor, Bxor, Band, Equal, Relate, Shift, Add, Mul, Cast, Unary}
-use Rattle.c99_read.specs.Items.{Item, one, part, end_of_text, act, ◌·◌, choice, maybe, many, deep}
+use Rattle.c99_grammar.specs.Items.{Item, one, part, end_of_text, act, ◌·◌, choice, maybe, many, deep}
 use Rattle.c99_tree.specs.contracts.production.ProductionPartialEq.TheImpl.{ghosts}
-use Rattle.c99_read.specs.Standard.{c99}
+use Rattle.c99_grammar.specs.Standard.{c99}
 use Rattle.c99_read.specs.State.{base_at, is_identifier, collapses, nearest, is_mod, is_main, is_specs, is_typedef_part, typedef_word_in, has_typedef}
 use Rattle.scope_bind.specs.Named.{Scope}
-use Rattle.scope_bind.specs.Trees.{is_at, is_node, has_node, has_mod, last_token}
-use Rattle.scope_bind.specs.Entering.{inner as inner_scope, is_scoped, scope_in}
+use Rattle.c_types.specs.Trees.{is_at, is_node, has_node, has_mod, last_token}
+use Rattle.name_chains.specs.Entering.{inner as inner_scope, is_scoped, scope_in}
 use Rattle.typedef_laws.specs.Laws.{is_bodiless}
 use Rattle.typedef_laws.proofs.Outline.{Entry, Outline, added, is_listing, entries_in, in_declaration, in_parameter, entries_after, typedef_among, token_agrees, node_agrees}
 

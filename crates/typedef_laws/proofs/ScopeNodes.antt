@@ -4,12 +4,12 @@ use Rattle.cs_base.specs.Token.{Token}
 use Rattle.c99_tree.specs.Tree.{Forest, leaf, put}
 use Rattle.c99_tree.specs.declared.production.Label.{Label}
 use Rattle.c99_tree.specs.declared.production.Production.{Production}
-use Rattle.c99_read.specs.Items.{scope, end}
-use Rattle.c99_read.specs.Standard.{c99}
+use Rattle.c99_grammar.specs.Items.{scope, end}
+use Rattle.c99_grammar.specs.Standard.{c99}
 use Rattle.c99_read.specs.State.{State, Names, with_scope_ended, acted, opened}
 use Rattle.scope_bind.specs.Named.{Scope}
-use Rattle.scope_bind.specs.Trees.{last_token}
-use Rattle.scope_bind.specs.Entering.{inner, scope_in}
+use Rattle.c_types.specs.Trees.{last_token}
+use Rattle.name_chains.specs.Entering.{inner, scope_in}
 use Rattle.typedef_laws.proofs.Private.{Declaration}
 use Rattle.typedef_laws.proofs.Outline.{Outline, Entry, begun, entries_in, outlined, node_agrees}
 use Rattle.typedef_laws.proofs.Matching.{Matches, Bounds, Within, IsOpen, SameOuter, matches_begun, matches_left, bounds_within, bounds_inner, within_sooner}

@@ -6,14 +6,14 @@ use Rattle.c99_tree.specs.Tree.{Forest, leaf, put}
 use Rattle.c99_tree.specs.declared.production.Label.{Label}
 use Rattle.c99_tree.specs.declared.production.Production.{Production}
 use Rattle.c99_tree.specs.declared.production.Production.TheVariants.{Suffix, Block, Statement, Sub}
-use Rattle.c99_read.specs.Items.{Item, one, part, end_of_text, act, ◌·◌, choice, maybe, many, deep, scope, end, declare, name, keep, again}
-use Rattle.c99_read.specs.Standard.{c99}
+use Rattle.c99_grammar.specs.Items.{Item, one, part, end_of_text, act, ◌·◌, choice, maybe, many, deep, scope, end, declare, name, keep, again}
+use Rattle.c99_grammar.specs.Standard.{c99}
 use Rattle.c99_read.specs.Sound.{has_token, is_low, is_met, goal_has_token}
 use Rattle.c99_read.specs.State.{State, with_scope_ended, acted, opened}
 use Rattle.c99_read.specs.Reading.{Goal, Step, and_then, take_one, step}
 use Rattle.c99_read.proofs.Moves.{Moves, Moves-step}
-use Rattle.scope_bind.specs.Trees.{last_token}
-use Rattle.scope_bind.specs.Entering.{inner, is_scoped}
+use Rattle.c_types.specs.Trees.{last_token}
+use Rattle.name_chains.specs.Entering.{inner, is_scoped}
 use Rattle.typedef_laws.proofs.Private.{Class}
 use Rattle.typedef_laws.proofs.Matching.{SameOuter}
 use Rattle.typedef_laws.proofs.Places.{last_leaf}

@@ -3,9 +3,9 @@ use Rattle.std.proofs.Common.{ℕ, ◌+◌, ◌≡◌, Bool, true, false, not, i
 use Rattle.cs_base.specs.Token.{Token}
 use Rattle.c99_tree.specs.declared.production.Label.{Label}
 use Rattle.c99_tree.specs.declared.production.Production.TheVariants.{Main, Mod, Primary}
-use Rattle.c99_read.specs.Classes.{among}
-use Rattle.c99_read.specs.Items.{one, part, ◌·◌, many, own}
-use Rattle.c99_read.specs.Standard.{c99}
+use Rattle.c99_grammar.specs.Classes.{among}
+use Rattle.c99_grammar.specs.Items.{one, part, ◌·◌, many, own}
+use Rattle.c99_grammar.specs.Standard.{c99}
 use Rattle.c99_read.specs.State.{State, class_at, is_typedef_at, opened}
 use Rattle.c99_read.specs.Reading.{Goal, Step, take_one, step}
 use Rattle.typedef_laws.proofs.Classes.{identifiers, typedef_names, identifier_is, typedef_is}

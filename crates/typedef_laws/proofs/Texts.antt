@@ -6,8 +6,8 @@ use Rattle.c99_tree.specs.declared.production.Production.{Production}
 use Rattle.c99_tree.specs.declared.production.Production.TheVariants.{TranslationUnit}
 use Rattle.c99_read.specs.State.{State}
 use Rattle.c99_read.specs.Reading.{Step, Stop, produce, steps_for, read_within, whole, at_first, tree_of}
-use Rattle.c99_read.specs.Standard.{c99}
-use Rattle.scope_bind.specs.Frames.{at_first as before}
+use Rattle.c99_grammar.specs.Standard.{c99}
+use Rattle.name_chains.specs.Frames.{at_first as before}
 use Rattle.typedef_laws.specs.Agreeing.{agrees}
 use Rattle.typedef_laws.specs.Laws.{NamesAreReadAsTheyAreBound, NamesOfPartsAreReadAsTheyAreBound}
 use Rattle.typedef_laws.proofs.Outline.{node_agrees}

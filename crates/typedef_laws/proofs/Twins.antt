@@ -7,8 +7,8 @@ use Rattle.c99_tree.specs.declared.production.Production.{Production}
 use Rattle.c99_tree.specs.declared.production.Production.TheVariants.{ExtRest, FunBody, InitDecl, Specs, Enumerator, Declarator, Param, Pdecl, Block, Suffix, Sub, Statement}
 use Rattle.c99_read.specs.State.{declaration}
 use Rattle.scope_bind.specs.Named.{Scope}
-use Rattle.scope_bind.specs.Trees.{is_node, is_list, has_mod, last_token, has_name, holds_name, name_below}
-use Rattle.scope_bind.specs.Entering.{inner, is_scoped, scope_in}
+use Rattle.c_types.specs.Trees.{is_node, is_list, has_mod, last_token, has_name, holds_name, name_below}
+use Rattle.name_chains.specs.Entering.{inner, is_scoped, scope_in}
 use Rattle.typedef_laws.proofs.Outline.{Entry, entry, Outline, added, is_listing, stepped, entries_in, begun, named_entries, in_declaration, in_parameter, entries_after, ended, outlined, is_open}
 use Rattle.typedef_laws.proofs.Owned.{chosen, is_of, chosen_take, inside_deaf, deeper_closed, Below, last_below, last_until, until_closed}
 

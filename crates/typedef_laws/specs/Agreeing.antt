@@ -6,13 +6,13 @@ use Rattle.c99_tree.specs.Tree.{Forest, none, token, node}
 use Rattle.c99_tree.specs.declared.production.Label.{Label}
 use Rattle.c99_tree.specs.declared.production.Production.{Production}
 use Rattle.c99_tree.specs.declared.production.Production.TheVariants.{Main, Params, Primary, Pdirect}
-use Rattle.c99_read.specs.Standard.{c99}
+use Rattle.c99_grammar.specs.Standard.{c99}
 use Rattle.c99_read.specs.State.{base_at, is_identifier}
 use Rattle.scope_bind.specs.Named.{ordinary}
-use Rattle.scope_bind.specs.Trees.{is_at}
-use Rattle.scope_bind.specs.Declarations.{Facts, is_typedef_name, visible}
-use Rattle.scope_bind.specs.Frames.{State}
-use Rattle.scope_bind.specs.Entering.{entered}
+use Rattle.c_types.specs.Trees.{is_at}
+use Rattle.c_types.specs.Declarations.{Facts, is_typedef_name, visible}
+use Rattle.name_chains.specs.Frames.{State}
+use Rattle.name_chains.specs.Entering.{entered}
 use Rattle.scope_bind.specs.Walk.{passed, left, walked}
 
 module _ (toks : List Token) where

@@ -5,8 +5,8 @@ use Rattle.c99_tree.specs.Tree.{none, node, Node}
 use Rattle.c99_tree.specs.declared.production.Production.{Production}
 use Rattle.c99_tree.specs.declared.production.Production.TheVariants.{TranslationUnit, External, ExtRest, ExtTail, FunBody}
 use Rattle.c99_read.specs.Reading.{produce, at_first, whole, tree_of, read_of}
-use Rattle.c99_read.specs.Standard.{c99}
-use Rattle.scope_bind.specs.Frames.{at_first as before}
+use Rattle.c99_grammar.specs.Standard.{c99}
+use Rattle.name_chains.specs.Frames.{at_first as before}
 use Rattle.typedef_laws.specs.Agreeing.{agrees}
 
 -- below a node of the production stands no body of a function (ISO/IEC 9899:1999, 6.9.1)

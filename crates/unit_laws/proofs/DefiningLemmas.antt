@@ -13,14 +13,14 @@ use Rattle.line_shape.specs.Signs.{is_name}
 use Rattle.line_shape.specs.Directives.{takes_name}
 use Rattle.line_shape.specs.Items.{line_kind}
 use Rattle.line_shape.specs.MacroLine.{MacroParts, macro_of}
-use Rattle.macro_expand.specs.declared.definitions.Form.TheVariants as form
-use Rattle.macro_expand.specs.declared.definitions.Definition.{Definition}
-use Rattle.macro_expand.specs.Defining.{form_of, definition_of, defined_by}
-use Rattle.include_tree.specs.Files.{SourceFile, Table}
-use Rattle.include_tree.specs.Notes.{Note}
-use Rattle.include_tree.specs.State.{State}
-use Rattle.include_tree.specs.Names.{spelled_in, linked_with, name_links, parameter_named, definition_links}
-use Rattle.include_tree.specs.Directives.{operand_in, after_define, defined_as, define_of, undefined_as, undef_of, asks_name}
+use Rattle.macro_body.specs.declared.definitions.Form.TheVariants as form
+use Rattle.macro_body.specs.declared.definitions.Definition.{Definition}
+use Rattle.macro_body.specs.Defining.{form_of, definition_of, defined_by}
+use Rattle.source_files.specs.Files.{SourceFile, Table}
+use Rattle.unit_steps.specs.Notes.{Note}
+use Rattle.unit_steps.specs.State.{State}
+use Rattle.unit_steps.specs.Names.{spelled_in, linked_with, name_links, parameter_named, definition_links}
+use Rattle.unit_steps.specs.Directives.{operand_in, after_define, defined_as, define_of, undefined_as, undef_of, asks_name}
 use Rattle.expansion_laws.proofs.ListLemmas.{AllToks}
 use Rattle.unit_laws.proofs.DoneLemmas.{AllIn, all_both, NotedSo, NameHas, MacroHas, StateHas, Done}
 use Rattle.unit_laws.proofs.PartLemmas.{directive_name, PartsHave, macro_has, spelled_has}

@@ -7,21 +7,21 @@ use Rattle.line_shape.specs.Directives.{is_include}
 use Rattle.line_shape.specs.Signs.{is_name}
 use Rattle.paste_origin.specs.Pasting.{glue_of}
 use Rattle.paste_origin.specs.Strings.{stringize_of}
-use Rattle.macro_expand.specs.declared.definitions.Form.TheVariants as form
-use Rattle.macro_expand.specs.declared.definitions.Definition.{Definition}
-use Rattle.macro_expand.specs.Notes as expansion
-use Rattle.macro_expand.specs.Substitution.{put_in, line_number, path_string}
-use Rattle.macro_expand.specs.Defining.{line_macro}
+use Rattle.macro_body.specs.declared.definitions.Form.TheVariants as form
+use Rattle.macro_body.specs.declared.definitions.Definition.{Definition}
+use Rattle.macro_body.specs.Notes as expansion
+use Rattle.macro_body.specs.Substitution.{put_in, line_number, path_string}
+use Rattle.macro_body.specs.Defining.{line_macro}
 use Rattle.macro_expand.specs.Expansion.{links_name}
-use Rattle.include_tree.specs.Faults.{Fault}
-use Rattle.include_tree.specs.Files.{SourceFile, Table}
-use Rattle.include_tree.specs.Notes.{Note, Reaches, Happened, Defined, Undefined, Tested, Left, Linked, Answered, Named, Entered, Exited}
-use Rattle.include_tree.specs.State.{State, Did, Outcome, only, noted, onward}
-use Rattle.include_tree.specs.Conditions.{answer_for}
-use Rattle.include_tree.specs.Laws.{IsGrown}
-use Rattle.include_tree.specs.Sources.{source_at}
+use Rattle.source_files.specs.Faults.{Fault}
+use Rattle.source_files.specs.Files.{SourceFile, Table}
+use Rattle.unit_steps.specs.Notes.{Note, Reaches, Happened, Defined, Undefined, Tested, Left, Linked, Answered, Named, Entered, Exited}
+use Rattle.unit_steps.specs.State.{State, Did, Outcome, only, noted, onward}
+use Rattle.unit_steps.specs.Conditions.{answer_for}
+use Rattle.source_files.specs.Tables.{IsGrown}
+use Rattle.source_files.specs.Sources.{source_at}
 use Rattle.include_tree.specs.Walk.{ItemText, items_in}
-use Rattle.include_tree.proofs.TableLemmas.{grown_refl, grown_trans}
+use Rattle.source_files.proofs.TableLemmas.{grown_refl, grown_trans}
 use Rattle.expansion_laws.specs.Telling.{AreAlike, IsPasted}
 use Rattle.expansion_laws.proofs.ListLemmas.{AllToks}
 use Rattle.unit_laws.specs.UnitItems.{taken}

@@ -10,7 +10,7 @@ use Rattle.part_lexer.specs.Logical.{Character, gone_length, logical_from, logic
 use Rattle.part_lexer.specs.Tokens.{Found, longest, front_length, kind_or_other, comment_end, comment_or_open, token_piece, piece_of, expects_header, piece_at, piece_length, leaves_gap, line_front_after, found_in, found_from, found_of, tokens_in, tokens_of, open_comment_of}
 use Rattle.part_lexer.specs.FileText.{TextValue, most_bytes, text_value, text_or_open, file_text}
 use Rattle.part_lexer.proofs.ScanLemmas.{line_at-bound}
-use Rattle.include_tree.proofs.OpeningLemmas.{readable-small}
+use Rattle.source_files.proofs.OpeningLemmas.{readable-small}
 use Rattle.expansion_laws.specs.Spelled.{fits, is_lone, is_spelled}
 use Rattle.expansion_laws.proofs.TextKindLemmas.{kind_fits}
 

@@ -9,8 +9,8 @@ use Rattle.cs_base.specs.declared.tokens.Kind.TheVariants.{Ident, Number, Char, 
 use Rattle.cs_base.specs.Token.{Token}
 use Rattle.part_lexer.specs.Characters.{is_word}
 use Rattle.line_shape.specs.Signs.{is_identifier, is_name}
-use Rattle.include_tree.specs.Files.{Table}
-use Rattle.include_tree.specs.Texts.{UnitTextValue}
+use Rattle.source_files.specs.Files.{Table}
+use Rattle.unit_steps.specs.Texts.{UnitTextValue}
 use Rattle.expansion_laws.specs.Pieces.{IsOneOf, IsMadeOf, IsWhole, AreWhole}
 use Rattle.expansion_laws.specs.Spelled.{fits, is_spelled}
 use Rattle.expansion_laws.proofs.ListLemmas.{toks_at, toks_pass}

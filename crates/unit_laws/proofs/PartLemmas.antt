@@ -19,11 +19,11 @@ use Rattle.line_shape.specs.Items.{onto_lines, lines_of, line_kind, named_kind, 
 use Rattle.line_shape.specs.MacroLine.{MacroParts, macro, before_close, behind_close, is_function_like, is_parameter_list, params_in, function_macro, macro_of}
 use Rattle.macro_expand.proofs.CallLemmas.{cond_has}
 use Rattle.macro_expand.proofs.TracedLemmas.{IsLine, lines-items_of}
-use Rattle.include_tree.specs.Files.{SourceFile, Table}
-use Rattle.include_tree.specs.Including.{is_header}
-use Rattle.include_tree.specs.Sources.{source_at}
+use Rattle.source_files.specs.Files.{SourceFile, Table}
+use Rattle.source_files.specs.HeaderNames.{is_header}
+use Rattle.source_files.specs.Sources.{source_at}
 use Rattle.include_tree.specs.Walk.{ItemText, item_text, item_texts, items_in}
-use Rattle.include_tree.specs.Names.{spelled_in}
+use Rattle.unit_steps.specs.Names.{spelled_in}
 use Rattle.expansion_laws.proofs.ListLemmas.{AllToks}
 use Rattle.unit_laws.specs.UnitItems.{expanded_name, taken}
 use Rattle.unit_laws.proofs.DoneLemmas.{AllIn, all_both, NameHas, PlaceHas, TakenHas}

@@ -6,14 +6,14 @@ use Rattle.cs_base.specs.declared.positions.Pos.{Pos}
 use Rattle.cs_base.specs.declared.tokens.Kind.TheVariants.{Ident}
 use Rattle.cs_base.specs.Token.{Token, token}
 use Rattle.part_lexer.specs.Characters.{double_quote}
-use Rattle.include_tree.specs.declared.events.Reached.{Reached}
-use Rattle.include_tree.specs.Files.{Table, SourceFile}
-use Rattle.include_tree.specs.Notes.{Note, Reaches, reached, reached_of, events_of}
-use Rattle.include_tree.specs.Conditions.{answer_for}
-use Rattle.include_tree.specs.Sources.{source_at}
-use Rattle.include_tree.specs.Texts.{UnitTextValue, reached_in, unit_text}
+use Rattle.unit_steps.specs.declared.events.Reached.{Reached}
+use Rattle.source_files.specs.Files.{Table, SourceFile}
+use Rattle.unit_steps.specs.Notes.{Note, Reaches, reached, reached_of, events_of}
+use Rattle.unit_steps.specs.Conditions.{answer_for}
+use Rattle.source_files.specs.Sources.{source_at}
+use Rattle.unit_steps.specs.Texts.{UnitTextValue, reached_in, unit_text}
 use Rattle.include_tree.specs.Walk.{ItemText, items_in}
-use Rattle.macro_expand.specs.Substitution.{put_in}
+use Rattle.macro_body.specs.Substitution.{put_in}
 use Rattle.expansion_laws.specs.Pieces.{Characters, IsWhole, AreWhole}
 use Rattle.expansion_laws.proofs.ListLemmas.{toks_at, each_tok}
 use Rattle.expansion_laws.proofs.PiecesLemmas.{whole_as, pasted_whole, string_whole, quoted_fails}

@@ -4,17 +4,18 @@ use Rattle.std.specs.List.{flat_map}
 use Rattle.cs_base.specs.Token.{Token, origin_at}
 use Rattle.cs_base.specs.Units.{UnitValue}
 use Rattle.part_lexer.specs.FileText.{file_text}
-use Rattle.macro_expand.specs.Notes as expansion
-use Rattle.macro_expand.specs.Defining.{line_macro}
-use Rattle.include_tree.specs.declared.events.Event.{Event}
-use Rattle.include_tree.specs.declared.events.EventKind.TheVariants as kind
-use Rattle.include_tree.specs.Limits.{the_limits}
-use Rattle.include_tree.specs.Faults.{Fault}
-use Rattle.include_tree.specs.Files.{Source, Carried, carried}
-use Rattle.include_tree.specs.Notes.{Note, Happened, Answered, answers_of, events_of, named_event, before_in}
-use Rattle.include_tree.specs.State.{Did, Outcome}
+use Rattle.macro_body.specs.Notes as expansion
+use Rattle.macro_body.specs.Defining.{line_macro}
+use Rattle.unit_steps.specs.declared.events.Event.{Event}
+use Rattle.unit_steps.specs.declared.events.EventKind.TheVariants as kind
+use Rattle.source_files.specs.Limits.{the_limits}
+use Rattle.source_files.specs.Faults.{Fault}
+use Rattle.source_files.specs.Files.{Source, Carried, carried}
+use Rattle.unit_steps.specs.Notes.{Note, Happened, Answered, answers_of, events_of, named_event, before_in}
+use Rattle.unit_steps.specs.State.{Did, Outcome}
 use Rattle.include_tree.specs.Unit.{unit_outcome}
-use Rattle.include_tree.specs.Texts.{UnitTextValue, unit_text, Preprocessed, preprocessed_by, preprocessed}
+use Rattle.unit_steps.specs.Texts.{UnitTextValue, unit_text}
+use Rattle.include_tree.specs.Preprocessed.{Preprocessed, preprocessed_by, preprocessed}
 use Rattle.expansion_laws.specs.Pieces.{IsOneOf}
 use Rattle.unit_laws.specs.UnitLinks.{IsIn}
 use Rattle.unit_laws.specs.UnitTokens.{BringsLine}

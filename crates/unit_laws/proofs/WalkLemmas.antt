@@ -9,15 +9,15 @@ use Rattle.line_shape.specs.declared.items.ItemKind.{ItemKind}
 use Rattle.line_shape.specs.declared.items.ItemKind.TheVariants as kind
 use Rattle.line_shape.specs.Directives.{is_run, is_include}
 use Rattle.line_shape.specs.Items.{line_kind}
-use Rattle.include_tree.specs.Limits.{the_limits}
-use Rattle.include_tree.specs.Faults.{fault_at}
-use Rattle.include_tree.specs.Files.{Source, SourceFile, Table}
-use Rattle.include_tree.specs.Notes.{Note, Reaches}
-use Rattle.include_tree.specs.State.{Context, context, State, Outcome, only, onward}
+use Rattle.source_files.specs.Limits.{the_limits}
+use Rattle.source_files.specs.Faults.{fault_at}
+use Rattle.source_files.specs.Files.{Source, SourceFile, Table}
+use Rattle.unit_steps.specs.Notes.{Note, Reaches}
+use Rattle.unit_steps.specs.State.{Context, context, State, Outcome, only, onward}
 use Rattle.include_tree.specs.Including.{Inner}
 use Rattle.include_tree.specs.Sections.{Group, Processed, Awaited, Over, Skipped, Section, section, are_processed, group_if, group_after, group_of_else, Turn, Opens, GoesOn, GoesLast, Ends, Stays, turn_of}
-use Rattle.include_tree.specs.Conditions.{holds}
-use Rattle.include_tree.specs.Directives.{opens_with, is_if}
+use Rattle.unit_steps.specs.Conditions.{holds}
+use Rattle.unit_steps.specs.Directives.{opens_with, is_if}
 use Rattle.include_tree.specs.Walk.{ItemText, items_in, processed, Stepped, stepped, reaching, reaching_alive, go_on, opens, goes_on, in_section, turned, item_step, file_end, walk, file_items}
 use Rattle.expansion_laws.proofs.ListLemmas.{AllToks, each_tok}
 use Rattle.unit_laws.specs.UnitItems.{expanded_name, taken}

@@ -7,11 +7,12 @@ use Rattle.cs_base.specs.Units.{UnitValue}
 use Rattle.part_lexer.specs.Characters.{double_quote}
 use Rattle.line_shape.specs.declared.items.ItemKind.{ItemKind}
 use Rattle.line_shape.specs.declared.items.ItemKind.TheVariants as kind
-use Rattle.include_tree.specs.declared.events.Reached.{Reached}
-use Rattle.include_tree.specs.Files.{Source, SourceFile, Table, Carried}
-use Rattle.include_tree.specs.Including.{is_header}
-use Rattle.include_tree.specs.Sources.{source_at}
-use Rattle.include_tree.specs.Texts.{UnitTextValue, Preprocessed, preprocessed}
+use Rattle.unit_steps.specs.declared.events.Reached.{Reached}
+use Rattle.source_files.specs.Files.{Source, SourceFile, Table, Carried}
+use Rattle.source_files.specs.HeaderNames.{is_header}
+use Rattle.source_files.specs.Sources.{source_at}
+use Rattle.unit_steps.specs.Texts.{UnitTextValue}
+use Rattle.include_tree.specs.Preprocessed.{Preprocessed, preprocessed}
 use Rattle.include_tree.specs.Walk.{ItemText, items_in}
 use Rattle.expansion_laws.specs.Pieces.{Characters, AreWhole}
 use Rattle.unit_laws.specs.UnitLinks.{IsIn}

@@ -2,8 +2,8 @@
 use Rattle.std.specs.Prelude.{◌≡◌, ℕ, List, Ok, Some, slice_get}
 use Rattle.cs_base.specs.declared.tokens.Link.{Link}
 use Rattle.cs_base.specs.Units.{UnitValue}
-use Rattle.include_tree.specs.Files.{Source, Carried}
-use Rattle.include_tree.specs.Texts.{Preprocessed, preprocessed}
+use Rattle.source_files.specs.Files.{Source, Carried}
+use Rattle.include_tree.specs.Preprocessed.{Preprocessed, preprocessed}
 use Rattle.expansion_laws.specs.Telling.{AreAlike}
 
 -- the value is one of these

@@ -4,10 +4,11 @@ use Rattle.std.specs.List.{list_all}
 use Rattle.cs_base.specs.declared.tokens.Link.{Link}
 use Rattle.cs_base.specs.Token.{Token}
 use Rattle.cs_base.specs.Units.{UnitValue}
-use Rattle.include_tree.specs.declared.events.Event.{Event}
-use Rattle.include_tree.specs.Files.{Source, SourceFile, Table, Carried}
-use Rattle.include_tree.specs.Sources.{source_at}
-use Rattle.include_tree.specs.Texts.{UnitTextValue, Preprocessed, preprocessed}
+use Rattle.unit_steps.specs.declared.events.Event.{Event}
+use Rattle.source_files.specs.Files.{Source, SourceFile, Table, Carried}
+use Rattle.source_files.specs.Sources.{source_at}
+use Rattle.unit_steps.specs.Texts.{UnitTextValue}
+use Rattle.include_tree.specs.Preprocessed.{Preprocessed, preprocessed}
 use Rattle.expansion_laws.specs.Spelled.{is_spelled}
 use Rattle.unit_laws.specs.UnitLinks.{IsIn}
 

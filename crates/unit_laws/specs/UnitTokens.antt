@@ -7,12 +7,13 @@ use Rattle.cs_base.specs.declared.tokens.Link.{Link}
 use Rattle.cs_base.specs.Token.{Token}
 use Rattle.cs_base.specs.Units.{UnitValue}
 use Rattle.part_lexer.specs.Characters.{double_quote}
-use Rattle.macro_expand.specs.Substitution.{line_number}
-use Rattle.include_tree.specs.declared.events.Event.{Event}
-use Rattle.include_tree.specs.declared.events.EventKind.TheVariants as kind
-use Rattle.include_tree.specs.Files.{Source, SourceFile, Table, Carried}
-use Rattle.include_tree.specs.Sources.{source_at}
-use Rattle.include_tree.specs.Texts.{UnitTextValue, Preprocessed, preprocessed}
+use Rattle.macro_body.specs.Substitution.{line_number}
+use Rattle.unit_steps.specs.declared.events.Event.{Event}
+use Rattle.unit_steps.specs.declared.events.EventKind.TheVariants as kind
+use Rattle.source_files.specs.Files.{Source, SourceFile, Table, Carried}
+use Rattle.source_files.specs.Sources.{source_at}
+use Rattle.unit_steps.specs.Texts.{UnitTextValue}
+use Rattle.include_tree.specs.Preprocessed.{Preprocessed, preprocessed}
 use Rattle.expansion_laws.specs.Pieces.{IsOneOf, Characters, IsWhole, AreWhole, StandsWith}
 use Rattle.unit_laws.specs.UnitLinks.{IsIn}
 

@@ -13,32 +13,35 @@ use Rattle.line_shape.specs.declared.items.ItemKind.{ItemKind}
 use Rattle.line_shape.specs.declared.items.ItemKind.TheVariants as kind
 use Rattle.line_shape.specs.Directives.{is_define}
 use Rattle.line_shape.specs.Signs.{is_name}
-use Rattle.macro_expand.specs.declared.definitions.Definition.{Definition}
-use Rattle.macro_expand.specs.Defining.{defined_by}
-use Rattle.macro_expand.specs.Notes as expansion
+use Rattle.macro_body.specs.declared.definitions.Definition.{Definition}
+use Rattle.macro_body.specs.Defining.{defined_by}
+use Rattle.macro_body.specs.Notes as expansion
 use Rattle.macro_expand.specs.Expansion.{expansion}
 use Rattle.cond_eval.specs.declared.faults.CondFault.{CondFault}
 use Rattle.cond_eval.specs.Evaluation.{condition}
-use Rattle.include_tree.specs.Limits.{the_limits}
-use Rattle.include_tree.specs.Faults.{Fault, fault_at, place_in, first_place}
-use Rattle.include_tree.specs.Files.{Source, SourceFile, Table, Carried, defines_path, asked}
-use Rattle.include_tree.specs.Notes.{Note, Reaches, Happened, Undefined, Left, Answered, Named, Entered, Exited}
-use Rattle.include_tree.specs.Names.{spelled_in, name_links, with_name}
-use Rattle.include_tree.specs.State.{Context, context, State, Did, did, Outcome, only, noted, onward}
-use Rattle.include_tree.specs.Search.{Header, Searched, candidates_of, search}
-use Rattle.include_tree.specs.Opening.{Opening, opening, with_opened, open_file}
-use Rattle.include_tree.specs.Expanding.{expanded_as, expanded_in, most_toks, past_limit, put_out, run_of}
-use Rattle.include_tree.specs.Conditions.{Piece, Plain, Asks, is_defined, pieces_from, answer_for, is_macro, test_notes, answered, left_over, valued, judged, asked_pieces, holds}
-use Rattle.include_tree.specs.Directives.{operand_in, define_notes, after_define, defined_as, define_of, after_undef, undefined_as, undef_of, asks_name, opens_with, is_if}
-use Rattle.include_tree.specs.Including.{is_header, header_in, header_or, header_of_toks, computed_header, header_named, open_searched, open_header, Process, Inner, entered, included, include_of}
-use Rattle.include_tree.specs.Laws.{IsGrown}
+use Rattle.source_files.specs.Limits.{the_limits}
+use Rattle.source_files.specs.Faults.{Fault, fault_at, place_in, first_place}
+use Rattle.source_files.specs.Files.{Source, SourceFile, Table, Carried, defines_path, asked}
+use Rattle.unit_steps.specs.Notes.{Note, Reaches, Happened, Undefined, Left, Answered, Named, Entered, Exited}
+use Rattle.unit_steps.specs.Names.{spelled_in, name_links, with_name}
+use Rattle.unit_steps.specs.State.{Context, context, State, Did, did, Outcome, only, noted, onward}
+use Rattle.source_files.specs.Search.{Header, Searched, candidates_of, search}
+use Rattle.source_files.specs.Opening.{Opening, opening}
+use Rattle.include_tree.specs.OpeningStep.{with_opened, open_file}
+use Rattle.unit_steps.specs.Expanding.{expanded_as, expanded_in, most_toks, past_limit, put_out, run_of}
+use Rattle.unit_steps.specs.Conditions.{Piece, Plain, Asks, is_defined, pieces_from, answer_for, is_macro, test_notes, answered, left_over, valued, judged, asked_pieces, holds}
+use Rattle.unit_steps.specs.Directives.{operand_in, define_notes, after_define, defined_as, after_undef, undefined_as, asks_name, opens_with, is_if}
+use Rattle.include_tree.specs.Including.{open_searched, open_header, Process, Inner, entered, included, include_of}
+use Rattle.unit_steps.specs.IncludeNames.{header_or, computed_header, header_named}
+use Rattle.source_files.specs.HeaderNames.{is_header, header_in, header_of_toks}
+use Rattle.source_files.specs.Tables.{IsGrown}
 use Rattle.include_tree.specs.Sections.{Group, Processed, Awaited, Over, Skipped, Section, section, are_processed, group_if, group_after, group_of_else, Turn, Opens, GoesOn, GoesLast, Ends, Stays, turn_of}
-use Rattle.include_tree.specs.Sources.{source_at}
+use Rattle.source_files.specs.Sources.{source_at}
 use Rattle.include_tree.specs.Unit.{first_state, outer_file, main_file, both_files, unit_outcome}
 use Rattle.include_tree.specs.Walk.{ItemText, items_in, processed, Stepped, stepped, reaching, reaching_alive, go_on, opens, goes_on, in_section, turned, item_step, file_end, walk, file_items}
-use Rattle.include_tree.proofs.TableLemmas.{grown_refl, grown_trans, widens_asked}
+use Rattle.source_files.proofs.TableLemmas.{grown_refl, grown_trans, widens_asked}
 use Rattle.include_tree.proofs.SearchLemmas.{search_wide}
-use Rattle.include_tree.proofs.SourcesLemmas.{opening-as}
+use Rattle.source_files.proofs.SourcesLemmas.{opening-as}
 use Rattle.include_tree.proofs.StayingLemmas.{source-grown}
 
 -- ---- rules

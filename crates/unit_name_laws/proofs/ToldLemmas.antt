@@ -1,6 +1,6 @@
 -- Names of which a unit tells hang together by its links.
-use Rattle.std.proofs.Common.{◌≡◌, ℕ, zero, suc, ◌||◌, Bool, true, false, cond, List, [], ◌∷◌, ◌++◌, map, Option, Some, None, is_some, Ok, refl, sym, subst, ap, ◌∙◌, codes, inl, inr}
-use Rattle.std.specs.Prelude.{◌⊎◌, slice_get, find}
+use Rattle.std.proofs.Common.{◌≡◌, ℕ, Bool, true, false, cond, List, [], ◌∷◌, ◌++◌, map, Option, Some, None, is_some, Ok, refl, sym, subst, ap, ◌∙◌, codes, inl, inr}
+use Rattle.std.specs.Prelude.{◌⊎◌}
 use Rattle.std.specs.List.{flat_map, list_all}
 use Rattle.std.specs.Option.{is_none, option_map}
 use Rattle.std.specs.Str.{bytes_eq}
@@ -14,25 +14,26 @@ use Rattle.cs_base.specs.Units.{UnitValue}
 use Rattle.part_lexer.specs.FileText.{file_text}
 use Rattle.line_shape.specs.MacroLine.{MacroParts, macro_of}
 use Rattle.line_shape.specs.Signs.{is_name}
-use Rattle.macro_expand.specs.declared.definitions.Definition.{Definition}
-use Rattle.macro_expand.specs.Defining.{form_of, definition_of, defined_by, line_macro, file_macro, first_macros}
-use Rattle.macro_expand.specs.Live.{no_macro, with_macro, without_macro}
-use Rattle.macro_expand.specs.Macro.{Table as Macros}
-use Rattle.macro_expand.specs.Notes as expansion
+use Rattle.macro_body.specs.declared.definitions.Definition.{Definition}
+use Rattle.macro_body.specs.Defining.{form_of, definition_of, defined_by, line_macro, file_macro, first_macros}
+use Rattle.macro_body.specs.Live.{no_macro, with_macro}
+use Rattle.macro_body.specs.Macro.{Table as Macros}
+use Rattle.macro_body.specs.Notes as expansion
 use Rattle.macro_expand.specs.Expansion.{links_name, expansion}
-use Rattle.include_tree.specs.declared.events.Event.{Event}
-use Rattle.include_tree.specs.declared.events.EventKind.{EventKind}
-use Rattle.include_tree.specs.declared.events.EventKind.TheVariants as kind
-use Rattle.include_tree.specs.Files.{Source, SourceFile, Table, Carried}
-use Rattle.include_tree.specs.Names.{spelled_in, linked_with, name_links, with_name, parameter_named, definition_links}
-use Rattle.include_tree.specs.Notes.{Note, Reaches, Happened, Defined, Undefined, Tested, Left, Linked, Answered, Named, Entered, Exited, link, links_then, links_of, named_event, file_event, before_in, events_then, events_of}
-use Rattle.include_tree.specs.State.{State, Did}
-use Rattle.include_tree.specs.Directives.{define_notes, after_define, after_undef}
-use Rattle.include_tree.specs.Conditions.{test_notes}
-use Rattle.include_tree.specs.Limits.{the_limits}
-use Rattle.include_tree.specs.Texts.{Preprocessed, preprocessed, unit_text, UnitTextValue}
+use Rattle.unit_steps.specs.declared.events.Event.{Event}
+use Rattle.unit_steps.specs.declared.events.EventKind.{EventKind}
+use Rattle.unit_steps.specs.declared.events.EventKind.TheVariants as kind
+use Rattle.source_files.specs.Files.{Source, Table, Carried}
+use Rattle.unit_steps.specs.Names.{spelled_in, linked_with, name_links, with_name, parameter_named, definition_links}
+use Rattle.unit_steps.specs.Notes.{Note, Reaches, Happened, Defined, Undefined, Tested, Left, Linked, Answered, Named, Entered, Exited, link, links_then, links_of, named_event, file_event, before_in, events_then, events_of}
+use Rattle.unit_steps.specs.State.{State, Did}
+use Rattle.unit_steps.specs.Directives.{define_notes, after_define, after_undef}
+use Rattle.unit_steps.specs.Conditions.{test_notes}
+use Rattle.source_files.specs.Limits.{the_limits}
+use Rattle.unit_steps.specs.Texts.{unit_text, UnitTextValue}
+use Rattle.include_tree.specs.Preprocessed.{Preprocessed}
 use Rattle.include_tree.specs.Unit.{unit_outcome}
-use Rattle.include_tree.proofs.TableLemmas.{grown_refl}
+use Rattle.source_files.proofs.TableLemmas.{grown_refl}
 use Rattle.expansion_laws.proofs.ListLemmas.{AllNotes}
 use Rattle.unit_laws.specs.UnitLinks.{IsIn}
 use Rattle.unit_laws.proofs.DoneLemmas.{AllIn, all_split, all_both}

@@ -1,5 +1,5 @@
 -- Definitions that a unit reached: its links of their uses of parameters.
-use Rattle.std.proofs.Common.{◌≡◌, ℕ, zero, suc, ◌+◌, Bool, true, false, List, [], ◌∷◌, ◌++◌, length, map, Option, Some, None, Ok, refl, sym, subst, ap, ◌∙◌}
+use Rattle.std.proofs.Common.{◌≡◌, ℕ, zero, suc, ◌+◌, Bool, false, List, [], ◌∷◌, ◌++◌, length, map, Option, Some, None, refl, sym, subst, ap, ◌∙◌}
 use Rattle.std.specs.Prelude.{slice_get}
 use Rattle.std.specs.List.{flat_map}
 use Rattle.std.proofs.lemmas.Option.{none-some, same_Some}
@@ -8,25 +8,25 @@ use Rattle.cs_base.specs.Token.{Token}
 use Rattle.line_shape.specs.declared.items.ItemKind.{ItemKind}
 use Rattle.line_shape.specs.declared.items.ItemKind.TheVariants as kind
 use Rattle.line_shape.specs.Directives.{is_define}
-use Rattle.macro_expand.specs.declared.definitions.Definition.{Definition}
-use Rattle.macro_expand.specs.Defining.{defined_by}
-use Rattle.macro_expand.specs.Notes as expansion
+use Rattle.macro_body.specs.declared.definitions.Definition.{Definition}
+use Rattle.macro_body.specs.Defining.{defined_by}
+use Rattle.macro_body.specs.Notes as expansion
 use Rattle.macro_expand.specs.Expansion.{expansion}
-use Rattle.include_tree.specs.declared.events.Reached.{Reached}
-use Rattle.include_tree.specs.Files.{SourceFile, Table}
-use Rattle.include_tree.specs.Laws.{IsGrown}
-use Rattle.include_tree.specs.Names.{spelled_in, linked_with, name_links, with_name, parameter_named, definition_links}
-use Rattle.include_tree.specs.Notes.{Note, Reaches, Happened, Defined, Undefined, Tested, Left, Linked, Answered, Named, Entered, Exited, reached, reached_of, links_of, events_of}
-use Rattle.include_tree.specs.State.{State}
-use Rattle.include_tree.specs.Sources.{source_at}
-use Rattle.include_tree.specs.Texts.{UnitTextValue, reached_in, unit_text}
+use Rattle.unit_steps.specs.declared.events.Reached.{Reached}
+use Rattle.source_files.specs.Files.{SourceFile, Table}
+use Rattle.source_files.specs.Tables.{IsGrown}
+use Rattle.unit_steps.specs.Names.{spelled_in, linked_with, name_links, with_name, parameter_named, definition_links}
+use Rattle.unit_steps.specs.Notes.{Note, Reaches, Happened, Defined, Undefined, Tested, Left, Linked, Answered, Named, Entered, Exited, reached, reached_of, links_of, events_of}
+use Rattle.unit_steps.specs.State.{State}
+use Rattle.source_files.specs.Sources.{source_at}
+use Rattle.unit_steps.specs.Texts.{UnitTextValue, reached_in, unit_text}
 use Rattle.include_tree.specs.Walk.{ItemText, items_in}
-use Rattle.include_tree.specs.Directives.{define_notes, after_define, after_undef}
-use Rattle.include_tree.specs.Conditions.{test_notes}
+use Rattle.unit_steps.specs.Directives.{define_notes, after_define, after_undef}
+use Rattle.unit_steps.specs.Conditions.{test_notes}
 use Rattle.unit_laws.specs.UnitLinks.{IsIn}
 use Rattle.unit_laws.proofs.NoteLemmas.{flat_in}
 use Rattle.unit_laws.proofs.TextLemmas.{text_is}
-use Rattle.unit_name_laws.specs.Uses.{UsesHaveLinks, IsReachedItem, UsesAreLinked}
+use Rattle.unit_name_laws.specs.Uses.{UsesAreLinked}
 use Rattle.unit_name_laws.proofs.StepLemmas.{IsItem, IsQuiet, StepRules, unit_goes}
 
 -- ---- lists

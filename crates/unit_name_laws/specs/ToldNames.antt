@@ -9,13 +9,14 @@ use Rattle.cs_base.specs.Token.{Token}
 use Rattle.cs_base.specs.Units.{UnitValue}
 use Rattle.part_lexer.specs.FileText.{file_text}
 use Rattle.line_shape.specs.Signs.{is_name}
-use Rattle.macro_expand.specs.Notes as expansion
-use Rattle.include_tree.specs.declared.events.Event.{Event}
-use Rattle.include_tree.specs.Files.{Source, Carried}
-use Rattle.include_tree.specs.Limits.{the_limits}
-use Rattle.include_tree.specs.Notes.{Happened}
-use Rattle.include_tree.specs.State.{Did}
-use Rattle.include_tree.specs.Texts.{UnitTextValue, unit_text, Preprocessed, preprocessed}
+use Rattle.macro_body.specs.Notes as expansion
+use Rattle.unit_steps.specs.declared.events.Event.{Event}
+use Rattle.source_files.specs.Files.{Source, Carried}
+use Rattle.source_files.specs.Limits.{the_limits}
+use Rattle.unit_steps.specs.Notes.{Happened}
+use Rattle.unit_steps.specs.State.{Did}
+use Rattle.unit_steps.specs.Texts.{UnitTextValue, unit_text}
+use Rattle.include_tree.specs.Preprocessed.{Preprocessed, preprocessed}
 use Rattle.include_tree.specs.Unit.{unit_outcome}
 use Rattle.unit_laws.specs.UnitLinks.{IsIn}
 

@@ -4,15 +4,16 @@ use Rattle.std.specs.Prelude.{IfSome, OnOk}
 use Rattle.std.specs.Option.{option_map}
 use Rattle.cs_base.specs.Answer.{Gives, result_then, result_map_err}
 use Rattle.cs_base.specs.Units.{UnitValue, IsUnit}
-use Rattle.include_tree.specs.declared.pre_fault.PreFault.{PreFault}
-use Rattle.include_tree.specs.declared.pre_fault.PreFault.TheVariants as unit
-use Rattle.include_tree.specs.Answers as pre
-use Rattle.include_tree.specs.Faults.{Fault}
-use Rattle.include_tree.specs.Files.{Source, Carried, nothing_carried}
-use Rattle.include_tree.specs.Texts.{UnitTextValue, Preprocessed, preprocessed}
-use Rattle.include_tree.specs.Laws.{AreFound, HasEachOnce}
-use Rattle.include_tree.proofs.AgreeLemmas.{some_source}
-use Rattle.include_tree.proofs.FileTableLemmas.{slice_get-at}
+use Rattle.source_files.specs.declared.pre_fault.PreFault.{PreFault}
+use Rattle.source_files.specs.declared.pre_fault.PreFault.TheVariants as unit
+use Rattle.source_files.specs.Answers as pre
+use Rattle.source_files.specs.Faults.{Fault}
+use Rattle.source_files.specs.Files.{Source, Carried, nothing_carried}
+use Rattle.unit_steps.specs.Texts.{UnitTextValue}
+use Rattle.include_tree.specs.Preprocessed.{Preprocessed, with_text, preprocessed}
+use Rattle.source_files.specs.Tables.{AreFound, HasEachOnce}
+use Rattle.source_files.proofs.AgreeLemmas.{some_source}
+use Rattle.source_files.proofs.FileTableLemmas.{slice_get-at}
 use Rattle.ws_core.specs.declared.analyse_fault.AnalyseFault.{AnalyseFault}
 use Rattle.ws_core.specs.declared.analyse_fault.AnalyseFault.TheVariants as answer
 use Rattle.ws_core.specs.Texts.{UnitFault, unit_fault, unit_with, unit_at, alone, one_text_of}
@@ -36,15 +37,15 @@ reads_in number (Err unit.Memory) = refl
 
 -- what was not met behind a unit, by the answer over some source that agrees with what is carried then
 pub fresh_in : (number : ℕ) (u : UnitValue) (before after : Carried) (r : Result UnitTextValue PreFault) → IsUnit u → number < 2 ^ 32 → HasEachOnce after.table
-    → IsFresh number before.table → ((source : Source) → AreFound source after.table → Gives (pre.with_text after) pre.fault_of r (preprocessed source number u before))
+    → IsFresh number before.table → ((source : Source) → AreFound source after.table → Gives (with_text after) pre.fault_of r (preprocessed source number u before))
     → OnOk (result_map_err (in_unit number) r) (IsFresh (number + 1) after.table)
 fresh_in number u before after (Ok text) is few once fresh h =
     let some : (source : Source) × AreFound source after.table = some_source after.table once in
-    fresh_on some.0 number u before (pre.with_text after text) is few fresh (h some.0 some.1)
+    fresh_on some.0 number u before (with_text after text) is few fresh (h some.0 some.1)
 fresh_in number u before after (Err e) is few once fresh h = tt
 
 -- the text alone
-gives_text : (after : Carried) (r : Result UnitTextValue AnalyseFault) (expected : Result Preprocessed UnitFault) → Gives (pre.with_text after) fault_of r expected
+gives_text : (after : Carried) (r : Result UnitTextValue AnalyseFault) (expected : Result Preprocessed UnitFault) → Gives (with_text after) fault_of r expected
     → Gives (λ t. t) fault_of r (result_then (λ p. Ok p.text) expected)
 gives_text after (Ok text) expected h = ap (result_then (λ (p : Preprocessed). Ok p.text)) h
 gives_text after (Err (answer.WorkspaceFault number place cause)) expected h = ap (result_then (λ (p : Preprocessed). Ok p.text)) h
@@ -59,7 +60,7 @@ unit_at-is units (suc k) u first last is =
     slice_get-at units k u (omega (arith, last)) (rw n at is)
 
 one_at : (source : Source) (number : ℕ) (u : UnitValue) (after : Carried) (r : Result UnitTextValue AnalyseFault) (o : Option UnitValue) → o ≡ Some u
-    → Gives (pre.with_text after) fault_of r (unit_with source number u nothing_carried)
+    → Gives (with_text after) fault_of r (unit_with source number u nothing_carried)
     → IfSome o (λ v. Gives (λ t. t) fault_of r (alone source number v))
 one_at source number u after r None e h = tt
 one_at source number u after r (Some v) e h =
@@ -72,7 +73,7 @@ some_map f P (Some x) h = h
 -- the answer of one unit by itself
 pub gives_one : (source : Source) (units : List UnitValue) (number : ℕ) (u : UnitValue) (after : Carried) (r : Result UnitTextValue AnalyseFault)
     → 1 ≤ number → number ≤ length units → u ≡ get_or units (number - 1) u
-    → Gives (pre.with_text after) fault_of r (unit_with source number u nothing_carried)
+    → Gives (with_text after) fault_of r (unit_with source number u nothing_carried)
     → IfSome (one_text_of source units number) (λ expected. Gives (λ t. t) fault_of r expected)
 gives_one source units number u after r first last is h =
     some_map (alone source number) (λ expected. Gives (λ t. t) fault_of r expected) (unit_at units number)

@@ -13,9 +13,9 @@ use Rattle.line_shape.specs.declared.items.ItemKind.{ItemKind}
 use Rattle.line_shape.specs.declared.items.ItemKind.TheVariants as kind
 use Rattle.line_shape.specs.Items.{items_of}
 use Rattle.line_shape.specs.Signs.{is_name, is_identifier}
-use Rattle.include_tree.specs.Files.{Table}
-use Rattle.include_tree.specs.Including.{is_header}
-use Rattle.include_tree.specs.KeptFiles.{KeptValue, kept_in, kept_at}
+use Rattle.source_files.specs.Files.{Table}
+use Rattle.source_files.specs.HeaderNames.{is_header}
+use Rattle.source_files.specs.KeptFiles.{KeptValue, kept_in, kept_at}
 use Rattle.include_tree.specs.Walk.{ItemText, item_text, item_texts}
 use Rattle.eclass_map.specs.Positions.{holds}
 use Rattle.ws_core.specs.Analysis.{UnitAnalysis, AnalysisValue}

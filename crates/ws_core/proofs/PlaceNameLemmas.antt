@@ -14,8 +14,8 @@ use Rattle.part_lexer.specs.Tokens.{tokens_of}
 use Rattle.eclass_map.specs.ClassTable.{Table as Classes, part_of}
 use Rattle.eclass_map.specs.Positions.{holds}
 use Rattle.eclass_map.proofs.TokenFacts.{holding}
-use Rattle.include_tree.specs.Files.{Entry, Table, Absent, entry}
-use Rattle.include_tree.specs.KeptFiles.{KeptValue, kept, kept_bytes, kept_in, kept_at}
+use Rattle.source_files.specs.Files.{Entry, Table, Absent, entry}
+use Rattle.source_files.specs.KeptFiles.{KeptValue, kept, kept_bytes, kept_in, kept_at}
 use Rattle.ws_core.specs.Analysis.{AnalysisValue}
 use Rattle.ws_core.specs.Classes.{AreItsClasses}
 use Rattle.ws_core.specs.FileTokens.{span_of}

@@ -11,9 +11,9 @@ use Rattle.part_lexer.specs.Tokens.{tokens_of, firsts_of, open_comment_of}
 use Rattle.line_shape.specs.declared.items.Item.{Item}
 use Rattle.line_shape.specs.Items.{items_of}
 use Rattle.line_shape.specs.Signs.{is_name}
-use Rattle.include_tree.specs.declared.events.Reached.{Reached}
-use Rattle.include_tree.specs.Files.{Table}
-use Rattle.include_tree.specs.KeptFiles.{KeptValue, kept_at}
+use Rattle.unit_steps.specs.declared.events.Reached.{Reached}
+use Rattle.source_files.specs.Files.{Table}
+use Rattle.source_files.specs.KeptFiles.{KeptValue, kept_at}
 use Rattle.include_tree.specs.Walk.{ItemText, item_text}
 use Rattle.ws_core.specs.Marking.{is_marked, MarksItem, Has, IsMarkedToken, MarksTokens, AreMarked}
 use Rattle.ws_core.specs.Naming.{nameable, item_at, names_in_item, names_reached}

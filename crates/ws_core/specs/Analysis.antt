@@ -10,12 +10,13 @@ use Rattle.cs_base.specs.declared.positions.Place.{Place}
 use Rattle.cs_base.specs.Token.{Token}
 use Rattle.cs_base.specs.Units.{UnitValue}
 use Rattle.ws_file.specs.Workspace.{WorkspaceValue}
-use Rattle.include_tree.specs.Files.{Source, Table, Carried, nothing_carried}
-use Rattle.include_tree.specs.Faults.{Fault, fault, first_place}
-use Rattle.include_tree.specs.Texts.{UnitTextValue, Preprocessed}
+use Rattle.source_files.specs.Files.{Source, Table, Carried, nothing_carried}
+use Rattle.source_files.specs.Faults.{Fault, fault, first_place}
+use Rattle.unit_steps.specs.Texts.{UnitTextValue}
+use Rattle.include_tree.specs.Preprocessed.{Preprocessed}
 use Rattle.c99_tree.specs.Tree.{Node}
 use Rattle.c99_read.specs.Reading.{Stop, syntax, too_deep, read_of}
-use Rattle.c99_read.specs.Standard.{c99}
+use Rattle.c99_grammar.specs.Standard.{c99}
 use Rattle.scope_bind.specs.Bound.{Bound, binding_of}
 use Rattle.scope_bind.specs.Causes.{cause_of, index_of}
 use Rattle.ws_core.specs.Texts.{UnitFault, unit_fault, unit_with}

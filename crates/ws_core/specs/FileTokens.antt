@@ -10,13 +10,13 @@ use Rattle.cs_base.specs.declared.positions.Pos.{Pos}
 use Rattle.cs_base.specs.Token.{Token, has_origins, origin_at}
 use Rattle.part_lexer.specs.Places.{pos}
 use Rattle.part_lexer.specs.Tokens.{tokens_of}
-use Rattle.macro_expand.specs.Substitution.{line_number}
-use Rattle.include_tree.specs.declared.events.Event.{Event}
-use Rattle.include_tree.specs.declared.events.EventKind.{EventKind}
-use Rattle.include_tree.specs.declared.events.EventKind.TheVariants as kind
-use Rattle.include_tree.specs.Files.{Entry, Table}
-use Rattle.include_tree.specs.KeptFiles.{KeptValue, kept_in}
-use Rattle.include_tree.specs.Texts.{UnitTextValue}
+use Rattle.macro_body.specs.Substitution.{line_number}
+use Rattle.unit_steps.specs.declared.events.Event.{Event}
+use Rattle.unit_steps.specs.declared.events.EventKind.{EventKind}
+use Rattle.unit_steps.specs.declared.events.EventKind.TheVariants as kind
+use Rattle.source_files.specs.Files.{Entry, Table}
+use Rattle.source_files.specs.KeptFiles.{KeptValue, kept_in}
+use Rattle.unit_steps.specs.Texts.{UnitTextValue}
 use Rattle.ws_core.specs.Analysis.{UnitAnalysis, AnalysisValue}
 
 -- ---- kept files

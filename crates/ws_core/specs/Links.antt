@@ -10,8 +10,8 @@ use Rattle.cs_base.specs.Units.{UnitValue}
 use Rattle.line_shape.specs.Signs.{is_name}
 use Rattle.linkage_join.specs.Linkage.{UnitValue as ExternalNames, unit as external_names, link_to, links_of as external_links}
 use Rattle.scope_bind.specs.declared.bound.Name.{Name}
-use Rattle.scope_bind.specs.declared.entity.Linkage.TheVariants.{External}
-use Rattle.scope_bind.specs.Declarations.{is_linkage}
+use Rattle.c_types.specs.declared.entity.Linkage.TheVariants.{External}
+use Rattle.c_types.specs.Declarations.{is_linkage}
 use Rattle.scope_bind.specs.Names.{entity_at, linkage_at}
 use Rattle.ws_core.specs.Analysis.{UnitAnalysis, AnalysisValue}
 

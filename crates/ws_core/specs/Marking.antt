@@ -4,9 +4,9 @@ use Rattle.cs_base.specs.Token.{Token}
 use Rattle.part_lexer.specs.Tokens.{tokens_of}
 use Rattle.line_shape.specs.Signs.{is_name}
 use Rattle.line_shape.specs.declared.items.Item.{Item}
-use Rattle.include_tree.specs.declared.events.Reached.{Reached}
-use Rattle.include_tree.specs.Files.{Table}
-use Rattle.include_tree.specs.KeptFiles.{KeptValue, kept_at}
+use Rattle.unit_steps.specs.declared.events.Reached.{Reached}
+use Rattle.source_files.specs.Files.{Table}
+use Rattle.source_files.specs.KeptFiles.{KeptValue, kept_at}
 use Rattle.ws_core.specs.Naming.{nameable}
 
 -- whether token k of file number n is marked

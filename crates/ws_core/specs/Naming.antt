@@ -13,10 +13,10 @@ use Rattle.part_lexer.specs.Tokens.{tokens_of, firsts_of}
 use Rattle.line_shape.specs.declared.items.ItemKind.{ItemKind}
 use Rattle.line_shape.specs.declared.items.ItemKind.TheVariants as kind
 use Rattle.line_shape.specs.Signs.{is_name}
-use Rattle.include_tree.specs.declared.events.Reached.{Reached}
-use Rattle.include_tree.specs.Files.{Table}
-use Rattle.include_tree.specs.Including.{is_header}
-use Rattle.include_tree.specs.KeptFiles.{KeptValue, kept_in, kept_at}
+use Rattle.unit_steps.specs.declared.events.Reached.{Reached}
+use Rattle.source_files.specs.Files.{Table}
+use Rattle.source_files.specs.HeaderNames.{is_header}
+use Rattle.source_files.specs.KeptFiles.{KeptValue, kept_in, kept_at}
 use Rattle.include_tree.specs.Walk.{ItemText, item_texts}
 use Rattle.eclass_map.specs.Positions.{holds}
 use Rattle.eclass_map.specs.ClassTable.{Table as Classes, part_of}

@@ -8,9 +8,9 @@ use Rattle.std.specs.Cmp.Lexicographic.{slice_cmp}
 use Rattle.cs_base.specs.declared.positions.Pos.{Pos}
 use Rattle.cs_base.specs.declared.positions.Place.{Place}
 use Rattle.part_lexer.specs.Lines.{line_column_of}
-use Rattle.include_tree.specs.Files.{Table, lines_path}
-use Rattle.include_tree.specs.Faults.{place_of}
-use Rattle.include_tree.specs.KeptFiles.{KeptValue, kept_at}
+use Rattle.source_files.specs.Files.{Table, lines_path}
+use Rattle.source_files.specs.Faults.{place_of}
+use Rattle.source_files.specs.KeptFiles.{KeptValue, kept_at}
 use Rattle.include_tree.specs.PseudoFiles.{is_pseudo}
 
 -- ---- places

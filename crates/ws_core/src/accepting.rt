@@ -1,9 +1,9 @@
 // The units of a workspace, preprocessed, read and bound one after another.
-ghost use Rattle.std.specs.Prelude.{◌≡◌, ◌≤◌, ◌+◌, ◌++◌, ◌∷◌, [], IfOk, IfSome, OnOk, length};
+ghost use Rattle.std.specs.Prelude.{◌≡◌, ◌≤◌, ◌+◌, ◌++◌, ◌∷◌, [], IfOk, OnOk, length};
 ghost use Rattle.cs_base.specs.Answer.{Gives};
 ghost use Rattle.cs_base.specs.Outside.{ReadsOnly};
-ghost use Rattle.include_tree.specs.Files.{Source, Table, nothing_carried};
-ghost use Rattle.include_tree.specs.Laws.{AreFound};
+ghost use Rattle.source_files.specs.Files.{Source, Table, nothing_carried};
+ghost use Rattle.source_files.specs.Tables.{AreFound};
 ghost use Rattle.ws_core.specs.Answers.{fault_of, reads_of};
 ghost use Rattle.ws_core.specs.Analysis.{units_and, analysis_of};
 ghost use Rattle.ws_core.specs.Carrying.{IsFresh, ReadsMore, IsOver};

@@ -1,7 +1,7 @@
 // The names of external linkage of each unit (ISO/IEC 9899:1999, 6.2.2).
 ghost use Rattle.std.specs.Prelude.{◌≡◌, IfOk};
-ghost use Rattle.scope_bind.specs.Declarations.{is_linkage};
-ghost use Rattle.scope_bind.specs.declared.entity.Linkage.TheVariants.{External};
+ghost use Rattle.c_types.specs.Declarations.{is_linkage};
+ghost use Rattle.c_types.specs.declared.entity.Linkage.TheVariants.{External};
 ghost use Rattle.ws_core.specs.Links.{external_names_from, is_bound_to, is_external_name, names_of_unit, names_of_units};
 
 use crate::accepted::UnitParts;

@@ -2,7 +2,7 @@ use Rattle.std.proofs.Common.{ℕ, suc, ◌≡◌, ◌-◌, ◌<◌, List, Optio
 use Rattle.cs_base.specs.Token.{Token}
 use Rattle.c99_tree.specs.Tree.{Forest}
 use Rattle.c99_read.specs.Children.{from_child}
-use Rattle.c99_read.specs.Standard.{c99}
+use Rattle.c99_grammar.specs.Standard.{c99}
 use Rattle.c99_read.specs.State.{last_identifier}
 use Rattle.c99_read.proofs.ChildLemmas.{from_child-end, last_identifier-at, last_identifier-before}
 use Rattle.c99_read.proofs.identifiers.last_identifier.Goals as goal

@@ -1,6 +1,6 @@
 use Rattle.std.proofs.Common.{◌≡◌, ℕ, Option}
 use Rattle.c99_read.specs.Children.{from_child}
-use Rattle.c99_read.specs.Standard.{c99}
+use Rattle.c99_grammar.specs.Standard.{c99}
 use Rattle.c99_read.specs.State.{last_identifier}
 use Rattle.c99_read.proofs.identifiers.last_identifier.Given as goal
 

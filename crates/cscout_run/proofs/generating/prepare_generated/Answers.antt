@@ -2,7 +2,7 @@ use Rattle.std.proofs.Common.{◌≡◌, ◌∙◌, ℕ, Some, ap, subst}
 use Rattle.cs_base.specs.Outside.{FileMap}
 use Rattle.cs_base.specs.World.{World}
 use Rattle.ws_file.specs.Workspace.{WorkspaceValue, IsWorkspace}
-use Rattle.include_tree.specs.Files.{source_of}
+use Rattle.source_files.specs.Files.{source_of}
 use Rattle.ws_core.specs.Analysis.{analysis_of}
 use Rattle.table_laws.proofs.CountLemmas.{tokens_are_few}
 use Rattle.generated.specs.Generated.{generated_files, workspace_path}

@@ -1,6 +1,6 @@
 use Rattle.std.proofs.Common.{◌≡◌, ◌&&◌, true, take}
 use Rattle.std.specs.List.{list_all}
-use Rattle.macro_expand.specs.Sound.{is_traced, is_low}
+use Rattle.macro_body.specs.Sound.{is_traced, is_low}
 use Rattle.expansion_rows.proofs.expansion_texts.are_sound.Given as goal
 
 abbrev pub invariant-loop-tok : goal.invariant-loop-tok

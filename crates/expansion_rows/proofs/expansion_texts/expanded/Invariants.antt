@@ -1,5 +1,5 @@
-use Rattle.macro_expand.specs.Live.{table_of}
-use Rattle.macro_expand.specs.Sound.{AllTraced}
+use Rattle.macro_body.specs.Live.{table_of}
+use Rattle.macro_body.specs.Sound.{AllTraced}
 use Rattle.expansion_rows.proofs.expansion_texts.expanded.Given as goal
 
 -- each replacement list comes from somewhere

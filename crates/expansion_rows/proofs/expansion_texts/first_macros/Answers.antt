@@ -1,4 +1,4 @@
-use Rattle.macro_expand.specs.Live.{table_of}
+use Rattle.macro_body.specs.Live.{table_of}
 use Rattle.macro_expand.proofs.TracedLemmas.{traced-none}
 use Rattle.expansion_rows.proofs.expansion_texts.first_macros.Goals as goal
 

@@ -1,4 +1,4 @@
-use Rattle.macro_expand.specs.Live.{table_of}
+use Rattle.macro_body.specs.Live.{table_of}
 use Rattle.macro_expand.proofs.TracedLemmas.{traced-without_macro}
 use Rattle.expansion_rows.proofs.expansion_texts.undefine_line.Goals as goal
 

@@ -1,4 +1,4 @@
-use Rattle.include_tree.proofs.CandidateLemmas.{list_all-candidates}
+use Rattle.source_files.proofs.CandidateLemmas.{list_all-candidates}
 use Rattle.include_tree.proofs.including.asked_by.Goals as goal
 
 pub returns-clause-can : goal.returns-clause-can

@@ -1,10 +1,10 @@
-use Rattle.include_tree.specs.Search.{search, searched}
-use Rattle.include_tree.specs.Answers.{fault_of}
-use Rattle.include_tree.specs.Sources.{opening_found}
-use Rattle.include_tree.proofs.TableLemmas.{earlier_found, reads-trans, reads-asked, reads-widened}
+use Rattle.source_files.specs.Search.{search, searched}
+use Rattle.source_files.specs.Answers.{fault_of}
+use Rattle.source_files.specs.Sources.{opening_found}
+use Rattle.source_files.proofs.TableLemmas.{earlier_found, reads-trans, reads-asked, reads-widened}
 use Rattle.std.proofs.Common.{◌≡◌, ℕ, ◌<◌, List, [], length, get_or, Some, refl, sym, ◌∙◌, ap}
-use Rattle.include_tree.proofs.SearchedLemmas.{get_or-default}
-use Rattle.include_tree.proofs.SourcesLemmas.{none-told, found-missing, found-opening}
+use Rattle.source_files.proofs.SearchedLemmas.{get_or-default}
+use Rattle.source_files.proofs.SourcesLemmas.{none-told, found-missing, found-opening}
 use Rattle.include_tree.proofs.including.open_asked.Goals as goal
 
 pub returns-in-Ok-Some-clause-reads : goal.returns-in-Ok-Some-clause-reads

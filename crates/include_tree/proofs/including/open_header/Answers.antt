@@ -1,6 +1,6 @@
-use Rattle.include_tree.specs.Sources.{source_at}
-use Rattle.include_tree.proofs.TableLemmas.{reads-refl}
-use Rattle.include_tree.proofs.SourcesLemmas.{header-asked}
+use Rattle.source_files.specs.Sources.{source_at}
+use Rattle.source_files.proofs.TableLemmas.{reads-refl}
+use Rattle.include_tree.proofs.GivenLemmas.{header-asked}
 use Rattle.include_tree.proofs.including.open_header.Goals as goal
 
 pub returns-in-Ok-clause-answer : goal.returns-in-Ok-clause-answer

@@ -1,6 +1,6 @@
 use Rattle.std.proofs.Common.{refl}
-use Rattle.include_tree.specs.SourceTexts.{source_in}
-use Rattle.include_tree.specs.Moments.{state_in}
+use Rattle.unit_steps.specs.SourceTexts.{source_in}
+use Rattle.unit_steps.specs.Moments.{state_in}
 use Rattle.include_tree.proofs.WalkingLemmas.{include-step, processed-rest}
 use Rattle.include_tree.proofs.item_steps.processed.Goals as goal
 

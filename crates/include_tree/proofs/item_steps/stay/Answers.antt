@@ -1,7 +1,7 @@
 use Rattle.std.proofs.Common.{sym, ◌∙◌}
-use Rattle.include_tree.specs.SourceTexts.{source_in}
+use Rattle.unit_steps.specs.SourceTexts.{source_in}
 use Rattle.include_tree.specs.ItemTexts.{item_in}
-use Rattle.include_tree.specs.Moments.{state_in}
+use Rattle.unit_steps.specs.Moments.{state_in}
 use Rattle.include_tree.proofs.WalkingLemmas.{stays-skipped, stays-step}
 use Rattle.include_tree.proofs.item_steps.stay.Goals as goal
 

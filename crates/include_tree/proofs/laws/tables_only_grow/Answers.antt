@@ -1,5 +1,5 @@
-use Rattle.include_tree.proofs.TableLemmas.{earlier_found}
-use Rattle.include_tree.proofs.AgreeLemmas.{some_source}
+use Rattle.source_files.proofs.TableLemmas.{earlier_found}
+use Rattle.source_files.proofs.AgreeLemmas.{some_source}
 use Rattle.include_tree.proofs.laws.tables_only_grow.Goals as goal
 
 pub returns : goal.returns

@@ -1,9 +1,9 @@
 use Rattle.std.proofs.Common.{◌∷◌, false, Ok, sym, ◌∙◌, ap}
 use Rattle.include_tree.specs.Sections.{Group, section}
-use Rattle.include_tree.specs.Answers.{fault_of}
-use Rattle.include_tree.specs.SourceTexts.{source_in}
+use Rattle.source_files.specs.Answers.{fault_of}
+use Rattle.unit_steps.specs.SourceTexts.{source_in}
 use Rattle.include_tree.specs.ItemTexts.{item_in}
-use Rattle.include_tree.specs.Moments.{state_in}
+use Rattle.unit_steps.specs.Moments.{state_in}
 use Rattle.include_tree.proofs.WalkingLemmas.{asked-step, asked-step_fault}
 use Rattle.include_tree.proofs.section_lines.asked_group.Goals as goal
 

@@ -1,7 +1,7 @@
 use Rattle.std.proofs.Common.{ap}
-use Rattle.include_tree.specs.SourceTexts.{source_in}
+use Rattle.unit_steps.specs.SourceTexts.{source_in}
 use Rattle.include_tree.specs.ItemTexts.{item_in}
-use Rattle.include_tree.specs.Moments.{state_in}
+use Rattle.unit_steps.specs.Moments.{state_in}
 use Rattle.include_tree.specs.OpenSections.{group_of}
 use Rattle.include_tree.proofs.WalkingLemmas.{skipped-on}
 use Rattle.include_tree.proofs.section_lines.next_group.Goals as goal

@@ -1,9 +1,9 @@
 use Rattle.std.proofs.Common.{List, ◌∷◌, false, Ok, sym, ◌∙◌, ap}
 use Rattle.include_tree.specs.Sections.{Group, Section, section}
-use Rattle.include_tree.specs.Answers.{fault_of}
-use Rattle.include_tree.specs.SourceTexts.{source_in}
+use Rattle.source_files.specs.Answers.{fault_of}
+use Rattle.unit_steps.specs.SourceTexts.{source_in}
 use Rattle.include_tree.specs.ItemTexts.{item_in}
-use Rattle.include_tree.specs.Moments.{state_in}
+use Rattle.unit_steps.specs.Moments.{state_in}
 use Rattle.include_tree.proofs.WalkingLemmas.{opens-skipped, opens-step, opens-step_fault}
 use Rattle.include_tree.proofs.section_lines.open_section.Goals as goal
 

@@ -1,6 +1,6 @@
 use Rattle.std.proofs.Common.{sym, ◌∙◌}
-use Rattle.include_tree.specs.SourceTexts.{source_in}
-use Rattle.include_tree.specs.Moments.{state_in}
+use Rattle.unit_steps.specs.SourceTexts.{source_in}
+use Rattle.unit_steps.specs.Moments.{state_in}
 use Rattle.include_tree.specs.OpenSections.{group_of}
 use Rattle.include_tree.proofs.WalkingLemmas.{skipped-only}
 use Rattle.include_tree.proofs.section_lines.reach_alive.Goals as goal

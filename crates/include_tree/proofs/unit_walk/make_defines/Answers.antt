@@ -1,5 +1,5 @@
 use Rattle.std.proofs.Common.{◌<◌, ◌^◌, ◌∙◌, refl, arith}
-use Rattle.include_tree.proofs.TableLemmas.{widens_refl}
+use Rattle.source_files.proofs.TableLemmas.{widens_refl}
 use Rattle.include_tree.proofs.UnitLemmas.{defines-text}
 use Rattle.include_tree.proofs.unit_walk.make_defines.Goals as goal
 

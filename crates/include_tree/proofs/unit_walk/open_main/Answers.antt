@@ -1,7 +1,7 @@
 use Rattle.std.proofs.Common.{refl}
-use Rattle.include_tree.specs.Answers.{fault_of}
-use Rattle.include_tree.proofs.TableLemmas.{earlier_found, reads-trans, reads-asked, reads-widened}
-use Rattle.include_tree.proofs.SourcesLemmas.{none-told}
+use Rattle.source_files.specs.Answers.{fault_of}
+use Rattle.source_files.proofs.TableLemmas.{earlier_found, reads-trans, reads-asked, reads-widened}
+use Rattle.source_files.proofs.SourcesLemmas.{none-told}
 use Rattle.include_tree.proofs.UnitLemmas.{main_opening, gives-main}
 use Rattle.include_tree.proofs.unit_walk.open_main.Goals as goal
 

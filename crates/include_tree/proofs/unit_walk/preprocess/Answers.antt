@@ -1,14 +1,16 @@
 use Rattle.std.proofs.Common.{◌≡◌, ℕ, ◌+◌, length, Ok, Err, sym, subst, ◌∙◌, ap}
 use Rattle.std.specs.Prelude.{IfSome}
-use Rattle.include_tree.specs.Files.{Table, Carried, carried}
-use Rattle.include_tree.specs.Laws.{AreFound, IsGrown, StaysHeld}
+use Rattle.source_files.specs.Files.{Table, Carried, carried}
+use Rattle.source_files.specs.Tables.{AreFound, IsGrown, StaysHeld}
 use Rattle.include_tree.specs.Unit.{main_file}
-use Rattle.include_tree.specs.Keeping.{put_after}
-use Rattle.include_tree.specs.Moments.{state_in}
-use Rattle.include_tree.specs.Answers.{fault_of, with_text}
-use Rattle.include_tree.specs.Texts.{UnitTextValue, preprocessed}
-use Rattle.include_tree.specs.Sources.{unit_context}
-use Rattle.include_tree.proofs.TableLemmas.{grown_refl, stays-refl, earlier_found, reads-trans}
+use Rattle.unit_steps.specs.Keeping.{put_after}
+use Rattle.unit_steps.specs.Moments.{state_in}
+use Rattle.source_files.specs.Answers.{fault_of}
+use Rattle.include_tree.specs.Preprocessed.{with_text}
+use Rattle.unit_steps.specs.Texts.{UnitTextValue}
+use Rattle.include_tree.specs.Preprocessed.{preprocessed}
+use Rattle.include_tree.specs.GivenFiles.{unit_context}
+use Rattle.source_files.proofs.TableLemmas.{grown_refl, stays-refl, earlier_found, reads-trans}
 use Rattle.include_tree.proofs.UnitLemmas.{with_defines, unit-done, unit-first_refused, unit-next_refused}
 use Rattle.include_tree.proofs.unit_walk.preprocess.Goals as goal
 

@@ -1,9 +1,9 @@
 use Rattle.std.proofs.Common.{◌∙◌}
-use Rattle.include_tree.specs.Files.{asked}
+use Rattle.source_files.specs.Files.{asked}
 use Rattle.include_tree.specs.Walk.{file_items}
-use Rattle.include_tree.specs.Moments.{state_in}
-use Rattle.include_tree.specs.Sources.{unit_context}
-use Rattle.include_tree.proofs.TableLemmas.{earlier_found, reads-trans}
+use Rattle.unit_steps.specs.Moments.{state_in}
+use Rattle.include_tree.specs.GivenFiles.{unit_context}
+use Rattle.source_files.proofs.TableLemmas.{earlier_found, reads-trans}
 use Rattle.include_tree.proofs.UnitLemmas.{outer-walked, outer-refused, main_opening, unit-asked}
 use Rattle.include_tree.proofs.unit_walk.walk_main.Goals as goal
 

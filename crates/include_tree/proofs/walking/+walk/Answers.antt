@@ -1,10 +1,10 @@
 use Rattle.std.proofs.Common.{◌<◌, None, Ok, Err, is_some, refl, ◌∙◌, ap, arith}
 use Rattle.std.specs.Prelude.{IsSome}
 use Rattle.cs_base.specs.Outside.{FilesTold}
-use Rattle.include_tree.specs.Answers.{fault_of}
-use Rattle.include_tree.specs.Moments.{state_in}
-use Rattle.include_tree.specs.Sources.{source_at}
-use Rattle.include_tree.proofs.TableLemmas.{earlier_found, reads-refl, reads-trans}
+use Rattle.source_files.specs.Answers.{fault_of}
+use Rattle.unit_steps.specs.Moments.{state_in}
+use Rattle.source_files.specs.Sources.{source_at}
+use Rattle.source_files.proofs.TableLemmas.{earlier_found, reads-refl, reads-trans}
 use Rattle.include_tree.proofs.StayingLemmas.{source-same}
 use Rattle.include_tree.proofs.WalksLemmas.{item-told, item-included, include-fault, include-open, enter-done, enter-fault, walk-starts, walk-goes, walk-faulted, walk-ends}
 use Rattle.include_tree.proofs.walking.+walk.Goals as goal

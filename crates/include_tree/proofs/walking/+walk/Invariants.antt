@@ -1,12 +1,13 @@
 use Rattle.std.proofs.Common.{◌≡◌, ◌+◌, ◌*◌, drop}
 use Rattle.std.specs.Prelude.{IfSome}
-use Rattle.include_tree.specs.Files.{Source}
+use Rattle.source_files.specs.Files.{Source}
 use Rattle.include_tree.specs.Walk.{items_in, walk, file_items}
-use Rattle.include_tree.specs.Laws.{AreFound}
-use Rattle.include_tree.specs.Answers.{ReadsOn}
-use Rattle.include_tree.specs.Keeping.{put_after}
-use Rattle.include_tree.specs.Moments.{state_in, IsAble}
-use Rattle.include_tree.specs.Sources.{source_at, unit_context}
+use Rattle.source_files.specs.Tables.{AreFound}
+use Rattle.source_files.specs.Answers.{ReadsOn}
+use Rattle.unit_steps.specs.Keeping.{put_after}
+use Rattle.unit_steps.specs.Moments.{state_in, IsAble}
+use Rattle.source_files.specs.Sources.{source_at}
+use Rattle.include_tree.specs.GivenFiles.{unit_context}
 use Rattle.include_tree.specs.Walking.{inner_in}
 use Rattle.include_tree.proofs.walking.+walk.Given as goal
 

@@ -1,9 +1,9 @@
 use Rattle.std.proofs.Common.{◌≡◌, Ok}
-use Rattle.include_tree.specs.State.{State}
+use Rattle.unit_steps.specs.State.{State}
 use Rattle.include_tree.specs.Walk.{file_end}
-use Rattle.include_tree.specs.Texts.{UnitTextValue}
-use Rattle.include_tree.specs.Keeping.{put_after}
-use Rattle.include_tree.specs.Sources.{source_at}
+use Rattle.unit_steps.specs.Texts.{UnitTextValue}
+use Rattle.unit_steps.specs.Keeping.{put_after}
+use Rattle.source_files.specs.Sources.{source_at}
 use Rattle.include_tree.proofs.StayingLemmas.{some_all}
 use Rattle.include_tree.proofs.WalkedLemmas.{none-open, end-none}
 use Rattle.include_tree.proofs.walking.file_end.Goals as goal

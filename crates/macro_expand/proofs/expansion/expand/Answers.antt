@@ -1,8 +1,8 @@
 use Rattle.std.proofs.Common.{[], ◌∙◌}
 use Rattle.std.proofs.lemmas.Result.{err_from_is_err_and}
-use Rattle.macro_expand.specs.Live.{table_of}
+use Rattle.macro_body.specs.Live.{table_of}
 use Rattle.macro_expand.specs.Expansion.{expansion, whole}
-use Rattle.macro_expand.specs.Kept.{finished, expanded_kept}
+use Rattle.macro_body.specs.Kept.{finished, expanded_kept}
 use Rattle.macro_expand.proofs.ListSound.{run_sound, run_few}
 use Rattle.macro_expand.proofs.TurnLemmas.{refused_more, expansion-fault, expansion-given}
 use Rattle.macro_expand.proofs.expansion.expand.Goals as goal

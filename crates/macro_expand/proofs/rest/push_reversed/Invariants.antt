@@ -1,5 +1,5 @@
 use Rattle.std.proofs.Common.{◌≡◌, ◌++◌, map, reverse, vec_len}
-use Rattle.macro_expand.specs.Hides.{hide_more}
+use Rattle.macro_body.specs.Hides.{hide_more}
 use Rattle.macro_expand.proofs.rest.push_reversed.Given as goal
 
 abbrev pub invariant-loop-tok : goal.invariant-loop-tok

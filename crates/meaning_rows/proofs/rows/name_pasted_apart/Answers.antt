@@ -1,6 +1,7 @@
 use Rattle.std.proofs.Common.{refl}
 use Rattle.c99_read.specs.Reading.{read_within, whole, take_one, at_end, enter}
-use Rattle.c99_read.specs.State.{spelled_class, base_class, class_at, acted, opened, closed}
+use Rattle.c99_read.specs.State.{class_at, acted, opened, closed}
+use Rattle.c99_grammar.specs.TokenClasses.{spelled_class, base_class}
 use Rattle.scope_bind.specs.Bound.{binding_of}
 use Rattle.scope_bind.specs.Walk.{walked}
 use Rattle.rename_premise_laws.specs.Renamings.{spell_from}

@@ -1,4 +1,4 @@
-use Rattle.c99_read.specs.Standard.{c99}
+use Rattle.c99_grammar.specs.Standard.{c99}
 use Rattle.c99_read.specs.State.{base_at, is_identifier}
 use Rattle.read_laws.proofs.NamesRead.{names_are_read}
 use Rattle.read_laws.proofs.bindings.read_names_are_identifiers.Goals as goal

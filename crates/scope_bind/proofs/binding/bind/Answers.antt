@@ -1,7 +1,7 @@
 use Rattle.std.proofs.Common.{subst, ap}
 use Rattle.cs_base.specs.Answer.{Gives}
 use Rattle.scope_bind.specs.Bound.{Bound}
-use Rattle.scope_bind.specs.Faults.{fault_of}
+use Rattle.c_types.specs.Faults.{fault_of}
 use Rattle.scope_bind.proofs.BoundLemmas.{binding-after}
 use Rattle.scope_bind.proofs.binding.bind.Goals as goal
 

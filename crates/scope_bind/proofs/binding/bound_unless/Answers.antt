@@ -1,5 +1,5 @@
 use Rattle.std.proofs.Common.{sym}
-use Rattle.scope_bind.specs.Faults.{fault_of}
+use Rattle.c_types.specs.Faults.{fault_of}
 use Rattle.scope_bind.proofs.BoundLemmas.{answer-fault}
 use Rattle.scope_bind.proofs.binding.bound_unless.Goals as goal
 

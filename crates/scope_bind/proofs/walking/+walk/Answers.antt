@@ -1,11 +1,11 @@
 use Rattle.std.proofs.Common.{sym, ap, ◌+◌, ◌∙◌, ◌++◌, arith}
 use Rattle.std.proofs.lemmas.List.{append-nil}
 use Rattle.std.proofs.lemmas.Result.{on_ok_weaker}
-use Rattle.scope_bind.specs.Children.{from_child}
-use Rattle.scope_bind.specs.Frames.{state}
-use Rattle.scope_bind.specs.Lists.{calls_in, lists_in, bare_in}
+use Rattle.c_types.specs.Children.{from_child}
+use Rattle.name_chains.specs.Frames.{state}
+use Rattle.c_types.specs.Lists.{calls_in, lists_in, bare_in}
 use Rattle.scope_bind.specs.Walk.{walked}
-use Rattle.scope_bind.proofs.ChildWalks.{from_child-end}
+use Rattle.c_types.proofs.ChildWalks.{from_child-end}
 use Rattle.scope_bind.proofs.WalkLemmas.{walked-end, walked-token, walked-node, known-left}
 use Rattle.scope_bind.proofs.walking.+walk.Goals as goal
 

@@ -1,8 +1,8 @@
 use Rattle.std.proofs.Common.{◌≡◌, ◌+◌, ◌*◌, ◌++◌}
 use Rattle.c99_tree.specs.Tree.{size_of}
-use Rattle.scope_bind.specs.Children.{from_child}
-use Rattle.scope_bind.specs.Frames.{state}
-use Rattle.scope_bind.specs.Lists.{calls_in, lists_in, bare_in}
+use Rattle.c_types.specs.Children.{from_child}
+use Rattle.name_chains.specs.Frames.{state}
+use Rattle.c_types.specs.Lists.{calls_in, lists_in, bare_in}
 use Rattle.scope_bind.specs.Walk.{walked}
 use Rattle.scope_bind.proofs.walking.+walk.Given as goal
 

@@ -1,7 +1,7 @@
 use Rattle.std.proofs.Common.{◌≡◌, ◌+◌, drop, length}
 use Rattle.std.specs.Prelude.{IfSome}
-use Rattle.include_tree.specs.Files.{Source, source_of}
-use Rattle.include_tree.specs.Laws.{AreFound, HasEachOnce}
+use Rattle.source_files.specs.Files.{Source, source_of}
+use Rattle.source_files.specs.Tables.{AreFound, HasEachOnce}
 use Rattle.ws_core.specs.Analysis.{analysed_from}
 use Rattle.ws_core.specs.Accepting.{units_of}
 use Rattle.ws_core.specs.Carrying.{IsFresh}

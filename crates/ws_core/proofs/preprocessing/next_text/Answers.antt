@@ -2,8 +2,8 @@ use Rattle.std.proofs.Common.{◌<◌, ◌^◌, sym, subst, arith}
 use Rattle.std.specs.Prelude.{Result}
 use Rattle.cs_base.specs.Answer.{Gives}
 use Rattle.cs_base.specs.Outside.{ReadsOnly}
-use Rattle.include_tree.specs.Answers as pre
-use Rattle.include_tree.specs.Texts.{UnitTextValue, preprocessed}
+use Rattle.unit_steps.specs.Texts.{UnitTextValue}
+use Rattle.include_tree.specs.Preprocessed.{with_text, preprocessed}
 use Rattle.ws_core.specs.declared.analyse_fault.AnalyseFault.{AnalyseFault}
 use Rattle.ws_core.specs.Texts.{unit_with}
 use Rattle.ws_core.specs.Answers.{fault_of}
@@ -16,9 +16,9 @@ returns-clause-reads g c = record { grown = c.preprocess-answered.ensures.grown;
 pub returns-clause-answer : goal.returns-clause-answer
 returns-clause-answer g c = λ fresh source found.
     let few : c.args.number < 2 ^ 32 = omega arith in
-    subst (λ (r : Result UnitTextValue AnalyseFault). Gives (pre.with_text c.preprocess-answered.new.cache) fault_of r (unit_with source c.args.number c.args.unit.now c.args.cache.now))
+    subst (λ (r : Result UnitTextValue AnalyseFault). Gives (with_text c.preprocess-answered.new.cache) fault_of r (unit_with source c.args.number c.args.unit.now c.args.cache.now))
     (sym c.in_its_unit.ensures)
-    (gives_in (pre.with_text c.preprocess-answered.new.cache) c.args.number c.preprocess-answered.result (preprocessed source c.args.number c.args.unit.now c.args.cache.now)
+    (gives_in (with_text c.preprocess-answered.new.cache) c.args.number c.preprocess-answered.result (preprocessed source c.args.number c.args.unit.now c.args.cache.now)
     (c.preprocess-answered.ensures.answer (fresh c.args.number (omega arith) few) source found))
 
 pub returns-clause-fresh : goal.returns-clause-fresh

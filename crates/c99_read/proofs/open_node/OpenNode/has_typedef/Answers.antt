@@ -1,7 +1,7 @@
 use Rattle.std.proofs.Common.{sym, ap, ◌∙◌}
 use Rattle.c99_read.specs.OpenNode.{with_last}
 use Rattle.c99_read.specs.State.{has_typedef}
-use Rattle.c99_read.proofs.AmongLemmas.{in_first, in_second}
+use Rattle.c99_grammar.proofs.AmongLemmas.{in_first, in_second}
 use Rattle.c99_read.proofs.OpenNodeLemmas.{has_typedef-put}
 use Rattle.c99_read.proofs.open_node.OpenNode.has_typedef.Goals as goal
 

@@ -1,5 +1,5 @@
 use Rattle.std.proofs.Common.{ap, ◌∙◌}
-use Rattle.c99_read.specs.Standard.{c99}
+use Rattle.c99_grammar.specs.Standard.{c99}
 use Rattle.c99_read.specs.State.{last_identifier}
 use Rattle.c99_read.proofs.OpenNodeLemmas.{last_identifier-with}
 use Rattle.c99_read.proofs.open_node.OpenNode.tokens.Goals as goal

@@ -2,7 +2,8 @@ use Rattle.std.proofs.Common.{sym, ap, subst, ◌∙◌, arith}
 use Rattle.c99_read.specs.Answer.{Reads}
 use Rattle.c99_read.specs.Reading.{Step}
 use Rattle.std.specs.Option.{option_map}
-use Rattle.c99_read.specs.ItemsOf.{item_of, test_of, choice_of}
+use Rattle.c99_grammar.specs.ItemsOf.{item_of, test_of}
+use Rattle.c99_read.specs.Choosing.{choice_of}
 use Rattle.c99_read.proofs.RowLemmas.{row-ready}
 use Rattle.c99_read.proofs.TurnLemmas.{many-turn, many-falls, read-chosen, read-none}
 use Rattle.c99_read.proofs.reader.Reader.+reading.Goals as goal

@@ -1,9 +1,9 @@
 use Rattle.std.proofs.Common.{◌≡◌, ◌+◌, ◌-◌, ◌*◌, max}
-use Rattle.c99_read.specs.Items.{many}
-use Rattle.c99_read.specs.ItemsOf.{item_of, test_of}
+use Rattle.c99_grammar.specs.Items.{many}
+use Rattle.c99_grammar.specs.ItemsOf.{item_of, test_of}
 use Rattle.c99_read.specs.Levels.{level_of, height, size}
 use Rattle.c99_read.specs.Reading.{step, whole, tokens_left}
-use Rattle.c99_read.specs.Standard.{c99}
+use Rattle.c99_grammar.specs.Standard.{c99}
 use Rattle.c99_read.proofs.reader.Reader.+reading.Given as goal
 
 abbrev pub decreases-produce : goal.decreases-produce

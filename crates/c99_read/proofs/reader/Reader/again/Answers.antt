@@ -1,7 +1,7 @@
 use Rattle.std.proofs.Common.{ℕ, ◌≡◌, length, Ok, Err, ap, ◌∙◌, arith}
-use Rattle.c99_read.specs.Items.{scope}
+use Rattle.c99_grammar.specs.Items.{scope}
 use Rattle.c99_read.specs.Reading.{Step}
-use Rattle.c99_read.specs.Standard.{c99}
+use Rattle.c99_grammar.specs.Standard.{c99}
 use Rattle.c99_read.specs.State.{State, acted}
 use Rattle.c99_read.proofs.reader.Reader.again.Goals as goal
 

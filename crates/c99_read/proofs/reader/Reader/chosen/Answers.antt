@@ -1,5 +1,5 @@
 use Rattle.std.proofs.Common.{◌+◌, sym, ap, ◌∙◌, arith}
-use Rattle.c99_read.specs.ItemsOf.{chosen}
+use Rattle.c99_read.specs.Choosing.{chosen}
 use Rattle.c99_read.proofs.TurnLemmas.{chosen-here, chosen-behind, chosen-end}
 use Rattle.c99_read.proofs.reader.Reader.chosen.Goals as goal
 

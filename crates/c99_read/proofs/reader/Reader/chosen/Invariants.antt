@@ -1,5 +1,6 @@
 use Rattle.std.proofs.Common.{◌≡◌, ◌+◌, drop, map}
-use Rattle.c99_read.specs.ItemsOf.{alternative_of, chosen}
+use Rattle.c99_grammar.specs.ItemsOf.{alternative_of}
+use Rattle.c99_read.specs.Choosing.{chosen}
 use Rattle.c99_read.proofs.reader.Reader.chosen.Given as goal
 
 abbrev pub invariant-turns : goal.invariant-turns

@@ -1,5 +1,5 @@
 use Rattle.std.proofs.Common.{◌+◌, ap, ◌∙◌}
-use Rattle.c99_read.specs.Standard.{c99}
+use Rattle.c99_grammar.specs.Standard.{c99}
 use Rattle.c99_read.specs.State.{class_at}
 use Rattle.c99_read.proofs.AheadLemmas.{class_at-among}
 use Rattle.c99_read.proofs.reader.Reader.class_behind.Goals as goal

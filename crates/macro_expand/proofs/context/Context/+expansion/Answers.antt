@@ -1,9 +1,9 @@
 use Rattle.std.proofs.Common.{◌+◌, ◌<◌, [], ◌∷◌, length, sym, ◌∙◌, arith, Vec, Global}
 use Rattle.std.proofs.lemmas.Result.{err_from_is_err_and}
-use Rattle.macro_expand.specs.declared.hidden.HiddenTok.{HiddenTok}
+use Rattle.macro_body.specs.declared.hidden.HiddenTok.{HiddenTok}
 use Rattle.macro_expand.specs.Calls.{call_from, commas_of}
 use Rattle.macro_expand.specs.Expansion.{full_from, whole}
-use Rattle.macro_expand.specs.Kept.{finished}
+use Rattle.macro_body.specs.Kept.{finished}
 use Rattle.macro_expand.specs.Going.{setting_of, brought, full_of, all_full, read_from}
 use Rattle.macro_expand.proofs.ListSound.{put_sound, out_sound, lists_sound, fitting_arguments, turn_fits, turn_few}
 use Rattle.macro_expand.proofs.TurnLemmas.{refused_more, stays-goes, alone-goes, object-goes, object-faults, Calling, call-unread, call-goes, call-faults, whole-turn, whole-end}

@@ -1,8 +1,8 @@
 use Rattle.std.proofs.Common.{◌≡◌, ◌+◌, ◌-◌, ◌*◌, ◌<◌, ◌≤◌, ◌^◌, length, drop, [], IsTrue}
 use Rattle.std.specs.List.{list_all}
 use Rattle.macro_expand.specs.Expansion.{full_from, whole}
-use Rattle.macro_expand.specs.Kept.{finished}
-use Rattle.macro_expand.specs.Sound.{all_sound}
+use Rattle.macro_body.specs.Kept.{finished}
+use Rattle.macro_body.specs.Sound.{all_sound}
 use Rattle.macro_expand.specs.Going.{setting_of, whole_in, all_full}
 use Rattle.macro_expand.proofs.context.Context.+expansion.Given as goal
 

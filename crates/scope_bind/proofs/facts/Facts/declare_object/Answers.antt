@@ -2,11 +2,11 @@ use Rattle.std.proofs.Common.{ℕ, ◌≡◌, List, Some, ap, ◌∙◌}
 use Rattle.std.proofs.lemmas.Result.{IfOk-equal}
 use Rattle.cs_base.specs.Token.{Token}
 use Rattle.c99_tree.specs.Tree.{Forest}
-use Rattle.scope_bind.specs.declared.frames.Frame.{Frame}
+use Rattle.c_types.specs.declared.frames.Frame.{Frame}
 use Rattle.scope_bind.specs.declared.ordinary.Declared.{Declared}
-use Rattle.scope_bind.specs.Types.{CType}
-use Rattle.scope_bind.specs.Trees.{last_token, declarator_type}
-use Rattle.scope_bind.specs.Declarations.{Facts}
+use Rattle.c_types.specs.Types.{CType}
+use Rattle.c_types.specs.Trees.{last_token, declarator_type}
+use Rattle.c_types.specs.Declarations.{Facts}
 use Rattle.scope_bind.specs.Known.{known}
 use Rattle.scope_bind.specs.Ordinary.{declared, new_object, with_object}
 use Rattle.scope_bind.proofs.facts.Facts.declare_object.Goals as goal

@@ -2,15 +2,15 @@ use Rattle.std.proofs.Common.{ℕ, ◌≡◌, List, Option, None, Some, refl, sy
 use Rattle.std.specs.Option.{option_map}
 use Rattle.std.proofs.lemmas.Result.{IfOk-weaker}
 use Rattle.cs_base.specs.Token.{Token}
-use Rattle.scope_bind.specs.declared.declarations.Declaration.{Declaration}
-use Rattle.scope_bind.specs.declared.frames.Position.{Position}
-use Rattle.scope_bind.specs.declared.frames.Position.TheVariants.{Numbered as numbered}
-use Rattle.scope_bind.specs.Types.{CType}
-use Rattle.scope_bind.specs.Tags.{number_in}
-use Rattle.scope_bind.specs.Declarations.{Facts}
-use Rattle.scope_bind.specs.Members.{members_of, member_at}
-use Rattle.scope_bind.specs.Initializers.{position_of, designated_position}
-use Rattle.scope_bind.specs.Places.{position_by}
+use Rattle.c_types.specs.declared.declarations.Declaration.{Declaration}
+use Rattle.c_types.specs.declared.frames.Position.{Position}
+use Rattle.c_types.specs.declared.frames.Position.TheVariants.{Numbered as numbered}
+use Rattle.c_types.specs.Types.{CType}
+use Rattle.c_types.specs.Tags.{number_in}
+use Rattle.c_types.specs.Declarations.{Facts}
+use Rattle.name_chains.specs.Members.{members_of, member_at}
+use Rattle.name_chains.specs.Initializers.{position_of, designated_position}
+use Rattle.name_chains.specs.Places.{position_by}
 use Rattle.scope_bind.proofs.PlaceLemmas.{place-number}
 use Rattle.scope_bind.proofs.facts.Facts.designated_position.Goals as goal
 

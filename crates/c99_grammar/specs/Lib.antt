@@ -1,0 +1,12 @@
+-- What the public contracts rest on.
+pub mod Classes
+pub mod Spellings
+pub mod Items
+pub mod Grammar
+pub mod First
+pub mod TokenClasses
+pub mod Starting
+pub mod Standard
+pub mod FirstSets
+pub mod Words
+pub mod ItemsOf

@@ -1,0 +1,40 @@
+-- Which class a spelling has: keywords (ISO/IEC 9899:1999, 6.4.1) and punctuators (6.4.6).
+use Rattle.std.specs.Prelude.{ℕ, List, [], ◌∷◌, codes}
+use Rattle.c99_grammar.specs.declared.classes.Class.{Class}
+use Rattle.c99_grammar.specs.declared.classes.Class.TheVariants.{Auto, Break, Case, Char, Const, Continue, Default, Do, Double, Else, Enum, Extern, Float, For, Goto, If, Inline, Int, Long, Register, Restrict, Return, Short, Signed, Sizeof, Static, Struct, Switch, Typedef, Union, Unsigned, Void, Volatile, While, BoolWord, ComplexWord, ImaginaryWord, LeftBracket, RightBracket, LeftParen, RightParen, LeftBrace, RightBrace, Dot, Arrow, PlusPlus, MinusMinus, Amp, Star, Plus, Minus, Tilde, Bang, Slash, Percent, ShiftLeft, ShiftRight, Less, Greater, LessEq, GreaterEq, EqEq, BangEq, Caret, Bar, AmpAmp, BarBar, Question, Colon, Semicolon, Ellipsis, Eq, StarEq, SlashEq, PercentEq, PlusEq, MinusEq, ShiftLeftEq, ShiftRightEq, AmpEq, CaretEq, BarEq, Comma, Hash, HashHash}
+
+-- a spelling and its class
+abbrev pub Spelled : Type 0
+Spelled = List ℕ × Class
+
+-- the keywords of C99
+abbrev pub keywords : List Spelled
+keywords =
+    (codes "auto", Auto) ∷ (codes "break", Break) ∷ (codes "case", Case) ∷ (codes "char", Char) ∷
+    (codes "const", Const) ∷ (codes "continue", Continue) ∷ (codes "default", Default) ∷ (codes "do", Do) ∷
+    (codes "double", Double) ∷ (codes "else", Else) ∷ (codes "enum", Enum) ∷ (codes "extern", Extern) ∷
+    (codes "float", Float) ∷ (codes "for", For) ∷ (codes "goto", Goto) ∷ (codes "if", If) ∷
+    (codes "inline", Inline) ∷ (codes "int", Int) ∷ (codes "long", Long) ∷ (codes "register", Register) ∷
+    (codes "restrict", Restrict) ∷ (codes "return", Return) ∷ (codes "short", Short) ∷ (codes "signed", Signed) ∷
+    (codes "sizeof", Sizeof) ∷ (codes "static", Static) ∷ (codes "struct", Struct) ∷ (codes "switch", Switch) ∷
+    (codes "typedef", Typedef) ∷ (codes "union", Union) ∷ (codes "unsigned", Unsigned) ∷ (codes "void", Void) ∷
+    (codes "volatile", Volatile) ∷ (codes "while", While) ∷ (codes "_Bool", BoolWord) ∷ (codes "_Complex", ComplexWord) ∷
+    (codes "_Imaginary", ImaginaryWord) ∷ []
+
+-- the punctuators; paragraph 3 of 6.4.6 says what the last six stand for
+abbrev pub punctuators : List Spelled
+punctuators =
+    (codes "[", LeftBracket) ∷ (codes "]", RightBracket) ∷ (codes "(", LeftParen) ∷ (codes ")", RightParen) ∷
+    (codes "{", LeftBrace) ∷ (codes "}", RightBrace) ∷ (codes ".", Dot) ∷ (codes "->", Arrow) ∷
+    (codes "++", PlusPlus) ∷ (codes "--", MinusMinus) ∷ (codes "&", Amp) ∷ (codes "*", Star) ∷
+    (codes "+", Plus) ∷ (codes "-", Minus) ∷ (codes "~", Tilde) ∷ (codes "!", Bang) ∷
+    (codes "/", Slash) ∷ (codes "%", Percent) ∷ (codes "<<", ShiftLeft) ∷ (codes ">>", ShiftRight) ∷
+    (codes "<", Less) ∷ (codes ">", Greater) ∷ (codes "<=", LessEq) ∷ (codes ">=", GreaterEq) ∷
+    (codes "==", EqEq) ∷ (codes "!=", BangEq) ∷ (codes "^", Caret) ∷ (codes "|", Bar) ∷
+    (codes "&&", AmpAmp) ∷ (codes "||", BarBar) ∷ (codes "?", Question) ∷ (codes ":", Colon) ∷
+    (codes ";", Semicolon) ∷ (codes "...", Ellipsis) ∷ (codes "=", Eq) ∷ (codes "*=", StarEq) ∷
+    (codes "/=", SlashEq) ∷ (codes "%=", PercentEq) ∷ (codes "+=", PlusEq) ∷ (codes "-=", MinusEq) ∷
+    (codes "<<=", ShiftLeftEq) ∷ (codes ">>=", ShiftRightEq) ∷ (codes "&=", AmpEq) ∷ (codes "^=", CaretEq) ∷
+    (codes "|=", BarEq) ∷ (codes ",", Comma) ∷ (codes "#", Hash) ∷ (codes "##", HashHash) ∷
+    (codes "<:", LeftBracket) ∷ (codes ":>", RightBracket) ∷ (codes "<%", LeftBrace) ∷ (codes "%>", RightBrace) ∷
+    (codes "%:", Hash) ∷ (codes "%:%:", HashHash) ∷ []

@@ -1,0 +1,389 @@
+// With which classes each production starts.
+ghost use Rattle.std.specs.Prelude.{◌≡◌, ◌∷◌};
+ghost use Rattle.c99_tree.specs.declared.production.Production.TheVariants.{TranslationUnit, ExtRest, FunBody, Main, StructSpec, SuRest, Mdecl, EnumSpec, Enumerators, Pointer, Direct, Suffix, Params, Pdecl, Pdirect, Adecl, Designator, SizeLit, Primary, Post, BlockItem, ForInit};
+ghost use Rattle.c99_grammar.specs.Classes.{among};
+ghost use Rattle.c99_grammar.specs.First.{first, labels, expressions};
+ghost use Rattle.c99_grammar.specs.declared.classes.Class.TheVariants.{Semicolon};
+
+use crate::classes::Class;
+use crate::first_sets::{
+    starts_assignment, starts_declarator, starts_every, starts_expression, starts_initializer,
+    starts_initializer_item, starts_member, starts_modifier, starts_qualifier, starts_specifier,
+    starts_statement, starts_word,
+};
+use c99_tree::Production;
+
+fn starts_translation_unit(class: Class) -> bool
+    ensures { result ≡ among (first TranslationUnit) class }
+{
+    matches!(
+        class,
+        Class::Semicolon
+            | Class::End
+            | Class::Auto
+            | Class::Char
+            | Class::Const
+            | Class::Double
+            | Class::Enum
+            | Class::Extern
+            | Class::Float
+            | Class::Inline
+            | Class::Int
+            | Class::Long
+            | Class::Register
+            | Class::Restrict
+            | Class::Short
+            | Class::Signed
+            | Class::Static
+            | Class::Struct
+            | Class::Typedef
+            | Class::Union
+            | Class::Unsigned
+            | Class::Void
+            | Class::Volatile
+            | Class::BoolWord
+            | Class::ComplexWord
+            | Class::ImaginaryWord
+            | Class::TypedefName
+    )
+}
+
+fn starts_ext_rest(class: Class) -> bool
+    ensures { result ≡ among (first ExtRest) class }
+{
+    matches!(
+        class,
+        Class::LeftParen | Class::Star | Class::Semicolon | Class::Identifier | Class::TypedefName
+    )
+}
+
+fn starts_fun_body(class: Class) -> bool
+    ensures { result ≡ among (first FunBody) class }
+{
+    matches!(
+        class,
+        Class::LeftBrace
+            | Class::Auto
+            | Class::Char
+            | Class::Const
+            | Class::Double
+            | Class::Enum
+            | Class::Extern
+            | Class::Float
+            | Class::Inline
+            | Class::Int
+            | Class::Long
+            | Class::Register
+            | Class::Restrict
+            | Class::Short
+            | Class::Signed
+            | Class::Static
+            | Class::Struct
+            | Class::Typedef
+            | Class::Union
+            | Class::Unsigned
+            | Class::Void
+            | Class::Volatile
+            | Class::BoolWord
+            | Class::ComplexWord
+            | Class::ImaginaryWord
+            | Class::TypedefName
+    )
+}
+
+fn starts_main(class: Class) -> bool
+    ensures { result ≡ among (first Main) class }
+{
+    matches!(
+        class,
+        Class::Char
+            | Class::Double
+            | Class::Enum
+            | Class::Float
+            | Class::Int
+            | Class::Long
+            | Class::Short
+            | Class::Signed
+            | Class::Struct
+            | Class::Union
+            | Class::Unsigned
+            | Class::Void
+            | Class::BoolWord
+            | Class::ComplexWord
+            | Class::ImaginaryWord
+            | Class::TypedefName
+    )
+}
+
+fn starts_struct_spec(class: Class) -> bool
+    ensures { result ≡ among (first StructSpec) class }
+{
+    matches!(class, Class::Struct | Class::Union)
+}
+
+fn starts_su_rest(class: Class) -> bool
+    ensures { result ≡ among (first SuRest) class }
+{
+    matches!(
+        class,
+        Class::LeftBrace | Class::Identifier | Class::TypedefName
+    )
+}
+
+fn starts_mdecl(class: Class) -> bool
+    ensures { result ≡ among (first Mdecl) class }
+{
+    matches!(
+        class,
+        Class::LeftParen | Class::Star | Class::Colon | Class::Identifier | Class::TypedefName
+    )
+}
+
+fn starts_enum_spec(class: Class) -> bool
+    ensures { result ≡ among (first EnumSpec) class }
+{
+    matches!(class, Class::Enum)
+}
+
+fn starts_enumerators(class: Class) -> bool
+    ensures { result ≡ among (first Enumerators) class }
+{
+    matches!(class, Class::Identifier | Class::TypedefName)
+}
+
+fn starts_pointer(class: Class) -> bool
+    ensures { result ≡ among (first Pointer) class }
+{
+    matches!(class, Class::Star)
+}
+
+fn starts_direct(class: Class) -> bool
+    ensures { result ≡ among (first Direct) class }
+{
+    matches!(
+        class,
+        Class::LeftParen | Class::Identifier | Class::TypedefName
+    )
+}
+
+fn starts_suffix(class: Class) -> bool
+    ensures { result ≡ among (first Suffix) class }
+{
+    matches!(class, Class::LeftBracket | Class::LeftParen)
+}
+
+fn starts_params(class: Class) -> bool
+    ensures { result ≡ among (first Params) class }
+{
+    matches!(
+        class,
+        Class::Identifier
+            | Class::Auto
+            | Class::Char
+            | Class::Const
+            | Class::Double
+            | Class::Enum
+            | Class::Extern
+            | Class::Float
+            | Class::Inline
+            | Class::Int
+            | Class::Long
+            | Class::Register
+            | Class::Restrict
+            | Class::Short
+            | Class::Signed
+            | Class::Static
+            | Class::Struct
+            | Class::Typedef
+            | Class::Union
+            | Class::Unsigned
+            | Class::Void
+            | Class::Volatile
+            | Class::BoolWord
+            | Class::ComplexWord
+            | Class::ImaginaryWord
+            | Class::TypedefName
+    )
+}
+
+fn starts_pdecl(class: Class) -> bool
+    ensures { result ≡ among (first Pdecl) class }
+{
+    matches!(
+        class,
+        Class::LeftBracket | Class::LeftParen | Class::Star | Class::Identifier | Class::TypedefName
+    )
+}
+
+fn starts_pdirect(class: Class) -> bool
+    ensures { result ≡ among (first Pdirect) class }
+{
+    matches!(
+        class,
+        Class::LeftBracket | Class::LeftParen | Class::Identifier | Class::TypedefName
+    )
+}
+
+fn starts_adecl(class: Class) -> bool
+    ensures { result ≡ among (first Adecl) class }
+{
+    matches!(class, Class::LeftBracket | Class::LeftParen | Class::Star)
+}
+
+fn starts_designator(class: Class) -> bool
+    ensures { result ≡ among (first Designator) class }
+{
+    matches!(class, Class::LeftBracket | Class::Dot)
+}
+
+fn starts_size_lit(class: Class) -> bool
+    ensures { result ≡ among (first SizeLit) class }
+{
+    matches!(class, Class::LeftBrace)
+}
+
+fn starts_primary(class: Class) -> bool
+    ensures { result ≡ among (first Primary) class }
+{
+    matches!(
+        class,
+        Class::LeftParen
+            | Class::Identifier
+            | Class::Constant
+            | Class::CharConstant
+            | Class::StringLiteral
+    )
+}
+
+fn starts_post(class: Class) -> bool
+    ensures { result ≡ among (first Post) class }
+{
+    matches!(
+        class,
+        Class::LeftBracket
+            | Class::LeftParen
+            | Class::Dot
+            | Class::Arrow
+            | Class::PlusPlus
+            | Class::MinusMinus
+    )
+}
+
+fn starts_block_item(class: Class) -> bool
+    ensures { result ≡ among (first BlockItem) class }
+{
+    starts_specifier(class) || starts_statement(class)
+}
+
+fn starts_expression_line(class: Class) -> bool
+    ensures { result ≡ among (Semicolon ∷ expressions) class }
+{
+    matches!(
+        class,
+        Class::Semicolon
+            | Class::Sizeof
+            | Class::LeftParen
+            | Class::PlusPlus
+            | Class::MinusMinus
+            | Class::Amp
+            | Class::Star
+            | Class::Plus
+            | Class::Minus
+            | Class::Tilde
+            | Class::Bang
+            | Class::Identifier
+            | Class::Constant
+            | Class::CharConstant
+            | Class::StringLiteral
+    )
+}
+
+fn starts_for_init(class: Class) -> bool
+    ensures { result ≡ among (first ForInit) class }
+{
+    starts_specifier(class) || starts_expression_line(class)
+}
+
+/// The production starts with the class.
+pub(crate) fn starts_with(production: Production, class: Class) -> bool
+    ensures { result ≡ among (first production) class }
+{
+    match production {
+        Production::TranslationUnit => starts_translation_unit(class),
+        Production::External => starts_member(class),
+        Production::ExtRest => starts_ext_rest(class),
+        Production::ExtTail => starts_every(class),
+        Production::FunBody => starts_fun_body(class),
+        Production::Declaration => starts_specifier(class),
+        Production::DeclRest => starts_ext_rest(class),
+        Production::InitDecl => starts_declarator(class),
+        Production::Specs => starts_specifier(class),
+        Production::Main => starts_main(class),
+        Production::Mod => starts_modifier(class),
+        Production::Qual => starts_qualifier(class),
+        Production::Word => starts_word(class),
+        Production::StructSpec => starts_struct_spec(class),
+        Production::SuRest => starts_su_rest(class),
+        Production::Members => starts_member(class),
+        Production::Member => starts_member(class),
+        Production::Mdecl => starts_mdecl(class),
+        Production::EnumSpec => starts_enum_spec(class),
+        Production::EnRest => starts_su_rest(class),
+        Production::Enumerators => starts_enumerators(class),
+        Production::Enumerator => starts_enumerators(class),
+        Production::Declarator => starts_declarator(class),
+        Production::Pointer => starts_pointer(class),
+        Production::Direct => starts_direct(class),
+        Production::Suffix => starts_suffix(class),
+        Production::Bound => starts_expression(class),
+        Production::Params => starts_params(class),
+        Production::Param => starts_specifier(class),
+        Production::Pdecl => starts_pdecl(class),
+        Production::Pdirect => starts_pdirect(class),
+        Production::TypeName => starts_specifier(class),
+        Production::Adecl => starts_adecl(class),
+        Production::Adirect => starts_suffix(class),
+        Production::Init => starts_initializer(class),
+        Production::InitList => starts_initializer_item(class),
+        Production::InitItem => starts_initializer_item(class),
+        Production::Designator => starts_designator(class),
+        Production::Expr => starts_expression(class),
+        Production::Assign => starts_expression(class),
+        Production::Asgop => starts_assignment(class),
+        Production::Cond => starts_expression(class),
+        Production::Lor => starts_expression(class),
+        Production::Land => starts_expression(class),
+        Production::Bor => starts_expression(class),
+        Production::Bxor => starts_expression(class),
+        Production::Band => starts_expression(class),
+        Production::Equal => starts_expression(class),
+        Production::Relate => starts_expression(class),
+        Production::Shift => starts_expression(class),
+        Production::Add => starts_expression(class),
+        Production::Mul => starts_expression(class),
+        Production::Cast => starts_expression(class),
+        Production::CastRest => starts_initializer(class),
+        Production::Unary => starts_expression(class),
+        Production::SizeRest => starts_expression(class),
+        Production::SizeLit => starts_size_lit(class),
+        Production::Primary => starts_primary(class),
+        Production::Post => starts_post(class),
+        Production::Args => starts_expression(class),
+        Production::Block => starts_size_lit(class),
+        Production::BlockItem => starts_block_item(class),
+        Production::Statement => starts_statement(class),
+        Production::Sub => starts_statement(class),
+        Production::ForInit => starts_for_init(class),
+    }
+}
+
+/// The production starts with the class where a colon stands behind.
+pub(crate) fn is_label(production: Production, class: Class) -> bool
+    ensures { result ≡ among (labels production) class }
+{
+    match production {
+        Production::Statement => matches!(class, Class::TypedefName),
+        Production::Sub => matches!(class, Class::TypedefName),
+        _ => false,
+    }
+}

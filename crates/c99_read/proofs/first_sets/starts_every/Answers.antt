@@ -1,5 +1,0 @@
-use Rattle.c99_read.proofs.AmongLemmas.{among-every}
-use Rattle.c99_read.proofs.first_sets.starts_every.Goals as goal
-
-pub returns : goal.returns
-returns c = among-every c.args._class

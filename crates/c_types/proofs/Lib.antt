@@ -1,0 +1,4 @@
+pub mod ChildWalks
+pub mod ShapeLemmas
+mod FrontLemmas
+pub mod ParameterLemmas

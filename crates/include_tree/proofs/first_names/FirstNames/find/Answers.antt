@@ -1,7 +1,0 @@
-use Rattle.std.proofs.Common.{◌∙◌}
-use Rattle.include_tree.proofs.FirstNamesLemmas.{find-names}
-use Rattle.include_tree.proofs.first_names.FirstNames.find.Goals as goal
-
-pub returns : goal.returns
-returns c =
-    rw (← c.self.view_is) (c.get.ensures.value ∙ find-names (λ k. k.items) c.args.text.now c.self.inside.names.entries c.self.invariant)

@@ -1,5 +1,0 @@
-use Rattle.include_tree.proofs.HeaderLemmas.{spaced-all}
-use Rattle.include_tree.proofs.header.push_spaced.Goals as goal
-
-pub returns : goal.returns
-returns c = spaced-all c.loop-tok.text.items c.args.text.now.items c.args.toks.now c.loop-tok.tok-index c.loop-tok-test.false c.loop-tok.invariant

@@ -1,6 +1,0 @@
-use Rattle.std.proofs.Common.{◌≡◌, ◌++◌, map, take}
-use Rattle.include_tree.specs.Keeping.{replaced_event}
-use Rattle.include_tree.proofs.unit_text.noting.push_replaced.Given as goal
-
-abbrev pub invariant-loop-r : goal.invariant-loop-r
-invariant-loop-r l = l.events.items ≡ l.initial.events.items ++ map (replaced_event l.run l.before) (take l.r-index l.replaced)

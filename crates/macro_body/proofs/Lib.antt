@@ -1,0 +1,12 @@
+pub mod ResultLemmas
+pub mod LengthLemmas
+pub mod ChainLemmas
+mod LiveLemmas
+mod DefiningLemmas
+mod HideLemmas
+pub mod KeptLemmas
+mod PredefinedLemmas
+pub mod MakingLemmas
+pub mod PastingLemmas
+pub mod SoundLemmas
+pub mod ReplacementLemmas

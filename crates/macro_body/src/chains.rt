@@ -1,0 +1,246 @@
+// Replacement lists as chains of operands (6.10.3, 6.10.3.2 and 6.10.3.3).
+ghost use Rattle.std.specs.Prelude.{◌≡◌, ◌++◌, ◌∷◌, [], List, IfOk, IsTrue};
+ghost use Rattle.std.specs.List.{list_all};
+ghost use Rattle.macro_body.specs.Bodies.{Part, is_operator as operator_part, lone_part, quote_or, parts_from, chains_in, chains_of, is_lone as lone_parameter, occurs_alone};
+ghost use Rattle.macro_body.specs.Substitution.{is_alone as alone_chain};
+ghost use Rattle.macro_body.specs.BodyParts.{part_as, onto_last, behind_operand, with_parts};
+ghost use Rattle.macro_body.specs.Sound.{is_traced, chains_traced};
+
+use crate::definitions::Definition;
+use crate::parameters::{parameter_at, quoted_parameter};
+use crate::shared_tokens::shared;
+use crate::signs::is_paste;
+use cs_base::{Memory, Tok};
+use std::alloc::Global;
+use std::marker::Model;
+
+/// What a token of a replacement list is: a token that stays, a parameter with its number, a `#` with
+/// the number of the parameter behind it, or a `##`.
+#[derive(Clone, Copy, Debug, PartialEq, Eq)]
+pub enum PartRole {
+    Plain,
+    Param(usize),
+    Quote(usize),
+    Paste,
+}
+
+/// A part of a replacement list.
+#[derive(Drop)]
+pub struct BodyPart {
+    pub tok: Tok,
+    pub role: PartRole,
+}
+
+impl Model for BodyPart {
+    ghost use Rattle.macro_body.specs.Bodies.{Part};
+    ghost use Rattle.macro_body.specs.BodyParts.{part_as};
+
+    ghost Value = { Part };
+
+    ghost view = { λ p. part_as p.tok p.role };
+}
+
+/// Operands with `##` between them, or one alone.
+#[derive(Drop)]
+pub struct Chain {
+    parts: Vec<BodyPart>,
+}
+
+impl Model for Chain {
+    ghost use Rattle.std.specs.Prelude.{List};
+    ghost use Rattle.macro_body.specs.Bodies.{Part};
+
+    ghost Value = { List Part };
+
+    ghost view = { λ c. c.parts.items };
+}
+
+impl Chain {
+    pub fn parts(&self) -> &[BodyPart]
+        ensures { result.now ≡ self.now }
+    {
+        self.parts.as_slice()
+    }
+
+    /// Whether the chain has one operand.
+    pub fn is_alone(&self) -> bool
+        ensures { result ≡ alone_chain self.now }
+    {
+        is_alone(self.parts.as_slice())
+    }
+}
+
+fn is_alone(parts: &[BodyPart]) -> bool
+    ensures { result ≡ alone_chain parts.now }
+{
+    match parts {
+        [_] => true,
+        _ => false,
+    }
+}
+
+/// The chains of a macro's replacement list.
+pub fn chains_of(alloc: Global, m: &Definition) -> Result<Vec<Chain>, Memory>
+    ensures answer { IfOk result (λ chains. chains.items ≡ chains_of m.now) }
+    ensures traced { IfOk result (λ chains. IsTrue (list_all is_traced m.now.body) → IsTrue (chains_traced chains.items)) }
+{
+    let mut reading = Reading {
+        chains: Vec::new(alloc),
+        taken: false,
+        operand: true,
+    };
+    let body = m.body.as_slice();
+    for k in 0..body.len() {
+        reading.read(alloc, m, &body[k], &body[k + 1..])?;
+    }
+    Ok(reading.chains)
+}
+
+/// Whether a parameter occurs other than as an operand of `#` or `##` (6.10.3.1).
+pub fn occurs_alone(number: usize, chains: &[Chain]) -> bool
+    ensures { result ≡ occurs_alone number chains.now }
+{
+    chains.iter().any(|c| is_lone(number, c))
+}
+
+// Whether a chain is this parameter alone.
+fn is_lone(number: usize, chain: &Chain) -> bool
+    ensures { result ≡ lone_parameter number chain.now }
+{
+    match chain.parts() {
+        [part] => is_parameter(number, part),
+        _ => false,
+    }
+}
+
+// Whether a part is this parameter.
+fn is_parameter(number: usize, part: &BodyPart) -> bool
+    ensures { result ≡ lone_parameter number (part.now ∷ []) }
+{
+    match part.role {
+        PartRole::Param(other) => number == other,
+        _ => false,
+    }
+}
+
+// How far a replacement list is read: the chains so far, whether the next token belongs to the part
+// before, and whether the next part is an operand whatever it is: the first one, and one behind a `##`.
+#[derive(Drop)]
+struct Reading {
+    chains: Vec<Chain>,
+    taken: bool,
+    operand: bool,
+}
+
+impl Reading {
+    // Reads a token, these standing behind it.
+    fn read(
+        &mut self,
+        alloc: Global,
+        m: &Definition,
+        tok: &Tok,
+        behind: &[Tok],
+    ) -> Result<(), Memory>
+        ensures { IfOk result (λ _. with_parts self.new.operand self.new.chains.items (parts_from m.now self.new.taken behind.now) ≡ with_parts self.old.operand self.old.chains.items (parts_from m.now self.old.taken (tok.now ∷ behind.now))) }
+    {
+        if self.taken {
+            self.taken = false;
+            return Ok(());
+        }
+        let quoted = quoted_parameter(m, tok, behind);
+        self.taken = quoted.is_some();
+        let part = BodyPart {
+            tok: shared(tok)?,
+            role: role_of(m, tok, quoted),
+        };
+        self.operand = add_part(alloc, &mut self.chains, self.operand, part)?;
+        Ok(())
+    }
+}
+
+// Adds a part to the chains, and says whether the next one is an operand whatever it is.
+fn add_part(
+    alloc: Global,
+    chains: &mut Vec<Chain>,
+    operand: bool,
+    part: BodyPart,
+) -> Result<bool, Memory>
+    ensures { IfOk result (λ next. (ps : List Part) → with_parts next chains.new.items ps ≡ with_parts operand chains.old.items (part ∷ ps)) }
+{
+    if operand {
+        add_operand(alloc, chains, part)?;
+        return Ok(false);
+    }
+    if is_operator(&part) {
+        return Ok(true);
+    }
+    begin_chain(alloc, chains, part)?;
+    Ok(false)
+}
+
+// The operand goes on with the last chain, or is the first one.
+fn add_operand(alloc: Global, chains: &mut Vec<Chain>, part: BodyPart) -> Result<(), Memory>
+    ensures { IfOk result (λ _. (ps : List Part) → behind_operand chains.new.items ps ≡ onto_last chains.old.items (chains_in (part ∷ ps))) }
+{
+    match chains.pop() {
+        None => begin_chain(alloc, chains, part),
+        Some(last) => {
+            chains.push(last.with(part)?)?;
+            Ok(())
+        }
+    }
+}
+
+// Begins a chain with an operand.
+fn begin_chain(alloc: Global, chains: &mut Vec<Chain>, part: BodyPart) -> Result<(), Memory>
+    ensures { IfOk result (λ _. chains.new.items ≡ chains.old.items ++ (part ∷ []) ∷ []) }
+{
+    let chain = Chain {
+        parts: Vec::new(alloc),
+    };
+    chains.push(chain.with(part)?)?;
+    Ok(())
+}
+
+impl Chain {
+    // The chain with an operand behind it.
+    fn with(self, part: BodyPart) -> Result<Chain, Memory>
+        ensures { IfOk result (λ c. c ≡ self ++ part ∷ []) }
+    {
+        let Chain { mut parts } = self;
+        parts.push(part)?;
+        Ok(Chain { parts })
+    }
+}
+
+fn is_operator(part: &BodyPart) -> bool
+    ensures { result ≡ operator_part part.now }
+{
+    match part.role {
+        PartRole::Paste => true,
+        _ => false,
+    }
+}
+
+// What a token is, with the number of the parameter that it makes a string of.
+fn role_of(m: &Definition, tok: &Tok, quoted: Option<usize>) -> PartRole
+    ensures { part_as tok.now result ≡ quote_or tok.now (lone_part m.now tok.now) quoted }
+{
+    match quoted {
+        Some(number) => PartRole::Quote(number),
+        None => lone_role(m, tok),
+    }
+}
+
+// What a token is that is no `#` in front of a parameter.
+fn lone_role(m: &Definition, tok: &Tok) -> PartRole
+    ensures { part_as tok.now result ≡ lone_part m.now tok.now }
+{
+    if is_paste(tok) {
+        return PartRole::Paste;
+    }
+    match parameter_at(m, tok) {
+        Some(number) => PartRole::Param(number),
+        None => PartRole::Plain,
+    }
+}

@@ -1,6 +1,0 @@
-use Rattle.std.proofs.Common.{◌≡◌}
-use Rattle.macro_expand.specs.Substitution.{digit_origins}
-use Rattle.macro_expand.proofs.predefined.digit_origins.Given as goal
-
-abbrev pub invariant-loop-k : goal.invariant-loop-k
-invariant-loop-k l = l.origins.items ≡ digit_origins l.at l.k

@@ -1,0 +1,12 @@
+mod LatestLemmas
+mod KeptLemmas
+mod SpellingLemmas
+mod ChainLemmas
+mod LinkedLemmas
+mod ChainedMore
+mod ChainedOver
+mod ChainTables
+mod KeptChains
+mod RankLemmas
+mod MemberLemmas
+pub mod Reversed

@@ -1,7 +1,0 @@
-use Rattle.std.proofs.Common.{◌≡◌, ◌++◌}
-use Rattle.scope_bind.specs.Children.{from_child}
-use Rattle.scope_bind.specs.Parameters.{declared_names}
-use Rattle.scope_bind.proofs.parameters.declared_names.Given as goal
-
-abbrev pub invariant-children : goal.invariant-children
-invariant-children l = l.names.items ++ declared_names (from_child l.k l.list.under) ≡ declared_names l.list.under

@@ -1,6 +1,0 @@
-use Rattle.std.proofs.Common.{take}
-use Rattle.scope_bind.specs.Spellings.{AreNumbered}
-use Rattle.scope_bind.proofs.spellings.told.Given as goal
-
-abbrev pub invariant-toks : goal.invariant-toks
-invariant-toks l = AreNumbered (take l.tok-index l.toks) l.numbers.items l.spellings

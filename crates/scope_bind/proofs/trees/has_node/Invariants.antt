@@ -1,7 +1,0 @@
-use Rattle.std.proofs.Common.{◌≡◌}
-use Rattle.scope_bind.specs.Children.{from_child}
-use Rattle.scope_bind.specs.Trees.{has_node}
-use Rattle.scope_bind.proofs.trees.has_node.Given as goal
-
-abbrev pub invariant-children : goal.invariant-children
-invariant-children l = has_node l.production (from_child l.k l.tree.under) ≡ has_node l.production l.tree.under

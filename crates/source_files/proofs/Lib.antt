@@ -1,0 +1,9 @@
+pub mod TableLemmas
+pub mod AgreeLemmas
+pub mod FileTableLemmas
+pub mod OpenedLemmas
+pub mod OpeningLemmas
+pub mod SearchedLemmas
+pub mod HeaderLemmas
+pub mod CandidateLemmas
+pub mod SourcesLemmas

@@ -1,0 +1,15 @@
+-- What the public contracts rest on.
+pub mod Limits
+pub mod Files
+pub mod Tables
+pub mod Faults
+pub mod Search
+pub mod HeaderNames
+pub mod Opening
+pub mod KeptFiles
+pub mod Answers
+pub mod Slots
+pub mod Statuses
+pub mod FileTableFields
+pub mod CacheFields
+pub mod Sources

@@ -1,0 +1,74 @@
+// Pseudo files, and tokens that are counted.
+ghost use Rattle.std.specs.Prelude.{◌≡◌, ◌≤◌, ◌+◌, ◌^◌, true, false, None, is_some, IfOk, IfErr, IsSome};
+ghost use Rattle.std.specs.Str.{bytes_eq, is_utf8};
+ghost use Rattle.part_lexer.specs.FileText.{file_text};
+ghost use Rattle.source_files.specs.Limits.{the_limits};
+ghost use Rattle.source_files.specs.Files.{Made, lines_path, carried, found_at, numbered};
+ghost use Rattle.source_files.specs.Faults.{first_place};
+ghost use Rattle.source_files.specs.Opening.{opening};
+ghost use Rattle.source_files.specs.Sources.{unit_most, source_at, GivesOpening};
+ghost use Rattle.source_files.specs.Answers.{IsNoReadFault, Keeps};
+
+use super::{Cache, text_fault};
+use crate::kept_file::KeptFile;
+use crate::opening::first_place;
+use crate::pre_fault::PreFault;
+use crate::slot::Slot;
+use std::alloc::Global;
+
+const MOST_UNIT_TOKS: u32 = 1 << 22;
+
+const MOST_TOKS: u32 = 1 << 23;
+
+impl Cache {
+    // How many tokens the next unit may have.
+    pub fn most(&self) -> u32
+        ensures answer { result ≡ unit_most self.now.toks }
+        ensures low { result ≤ 2 ^ 22 }
+        ensures room { self.now.toks + result ≤ 2 ^ 23 }
+    {
+        let room = MOST_TOKS - self.toks;
+        if room < MOST_UNIT_TOKS {
+            room
+        } else {
+            MOST_UNIT_TOKS
+        }
+    }
+
+    // So many tokens more.
+    pub fn count(&mut self, toks: u32)
+        requires { self.old.toks + toks ≤ 2 ^ 23 }
+        ensures { self.new ≡ carried self.old.table (self.old.toks + toks) }
+    {
+        self.toks += toks;
+    }
+
+    // The path was met.
+    pub fn has(&self, path: &[u8]) -> bool
+        requires { bytes_eq path.now lines_path ≡ false }
+        ensures { result ≡ is_some (found_at path.now self.now.table) }
+    {
+        self.table.find(path).is_some()
+    }
+
+    // A pseudo file of this path and these bytes gets the next number, which is told; or the fault of its
+    // text.
+    pub fn make(&mut self, alloc: Global, path: &[u8], bytes: Vec<u8>) -> Result<u32, PreFault>
+        requires fresh { found_at path.now self.old.table ≡ None }
+        requires text { is_utf8 path.now ≡ true }
+        ensures answer { GivesOpening result (opening the_limits file_text (first_place path.now) path.now (numbered path.now (Made bytes.items) self.old.table)) self.new.table }
+        ensures there { IfOk result (λ n. IsSome (source_at self.new.table n)) }
+        ensures keeps { Keeps self.old self.new }
+        ensures no_read { IfErr result IsNoReadFault }
+    {
+        let place = first_place(alloc, path)?;
+        let number = self.table.next_number();
+        match KeptFile::read(alloc, number, path, bytes) {
+            Ok(file) => {
+                self.table.push(path, Slot::Made(file))?;
+                Ok(number)
+            }
+            Err(unread) => Err(text_fault(alloc, path, &place, unread.refusal)),
+        }
+    }
+}

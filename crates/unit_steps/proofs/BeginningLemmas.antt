@@ -1,0 +1,13 @@
+-- What is known at the beginning of a unit.
+use Rattle.std.proofs.Common.{◌≡◌, refl}
+use Rattle.macro_body.specs.Macro.{Table}
+use Rattle.macro_body.specs.Live.{no_macro, with_macro}
+use Rattle.macro_body.specs.Defining.{line_macro, file_macro, first_macros}
+use Rattle.macro_body.specs.Sound.{AllTraced}
+use Rattle.macro_expand.proofs.TracedLemmas.{traced-no_macro, traced-with_macro}
+
+-- the first macros have no replacement list
+pub traced-first : (table : Table) → table ≡ first_macros → AllTraced table
+traced-first table is =
+    traced-with_macro file_macro (with_macro line_macro no_macro) table is refl
+    (traced-with_macro line_macro no_macro (with_macro line_macro no_macro) refl refl traced-no_macro)

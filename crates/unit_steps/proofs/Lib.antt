@@ -1,0 +1,11 @@
+pub mod FileToksLemmas
+pub mod FirstNamesLemmas
+pub mod KeepingLemmas
+pub mod NamingLemmas
+pub mod GoingLemmas
+pub mod DefiningLemmas
+pub mod AnsweringLemmas
+pub mod JudgingLemmas
+pub mod BeginningLemmas
+pub mod IncludingLemmas
+pub mod VisitLemmas

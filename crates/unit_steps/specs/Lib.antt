@@ -1,0 +1,14 @@
+-- What the public contracts rest on.
+pub mod Notes
+pub mod State
+pub mod Expanding
+pub mod Names
+pub mod Conditions
+pub mod Directives
+pub mod IncludeNames
+pub mod Texts
+pub mod FirstNames
+pub mod Keeping
+pub mod SourceTexts
+pub mod Moments
+pub mod Answering

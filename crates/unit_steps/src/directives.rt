@@ -1,0 +1,181 @@
+// Lines that define macros, take them away or ask for them (6.10.1, 6.10.3, 6.10.3.5).
+ghost use Rattle.std.specs.Prelude.{◌≡◌, ◌&&◌, not, IsTrue, IfOk, OnOk, Some, cond, drop, option_copied, IfErr};
+ghost use Rattle.std.specs.List.{flat_map, list_all};
+ghost use Rattle.cs_base.specs.Answer.{Gives};
+ghost use Rattle.line_shape.specs.declared.items.ItemKind.TheVariants.{Define};
+ghost use Rattle.line_shape.specs.Items.{line_kind};
+ghost use Rattle.macro_body.specs.declared.definitions.Definition.{Definition as Macro};
+ghost use Rattle.macro_body.specs.Sound.{is_traced, is_low};
+ghost use Rattle.macro_body.specs.Defining.{defined_by};
+ghost use Rattle.source_files.specs.Files.{Table, SourceFile};
+ghost use Rattle.unit_steps.specs.Names.{linked_with, parameter_named, definition_links};
+ghost use Rattle.unit_steps.specs.Conditions.{is_macro, test_notes};
+ghost use Rattle.unit_steps.specs.Directives.{operand_in, define_notes, define_of, undef_of, asks_name, opens_with};
+ghost use Rattle.source_files.specs.Answers.{fault_of, IsNoReadFault};
+ghost use Rattle.unit_steps.specs.Keeping.{noted_in, kept_after, put_after};
+ghost use Rattle.unit_steps.specs.SourceTexts.{source_in};
+ghost use Rattle.unit_steps.specs.FirstNames.{names_with};
+ghost use Rattle.unit_steps.specs.Moments.{state_in, IsAble, GoesOn};
+
+use crate::events::EventKind;
+use crate::first_names::FirstNames;
+use crate::progress::{Progress, link_name};
+use crate::source_text::SourceText;
+use crate::unit_text::UnitText;
+use cs_base::{Cause, Memory, Pos, Tok};
+use line_shape::ItemKind;
+use macro_body::is_name;
+use macro_expand::Definition;
+use source_files::PreFault;
+use std::alloc::Global;
+
+// The link of a token of a replacement list with the parameter that it names.
+fn link_use(text: &mut UnitText, params: &FirstNames, tok: &Tok) -> Result<(), Memory>
+    ensures { IfOk result (λ _. text.new ≡ noted_in text.old (linked_with tok.now (parameter_named params.now tok.now))) }
+{
+    if is_name(tok) {
+        link_name(text, params, tok)
+    } else {
+        Ok(())
+    }
+}
+
+// The links of a replacement list: each use of a parameter with the parameter.
+fn link_body(text: &mut UnitText, params: &FirstNames, body: &[Tok]) -> Result<(), Memory>
+    ensures { IfOk result (λ _. text.new ≡ noted_in text.old (flat_map (λ t. linked_with t (parameter_named params.now t)) body.now)) }
+{
+    for tok in body {
+        link_use(text, params, tok)?;
+    }
+    Ok(())
+}
+
+// The links of a definition.
+fn link_uses(alloc: Global, text: &mut UnitText, m: &Definition) -> Result<(), Memory>
+    ensures { IfOk result (λ _. text.new ≡ noted_in text.old (definition_links m.now)) }
+{
+    let params = FirstNames::of(alloc, m.params.as_slice())?;
+    link_body(text, &params, m.body.as_slice())?;
+    Ok(())
+}
+
+// The name that a directive takes.
+fn operand_in(toks: &[Tok]) -> Option<&Tok>
+    ensures { option_copied result ≡ operand_in toks.now }
+{
+    match toks {
+        [_, _, name, ..] => Some(name),
+        _ => None,
+    }
+}
+
+/// The tokens behind the `#` and the word of a line.
+pub fn behind_word(toks: &[Tok]) -> &[Tok]
+    ensures { result.now ≡ drop 2 toks.now }
+{
+    if toks.len() < 2 {
+        return &toks[toks.len()..];
+    }
+    &toks[2..]
+}
+
+impl Progress {
+    // A macro is defined: what happens then, the definition aside.
+    fn note_define(&mut self, m: &Definition) -> Result<(), Memory>
+        requires able { IsAble self.old }
+        ensures most { self.new.most ≡ self.old.most }
+        ensures noted { (table : Table) → OnOk result (self.new ≡ record self.old { names = names_with m.now.name self.old.names; text = noted_in self.old.text (define_notes m.now (state_in table self.old)) }) }
+    {
+        self.process_event(EventKind::Defined, &m.name)?;
+        link_uses(self.alloc, &mut self.text, m)?;
+        Ok(())
+    }
+
+    /// A `define` line.
+    pub fn define(&mut self, toks: &[Tok]) -> Result<(), PreFault>
+        requires defines { line_kind toks.now ≡ Define }
+        requires traced { (m : Macro) → defined_by toks.now ≡ Some m → IsTrue (list_all is_traced m.body) }
+        requires able { IsAble self.old }
+        ensures goes_on { GoesOn self.old self.new result }
+        ensures no_read { IfErr result IsNoReadFault }
+        ensures answer { (table : Table) (file : SourceFile) (at : Pos) → Gives (λ _. (state_in table self.new, self.new.text)) fault_of result (put_after self.old.text (define_of file at toks.now (state_in table self.old))) }
+    {
+        let m = Definition::of(self.alloc, toks)?;
+        self.note_define(&m)?;
+        self.macros.define(m)?;
+        Ok(())
+    }
+
+    /// An `undef` line whose `#` is there.
+    pub fn undef(&mut self, file: &SourceText, at: Pos, toks: &[Tok]) -> Result<(), PreFault>
+        requires able { IsAble self.old }
+        ensures goes_on { GoesOn self.old self.new result }
+        ensures no_read { IfErr result IsNoReadFault }
+        ensures answer { (table : Table) → Gives (λ _. (state_in table self.new, self.new.text)) fault_of result (put_after self.old.text (undef_of (source_in file.now) at toks.now (state_in table self.old))) }
+    {
+        match operand_in(toks) {
+            None => Err(file.fault(self.alloc, at, Cause::BadDirective)),
+            Some(name) => {
+                self.process_event(EventKind::Undefined, name)?;
+                self.macros.undef(name.text());
+                Ok(())
+            }
+        }
+    }
+
+    /// Whether a macro of this name is defined, where that is asked for.
+    pub(crate) fn test(&mut self, name: &Tok) -> Result<bool, Memory>
+        requires able { IsAble self.old }
+        ensures most { self.new.most ≡ self.old.most }
+        ensures answer { (table : Table) → IfOk result (λ b. b ≡ is_macro name.now (state_in table self.old)) }
+        ensures noted { (table : Table) → OnOk result (self.new ≡ record self.old { names = names_with name.now self.old.names; text = noted_in self.old.text (test_notes name.now (state_in table self.old)) }) }
+    {
+        let known = self.has_macro(name);
+        self.process_event(EventKind::Tested, name)?;
+        Ok(known)
+    }
+
+    /// An `ifdef` line, or an `ifndef` line, which asks for the opposite.
+    pub fn asks_name(
+        &mut self,
+        file: &SourceText,
+        at: Pos,
+        opposite: bool,
+        toks: &[Tok],
+    ) -> Result<bool, PreFault>
+        requires able { IsAble self.old }
+        ensures goes_on { GoesOn self.old self.new result }
+        ensures no_read { IfErr result IsNoReadFault }
+        ensures answer { (table : Table) → Gives (λ b. (b, state_in table self.new, self.new.text)) fault_of result (kept_after self.old.text (asks_name (source_in file.now) at (λ b. cond opposite (not b) b) (state_in table self.old) (operand_in toks.now))) }
+    {
+        match operand_in(toks) {
+            None => Err(file.fault(self.alloc, at, Cause::BadDirective)),
+            Some(name) => {
+                let known = self.test(name)?;
+                Ok(known != opposite)
+            }
+        }
+    }
+
+    /// Whether the first group of a section is processed, by the line of this kind that opens it.
+    pub fn opens_with(
+        &mut self,
+        file: &SourceText,
+        kind: ItemKind,
+        at: Pos,
+        toks: &[Tok],
+    ) -> Result<bool, PreFault>
+        requires sound { IsTrue (list_all (λ t. is_traced t && is_low t) toks.now) }
+        requires able { IsAble self.old }
+        ensures goes_on { GoesOn self.old self.new result }
+        ensures no_read { IfErr result IsNoReadFault }
+        ensures answer { (table : Table) → Gives (λ b. (b, state_in table self.new, self.new.text)) fault_of result (kept_after self.old.text (opens_with kind (source_in file.now) at toks.now (state_in table self.old))) }
+    {
+        match kind {
+            ItemKind::If => self.holds(file, at, behind_word(toks)),
+            ItemKind::Ifdef => self.asks_name(file, at, false, toks),
+            ItemKind::Ifndef => self.asks_name(file, at, true, toks),
+            _ => Err(file.fault(self.alloc, at, Cause::BadDirective)),
+        }
+    }
+}

@@ -1,0 +1,29 @@
+//! The steps of a translation unit that need no other file (ISO/IEC 9899:1999, 5.1.1.2 phase 4, 6.10).
+//!
+//! `Progress` is what is known of a unit at each moment beside the table of files: the macros that are defined, the
+//! work that is left, the first names of each spelling, and the `UnitText` so far, with all that happened. Its calls
+//! are the steps: a run of text lines, lines that define macros or take them away, conditions with their operands of
+//! `defined`, and the name of an include line. Each is a step of the definition in `specs/State.antt`, and what
+//! happens in it is a list of `specs/Notes.antt`. Which lines are processed, and in which order, is `include_tree`.
+//! Every step wants memory. Read `specs/Notes.antt`, `specs/State.antt`, `specs/Conditions.antt`,
+//! `specs/Directives.antt` and `specs/IncludeNames.antt`, then `progress.rt`, `conditions.rt` and `directives.rt`.
+#![tactic(auto)]
+
+mod beginning;
+mod conditions;
+mod directives;
+mod events;
+mod first_names;
+mod include_names;
+mod progress;
+mod shared_tokens;
+mod source_text;
+mod unit_text;
+mod visits;
+
+pub use directives::behind_word;
+pub use events::{Event, EventKind, Reached};
+pub use first_names::FirstNames;
+pub use progress::Progress;
+pub use source_text::SourceText;
+pub use unit_text::UnitText;
