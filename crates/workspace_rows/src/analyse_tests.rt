@@ -1,148 +1,220 @@
 // The classes of names in whole workspaces, worked by hand from the definitions.
-use crate::workspaces::{held, show_fault, workspace};
+use crate::rows::{cut, number};
+use crate::workspaces::analysed;
 use cs_base::Pos;
 use std::alloc::{AllocError, Global};
 use std::test::Fail;
-use ws_core::{Analysis, analyse};
+use ws_core::Analysis;
 
-// A workspace file, the files that are held, each as `PATH:TEXT` with `@` between them, the places that are asked
-// for, and of each the class of the part that it names, or a dash where it names none.
-struct Row {
-    ws: &'static str,
-    files: &'static str,
-    asked: &'static [(&'static str, u32, u32)],
-    want: &'static str,
-}
-
-const ROWS: [Row; 17] = [
-    // A pasted name cuts the declared one in two parts.
-    Row {
-        ws: "file a.c\n",
-        files: "a.c:#define F(x) x##_f\nint a_f;\nint b = F(a);\n",
-        asked: &[("a.c", 2, 5), ("a.c", 2, 6), ("a.c", 3, 11), ("a.c", 1, 14)],
-        want: "a.c:2:5 a a.c:3:11 a\na.c:1:17 _f a.c:2:6 _f\na.c:2:5 a a.c:3:11 a\na.c:1:11 x a.c:1:14 x\n",
-    },
-    // A name that comes through a macro, and the name of the macro.
-    Row {
-        ws: "file a.c\n",
-        files: "a.c:#define M n\nint n;\nint k = M;\n",
-        asked: &[("a.c", 3, 9), ("a.c", 2, 5)],
-        want: "a.c:1:9 M a.c:3:9 M\na.c:1:11 n a.c:2:5 n\n",
-    },
-    // Two units of one project name one function, and one of another project another.
-    Row {
-        ws: "project p\nfile a.c\nfile b.c\nproject q\nfile c.c\n",
-        files: "a.c:int f(void);\n@b.c:int f(void) { return 1; }\n@c.c:int f(void);\n",
-        asked: &[("b.c", 1, 5), ("c.c", 1, 5)],
-        want: "a.c:1:5 f b.c:1:5 f\nc.c:1:5 f\n",
-    },
-    // A label and a variable of one spelling.
-    Row {
-        ws: "file a.c\n",
-        files: "a.c:int l;\nint f(void) { goto l; l: return l; }\n",
-        asked: &[("a.c", 2, 20), ("a.c", 1, 5)],
-        want: "a.c:2:20 l a.c:2:23 l\na.c:1:5 l a.c:2:33 l\n",
-    },
-    // Members of two structures.
-    Row {
-        ws: "file a.c\n",
-        files: "a.c:struct s { int m; } x;\nstruct t { int m; } y;\nint k = sizeof x.m + sizeof y.m;\n",
-        asked: &[("a.c", 3, 18), ("a.c", 3, 31)],
-        want: "a.c:1:16 m a.c:3:18 m\na.c:2:16 m a.c:3:31 m\n",
-    },
-    // The number of a line is pasted to a name: the number stands in the pseudo file of lines.
-    Row {
-        ws: "file a.c\n",
-        files: "a.c:#define P(a, b) a##b\n#define Q(a, b) P(a, b)\nint Q(v, __LINE__);\nint w = sizeof v3;\n",
-        asked: &[("a.c", 4, 16), ("a.c", 4, 17)],
-        want: "a.c:3:7 v a.c:4:16 v\n<lines>:4:1 3 a.c:4:17 3\n",
-    },
-    // A name that a condition asks for.
-    Row {
-        ws: "file a.c\n",
-        files: "a.c:#define D\n#if defined D && !defined(E)\nint x;\n#endif\n#ifdef E\n#endif\n",
-        asked: &[("a.c", 1, 9), ("a.c", 2, 27), ("a.c", 2, 5)],
-        want: "a.c:1:9 D a.c:2:13 D\na.c:2:27 E a.c:5:8 E\na.c:2:5 defined\n",
-    },
-    // A group that is skipped has no names.
-    Row {
-        ws: "file a.c\n",
-        files: "a.c:int n;\n#if 0\nint n;\n#else\nint m;\n#endif\n",
-        asked: &[("a.c", 3, 5), ("a.c", 5, 5), ("a.c", 2, 5)],
-        want: "-\na.c:5:5 m\n-\n",
-    },
-    // The word of a directive is no name, nor is a number, a sign, a place between tokens or behind the file.
-    Row {
-        ws: "file a.c\n",
-        files: "a.c:#define N 1\nint n = N;\n",
-        asked: &[
-            ("a.c", 1, 2),
-            ("a.c", 1, 11),
-            ("a.c", 2, 7),
-            ("a.c", 2, 4),
-            ("a.c", 3, 1),
-            ("a.c", 9, 9),
-            ("b.c", 1, 1),
-        ],
-        want: "-\n-\n-\n-\n-\n-\n-\n",
-    },
-    // A keyword is an identifier that is processed; nothing is linked with it.
-    Row {
-        ws: "file a.c\n",
-        files: "a.c:int a;\nint b;\n",
-        asked: &[("a.c", 1, 1), ("a.c", 2, 3)],
-        want: "a.c:1:1 int\na.c:2:1 int\n",
-    },
-    // An include line that is expanded, and one that is not.
-    Row {
-        ws: "file a.c\n",
-        files: "a.c:#define H \"h.h\"\n#include H\n#include \"k.h\"\n@h.h:int h;\n@k.h:int k = sizeof h;\n",
-        asked: &[("a.c", 2, 10), ("a.c", 3, 11), ("k.h", 1, 16)],
-        want: "a.c:1:9 H a.c:2:10 H\n-\nh.h:1:5 h k.h:1:16 h\n",
-    },
-    // A name that is spliced over two lines.
-    Row {
-        ws: "file a.c\n",
-        files: "a.c:int na\\\nme;\nint k = sizeof name;\n",
-        asked: &[("a.c", 1, 5), ("a.c", 2, 2), ("a.c", 1, 7)],
-        want: "a.c:1:5 name a.c:3:16 name\na.c:1:5 name a.c:3:16 name\n-\n",
-    },
-    // A name that stands only in a body that is never expanded.
-    Row {
-        ws: "file a.c\n",
-        files: "a.c:#define M(p) p + other\nint other;\n",
-        asked: &[("a.c", 1, 18), ("a.c", 1, 14), ("a.c", 2, 5)],
-        want: "a.c:1:18 other\na.c:1:11 p a.c:1:14 p\na.c:2:5 other\n",
-    },
-    // A header that two units include, one of which processes less of it.
-    Row {
-        ws: "file a.c\nfile b.c\n",
-        files: "h.h:#ifdef A\nint x;\n#endif\nint y;\n@a.c:#define A\n#include \"h.h\"\n@b.c:#include \"h.h\"\nint z = sizeof y;\n",
-        asked: &[("h.h", 2, 5), ("h.h", 4, 5), ("h.h", 1, 8)],
-        want: "h.h:2:5 x\nb.c:2:16 y h.h:4:5 y\na.c:1:9 A h.h:1:8 A\n",
-    },
-    // A name of the settings.
-    Row {
-        ws: "define W 1\nfile a.c\n",
-        files: "a.c:int k = W;\n",
-        asked: &[("a.c", 1, 9)],
-        want: "<defines 1>:6:9 W a.c:1:9 W\n",
-    },
-    // A tag and an enumerator.
-    Row {
-        ws: "file a.c\n",
-        files: "a.c:enum e { e } v = e;\nenum e w;\n",
-        asked: &[("a.c", 1, 6), ("a.c", 1, 10)],
-        want: "a.c:1:6 e a.c:2:6 e\na.c:1:10 e a.c:1:18 e\n",
-    },
-    // A parameter, and the place of its use in a body that is expanded.
-    Row {
-        ws: "file a.c\n",
-        files: "a.c:#define ID(p) p\nint q;\nint r = sizeof ID(q);\n",
-        asked: &[("a.c", 1, 12), ("a.c", 3, 19)],
-        want: "a.c:1:12 p a.c:1:15 p\na.c:2:5 q a.c:3:19 q\n",
-    },
-];
+// A row: a workspace file; the files that are held, each as `PATH:TEXT` with `@` between them; the places that are asked
+// for, one a line; and of each the class of the part that it names, or a dash where it names none.
+const ROWS: &str = "A pasted name cuts the declared one in two parts.
+$file a.c
+$a.c:#define F(x) x##_f
+int a_f;
+int b = F(a);
+$a.c 2 5
+a.c 2 6
+a.c 3 11
+a.c 1 14
+$a.c:2:5 a a.c:3:11 a
+a.c:1:17 _f a.c:2:6 _f
+a.c:2:5 a a.c:3:11 a
+a.c:1:11 x a.c:1:14 x
+%
+A name that comes through a macro, and the name of the macro.
+$file a.c
+$a.c:#define M n
+int n;
+int k = M;
+$a.c 3 9
+a.c 2 5
+$a.c:1:9 M a.c:3:9 M
+a.c:1:11 n a.c:2:5 n
+%
+Two units of one project name one function, and one of another project another.
+$project p
+file a.c
+file b.c
+project q
+file c.c
+$a.c:int f(void);
+@b.c:int f(void) { return 1; }
+@c.c:int f(void);
+$b.c 1 5
+c.c 1 5
+$a.c:1:5 f b.c:1:5 f
+c.c:1:5 f
+%
+A label and a variable of one spelling.
+$file a.c
+$a.c:int l;
+int f(void) { goto l; l: return l; }
+$a.c 2 20
+a.c 1 5
+$a.c:2:20 l a.c:2:23 l
+a.c:1:5 l a.c:2:33 l
+%
+Members of two structures.
+$file a.c
+$a.c:struct s { int m; } x;
+struct t { int m; } y;
+int k = sizeof x.m + sizeof y.m;
+$a.c 3 18
+a.c 3 31
+$a.c:1:16 m a.c:3:18 m
+a.c:2:16 m a.c:3:31 m
+%
+The number of a line is pasted to a name: the number stands in the pseudo file of lines.
+$file a.c
+$a.c:#define P(a, b) a##b
+#define Q(a, b) P(a, b)
+int Q(v, __LINE__);
+int w = sizeof v3;
+$a.c 4 16
+a.c 4 17
+$a.c:3:7 v a.c:4:16 v
+<lines>:4:1 3 a.c:4:17 3
+%
+A name that a condition asks for.
+$file a.c
+$a.c:#define D
+#if defined D && !defined(E)
+int x;
+#endif
+#ifdef E
+#endif
+$a.c 1 9
+a.c 2 27
+a.c 2 5
+$a.c:1:9 D a.c:2:13 D
+a.c:2:27 E a.c:5:8 E
+a.c:2:5 defined
+%
+A group that is skipped has no names.
+$file a.c
+$a.c:int n;
+#if 0
+int n;
+#else
+int m;
+#endif
+$a.c 3 5
+a.c 5 5
+a.c 2 5
+$-
+a.c:5:5 m
+-
+%
+The word of a directive is no name, nor is a number, a sign, a place between tokens or behind the file.
+$file a.c
+$a.c:#define N 1
+int n = N;
+$a.c 1 2
+a.c 1 11
+a.c 2 7
+a.c 2 4
+a.c 3 1
+a.c 9 9
+b.c 1 1
+$-
+-
+-
+-
+-
+-
+-
+%
+A keyword is an identifier that is processed; nothing is linked with it.
+$file a.c
+$a.c:int a;
+int b;
+$a.c 1 1
+a.c 2 3
+$a.c:1:1 int
+a.c:2:1 int
+%
+An include line that is expanded, and one that is not.
+$file a.c
+$a.c:#define H \"h.h\"
+#include H
+#include \"k.h\"
+@h.h:int h;
+@k.h:int k = sizeof h;
+$a.c 2 10
+a.c 3 11
+k.h 1 16
+$a.c:1:9 H a.c:2:10 H
+-
+h.h:1:5 h k.h:1:16 h
+%
+A name that is spliced over two lines.
+$file a.c
+$a.c:int na\\
+me;
+int k = sizeof name;
+$a.c 1 5
+a.c 2 2
+a.c 1 7
+$a.c:1:5 name a.c:3:16 name
+a.c:1:5 name a.c:3:16 name
+-
+%
+A name that stands only in a body that is never expanded.
+$file a.c
+$a.c:#define M(p) p + other
+int other;
+$a.c 1 18
+a.c 1 14
+a.c 2 5
+$a.c:1:18 other
+a.c:1:11 p a.c:1:14 p
+a.c:2:5 other
+%
+A header that two units include, one of which processes less of it.
+$file a.c
+file b.c
+$h.h:#ifdef A
+int x;
+#endif
+int y;
+@a.c:#define A
+#include \"h.h\"
+@b.c:#include \"h.h\"
+int z = sizeof y;
+$h.h 2 5
+h.h 4 5
+h.h 1 8
+$h.h:2:5 x
+b.c:2:16 y h.h:4:5 y
+a.c:1:9 A h.h:1:8 A
+%
+A name of the settings.
+$define W 1
+file a.c
+$a.c:int k = W;
+$a.c 1 9
+$<defines 1>:6:9 W a.c:1:9 W
+%
+A tag and an enumerator.
+$file a.c
+$a.c:enum e { e } v = e;
+enum e w;
+$a.c 1 6
+a.c 1 10
+$a.c:1:6 e a.c:2:6 e
+a.c:1:10 e a.c:1:18 e
+%
+A parameter, and the place of its use in a body that is expanded.
+$file a.c
+$a.c:#define ID(p) p
+int q;
+int r = sizeof ID(q);
+$a.c 1 12
+a.c 3 19
+$a.c:1:12 p a.c:1:15 p
+a.c:2:5 q a.c:3:19 q
+";
 
 // The path of a position, with its line and column; the pseudo file of lines has eight characters a line.
 fn show_place(out: &mut Vec<u8>, alloc: Global, a: &Analysis, pos: Pos) -> Result<(), AllocError> {
@@ -186,47 +258,35 @@ fn show_class(
     Ok(())
 }
 
-fn shown(alloc: Global, row: &Row) -> Result<Vec<u8>, Fail> {
-    let ws = workspace(alloc, row.ws)?;
-    let mut files = held(alloc, row.files, 0)?;
-    match analyse(alloc, &ws, &mut files) {
-        Ok(a) => {
-            let mut out = Vec::new(alloc);
-            for asked in row.asked {
-                show_class(&mut out, alloc, &a, *asked)?;
-            }
-            Ok(out)
-        }
-        Err(fault) => Ok(show_fault(alloc, &fault)?),
-    }
+// The place on a line of a path, a line and a column with a blank between every two, all above zero; or else none.
+fn place(line: &str) -> Option<(&str, u32, u32)> {
+    let (path, rest) = line.split_once(' ')?;
+    let (line, column) = rest.split_once(' ')?;
+    Some((path, number(line), number(column)))
 }
 
-// What is answered where the read with this number fails.
-fn failed(alloc: Global, ws: &str, files: &str, call: u32) -> Result<Vec<u8>, Fail> {
-    let ws = workspace(alloc, ws)?;
-    let mut files = held(alloc, files, call)?;
-    match analyse(alloc, &ws, &mut files) {
-        Ok(_) => Ok(Vec::new(alloc)),
-        Err(fault) => Ok(show_fault(alloc, &fault)?),
+fn shown(alloc: Global, a: &Analysis, asked: &str) -> Result<Vec<u8>, AllocError> {
+    let mut out = Vec::new(alloc);
+    for line in asked.split('\n') {
+        if let Some(asked) = place(line) {
+            show_class(&mut out, alloc, a, asked)?;
+        }
     }
+    Ok(out)
 }
 
 #[test]
 fn names_are_asked_for_by_their_places(rt: HostRuntime) -> Result<(), Fail> {
     let alloc = rt.alloc();
-    for row in &ROWS {
-        let text = shown(alloc, row)?;
-        assert_eq!(rt; text.as_slice(), row.want.as_bytes(), "{}", row.files);
+    for row in ROWS.split('%') {
+        let (about, row) = cut(row);
+        let (ws, row) = cut(row);
+        let (files, row) = cut(row);
+        let (asked, want) = cut(row);
+        let a = analysed(alloc, ws, files)?;
+        let text = shown(alloc, &a, asked)?;
+        assert_eq!(rt; text.as_slice(), want.as_bytes(), "{about}");
     }
-    Ok(())
-}
-
-#[test]
-fn a_failed_read_is_told(rt: HostRuntime) -> Result<(), Fail> {
-    let alloc = rt.alloc();
-    let files = "a.c:#include \"h.h\"\nint a;\n@h.h:int h;\n";
-    let text = failed(alloc, "file a.c\n", files, 2)?;
-    assert_eq!(rt; text.as_slice(), b"read h.h\n".as_slice());
     Ok(())
 }
 
@@ -237,35 +297,41 @@ fn is_made(a: &Analysis, file: u32) -> bool {
     }
 }
 
-// The first members of all classes stand in the order of their places; those of made files are left out.
+// The first members of all classes in their order, each place with a mark where its file is read only; those of made
+// files are left out.
+fn show_firsts(alloc: Global, a: &Analysis) -> Result<Vec<u8>, AllocError> {
+    let mut out = Vec::new(alloc);
+    for first in a.firsts() {
+        if !is_made(a, first.start.file) {
+            show_place(&mut out, alloc, a, first.start)?;
+            let mark = if a.read_only(first.start.file) {
+                b'!'
+            } else {
+                b' '
+            };
+            out.push(mark)?;
+        }
+    }
+    Ok(out)
+}
+
+// A workspace file, its files, and the first members of the classes, which stand in the order of their places.
+const FIRSTS: &str = "file b.c
+file a.c
+readonly lib/
+$b.c:#include \"lib/h.h\"
+int b;
+@a.c:int a;
+@lib/h.h:int h;
+$a.c:1:1 a.c:1:5 b.c:1:2 b.c:2:1 b.c:2:5 lib/h.h:1:1!lib/h.h:1:5!";
+
 #[test]
 fn each_class_has_a_first_member(rt: HostRuntime) -> Result<(), Fail> {
     let alloc = rt.alloc();
-    let ws = workspace(alloc, "file b.c\nfile a.c\nreadonly lib/\n")?;
-    let mut files = held(
-        alloc,
-        "b.c:#include \"lib/h.h\"\nint b;\n@a.c:int a;\n@lib/h.h:int h;\n",
-        0,
-    )?;
-    match analyse(alloc, &ws, &mut files) {
-        Ok(a) => {
-            let mut out = Vec::new(alloc);
-            for first in a.firsts() {
-                if !is_made(&a, first.start.file) {
-                    show_place(&mut out, alloc, &a, first.start)?;
-                    let mark = if a.read_only(first.start.file) {
-                        b'!'
-                    } else {
-                        b' '
-                    };
-                    out.push(mark)?;
-                }
-            }
-            let want =
-                b"a.c:1:1 a.c:1:5 b.c:1:2 b.c:2:1 b.c:2:5 lib/h.h:1:1!lib/h.h:1:5!".as_slice();
-            assert_eq!(rt; out.as_slice(), want);
-            Ok(())
-        }
-        Err(_) => Err(AllocError)?,
-    }
+    let (ws, row) = cut(FIRSTS);
+    let (files, want) = cut(row);
+    let a = analysed(alloc, ws, files)?;
+    let text = show_firsts(alloc, &a)?;
+    assert_eq!(rt; text.as_slice(), want.as_bytes());
+    Ok(())
 }

@@ -1,7 +1,79 @@
 // Rows of workspace files, with what they say; the values were worked by hand and with another program.
+use crate::rows::{cut, number};
 use std::alloc::{AllocError, Global};
 use std::test::Fail;
 use ws_file::{WsRefusal, print_ws, read_ws};
+
+// Workspace files, each with what it says.
+const LINES: &str = "\
+    $%\
+    file a.c\n$project default\nfile a.c\n%\
+    # c\n\n \t\r\nfile a.c$project default\nfile a.c\n%\
+    \x20# x$%\
+    readonly /usr/\nproject lib\nipath ./inc/\nipath /opt/x/../y\nipath .\ndefine  NDEBUG 1 \nundefine  linux\nfile src//lib/./a.c\nproject tool\nfile ../t/main.c\r\n$readonly /usr/\nproject lib\nipath inc\nipath /opt/y\nipath .\ndefine NDEBUG 1\nundefine linux\nfile src/lib/a.c\nproject tool\nfile ../t/main.c\n%\
+    file a.c\nreadonly x$readonly x\nproject default\nfile a.c\n%\
+    ipath i\ndefine A\nfile a.c\nfile b.c\nproject p\nfile a.c$project default\nipath i\ndefine A\nfile a.c\nproject default\nipath i\ndefine A\nfile b.c\nproject p\nfile a.c\n%\
+    ipath ..\nipath ../../a/..\nipath /..\nipath //a/../b//\nfile a/../../b$project default\nipath ..\nipath ../..\nipath /\nipath /b\nfile ../b\n%\
+    project\tp\nfile a$project p\nfile a\n%\
+    file a.c # x$project default\nfile a.c # x\n%\
+    file x/<y$project default\nfile x/<y\n%\
+    file /$project default\nfile /\n%\
+    file \u{e9}.c$project default\nfile \u{e9}.c\n%\
+    ipath <x\ndefine _ 2$";
+
+// Workspace files, each with the line that is refused.
+const BAD_LINES: &str = "\
+    project p\nfle a.c$bad 2%\
+    file a.c\nbad\nfile <$bad 2%\
+    file$bad 1%\
+    file \t$bad 1%\
+    project$bad 1%\
+    project a b$bad 1%\
+    ipath$bad 1%\
+    readonly $bad 1%\
+    define$bad 1%\
+    define 1x$bad 1%\
+    undefine a-b$bad 1%\
+    undefine 1$bad 1%\
+    undefine a b$bad 1%\
+    File a.c$bad 1%\
+    files a.c$bad 1%\
+    \u{b}file a.c$bad 1%\
+    file <x$bad 1%\
+    file ./<x$bad 1%\
+    file .$bad 1%\
+    file a/..$bad 1%\
+    file ./ a$bad 1%\
+    file a /.$bad 1%\
+    ipath ./ a$bad 1%\
+    ipath b\\/.$bad 1%\
+    file a\\$bad 1%\
+    define f(x) x\\ $bad 1%\
+    # x\\$bad 1%\
+    # x\\ $bad 1%\
+    \\$bad 1";
+
+// Files of some 2^22 bytes: how many follow the first, what stands behind them, and what the file says.
+const SIZES: &str = "\
+    4194303$$%\
+    4194303$\n$%\
+    4194304$$bad 1%\
+    4194303$\n\n$bad 2%\
+    4194302$\n\n$";
+
+// Pseudo files of some 2^16 bytes: what a line begins with, how many letters follow, and whether it fits.
+const SETTINGS: &str = "\
+    define A$65389$fits%\
+    define A$65390$bad 2%\
+    undefine A$65390$fits%\
+    undefine A$65391$bad 2";
+
+// What follows 1,024 units, and what is refused.
+const BEHIND: &str = "\
+    file a$many 1025%\
+    file <$bad 1025%\
+    file a\nbad$many 1025%\
+    bad\nfile a$bad 1025";
 
 // What a file says: its workspace as it is printed, or the line that is refused.
 fn shown(alloc: Global, file: &[u8]) -> Result<Vec<u8>, Fail> {
@@ -25,34 +97,8 @@ fn filled(alloc: Global, front: &str, byte: u8, count: usize) -> Result<Vec<u8>,
 #[test]
 fn each_line_says_what_it_may(rt: HostRuntime) -> Result<(), Fail> {
     let alloc = rt.alloc();
-    for (file, want) in [
-        ("", ""),
-        ("file a.c\n", "project default\nfile a.c\n"),
-        ("# c\n\n \t\r\nfile a.c", "project default\nfile a.c\n"),
-        (" # x", ""),
-        (
-            "readonly /usr/\nproject lib\nipath ./inc/\nipath /opt/x/../y\nipath .\ndefine  NDEBUG 1 \nundefine  linux\nfile src//lib/./a.c\nproject tool\nfile ../t/main.c\r\n",
-            "readonly /usr/\nproject lib\nipath inc\nipath /opt/y\nipath .\ndefine NDEBUG 1\nundefine linux\nfile src/lib/a.c\nproject tool\nfile ../t/main.c\n",
-        ),
-        (
-            "file a.c\nreadonly x",
-            "readonly x\nproject default\nfile a.c\n",
-        ),
-        (
-            "ipath i\ndefine A\nfile a.c\nfile b.c\nproject p\nfile a.c",
-            "project default\nipath i\ndefine A\nfile a.c\nproject default\nipath i\ndefine A\nfile b.c\nproject p\nfile a.c\n",
-        ),
-        (
-            "ipath ..\nipath ../../a/..\nipath /..\nipath //a/../b//\nfile a/../../b",
-            "project default\nipath ..\nipath ../..\nipath /\nipath /b\nfile ../b\n",
-        ),
-        ("project\tp\nfile a", "project p\nfile a\n"),
-        ("file a.c # x", "project default\nfile a.c # x\n"),
-        ("file x/<y", "project default\nfile x/<y\n"),
-        ("file /", "project default\nfile /\n"),
-        ("file \u{e9}.c", "project default\nfile \u{e9}.c\n"),
-        ("ipath <x\ndefine _ 2", ""),
-    ] {
+    for row in LINES.split('%') {
+        let (file, want) = cut(row);
         let text = shown(alloc, file.as_bytes())?;
         assert_eq!(rt; text.as_slice(), want.as_bytes(), "{file:?}");
         let again = shown(alloc, text.as_slice())?;
@@ -64,37 +110,8 @@ fn each_line_says_what_it_may(rt: HostRuntime) -> Result<(), Fail> {
 #[test]
 fn a_bad_line_is_named(rt: HostRuntime) -> Result<(), Fail> {
     let alloc = rt.alloc();
-    for (file, want) in [
-        ("project p\nfle a.c", "bad 2"),
-        ("file a.c\nbad\nfile <", "bad 2"),
-        ("file", "bad 1"),
-        ("file \t", "bad 1"),
-        ("project", "bad 1"),
-        ("project a b", "bad 1"),
-        ("ipath", "bad 1"),
-        ("readonly ", "bad 1"),
-        ("define", "bad 1"),
-        ("define 1x", "bad 1"),
-        ("undefine a-b", "bad 1"),
-        ("undefine 1", "bad 1"),
-        ("undefine a b", "bad 1"),
-        ("File a.c", "bad 1"),
-        ("files a.c", "bad 1"),
-        ("\u{b}file a.c", "bad 1"),
-        ("file <x", "bad 1"),
-        ("file ./<x", "bad 1"),
-        ("file .", "bad 1"),
-        ("file a/..", "bad 1"),
-        ("file ./ a", "bad 1"),
-        ("file a /.", "bad 1"),
-        ("ipath ./ a", "bad 1"),
-        ("ipath b\\/.", "bad 1"),
-        ("file a\\", "bad 1"),
-        ("define f(x) x\\ ", "bad 1"),
-        ("# x\\", "bad 1"),
-        ("# x\\ ", "bad 1"),
-        ("\\", "bad 1"),
-    ] {
+    for row in BAD_LINES.split('%') {
+        let (file, want) = cut(row);
         let text = shown(alloc, file.as_bytes())?;
         assert_eq!(rt; text.as_slice(), want.as_bytes(), "{file:?}");
     }
@@ -103,60 +120,74 @@ fn a_bad_line_is_named(rt: HostRuntime) -> Result<(), Fail> {
     Ok(())
 }
 
+// What a file says that has the byte as often as said, behind a front and before an end.
+fn told(alloc: Global, front: &str, byte: u8, count: &str, end: &str) -> Result<Vec<u8>, Fail> {
+    let mut file = filled(alloc, front, byte, number(count) as usize)?;
+    file.extend_from_slice(end.as_bytes())?;
+    shown(alloc, file.as_slice())
+}
+
 #[test]
-fn limits_hold_at_their_edge(rt: HostRuntime) -> Result<(), Fail> {
+fn a_file_has_two_to_the_22_bytes_at_most(rt: HostRuntime) -> Result<(), Fail> {
     let alloc = rt.alloc();
-    // A file of 2^22 bytes, and what follows it.
-    for (count, end, want) in [
-        (4194303, "", ""),
-        (4194303, "\n", ""),
-        (4194304, "", "bad 1"),
-        (4194303, "\n\n", "bad 2"),
-        (4194302, "\n\n", ""),
-    ] {
-        let mut file = filled(alloc, "#", b'-', count)?;
-        file.extend_from_slice(end.as_bytes())?;
-        let text = shown(alloc, file.as_slice())?;
-        assert_eq!(rt; text.as_slice(), want.as_bytes(), "{count} and {end:?}");
-    }
-    // A pseudo file of 2^16 bytes.
-    for (front, count, fits) in [
-        ("define A", 65389, true),
-        ("define A", 65390, false),
-        ("undefine A", 65390, true),
-        ("undefine A", 65391, false),
-    ] {
-        let mut file = filled(alloc, front, b'A', count)?;
-        file.extend_from_slice(b"\nfile a.c")?;
-        let text = shown(alloc, file.as_slice())?;
-        assert_eq!(rt;
-            text.as_slice() != b"bad 2".as_slice(),
-            fits,
-            "{front} and {count}"
-        );
+    for row in SIZES.split('%') {
+        let (count, rest) = cut(row);
+        let (end, want) = cut(rest);
+        let text = told(alloc, "#", b'-', count, end)?;
+        assert_eq!(rt; text.as_slice(), want.as_bytes(), "{row:?}");
     }
     Ok(())
 }
 
 #[test]
-fn there_are_1024_units_at_most(rt: HostRuntime) -> Result<(), Fail> {
+fn a_pseudo_file_has_two_to_the_16_bytes_at_most(rt: HostRuntime) -> Result<(), Fail> {
     let alloc = rt.alloc();
+    for row in SETTINGS.split('%') {
+        let (front, rest) = cut(row);
+        let (count, want) = cut(rest);
+        let text = told(alloc, front, b'A', count, "\nfile a.c")?;
+        let answer = if text.as_slice() == b"bad 2".as_slice() {
+            "bad 2"
+        } else {
+            "fits"
+        };
+        assert_eq!(rt; answer, want, "{row:?}");
+    }
+    Ok(())
+}
+
+// A file of 1,024 units.
+fn many(alloc: Global) -> Result<Vec<u8>, AllocError> {
     let mut file = Vec::new(alloc);
     for _ in 0..1024 {
         file.extend_from_slice(b"file a\n")?;
     }
+    Ok(file)
+}
+
+#[test]
+fn there_are_1024_units_at_most(rt: HostRuntime) -> Result<(), Fail> {
+    let alloc = rt.alloc();
+    let file = many(alloc)?;
     let ws = read_ws(alloc, file.as_slice())?;
     let copy = ws.copy(alloc)?;
     assert_eq!(rt; copy.units().len(), 1024);
-    for (end, want) in [
-        ("file a", "many 1025"),
-        ("file <", "bad 1025"),
-        ("file a\nbad", "many 1025"),
-        ("bad\nfile a", "bad 1025"),
-    ] {
-        let mut more = file.clone()?;
-        more.extend_from_slice(end.as_bytes())?;
-        let text = shown(alloc, more.as_slice())?;
+    Ok(())
+}
+
+// What is told where this follows 1,024 units.
+fn told_behind(alloc: Global, end: &str) -> Result<Vec<u8>, Fail> {
+    let mut file = many(alloc)?;
+    file.extend_from_slice(end.as_bytes())?;
+    shown(alloc, file.as_slice())
+}
+
+#[test]
+fn a_unit_behind_1024_is_named(rt: HostRuntime) -> Result<(), Fail> {
+    let alloc = rt.alloc();
+    for row in BEHIND.split('%') {
+        let (end, want) = cut(row);
+        let text = told_behind(alloc, end)?;
         assert_eq!(rt; text.as_slice(), want.as_bytes(), "{end:?}");
     }
     Ok(())

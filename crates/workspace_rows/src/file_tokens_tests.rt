@@ -1,49 +1,56 @@
 // The file tokens of small workspaces, worked by hand.
+use crate::rows::cut;
 use crate::workspaces::workspace;
 use cs_base::{MemFiles, Pos};
 use std::alloc::{AllocError, Global};
 use std::test::Fail;
 use ws_core::{Analysis, analyse};
 
-// The text of the file of the only unit; the numbers that it brings, each with its character; and where the parts of
-// the pseudo file of lines and those of the file begin, each with its length.
-struct Row {
-    text: &'static str,
-    numbers: &'static str,
-    lines: &'static str,
-    tokens: &'static str,
-}
+// A row: the text of the file of the only unit; the numbers that it brings, each with its character; and where the parts
+// of the pseudo file of lines and those of the file begin, each with its length.
+const ROWS: &str = "Two numbers of one line, and one of another.
+$int a = __LINE__ + __LINE__;
+int b = __LINE__;
+$ 1@8 2@16
+$ 8+1 16+1
+$ 0+3 4+1 8+8 19+8 29+3 33+1 37+8
+%
+What stands for an operand of `defined` that is no macro.
+$#if defined N || 1
+int c;
+#endif
+$ 0@0
+$ 0+1
+$ 1+2 4+7 12+1 17+1 19+3 23+1 27+5
+%
+What stands for one that is a macro stands where the number of line 1 does.
+$int a = __LINE__;
+#define N
+#if defined N
+int c = __LINE__;
+#endif
+$ 1@8 4@32
+$ 8+1 32+1
+$ 0+3 4+1 8+8 19+6 26+1 29+2 32+7 40+1 42+3 46+1 50+8 61+5
+%
+A line with two digits, and none for a line that is left out.
+$
 
-const ROWS: [Row; 4] = [
-    // Two numbers of one line, and one of another.
-    Row {
-        text: "int a = __LINE__ + __LINE__;\nint b = __LINE__;\n",
-        numbers: "1@8 2@16 ",
-        lines: "8+1 16+1 ",
-        tokens: "0+3 4+1 8+8 19+8 29+3 33+1 37+8 ",
-    },
-    // What stands for an operand of `defined` that is no macro.
-    Row {
-        text: "#if defined N || 1\nint c;\n#endif\n",
-        numbers: "0@0 ",
-        lines: "0+1 ",
-        tokens: "1+2 4+7 12+1 17+1 19+3 23+1 27+5 ",
-    },
-    // What stands for one that is a macro stands where the number of line 1 does.
-    Row {
-        text: "int a = __LINE__;\n#define N\n#if defined N\nint c = __LINE__;\n#endif\n",
-        numbers: "1@8 4@32 ",
-        lines: "8+1 32+1 ",
-        tokens: "0+3 4+1 8+8 19+6 26+1 29+2 32+7 40+1 42+3 46+1 50+8 61+5 ",
-    },
-    // A line with two digits, and none for a line that is left out.
-    Row {
-        text: "\n\n\n\n\n\n\n\n\nint a = __LINE__;\n#ifdef N\nint b = __LINE__;\n#endif\n",
-        numbers: "10@80 ",
-        lines: "80+2 ",
-        tokens: "9+3 13+1 17+8 28+5 34+1 36+3 40+1 44+8 55+5 ",
-    },
-];
+
+
+
+
+
+
+
+int a = __LINE__;
+#ifdef N
+int b = __LINE__;
+#endif
+$ 10@80
+$ 80+2
+$ 9+3 13+1 17+8 28+5 34+1 36+3 40+1 44+8 55+5
+";
 
 // The analysis of the workspace whose only unit has this file.
 fn analysis_of(alloc: Global, text: &str) -> Result<Analysis, Fail> {
@@ -62,11 +69,13 @@ fn show_numbers(alloc: Global, a: &Analysis) -> Result<Vec<u8>, AllocError> {
     for at in 0..100 {
         if let Some(part) = a.part_of(Pos { file: 0, at }) {
             if part.start.at == at {
+                out.push(b' ')?;
                 out.extend_from_slice(a.spelling(part))?;
-                out.extend_from_slice(format!(in alloc; "@{at} ")?.as_bytes())?;
+                out.extend_from_slice(format!(in alloc; "@{at}")?.as_bytes())?;
             }
         }
     }
+    out.push(b'\n')?;
     Ok(out)
 }
 
@@ -89,20 +98,24 @@ fn show_parts(alloc: Global, a: &Analysis, file: u32) -> Result<Vec<u8>, AllocEr
         if let Some(part) = a.part_of(Pos { file, at }) {
             if part.start.at == at {
                 let len = part.len;
-                out.extend_from_slice(format!(in alloc; "{at}+{len} ")?.as_bytes())?;
+                out.extend_from_slice(format!(in alloc; " {at}+{len}")?.as_bytes())?;
             }
         }
     }
+    out.push(b'\n')?;
     Ok(out)
 }
 
 #[test]
 fn each_place_has_one_number(rt: HostRuntime) -> Result<(), Fail> {
     let alloc = rt.alloc();
-    for row in &ROWS {
-        let a = analysis_of(alloc, row.text)?;
+    for row in ROWS.split('%') {
+        let (about, row) = cut(row);
+        let (text, row) = cut(row);
+        let (numbers, _) = cut(row);
+        let a = analysis_of(alloc, text)?;
         let shown = show_numbers(alloc, &a)?;
-        assert_eq!(rt; shown.as_slice(), row.numbers.as_bytes(), "{}", row.text);
+        assert_eq!(rt; shown.as_slice(), numbers.as_bytes(), "{about}");
     }
     Ok(())
 }
@@ -110,12 +123,16 @@ fn each_place_has_one_number(rt: HostRuntime) -> Result<(), Fail> {
 #[test]
 fn each_file_token_is_a_part(rt: HostRuntime) -> Result<(), Fail> {
     let alloc = rt.alloc();
-    for row in &ROWS {
-        let a = analysis_of(alloc, row.text)?;
-        let lines = show_parts(alloc, &a, 0)?;
-        let tokens = show_parts(alloc, &a, number_of(&a, b"a.c"))?;
-        assert_eq!(rt; lines.as_slice(), row.lines.as_bytes(), "{}", row.text);
-        assert_eq!(rt; tokens.as_slice(), row.tokens.as_bytes(), "{}", row.text);
+    for row in ROWS.split('%') {
+        let (about, row) = cut(row);
+        let (text, row) = cut(row);
+        let (_, row) = cut(row);
+        let (lines, tokens) = cut(row);
+        let a = analysis_of(alloc, text)?;
+        let first = show_parts(alloc, &a, 0)?;
+        let second = show_parts(alloc, &a, number_of(&a, b"a.c"))?;
+        assert_eq!(rt; first.as_slice(), lines.as_bytes(), "{about}");
+        assert_eq!(rt; second.as_slice(), tokens.as_bytes(), "{about}");
     }
     Ok(())
 }

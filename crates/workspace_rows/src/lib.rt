@@ -3,7 +3,7 @@
 //! It has tests alone: `file_tests` of workspace files, `unit_tests` and `text_tests` (its rows stand in `text_rows`) of
 //! what preprocessing gives, `accept_tests` of the first fault, `file_tokens_tests` of the tokens of kept files,
 //! `linking_tests` and `analyse_tests` of classes, `order_tests` of the order of places; `workspaces` makes and shows
-//! what several of them use. What each must give is worked outside.
+//! what several of them use, `rows` cuts the texts that rows stand in. What each must give is worked outside.
 #![tactic(auto)]
 
 #[cfg(test)]
@@ -18,6 +18,8 @@ mod file_tokens_tests;
 mod linking_tests;
 #[cfg(test)]
 mod order_tests;
+#[cfg(test)]
+mod rows;
 #[cfg(test)]
 mod text_rows;
 #[cfg(test)]

@@ -1,5 +1,6 @@
 // The workspaces, preprocessed.
-use crate::text_rows::{ROWS, Row};
+use crate::rows::cut;
+use crate::text_rows::ROWS;
 use cs_base::{Link, Tok};
 use include_tree::{Event, EventKind, Reached, UnitText};
 use row_tools::held;
@@ -125,9 +126,9 @@ fn shown(alloc: Global, all: &Texts) -> Result<String, Fail> {
 }
 
 // What is told of a workspace.
-fn told(alloc: Global, row: &Row) -> Result<String, Fail> {
-    let mut files = held(alloc, row.files)?;
-    match read_ws(alloc, row.ws.as_bytes()) {
+fn told(alloc: Global, ws: &str, files: &str) -> Result<String, Fail> {
+    let mut files = held(alloc, files)?;
+    match read_ws(alloc, ws.as_bytes()) {
         Ok(ws) => match texts(alloc, &ws, &mut files) {
             Ok(all) => shown(alloc, &all),
             Err(_) => Ok(format!(in alloc; "refused")?),
@@ -138,9 +139,12 @@ fn told(alloc: Global, row: &Row) -> Result<String, Fail> {
 
 #[test]
 fn worked_workspaces(rt: HostRuntime) -> Result<(), Fail> {
-    for row in &ROWS {
-        let text = told(rt.alloc(), row)?;
-        assert_eq!(rt; text.as_str(), row.want, "{}", row.files);
+    for row in ROWS.split('%') {
+        let (about, row) = cut(row);
+        let (ws, row) = cut(row);
+        let (files, want) = cut(row);
+        let text = told(rt.alloc(), ws, files)?;
+        assert_eq!(rt; text.as_str(), want, "{about}");
     }
     Ok(())
 }

@@ -1,109 +1,167 @@
 // Workspaces over files in memory, and what their units are preprocessed to; worked by hand.
+use crate::rows::{cut, number};
 use crate::workspaces::{held, show_fault, workspace};
 use include_tree::UnitText;
 use std::alloc::{AllocError, Global};
 use std::test::Fail;
 use ws_core::{Texts, one_text, texts};
 
-// A workspace file, the files that are held, each as `PATH:TEXT` with `@` between them, the number of the
-// read that fails, 0 for none, and what is shown.
-struct Row {
-    ws: &'static str,
-    files: &'static str,
-    call: u32,
-    want: &'static str,
-}
+// A row: the number of the read that fails, 0 for none; a workspace file; the files that are held, each as `PATH:TEXT`
+// with `@` between them; and what is shown.
+const TEXTS: &str = "Each path is read once, so no fourth read fails; macros are not carried.
+$4
+$file a.c
+file b.c
+$h.h:#ifndef H
+#define H
+int h;
+#endif
+@a.c:#include \"h.h\"
+int a;
+#define A 1
+@b.c:#include \"h.h\"
+#ifdef A
+wrong
+#endif
+int b;
+$ int h ; int a ;
+ int h ; int b ;
+6 files
+%
+A path without a file is asked for once too.
+$5
+$ipath i
+file a.c
+file b.c
+$a.c:#include \"h.h\"
+@b.c:#include \"h.h\"
+@i/h.h:x
+$ x
+ x
+7 files
+%
+One path is two units.
+$2
+$file a.c
+define N 2
+file a.c
+$a.c:#ifdef N
+N
+#endif
+x
+$ x
+ 2 x
+4 files
+%
+The first fault is that of the least unit which has one.
+$0
+$file a.c
+file b.c
+file c.c
+$a.c:int a;
+@b.c:int b;
+#error stop
+@c.c:#error
+$unit 2: b.c:2:1: error directive
+%
+A fault in a pseudo file.
+$0
+$file a.c
+define A(
+file a.c
+$a.c:x
+$unit 2: <defines 2>:6:1: bad directive
+%
+The file of a unit is not there.
+$0
+$file a.c
+file c.c
+$a.c:x
+$unit 2: c.c:1:1: missing file
+%
+A read of a header fails.
+$2
+$file a.c
+file b.c
+$h.h:#ifndef H
+#define H
+int h;
+#endif
+@a.c:#include \"h.h\"
+int a;
+#define A 1
+@b.c:#include \"h.h\"
+#ifdef A
+wrong
+#endif
+int b;
+$read h.h
+%
+A read in a later unit fails.
+$3
+$file a.c
+file b.c
+$h.h:#ifndef H
+#define H
+int h;
+#endif
+@a.c:#include \"h.h\"
+int a;
+#define A 1
+@b.c:#include \"h.h\"
+#ifdef A
+wrong
+#endif
+int b;
+$read b.c
+";
 
-// Two units that share a header, which has a guard and reads no macro of the other unit.
-const SHARED: &str =
-    "h.h:#ifndef H\n#define H\nint h;\n#endif\n@a.c:#include \"h.h\"\nint a;\n#define A 1\n@b.c:#include \"h.h\"\n#ifdef A\nwrong\n#endif\nint b;\n";
+// The same of one unit by itself: here the number is its own, and no read fails.
+const ALONE: &str = "What the unit before it defines is not defined.
+$2
+$file a.c
+file b.c
+$h.h:#ifndef H
+#define H
+int h;
+#endif
+@a.c:#include \"h.h\"
+int a;
+#define A 1
+@b.c:#include \"h.h\"
+#ifdef A
+wrong
+#endif
+int b;
+$ int h ; int b ;
+%
 
-const TEXTS: [Row; 8] = [
-    // Each path is read once, so no fourth read fails; macros are not carried.
-    Row {
-        ws: "file a.c\nfile b.c\n",
-        files: SHARED,
-        call: 4,
-        want: "int h ; int a ; \nint h ; int b ; \n6 files\n",
-    },
-    // A path without a file is asked for once too.
-    Row {
-        ws: "ipath i\nfile a.c\nfile b.c\n",
-        files: "a.c:#include \"h.h\"\n@b.c:#include \"h.h\"\n@i/h.h:x\n",
-        call: 5,
-        want: "x \nx \n7 files\n",
-    },
-    // One path is two units.
-    Row {
-        ws: "file a.c\ndefine N 2\nfile a.c\n",
-        files: "a.c:#ifdef N\nN\n#endif\nx\n",
-        call: 2,
-        want: "x \n2 x \n4 files\n",
-    },
-    // The first fault is that of the least unit which has one.
-    Row {
-        ws: "file a.c\nfile b.c\nfile c.c\n",
-        files: "a.c:int a;\n@b.c:int b;\n#error stop\n@c.c:#error\n",
-        call: 0,
-        want: "unit 2: b.c:2:1: error directive\n",
-    },
-    // A fault in a pseudo file.
-    Row {
-        ws: "file a.c\ndefine A(\nfile a.c\n",
-        files: "a.c:x\n",
-        call: 0,
-        want: "unit 2: <defines 2>:6:1: bad directive\n",
-    },
-    // The file of a unit is not there.
-    Row {
-        ws: "file a.c\nfile c.c\n",
-        files: "a.c:x\n",
-        call: 0,
-        want: "unit 2: c.c:1:1: missing file\n",
-    },
-    // A read of a header fails.
-    Row {
-        ws: "file a.c\nfile b.c\n",
-        files: SHARED,
-        call: 2,
-        want: "read h.h\n",
-    },
-    // A read in a later unit fails.
-    Row {
-        ws: "file a.c\nfile b.c\n",
-        files: SHARED,
-        call: 3,
-        want: "read b.c\n",
-    },
-];
+$2
+$file a.c
+file b.c
+file c.c
+$a.c:#error
+@b.c:int b;
+@c.c:#error
+$ int b ;
+%
 
-// The same of one unit by itself: here `call` is its number.
-const ALONE: [Row; 3] = [
-    Row {
-        ws: "file a.c\nfile b.c\n",
-        files: SHARED,
-        call: 2,
-        want: "int h ; int b ; \n",
-    },
-    Row {
-        ws: "file a.c\nfile b.c\nfile c.c\n",
-        files: "a.c:#error\n@b.c:int b;\n@c.c:#error\n",
-        call: 2,
-        want: "int b ; \n",
-    },
-    Row {
-        ws: "file a.c\nfile b.c\nfile c.c\n",
-        files: "a.c:int a;\n@b.c:int b;\n#error stop\n@c.c:#error\n",
-        call: 3,
-        want: "unit 3: c.c:1:1: error directive\n",
-    },
-];
+$3
+$file a.c
+file b.c
+file c.c
+$a.c:int a;
+@b.c:int b;
+#error stop
+@c.c:#error
+$unit 3: c.c:1:1: error directive
+";
 
-// The tokens of a unit, each with a space, on a line.
+// The tokens of a unit, each behind a blank, on a line.
 fn show_text(out: &mut Vec<u8>, text: &UnitText) -> Result<(), AllocError> {
     for tok in text.toks() {
-        out.extend_from_slice(tok.text())?;
         out.push(b' ')?;
+        out.extend_from_slice(tok.text())?;
     }
     out.push(b'\n')?;
     Ok(())
@@ -156,9 +214,13 @@ fn a_workspace_without_units_has_no_text(rt: HostRuntime) -> Result<(), Fail> {
 #[test]
 fn units_share_what_was_read(rt: HostRuntime) -> Result<(), Fail> {
     let alloc = rt.alloc();
-    for row in &TEXTS {
-        let text = shown(alloc, row.ws, row.files, row.call)?;
-        assert_eq!(rt; text.as_slice(), row.want.as_bytes(), "{}", row.ws);
+    for row in TEXTS.split('%') {
+        let (about, row) = cut(row);
+        let (call, row) = cut(row);
+        let (ws, row) = cut(row);
+        let (files, want) = cut(row);
+        let text = shown(alloc, ws, files, number(call))?;
+        assert_eq!(rt; text.as_slice(), want.as_bytes(), "{about}");
     }
     Ok(())
 }
@@ -166,9 +228,13 @@ fn units_share_what_was_read(rt: HostRuntime) -> Result<(), Fail> {
 #[test]
 fn a_unit_alone_knows_no_other(rt: HostRuntime) -> Result<(), Fail> {
     let alloc = rt.alloc();
-    for row in &ALONE {
-        let text = shown_alone(alloc, row.ws, row.files, row.call)?;
-        assert_eq!(rt; text.as_slice(), row.want.as_bytes(), "{}", row.ws);
+    for row in ALONE.split('%') {
+        let (about, row) = cut(row);
+        let (unit, row) = cut(row);
+        let (ws, row) = cut(row);
+        let (files, want) = cut(row);
+        let text = shown_alone(alloc, ws, files, number(unit))?;
+        assert_eq!(rt; text.as_slice(), want.as_bytes(), "{about}");
     }
     Ok(())
 }
