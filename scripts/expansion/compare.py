@@ -195,6 +195,9 @@ def main():
                 file.write(text)
         out = subprocess.run([dump] + paths, capture_output=True, check=True).stdout
         got = out.decode().split("\n.\n")
+        if len(got) < len(cases):
+            print("%d texts, and %d answers" % (len(cases), len(got)))
+            return 1
         for (text, want, word), have in zip(cases, got):
             told[word] = told.get(word, 0) + 1
             if have != "\n".join(want):

@@ -1,6 +1,5 @@
 """The work of scripts/compare-renames."""
 
-import argparse
 import gc
 import os
 import random
@@ -99,19 +98,19 @@ def expected_outcome(analysis, words):
 class Compared:
     """One workspace, with copies for the workers."""
 
-    def __init__(self, arguments, name, scratch):
-        self.arguments, self.name = arguments, name
+    def __init__(self, program, name, seed, count, scratch):
+        self.program, self.name, self.seed, self.count = program, name, seed, count
         began = time.time()
         self.analysis = analyse(read_workspace(open(f"{name}/w.cs", "rb").read()), HostFiles())
         self.seconds = time.time() - began
-        self.copies = [Copy(".", [name, "musl"], os.path.join(scratch, f"{name}{k}")) for k in range(arguments.jobs)]
+        self.copies = [Copy(".", [name, "musl"], os.path.join(scratch, f"{name}{k}")) for k in range(os.cpu_count())]
         self.tokens = Tokens(self.analysis, self.copies[0].folder)
 
     def rows(self):
-        rng = random.Random(self.arguments.seed)
+        rng = random.Random(self.seed)
         spellings = sorted({tok.text for file in self.analysis.kept.values() for tok in file.text.toks
                             if tok.kind == "Ident"})
-        for kind, pos in chosen(self.analysis, rng, self.arguments.places):
+        for kind, pos in chosen(self.analysis, rng, self.count):
             path, line, column = self.analysis.place(pos)
             part = self.analysis.part_named(path, line, column)
             name = new_name(self.analysis, rng, part.text if part else b"x", spellings)
@@ -120,7 +119,7 @@ class Compared:
 
     def held(self, words, copy):
         """The outcome of the program over a copy that no other worker has."""
-        return outcome_of(self.arguments.program, words, copy)
+        return outcome_of(self.program, words, copy)
 
     def run(self):
         rows = list(self.rows())
@@ -157,7 +156,7 @@ class Compared:
         print(f"{self.name}: {len(rows)} renames ({tally(kinds)}): {tally(answers)}; {units} edited units held against gcc"
               f"{f' ({odd} units of other tokens)' if odd else ''}; the model's analysis {self.seconds:.1f} s and its plans "
               f"{model:.1f} s, the program {seconds:.1f} s", flush=True)
-        return len(rows), accepted, differ
+        return len(rows), accepted, units, differ
 
     def looked_at(self, renaming, outcome):
         """The units of the edited files, by gcc; the files are those that the program made."""
@@ -176,25 +175,26 @@ def tally(counts):
 
 
 def main():
-    asked = argparse.ArgumentParser()
-    asked.add_argument("program", type=os.path.realpath)
-    asked.add_argument("corpus")
-    asked.add_argument("names", nargs="+")
-    asked.add_argument("--places", type=int, default=30)
-    asked.add_argument("--seed", type=int, default=1)
-    asked.add_argument("--jobs", type=int, default=os.cpu_count())
-    arguments = asked.parse_intermixed_args()
-    os.chdir(arguments.corpus)
+    program, corpus = sys.argv[1:3]
+    seed, count = map(int, sys.argv[3:5])
+    os.chdir(corpus)
     gc.disable()  # the model makes many small objects and few cycles
-    counts = 0, 0, 0
+    counts = 0, 0, 0, 0
     with tempfile.TemporaryDirectory() as scratch:
-        for name in arguments.names:
-            counts = tuple(map(sum, zip(counts, Compared(arguments, name, scratch).run())))
+        for name in sys.argv[5:]:
+            now = Compared(program, name, seed, count, scratch).run()
+            if not now[0]:
+                print(f"{name}: no rename to hold")
+                return 1
+            counts = tuple(map(sum, zip(counts, now)))
             gc.collect()
             shutil.rmtree(scratch)
             os.makedirs(scratch)
-    print("%d renames, %d accepted, %d differ" % counts)
-    return 1 if counts[2] else 0
+    print("%d renames, %d accepted, %d edited units held against gcc, %d differ" % counts)
+    if counts[1] and not counts[2]:
+        print("no edited unit was held against gcc")
+        return 1
+    return 1 if counts[3] else 0
 
 
 sys.exit(with_deep_stack(main))

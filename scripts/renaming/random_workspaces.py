@@ -1,6 +1,5 @@
 """The work of scripts/random-renames."""
 
-import argparse
 import os
 import random
 import shutil
@@ -155,24 +154,23 @@ def report(runner, words, files, by_model, wrong):
 
 
 def main():
-    asked = argparse.ArgumentParser()
-    asked.add_argument("program", type=os.path.realpath)
-    asked.add_argument("--count", type=int, default=100)
-    asked.add_argument("--seed", type=int, default=1)
-    asked.add_argument("--each", type=int, default=10)
-    arguments = asked.parse_args()
-    r, totals = random.Random(arguments.seed), Totals()
+    program = sys.argv[1]
+    seed, count, each = map(int, sys.argv[2:])
+    r, totals = random.Random(seed), Totals()
     with tempfile.TemporaryDirectory() as scratch:
-        runner = Runner(arguments.program, scratch)
-        for _ in range(arguments.count):
-            one_workspace(runner, r, arguments.each, totals)
+        runner = Runner(program, scratch)
+        for _ in range(count):
+            one_workspace(runner, r, each, totals)
             if totals.differ > 20:
                 print("more than 20 differ: no more are tried")
                 break
     print(", ".join(f"{n} {word}" for word, n in sorted(totals.answers.items(), key=lambda pair: -pair[1])))
     print(f"{totals.units} edited units held against gcc")
     print(f"{totals.renames} renames, {totals.accepted} accepted, {totals.differ} differ")
-    return 1 if totals.differ else 0
+    if totals.accepted and not totals.units:
+        print("no edited unit was held against gcc")
+        return 1
+    return 1 if totals.differ or not totals.renames else 0
 
 
 sys.exit(with_deep_stack(main))
