@@ -1,4 +1,5 @@
--- Spellings that no name may take or lose (ISO/IEC 9899:1999, 6.4.1, 6.4.2.2, 6.10.1, 6.10.3, 6.10.8).
+-- Spellings that no name may take or lose (ISO/IEC 9899:1999, 6.4.1, 6.4.2.2, 6.10.1, 6.10.3, 6.10.8,
+-- and the keywords more of ISO/IEC 9899:2011, 6.4.1).
 use Rattle.std.specs.Prelude.{ℕ, Bool, ◌||◌, List, [], ◌∷◌, codes}
 use Rattle.std.specs.List.{list_any}
 use Rattle.std.specs.Str.{bytes_eq}
@@ -23,6 +24,12 @@ keywords_to_end =
     codes "switch" ∷ codes "typedef" ∷ codes "union" ∷ codes "unsigned" ∷ codes "void"
     ∷ codes "volatile" ∷ codes "while" ∷ codes "_Bool" ∷ codes "_Complex" ∷ codes "_Imaginary" ∷ []
 
+-- keyword of C11 and not of C99 (ISO/IEC 9899:2011, 6.4.1)
+abbrev pub keywords_of_c11 : List (List ℕ)
+keywords_of_c11 =
+    codes "_Alignas" ∷ codes "_Alignof" ∷ codes "_Atomic" ∷ codes "_Generic" ∷ codes "_Noreturn"
+    ∷ codes "_Static_assert" ∷ codes "_Thread_local" ∷ []
+
 -- Names that the preprocessor or the implementation gives a meaning (6.4.2.2, 6.10.1, 6.10.3, 6.10.8),
 -- and `L`, which directly before a quote would become its prefix (6.4.4.4, 6.4.5).
 abbrev pub given_names : List (List ℕ)
@@ -31,11 +38,12 @@ given_names =
     ∷ codes "__FILE__" ∷ codes "__DATE__" ∷ codes "__TIME__" ∷ codes "__STDC__"
     ∷ codes "__STDC_HOSTED__" ∷ codes "__STDC_VERSION__" ∷ []
 
--- A reserved spelling: one of the 37 keywords or of the 11 given names. `unfoldable`, since the table
--- would stand in every goal above.
+-- A reserved spelling, whatever the standards of the units are: one of the 37 keywords of C99, of the 7 that C11
+-- has more, or of the 11 given names. `unfoldable`, since the table would stand in every goal above.
 unfoldable pub is_reserved_text : List ℕ → Bool
 is_reserved_text text =
     list_any (bytes_eq text) keywords_to_if
     || list_any (bytes_eq text) keywords_to_struct
     || list_any (bytes_eq text) keywords_to_end
+    || list_any (bytes_eq text) keywords_of_c11
     || list_any (bytes_eq text) given_names

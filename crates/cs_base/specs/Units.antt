@@ -1,10 +1,12 @@
--- The units of a workspace and their settings: what contracts see of a `Unit`, and what is true of each.
+-- The units of a workspace, their settings and standards: what contracts see of a `Unit`, and what is true of each.
 use Rattle.std.specs.Prelude.{ℕ, Bool, false, not, ◌&&◌, ◌||◌, ◌==◌, ◌^◌, List, [], ◌∷◌, ◌++◌, IsTrue, length, map, reverse, codes, nat_le}
 use Rattle.std.specs.List.{list_all, flat_map}
 use Rattle.std.specs.Char.{is_ascii_alphabetic, is_ascii_digit}
 use Rattle.std.specs.Str.{bytes_eq, is_utf8}
 use Rattle.cs_base.specs.declared.ws_units.Setting.{Setting}
 use Rattle.cs_base.specs.declared.ws_units.Setting.TheVariants.{Define, Undefine}
+use Rattle.cs_base.specs.declared.ws_units.Standard.{Standard}
+use Rattle.cs_base.specs.declared.ws_units.Standard.TheVariants.{C99, C11}
 use Rattle.cs_base.specs.Paths.{is_normal}
 
 abbrev pub line_feed : ℕ
@@ -82,10 +84,15 @@ abbrev pub setting_line : Setting → List ℕ
 setting_line (Define rest) = codes "#define " ++ rest
 setting_line (Undefine name) = codes "#undef " ++ name
 
--- the lines that each pseudo file `<defines N>` begins with (6.10.8)
-unfoldable pub fixed_lines : List (List ℕ)
-fixed_lines =
-    codes "#define __STDC__ 1" ∷ codes "#define __STDC_HOSTED__ 1" ∷ codes "#define __STDC_VERSION__ 199901L"
+-- the line that tells the standard (6.10.8)
+abbrev pub version_line : Standard → List ℕ
+version_line C99 = codes "#define __STDC_VERSION__ 199901L"
+version_line C11 = codes "#define __STDC_VERSION__ 201112L"
+
+-- the lines that the pseudo file `<defines N>` of a unit of this standard begins with (6.10.8)
+unfoldable pub fixed_lines : Standard → List (List ℕ)
+fixed_lines standard =
+    codes "#define __STDC__ 1" ∷ codes "#define __STDC_HOSTED__ 1" ∷ version_line standard
     ∷ codes "#define __DATE__ \"Jan  1 1970\"" ∷ codes "#define __TIME__ \"00:00:00\"" ∷ []
 
 -- a line with its line feed
@@ -93,24 +100,26 @@ abbrev pub ended_line : List ℕ → List ℕ
 ended_line line = line ++ line_feed ∷ []
 
 -- the text of a unit's pseudo file: the fixed lines, and one line for each setting in force
-unfoldable pub defines_text : List Setting → List ℕ
-defines_text settings = flat_map ended_line (fixed_lines ++ map setting_line settings)
+unfoldable pub defines_text : Standard → List Setting → List ℕ
+defines_text standard settings = flat_map ended_line (fixed_lines standard ++ map setting_line settings)
 
 -- no more than 2^16 bytes of pseudo file
-unfoldable pub defines_fit : List Setting → Bool
-defines_fit settings = nat_le (length (defines_text settings)) (2 ^ 16)
+unfoldable pub defines_fit : Standard → List Setting → Bool
+defines_fit standard settings = nat_le (length (defines_text standard settings)) (2 ^ 16)
 
 -- A unit: its project, the path of its main source file, the directories that its includes are looked
--- for in, and the settings that hold in it, both in order.
+-- for in, and the settings that hold in it, both in order, and its standard.
 pub record UnitValue : Type 0 where
   pub project : List ℕ
   pub path : List ℕ
   pub ipath : List (List ℕ)
   pub settings : List Setting
+  pub standard : Standard
 
 -- a unit of these parts
-abbrev pub unit : List ℕ → List ℕ → List (List ℕ) → List Setting → UnitValue
-unit project path ipath settings = record { project = project; path = path; ipath = ipath; settings = settings }
+abbrev pub unit : List ℕ → List ℕ → List (List ℕ) → List Setting → Standard → UnitValue
+unit project path ipath settings standard =
+    record { project = project; path = path; ipath = ipath; settings = settings; standard = standard }
 
 -- What is true of every unit.
 pub record IsUnit (u : UnitValue) : Type 0 where
@@ -118,4 +127,4 @@ pub record IsUnit (u : UnitValue) : Type 0 where
   pub is_placed : IsTrue (is_unit_path u.path)
   pub are_directories : IsTrue (list_all is_directory u.ipath)
   pub are_settings : IsTrue (list_all is_setting u.settings)
-  pub fits : IsTrue (defines_fit u.settings)
+  pub fits : IsTrue (defines_fit u.standard u.settings)

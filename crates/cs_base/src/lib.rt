@@ -37,4 +37,4 @@ pub use reserved_words::is_reserved;
 pub use step_count::Steps;
 pub use texts::Text;
 pub use tokens::{Kind, Link, Tok, Toks};
-pub use ws_units::{Setting, Unit};
+pub use ws_units::{Setting, Standard, Unit};

@@ -1,8 +1,8 @@
-// Spellings that no name may take or lose (ISO/IEC 9899:1999, 6.4.1, 6.4.2.2, 6.10.8).
+// Spellings that no name may take or lose (ISO/IEC 9899:1999, 6.4.1, 6.4.2.2, 6.10.8; ISO/IEC 9899:2011, 6.4.1).
 ghost use Rattle.std.specs.Prelude.{◌≡◌};
 ghost use Rattle.std.specs.List.{list_any};
 ghost use Rattle.std.specs.Str.{bytes_eq};
-ghost use Rattle.cs_base.specs.Reserved.{is_reserved_text, keywords_to_if, keywords_to_struct, keywords_to_end, given_names};
+ghost use Rattle.cs_base.specs.Reserved.{is_reserved_text, keywords_to_if, keywords_to_struct, keywords_to_end, keywords_of_c11, given_names};
 
 #[tactic(auto, unfolding(crate::specs::Reserved::is_reserved_text))]
 /// Whether the spelling is a keyword or a name that the implementation gives a meaning.
@@ -12,6 +12,7 @@ pub fn is_reserved(text: &[u8]) -> bool
     is_keyword_to_if(text)
         || is_keyword_to_struct(text)
         || is_keyword_to_end(text)
+        || is_keyword_of_c11(text)
         || is_given_name(text)
 }
 
@@ -84,6 +85,23 @@ fn is_keyword_to_end(text: &[u8]) -> bool
             b"_Bool",
             b"_Complex",
             b"_Imaginary",
+        ],
+    )
+}
+
+fn is_keyword_of_c11(text: &[u8]) -> bool
+    ensures { result ≡ list_any (bytes_eq text.now) keywords_of_c11 }
+{
+    is_one_of(
+        text,
+        &[
+            b"_Alignas",
+            b"_Alignof",
+            b"_Atomic",
+            b"_Generic",
+            b"_Noreturn",
+            b"_Static_assert",
+            b"_Thread_local",
         ],
     )
 }

@@ -1,4 +1,4 @@
-// The units of a workspace, each with the settings that hold in it.
+// The units of a workspace, each with its standard and the settings that hold in it.
 ghost use Rattle.std.specs.Prelude.{◌≡◌, IsUtf8};
 
 use crate::texts::Text;
@@ -11,6 +11,13 @@ pub enum Setting {
     Undefine(Text),
 }
 
+/// The standard that a unit is read by: ISO/IEC 9899:1999 or 9899:2011.
+#[derive(Clone, Copy, Debug, PartialEq, Eq)]
+pub enum Standard {
+    C99,
+    C11,
+}
+
 /// A unit of a workspace. Contracts see the record of its parts.
 #[derive(Drop)]
 pub struct Unit {
@@ -18,6 +25,7 @@ pub struct Unit {
     path: Text,
     ipath: Vec<Text>,
     settings: Vec<Setting>,
+    standard: Standard,
 }
 
 impl Model for Unit {
@@ -25,24 +33,31 @@ impl Model for Unit {
 
     ghost Value = { UnitValue };
 
-    ghost view = { λ u. unit u.project u.path u.ipath.items u.settings.items };
+    ghost view = { λ u. unit u.project u.path u.ipath.items u.settings.items u.standard };
 
-    ghost invariant = { λ u. IsUnit (unit u.project u.path u.ipath.items u.settings.items) };
+    ghost invariant = { λ u. IsUnit (unit u.project u.path u.ipath.items u.settings.items u.standard) };
 }
 
 impl Unit {
     ghost use Rattle.cs_base.specs.Units.{unit, IsUnit};
 
     /// A unit of these parts.
-    pub fn new(project: Text, path: Text, ipath: Vec<Text>, settings: Vec<Setting>) -> Unit
-        requires sound { IsUnit (unit project path ipath.items settings.items) }
-        ensures answer { result ≡ unit project path ipath.items settings.items }
+    pub fn new(
+        project: Text,
+        path: Text,
+        ipath: Vec<Text>,
+        settings: Vec<Setting>,
+        standard: Standard,
+    ) -> Unit
+        requires sound { IsUnit (unit project path ipath.items settings.items standard) }
+        ensures answer { result ≡ unit project path ipath.items settings.items standard }
     {
         Unit {
             project,
             path,
             ipath,
             settings,
+            standard,
         }
     }
 
@@ -77,5 +92,13 @@ impl Unit {
         ensures sound { IsUnit self.now }
     {
         self.settings.as_slice()
+    }
+
+    /// The standard that it is read by.
+    pub fn standard(&self) -> Standard
+        ensures answer { result ≡ self.now.standard }
+        ensures sound { IsUnit self.now }
+    {
+        self.standard
     }
 }

@@ -93,5 +93,5 @@ others_stay limits reader source number other unit before real few few2 apart no
     let ctx : Context = context source reader unit.ipath limits before.toks in
     let s : State = first_state limits number unit before.table in
     both_files_stay ctx (Lacks (defines_path other)) (pseudo_stable source (defines_path other) refl) (defines_path number) unit.path s real
-    (lacks-push (defines_path other) (defines_path number) (Made (defines_text unit.settings)) before.table
+    (lacks-push (defines_path other) (defines_path number) (Made (defines_text unit.standard unit.settings)) before.table
     (defines-apart other number few2 few apart) none)

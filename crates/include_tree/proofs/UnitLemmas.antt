@@ -96,7 +96,7 @@ outer-refused k e m u s next h = refused-fault k m s next (fault_of e) h
 -- ---- the pseudo file of a unit
 
 abbrev pub with_defines : ℕ → UnitValue → Table → Table
-with_defines number unit t = numbered (defines_path number) (Made (defines_text unit.settings)) t
+with_defines number unit t = numbered (defines_path number) (Made (defines_text unit.standard unit.settings)) t
 
 abbrev pub defines_opening : ℕ → UnitValue → Table → Opening
 defines_opening number unit t = opening the_limits file_text (first_place (defines_path number)) (defines_path number) (with_defines number unit t)
@@ -106,10 +106,10 @@ abbrev pub main_opening : List ℕ → Table → Source → Opening
 main_opening path t source = opening the_limits file_text (first_place path) path (asked source path t)
 
 -- what is opened at another path or in another table is the same
-pub gives-made : (r : Result ℕ PreFault) (v t : Table) (path path2 text : List ℕ) (number : ℕ) (unit : UnitValue) → path ≡ defines_path number → path2 ≡ path → text ≡ defines_text unit.settings
+pub gives-made : (r : Result ℕ PreFault) (v t : Table) (path path2 text : List ℕ) (number : ℕ) (unit : UnitValue) → path ≡ defines_path number → path2 ≡ path → text ≡ defines_text unit.standard unit.settings
     → GivesOpening r (opening the_limits file_text (first_place path2) path2 (numbered path2 (Made text) t)) v → GivesOpening r (defines_opening number unit t) v
 gives-made r v t path path2 text number unit is same text_is h =
-    subst (λ (p : List ℕ). GivesOpening r (opening the_limits file_text (first_place p) p (numbered p (Made (defines_text unit.settings)) t)) v) (same ∙ is)
+    subst (λ (p : List ℕ). GivesOpening r (opening the_limits file_text (first_place p) p (numbered p (Made (defines_text unit.standard unit.settings)) t)) v) (same ∙ is)
     (subst (λ (x : List ℕ). GivesOpening r (opening the_limits file_text (first_place path2) path2 (numbered path2 (Made x) t)) v) text_is h)
 
 pub gives-main : (source : Source) (r : Result ℕ PreFault) (v t u : Table) (path : List ℕ) (place : Place) → place ≡ first_place path

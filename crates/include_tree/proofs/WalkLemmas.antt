@@ -247,5 +247,5 @@ pub units_end : (limits : Limits) (reader : Reader) (source : Source) (number : 
 units_end limits reader source number unit before none =
     let ctx : Context = context source reader unit.ipath limits before.toks in
     let s : State = first_state limits number unit before.table in
-    unit_ended ctx before.table s refl (omega arith) (widens_push source (defines_path number) (Made (defines_text unit.settings)) before.table none tt)
+    unit_ended ctx before.table s refl (omega arith) (widens_push source (defines_path number) (Made (defines_text unit.standard unit.settings)) before.table none tt)
     (unit_outcome limits reader source number unit before) (both_files_lead ctx (defines_path number) unit.path s)

@@ -14,7 +14,7 @@ use Rattle.include_tree.specs.Walk.{file_items}
 -- The state at the beginning of a unit (6.10.8). The pseudo file of its settings gets a number.
 abbrev pub first_state : Limits → ℕ → UnitValue → Table → State
 first_state limits number unit table = record {
-  table = numbered (defines_path number) (Made (defines_text unit.settings)) table;
+  table = numbered (defines_path number) (Made (defines_text unit.standard unit.settings)) table;
   macros = first_macros;
   work = limits.work;
   names = [];

@@ -32,7 +32,7 @@ const MOST_INSIDE: u32 = 199;
 // The number of the pseudo file of the unit, which is made unless its path was met.
 fn make_defines(alloc: Global, cache: &mut Cache, unit: &Unit, number: u32) -> Result<u32, PreFault>
     ensures answer { found_at (defines_path number) cache.old.table ≡ None → GivesOpening result (opening the_limits file_text (first_place (defines_path number)) (defines_path number)
-        (numbered (defines_path number) (Made (defines_text unit.now.settings)) cache.old.table)) cache.new.table }
+        (numbered (defines_path number) (Made (defines_text unit.now.standard unit.now.settings)) cache.old.table)) cache.new.table }
     ensures there { IfOk result (λ n. IsSome (source_at cache.new.table n)) }
     ensures keeps { Keeps cache.old cache.new }
     ensures no_read { IfErr result IsNoReadFault }
@@ -42,7 +42,7 @@ fn make_defines(alloc: Global, cache: &mut Cache, unit: &Unit, number: u32) -> R
         let place = first_place(alloc, &path)?;
         return open_file(alloc, cache, &path, &place);
     }
-    let text = defines_text(alloc, unit.settings())?;
+    let text = defines_text(alloc, unit.standard(), unit.settings())?;
     cache.make(alloc, &path, text)
 }
 
@@ -58,7 +58,7 @@ fn walk_defines<F: Files>(
     requires ready { IsReady p.old (unit_most cache.old.toks) }
     ensures answer { found_at (defines_path number) cache.old.table ≡ None → (source : Source) → AreFound source cache.new.table →
         Gives (λ _. (state_in cache.new.table p.new, p.new.text)) fault_of result (put_after p.old.text (outer_file (unit_context source unit.now.ipath cache.old.toks) (defines_path number)
-        (state_in (numbered (defines_path number) (Made (defines_text unit.now.settings)) cache.old.table) p.old))) }
+        (state_in (numbered (defines_path number) (Made (defines_text unit.now.standard unit.now.settings)) cache.old.table) p.old))) }
     ensures goes_on { GoesOn p.old p.new result }
     ensures reads { ReadsOn (F.told files.old).held cache.old cache.new }
     ensures faults { ReadsOnly (F.told files.old) (F.told files.new) (reads_of result) }

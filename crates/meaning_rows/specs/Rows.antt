@@ -1,5 +1,6 @@
 -- Worked rows: programs of one file, in which a class has one member of one character, and what its renaming does to them.
 use Rattle.std.specs.Prelude.{◌≡◌, ℕ, Bool, true, false, Some, List, [], ◌∷◌, Result, Ok, codes, slice_get}
+use Rattle.cs_base.specs.declared.ws_units.Standard.TheVariants.{C99}
 use Rattle.cs_base.specs.declared.causes.Cause.{Cause}
 use Rattle.cs_base.specs.declared.positions.Part.{Part}
 use Rattle.cs_base.specs.declared.tokens.Kind.{Kind}
@@ -55,7 +56,7 @@ row_limits = record the_limits { work = 100 }
 -- the unit of the row, preprocessed within them
 abbrev pub row_unit : Row → Result Preprocessed Fault
 row_unit r =
-    preprocessed_by 0 (unit_outcome row_limits file_text (source_of ((codes "a.c", r.bytes) ∷ [])) 1 (unit (codes "rows") (codes "a.c") [] []) nothing_carried)
+    preprocessed_by 0 (unit_outcome row_limits file_text (source_of ((codes "a.c", r.bytes) ∷ [])) 1 (unit (codes "rows") (codes "a.c") [] [] C99) nothing_carried)
 
 -- It has the tokens of the row, and its file the number 2.
 pub record IsPreprocessed (r : Row) : Type 0 where

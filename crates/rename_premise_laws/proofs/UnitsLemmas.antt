@@ -89,7 +89,7 @@ unit_grown limits reader source number unit before =
     let J : Table → Type 0 = IsGrown before.table in
     let ctx : Context = context source reader unit.ipath limits before.toks in
     let s : State = first_state limits number unit before.table in
-    let first = grown_push before.table (defines_path number) (Made (defines_text unit.settings)) in
+    let first = grown_push before.table (defines_path number) (Made (defines_text unit.standard unit.settings)) in
     onward_done (Stays {A = List Token} J) (Stays {A = List Token} J) (outer_file ctx (defines_path number) s) _ (outer_grown before.table ctx (defines_path number) s first)
     (λ toks t g. onward_done (Stays {A = List Token} J) (Stays {A = List Token} J) (main_file ctx unit.path t) _ (main_grown before.table ctx unit.path t g)
     (λ more u f. f))

@@ -57,7 +57,7 @@ module _ (source : Source) (J : Table → Type 0) (K : List ℕ → Type 0) (rul
   unit_stays limits reader number unit before own h =
       let ctx : Context = context source reader unit.ipath limits before.toks in
       let s : State = first_state limits number unit before.table in
-      let first = rules.made before.table (defines_path number) (defines_text unit.settings) h in
+      let first = rules.made before.table (defines_path number) (defines_text unit.standard unit.settings) h in
       onward_done (Stays {A = List Token} J) (Stays {A = List Token} J) (outer_file ctx (defines_path number) s) _ (outer_stays reader unit.ipath limits before.toks (defines_path number) s first)
       (λ toks t g. onward_done (Stays {A = List Token} J) (Stays {A = List Token} J) (main_file ctx unit.path t) _
       (outer_stays reader unit.ipath limits before.toks unit.path (record t { table = asked source unit.path t.table }) (rules.main t.table unit.path own g)) (λ more u f. f))

@@ -106,7 +106,7 @@ first-kept c names number unit t = record {
 
 first-moved : (c : Change) (number : ℕ) (unit : UnitValue) (t : Table) → first_state the_limits number unit (edited_table c.editing t) ≡ moved c first_macros (first_state the_limits number unit t)
 first-moved c number unit t =
-    ap (λ (x : Table). record (moved c first_macros (first_state the_limits number unit t)) { table = x }) (sym (push-edited c.editing 0 (defines_path number) (Made (defines_text unit.settings)) t))
+    ap (λ (x : Table). record (moved c first_macros (first_state the_limits number unit t)) { table = x }) (sym (push-edited c.editing 0 (defines_path number) (Made (defines_text unit.standard unit.settings)) t))
 
 -- ---- the files of a unit
 
@@ -145,7 +145,7 @@ unit-grows old number unit before d is =
     let s : State = first_state the_limits number unit before.table in
     let grown : IsGrown s.table d.state.table =
     subst (λ (m : Outcome (List Token)). Grows s m) is (both-grow old unit.ipath before.toks (defines_path number) unit.path s) in
-    grown_trans before.table s.table d.state.table (grown-push before.table (entry (defines_path number) (Made (defines_text unit.settings)))) grown
+    grown_trans before.table s.table d.state.table (grown-push before.table (entry (defines_path number) (Made (defines_text unit.standard unit.settings)))) grown
 
 module _ (c : Change) (names : KeepsNames c) (source : Source) (files : KeepsFiles c source) (old : Source) (ipath : List (List ℕ)) (earlier : ℕ) where
   abbrev ctx : Context

@@ -72,7 +72,7 @@ unit_made : (limits : Limits) (reader : Reader) (source : Source) (number : ℕ)
 unit_made limits reader source number unit before h =
     let ctx : Context = context source reader unit.ipath limits before.toks in
     let s : State = first_state limits number unit before.table in
-    let first = made-push (defines_path number) (Made (defines_text unit.settings)) before.table refl h in
+    let first = made-push (defines_path number) (Made (defines_text unit.standard unit.settings)) before.table refl h in
     onward_done (Stays {A = List Token} MadeArePseudo) (Stays {A = List Token} MadeArePseudo) (outer_file ctx (defines_path number) s) _ (outer_made ctx (defines_path number) s first)
     (λ toks t g. onward_done (Stays {A = List Token} MadeArePseudo) (Stays {A = List Token} MadeArePseudo) (main_file ctx unit.path t) _ (main_made ctx unit.path t g)
     (λ more u f. f))

@@ -157,7 +157,7 @@ unit_opens : (limits : Limits) (reader : Reader) (source : Source) (number : ℕ
 unit_opens limits reader source number unit before real h =
     let ctx : Context = context source reader unit.ipath limits before.toks in
     let s : State = first_state limits number unit before.table in
-    let first = made-push (defines_path number) (Made (defines_text unit.settings)) before.table refl h in
+    let first = made-push (defines_path number) (Made (defines_text unit.standard unit.settings)) before.table refl h in
     onward_done (Stays {A = List Token} MadeArePseudo) (Stays {A = List Token} (IsOpened unit.path)) (outer_file ctx (defines_path number) s) _ (outer_made ctx (defines_path number) s first)
     (λ toks t g. onward_done (Stays {A = List Token} (IsOpened unit.path)) (Stays {A = List Token} (IsOpened unit.path)) (main_file ctx unit.path t) _
     (outer_opens ctx unit.path (record t { table = asked ctx.source unit.path t.table }) real (asked_made unit.path (ctx.source unit.path) t.table (found_at unit.path t.table) g))
@@ -176,7 +176,7 @@ unit_keeps : (path : List ℕ) (limits : Limits) (reader : Reader) (source : Sou
 unit_keeps path limits reader source number unit before h =
     let ctx : Context = context source reader unit.ipath limits before.toks in
     let s : State = first_state limits number unit before.table in
-    let first = opened-push path (defines_path number) (Made (defines_text unit.settings)) before.table h in
+    let first = opened-push path (defines_path number) (Made (defines_text unit.standard unit.settings)) before.table h in
     onward_done (Stays {A = List Token} (IsOpened path)) (Stays {A = List Token} (IsOpened path)) (outer_file ctx (defines_path number) s) _ (outer_keeps ctx path (defines_path number) s first)
     (λ toks t g. onward_done (Stays {A = List Token} (IsOpened path)) (Stays {A = List Token} (IsOpened path)) (main_file ctx unit.path t) _
     (outer_keeps ctx path unit.path (record t { table = asked ctx.source unit.path t.table }) (opened_asked path unit.path (ctx.source unit.path) t.table (found_at unit.path t.table) g))

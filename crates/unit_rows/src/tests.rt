@@ -1,5 +1,5 @@
 // Whole units over files in memory, with ample memory: what is put out, or why nothing is.
-use cs_base::{Cause, MemFiles, Memory, Place, Text, Tok, Unit};
+use cs_base::{Cause, MemFiles, Memory, Place, Standard, Text, Tok, Unit};
 use include_tree::{Cache, PreFault, UnitText, preprocess};
 use row_tools::held;
 use std::alloc::{AllocError, Global};
@@ -34,7 +34,13 @@ const ROWS: [(&str, u32, &str); 9] = [
 fn unit(alloc: Global) -> Result<Unit, Memory> {
     let project = Text::new(alloc, b"p")?;
     let path = Text::new(alloc, b"a.c")?;
-    Ok(Unit::new(project, path, Vec::new(alloc), Vec::new(alloc)))
+    Ok(Unit::new(
+        project,
+        path,
+        Vec::new(alloc),
+        Vec::new(alloc),
+        Standard::C99,
+    ))
 }
 
 // What it gives with nothing carried.

@@ -9,11 +9,13 @@ use Rattle.std.proofs.lemmas.List.{append-nil}
 use Rattle.std.proofs.lemmas.Slice.Eq.{bytes_eq-Decides}
 use Rattle.cs_base.specs.declared.ws_units.Setting.{Setting}
 use Rattle.cs_base.specs.declared.ws_units.Setting.TheVariants.{Define, Undefine}
+use Rattle.cs_base.specs.declared.ws_units.Standard.{Standard}
+use Rattle.cs_base.specs.declared.ws_units.Standard.TheVariants.{C99}
 use Rattle.cs_base.specs.Paths.{normal_path_of, is_normal, kept_of}
 use Rattle.cs_base.specs.Units.{UnitValue, unit, IsUnit, line_feed, backslash, less_sign, is_blank, begins_with, has_bad_ends, is_writable, is_project, is_unit_path, is_directory, is_nondigit, is_identifier, is_setting, defines_fit}
 use Rattle.cs_base.proofs.PathLaws.{and-left, and-right, and-both, not-true, list_all-reverse}
 use Rattle.cs_base.proofs.UnitLemmas.{is_utf8-ascii}
-use Rattle.ws_file.specs.Workspace.{WorkspaceValue, workspace, IsWorkspace, is_prefix, most_units}
+use Rattle.ws_file.specs.Workspace.{WorkspaceValue, workspace, IsC99, IsWorkspace, is_prefix, most_units}
 use Rattle.ws_file.specs.Lines.{lines_of, line_word}
 use Rattle.ws_file.specs.Reading.{Reading, reading, at_first, with_word, read_lines, workspace_of}
 use Rattle.ws_file.specs.Printing.{readonly_line, project_line, ipath_line, define_line, file_line, unit_lines, lines_text, workspace_lines, workspace_text}
@@ -113,8 +115,8 @@ Leads-setting (Undefine name) r h few =
     Leads-line_with (codes "undefine") name r _ refl
     (IsRest-writable name (is_writable-identifier name h) (some-first is_nondigit name (and-left _ _ h))) (rw h refl) few
 
-Leads-file : (path : List ℕ) (r : Reading) → is_unit_path path ≡ true → defines_fit r.settings ≡ true → length r.units + 1 ≤ most_units
-    → Leads (file_line path ∷ []) r (reading r.project r.ipath r.settings (r.units ++ unit r.project path r.ipath r.settings ∷ []) r.readonly)
+Leads-file : (path : List ℕ) (r : Reading) → is_unit_path path ≡ true → defines_fit C99 r.settings ≡ true → length r.units + 1 ≤ most_units
+    → Leads (file_line path ∷ []) r (reading r.project r.ipath r.settings (r.units ++ unit r.project path r.ipath r.settings C99 ∷ []) r.readonly)
 unfolding with_word line_word
 Leads-file path r h fits few =
     let place = and-left _ _ (and-left _ _ h) in
@@ -122,7 +124,7 @@ Leads-file path r h fits few =
     let real = not-true (begins_with (λ b. b == less_sign) path) (and-right _ _ h) in
     let same = normal-path path (and-right _ _ place) in
     let ends = good_ends path (and-left _ _ place) in
-    let u = unit r.project path r.ipath r.settings in
+    let u = unit r.project path r.ipath r.settings C99 in
     let few' : length (r.units ++ u ∷ []) ≤ most_units = omega (arith, length-append r.units (u ∷ [])) in
     Leads-line_with (codes "file") path r _ refl (IsRest-writable path (and-left _ _ place) some)
     (rw (same, some, real, ends, fits) refl) few'
@@ -168,21 +170,25 @@ Leads-settings (s ∷ settings) r h few =
     (Leads-append (define_line s ∷ []) (map define_line settings) r next _ (Leads-setting s r (and-left _ _ h) few)
     (Leads-settings settings next (and-right _ _ h) few))
 
-Leads-unit : (u : UnitValue) (r : Reading) → IsUnit u → length r.units + 1 ≤ most_units
+Leads-unit : (u : UnitValue) (r : Reading) → IsUnit u → IsC99 u → length r.units + 1 ≤ most_units
     → Leads (unit_lines u) r (reading u.project u.ipath u.settings (r.units ++ u ∷ []) r.readonly)
 unfolding unit_lines
-Leads-unit u r h few =
+Leads-unit u r h c few =
     let few' : length r.units ≤ most_units = omega arith in
     let named = reading u.project [] [] r.units r.readonly in
     let placed = reading u.project u.ipath [] r.units r.readonly in
     let set = reading u.project u.ipath u.settings r.units r.readonly in
     let file = file_line u.path ∷ [] in
-    Leads-append (project_line u.project ∷ []) (map ipath_line u.ipath ++ (map define_line u.settings ++ file)) r named _
+    let fits : defines_fit C99 u.settings ≡ true = subst (λ s. defines_fit s u.settings ≡ true) c h.fits in
+    let To : Standard → Type 0 =
+    λ s. Leads (unit_lines u) r (reading u.project u.ipath u.settings (r.units ++ unit u.project u.path u.ipath u.settings s ∷ []) r.readonly) in
+    subst To (sym c)
+    (Leads-append (project_line u.project ∷ []) (map ipath_line u.ipath ++ (map define_line u.settings ++ file)) r named _
     (Leads-project u.project r h.is_named few')
     (Leads-append (map ipath_line u.ipath) (map define_line u.settings ++ file) named placed _
     (Leads-directories u.ipath named h.are_directories few')
     (Leads-append (map define_line u.settings) file placed set _
-    (Leads-settings u.settings placed h.are_settings few') (Leads-file u.path set h.is_placed h.fits few)))
+    (Leads-settings u.settings placed h.are_settings few') (Leads-file u.path set h.is_placed fits few))))
 
 -- Lines that lead to a reading of these units and prefixes.
 record LeadsTo (lines : List (List ℕ)) (r : Reading) (units : List UnitValue) (readonly : List (List ℕ)) : Type 0 where
@@ -191,17 +197,17 @@ record LeadsTo (lines : List (List ℕ)) (r : Reading) (units : List UnitValue) 
   has_units : last.units ≡ units
   has_readonly : last.readonly ≡ readonly
 
-LeadsTo-units : (units : List UnitValue) (r : Reading) → All IsUnit units → length r.units + length units ≤ most_units
+LeadsTo-units : (units : List UnitValue) (r : Reading) → All IsUnit units → All IsC99 units → length r.units + length units ≤ most_units
     → LeadsTo (flat_map unit_lines units) r (r.units ++ units) r.readonly
-LeadsTo-units [] r h few = record { last = r; way = Leads-nil r; has_units = sym (append-nil r.units); has_readonly = refl }
-LeadsTo-units (u ∷ units) r h few =
+LeadsTo-units [] r h c few = record { last = r; way = Leads-nil r; has_units = sym (append-nil r.units); has_readonly = refl }
+LeadsTo-units (u ∷ units) r h c few =
     let next = reading u.project u.ipath u.settings (r.units ++ u ∷ []) r.readonly in
     let one : length r.units + 1 ≤ most_units = omega arith in
     let left : length next.units + length units ≤ most_units = omega (arith, length-append r.units (u ∷ [])) in
-    let more = LeadsTo-units units next (λ k d below. h (suc k) d (omega arith)) left in
+    let more = LeadsTo-units units next (λ k d below. h (suc k) d (omega arith)) (λ k d below. c (suc k) d (omega arith)) left in
     record {
       last = more.last;
-      way = Leads-append (unit_lines u) (flat_map unit_lines units) r next more.last (Leads-unit u r (h 0 u (omega arith)) one) more.way;
+      way = Leads-append (unit_lines u) (flat_map unit_lines units) r next more.last (Leads-unit u r (h 0 u (omega arith)) (c 0 u (omega arith)) one) more.way;
       has_units = more.has_units ∙ append_assoc r.units (u ∷ []) units;
       has_readonly = more.has_readonly;
     }
@@ -212,7 +218,7 @@ LeadsTo-workspace ws h =
     let none : length at_first.units ≤ most_units = omega arith in
     let protected = reading at_first.project [] [] [] ws.readonly in
     let few : length protected.units + length ws.units ≤ most_units = omega (arith, h.are_few) in
-    let units = LeadsTo-units ws.units protected h.are_units few in
+    let units = LeadsTo-units ws.units protected h.are_units h.are_c99 few in
     record {
       last = units.last;
       way = Leads-append (map readonly_line ws.readonly) (flat_map unit_lines ws.units) at_first protected units.last

@@ -4,6 +4,7 @@ use Rattle.std.specs.List.{list_all}
 use Rattle.std.specs.Str.{bytes_eq, is_utf8}
 use Rattle.cs_base.specs.declared.ws_units.Setting.{Setting}
 use Rattle.cs_base.specs.declared.ws_units.Setting.TheVariants as setting
+use Rattle.cs_base.specs.declared.ws_units.Standard.TheVariants.{C99}
 use Rattle.cs_base.specs.Paths.{normal_path_of}
 use Rattle.cs_base.specs.Units.{UnitValue, unit, backslash, less_sign, is_blank, begins_with, ends_with, has_bad_ends, is_nondigit, is_identifier, defines_fit}
 use Rattle.ws_file.specs.declared.words.LineWord.{LineWord}
@@ -67,11 +68,11 @@ with_undefine name r =
 abbrev pub is_bad_path : List ℕ → Bool
 is_bad_path path = bytes_eq path [] || begins_with (λ b. b == less_sign) path || has_bad_ends path
 
--- `file PATH`: a unit with what is in force
+-- `file PATH`: a unit of C99 with what is in force
 abbrev pub with_unit : List ℕ → Reading → Option Reading
 with_unit path r =
-    if is_bad_path path || not (defines_fit r.settings) then None
-    else Some (reading r.project r.ipath r.settings (r.units ++ unit r.project path r.ipath r.settings ∷ []) r.readonly)
+    if is_bad_path path || not (defines_fit C99 r.settings) then None
+    else Some (reading r.project r.ipath r.settings (r.units ++ unit r.project path r.ipath r.settings C99 ∷ []) r.readonly)
 
 -- a line of this word and rest; none where it is bad
 unfoldable pub with_word : LineWord → List ℕ → Reading → Option Reading

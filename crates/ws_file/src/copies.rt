@@ -46,7 +46,8 @@ fn copied_unit(alloc: Global, unit: &Unit) -> Result<Unit, Memory>
     let path = copied_text(alloc, unit.path())?;
     let ipath = copied_texts(alloc, unit.ipath())?;
     let settings = copied_settings(alloc, unit.settings())?;
-    Ok(Unit::new(project, path, ipath, settings))
+    let standard = unit.standard();
+    Ok(Unit::new(project, path, ipath, settings, standard))
 }
 
 pub fn copied_units(alloc: Global, units: &[Unit]) -> Result<Vec<Unit>, Memory>

@@ -11,7 +11,7 @@ use crate::text_tests::{
 };
 use crate::words::{LineWord, word_of};
 use crate::workspaces::Workspace;
-use cs_base::{Memory, Setting, Text, Unit, normal_path};
+use cs_base::{Memory, Setting, Standard, Text, Unit, normal_path};
 use std::alloc::Global;
 use std::marker::Model;
 
@@ -152,7 +152,8 @@ impl Reader {
         let project = copied_text(alloc, &self.project)?;
         let ipath = copied_texts(alloc, self.ipath.as_slice())?;
         let settings = copied_settings(alloc, self.settings.as_slice())?;
-        self.units.push(Unit::new(project, path, ipath, settings))?;
+        self.units
+            .push(Unit::new(project, path, ipath, settings, Standard::C99))?;
         Ok(true)
     }
 

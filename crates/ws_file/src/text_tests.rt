@@ -4,6 +4,7 @@ ghost use Rattle.std.specs.Option.{SomeIff};
 ghost use Rattle.std.specs.List.{list_all};
 ghost use Rattle.std.specs.Char.{is_ascii_digit};
 ghost use Rattle.std.specs.Str.{bytes_eq, is_utf8};
+ghost use Rattle.cs_base.specs.declared.ws_units.Standard.TheVariants.{C99};
 ghost use Rattle.cs_base.specs.Units.{backslash, less_sign, begins_with, ends_with, has_bad_ends, is_blank, is_nondigit, is_identifier, defines_fit};
 ghost use Rattle.ws_file.specs.Reading.{number_sign, is_bad_path, is_comment};
 ghost use Rattle.ws_file.specs.Taking.{setting_len, fit_into};
@@ -137,7 +138,7 @@ const ROOM: usize = 65536 - 137;
 
 /// The settings' pseudo file has no more than 2^16 bytes.
 pub fn defines_fit(settings: &[Setting]) -> bool
-    ensures { result ≡ defines_fit settings.now }
+    ensures { result ≡ defines_fit C99 settings.now }
 {
     let mut room = ROOM;
     for setting in settings {

@@ -1,5 +1,6 @@
 use Rattle.std.proofs.Common.{◌≡◌, ℕ, true, List, [], codes, refl, sym, subst}
 use Rattle.cs_base.specs.declared.ws_units.Setting.{Setting}
+use Rattle.cs_base.specs.declared.ws_units.Standard.TheVariants.{C99}
 use Rattle.cs_base.specs.Paths.{kept_of, normal_path_of}
 use Rattle.cs_base.proofs.UnitLemmas.{is_utf8-ascii}
 use Rattle.cs_base.specs.Units.{unit, IsUnit, is_project, is_unit_path, is_writable, fixed_lines, defines_text, defines_fit}
@@ -13,17 +14,17 @@ placed : is_unit_path (codes "a.c") ≡ true
 unfolding is_writable kept_of normal_path_of
 placed = rw (is_utf8-ascii (codes "a.c") refl) refl
 
-alone : IsUnit (unit (codes "p") (codes "a.c") [] [])
+alone : IsUnit (unit (codes "p") (codes "a.c") [] [] C99)
 unfolding fixed_lines defines_text defines_fit
 alone = record { is_named = named; is_placed = placed; are_directories = refl; are_settings = refl; fits = refl }
 
 unit-is : (project path : List ℕ) (ipath : List (List ℕ)) (settings : List Setting) → project ≡ codes "p" → path ≡ codes "a.c" → ipath ≡ [] → settings ≡ []
-    → IsUnit (unit project path ipath settings)
+    → IsUnit (unit project path ipath settings C99)
 unit-is project path ipath settings p q r s =
-    subst (λ (x : List ℕ). IsUnit (unit x path ipath settings)) (sym p)
-    (subst (λ (x : List ℕ). IsUnit (unit (codes "p") x ipath settings)) (sym q)
-    (subst (λ (x : List (List ℕ)). IsUnit (unit (codes "p") (codes "a.c") x settings)) (sym r)
-    (subst (λ (x : List Setting). IsUnit (unit (codes "p") (codes "a.c") [] x)) (sym s) alone)))
+    subst (λ (x : List ℕ). IsUnit (unit x path ipath settings C99)) (sym p)
+    (subst (λ (x : List ℕ). IsUnit (unit (codes "p") x ipath settings C99)) (sym q)
+    (subst (λ (x : List (List ℕ)). IsUnit (unit (codes "p") (codes "a.c") x settings C99)) (sym r)
+    (subst (λ (x : List Setting). IsUnit (unit (codes "p") (codes "a.c") [] x C99)) (sym s) alone)))
 
 pub new-requires-5 : goal.new-requires-5
 new-requires-5 c = record {

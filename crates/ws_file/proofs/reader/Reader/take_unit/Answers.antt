@@ -1,4 +1,5 @@
-use Rattle.std.proofs.Common.{◌≡◌, ◌++◌, ◌∷◌, [], true, false, rules}
+use Rattle.std.proofs.Common.{◌≡◌, ◌++◌, ◌∷◌, [], true, false, refl, rules}
+use Rattle.cs_base.specs.declared.ws_units.Standard.TheVariants.{C99}
 use Rattle.cs_base.specs.Paths.{normal_path_of}
 use Rattle.cs_base.specs.Units.{unit, defines_fit}
 use Rattle.ws_file.specs.Reading.{is_bad_path}
@@ -10,7 +11,7 @@ new-requires c =
     let r = c.self.inside in
     let path = c.args.path.now in
     let good : is_bad_path (normal_path_of path) ≡ false = search rules in
-    let fits : defines_fit r.settings.items ≡ true = search rules in
+    let fits : defines_fit C99 r.settings.items ≡ true = search rules in
     record {
       sound = rw
           (c.in_ok-project.ensures, c.in_ok-path.ensures, c.in_ok-ipath.ensures, c.in_ok-settings.ensures, c.as_slice-2.ensures.value, c.as_slice-3.ensures.value)
@@ -23,10 +24,10 @@ invariant_of-self-2 c =
     let r = c.self.inside in
     let path = c.args.path.now in
     let good : is_bad_path (normal_path_of path) ≡ false = search rules in
-    let fits : defines_fit r.settings.items ≡ true = search rules in
-    let u = unit r.project (normal_path_of path) r.ipath.items r.settings.items in
+    let fits : defines_fit C99 r.settings.items ≡ true = search rules in
+    let u = unit r.project (normal_path_of path) r.ipath.items r.settings.items C99 in
     let pushed : c.push.new.self.items ≡ r.units.items ++ u ∷ [] = search rules in
     rw pushed
     (IsReading-unit r.project r.ipath.items r.settings.items r.units.items r.readonly.items u c.self.invariant
     (IsUnit-reading r.project r.ipath.items r.settings.items r.units.items r.readonly.items (normal_path_of path)
-    c.self.invariant (is_unit_path-normal path c.requires.writable good) fits))
+    c.self.invariant (is_unit_path-normal path c.requires.writable good) fits) refl)
