@@ -6,9 +6,9 @@ use Rattle.cs_base.specs.Outside.{FileMap, TellsReads}
 use Rattle.cscout_run.specs.declared.status.Status.{Status}
 use Rattle.cscout_run.specs.declared.status.Status.TheVariants.{Done, Usage, WriteFault}
 use Rattle.cscout_run.specs.declared.stops.Stop.{Stop}
-use Rattle.cscout_run.specs.Request.{asked}
+use Rattle.command_words.specs.Request.{asked}
 use Rattle.cscout_run.specs.Answer.{Answer, IsAnswer, answer_of, stopped}
-use Rattle.cscout_run.specs.Message.{usage_line, unwritten_line, no_output_line}
+use Rattle.command_words.specs.Message.{usage_line, unwritten_line, no_output_line}
 use Rattle.cscout_run.specs.Outcome.{World, told_in, HasCauses, IsComplete, ShowsAnswer, Tells, FailedPut, FailedWrite, IsDone, Unmoved, Ends}
 use Rattle.cscout_run.specs.Stopping.{Stops, stop_reads, status_of, line_of}
 use Rattle.cscout_run.proofs.RunLemmas.{if_told, if_told-map, answer-usage, answer-alike, quiet-causes, put-causes, stop-causes, stop-shows, stop-status, complete, path-last}

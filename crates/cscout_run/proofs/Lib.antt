@@ -1,6 +1,3 @@
-pub mod NumberLemmas
-pub mod TellingLemmas
-pub mod EditedLemmas
 pub mod RunLemmas
 pub mod EndLemmas
 pub mod PathLemmas

@@ -11,7 +11,7 @@ use Rattle.ws_core.specs.Analysis.{AnalysisValue, analysis_of}
 use Rattle.ws_core.specs.Carrying.{IsOver}
 use Rattle.ws_core.specs.Classes.{AreItsClasses}
 use Rattle.rename_rules.specs.Renaming.{IsRenaming}
-use Rattle.cscout_run.specs.Request.{RenameValue}
+use Rattle.command_words.specs.Request.{RenameValue}
 use Rattle.cscout_run.specs.Steps.{IsPlanned, ReadsWorkspace}
 use Rattle.cscout_run.specs.declared.preparing.Ready.{Ready}
 use Rattle.cscout_run.specs.declared.stops.Stop.{Stop}

@@ -29,7 +29,7 @@ use Rattle.rename_rules.specs.Runs.{edit_of, edits_of, file_of, new_bytes, runs,
 use Rattle.rename_source_laws.specs.EditedSource.{AreRespelled}
 use Rattle.rename_source_laws.specs.RenamedSource.{IsAccepted}
 use Rattle.rename_source_laws.proofs.TextLemmas.{respelled_files_have_renamed_texts, respelled_files_have_renamed_analysis}
-use Rattle.cscout_run.specs.Request.{RequestValue, RenameValue, asked, help_asked, version_asked, renaming_asked, tokens_asked, skipped_asked, class_asked, unused_asked, includes_asked, calls_asked, generated_asked}
+use Rattle.command_words.specs.Request.{RequestValue, RenameValue, asked, help_asked, version_asked, renaming_asked, tokens_asked, skipped_asked, class_asked, unused_asked, includes_asked, calls_asked, generated_asked}
 use Rattle.cscout_run.specs.Promise.{Renamed, IsRenamed, KeepsPromise}
 use Rattle.cscout_run.specs.Steps.{Planned, IsPlannedFor}
 use Rattle.cscout_run.specs.declared.preparing.Ready.{Ready}

@@ -20,8 +20,8 @@ use Rattle.cscout_run.specs.declared.status.Status.TheVariants.{Refused, Workspa
 use Rattle.cscout_run.specs.declared.preparing.Ready.{Ready}
 use Rattle.cscout_run.specs.declared.stops.Stop.{Stop}
 use Rattle.cscout_run.specs.declared.stops.Stop.TheVariants.{UnitFault as UnitStop}
-use Rattle.cscout_run.specs.Answer.{Answer, IsOverWorkspace, shown, stopped, workspace_at, workspace_answer, text_answer, unit_answer}
-use Rattle.cscout_run.specs.Message.{refused_line, text_fault_line}
+use Rattle.cscout_run.specs.Answer.{Answer, IsOverWorkspace, shown, stopped, text_fault_line, workspace_at, workspace_answer, text_answer, unit_answer}
+use Rattle.command_words.specs.Message.{refused_line}
 use Rattle.cscout_run.specs.Steps.{Prepares, ReadsWorkspace, no_workspace, stop_of}
 use Rattle.cscout_run.specs.Stopping.{Stops, line_of}
 use Rattle.cscout_run.proofs.RunLemmas.{if_told-map, stops-map}

@@ -21,9 +21,9 @@ use Rattle.cscout_run.specs.declared.status.Status.{Status}
 use Rattle.cscout_run.specs.declared.status.Status.TheVariants.{Done, Refused, Usage, Workspace, ReadFault, WriteFault, Memory}
 use Rattle.cscout_run.specs.declared.stops.Stop.{Stop}
 use Rattle.cscout_run.specs.declared.stops.Stop.TheVariants as stop
-use Rattle.cscout_run.specs.Request.{RequestValue, RenameValue, ClassValue, help_asked, version_asked, renaming_asked, tokens_asked, skipped_asked, class_asked, unused_asked, includes_asked, calls_asked, asked, generated_asked}
+use Rattle.command_words.specs.Request.{RequestValue, RenameValue, ClassValue, help_asked, version_asked, renaming_asked, tokens_asked, skipped_asked, class_asked, unused_asked, includes_asked, calls_asked, asked, generated_asked}
 use Rattle.cscout_run.specs.Answer.{Answer, IsAnswer, IsAnswerTo, IsRequestAnswer, IsClassAnswer, IsListAnswer, IsCallsAnswer, IsRenameAnswer, IsOverWorkspace, answer_of, class_answer, renaming_answer, shown, stopped, workspace_at, IsSizeAnswer, size_answer}
-use Rattle.cscout_run.specs.Message.{usage_line}
+use Rattle.command_words.specs.Message.{usage_line}
 use Rattle.cscout_run.specs.Outcome.{World, told_in, StatusIs, HasCauses, IsComplete, ShowsAnswer, Tells, FailedPut, Unmoved}
 use Rattle.cscout_run.specs.Steps.{Prepares}
 use Rattle.cscout_run.specs.declared.preparing.Ready.{Ready}

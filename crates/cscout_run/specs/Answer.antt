@@ -22,9 +22,9 @@ use Rattle.rename_rules.specs.Renaming.{Refusal, bad_name, no_name, refused, IsR
 use Rattle.generated.specs.Generated.{header_path, workspace_path, generated_files}
 use Rattle.cscout_run.specs.declared.status.Status.{Status}
 use Rattle.cscout_run.specs.declared.status.Status.TheVariants.{Done, Refused, Usage, Workspace}
-use Rattle.cscout_run.specs.Request.{RequestValue, help_asked, version_asked, renaming_asked, tokens_asked, skipped_asked, class_asked, unused_asked, includes_asked, calls_asked, RenameValue, TokensValue, ClassValue, asked, generated_asked}
-use Rattle.cscout_run.specs.Message.{usage_line, absent_line, ws_line, text_fault_line, refused_line, offence_line, edited_lines, size_line}
-use Rattle.cscout_run.specs.Help.{help_text, version_text}
+use Rattle.command_words.specs.Request.{RequestValue, help_asked, version_asked, renaming_asked, tokens_asked, skipped_asked, class_asked, unused_asked, includes_asked, calls_asked, RenameValue, TokensValue, ClassValue, asked, generated_asked}
+use Rattle.command_words.specs.Message.{usage_line, absent_line, ws_line, unit_line, refused_line, offence_line, edited_lines, size_line}
+use Rattle.command_words.specs.Help.{help_text, version_text}
 
 -- What a run does: its status, the text for `out`, the text for `err`, and the edits that it puts.
 pub record Answer : Type 0 where
@@ -49,6 +49,10 @@ stopped status line = answer_of status [] line []
 abbrev pub ws_fault_line : List ℕ → WsFault → List ℕ
 ws_fault_line ws (bad_line line) = ws_line ws line (codes "bad workspace line")
 ws_fault_line ws (too_many_units line) = ws_line ws line (codes "too many units")
+
+-- a unit that is not accepted
+abbrev pub text_fault_line : units.UnitFault → List ℕ
+text_fault_line f = unit_line f.unit f.fault.place f.fault.cause
 
 -- a refused renaming
 abbrev pub refusal_line : Refusal → List ℕ

@@ -7,8 +7,8 @@ use Rattle.cs_base.specs.Outside.{FileMap, FilesTold, files_told, Rose, IsFront}
 use Rattle.cscout_run.specs.declared.status.Status.{Status}
 use Rattle.cscout_run.specs.declared.status.Status.TheVariants.{Done, Refused, Usage, Workspace, ReadFault, WriteFault, Memory}
 use Rattle.cscout_run.specs.Answer.{Answer}
-use Rattle.cscout_run.specs.Telling.{Told}
-use Rattle.cscout_run.specs.Message.{unread_line, unwritten_line, no_output_line, memory_line}
+use Rattle.command_words.specs.Telling.{Told}
+use Rattle.command_words.specs.Message.{unread_line, unwritten_line, no_output_line, memory_line}
 
 -- What is told of the outside at one moment: the files held, how many reads and puts failed, the path of
 -- the last call of these that failed, and of each sink its bytes and how many writes failed.

@@ -13,7 +13,7 @@ use Rattle.table_laws.specs.Tables.{IsOpened}
 use Rattle.rename_rules.specs.First.{IsAmong, IsFirst, offences_of}
 use Rattle.rename_rules.specs.Runs.{runs, file_of, new_bytes}
 use Rattle.rename_source_laws.specs.RenamedSource.{TextsAreRenamed, AnalysisIsRenamed}
-use Rattle.cscout_run.specs.Request.{RequestValue, renaming_asked, RenameValue}
+use Rattle.command_words.specs.Request.{RequestValue, renaming_asked, RenameValue}
 use Rattle.cscout_run.specs.Answer.{workspace_at}
 
 -- What a class is renamed in: the workspace of the workspace file, its analysis, the part at the place, and the

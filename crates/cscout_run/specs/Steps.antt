@@ -18,9 +18,9 @@ use Rattle.cscout_run.specs.declared.preparing.Ready.{Ready}
 use Rattle.rename_rules.specs.Renaming.{IsRenaming}
 use Rattle.rename_edit.specs.declared.refusals.RenameRefusal.{RenameRefusal}
 use Rattle.rename_edit.specs.declared.refusals.RenameRefusal.TheVariants as refusal
-use Rattle.cscout_run.specs.Request.{RequestValue, RenameValue, renaming_asked}
+use Rattle.command_words.specs.Request.{RequestValue, RenameValue, renaming_asked}
 use Rattle.cscout_run.specs.Answer.{Answer, answer_of, stopped, workspace_at, ws_fault_line}
-use Rattle.cscout_run.specs.Message.{absent_line}
+use Rattle.command_words.specs.Message.{absent_line}
 use Rattle.cscout_run.specs.Stopping.{Stops, stop_reads}
 
 -- what stands ready to be put and written is an answer, or the message of the early end is

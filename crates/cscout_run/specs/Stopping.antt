@@ -6,7 +6,7 @@ use Rattle.cscout_run.specs.declared.status.Status.TheVariants as status
 use Rattle.cscout_run.specs.declared.stops.Stop.{Stop}
 use Rattle.cscout_run.specs.declared.stops.Stop.TheVariants.{NoWorkspace, BadLine, TooManyUnits, UnreadWorkspace, UnitFault, UnreadFile, NoUnit, BadName, NoName, Offence, Memory}
 use Rattle.cscout_run.specs.Answer.{Answer, stopped}
-use Rattle.cscout_run.specs.Message.{absent_line, ws_line, unit_line, refused_line, offence_line, unread_line, memory_line}
+use Rattle.command_words.specs.Message.{absent_line, ws_line, unit_line, refused_line, offence_line, unread_line, memory_line}
 
 -- the status of an early end
 abbrev pub status_of : Stop → Status

@@ -1,20 +1,19 @@
 // The generated workspace: made, analysed and renamed in memory, and counted. It touches no file.
-ghost use Rattle.std.specs.Prelude.{◌≡◌, ◌≤◌, ◌^◌, IfErr, IfOk, Ok};
+ghost use Rattle.std.specs.Prelude.{◌≡◌, ◌≤◌, ◌^◌, IfErr, Ok};
 ghost use Rattle.table_laws.specs.Counts.{tokens_in};
 ghost use Rattle.generated.specs.Generated.{workspace_path};
 ghost use Rattle.cscout_run.specs.Answer.{IsGenerated, IsSizeAnswer, places_in};
-ghost use Rattle.cscout_run.specs.Message.{size_line};
 ghost use Rattle.cscout_run.specs.Steps.{IsPlanStop, IsQuiet, Prepares};
 
 use crate::preparing::{Ready, stop_for};
 use crate::reporting::stop_of;
 use crate::stops::Stop;
 use crate::workspace_files::read_workspace;
-use cs_base::{Edits, Memory};
+use command_words::size_text;
+use cs_base::Edits;
 use generated::{Unfailing, generate};
 use rename_edit::plan_rename;
 use std::alloc::Global;
-use std::format;
 use ws_core::{Analysis, analyse};
 
 /// All of the answer to a generated workspace of so many units but its output. No file is read.
@@ -69,12 +68,4 @@ fn places(edits: &Edits) -> u64
         sum += edits.count(k) as u64;
     }
     sum
-}
-
-// The line that tells the size.
-fn size_text(alloc: Global, n: u32, tokens: u32, places: u64) -> Result<Vec<u8>, Memory>
-    ensures { IfOk result (λ text. text.items ≡ size_line n tokens places) }
-{
-    let line = format!(in alloc; "units {n} tokens {tokens} members {places}\n")?;
-    Ok(Vec::from_slice(alloc, line.as_bytes())?)
 }

@@ -1,24 +1,21 @@
 // All of a run that may want memory: it puts nothing.
-ghost use Rattle.std.specs.Prelude.{◌≡◌, ◌++◌, IfSome, IfOk, IfErr, OnOk, IsUtf8, Ok, []};
+ghost use Rattle.std.specs.Prelude.{◌≡◌, IfSome, IfOk, IfErr, IsUtf8, Ok, []};
 ghost use Rattle.cs_base.specs.Outside.{ReadsOnly};
-ghost use Rattle.cs_base.specs.Edit.{edit, IsKept};
+ghost use Rattle.cs_base.specs.Edit.{IsKept};
 ghost use Rattle.rename_rules.specs.Renaming.{IsRenaming};
 ghost use Rattle.cscout_run.specs.Answer.{IsRenameAnswer, IsRequestAnswer};
-ghost use Rattle.cscout_run.specs.Asking.{request_value, rename_value, workspace_file};
-ghost use Rattle.cscout_run.specs.Message.{edited_line, edited_lines};
-ghost use Rattle.cscout_run.specs.Request.{renaming_asked};
+ghost use Rattle.command_words.specs.Asking.{request_value, rename_value, workspace_file};
+ghost use Rattle.command_words.specs.Request.{renaming_asked};
 ghost use Rattle.cscout_run.specs.Steps.{IsPlanStop, IsPlanned, IsPlannedFor, Prepares, reads_of, stop_for};
 
 use crate::calls::prepare_calls;
 use crate::generating::prepare_generated;
-use crate::help::{help, version};
 use crate::listing::prepare_list;
 use crate::reporting::{prepare_class, prepare_skipped, prepare_tokens, stop_of};
-use crate::requests::{Rename, Request};
 use crate::stops::Stop;
 use crate::workspace_files::read_workspace;
+use command_words::{Rename, Request, edited_text, help, version};
 use cs_base::{Edits, Files, Memory, Text, normal_path};
-use itoa::Buffer;
 use query_report::Query;
 use rename_edit::{RenameRefusal, plan_rename};
 use std::alloc::Global;
@@ -132,29 +129,4 @@ fn path_text(path: &Text) -> &str
         Ok(text) => text,
         Err(_) => unreachable!(),
     }
-}
-
-// One line for each edit.
-fn edited_text(alloc: Global, edits: &Edits) -> Result<Vec<u8>, Memory>
-    ensures lines { IfOk result (λ text. text.items ≡ edited_lines edits.now) }
-    ensures sound { IfOk result (λ _. IsKept edits.now) }
-{
-    let mut text = Vec::new(alloc);
-    for k in 0..edits.len() {
-        push_line(&mut text, edits.path(k), edits.count(k))?;
-    }
-    Ok(text)
-}
-
-// Adds the line of an edit of this path with so many places.
-fn push_line(text: &mut Vec<u8>, path: &[u8], count: u32) -> Result<(), Memory>
-    ensures { OnOk result (text.new.items ≡ text.old.items ++ edited_line (edit path.now [] count)) }
-{
-    let mut digits = Buffer::new();
-    text.extend_from_slice(b"edited ")?;
-    text.extend_from_slice(path)?;
-    text.extend_from_slice(b" ")?;
-    text.extend_from_slice(digits.format(count).as_bytes())?;
-    text.extend_from_slice(b"\n")?;
-    Ok(())
 }

@@ -3,14 +3,14 @@ ghost use Rattle.std.specs.Prelude.{◌≡◌, ◌≤◌, MatchBool, None, Ok, I
 ghost use Rattle.ws_core.specs.Texts.{unit_at};
 ghost use Rattle.cs_base.specs.Outside.{ReadsOnly};
 ghost use Rattle.cscout_run.specs.Answer.{IsClassAnswer, IsRequestAnswer};
-ghost use Rattle.cscout_run.specs.Asking.{class_value, tokens_value};
-ghost use Rattle.cscout_run.specs.Request.{class_asked, skipped_asked, tokens_asked};
+ghost use Rattle.command_words.specs.Asking.{class_value, tokens_value};
+ghost use Rattle.command_words.specs.Request.{class_asked, skipped_asked, tokens_asked};
 ghost use Rattle.cscout_run.specs.Steps.{IsPlanStop, Prepares, reads_of, stop_of};
 
 use crate::preparing::Ready;
-use crate::requests::{NamedClass, UnitTokens};
 use crate::stops::Stop;
 use crate::workspace_files::read_workspace;
+use command_words::{NamedClass, UnitTokens};
 use cs_base::{Edits, Files, Place, normal_path};
 use query_report::{Query, QueryRefusal, print_skipped, print_tokens, report};
 use std::alloc::Global;

@@ -1,15 +1,15 @@
 // The top call: the words, then everything that may want memory, then the puts, then one write.
 ghost use Rattle.std.specs.Prelude.{◌≡◌, ◌↔◌, IfSome, map, string_bytes, None};
 ghost use Rattle.cs_base.specs.Outside.{Writes, Faults, write_failed};
-ghost use Rattle.cscout_run.specs.Request.{asked};
+ghost use Rattle.command_words.specs.Request.{asked};
 ghost use Rattle.cscout_run.specs.Answer.{IsAnswer};
 ghost use Rattle.cscout_run.specs.Outcome.{world, Ends};
 ghost use Rattle.cscout_run.specs.Promise.{KeepsPromise};
 
 use crate::preparing::prepare;
-use crate::requests::{asked, workspace_file};
 use crate::status::Status;
-use crate::telling::{tell, tell_stop};
+use crate::telling::tell_stop;
+use command_words::{asked, tell, workspace_file};
 use cs_base::{Files, Sink, Wrote};
 use edit_put::{Applied, apply};
 use std::alloc::Global;

@@ -4,9 +4,9 @@ use Rattle.source_files.specs.Files.{source_of}
 use Rattle.cs_base.specs.Outside.{FileMap}
 use Rattle.ws_file.specs.Workspace.{WorkspaceValue, IsWorkspace}
 use Rattle.cscout_run.specs.declared.stops.Stop.{Stop}
-use Rattle.cscout_run.specs.Request.{RenameValue, renaming_asked}
+use Rattle.command_words.specs.Request.{RenameValue, renaming_asked}
 use Rattle.cscout_run.specs.Answer.{Answer, IsRenameAnswer, IsRequestAnswer}
-use Rattle.cscout_run.specs.Asking.{rename_value}
+use Rattle.command_words.specs.Asking.{rename_value}
 use Rattle.cscout_run.specs.Stopping.{Stops}
 use Rattle.cscout_run.proofs.ReportLemmas.{handed_on, over_told, reading-stops_told, analysed-prepared, analysed-stop}
 use Rattle.cscout_run.proofs.RunLemmas.{if_told-map}

@@ -1,4 +1,4 @@
-use Rattle.cscout_run.specs.Request.{skipped_asked}
+use Rattle.command_words.specs.Request.{skipped_asked}
 use Rattle.cscout_run.specs.Answer.{IsRequestAnswer, units_answer}
 use Rattle.cscout_run.proofs.ReportLemmas.{handed_on, reading-stops}
 use Rattle.cscout_run.proofs.reporting.prepare_skipped.Goals as goal

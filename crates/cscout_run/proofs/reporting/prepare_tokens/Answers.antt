@@ -3,9 +3,9 @@ use Rattle.cs_base.specs.Outside.{FileMap}
 use Rattle.query_report.specs.TokensText.{tokens_text}
 use Rattle.cscout_run.specs.declared.status.Status.TheVariants.{Done}
 use Rattle.cscout_run.specs.declared.stops.Stop.{Stop}
-use Rattle.cscout_run.specs.Request.{tokens_asked}
+use Rattle.command_words.specs.Request.{tokens_asked}
 use Rattle.cscout_run.specs.Answer.{Answer, IsRequestAnswer, answer_of, shown, unit_answer}
-use Rattle.cscout_run.specs.Asking.{tokens_value}
+use Rattle.command_words.specs.Asking.{tokens_value}
 use Rattle.cscout_run.specs.Stopping.{Stops}
 use Rattle.cscout_run.proofs.ReportLemmas.{handed_on, over_workspace, reading-stops, tokens-ok, tokens-stop}
 use Rattle.cscout_run.proofs.RunLemmas.{if_told-map}

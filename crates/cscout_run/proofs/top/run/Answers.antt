@@ -5,8 +5,8 @@ use Rattle.cs_base.specs.Edit.{with_edits}
 use Rattle.cs_base.specs.Outside.{FilesTold, Writes}
 use Rattle.cs_base.specs.declared.outside.Wrote.TheVariants as wrote
 use Rattle.cscout_run.specs.declared.status.Status.{Status}
-use Rattle.cscout_run.specs.Request.{asked}
-use Rattle.cscout_run.specs.Asking.{request_value, workspace_file}
+use Rattle.command_words.specs.Request.{asked}
+use Rattle.command_words.specs.Asking.{request_value, workspace_file}
 use Rattle.cscout_run.specs.Answer.{IsAnswer}
 use Rattle.cscout_run.specs.Stopping.{line_of}
 use Rattle.cscout_run.specs.Outcome.{World, world, Tells, Unmoved, FailedWrite, Ends}

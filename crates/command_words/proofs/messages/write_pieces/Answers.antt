@@ -1,5 +1,5 @@
-use Rattle.cscout_run.proofs.TellingLemmas.{failed_piece}
-use Rattle.cscout_run.proofs.telling.write_pieces.Goals as goal
+use Rattle.command_words.proofs.TellingLemmas.{failed_piece}
+use Rattle.command_words.proofs.messages.write_pieces.Goals as goal
 
 pub returns-in-Failed-clause-bytes : goal.returns-in-Failed-clause-bytes
 returns-in-Failed-clause-bytes g c =

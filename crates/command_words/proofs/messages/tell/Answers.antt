@@ -1,6 +1,6 @@
-use Rattle.cscout_run.specs.Message.{message}
-use Rattle.cscout_run.proofs.TellingLemmas.{told-first, told-pieces, told-pieces_line}
-use Rattle.cscout_run.proofs.telling.tell.Goals as goal
+use Rattle.command_words.specs.Message.{message}
+use Rattle.command_words.proofs.TellingLemmas.{told-first, told-pieces, told-pieces_line}
+use Rattle.command_words.proofs.messages.tell.Goals as goal
 
 pub returns-in-Failed : goal.returns-in-Failed
 unfolding message

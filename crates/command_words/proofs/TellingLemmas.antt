@@ -7,8 +7,8 @@ use Rattle.std.specs.Option.{option_map}
 use Rattle.cs_base.specs.Outside.{IsFront, Writes, Faults, write_failed}
 use Rattle.cs_base.specs.declared.outside.Wrote.{Wrote}
 use Rattle.cs_base.specs.declared.outside.Wrote.TheVariants as wrote
-use Rattle.cscout_run.specs.Telling.{Told}
-use Rattle.cscout_run.specs.Message.{joined, message}
+use Rattle.command_words.specs.Telling.{Told}
+use Rattle.command_words.specs.Message.{joined, message}
 
 -- adding two pieces is adding both at once
 pub added_twice : (p q : List ℕ) (a b c : Option (List ℕ)) → b ≡ option_map (λ bytes. bytes ++ p) a

@@ -1,6 +1,6 @@
 use Rattle.std.proofs.Common.{append_assoc, arith}
-use Rattle.cscout_run.proofs.EditedLemmas.{edited_lines-drop}
-use Rattle.cscout_run.proofs.preparing.edited_text.Goals as goal
+use Rattle.command_words.proofs.EditedLemmas.{edited_lines-drop}
+use Rattle.command_words.proofs.lines.edited_text.Goals as goal
 
 pub loop-k-preserved : goal.loop-k-preserved
 loop-k-preserved c =

@@ -3,7 +3,7 @@ use Rattle.std.proofs.Common.{◌≡◌, ℕ, Bool, true, ◌&&◌, zero, suc, [
 use Rattle.std.proofs.lemmas.Bool.Decides.{nat_tests}
 use Rattle.std.specs.Char.{is_ascii_digit}
 use Rattle.std.specs.Str.{byte}
-use Rattle.cscout_run.specs.Request.{are_digits}
+use Rattle.command_words.specs.Request.{are_digits}
 use Rattle.std.proofs.Math.Nat.{pow-succ', pow-le-pow_right}
 
 pub below_pow : (n d i : ℕ) → n < 10 ^ i → d ≤ 9 → 10 * n + d < 10 ^ (i + 1)

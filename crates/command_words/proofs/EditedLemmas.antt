@@ -2,7 +2,7 @@
 use Rattle.std.proofs.Common.{◌≡◌, ℕ, zero, suc, ◌+◌, ◌<◌, List, [], ◌∷◌, ◌++◌, length, drop, refl, arith, add-one}
 use Rattle.std.specs.Prelude.{IfSome, slice_get}
 use Rattle.cs_base.specs.Edit.{Edit, edit}
-use Rattle.cscout_run.specs.Message.{edited_line, edited_lines}
+use Rattle.command_words.specs.Message.{edited_line, edited_lines}
 
 edited_lines-suc : (edits : List Edit) (k : ℕ) (path : List ℕ) (count : ℕ) → k < length edits
     → IfSome (slice_get edits k) (λ e. path ≡ e.path) → IfSome (slice_get edits k) (λ e. count ≡ e.count)

@@ -2,12 +2,12 @@
 use Rattle.std.specs.Prelude.{List, ℕ, []}
 use Rattle.cs_base.specs.Paths.{normal_path_of}
 use Rattle.generated.specs.Generated.{workspace_path}
-use Rattle.cscout_run.specs.declared.requests.NamedClass.{NamedClass}
-use Rattle.cscout_run.specs.declared.requests.Rename.{Rename}
-use Rattle.cscout_run.specs.declared.requests.Request.{Request}
-use Rattle.cscout_run.specs.declared.requests.Request.TheVariants.{Help, Version, Renaming, Tokens, Skipped, Class, Unused, Includes, Calls, Generated}
-use Rattle.cscout_run.specs.declared.requests.UnitTokens.{UnitTokens}
-use Rattle.cscout_run.specs.Request.{RenameValue, rename, TokensValue, tokens_of_unit, ClassValue, class_at, RequestValue, help_asked, version_asked, renaming_asked, tokens_asked, skipped_asked, class_asked, unused_asked, includes_asked, calls_asked, generated_asked}
+use Rattle.command_words.specs.declared.requests.NamedClass.{NamedClass}
+use Rattle.command_words.specs.declared.requests.Rename.{Rename}
+use Rattle.command_words.specs.declared.requests.Request.{Request}
+use Rattle.command_words.specs.declared.requests.Request.TheVariants.{Help, Version, Renaming, Tokens, Skipped, Class, Unused, Includes, Calls, Generated}
+use Rattle.command_words.specs.declared.requests.UnitTokens.{UnitTokens}
+use Rattle.command_words.specs.Request.{RenameValue, rename, TokensValue, tokens_of_unit, ClassValue, class_at, RequestValue, help_asked, version_asked, renaming_asked, tokens_asked, skipped_asked, class_asked, unused_asked, includes_asked, calls_asked, generated_asked}
 
 -- a rename in words, its path in its normal form
 abbrev pub rename_value : Rename → RenameValue

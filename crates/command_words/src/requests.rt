@@ -1,8 +1,8 @@
 // What the words after the program's name ask for.
 ghost use Rattle.std.specs.Prelude.{◌≡◌, ◌≤◌, length, map, string_bytes, IsTrue};
 ghost use Rattle.std.specs.Option.{option_map};
-ghost use Rattle.cscout_run.specs.Request.{asked, alone_of, workspace_command_of, unit_command_of, place_command_of, class_report_of, command_of, rename_of, generated_of, is_number, is_size, are_digits, begins_with_zero, number_of};
-ghost use Rattle.cscout_run.specs.Asking.{request_value, workspace_file};
+ghost use Rattle.command_words.specs.Request.{asked, alone_of, workspace_command_of, unit_command_of, place_command_of, class_report_of, command_of, rename_of, generated_of, is_number, is_size, are_digits, begins_with_zero, number_of};
+ghost use Rattle.command_words.specs.Asking.{request_value, workspace_file};
 
 /// A rename in words: the path is as written.
 #[derive(Drop)]

@@ -1,6 +1,6 @@
 // The texts of `--help` and `--version`.
 ghost use Rattle.std.specs.Prelude.{◌≡◌};
-ghost use Rattle.cscout_run.specs.Help.{help_text, version_text};
+ghost use Rattle.command_words.specs.Help.{help_text, version_text};
 
 const HELP: &[u8] = b"cscout renames identifiers in C programs, and preprocesses their units.
 

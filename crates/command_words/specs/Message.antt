@@ -4,7 +4,6 @@ use Rattle.cs_base.specs.Edit.{Edit}
 use Rattle.cs_base.specs.Words.{words_of}
 use Rattle.cs_base.specs.declared.causes.Cause.{Cause}
 use Rattle.cs_base.specs.declared.positions.Place.{Place}
-use Rattle.ws_core.specs.Texts.{UnitFault}
 
 -- pieces of text, one behind the other
 abbrev pub joined : List (List ℕ) → List ℕ
@@ -44,9 +43,6 @@ ws_line ws line words = message (ws ∷ codes ":" ∷ decimal line ∷ codes ": 
 -- a unit's fault
 abbrev pub unit_line : ℕ → Place → Cause → List ℕ
 unit_line unit place cause = message (unit_pieces (decimal unit) (fault_pieces place cause))
-
-abbrev pub text_fault_line : UnitFault → List ℕ
-text_fault_line f = unit_line f.unit f.fault.place f.fault.cause
 
 -- a refusal without a place
 abbrev pub refused_line : List ℕ → List ℕ

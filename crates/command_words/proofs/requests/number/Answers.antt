@@ -1,6 +1,6 @@
 use Rattle.std.proofs.Common.{◌<◌, arith}
-use Rattle.cscout_run.proofs.NumberLemmas.{pow_small, digit_small}
-use Rattle.cscout_run.proofs.requests.number.Goals as goal
+use Rattle.command_words.proofs.NumberLemmas.{pow_small, digit_small}
+use Rattle.command_words.proofs.requests.number.Goals as goal
 
 pub overflow_mul-n : goal.overflow_mul-n
 overflow_mul-n c =
