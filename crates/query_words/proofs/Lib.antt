@@ -1,0 +1,4 @@
+pub mod AtomLemmas
+pub mod LawLemmas
+pub mod PatternLemmas
+pub mod WalkLemmas

@@ -1,0 +1,9 @@
+-- What the public contracts rest on.
+pub mod Attributes
+pub mod Patterns
+pub mod Queries
+pub mod Reading
+pub mod Laws
+-- What inner functions promise each other.
+pub mod Walk
+pub mod PlaceMarks

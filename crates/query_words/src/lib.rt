@@ -1,0 +1,50 @@
+//! The language in which classes are asked for: its words, what it accepts, and what a query says of a class.
+//!
+//! A query is one word: `name=PATTERN` and attributes, joined by `|`, `&`, `!` and parentheses. `satisfies` reads it and
+//! says whether something with these attributes and this spelling satisfies it, or names the first fault: it equals
+//! `parsed` of `specs/Reading.antt`, valued by `value` of `specs/Queries.antt`. A pattern is matched as
+//! `specs/Patterns.antt` tells: each `*` stands for any bytes. What the attributes of a class are belongs to those who
+//! ask. At most 64 `!` and `(` are open at once, so the walk needs little stack; it makes no tree and takes no memory, but
+//! for a row of marks that the caller hands in. It costs as much as the query is long, and for each pattern as much
+//! as pattern times spelling. Read `specs/Queries.antt` and `specs/Reading.antt`, then `walk.rt`.
+#![tactic(auto)]
+
+ghost use Rattle.std.specs.Prelude.{◌≡◌, ◌<◌, ◌^◌, length};
+ghost use Rattle.query_words.specs.Queries.{value};
+ghost use Rattle.query_words.specs.Reading.{parsed};
+ghost use Rattle.query_words.specs.Walk.{decided};
+
+mod atoms;
+mod attributes;
+mod faults;
+mod laws;
+mod patterns;
+mod walk;
+
+pub use attributes::{Attribute, Facts};
+pub use faults::QueryFault;
+pub use laws::patterns_are_replaced;
+
+/// How many `!` and `(` may be open at once.
+const DEPTH_LIMIT: usize = 64;
+
+/// Whether something with these attributes and this spelling satisfies the query, or the query's first fault, which
+/// depends on neither. `places` is room for work: what stands in it does not count. Takes no memory.
+pub fn satisfies(
+    query: &[u8],
+    facts: &Facts,
+    spelling: &[u8],
+    places: &mut [bool],
+) -> Result<bool, QueryFault>
+    requires few { length query.now < 2 ^ 32 }
+    requires room { length query.now < length places.old }
+    ensures answer { result ≡ decided (value facts.now spelling.now) (parsed query.now) }
+{
+    let walked = walk::either(query, DEPTH_LIMIT, 0, facts, spelling, places)?;
+    if walked.next < query.len() {
+        return Err(QueryFault::Bad {
+            at: walked.next as u32,
+        });
+    }
+    Ok(walked.holds)
+}
