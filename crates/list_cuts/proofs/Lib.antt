@@ -1,0 +1,6 @@
+pub mod MetLemmas
+pub mod WovenLemmas
+pub mod SpanLemmas
+pub mod OrderLemmas
+pub mod LengthLemmas
+pub mod CutLemmas
