@@ -1,5 +1,6 @@
 pub mod EditLemmas
-pub mod NeighbourLemmas
+pub mod SpanLemmas
+pub mod OriginLemmas
 pub mod FileMapLemmas
 pub mod CountLemmas
 pub mod WorldLemmas

@@ -2,6 +2,7 @@
 pub mod Answer
 pub mod Token
 pub mod Padding
+pub mod Spans
 pub mod Outside
 pub mod Words
 pub mod Reserved
@@ -12,8 +13,7 @@ pub mod Written
 pub mod Paths
 pub mod Units
 -- What contracts see of private fields.
-pub mod Spelling
-pub mod Neighbours
+pub mod Form
 pub mod KeptToken
 pub mod EditList
 pub mod Stored

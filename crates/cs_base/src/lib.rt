@@ -2,16 +2,17 @@
 //!
 //! A position names a character of the logical text of a source file (ISO/IEC 9899:1999, 5.1.1.2);
 //! a `Tok` is a preprocessing token (6.4) whose text and origins are shared and which contracts see
-//! as the plain record of `specs/Token.antt`. `Files` and `Sink` are all that the program knows of
-//! the world: their laws stand in `specs/Outside.antt`, and `MemFiles` and `MemSink` are worlds in
-//! memory that can be told to fail. This crate knows no syntax: it neither reads text nor makes
-//! messages. What wants memory answers `Memory`; readers never do. Read `specs/Token.antt` and
-//! `specs/Outside.antt`, then `outside.rt`.
+//! as the plain record of `specs/Token.antt`; a `Span` tells origins of its characters. `Files` and
+//! `Sink` are all that the program knows of the world: their laws stand in `specs/Outside.antt`, and
+//! `MemFiles` and `MemSink` are worlds in memory that can be told to fail. This crate knows no syntax:
+//! it neither reads text nor makes messages. What wants memory answers `Memory`; readers never do. Read
+//! `specs/Token.antt`, `specs/Spans.antt` and `specs/Outside.antt`, then `outside.rt`.
 #![tactic(auto)]
 
 mod call_list;
 mod causes;
 mod edit_list;
+mod forms;
 mod held_bytes;
 mod held_files;
 mod no_memory;
@@ -19,6 +20,7 @@ mod outside;
 mod paths;
 mod positions;
 mod reserved_words;
+mod spans;
 mod step_count;
 mod store;
 mod texts;
@@ -34,6 +36,7 @@ pub use outside::{Files, Got, Put, Sink, Wrote};
 pub use paths::normal_path;
 pub use positions::{Part, Place, Pos};
 pub use reserved_words::is_reserved;
+pub use spans::Span;
 pub use step_count::Steps;
 pub use texts::Text;
 pub use tokens::{Kind, Link, Tok, Toks};

@@ -101,6 +101,47 @@ fn tokens_and_edits_find_memory(rt: HostRuntime) -> Result<(), Fail> {
     Ok(())
 }
 
+// The characters 1 and 2 of a string and its character 4, the last one that has a number.
+const SPANS: [Span; 2] = [
+    Span {
+        from: 1,
+        len: 2,
+        start: Pos { file: 1, at: 4 },
+    },
+    Span {
+        from: 4,
+        len: 1,
+        start: Pos {
+            file: 2,
+            at: u32::MAX,
+        },
+    },
+];
+
+#[test]
+fn spans_tell_origins_and_leave_holes(rt: HostRuntime) -> Result<(), Fail> {
+    let alloc = rt.alloc();
+    let at = Pos { file: 1, at: 4 };
+    let tok = Tok::with_spans(alloc, Kind::Str, b"\"abcd\"", &SPANS, true, at, 7, true)?;
+    for (k, want) in [
+        (0, None),
+        (1, Some(at)),
+        (2, Some(Pos { file: 1, at: 5 })),
+        (3, None),
+        (4, Some(SPANS[1].start)),
+        (5, None),
+        (6, None),
+    ] {
+        assert_eq!(rt; tok.origins(k), want, "{k}");
+    }
+    let mut behind = Vec::new(alloc);
+    tok.push_spans(3, &mut behind)?;
+    assert_eq!(rt; behind.len(), 2);
+    assert_eq!(rt; behind[0].from, 4);
+    assert_eq!(rt; behind[1].from, 7);
+    Ok(())
+}
+
 // A caller that counts for its contract names the ledger of a `Blank`.
 fn two_ticks<L: Ledger>(blank: Blank)
     requires name { blank.name ≡ L.name }

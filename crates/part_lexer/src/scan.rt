@@ -2,7 +2,6 @@
 ghost use Rattle.std.specs.Prelude.{◌≡◌, ◌≤◌, ◌<◌, ◌+◌, ◌-◌, ◌++◌, ◌==◌, ◌^◌, ℕ, IfOk, MatchResult, true, length, take, count_by};
 ghost use Rattle.part_lexer.specs.LineTable.{line_starts, place_in as place};
 ghost use Rattle.part_lexer.specs.Logical.{line_at as line_of};
-ghost use Rattle.part_lexer.specs.Places.{origins_from};
 ghost use Rattle.part_lexer.specs.Scan.{IsScanned, ScanRefused};
 ghost use Rattle.part_lexer.specs.Tokens.{file_token as token_of, found_in, tokens_in, firsts_in};
 ghost use Rattle.part_lexer.specs.LineTable.{IsTable};
@@ -14,7 +13,7 @@ use crate::logical::{behind, first_character, spelling};
 use crate::lone::{Lone, searched};
 use crate::pieces::{LineFront, Piece, first_piece};
 use crate::refusal::LexRefusal;
-use cs_base::{Kind, Memory, Pos, Tok};
+use cs_base::{Kind, Memory, Pos, Span, Tok};
 use std::alloc::Global;
 
 /// The tokens of a file, for each whether it is the first of its line, and the number of its characters.
@@ -23,21 +22,6 @@ pub(crate) struct Scanned {
     pub(crate) toks: Vec<Tok>,
     pub(crate) firsts: Vec<bool>,
     pub(crate) len: u32,
-}
-
-// The origins of `len` characters of a file, from `at` on.
-fn origins(alloc: Global, file: u32, at: u32, len: usize) -> Result<Vec<Option<Pos>>, Memory>
-    requires { at + len < 2 ^ 32 }
-    ensures { IfOk result (λ all. all.items ≡ origins_from file at len) }
-{
-    let mut all = Vec::new(alloc);
-    for k in 0..len {
-        all.push(Some(Pos {
-            file,
-            at: at + k as u32,
-        }))?;
-    }
-    Ok(all)
 }
 
 // The token of a file that has this text, which begins at `at`.
@@ -53,17 +37,13 @@ fn file_token(
     requires { at + length text.now < 2 ^ 32 }
     ensures { IfOk result (λ t. t ≡ token_of file line gap at kind text.now) }
 {
-    let origins = origins(alloc, file, at, text.len())?;
-    Tok::new(
-        alloc,
-        kind,
-        text,
-        origins.as_slice(),
-        gap,
-        Pos { file, at },
-        line,
-        true,
-    )
+    let start = Pos { file, at };
+    let span = Span {
+        from: 0,
+        len: text.len() as u32,
+        start,
+    };
+    Tok::with_spans(alloc, kind, text, &[span], gap, start, line, true)
 }
 
 // The line of the bytes at `to`, where those at `from`, which they end, stand on this line.

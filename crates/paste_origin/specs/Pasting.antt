@@ -1,5 +1,5 @@
 -- The operator ## (ISO/IEC 9899:1999, 6.10.3.3): two preprocessing tokens become one.
-use Rattle.std.specs.Prelude.{◌≡◌, ◌++◌, List, Option, Some, None, Result, Ok, Err, IsTrue, IfSome}
+use Rattle.std.specs.Prelude.{◌++◌, Option, Some, None, Result, Ok, Err, IsTrue, IfSome}
 use Rattle.std.specs.List.{list_all}
 use Rattle.std.specs.Prelude.{is_some}
 use Rattle.cs_base.specs.declared.tokens.Kind.{Kind}

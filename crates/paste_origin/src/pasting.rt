@@ -1,11 +1,12 @@
 // The operator ## (ISO/IEC 9899:1999, 6.10.3.3).
-ghost use Rattle.std.specs.Prelude.{◌≡◌, ◌++◌, ◌+◌, IfOk, length};
+ghost use Rattle.std.specs.Prelude.{◌≡◌, ◌++◌, ◌+◌, ◌<◌, ◌^◌, IfOk, length};
 ghost use Rattle.cs_base.specs.Answer.{Gives};
+ghost use Rattle.cs_base.specs.Spans.{AreSpans, origins_by};
 ghost use Rattle.paste_origin.specs.Pasting.{glue_of, AreTraced};
 ghost use Rattle.paste_origin.specs.Refusals.{paste_fault_of};
 
 use crate::glue_refusal::GlueRefusal;
-use cs_base::{Memory, Pos, Tok};
+use cs_base::{Memory, Span, Tok};
 use part_lexer::one_token;
 use std::alloc::Global;
 
@@ -18,26 +19,17 @@ fn joined_text(alloc: Global, x: &Tok, y: &Tok) -> Result<Vec<u8>, Memory>
     Ok(text)
 }
 
-// Adds the origins of a token's characters.
-fn push_origins(origins: &mut Vec<Option<Pos>>, tok: &Tok) -> Result<(), Memory>
-    ensures answer { IfOk result (λ _. origins.new.items ≡ origins.old.items ++ tok.now.origins) }
-    ensures each { length tok.now.origins ≡ length tok.now.text }
+// The spans of two tokens' characters, those of `y` behind those of `x`.
+fn joined_spans(alloc: Global, x: &Tok, y: &Tok) -> Result<Vec<Span>, Memory>
+    requires { length x.now.text + length y.now.text < 2 ^ 32 }
+    ensures answer { IfOk result (λ spans. origins_by (length x.now.text + length y.now.text) spans.items
+        ≡ x.now.origins ++ y.now.origins) }
+    ensures sound { IfOk result (λ spans. AreSpans (length x.now.text + length y.now.text) spans.items) }
 {
-    for k in 0..tok.text().len() as u32 {
-        origins.push(tok.origins(k))?;
-    }
-    Ok(())
-}
-
-// The origins of two tokens' characters, one behind the other.
-fn joined_origins(alloc: Global, x: &Tok, y: &Tok) -> Result<Vec<Option<Pos>>, Memory>
-    ensures answer { IfOk result (λ origins. origins.items ≡ x.now.origins ++ y.now.origins) }
-    ensures each { IfOk result (λ origins. length origins.items ≡ length x.now.text + length y.now.text) }
-{
-    let mut origins = Vec::new(alloc);
-    push_origins(&mut origins, x)?;
-    push_origins(&mut origins, y)?;
-    Ok(origins)
+    let mut spans = Vec::new(alloc);
+    x.push_spans(0, &mut spans)?;
+    y.push_spans(x.text().len() as u32, &mut spans)?;
+    Ok(spans)
 }
 
 /// The token that `x ## y` makes of two tokens: their spellings and the origins of their characters
@@ -51,15 +43,18 @@ pub fn glue(alloc: Global, x: &Tok, y: &Tok) -> Result<Tok, GlueRefusal>
     ensures answer { Gives (λ t. t) paste_fault_of result (glue_of x.now y.now) }
 {
     let text = joined_text(alloc, x, y)?;
+    if text.len() > u32::MAX as usize {
+        return Err(GlueRefusal::Memory);
+    }
     match one_token(text.as_slice()) {
         None => Err(GlueRefusal::NotOneToken),
         Some(kind) => {
-            let origins = joined_origins(alloc, x, y)?;
-            Ok(Tok::new(
+            let spans = joined_spans(alloc, x, y)?;
+            Ok(Tok::with_spans(
                 alloc,
                 kind,
                 text.as_slice(),
-                origins.as_slice(),
+                spans.as_slice(),
                 x.gap(),
                 x.at(),
                 x.line(),

@@ -1,15 +1,9 @@
-use Rattle.std.proofs.Common.{arith, length}
-use Rattle.part_lexer.proofs.OriginLemmas.{length-origins, origins_from-traced, padded-origins}
+use Rattle.std.proofs.Common.{length}
+use Rattle.part_lexer.proofs.OriginLemmas.{origins_by-file, origins_by-traced}
 use Rattle.part_lexer.proofs.scan.file_token.Goals as goal
 
-pub new-requires-clause-no_longer : goal.new-requires-clause-no_longer
-new-requires-clause-no_longer c =
-    rw (c.as_slice.ensures.value, c.in_ok-origins.ensures) (omega (arith, length-origins c.args.file c.args.at (length c.args.text.now)))
-
-pub new-requires-clause-traced : goal.new-requires-clause-traced
-new-requires-clause-traced c named =
-    rw (c.as_slice.ensures.value, c.in_ok-origins.ensures, padded-origins) (origins_from-traced c.args.file c.args.at (length c.args.text.now))
+pub with_spans-requires-clause-traced : goal.with_spans-requires-clause-traced
+with_spans-requires-clause-traced c named = origins_by-traced c.args.file c.args.at (length c.args.text.now)
 
 pub returns : goal.returns
-returns c =
-    simp (c.as_slice.ensures.value, c.in_ok-origins.ensures, padded-origins) at c.new.ensures.answer
+returns c = simp (origins_by-file) at c.with_spans.ensures.answer
