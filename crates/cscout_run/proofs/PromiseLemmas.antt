@@ -19,16 +19,16 @@ use Rattle.ws_core.specs.Analysis.{AnalysisValue}
 use Rattle.ws_core.specs.Naming.{Names}
 use Rattle.ws_core.specs.Parts.{AreMembers}
 use Rattle.ws_core.specs.Places.{is_read_only, is_read_only_path}
-use Rattle.table_laws.specs.Tables.{IsPseudoIfMade, MadeArePseudo}
-use Rattle.table_laws.proofs.MadeLemmas.{made_files_pseudo}
-use Rattle.table_laws.proofs.ReadLemmas.{unit_files_opened}
+use Rattle.analysis_laws.specs.Tables.{IsPseudoIfMade, MadeArePseudo}
+use Rattle.analysis_laws.proofs.MadeLemmas.{made_files_pseudo}
+use Rattle.analysis_laws.proofs.ReadLemmas.{unit_files_opened}
 use Rattle.rename_rules.specs.First.{IsAmong, member_offences, offence, offences_of, spelling_offences, standing}
 use Rattle.rename_rules.specs.Offences.{read_only_place, read_only_places, reserved_places, stringized_places, header_places, no_identifier_places}
 use Rattle.rename_rules.specs.Renaming.{IsNamedRenamed, IsRenaming}
 use Rattle.rename_rules.specs.Runs.{edit_of, edits_of, file_of, new_bytes, runs, with_member}
-use Rattle.rename_source_laws.specs.EditedSource.{AreRespelled}
-use Rattle.rename_source_laws.specs.RenamedSource.{IsAccepted}
-use Rattle.rename_source_laws.proofs.TextLemmas.{respelled_files_have_renamed_texts, respelled_files_have_renamed_analysis}
+use Rattle.kept_meaning_laws.specs.EditedSource.{AreRespelled}
+use Rattle.kept_meaning_laws.specs.RenamedSource.{IsAccepted}
+use Rattle.kept_meaning_laws.proofs.TextLemmas.{respelled_files_have_renamed_texts, respelled_files_have_renamed_analysis}
 use Rattle.command_words.specs.Request.{RequestValue, RenameValue, asked, help_asked, version_asked, renaming_asked, tokens_asked, skipped_asked, class_asked, unused_asked, includes_asked, calls_asked, generated_asked}
 use Rattle.cscout_run.specs.Promise.{Renamed, IsRenamed, KeepsPromise}
 use Rattle.cscout_run.specs.Steps.{Planned, IsPlannedFor}

@@ -7,7 +7,7 @@ use Rattle.cs_base.specs.Edit.{Edit}
 use Rattle.cs_base.specs.Token.{Token}
 use Rattle.unit_steps.specs.Texts.{UnitTextValue}
 use Rattle.ws_core.specs.Analysis.{UnitAnalysis}
-use Rattle.table_laws.specs.Counts.{tokens_in}
+use Rattle.analysis_laws.specs.Counts.{tokens_in}
 use Rattle.cscout_run.specs.Answer.{places_in}
 use Rattle.cscout_run.specs.declared.stops.Stop.{Stop}
 use Rattle.cscout_run.specs.declared.stops.Stop.TheVariants as stop

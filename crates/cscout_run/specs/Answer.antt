@@ -10,7 +10,7 @@ use Rattle.unit_steps.specs.Texts.{UnitTextValue}
 use Rattle.ws_core.specs.Analysis.{AnalysisValue, analysis_of}
 use Rattle.ws_core.specs.ClassReport.{IsClassReport}
 use Rattle.ws_core.specs.Texts as units
-use Rattle.table_laws.specs.Counts.{tokens_in}
+use Rattle.analysis_laws.specs.Counts.{tokens_in}
 use Rattle.query_report.specs.TokensText.{tokens_text}
 use Rattle.query_report.specs.Skipped.{skipped_text}
 use Rattle.query_report.specs.Queries.{IsReport}

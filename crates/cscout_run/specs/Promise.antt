@@ -9,10 +9,10 @@ use Rattle.source_files.specs.KeptFiles.{KeptValue}
 use Rattle.ws_core.specs.Analysis.{AnalysisValue, analysis_of}
 use Rattle.ws_core.specs.Naming.{Names}
 use Rattle.ws_core.specs.Parts.{AreMembers}
-use Rattle.table_laws.specs.Tables.{IsOpened}
+use Rattle.analysis_laws.specs.Tables.{IsOpened}
 use Rattle.rename_rules.specs.First.{IsAmong, IsFirst, offences_of}
 use Rattle.rename_rules.specs.Runs.{runs, file_of, new_bytes}
-use Rattle.rename_source_laws.specs.RenamedSource.{TextsAreRenamed, AnalysisIsRenamed}
+use Rattle.kept_meaning_laws.specs.RenamedSource.{TextsAreRenamed, AnalysisIsRenamed}
 use Rattle.command_words.specs.Request.{RequestValue, renaming_asked, RenameValue}
 use Rattle.cscout_run.specs.Answer.{workspace_at}
 

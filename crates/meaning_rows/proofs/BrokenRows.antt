@@ -17,8 +17,8 @@ use Rattle.scope_bind.specs.declared.bound.Name.{Name}
 use Rattle.scope_bind.specs.Bound.{Bound, binding_of}
 use Rattle.scope_bind.specs.Walk.{walked}
 use Rattle.rename_rules.specs.Tokens.{holders}
-use Rattle.rename_premise_laws.specs.Renamings.{spell_from}
-use Rattle.rename_premise_laws.proofs.ListLemmas.{In, any_at}
+use Rattle.no_offence_laws.specs.Renamings.{spell_from}
+use Rattle.no_offence_laws.proofs.ListLemmas.{In, any_at}
 use Rattle.meaning_rows.specs.Rows.{member, BreaksMeaning, IsOffence, two_objects, pasted_name, pasted_names, hidden_typedef}
 use Rattle.meaning_rows.proofs.OffenceLemmas as offences
 use Rattle.meaning_rows.proofs.RowLemmas.{breaks, its_bound}

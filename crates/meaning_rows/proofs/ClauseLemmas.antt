@@ -4,11 +4,11 @@ use Rattle.cs_base.specs.Answer.{result_then}
 use Rattle.macro_expand.specs.Renaming.{Renaming}
 use Rattle.source_files.specs.Files.{nothing_carried}
 use Rattle.ws_core.specs.Analysis.{UnitAnalysis, UnitsValue, AnalysisValue, analysis_and, analysed_from}
-use Rattle.rename_text_laws.specs.Lines.{Each}
-use Rattle.rename_unit_laws.specs.Keeping.{Change}
-use Rattle.rename_analysis_laws.specs.Analyses.{IsRead, renamed_unit_analysis, renamed_analysis, ReadsAlike}
-use Rattle.rename_analysis_laws.proofs.AnalysesLemmas.{analyses_have_texts}
-use Rattle.rename_result_laws.specs.KeptUnits.{change}
+use Rattle.edited_unit_laws.specs.Lines.{Each}
+use Rattle.edited_unit_laws.specs.Keeping.{Change}
+use Rattle.edited_unit_laws.specs.Analyses.{IsRead, renamed_unit_analysis, renamed_analysis, ReadsAlike}
+use Rattle.edited_unit_laws.proofs.AnalysesLemmas.{analyses_have_texts}
+use Rattle.kept_meaning_laws.specs.KeptUnits.{change}
 use Rattle.meaning_rows.specs.Clause.{KeptMeaningReadsAlike}
 
 -- two answers of one call are the same

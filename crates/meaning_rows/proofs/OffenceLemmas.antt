@@ -19,8 +19,8 @@ use Rattle.rename_rules.specs.declared.offences.Offence.{Offence}
 use Rattle.rename_rules.specs.First.{offence, standing, member_offences, spelling_offences, offences_of}
 use Rattle.rename_rules.specs.Offences.{occurring_place, occurring_places, clashing_place, clashing_places, too_large_places, is_shadow, bare_place, bare_places, shadowed_places}
 use Rattle.rename_rules.specs.Tokens.{all_file_tokens, pasted_tokens, holds_member, starts_in, holders, is_new_spelling, is_old_spelling, first_place, clashes}
-use Rattle.rename_premise_laws.proofs.ListLemmas.{In, in_flat}
-use Rattle.rename_premise_laws.proofs.MemberLemmas.{file_token, any_file_token}
+use Rattle.no_offence_laws.proofs.ListLemmas.{In, in_flat}
+use Rattle.no_offence_laws.proofs.MemberLemmas.{file_token, any_file_token}
 use Rattle.meaning_rows.specs.Rows.{Row, IsOf}
 
 module _ (r : Row) (a : AnalysisValue) (h : IsOf r a) (members : List Part) (name : List ℕ) where

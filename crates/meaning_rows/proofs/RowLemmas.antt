@@ -7,9 +7,9 @@ use Rattle.c99_read.specs.Reading.{read_of}
 use Rattle.c99_grammar.specs.Standard.{c99}
 use Rattle.scope_bind.specs.Bound.{Bound, binding_of}
 use Rattle.ws_core.specs.Analysis.{UnitAnalysis, AnalysisValue}
-use Rattle.rename_text_laws.specs.Lines.{Each}
-use Rattle.rename_analysis_laws.specs.Analyses.{ReadsAlike}
-use Rattle.rename_result_laws.specs.KeptUnits.{change}
+use Rattle.edited_unit_laws.specs.Lines.{Each}
+use Rattle.edited_unit_laws.specs.Analyses.{ReadsAlike}
+use Rattle.kept_meaning_laws.specs.KeptUnits.{change}
 use Rattle.meaning_rows.specs.Rows.{Row, IsOf, member, KeepsReading, BreaksMeaning}
 use Rattle.meaning_rows.proofs.ClauseLemmas.{one_answer, kept_meaning_reads_alike}
 

@@ -5,10 +5,10 @@ use Rattle.cs_base.specs.declared.positions.Part.{Part}
 use Rattle.ws_file.specs.Workspace.{WorkspaceValue}
 use Rattle.source_files.specs.Files.{Source}
 use Rattle.ws_core.specs.Analysis.{AnalysisValue}
-use Rattle.rename_text_laws.specs.Lines.{Each}
-use Rattle.rename_analysis_laws.specs.Analyses.{ReadsAlike}
-use Rattle.rename_result_laws.specs.KeptUnits.{change}
-use Rattle.rename_source_laws.specs.RenamedSource.{AnalysisIsRenamed}
+use Rattle.edited_unit_laws.specs.Lines.{Each}
+use Rattle.edited_unit_laws.specs.Analyses.{ReadsAlike}
+use Rattle.kept_meaning_laws.specs.KeptUnits.{change}
+use Rattle.kept_meaning_laws.specs.RenamedSource.{AnalysisIsRenamed}
 
 -- The renamed tokens of each unit are read to the tree that it had (Annex A), and bound as they were (6.2).
 abbrev pub UnitsReadAlike : AnalysisValue → List Part → List ℕ → Type 0

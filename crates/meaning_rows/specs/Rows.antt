@@ -18,9 +18,9 @@ use Rattle.source_files.specs.Limits.{Limits, the_limits}
 use Rattle.include_tree.specs.Preprocessed.{Preprocessed, preprocessed_by}
 use Rattle.include_tree.specs.Unit.{unit_outcome}
 use Rattle.ws_core.specs.Analysis.{UnitAnalysis, AnalysisValue}
-use Rattle.rename_analysis_laws.specs.Analyses.{IsRead}
+use Rattle.edited_unit_laws.specs.Analyses.{IsRead}
 use Rattle.rename_rules.specs.First.{IsAmong, offence, offences_of}
-use Rattle.rename_source_laws.specs.RenamedSource.{AnalysisIsRenamed}
+use Rattle.kept_meaning_laws.specs.RenamedSource.{AnalysisIsRenamed}
 use Rattle.meaning_rows.specs.Clause.{UnitsReadAlike}
 
 -- A row: the bytes of its file, which has number 2, the tokens of its unit, and those of them that were pasted.

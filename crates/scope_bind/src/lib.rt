@@ -6,7 +6,7 @@
 //! names. It is `binding_of` of `specs/Bound.antt`, a walk over the tree in which each declaration has
 //! its range of tokens, or the first of seven faults. Types are followed as far as members need them.
 //! A binding is told by indices and holds no spelling, so a renamed text binds to the same value: that is
-//! a law of `bind_laws`. This crate knows neither how a tree is read nor macros, files or classes. Spellings,
+//! a law of `tree_laws`. This crate knows neither how a tree is read nor macros, files or classes. Spellings,
 //! declarations, names and types want memory. What a tree says without a scope is in `c_types`, which of the
 //! declarations a name may denote in `name_chains`. Read `specs/Declarations.antt` of `c_types`, then
 //! `Ordinary.antt` and the files beside it, `Walk.antt`, `Bound.antt`, then `binding.rt`, `walking.rt` and

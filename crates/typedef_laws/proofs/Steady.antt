@@ -9,7 +9,7 @@ use Rattle.c99_grammar.specs.Items.{Action, scope, end, declare, name, keep, aga
 use Rattle.c99_grammar.specs.Standard.{c99}
 use Rattle.c99_read.specs.State.{State, Names, Head, given_names, last_declared, last_identifier, with_declared, with_scope_ended, is_declarator, with_head, head_closed, names_closed, collapses, finished, names_after, acted, opened, closed}
 use Rattle.c99_read.specs.Reading.{Goal, read_within}
-use Rattle.read_laws.proofs.Walked.{kept_anywhere}
+use Rattle.tree_laws.proofs.Walked.{kept_anywhere}
 use Rattle.scope_bind.specs.Named.{Scope}
 use Rattle.name_chains.specs.Entering.{scope_in}
 use Rattle.typedef_laws.proofs.Private.{Declaration}

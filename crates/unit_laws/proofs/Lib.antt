@@ -1,4 +1,4 @@
--- For crates of laws above: any fact of tokens, in place of a test.
+-- For the crates of laws above.
 pub mod DoneLemmas
 pub mod UnitLemmas
 pub mod NoteLemmas
@@ -8,6 +8,8 @@ pub mod ReachedLemmas
 pub mod SpellingLemmas
 pub mod NameLemmas
 pub mod TokenLemmas
+pub mod ToldLemmas
+pub mod UseLemmas
 -- What the proofs of this crate rest on.
 mod ExpandingLemmas
 mod NamingLemmas
@@ -17,3 +19,5 @@ mod IncludeLemmas
 mod WalkLemmas
 mod TestLemmas
 mod FileLemmas
+mod ReplacedLemmas
+mod StepLemmas

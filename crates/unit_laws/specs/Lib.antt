@@ -5,3 +5,5 @@ pub mod UnitItems
 pub mod UnitTests
 pub mod UnitSpelling
 pub mod UnitNames
+pub mod ToldNames
+pub mod Uses

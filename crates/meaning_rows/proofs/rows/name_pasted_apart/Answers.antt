@@ -4,7 +4,7 @@ use Rattle.c99_read.specs.State.{class_at, acted, opened, closed}
 use Rattle.c99_grammar.specs.TokenClasses.{spelled_class, base_class}
 use Rattle.scope_bind.specs.Bound.{binding_of}
 use Rattle.scope_bind.specs.Walk.{walked}
-use Rattle.rename_premise_laws.specs.Renamings.{spell_from}
+use Rattle.no_offence_laws.specs.Renamings.{spell_from}
 use Rattle.meaning_rows.specs.Rows.{pasted_names}
 use Rattle.meaning_rows.proofs.RowLemmas.{keeps}
 use Rattle.meaning_rows.proofs.RowTokens.{tree_of, bound_of, pasted_names_read}

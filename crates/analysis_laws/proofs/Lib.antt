@@ -1,0 +1,4 @@
+-- For the crates of laws above.
+pub mod MadeLemmas
+pub mod CountLemmas
+pub mod ReadLemmas

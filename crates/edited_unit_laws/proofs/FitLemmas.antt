@@ -1,0 +1,213 @@
+-- Tokens that fit: a test for it, and which tokens of an expansion pass.
+use Rattle.std.proofs.Common.{◌≡◌, ℕ, zero, suc, ◌*◌, ◌&&◌, Bool, true, false, not, cond, List, [], ◌∷◌, length, replicate, Option, Some, None, Ok, codes, ◌⊎◌, refl, ap, inl, inr}
+use Rattle.std.specs.Prelude.{slice_get}
+use Rattle.std.specs.Fmt.{decimal}
+use Rattle.std.specs.List.{list_all}
+use Rattle.std.specs.Option.{is_none}
+use Rattle.std.specs.Str.{bytes_eq}
+use Rattle.std.proofs.lemmas.Bool.{cases_Bool}
+use Rattle.std.proofs.lemmas.Slice.Eq.{bytes_eq-Decides}
+use Rattle.cs_base.specs.declared.positions.Pos.{Pos}
+use Rattle.cs_base.specs.declared.tokens.Kind.{Kind}
+use Rattle.cs_base.specs.declared.tokens.Kind.TheVariants.{Number, Str}
+use Rattle.cs_base.specs.Token.{Token}
+use Rattle.line_shape.specs.Signs.{is_identifier, is_va_args}
+use Rattle.paste_origin.specs.Strings.{stringize_of}
+use Rattle.macro_body.specs.declared.definitions.Definition.{Definition}
+use Rattle.macro_body.specs.Hides.{Hidden, unhidden, toks_of}
+use Rattle.macro_expand.specs.Laws.{Held, Passes, AllMadePass}
+use Rattle.macro_body.specs.Macro.{Table as Macros}
+use Rattle.macro_body.specs.Notes.{Note, Replaced, Linked, Stringized, Pasted, Expanded}
+use Rattle.macro_body.specs.Substitution.{line_number, path_text, path_string}
+use Rattle.macro_expand.specs.Expansion.{Setting, expansion}
+use Rattle.macro_expand.specs.Renaming.{Renaming, spelled, Occurring, occurs, AllOccur, KeepsBody}
+use Rattle.expansion_laws.proofs.OriginLemmas.{tokens_come_from_somewhere}
+use Rattle.expansion_laws.specs.Telling.{DidHappen, IsStringized}
+use Rattle.expansion_laws.proofs.TellingLemmas.{string_is, notes_are_true}
+use Rattle.unit_steps.specs.State.{State}
+use Rattle.edited_unit_laws.specs.Lines.{Each, KeepsToken}
+use Rattle.edited_unit_laws.specs.Keeping.{Change, KeepsNames, Fits, GoesWell}
+use Rattle.edited_unit_laws.specs.Steps.{KeepsState}
+
+-- ---- tests
+
+abbrev same : Bool → Bool → Bool
+same a b = cond a b (not b)
+
+same-true : (a b : Bool) → same a b ≡ true → a ≡ b
+same-true true true h = refl
+same-true true false h = absurd (cc)
+same-true false true h = absurd (cc)
+same-true false false h = refl
+
+same-of : (a b : Bool) → a ≡ b → same a b ≡ true
+same-of true true h = refl
+same-of true false h = absurd (cc)
+same-of false true h = absurd (cc)
+same-of false false h = refl
+
+both-true : (a b : Bool) → (a && b) ≡ true → (a ≡ true) × (b ≡ true)
+both-true true b h = (refl, h)
+both-true false b h = absurd (cc)
+
+both-of : (a b : Bool) → a ≡ true → b ≡ true → (a && b) ≡ true
+both-of true true h k = refl
+both-of true false h k = absurd (cc)
+both-of false b h k = absurd (cc)
+
+-- an identifier is spelled like a word exactly where it was
+word-stays : (n x y : Bool) → n ≡ true → (n && x) ≡ (n && y) → x ≡ y
+word-stays true x y is h = h
+word-stays false x y is h = absurd (cc)
+
+word-back : (n x y : Bool) → x ≡ y → (n && x) ≡ (n && y)
+word-back n x y h = ap (λ b. n && b) h
+
+word-none : (n x y : Bool) → n ≡ false → (n && x) ≡ (n && y)
+word-none true x y is = absurd (cc)
+word-none false x y is = refl
+
+-- the new spelling keeps what directives mean
+unfoldable pub keeps_text : Renaming → Occurring
+keeps_text r kind origins text = cond (is_identifier kind)
+    (same (bytes_eq (r.spell origins text) (codes "defined")) (bytes_eq text (codes "defined"))
+    && same (bytes_eq (r.spell origins text) (codes "__VA_ARGS__")) (bytes_eq text (codes "__VA_ARGS__")))
+    (bytes_eq (r.spell origins text) text)
+
+-- the token occurs, and its new spelling does
+unfoldable pub fits : Change → Occurring
+fits c kind origins text = c.occurring kind origins text && keeps_text c.renaming kind origins text
+
+-- the same of both words, and of what is no identifier
+keeps-name : (n a b d e other : Bool) → n ≡ true → a ≡ b → d ≡ e → cond n (same a b && same d e) other ≡ true
+keeps-name true a b d e other is h k = both-of (same a b) (same d e) (same-of a b h) (same-of d e k)
+keeps-name false a b d e other is h k = absurd (cc)
+
+name-keeps : (n a b d e other : Bool) → n ≡ true → cond n (same a b && same d e) other ≡ true → (a ≡ b) × (d ≡ e)
+name-keeps true a b d e other is h = let k = both-true (same a b) (same d e) h in (same-true a b k.0, same-true d e k.1)
+name-keeps false a b d e other is h = absurd (cc)
+
+keeps-other : (n name other : Bool) → n ≡ false → other ≡ true → cond n name other ≡ true
+keeps-other true name other is h = absurd (cc)
+keeps-other false name other is h = h
+
+other-keeps : (n name other : Bool) → n ≡ false → cond n name other ≡ true → other ≡ true
+other-keeps true name other is h = absurd (cc)
+other-keeps false name other is h = h
+
+keeps-true : (r : Renaming) (t : Token) → KeepsToken r t → keeps_text r t.kind t.origins t.text ≡ true
+unfolding keeps_text is_va_args
+keeps-true r t h = by (cases_Bool (is_identifier t.kind))
+  where
+    by : (is_identifier t.kind ≡ true) ⊎ (is_identifier t.kind ≡ false) → keeps_text r t.kind t.origins t.text ≡ true
+    by (inl name) =
+        keeps-name (is_identifier t.kind) (bytes_eq (spelled r t) (codes "defined")) (bytes_eq t.text (codes "defined")) (bytes_eq (spelled r t) (codes "__VA_ARGS__")) (bytes_eq t.text (codes "__VA_ARGS__"))
+        (bytes_eq (spelled r t) t.text) name
+        (word-stays (is_identifier t.kind) (bytes_eq (spelled r t) (codes "defined")) (bytes_eq t.text (codes "defined")) name h.asks)
+        (word-stays (is_identifier t.kind) (bytes_eq (spelled r t) (codes "__VA_ARGS__")) (bytes_eq t.text (codes "__VA_ARGS__")) name h.rest)
+    by (inr other) =
+        keeps-other (is_identifier t.kind)
+        (same (bytes_eq (spelled r t) (codes "defined")) (bytes_eq t.text (codes "defined")) && same (bytes_eq (spelled r t) (codes "__VA_ARGS__")) (bytes_eq t.text (codes "__VA_ARGS__")))
+        (bytes_eq (spelled r t) t.text) other ((bytes_eq-Decides (spelled r t) t.text).1 (h.others other))
+
+true-keeps : (r : Renaming) (t : Token) → keeps_text r t.kind t.origins t.text ≡ true → KeepsToken r t
+unfolding keeps_text is_va_args
+true-keeps r t h = record {
+  others = λ other.
+      (bytes_eq-Decides (spelled r t) t.text).0
+      (other-keeps (is_identifier t.kind)
+      (same (bytes_eq (spelled r t) (codes "defined")) (bytes_eq t.text (codes "defined")) && same (bytes_eq (spelled r t) (codes "__VA_ARGS__")) (bytes_eq t.text (codes "__VA_ARGS__")))
+      (bytes_eq (spelled r t) t.text) other h);
+  asks = elim (cases_Bool (is_identifier t.kind)) [
+    | inl name ↦ word-back (is_identifier t.kind) (bytes_eq (spelled r t) (codes "defined")) (bytes_eq t.text (codes "defined")) (both name).0
+    | inr other ↦ word-none (is_identifier t.kind) (bytes_eq (spelled r t) (codes "defined")) (bytes_eq t.text (codes "defined")) other
+  ];
+  rest = elim (cases_Bool (is_identifier t.kind)) [
+    | inl name ↦ word-back (is_identifier t.kind) (bytes_eq (spelled r t) (codes "__VA_ARGS__")) (bytes_eq t.text (codes "__VA_ARGS__")) (both name).1
+    | inr other ↦ word-none (is_identifier t.kind) (bytes_eq (spelled r t) (codes "__VA_ARGS__")) (bytes_eq t.text (codes "__VA_ARGS__")) other
+  ];
+}
+  where
+    both : is_identifier t.kind ≡ true → (bytes_eq (spelled r t) (codes "defined") ≡ bytes_eq t.text (codes "defined")) × (bytes_eq (spelled r t) (codes "__VA_ARGS__") ≡ bytes_eq t.text (codes "__VA_ARGS__"))
+    both name =
+        name-keeps (is_identifier t.kind) (bytes_eq (spelled r t) (codes "defined")) (bytes_eq t.text (codes "defined")) (bytes_eq (spelled r t) (codes "__VA_ARGS__")) (bytes_eq t.text (codes "__VA_ARGS__"))
+        (bytes_eq (spelled r t) t.text) name h
+
+pub fits-true : (c : Change) (t : Token) → Fits c t → occurs (fits c) t ≡ true
+unfolding fits
+fits-true c t h = both-of (c.occurring t.kind t.origins t.text) (keeps_text c.renaming t.kind t.origins t.text) h.0 (keeps-true c.renaming t h.1)
+
+pub true-fits : (c : Change) (t : Token) → occurs (fits c) t ≡ true → Fits c t
+unfolding fits
+true-fits c t h =
+    let k = both-true (c.occurring t.kind t.origins t.text) (keeps_text c.renaming t.kind t.origins t.text) h in
+    (k.0, true-keeps c.renaming t k.1)
+
+-- ---- what comes from no file
+
+string-kind : (toks : List Token) (s : Token) → stringize_of toks ≡ Ok s → s.kind ≡ Str
+string-kind toks s h = ap (λ (t : Token). t.kind) (string_is toks s h)
+
+-- a token that is neither an identifier nor a punctuator, and stays as it is spelled
+pub still-fits : (c : Change) → KeepsNames c → (t : Token) (kind : Kind) → t.kind ≡ kind → is_identifier kind ≡ false → (c.occurring kind t.origins t.text ≡ true) → spelled c.renaming t ≡ t.text → Fits c t
+unfolding is_va_args
+still-fits c names t kind is other here stays = (
+  rw is here,
+  record { others = λ text. stays; asks = rw (is, other) refl; rest = rw (is, other) refl },
+)
+
+string-fits : (c : Change) → KeepsNames c → (toks : List Token) (s : Token) → IsStringized toks s → Fits c s
+string-fits c names toks s h =
+    still-fits c names s Str (string-kind toks s h.made) refl (names.others Str s.origins s.text refl refl) (names.untraced s.origins s.text h.untraced).0
+
+pub line-fits : (c : Change) → KeepsNames c → (name : Token) → Fits c (line_number name)
+line-fits c names name =
+    still-fits c names (line_number name) Number refl refl (names.others Number (line_number name).origins (line_number name).text refl refl)
+    (names.numbers (8 * name.line) (length (decimal name.line)) (decimal name.line)).0
+
+nones : (n : ℕ) → list_all is_none (replicate {A = Option Pos} n None) ≡ true
+nones zero = refl
+nones (suc n) = nones n
+
+path-fits : (c : Change) → KeepsNames c → (path : List ℕ) (name : Token) → Fits c (path_string path name)
+path-fits c names path name =
+    still-fits c names (path_string path name) Str refl refl (names.others Str (path_string path name).origins (path_string path name).text refl refl)
+    (names.untraced (path_string path name).origins (path_string path name).text (nones (length (path_text path)))).0
+
+-- ---- expansions
+
+made-pass : (c : Change) → KeepsNames c → (macros : Macros) (notes : List Note) → ((k : ℕ) (note : Note) → slice_get notes k ≡ Some note → DidHappen macros note) → Each (GoesWell c) notes
+    → AllMadePass (fits c) notes
+made-pass c names macros [] did h = tt
+made-pass c names macros (Replaced name m before ∷ notes) did h = made-pass c names macros notes (λ k note at. did (suc k) note at) h.1
+made-pass c names macros (Linked x y ∷ notes) did h = made-pass c names macros notes (λ k note at. did (suc k) note at) h.1
+made-pass c names macros (Stringized toks s ∷ notes) did h =
+    (fits-true c s (string-fits c names toks s (did 0 (Stringized toks s) refl)), made-pass c names macros notes (λ k note at. did (suc k) note at) h.1)
+made-pass c names macros (Pasted x y z ∷ notes) did h =
+    (fits-true c z (h.0.0.1, h.0.1), made-pass c names macros notes (λ k note at. did (suc k) note at) h.1)
+
+body-fits : (c : Change) (m : Definition) (body : List Token) → KeepsBody c.occurring c.renaming m body → Each (KeepsToken c.renaming) body → AllOccur (fits c) body
+body-fits c m [] h k = tt
+body-fits c m (t ∷ ts) h k = (fits-true c t (h.0, k.0), body-fits c m ts h.2 k.1)
+
+run-held : (c : Change) (macros : Macros) (run : List Token) → Each (Fits c) run → Held (fits c) macros (unhidden run)
+run-held c macros [] h = tt
+run-held c macros (t ∷ ts) h = (fits-true c t h.0, tt, run-held c macros ts h.1)
+
+held-fits : (c : Change) (macros : Macros) (hs : List Hidden) → Held (fits c) macros hs → Each (Fits c) (toks_of hs)
+held-fits c macros [] h = tt
+held-fits c macros (t ∷ ts) h = (true-fits c t.tok h.0, held-fits c macros ts h.2)
+
+-- the tokens that tokens which fit expand to fit
+pub expanded-fits : (c : Change) → KeepsNames c → (macros : Macros) (s : State) (path : List ℕ) (run : List Token) (work : ℕ) (e : Expanded) → KeepsState c macros s → Each (Fits c) run
+    → expansion s.macros path run work ≡ Ok e → Each (GoesWell c) e.notes → Each (Fits c) (toks_of e.toks)
+unfolding expansion
+expanded-fits c names macros s path run work e kept h is told =
+    let set : Setting = record { table = s.macros; path = path } in
+    let passes : Passes (fits c) set = record {
+      bodies = λ name m at. body-fits c m m.body (kept.macros.body name m at) (kept.bodies name m at);
+      lines = λ name. fits-true c (line_number name) (line-fits c names name);
+      paths = λ name. fits-true c (path_string path name) (path-fits c names path name);
+    } in
+    held-fits c s.macros e.toks (tokens_come_from_somewhere (fits c) set 0 0 (unhidden run) work e passes (run-held c s.macros run h) is
+    (made-pass c names s.macros e.notes (λ k note at. notes_are_true s.macros path run work e is note (k, at)) told))

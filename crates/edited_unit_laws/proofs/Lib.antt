@@ -1,0 +1,31 @@
+-- For the crates of laws above.
+pub mod EditedTokenLemmas
+pub mod MacroLineLemmas
+pub mod UnitLineLemmas
+pub mod UnitLemmas
+pub mod SeenLemmas
+pub mod RespelledLemmas
+pub mod FoundLemmas
+pub mod WorkspaceLemmas
+pub mod AnalysesLemmas
+pub mod LinksLemmas
+pub mod FileTokensLemmas
+pub mod AloneLemmas
+-- What the proofs of this crate rest on.
+mod ValueLemmas
+mod BadLinesLemmas
+mod ItemLemmas
+mod FollowLemmas
+mod FitLemmas
+mod TextLemmas
+mod NameLemmas
+mod MacroLemmas
+mod PartLemmas
+mod LineLemmas
+mod TableLemmas
+mod DirectiveLemmas
+mod ConditionLemmas
+mod OpenLemmas
+mod IncludeLemmas
+mod WalkLemmas
+mod StepLaws

@@ -1,0 +1,194 @@
+-- Units over the edited files.
+use Rattle.std.proofs.Common.{◌≡◌, ℕ, ◌-◌, Bool, true, false, cond, List, [], ◌∷◌, ◌++◌, length, map, codes, Option, Some, None, Ok, refl, ap, sym, subst, ◌∙◌}
+use Rattle.std.specs.List.{list_all}
+use Rattle.std.specs.Option.{is_none}
+use Rattle.std.specs.Str.{bytes_eq}
+use Rattle.std.proofs.lemmas.Option.{none-some, same_Some}
+use Rattle.std.proofs.lemmas.Slice.Eq.{bytes_eq-Decides}
+use Rattle.cs_base.specs.declared.positions.Pos.{Pos}
+use Rattle.cs_base.specs.declared.tokens.Kind.TheVariants.{Other}
+use Rattle.cs_base.specs.Padding.{padded}
+use Rattle.cs_base.specs.Token.{Token, token}
+use Rattle.cs_base.specs.Units.{UnitValue, defines_text}
+use Rattle.part_lexer.specs.FileText.{file_text}
+use Rattle.macro_body.specs.declared.definitions.Form.{Form}
+use Rattle.macro_body.specs.declared.definitions.Form.TheVariants as form
+use Rattle.macro_body.specs.declared.definitions.Definition.{Definition}
+use Rattle.macro_body.specs.Defining.{first_definition, line_macro, file_macro, first_macros}
+use Rattle.macro_body.specs.Macro.{Table as Macros}
+use Rattle.macro_expand.specs.Renaming.{renamed_macro, KeepsBody, Keeps}
+use Rattle.source_files.specs.Faults.{first_place}
+use Rattle.source_files.specs.Files.{Source, Made, entry, Table, SourceFile, Carried, defines_path, asked}
+use Rattle.source_files.specs.Tables.{IsGrown}
+use Rattle.source_files.specs.Limits.{the_limits}
+use Rattle.include_tree.specs.OpeningStep.{open_file}
+use Rattle.include_tree.specs.GivenFiles.{unit_context}
+use Rattle.unit_steps.specs.State.{Context, State, Did, did, Outcome, only, onward}
+use Rattle.include_tree.specs.Unit.{first_state, outer_file, main_file, both_files, unit_outcome}
+use Rattle.include_tree.specs.Walk.{file_items}
+use Rattle.source_files.proofs.TableLemmas.{grown_refl, grown_trans, widens_asked}
+use Rattle.edited_unit_laws.specs.Lines.{Each, KeepsToken}
+use Rattle.edited_unit_laws.specs.Edited.{edited_table}
+use Rattle.edited_unit_laws.specs.Keeping.{Change, KeepsName, KeepsNames, KeepsFiles}
+use Rattle.edited_unit_laws.specs.Renamed.{renamed_happening}
+use Rattle.edited_unit_laws.specs.Steps.{KeepsState, moved, GoesAlike, Follows, IsRenamed, OpensAlike, Grows}
+use Rattle.edited_unit_laws.specs.Units.{UnitsAreRenamed}
+use Rattle.edited_unit_laws.proofs.FollowLemmas.{later-grows, onward-grows, alike-onward, alike-reach}
+use Rattle.edited_unit_laws.proofs.OpenLemmas.{open-alike, open-grows, alike-table}
+use Rattle.edited_unit_laws.proofs.TableLemmas.{push-edited, asked-edited, grown-push}
+use Rattle.edited_unit_laws.proofs.WalkLemmas.{both-alike, files-alike, files-grow}
+
+-- ---- the macros that each unit begins with (6.10.8)
+
+-- a first macro with another name
+abbrev macro_with : Form → List ℕ → List (Option Pos) → Pos → Definition
+macro_with form text origins at = record { name = token Other text origins false at 0 false; form = form; params = []; variadic = false; body = [] }
+
+macro-still : (c : Change) → KeepsNames c → (form : Form) (text : List ℕ) → list_all is_none (padded (length text) []) ≡ true
+    → renamed_macro c.renaming (first_definition form text) ≡ first_definition form text
+macro-still c names form text none =
+    let origins : List (Option Pos) = padded (length text) [] in
+    let at : Pos = record { file = 0; at = 0 } in
+    let same = names.untraced origins text none in
+    ap (λ (x : List ℕ). macro_with form x (c.renaming.trace origins text) (c.renaming.move at)) same.0
+    ∙ ap (λ (x : List (Option Pos)). macro_with form text x (c.renaming.move at)) same.1
+    ∙ ap (macro_with form text origins) (names.still 0)
+
+-- what is true of a first macro
+record FirstIs (c : Change) (name : List ℕ) (m : Definition) : Type 0 where
+  keeps : KeepsName c name
+  still : renamed_macro c.renaming m ≡ m
+  empty : m.body ≡ []
+
+first-by : (c : Change) → KeepsNames c → (name : List ℕ) (m : Definition) (a b : Bool) → bytes_eq name (codes "__FILE__") ≡ a → bytes_eq name (codes "__LINE__") ≡ b
+    → cond a (Some file_macro) (cond b (Some line_macro) None) ≡ Some m → FirstIs c name m
+first-by c names name m true b fa lb e =
+    subst (λ (d : Definition). FirstIs c name d) (same_Some file_macro m e)
+    (record { keeps = subst (λ (n : List ℕ). KeepsName c n) (sym ((bytes_eq-Decides name (codes "__FILE__")).0 fa)) names.file; still = macro-still c names form.File (codes "__FILE__") refl; empty = refl })
+first-by c names name m false true fa lb e =
+    subst (λ (d : Definition). FirstIs c name d) (same_Some line_macro m e)
+    (record { keeps = subst (λ (n : List ℕ). KeepsName c n) (sym ((bytes_eq-Decides name (codes "__LINE__")).0 lb)) names.line; still = macro-still c names form.Line (codes "__LINE__") refl; empty = refl })
+first-by c names name m false false fa lb e = absurd (none-some m e)
+
+first-is : (c : Change) → KeepsNames c → (name : List ℕ) (m : Definition) → first_macros name ≡ Some m → FirstIs c name m
+first-is c names name m e = first-by c names name m (bytes_eq name (codes "__FILE__")) (bytes_eq name (codes "__LINE__")) refl refl e
+
+no-body : (c : Change) (m : Definition) (body : List Token) → body ≡ [] → KeepsBody c.occurring c.renaming m body × Each (KeepsToken c.renaming) body
+no-body c m [] e = (tt, tt)
+no-body c m (t ∷ ts) e = absurd (cc)
+
+first-keeps : (c : Change) → KeepsNames c → Keeps c.occurring c.renaming first_macros first_macros
+first-keeps c names = record {
+  stands = λ name m e.
+      let f = first-is c names name m e in
+      ap first_macros f.keeps.stays ∙ e ∙ ap (λ (d : Definition). Some d) (sym f.still);
+  no_other = λ name m e. let f = first-is c names name m e in (name, m, e, sym f.keeps.stays);
+  apart = λ x y m d ex ey e.
+      let f = first-is c names x m ex in
+      let g = first-is c names y d ey in
+      sym f.keeps.stays ∙ e ∙ g.keeps.stays;
+  spelled_like = λ t name m here named e k.
+      let f = first-is c names name m e in
+      f.keeps.alone t here named (k ∙ f.keeps.stays);
+  body = λ name m e. let f = first-is c names name m e in (no-body c m m.body f.empty).0;
+  signs = names.signs;
+  others = names.others;
+  untraced = names.untraced;
+  numbers = names.numbers;
+}
+
+first-kept : (c : Change) → KeepsNames c → (number : ℕ) (unit : UnitValue) (t : Table) → KeepsState c first_macros (first_state the_limits number unit t)
+first-kept c names number unit t = record {
+  macros = first-keeps c names;
+  bodies = λ name m e. let f = first-is c names name m e in (no-body c m m.body f.empty).1;
+  names = tt;
+}
+
+first-moved : (c : Change) (number : ℕ) (unit : UnitValue) (t : Table) → first_state the_limits number unit (edited_table c.editing t) ≡ moved c first_macros (first_state the_limits number unit t)
+first-moved c number unit t =
+    ap (λ (x : Table). record (moved c first_macros (first_state the_limits number unit t)) { table = x }) (sym (push-edited c.editing 0 (defines_path number) (Made (defines_text unit.standard unit.settings)) t))
+
+-- ---- the files of a unit
+
+-- the files that may be open inside the first
+abbrev room : ℕ
+room = the_limits.open_files - 1
+
+outer-grows : (old : Source) (ipath : List (List ℕ)) (earlier : ℕ) (path : List ℕ) (s : State) → Grows s (outer_file (unit_context old ipath earlier) path s)
+outer-grows old ipath earlier path s =
+    onward-grows s (open_file (unit_context old ipath earlier) (first_place path) path s) (file_items (unit_context old ipath earlier) room)
+    (open-grows old ipath earlier (first_place path) path s) (λ f t. files-grow (unit_context old ipath earlier) room f t)
+
+-- the state once the unit's file is asked for
+abbrev at_main : Source → List ℕ → State → State
+at_main old path s = record s { table = asked old path s.table }
+
+main-grows : (old : Source) (ipath : List (List ℕ)) (earlier : ℕ) (path : List ℕ) (s : State) → Grows s (main_file (unit_context old ipath earlier) path s)
+main-grows old ipath earlier path s =
+    later-grows s (at_main old path s) (outer_file (unit_context old ipath earlier) path (at_main old path s)) (widens_asked old path s.table).grown
+    (outer-grows old ipath earlier path (at_main old path s))
+
+rest-grows : (old : Source) (ipath : List (List ℕ)) (earlier : ℕ) (path : List ℕ) (toks : List Token) (s : State)
+    → Grows s (onward (main_file (unit_context old ipath earlier) path s) (λ more u. only (toks ++ more) u))
+rest-grows old ipath earlier path toks s =
+    onward-grows s (main_file (unit_context old ipath earlier) path s) (λ more u. only (toks ++ more) u) (main-grows old ipath earlier path s) (λ more u. grown_refl u.table)
+
+both-grow : (old : Source) (ipath : List (List ℕ)) (earlier : ℕ) (defines path : List ℕ) (s : State) → Grows s (both_files (unit_context old ipath earlier) defines path s)
+both-grow old ipath earlier defines path s =
+    onward-grows s (outer_file (unit_context old ipath earlier) defines s) (λ toks t. onward (main_file (unit_context old ipath earlier) path t) (λ more u. only (toks ++ more) u))
+    (outer-grows old ipath earlier defines s) (λ toks t. rest-grows old ipath earlier path toks t)
+
+-- the table of a unit only grows
+pub unit-grows : (old : Source) (number : ℕ) (unit : UnitValue) (before : Carried) (d : Did (List Token)) → unit_outcome the_limits file_text old number unit before ≡ Ok d
+    → IsGrown before.table d.state.table
+unit-grows old number unit before d is =
+    let s : State = first_state the_limits number unit before.table in
+    let grown : IsGrown s.table d.state.table =
+    subst (λ (m : Outcome (List Token)). Grows s m) is (both-grow old unit.ipath before.toks (defines_path number) unit.path s) in
+    grown_trans before.table s.table d.state.table (grown-push before.table (entry (defines_path number) (Made (defines_text unit.standard unit.settings)))) grown
+
+module _ (c : Change) (names : KeepsNames c) (source : Source) (files : KeepsFiles c source) (old : Source) (ipath : List (List ℕ)) (earlier : ℕ) where
+  abbrev ctx : Context
+  ctx = unit_context old ipath earlier
+
+  abbrev ctx2 : Context
+  ctx2 = unit_context source ipath earlier
+
+  outer-alike : (path : List ℕ) (macros : Macros) (s : State) → GoesAlike c (IsRenamed c) macros s (outer_file ctx path s) (outer_file ctx2 path (moved c macros s))
+  outer-alike path macros s =
+      alike-onward c (OpensAlike c) (IsRenamed c) macros s (open_file ctx (first_place path) path s) (open_file ctx2 (first_place path) path (moved c macros s))
+      (file_items ctx room) (file_items ctx2 room) (λ f t. files-grow ctx room f t)
+      (open-alike c source files old source ipath earlier (first_place path) (first_place path) path macros s)
+      (λ f new t macros2 v.
+      subst (λ (g : SourceFile). GoesAlike c (IsRenamed c) macros2 t (file_items ctx room f t) (file_items ctx2 room g (moved c macros2 t))) (sym v.1)
+      (files-alike c names source files old ipath earlier room f v.0 macros2 t))
+
+  main-alike : (path : List ℕ) (macros : Macros) (s : State) → GoesAlike c (IsRenamed c) macros s (main_file ctx path s) (main_file ctx2 path (moved c macros s))
+  main-alike path macros s =
+      alike-reach c (IsRenamed c) macros s (asked old path s.table) (outer_file ctx path (at_main old path s)) (main_file ctx2 path (moved c macros s)) (outer-grows old ipath earlier path (at_main old path s))
+      (λ reach.
+      subst (λ (t : Table). GoesAlike c (IsRenamed c) macros s (outer_file ctx path (at_main old path s)) (outer_file ctx2 path (record (moved c macros s) { table = t })))
+      (sym (asked-edited old source c.editing path s.table c.files reach files.found))
+      (alike-table c source files (IsRenamed c) macros s (asked old path s.table) (outer_file ctx path (at_main old path s)) (outer_file ctx2 path (moved c macros (at_main old path s)))
+      (outer-alike path macros (at_main old path s))))
+
+  files_of-alike : (defines path : List ℕ) (macros : Macros) (s : State) → GoesAlike c (IsRenamed c) macros s (both_files ctx defines path s) (both_files ctx2 defines path (moved c macros s))
+  files_of-alike defines path macros s =
+      alike-onward c (IsRenamed c) (IsRenamed c) macros s (outer_file ctx defines s) (outer_file ctx2 defines (moved c macros s))
+      (λ toks t. onward (main_file ctx path t) (λ more u. only (toks ++ more) u)) (λ toks t. onward (main_file ctx2 path t) (λ more u. only (toks ++ more) u))
+      (λ toks t. rest-grows old ipath earlier path toks t)
+      (outer-alike defines macros s)
+      (λ toks toks2 t macros2 v. both-alike c names source files old ipath earlier toks toks2 macros2 t (main_file ctx path t) (main_file ctx2 path (moved c macros2 t)) v (main-alike path macros2 t))
+
+pub units_are_renamed : UnitsAreRenamed
+units_are_renamed = λ c old new number unit before d is reach keeps.
+    let s : State = first_state the_limits number unit before.table in
+    let cx2 : Context = unit_context new unit.ipath before.toks in
+    let all = files_of-alike c keeps.names new keeps.files old unit.ipath before.toks (defines_path number) unit.path first_macros s in
+    let done : GoesAlike c (IsRenamed c) first_macros s (Ok d) (both_files cx2 (defines_path number) unit.path (moved c first_macros s)) =
+    subst (λ (m : Outcome (List Token)). GoesAlike c (IsRenamed c) first_macros s m (both_files cx2 (defines_path number) unit.path (moved c first_macros s))) is all in
+    let f : Follows c (IsRenamed c) d (both_files cx2 (defines_path number) unit.path (moved c first_macros s)) = done reach (first-kept c keeps.names number unit before.table) keeps.notes in (
+      f.macros,
+      ap (both_files cx2 (defines_path number) unit.path) (first-moved c number unit before.table) ∙ f.is
+          ∙ ap (λ (ts : List Token). Ok (did ts (map (renamed_happening c.renaming) d.notes) (moved c f.macros d.state))) f.goes_with,
+    )

@@ -1,0 +1,23 @@
+-- For the crates of laws above.
+pub mod FoundLemmas
+pub mod KeptFileLemmas
+pub mod KeptNoteLemmas
+pub mod KeptUnitLemmas
+pub mod KeptTokenLemmas
+pub mod MemberOrderLemmas
+pub mod RunLemmas
+pub mod SizeLemmas
+pub mod UnitTokenLemmas
+pub mod ReadUnitLemmas
+pub mod NamedLemmas
+pub mod BoundUnitLemmas
+pub mod ReadLemmas
+pub mod SourceLemmas
+pub mod TextLemmas
+-- What the proofs of this crate rest on.
+mod IdentifierLemmas
+mod SpelledLemmas
+mod LinkedNameLemmas
+mod ReadNameLemmas
+mod ClassLemmas
+mod BareLemmas

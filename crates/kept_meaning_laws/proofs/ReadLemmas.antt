@@ -1,0 +1,50 @@
+-- The renamed tokens of each unit are read and bound as before.
+use Rattle.std.proofs.Common.{ℕ, List, map}
+use Rattle.cs_base.specs.declared.positions.Part.{Part}
+use Rattle.cs_base.specs.Token.{Token}
+use Rattle.macro_expand.specs.Renaming.{Renaming, renamed}
+use Rattle.renamed_tree_laws.specs.Loose.{StaysWhole}
+use Rattle.renamed_tree_laws.proofs.ReadBareNames.{bare_names_are_loose}
+use Rattle.renamed_tree_laws.proofs.RenamedTrees.{renamed_alike}
+use Rattle.edited_unit_laws.specs.Analyses.{ReadsAlike}
+use Rattle.ws_core.specs.Analysed.{Analysed}
+use Rattle.ws_core.specs.Analysis.{UnitAnalysis}
+use Rattle.no_offence_laws.specs.Allowed.{IsAllowed}
+use Rattle.no_offence_laws.specs.KeptTokens.{Spells}
+use Rattle.no_offence_laws.specs.Renamings.{KeepsUnedited}
+use Rattle.no_offence_laws.proofs.KeptTokenLemmas.{each_of}
+use Rattle.no_offence_laws.proofs.ListLemmas.{In}
+use Rattle.no_offence_laws.proofs.RenamingLemmas.{renamings_spell}
+use Rattle.no_offence_laws.proofs.UneditedLemmas.{renamings_keep_unedited}
+use Rattle.kept_meaning_laws.proofs.BoundUnitLemmas.{names_bind_as_before, units_are_renamed_whole}
+use Rattle.kept_meaning_laws.proofs.ReadUnitLemmas.{unit_read_so}
+use Rattle.kept_meaning_laws.specs.KeptUnits.{change}
+use Rattle.kept_meaning_laws.proofs.KeptUnitLemmas.{analysis_is_renamed_where_named}
+use Rattle.kept_meaning_laws.specs.ReadUnits.{UnitsReadAsBefore, EditedFilesHaveRenamedAnalysis}
+use Rattle.kept_meaning_laws.proofs.BareLemmas.{bare_stays}
+use Rattle.kept_meaning_laws.proofs.ClassLemmas.{bases_kept}
+
+module _ (a : Analysed) (members : List Part) (name : List ℕ) (r : Renaming) (h : IsAllowed a members name) (spells : Spells members name r)
+    (keeps : KeepsUnedited r) where
+  unit_reads : (u : UnitAnalysis) → In u a.value.units → ReadsAlike r u
+  unit_reads u i =
+      let is = unit_read_so h.source h.workspace a.value h.accepted u i in
+      let old : List Token = u.text.toks in
+      let new : List Token = map (renamed r) u.text.toks in
+      let loose = bare_names_are_loose old u.tree u.bound is.reads is.binds (StaysWhole old new u.bound.typedefs)
+      (λ k x at. bare_stays a members name r h spells keeps u i x (k, at)) in
+      record {
+        reads = renamed_alike old new u.tree u.bound is.reads is.binds (units_are_renamed_whole a members name r h spells keeps u i)
+            (bases_kept a members name r h spells keeps u i) loose;
+        binds = names_bind_as_before a members name r h spells keeps u i;
+      }
+
+pub units_read_as_before : UnitsReadAsBefore
+units_read_as_before = λ a members name h. each_of (ReadsAlike (change a.value members name).renaming) a.value.units (λ u i.
+    let keeps = renamings_keep_unedited a members name u.text h in
+    unit_reads a members name (change a.value members name).renaming h (renamings_spell a.value members name u.text)
+    (record { untraced = keeps.untraced; numbers = keeps.numbers; still = keeps.still }) u i)
+
+pub edited_files_have_renamed_analysis : EditedFilesHaveRenamedAnalysis
+edited_files_have_renamed_analysis = λ a members name path line column h workspace once named new holds.
+    analysis_is_renamed_where_named a members name path line column h workspace once named new holds (units_read_as_before a members name h)

@@ -1,0 +1,45 @@
+-- Over files in which members are respelled, units have the renamed texts, and the workspace the renamed analysis.
+use Rattle.std.proofs.Common.{ℕ, List, Some}
+use Rattle.cs_base.specs.declared.positions.Part.{Part}
+use Rattle.eclass_map.specs.ClassTable as classes
+use Rattle.ws_file.specs.Workspace.{WorkspaceValue}
+use Rattle.source_files.specs.Files.{Source}
+use Rattle.ws_core.specs.Analysed.{Analysed, analysed}
+use Rattle.ws_core.specs.Analysis.{AnalysisValue}
+use Rattle.ws_core.specs.Naming.{Names}
+use Rattle.ws_core.proofs.ClassLemmas.{part_held}
+use Rattle.no_offence_laws.specs.Allowed.{IsAllowed}
+use Rattle.kept_meaning_laws.proofs.KeptUnitLemmas.{texts_are_renamed_where_named}
+use Rattle.kept_meaning_laws.proofs.ReadLemmas.{edited_files_have_renamed_analysis}
+use Rattle.kept_meaning_laws.specs.RenamedSource.{IsAccepted, RespelledFilesHaveRenamedAnalysis, RespelledFilesHaveRenamedTexts}
+use Rattle.kept_meaning_laws.proofs.SourceLemmas.{respelled_files_hold_edited}
+
+abbrev allowed : (source : Source) (ws : WorkspaceValue) (a : AnalysisValue) (table : classes.Table) (part : Part) (members : List Part) (name path : List ℕ) (line column : ℕ)
+    → IsAccepted source ws a table part members name → Names a path line column (Some part) → IsAllowed (analysed a table) members name
+allowed source ws a table part members name path line column h named =
+    let own = h.own in
+    let number = own.parts.each part (part_held a table own part named.2) in
+    record {
+      source = source;
+      workspace = ws;
+      accepted = h.analysed;
+      own = own;
+      number = number.0;
+      class = record { part = part; numbered = number.1; listed = h.class };
+      identifier = h.identifier;
+      first = h.clear;
+    }
+
+pub respelled_files_have_renamed_texts : RespelledFilesHaveRenamedTexts
+respelled_files_have_renamed_texts = λ source now ws a table part members name path line column h named r.
+    let d : Analysed = analysed a table in
+    let k = allowed source ws a table part members name path line column h named in
+    texts_are_renamed_where_named d members name path line column k h.workspace h.once named now
+    (respelled_files_hold_edited d members name k h.once now r)
+
+pub respelled_files_have_renamed_analysis : RespelledFilesHaveRenamedAnalysis
+respelled_files_have_renamed_analysis = λ source now ws a table part members name path line column h named r.
+    let d : Analysed = analysed a table in
+    let k = allowed source ws a table part members name path line column h named in
+    edited_files_have_renamed_analysis d members name path line column k h.workspace h.once named now
+    (respelled_files_hold_edited d members name k h.once now r)

@@ -1,0 +1,8 @@
+-- What the public contracts rest on.
+pub mod Limits
+pub mod KeptUnits
+pub mod KeptFileTokens
+pub mod BoundUnits
+pub mod ReadUnits
+pub mod EditedSource
+pub mod RenamedSource

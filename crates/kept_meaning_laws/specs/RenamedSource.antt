@@ -1,0 +1,51 @@
+-- What the units of a workspace preprocess to behind a renaming, and what analysis it has (this project's, over ISO/IEC
+-- 9899:1999, 5.1.1.2 phases 1 to 4 and 7).
+use Rattle.std.specs.Prelude.{◌≡◌, true, ℕ, List, Ok, Some, None}
+use Rattle.cs_base.specs.declared.positions.Part.{Part}
+use Rattle.eclass_map.specs.ClassTable as classes
+use Rattle.part_lexer.specs.Spelling.{is_identifier_text}
+use Rattle.ws_file.specs.Workspace.{WorkspaceValue, IsWorkspace}
+use Rattle.source_files.specs.Files.{Source}
+use Rattle.source_files.specs.Tables.{HasEachOnce}
+use Rattle.rename_rules.specs.First.{IsFirst, offences_of}
+use Rattle.edited_unit_laws.specs.WorkspaceTexts.{renamed_texts}
+use Rattle.edited_unit_laws.specs.Analyses.{renamed_analysis, texts_in}
+use Rattle.ws_core.specs.Analysis.{AnalysisValue, analysis_of}
+use Rattle.ws_core.specs.Classes.{AreItsClasses}
+use Rattle.ws_core.specs.Naming.{Names}
+use Rattle.ws_core.specs.Parts.{AreMembers}
+use Rattle.ws_core.specs.Texts.{texts_and, texts_of}
+use Rattle.kept_meaning_laws.specs.KeptUnits.{change}
+use Rattle.kept_meaning_laws.specs.EditedSource.{AreRespelled}
+
+-- Over these files each unit has the text that it had, with the members of the class respelled: the same tokens but for
+-- these, from the same places, edited; and the files read are the same, with the edited bytes.
+abbrev pub TextsAreRenamed : Source → WorkspaceValue → AnalysisValue → List Part → List ℕ → Type 0
+TextsAreRenamed now ws a members name = texts_of now ws.units ≡ Ok (renamed_texts (change a members name) (texts_and (texts_in a.units) a.table))
+
+-- Over these files the workspace has the analysis that it had, renamed: each unit is read to the tree that it had, and each
+-- name is bound as before.
+abbrev pub AnalysisIsRenamed : Source → WorkspaceValue → AnalysisValue → List Part → List ℕ → Type 0
+AnalysisIsRenamed now ws a members name = analysis_of now ws ≡ Ok (renamed_analysis (change a members name) a)
+
+-- A renaming against which nothing stands: of the class of the part that a place names, in a workspace that is accepted.
+pub record IsAccepted (source : Source) (ws : WorkspaceValue) (a : AnalysisValue) (table : classes.Table) (part : Part) (members : List Part) (name : List ℕ) : Type 0 where
+  pub workspace : IsWorkspace ws
+  pub analysed : analysis_of source ws ≡ Ok a
+  pub own : AreItsClasses a table
+  pub once : HasEachOnce a.table
+  pub class : AreMembers a part members
+  pub identifier : is_identifier_text name ≡ true
+  pub clear : IsFirst a.table (offences_of a members name) None
+
+-- The law: over files that hold the members respelled, and are the same else, so it is with each unit.
+abbrev pub RespelledFilesHaveRenamedTexts : Type 0
+RespelledFilesHaveRenamedTexts = (source now : Source) (ws : WorkspaceValue) (a : AnalysisValue) (table : classes.Table) (part : Part) (members : List Part) (name path : List ℕ) (line column : ℕ)
+    → IsAccepted source ws a table part members name → Names a path line column (Some part) → AreRespelled a members name source now
+    → TextsAreRenamed now ws a members name
+
+-- The law: so it is with the analysis of the workspace.
+abbrev pub RespelledFilesHaveRenamedAnalysis : Type 0
+RespelledFilesHaveRenamedAnalysis = (source now : Source) (ws : WorkspaceValue) (a : AnalysisValue) (table : classes.Table) (part : Part) (members : List Part) (name path : List ℕ) (line column : ℕ)
+    → IsAccepted source ws a table part members name → Names a path line column (Some part) → AreRespelled a members name source now
+    → AnalysisIsRenamed now ws a members name

@@ -1,0 +1,22 @@
+// What files hold behind a renaming, what units preprocess to over them, and what analysis the workspace has: laws that no
+// caller runs, and that callers' proofs cite.
+ghost use Rattle.kept_meaning_laws.specs.EditedSource.{RespelledFilesHoldEdited};
+ghost use Rattle.kept_meaning_laws.specs.RenamedSource.{RespelledFilesHaveRenamedAnalysis, RespelledFilesHaveRenamedTexts};
+
+/// Files in which the members of a class are respelled, and that are left alone else, hold for each path of the analysis
+/// the edited bytes.
+pub fn respelled_files_hold_edited()
+    ensures { RespelledFilesHoldEdited }
+{}
+
+/// Over such files each unit of the workspace preprocesses to the tokens that it had, with the members respelled, where a
+/// place names the class and nothing stands against the renaming.
+pub fn respelled_files_have_renamed_texts()
+    ensures { RespelledFilesHaveRenamedTexts }
+{}
+
+/// So the workspace has the analysis that it had, renamed: these tokens are read to the trees that they had, and bound name
+/// for name as before.
+pub fn respelled_files_have_renamed_analysis()
+    ensures { RespelledFilesHaveRenamedAnalysis }
+{}

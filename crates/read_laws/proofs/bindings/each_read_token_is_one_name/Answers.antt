@@ -1,4 +1,0 @@
-use Rattle.read_laws.proofs.bindings.each_read_token_is_one_name.Goals as goal
-
-pub returns : goal.returns
-returns c = λ toks tree b read binds. c.each_token_is_one_name.ensures toks tree b (c.trees_are_of_their_texts.ensures toks tree read) binds

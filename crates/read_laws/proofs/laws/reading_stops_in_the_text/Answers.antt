@@ -1,5 +1,0 @@
-use Rattle.read_laws.proofs.Stopping.{stops_in_text}
-use Rattle.read_laws.proofs.laws.reading_stops_in_the_text.Goals as goal
-
-pub returns : goal.returns
-returns c = stops_in_text

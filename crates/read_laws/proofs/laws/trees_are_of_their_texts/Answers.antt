@@ -1,5 +1,0 @@
-use Rattle.read_laws.proofs.OfTexts.{trees_of_texts}
-use Rattle.read_laws.proofs.laws.trees_are_of_their_texts.Goals as goal
-
-pub returns : goal.returns
-returns c = trees_of_texts

@@ -1,4 +1,0 @@
-pub mod AnalysesLemmas
-pub mod LinksLemmas
-pub mod FileTokensLemmas
-pub mod AloneLemmas

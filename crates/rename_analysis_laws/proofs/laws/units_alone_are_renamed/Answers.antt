@@ -1,5 +1,0 @@
-use Rattle.rename_analysis_laws.proofs.AloneLemmas.{unit_alone_is_renamed, one_text_is_renamed}
-use Rattle.rename_analysis_laws.proofs.laws.units_alone_are_renamed.Goals as goal
-
-pub returns : goal.returns
-returns c = record { unit = unit_alone_is_renamed; text = one_text_is_renamed }

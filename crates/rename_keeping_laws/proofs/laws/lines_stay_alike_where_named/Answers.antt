@@ -1,5 +1,0 @@
-use Rattle.rename_keeping_laws.proofs.AlikeLineLemmas.{lines_stay_alike_where_named}
-use Rattle.rename_keeping_laws.proofs.laws.lines_stay_alike_where_named.Goals as goal
-
-pub returns : goal.returns
-returns c = lines_stay_alike_where_named

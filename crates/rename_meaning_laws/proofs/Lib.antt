@@ -1,4 +1,0 @@
--- For the crates of laws above.
-mod ClassLemmas
-mod BareLemmas
-pub mod ReadLemmas

@@ -1,5 +1,0 @@
-use Rattle.rename_result_laws.proofs.SizeLemmas.{edited_files_are_within_limits}
-use Rattle.rename_result_laws.proofs.laws.edited_files_are_within_limits.Goals as goal
-
-pub returns : goal.returns
-returns c = edited_files_are_within_limits

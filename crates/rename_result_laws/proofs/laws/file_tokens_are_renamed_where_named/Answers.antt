@@ -1,5 +1,0 @@
-use Rattle.rename_result_laws.proofs.KeptTokenLemmas.{file_tokens_are_renamed_where_named}
-use Rattle.rename_result_laws.proofs.laws.file_tokens_are_renamed_where_named.Goals as goal
-
-pub returns : goal.returns
-returns c = file_tokens_are_renamed_where_named

@@ -1,4 +1,0 @@
--- What the public contracts rest on.
-pub mod Limits
-pub mod KeptUnits
-pub mod KeptFileTokens

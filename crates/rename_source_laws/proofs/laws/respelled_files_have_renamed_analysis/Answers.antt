@@ -1,5 +1,0 @@
-use Rattle.rename_source_laws.proofs.TextLemmas.{respelled_files_have_renamed_analysis}
-use Rattle.rename_source_laws.proofs.laws.respelled_files_have_renamed_analysis.Goals as goal
-
-pub returns : goal.returns
-returns c = respelled_files_have_renamed_analysis

@@ -1,5 +1,0 @@
-use Rattle.rename_tree_laws.proofs.RenamedTrees.{renamed_alike}
-use Rattle.rename_tree_laws.proofs.laws.renamed_texts_read_alike.Goals as goal
-
-pub returns : goal.returns
-returns c = renamed_alike

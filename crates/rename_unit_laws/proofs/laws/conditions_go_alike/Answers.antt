@@ -1,5 +1,0 @@
-use Rattle.rename_unit_laws.proofs.StepLaws.{conditions_go_alike, names_are_asked_alike}
-use Rattle.rename_unit_laws.proofs.laws.conditions_go_alike.Goals as goal
-
-pub returns : goal.returns
-returns c = record { values = conditions_go_alike; names = names_are_asked_alike }

@@ -1,5 +1,0 @@
-use Rattle.rename_unit_laws.proofs.StepLaws.{definitions_go_alike, undefinitions_go_alike}
-use Rattle.rename_unit_laws.proofs.laws.definitions_keep_macros.Goals as goal
-
-pub returns : goal.returns
-returns c = record { defined = definitions_go_alike; undefined = undefinitions_go_alike }

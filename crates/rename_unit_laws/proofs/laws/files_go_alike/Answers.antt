@@ -1,5 +1,0 @@
-use Rattle.rename_unit_laws.proofs.StepLaws.{files_go_alike}
-use Rattle.rename_unit_laws.proofs.laws.files_go_alike.Goals as goal
-
-pub returns : goal.returns
-returns c = record { files = files_go_alike }

@@ -1,0 +1,34 @@
+-- For the crates of laws above.
+pub mod HeldNames
+pub mod EntityNames
+pub mod Lookups
+pub mod Renaming
+pub mod RenamedNames
+pub mod RenamedSteps
+pub mod RenamedWalk
+pub mod Walked
+pub mod OfTexts
+pub mod NamesRead
+-- What the proofs of this crate rest on.
+mod InLists
+mod Noted
+mod Holding
+mod HeldTags
+mod HeldSteps
+mod Adding
+mod Counted
+mod Climbing
+mod OrderedLists
+mod OrderedNames
+mod RenamedObjects
+mod RenamedMembers
+mod SecondRanges
+mod Ordered
+mod Stopping
+mod Each
+mod Growing
+mod Formed
+mod Forms
+mod NameClasses
+mod NamePlaces
+mod NameTable

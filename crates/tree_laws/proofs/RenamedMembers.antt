@@ -1,0 +1,294 @@
+-- Tags, members and labels under a renaming.
+use Rattle.std.proofs.Common.{ℕ, ◌≡◌, Bool, true, false, not, if◌then◌else◌, List, [], ◌∷◌, Option, None, Some, refl, sym, ap, subst, ◌∙◌}
+use Rattle.std.specs.Prelude.{IfSome, is_some}
+use Rattle.std.specs.Option.{option_map_or}
+use Rattle.cs_base.specs.Token.{Token}
+use Rattle.c99_tree.specs.Tree.{Forest}
+use Rattle.scope_bind.specs.Named.{Space, Declaration, Body, Frame, undeclared, no_member, no_label, redeclared, tag_redefined, designator_after_elision, tags, members, labels}
+use Rattle.c_types.specs.declared.entity.Linkage.TheVariants.{Absent}
+use Rattle.c_types.specs.Types.{CType}
+use Rattle.c_types.specs.Trees.{last_token, declarator_type}
+use Rattle.c_types.specs.Declarations.{Facts, with_fault, with_use, with_declaration, with_begun, has_linkage, alike, visible, anywhere, is_live}
+use Rattle.c_types.specs.Tags.{number_in, renumbered, is_same_tag, tag_entity, is_declaring, tag_declaration, tag_named, is_prior_tag, with_tag_after, prior_tag, with_tag, tag_type, is_complete, is_sort, enumeration_used}
+use Rattle.name_chains.specs.Members.{member_declaration, is_known, with_member, member_at, member_used_as, member_used}
+use Rattle.scope_bind.specs.Labels.{label_declaration, with_label, jump_to, with_jumps, with_labels}
+use Rattle.tree_laws.proofs.Lookups.{false≢true}
+use Rattle.tree_laws.proofs.Renaming.{Good, Kept, fault_back, fault_goes, fault_none, occurrence_back, occurrence_good, declaration_back, declaration_good, kept_declaration, kept_occurrence, joins_unlinked, found_again}
+use Rattle.tree_laws.proofs.RenamedNames.{if_true}
+
+no_some : {X : Type 0} (P : X → Type 0) (r : Option X) → is_some r ≡ false → IfSome r P
+no_some P None e = tt
+no_some P (Some x) e = absurd (false≢true (sym e))
+
+not_false : (c : Bool) → not c ≡ false → c ≡ true
+not_false true e = refl
+not_false false e = absurd (false≢true (sym e))
+
+module _ (a b : List Token) (apart : (i j : ℕ) → alike b i j ≡ true → alike a i j ≡ true) where
+  -- ---- Tags
+
+  begun_back : (c : Bool) (e : ℕ) (facts : Facts) → Good b (with_begun c e facts) → Good b facts
+  begun_back true e facts h = record { clean = h.clean; good = h.good }
+  begun_back false e facts h = h
+
+  kept_begun : (c : Bool) (e : ℕ) (facts : Facts) → Kept a facts → Kept a (with_begun c e facts)
+  kept_begun true e facts k = record { covered = k.covered; one = k.one }
+  kept_begun false e facts k = k
+
+  module _ (f : Frame) (i : ℕ) (facts : Facts) where
+    abbrev tag_new : ℕ → Declaration
+    tag_new e = tag_declaration f.scope i e (renumbered f.found e)
+
+    named_back : (declares : Bool) (e u : ℕ)
+        → Good b (if declares then with_begun f.has_body e (with_declaration (tag_new e) facts) else with_use i u facts) → Good b facts
+    named_back true e u h = declaration_back b (tag_new e) facts (begun_back f.has_body e _ h)
+    named_back false e u h = occurrence_back b i u false facts h
+
+    named_good : (declares : Bool) (e u : ℕ)
+        → Good b (if declares then with_begun f.has_body e (with_declaration (tag_new e) facts) else with_use i u facts)
+        → alike b i (if declares then e else u) ≡ true
+    named_good true e u h = declaration_good b (tag_new e) facts (begun_back f.has_body e _ h)
+    named_good false e u h = occurrence_good b i u false facts h
+
+    named_kept : (declares : Bool) (e u : ℕ) → Kept a facts
+        → Kept a (if declares then with_begun f.has_body e (with_declaration (tag_new e) facts) else with_use i u facts)
+    named_kept true e u k = kept_begun f.has_body e _ (kept_declaration a (tag_new e) facts k (joins_unlinked a (tag_new e) facts refl))
+    named_kept false e u k = kept_occurrence a i u false facts k
+
+    same_either : (c : Bool) (x y : ℕ) → x ≡ y → (if c then x else y) ≡ y
+    same_either true x y e = e
+    same_either false x y e = refl
+
+    -- a fault stands where the tag is of another type
+    redefined : Option Declaration → Bool
+    redefined r = option_map_or (λ d. not (is_same_tag f facts d)) r false
+
+    tag_back : (r : Option Declaration) → Good b (with_tag_after f i r facts) → Good b facts
+    tag_back r h =
+        named_back (is_declaring f r) (tag_entity f i facts r) (option_map_or (λ d. d.entity) r i)
+        (fault_goes b (option_map_or (λ d. not (is_same_tag f facts d)) r false) tag_redefined i _ h)
+
+    tag_alike : (r : Option Declaration) → Good b (with_tag_after f i r facts) → IfSome r (λ d. alike b i d.entity ≡ true)
+    tag_alike None h = tt
+    tag_alike (Some d) h =
+        let same : is_same_tag f facts d ≡ true =
+        not_false (is_same_tag f facts d) (fault_back b (not (is_same_tag f facts d)) tag_redefined i _ h) in
+        let inner : Good b (tag_named f i (Some d) (tag_entity f i facts (Some d)) facts) =
+        fault_goes b (not (is_same_tag f facts d)) tag_redefined i _ h in
+        subst (λ e. alike b i e ≡ true)
+        (same_either (is_declaring f (Some d)) (tag_entity f i facts (Some d)) d.entity (if_true (is_same_tag f facts d) d.entity i same))
+        (named_good (is_declaring f (Some d)) (tag_entity f i facts (Some d)) d.entity inner)
+
+    tag_kept : (r : Option Declaration) → Kept a facts → Good b (with_tag_after f i r facts) → Kept a (with_tag_after f i r facts)
+    tag_kept r k h =
+        subst (Kept a)
+        (sym (fault_none (option_map_or (λ d. not (is_same_tag f facts d)) r false) tag_redefined i _
+        (fault_back b (option_map_or (λ d. not (is_same_tag f facts d)) r false) tag_redefined i _ h)))
+        (named_kept (is_declaring f r) (tag_entity f i facts r) (option_map_or (λ d. d.entity) r i) k)
+
+    pub with_tag_back : Good b (with_tag a f i facts) → Good b facts
+    with_tag_back h = tag_back (prior_tag a f i facts) h
+
+    pub with_tag_kept : Kept a facts → Good b (with_tag a f i facts) → Kept a (with_tag a f i facts)
+    with_tag_kept k h = tag_kept (prior_tag a f i facts) k h
+
+    pub prior_tag_same : Kept a facts → Good b (with_tag a f i facts) → prior_tag b f i facts ≡ prior_tag a f i facts
+    prior_tag_same k h = found_again a b apart facts k (with_tag_back h) tags i (is_prior_tag f i) (tag_alike (prior_tag a f i facts) h)
+
+    -- ---- Enumerations without a list
+
+    enumeration_back : (r : Option Declaration) → Good b (enumeration_used f i r facts) → Good b facts
+    enumeration_back None h = fault_goes b true undeclared i facts h
+    enumeration_back (Some d) h =
+        fault_goes b (not (is_sort d.ctype f.found)) tag_redefined i facts
+        (fault_goes b (not (is_complete facts d)) undeclared i _ (occurrence_back b i d.entity false _ h))
+
+    enumeration_alike : (r : Option Declaration) → Good b (enumeration_used f i r facts) → IfSome r (λ d. alike b i d.entity ≡ true)
+    enumeration_alike None h = tt
+    enumeration_alike (Some d) h = occurrence_good b i d.entity false _ h
+
+    enumeration_kept : (r : Option Declaration) → Kept a facts → Good b (enumeration_used f i r facts) → Kept a (enumeration_used f i r facts)
+    enumeration_kept None k h = absurd (false≢true (sym (fault_back b true undeclared i facts h)))
+    enumeration_kept (Some d) k h =
+        let outer : Good b (with_fault (not (is_complete facts d)) undeclared i (with_fault (not (is_sort d.ctype f.found)) tag_redefined i facts)) =
+        occurrence_back b i d.entity false _ h in
+        let inner : Good b (with_fault (not (is_sort d.ctype f.found)) tag_redefined i facts) =
+        fault_goes b (not (is_complete facts d)) undeclared i _ outer in
+        subst (λ x. Kept a (with_use i d.entity x))
+        (sym (fault_none (not (is_complete facts d)) undeclared i _ (fault_back b (not (is_complete facts d)) undeclared i _ outer)
+        ∙ fault_none (not (is_sort d.ctype f.found)) tag_redefined i facts (fault_back b (not (is_sort d.ctype f.found)) tag_redefined i facts inner)))
+        (kept_occurrence a i d.entity false facts k)
+
+    pub either_back : (c : Bool) → Good b (if c then with_tag a f i facts else enumeration_used f i (visible a tags i i facts) facts) → Good b facts
+    either_back true h = with_tag_back h
+    either_back false h = enumeration_back (visible a tags i i facts) h
+
+    pub either_kept : (c : Bool) → Kept a facts → Good b (if c then with_tag a f i facts else enumeration_used f i (visible a tags i i facts) facts)
+        → Kept a (if c then with_tag a f i facts else enumeration_used f i (visible a tags i i facts) facts)
+    either_kept true k h = with_tag_kept k h
+    either_kept false k h = enumeration_kept (visible a tags i i facts) k h
+
+    pub either_same : (c : Bool) → Kept a facts → Good b (if c then with_tag a f i facts else enumeration_used f i (visible a tags i i facts) facts)
+        → (if c then with_tag b f i facts else enumeration_used f i (visible b tags i i facts) facts)
+        ≡ (if c then with_tag a f i facts else enumeration_used f i (visible a tags i i facts) facts)
+    either_same true k h = ap (λ r. with_tag_after f i r facts) (prior_tag_same k h)
+    either_same false k h =
+        ap (λ r. enumeration_used f i r facts)
+        (found_again a b apart facts k (enumeration_back (visible a tags i i facts) h) tags i (is_live i) (enumeration_alike (visible a tags i i facts) h))
+
+    pub either_type : (c : Bool) → Kept a facts → Good b (if c then with_tag a f i facts else enumeration_used f i (visible a tags i i facts) facts)
+        → (if c then tag_type b f i facts else f.found) ≡ (if c then tag_type a f i facts else f.found)
+    either_type true k h = ap (λ r. renumbered f.found (tag_entity f i facts r)) (prior_tag_same k h)
+    either_type false k h = refl
+
+  -- ---- A name that is declared once: members and labels
+
+  module _ (space : Space) (i : ℕ) (d : Declaration) (facts : Facts) where
+    abbrev twice : Bool
+    twice = is_some (anywhere a space i facts)
+
+    pub once_back : Good b (with_declaration d (with_fault twice redeclared i facts)) → Good b facts
+    once_back h = fault_goes b twice redeclared i facts (declaration_back b d _ h)
+
+    once_none : Good b (with_declaration d (with_fault twice redeclared i facts)) → twice ≡ false
+    once_none h = fault_back b twice redeclared i facts (declaration_back b d _ h)
+
+    pub once_kept : d.linkage ≡ Absent → Kept a facts → Good b (with_declaration d (with_fault twice redeclared i facts))
+        → Kept a (with_declaration d (with_fault twice redeclared i facts))
+    once_kept e k h =
+        subst (λ x. Kept a (with_declaration d x)) (sym (fault_none twice redeclared i facts (once_none h)))
+        (kept_declaration a d facts k (joins_unlinked a d facts (ap has_linkage e)))
+
+    pub once_same : Kept a facts → Good b (with_declaration d (with_fault twice redeclared i facts))
+        → with_declaration d (with_fault (is_some (anywhere b space i facts)) redeclared i facts) ≡ with_declaration d (with_fault twice redeclared i facts)
+    once_same k h =
+        ap (λ r. with_declaration d (with_fault (is_some r) redeclared i facts))
+        (found_again a b apart facts k (once_back h) space i (λ x. true)
+        (no_some (λ x. alike b i x.entity ≡ true) (anywhere a space i facts) (once_none h)))
+
+  -- ---- Members
+
+  member_back : (i : ℕ) (r : Option Declaration) (facts : Facts) → Good b (member_used_as a i r facts) → Good b facts
+  member_back i None facts h = fault_goes b true no_member i facts h
+  member_back i (Some d) facts h = occurrence_back b i d.entity false facts h
+
+  member_alike : (i : ℕ) (r : Option Declaration) (facts : Facts) → Good b (member_used_as a i r facts) → IfSome r (λ d. alike b i d.entity ≡ true)
+  member_alike i None facts h = tt
+  member_alike i (Some d) facts h = occurrence_good b i d.entity false facts h
+
+  member_kept : (i : ℕ) (r : Option Declaration) (facts : Facts) → Kept a facts → Good b (member_used_as a i r facts) → Kept a (member_used_as a i r facts)
+  member_kept i None facts k h = absurd (false≢true (sym (fault_back b true no_member i facts h)))
+  member_kept i (Some d) facts k h = kept_occurrence a i d.entity false facts k
+
+  at_same : (c : Bool) (space : Space) (i : ℕ) (facts : Facts) → Kept a facts → Good b facts
+      → IfSome (if c then anywhere a space i facts else None) (λ d. alike b i d.entity ≡ true)
+      → (if c then anywhere b space i facts else None) ≡ (if c then anywhere a space i facts else None)
+  at_same true space i facts k g h = found_again a b apart facts k g space i (λ x. true) h
+  at_same false space i facts k g h = refl
+
+  module _ (t : CType) (i : ℕ) (facts : Facts) where
+    pub member_used_back : Good b (member_used a t i facts) → Good b facts
+    member_used_back h = member_back i (member_at a t i facts) facts h
+
+    pub member_used_kept : Kept a facts → Good b (member_used a t i facts) → Kept a (member_used a t i facts)
+    member_used_kept k h = member_kept i (member_at a t i facts) facts k h
+
+    pub member_at_same : Kept a facts → Good b (member_used a t i facts) → member_at b t i facts ≡ member_at a t i facts
+    member_at_same k h =
+        at_same (is_known t facts) (members (number_in t)) i facts k (member_used_back h) (member_alike i (member_at a t i facts) facts h)
+
+    pub designated_back : (c : Bool) → Good b (if c then with_fault true designator_after_elision i facts else member_used a t i facts) → Good b facts
+    designated_back true h = fault_goes b true designator_after_elision i facts h
+    designated_back false h = member_used_back h
+
+    pub designated_kept : (c : Bool) → Kept a facts → Good b (if c then with_fault true designator_after_elision i facts else member_used a t i facts)
+        → Kept a (if c then with_fault true designator_after_elision i facts else member_used a t i facts)
+    designated_kept true k h = absurd (false≢true (sym (fault_back b true designator_after_elision i facts h)))
+    designated_kept false k h = member_used_kept k h
+
+    pub designated_same : (c : Bool) → Kept a facts → Good b (if c then with_fault true designator_after_elision i facts else member_used a t i facts)
+        → member_at b t i facts ≡ member_at a t i facts
+    designated_same true k h = absurd (false≢true (sym (fault_back b true designator_after_elision i facts h)))
+    designated_same false k h = member_at_same k h
+
+  pub with_member_back : (f : Frame) (under : Forest) (name : Option ℕ) (facts : Facts) → Good b (with_member a f under name facts) → Good b facts
+  with_member_back f under None facts h = h
+  with_member_back f under (Some i) facts h =
+      once_back (members f.owner) i (member_declaration f i (last_token under i) (declarator_type f.base under)) facts h
+
+  pub with_member_kept : (f : Frame) (under : Forest) (name : Option ℕ) (facts : Facts) → Kept a facts → Good b (with_member a f under name facts)
+      → Kept a (with_member a f under name facts)
+  with_member_kept f under None facts k h = k
+  with_member_kept f under (Some i) facts k h =
+      once_kept (members f.owner) i (member_declaration f i (last_token under i) (declarator_type f.base under)) facts refl k h
+
+  pub with_member_same : (f : Frame) (under : Forest) (name : Option ℕ) (facts : Facts) → Kept a facts → Good b (with_member a f under name facts)
+      → with_member b f under name facts ≡ with_member a f under name facts
+  with_member_same f under None facts k h = refl
+  with_member_same f under (Some i) facts k h =
+      once_same (members f.owner) i (member_declaration f i (last_token under i) (declarator_type f.base under)) facts k h
+
+  -- ---- Labels
+
+  pub with_label_back : (body : Option Body) (i : ℕ) (facts : Facts) → Good b (with_label a body i facts) → Good b facts
+  with_label_back None i facts h = h
+  with_label_back (Some w) i facts h = once_back (labels w.from) i (label_declaration w i) facts h
+
+  pub with_label_kept : (body : Option Body) (i : ℕ) (facts : Facts) → Kept a facts → Good b (with_label a body i facts) → Kept a (with_label a body i facts)
+  with_label_kept None i facts k h = k
+  with_label_kept (Some w) i facts k h = once_kept (labels w.from) i (label_declaration w i) facts refl k h
+
+  pub with_label_same : (body : Option Body) (i : ℕ) (facts : Facts) → Kept a facts → Good b (with_label a body i facts)
+      → with_label b body i facts ≡ with_label a body i facts
+  with_label_same None i facts k h = refl
+  with_label_same (Some w) i facts k h = once_same (labels w.from) i (label_declaration w i) facts k h
+
+  jump_back : (i : ℕ) (r : Option Declaration) (facts : Facts) → Good b (jump_to a i r facts) → Good b facts
+  jump_back i None facts h = fault_goes b true no_label i facts h
+  jump_back i (Some d) facts h = occurrence_back b i d.entity false facts h
+
+  jump_alike : (i : ℕ) (r : Option Declaration) (facts : Facts) → Good b (jump_to a i r facts) → IfSome r (λ d. alike b i d.entity ≡ true)
+  jump_alike i None facts h = tt
+  jump_alike i (Some d) facts h = occurrence_good b i d.entity false facts h
+
+  jump_kept : (i : ℕ) (r : Option Declaration) (facts : Facts) → Kept a facts → Good b (jump_to a i r facts) → Kept a (jump_to a i r facts)
+  jump_kept i None facts k h = absurd (false≢true (sym (fault_back b true no_label i facts h)))
+  jump_kept i (Some d) facts k h = kept_occurrence a i d.entity false facts k
+
+  module _ (w : Body) where
+    abbrev one_jump : List Token → ℕ → Facts → Facts
+    one_jump toks i facts = jump_to toks i (anywhere toks (labels w.from) i facts) facts
+
+    jumps_back : (jumps : List ℕ) (facts : Facts) → Good b (with_jumps a w jumps facts) → Good b facts
+    jumps_back [] facts h = h
+    jumps_back (i ∷ more) facts h = jump_back i (anywhere a (labels w.from) i facts) facts (jumps_back more (one_jump a i facts) h)
+
+    jumps_kept : (jumps : List ℕ) (facts : Facts) → Kept a facts → Good b (with_jumps a w jumps facts) → Kept a (with_jumps a w jumps facts)
+    jumps_kept [] facts k h = k
+    jumps_kept (i ∷ more) facts k h =
+        jumps_kept more (one_jump a i facts) (jump_kept i (anywhere a (labels w.from) i facts) facts k (jumps_back more (one_jump a i facts) h)) h
+
+    one_same : (i : ℕ) (facts : Facts) → Kept a facts → Good b (one_jump a i facts) → one_jump b i facts ≡ one_jump a i facts
+    one_same i facts k h =
+        ap (λ r. jump_to a i r facts)
+        (found_again a b apart facts k (jump_back i (anywhere a (labels w.from) i facts) facts h) (labels w.from) i (λ x. true)
+        (jump_alike i (anywhere a (labels w.from) i facts) facts h))
+
+    jumps_same : (jumps : List ℕ) (facts : Facts) → Kept a facts → Good b (with_jumps a w jumps facts) → with_jumps b w jumps facts ≡ with_jumps a w jumps facts
+    jumps_same [] facts k h = refl
+    jumps_same (i ∷ more) facts k h =
+        let first : Good b (one_jump a i facts) = jumps_back more (one_jump a i facts) h in
+        ap (with_jumps b w more) (one_same i facts k first)
+        ∙ jumps_same more (one_jump a i facts) (jump_kept i (anywhere a (labels w.from) i facts) facts k first) h
+
+  pub with_labels_back : (body : Option Body) (facts : Facts) → Good b (with_labels a body facts) → Good b facts
+  with_labels_back None facts h = h
+  with_labels_back (Some w) facts h = jumps_back w facts.jumps facts h
+
+  pub with_labels_kept : (body : Option Body) (facts : Facts) → Kept a facts → Good b (with_labels a body facts) → Kept a (with_labels a body facts)
+  with_labels_kept None facts k h = k
+  with_labels_kept (Some w) facts k h = jumps_kept w facts.jumps facts k h
+
+  pub with_labels_same : (body : Option Body) (facts : Facts) → Kept a facts → Good b (with_labels a body facts) → with_labels b body facts ≡ with_labels a body facts
+  with_labels_same None facts k h = refl
+  with_labels_same (Some w) facts k h = jumps_same w facts.jumps facts k h

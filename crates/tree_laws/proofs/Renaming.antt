@@ -1,0 +1,116 @@
+-- What is true of the facts of a text without a fault, and of its renaming.
+use Rattle.std.proofs.Common.{ℕ, ◌≡◌, Bool, true, false, ◌&&◌, List, ◌∷◌, Option, None, Some, inl, inr, refl, sym, ap, subst, ◌∙◌}
+use Rattle.std.specs.Prelude.{IfSome}
+use Rattle.std.proofs.lemmas.Bool.{cases_Bool}
+use Rattle.cs_base.specs.Token.{Token}
+use Rattle.scope_bind.specs.Named.{Cause, Fault, Space, Declaration, Occurrence, ordinary}
+use Rattle.c_types.specs.Faults.{first_fault, comes_first}
+use Rattle.c_types.specs.Declarations.{Facts, has_linkage, with_fault, with_occurrence, with_declaration, alike, is_named, looked_up}
+use Rattle.tree_laws.proofs.Lookups.{false≢true, and_right, In, found_in, alike_same, looked_up_same}
+
+abbrev pub occurrence : ℕ → ℕ → Bool → Occurrence
+occurrence index entity declares = record { index = index; entity = entity; declares = declares }
+
+-- nothing is wrong, and each name is spelled as its entity in the new text
+pub record Good (b : List Token) (facts : Facts) : Type 0 where
+  pub clean : facts.fault ≡ None
+  pub good : (o : Occurrence) → In o facts.occurrences → alike b o.index o.entity ≡ true
+
+-- a declaration that has linkage, named as token i
+abbrev pub IsLinked : List Token → ℕ → Declaration → Type 0
+IsLinked a i d = (is_named a ordinary i d && has_linkage d.linkage) ≡ true
+
+-- each declaration is an occurrence, and declarations of one spelling that have linkage are one entity
+pub record Kept (a : List Token) (facts : Facts) : Type 0 where
+  pub covered : (d : Declaration) → In d facts.declared → In (occurrence d.name_at d.entity true) facts.occurrences
+  pub one : (i : ℕ) (d e : Declaration) → In d facts.declared → In e facts.declared → IsLinked a i d → IsLinked a i e → d.entity ≡ e.entity
+
+-- ---- Faults
+
+fault_some : (o : Option Fault) (f : Fault) → first_fault o f ≡ None → ⊥
+fault_some None f e = cc
+fault_some (Some g) f e = elim (cases_Bool (comes_first f g)) [
+  | inl h ↦ let s : Some f ≡ None = rw h at e in cc
+  | inr h ↦ let s : Some g ≡ None = rw h at e in cc
+]
+
+module _ (b : List Token) where
+  pub fault_back : (c : Bool) (cause : Cause) (i : ℕ) (facts : Facts) → Good b (with_fault c cause i facts) → c ≡ false
+  fault_back true cause i facts h = absurd (fault_some facts.fault _ h.clean)
+  fault_back false cause i facts h = refl
+
+  pub fault_goes : (c : Bool) (cause : Cause) (i : ℕ) (facts : Facts) → Good b (with_fault c cause i facts) → Good b facts
+  fault_goes true cause i facts h = absurd (fault_some facts.fault _ h.clean)
+  fault_goes false cause i facts h = h
+
+  pub occurrence_back : (i e : ℕ) (d : Bool) (facts : Facts) → Good b (with_occurrence i e d facts) → Good b facts
+  occurrence_back i e d facts h = record { clean = h.clean; good = λ o within. h.good o (inr within) }
+
+  pub occurrence_good : (i e : ℕ) (d : Bool) (facts : Facts) → Good b (with_occurrence i e d facts) → alike b i e ≡ true
+  occurrence_good i e d facts h = h.good (occurrence i e d) (inl refl)
+
+  pub declaration_back : (d : Declaration) (facts : Facts) → Good b (with_declaration d facts) → Good b facts
+  declaration_back d facts h = record { clean = h.clean; good = λ o within. h.good o (inr within) }
+
+  pub declaration_good : (d : Declaration) (facts : Facts) → Good b (with_declaration d facts) → alike b d.name_at d.entity ≡ true
+  declaration_good d facts h = h.good (occurrence d.name_at d.entity true) (inl refl)
+
+pub fault_none : (c : Bool) (cause : Cause) (i : ℕ) (facts : Facts) → c ≡ false → with_fault c cause i facts ≡ facts
+fault_none true cause i facts e = absurd (false≢true (sym e))
+fault_none false cause i facts e = refl
+
+-- ---- What is kept
+
+module _ (a : List Token) where
+  pub kept_occurrence : (i e : ℕ) (d : Bool) (facts : Facts) → Kept a facts → Kept a (with_occurrence i e d facts)
+  kept_occurrence i e d facts k = record { covered = λ x within. inr (k.covered x within); one = k.one }
+
+  covered_step : (d x : Declaration) (facts : Facts) → Kept a facts → In x (d ∷ facts.declared)
+      → In (occurrence x.name_at x.entity true) (occurrence d.name_at d.entity true ∷ facts.occurrences)
+  covered_step d x facts k (inl same) = inl (ap (λ y. occurrence y.name_at y.entity true) same)
+  covered_step d x facts k (inr within) = inr (k.covered x within)
+
+  -- the new declaration is of the entity of each one of its spelling that has linkage
+  abbrev pub Joins : Declaration → Facts → Type 0
+  Joins d facts = (i : ℕ) (e : Declaration) → In e facts.declared → IsLinked a i d → IsLinked a i e → d.entity ≡ e.entity
+
+  one_step : (n : Declaration) (facts : Facts) → Kept a facts → Joins n facts → (i : ℕ) (d e : Declaration)
+      → In d (n ∷ facts.declared) → In e (n ∷ facts.declared) → IsLinked a i d → IsLinked a i e → d.entity ≡ e.entity
+  one_step n facts k joins i d e (inl s) (inl t) x y = sym (ap (λ z. z.entity) s) ∙ ap (λ z. z.entity) t
+  one_step n facts k joins i d e (inl s) (inr v) x y =
+      sym (ap (λ z. z.entity) s) ∙ joins i e v (subst (λ z. IsLinked a i z) (sym s) x) y
+  one_step n facts k joins i d e (inr u) (inl t) x y =
+      sym (joins i d u (subst (λ z. IsLinked a i z) (sym t) y) x) ∙ ap (λ z. z.entity) t
+  one_step n facts k joins i d e (inr u) (inr v) x y = k.one i d e u v x y
+
+  pub kept_declaration : (d : Declaration) (facts : Facts) → Kept a facts → Joins d facts → Kept a (with_declaration d facts)
+  kept_declaration d facts k joins = record {
+    covered = λ x within. covered_step d x facts k within;
+    one = one_step d facts k joins;
+  }
+
+  -- a declaration without linkage joins all
+  pub joins_unlinked : (d : Declaration) (facts : Facts) → has_linkage d.linkage ≡ false → Joins d facts
+  joins_unlinked d facts e i x within l m =
+      absurd (false≢true (sym e ∙ and_right (is_named a ordinary i d) (has_linkage d.linkage) l))
+
+-- ---- Look-ups
+
+module _ (a b : List Token) (apart : (i j : ℕ) → alike b i j ≡ true → alike a i j ≡ true) where
+  name_alike : (facts : Facts) → Kept a facts → Good b facts → (i : ℕ) (d : Declaration) → In d facts.declared → alike b i d.entity ≡ true
+      → alike b i d.name_at ≡ true
+  name_alike facts k g i d within e =
+      alike_same b i d.name_at d.entity e (g.good (occurrence d.name_at d.entity true) (k.covered d within))
+
+  names_alike : (facts : Facts) → Kept a facts → Good b facts → (space : Space) (i : ℕ) (test : Declaration → Bool) (r : Option Declaration)
+      → looked_up a space i test facts ≡ r → IfSome r (λ d. alike b i d.entity ≡ true) → IfSome r (λ d. alike b i d.name_at ≡ true)
+  names_alike facts k g space i test None e h = tt
+  names_alike facts k g space i test (Some d) e h =
+      name_alike facts k g i d (found_in (λ d. is_named a space i d && test d) facts.declared d e) h
+
+  -- a name is found again where its entity is spelled as it
+  pub found_again : (facts : Facts) → Kept a facts → Good b facts → (space : Space) (i : ℕ) (test : Declaration → Bool)
+      → IfSome (looked_up a space i test facts) (λ d. alike b i d.entity ≡ true) → looked_up b space i test facts ≡ looked_up a space i test facts
+  found_again facts k g space i test h =
+      looked_up_same a b apart space i test facts (looked_up a space i test facts) refl
+      (names_alike facts k g space i test (looked_up a space i test facts) refl h)

@@ -1,0 +1,7 @@
+use Rattle.tree_laws.proofs.bindings.read_bodies_stand_apart.Goals as goal
+
+pub returns : goal.returns
+returns c = record {
+  within = λ toks tree b read binds. c.bodies_stand_apart.ensures.within toks tree b (c.trees_are_of_their_texts.ensures toks tree read) binds;
+  apart = λ toks tree b read binds. c.bodies_stand_apart.ensures.apart toks tree b (c.trees_are_of_their_texts.ensures toks tree read) binds;
+}

@@ -1,0 +1,6 @@
+-- What the public contracts rest on.
+pub mod TreesOfTexts
+pub mod BoundNames
+pub mod RenamedNames
+pub mod Shapes
+pub mod ReadTexts

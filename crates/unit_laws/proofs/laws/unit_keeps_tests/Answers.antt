@@ -1,5 +1,0 @@
-use Rattle.unit_laws.proofs.TestLemmas.{unit_keeps_tests}
-use Rattle.unit_laws.proofs.laws.unit_keeps_tests.Goals as goal
-
-pub returns : goal.returns
-returns c = record { tests = unit_keeps_tests }

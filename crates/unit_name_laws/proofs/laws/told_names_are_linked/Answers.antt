@@ -1,5 +1,0 @@
-use Rattle.unit_name_laws.proofs.ToldLemmas.{replacing_macros_are_linked, told_names_are_linked}
-use Rattle.unit_name_laws.proofs.laws.told_names_are_linked.Goals as goal
-
-pub returns : goal.returns
-returns c = record { told = told_names_are_linked; replaced = replacing_macros_are_linked }

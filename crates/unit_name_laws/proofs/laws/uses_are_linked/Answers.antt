@@ -1,5 +1,0 @@
-use Rattle.unit_name_laws.proofs.UseLemmas.{uses_are_linked}
-use Rattle.unit_name_laws.proofs.laws.uses_are_linked.Goals as goal
-
-pub returns : goal.returns
-returns c = record { uses = uses_are_linked }
