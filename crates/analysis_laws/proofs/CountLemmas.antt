@@ -2,19 +2,19 @@
 use Rattle.std.proofs.Common.{◌≡◌, ◌≤◌, ◌+◌, ◌-◌, ◌^◌, ℕ, min, List, [], ◌∷◌, None, Ok, Err, length, refl, ap, arith}
 use Rattle.std.specs.Prelude.{All}
 use Rattle.std.proofs.lemmas.List.Elements.{All-head, All-tail}
-use Rattle.cs_base.specs.Token.{Token}
-use Rattle.cs_base.specs.Units.{UnitValue, IsUnit}
-use Rattle.part_lexer.specs.FileText.{file_text}
-use Rattle.source_files.specs.Limits.{the_limits}
-use Rattle.source_files.specs.Faults.{Fault}
-use Rattle.source_files.specs.Files.{Source, Table, Carried, nothing_carried, found_at, defines_path}
-use Rattle.unit_steps.specs.State.{Outcome, State, context}
-use Rattle.include_tree.specs.Unit.{unit_outcome}
-use Rattle.unit_steps.specs.Texts.{UnitTextValue}
-use Rattle.include_tree.specs.Preprocessed.{Preprocessed, preprocessed, preprocessed_by}
-use Rattle.include_tree.specs.Laws.{IfDone, UnitEnds}
-use Rattle.include_tree.proofs.WalkLemmas.{units_end}
-use Rattle.c99_tree.specs.Tree.{Node}
+use Rattle.ws_core.specs.Below.cs_base.Token.{Token}
+use Rattle.ws_core.specs.Below.cs_base.Units.{UnitValue, IsUnit}
+use Rattle.ws_core.specs.Below.part_lexer.FileText.{file_text}
+use Rattle.ws_core.specs.Below.source_files.Limits.{the_limits}
+use Rattle.ws_core.specs.Below.source_files.Faults.{Fault}
+use Rattle.ws_core.specs.Below.source_files.Files.{Source, Table, Carried, nothing_carried, found_at, defines_path}
+use Rattle.ws_core.specs.Below.unit_steps.State.{Outcome, State, context}
+use Rattle.ws_core.specs.Below.include_tree.Unit.{unit_outcome}
+use Rattle.ws_core.specs.Below.unit_steps.Texts.{UnitTextValue}
+use Rattle.ws_core.specs.Below.include_tree.Preprocessed.{Preprocessed, preprocessed, preprocessed_by}
+use Rattle.ws_core.specs.Below.include_tree.Laws.{IfDone, UnitEnds}
+use Rattle.ws_core.proofs.Below.include_tree.WalkLemmas.{units_end}
+use Rattle.ws_core.specs.Below.c99_tree.Tree.{Node}
 use Rattle.ws_core.specs.Analysis.{UnitAnalysis, UnitsValue, AnalysisValue, unit_analysis, analysis_and, with_unit, read_unit, bound_unit, unit_read, analysed_from}
 use Rattle.ws_core.specs.Carrying.{IsFresh}
 use Rattle.ws_core.specs.Texts.{UnitFault, unit_fault, unit_with}

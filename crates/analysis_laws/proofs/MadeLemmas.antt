@@ -2,24 +2,24 @@
 use Rattle.std.proofs.Common.{◌≡◌, ℕ, ◌+◌, ◌-◌, cond, is_some, List, [], ◌∷◌, Option, None, Some, Result, Ok, Err, refl, subst, inl, inr}
 use Rattle.std.specs.Str.{bytes_eq}
 use Rattle.std.proofs.lemmas.Bool.{cases_Bool}
-use Rattle.cs_base.specs.Answer.{result_then, result_map_err}
-use Rattle.cs_base.specs.Token.{Token}
-use Rattle.cs_base.specs.Units.{UnitValue, defines_text}
-use Rattle.part_lexer.specs.FileText.{file_text}
-use Rattle.ws_file.specs.Workspace.{WorkspaceValue}
-use Rattle.source_files.specs.Faults.{Fault, first_place}
-use Rattle.source_files.specs.Files.{Source, SourceFile, Found, Made, Table, Carried, nothing_carried, found_at, found_in, numbered, asked, opened, defines_path}
-use Rattle.source_files.specs.Limits.{Limits, the_limits}
-use Rattle.unit_steps.specs.State.{Context, context, State, Outcome}
-use Rattle.source_files.specs.Opening.{Reader}
-use Rattle.include_tree.specs.OpeningStep.{open_file}
-use Rattle.include_tree.specs.Walk.{file_items}
-use Rattle.include_tree.specs.Unit.{first_state, outer_file, main_file, unit_outcome}
-use Rattle.include_tree.specs.Preprocessed.{Preprocessed, preprocessed, preprocessed_by}
-use Rattle.include_tree.specs.Laws.{IfDone}
-use Rattle.include_tree.proofs.OutcomeLemmas.{onward_done}
-use Rattle.include_tree.proofs.StayLemmas.{IsStable, Stays, open_file_stays}
-use Rattle.include_tree.proofs.StayingWalk.{files_stay}
+use Rattle.ws_core.specs.Below.cs_base.Answer.{result_then, result_map_err}
+use Rattle.ws_core.specs.Below.cs_base.Token.{Token}
+use Rattle.ws_core.specs.Below.cs_base.Units.{UnitValue, defines_text}
+use Rattle.ws_core.specs.Below.part_lexer.FileText.{file_text}
+use Rattle.ws_core.specs.Below.ws_file.Workspace.{WorkspaceValue}
+use Rattle.ws_core.specs.Below.source_files.Faults.{Fault, first_place}
+use Rattle.ws_core.specs.Below.source_files.Files.{Source, SourceFile, Found, Made, Table, Carried, nothing_carried, found_at, found_in, numbered, asked, opened, defines_path}
+use Rattle.ws_core.specs.Below.source_files.Limits.{Limits, the_limits}
+use Rattle.ws_core.specs.Below.unit_steps.State.{Context, context, State, Outcome}
+use Rattle.ws_core.specs.Below.source_files.Opening.{Reader}
+use Rattle.ws_core.specs.Below.include_tree.OpeningStep.{open_file}
+use Rattle.ws_core.specs.Below.include_tree.Walk.{file_items}
+use Rattle.ws_core.specs.Below.include_tree.Unit.{first_state, outer_file, main_file, unit_outcome}
+use Rattle.ws_core.specs.Below.include_tree.Preprocessed.{Preprocessed, preprocessed, preprocessed_by}
+use Rattle.ws_core.specs.Below.include_tree.Laws.{IfDone}
+use Rattle.ws_core.proofs.Below.include_tree.OutcomeLemmas.{onward_done}
+use Rattle.ws_core.proofs.Below.include_tree.StayLemmas.{IsStable, Stays, open_file_stays}
+use Rattle.ws_core.proofs.Below.include_tree.StayingWalk.{files_stay}
 use Rattle.ws_core.specs.Texts.{UnitFault, unit_fault, unit_with}
 use Rattle.ws_core.specs.Analysis.{UnitsValue, AnalysisValue, analysis_and, with_unit, unit_read, analysed_from, analysis_of}
 use Rattle.analysis_laws.specs.Tables.{IsPseudoIfMade, MadeArePseudo}

@@ -5,28 +5,28 @@ use Rattle.std.specs.Str.{bytes_eq}
 use Rattle.std.proofs.lemmas.Bool.{cases_Bool}
 use Rattle.std.proofs.lemmas.List.Elements.{All-nil, All-cons, All-head, All-tail}
 use Rattle.std.proofs.lemmas.Option.{none-some, same_Some}
-use Rattle.cs_base.specs.declared.causes.Cause.TheVariants as cause
-use Rattle.cs_base.specs.declared.positions.Place.{Place}
-use Rattle.cs_base.specs.Token.{Token}
-use Rattle.cs_base.specs.Units.{UnitValue, IsUnit, defines_text}
-use Rattle.cs_base.proofs.FileMapLemmas.{bytes_eq-equal}
-use Rattle.part_lexer.specs.FileText.{TextValue, LexFault, FileTooLarge, OpenComment, file_text}
-use Rattle.source_files.specs.Faults.{Fault, fault, first_place}
-use Rattle.source_files.specs.Files.{Source, SourceFile, Found, Lines, Absent, Unopened, Opened, Made, Table, Carried, nothing_carried, found_at, found_in, files_opened, number_of, numbered, asked, opened, defines_path}
-use Rattle.source_files.specs.Limits.{Limits, the_limits}
-use Rattle.unit_steps.specs.State.{Context, context, State, Outcome}
-use Rattle.source_files.specs.Opening.{Reader}
-use Rattle.source_files.specs.Opening.{Opening, file_read, readable, are_too_many, first_opened, opened_as, opening}
-use Rattle.include_tree.specs.OpeningStep.{with_opened, open_file}
-use Rattle.include_tree.specs.PseudoFiles.{is_pseudo}
-use Rattle.include_tree.specs.Unit.{first_state, outer_file, main_file, unit_outcome}
-use Rattle.include_tree.specs.Preprocessed.{Preprocessed, preprocessed, preprocessed_by}
-use Rattle.include_tree.specs.Laws.{IfDone}
-use Rattle.include_tree.specs.Walk.{file_items}
-use Rattle.include_tree.proofs.OutcomeLemmas.{onward_done}
-use Rattle.source_files.proofs.SourcesLemmas.{found-opened}
-use Rattle.include_tree.proofs.StayLemmas.{IsStable, Stays, open_file_stays}
-use Rattle.include_tree.proofs.StayingWalk.{files_stay}
+use Rattle.ws_core.specs.Below.cs_base.declared.causes.Cause.TheVariants as cause
+use Rattle.ws_core.specs.Below.cs_base.declared.positions.Place.{Place}
+use Rattle.ws_core.specs.Below.cs_base.Token.{Token}
+use Rattle.ws_core.specs.Below.cs_base.Units.{UnitValue, IsUnit, defines_text}
+use Rattle.ws_core.proofs.Below.cs_base.FileMapLemmas.{bytes_eq-equal}
+use Rattle.ws_core.specs.Below.part_lexer.FileText.{TextValue, LexFault, FileTooLarge, OpenComment, file_text}
+use Rattle.ws_core.specs.Below.source_files.Faults.{Fault, fault, first_place}
+use Rattle.ws_core.specs.Below.source_files.Files.{Source, SourceFile, Found, Lines, Absent, Unopened, Opened, Made, Table, Carried, nothing_carried, found_at, found_in, files_opened, number_of, numbered, asked, opened, defines_path}
+use Rattle.ws_core.specs.Below.source_files.Limits.{Limits, the_limits}
+use Rattle.ws_core.specs.Below.unit_steps.State.{Context, context, State, Outcome}
+use Rattle.ws_core.specs.Below.source_files.Opening.{Reader}
+use Rattle.ws_core.specs.Below.source_files.Opening.{Opening, file_read, readable, are_too_many, first_opened, opened_as, opening}
+use Rattle.ws_core.specs.Below.include_tree.OpeningStep.{with_opened, open_file}
+use Rattle.ws_core.specs.Below.include_tree.PseudoFiles.{is_pseudo}
+use Rattle.ws_core.specs.Below.include_tree.Unit.{first_state, outer_file, main_file, unit_outcome}
+use Rattle.ws_core.specs.Below.include_tree.Preprocessed.{Preprocessed, preprocessed, preprocessed_by}
+use Rattle.ws_core.specs.Below.include_tree.Laws.{IfDone}
+use Rattle.ws_core.specs.Below.include_tree.Walk.{file_items}
+use Rattle.ws_core.proofs.Below.include_tree.OutcomeLemmas.{onward_done}
+use Rattle.ws_core.proofs.Below.source_files.SourcesLemmas.{found-opened}
+use Rattle.ws_core.proofs.Below.include_tree.StayLemmas.{IsStable, Stays, open_file_stays}
+use Rattle.ws_core.proofs.Below.include_tree.StayingWalk.{files_stay}
 use Rattle.ws_core.specs.Texts.{UnitFault, unit_fault, unit_with}
 use Rattle.ws_core.specs.Analysis.{UnitsValue, AnalysisValue, analysis_and, with_unit, unit_read, analysed_from}
 use Rattle.analysis_laws.specs.Tables.{IsPseudoIfMade, MadeArePseudo, IsOpened, UnitFilesAreOpened}

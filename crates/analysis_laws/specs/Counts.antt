@@ -1,7 +1,7 @@
 -- How many tokens the units of an analysis have (ISO/IEC 9899:1999, 5.2.4.1: a translation limit of this project).
 use Rattle.std.specs.Prelude.{ℕ, ◌≡◌, ◌≤◌, ◌+◌, ◌^◌, List, [], ◌∷◌, Ok, length}
-use Rattle.ws_file.specs.Workspace.{WorkspaceValue, IsWorkspace}
-use Rattle.source_files.specs.Files.{Source}
+use Rattle.ws_core.specs.Below.ws_file.Workspace.{WorkspaceValue, IsWorkspace}
+use Rattle.ws_core.specs.Below.source_files.Files.{Source}
 use Rattle.ws_core.specs.Analysis.{UnitAnalysis, AnalysisValue, analysis_of}
 
 -- the tokens of all units together

@@ -1,9 +1,9 @@
 -- The files of an analysis: those that were read, and pseudo files, whose texts the program makes (this project's own).
 use Rattle.std.specs.Prelude.{ℕ, ◌≡◌, true, List, [], ◌∷◌, Some, Ok, All}
-use Rattle.cs_base.specs.Units.{UnitValue}
-use Rattle.ws_file.specs.Workspace.{WorkspaceValue, IsWorkspace}
-use Rattle.source_files.specs.Files.{Source, Found, Opened, Made, Table, found_at}
-use Rattle.include_tree.specs.PseudoFiles.{is_pseudo}
+use Rattle.ws_core.specs.Below.cs_base.Units.{UnitValue}
+use Rattle.ws_core.specs.Below.ws_file.Workspace.{WorkspaceValue, IsWorkspace}
+use Rattle.ws_core.specs.Below.source_files.Files.{Source, Found, Opened, Made, Table, found_at}
+use Rattle.ws_core.specs.Below.include_tree.PseudoFiles.{is_pseudo}
 use Rattle.ws_core.specs.Analysis.{AnalysisValue, analysis_of}
 
 -- a path that stands for a text which the program made is that of a pseudo file

@@ -12,11 +12,11 @@ use Rattle.std.proofs.lemmas.List.Folds.{find-append}
 use Rattle.std.proofs.lemmas.Option.{slice_get_within, get_or_from_slice_get}
 use Rattle.cs_base.specs.Token.{Token}
 use Rattle.cs_base.specs.Units.{UnitValue}
-use Rattle.unit_steps.specs.Texts.{UnitTextValue}
+use Rattle.include_tree.specs.Below.unit_steps.Texts.{UnitTextValue}
 use Rattle.scope_bind.specs.declared.bound.Name.{Name}
 use Rattle.scope_bind.specs.Bound.{Bound}
-use Rattle.linkage_join.specs.Linkage.{UnitValue as ExternalNames, first_spelled, names_of}
-use Rattle.linkage_join.specs.Firsts.{Table, with_names}
+use Rattle.ws_core.specs.Below.linkage_join.Linkage.{UnitValue as ExternalNames, first_spelled, names_of}
+use Rattle.ws_core.specs.Below.linkage_join.Firsts.{Table, with_names}
 use Rattle.ws_core.specs.Analysis.{UnitAnalysis}
 use Rattle.ws_core.specs.Links.{is_external_name, external_names_from, names_of_unit, names_of_units}
 use Rattle.calls_of.specs.Externals.{own_name, Adds, AddsUnits}

@@ -1,8 +1,8 @@
 -- What the text of a file tells.
 use Rattle.std.proofs.Common.{◌≡◌, ℕ, nat_lt, List, length, Option, None, Some, Ok, sym, ap, inl, inr}
 use Rattle.std.proofs.lemmas.Bool.{cases_Bool}
-use Rattle.part_lexer.specs.FileText.{TextValue, most_bytes, text_value, text_or_open, file_text}
-use Rattle.part_lexer.specs.Tokens.{tokens_of, firsts_of, open_comment_of}
+use Rattle.ws_core.specs.Below.part_lexer.FileText.{TextValue, most_bytes, text_value, text_or_open, file_text}
+use Rattle.ws_core.specs.Below.part_lexer.Tokens.{tokens_of, firsts_of, open_comment_of}
 
 open_told : (file : ℕ) (bytes : List ℕ) (o : Option ℕ) (text : TextValue) → text_or_open file bytes o ≡ Ok text
     → (text.toks ≡ tokens_of file bytes) × (text.firsts ≡ firsts_of bytes)

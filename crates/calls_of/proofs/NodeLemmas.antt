@@ -10,7 +10,7 @@ use Rattle.std.proofs.lemmas.Bool.{cases_Bool, eqb-true, le-ltb, or_cases, and_p
 use Rattle.std.proofs.lemmas.Cmp.{then_total, on_total, nat_list_cmp_total, nat_cmp_total, tied_itself}
 use Rattle.std.proofs.lemmas.Map.Text.{is_eq-slice_cmp}
 use Rattle.cs_base.specs.declared.positions.Pos.{Pos}
-use Rattle.source_files.specs.Files.{Table}
+use Rattle.include_tree.specs.Below.source_files.Files.{Table}
 use Rattle.call_graphs.specs.declared.nodes.Node.{Node}
 use Rattle.call_graphs.specs.declared.nodes.NodeKind.{NodeKind}
 use Rattle.call_graphs.specs.declared.nodes.NodeKind.TheVariants.{Macro, Function}

@@ -6,7 +6,7 @@ use Rattle.std.proofs.lemmas.Option.{slice_get-get_or, same_Some}
 use Rattle.cs_base.specs.declared.positions.Pos.{Pos}
 use Rattle.cs_base.specs.Token.{Token}
 use Rattle.cs_base.specs.Units.{UnitValue}
-use Rattle.unit_steps.specs.declared.events.Event.{Event}
+use Rattle.include_tree.specs.Below.unit_steps.declared.events.Event.{Event}
 use Rattle.scope_bind.specs.Bound.{Bound}
 use Rattle.ws_core.specs.Analysis.{UnitAnalysis, AnalysisValue}
 use Rattle.calls_of.specs.Bodies.{owner_of}

@@ -6,16 +6,16 @@ use Rattle.std.specs.Option.{option_map, option_map_or, option_and_then, option_
 use Rattle.cs_base.specs.declared.positions.Pos.{Pos}
 use Rattle.cs_base.specs.Token.{Token, origin_at}
 use Rattle.cs_base.specs.Units.{UnitValue}
-use Rattle.unit_steps.specs.declared.events.Event.{Event}
-use Rattle.unit_steps.specs.declared.events.EventKind.{EventKind}
-use Rattle.unit_steps.specs.declared.events.EventKind.TheVariants as kind
-use Rattle.c_types.specs.declared.entity.Linkage.TheVariants.{External}
-use Rattle.c_types.specs.declared.lists.List.{List as NameList}
-use Rattle.c_types.specs.declared.lists.Range.{Range}
+use Rattle.include_tree.specs.Below.unit_steps.declared.events.Event.{Event}
+use Rattle.include_tree.specs.Below.unit_steps.declared.events.EventKind.{EventKind}
+use Rattle.include_tree.specs.Below.unit_steps.declared.events.EventKind.TheVariants as kind
+use Rattle.ws_core.specs.Below.c_types.declared.entity.Linkage.TheVariants.{External}
+use Rattle.ws_core.specs.Below.c_types.declared.lists.List.{List as NameList}
+use Rattle.ws_core.specs.Below.c_types.declared.lists.Range.{Range}
 use Rattle.scope_bind.specs.Bound.{Bound, is_function_name}
-use Rattle.c_types.specs.Declarations.{is_linkage}
+use Rattle.ws_core.specs.Below.c_types.Declarations.{is_linkage}
 use Rattle.scope_bind.specs.Names.{entity_at, kind_at, linkage_at}
-use Rattle.linkage_join.specs.Linkage.{first_spelled, names_of}
+use Rattle.ws_core.specs.Below.linkage_join.Linkage.{first_spelled, names_of}
 use Rattle.ws_core.specs.Analysis.{UnitAnalysis, AnalysisValue}
 use Rattle.ws_core.specs.Links.{names_of_units}
 use Rattle.call_graphs.specs.declared.nodes.Node.{Node}

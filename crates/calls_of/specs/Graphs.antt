@@ -9,11 +9,11 @@ use Rattle.std.specs.declared.cmp.Ordering.{Ordering}
 use Rattle.cs_base.specs.declared.positions.Pos.{Pos}
 use Rattle.cs_base.specs.Token.{Token}
 use Rattle.cs_base.specs.Units.{UnitValue}
-use Rattle.unit_steps.specs.declared.events.Event.{Event}
-use Rattle.unit_steps.specs.declared.events.EventKind.{EventKind}
-use Rattle.unit_steps.specs.declared.events.EventKind.TheVariants as kind
-use Rattle.source_files.specs.Files.{Table, lines_path}
-use Rattle.source_files.specs.KeptFiles.{KeptValue, kept_at}
+use Rattle.include_tree.specs.Below.unit_steps.declared.events.Event.{Event}
+use Rattle.include_tree.specs.Below.unit_steps.declared.events.EventKind.{EventKind}
+use Rattle.include_tree.specs.Below.unit_steps.declared.events.EventKind.TheVariants as kind
+use Rattle.include_tree.specs.Below.source_files.Files.{Table, lines_path}
+use Rattle.include_tree.specs.Below.source_files.KeptFiles.{KeptValue, kept_at}
 use Rattle.scope_bind.specs.Bound.{Bound, is_function_name}
 use Rattle.scope_bind.specs.Names.{kind_at}
 use Rattle.ws_core.specs.Analysis.{UnitAnalysis, AnalysisValue}

@@ -9,3 +9,5 @@ pub mod Numbers
 pub mod OpenBodies
 pub mod Orders
 pub mod Owners
+-- Words of the crates below, passed on.
+pub mod Below

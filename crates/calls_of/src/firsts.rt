@@ -1,9 +1,9 @@
 // The first token of each name of external linkage, in its project (ISO/IEC 9899:1999, 6.2.2 paragraph 2).
 ghost use Rattle.std.specs.Prelude.{◌≡◌, ◌∷◌, [], List, ℕ, None, IfOk, OnOk};
 ghost use Rattle.std.specs.Option.{option_copied};
-ghost use Rattle.linkage_join.specs.Firsts.{first_at};
-ghost use Rattle.c_types.specs.Declarations.{is_linkage};
-ghost use Rattle.c_types.specs.declared.entity.Linkage.TheVariants.{External};
+ghost use Rattle.ws_core.specs.Below.linkage_join.Firsts.{first_at};
+ghost use Rattle.ws_core.specs.Below.c_types.Declarations.{is_linkage};
+ghost use Rattle.ws_core.specs.Below.c_types.declared.entity.Linkage.TheVariants.{External};
 ghost use Rattle.ws_core.specs.Links.{external_names_from, is_bound_to, is_external_name, names_of_units};
 ghost use Rattle.calls_of.specs.Calls.{first_in};
 ghost use Rattle.calls_of.specs.Externals.{own_name, Adds, AddsUnits};

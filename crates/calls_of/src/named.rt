@@ -2,7 +2,7 @@
 ghost use Rattle.std.specs.Prelude.{◌≡◌, ◌++◌, IfOk, OnOk, IsTrue};
 ghost use Rattle.std.specs.Option.{option_to_list};
 ghost use Rattle.calls_of.specs.Calls.{node, node_of};
-ghost use Rattle.unit_steps.specs.declared.events.EventKind.TheVariants.{Defined};
+ghost use Rattle.include_tree.specs.Below.unit_steps.declared.events.EventKind.TheVariants.{Defined};
 ghost use Rattle.calls_of.specs.Graphs.{defined_node, event_node};
 
 use call_graphs::{Node, NodeKind};

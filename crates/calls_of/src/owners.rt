@@ -2,9 +2,9 @@
 ghost use Rattle.std.specs.Prelude.{◌≡◌, ◌∷◌, [], None, map, IfOk, OnOk};
 ghost use Rattle.std.specs.List.{flat_map};
 ghost use Rattle.std.specs.Option.{option_copied, option_map_or};
-ghost use Rattle.part_lexer.specs.Tokens.{tokens_of, firsts_of};
+ghost use Rattle.ws_core.specs.Below.part_lexer.Tokens.{tokens_of, firsts_of};
 ghost use Rattle.line_shape.specs.Items.{items_of};
-ghost use Rattle.source_files.specs.KeptFiles.{kept_at};
+ghost use Rattle.include_tree.specs.Below.source_files.KeptFiles.{kept_at};
 ghost use Rattle.cs_base.specs.declared.positions.Pos.{Pos as Position};
 ghost use Rattle.calls_of.specs.Bodies.{owned, owned_by, owned_in_item, owned_in_file, owned_from, owner_of};
 ghost use Rattle.calls_of.specs.Owners.{owner_at, owner_with, Grew};

@@ -1,6 +1,6 @@
 // The report on calls.
 ghost use Rattle.std.specs.Prelude.{◌≡◌, ◌++◌, IfOk, OnOk};
-ghost use Rattle.source_files.specs.Faults.{place_of};
+ghost use Rattle.include_tree.specs.Below.source_files.Faults.{place_of};
 ghost use Rattle.ws_core.specs.ClassReport.{place_text};
 ghost use Rattle.ws_core.specs.Places.{place_at};
 ghost use Rattle.calls_of.specs.Graphs.{calls_text, edge_line, node_text, numbered_text};

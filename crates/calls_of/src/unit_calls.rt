@@ -4,7 +4,7 @@ ghost use Rattle.std.specs.List.{flat_map, range_with_len};
 ghost use Rattle.std.specs.Option.{option_copied, option_map_or, option_to_list};
 ghost use Rattle.scope_bind.specs.Bound.{is_function_name};
 ghost use Rattle.scope_bind.specs.Names.{kind_at};
-ghost use Rattle.unit_steps.specs.declared.events.EventKind.TheVariants.{Replaced};
+ghost use Rattle.include_tree.specs.Below.unit_steps.declared.events.EventKind.TheVariants.{Replaced};
 ghost use Rattle.calls_of.specs.Graphs.{event_node};
 ghost use Rattle.calls_of.specs.InUnits.{first_of, function_node, macro_around, function_around, caller_of, entity_call, direct_call, replacing, replacement_call, unit_calls, function_named, unit_nodes};
 

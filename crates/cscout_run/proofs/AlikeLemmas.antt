@@ -12,19 +12,19 @@ use Rattle.std.proofs.lemmas.Option.{none-some, same_Some}
 use Rattle.cs_base.specs.declared.positions.Part.{Part}
 use Rattle.cs_base.specs.declared.positions.Pos.{Pos}
 use Rattle.cs_base.specs.Edit.{Edit}
-use Rattle.eclass_map.specs.Positions.{holds}
-use Rattle.part_lexer.specs.Spelling.{is_identifier_text}
+use Rattle.ws_core.specs.Below.eclass_map.Positions.{holds}
+use Rattle.ws_core.specs.Below.part_lexer.Spelling.{is_identifier_text}
 use Rattle.ws_core.specs.Analysis.{AnalysisValue}
 use Rattle.ws_core.specs.Naming.{Names}
 use Rattle.ws_core.specs.Parts.{AreMembers, part_cmp}
 use Rattle.ws_core.proofs.ListingLemmas.{part_cmp-total}
-use Rattle.rename_rules.specs.First.{IsAmong, offences_of}
-use Rattle.rename_rules.specs.Renaming.{Refusal, IsRenamed, IsClassRenamed, IsNamedRenamed, IsRenaming, bad_name, no_name}
-use Rattle.rename_rules.proofs.ClassLemmas.{part_once}
-use Rattle.unused_names.specs.Order.{position_cmp}
-use Rattle.unused_names.specs.Unneeded.{AreUnneeded}
-use Rattle.unused_names.specs.Unused.{AreUnused}
-use Rattle.unused_names.proofs.OrderLemmas.{position_cmp-total}
+use Rattle.kept_meaning_laws.specs.Below.rename_rules.First.{IsAmong, offences_of}
+use Rattle.kept_meaning_laws.specs.Below.rename_rules.Renaming.{Refusal, IsRenamed, IsClassRenamed, IsNamedRenamed, IsRenaming, bad_name, no_name}
+use Rattle.kept_meaning_laws.proofs.Below.rename_rules.ClassLemmas.{part_once}
+use Rattle.query_report.specs.Below.unused_names.Order.{position_cmp}
+use Rattle.query_report.specs.Below.unused_names.Unneeded.{AreUnneeded}
+use Rattle.query_report.specs.Below.unused_names.Unused.{AreUnused}
+use Rattle.query_report.proofs.Below.unused_names.OrderLemmas.{position_cmp-total}
 
 -- ---- lists in strict order
 

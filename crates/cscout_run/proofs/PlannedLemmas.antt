@@ -4,13 +4,13 @@ use Rattle.std.specs.Prelude.{IfOk, IfSome}
 use Rattle.cs_base.specs.Edit.{IsKept}
 use Rattle.cs_base.specs.Outside.{FileMap}
 use Rattle.ws_file.specs.Workspace.{WorkspaceValue, IsWorkspace}
-use Rattle.eclass_map.specs.ClassTable as classes
-use Rattle.source_files.specs.Files.{Source, Table, source_of}
-use Rattle.source_files.specs.Tables.{AreFound, HasEachOnce}
+use Rattle.ws_core.specs.Below.eclass_map.ClassTable as classes
+use Rattle.ws_core.specs.Below.source_files.Files.{Source, Table, source_of}
+use Rattle.ws_core.specs.Below.source_files.Tables.{AreFound, HasEachOnce}
 use Rattle.ws_core.specs.Analysis.{AnalysisValue, analysis_of}
 use Rattle.ws_core.specs.Carrying.{IsOver}
 use Rattle.ws_core.specs.Classes.{AreItsClasses}
-use Rattle.rename_rules.specs.Renaming.{IsRenaming}
+use Rattle.kept_meaning_laws.specs.Below.rename_rules.Renaming.{IsRenaming}
 use Rattle.command_words.specs.Request.{RenameValue}
 use Rattle.cscout_run.specs.Steps.{IsPlanned, ReadsWorkspace}
 use Rattle.cscout_run.specs.declared.preparing.Ready.{Ready}

@@ -10,22 +10,22 @@ use Rattle.cs_base.specs.declared.positions.Part.{Part}
 use Rattle.cs_base.specs.Edit.{Edit, edit, with_edits, IsKept}
 use Rattle.cs_base.specs.Outside.{FileMap, bytes_at}
 use Rattle.cs_base.proofs.FileMapLemmas.{bytes_at-with_edits, bytes_at-with_edits_other, bytes_eq-equal}
-use Rattle.source_files.specs.Files.{Source, Found, Lines, Absent, Unopened, Opened, Made, Table, source_of}
-use Rattle.source_files.specs.KeptFiles.{KeptValue, kept as kept_file, kept_at, kept_bytes, kept_in}
-use Rattle.source_files.specs.Tables.{IsFound, AreFound}
-use Rattle.include_tree.specs.PseudoFiles.{is_pseudo}
-use Rattle.part_lexer.specs.Spelling.{is_identifier_text}
+use Rattle.ws_core.specs.Below.source_files.Files.{Source, Found, Lines, Absent, Unopened, Opened, Made, Table, source_of}
+use Rattle.ws_core.specs.Below.source_files.KeptFiles.{KeptValue, kept as kept_file, kept_at, kept_bytes, kept_in}
+use Rattle.ws_core.specs.Below.source_files.Tables.{IsFound, AreFound}
+use Rattle.ws_core.specs.Below.include_tree.PseudoFiles.{is_pseudo}
+use Rattle.ws_core.specs.Below.part_lexer.Spelling.{is_identifier_text}
 use Rattle.ws_core.specs.Analysis.{AnalysisValue}
 use Rattle.ws_core.specs.Naming.{Names}
 use Rattle.ws_core.specs.Parts.{AreMembers}
 use Rattle.ws_core.specs.Places.{is_read_only, is_read_only_path}
-use Rattle.analysis_laws.specs.Tables.{IsPseudoIfMade, MadeArePseudo}
-use Rattle.analysis_laws.proofs.MadeLemmas.{made_files_pseudo}
-use Rattle.analysis_laws.proofs.ReadLemmas.{unit_files_opened}
-use Rattle.rename_rules.specs.First.{IsAmong, member_offences, offence, offences_of, spelling_offences, standing}
-use Rattle.rename_rules.specs.Offences.{read_only_place, read_only_places, reserved_places, stringized_places, header_places, no_identifier_places}
-use Rattle.rename_rules.specs.Renaming.{IsNamedRenamed, IsRenaming}
-use Rattle.rename_rules.specs.Runs.{edit_of, edits_of, file_of, new_bytes, runs, with_member}
+use Rattle.kept_meaning_laws.specs.Below.analysis_laws.Tables.{IsPseudoIfMade, MadeArePseudo}
+use Rattle.kept_meaning_laws.proofs.Below.analysis_laws.MadeLemmas.{made_files_pseudo}
+use Rattle.kept_meaning_laws.proofs.Below.analysis_laws.ReadLemmas.{unit_files_opened}
+use Rattle.kept_meaning_laws.specs.Below.rename_rules.First.{IsAmong, member_offences, offence, offences_of, spelling_offences, standing}
+use Rattle.kept_meaning_laws.specs.Below.rename_rules.Offences.{read_only_place, read_only_places, reserved_places, stringized_places, header_places, no_identifier_places}
+use Rattle.kept_meaning_laws.specs.Below.rename_rules.Renaming.{IsNamedRenamed, IsRenaming}
+use Rattle.kept_meaning_laws.specs.Below.rename_rules.Runs.{edit_of, edits_of, file_of, new_bytes, runs, with_member}
 use Rattle.kept_meaning_laws.specs.EditedSource.{AreRespelled}
 use Rattle.kept_meaning_laws.specs.RenamedSource.{IsAccepted}
 use Rattle.kept_meaning_laws.proofs.TextLemmas.{respelled_files_have_renamed_texts, respelled_files_have_renamed_analysis}

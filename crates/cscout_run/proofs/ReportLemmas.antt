@@ -8,8 +8,8 @@ use Rattle.cs_base.specs.Outside.{FileMap}
 use Rattle.cs_base.specs.Units.{UnitValue}
 use Rattle.ws_file.specs.Workspace.{WorkspaceValue}
 use Rattle.ws_file.specs.Reading.{WsFault}
-use Rattle.source_files.specs.Files.{source_of}
-use Rattle.unit_steps.specs.Texts.{UnitTextValue}
+use Rattle.ws_core.specs.Below.source_files.Files.{source_of}
+use Rattle.ws_core.specs.Below.unit_steps.Texts.{UnitTextValue}
 use Rattle.ws_core.specs.Analysis.{AnalysisValue, analysis_of}
 use Rattle.ws_core.specs.Texts.{UnitFault, unit_at, alone, one_text_of}
 use Rattle.ws_core.specs.Answers.{fault_of}

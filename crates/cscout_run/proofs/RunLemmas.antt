@@ -5,13 +5,13 @@ use Rattle.cs_base.specs.Edit.{Edit}
 use Rattle.cs_base.specs.Outside.{FileMap, FilesTold, TellsReads, Rose}
 use Rattle.ws_file.specs.Workspace.{WorkspaceValue}
 use Rattle.ws_file.specs.Reading.{WsFault}
-use Rattle.source_files.specs.Files.{source_of}
+use Rattle.ws_core.specs.Below.source_files.Files.{source_of}
 use Rattle.ws_core.specs.Analysis.{AnalysisValue, analysis_of}
 use Rattle.ws_core.specs.ClassReport.{IsClassReport, PrintsClass, part_lines}
 use Rattle.ws_core.specs.Parts.{AreMembers}
 use Rattle.cs_base.specs.declared.positions.Part.{Part}
 use Rattle.std.proofs.lemmas.Option.{same_Some}
-use Rattle.rename_rules.specs.Renaming.{Refusal}
+use Rattle.kept_meaning_laws.specs.Below.rename_rules.Renaming.{Refusal}
 use Rattle.query_report.specs.Queries.{IsIncludesReport, IsUnusedReport, lines_of}
 use Rattle.query_report.specs.declared.queries.Query.TheVariants.{Unused, Includes}
 use Rattle.cscout_run.specs.Alike.{AreAlike}
@@ -29,7 +29,7 @@ use Rattle.cscout_run.specs.Steps.{Prepares}
 use Rattle.cscout_run.specs.declared.preparing.Ready.{Ready}
 use Rattle.edit_put.specs.Applying.{Applies}
 use Rattle.edit_put.specs.declared.applying.Applied.TheVariants as applied
-use Rattle.call_graphs.specs.Graph.{GraphValue}
+use Rattle.calls_of.specs.Below.call_graphs.Graph.{GraphValue}
 use Rattle.calls_of.specs.Graphs.{calls_text}
 use Rattle.cscout_run.proofs.CallsLemmas.{one_graph}
 use Rattle.cscout_run.specs.Stopping.{Stops, stop_reads, status_of, line_of}

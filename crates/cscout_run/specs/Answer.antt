@@ -5,20 +5,20 @@ use Rattle.cs_base.specs.Edit.{Edit}
 use Rattle.cs_base.specs.Outside.{FileMap, bytes_at}
 use Rattle.ws_file.specs.Workspace.{WorkspaceValue}
 use Rattle.ws_file.specs.Reading.{WsFault, bad_line, too_many_units, workspace_of}
-use Rattle.source_files.specs.Files.{source_of}
-use Rattle.unit_steps.specs.Texts.{UnitTextValue}
+use Rattle.ws_core.specs.Below.source_files.Files.{source_of}
+use Rattle.ws_core.specs.Below.unit_steps.Texts.{UnitTextValue}
 use Rattle.ws_core.specs.Analysis.{AnalysisValue, analysis_of}
 use Rattle.ws_core.specs.ClassReport.{IsClassReport}
 use Rattle.ws_core.specs.Texts as units
-use Rattle.analysis_laws.specs.Counts.{tokens_in}
+use Rattle.kept_meaning_laws.specs.Below.analysis_laws.Counts.{tokens_in}
 use Rattle.query_report.specs.TokensText.{tokens_text}
 use Rattle.query_report.specs.Skipped.{skipped_text}
 use Rattle.query_report.specs.Queries.{IsReport}
 use Rattle.query_report.specs.declared.queries.Query.{Query}
 use Rattle.query_report.specs.declared.queries.Query.TheVariants.{Unused, Includes}
-use Rattle.call_graphs.specs.Graph.{GraphValue}
+use Rattle.calls_of.specs.Below.call_graphs.Graph.{GraphValue}
 use Rattle.calls_of.specs.Graphs.{IsGraphOf, calls_text}
-use Rattle.rename_rules.specs.Renaming.{Refusal, bad_name, no_name, refused, IsRenaming}
+use Rattle.kept_meaning_laws.specs.Below.rename_rules.Renaming.{Refusal, bad_name, no_name, refused, IsRenaming}
 use Rattle.generated.specs.Generated.{header_path, workspace_path, generated_files}
 use Rattle.cscout_run.specs.declared.status.Status.{Status}
 use Rattle.cscout_run.specs.declared.status.Status.TheVariants.{Done, Refused, Usage, Workspace}

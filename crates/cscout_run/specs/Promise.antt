@@ -4,14 +4,14 @@ use Rattle.cs_base.specs.declared.positions.Part.{Part}
 use Rattle.cs_base.specs.Outside.{FileMap, bytes_at}
 use Rattle.cs_base.specs.Units.{UnitValue}
 use Rattle.ws_file.specs.Workspace.{WorkspaceValue}
-use Rattle.source_files.specs.Files.{source_of}
-use Rattle.source_files.specs.KeptFiles.{KeptValue}
+use Rattle.ws_core.specs.Below.source_files.Files.{source_of}
+use Rattle.ws_core.specs.Below.source_files.KeptFiles.{KeptValue}
 use Rattle.ws_core.specs.Analysis.{AnalysisValue, analysis_of}
 use Rattle.ws_core.specs.Naming.{Names}
 use Rattle.ws_core.specs.Parts.{AreMembers}
-use Rattle.analysis_laws.specs.Tables.{IsOpened}
-use Rattle.rename_rules.specs.First.{IsAmong, IsFirst, offences_of}
-use Rattle.rename_rules.specs.Runs.{runs, file_of, new_bytes}
+use Rattle.kept_meaning_laws.specs.Below.analysis_laws.Tables.{IsOpened}
+use Rattle.kept_meaning_laws.specs.Below.rename_rules.First.{IsAmong, IsFirst, offences_of}
+use Rattle.kept_meaning_laws.specs.Below.rename_rules.Runs.{runs, file_of, new_bytes}
 use Rattle.kept_meaning_laws.specs.RenamedSource.{TextsAreRenamed, AnalysisIsRenamed}
 use Rattle.command_words.specs.Request.{RequestValue, renaming_asked, RenameValue}
 use Rattle.cscout_run.specs.Answer.{workspace_at}

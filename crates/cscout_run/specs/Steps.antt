@@ -4,9 +4,9 @@ use Rattle.cs_base.specs.Outside.{FileMap, ReadEnd, NoneFailed}
 use Rattle.cs_base.specs.Edit.{Edit, IsKept}
 use Rattle.ws_file.specs.Workspace.{WorkspaceValue, IsWorkspace}
 use Rattle.ws_file.specs.Reading.{WsFault}
-use Rattle.eclass_map.specs.ClassTable as classes
-use Rattle.source_files.specs.Files.{source_of}
-use Rattle.source_files.specs.Tables.{AreFound, HasEachOnce}
+use Rattle.ws_core.specs.Below.eclass_map.ClassTable as classes
+use Rattle.ws_core.specs.Below.source_files.Files.{source_of}
+use Rattle.ws_core.specs.Below.source_files.Tables.{AreFound, HasEachOnce}
 use Rattle.ws_core.specs.Analysis.{AnalysisValue, analysis_of}
 use Rattle.ws_core.specs.Classes.{AreItsClasses}
 use Rattle.ws_core.specs.declared.analyse_fault.AnalyseFault.{AnalyseFault}
@@ -15,7 +15,7 @@ use Rattle.cscout_run.specs.declared.status.Status.TheVariants as status
 use Rattle.cscout_run.specs.declared.stops.Stop.{Stop}
 use Rattle.cscout_run.specs.declared.stops.Stop.TheVariants.{UnreadWorkspace, UnitFault, UnreadFile, BadName, NoName, Offence, Memory}
 use Rattle.cscout_run.specs.declared.preparing.Ready.{Ready}
-use Rattle.rename_rules.specs.Renaming.{IsRenaming}
+use Rattle.kept_meaning_laws.specs.Below.rename_rules.Renaming.{IsRenaming}
 use Rattle.rename_edit.specs.declared.refusals.RenameRefusal.{RenameRefusal}
 use Rattle.rename_edit.specs.declared.refusals.RenameRefusal.TheVariants as refusal
 use Rattle.command_words.specs.Request.{RequestValue, RenameValue, renaming_asked}

@@ -1,6 +1,6 @@
 // The generated workspace: made, analysed and renamed in memory, and counted. It touches no file.
 ghost use Rattle.std.specs.Prelude.{◌≡◌, ◌≤◌, ◌^◌, IfErr, Ok};
-ghost use Rattle.analysis_laws.specs.Counts.{tokens_in};
+ghost use Rattle.kept_meaning_laws.specs.Below.analysis_laws.Counts.{tokens_in};
 ghost use Rattle.generated.specs.Generated.{workspace_path};
 ghost use Rattle.cscout_run.specs.Answer.{IsGenerated, IsSizeAnswer, places_in};
 ghost use Rattle.cscout_run.specs.Steps.{IsPlanStop, IsQuiet, Prepares};

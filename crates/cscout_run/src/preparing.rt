@@ -2,7 +2,7 @@
 ghost use Rattle.std.specs.Prelude.{◌≡◌, IfSome, IfOk, IfErr, IsUtf8, Ok, []};
 ghost use Rattle.cs_base.specs.Outside.{ReadsOnly};
 ghost use Rattle.cs_base.specs.Edit.{IsKept};
-ghost use Rattle.rename_rules.specs.Renaming.{IsRenaming};
+ghost use Rattle.kept_meaning_laws.specs.Below.rename_rules.Renaming.{IsRenaming};
 ghost use Rattle.cscout_run.specs.Answer.{IsRenameAnswer, IsRequestAnswer};
 ghost use Rattle.command_words.specs.Asking.{request_value, rename_value, workspace_file};
 ghost use Rattle.command_words.specs.Request.{renaming_asked};

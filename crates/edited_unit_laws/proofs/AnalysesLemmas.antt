@@ -1,18 +1,18 @@
 -- An analysis is the texts of its units, each read and bound; so that of the edited files is the renamed one.
 use Rattle.std.proofs.Common.{◌≡◌, ℕ, ◌+◌, List, [], ◌∷◌, map, Result, Ok, Err, refl, ap, sym, subst, ◌∙◌}
-use Rattle.cs_base.specs.Answer.{result_then, result_map_err}
-use Rattle.macro_expand.specs.Renaming.{Renaming}
-use Rattle.source_files.specs.Faults.{Fault}
-use Rattle.source_files.specs.Files.{Table, nothing_carried}
-use Rattle.source_files.specs.Tables.{IsGrown}
-use Rattle.unit_steps.specs.Texts.{UnitTextValue}
-use Rattle.include_tree.specs.Preprocessed.{Preprocessed}
-use Rattle.source_files.proofs.TableLemmas.{grown_refl}
-use Rattle.c99_read.specs.Reading.{Stop, read_of}
-use Rattle.c99_grammar.specs.Standard.{c99}
-use Rattle.scope_bind.specs.Named.{Fault as BindFault}
-use Rattle.scope_bind.specs.Bound.{Bound, binding_of}
-use Rattle.scope_bind.specs.Causes.{cause_of, index_of}
+use Rattle.ws_core.specs.Below.cs_base.Answer.{result_then, result_map_err}
+use Rattle.ws_core.specs.Below.macro_expand.Renaming.{Renaming}
+use Rattle.ws_core.specs.Below.source_files.Faults.{Fault}
+use Rattle.ws_core.specs.Below.source_files.Files.{Table, nothing_carried}
+use Rattle.ws_core.specs.Below.source_files.Tables.{IsGrown}
+use Rattle.ws_core.specs.Below.unit_steps.Texts.{UnitTextValue}
+use Rattle.ws_core.specs.Below.include_tree.Preprocessed.{Preprocessed}
+use Rattle.ws_core.proofs.Below.source_files.TableLemmas.{grown_refl}
+use Rattle.ws_core.specs.Below.c99_read.Reading.{Stop, read_of}
+use Rattle.ws_core.specs.Below.c99_grammar.Standard.{c99}
+use Rattle.ws_core.specs.Below.scope_bind.Named.{Fault as BindFault}
+use Rattle.ws_core.specs.Below.scope_bind.Bound.{Bound, binding_of}
+use Rattle.ws_core.specs.Below.scope_bind.Causes.{cause_of, index_of}
 use Rattle.ws_core.specs.Texts.{TextsValue, texts_and, UnitFault, unit_fault, with_front, unit_with, texts_from}
 use Rattle.ws_core.specs.Analysis.{UnitAnalysis, unit_analysis, UnitsValue, units_and, AnalysisValue, analysis_and, with_unit, fault_at_index, bound_unit, read_unit, unit_read, stop_index, stop_cause, analysed_from}
 use Rattle.edited_unit_laws.specs.Lines.{Each}

@@ -5,15 +5,15 @@ use Rattle.std.specs.Fmt.{decimal}
 use Rattle.std.specs.List.{flat_map}
 use Rattle.std.specs.Option.{option_map}
 use Rattle.std.specs.Str.{bytes_eq}
-use Rattle.cs_base.specs.declared.positions.Pos.{Pos}
-use Rattle.cs_base.specs.declared.tokens.Kind.TheVariants.{Number}
-use Rattle.cs_base.specs.Token.{Token, token}
-use Rattle.macro_expand.specs.Renaming.{Renaming, spelled, renamed}
-use Rattle.macro_body.specs.Substitution.{digit_origins, line_number}
-use Rattle.unit_steps.specs.declared.events.Event.{Event}
-use Rattle.unit_steps.specs.declared.events.EventKind.{EventKind}
-use Rattle.unit_steps.specs.declared.events.EventKind.TheVariants as kind
-use Rattle.source_files.specs.Files.{Entry, Table}
+use Rattle.ws_core.specs.Below.cs_base.declared.positions.Pos.{Pos}
+use Rattle.ws_core.specs.Below.cs_base.declared.tokens.Kind.TheVariants.{Number}
+use Rattle.ws_core.specs.Below.cs_base.Token.{Token, token}
+use Rattle.ws_core.specs.Below.macro_expand.Renaming.{Renaming, spelled, renamed}
+use Rattle.ws_core.specs.Below.macro_body.Substitution.{digit_origins, line_number}
+use Rattle.ws_core.specs.Below.unit_steps.declared.events.Event.{Event}
+use Rattle.ws_core.specs.Below.unit_steps.declared.events.EventKind.{EventKind}
+use Rattle.ws_core.specs.Below.unit_steps.declared.events.EventKind.TheVariants as kind
+use Rattle.ws_core.specs.Below.source_files.Files.{Entry, Table}
 use Rattle.ws_core.specs.Analysis.{UnitAnalysis}
 use Rattle.ws_core.specs.FileTokens.{entry_tokens, table_tokens, number_for, number_of_event, numbers_brought, file_tokens}
 use Rattle.edited_unit_laws.specs.Lines.{Each}

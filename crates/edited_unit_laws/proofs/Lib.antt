@@ -29,3 +29,5 @@ mod OpenLemmas
 mod IncludeLemmas
 mod WalkLemmas
 mod StepLaws
+-- Words of the crates below, passed on.
+pub mod Below

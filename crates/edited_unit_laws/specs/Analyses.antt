@@ -1,14 +1,14 @@
 -- The analysis of a workspace over edited files (ISO/IEC 9899:1999, 5.1.1.2 phases 4 and 7).
 use Rattle.std.specs.Prelude.{◌≡◌, ℕ, List, map, Ok}
-use Rattle.cs_base.specs.Units.{UnitValue}
-use Rattle.ws_file.specs.Workspace.{WorkspaceValue}
-use Rattle.macro_expand.specs.Renaming.{Renaming}
-use Rattle.source_files.specs.Files.{Source, Table, Carried, nothing_carried}
-use Rattle.source_files.specs.Tables.{IsGrown}
-use Rattle.unit_steps.specs.Texts.{UnitTextValue}
-use Rattle.c99_read.specs.Reading.{read_of}
-use Rattle.c99_grammar.specs.Standard.{c99}
-use Rattle.scope_bind.specs.Bound.{binding_of}
+use Rattle.ws_core.specs.Below.cs_base.Units.{UnitValue}
+use Rattle.ws_core.specs.Below.ws_file.Workspace.{WorkspaceValue}
+use Rattle.ws_core.specs.Below.macro_expand.Renaming.{Renaming}
+use Rattle.ws_core.specs.Below.source_files.Files.{Source, Table, Carried, nothing_carried}
+use Rattle.ws_core.specs.Below.source_files.Tables.{IsGrown}
+use Rattle.ws_core.specs.Below.unit_steps.Texts.{UnitTextValue}
+use Rattle.ws_core.specs.Below.c99_read.Reading.{read_of}
+use Rattle.ws_core.specs.Below.c99_grammar.Standard.{c99}
+use Rattle.ws_core.specs.Below.scope_bind.Bound.{binding_of}
 use Rattle.ws_core.specs.Texts.{texts_and, texts_from}
 use Rattle.ws_core.specs.Analysis.{UnitAnalysis, unit_analysis, UnitsValue, units_and, AnalysisValue, analysis_and, analysed_from, analysis_of}
 use Rattle.edited_unit_laws.specs.Lines.{Each}

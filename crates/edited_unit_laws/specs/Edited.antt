@@ -1,7 +1,7 @@
 -- The table of files behind an edit (this project's): paths and numbers stay, and each file that is there has its
 -- edited bytes.
 use Rattle.std.specs.Prelude.{ℕ, suc, List, [], ◌∷◌}
-use Rattle.source_files.specs.Files.{Found, Lines, Absent, Unopened, Opened, Made, entry, Table, Carried, carried}
+use Rattle.ws_core.specs.Below.source_files.Files.{Found, Lines, Absent, Unopened, Opened, Made, entry, Table, Carried, carried}
 
 -- How files are edited: the new bytes, by the number of a file and its bytes.
 abbrev pub Editing : Type 0

@@ -1,12 +1,12 @@
 -- Files in which the members of a class are spelled otherwise (ISO/IEC 9899:1999, 5.1.1.2 phases 1 to 3).
 use Rattle.std.specs.Prelude.{ℕ, ◌≡◌, List, length, map}
 use Rattle.std.specs.Option.{option_map}
-use Rattle.cs_base.specs.declared.positions.Part.{Part}
-use Rattle.cs_base.specs.Token.{Token, token}
-use Rattle.part_lexer.specs.Logical.{logical_of, spelling}
-use Rattle.part_lexer.specs.Places.{pos, origins_from}
-use Rattle.part_lexer.specs.Respelling.{KeepsPieces, moved}
-use Rattle.part_lexer.specs.Tokens.{tokens_of, firsts_of, open_comment_of}
+use Rattle.ws_core.specs.Below.cs_base.declared.positions.Part.{Part}
+use Rattle.ws_core.specs.Below.cs_base.Token.{Token, token}
+use Rattle.ws_core.specs.Below.part_lexer.Logical.{logical_of, spelling}
+use Rattle.ws_core.specs.Below.part_lexer.Places.{pos, origins_from}
+use Rattle.ws_core.specs.Below.part_lexer.Respelling.{KeepsPieces, moved}
+use Rattle.ws_core.specs.Below.part_lexer.Tokens.{tokens_of, firsts_of, open_comment_of}
 use Rattle.part_respell.specs.Respelled.{put_of, respelled, spelled}
 
 -- the place to which a character of the file moves

@@ -2,21 +2,21 @@
 use Rattle.std.specs.Prelude.{ℕ, ◌≡◌, ◌≤◌, true, false, List, map, Option, Some, codes}
 use Rattle.std.specs.List.{list_all}
 use Rattle.std.specs.Option.{is_none}
-use Rattle.cs_base.specs.declared.positions.Pos.{Pos}
-use Rattle.cs_base.specs.declared.tokens.Kind.{Kind}
-use Rattle.cs_base.specs.Token.{Token}
-use Rattle.part_lexer.specs.FileText.{TextValue}
-use Rattle.part_lexer.specs.Places.{pos}
-use Rattle.line_shape.specs.Signs.{is_name, is_identifier, is_punctuator}
-use Rattle.line_shape.specs.Items.{lines_of}
-use Rattle.macro_body.specs.Notes as expansion
-use Rattle.macro_expand.specs.Renaming.{Renaming, spelled, renamed, Occurring, occurs, Respects}
-use Rattle.macro_body.specs.Substitution.{digit_origins}
-use Rattle.source_files.specs.Files.{Source, Table, SourceFile, source_file, bytes_opened}
-use Rattle.source_files.specs.Tables.{AreFound}
-use Rattle.source_files.specs.Limits.{the_limits}
-use Rattle.unit_steps.specs.Notes.{Note, Happened, Defined, Undefined, Tested, Left, Named}
-use Rattle.source_files.specs.Sources.{source_at}
+use Rattle.ws_core.specs.Below.cs_base.declared.positions.Pos.{Pos}
+use Rattle.ws_core.specs.Below.cs_base.declared.tokens.Kind.{Kind}
+use Rattle.ws_core.specs.Below.cs_base.Token.{Token}
+use Rattle.ws_core.specs.Below.part_lexer.FileText.{TextValue}
+use Rattle.ws_core.specs.Below.part_lexer.Places.{pos}
+use Rattle.ws_core.specs.Below.line_shape.Signs.{is_name, is_identifier, is_punctuator}
+use Rattle.ws_core.specs.Below.line_shape.Items.{lines_of}
+use Rattle.ws_core.specs.Below.macro_body.Notes as expansion
+use Rattle.ws_core.specs.Below.macro_expand.Renaming.{Renaming, spelled, renamed, Occurring, occurs, Respects}
+use Rattle.ws_core.specs.Below.macro_body.Substitution.{digit_origins}
+use Rattle.ws_core.specs.Below.source_files.Files.{Source, Table, SourceFile, source_file, bytes_opened}
+use Rattle.ws_core.specs.Below.source_files.Tables.{AreFound}
+use Rattle.ws_core.specs.Below.source_files.Limits.{the_limits}
+use Rattle.ws_core.specs.Below.unit_steps.Notes.{Note, Happened, Defined, Undefined, Tested, Left, Named}
+use Rattle.ws_core.specs.Below.source_files.Sources.{source_at}
 use Rattle.edited_unit_laws.specs.Lines.{Each, KeepsToken, KeepsLine}
 use Rattle.edited_unit_laws.specs.Edited.{Editing, edited_table}
 

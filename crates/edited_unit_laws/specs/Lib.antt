@@ -16,3 +16,5 @@ pub mod Analyses
 pub mod Links
 pub mod FileTokens
 pub mod Alone
+-- Words of the crates below, passed on.
+pub mod Below

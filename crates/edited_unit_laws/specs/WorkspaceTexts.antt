@@ -1,13 +1,13 @@
 -- The units of a workspace over edited files (ISO/IEC 9899:1999, 5.1.1.2 phase 4).
 use Rattle.std.specs.Prelude.{◌≡◌, ℕ, ◌+◌, List, [], ◌∷◌, length, map, Ok}
-use Rattle.cs_base.specs.Token.{Token}
-use Rattle.cs_base.specs.Units.{UnitValue}
-use Rattle.part_lexer.specs.FileText.{file_text}
-use Rattle.source_files.specs.Files.{Source, Carried, carried, nothing_carried}
-use Rattle.source_files.specs.Tables.{IsGrown}
-use Rattle.source_files.specs.Limits.{the_limits}
-use Rattle.unit_steps.specs.State.{Did}
-use Rattle.include_tree.specs.Unit.{unit_outcome}
+use Rattle.ws_core.specs.Below.cs_base.Token.{Token}
+use Rattle.ws_core.specs.Below.cs_base.Units.{UnitValue}
+use Rattle.ws_core.specs.Below.part_lexer.FileText.{file_text}
+use Rattle.ws_core.specs.Below.source_files.Files.{Source, Carried, carried, nothing_carried}
+use Rattle.ws_core.specs.Below.source_files.Tables.{IsGrown}
+use Rattle.ws_core.specs.Below.source_files.Limits.{the_limits}
+use Rattle.ws_core.specs.Below.unit_steps.State.{Did}
+use Rattle.ws_core.specs.Below.include_tree.Unit.{unit_outcome}
 use Rattle.ws_core.specs.Texts.{TextsValue, texts_and, texts_from, texts_of}
 use Rattle.edited_unit_laws.specs.Lines.{Each}
 use Rattle.edited_unit_laws.specs.Edited.{edited_table, edited_carried}

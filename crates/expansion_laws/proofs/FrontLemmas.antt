@@ -3,9 +3,9 @@ use Rattle.std.proofs.Common.{◌≡◌, ℕ, zero, suc, ◌+◌, ◌-◌, ◌�
 use Rattle.std.specs.List.{list_all}
 use Rattle.std.proofs.lemmas.Bool.{cases_Bool, cases_eq}
 use Rattle.std.proofs.lemmas.Bool.Decides.{nat_tests}
-use Rattle.cs_base.specs.declared.tokens.Kind.{Kind}
-use Rattle.cs_base.specs.declared.tokens.Kind.TheVariants.{Ident, Number, Char, Str, Punct, Header, Other}
-use Rattle.cs_base.specs.Token.{Token}
+use Rattle.macro_expand.specs.Below.cs_base.declared.tokens.Kind.{Kind}
+use Rattle.macro_expand.specs.Below.cs_base.declared.tokens.Kind.TheVariants.{Ident, Number, Char, Str, Punct, Header, Other}
+use Rattle.macro_expand.specs.Below.cs_base.Token.{Token}
 use Rattle.part_lexer.specs.Characters.{line_feed, carriage_return, backslash, slash, star, is_white, begins}
 use Rattle.part_lexer.specs.Spelling.{kind_of, kind_in}
 use Rattle.part_lexer.specs.Logical.{Character, new_line_length, gone_length, logical_from, logical_of, spelling, line_at}

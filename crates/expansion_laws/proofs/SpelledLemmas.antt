@@ -4,7 +4,7 @@ use Rattle.std.specs.Prelude.{codes}
 use Rattle.std.proofs.lemmas.Bool.{cases_Bool, cases_lt, eqb-true}
 use Rattle.std.proofs.lemmas.Bool.Decides.{nat_tests}
 use Rattle.std.proofs.Math.Seq.{take-append_seam}
-use Rattle.cs_base.specs.declared.tokens.Kind.{Kind}
+use Rattle.macro_expand.specs.Below.cs_base.declared.tokens.Kind.{Kind}
 use Rattle.part_lexer.specs.Characters.{carriage_return, backslash, less_than, slash, star, capital_l, is_white, is_quote, begins}
 use Rattle.part_lexer.specs.Spelling.{kind_of}
 use Rattle.part_lexer.specs.Logical.{logical_from, logical_of, gone_length, spelling}

@@ -3,11 +3,11 @@ use Rattle.std.proofs.Common.{◌≡◌, ℕ, zero, suc, ◌-◌, Bool, true, fa
 use Rattle.std.specs.Prelude.{replicate}
 use Rattle.std.specs.List.{list_all}
 use Rattle.std.specs.Option.{is_none}
-use Rattle.cs_base.specs.declared.positions.Pos.{Pos}
-use Rattle.cs_base.specs.Token.{Token}
+use Rattle.macro_expand.specs.Below.cs_base.declared.positions.Pos.{Pos}
+use Rattle.macro_expand.specs.Below.cs_base.Token.{Token}
 use Rattle.part_lexer.specs.OneToken.{one_token_of}
-use Rattle.paste_origin.specs.Strings.{StringFault, NotAString, stringize_of, is_string, string_text, string_token}
-use Rattle.macro_body.specs.Notes.{Note, Linked}
+use Rattle.macro_expand.specs.Below.paste_origin.Strings.{StringFault, NotAString, stringize_of, is_string, string_text, string_token}
+use Rattle.macro_expand.specs.Below.macro_body.Notes.{Note, Linked}
 use Rattle.macro_expand.specs.Expansion.{Setting}
 use Rattle.expansion_laws.specs.Telling.{StandUnderNames, AreAlike, LinksAreAlike, DidHappen, NotesAreTrue}
 use Rattle.expansion_laws.proofs.ListLemmas.{AllToks, each_tok, notes_at, all_notes}

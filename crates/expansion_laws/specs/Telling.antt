@@ -2,13 +2,13 @@
 use Rattle.std.specs.Prelude.{◌≡◌, ℕ, true, List, Ok, Some, slice_get}
 use Rattle.std.specs.List.{list_all}
 use Rattle.std.specs.Option.{is_none}
-use Rattle.cs_base.specs.Token.{Token}
-use Rattle.line_shape.specs.Signs.{is_name}
-use Rattle.paste_origin.specs.Pasting.{glue_of}
-use Rattle.paste_origin.specs.Strings.{stringize_of}
-use Rattle.macro_body.specs.declared.definitions.Definition.{Definition}
-use Rattle.macro_body.specs.Macro.{Table}
-use Rattle.macro_body.specs.Notes.{Note, Replaced, Linked, Stringized, Pasted, Expanded}
+use Rattle.macro_expand.specs.Below.cs_base.Token.{Token}
+use Rattle.macro_expand.specs.Below.line_shape.Signs.{is_name}
+use Rattle.macro_expand.specs.Below.paste_origin.Pasting.{glue_of}
+use Rattle.macro_expand.specs.Below.paste_origin.Strings.{stringize_of}
+use Rattle.macro_expand.specs.Below.macro_body.declared.definitions.Definition.{Definition}
+use Rattle.macro_expand.specs.Below.macro_body.Macro.{Table}
+use Rattle.macro_expand.specs.Below.macro_body.Notes.{Note, Replaced, Linked, Stringized, Pasted, Expanded}
 use Rattle.macro_expand.specs.Expansion.{links_name, expansion}
 
 -- the note is one of these

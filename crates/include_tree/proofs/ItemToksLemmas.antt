@@ -7,7 +7,7 @@ use Rattle.std.proofs.lemmas.Bool.{cases_Bool}
 use Rattle.std.proofs.lemmas.Option.{slice_get-map, slice_get_read, slice_get_past, same_Some}
 use Rattle.std.proofs.lemmas.List.Elements.{All-same}
 use Rattle.cs_base.specs.Token.{Token}
-use Rattle.part_lexer.specs.FileText.{TextValue, LexFault, file_text}
+use Rattle.unit_steps.specs.Below.part_lexer.FileText.{TextValue, LexFault, file_text}
 use Rattle.line_shape.specs.declared.items.Item.{Item}
 use Rattle.line_shape.specs.declared.items.ItemKind.TheVariants.{Define}
 use Rattle.line_shape.specs.Signs.{is_close, is_ellipsis}
@@ -15,10 +15,10 @@ use Rattle.line_shape.specs.MacroLine.{MacroParts, macro, is_function_like, is_p
 use Rattle.line_shape.specs.Directives.{is_run}
 use Rattle.line_shape.specs.Items.{line_kind, items_of}
 use Rattle.line_shape.proofs.CoverLemmas.{Follow-items_of, Follow-within}
-use Rattle.macro_body.specs.declared.definitions.Definition.{Definition}
-use Rattle.macro_body.specs.Defining.{defined_by, definition_of}
-use Rattle.macro_body.specs.Sound.{is_traced, is_low}
-use Rattle.macro_expand.proofs.TracedLemmas.{list_all-left, IsLine, lines-items_of}
+use Rattle.unit_steps.specs.Below.macro_body.declared.definitions.Definition.{Definition}
+use Rattle.unit_steps.specs.Below.macro_body.Defining.{defined_by, definition_of}
+use Rattle.unit_steps.specs.Below.macro_body.Sound.{is_traced, is_low}
+use Rattle.unit_steps.proofs.Below.macro_expand.TracedLemmas.{list_all-left, IsLine, lines-items_of}
 use Rattle.source_files.specs.KeptFiles.{KeptValue}
 use Rattle.source_files.specs.Files.{source_file}
 use Rattle.source_files.specs.Sources.{read_as, source_kept}

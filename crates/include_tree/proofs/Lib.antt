@@ -15,3 +15,5 @@ pub mod WalksLemmas
 pub mod StayLemmas
 pub mod StayingWalk
 pub mod PseudoLemmas
+-- Words of the crates below, passed on.
+pub mod Below

@@ -2,7 +2,7 @@
 use Rattle.std.proofs.Common.{◌≡◌, ℕ, nat_le, cond, Bool, true, false, List, [], ◌∷◌, Option, None, Some, Result, Ok, Err, refl, arith}
 use Rattle.cs_base.specs.declared.causes.Cause.TheVariants.{TooManyFiles, TooManyBytes}
 use Rattle.cs_base.specs.declared.positions.Place.{Place}
-use Rattle.part_lexer.specs.FileText.{TextValue, LexFault, FileTooLarge, OpenComment}
+use Rattle.unit_steps.specs.Below.part_lexer.FileText.{TextValue, LexFault, FileTooLarge, OpenComment}
 use Rattle.source_files.specs.Limits.{Limits}
 use Rattle.source_files.specs.Files.{Source, Found, Lines, Absent, Unopened, Opened, Made, Table, SourceFile, found_at, opened, asked, number_of, files_opened}
 use Rattle.source_files.specs.Faults.{Fault, fault}

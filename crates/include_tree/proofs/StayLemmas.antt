@@ -8,14 +8,14 @@ use Rattle.cs_base.specs.declared.causes.Cause.TheVariants.{DefinedFromMacro, To
 use Rattle.cs_base.specs.declared.positions.Place.{Place}
 use Rattle.cs_base.specs.declared.positions.Pos.{Pos}
 use Rattle.cs_base.specs.Token.{Token}
-use Rattle.part_lexer.specs.FileText.{TextValue, LexFault, FileTooLarge, OpenComment}
+use Rattle.unit_steps.specs.Below.part_lexer.FileText.{TextValue, LexFault, FileTooLarge, OpenComment}
 use Rattle.line_shape.specs.Signs.{is_name}
-use Rattle.cond_eval.specs.declared.faults.CondFault.{CondFault}
-use Rattle.cond_eval.specs.Evaluation.{condition}
-use Rattle.macro_body.specs.declared.definitions.Definition.{Definition}
-use Rattle.macro_body.specs.Notes as expansion
-use Rattle.macro_expand.specs.Expansion.{expansion}
-use Rattle.macro_body.specs.Defining.{defined_by}
+use Rattle.unit_steps.specs.Below.cond_eval.declared.faults.CondFault.{CondFault}
+use Rattle.unit_steps.specs.Below.cond_eval.Evaluation.{condition}
+use Rattle.unit_steps.specs.Below.macro_body.declared.definitions.Definition.{Definition}
+use Rattle.unit_steps.specs.Below.macro_body.Notes as expansion
+use Rattle.unit_steps.specs.Below.macro_expand.Expansion.{expansion}
+use Rattle.unit_steps.specs.Below.macro_body.Defining.{defined_by}
 use Rattle.source_files.specs.Limits.{Limits}
 use Rattle.source_files.specs.Files.{Source, Found, Lines, Absent, Unopened, Opened, Made, Table, SourceFile, found_at, opened, asked, number_of, files_opened}
 use Rattle.source_files.specs.Faults.{Fault, fault, fault_at}

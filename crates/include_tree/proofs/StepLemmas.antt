@@ -6,16 +6,16 @@ use Rattle.cs_base.specs.declared.causes.Cause.TheVariants.{DefinedFromMacro}
 use Rattle.cs_base.specs.declared.positions.Pos.{Pos}
 use Rattle.cs_base.specs.Token.{Token}
 use Rattle.line_shape.specs.Signs.{is_name}
-use Rattle.cond_eval.specs.declared.faults.CondFault.{CondFault}
-use Rattle.cond_eval.specs.Evaluation.{condition}
-use Rattle.macro_body.specs.declared.definitions.Definition.{Definition}
-use Rattle.macro_body.specs.Hides.{unhidden}
-use Rattle.macro_body.specs.Macro.{Table as Macros}
-use Rattle.macro_body.specs.Notes as expansion
-use Rattle.macro_expand.specs.Expansion.{expansion}
-use Rattle.macro_body.specs.Defining.{defined_by}
-use Rattle.macro_body.specs.Live.{with_macro, without_macro}
-use Rattle.macro_expand.proofs.WholeLemmas.{whole_falls}
+use Rattle.unit_steps.specs.Below.cond_eval.declared.faults.CondFault.{CondFault}
+use Rattle.unit_steps.specs.Below.cond_eval.Evaluation.{condition}
+use Rattle.unit_steps.specs.Below.macro_body.declared.definitions.Definition.{Definition}
+use Rattle.unit_steps.specs.Below.macro_body.Hides.{unhidden}
+use Rattle.unit_steps.specs.Below.macro_body.Macro.{Table as Macros}
+use Rattle.unit_steps.specs.Below.macro_body.Notes as expansion
+use Rattle.unit_steps.specs.Below.macro_expand.Expansion.{expansion}
+use Rattle.unit_steps.specs.Below.macro_body.Defining.{defined_by}
+use Rattle.unit_steps.specs.Below.macro_body.Live.{with_macro, without_macro}
+use Rattle.unit_steps.proofs.Below.macro_expand.WholeLemmas.{whole_falls}
 use Rattle.source_files.specs.Files.{SourceFile}
 use Rattle.source_files.specs.Faults.{fault_at}
 use Rattle.unit_steps.specs.State.{Context, State, Outcome, onward}

@@ -12,3 +12,5 @@ pub mod GivenFiles
 pub mod ItemTexts
 pub mod OpenSections
 pub mod Walking
+-- Words of the crates below, passed on.
+pub mod Below

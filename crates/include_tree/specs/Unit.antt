@@ -2,7 +2,7 @@
 use Rattle.std.specs.Prelude.{ℕ, ◌-◌, List, [], ◌++◌}
 use Rattle.cs_base.specs.Token.{Token}
 use Rattle.cs_base.specs.Units.{UnitValue, defines_text}
-use Rattle.macro_body.specs.Defining.{first_macros}
+use Rattle.unit_steps.specs.Below.macro_body.Defining.{first_macros}
 use Rattle.source_files.specs.Limits.{Limits}
 use Rattle.source_files.specs.Files.{Source, Made, Table, Carried, defines_path, numbered, asked}
 use Rattle.source_files.specs.Faults.{first_place}

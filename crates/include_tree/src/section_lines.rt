@@ -2,7 +2,7 @@
 ghost use Rattle.std.specs.Prelude.{◌≡◌, false, ◌∷◌, [], ◌&&◌, List, IsTrue, IfOk, IfErr};
 ghost use Rattle.std.specs.List.{list_all};
 ghost use Rattle.cs_base.specs.Answer.{Gives};
-ghost use Rattle.macro_body.specs.Sound.{is_traced, is_low};
+ghost use Rattle.unit_steps.specs.Below.macro_body.Sound.{is_traced, is_low};
 ghost use Rattle.source_files.specs.Files.{Table};
 ghost use Rattle.unit_steps.specs.State.{only};
 ghost use Rattle.include_tree.specs.Sections.{Section, section, Awaited, turn_of, turn_of_bad};

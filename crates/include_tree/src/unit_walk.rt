@@ -2,7 +2,7 @@
 ghost use Rattle.std.specs.Prelude.{◌≡◌, None, true, IfOk, IfErr, IsSome, OnErr};
 ghost use Rattle.cs_base.specs.Answer.{Gives};
 ghost use Rattle.cs_base.specs.Units.{defines_text};
-ghost use Rattle.part_lexer.specs.FileText.{file_text};
+ghost use Rattle.unit_steps.specs.Below.part_lexer.FileText.{file_text};
 ghost use Rattle.cs_base.specs.Outside.{ReadsOnly};
 ghost use Rattle.source_files.specs.Limits.{the_limits};
 ghost use Rattle.source_files.specs.Files.{Source, Made, defines_path, found_at, numbered, asked};

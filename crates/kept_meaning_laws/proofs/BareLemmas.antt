@@ -5,21 +5,21 @@ use Rattle.std.specs.List.{flat_map, list_any}
 use Rattle.std.specs.Option.{option_and_then, option_map_or}
 use Rattle.std.specs.Str.{bytes_eq}
 use Rattle.std.proofs.lemmas.Bool.{cases_Bool, both_ways, false≢true, and_parts, and_from, or_cases, or_left, or_right, ltb-false, le-leb}
-use Rattle.cs_base.proofs.FileMapLemmas.{bytes_eq-equal}
-use Rattle.cs_base.specs.declared.positions.Part.{Part}
-use Rattle.cs_base.specs.declared.positions.Pos.{Pos}
-use Rattle.cs_base.specs.Token.{Token}
-use Rattle.part_lexer.specs.Spelling.{is_identifier_text}
-use Rattle.line_shape.specs.Signs.{is_name}
-use Rattle.macro_expand.specs.Renaming.{Renaming, renamed}
-use Rattle.macro_expand.specs.Renaming as macros
-use Rattle.c_types.specs.declared.lists.Range.{Range}
-use Rattle.c_types.specs.Declarations.{spelling_at, alike}
+use Rattle.tree_laws.proofs.Below.cs_base.FileMapLemmas.{bytes_eq-equal}
+use Rattle.tree_laws.specs.Below.cs_base.declared.positions.Part.{Part}
+use Rattle.tree_laws.specs.Below.cs_base.declared.positions.Pos.{Pos}
+use Rattle.tree_laws.specs.Below.cs_base.Token.{Token}
+use Rattle.no_offence_laws.specs.Below.part_lexer.Spelling.{is_identifier_text}
+use Rattle.no_offence_laws.specs.Below.line_shape.Signs.{is_name}
+use Rattle.no_offence_laws.specs.Below.macro_expand.Renaming.{Renaming, renamed}
+use Rattle.no_offence_laws.specs.Below.macro_expand.Renaming as macros
+use Rattle.tree_laws.specs.Below.c_types.declared.lists.Range.{Range}
+use Rattle.tree_laws.specs.Below.c_types.Declarations.{spelling_at, alike}
 use Rattle.renamed_tree_laws.specs.Loose.{is_hidden, StaysWhole}
-use Rattle.ws_core.specs.Analysed.{Analysed}
-use Rattle.ws_core.specs.Analysis.{UnitAnalysis, AnalysisValue}
-use Rattle.rename_rules.specs.Offences.{is_shadow, hides_typedef, bare_place, bare_places, shadowed_places}
-use Rattle.rename_rules.specs.Tokens.{holds_member, holders, is_old_spelling, first_place}
+use Rattle.no_offence_laws.specs.Below.ws_core.Analysed.{Analysed}
+use Rattle.no_offence_laws.specs.Below.ws_core.Analysis.{UnitAnalysis, AnalysisValue}
+use Rattle.no_offence_laws.specs.Below.rename_rules.Offences.{is_shadow, hides_typedef, bare_place, bare_places, shadowed_places}
+use Rattle.no_offence_laws.specs.Below.rename_rules.Tokens.{holds_member, holders, is_old_spelling, first_place}
 use Rattle.no_offence_laws.specs.Allowed.{IsAllowed}
 use Rattle.no_offence_laws.specs.KeptTokens.{Spells}
 use Rattle.no_offence_laws.specs.Renamings.{KeepsUnedited}

@@ -1,22 +1,22 @@
 -- The renamed tokens of a unit are bound as before.
 use Rattle.std.proofs.Common.{◌≡◌, ℕ, true, List, map, Option, Some, sym, ap, subst, ◌∙◌}
 use Rattle.std.specs.Prelude.{slice_get}
-use Rattle.cs_base.specs.declared.positions.Part.{Part}
-use Rattle.cs_base.proofs.FileMapLemmas.{bytes_eq-equal}
-use Rattle.cs_base.specs.Token.{Token}
-use Rattle.line_shape.specs.Signs.{is_name}
-use Rattle.macro_expand.specs.Renaming.{Renaming, renamed}
-use Rattle.c99_grammar.specs.Standard.{c99}
-use Rattle.c99_read.specs.State.{base_at, is_identifier}
-use Rattle.scope_bind.specs.declared.bound.Name.{Name}
-use Rattle.c_types.specs.Declarations.{spelling_at, alike}
-use Rattle.scope_bind.specs.Names.{entity_at}
+use Rattle.tree_laws.specs.Below.cs_base.declared.positions.Part.{Part}
+use Rattle.tree_laws.proofs.Below.cs_base.FileMapLemmas.{bytes_eq-equal}
+use Rattle.tree_laws.specs.Below.cs_base.Token.{Token}
+use Rattle.no_offence_laws.specs.Below.line_shape.Signs.{is_name}
+use Rattle.no_offence_laws.specs.Below.macro_expand.Renaming.{Renaming, renamed}
+use Rattle.tree_laws.specs.Below.c99_grammar.Standard.{c99}
+use Rattle.tree_laws.specs.Below.c99_read.State.{base_at, is_identifier}
+use Rattle.tree_laws.specs.Below.scope_bind.declared.bound.Name.{Name}
+use Rattle.tree_laws.specs.Below.c_types.Declarations.{spelling_at, alike}
+use Rattle.tree_laws.specs.Below.scope_bind.Names.{entity_at}
 use Rattle.tree_laws.specs.RenamedNames.{IsRenamed}
 use Rattle.tree_laws.proofs.HeldNames.{spelled_as_entities}
 use Rattle.tree_laws.proofs.RenamedWalk.{renamed_bind_alike}
-use Rattle.part_respell.specs.Respelled.{spelled}
-use Rattle.ws_core.specs.Analysed.{Analysed}
-use Rattle.ws_core.specs.Analysis.{UnitAnalysis}
+use Rattle.no_offence_laws.specs.Below.part_respell.Respelled.{spelled}
+use Rattle.no_offence_laws.specs.Below.ws_core.Analysed.{Analysed}
+use Rattle.no_offence_laws.specs.Below.ws_core.Analysis.{UnitAnalysis}
 use Rattle.no_offence_laws.specs.Allowed.{IsAllowed}
 use Rattle.no_offence_laws.specs.KeptTokens.{Spells}
 use Rattle.no_offence_laws.specs.Renamings.{KeepsUnedited, renaming}

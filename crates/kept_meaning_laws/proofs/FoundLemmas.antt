@@ -6,29 +6,29 @@ use Rattle.std.specs.Str.{bytes_eq}
 use Rattle.std.proofs.lemmas.Bool.{cases_Bool}
 use Rattle.std.proofs.lemmas.List.Elements.{All-head, All-tail}
 use Rattle.std.proofs.lemmas.Option.{same_Some}
-use Rattle.cs_base.proofs.FileMapLemmas.{bytes_eq-equal}
-use Rattle.cs_base.specs.Token.{Token}
-use Rattle.cs_base.specs.Units.{UnitValue, IsUnit, defines_text}
-use Rattle.part_lexer.specs.FileText.{file_text}
-use Rattle.ws_file.specs.Workspace.{WorkspaceValue, IsWorkspace}
-use Rattle.source_files.specs.Faults.{Fault, first_place}
-use Rattle.source_files.specs.Files.{Source, SourceFile, Found, Unopened, Opened, Made, Table, Carried, nothing_carried, defines_path, numbered, found_at, found_in, asked, opened}
-use Rattle.include_tree.specs.Laws.{IfDone}
-use Rattle.source_files.specs.Tables.{AreFound}
-use Rattle.source_files.specs.Limits.{Limits, the_limits}
-use Rattle.include_tree.specs.OpeningStep.{open_file}
-use Rattle.include_tree.specs.PseudoFiles.{is_pseudo}
-use Rattle.unit_steps.specs.State.{Context, context, State, Outcome}
-use Rattle.source_files.specs.Opening.{Reader}
-use Rattle.include_tree.specs.Preprocessed.{Preprocessed, preprocessed, preprocessed_by}
-use Rattle.include_tree.specs.Unit.{first_state, outer_file, main_file, unit_outcome}
-use Rattle.include_tree.specs.Walk.{file_items}
-use Rattle.include_tree.proofs.OutcomeLemmas.{onward_done}
-use Rattle.include_tree.proofs.StayLemmas.{IsStable, Stays, open_file_stays}
-use Rattle.include_tree.proofs.StayingWalk.{files_stay}
-use Rattle.source_files.proofs.TableLemmas.{widens_asked, widens_opened}
-use Rattle.ws_core.specs.Analysis.{UnitsValue, AnalysisValue, analysis_and, with_unit, unit_read, analysed_from, analysis_of}
-use Rattle.ws_core.specs.Texts.{UnitFault, unit_fault, unit_with}
+use Rattle.tree_laws.proofs.Below.cs_base.FileMapLemmas.{bytes_eq-equal}
+use Rattle.tree_laws.specs.Below.cs_base.Token.{Token}
+use Rattle.tree_laws.specs.Below.cs_base.Units.{UnitValue, IsUnit, defines_text}
+use Rattle.no_offence_laws.specs.Below.part_lexer.FileText.{file_text}
+use Rattle.no_offence_laws.specs.Below.ws_file.Workspace.{WorkspaceValue, IsWorkspace}
+use Rattle.no_offence_laws.specs.Below.source_files.Faults.{Fault, first_place}
+use Rattle.no_offence_laws.specs.Below.source_files.Files.{Source, SourceFile, Found, Unopened, Opened, Made, Table, Carried, nothing_carried, defines_path, numbered, found_at, found_in, asked, opened}
+use Rattle.no_offence_laws.specs.Below.include_tree.Laws.{IfDone}
+use Rattle.no_offence_laws.specs.Below.source_files.Tables.{AreFound}
+use Rattle.no_offence_laws.specs.Below.source_files.Limits.{Limits, the_limits}
+use Rattle.no_offence_laws.specs.Below.include_tree.OpeningStep.{open_file}
+use Rattle.no_offence_laws.specs.Below.include_tree.PseudoFiles.{is_pseudo}
+use Rattle.no_offence_laws.specs.Below.unit_steps.State.{Context, context, State, Outcome}
+use Rattle.no_offence_laws.specs.Below.source_files.Opening.{Reader}
+use Rattle.no_offence_laws.specs.Below.include_tree.Preprocessed.{Preprocessed, preprocessed, preprocessed_by}
+use Rattle.no_offence_laws.specs.Below.include_tree.Unit.{first_state, outer_file, main_file, unit_outcome}
+use Rattle.no_offence_laws.specs.Below.include_tree.Walk.{file_items}
+use Rattle.no_offence_laws.proofs.Below.include_tree.OutcomeLemmas.{onward_done}
+use Rattle.no_offence_laws.proofs.Below.include_tree.StayLemmas.{IsStable, Stays, open_file_stays}
+use Rattle.no_offence_laws.proofs.Below.include_tree.StayingWalk.{files_stay}
+use Rattle.no_offence_laws.proofs.Below.source_files.TableLemmas.{widens_asked, widens_opened}
+use Rattle.no_offence_laws.specs.Below.ws_core.Analysis.{UnitsValue, AnalysisValue, analysis_and, with_unit, unit_read, analysed_from, analysis_of}
+use Rattle.no_offence_laws.specs.Below.ws_core.Texts.{UnitFault, unit_fault, unit_with}
 use Rattle.no_offence_laws.proofs.UnitsLemmas.{done_first, unmapped, ok_same}
 
 -- ---- all units

@@ -4,17 +4,17 @@ use Rattle.std.specs.List.{list_all}
 use Rattle.std.specs.Option.{option_map_or}
 use Rattle.std.proofs.lemmas.Bool.{and_parts, and_from, eq-eqb}
 use Rattle.std.proofs.lemmas.List.Folds.{list_all-append}
-use Rattle.cs_base.specs.declared.positions.Part.{Part}
-use Rattle.cs_base.specs.declared.positions.Pos.{Pos}
-use Rattle.cs_base.specs.declared.tokens.Kind.{Kind}
-use Rattle.cs_base.specs.declared.tokens.Kind.TheVariants.{Ident}
-use Rattle.part_lexer.specs.Characters.{is_nondigit, is_word}
-use Rattle.part_lexer.specs.Spelling.{is_identifier_text}
-use Rattle.line_shape.specs.Signs.{is_identifier}
-use Rattle.expansion_laws.specs.Spelled.{fits}
-use Rattle.part_respell.specs.Respelled.{member_over, put_in, put_at, put_for, spelled_from}
-use Rattle.ws_core.specs.Analysis.{AnalysisValue}
-use Rattle.ws_core.specs.Parts.{AreMembers, Begins}
+use Rattle.tree_laws.specs.Below.cs_base.declared.positions.Part.{Part}
+use Rattle.tree_laws.specs.Below.cs_base.declared.positions.Pos.{Pos}
+use Rattle.tree_laws.specs.Below.cs_base.declared.tokens.Kind.{Kind}
+use Rattle.tree_laws.specs.Below.cs_base.declared.tokens.Kind.TheVariants.{Ident}
+use Rattle.no_offence_laws.specs.Below.part_lexer.Characters.{is_nondigit, is_word}
+use Rattle.no_offence_laws.specs.Below.part_lexer.Spelling.{is_identifier_text}
+use Rattle.no_offence_laws.specs.Below.line_shape.Signs.{is_identifier}
+use Rattle.no_offence_laws.specs.Below.expansion_laws.Spelled.{fits}
+use Rattle.no_offence_laws.specs.Below.part_respell.Respelled.{member_over, put_in, put_at, put_for, spelled_from}
+use Rattle.no_offence_laws.specs.Below.ws_core.Analysis.{AnalysisValue}
+use Rattle.no_offence_laws.specs.Below.ws_core.Parts.{AreMembers, Begins}
 use Rattle.no_offence_laws.proofs.MemberLemmas.{over_begins}
 use Rattle.no_offence_laws.proofs.PutLemmas.{identifier_words, put_words}
 use Rattle.no_offence_laws.proofs.TracedLemmas.{AreChained}

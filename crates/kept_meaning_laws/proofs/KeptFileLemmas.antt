@@ -5,35 +5,35 @@ use Rattle.std.specs.List.{list_any, starts_with}
 use Rattle.std.specs.Option.{option_map, option_map_or, option_and_then}
 use Rattle.std.proofs.lemmas.Bool.{cases_Bool, cases_lt, both_ways, or_left, or_right, lt-ltb}
 use Rattle.std.proofs.lemmas.Option.{none-some, same_Some}
-use Rattle.cs_base.specs.declared.positions.Part.{Part}
-use Rattle.cs_base.specs.Token.{Token}
-use Rattle.part_lexer.specs.FileText.{TextValue, LexFault, FileTooLarge, most_bytes, file_text}
-use Rattle.part_lexer.specs.Logical.{gone_length}
-use Rattle.part_lexer.specs.Places.{pos}
-use Rattle.part_lexer.specs.Respelling.{Put, edited_from as bytes_edited, edited}
-use Rattle.part_lexer.specs.Tokens.{tokens_of, firsts_of}
-use Rattle.line_shape.specs.Items.{lines_of}
-use Rattle.source_files.specs.Files.{Source, SourceFile, source_file, Found, Lines, Absent, Unopened, Opened, Made, Entry, entry, Table}
-use Rattle.source_files.specs.KeptFiles.{KeptValue, kept, kept_in, kept_at}
-use Rattle.source_files.specs.Sources.{read_as, source_kept, source_at}
-use Rattle.unit_steps.specs.Texts.{UnitTextValue, text_of}
-use Rattle.include_tree.specs.PseudoFiles.{is_pseudo}
-use Rattle.eclass_map.specs.Positions.{holds}
-use Rattle.eclass_map.proofs.TokenFacts.{holding}
-use Rattle.part_respell.specs.Respelled.{member_over, put_in, put_of, respelled}
+use Rattle.tree_laws.specs.Below.cs_base.declared.positions.Part.{Part}
+use Rattle.tree_laws.specs.Below.cs_base.Token.{Token}
+use Rattle.no_offence_laws.specs.Below.part_lexer.FileText.{TextValue, LexFault, FileTooLarge, most_bytes, file_text}
+use Rattle.no_offence_laws.specs.Below.part_lexer.Logical.{gone_length}
+use Rattle.no_offence_laws.specs.Below.part_lexer.Places.{pos}
+use Rattle.no_offence_laws.specs.Below.part_lexer.Respelling.{Put, edited_from as bytes_edited, edited}
+use Rattle.no_offence_laws.specs.Below.part_lexer.Tokens.{tokens_of, firsts_of}
+use Rattle.no_offence_laws.specs.Below.line_shape.Items.{lines_of}
+use Rattle.no_offence_laws.specs.Below.source_files.Files.{Source, SourceFile, source_file, Found, Lines, Absent, Unopened, Opened, Made, Entry, entry, Table}
+use Rattle.no_offence_laws.specs.Below.source_files.KeptFiles.{KeptValue, kept, kept_in, kept_at}
+use Rattle.no_offence_laws.specs.Below.source_files.Sources.{read_as, source_kept, source_at}
+use Rattle.no_offence_laws.specs.Below.unit_steps.Texts.{UnitTextValue, text_of}
+use Rattle.no_offence_laws.specs.Below.include_tree.PseudoFiles.{is_pseudo}
+use Rattle.no_offence_laws.specs.Below.eclass_map.Positions.{holds}
+use Rattle.no_offence_laws.proofs.Below.eclass_map.TokenFacts.{holding}
+use Rattle.no_offence_laws.specs.Below.part_respell.Respelled.{member_over, put_in, put_of, respelled}
 use Rattle.analysis_laws.specs.Tables.{IsPseudoIfMade, MadeArePseudo}
 use Rattle.analysis_laws.proofs.MadeLemmas.{made_files_pseudo}
-use Rattle.edited_unit_laws.specs.EditedTokens.{moved_to}
-use Rattle.edited_unit_laws.specs.Lines.{Each, KeepsToken, KeepsLine}
-use Rattle.edited_unit_laws.proofs.EditedTokenLemmas.{edited_files_keep_tokens}
-use Rattle.edited_unit_laws.specs.Edited.{Editing, edited_found, edited_from, edited_table}
-use Rattle.edited_unit_laws.specs.EditedFiles.{HoldsEdited, IsEdited}
-use Rattle.edited_unit_laws.specs.Keeping.{Change, Fits, KeepsFile, KeepsFiles}
-use Rattle.edited_unit_laws.proofs.FoundLemmas.{edited_tables_are_found}
-use Rattle.edited_unit_laws.proofs.RespelledLemmas.{edited_files_are_kept}
-use Rattle.ws_core.specs.Analysed.{Analysed}
-use Rattle.ws_core.specs.Places.{is_read_only, is_read_only_path}
-use Rattle.ws_core.proofs.PlaceNameLemmas.{kept_number}
+use Rattle.no_offence_laws.specs.Below.edited_unit_laws.EditedTokens.{moved_to}
+use Rattle.no_offence_laws.specs.Below.edited_unit_laws.Lines.{Each, KeepsToken, KeepsLine}
+use Rattle.no_offence_laws.proofs.Below.edited_unit_laws.EditedTokenLemmas.{edited_files_keep_tokens}
+use Rattle.no_offence_laws.specs.Below.edited_unit_laws.Edited.{Editing, edited_found, edited_from, edited_table}
+use Rattle.no_offence_laws.specs.Below.edited_unit_laws.EditedFiles.{HoldsEdited, IsEdited}
+use Rattle.no_offence_laws.specs.Below.edited_unit_laws.Keeping.{Change, Fits, KeepsFile, KeepsFiles}
+use Rattle.no_offence_laws.proofs.Below.edited_unit_laws.FoundLemmas.{edited_tables_are_found}
+use Rattle.no_offence_laws.proofs.Below.edited_unit_laws.RespelledLemmas.{edited_files_are_kept}
+use Rattle.no_offence_laws.specs.Below.ws_core.Analysed.{Analysed}
+use Rattle.no_offence_laws.specs.Below.ws_core.Places.{is_read_only, is_read_only_path}
+use Rattle.no_offence_laws.proofs.Below.ws_core.PlaceNameLemmas.{kept_number}
 use Rattle.no_offence_laws.specs.Allowed.{IsAllowed}
 use Rattle.no_offence_laws.specs.KeptFiles.{WordsAreFree}
 use Rattle.no_offence_laws.specs.KeptLines.{LinesStayAlike}

@@ -4,36 +4,36 @@ use Rattle.std.specs.Prelude.{slice_get}
 use Rattle.std.specs.List.{flat_map, list_all}
 use Rattle.std.specs.Option.{is_none, option_map, option_map_or, option_and_then}
 use Rattle.std.proofs.lemmas.Bool.{eq-eqb}
-use Rattle.cs_base.specs.declared.positions.Part.{Part}
-use Rattle.cs_base.specs.declared.positions.Pos.{Pos}
-use Rattle.cs_base.specs.Token.{Token, origin_at}
-use Rattle.part_lexer.specs.Places.{pos, origins_from}
-use Rattle.part_lexer.specs.Spelling.{is_identifier_text}
-use Rattle.line_shape.specs.Signs.{is_name}
-use Rattle.macro_body.specs.Notes as expansion
-use Rattle.macro_expand.specs.Renaming.{renamed}
-use Rattle.macro_expand.specs.Renaming as macros
-use Rattle.unit_steps.specs.declared.events.Event.{Event}
-use Rattle.unit_steps.specs.declared.events.EventKind.TheVariants as kind
-use Rattle.source_files.specs.Files.{Source}
-use Rattle.source_files.specs.KeptFiles.{KeptValue, kept_at}
-use Rattle.unit_steps.specs.Notes.{Note, Reaches, Happened, Defined, Undefined, Tested, Left, Linked, Answered, Named, Entered, Exited, named_event, before_in, pasted_of, header_of, events_of}
-use Rattle.unit_steps.specs.State.{Did}
-use Rattle.unit_steps.specs.Texts.{UnitTextValue, unit_text}
-use Rattle.part_respell.specs.Respelled.{member_over, put_in, put_at}
-use Rattle.expansion_laws.proofs.ListLemmas.{toks_at}
-use Rattle.unit_laws.specs.UnitLinks.{IsIn}
-use Rattle.unit_laws.proofs.NoteLemmas.{flat_in}
-use Rattle.unit_laws.proofs.TokenLemmas.{unit_links_are_alike}
-use Rattle.unit_laws.specs.ToldNames.{IsTold, LinksAgree}
-use Rattle.unit_laws.proofs.ToldLemmas.{replacing_macros_are_linked}
-use Rattle.edited_unit_laws.specs.Lines.{Each}
-use Rattle.edited_unit_laws.specs.EditedFiles.{HoldsEdited}
-use Rattle.edited_unit_laws.specs.Keeping.{Change, KeepsNames, KeepsNote, KeepsUnit, GoesWell}
-use Rattle.edited_unit_laws.specs.UnitTexts.{MovesMacro}
-use Rattle.ws_core.specs.Analysed.{Analysed}
-use Rattle.ws_core.specs.Analysis.{UnitAnalysis, AnalysisValue}
-use Rattle.ws_core.specs.Parts.{Begins}
+use Rattle.tree_laws.specs.Below.cs_base.declared.positions.Part.{Part}
+use Rattle.tree_laws.specs.Below.cs_base.declared.positions.Pos.{Pos}
+use Rattle.tree_laws.specs.Below.cs_base.Token.{Token, origin_at}
+use Rattle.no_offence_laws.specs.Below.part_lexer.Places.{pos, origins_from}
+use Rattle.no_offence_laws.specs.Below.part_lexer.Spelling.{is_identifier_text}
+use Rattle.no_offence_laws.specs.Below.line_shape.Signs.{is_name}
+use Rattle.no_offence_laws.specs.Below.macro_body.Notes as expansion
+use Rattle.no_offence_laws.specs.Below.macro_expand.Renaming.{renamed}
+use Rattle.no_offence_laws.specs.Below.macro_expand.Renaming as macros
+use Rattle.no_offence_laws.specs.Below.unit_steps.declared.events.Event.{Event}
+use Rattle.no_offence_laws.specs.Below.unit_steps.declared.events.EventKind.TheVariants as kind
+use Rattle.no_offence_laws.specs.Below.source_files.Files.{Source}
+use Rattle.no_offence_laws.specs.Below.source_files.KeptFiles.{KeptValue, kept_at}
+use Rattle.no_offence_laws.specs.Below.unit_steps.Notes.{Note, Reaches, Happened, Defined, Undefined, Tested, Left, Linked, Answered, Named, Entered, Exited, named_event, before_in, pasted_of, header_of, events_of}
+use Rattle.no_offence_laws.specs.Below.unit_steps.State.{Did}
+use Rattle.no_offence_laws.specs.Below.unit_steps.Texts.{UnitTextValue, unit_text}
+use Rattle.no_offence_laws.specs.Below.part_respell.Respelled.{member_over, put_in, put_at}
+use Rattle.no_offence_laws.proofs.Below.expansion_laws.ListLemmas.{toks_at}
+use Rattle.no_offence_laws.specs.Below.unit_laws.UnitLinks.{IsIn}
+use Rattle.no_offence_laws.proofs.Below.unit_laws.NoteLemmas.{flat_in}
+use Rattle.no_offence_laws.proofs.Below.unit_laws.TokenLemmas.{unit_links_are_alike}
+use Rattle.no_offence_laws.specs.Below.unit_laws.ToldNames.{IsTold, LinksAgree}
+use Rattle.no_offence_laws.proofs.Below.unit_laws.ToldLemmas.{replacing_macros_are_linked}
+use Rattle.no_offence_laws.specs.Below.edited_unit_laws.Lines.{Each}
+use Rattle.no_offence_laws.specs.Below.edited_unit_laws.EditedFiles.{HoldsEdited}
+use Rattle.no_offence_laws.specs.Below.edited_unit_laws.Keeping.{Change, KeepsNames, KeepsNote, KeepsUnit, GoesWell}
+use Rattle.no_offence_laws.specs.Below.edited_unit_laws.UnitTexts.{MovesMacro}
+use Rattle.no_offence_laws.specs.Below.ws_core.Analysed.{Analysed}
+use Rattle.no_offence_laws.specs.Below.ws_core.Analysis.{UnitAnalysis, AnalysisValue}
+use Rattle.no_offence_laws.specs.Below.ws_core.Parts.{Begins}
 use Rattle.no_offence_laws.specs.Allowed.{IsAllowed}
 use Rattle.no_offence_laws.specs.KeptFiles.{WordsAreFree}
 use Rattle.no_offence_laws.specs.KeptLines.{LinesStayAlike}

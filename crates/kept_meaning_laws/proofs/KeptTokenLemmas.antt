@@ -6,40 +6,40 @@ use Rattle.std.specs.List.{flat_map, list_all}
 use Rattle.std.specs.Option.{is_none, option_and_then}
 use Rattle.std.specs.Str.{bytes_eq}
 use Rattle.std.proofs.lemmas.Bool.{cases_Bool}
-use Rattle.cs_base.proofs.FileMapLemmas.{bytes_eq-equal, bytes_eq-same}
-use Rattle.cs_base.specs.declared.positions.Part.{Part}
-use Rattle.cs_base.specs.declared.positions.Pos.{Pos}
-use Rattle.cs_base.specs.Token.{Token, has_origins}
-use Rattle.part_lexer.specs.Tokens.{tokens_of}
-use Rattle.paste_origin.specs.Strings.{string_text, string_token}
-use Rattle.line_shape.specs.Signs.{is_name}
-use Rattle.macro_body.specs.Notes as expansion
-use Rattle.macro_expand.specs.Renaming.{Renaming, renamed}
-use Rattle.macro_expand.specs.Renaming as macros
-use Rattle.macro_body.specs.Substitution.{put_in, path_text, path_string}
-use Rattle.unit_steps.specs.Conditions.{digit_of, digit_place}
-use Rattle.source_files.specs.Files.{SourceFile, Found, Lines, Absent, Unopened, Opened, Made, entry, Table}
-use Rattle.source_files.specs.KeptFiles.{KeptValue, kept, kept_in, kept_at}
-use Rattle.source_files.specs.Tables.{IsGrown}
-use Rattle.unit_steps.specs.Notes.{Note, Happened, pasted_of}
-use Rattle.source_files.specs.Sources.{source_at}
-use Rattle.unit_steps.specs.Texts.{UnitTextValue, unit_text}
-use Rattle.include_tree.proofs.StayingLemmas.{source-grown}
-use Rattle.expansion_laws.proofs.ListLemmas.{AllToks, each_tok}
-use Rattle.expansion_laws.proofs.TellingLemmas.{string_is}
-use Rattle.unit_laws.specs.UnitLinks.{IsIn}
-use Rattle.unit_laws.proofs.DoneLemmas.{UnitRules}
-use Rattle.unit_laws.proofs.NoteLemmas.{TextHas, EventHas, flat_in, in_at}
-use Rattle.unit_laws.proofs.PartLemmas.{from_files}
-use Rattle.unit_laws.proofs.TextLemmas.{IsText, text_is, unit_text_has}
-use Rattle.unit_laws.specs.ToldNames.{IsTold}
-use Rattle.part_respell.specs.Respelled.{respelled}
-use Rattle.edited_unit_laws.specs.Lines.{Each, KeepsToken}
-use Rattle.edited_unit_laws.proofs.EditedTokenLemmas.{edited_files_keep_tokens}
-use Rattle.edited_unit_laws.specs.FileTokens.{EntryIsRenamed, NamesLineAsBefore}
-use Rattle.edited_unit_laws.proofs.FileTokensLemmas.{file_tokens_are_renamed}
-use Rattle.ws_core.specs.Analysed.{Analysed}
-use Rattle.ws_core.specs.Analysis.{UnitAnalysis}
+use Rattle.tree_laws.proofs.Below.cs_base.FileMapLemmas.{bytes_eq-equal, bytes_eq-same}
+use Rattle.tree_laws.specs.Below.cs_base.declared.positions.Part.{Part}
+use Rattle.tree_laws.specs.Below.cs_base.declared.positions.Pos.{Pos}
+use Rattle.tree_laws.specs.Below.cs_base.Token.{Token, has_origins}
+use Rattle.no_offence_laws.specs.Below.part_lexer.Tokens.{tokens_of}
+use Rattle.no_offence_laws.specs.Below.paste_origin.Strings.{string_text, string_token}
+use Rattle.no_offence_laws.specs.Below.line_shape.Signs.{is_name}
+use Rattle.no_offence_laws.specs.Below.macro_body.Notes as expansion
+use Rattle.no_offence_laws.specs.Below.macro_expand.Renaming.{Renaming, renamed}
+use Rattle.no_offence_laws.specs.Below.macro_expand.Renaming as macros
+use Rattle.no_offence_laws.specs.Below.macro_body.Substitution.{put_in, path_text, path_string}
+use Rattle.no_offence_laws.specs.Below.unit_steps.Conditions.{digit_of, digit_place}
+use Rattle.no_offence_laws.specs.Below.source_files.Files.{SourceFile, Found, Lines, Absent, Unopened, Opened, Made, entry, Table}
+use Rattle.no_offence_laws.specs.Below.source_files.KeptFiles.{KeptValue, kept, kept_in, kept_at}
+use Rattle.no_offence_laws.specs.Below.source_files.Tables.{IsGrown}
+use Rattle.no_offence_laws.specs.Below.unit_steps.Notes.{Note, Happened, pasted_of}
+use Rattle.no_offence_laws.specs.Below.source_files.Sources.{source_at}
+use Rattle.no_offence_laws.specs.Below.unit_steps.Texts.{UnitTextValue, unit_text}
+use Rattle.no_offence_laws.proofs.Below.include_tree.StayingLemmas.{source-grown}
+use Rattle.no_offence_laws.proofs.Below.expansion_laws.ListLemmas.{AllToks, each_tok}
+use Rattle.no_offence_laws.proofs.Below.expansion_laws.TellingLemmas.{string_is}
+use Rattle.no_offence_laws.specs.Below.unit_laws.UnitLinks.{IsIn}
+use Rattle.no_offence_laws.proofs.Below.unit_laws.DoneLemmas.{UnitRules}
+use Rattle.no_offence_laws.proofs.Below.unit_laws.NoteLemmas.{TextHas, EventHas, flat_in, in_at}
+use Rattle.no_offence_laws.proofs.Below.unit_laws.PartLemmas.{from_files}
+use Rattle.no_offence_laws.proofs.Below.unit_laws.TextLemmas.{IsText, text_is, unit_text_has}
+use Rattle.no_offence_laws.specs.Below.unit_laws.ToldNames.{IsTold}
+use Rattle.no_offence_laws.specs.Below.part_respell.Respelled.{respelled}
+use Rattle.no_offence_laws.specs.Below.edited_unit_laws.Lines.{Each, KeepsToken}
+use Rattle.no_offence_laws.proofs.Below.edited_unit_laws.EditedTokenLemmas.{edited_files_keep_tokens}
+use Rattle.no_offence_laws.specs.Below.edited_unit_laws.FileTokens.{EntryIsRenamed, NamesLineAsBefore}
+use Rattle.no_offence_laws.proofs.Below.edited_unit_laws.FileTokensLemmas.{file_tokens_are_renamed}
+use Rattle.no_offence_laws.specs.Below.ws_core.Analysed.{Analysed}
+use Rattle.no_offence_laws.specs.Below.ws_core.Analysis.{UnitAnalysis}
 use Rattle.no_offence_laws.specs.Allowed.{IsAllowed}
 use Rattle.no_offence_laws.specs.KeptFiles.{WordsAreFree}
 use Rattle.no_offence_laws.specs.KeptTokens.{Spells}

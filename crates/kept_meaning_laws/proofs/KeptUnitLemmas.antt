@@ -1,30 +1,30 @@
 -- A renaming against which nothing stands keeps each unit of an analysis.
 use Rattle.std.proofs.Common.{◌≡◌, ℕ, suc, ◌+◌, ◌-◌, ◌≤◌, List, [], ◌∷◌, length, Option, Some, Ok, refl, sym, ap, subst, ◌∙◌, arith}
 use Rattle.std.specs.Prelude.{slice_get}
-use Rattle.cs_base.specs.declared.positions.Part.{Part}
-use Rattle.cs_base.specs.Token.{Token}
-use Rattle.cs_base.specs.Units.{UnitValue}
-use Rattle.part_lexer.specs.FileText.{file_text}
-use Rattle.source_files.specs.Faults.{Fault}
-use Rattle.source_files.specs.Files.{Source, Table, Carried, carried, nothing_carried}
-use Rattle.source_files.specs.Tables.{IsGrown}
-use Rattle.source_files.specs.Limits.{the_limits}
-use Rattle.unit_steps.specs.State.{Did}
-use Rattle.unit_steps.specs.Texts.{unit_text}
-use Rattle.include_tree.specs.Preprocessed.{Preprocessed, preprocessed, preprocessed_by}
-use Rattle.include_tree.specs.Unit.{unit_outcome}
-use Rattle.source_files.proofs.TableLemmas.{grown_refl, grown_trans}
-use Rattle.edited_unit_laws.specs.Lines.{Each}
-use Rattle.edited_unit_laws.specs.EditedFiles.{HoldsEdited}
-use Rattle.edited_unit_laws.specs.Keeping.{KeepsUnit}
-use Rattle.edited_unit_laws.specs.UnitTexts.{MovesMacro}
-use Rattle.edited_unit_laws.specs.WorkspaceTexts.{KeepsUnits}
-use Rattle.edited_unit_laws.proofs.WorkspaceLemmas.{workspace_is_renamed}
-use Rattle.edited_unit_laws.specs.Analyses.{texts_in}
-use Rattle.edited_unit_laws.proofs.AnalysesLemmas.{analyses_have_texts, analysis_is_renamed}
-use Rattle.ws_core.specs.Analysed.{Analysed}
-use Rattle.ws_core.specs.Analysis.{UnitAnalysis, UnitsValue, AnalysisValue, analysis_and, with_unit, unit_read, read_unit, analysed_from}
-use Rattle.ws_core.specs.Texts.{UnitFault, unit_fault, unit_with, texts_and, texts_of}
+use Rattle.tree_laws.specs.Below.cs_base.declared.positions.Part.{Part}
+use Rattle.tree_laws.specs.Below.cs_base.Token.{Token}
+use Rattle.tree_laws.specs.Below.cs_base.Units.{UnitValue}
+use Rattle.no_offence_laws.specs.Below.part_lexer.FileText.{file_text}
+use Rattle.no_offence_laws.specs.Below.source_files.Faults.{Fault}
+use Rattle.no_offence_laws.specs.Below.source_files.Files.{Source, Table, Carried, carried, nothing_carried}
+use Rattle.no_offence_laws.specs.Below.source_files.Tables.{IsGrown}
+use Rattle.no_offence_laws.specs.Below.source_files.Limits.{the_limits}
+use Rattle.no_offence_laws.specs.Below.unit_steps.State.{Did}
+use Rattle.no_offence_laws.specs.Below.unit_steps.Texts.{unit_text}
+use Rattle.no_offence_laws.specs.Below.include_tree.Preprocessed.{Preprocessed, preprocessed, preprocessed_by}
+use Rattle.no_offence_laws.specs.Below.include_tree.Unit.{unit_outcome}
+use Rattle.no_offence_laws.proofs.Below.source_files.TableLemmas.{grown_refl, grown_trans}
+use Rattle.no_offence_laws.specs.Below.edited_unit_laws.Lines.{Each}
+use Rattle.no_offence_laws.specs.Below.edited_unit_laws.EditedFiles.{HoldsEdited}
+use Rattle.no_offence_laws.specs.Below.edited_unit_laws.Keeping.{KeepsUnit}
+use Rattle.no_offence_laws.specs.Below.edited_unit_laws.UnitTexts.{MovesMacro}
+use Rattle.no_offence_laws.specs.Below.edited_unit_laws.WorkspaceTexts.{KeepsUnits}
+use Rattle.no_offence_laws.proofs.Below.edited_unit_laws.WorkspaceLemmas.{workspace_is_renamed}
+use Rattle.no_offence_laws.specs.Below.edited_unit_laws.Analyses.{texts_in}
+use Rattle.no_offence_laws.proofs.Below.edited_unit_laws.AnalysesLemmas.{analyses_have_texts, analysis_is_renamed}
+use Rattle.no_offence_laws.specs.Below.ws_core.Analysed.{Analysed}
+use Rattle.no_offence_laws.specs.Below.ws_core.Analysis.{UnitAnalysis, UnitsValue, AnalysisValue, analysis_and, with_unit, unit_read, read_unit, analysed_from}
+use Rattle.no_offence_laws.specs.Below.ws_core.Texts.{UnitFault, unit_fault, unit_with, texts_and, texts_of}
 use Rattle.no_offence_laws.specs.Allowed.{IsAllowed}
 use Rattle.no_offence_laws.specs.KeptFiles.{WordsAreFree}
 use Rattle.no_offence_laws.specs.KeptLines.{LinesStayAlike}

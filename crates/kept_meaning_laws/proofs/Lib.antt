@@ -21,3 +21,5 @@ mod LinkedNameLemmas
 mod ReadNameLemmas
 mod ClassLemmas
 mod BareLemmas
+-- Words of the crates below, passed on.
+pub mod Below

@@ -8,22 +8,22 @@ use Rattle.std.specs.Str.{bytes_eq}
 use Rattle.std.proofs.lemmas.Bool.{cases_Bool, both_ways, and_parts, and_from, eqb-true, eq-eqb}
 use Rattle.std.proofs.lemmas.List.Elements.{All-head, All-tail}
 use Rattle.std.proofs.lemmas.Option.{same_Some}
-use Rattle.cs_base.specs.declared.tokens.Kind.{Kind}
-use Rattle.cs_base.specs.declared.tokens.Kind.TheVariants as kind
-use Rattle.cs_base.specs.declared.tokens.Link.{Link}
-use Rattle.cs_base.specs.Token.{Token}
-use Rattle.line_shape.specs.Signs.{is_name}
-use Rattle.line_shape.specs.Signs as signs
-use Rattle.linkage_join.specs.Linkage.{link_to, links_of as external_links}
-use Rattle.c99_grammar.specs.Spellings.{Spelled, punctuators}
-use Rattle.c99_grammar.specs.Standard.{c99}
-use Rattle.c99_read.specs.State.{base_at, is_identifier}
-use Rattle.c99_grammar.specs.TokenClasses.{spelled_class, class_of_kind, base_class}
-use Rattle.scope_bind.specs.declared.bound.Name.{Name}
-use Rattle.scope_bind.specs.Names.{entity_at}
-use Rattle.ws_core.specs.Analysis.{UnitAnalysis, AnalysisValue}
-use Rattle.ws_core.specs.Links.{is_bound_to, first_occurrence, occurrence_link, occurrence_links, names_of_units, are_alike, unit_links, links_of}
-use Rattle.ws_core.proofs.NamingLemmas.{split_at, in_left, in_right, in_filter}
+use Rattle.tree_laws.specs.Below.cs_base.declared.tokens.Kind.{Kind}
+use Rattle.tree_laws.specs.Below.cs_base.declared.tokens.Kind.TheVariants as kind
+use Rattle.tree_laws.specs.Below.cs_base.declared.tokens.Link.{Link}
+use Rattle.tree_laws.specs.Below.cs_base.Token.{Token}
+use Rattle.no_offence_laws.specs.Below.line_shape.Signs.{is_name}
+use Rattle.no_offence_laws.specs.Below.line_shape.Signs as signs
+use Rattle.no_offence_laws.specs.Below.linkage_join.Linkage.{link_to, links_of as external_links}
+use Rattle.tree_laws.specs.Below.c99_grammar.Spellings.{Spelled, punctuators}
+use Rattle.tree_laws.specs.Below.c99_grammar.Standard.{c99}
+use Rattle.tree_laws.specs.Below.c99_read.State.{base_at, is_identifier}
+use Rattle.tree_laws.specs.Below.c99_grammar.TokenClasses.{spelled_class, class_of_kind, base_class}
+use Rattle.tree_laws.specs.Below.scope_bind.declared.bound.Name.{Name}
+use Rattle.tree_laws.specs.Below.scope_bind.Names.{entity_at}
+use Rattle.no_offence_laws.specs.Below.ws_core.Analysis.{UnitAnalysis, AnalysisValue}
+use Rattle.no_offence_laws.specs.Below.ws_core.Links.{is_bound_to, first_occurrence, occurrence_link, occurrence_links, names_of_units, are_alike, unit_links, links_of}
+use Rattle.no_offence_laws.proofs.Below.ws_core.NamingLemmas.{split_at, in_left, in_right, in_filter}
 use Rattle.no_offence_laws.proofs.ListLemmas.{In, AllOf, found, in_flat}
 
 -- ---- lists

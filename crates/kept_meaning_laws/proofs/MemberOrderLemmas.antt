@@ -14,17 +14,17 @@ use Rattle.std.proofs.lemmas.Cmp.{nat_list_cmp_total}
 use Rattle.std.proofs.lemmas.Map.Keys.{Less-from_sorted, sorted_tail}
 use Rattle.std.proofs.lemmas.Map.Text.{is_eq-slice_cmp}
 use Rattle.std.proofs.lemmas.Option.{none-some, same_Some, slice_get_within}
-use Rattle.cs_base.specs.declared.positions.Part.{Part}
-use Rattle.cs_base.proofs.FileMapLemmas.{bytes_eq-same, bytes_eq-equal}
-use Rattle.line_shape.specs.MacroLine.{are_distinct}
-use Rattle.source_files.specs.Files.{Entry, Table}
-use Rattle.source_files.specs.KeptFiles.{KeptValue, kept_in, kept_at}
-use Rattle.source_files.specs.Tables.{paths_in, HasEachOnce}
-use Rattle.ws_core.specs.Analysed.{Analysed}
-use Rattle.ws_core.specs.Analysis.{AnalysisValue}
-use Rattle.ws_core.specs.Parts.{part_cmp}
-use Rattle.ws_core.specs.Places.{path_at}
-use Rattle.rename_rules.specs.Runs.{is_in}
+use Rattle.tree_laws.specs.Below.cs_base.declared.positions.Part.{Part}
+use Rattle.tree_laws.proofs.Below.cs_base.FileMapLemmas.{bytes_eq-same, bytes_eq-equal}
+use Rattle.no_offence_laws.specs.Below.line_shape.MacroLine.{are_distinct}
+use Rattle.no_offence_laws.specs.Below.source_files.Files.{Entry, Table}
+use Rattle.no_offence_laws.specs.Below.source_files.KeptFiles.{KeptValue, kept_in, kept_at}
+use Rattle.no_offence_laws.specs.Below.source_files.Tables.{paths_in, HasEachOnce}
+use Rattle.no_offence_laws.specs.Below.ws_core.Analysed.{Analysed}
+use Rattle.no_offence_laws.specs.Below.ws_core.Analysis.{AnalysisValue}
+use Rattle.no_offence_laws.specs.Below.ws_core.Parts.{part_cmp}
+use Rattle.no_offence_laws.specs.Below.ws_core.Places.{path_at}
+use Rattle.no_offence_laws.specs.Below.rename_rules.Runs.{is_in}
 use Rattle.no_offence_laws.specs.Allowed.{IsAllowed}
 use Rattle.no_offence_laws.proofs.CharacterLemmas.{character_file}
 use Rattle.no_offence_laws.proofs.ListLemmas.{any_at}

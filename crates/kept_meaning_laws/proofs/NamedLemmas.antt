@@ -6,21 +6,21 @@ use Rattle.std.specs.Str.{bytes_eq}
 use Rattle.std.proofs.lemmas.Bool.{cases_Bool, both_ways}
 use Rattle.std.proofs.lemmas.List.{length-map}
 use Rattle.std.proofs.lemmas.Option.{slice_get-map}
-use Rattle.cs_base.proofs.FileMapLemmas.{bytes_eq-equal, bytes_eq-same}
-use Rattle.cs_base.specs.declared.positions.Part.{Part}
-use Rattle.cs_base.specs.declared.positions.Pos.{Pos}
-use Rattle.cs_base.specs.Reserved.{is_reserved_text}
-use Rattle.cs_base.specs.Token.{Token}
-use Rattle.part_lexer.specs.Spelling.{is_identifier_text}
-use Rattle.line_shape.specs.Signs.{is_name}
-use Rattle.macro_expand.specs.Renaming.{Renaming, renamed}
-use Rattle.macro_expand.specs.Renaming as macros
-use Rattle.c_types.specs.Declarations.{spelling_at, alike}
+use Rattle.tree_laws.proofs.Below.cs_base.FileMapLemmas.{bytes_eq-equal, bytes_eq-same}
+use Rattle.tree_laws.specs.Below.cs_base.declared.positions.Part.{Part}
+use Rattle.tree_laws.specs.Below.cs_base.declared.positions.Pos.{Pos}
+use Rattle.tree_laws.specs.Below.cs_base.Reserved.{is_reserved_text}
+use Rattle.tree_laws.specs.Below.cs_base.Token.{Token}
+use Rattle.no_offence_laws.specs.Below.part_lexer.Spelling.{is_identifier_text}
+use Rattle.no_offence_laws.specs.Below.line_shape.Signs.{is_name}
+use Rattle.no_offence_laws.specs.Below.macro_expand.Renaming.{Renaming, renamed}
+use Rattle.no_offence_laws.specs.Below.macro_expand.Renaming as macros
+use Rattle.tree_laws.specs.Below.c_types.Declarations.{spelling_at, alike}
 use Rattle.tree_laws.specs.RenamedNames.{is_own_word}
-use Rattle.part_respell.specs.Respelled.{spelled}
-use Rattle.rename_rules.specs.Tokens.{holds_member}
-use Rattle.ws_core.specs.Analysed.{Analysed}
-use Rattle.ws_core.specs.Analysis.{UnitAnalysis}
+use Rattle.no_offence_laws.specs.Below.part_respell.Respelled.{spelled}
+use Rattle.no_offence_laws.specs.Below.rename_rules.Tokens.{holds_member}
+use Rattle.no_offence_laws.specs.Below.ws_core.Analysed.{Analysed}
+use Rattle.no_offence_laws.specs.Below.ws_core.Analysis.{UnitAnalysis}
 use Rattle.no_offence_laws.specs.Allowed.{IsAllowed}
 use Rattle.no_offence_laws.specs.KeptTokens.{Spells}
 use Rattle.no_offence_laws.specs.Renamings.{KeepsUnedited}

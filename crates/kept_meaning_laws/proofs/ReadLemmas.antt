@@ -1,14 +1,14 @@
 -- The renamed tokens of each unit are read and bound as before.
 use Rattle.std.proofs.Common.{ℕ, List, map}
-use Rattle.cs_base.specs.declared.positions.Part.{Part}
-use Rattle.cs_base.specs.Token.{Token}
-use Rattle.macro_expand.specs.Renaming.{Renaming, renamed}
+use Rattle.tree_laws.specs.Below.cs_base.declared.positions.Part.{Part}
+use Rattle.tree_laws.specs.Below.cs_base.Token.{Token}
+use Rattle.no_offence_laws.specs.Below.macro_expand.Renaming.{Renaming, renamed}
 use Rattle.renamed_tree_laws.specs.Loose.{StaysWhole}
 use Rattle.renamed_tree_laws.proofs.ReadBareNames.{bare_names_are_loose}
 use Rattle.renamed_tree_laws.proofs.RenamedTrees.{renamed_alike}
-use Rattle.edited_unit_laws.specs.Analyses.{ReadsAlike}
-use Rattle.ws_core.specs.Analysed.{Analysed}
-use Rattle.ws_core.specs.Analysis.{UnitAnalysis}
+use Rattle.no_offence_laws.specs.Below.edited_unit_laws.Analyses.{ReadsAlike}
+use Rattle.no_offence_laws.specs.Below.ws_core.Analysed.{Analysed}
+use Rattle.no_offence_laws.specs.Below.ws_core.Analysis.{UnitAnalysis}
 use Rattle.no_offence_laws.specs.Allowed.{IsAllowed}
 use Rattle.no_offence_laws.specs.KeptTokens.{Spells}
 use Rattle.no_offence_laws.specs.Renamings.{KeepsUnedited}

@@ -2,16 +2,16 @@
 use Rattle.std.proofs.Common.{◌≡◌, ℕ, zero, suc, ◌+◌, List, [], ◌∷◌, Some, Ok, subst}
 use Rattle.std.specs.Prelude.{slice_get}
 use Rattle.std.proofs.lemmas.Option.{same_Some}
-use Rattle.cs_base.specs.Units.{UnitValue}
-use Rattle.ws_file.specs.Workspace.{WorkspaceValue}
-use Rattle.source_files.specs.Faults.{Fault}
-use Rattle.source_files.specs.Files.{Source, Table, Carried, nothing_carried}
-use Rattle.unit_steps.specs.Texts.{UnitTextValue}
-use Rattle.c99_read.specs.Reading.{read_of}
-use Rattle.c99_grammar.specs.Standard.{c99}
-use Rattle.scope_bind.specs.Bound.{binding_of}
-use Rattle.ws_core.specs.Analysis.{UnitAnalysis, UnitsValue, AnalysisValue, analysis_and, with_unit, unit_read, analysed_from, analysis_of, read_unit, bound_unit, unit_analysis}
-use Rattle.ws_core.specs.Texts.{UnitFault, unit_fault, unit_with}
+use Rattle.tree_laws.specs.Below.cs_base.Units.{UnitValue}
+use Rattle.no_offence_laws.specs.Below.ws_file.Workspace.{WorkspaceValue}
+use Rattle.no_offence_laws.specs.Below.source_files.Faults.{Fault}
+use Rattle.no_offence_laws.specs.Below.source_files.Files.{Source, Table, Carried, nothing_carried}
+use Rattle.no_offence_laws.specs.Below.unit_steps.Texts.{UnitTextValue}
+use Rattle.tree_laws.specs.Below.c99_read.Reading.{read_of}
+use Rattle.tree_laws.specs.Below.c99_grammar.Standard.{c99}
+use Rattle.tree_laws.specs.Below.scope_bind.Bound.{binding_of}
+use Rattle.no_offence_laws.specs.Below.ws_core.Analysis.{UnitAnalysis, UnitsValue, AnalysisValue, analysis_and, with_unit, unit_read, analysed_from, analysis_of, read_unit, bound_unit, unit_analysis}
+use Rattle.no_offence_laws.specs.Below.ws_core.Texts.{UnitFault, unit_fault, unit_with}
 use Rattle.no_offence_laws.proofs.ListLemmas.{In}
 use Rattle.no_offence_laws.proofs.UnitsLemmas.{ok_same, done_first, unmapped}
 

@@ -3,19 +3,19 @@ use Rattle.std.proofs.Common.{◌≡◌, ℕ, zero, suc, ◌+◌, ◌-◌, ◌�
 use Rattle.std.specs.List.{flat_map, prefix_len}
 use Rattle.std.specs.Option.{option_map_or}
 use Rattle.std.proofs.lemmas.Bool.{cases_Bool, cases_lt, both_ways, eq-eqb, eqb-true, lt-ltb, false_from_ne_true}
-use Rattle.cs_base.specs.declared.positions.Part.{Part}
-use Rattle.cs_base.specs.declared.positions.Pos.{Pos}
-use Rattle.part_lexer.specs.Logical.{gone_length}
-use Rattle.part_lexer.specs.Places.{pos}
-use Rattle.part_lexer.specs.Respelling.{Put, edited_from as bytes_edited, edited}
-use Rattle.source_files.specs.KeptFiles.{KeptValue, kept_at}
-use Rattle.eclass_map.specs.Positions.{holds}
-use Rattle.eclass_map.proofs.TokenFacts.{holding}
-use Rattle.part_respell.specs.Respelled.{member_over, put_in, put_of, respelled}
-use Rattle.ws_core.specs.Analysis.{AnalysisValue}
-use Rattle.rename_rules.specs.Offences.{large_place}
-use Rattle.rename_rules.specs.Runs.{runs, is_in, is_edited, new_size, size_of}
-use Rattle.rename_rules.proofs.RunLemmas.{runs-split}
+use Rattle.tree_laws.specs.Below.cs_base.declared.positions.Part.{Part}
+use Rattle.tree_laws.specs.Below.cs_base.declared.positions.Pos.{Pos}
+use Rattle.no_offence_laws.specs.Below.part_lexer.Logical.{gone_length}
+use Rattle.no_offence_laws.specs.Below.part_lexer.Places.{pos}
+use Rattle.no_offence_laws.specs.Below.part_lexer.Respelling.{Put, edited_from as bytes_edited, edited}
+use Rattle.no_offence_laws.specs.Below.source_files.KeptFiles.{KeptValue, kept_at}
+use Rattle.no_offence_laws.specs.Below.eclass_map.Positions.{holds}
+use Rattle.no_offence_laws.proofs.Below.eclass_map.TokenFacts.{holding}
+use Rattle.no_offence_laws.specs.Below.part_respell.Respelled.{member_over, put_in, put_of, respelled}
+use Rattle.no_offence_laws.specs.Below.ws_core.Analysis.{AnalysisValue}
+use Rattle.no_offence_laws.specs.Below.rename_rules.Offences.{large_place}
+use Rattle.no_offence_laws.specs.Below.rename_rules.Runs.{runs, is_in, is_edited, new_size, size_of}
+use Rattle.no_offence_laws.proofs.Below.rename_rules.RunLemmas.{runs-split}
 use Rattle.no_offence_laws.proofs.ListLemmas.{nil_left, nil_right, cons_nil}
 use Rattle.kept_meaning_laws.proofs.MemberOrderLemmas.{NoneIn, StandTogether}
 

@@ -5,21 +5,21 @@ use Rattle.std.specs.List.{flat_map, list_any, starts_with}
 use Rattle.std.specs.Option.{option_map, option_map_or, option_and_then}
 use Rattle.std.proofs.lemmas.Bool.{cases_Bool, cases_lt, both_ways, eq-eqb, eqb-true, lt-ltb, ltb-true, or_left, or_right, false_from_ne_true}
 use Rattle.std.proofs.lemmas.Option.{same_Some}
-use Rattle.cs_base.specs.declared.positions.Part.{Part}
-use Rattle.part_lexer.specs.FileText.{most_bytes}
-use Rattle.source_files.specs.Files.{Found, Lines, Absent, Unopened, Opened, Made, Entry, entry, Table, opened_bytes, more_bytes, bytes_opened}
-use Rattle.source_files.specs.KeptFiles.{KeptValue, kept, kept_bytes, kept_in, kept_at}
-use Rattle.include_tree.specs.PseudoFiles.{is_pseudo}
-use Rattle.part_respell.specs.Respelled.{respelled}
-use Rattle.edited_unit_laws.specs.Edited.{edited_found, edited_from}
-use Rattle.ws_core.specs.Analysed.{Analysed}
-use Rattle.ws_core.specs.Analysis.{AnalysisValue}
-use Rattle.ws_core.specs.Places.{is_read_only, is_read_only_path}
-use Rattle.ws_core.proofs.NamingLemmas.{any_in}
-use Rattle.ws_core.proofs.PlaceNameLemmas.{kept_number}
-use Rattle.eclass_map.specs.Chain.{here}
-use Rattle.rename_rules.specs.Offences.{large_place, full_place, too_large_places}
-use Rattle.rename_rules.specs.Runs.{runs, is_edited, new_size, new_sizes, size_of, kept_size, kept_sizes, new_size_of_all}
+use Rattle.tree_laws.specs.Below.cs_base.declared.positions.Part.{Part}
+use Rattle.no_offence_laws.specs.Below.part_lexer.FileText.{most_bytes}
+use Rattle.no_offence_laws.specs.Below.source_files.Files.{Found, Lines, Absent, Unopened, Opened, Made, Entry, entry, Table, opened_bytes, more_bytes, bytes_opened}
+use Rattle.no_offence_laws.specs.Below.source_files.KeptFiles.{KeptValue, kept, kept_bytes, kept_in, kept_at}
+use Rattle.no_offence_laws.specs.Below.include_tree.PseudoFiles.{is_pseudo}
+use Rattle.no_offence_laws.specs.Below.part_respell.Respelled.{respelled}
+use Rattle.no_offence_laws.specs.Below.edited_unit_laws.Edited.{edited_found, edited_from}
+use Rattle.no_offence_laws.specs.Below.ws_core.Analysed.{Analysed}
+use Rattle.no_offence_laws.specs.Below.ws_core.Analysis.{AnalysisValue}
+use Rattle.no_offence_laws.specs.Below.ws_core.Places.{is_read_only, is_read_only_path}
+use Rattle.no_offence_laws.proofs.Below.ws_core.NamingLemmas.{any_in}
+use Rattle.no_offence_laws.proofs.Below.ws_core.PlaceNameLemmas.{kept_number}
+use Rattle.no_offence_laws.specs.Below.eclass_map.Chain.{here}
+use Rattle.no_offence_laws.specs.Below.rename_rules.Offences.{large_place, full_place, too_large_places}
+use Rattle.no_offence_laws.specs.Below.rename_rules.Runs.{runs, is_edited, new_size, new_sizes, size_of, kept_size, kept_sizes, new_size_of_all}
 use Rattle.no_offence_laws.specs.Allowed.{IsAllowed}
 use Rattle.no_offence_laws.proofs.ListLemmas.{In, any_at, nil_left, nil_right}
 use Rattle.no_offence_laws.proofs.NoneLemmas.{NoneStand, none_stand, writable}

@@ -4,15 +4,15 @@ use Rattle.std.specs.Prelude.{slice_get}
 use Rattle.std.specs.Option.{option_map, option_and_then}
 use Rattle.std.proofs.lemmas.Bool.{cases_Bool, both_ways, eq-eqb, eqb-true}
 use Rattle.std.proofs.lemmas.Option.{none-some, same_Some}
-use Rattle.cs_base.specs.declared.positions.Part.{Part}
-use Rattle.source_files.specs.Files.{Source, Entry, Table}
-use Rattle.source_files.specs.KeptFiles.{KeptValue, kept, kept_bytes, kept_in, kept_at}
-use Rattle.source_files.specs.Tables.{paths_in, HasEachOnce}
-use Rattle.part_respell.specs.Respelled.{respelled}
-use Rattle.rename_rules.specs.First.{IsAmong}
-use Rattle.rename_rules.specs.Runs.{runs, file_of, is_edited}
-use Rattle.rename_rules.proofs.RunLemmas.{runs-none}
-use Rattle.ws_core.specs.Analysed.{Analysed}
+use Rattle.tree_laws.specs.Below.cs_base.declared.positions.Part.{Part}
+use Rattle.no_offence_laws.specs.Below.source_files.Files.{Source, Entry, Table}
+use Rattle.no_offence_laws.specs.Below.source_files.KeptFiles.{KeptValue, kept, kept_bytes, kept_in, kept_at}
+use Rattle.no_offence_laws.specs.Below.source_files.Tables.{paths_in, HasEachOnce}
+use Rattle.no_offence_laws.specs.Below.part_respell.Respelled.{respelled}
+use Rattle.no_offence_laws.specs.Below.rename_rules.First.{IsAmong}
+use Rattle.no_offence_laws.specs.Below.rename_rules.Runs.{runs, file_of, is_edited}
+use Rattle.no_offence_laws.proofs.Below.rename_rules.RunLemmas.{runs-none}
+use Rattle.no_offence_laws.specs.Below.ws_core.Analysed.{Analysed}
 use Rattle.no_offence_laws.specs.Allowed.{IsAllowed}
 use Rattle.no_offence_laws.proofs.CharacterLemmas.{character_file}
 use Rattle.no_offence_laws.proofs.DirectiveLemmas.{in_drop}

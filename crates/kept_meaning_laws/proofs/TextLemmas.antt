@@ -1,13 +1,13 @@
 -- Over files in which members are respelled, units have the renamed texts, and the workspace the renamed analysis.
 use Rattle.std.proofs.Common.{ℕ, List, Some}
-use Rattle.cs_base.specs.declared.positions.Part.{Part}
-use Rattle.eclass_map.specs.ClassTable as classes
-use Rattle.ws_file.specs.Workspace.{WorkspaceValue}
-use Rattle.source_files.specs.Files.{Source}
-use Rattle.ws_core.specs.Analysed.{Analysed, analysed}
-use Rattle.ws_core.specs.Analysis.{AnalysisValue}
-use Rattle.ws_core.specs.Naming.{Names}
-use Rattle.ws_core.proofs.ClassLemmas.{part_held}
+use Rattle.tree_laws.specs.Below.cs_base.declared.positions.Part.{Part}
+use Rattle.no_offence_laws.specs.Below.eclass_map.ClassTable as classes
+use Rattle.no_offence_laws.specs.Below.ws_file.Workspace.{WorkspaceValue}
+use Rattle.no_offence_laws.specs.Below.source_files.Files.{Source}
+use Rattle.no_offence_laws.specs.Below.ws_core.Analysed.{Analysed, analysed}
+use Rattle.no_offence_laws.specs.Below.ws_core.Analysis.{AnalysisValue}
+use Rattle.no_offence_laws.specs.Below.ws_core.Naming.{Names}
+use Rattle.no_offence_laws.proofs.Below.ws_core.ClassLemmas.{part_held}
 use Rattle.no_offence_laws.specs.Allowed.{IsAllowed}
 use Rattle.kept_meaning_laws.proofs.KeptUnitLemmas.{texts_are_renamed_where_named}
 use Rattle.kept_meaning_laws.proofs.ReadLemmas.{edited_files_have_renamed_analysis}

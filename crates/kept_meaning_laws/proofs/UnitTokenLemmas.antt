@@ -5,33 +5,33 @@ use Rattle.std.specs.Prelude.{Option, slice_get, ◌-◌}
 use Rattle.std.specs.Fmt.{decimal}
 use Rattle.std.specs.List.{flat_map, list_all}
 use Rattle.std.specs.Option.{is_none}
-use Rattle.cs_base.specs.declared.positions.Part.{Part}
-use Rattle.cs_base.specs.declared.positions.Pos.{Pos}
-use Rattle.cs_base.specs.declared.tokens.Kind.{Kind}
-use Rattle.cs_base.specs.declared.tokens.Kind.TheVariants.{Number, Str}
-use Rattle.cs_base.specs.Token.{Token}
-use Rattle.part_lexer.specs.Tokens.{tokens_of}
-use Rattle.paste_origin.specs.Strings.{string_text, string_token}
-use Rattle.line_shape.specs.Signs.{is_identifier, is_punctuator, is_name}
-use Rattle.macro_body.specs.Notes as expansion
-use Rattle.macro_expand.specs.Renaming.{Renaming, occurs, spelled}
-use Rattle.macro_body.specs.Substitution.{put_in, line_number, path_string, path_text}
-use Rattle.unit_steps.specs.Conditions.{answer_for}
-use Rattle.source_files.specs.Files.{SourceFile, Table}
-use Rattle.source_files.specs.Tables.{IsGrown}
-use Rattle.unit_steps.specs.Notes.{Note, Happened, pasted_of}
-use Rattle.source_files.specs.Sources.{source_at}
-use Rattle.unit_steps.specs.Texts.{UnitTextValue, unit_text}
-use Rattle.include_tree.proofs.StayingLemmas.{source-grown}
-use Rattle.expansion_laws.proofs.ListLemmas.{AllToks, each_tok, toks_at}
-use Rattle.expansion_laws.proofs.TellingLemmas.{string_is}
-use Rattle.unit_laws.specs.UnitLinks.{IsIn as IsInList}
-use Rattle.unit_laws.proofs.DoneLemmas.{UnitRules}
-use Rattle.unit_laws.proofs.NoteLemmas.{TextHas, flat_in}
-use Rattle.unit_laws.proofs.PartLemmas.{from_files}
-use Rattle.unit_laws.proofs.TextLemmas.{IsText, text_is, unit_text_has}
-use Rattle.ws_core.specs.Analysed.{Analysed}
-use Rattle.ws_core.specs.Analysis.{UnitAnalysis, AnalysisValue}
+use Rattle.tree_laws.specs.Below.cs_base.declared.positions.Part.{Part}
+use Rattle.tree_laws.specs.Below.cs_base.declared.positions.Pos.{Pos}
+use Rattle.tree_laws.specs.Below.cs_base.declared.tokens.Kind.{Kind}
+use Rattle.tree_laws.specs.Below.cs_base.declared.tokens.Kind.TheVariants.{Number, Str}
+use Rattle.tree_laws.specs.Below.cs_base.Token.{Token}
+use Rattle.no_offence_laws.specs.Below.part_lexer.Tokens.{tokens_of}
+use Rattle.no_offence_laws.specs.Below.paste_origin.Strings.{string_text, string_token}
+use Rattle.no_offence_laws.specs.Below.line_shape.Signs.{is_identifier, is_punctuator, is_name}
+use Rattle.no_offence_laws.specs.Below.macro_body.Notes as expansion
+use Rattle.no_offence_laws.specs.Below.macro_expand.Renaming.{Renaming, occurs, spelled}
+use Rattle.no_offence_laws.specs.Below.macro_body.Substitution.{put_in, line_number, path_string, path_text}
+use Rattle.no_offence_laws.specs.Below.unit_steps.Conditions.{answer_for}
+use Rattle.no_offence_laws.specs.Below.source_files.Files.{SourceFile, Table}
+use Rattle.no_offence_laws.specs.Below.source_files.Tables.{IsGrown}
+use Rattle.no_offence_laws.specs.Below.unit_steps.Notes.{Note, Happened, pasted_of}
+use Rattle.no_offence_laws.specs.Below.source_files.Sources.{source_at}
+use Rattle.no_offence_laws.specs.Below.unit_steps.Texts.{UnitTextValue, unit_text}
+use Rattle.no_offence_laws.proofs.Below.include_tree.StayingLemmas.{source-grown}
+use Rattle.no_offence_laws.proofs.Below.expansion_laws.ListLemmas.{AllToks, each_tok, toks_at}
+use Rattle.no_offence_laws.proofs.Below.expansion_laws.TellingLemmas.{string_is}
+use Rattle.no_offence_laws.specs.Below.unit_laws.UnitLinks.{IsIn as IsInList}
+use Rattle.no_offence_laws.proofs.Below.unit_laws.DoneLemmas.{UnitRules}
+use Rattle.no_offence_laws.proofs.Below.unit_laws.NoteLemmas.{TextHas, flat_in}
+use Rattle.no_offence_laws.proofs.Below.unit_laws.PartLemmas.{from_files}
+use Rattle.no_offence_laws.proofs.Below.unit_laws.TextLemmas.{IsText, text_is, unit_text_has}
+use Rattle.no_offence_laws.specs.Below.ws_core.Analysed.{Analysed}
+use Rattle.no_offence_laws.specs.Below.ws_core.Analysis.{UnitAnalysis, AnalysisValue}
 use Rattle.no_offence_laws.specs.Allowed.{IsAllowed}
 use Rattle.no_offence_laws.specs.KeptTokens.{Spells}
 use Rattle.no_offence_laws.specs.Occurring.{occurring_in}

@@ -1,11 +1,11 @@
 -- The binding of units under a renaming against which nothing stands (ISO/IEC 9899:1999, 6.2.1).
 use Rattle.std.specs.Prelude.{◌≡◌, ℕ, List, map, Ok}
-use Rattle.cs_base.specs.declared.positions.Part.{Part}
-use Rattle.macro_expand.specs.Renaming.{Renaming, renamed}
-use Rattle.scope_bind.specs.Bound.{binding_of}
+use Rattle.tree_laws.specs.Below.cs_base.declared.positions.Part.{Part}
+use Rattle.no_offence_laws.specs.Below.macro_expand.Renaming.{Renaming, renamed}
+use Rattle.tree_laws.specs.Below.scope_bind.Bound.{binding_of}
 use Rattle.tree_laws.specs.RenamedNames.{IsRenamed}
-use Rattle.ws_core.specs.Analysed.{Analysed}
-use Rattle.ws_core.specs.Analysis.{UnitAnalysis}
+use Rattle.no_offence_laws.specs.Below.ws_core.Analysed.{Analysed}
+use Rattle.no_offence_laws.specs.Below.ws_core.Analysis.{UnitAnalysis}
 use Rattle.no_offence_laws.specs.Allowed.{IsAllowed}
 use Rattle.no_offence_laws.specs.KeptTokens.{Spells}
 use Rattle.no_offence_laws.specs.Renamings.{KeepsUnedited, renaming}

@@ -1,14 +1,14 @@
 -- The files behind a renaming against which nothing stands (this project's): they hold what the change of the analysis says.
 use Rattle.std.specs.Prelude.{◌≡◌, ◌≢◌, ℕ, List, Some}
-use Rattle.cs_base.specs.declared.positions.Part.{Part}
-use Rattle.source_files.specs.Files.{Source}
-use Rattle.source_files.specs.KeptFiles.{KeptValue}
-use Rattle.source_files.specs.Tables.{HasEachOnce}
-use Rattle.rename_rules.specs.First.{IsAmong}
-use Rattle.rename_rules.specs.Runs.{runs, file_of, new_bytes}
-use Rattle.edited_unit_laws.specs.EditedFiles.{HoldsEdited}
-use Rattle.ws_core.specs.Analysed.{Analysed}
-use Rattle.ws_core.specs.Analysis.{AnalysisValue}
+use Rattle.tree_laws.specs.Below.cs_base.declared.positions.Part.{Part}
+use Rattle.no_offence_laws.specs.Below.source_files.Files.{Source}
+use Rattle.no_offence_laws.specs.Below.source_files.KeptFiles.{KeptValue}
+use Rattle.no_offence_laws.specs.Below.source_files.Tables.{HasEachOnce}
+use Rattle.no_offence_laws.specs.Below.rename_rules.First.{IsAmong}
+use Rattle.no_offence_laws.specs.Below.rename_rules.Runs.{runs, file_of, new_bytes}
+use Rattle.no_offence_laws.specs.Below.edited_unit_laws.EditedFiles.{HoldsEdited}
+use Rattle.no_offence_laws.specs.Below.ws_core.Analysed.{Analysed}
+use Rattle.no_offence_laws.specs.Below.ws_core.Analysis.{AnalysisValue}
 use Rattle.no_offence_laws.specs.Allowed.{IsAllowed}
 use Rattle.kept_meaning_laws.specs.KeptUnits.{change}
 

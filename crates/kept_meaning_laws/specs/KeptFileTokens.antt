@@ -1,12 +1,12 @@
 -- A renaming against which nothing stands keeps the file tokens (this project's).
 use Rattle.std.specs.Prelude.{ℕ, ◌≡◌, List, Some, map}
-use Rattle.cs_base.specs.declared.positions.Part.{Part}
-use Rattle.macro_expand.specs.Renaming.{renamed}
-use Rattle.edited_unit_laws.specs.Analyses.{renamed_analysis}
-use Rattle.edited_unit_laws.specs.FileTokens.{KeepsFileTokens}
-use Rattle.ws_core.specs.Analysed.{Analysed}
-use Rattle.ws_core.specs.FileTokens.{file_tokens}
-use Rattle.ws_core.specs.Naming.{Names}
+use Rattle.tree_laws.specs.Below.cs_base.declared.positions.Part.{Part}
+use Rattle.no_offence_laws.specs.Below.macro_expand.Renaming.{renamed}
+use Rattle.no_offence_laws.specs.Below.edited_unit_laws.Analyses.{renamed_analysis}
+use Rattle.no_offence_laws.specs.Below.edited_unit_laws.FileTokens.{KeepsFileTokens}
+use Rattle.no_offence_laws.specs.Below.ws_core.Analysed.{Analysed}
+use Rattle.no_offence_laws.specs.Below.ws_core.FileTokens.{file_tokens}
+use Rattle.no_offence_laws.specs.Below.ws_core.Naming.{Names}
 use Rattle.no_offence_laws.specs.Allowed.{IsAllowed}
 use Rattle.no_offence_laws.specs.KeptFiles.{WordsAreFree}
 use Rattle.kept_meaning_laws.specs.KeptUnits.{change}

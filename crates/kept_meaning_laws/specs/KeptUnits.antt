@@ -1,19 +1,19 @@
 -- A renaming against which nothing stands keeps each unit (ISO/IEC 9899:1999, 5.1.1.2 phases 1 to 4).
 use Rattle.std.specs.Prelude.{ℕ, ◌-◌, ◌≡◌, Option, Some, None, List, Ok, slice_get}
-use Rattle.cs_base.specs.declared.positions.Part.{Part}
-use Rattle.part_respell.specs.Respelled.{respelled}
-use Rattle.ws_file.specs.Workspace.{IsWorkspace}
-use Rattle.source_files.specs.Files.{Source, nothing_carried}
-use Rattle.source_files.specs.Tables.{HasEachOnce}
-use Rattle.edited_unit_laws.specs.Lines.{Each}
-use Rattle.edited_unit_laws.specs.EditedFiles.{HoldsEdited}
-use Rattle.edited_unit_laws.specs.Keeping.{Change}
-use Rattle.edited_unit_laws.specs.WorkspaceTexts.{MacroNames, KeepsUnits, renamed_texts}
-use Rattle.edited_unit_laws.specs.Analyses.{ReadsAlike, renamed_analysis, texts_in}
-use Rattle.ws_core.specs.Analysed.{Analysed}
-use Rattle.ws_core.specs.Analysis.{UnitAnalysis, AnalysisValue, analysis_of}
-use Rattle.ws_core.specs.Naming.{Names}
-use Rattle.ws_core.specs.Texts.{texts_and, texts_of}
+use Rattle.tree_laws.specs.Below.cs_base.declared.positions.Part.{Part}
+use Rattle.no_offence_laws.specs.Below.part_respell.Respelled.{respelled}
+use Rattle.no_offence_laws.specs.Below.ws_file.Workspace.{IsWorkspace}
+use Rattle.no_offence_laws.specs.Below.source_files.Files.{Source, nothing_carried}
+use Rattle.no_offence_laws.specs.Below.source_files.Tables.{HasEachOnce}
+use Rattle.no_offence_laws.specs.Below.edited_unit_laws.Lines.{Each}
+use Rattle.no_offence_laws.specs.Below.edited_unit_laws.EditedFiles.{HoldsEdited}
+use Rattle.no_offence_laws.specs.Below.edited_unit_laws.Keeping.{Change}
+use Rattle.no_offence_laws.specs.Below.edited_unit_laws.WorkspaceTexts.{MacroNames, KeepsUnits, renamed_texts}
+use Rattle.no_offence_laws.specs.Below.edited_unit_laws.Analyses.{ReadsAlike, renamed_analysis, texts_in}
+use Rattle.no_offence_laws.specs.Below.ws_core.Analysed.{Analysed}
+use Rattle.no_offence_laws.specs.Below.ws_core.Analysis.{UnitAnalysis, AnalysisValue, analysis_of}
+use Rattle.no_offence_laws.specs.Below.ws_core.Naming.{Names}
+use Rattle.no_offence_laws.specs.Below.ws_core.Texts.{texts_and, texts_of}
 use Rattle.no_offence_laws.specs.Allowed.{IsAllowed}
 use Rattle.no_offence_laws.specs.KeptFiles.{WordsAreFree}
 use Rattle.no_offence_laws.specs.KeptLines.{LinesStayAlike}

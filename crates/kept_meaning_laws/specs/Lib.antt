@@ -6,3 +6,5 @@ pub mod BoundUnits
 pub mod ReadUnits
 pub mod EditedSource
 pub mod RenamedSource
+-- Words of the crates below, passed on.
+pub mod Below

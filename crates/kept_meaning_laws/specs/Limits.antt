@@ -1,17 +1,17 @@
 -- The sizes of edited files (this project's limits): where nothing stands against the renaming, they are within these.
 use Rattle.std.specs.Prelude.{ℕ, ◌≡◌, ◌≤◌, Some, List, length}
-use Rattle.cs_base.specs.declared.positions.Part.{Part}
-use Rattle.part_lexer.specs.FileText.{most_bytes}
-use Rattle.part_respell.specs.Respelled.{respelled}
-use Rattle.ws_file.specs.Workspace.{IsWorkspace}
-use Rattle.source_files.specs.Files.{bytes_opened}
-use Rattle.source_files.specs.KeptFiles.{KeptValue, kept_at}
-use Rattle.source_files.specs.Tables.{HasEachOnce}
-use Rattle.source_files.specs.Limits.{the_limits}
-use Rattle.edited_unit_laws.specs.Edited.{edited_table}
-use Rattle.ws_core.specs.Analysed.{Analysed}
-use Rattle.ws_core.specs.Analysis.{AnalysisValue}
-use Rattle.ws_core.specs.Naming.{Names}
+use Rattle.tree_laws.specs.Below.cs_base.declared.positions.Part.{Part}
+use Rattle.no_offence_laws.specs.Below.part_lexer.FileText.{most_bytes}
+use Rattle.no_offence_laws.specs.Below.part_respell.Respelled.{respelled}
+use Rattle.no_offence_laws.specs.Below.ws_file.Workspace.{IsWorkspace}
+use Rattle.no_offence_laws.specs.Below.source_files.Files.{bytes_opened}
+use Rattle.no_offence_laws.specs.Below.source_files.KeptFiles.{KeptValue, kept_at}
+use Rattle.no_offence_laws.specs.Below.source_files.Tables.{HasEachOnce}
+use Rattle.no_offence_laws.specs.Below.source_files.Limits.{the_limits}
+use Rattle.no_offence_laws.specs.Below.edited_unit_laws.Edited.{edited_table}
+use Rattle.no_offence_laws.specs.Below.ws_core.Analysed.{Analysed}
+use Rattle.no_offence_laws.specs.Below.ws_core.Analysis.{AnalysisValue}
+use Rattle.no_offence_laws.specs.Below.ws_core.Naming.{Names}
 use Rattle.no_offence_laws.specs.Allowed.{IsAllowed}
 
 -- The edited files are within the limits: each by itself, if it was, and all that are opened together.

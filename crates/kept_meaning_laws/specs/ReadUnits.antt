@@ -1,15 +1,15 @@
 -- Units under a renaming against which nothing stands: they are read and bound as before (ISO/IEC 9899:1999, 5.1.1.2 phase 7).
 use Rattle.std.specs.Prelude.{ℕ, ◌≡◌, List, Ok, Some}
-use Rattle.cs_base.specs.declared.positions.Part.{Part}
-use Rattle.ws_file.specs.Workspace.{IsWorkspace}
-use Rattle.source_files.specs.Files.{Source}
-use Rattle.source_files.specs.Tables.{HasEachOnce}
-use Rattle.edited_unit_laws.specs.Lines.{Each}
-use Rattle.edited_unit_laws.specs.EditedFiles.{HoldsEdited}
-use Rattle.edited_unit_laws.specs.Analyses.{ReadsAlike, renamed_analysis}
-use Rattle.ws_core.specs.Analysed.{Analysed}
-use Rattle.ws_core.specs.Analysis.{analysis_of}
-use Rattle.ws_core.specs.Naming.{Names}
+use Rattle.tree_laws.specs.Below.cs_base.declared.positions.Part.{Part}
+use Rattle.no_offence_laws.specs.Below.ws_file.Workspace.{IsWorkspace}
+use Rattle.no_offence_laws.specs.Below.source_files.Files.{Source}
+use Rattle.no_offence_laws.specs.Below.source_files.Tables.{HasEachOnce}
+use Rattle.no_offence_laws.specs.Below.edited_unit_laws.Lines.{Each}
+use Rattle.no_offence_laws.specs.Below.edited_unit_laws.EditedFiles.{HoldsEdited}
+use Rattle.no_offence_laws.specs.Below.edited_unit_laws.Analyses.{ReadsAlike, renamed_analysis}
+use Rattle.no_offence_laws.specs.Below.ws_core.Analysed.{Analysed}
+use Rattle.no_offence_laws.specs.Below.ws_core.Analysis.{analysis_of}
+use Rattle.no_offence_laws.specs.Below.ws_core.Naming.{Names}
 use Rattle.no_offence_laws.specs.Allowed.{IsAllowed}
 use Rattle.kept_meaning_laws.specs.KeptUnits.{change}
 

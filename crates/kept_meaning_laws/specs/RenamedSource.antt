@@ -1,20 +1,20 @@
 -- What the units of a workspace preprocess to behind a renaming, and what analysis it has (this project's, over ISO/IEC
 -- 9899:1999, 5.1.1.2 phases 1 to 4 and 7).
 use Rattle.std.specs.Prelude.{◌≡◌, true, ℕ, List, Ok, Some, None}
-use Rattle.cs_base.specs.declared.positions.Part.{Part}
-use Rattle.eclass_map.specs.ClassTable as classes
-use Rattle.part_lexer.specs.Spelling.{is_identifier_text}
-use Rattle.ws_file.specs.Workspace.{WorkspaceValue, IsWorkspace}
-use Rattle.source_files.specs.Files.{Source}
-use Rattle.source_files.specs.Tables.{HasEachOnce}
-use Rattle.rename_rules.specs.First.{IsFirst, offences_of}
-use Rattle.edited_unit_laws.specs.WorkspaceTexts.{renamed_texts}
-use Rattle.edited_unit_laws.specs.Analyses.{renamed_analysis, texts_in}
-use Rattle.ws_core.specs.Analysis.{AnalysisValue, analysis_of}
-use Rattle.ws_core.specs.Classes.{AreItsClasses}
-use Rattle.ws_core.specs.Naming.{Names}
-use Rattle.ws_core.specs.Parts.{AreMembers}
-use Rattle.ws_core.specs.Texts.{texts_and, texts_of}
+use Rattle.tree_laws.specs.Below.cs_base.declared.positions.Part.{Part}
+use Rattle.no_offence_laws.specs.Below.eclass_map.ClassTable as classes
+use Rattle.no_offence_laws.specs.Below.part_lexer.Spelling.{is_identifier_text}
+use Rattle.no_offence_laws.specs.Below.ws_file.Workspace.{WorkspaceValue, IsWorkspace}
+use Rattle.no_offence_laws.specs.Below.source_files.Files.{Source}
+use Rattle.no_offence_laws.specs.Below.source_files.Tables.{HasEachOnce}
+use Rattle.no_offence_laws.specs.Below.rename_rules.First.{IsFirst, offences_of}
+use Rattle.no_offence_laws.specs.Below.edited_unit_laws.WorkspaceTexts.{renamed_texts}
+use Rattle.no_offence_laws.specs.Below.edited_unit_laws.Analyses.{renamed_analysis, texts_in}
+use Rattle.no_offence_laws.specs.Below.ws_core.Analysis.{AnalysisValue, analysis_of}
+use Rattle.no_offence_laws.specs.Below.ws_core.Classes.{AreItsClasses}
+use Rattle.no_offence_laws.specs.Below.ws_core.Naming.{Names}
+use Rattle.no_offence_laws.specs.Below.ws_core.Parts.{AreMembers}
+use Rattle.no_offence_laws.specs.Below.ws_core.Texts.{texts_and, texts_of}
 use Rattle.kept_meaning_laws.specs.KeptUnits.{change}
 use Rattle.kept_meaning_laws.specs.EditedSource.{AreRespelled}
 

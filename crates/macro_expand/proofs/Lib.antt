@@ -8,3 +8,5 @@ mod TurnLemmas
 mod FullLemmas
 -- For crates above: that tokens of files come from somewhere, and what lines items are.
 pub mod TracedLemmas
+-- Words of the crates below, passed on.
+pub mod Below

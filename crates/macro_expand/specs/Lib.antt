@@ -5,3 +5,5 @@ pub mod Renaming
 pub mod Laws
 pub mod Going
 pub mod Following
+-- Words of the crates below, passed on.
+pub mod Below

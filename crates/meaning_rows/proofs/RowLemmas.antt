@@ -1,14 +1,14 @@
 -- An analysis of a row has the tree and the binding of its tokens; so it keeps or breaks meaning as these do.
 use Rattle.std.proofs.Common.{◌≡◌, ℕ, List, [], ◌∷◌, map, Ok, sym, subst}
-use Rattle.cs_base.specs.Token.{Token}
-use Rattle.macro_expand.specs.Renaming.{Renaming, renamed}
-use Rattle.c99_tree.specs.Tree.{Node}
-use Rattle.c99_read.specs.Reading.{read_of}
-use Rattle.c99_grammar.specs.Standard.{c99}
-use Rattle.scope_bind.specs.Bound.{Bound, binding_of}
-use Rattle.ws_core.specs.Analysis.{UnitAnalysis, AnalysisValue}
-use Rattle.edited_unit_laws.specs.Lines.{Each}
-use Rattle.edited_unit_laws.specs.Analyses.{ReadsAlike}
+use Rattle.kept_meaning_laws.specs.Below.cs_base.Token.{Token}
+use Rattle.kept_meaning_laws.specs.Below.macro_expand.Renaming.{Renaming, renamed}
+use Rattle.kept_meaning_laws.specs.Below.c99_tree.Tree.{Node}
+use Rattle.kept_meaning_laws.specs.Below.c99_read.Reading.{read_of}
+use Rattle.kept_meaning_laws.specs.Below.c99_grammar.Standard.{c99}
+use Rattle.kept_meaning_laws.specs.Below.scope_bind.Bound.{Bound, binding_of}
+use Rattle.kept_meaning_laws.specs.Below.ws_core.Analysis.{UnitAnalysis, AnalysisValue}
+use Rattle.kept_meaning_laws.specs.Below.edited_unit_laws.Lines.{Each}
+use Rattle.kept_meaning_laws.specs.Below.edited_unit_laws.Analyses.{ReadsAlike}
 use Rattle.kept_meaning_laws.specs.KeptUnits.{change}
 use Rattle.meaning_rows.specs.Rows.{Row, IsOf, member, KeepsReading, BreaksMeaning}
 use Rattle.meaning_rows.proofs.ClauseLemmas.{one_answer, kept_meaning_reads_alike}

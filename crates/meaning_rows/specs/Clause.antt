@@ -1,12 +1,12 @@
 -- What a renaming that is done keeps (this project's, over ISO/IEC 9899:1999, 5.1.1.2 phases 4 and 7), and what of it speaks of
 -- trees and bindings.
 use Rattle.std.specs.Prelude.{ℕ, List}
-use Rattle.cs_base.specs.declared.positions.Part.{Part}
-use Rattle.ws_file.specs.Workspace.{WorkspaceValue}
-use Rattle.source_files.specs.Files.{Source}
-use Rattle.ws_core.specs.Analysis.{AnalysisValue}
-use Rattle.edited_unit_laws.specs.Lines.{Each}
-use Rattle.edited_unit_laws.specs.Analyses.{ReadsAlike}
+use Rattle.kept_meaning_laws.specs.Below.cs_base.declared.positions.Part.{Part}
+use Rattle.kept_meaning_laws.specs.Below.ws_file.Workspace.{WorkspaceValue}
+use Rattle.kept_meaning_laws.specs.Below.source_files.Files.{Source}
+use Rattle.kept_meaning_laws.specs.Below.ws_core.Analysis.{AnalysisValue}
+use Rattle.kept_meaning_laws.specs.Below.edited_unit_laws.Lines.{Each}
+use Rattle.kept_meaning_laws.specs.Below.edited_unit_laws.Analyses.{ReadsAlike}
 use Rattle.kept_meaning_laws.specs.KeptUnits.{change}
 use Rattle.kept_meaning_laws.specs.RenamedSource.{AnalysisIsRenamed}
 

@@ -4,20 +4,20 @@ use Rattle.std.specs.Prelude.{◌⊎◌, slice_get, option_map, cond}
 use Rattle.std.specs.Option.{option_map_or, option_and_then}
 use Rattle.std.proofs.lemmas.Bool.{cases_eq, cases_lt, eq-eqb, ne_eqb}
 use Rattle.std.proofs.lemmas.Option.{same_Some, slice_get-map}
-use Rattle.cs_base.specs.declared.positions.Part.{Part}
-use Rattle.cs_base.specs.declared.positions.Pos.{Pos}
-use Rattle.cs_base.specs.declared.tokens.Link.{Link}
-use Rattle.cs_base.specs.Token.{Token, origin_at}
-use Rattle.eclass_map.specs.Chain.{here}
-use Rattle.eclass_map.specs.ClassTable.{Table, Same, part_of}
-use Rattle.eclass_map.specs.Positions.{along, holds}
-use Rattle.eclass_map.proofs.TokenFacts.{holding, holds_from}
-use Rattle.part_respell.specs.Respelled.{member_over, put_in, put_at, put_for, spelled, spelled_from}
-use Rattle.ws_core.specs.Analysed.{Analysed}
-use Rattle.ws_core.specs.Classes.{AreItsClasses}
-use Rattle.ws_core.specs.Links.{links_of, linked_pairs, pair_of}
-use Rattle.ws_core.specs.Parts.{Begins, IsCharacter, IsStart, IsPart}
-use Rattle.ws_core.proofs.ClassLemmas.{character_told, same_told, same_held, part_held, held_by}
+use Rattle.rename_rules.specs.Below.cs_base.declared.positions.Part.{Part}
+use Rattle.rename_rules.specs.Below.cs_base.declared.positions.Pos.{Pos}
+use Rattle.rename_rules.specs.Below.cs_base.declared.tokens.Link.{Link}
+use Rattle.rename_rules.specs.Below.cs_base.Token.{Token, origin_at}
+use Rattle.rename_rules.specs.Below.eclass_map.Chain.{here}
+use Rattle.rename_rules.specs.Below.eclass_map.ClassTable.{Table, Same, part_of}
+use Rattle.rename_rules.specs.Below.eclass_map.Positions.{along, holds}
+use Rattle.rename_rules.proofs.Below.eclass_map.TokenFacts.{holding, holds_from}
+use Rattle.rename_rules.specs.Below.part_respell.Respelled.{member_over, put_in, put_at, put_for, spelled, spelled_from}
+use Rattle.rename_rules.specs.Below.ws_core.Analysed.{Analysed}
+use Rattle.rename_rules.specs.Below.ws_core.Classes.{AreItsClasses}
+use Rattle.rename_rules.specs.Below.ws_core.Links.{links_of, linked_pairs, pair_of}
+use Rattle.rename_rules.specs.Below.ws_core.Parts.{Begins, IsCharacter, IsStart, IsPart}
+use Rattle.rename_rules.proofs.Below.ws_core.ClassLemmas.{character_told, same_told, same_held, part_held, held_by}
 use Rattle.rename_rules.specs.Class.{IsClass}
 use Rattle.rename_rules.proofs.ClassLemmas.{same_pos, over_member, over_other}
 use Rattle.no_offence_laws.proofs.ListLemmas.{In}

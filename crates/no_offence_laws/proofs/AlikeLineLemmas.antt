@@ -5,39 +5,39 @@ use Rattle.std.specs.List.{flat_map, list_any}
 use Rattle.std.specs.Option.{option_map_or, option_and_then}
 use Rattle.std.proofs.lemmas.Bool.{cases_Bool, both_ways, false_from_ne_true}
 use Rattle.std.proofs.lemmas.Option.{none-some, same_Some, slice_get_within}
-use Rattle.cs_base.specs.declared.positions.Part.{Part}
-use Rattle.cs_base.specs.declared.positions.Pos.{Pos}
-use Rattle.cs_base.specs.Token.{Token}
-use Rattle.part_lexer.specs.Places.{pos}
-use Rattle.part_lexer.specs.Tokens.{tokens_of, firsts_of}
-use Rattle.part_lexer.proofs.OriginLemmas.{length-origins}
-use Rattle.line_shape.specs.declared.items.ItemKind.{ItemKind}
-use Rattle.line_shape.specs.declared.items.ItemKind.TheVariants as kind
-use Rattle.line_shape.specs.Items.{lines_of, line_kind}
-use Rattle.line_shape.specs.MacroLine.{is_function_like}
-use Rattle.line_shape.specs.Signs.{is_hash}
-use Rattle.macro_body.specs.Defining.{defined_by}
-use Rattle.unit_steps.specs.declared.events.Reached.{Reached}
-use Rattle.source_files.specs.Files.{Table}
-use Rattle.source_files.specs.KeptFiles.{KeptValue, kept_at}
-use Rattle.unit_steps.specs.Texts.{UnitTextValue}
-use Rattle.include_tree.specs.Walk.{ItemText, item_texts, items_in}
-use Rattle.eclass_map.specs.Positions.{holds}
-use Rattle.eclass_map.proofs.TokenFacts.{holding}
-use Rattle.part_respell.specs.Respelled.{spelled}
+use Rattle.rename_rules.specs.Below.cs_base.declared.positions.Part.{Part}
+use Rattle.rename_rules.specs.Below.cs_base.declared.positions.Pos.{Pos}
+use Rattle.rename_rules.specs.Below.cs_base.Token.{Token}
+use Rattle.rename_rules.specs.Below.part_lexer.Places.{pos}
+use Rattle.rename_rules.specs.Below.part_lexer.Tokens.{tokens_of, firsts_of}
+use Rattle.rename_rules.proofs.Below.part_lexer.OriginLemmas.{length-origins}
+use Rattle.rename_rules.specs.Below.line_shape.declared.items.ItemKind.{ItemKind}
+use Rattle.rename_rules.specs.Below.line_shape.declared.items.ItemKind.TheVariants as kind
+use Rattle.rename_rules.specs.Below.line_shape.Items.{lines_of, line_kind}
+use Rattle.rename_rules.specs.Below.line_shape.MacroLine.{is_function_like}
+use Rattle.rename_rules.specs.Below.line_shape.Signs.{is_hash}
+use Rattle.rename_rules.specs.Below.macro_body.Defining.{defined_by}
+use Rattle.rename_rules.specs.Below.unit_steps.declared.events.Reached.{Reached}
+use Rattle.rename_rules.specs.Below.source_files.Files.{Table}
+use Rattle.rename_rules.specs.Below.source_files.KeptFiles.{KeptValue, kept_at}
+use Rattle.rename_rules.specs.Below.unit_steps.Texts.{UnitTextValue}
+use Rattle.rename_rules.specs.Below.include_tree.Walk.{ItemText, item_texts, items_in}
+use Rattle.rename_rules.specs.Below.eclass_map.Positions.{holds}
+use Rattle.rename_rules.proofs.Below.eclass_map.TokenFacts.{holding}
+use Rattle.rename_rules.specs.Below.part_respell.Respelled.{spelled}
 use Rattle.rename_rules.specs.Tokens.{holds_member}
 use Rattle.edited_unit_laws.specs.Lines.{Each, defines, parameters_of}
 use Rattle.unit_laws.specs.UnitItems.{taken}
 use Rattle.unit_laws.specs.ToldNames.{LinksAgree}
 use Rattle.unit_laws.specs.Uses.{UsesHaveLinks, IsReachedItem}
 use Rattle.unit_laws.proofs.UseLemmas.{uses_are_linked}
-use Rattle.ws_core.specs.Analysed.{Analysed}
-use Rattle.ws_core.specs.Analysis.{UnitAnalysis, AnalysisValue}
-use Rattle.ws_core.specs.BroughtNumbers.{all_brought}
-use Rattle.ws_core.specs.FileTokens.{numbers_brought, span_of}
-use Rattle.ws_core.specs.Naming.{item_at, Names}
-use Rattle.ws_core.proofs.NamingLemmas.{split_at, any_in}
-use Rattle.ws_core.proofs.PlaceNameLemmas.{kept_number}
+use Rattle.rename_rules.specs.Below.ws_core.Analysed.{Analysed}
+use Rattle.rename_rules.specs.Below.ws_core.Analysis.{UnitAnalysis, AnalysisValue}
+use Rattle.rename_rules.specs.Below.ws_core.BroughtNumbers.{all_brought}
+use Rattle.rename_rules.specs.Below.ws_core.FileTokens.{numbers_brought, span_of}
+use Rattle.rename_rules.specs.Below.ws_core.Naming.{item_at, Names}
+use Rattle.rename_rules.proofs.Below.ws_core.NamingLemmas.{split_at, any_in}
+use Rattle.rename_rules.proofs.Below.ws_core.PlaceNameLemmas.{kept_number}
 use Rattle.no_offence_laws.specs.Allowed.{IsAllowed}
 use Rattle.no_offence_laws.specs.KeptLines.{UsesStayAlike, LineStaysAlike}
 use Rattle.no_offence_laws.proofs.ListLemmas.{In, any_at}

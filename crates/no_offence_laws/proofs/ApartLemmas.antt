@@ -4,23 +4,23 @@ use Rattle.std.specs.Prelude.{slice_get}
 use Rattle.std.specs.List.{list_any}
 use Rattle.std.specs.Option.{option_map_or, option_and_then}
 use Rattle.std.proofs.lemmas.Bool.{cases_Bool}
-use Rattle.cs_base.specs.declared.positions.Part.{Part}
-use Rattle.cs_base.specs.declared.positions.Pos.{Pos}
-use Rattle.cs_base.specs.Token.{Token, has_origins}
-use Rattle.cs_base.specs.declared.tokens.Kind.{Kind}
-use Rattle.cs_base.specs.declared.tokens.Kind.TheVariants.{Ident}
-use Rattle.line_shape.specs.Signs.{is_identifier, is_name}
-use Rattle.expansion_laws.specs.Spelled.{fits}
-use Rattle.part_lexer.specs.Places.{pos, origins_from}
-use Rattle.part_lexer.specs.Tokens.{tokens_of}
-use Rattle.part_lexer.proofs.OriginLemmas.{length-origins}
-use Rattle.source_files.specs.KeptFiles.{KeptValue, kept_at}
-use Rattle.part_respell.specs.Respelled.{member_over, spelled}
-use Rattle.ws_core.specs.Analysed.{Analysed}
-use Rattle.ws_core.specs.Analysis.{UnitAnalysis, AnalysisValue}
-use Rattle.ws_core.specs.FileTokens.{file_tokens}
-use Rattle.ws_core.proofs.NamingLemmas.{in_left, in_right}
-use Rattle.ws_core.proofs.TokenPlaceLemmas.{token_placed}
+use Rattle.rename_rules.specs.Below.cs_base.declared.positions.Part.{Part}
+use Rattle.rename_rules.specs.Below.cs_base.declared.positions.Pos.{Pos}
+use Rattle.rename_rules.specs.Below.cs_base.Token.{Token, has_origins}
+use Rattle.rename_rules.specs.Below.cs_base.declared.tokens.Kind.{Kind}
+use Rattle.rename_rules.specs.Below.cs_base.declared.tokens.Kind.TheVariants.{Ident}
+use Rattle.rename_rules.specs.Below.line_shape.Signs.{is_identifier, is_name}
+use Rattle.edited_unit_laws.specs.Below.expansion_laws.Spelled.{fits}
+use Rattle.rename_rules.specs.Below.part_lexer.Places.{pos, origins_from}
+use Rattle.rename_rules.specs.Below.part_lexer.Tokens.{tokens_of}
+use Rattle.rename_rules.proofs.Below.part_lexer.OriginLemmas.{length-origins}
+use Rattle.rename_rules.specs.Below.source_files.KeptFiles.{KeptValue, kept_at}
+use Rattle.rename_rules.specs.Below.part_respell.Respelled.{member_over, spelled}
+use Rattle.rename_rules.specs.Below.ws_core.Analysed.{Analysed}
+use Rattle.rename_rules.specs.Below.ws_core.Analysis.{UnitAnalysis, AnalysisValue}
+use Rattle.rename_rules.specs.Below.ws_core.FileTokens.{file_tokens}
+use Rattle.rename_rules.proofs.Below.ws_core.NamingLemmas.{in_left, in_right}
+use Rattle.rename_rules.proofs.Below.ws_core.TokenPlaceLemmas.{token_placed}
 use Rattle.rename_rules.specs.Tokens.{all_file_tokens, first_place, holds_member, pasted_tokens}
 use Rattle.no_offence_laws.specs.Allowed.{IsAllowed}
 use Rattle.no_offence_laws.specs.Spellings.{IsPasted, IsOfFileOrName, OthersStayApart}

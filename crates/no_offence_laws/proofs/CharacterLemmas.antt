@@ -3,22 +3,22 @@ use Rattle.std.proofs.Common.{◌≡◌, ℕ, suc, ◌+◌, true, List, [], ◌�
 use Rattle.std.specs.Prelude.{slice_get, unwrap_or}
 use Rattle.std.specs.List.{flat_map}
 use Rattle.std.specs.Option.{option_and_then}
-use Rattle.cs_base.specs.declared.positions.Part.{Part}
-use Rattle.cs_base.specs.declared.positions.Pos.{Pos}
-use Rattle.cs_base.specs.Token.{Token, has_origins}
-use Rattle.part_lexer.specs.Places.{pos}
-use Rattle.part_lexer.specs.Tokens.{tokens_of}
-use Rattle.eclass_map.specs.Positions.{holds}
-use Rattle.eclass_map.proofs.TokenFacts.{holding}
-use Rattle.ws_file.specs.Workspace.{WorkspaceValue}
-use Rattle.source_files.specs.Files.{Source}
-use Rattle.source_files.specs.KeptFiles.{kept_in, kept_at}
-use Rattle.ws_core.specs.Analysis.{UnitAnalysis, AnalysisValue, analysis_of}
-use Rattle.ws_core.specs.FileTokens.{table_tokens, numbers_brought, file_tokens, span_of}
-use Rattle.ws_core.specs.Parts.{IsCharacter}
-use Rattle.ws_core.proofs.NamingLemmas.{split_at, filter_in}
-use Rattle.ws_core.proofs.PlaceNameLemmas.{kept_number}
-use Rattle.ws_core.proofs.TokenPlaceLemmas.{tokens_in_line}
+use Rattle.rename_rules.specs.Below.cs_base.declared.positions.Part.{Part}
+use Rattle.rename_rules.specs.Below.cs_base.declared.positions.Pos.{Pos}
+use Rattle.rename_rules.specs.Below.cs_base.Token.{Token, has_origins}
+use Rattle.rename_rules.specs.Below.part_lexer.Places.{pos}
+use Rattle.rename_rules.specs.Below.part_lexer.Tokens.{tokens_of}
+use Rattle.rename_rules.specs.Below.eclass_map.Positions.{holds}
+use Rattle.rename_rules.proofs.Below.eclass_map.TokenFacts.{holding}
+use Rattle.rename_rules.specs.Below.ws_file.Workspace.{WorkspaceValue}
+use Rattle.rename_rules.specs.Below.source_files.Files.{Source}
+use Rattle.rename_rules.specs.Below.source_files.KeptFiles.{kept_in, kept_at}
+use Rattle.rename_rules.specs.Below.ws_core.Analysis.{UnitAnalysis, AnalysisValue, analysis_of}
+use Rattle.rename_rules.specs.Below.ws_core.FileTokens.{table_tokens, numbers_brought, file_tokens, span_of}
+use Rattle.rename_rules.specs.Below.ws_core.Parts.{IsCharacter}
+use Rattle.rename_rules.proofs.Below.ws_core.NamingLemmas.{split_at, filter_in}
+use Rattle.rename_rules.proofs.Below.ws_core.PlaceNameLemmas.{kept_number}
+use Rattle.rename_rules.proofs.Below.ws_core.TokenPlaceLemmas.{tokens_in_line}
 use Rattle.no_offence_laws.proofs.ListLemmas.{In}
 use Rattle.no_offence_laws.proofs.MemberLemmas.{InFile, in_table, span_among}
 use Rattle.no_offence_laws.proofs.UnitsLemmas.{unit_is, number_origin}

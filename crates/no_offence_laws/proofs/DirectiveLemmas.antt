@@ -6,22 +6,22 @@ use Rattle.std.specs.Str.{bytes_eq}
 use Rattle.std.proofs.Math.Seq.{take-append_seam, drop-append_seam}
 use Rattle.std.proofs.lemmas.Bool.{cases_Bool, both_ways}
 use Rattle.std.proofs.lemmas.Option.{same_Some}
-use Rattle.cs_base.specs.declared.causes.Cause.{Cause}
-use Rattle.cs_base.specs.declared.positions.Pos.{Pos}
-use Rattle.cs_base.specs.Token.{Token}
-use Rattle.part_lexer.specs.Logical.{logical_of}
-use Rattle.part_lexer.specs.Order.{InOrder}
-use Rattle.part_lexer.specs.Tokens.{tokens_of, firsts_of}
-use Rattle.part_lexer.proofs.OrderLemmas.{tokens_of-in_order}
-use Rattle.line_shape.specs.declared.items.Item.{Item}
-use Rattle.line_shape.specs.declared.items.ItemKind.{ItemKind}
-use Rattle.line_shape.specs.declared.items.ItemKind.TheVariants as kind
-use Rattle.line_shape.specs.Directives.{directives, meaning_in, directive_spelled, directive_named, is_run}
-use Rattle.line_shape.specs.Items.{onto_lines, lines_of, kind_unless, named_kind, directive_kind, line_kind, Piece, piece, onto_pieces, pieces_of, item_of, items_from, items_of}
-use Rattle.line_shape.specs.BadLines.{cause_on}
-use Rattle.line_shape.specs.Signs.{is_name, is_hash}
-use Rattle.source_files.specs.HeaderNames.{is_header}
-use Rattle.include_tree.specs.Walk.{ItemText, item_text, item_texts}
+use Rattle.rename_rules.specs.Below.cs_base.declared.causes.Cause.{Cause}
+use Rattle.rename_rules.specs.Below.cs_base.declared.positions.Pos.{Pos}
+use Rattle.rename_rules.specs.Below.cs_base.Token.{Token}
+use Rattle.rename_rules.specs.Below.part_lexer.Logical.{logical_of}
+use Rattle.rename_rules.specs.Below.part_lexer.Order.{InOrder}
+use Rattle.rename_rules.specs.Below.part_lexer.Tokens.{tokens_of, firsts_of}
+use Rattle.rename_rules.proofs.Below.part_lexer.OrderLemmas.{tokens_of-in_order}
+use Rattle.rename_rules.specs.Below.line_shape.declared.items.Item.{Item}
+use Rattle.rename_rules.specs.Below.line_shape.declared.items.ItemKind.{ItemKind}
+use Rattle.rename_rules.specs.Below.line_shape.declared.items.ItemKind.TheVariants as kind
+use Rattle.rename_rules.specs.Below.line_shape.Directives.{directives, meaning_in, directive_spelled, directive_named, is_run}
+use Rattle.rename_rules.specs.Below.line_shape.Items.{onto_lines, lines_of, kind_unless, named_kind, directive_kind, line_kind, Piece, piece, onto_pieces, pieces_of, item_of, items_from, items_of}
+use Rattle.rename_rules.specs.Below.line_shape.BadLines.{cause_on}
+use Rattle.rename_rules.specs.Below.line_shape.Signs.{is_name, is_hash}
+use Rattle.rename_rules.specs.Below.source_files.HeaderNames.{is_header}
+use Rattle.rename_rules.specs.Below.include_tree.Walk.{ItemText, item_text, item_texts}
 use Rattle.unit_laws.specs.UnitItems.{expanded_name, taken}
 use Rattle.no_offence_laws.proofs.ListLemmas.{In, AllOf}
 

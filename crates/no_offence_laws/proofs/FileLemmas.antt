@@ -3,15 +3,15 @@ use Rattle.std.proofs.Common.{◌≡◌, ℕ, zero, suc, ◌+◌, ◌-◌, ◌==
 use Rattle.std.specs.Prelude.{unwrap_or}
 use Rattle.std.specs.Str.{bytes_eq}
 use Rattle.std.proofs.lemmas.Bool.{cases_Bool, or_cases}
-use Rattle.cs_base.proofs.FileMapLemmas.{bytes_eq-equal}
-use Rattle.cs_base.specs.declared.tokens.Kind.TheVariants.{Other}
-use Rattle.cs_base.specs.Token.{Token}
-use Rattle.part_lexer.specs.Characters.{line_feed, slash, star, is_white, begins}
-use Rattle.part_lexer.specs.Logical.{Character, logical_of, spelling, line_at}
-use Rattle.part_lexer.specs.Places.{pos, origins_from}
-use Rattle.part_lexer.specs.Spelling.{is_identifier_text, is_number_text, is_char_text, is_string_text, is_punctuator_text, is_header_text, kind_of, kind_in}
-use Rattle.line_shape.specs.Signs.{is_identifier, is_punctuator, is_name, is_hash}
-use Rattle.part_lexer.specs.Tokens.{Found, kind_or_other, is_hash_text, comment_end, comment_or_open, token_piece, piece_of, expects_header, piece_at, piece_length, leaves_gap, line_front_after, found_in, found_from, found_of, tokens_in, tokens_of}
+use Rattle.rename_rules.proofs.Below.cs_base.FileMapLemmas.{bytes_eq-equal}
+use Rattle.rename_rules.specs.Below.cs_base.declared.tokens.Kind.TheVariants.{Other}
+use Rattle.rename_rules.specs.Below.cs_base.Token.{Token}
+use Rattle.rename_rules.specs.Below.part_lexer.Characters.{line_feed, slash, star, is_white, begins}
+use Rattle.rename_rules.specs.Below.part_lexer.Logical.{Character, logical_of, spelling, line_at}
+use Rattle.rename_rules.specs.Below.part_lexer.Places.{pos, origins_from}
+use Rattle.rename_rules.specs.Below.part_lexer.Spelling.{is_identifier_text, is_number_text, is_char_text, is_string_text, is_punctuator_text, is_header_text, kind_of, kind_in}
+use Rattle.rename_rules.specs.Below.line_shape.Signs.{is_identifier, is_punctuator, is_name, is_hash}
+use Rattle.rename_rules.specs.Below.part_lexer.Tokens.{Found, kind_or_other, is_hash_text, comment_end, comment_or_open, token_piece, piece_of, expects_header, piece_at, piece_length, leaves_gap, line_front_after, found_in, found_from, found_of, tokens_in, tokens_of}
 use Rattle.no_offence_laws.proofs.ListLemmas.{In, AllOf, all_at}
 
 -- the token stands in the file, has the origins of its characters there, and is of the kind of its spelling

@@ -5,32 +5,32 @@ use Rattle.std.specs.List.{list_any}
 use Rattle.std.specs.Str.{bytes_eq}
 use Rattle.std.proofs.lemmas.Bool.{cases_Bool, both_ways, and_from, le-leb, lt-ltb, or_left, or_right}
 use Rattle.std.proofs.lemmas.Option.{same_Some}
-use Rattle.cs_base.proofs.FileMapLemmas.{bytes_eq-equal}
-use Rattle.cs_base.specs.declared.positions.Part.{Part}
-use Rattle.cs_base.specs.declared.positions.Pos.{Pos}
-use Rattle.cs_base.specs.Reserved.{is_reserved_text}
-use Rattle.cs_base.specs.Token.{Token, has_origins}
-use Rattle.cs_base.specs.declared.tokens.Kind.{Kind}
-use Rattle.cs_base.specs.declared.tokens.Kind.TheVariants.{Ident}
-use Rattle.part_lexer.specs.Places.{pos}
-use Rattle.part_lexer.specs.Respelling.{Put, respell, stays}
-use Rattle.part_lexer.specs.KeptTokens.{lies_in, ChangesTokens}
-use Rattle.part_lexer.specs.Tokens.{tokens_of, firsts_of}
-use Rattle.part_lexer.proofs.KeptTokensLaw.{kept_tokens_keep_pieces}
-use Rattle.line_shape.specs.Items.{lines_of}
-use Rattle.line_shape.specs.Signs.{is_identifier, is_name}
-use Rattle.eclass_map.specs.Positions.{holds}
-use Rattle.eclass_map.specs.ClassTable.{part_of_file}
-use Rattle.eclass_map.proofs.TokenFacts.{holding, holds_along}
-use Rattle.source_files.specs.KeptFiles.{KeptValue, kept_at}
-use Rattle.part_respell.specs.Respelled.{member_over, put_of, spelled, spelled_from}
-use Rattle.ws_core.specs.Analysed.{Analysed}
-use Rattle.ws_core.specs.FileTokens.{file_tokens, span_of}
-use Rattle.ws_core.specs.TokenSearch.{AreInLine}
-use Rattle.ws_core.proofs.NamingLemmas.{in_left}
-use Rattle.ws_core.proofs.PlaceNameLemmas.{kept_number}
-use Rattle.ws_core.proofs.TokenPlaceLemmas.{token_placed, tokens_in_line}
-use Rattle.ws_core.proofs.TokenSearchLemmas.{over_once}
+use Rattle.rename_rules.proofs.Below.cs_base.FileMapLemmas.{bytes_eq-equal}
+use Rattle.rename_rules.specs.Below.cs_base.declared.positions.Part.{Part}
+use Rattle.rename_rules.specs.Below.cs_base.declared.positions.Pos.{Pos}
+use Rattle.rename_rules.specs.Below.cs_base.Reserved.{is_reserved_text}
+use Rattle.rename_rules.specs.Below.cs_base.Token.{Token, has_origins}
+use Rattle.rename_rules.specs.Below.cs_base.declared.tokens.Kind.{Kind}
+use Rattle.rename_rules.specs.Below.cs_base.declared.tokens.Kind.TheVariants.{Ident}
+use Rattle.rename_rules.specs.Below.part_lexer.Places.{pos}
+use Rattle.rename_rules.specs.Below.part_lexer.Respelling.{Put, respell, stays}
+use Rattle.rename_rules.specs.Below.part_lexer.KeptTokens.{lies_in, ChangesTokens}
+use Rattle.rename_rules.specs.Below.part_lexer.Tokens.{tokens_of, firsts_of}
+use Rattle.rename_rules.proofs.Below.part_lexer.KeptTokensLaw.{kept_tokens_keep_pieces}
+use Rattle.rename_rules.specs.Below.line_shape.Items.{lines_of}
+use Rattle.rename_rules.specs.Below.line_shape.Signs.{is_identifier, is_name}
+use Rattle.rename_rules.specs.Below.eclass_map.Positions.{holds}
+use Rattle.rename_rules.specs.Below.eclass_map.ClassTable.{part_of_file}
+use Rattle.rename_rules.proofs.Below.eclass_map.TokenFacts.{holding, holds_along}
+use Rattle.rename_rules.specs.Below.source_files.KeptFiles.{KeptValue, kept_at}
+use Rattle.rename_rules.specs.Below.part_respell.Respelled.{member_over, put_of, spelled, spelled_from}
+use Rattle.rename_rules.specs.Below.ws_core.Analysed.{Analysed}
+use Rattle.rename_rules.specs.Below.ws_core.FileTokens.{file_tokens, span_of}
+use Rattle.rename_rules.specs.Below.ws_core.TokenSearch.{AreInLine}
+use Rattle.rename_rules.proofs.Below.ws_core.NamingLemmas.{in_left}
+use Rattle.rename_rules.proofs.Below.ws_core.PlaceNameLemmas.{kept_number}
+use Rattle.rename_rules.proofs.Below.ws_core.TokenPlaceLemmas.{token_placed, tokens_in_line}
+use Rattle.rename_rules.proofs.Below.ws_core.TokenSearchLemmas.{over_once}
 use Rattle.rename_rules.specs.Tokens.{holders, holds_member, pasted_tokens}
 use Rattle.edited_unit_laws.specs.Lines.{Each}
 use Rattle.no_offence_laws.specs.Allowed.{IsAllowed}

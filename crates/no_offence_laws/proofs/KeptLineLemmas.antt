@@ -2,20 +2,20 @@
 use Rattle.std.proofs.Common.{◌≡◌, ℕ, false, cond, List, [], ◌∷◌, drop, None, inl, inr, sym, ap, ◌∙◌}
 use Rattle.std.specs.Str.{bytes_eq}
 use Rattle.std.proofs.lemmas.Bool.{cases_Bool, both_ways, false_from_ne_true}
-use Rattle.cs_base.proofs.FileMapLemmas.{bytes_eq-equal, bytes_eq-same}
-use Rattle.cs_base.specs.declared.positions.Part.{Part}
-use Rattle.cs_base.specs.Token.{Token}
-use Rattle.part_lexer.specs.Tokens.{tokens_of, firsts_of}
-use Rattle.line_shape.specs.Directives.{directive_spelled, directive_named}
-use Rattle.line_shape.specs.Items.{lines_of}
-use Rattle.line_shape.specs.MacroLine.{is_function_like, before_close, params_in}
-use Rattle.line_shape.specs.Signs.{is_name, is_close}
-use Rattle.macro_expand.specs.Renaming.{Renaming, renamed}
-use Rattle.macro_expand.specs.Renaming as macros
-use Rattle.part_respell.specs.Respelled.{spelled}
+use Rattle.rename_rules.proofs.Below.cs_base.FileMapLemmas.{bytes_eq-equal, bytes_eq-same}
+use Rattle.rename_rules.specs.Below.cs_base.declared.positions.Part.{Part}
+use Rattle.rename_rules.specs.Below.cs_base.Token.{Token}
+use Rattle.rename_rules.specs.Below.part_lexer.Tokens.{tokens_of, firsts_of}
+use Rattle.rename_rules.specs.Below.line_shape.Directives.{directive_spelled, directive_named}
+use Rattle.rename_rules.specs.Below.line_shape.Items.{lines_of}
+use Rattle.rename_rules.specs.Below.line_shape.MacroLine.{is_function_like, before_close, params_in}
+use Rattle.rename_rules.specs.Below.line_shape.Signs.{is_name, is_close}
+use Rattle.rename_rules.specs.Below.macro_expand.Renaming.{Renaming, renamed}
+use Rattle.rename_rules.specs.Below.macro_expand.Renaming as macros
+use Rattle.rename_rules.specs.Below.part_respell.Respelled.{spelled}
 use Rattle.rename_rules.specs.Tokens.{holds_member}
 use Rattle.edited_unit_laws.specs.Lines.{Each, KeepsLine, KeepsParameters, NamesAsBefore, parameters_of}
-use Rattle.ws_core.specs.Analysed.{Analysed}
+use Rattle.rename_rules.specs.Below.ws_core.Analysed.{Analysed}
 use Rattle.no_offence_laws.specs.Allowed.{IsAllowed}
 use Rattle.no_offence_laws.specs.KeptFiles.{WordIsFree}
 use Rattle.no_offence_laws.specs.KeptLines.{UsesStayAlike, LineStaysAlike, LinesAreKept}

@@ -6,29 +6,29 @@ use Rattle.std.specs.Option.{option_map_or}
 use Rattle.std.specs.Str.{bytes_eq}
 use Rattle.std.proofs.lemmas.Bool.{cases_Bool, both_ways, and_from, or_cases}
 use Rattle.std.proofs.lemmas.Option.{none-some}
-use Rattle.cs_base.proofs.FileMapLemmas.{bytes_eq-equal, bytes_eq-same}
-use Rattle.cs_base.specs.declared.positions.Part.{Part}
-use Rattle.cs_base.specs.declared.tokens.Kind.{Kind}
-use Rattle.cs_base.specs.declared.tokens.Kind.TheVariants.{Ident, Number, Char, Str, Punct, Header, Other}
-use Rattle.cs_base.specs.declared.tokens.Link.{Link}
-use Rattle.cs_base.specs.Reserved.{is_reserved_text}
-use Rattle.cs_base.specs.Token.{Token}
-use Rattle.part_lexer.specs.Spelling.{is_punctuator_text}
-use Rattle.line_shape.specs.Signs.{is_identifier, is_name}
-use Rattle.linkage_join.specs.Linkage.{links_of as external_links}
-use Rattle.macro_expand.specs.Renaming.{Renaming}
-use Rattle.unit_steps.specs.declared.events.Event.{Event}
-use Rattle.unit_steps.specs.Texts.{UnitTextValue}
-use Rattle.part_respell.specs.Respelled.{spelled}
-use Rattle.expansion_laws.specs.Spelled.{fits, is_spelled}
+use Rattle.rename_rules.proofs.Below.cs_base.FileMapLemmas.{bytes_eq-equal, bytes_eq-same}
+use Rattle.rename_rules.specs.Below.cs_base.declared.positions.Part.{Part}
+use Rattle.rename_rules.specs.Below.cs_base.declared.tokens.Kind.{Kind}
+use Rattle.rename_rules.specs.Below.cs_base.declared.tokens.Kind.TheVariants.{Ident, Number, Char, Str, Punct, Header, Other}
+use Rattle.rename_rules.specs.Below.cs_base.declared.tokens.Link.{Link}
+use Rattle.rename_rules.specs.Below.cs_base.Reserved.{is_reserved_text}
+use Rattle.rename_rules.specs.Below.cs_base.Token.{Token}
+use Rattle.rename_rules.specs.Below.part_lexer.Spelling.{is_punctuator_text}
+use Rattle.rename_rules.specs.Below.line_shape.Signs.{is_identifier, is_name}
+use Rattle.rename_rules.specs.Below.linkage_join.Linkage.{links_of as external_links}
+use Rattle.rename_rules.specs.Below.macro_expand.Renaming.{Renaming}
+use Rattle.rename_rules.specs.Below.unit_steps.declared.events.Event.{Event}
+use Rattle.rename_rules.specs.Below.unit_steps.Texts.{UnitTextValue}
+use Rattle.rename_rules.specs.Below.part_respell.Respelled.{spelled}
+use Rattle.edited_unit_laws.specs.Below.expansion_laws.Spelled.{fits, is_spelled}
 use Rattle.unit_laws.proofs.NoteLemmas.{EventHas, in_at}
 use Rattle.unit_laws.proofs.TokenLemmas.{unit_links_are_alike}
 use Rattle.unit_laws.specs.ToldNames.{is_first_name, IsTold, LinksAgree}
 use Rattle.unit_laws.proofs.ToldLemmas.{told_names_are_linked}
-use Rattle.ws_core.specs.Analysed.{Analysed}
-use Rattle.ws_core.specs.Analysis.{UnitAnalysis}
-use Rattle.ws_core.specs.Links.{are_alike, unit_links, names_of_units, links_of, occurrence_links}
-use Rattle.ws_core.proofs.NamingLemmas.{in_left, in_filter}
+use Rattle.rename_rules.specs.Below.ws_core.Analysed.{Analysed}
+use Rattle.rename_rules.specs.Below.ws_core.Analysis.{UnitAnalysis}
+use Rattle.rename_rules.specs.Below.ws_core.Links.{are_alike, unit_links, names_of_units, links_of, occurrence_links}
+use Rattle.rename_rules.proofs.Below.ws_core.NamingLemmas.{in_left, in_filter}
 use Rattle.rename_rules.specs.Tokens.{holds_member}
 use Rattle.no_offence_laws.specs.Allowed.{IsAllowed}
 use Rattle.no_offence_laws.specs.KeptTokens.{Spells}

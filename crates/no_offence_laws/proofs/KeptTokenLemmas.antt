@@ -2,16 +2,16 @@
 use Rattle.std.proofs.Common.{◌≡◌, ℕ, suc, ◌&&◌, Bool, true, false, codes, List, [], ◌∷◌, inl, inr, refl, sym, ap, ◌∙◌}
 use Rattle.std.specs.Str.{bytes_eq}
 use Rattle.std.proofs.lemmas.Bool.{cases_Bool, both_ways, false_from_ne_true}
-use Rattle.cs_base.proofs.FileMapLemmas.{bytes_eq-equal}
-use Rattle.cs_base.specs.declared.positions.Part.{Part}
-use Rattle.cs_base.specs.Reserved.{is_reserved_text}
-use Rattle.cs_base.specs.Token.{Token}
-use Rattle.part_lexer.specs.Tokens.{tokens_of}
-use Rattle.line_shape.specs.Signs.{is_identifier, is_name, is_va_args}
-use Rattle.macro_expand.specs.Renaming.{Renaming}
-use Rattle.macro_expand.specs.Renaming as macros
-use Rattle.part_respell.specs.Respelled.{spelled}
-use Rattle.ws_core.specs.Analysed.{Analysed}
+use Rattle.rename_rules.proofs.Below.cs_base.FileMapLemmas.{bytes_eq-equal}
+use Rattle.rename_rules.specs.Below.cs_base.declared.positions.Part.{Part}
+use Rattle.rename_rules.specs.Below.cs_base.Reserved.{is_reserved_text}
+use Rattle.rename_rules.specs.Below.cs_base.Token.{Token}
+use Rattle.rename_rules.specs.Below.part_lexer.Tokens.{tokens_of}
+use Rattle.rename_rules.specs.Below.line_shape.Signs.{is_identifier, is_name, is_va_args}
+use Rattle.rename_rules.specs.Below.macro_expand.Renaming.{Renaming}
+use Rattle.rename_rules.specs.Below.macro_expand.Renaming as macros
+use Rattle.rename_rules.specs.Below.part_respell.Respelled.{spelled}
+use Rattle.rename_rules.specs.Below.ws_core.Analysed.{Analysed}
 use Rattle.rename_rules.specs.Tokens.{holds_member}
 use Rattle.edited_unit_laws.specs.Lines.{Each, KeepsToken}
 use Rattle.no_offence_laws.specs.Allowed.{IsAllowed}

@@ -28,3 +28,5 @@ pub mod AlikeLineLemmas
 -- What the proofs of this crate rest on.
 mod LineItemLemmas
 mod ParameterLemmas
+-- Words of the crates below, passed on.
+pub mod Below

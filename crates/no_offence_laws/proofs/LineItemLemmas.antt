@@ -2,20 +2,20 @@
 use Rattle.std.proofs.Common.{◌≡◌, ℕ, Bool, true, false, List, [], ◌∷◌, ◌++◌, length, drop, Option, Some, None, inl, inr, refl, sym, ap, subst, ◌∙◌, arith, append-nil}
 use Rattle.std.specs.Option.{option_map_or}
 use Rattle.std.proofs.lemmas.Bool.{cases_Bool, both_ways}
-use Rattle.cs_base.specs.declared.causes.Cause.{Cause}
-use Rattle.cs_base.specs.declared.positions.Pos.{Pos}
-use Rattle.cs_base.specs.Token.{Token}
-use Rattle.part_lexer.specs.Logical.{logical_of}
-use Rattle.part_lexer.specs.Order.{InOrder}
-use Rattle.part_lexer.specs.Tokens.{tokens_of, firsts_of}
-use Rattle.part_lexer.proofs.OrderLemmas.{tokens_of-in_order}
-use Rattle.line_shape.specs.declared.items.ItemKind.{ItemKind}
-use Rattle.line_shape.specs.declared.items.ItemKind.TheVariants as kind
-use Rattle.line_shape.specs.BadLines.{cause_on}
-use Rattle.line_shape.specs.Directives.{directive_named, is_run, is_define}
-use Rattle.line_shape.specs.Items.{lines_of, kind_unless, directive_kind, line_kind, Piece, piece, onto_pieces, pieces_of, items_of}
-use Rattle.line_shape.specs.Signs.{is_hash}
-use Rattle.include_tree.specs.Walk.{ItemText, item_texts}
+use Rattle.rename_rules.specs.Below.cs_base.declared.causes.Cause.{Cause}
+use Rattle.rename_rules.specs.Below.cs_base.declared.positions.Pos.{Pos}
+use Rattle.rename_rules.specs.Below.cs_base.Token.{Token}
+use Rattle.rename_rules.specs.Below.part_lexer.Logical.{logical_of}
+use Rattle.rename_rules.specs.Below.part_lexer.Order.{InOrder}
+use Rattle.rename_rules.specs.Below.part_lexer.Tokens.{tokens_of, firsts_of}
+use Rattle.rename_rules.proofs.Below.part_lexer.OrderLemmas.{tokens_of-in_order}
+use Rattle.rename_rules.specs.Below.line_shape.declared.items.ItemKind.{ItemKind}
+use Rattle.rename_rules.specs.Below.line_shape.declared.items.ItemKind.TheVariants as kind
+use Rattle.rename_rules.specs.Below.line_shape.BadLines.{cause_on}
+use Rattle.rename_rules.specs.Below.line_shape.Directives.{directive_named, is_run, is_define}
+use Rattle.rename_rules.specs.Below.line_shape.Items.{lines_of, kind_unless, directive_kind, line_kind, Piece, piece, onto_pieces, pieces_of, items_of}
+use Rattle.rename_rules.specs.Below.line_shape.Signs.{is_hash}
+use Rattle.rename_rules.specs.Below.include_tree.Walk.{ItemText, item_texts}
 use Rattle.edited_unit_laws.specs.Lines.{defines}
 use Rattle.unit_laws.specs.UnitItems.{taken}
 use Rattle.no_offence_laws.proofs.ListLemmas.{In, AllOf, all_at}

@@ -5,25 +5,25 @@ use Rattle.std.specs.List.{flat_map, list_all}
 use Rattle.std.specs.Str.{bytes_eq}
 use Rattle.std.proofs.lemmas.Bool.{cases_Bool, and_parts}
 use Rattle.std.proofs.lemmas.Option.{same_Some}
-use Rattle.cs_base.proofs.FileMapLemmas.{bytes_eq-equal}
-use Rattle.cs_base.specs.declared.tokens.Kind.{Kind}
-use Rattle.cs_base.specs.declared.tokens.Kind.TheVariants.{Ident}
-use Rattle.cs_base.specs.declared.tokens.Link.{Link}
-use Rattle.cs_base.specs.Token.{Token}
-use Rattle.cs_base.specs.Units.{UnitValue as Unit_}
-use Rattle.part_lexer.specs.Characters.{is_word}
-use Rattle.line_shape.specs.Signs.{is_identifier, is_name}
-use Rattle.linkage_join.specs.Linkage.{UnitValue, link_to, first_spelled, names_of, unit_links as links_in, links_after, links_of as external_links}
-use Rattle.scope_bind.specs.declared.bound.Name.{Name}
-use Rattle.scope_bind.specs.Names.{entity_at}
-use Rattle.expansion_laws.specs.Spelled.{fits, is_spelled}
-use Rattle.expansion_laws.proofs.ListLemmas.{AllToks, toks_at, toks_pass}
-use Rattle.expansion_laws.proofs.ShapeLemmas.{names_are_words}
+use Rattle.rename_rules.proofs.Below.cs_base.FileMapLemmas.{bytes_eq-equal}
+use Rattle.rename_rules.specs.Below.cs_base.declared.tokens.Kind.{Kind}
+use Rattle.rename_rules.specs.Below.cs_base.declared.tokens.Kind.TheVariants.{Ident}
+use Rattle.rename_rules.specs.Below.cs_base.declared.tokens.Link.{Link}
+use Rattle.rename_rules.specs.Below.cs_base.Token.{Token}
+use Rattle.rename_rules.specs.Below.cs_base.Units.{UnitValue as Unit_}
+use Rattle.rename_rules.specs.Below.part_lexer.Characters.{is_word}
+use Rattle.rename_rules.specs.Below.line_shape.Signs.{is_identifier, is_name}
+use Rattle.rename_rules.specs.Below.linkage_join.Linkage.{UnitValue, link_to, first_spelled, names_of, unit_links as links_in, links_after, links_of as external_links}
+use Rattle.rename_rules.specs.Below.scope_bind.declared.bound.Name.{Name}
+use Rattle.rename_rules.specs.Below.scope_bind.Names.{entity_at}
+use Rattle.edited_unit_laws.specs.Below.expansion_laws.Spelled.{fits, is_spelled}
+use Rattle.edited_unit_laws.proofs.Below.expansion_laws.ListLemmas.{AllToks, toks_at, toks_pass}
+use Rattle.edited_unit_laws.proofs.Below.expansion_laws.ShapeLemmas.{names_are_words}
 use Rattle.unit_laws.proofs.NoteLemmas.{LinkHas, in_at}
-use Rattle.part_respell.specs.Respelled.{spelled}
-use Rattle.ws_core.specs.Analysis.{UnitAnalysis, AnalysisValue}
-use Rattle.ws_core.specs.Links.{is_bound_to, first_occurrence, occurrence_link, occurrence_links, is_external_name, external_names_from, names_of_units, are_alike, unit_links, links_of}
-use Rattle.ws_core.proofs.NamingLemmas.{filter_in}
+use Rattle.rename_rules.specs.Below.part_respell.Respelled.{spelled}
+use Rattle.rename_rules.specs.Below.ws_core.Analysis.{UnitAnalysis, AnalysisValue}
+use Rattle.rename_rules.specs.Below.ws_core.Links.{is_bound_to, first_occurrence, occurrence_link, occurrence_links, is_external_name, external_names_from, names_of_units, are_alike, unit_links, links_of}
+use Rattle.rename_rules.proofs.Below.ws_core.NamingLemmas.{filter_in}
 use Rattle.no_offence_laws.specs.Spellings.{LinkedStayAlike}
 use Rattle.no_offence_laws.proofs.ListLemmas.{In, AllOf, all_of, all_at, found}
 use Rattle.no_offence_laws.proofs.AlikeLemmas.{linked_alike}

@@ -5,39 +5,39 @@ use Rattle.std.specs.List.{flat_map, list_all}
 use Rattle.std.specs.Option.{option_map_or}
 use Rattle.std.proofs.lemmas.Bool.{cases_Bool, and_parts, and_from, eq-eqb, false_from_ne_true}
 use Rattle.std.proofs.lemmas.List.Folds.{list_all-append}
-use Rattle.cs_base.specs.declared.positions.Part.{Part}
-use Rattle.cs_base.specs.declared.positions.Pos.{Pos}
-use Rattle.cs_base.specs.declared.tokens.Kind.{Kind}
-use Rattle.cs_base.specs.declared.tokens.Kind.TheVariants.{Ident}
-use Rattle.cs_base.specs.Padding.{padded}
-use Rattle.cs_base.specs.Token.{Token, token}
-use Rattle.part_lexer.specs.Characters.{double_quote, is_nondigit, is_word}
-use Rattle.part_lexer.specs.OneToken.{one_token_of}
-use Rattle.part_lexer.specs.Places.{pos}
-use Rattle.part_lexer.specs.Spelling.{is_identifier_text}
-use Rattle.line_shape.specs.Signs.{is_identifier}
-use Rattle.paste_origin.specs.Pasting.{pasted_as, joined, glue_of}
-use Rattle.paste_origin.specs.Strings.{space, NotAString, escaped, spelling_of, later_spelling, spellings_of, string_text, string_token, is_string, stringize_of}
-use Rattle.macro_body.specs.Notes as expansion
-use Rattle.macro_expand.specs.Renaming.{Renaming, renamed, labelled_as}
-use Rattle.source_files.specs.KeptFiles.{KeptValue, kept_at}
-use Rattle.unit_steps.specs.Notes.{Happened, pasted_of, stringized_of}
-use Rattle.unit_steps.specs.State.{Did}
-use Rattle.unit_steps.specs.Texts.{UnitTextValue}
-use Rattle.expansion_laws.specs.Spelled.{fits}
-use Rattle.expansion_laws.specs.Telling.{IsPasted}
-use Rattle.expansion_laws.proofs.ListLemmas.{AllToks, toks_at}
-use Rattle.expansion_laws.proofs.PiecesLemmas.{glue_is}
+use Rattle.rename_rules.specs.Below.cs_base.declared.positions.Part.{Part}
+use Rattle.rename_rules.specs.Below.cs_base.declared.positions.Pos.{Pos}
+use Rattle.rename_rules.specs.Below.cs_base.declared.tokens.Kind.{Kind}
+use Rattle.rename_rules.specs.Below.cs_base.declared.tokens.Kind.TheVariants.{Ident}
+use Rattle.rename_rules.specs.Below.cs_base.Padding.{padded}
+use Rattle.rename_rules.specs.Below.cs_base.Token.{Token, token}
+use Rattle.rename_rules.specs.Below.part_lexer.Characters.{double_quote, is_nondigit, is_word}
+use Rattle.rename_rules.specs.Below.part_lexer.OneToken.{one_token_of}
+use Rattle.rename_rules.specs.Below.part_lexer.Places.{pos}
+use Rattle.rename_rules.specs.Below.part_lexer.Spelling.{is_identifier_text}
+use Rattle.rename_rules.specs.Below.line_shape.Signs.{is_identifier}
+use Rattle.rename_rules.specs.Below.paste_origin.Pasting.{pasted_as, joined, glue_of}
+use Rattle.rename_rules.specs.Below.paste_origin.Strings.{space, NotAString, escaped, spelling_of, later_spelling, spellings_of, string_text, string_token, is_string, stringize_of}
+use Rattle.rename_rules.specs.Below.macro_body.Notes as expansion
+use Rattle.rename_rules.specs.Below.macro_expand.Renaming.{Renaming, renamed, labelled_as}
+use Rattle.rename_rules.specs.Below.source_files.KeptFiles.{KeptValue, kept_at}
+use Rattle.rename_rules.specs.Below.unit_steps.Notes.{Happened, pasted_of, stringized_of}
+use Rattle.rename_rules.specs.Below.unit_steps.State.{Did}
+use Rattle.rename_rules.specs.Below.unit_steps.Texts.{UnitTextValue}
+use Rattle.edited_unit_laws.specs.Below.expansion_laws.Spelled.{fits}
+use Rattle.edited_unit_laws.specs.Below.expansion_laws.Telling.{IsPasted}
+use Rattle.edited_unit_laws.proofs.Below.expansion_laws.ListLemmas.{AllToks, toks_at}
+use Rattle.edited_unit_laws.proofs.Below.expansion_laws.PiecesLemmas.{glue_is}
 use Rattle.unit_laws.specs.UnitLinks.{IsIn as IsInList}
 use Rattle.unit_laws.proofs.DoneLemmas.{HappenedSo, NotedSo}
 use Rattle.unit_laws.proofs.NoteLemmas.{in_at, each_in, flat_in}
 use Rattle.unit_laws.proofs.UnitLemmas.{unit_has}
-use Rattle.part_respell.specs.Respelled.{member_over, put_in, put_at, put_for, spelled, spelled_from}
-use Rattle.ws_core.specs.Analysed.{Analysed}
-use Rattle.ws_core.specs.Analysis.{UnitAnalysis, AnalysisValue}
-use Rattle.ws_core.specs.FileTokens.{file_tokens}
-use Rattle.ws_core.specs.Parts.{AreMembers, Begins}
-use Rattle.ws_core.proofs.NamingLemmas.{in_right}
+use Rattle.rename_rules.specs.Below.part_respell.Respelled.{member_over, put_in, put_at, put_for, spelled, spelled_from}
+use Rattle.rename_rules.specs.Below.ws_core.Analysed.{Analysed}
+use Rattle.rename_rules.specs.Below.ws_core.Analysis.{UnitAnalysis, AnalysisValue}
+use Rattle.rename_rules.specs.Below.ws_core.FileTokens.{file_tokens}
+use Rattle.rename_rules.specs.Below.ws_core.Parts.{AreMembers, Begins}
+use Rattle.rename_rules.proofs.Below.ws_core.NamingLemmas.{in_right}
 use Rattle.rename_rules.specs.Offences.{stringized_places, header_places}
 use Rattle.rename_rules.specs.Tokens.{holders, holds_member, pasted_tokens, starts_in}
 use Rattle.no_offence_laws.specs.Allowed.{IsAllowed}

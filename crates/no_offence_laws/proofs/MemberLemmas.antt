@@ -5,20 +5,20 @@ use Rattle.std.specs.List.{flat_map}
 use Rattle.std.specs.Option.{option_map_or, option_and_then}
 use Rattle.std.proofs.lemmas.Bool.{cases_lt}
 use Rattle.std.proofs.lemmas.Option.{same_Some, slice_get-map}
-use Rattle.cs_base.specs.declared.positions.Part.{Part}
-use Rattle.cs_base.specs.declared.positions.Pos.{Pos}
-use Rattle.cs_base.specs.Token.{Token, has_origins}
-use Rattle.part_lexer.specs.Tokens.{tokens_of}
-use Rattle.eclass_map.specs.Chain.{here}
-use Rattle.eclass_map.specs.Positions.{along, holds}
-use Rattle.eclass_map.proofs.TokenFacts.{holding}
-use Rattle.source_files.specs.Files.{Table}
-use Rattle.source_files.specs.KeptFiles.{KeptValue, kept_in, kept_at}
-use Rattle.part_respell.specs.Respelled.{member_over}
-use Rattle.ws_core.specs.Analysis.{UnitAnalysis, AnalysisValue}
-use Rattle.ws_core.specs.FileTokens.{kept_tokens, entry_tokens, table_tokens, numbers_brought, file_tokens, span_of, IsFileToken}
-use Rattle.ws_core.specs.Parts.{IsCharacter, IsStart, IsPart, AreMembers}
-use Rattle.ws_core.proofs.NamingLemmas.{split_at, in_left, in_right, in_filter}
+use Rattle.rename_rules.specs.Below.cs_base.declared.positions.Part.{Part}
+use Rattle.rename_rules.specs.Below.cs_base.declared.positions.Pos.{Pos}
+use Rattle.rename_rules.specs.Below.cs_base.Token.{Token, has_origins}
+use Rattle.rename_rules.specs.Below.part_lexer.Tokens.{tokens_of}
+use Rattle.rename_rules.specs.Below.eclass_map.Chain.{here}
+use Rattle.rename_rules.specs.Below.eclass_map.Positions.{along, holds}
+use Rattle.rename_rules.proofs.Below.eclass_map.TokenFacts.{holding}
+use Rattle.rename_rules.specs.Below.source_files.Files.{Table}
+use Rattle.rename_rules.specs.Below.source_files.KeptFiles.{KeptValue, kept_in, kept_at}
+use Rattle.rename_rules.specs.Below.part_respell.Respelled.{member_over}
+use Rattle.rename_rules.specs.Below.ws_core.Analysis.{UnitAnalysis, AnalysisValue}
+use Rattle.rename_rules.specs.Below.ws_core.FileTokens.{kept_tokens, entry_tokens, table_tokens, numbers_brought, file_tokens, span_of, IsFileToken}
+use Rattle.rename_rules.specs.Below.ws_core.Parts.{IsCharacter, IsStart, IsPart, AreMembers}
+use Rattle.rename_rules.proofs.Below.ws_core.NamingLemmas.{split_at, in_left, in_right, in_filter}
 use Rattle.rename_rules.proofs.ClassLemmas.{same_pos, held_character}
 use Rattle.rename_rules.specs.Tokens.{file_toks, entry_tokens as entry_toks, kept_tokens as kept_toks, all_file_tokens}
 use Rattle.no_offence_laws.proofs.ListLemmas.{In, found}

@@ -5,19 +5,19 @@ use Rattle.std.specs.List.{flat_map, list_any}
 use Rattle.std.specs.Option.{option_map_or}
 use Rattle.std.specs.Str.{bytes_eq}
 use Rattle.std.proofs.lemmas.Bool.{cases_Bool, both_ways}
-use Rattle.cs_base.proofs.FileMapLemmas.{bytes_eq-same, bytes_eq-equal}
-use Rattle.cs_base.specs.declared.causes.Cause.TheVariants as cause
-use Rattle.cs_base.specs.declared.positions.Part.{Part}
-use Rattle.cs_base.specs.declared.positions.Pos.{Pos}
-use Rattle.cs_base.specs.Reserved.{is_reserved_text}
-use Rattle.cs_base.specs.Token.{Token}
-use Rattle.line_shape.specs.Signs.{is_name}
-use Rattle.source_files.specs.KeptFiles.{KeptValue, kept_at}
-use Rattle.part_respell.specs.Respelled.{spelled}
-use Rattle.ws_core.specs.Analysis.{AnalysisValue}
-use Rattle.ws_core.specs.FileTokens.{file_tokens}
-use Rattle.ws_core.specs.Places.{is_read_only, is_read_only_path}
-use Rattle.ws_core.proofs.NamingLemmas.{in_filter}
+use Rattle.rename_rules.proofs.Below.cs_base.FileMapLemmas.{bytes_eq-same, bytes_eq-equal}
+use Rattle.rename_rules.specs.Below.cs_base.declared.causes.Cause.TheVariants as cause
+use Rattle.rename_rules.specs.Below.cs_base.declared.positions.Part.{Part}
+use Rattle.rename_rules.specs.Below.cs_base.declared.positions.Pos.{Pos}
+use Rattle.rename_rules.specs.Below.cs_base.Reserved.{is_reserved_text}
+use Rattle.rename_rules.specs.Below.cs_base.Token.{Token}
+use Rattle.rename_rules.specs.Below.line_shape.Signs.{is_name}
+use Rattle.rename_rules.specs.Below.source_files.KeptFiles.{KeptValue, kept_at}
+use Rattle.rename_rules.specs.Below.part_respell.Respelled.{spelled}
+use Rattle.rename_rules.specs.Below.ws_core.Analysis.{AnalysisValue}
+use Rattle.rename_rules.specs.Below.ws_core.FileTokens.{file_tokens}
+use Rattle.rename_rules.specs.Below.ws_core.Places.{is_read_only, is_read_only_path}
+use Rattle.rename_rules.proofs.Below.ws_core.NamingLemmas.{in_filter}
 use Rattle.rename_rules.specs.First.{offence, standing, member_offences, spelling_offences, offences_of}
 use Rattle.rename_rules.specs.Offences.{read_only_place, read_only_places, reserved_place, reserved_places, stringized_places, header_places, no_identifier_place, no_identifier_places, occurring_place, occurring_places, clashing_place, clashing_places, too_large_places, shadowed_places}
 use Rattle.rename_rules.specs.Tokens.{all_file_tokens, pasted_tokens, member_of, holds_member, start_of, starts_in, holders, is_new_spelling, clashes, first_place}

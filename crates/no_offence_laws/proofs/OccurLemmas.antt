@@ -2,30 +2,30 @@
 use Rattle.std.proofs.Common.{◌≡◌, ℕ, Bool, true, false, List, Some, refl, sym, ap, subst, ◌∙◌}
 use Rattle.std.specs.Prelude.{Option, slice_get}
 use Rattle.std.specs.List.{flat_map}
-use Rattle.cs_base.specs.declared.positions.Pos.{Pos}
-use Rattle.cs_base.specs.declared.tokens.Kind.{Kind}
-use Rattle.cs_base.specs.declared.tokens.Kind.TheVariants.{Number, Str}
-use Rattle.cs_base.specs.Token.{Token}
-use Rattle.paste_origin.specs.Strings.{string_text, string_token}
-use Rattle.line_shape.specs.Signs.{is_identifier, is_punctuator}
-use Rattle.macro_body.specs.Notes as expansion
-use Rattle.macro_expand.specs.Renaming.{occurs}
-use Rattle.macro_body.specs.Substitution.{put_in, line_number, path_string}
-use Rattle.unit_steps.specs.Conditions.{answer_for}
-use Rattle.source_files.specs.Files.{SourceFile, Table}
-use Rattle.source_files.specs.Tables.{IsGrown}
-use Rattle.unit_steps.specs.Notes.{Note, Happened, pasted_of}
-use Rattle.source_files.specs.Sources.{source_at}
-use Rattle.unit_steps.specs.Texts.{UnitTextValue, unit_text}
-use Rattle.include_tree.proofs.StayingLemmas.{source-grown}
-use Rattle.expansion_laws.proofs.ListLemmas.{AllToks, each_tok, toks_at}
-use Rattle.expansion_laws.proofs.TellingLemmas.{string_is}
+use Rattle.rename_rules.specs.Below.cs_base.declared.positions.Pos.{Pos}
+use Rattle.rename_rules.specs.Below.cs_base.declared.tokens.Kind.{Kind}
+use Rattle.rename_rules.specs.Below.cs_base.declared.tokens.Kind.TheVariants.{Number, Str}
+use Rattle.rename_rules.specs.Below.cs_base.Token.{Token}
+use Rattle.rename_rules.specs.Below.paste_origin.Strings.{string_text, string_token}
+use Rattle.rename_rules.specs.Below.line_shape.Signs.{is_identifier, is_punctuator}
+use Rattle.rename_rules.specs.Below.macro_body.Notes as expansion
+use Rattle.rename_rules.specs.Below.macro_expand.Renaming.{occurs}
+use Rattle.rename_rules.specs.Below.macro_body.Substitution.{put_in, line_number, path_string}
+use Rattle.rename_rules.specs.Below.unit_steps.Conditions.{answer_for}
+use Rattle.rename_rules.specs.Below.source_files.Files.{SourceFile, Table}
+use Rattle.rename_rules.specs.Below.source_files.Tables.{IsGrown}
+use Rattle.rename_rules.specs.Below.unit_steps.Notes.{Note, Happened, pasted_of}
+use Rattle.rename_rules.specs.Below.source_files.Sources.{source_at}
+use Rattle.rename_rules.specs.Below.unit_steps.Texts.{UnitTextValue, unit_text}
+use Rattle.rename_rules.proofs.Below.include_tree.StayingLemmas.{source-grown}
+use Rattle.edited_unit_laws.proofs.Below.expansion_laws.ListLemmas.{AllToks, each_tok, toks_at}
+use Rattle.edited_unit_laws.proofs.Below.expansion_laws.TellingLemmas.{string_is}
 use Rattle.unit_laws.specs.UnitLinks.{IsIn}
 use Rattle.unit_laws.proofs.DoneLemmas.{UnitRules}
 use Rattle.unit_laws.proofs.NoteLemmas.{TextHas, EventHas, flat_in, in_at}
 use Rattle.unit_laws.proofs.PartLemmas.{from_files}
 use Rattle.unit_laws.proofs.TextLemmas.{IsText, text_is, unit_text_has}
-use Rattle.ws_core.specs.Analysis.{UnitAnalysis, AnalysisValue}
+use Rattle.rename_rules.specs.Below.ws_core.Analysis.{UnitAnalysis, AnalysisValue}
 use Rattle.no_offence_laws.specs.Occurring.{occurring_in}
 use Rattle.no_offence_laws.proofs.ListLemmas.{In}
 use Rattle.no_offence_laws.proofs.OccurringLemmas.{file_tokens_occur, pasted_tokens_occur}

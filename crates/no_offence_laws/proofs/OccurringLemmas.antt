@@ -5,22 +5,22 @@ use Rattle.std.specs.List.{flat_map, list_any}
 use Rattle.std.specs.Option.{option_map_or, option_and_then}
 use Rattle.std.specs.Str.{bytes_eq}
 use Rattle.std.proofs.lemmas.Bool.{cases_Bool, both_ways, and_parts, and_from, or_left, or_right, or_cases, eqb-true, eq-eqb}
-use Rattle.cs_base.proofs.FileMapLemmas.{bytes_eq-equal, bytes_eq-same}
-use Rattle.cs_base.specs.declared.positions.Part.{Part}
-use Rattle.cs_base.specs.declared.positions.Pos.{Pos}
-use Rattle.cs_base.specs.declared.tokens.Kind.{Kind}
-use Rattle.cs_base.specs.declared.tokens.Kind.TheVariants.{Ident, Punct}
-use Rattle.cs_base.specs.Reserved.{is_reserved_text}
-use Rattle.cs_base.specs.Token.{Token}
-use Rattle.line_shape.specs.Signs.{is_identifier, is_punctuator, is_name}
-use Rattle.macro_expand.specs.Renaming.{Renaming}
-use Rattle.macro_expand.specs.Renaming as macros
-use Rattle.source_files.specs.Files.{Table}
-use Rattle.source_files.specs.KeptFiles.{KeptValue, kept_in}
-use Rattle.part_respell.specs.Respelled.{spelled}
-use Rattle.ws_core.specs.Analysed.{Analysed}
-use Rattle.ws_core.specs.Analysis.{UnitAnalysis, AnalysisValue}
-use Rattle.ws_core.proofs.NamingLemmas.{split_at, in_left, in_right, any_in}
+use Rattle.rename_rules.proofs.Below.cs_base.FileMapLemmas.{bytes_eq-equal, bytes_eq-same}
+use Rattle.rename_rules.specs.Below.cs_base.declared.positions.Part.{Part}
+use Rattle.rename_rules.specs.Below.cs_base.declared.positions.Pos.{Pos}
+use Rattle.rename_rules.specs.Below.cs_base.declared.tokens.Kind.{Kind}
+use Rattle.rename_rules.specs.Below.cs_base.declared.tokens.Kind.TheVariants.{Ident, Punct}
+use Rattle.rename_rules.specs.Below.cs_base.Reserved.{is_reserved_text}
+use Rattle.rename_rules.specs.Below.cs_base.Token.{Token}
+use Rattle.rename_rules.specs.Below.line_shape.Signs.{is_identifier, is_punctuator, is_name}
+use Rattle.rename_rules.specs.Below.macro_expand.Renaming.{Renaming}
+use Rattle.rename_rules.specs.Below.macro_expand.Renaming as macros
+use Rattle.rename_rules.specs.Below.source_files.Files.{Table}
+use Rattle.rename_rules.specs.Below.source_files.KeptFiles.{KeptValue, kept_in}
+use Rattle.rename_rules.specs.Below.part_respell.Respelled.{spelled}
+use Rattle.rename_rules.specs.Below.ws_core.Analysed.{Analysed}
+use Rattle.rename_rules.specs.Below.ws_core.Analysis.{UnitAnalysis, AnalysisValue}
+use Rattle.rename_rules.proofs.Below.ws_core.NamingLemmas.{split_at, in_left, in_right, any_in}
 use Rattle.rename_rules.specs.Tokens.{file_toks, entry_tokens, kept_tokens, pasted_tokens, holds_member}
 use Rattle.no_offence_laws.specs.Allowed.{IsAllowed}
 use Rattle.no_offence_laws.specs.KeptTokens.{Spells}

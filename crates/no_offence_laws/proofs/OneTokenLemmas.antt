@@ -4,13 +4,13 @@ use Rattle.std.specs.List.{list_all}
 use Rattle.std.proofs.lemmas.Bool.{both_ways, and_parts, and_from, false_from_ne_true, eqb-true}
 use Rattle.std.proofs.lemmas.Bool.Decides.{nat_tests}
 use Rattle.std.proofs.Math.Seq.{take-length}
-use Rattle.cs_base.specs.declared.tokens.Kind.{Kind}
-use Rattle.cs_base.specs.declared.tokens.Kind.TheVariants.{Ident, Other}
-use Rattle.part_lexer.specs.Characters.{line_feed, slash, backslash, carriage_return, is_nondigit, is_word, is_white, begins}
-use Rattle.part_lexer.specs.Logical.{Character, gone_length, logical_from, logical_of, spelling}
-use Rattle.part_lexer.specs.OneToken.{free_kind, only_token, one_token_of}
-use Rattle.part_lexer.specs.Spelling.{is_identifier_text, kind_of, kind_in}
-use Rattle.part_lexer.specs.Tokens.{front_length, kind_or_other, token_piece, piece_of, expects_header, with_token, found_from, found_of}
+use Rattle.rename_rules.specs.Below.cs_base.declared.tokens.Kind.{Kind}
+use Rattle.rename_rules.specs.Below.cs_base.declared.tokens.Kind.TheVariants.{Ident, Other}
+use Rattle.rename_rules.specs.Below.part_lexer.Characters.{line_feed, slash, backslash, carriage_return, is_nondigit, is_word, is_white, begins}
+use Rattle.rename_rules.specs.Below.part_lexer.Logical.{Character, gone_length, logical_from, logical_of, spelling}
+use Rattle.rename_rules.specs.Below.part_lexer.OneToken.{free_kind, only_token, one_token_of}
+use Rattle.rename_rules.specs.Below.part_lexer.Spelling.{is_identifier_text, kind_of, kind_in}
+use Rattle.rename_rules.specs.Below.part_lexer.Tokens.{front_length, kind_or_other, token_piece, piece_of, expects_header, with_token, found_from, found_of}
 
 -- a letter, a digit or `_` is none of some other characters
 pub word_apart : (c d : ℕ) → is_word d ≡ false → is_word c ≡ true → (c == d) ≡ false

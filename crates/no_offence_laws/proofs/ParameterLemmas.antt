@@ -6,22 +6,22 @@ use Rattle.std.specs.Option.{option_map}
 use Rattle.std.specs.Str.{bytes_eq}
 use Rattle.std.proofs.lemmas.Bool.{cases_Bool, and_parts}
 use Rattle.std.proofs.lemmas.Option.{none-some, same_Some}
-use Rattle.cs_base.proofs.FileMapLemmas.{bytes_eq-equal, bytes_eq-same}
-use Rattle.cs_base.specs.declared.tokens.Kind.{Kind}
-use Rattle.cs_base.specs.declared.tokens.Kind.TheVariants.{Ident}
-use Rattle.cs_base.specs.declared.tokens.Link.{Link}
-use Rattle.cs_base.specs.Token.{Token}
-use Rattle.part_lexer.specs.Characters.{less_than, double_quote, is_nondigit, is_word}
-use Rattle.part_lexer.specs.Spelling.{is_identifier_text, is_header_text, header_close, kind_of, kind_in}
-use Rattle.part_lexer.specs.Tokens.{kind_or_other}
-use Rattle.line_shape.specs.MacroLine.{MacroParts, macro, spellings, is_function_like, before_close, behind_close, is_parameter_list, is_identifier_list, params_in, are_distinct, function_macro, macro_of}
-use Rattle.line_shape.specs.Signs.{is_identifier, is_punctuator, is_name, is_open, is_close, is_ellipsis}
-use Rattle.macro_body.specs.declared.definitions.Definition.{Definition}
-use Rattle.macro_body.specs.Defining.{definition_of, defined_by}
-use Rattle.unit_steps.specs.Names.{spelled_in, linked_with, parameter_named, definition_links}
-use Rattle.unit_steps.specs.Notes.{Note, Linked, link, links_of}
+use Rattle.rename_rules.proofs.Below.cs_base.FileMapLemmas.{bytes_eq-equal, bytes_eq-same}
+use Rattle.rename_rules.specs.Below.cs_base.declared.tokens.Kind.{Kind}
+use Rattle.rename_rules.specs.Below.cs_base.declared.tokens.Kind.TheVariants.{Ident}
+use Rattle.rename_rules.specs.Below.cs_base.declared.tokens.Link.{Link}
+use Rattle.rename_rules.specs.Below.cs_base.Token.{Token}
+use Rattle.rename_rules.specs.Below.part_lexer.Characters.{less_than, double_quote, is_nondigit, is_word}
+use Rattle.rename_rules.specs.Below.part_lexer.Spelling.{is_identifier_text, is_header_text, header_close, kind_of, kind_in}
+use Rattle.rename_rules.specs.Below.part_lexer.Tokens.{kind_or_other}
+use Rattle.rename_rules.specs.Below.line_shape.MacroLine.{MacroParts, macro, spellings, is_function_like, before_close, behind_close, is_parameter_list, is_identifier_list, params_in, are_distinct, function_macro, macro_of}
+use Rattle.rename_rules.specs.Below.line_shape.Signs.{is_identifier, is_punctuator, is_name, is_open, is_close, is_ellipsis}
+use Rattle.rename_rules.specs.Below.macro_body.declared.definitions.Definition.{Definition}
+use Rattle.rename_rules.specs.Below.macro_body.Defining.{definition_of, defined_by}
+use Rattle.rename_rules.specs.Below.unit_steps.Names.{spelled_in, linked_with, parameter_named, definition_links}
+use Rattle.rename_rules.specs.Below.unit_steps.Notes.{Note, Linked, link, links_of}
 use Rattle.edited_unit_laws.specs.Lines.{Each, parameters_of}
-use Rattle.ws_core.proofs.NamingLemmas.{map_at, filter_in}
+use Rattle.rename_rules.proofs.Below.ws_core.NamingLemmas.{map_at, filter_in}
 use Rattle.no_offence_laws.proofs.ListLemmas.{In, any_at, found, not_found, in_flat}
 use Rattle.no_offence_laws.proofs.DirectiveLemmas.{in_more, first_or, none_in}
 use Rattle.no_offence_laws.proofs.FileLemmas.{StandsIn, name_spelled}

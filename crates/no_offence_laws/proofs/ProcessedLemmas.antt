@@ -6,45 +6,45 @@ use Rattle.std.specs.Option.{option_map_or, option_and_then}
 use Rattle.std.specs.Str.{bytes_eq}
 use Rattle.std.proofs.lemmas.Bool.{cases_Bool, cases_lt, and_parts, false_from_ne_true}
 use Rattle.std.proofs.lemmas.Option.{same_Some, none-some, slice_get_within}
-use Rattle.cs_base.specs.declared.positions.Part.{Part}
-use Rattle.cs_base.specs.declared.positions.Pos.{Pos}
-use Rattle.cs_base.specs.declared.tokens.Kind.{Kind}
-use Rattle.cs_base.specs.declared.tokens.Kind.TheVariants.{Ident}
-use Rattle.cs_base.specs.declared.tokens.Link.{Link}
-use Rattle.cs_base.specs.Token.{Token, origin_at}
-use Rattle.part_lexer.specs.Characters.{is_word}
-use Rattle.part_lexer.specs.Places.{pos}
-use Rattle.part_lexer.specs.Tokens.{tokens_of, firsts_of}
-use Rattle.part_lexer.proofs.OriginLemmas.{length-origins}
-use Rattle.line_shape.specs.declared.items.ItemKind.{ItemKind}
-use Rattle.line_shape.specs.declared.items.ItemKind.TheVariants as kind
-use Rattle.line_shape.specs.Items.{lines_of}
-use Rattle.line_shape.specs.Signs.{is_identifier, is_name}
-use Rattle.unit_steps.specs.declared.events.Reached.{Reached}
-use Rattle.source_files.specs.Files.{Table}
-use Rattle.source_files.specs.KeptFiles.{KeptValue, kept_at}
-use Rattle.include_tree.specs.Walk.{ItemText, item_texts, items_in}
-use Rattle.include_tree.proofs.StayingLemmas.{source-grown}
-use Rattle.eclass_map.specs.Chain.{here, along as then_link, back}
-use Rattle.eclass_map.specs.ClassTable.{LinkedBy, part_of_file}
-use Rattle.eclass_map.specs.Positions.{along, holds}
-use Rattle.eclass_map.proofs.TokenFacts.{holding, holds_from}
-use Rattle.expansion_laws.specs.Pieces.{IsOneOf, IsMadeOf, IsWhole}
-use Rattle.expansion_laws.specs.Spelled.{fits, is_spelled}
-use Rattle.expansion_laws.proofs.ListLemmas.{toks_at, toks_pass}
-use Rattle.expansion_laws.proofs.ShapeLemmas.{names_are_words}
+use Rattle.rename_rules.specs.Below.cs_base.declared.positions.Part.{Part}
+use Rattle.rename_rules.specs.Below.cs_base.declared.positions.Pos.{Pos}
+use Rattle.rename_rules.specs.Below.cs_base.declared.tokens.Kind.{Kind}
+use Rattle.rename_rules.specs.Below.cs_base.declared.tokens.Kind.TheVariants.{Ident}
+use Rattle.rename_rules.specs.Below.cs_base.declared.tokens.Link.{Link}
+use Rattle.rename_rules.specs.Below.cs_base.Token.{Token, origin_at}
+use Rattle.rename_rules.specs.Below.part_lexer.Characters.{is_word}
+use Rattle.rename_rules.specs.Below.part_lexer.Places.{pos}
+use Rattle.rename_rules.specs.Below.part_lexer.Tokens.{tokens_of, firsts_of}
+use Rattle.rename_rules.proofs.Below.part_lexer.OriginLemmas.{length-origins}
+use Rattle.rename_rules.specs.Below.line_shape.declared.items.ItemKind.{ItemKind}
+use Rattle.rename_rules.specs.Below.line_shape.declared.items.ItemKind.TheVariants as kind
+use Rattle.rename_rules.specs.Below.line_shape.Items.{lines_of}
+use Rattle.rename_rules.specs.Below.line_shape.Signs.{is_identifier, is_name}
+use Rattle.rename_rules.specs.Below.unit_steps.declared.events.Reached.{Reached}
+use Rattle.rename_rules.specs.Below.source_files.Files.{Table}
+use Rattle.rename_rules.specs.Below.source_files.KeptFiles.{KeptValue, kept_at}
+use Rattle.rename_rules.specs.Below.include_tree.Walk.{ItemText, item_texts, items_in}
+use Rattle.rename_rules.proofs.Below.include_tree.StayingLemmas.{source-grown}
+use Rattle.rename_rules.specs.Below.eclass_map.Chain.{here, along as then_link, back}
+use Rattle.rename_rules.specs.Below.eclass_map.ClassTable.{LinkedBy, part_of_file}
+use Rattle.rename_rules.specs.Below.eclass_map.Positions.{along, holds}
+use Rattle.rename_rules.proofs.Below.eclass_map.TokenFacts.{holding, holds_from}
+use Rattle.edited_unit_laws.specs.Below.expansion_laws.Pieces.{IsOneOf, IsMadeOf, IsWhole}
+use Rattle.edited_unit_laws.specs.Below.expansion_laws.Spelled.{fits, is_spelled}
+use Rattle.edited_unit_laws.proofs.Below.expansion_laws.ListLemmas.{toks_at, toks_pass}
+use Rattle.edited_unit_laws.proofs.Below.expansion_laws.ShapeLemmas.{names_are_words}
 use Rattle.unit_laws.specs.UnitItems.{expanded_name, taken, ReachedAreWhole}
 use Rattle.unit_laws.specs.UnitTokens.{UnitIsWhole}
-use Rattle.ws_core.specs.Analysed.{Analysed}
-use Rattle.ws_core.specs.Analysis.{UnitAnalysis, AnalysisValue}
-use Rattle.ws_core.specs.BroughtNumbers.{all_brought}
-use Rattle.ws_core.specs.FileTokens.{numbers_brought, span_of, IsFileToken}
-use Rattle.ws_core.specs.Links.{linked_pairs, links_of, pair_of}
-use Rattle.ws_core.specs.Naming.{computed_name, nameable, item_at, names_in_item, names_reached, names_processed, is_processed, where_processed, named_position, file_named, character_of, Names}
-use Rattle.ws_core.specs.Parts.{AreSame, IsPart, IsStart}
-use Rattle.ws_core.proofs.NamingLemmas.{split_at, in_left, in_right, filter_in, any_in}
-use Rattle.ws_core.proofs.PlaceNameLemmas.{kept_number}
-use Rattle.ws_core.proofs.TokenPlaceLemmas.{token_placed}
+use Rattle.rename_rules.specs.Below.ws_core.Analysed.{Analysed}
+use Rattle.rename_rules.specs.Below.ws_core.Analysis.{UnitAnalysis, AnalysisValue}
+use Rattle.rename_rules.specs.Below.ws_core.BroughtNumbers.{all_brought}
+use Rattle.rename_rules.specs.Below.ws_core.FileTokens.{numbers_brought, span_of, IsFileToken}
+use Rattle.rename_rules.specs.Below.ws_core.Links.{linked_pairs, links_of, pair_of}
+use Rattle.rename_rules.specs.Below.ws_core.Naming.{computed_name, nameable, item_at, names_in_item, names_reached, names_processed, is_processed, where_processed, named_position, file_named, character_of, Names}
+use Rattle.rename_rules.specs.Below.ws_core.Parts.{AreSame, IsPart, IsStart}
+use Rattle.rename_rules.proofs.Below.ws_core.NamingLemmas.{split_at, in_left, in_right, filter_in, any_in}
+use Rattle.rename_rules.proofs.Below.ws_core.PlaceNameLemmas.{kept_number}
+use Rattle.rename_rules.proofs.Below.ws_core.TokenPlaceLemmas.{token_placed}
 use Rattle.rename_rules.proofs.ClassLemmas.{same_pos}
 use Rattle.rename_rules.specs.Tokens.{holds_member}
 use Rattle.edited_unit_laws.specs.Lines.{Each}

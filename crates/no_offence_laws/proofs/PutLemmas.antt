@@ -5,14 +5,14 @@ use Rattle.std.specs.List.{list_all}
 use Rattle.std.specs.Option.{option_map_or}
 use Rattle.std.specs.Str.{bytes_eq}
 use Rattle.std.proofs.lemmas.Bool.{and_parts, and_from, or_left, or_right, eq-eqb}
-use Rattle.cs_base.proofs.FileMapLemmas.{bytes_eq-same}
-use Rattle.cs_base.specs.declared.positions.Part.{Part}
-use Rattle.cs_base.specs.declared.positions.Pos.{Pos}
-use Rattle.part_lexer.specs.Characters.{is_nondigit, is_word}
-use Rattle.part_lexer.specs.Spelling.{is_identifier_text}
-use Rattle.part_lexer.specs.Places.{pos}
-use Rattle.part_lexer.specs.Respelling.{Put, stays, words_stand, names_stand}
-use Rattle.part_respell.specs.Respelled.{member_over, put_in, put_at, put_of}
+use Rattle.rename_rules.proofs.Below.cs_base.FileMapLemmas.{bytes_eq-same}
+use Rattle.rename_rules.specs.Below.cs_base.declared.positions.Part.{Part}
+use Rattle.rename_rules.specs.Below.cs_base.declared.positions.Pos.{Pos}
+use Rattle.rename_rules.specs.Below.part_lexer.Characters.{is_nondigit, is_word}
+use Rattle.rename_rules.specs.Below.part_lexer.Spelling.{is_identifier_text}
+use Rattle.rename_rules.specs.Below.part_lexer.Places.{pos}
+use Rattle.rename_rules.specs.Below.part_lexer.Respelling.{Put, stays, words_stand, names_stand}
+use Rattle.rename_rules.specs.Below.part_respell.Respelled.{member_over, put_in, put_at, put_of}
 
 -- ---- identifiers
 

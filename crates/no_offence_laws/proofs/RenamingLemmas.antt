@@ -2,22 +2,22 @@
 use Rattle.std.proofs.Common.{◌≡◌, ℕ, zero, suc, ◌+◌, ◌<◌, ◌≤◌, List, [], ◌∷◌, ◌++◌, length, take, map, get_or, Option, None, Some, refl, sym, ap, subst, ◌∙◌, append_assoc, append-nil, arith, length-append}
 use Rattle.std.specs.Option.{option_map_or}
 use Rattle.std.proofs.lemmas.List.{take_more, length-take-le}
-use Rattle.cs_base.specs.declared.positions.Part.{Part}
-use Rattle.cs_base.specs.declared.positions.Pos.{Pos}
-use Rattle.cs_base.specs.Token.{Token, token}
-use Rattle.part_lexer.specs.Logical.{logical_of, spelling}
-use Rattle.part_lexer.specs.Places.{pos, origins_from}
-use Rattle.part_lexer.specs.Respelling.{Put, respell, moved}
-use Rattle.part_lexer.specs.Tokens.{tokens_of}
-use Rattle.part_lexer.proofs.OriginLemmas.{length-origins}
-use Rattle.macro_expand.specs.Renaming.{renamed}
-use Rattle.source_files.specs.KeptFiles.{KeptValue, kept_at}
-use Rattle.unit_steps.specs.Texts.{UnitTextValue}
-use Rattle.part_respell.specs.Respelled.{member_over, put_in, put_at, put_of, put_for, spelled, spelled_from}
+use Rattle.rename_rules.specs.Below.cs_base.declared.positions.Part.{Part}
+use Rattle.rename_rules.specs.Below.cs_base.declared.positions.Pos.{Pos}
+use Rattle.rename_rules.specs.Below.cs_base.Token.{Token, token}
+use Rattle.rename_rules.specs.Below.part_lexer.Logical.{logical_of, spelling}
+use Rattle.rename_rules.specs.Below.part_lexer.Places.{pos, origins_from}
+use Rattle.rename_rules.specs.Below.part_lexer.Respelling.{Put, respell, moved}
+use Rattle.rename_rules.specs.Below.part_lexer.Tokens.{tokens_of}
+use Rattle.rename_rules.proofs.Below.part_lexer.OriginLemmas.{length-origins}
+use Rattle.rename_rules.specs.Below.macro_expand.Renaming.{renamed}
+use Rattle.rename_rules.specs.Below.source_files.KeptFiles.{KeptValue, kept_at}
+use Rattle.rename_rules.specs.Below.unit_steps.Texts.{UnitTextValue}
+use Rattle.rename_rules.specs.Below.part_respell.Respelled.{member_over, put_in, put_at, put_of, put_for, spelled, spelled_from}
 use Rattle.edited_unit_laws.specs.EditedTokens.{moved_to, edited_token, EditedFilesKeepTokens}
-use Rattle.ws_core.specs.Analysis.{AnalysisValue}
-use Rattle.ws_core.proofs.PlaceNameLemmas.{kept_number}
-use Rattle.ws_core.proofs.TokenPlaceLemmas.{token_placed}
+use Rattle.rename_rules.specs.Below.ws_core.Analysis.{AnalysisValue}
+use Rattle.rename_rules.proofs.Below.ws_core.PlaceNameLemmas.{kept_number}
+use Rattle.rename_rules.proofs.Below.ws_core.TokenPlaceLemmas.{token_placed}
 use Rattle.no_offence_laws.specs.Renamings.{spell_from, moved_in, move_to, origins_for, trace_from, renaming, RenamingsSpell, EditedFilesAreRenamed}
 use Rattle.no_offence_laws.proofs.ListLemmas.{In}
 use Rattle.no_offence_laws.proofs.FileLemmas.{StandsIn, token_stands}

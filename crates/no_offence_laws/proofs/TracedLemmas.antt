@@ -9,43 +9,43 @@ use Rattle.std.proofs.lemmas.Bool.{and_parts}
 use Rattle.std.proofs.lemmas.Option.{same_Some}
 use Rattle.std.proofs.lemmas.List.{length-replicate}
 use Rattle.std.proofs.lemmas.List.Folds.{list_all-append}
-use Rattle.cs_base.specs.declared.positions.Pos.{Pos}
-use Rattle.cs_base.specs.Token.{Token}
-use Rattle.part_lexer.specs.Characters.{double_quote, is_word}
-use Rattle.part_lexer.specs.FileText.{TextValue, file_text}
-use Rattle.part_lexer.specs.Places.{pos, origins_from}
-use Rattle.part_lexer.specs.Tokens.{tokens_of, firsts_of}
-use Rattle.part_lexer.proofs.OriginLemmas.{length-origins}
-use Rattle.paste_origin.specs.Strings.{NotAString, stringize_of, string_text, string_token, is_string}
-use Rattle.part_lexer.specs.OneToken.{one_token_of}
-use Rattle.macro_body.specs.Substitution.{put_in, line_number, digit_origins, path_text}
-use Rattle.unit_steps.specs.Conditions.{answer_for}
-use Rattle.source_files.specs.Files.{Table, SourceFile, source_file}
-use Rattle.source_files.specs.KeptFiles.{KeptValue, kept_at}
-use Rattle.unit_steps.specs.Notes.{Note}
-use Rattle.source_files.specs.Sources.{read_as, source_kept, source_at}
-use Rattle.unit_steps.specs.declared.events.Event.{Event}
-use Rattle.unit_steps.specs.declared.events.EventKind.TheVariants as kind
-use Rattle.source_files.specs.Tables.{IsGrown}
-use Rattle.unit_steps.specs.Texts.{UnitTextValue, unit_text}
-use Rattle.include_tree.proofs.StayingLemmas.{source-grown}
-use Rattle.expansion_laws.specs.Spelled.{fits, is_spelled}
-use Rattle.expansion_laws.proofs.ListLemmas.{AllToks, each_tok, toks_at, toks_pass}
-use Rattle.expansion_laws.proofs.ShapeLemmas.{words_are_names}
+use Rattle.rename_rules.specs.Below.cs_base.declared.positions.Pos.{Pos}
+use Rattle.rename_rules.specs.Below.cs_base.Token.{Token}
+use Rattle.rename_rules.specs.Below.part_lexer.Characters.{double_quote, is_word}
+use Rattle.rename_rules.specs.Below.part_lexer.FileText.{TextValue, file_text}
+use Rattle.rename_rules.specs.Below.part_lexer.Places.{pos, origins_from}
+use Rattle.rename_rules.specs.Below.part_lexer.Tokens.{tokens_of, firsts_of}
+use Rattle.rename_rules.proofs.Below.part_lexer.OriginLemmas.{length-origins}
+use Rattle.rename_rules.specs.Below.paste_origin.Strings.{NotAString, stringize_of, string_text, string_token, is_string}
+use Rattle.rename_rules.specs.Below.part_lexer.OneToken.{one_token_of}
+use Rattle.rename_rules.specs.Below.macro_body.Substitution.{put_in, line_number, digit_origins, path_text}
+use Rattle.rename_rules.specs.Below.unit_steps.Conditions.{answer_for}
+use Rattle.rename_rules.specs.Below.source_files.Files.{Table, SourceFile, source_file}
+use Rattle.rename_rules.specs.Below.source_files.KeptFiles.{KeptValue, kept_at}
+use Rattle.rename_rules.specs.Below.unit_steps.Notes.{Note}
+use Rattle.rename_rules.specs.Below.source_files.Sources.{read_as, source_kept, source_at}
+use Rattle.rename_rules.specs.Below.unit_steps.declared.events.Event.{Event}
+use Rattle.rename_rules.specs.Below.unit_steps.declared.events.EventKind.TheVariants as kind
+use Rattle.rename_rules.specs.Below.source_files.Tables.{IsGrown}
+use Rattle.rename_rules.specs.Below.unit_steps.Texts.{UnitTextValue, unit_text}
+use Rattle.rename_rules.proofs.Below.include_tree.StayingLemmas.{source-grown}
+use Rattle.edited_unit_laws.specs.Below.expansion_laws.Spelled.{fits, is_spelled}
+use Rattle.edited_unit_laws.proofs.Below.expansion_laws.ListLemmas.{AllToks, each_tok, toks_at, toks_pass}
+use Rattle.edited_unit_laws.proofs.Below.expansion_laws.ShapeLemmas.{words_are_names}
 use Rattle.unit_laws.specs.UnitLinks.{IsIn}
 use Rattle.unit_laws.specs.UnitTokens.{BringsLine}
 use Rattle.unit_laws.proofs.PartLemmas.{from_files}
 use Rattle.unit_laws.proofs.SpellingLemmas.{files_are_spelled}
 use Rattle.unit_laws.proofs.TextLemmas.{line_event, answer_among}
-use Rattle.eclass_map.specs.Positions.{along}
-use Rattle.ws_core.specs.Analysis.{AnalysisValue}
-use Rattle.ws_core.specs.FileTokens.{file_tokens, numbers_brought, number_of_event, number_for, span_of}
-use Rattle.ws_core.specs.Parts.{Begins}
-use Rattle.ws_core.proofs.NamingLemmas.{in_left, in_right}
-use Rattle.expansion_laws.proofs.PiecesLemmas.{glue_is, quoted_fails}
+use Rattle.rename_rules.specs.Below.eclass_map.Positions.{along}
+use Rattle.rename_rules.specs.Below.ws_core.Analysis.{AnalysisValue}
+use Rattle.rename_rules.specs.Below.ws_core.FileTokens.{file_tokens, numbers_brought, number_of_event, number_for, span_of}
+use Rattle.rename_rules.specs.Below.ws_core.Parts.{Begins}
+use Rattle.rename_rules.proofs.Below.ws_core.NamingLemmas.{in_left, in_right}
+use Rattle.edited_unit_laws.proofs.Below.expansion_laws.PiecesLemmas.{glue_is, quoted_fails}
 use Rattle.unit_laws.proofs.DoneLemmas.{UnitRules}
-use Rattle.ws_core.proofs.ProcessedLemmas.{text_told}
-use Rattle.cs_base.proofs.FileMapLemmas.{bytes_eq-same}
+use Rattle.rename_rules.proofs.Below.ws_core.ProcessedLemmas.{text_told}
+use Rattle.rename_rules.proofs.Below.cs_base.FileMapLemmas.{bytes_eq-same}
 use Rattle.no_offence_laws.proofs.ListLemmas.{In, in_flat}
 use Rattle.no_offence_laws.proofs.FileLemmas.{token_stands}
 use Rattle.no_offence_laws.proofs.MemberLemmas.{file_token, span_is}

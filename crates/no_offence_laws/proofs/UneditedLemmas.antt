@@ -2,15 +2,15 @@
 use Rattle.std.proofs.Common.{◌≡◌, ℕ, zero, suc, ◌+◌, true, List, [], ◌∷◌, ◌++◌, length, Option, Some, None, refl, ap, ◌∙◌}
 use Rattle.std.specs.List.{list_all}
 use Rattle.std.specs.Option.{option_map_or, is_none}
-use Rattle.cs_base.specs.declared.positions.Part.{Part}
-use Rattle.cs_base.specs.declared.positions.Pos.{Pos}
-use Rattle.part_lexer.specs.Places.{pos, origins_from}
-use Rattle.macro_body.specs.Substitution.{digit_origins}
-use Rattle.source_files.specs.KeptFiles.{KeptValue}
-use Rattle.eclass_map.proofs.TokenFacts.{holding}
-use Rattle.part_respell.specs.Respelled.{member_over, put_at}
-use Rattle.ws_core.specs.Analysed.{Analysed}
-use Rattle.ws_core.specs.Analysis.{AnalysisValue}
+use Rattle.rename_rules.specs.Below.cs_base.declared.positions.Part.{Part}
+use Rattle.rename_rules.specs.Below.cs_base.declared.positions.Pos.{Pos}
+use Rattle.rename_rules.specs.Below.part_lexer.Places.{pos, origins_from}
+use Rattle.rename_rules.specs.Below.macro_body.Substitution.{digit_origins}
+use Rattle.rename_rules.specs.Below.source_files.KeptFiles.{KeptValue}
+use Rattle.rename_rules.proofs.Below.eclass_map.TokenFacts.{holding}
+use Rattle.rename_rules.specs.Below.part_respell.Respelled.{member_over, put_at}
+use Rattle.rename_rules.specs.Below.ws_core.Analysed.{Analysed}
+use Rattle.rename_rules.specs.Below.ws_core.Analysis.{AnalysisValue}
 use Rattle.no_offence_laws.specs.Allowed.{IsAllowed}
 use Rattle.no_offence_laws.specs.Renamings.{spell_from, moved_in, move_to, origins_for, trace_from, RenamingsKeepUnedited}
 use Rattle.no_offence_laws.proofs.KeptLemmas.{nothing}

@@ -4,40 +4,40 @@ use Rattle.std.specs.Prelude.{slice_get, cond}
 use Rattle.std.specs.List.{flat_map}
 use Rattle.std.specs.Str.{bytes_eq}
 use Rattle.std.proofs.lemmas.Option.{same_Some}
-use Rattle.cs_base.specs.Answer.{result_then, result_map_err}
-use Rattle.cs_base.specs.Token.{Token}
-use Rattle.cs_base.specs.Units.{UnitValue, defines_text}
-use Rattle.part_lexer.specs.FileText.{file_text}
+use Rattle.rename_rules.specs.Below.cs_base.Answer.{result_then, result_map_err}
+use Rattle.rename_rules.specs.Below.cs_base.Token.{Token}
+use Rattle.rename_rules.specs.Below.cs_base.Units.{UnitValue, defines_text}
+use Rattle.rename_rules.specs.Below.part_lexer.FileText.{file_text}
 use Rattle.std.specs.Fmt.{decimal}
-use Rattle.cs_base.specs.declared.positions.Pos.{Pos}
-use Rattle.part_lexer.specs.Characters.{is_word}
-use Rattle.part_lexer.specs.Places.{pos}
-use Rattle.macro_body.specs.Substitution.{line_number, digit_origins}
-use Rattle.ws_file.specs.Workspace.{WorkspaceValue}
-use Rattle.unit_steps.specs.declared.events.EventKind.{EventKind}
-use Rattle.unit_steps.specs.declared.events.EventKind.TheVariants as kind
-use Rattle.unit_steps.specs.Conditions.{answer_for, digit_place}
-use Rattle.source_files.specs.Faults.{Fault, first_place}
-use Rattle.source_files.specs.Files.{Source, SourceFile, Table, Carried, nothing_carried, Found, Lines, Made, entry, lines_path, defines_path, numbered, asked, opened}
-use Rattle.source_files.specs.KeptFiles.{kept_at}
-use Rattle.source_files.specs.Limits.{Limits, the_limits}
-use Rattle.include_tree.specs.OpeningStep.{open_file}
-use Rattle.unit_steps.specs.State.{Context, context, State, Outcome}
-use Rattle.source_files.specs.Opening.{Reader}
-use Rattle.include_tree.specs.Unit.{first_state, outer_file, main_file, unit_outcome}
-use Rattle.include_tree.specs.Walk.{file_items}
-use Rattle.include_tree.proofs.OutcomeLemmas.{onward_done}
-use Rattle.include_tree.proofs.StayLemmas.{IsStable, Stays, open_file_stays}
-use Rattle.include_tree.proofs.StayingWalk.{files_stay}
-use Rattle.include_tree.specs.Laws.{IfDone}
-use Rattle.source_files.specs.Tables.{IsGrown}
-use Rattle.unit_steps.specs.Notes.{Note}
-use Rattle.unit_steps.specs.Texts.{UnitTextValue, unit_text}
-use Rattle.include_tree.specs.Preprocessed.{Preprocessed, preprocessed, preprocessed_by}
-use Rattle.source_files.proofs.TableLemmas.{grown_refl, grown_trans, widens_asked, widens_opened}
-use Rattle.include_tree.proofs.StayingLemmas.{source-grown}
-use Rattle.expansion_laws.specs.Pieces.{IsMadeOf}
-use Rattle.expansion_laws.proofs.ListLemmas.{toks_at}
+use Rattle.rename_rules.specs.Below.cs_base.declared.positions.Pos.{Pos}
+use Rattle.rename_rules.specs.Below.part_lexer.Characters.{is_word}
+use Rattle.rename_rules.specs.Below.part_lexer.Places.{pos}
+use Rattle.rename_rules.specs.Below.macro_body.Substitution.{line_number, digit_origins}
+use Rattle.rename_rules.specs.Below.ws_file.Workspace.{WorkspaceValue}
+use Rattle.rename_rules.specs.Below.unit_steps.declared.events.EventKind.{EventKind}
+use Rattle.rename_rules.specs.Below.unit_steps.declared.events.EventKind.TheVariants as kind
+use Rattle.rename_rules.specs.Below.unit_steps.Conditions.{answer_for, digit_place}
+use Rattle.rename_rules.specs.Below.source_files.Faults.{Fault, first_place}
+use Rattle.rename_rules.specs.Below.source_files.Files.{Source, SourceFile, Table, Carried, nothing_carried, Found, Lines, Made, entry, lines_path, defines_path, numbered, asked, opened}
+use Rattle.rename_rules.specs.Below.source_files.KeptFiles.{kept_at}
+use Rattle.rename_rules.specs.Below.source_files.Limits.{Limits, the_limits}
+use Rattle.rename_rules.specs.Below.include_tree.OpeningStep.{open_file}
+use Rattle.rename_rules.specs.Below.unit_steps.State.{Context, context, State, Outcome}
+use Rattle.rename_rules.specs.Below.source_files.Opening.{Reader}
+use Rattle.rename_rules.specs.Below.include_tree.Unit.{first_state, outer_file, main_file, unit_outcome}
+use Rattle.rename_rules.specs.Below.include_tree.Walk.{file_items}
+use Rattle.rename_rules.proofs.Below.include_tree.OutcomeLemmas.{onward_done}
+use Rattle.rename_rules.proofs.Below.include_tree.StayLemmas.{IsStable, Stays, open_file_stays}
+use Rattle.rename_rules.proofs.Below.include_tree.StayingWalk.{files_stay}
+use Rattle.rename_rules.specs.Below.include_tree.Laws.{IfDone}
+use Rattle.rename_rules.specs.Below.source_files.Tables.{IsGrown}
+use Rattle.rename_rules.specs.Below.unit_steps.Notes.{Note}
+use Rattle.rename_rules.specs.Below.unit_steps.Texts.{UnitTextValue, unit_text}
+use Rattle.rename_rules.specs.Below.include_tree.Preprocessed.{Preprocessed, preprocessed, preprocessed_by}
+use Rattle.rename_rules.proofs.Below.source_files.TableLemmas.{grown_refl, grown_trans, widens_asked, widens_opened}
+use Rattle.rename_rules.proofs.Below.include_tree.StayingLemmas.{source-grown}
+use Rattle.edited_unit_laws.specs.Below.expansion_laws.Pieces.{IsMadeOf}
+use Rattle.edited_unit_laws.proofs.Below.expansion_laws.ListLemmas.{toks_at}
 use Rattle.unit_laws.specs.UnitLinks.{IsIn}
 use Rattle.unit_laws.specs.UnitNames.{HasNames, UnitIsMade}
 use Rattle.unit_laws.specs.UnitSpelling.{UnitIsSpelled}
@@ -49,10 +49,10 @@ use Rattle.unit_laws.proofs.NoteLemmas.{TextHas}
 use Rattle.unit_laws.proofs.ReachedLemmas.{reached_tokens_are_whole}
 use Rattle.unit_laws.proofs.SpellingLemmas.{unit_tokens_are_spelled}
 use Rattle.unit_laws.proofs.TextLemmas.{IsText, text_is, unit_text_has}
-use Rattle.ws_core.specs.Analysis.{UnitAnalysis, UnitsValue, AnalysisValue, analysis_and, with_unit, unit_read, analysed_from, analysis_of, read_unit, bound_unit, unit_analysis}
-use Rattle.ws_core.specs.FileTokens.{file_tokens, numbers_brought, number_of_event, number_for, table_tokens}
-use Rattle.ws_core.specs.Texts.{UnitFault, unit_fault, unit_with}
-use Rattle.ws_core.proofs.NamingLemmas.{split_at, in_right}
+use Rattle.rename_rules.specs.Below.ws_core.Analysis.{UnitAnalysis, UnitsValue, AnalysisValue, analysis_and, with_unit, unit_read, analysed_from, analysis_of, read_unit, bound_unit, unit_analysis}
+use Rattle.rename_rules.specs.Below.ws_core.FileTokens.{file_tokens, numbers_brought, number_of_event, number_for, table_tokens}
+use Rattle.rename_rules.specs.Below.ws_core.Texts.{UnitFault, unit_fault, unit_with}
+use Rattle.rename_rules.proofs.Below.ws_core.NamingLemmas.{split_at, in_right}
 use Rattle.no_offence_laws.proofs.ListLemmas.{In, in_flat}
 use Rattle.no_offence_laws.proofs.MemberLemmas.{file_token}
 use Rattle.no_offence_laws.proofs.TracedLemmas.{source_of_kept, Traced, line_told, answer_told, line_in, answer_in, rules_traced}

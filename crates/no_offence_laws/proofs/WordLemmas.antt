@@ -2,14 +2,14 @@
 use Rattle.std.proofs.Common.{◌≡◌, ℕ, ◌&&◌, ◌||◌, not, Bool, true, false, codes, List, [], ◌∷◌, drop, get_or, cond, inl, inr, refl, ◌∙◌}
 use Rattle.std.specs.Str.{bytes_eq}
 use Rattle.std.proofs.lemmas.Bool.{cases_Bool, and_from}
-use Rattle.cs_base.specs.declared.tokens.Kind.{Kind}
-use Rattle.cs_base.specs.declared.tokens.Kind.TheVariants.{Ident, Number, Char, Str, Punct, Other, Header}
-use Rattle.cs_base.specs.Token.{Token}
-use Rattle.part_lexer.specs.Tokens.{is_hash_text, with_token}
-use Rattle.part_lexer.specs.Respelling.{Put, respell, stays, names_stand, keeps_include}
-use Rattle.part_lexer.specs.KeptTokens.{keeps_spelled, front_before, keeps_tokens}
-use Rattle.line_shape.specs.Signs.{is_identifier, is_hash}
-use Rattle.line_shape.specs.Items.{onto_lines, lines_of}
+use Rattle.rename_rules.specs.Below.cs_base.declared.tokens.Kind.{Kind}
+use Rattle.rename_rules.specs.Below.cs_base.declared.tokens.Kind.TheVariants.{Ident, Number, Char, Str, Punct, Other, Header}
+use Rattle.rename_rules.specs.Below.cs_base.Token.{Token}
+use Rattle.rename_rules.specs.Below.part_lexer.Tokens.{is_hash_text, with_token}
+use Rattle.rename_rules.specs.Below.part_lexer.Respelling.{Put, respell, stays, names_stand, keeps_include}
+use Rattle.rename_rules.specs.Below.part_lexer.KeptTokens.{keeps_spelled, front_before, keeps_tokens}
+use Rattle.rename_rules.specs.Below.line_shape.Signs.{is_identifier, is_hash}
+use Rattle.rename_rules.specs.Below.line_shape.Items.{onto_lines, lines_of}
 use Rattle.no_offence_laws.proofs.ListLemmas.{AllOf}
 
 -- what is true of the word of a directive line

@@ -1,12 +1,12 @@
 -- Renamings against which no offence stands (this project's).
 use Rattle.std.specs.Prelude.{ℕ, ◌≡◌, true, None, List, Ok}
-use Rattle.cs_base.specs.declared.positions.Part.{Part}
-use Rattle.part_lexer.specs.Spelling.{is_identifier_text}
-use Rattle.ws_file.specs.Workspace.{WorkspaceValue}
-use Rattle.source_files.specs.Files.{Source}
-use Rattle.ws_core.specs.Analysed.{Analysed}
-use Rattle.ws_core.specs.Analysis.{analysis_of}
-use Rattle.ws_core.specs.Classes.{AreItsClasses}
+use Rattle.rename_rules.specs.Below.cs_base.declared.positions.Part.{Part}
+use Rattle.rename_rules.specs.Below.part_lexer.Spelling.{is_identifier_text}
+use Rattle.rename_rules.specs.Below.ws_file.Workspace.{WorkspaceValue}
+use Rattle.rename_rules.specs.Below.source_files.Files.{Source}
+use Rattle.rename_rules.specs.Below.ws_core.Analysed.{Analysed}
+use Rattle.rename_rules.specs.Below.ws_core.Analysis.{analysis_of}
+use Rattle.rename_rules.specs.Below.ws_core.Classes.{AreItsClasses}
 use Rattle.rename_rules.specs.Class.{IsClass}
 use Rattle.rename_rules.specs.First.{IsFirst, offences_of}
 

@@ -1,17 +1,17 @@
 -- Files in which a class is renamed and nothing stands against it (ISO/IEC 9899:1999, 5.1.1.2 phases 1 to 3).
 use Rattle.std.specs.Prelude.{ℕ, ◌≡◌, true, false, List, ◌∷◌, Some}
-use Rattle.cs_base.specs.declared.positions.Part.{Part}
-use Rattle.cs_base.specs.Token.{Token}
-use Rattle.part_lexer.specs.Respelling.{KeepsPieces}
-use Rattle.part_lexer.specs.Tokens.{tokens_of, firsts_of}
-use Rattle.line_shape.specs.Items.{lines_of}
-use Rattle.line_shape.specs.Signs.{is_hash}
-use Rattle.source_files.specs.KeptFiles.{KeptValue, kept_at}
-use Rattle.part_respell.specs.Respelled.{put_of}
+use Rattle.rename_rules.specs.Below.cs_base.declared.positions.Part.{Part}
+use Rattle.rename_rules.specs.Below.cs_base.Token.{Token}
+use Rattle.rename_rules.specs.Below.part_lexer.Respelling.{KeepsPieces}
+use Rattle.rename_rules.specs.Below.part_lexer.Tokens.{tokens_of, firsts_of}
+use Rattle.rename_rules.specs.Below.line_shape.Items.{lines_of}
+use Rattle.rename_rules.specs.Below.line_shape.Signs.{is_hash}
+use Rattle.rename_rules.specs.Below.source_files.KeptFiles.{KeptValue, kept_at}
+use Rattle.rename_rules.specs.Below.part_respell.Respelled.{put_of}
 use Rattle.rename_rules.specs.Tokens.{holds_member}
 use Rattle.edited_unit_laws.specs.Lines.{Each}
-use Rattle.ws_core.specs.Analysed.{Analysed}
-use Rattle.ws_core.specs.Analysis.{AnalysisValue}
+use Rattle.rename_rules.specs.Below.ws_core.Analysed.{Analysed}
+use Rattle.rename_rules.specs.Below.ws_core.Analysis.{AnalysisValue}
 use Rattle.no_offence_laws.specs.Allowed.{IsAllowed}
 
 -- the word of a directive line, which stands behind its `#` (6.10 paragraph 1), holds no member

@@ -1,16 +1,16 @@
 -- Lines of files under a renaming against which nothing stands (ISO/IEC 9899:1999, 6.10, 6.10.3).
 use Rattle.std.specs.Prelude.{ℕ, ◌≡◌, true, List, ◌∷◌, Some, drop}
-use Rattle.cs_base.specs.declared.positions.Part.{Part}
-use Rattle.cs_base.specs.Token.{Token}
-use Rattle.part_lexer.specs.Tokens.{tokens_of, firsts_of}
-use Rattle.line_shape.specs.Items.{lines_of}
-use Rattle.line_shape.specs.Signs.{is_hash}
-use Rattle.macro_expand.specs.Renaming.{Renaming}
-use Rattle.source_files.specs.KeptFiles.{KeptValue, kept_at}
-use Rattle.part_respell.specs.Respelled.{spelled}
+use Rattle.rename_rules.specs.Below.cs_base.declared.positions.Part.{Part}
+use Rattle.rename_rules.specs.Below.cs_base.Token.{Token}
+use Rattle.rename_rules.specs.Below.part_lexer.Tokens.{tokens_of, firsts_of}
+use Rattle.rename_rules.specs.Below.line_shape.Items.{lines_of}
+use Rattle.rename_rules.specs.Below.line_shape.Signs.{is_hash}
+use Rattle.rename_rules.specs.Below.macro_expand.Renaming.{Renaming}
+use Rattle.rename_rules.specs.Below.source_files.KeptFiles.{KeptValue, kept_at}
+use Rattle.rename_rules.specs.Below.part_respell.Respelled.{spelled}
 use Rattle.edited_unit_laws.specs.Lines.{Each, KeepsLine, defines, parameters_of}
-use Rattle.ws_core.specs.Analysed.{Analysed}
-use Rattle.ws_core.specs.Analysis.{AnalysisValue}
+use Rattle.rename_rules.specs.Below.ws_core.Analysed.{Analysed}
+use Rattle.rename_rules.specs.Below.ws_core.Analysis.{AnalysisValue}
 use Rattle.no_offence_laws.specs.Allowed.{IsAllowed}
 use Rattle.no_offence_laws.specs.KeptFiles.{WordsAreFree}
 use Rattle.no_offence_laws.specs.KeptTokens.{Spells}

@@ -10,3 +10,5 @@ pub mod Renamings
 pub mod MadeTokens
 pub mod ToldNames
 pub mod ReachedLines
+-- Words of the crates below, passed on.
+pub mod Below

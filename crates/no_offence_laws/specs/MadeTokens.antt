@@ -1,24 +1,24 @@
 -- Strings and pasted tokens of a unit under a renaming against which nothing stands (ISO/IEC 9899:1999, 6.10.3.2,
 -- 6.10.3.3).
 use Rattle.std.specs.Prelude.{ℕ, ◌≡◌, Bool, List, map, Ok}
-use Rattle.cs_base.specs.declared.positions.Part.{Part}
-use Rattle.cs_base.specs.Token.{Token}
-use Rattle.cs_base.specs.Units.{UnitValue}
-use Rattle.part_lexer.specs.FileText.{file_text}
-use Rattle.paste_origin.specs.Pasting.{glue_of}
-use Rattle.paste_origin.specs.Strings.{stringize_of}
-use Rattle.macro_body.specs.Notes as expansion
-use Rattle.macro_expand.specs.Renaming.{Renaming, renamed, labelled_as}
-use Rattle.source_files.specs.Files.{Source, Carried}
-use Rattle.source_files.specs.Tables.{IsGrown}
-use Rattle.source_files.specs.Limits.{the_limits}
-use Rattle.unit_steps.specs.Notes.{Happened}
-use Rattle.unit_steps.specs.State.{Did}
-use Rattle.unit_steps.specs.Texts.{unit_text}
-use Rattle.include_tree.specs.Unit.{unit_outcome}
-use Rattle.part_respell.specs.Respelled.{spelled}
-use Rattle.ws_core.specs.Analysed.{Analysed}
-use Rattle.ws_core.specs.Analysis.{UnitAnalysis, AnalysisValue}
+use Rattle.rename_rules.specs.Below.cs_base.declared.positions.Part.{Part}
+use Rattle.rename_rules.specs.Below.cs_base.Token.{Token}
+use Rattle.rename_rules.specs.Below.cs_base.Units.{UnitValue}
+use Rattle.rename_rules.specs.Below.part_lexer.FileText.{file_text}
+use Rattle.rename_rules.specs.Below.paste_origin.Pasting.{glue_of}
+use Rattle.rename_rules.specs.Below.paste_origin.Strings.{stringize_of}
+use Rattle.rename_rules.specs.Below.macro_body.Notes as expansion
+use Rattle.rename_rules.specs.Below.macro_expand.Renaming.{Renaming, renamed, labelled_as}
+use Rattle.rename_rules.specs.Below.source_files.Files.{Source, Carried}
+use Rattle.rename_rules.specs.Below.source_files.Tables.{IsGrown}
+use Rattle.rename_rules.specs.Below.source_files.Limits.{the_limits}
+use Rattle.rename_rules.specs.Below.unit_steps.Notes.{Happened}
+use Rattle.rename_rules.specs.Below.unit_steps.State.{Did}
+use Rattle.rename_rules.specs.Below.unit_steps.Texts.{unit_text}
+use Rattle.rename_rules.specs.Below.include_tree.Unit.{unit_outcome}
+use Rattle.rename_rules.specs.Below.part_respell.Respelled.{spelled}
+use Rattle.rename_rules.specs.Below.ws_core.Analysed.{Analysed}
+use Rattle.rename_rules.specs.Below.ws_core.Analysis.{UnitAnalysis, AnalysisValue}
 use Rattle.no_offence_laws.specs.Allowed.{IsAllowed}
 use Rattle.no_offence_laws.specs.Renamings.{renaming}
 use Rattle.no_offence_laws.specs.Spellings.{IsIn}

@@ -3,16 +3,16 @@
 use Rattle.std.specs.Prelude.{ℕ, ◌≡◌, ◌&&◌, ◌||◌, ◌==◌, if◌then◌else◌, Bool, true, false, Option, Some, None, List, [], ◌∷◌, ◌++◌}
 use Rattle.std.specs.List.{list_any}
 use Rattle.std.specs.Str.{bytes_eq}
-use Rattle.cs_base.specs.declared.positions.Part.{Part}
-use Rattle.cs_base.specs.declared.positions.Pos.{Pos}
-use Rattle.cs_base.specs.declared.tokens.Kind.{Kind}
-use Rattle.cs_base.specs.Reserved.{is_reserved_text}
-use Rattle.cs_base.specs.Token.{Token}
-use Rattle.line_shape.specs.Signs.{is_identifier, is_punctuator, is_name}
-use Rattle.macro_expand.specs.Renaming.{Renaming, Occurring, spelled, occurs}
+use Rattle.rename_rules.specs.Below.cs_base.declared.positions.Part.{Part}
+use Rattle.rename_rules.specs.Below.cs_base.declared.positions.Pos.{Pos}
+use Rattle.rename_rules.specs.Below.cs_base.declared.tokens.Kind.{Kind}
+use Rattle.rename_rules.specs.Below.cs_base.Reserved.{is_reserved_text}
+use Rattle.rename_rules.specs.Below.cs_base.Token.{Token}
+use Rattle.rename_rules.specs.Below.line_shape.Signs.{is_identifier, is_punctuator, is_name}
+use Rattle.rename_rules.specs.Below.macro_expand.Renaming.{Renaming, Occurring, spelled, occurs}
 use Rattle.rename_rules.specs.Tokens.{kept_tokens, pasted_tokens}
-use Rattle.ws_core.specs.Analysed.{Analysed}
-use Rattle.ws_core.specs.Analysis.{AnalysisValue}
+use Rattle.rename_rules.specs.Below.ws_core.Analysed.{Analysed}
+use Rattle.rename_rules.specs.Below.ws_core.Analysis.{AnalysisValue}
 use Rattle.no_offence_laws.specs.Allowed.{IsAllowed}
 use Rattle.no_offence_laws.specs.KeptTokens.{Spells}
 use Rattle.no_offence_laws.specs.Spellings.{IsOfFile, IsPasted}

@@ -1,8 +1,8 @@
 -- Uses of parameters under a renaming against which nothing stands (ISO/IEC 9899:1999, 6.10.3).
 use Rattle.std.specs.Prelude.{ℕ, Some, List}
-use Rattle.cs_base.specs.declared.positions.Part.{Part}
-use Rattle.ws_core.specs.Analysed.{Analysed}
-use Rattle.ws_core.specs.Naming.{Names}
+use Rattle.rename_rules.specs.Below.cs_base.declared.positions.Part.{Part}
+use Rattle.rename_rules.specs.Below.ws_core.Analysed.{Analysed}
+use Rattle.rename_rules.specs.Below.ws_core.Naming.{Names}
 use Rattle.no_offence_laws.specs.Allowed.{IsAllowed}
 use Rattle.no_offence_laws.specs.KeptLines.{LinesStayAlike}
 

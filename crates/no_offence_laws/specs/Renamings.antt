@@ -3,20 +3,20 @@ use Rattle.std.specs.Prelude.{ℕ, ◌≡◌, true, Option, Some, None, List, []
 use Rattle.std.specs.List.{flat_map, list_all}
 use Rattle.std.specs.Option.{is_none, option_map, option_map_or}
 use Rattle.std.specs.Str.{bytes_eq}
-use Rattle.cs_base.specs.declared.positions.Part.{Part}
-use Rattle.cs_base.specs.declared.positions.Pos.{Pos}
-use Rattle.cs_base.specs.Token.{Token}
-use Rattle.part_lexer.specs.Places.{pos, origins_from}
-use Rattle.part_lexer.specs.Tokens.{tokens_of, firsts_of, open_comment_of}
-use Rattle.macro_expand.specs.Renaming.{Renaming, renamed}
-use Rattle.macro_body.specs.Substitution.{digit_origins}
-use Rattle.unit_steps.specs.declared.events.Event.{Event}
-use Rattle.source_files.specs.KeptFiles.{KeptValue, kept_at}
-use Rattle.unit_steps.specs.Texts.{UnitTextValue}
-use Rattle.part_respell.specs.Respelled.{put_at, put_for, respelled, spelled}
+use Rattle.rename_rules.specs.Below.cs_base.declared.positions.Part.{Part}
+use Rattle.rename_rules.specs.Below.cs_base.declared.positions.Pos.{Pos}
+use Rattle.rename_rules.specs.Below.cs_base.Token.{Token}
+use Rattle.rename_rules.specs.Below.part_lexer.Places.{pos, origins_from}
+use Rattle.rename_rules.specs.Below.part_lexer.Tokens.{tokens_of, firsts_of, open_comment_of}
+use Rattle.rename_rules.specs.Below.macro_expand.Renaming.{Renaming, renamed}
+use Rattle.rename_rules.specs.Below.macro_body.Substitution.{digit_origins}
+use Rattle.rename_rules.specs.Below.unit_steps.declared.events.Event.{Event}
+use Rattle.rename_rules.specs.Below.source_files.KeptFiles.{KeptValue, kept_at}
+use Rattle.rename_rules.specs.Below.unit_steps.Texts.{UnitTextValue}
+use Rattle.rename_rules.specs.Below.part_respell.Respelled.{put_at, put_for, respelled, spelled}
 use Rattle.edited_unit_laws.specs.EditedTokens.{moved_to}
-use Rattle.ws_core.specs.Analysed.{Analysed}
-use Rattle.ws_core.specs.Analysis.{AnalysisValue}
+use Rattle.rename_rules.specs.Below.ws_core.Analysed.{Analysed}
+use Rattle.rename_rules.specs.Below.ws_core.Analysis.{AnalysisValue}
 use Rattle.no_offence_laws.specs.Allowed.{IsAllowed}
 use Rattle.no_offence_laws.specs.KeptFiles.{WordsAreFree}
 use Rattle.no_offence_laws.specs.KeptTokens.{Spells}

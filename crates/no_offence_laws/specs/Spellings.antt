@@ -1,16 +1,16 @@
 -- New spellings of tokens under a renaming against which nothing stands (this project's): what is linked stays alike, and
 -- what was apart stays apart.
 use Rattle.std.specs.Prelude.{ℕ, ◌≡◌, ◌⊎◌, true, List, Some, slice_get}
-use Rattle.cs_base.specs.declared.positions.Part.{Part}
-use Rattle.cs_base.specs.declared.tokens.Link.{Link}
-use Rattle.cs_base.specs.Token.{Token}
-use Rattle.part_lexer.specs.Tokens.{tokens_of}
-use Rattle.line_shape.specs.Signs.{is_name}
-use Rattle.source_files.specs.KeptFiles.{KeptValue, kept_at}
-use Rattle.part_respell.specs.Respelled.{spelled}
-use Rattle.ws_core.specs.Analysed.{Analysed}
-use Rattle.ws_core.specs.Analysis.{UnitAnalysis, AnalysisValue}
-use Rattle.ws_core.specs.Links.{links_of}
+use Rattle.rename_rules.specs.Below.cs_base.declared.positions.Part.{Part}
+use Rattle.rename_rules.specs.Below.cs_base.declared.tokens.Link.{Link}
+use Rattle.rename_rules.specs.Below.cs_base.Token.{Token}
+use Rattle.rename_rules.specs.Below.part_lexer.Tokens.{tokens_of}
+use Rattle.rename_rules.specs.Below.line_shape.Signs.{is_name}
+use Rattle.rename_rules.specs.Below.source_files.KeptFiles.{KeptValue, kept_at}
+use Rattle.rename_rules.specs.Below.part_respell.Respelled.{spelled}
+use Rattle.rename_rules.specs.Below.ws_core.Analysed.{Analysed}
+use Rattle.rename_rules.specs.Below.ws_core.Analysis.{UnitAnalysis, AnalysisValue}
+use Rattle.rename_rules.specs.Below.ws_core.Links.{links_of}
 use Rattle.no_offence_laws.specs.Allowed.{IsAllowed}
 
 -- the list has it

@@ -1,13 +1,13 @@
 -- Names of macros in units under a renaming against which nothing stands (ISO/IEC 9899:1999, 6.10.1, 6.10.3, 6.10.3.5,
 -- 6.10.8).
 use Rattle.std.specs.Prelude.{ℕ, ◌≡◌, true, List}
-use Rattle.cs_base.specs.declared.positions.Part.{Part}
-use Rattle.cs_base.specs.Token.{Token}
-use Rattle.macro_expand.specs.Renaming.{occurs}
-use Rattle.part_respell.specs.Respelled.{spelled}
+use Rattle.rename_rules.specs.Below.cs_base.declared.positions.Part.{Part}
+use Rattle.rename_rules.specs.Below.cs_base.Token.{Token}
+use Rattle.rename_rules.specs.Below.macro_expand.Renaming.{occurs}
+use Rattle.rename_rules.specs.Below.part_respell.Respelled.{spelled}
 use Rattle.unit_laws.specs.ToldNames.{is_first_name, IsTold}
-use Rattle.ws_core.specs.Analysed.{Analysed}
-use Rattle.ws_core.specs.Analysis.{UnitAnalysis, AnalysisValue}
+use Rattle.rename_rules.specs.Below.ws_core.Analysed.{Analysed}
+use Rattle.rename_rules.specs.Below.ws_core.Analysis.{UnitAnalysis, AnalysisValue}
 use Rattle.no_offence_laws.specs.Allowed.{IsAllowed}
 use Rattle.no_offence_laws.specs.Occurring.{occurring_in}
 use Rattle.no_offence_laws.specs.Renamings.{name_for}

@@ -3,3 +3,5 @@ pub mod SequenceLemmas
 pub mod SortLemmas
 pub mod FileLemmas
 pub mod NamedLemmas
+-- Words of the crates below, passed on.
+pub mod Below

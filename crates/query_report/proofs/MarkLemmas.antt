@@ -6,9 +6,9 @@ use Rattle.std.proofs.Math.Bool.{or_assoc}
 use Rattle.std.proofs.lemmas.Bool.{cases_eq, cases_lt, eq-eqb, ne_eqb}
 use Rattle.std.proofs.lemmas.List.{length-set, get_or-set_same, get_or-set_other, get_or-replicate, length-replicate}
 use Rattle.std.proofs.lemmas.Option.{slice_get_past}
-use Rattle.unit_steps.specs.declared.events.Reached.{Reached}
-use Rattle.source_files.specs.Files.{Table}
-use Rattle.unit_steps.specs.Texts.{UnitTextValue}
+use Rattle.include_tree.specs.Below.unit_steps.declared.events.Reached.{Reached}
+use Rattle.include_tree.specs.Below.source_files.Files.{Table}
+use Rattle.include_tree.specs.Below.unit_steps.Texts.{UnitTextValue}
 use Rattle.ws_core.specs.Texts.{TextsValue}
 use Rattle.query_report.specs.Skipped.{is_item, reaches, is_reached}
 use Rattle.query_report.specs.Marks.{count_at, is_marked, marked, marked_by, AreBlank, AreMarked}

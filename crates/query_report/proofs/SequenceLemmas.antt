@@ -7,7 +7,7 @@ use Rattle.std.proofs.lemmas.Grind.{flat_map-append}
 use Rattle.std.proofs.lemmas.List.{at_drop_more, at_drop_all}
 use Rattle.line_shape.specs.declared.items.Item.{Item}
 use Rattle.query_report.specs.declared.spans.Span.{Span}
-use Rattle.source_files.specs.KeptFiles.{KeptValue, kept_at}
+use Rattle.include_tree.specs.Below.source_files.KeptFiles.{KeptValue, kept_at}
 use Rattle.ws_core.specs.Texts.{TextsValue}
 use Rattle.query_report.specs.Skipped.{ended, going_on, sequences, span_line, file_lines, is_reached, items_in, lines_in, lines_at}
 use Rattle.query_report.specs.Marks.{count_at, is_marked, AreMarked}

@@ -2,10 +2,10 @@
 use Rattle.std.specs.Prelude.{◌≡◌, ◌<◌, ℕ, Bool, true, false, List, [], length, replicate, slice_set, slice_index_or}
 use Rattle.std.specs.List.{fold}
 use Rattle.std.specs.Option.{option_map_or}
-use Rattle.unit_steps.specs.declared.events.Reached.{Reached}
-use Rattle.source_files.specs.Files.{Table}
-use Rattle.source_files.specs.KeptFiles.{kept_at}
-use Rattle.unit_steps.specs.Texts.{UnitTextValue}
+use Rattle.include_tree.specs.Below.unit_steps.declared.events.Reached.{Reached}
+use Rattle.include_tree.specs.Below.source_files.Files.{Table}
+use Rattle.include_tree.specs.Below.source_files.KeptFiles.{kept_at}
+use Rattle.include_tree.specs.Below.unit_steps.Texts.{UnitTextValue}
 use Rattle.ws_core.specs.Texts.{TextsValue}
 use Rattle.query_report.specs.Skipped.{items_in, is_reached}
 

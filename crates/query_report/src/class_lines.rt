@@ -1,7 +1,7 @@
 // The report `class`: the members of the class that a place names.
 ghost use Rattle.std.specs.Prelude.{◌≡◌, ◌++◌, ℕ, Err, None, Some, false, IfOk, OnOk, slice_get};
-ghost use Rattle.source_files.specs.Faults.{place_of};
-ghost use Rattle.source_files.specs.KeptFiles.{kept_at};
+ghost use Rattle.include_tree.specs.Below.source_files.Faults.{place_of};
+ghost use Rattle.include_tree.specs.Below.source_files.KeptFiles.{kept_at};
 ghost use Rattle.ws_core.specs.ClassReport.{IsClassReport, part_line, part_lines, place_text};
 ghost use Rattle.ws_core.specs.Naming.{file_named};
 ghost use Rattle.ws_core.specs.Parts.{IsPart};

@@ -1,6 +1,6 @@
 // Source files in the order of their paths.
 ghost use Rattle.std.specs.Prelude.{◌≡◌, ◌++◌, ◌∷◌, [], IfOk, OnOk, if◌then◌else◌};
-ghost use Rattle.source_files.specs.KeptFiles.{kept_at};
+ghost use Rattle.include_tree.specs.Below.source_files.KeptFiles.{kept_at};
 ghost use Rattle.query_report.specs.Order.{is_pseudo, is_source, numbers_from, path_at, file_cmp, in_order};
 
 use cs_base::Memory;

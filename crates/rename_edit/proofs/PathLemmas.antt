@@ -19,10 +19,10 @@ use Rattle.cs_base.specs.declared.positions.Part.{Part}
 use Rattle.cs_base.specs.declared.positions.Pos.{Pos}
 use Rattle.cs_base.specs.Edit.{Edit, edit, comes_before, comes_last}
 use Rattle.cs_base.proofs.FileMapLemmas.{bytes_eq-same, bytes_eq-equal}
-use Rattle.line_shape.specs.MacroLine.{are_distinct}
-use Rattle.source_files.specs.Files.{Entry, Table}
-use Rattle.source_files.specs.KeptFiles.{KeptValue, kept, kept_bytes, kept_in, kept_at}
-use Rattle.source_files.specs.Tables.{paths_in, HasEachOnce, AreText}
+use Rattle.ws_core.specs.Below.line_shape.MacroLine.{are_distinct}
+use Rattle.include_tree.specs.Below.source_files.Files.{Entry, Table}
+use Rattle.include_tree.specs.Below.source_files.KeptFiles.{KeptValue, kept, kept_bytes, kept_in, kept_at}
+use Rattle.include_tree.specs.Below.source_files.Tables.{paths_in, HasEachOnce, AreText}
 use Rattle.ws_core.specs.Analysis.{AnalysisValue}
 use Rattle.ws_core.specs.Parts.{IsCharacter, IsPart, AreMembers, StandInFiles, part_cmp}
 use Rattle.ws_core.specs.Places.{path_at}

@@ -5,8 +5,8 @@ use Rattle.std.specs.declared.cmp.Ordering.TheVariants.{Less}
 use Rattle.std.specs.Cmp.Lexicographic.{slice_cmp}
 use Rattle.cs_base.specs.declared.positions.Part.{Part}
 use Rattle.cs_base.specs.Edit.{Edit, comes_last}
-use Rattle.source_files.specs.Files.{Table}
-use Rattle.source_files.specs.KeptFiles.{KeptValue, kept_at}
+use Rattle.include_tree.specs.Below.source_files.Files.{Table}
+use Rattle.include_tree.specs.Below.source_files.KeptFiles.{KeptValue, kept_at}
 use Rattle.ws_core.specs.Places.{path_at}
 
 -- the path of one number comes before that of another

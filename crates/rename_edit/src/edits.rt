@@ -1,7 +1,7 @@
 // The edits of the files that hold members of a class.
 ghost use Rattle.std.specs.Prelude.{◌≡◌, ◌++◌, ◌∷◌, [], IfOk, IsTrue, IsUtf8, Some, length, slice_get};
 ghost use Rattle.cs_base.specs.Edit.{edit, comes_last};
-ghost use Rattle.source_files.specs.Tables.{AreText};
+ghost use Rattle.include_tree.specs.Below.source_files.Tables.{AreText};
 ghost use Rattle.part_respell.specs.Order.{AreInOrder};
 ghost use Rattle.rename_edit.specs.Order.{AreByPath, IsNext};
 ghost use Rattle.rename_rules.specs.Runs.{edit_of, edits_of, new_bytes, AreApart};

@@ -7,3 +7,5 @@ pub mod SpelledLemmas
 pub mod OccurrenceLemmas
 pub mod RunLemmas
 pub mod SizeLemmas
+-- Words of the crates below, passed on.
+pub mod Below

@@ -9,7 +9,7 @@ use Rattle.cs_base.specs.declared.causes.Cause.TheVariants as cause
 use Rattle.cs_base.specs.declared.positions.Part.{Part}
 use Rattle.cs_base.specs.declared.positions.Pos.{Pos}
 use Rattle.cs_base.specs.Token.{Token}
-use Rattle.c_types.specs.declared.lists.Range.{Range}
+use Rattle.ws_core.specs.Below.c_types.declared.lists.Range.{Range}
 use Rattle.ws_core.specs.Analysis.{AnalysisValue, UnitAnalysis}
 use Rattle.ws_core.specs.BroughtNumbers.{all_brought}
 use Rattle.rename_rules.specs.declared.offences.Offence.{Offence}

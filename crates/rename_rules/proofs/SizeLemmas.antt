@@ -9,8 +9,8 @@ use Rattle.std.proofs.lemmas.Option.{same_Some, slice_get-get_or}
 use Rattle.cs_base.specs.declared.causes.Cause.TheVariants as cause
 use Rattle.cs_base.specs.declared.positions.Part.{Part}
 use Rattle.eclass_map.specs.ClassTable.{nowhere}
-use Rattle.source_files.specs.Files.{Table, Entry, Absent, entry}
-use Rattle.source_files.specs.KeptFiles.{kept_at}
+use Rattle.include_tree.specs.Below.source_files.Files.{Table, Entry, Absent, entry}
+use Rattle.include_tree.specs.Below.source_files.KeptFiles.{kept_at}
 use Rattle.part_respell.specs.Order.{AreInOrder}
 use Rattle.ws_core.specs.Analysis.{AnalysisValue}
 use Rattle.rename_rules.specs.declared.offences.Offence.{Offence}

@@ -14,9 +14,9 @@ use Rattle.cs_base.specs.declared.causes.Cause.{Cause}
 use Rattle.cs_base.specs.declared.positions.Part.{Part}
 use Rattle.cs_base.specs.declared.positions.Pos.{Pos}
 use Rattle.cs_base.specs.Token.{Token, origin_at}
-use Rattle.source_files.specs.Files.{Table, Entry, Absent, entry}
-use Rattle.source_files.specs.KeptFiles.{kept_at}
-use Rattle.unit_steps.specs.Texts.{UnitTextValue}
+use Rattle.include_tree.specs.Below.source_files.Files.{Table, Entry, Absent, entry}
+use Rattle.include_tree.specs.Below.source_files.KeptFiles.{kept_at}
+use Rattle.include_tree.specs.Below.unit_steps.Texts.{UnitTextValue}
 use Rattle.scope_bind.specs.Bound.{Bound}
 use Rattle.ws_core.specs.Analysis.{AnalysisValue, UnitAnalysis}
 use Rattle.ws_core.specs.BroughtNumbers.{all_brought}

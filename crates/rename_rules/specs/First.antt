@@ -9,8 +9,8 @@ use Rattle.cs_base.specs.declared.causes.Cause.{Cause}
 use Rattle.cs_base.specs.declared.causes.Cause.TheVariants as cause
 use Rattle.cs_base.specs.declared.positions.Part.{Part}
 use Rattle.cs_base.specs.declared.positions.Pos.{Pos}
-use Rattle.source_files.specs.Files.{Table, lines_path}
-use Rattle.source_files.specs.KeptFiles.{KeptValue, kept_at}
+use Rattle.include_tree.specs.Below.source_files.Files.{Table, lines_path}
+use Rattle.include_tree.specs.Below.source_files.KeptFiles.{KeptValue, kept_at}
 use Rattle.ws_core.specs.Analysis.{AnalysisValue}
 use Rattle.rename_rules.specs.declared.offences.Offence.{Offence}
 use Rattle.rename_rules.specs.Offences.{read_only_places, reserved_places, stringized_places, header_places, no_identifier_places, occurring_places, clashing_places, too_large_places, shadowed_places}

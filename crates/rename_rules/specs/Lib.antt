@@ -7,3 +7,5 @@ pub mod Renaming
 -- What inner functions promise each other.
 pub mod Class
 pub mod Respellings
+-- Words of the crates below, passed on.
+pub mod Below

@@ -8,9 +8,9 @@ use Rattle.cs_base.specs.declared.positions.Part.{Part}
 use Rattle.cs_base.specs.declared.positions.Pos.{Pos}
 use Rattle.cs_base.specs.Reserved.{is_reserved_text}
 use Rattle.cs_base.specs.Token.{Token}
-use Rattle.line_shape.specs.Signs.{is_name}
-use Rattle.c_types.specs.declared.lists.Range.{Range}
-use Rattle.c_types.specs.Declarations.{spelling_at}
+use Rattle.include_tree.specs.Below.line_shape.Signs.{is_name}
+use Rattle.ws_core.specs.Below.c_types.declared.lists.Range.{Range}
+use Rattle.ws_core.specs.Below.c_types.Declarations.{spelling_at}
 use Rattle.part_respell.specs.Respelled.{spelled}
 use Rattle.ws_core.specs.Analysis.{UnitAnalysis, AnalysisValue}
 use Rattle.ws_core.specs.Places.{is_read_only}

@@ -4,7 +4,7 @@ use Rattle.cs_base.specs.declared.causes.Cause.{Cause}
 use Rattle.cs_base.specs.declared.positions.Part.{Part}
 use Rattle.cs_base.specs.declared.positions.Place.{Place}
 use Rattle.cs_base.specs.Edit.{Edit}
-use Rattle.part_lexer.specs.Spelling.{is_identifier_text}
+use Rattle.ws_core.specs.Below.part_lexer.Spelling.{is_identifier_text}
 use Rattle.ws_core.specs.Analysis.{AnalysisValue}
 use Rattle.ws_core.specs.Naming.{Names}
 use Rattle.ws_core.specs.Parts.{AreMembers}

@@ -6,9 +6,9 @@ use Rattle.std.specs.Str.{bytes_eq}
 use Rattle.cs_base.specs.declared.positions.Part.{Part}
 use Rattle.cs_base.specs.declared.positions.Pos.{Pos}
 use Rattle.cs_base.specs.Token.{Token, origin_at}
-use Rattle.part_lexer.specs.Tokens.{tokens_of}
-use Rattle.source_files.specs.Files.{Entry, Table}
-use Rattle.source_files.specs.KeptFiles.{KeptValue, kept_in}
+use Rattle.ws_core.specs.Below.part_lexer.Tokens.{tokens_of}
+use Rattle.include_tree.specs.Below.source_files.Files.{Entry, Table}
+use Rattle.include_tree.specs.Below.source_files.KeptFiles.{KeptValue, kept_in}
 use Rattle.part_respell.specs.Respelled.{member_over, spelled}
 use Rattle.ws_core.specs.Analysis.{UnitAnalysis, AnalysisValue}
 use Rattle.ws_core.specs.FileTokens.{file_tokens, numbers_brought}

@@ -2,7 +2,7 @@
 ghost use Rattle.std.specs.Prelude.{◌≡◌};
 ghost use Rattle.std.specs.List.{flat_map, list_any};
 ghost use Rattle.cs_base.specs.declared.causes.Cause.TheVariants as cause;
-ghost use Rattle.c_types.specs.Declarations.{spelling_at};
+ghost use Rattle.ws_core.specs.Below.c_types.Declarations.{spelling_at};
 ghost use Rattle.rename_rules.specs.First.{standing, FirstThen};
 ghost use Rattle.rename_rules.specs.Offences.{is_shadow, shadowed_places};
 ghost use Rattle.rename_rules.specs.Respellings.{bare_place_by, bare_places_by, AreRespellings};

@@ -2,7 +2,7 @@
 ghost use Rattle.std.specs.Prelude.{◌≡◌, ◌++◌, ◌∷◌, [], filter, IfOk, OnOk, Some};
 ghost use Rattle.std.specs.Option.{option_map_or};
 ghost use Rattle.cs_base.specs.Token.{has_origins};
-ghost use Rattle.source_files.specs.KeptFiles.{kept_at};
+ghost use Rattle.include_tree.specs.Below.source_files.KeptFiles.{kept_at};
 ghost use Rattle.ws_core.specs.FileTokens.{kept_tokens, table_tokens};
 ghost use Rattle.rename_rules.specs.Class.{IsClass};
 ghost use Rattle.rename_rules.specs.Tokens.{holders, holds_member, pasted_tokens};

@@ -1,7 +1,7 @@
 // The numbers that units bring: those of lines, and those that stand for operands of `defined`.
 ghost use Rattle.std.specs.Prelude.{◌≡◌, ◌++◌, ◌∷◌, [], IfOk, OnOk, option_copied};
 ghost use Rattle.std.specs.Option.{option_map_or};
-ghost use Rattle.macro_body.specs.Substitution.{line_number};
+ghost use Rattle.macro_expand.specs.Below.macro_body.Substitution.{line_number};
 ghost use Rattle.ws_core.specs.BroughtNumbers.{all_brought};
 ghost use Rattle.ws_core.specs.FileTokens.{number_of_event, numbers_brought};
 

@@ -1,12 +1,12 @@
 -- A text whose names agree with the tree of another one is read to it.
 use Rattle.std.proofs.Common.{ℕ, ◌≡◌, Bool, true, List, length, Result, Ok, Err, sym, ap, subst, ◌∙◌}
-use Rattle.cs_base.specs.Token.{Token}
-use Rattle.c99_tree.specs.Tree.{Node, node_of, lone}
-use Rattle.c99_tree.specs.declared.production.Production.TheVariants.{TranslationUnit}
-use Rattle.c99_read.specs.State.{base_at}
-use Rattle.c99_read.specs.Reading.{Step, Stop, produce, steps_for, read_within, read_of, whole, at_first, tree_of}
-use Rattle.c99_grammar.specs.Standard.{c99}
-use Rattle.name_chains.specs.Frames.{at_first as before}
+use Rattle.tree_laws.specs.Below.cs_base.Token.{Token}
+use Rattle.tree_laws.specs.Below.c99_tree.Tree.{Node, node_of, lone}
+use Rattle.tree_laws.specs.Below.c99_tree.declared.production.Production.TheVariants.{TranslationUnit}
+use Rattle.tree_laws.specs.Below.c99_read.State.{base_at}
+use Rattle.tree_laws.specs.Below.c99_read.Reading.{Step, Stop, produce, steps_for, read_within, read_of, whole, at_first, tree_of}
+use Rattle.tree_laws.specs.Below.c99_grammar.Standard.{c99}
+use Rattle.tree_laws.specs.Below.name_chains.Frames.{at_first as before}
 use Rattle.typedef_laws.specs.Agreeing.{agrees}
 use Rattle.typedef_laws.proofs.Outlines.{agrees_same}
 use Rattle.typedef_laws.proofs.Goes.{After}

@@ -4,13 +4,13 @@ use Rattle.std.specs.List.{list_all}
 use Rattle.std.specs.Option.{option_map_or}
 use Rattle.std.specs.Str.{bytes_eq}
 use Rattle.std.proofs.lemmas.Bool.{false≢true, and_parts}
-use Rattle.cs_base.specs.Token.{Token}
-use Rattle.cs_base.specs.declared.tokens.Kind.{Kind}
-use Rattle.cs_base.specs.declared.tokens.Kind.TheVariants as kind
-use Rattle.c99_grammar.specs.Spellings.{Spelled, keywords, punctuators}
-use Rattle.c99_grammar.specs.Standard.{c99}
-use Rattle.c99_read.specs.State.{base_at, is_identifier}
-use Rattle.c99_grammar.specs.TokenClasses.{spelled_class, class_of_kind, base_class}
+use Rattle.tree_laws.specs.Below.cs_base.Token.{Token}
+use Rattle.tree_laws.specs.Below.cs_base.declared.tokens.Kind.{Kind}
+use Rattle.tree_laws.specs.Below.cs_base.declared.tokens.Kind.TheVariants as kind
+use Rattle.tree_laws.specs.Below.c99_grammar.Spellings.{Spelled, keywords, punctuators}
+use Rattle.tree_laws.specs.Below.c99_grammar.Standard.{c99}
+use Rattle.tree_laws.specs.Below.c99_read.State.{base_at, is_identifier}
+use Rattle.tree_laws.specs.Below.c99_grammar.TokenClasses.{spelled_class, class_of_kind, base_class}
 use Rattle.renamed_tree_laws.proofs.Private.{Class, identifier, no_class, end_class, covers}
 
 spelled_so : (P : Class → Bool) (words : List Spelled) (text : List ℕ) (other : Class) → list_all (λ w. P w.1) words ≡ true → P other ≡ true

@@ -1,15 +1,15 @@
 -- Tests have the same answers in both lists, where enough is known.
 use Rattle.std.proofs.Common.{ℕ, ◌+◌, ◌≡◌, Bool, true, false, ◌&&◌, ◌||◌, not, if◌then◌else◌, List, [], ◌∷◌, refl, sym, ap, ◌∙◌, inl, inr}
 use Rattle.std.proofs.lemmas.Bool.{and_parts}
-use Rattle.cs_base.specs.Token.{Token}
-use Rattle.c99_tree.specs.declared.production.Production.{Production}
-use Rattle.c99_grammar.specs.Classes.{among}
-use Rattle.c99_grammar.specs.Items.{Item, one, part, end_of_text, act, ◌·◌, choice, maybe, many, deep, Test, own, otherwise, next, next_two, Ask, is, is_not, begins, either}
-use Rattle.c99_grammar.specs.Standard.{c99}
-use Rattle.c99_read.specs.State.{State, class_at, base_at}
-use Rattle.c99_read.specs.Reading.{may}
-use Rattle.c99_grammar.specs.Starting.{is_passed, production_starts, asks, holds, starts}
-use Rattle.c99_read.proofs.Alike.{swapped}
+use Rattle.tree_laws.specs.Below.cs_base.Token.{Token}
+use Rattle.tree_laws.specs.Below.c99_tree.declared.production.Production.{Production}
+use Rattle.tree_laws.specs.Below.c99_grammar.Classes.{among}
+use Rattle.tree_laws.specs.Below.c99_grammar.Items.{Item, one, part, end_of_text, act, ◌·◌, choice, maybe, many, deep, Test, own, otherwise, next, next_two, Ask, is, is_not, begins, either}
+use Rattle.tree_laws.specs.Below.c99_grammar.Standard.{c99}
+use Rattle.tree_laws.specs.Below.c99_read.State.{State, class_at, base_at}
+use Rattle.tree_laws.specs.Below.c99_read.Reading.{may}
+use Rattle.tree_laws.specs.Below.c99_grammar.Starting.{is_passed, production_starts, asks, holds, starts}
+use Rattle.tree_laws.proofs.Below.c99_read.Alike.{swapped}
 use Rattle.renamed_tree_laws.proofs.Private.{Class, end_class, colons}
 use Rattle.renamed_tree_laws.proofs.Twins.{agree_is, blind, plain_class, alike_by, blind_same, same_class, Same}
 use Rattle.renamed_tree_laws.proofs.Moods.{Mood, any, label, calm, solid, asks_same, test_same, starts_same, joint, blind_part, each_list, each_part, decides}

@@ -1,19 +1,19 @@
 -- In each tree that is read an identifier behind the parenthesis that begins a parameter's declarator is the declared name there.
 use Rattle.std.proofs.Common.{ℕ, ◌+◌, ◌≡◌, Bool, true, false, ◌&&◌, ◌||◌, not, if◌then◌else◌, ◌==◌, List, [], ◌∷◌, Ok, Err, refl, sym, ap, subst, ◌∙◌}
 use Rattle.std.proofs.lemmas.Bool.{eqb-true}
-use Rattle.cs_base.specs.Token.{Token}
-use Rattle.c99_tree.specs.Tree.{Forest, none, token, node, Node, leaf, inner, put, lone, collapsed}
-use Rattle.c99_tree.specs.declared.production.Label.{Label}
-use Rattle.c99_tree.specs.declared.production.Production.{Production}
-use Rattle.c99_tree.specs.declared.production.Production.TheVariants.{TranslationUnit, Pdirect}
-use Rattle.c99_tree.specs.contracts.production.ProductionPartialEq.TheImpl.{ghosts}
-use Rattle.c99_grammar.specs.Grammar.{table}
-use Rattle.c99_grammar.specs.Items.{Action, Alternative}
-use Rattle.c99_grammar.specs.Standard.{c99}
-use Rattle.c99_read.specs.State.{State, base_at, is_identifier, collapses, finished, acted, opened, closed}
-use Rattle.c99_read.specs.Reading.{produce, Step, steps_for, step, read_within, whole, at_first, tree_of, read_of}
-use Rattle.c_types.specs.Lists.{name_in}
-use Rattle.c_types.specs.Trees.{is_at}
+use Rattle.tree_laws.specs.Below.cs_base.Token.{Token}
+use Rattle.tree_laws.specs.Below.c99_tree.Tree.{Forest, none, token, node, Node, leaf, inner, put, lone, collapsed}
+use Rattle.tree_laws.specs.Below.c99_tree.declared.production.Label.{Label}
+use Rattle.tree_laws.specs.Below.c99_tree.declared.production.Production.{Production}
+use Rattle.tree_laws.specs.Below.c99_tree.declared.production.Production.TheVariants.{TranslationUnit, Pdirect}
+use Rattle.tree_laws.specs.Below.c99_tree.contracts.production.ProductionPartialEq.TheImpl.{ghosts}
+use Rattle.tree_laws.specs.Below.c99_grammar.Grammar.{table}
+use Rattle.tree_laws.specs.Below.c99_grammar.Items.{Action, Alternative}
+use Rattle.tree_laws.specs.Below.c99_grammar.Standard.{c99}
+use Rattle.tree_laws.specs.Below.c99_read.State.{State, base_at, is_identifier, collapses, finished, acted, opened, closed}
+use Rattle.tree_laws.specs.Below.c99_read.Reading.{produce, Step, steps_for, step, read_within, whole, at_first, tree_of, read_of}
+use Rattle.tree_laws.specs.Below.c_types.Lists.{name_in}
+use Rattle.tree_laws.specs.Below.c_types.Trees.{is_at}
 use Rattle.tree_laws.proofs.Lookups.{false≢true, and_left, and_right}
 use Rattle.tree_laws.proofs.Walked.{After, IsKept, fit_from, each_part, kept_within}
 use Rattle.typedef_laws.proofs.Rules.{labelled}

@@ -1,16 +1,16 @@
 -- Tokens whose kind is asked: primary expressions, type names, and names in an identifier list.
 use Rattle.std.proofs.Common.{ℕ, ◌+◌, ◌<◌, ◌≡◌, Bool, true, false, ◌&&◌, ◌||◌, not, if◌then◌else◌, ◌==◌, ◌%◌, List, length, Ok, Err, refl, sym, ap, subst, ◌∙◌, arith}
 use Rattle.std.proofs.lemmas.Bool.{false≢true}
-use Rattle.cs_base.specs.Token.{Token}
-use Rattle.c99_tree.specs.Tree.{count_of}
-use Rattle.c99_tree.specs.declared.production.Label.{Label}
-use Rattle.c99_tree.specs.declared.production.Production.{Production}
-use Rattle.c99_tree.specs.declared.production.Production.TheVariants.{Main, Mod, Params, Primary}
-use Rattle.c99_grammar.specs.Classes.{among}
-use Rattle.c99_grammar.specs.Items.{Item, one, part, act, ◌·◌, many, own, name}
-use Rattle.c99_grammar.specs.Standard.{c99}
-use Rattle.c99_read.specs.State.{State, base_at, is_identifier, is_typedef_at, class_at, declaration, in_innermost, acted, opened}
-use Rattle.c99_read.specs.Reading.{Goal, repeat, Step, and_then, take_one, may, step}
+use Rattle.tree_laws.specs.Below.cs_base.Token.{Token}
+use Rattle.tree_laws.specs.Below.c99_tree.Tree.{count_of}
+use Rattle.tree_laws.specs.Below.c99_tree.declared.production.Label.{Label}
+use Rattle.tree_laws.specs.Below.c99_tree.declared.production.Production.{Production}
+use Rattle.tree_laws.specs.Below.c99_tree.declared.production.Production.TheVariants.{Main, Mod, Params, Primary}
+use Rattle.tree_laws.specs.Below.c99_grammar.Classes.{among}
+use Rattle.tree_laws.specs.Below.c99_grammar.Items.{Item, one, part, act, ◌·◌, many, own, name}
+use Rattle.tree_laws.specs.Below.c99_grammar.Standard.{c99}
+use Rattle.tree_laws.specs.Below.c99_read.State.{State, base_at, is_identifier, is_typedef_at, class_at, declaration, in_innermost, acted, opened}
+use Rattle.tree_laws.specs.Below.c99_read.Reading.{Goal, repeat, Step, and_then, take_one, may, step}
 use Rattle.typedef_laws.proofs.Private.{Class}
 use Rattle.typedef_laws.proofs.Classes.{identifiers, typedef_names}
 use Rattle.typedef_laws.proofs.Outline.{Outline, outlined, typedef_among, token_agrees}

@@ -3,14 +3,14 @@ use Rattle.std.proofs.Common.{ℕ, ◌+◌, ◌≡◌, Bool, true, false, ◌&&�
 use Rattle.std.specs.Prelude.{find, IfSome}
 use Rattle.std.specs.List.{list_any}
 use Rattle.std.specs.Option.{option_map_or}
-use Rattle.cs_base.specs.Token.{Token}
-use Rattle.c99_tree.specs.Tree.{Forest, none, token, node}
-use Rattle.c99_tree.specs.declared.production.Label.{Label}
-use Rattle.c99_tree.specs.declared.production.Production.{Production}
-use Rattle.c99_tree.specs.declared.production.Production.TheVariants.{ExtRest, FunBody, InitDecl, Enumerator, Declarator, Param, Pdecl}
-use Rattle.c_types.specs.declared.lists.Range.{Range}
-use Rattle.c_types.specs.Trees.{last_token, name_below}
-use Rattle.c_types.specs.Declarations.{alike}
+use Rattle.tree_laws.specs.Below.cs_base.Token.{Token}
+use Rattle.tree_laws.specs.Below.c99_tree.Tree.{Forest, none, token, node}
+use Rattle.tree_laws.specs.Below.c99_tree.declared.production.Label.{Label}
+use Rattle.tree_laws.specs.Below.c99_tree.declared.production.Production.{Production}
+use Rattle.tree_laws.specs.Below.c99_tree.declared.production.Production.TheVariants.{ExtRest, FunBody, InitDecl, Enumerator, Declarator, Param, Pdecl}
+use Rattle.tree_laws.specs.Below.c_types.declared.lists.Range.{Range}
+use Rattle.tree_laws.specs.Below.c_types.Trees.{last_token, name_below}
+use Rattle.tree_laws.specs.Below.c_types.Declarations.{alike}
 use Rattle.tree_laws.proofs.Lookups.{false≢true, and_left, and_right, and_both, In, find_same, found_passes, found_in, any_none}
 use Rattle.typedef_laws.proofs.Outline.{Entry, Outline, is_listing, stepped, copies, kept_entries, entries_in, begun, named_entries, in_declaration, in_parameter, entries_after, ended, outlined, is_open, typedef_among}
 use Rattle.renamed_tree_laws.specs.Loose.{is_hidden, StaysWhole}

@@ -1,16 +1,16 @@
 -- What is asked along external definitions (6.9), and along bodies of functions (6.9.1).
 use Rattle.std.proofs.Common.{ℕ, ◌+◌, ◌<◌, ◌≡◌, Bool, true, false, ◌&&◌, if◌then◌else◌, List, ◌∷◌, Ok, Err, refl, sym, ap, subst, ◌∙◌, arith}
-use Rattle.cs_base.specs.Token.{Token}
-use Rattle.c99_tree.specs.Tree.{Forest, Node, node_of, leaf, inner, put, collapsed}
-use Rattle.c99_tree.specs.declared.production.Label.{Label}
-use Rattle.c99_tree.specs.declared.production.Production.{Production}
-use Rattle.c99_tree.specs.declared.production.Production.TheVariants.{External, ExtRest, ExtTail, FunBody, Specs, Declarator}
-use Rattle.c99_grammar.specs.Items.{Item, part, own, end, declare, again}
-use Rattle.c99_grammar.specs.Grammar.{table}
-use Rattle.c99_grammar.specs.Standard.{c99}
-use Rattle.c99_read.specs.State.{State, Names, head_closed, names_closed, finished, with_scope_ended, acted, opened, closed}
-use Rattle.c99_read.specs.Reading.{Goal, produce, Step, syntax, and_then, take_one, may, step, alternative, pick}
-use Rattle.scope_bind.specs.Named.{Scope}
+use Rattle.tree_laws.specs.Below.cs_base.Token.{Token}
+use Rattle.tree_laws.specs.Below.c99_tree.Tree.{Forest, Node, node_of, leaf, inner, put, collapsed}
+use Rattle.tree_laws.specs.Below.c99_tree.declared.production.Label.{Label}
+use Rattle.tree_laws.specs.Below.c99_tree.declared.production.Production.{Production}
+use Rattle.tree_laws.specs.Below.c99_tree.declared.production.Production.TheVariants.{External, ExtRest, ExtTail, FunBody, Specs, Declarator}
+use Rattle.tree_laws.specs.Below.c99_grammar.Items.{Item, part, own, end, declare, again}
+use Rattle.tree_laws.specs.Below.c99_grammar.Grammar.{table}
+use Rattle.tree_laws.specs.Below.c99_grammar.Standard.{c99}
+use Rattle.tree_laws.specs.Below.c99_read.State.{State, Names, head_closed, names_closed, finished, with_scope_ended, acted, opened, closed}
+use Rattle.tree_laws.specs.Below.c99_read.Reading.{Goal, produce, Step, syntax, and_then, take_one, may, step, alternative, pick}
+use Rattle.tree_laws.specs.Below.scope_bind.Named.{Scope}
 use Rattle.typedef_laws.proofs.Private.{Declaration, Class}
 use Rattle.typedef_laws.proofs.Parts.{first_body, second_body, first_test, second_test, rest_of, front_of, classes_of}
 use Rattle.typedef_laws.proofs.Outline.{Outline, begun, node_agrees, all_agree}

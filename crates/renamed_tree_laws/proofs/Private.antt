@@ -1,14 +1,14 @@
 -- Classes of tokens, which the reader keeps to itself, by what gives a value of them.
 use Rattle.std.proofs.Common.{Bool, ◌&&◌, List, [], ◌∷◌, drop}
 use Rattle.std.specs.List.{list_all}
-use Rattle.cs_base.specs.declared.tokens.Kind.TheVariants as kind
-use Rattle.c99_tree.specs.declared.production.Production.TheVariants.{Statement, Pdirect}
-use Rattle.c99_grammar.specs.Grammar.{table}
-use Rattle.c99_grammar.specs.Items.{names, Test, own, next_two, Ask, is, Alternative}
-use Rattle.c99_grammar.specs.Spellings.{keywords, punctuators}
-use Rattle.c99_grammar.specs.Standard.{c99}
-use Rattle.c99_read.specs.State.{base_at}
-use Rattle.c99_grammar.specs.TokenClasses.{base_class, class_of_kind}
+use Rattle.tree_laws.specs.Below.cs_base.declared.tokens.Kind.TheVariants as kind
+use Rattle.tree_laws.specs.Below.c99_tree.declared.production.Production.TheVariants.{Statement, Pdirect}
+use Rattle.tree_laws.specs.Below.c99_grammar.Grammar.{table}
+use Rattle.tree_laws.specs.Below.c99_grammar.Items.{names, Test, own, next_two, Ask, is, Alternative}
+use Rattle.tree_laws.specs.Below.c99_grammar.Spellings.{keywords, punctuators}
+use Rattle.tree_laws.specs.Below.c99_grammar.Standard.{c99}
+use Rattle.tree_laws.specs.Below.c99_read.State.{base_at}
+use Rattle.tree_laws.specs.Below.c99_grammar.TokenClasses.{base_class, class_of_kind}
 use Rattle.renamed_tree_laws.specs.Respelled.{Given}
 
 abbrev pub Class : Type 0

@@ -6,23 +6,23 @@ use Rattle.std.specs.Option.{option_map_or}
 use Rattle.std.specs.Str.{bytes_eq}
 use Rattle.std.proofs.lemmas.Bool.{and_parts}
 use Rattle.std.proofs.lemmas.Slice.Eq.{bytes_eq-Decides}
-use Rattle.cs_base.specs.Token.{Token}
-use Rattle.c99_tree.specs.Tree.{Forest, none, token, node}
-use Rattle.c99_tree.specs.declared.production.Label.{Label}
-use Rattle.c99_tree.specs.declared.production.Production.{Production}
-use Rattle.c99_tree.specs.declared.production.Production.TheVariants.{TranslationUnit, Main, Params, Primary, Pdirect}
-use Rattle.c99_grammar.specs.Standard.{c99}
-use Rattle.c99_read.specs.State.{base_at, is_identifier}
-use Rattle.c_types.specs.declared.lists.Range.{Range}
-use Rattle.scope_bind.specs.Named.{Declaration, Frame, ordinary}
-use Rattle.c_types.specs.Trees.{is_at}
-use Rattle.c_types.specs.Declarations.{Facts, is_space, is_typedef_name, spelling_at, alike, visible}
-use Rattle.name_chains.specs.Frames.{State, at_first as before}
-use Rattle.scope_bind.specs.Ordinary.{used, is_func}
-use Rattle.name_chains.specs.Entering.{entered}
-use Rattle.scope_bind.specs.Roles.{role_of}
-use Rattle.scope_bind.specs.Walk.{facts_at, passed, left, walked}
-use Rattle.scope_bind.specs.Bound.{Bound, names_of, bound_of, range_of as range_of_declaration, typedefs_of, facts_of, binding_of}
+use Rattle.tree_laws.specs.Below.cs_base.Token.{Token}
+use Rattle.tree_laws.specs.Below.c99_tree.Tree.{Forest, none, token, node}
+use Rattle.tree_laws.specs.Below.c99_tree.declared.production.Label.{Label}
+use Rattle.tree_laws.specs.Below.c99_tree.declared.production.Production.{Production}
+use Rattle.tree_laws.specs.Below.c99_tree.declared.production.Production.TheVariants.{TranslationUnit, Main, Params, Primary, Pdirect}
+use Rattle.tree_laws.specs.Below.c99_grammar.Standard.{c99}
+use Rattle.tree_laws.specs.Below.c99_read.State.{base_at, is_identifier}
+use Rattle.tree_laws.specs.Below.c_types.declared.lists.Range.{Range}
+use Rattle.tree_laws.specs.Below.scope_bind.Named.{Declaration, Frame, ordinary}
+use Rattle.tree_laws.specs.Below.c_types.Trees.{is_at}
+use Rattle.tree_laws.specs.Below.c_types.Declarations.{Facts, is_space, is_typedef_name, spelling_at, alike, visible}
+use Rattle.tree_laws.specs.Below.name_chains.Frames.{State, at_first as before}
+use Rattle.tree_laws.specs.Below.scope_bind.Ordinary.{used, is_func}
+use Rattle.tree_laws.specs.Below.name_chains.Entering.{entered}
+use Rattle.tree_laws.specs.Below.scope_bind.Roles.{role_of}
+use Rattle.tree_laws.specs.Below.scope_bind.Walk.{facts_at, passed, left, walked}
+use Rattle.tree_laws.specs.Below.scope_bind.Bound.{Bound, names_of, bound_of, range_of as range_of_declaration, typedefs_of, facts_of, binding_of}
 use Rattle.tree_laws.specs.RenamedNames.{is_own_word}
 use Rattle.tree_laws.proofs.Lookups.{and_both, and_right, In}
 use Rattle.tree_laws.proofs.Renaming.{Good, Kept}

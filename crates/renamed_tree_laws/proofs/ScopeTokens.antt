@@ -1,19 +1,19 @@
 -- Nodes that are scopes: blocks, parameter lists, statements and substatements (6.2.1 paragraph 4).
 use Rattle.std.proofs.Common.{ℕ, ◌+◌, ◌<◌, ◌≡◌, Bool, true, false, ◌&&◌, List, [], ◌∷◌, length, Ok, Err, inl, inr, refl, sym, ap, subst, ◌∙◌, arith}
 use Rattle.std.proofs.lemmas.Bool.{false≢true, and_parts}
-use Rattle.cs_base.specs.Token.{Token}
-use Rattle.c99_tree.specs.Tree.{Forest, leaf, put}
-use Rattle.c99_tree.specs.declared.production.Label.{Label}
-use Rattle.c99_tree.specs.declared.production.Production.{Production}
-use Rattle.c99_tree.specs.declared.production.Production.TheVariants.{Suffix, Pdirect, Block}
-use Rattle.c99_grammar.specs.Items.{Item, one, part, end_of_text, act, ◌·◌, choice, maybe, many, deep, scope, end, declare, name, keep, again}
-use Rattle.c99_grammar.specs.Standard.{c99}
-use Rattle.c99_read.specs.Sound.{has_token, is_low, is_met, goal_has_token}
-use Rattle.c99_read.specs.State.{State, Names, with_scope_ended, acted, opened}
-use Rattle.c99_read.specs.Reading.{Goal, Step, and_then, take_one, step}
-use Rattle.c99_read.proofs.Moves.{Moves, Moves-step}
-use Rattle.scope_bind.specs.Named.{Scope}
-use Rattle.c_types.specs.Trees.{is_at, last_token}
+use Rattle.tree_laws.specs.Below.cs_base.Token.{Token}
+use Rattle.tree_laws.specs.Below.c99_tree.Tree.{Forest, leaf, put}
+use Rattle.tree_laws.specs.Below.c99_tree.declared.production.Label.{Label}
+use Rattle.tree_laws.specs.Below.c99_tree.declared.production.Production.{Production}
+use Rattle.tree_laws.specs.Below.c99_tree.declared.production.Production.TheVariants.{Suffix, Pdirect, Block}
+use Rattle.tree_laws.specs.Below.c99_grammar.Items.{Item, one, part, end_of_text, act, ◌·◌, choice, maybe, many, deep, scope, end, declare, name, keep, again}
+use Rattle.tree_laws.specs.Below.c99_grammar.Standard.{c99}
+use Rattle.tree_laws.specs.Below.c99_read.Sound.{has_token, is_low, is_met, goal_has_token}
+use Rattle.tree_laws.specs.Below.c99_read.State.{State, Names, with_scope_ended, acted, opened}
+use Rattle.tree_laws.specs.Below.c99_read.Reading.{Goal, Step, and_then, take_one, step}
+use Rattle.tree_laws.proofs.Below.c99_read.Moves.{Moves, Moves-step}
+use Rattle.tree_laws.specs.Below.scope_bind.Named.{Scope}
+use Rattle.tree_laws.specs.Below.c_types.Trees.{is_at, last_token}
 use Rattle.typedef_laws.proofs.Private.{Class}
 use Rattle.typedef_laws.proofs.Outline.{Outline, begun}
 use Rattle.typedef_laws.proofs.Matching.{Bounds, IsOpen, SameOuter, bounds_within, bounds_inner, within_sooner}

@@ -1,7 +1,7 @@
 -- The table of moods belongs to the grammar.
 use Rattle.std.proofs.Common.{◌≡◌, true, refl}
-use Rattle.c99_tree.specs.declared.production.Production.{Production}
-use Rattle.c99_tree.specs.declared.production.Production.TheVariants.{TranslationUnit, External, ExtRest, ExtTail, FunBody, Declaration, DeclRest, InitDecl, Specs, Main, Mod, Qual, Word, StructSpec, SuRest, Members, Member, Mdecl, EnumSpec, EnRest, Enumerators, Enumerator, Declarator, Pointer, Direct, Suffix, Bound, Params, Param, Pdecl, Pdirect, TypeName, Adecl, Adirect, Init, InitList, InitItem, Designator, Expr, Assign, Asgop, Cond, Lor, Land, Bor, Bxor, Band, Equal, Relate, Shift, Add, Mul, Cast, CastRest, Unary, SizeRest, SizeLit, Primary, Post, Args, Block, BlockItem, Statement, Sub, ForInit}
+use Rattle.tree_laws.specs.Below.c99_tree.declared.production.Production.{Production}
+use Rattle.tree_laws.specs.Below.c99_tree.declared.production.Production.TheVariants.{TranslationUnit, External, ExtRest, ExtTail, FunBody, Declaration, DeclRest, InitDecl, Specs, Main, Mod, Qual, Word, StructSpec, SuRest, Members, Member, Mdecl, EnumSpec, EnRest, Enumerators, Enumerator, Declarator, Pointer, Direct, Suffix, Bound, Params, Param, Pdecl, Pdirect, TypeName, Adecl, Adirect, Init, InitList, InitItem, Designator, Expr, Assign, Asgop, Cond, Lor, Land, Bor, Bxor, Band, Equal, Relate, Shift, Add, Mul, Cast, CastRest, Unary, SizeRest, SizeLit, Primary, Post, Args, Block, BlockItem, Statement, Sub, ForInit}
 use Rattle.renamed_tree_laws.proofs.Moods.{is_production_known}
 
 pub production_known : (p : Production) → is_production_known p ≡ true

@@ -1,11 +1,11 @@
 -- The classes of one token in two lists: they differ at most where a name counts as a typedef name in one of them.
 use Rattle.std.proofs.Common.{ℕ, ◌≡◌, Bool, true, false, ◌&&◌, ◌||◌, not, if◌then◌else◌, List, refl, sym, ap, subst, ◌∙◌}
 use Rattle.std.proofs.lemmas.Bool.{false≢true}
-use Rattle.cs_base.specs.Token.{Token}
-use Rattle.c99_grammar.specs.Classes.{among}
-use Rattle.c99_grammar.specs.Standard.{c99}
-use Rattle.c99_read.specs.State.{State, base_at, is_identifier, is_typedef_at, class_at}
-use Rattle.c99_read.proofs.Alike.{swapped}
+use Rattle.tree_laws.specs.Below.cs_base.Token.{Token}
+use Rattle.tree_laws.specs.Below.c99_grammar.Classes.{among}
+use Rattle.tree_laws.specs.Below.c99_grammar.Standard.{c99}
+use Rattle.tree_laws.specs.Below.c99_read.State.{State, base_at, is_identifier, is_typedef_at, class_at}
+use Rattle.tree_laws.proofs.Below.c99_read.Alike.{swapped}
 use Rattle.renamed_tree_laws.specs.Respelled.{Declaration}
 use Rattle.renamed_tree_laws.proofs.Private.{Class, identifier, typedef_name, covers}
 use Rattle.renamed_tree_laws.proofs.Bases.{base_so, base_is}

@@ -1,14 +1,14 @@
 -- What is asked along a whole unit.
 use Rattle.std.proofs.Common.{ℕ, zero, suc, ◌≡◌, Bool, true, false, ◌&&◌, if◌then◌else◌, ◌==◌, List, [], ◌∷◌, length, Ok, Err, refl, ap, ◌∙◌, arith}
-use Rattle.cs_base.specs.Token.{Token}
-use Rattle.c99_tree.specs.Tree.{none, node}
-use Rattle.c99_tree.specs.declared.production.Production.TheVariants.{TranslationUnit, External}
-use Rattle.c99_grammar.specs.Items.{Item, part, end_of_text, many, own}
-use Rattle.c99_grammar.specs.Grammar.{table}
-use Rattle.c99_grammar.specs.Standard.{c99}
-use Rattle.c99_read.specs.State.{State, base_at, opened, closed}
-use Rattle.c99_read.specs.Reading.{Goal, produce, repeat, Step, syntax, at_end, at_first, and_then, may, step, alternative, read_within}
-use Rattle.name_chains.specs.Frames.{at_first as before}
+use Rattle.tree_laws.specs.Below.cs_base.Token.{Token}
+use Rattle.tree_laws.specs.Below.c99_tree.Tree.{none, node}
+use Rattle.tree_laws.specs.Below.c99_tree.declared.production.Production.TheVariants.{TranslationUnit, External}
+use Rattle.tree_laws.specs.Below.c99_grammar.Items.{Item, part, end_of_text, many, own}
+use Rattle.tree_laws.specs.Below.c99_grammar.Grammar.{table}
+use Rattle.tree_laws.specs.Below.c99_grammar.Standard.{c99}
+use Rattle.tree_laws.specs.Below.c99_read.State.{State, base_at, opened, closed}
+use Rattle.tree_laws.specs.Below.c99_read.Reading.{Goal, produce, repeat, Step, syntax, at_end, at_first, and_then, may, step, alternative, read_within}
+use Rattle.tree_laws.specs.Below.name_chains.Frames.{at_first as before}
 use Rattle.typedef_laws.proofs.Parts.{first_body}
 use Rattle.typedef_laws.proofs.Outline.{Outline, all_agree}
 use Rattle.typedef_laws.proofs.Outlines.{outline}

@@ -1,9 +1,9 @@
 -- What is true of the tree of a text in which names are respelled.
 use Rattle.std.specs.Prelude.{◌≡◌, List, Ok}
-use Rattle.cs_base.specs.Token.{Token}
-use Rattle.c99_tree.specs.Tree.{Node}
-use Rattle.c99_read.specs.Reading.{read_of}
-use Rattle.c99_grammar.specs.Standard.{c99}
+use Rattle.tree_laws.specs.Below.cs_base.Token.{Token}
+use Rattle.tree_laws.specs.Below.c99_tree.Tree.{Node}
+use Rattle.tree_laws.specs.Below.c99_read.Reading.{read_of}
+use Rattle.tree_laws.specs.Below.c99_grammar.Standard.{c99}
 use Rattle.renamed_tree_laws.specs.Respelled.{IsReadSo, IsRespelled}
 
 -- a text whose names are of the kinds that another is read with is read to the same tree

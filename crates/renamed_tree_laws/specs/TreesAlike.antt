@@ -1,13 +1,13 @@
 -- What is true of a text whose names agree with the tree of another one.
 use Rattle.std.specs.Prelude.{ℕ, ◌≡◌, true, List, length, Ok}
 use Rattle.std.specs.List.{Contains}
-use Rattle.cs_base.specs.Token.{Token}
-use Rattle.c99_tree.specs.Tree.{Node}
-use Rattle.c99_read.specs.Reading.{read_of}
-use Rattle.c99_read.specs.State.{base_at}
-use Rattle.c99_grammar.specs.Standard.{c99}
-use Rattle.scope_bind.specs.Bound.{Bound, binding_of}
-use Rattle.name_chains.specs.Frames.{at_first as before, outermost}
+use Rattle.tree_laws.specs.Below.cs_base.Token.{Token}
+use Rattle.tree_laws.specs.Below.c99_tree.Tree.{Node}
+use Rattle.tree_laws.specs.Below.c99_read.Reading.{read_of}
+use Rattle.tree_laws.specs.Below.c99_read.State.{base_at}
+use Rattle.tree_laws.specs.Below.c99_grammar.Standard.{c99}
+use Rattle.tree_laws.specs.Below.scope_bind.Bound.{Bound, binding_of}
+use Rattle.tree_laws.specs.Below.name_chains.Frames.{at_first as before, outermost}
 use Rattle.tree_laws.specs.RenamedNames.{IsRenamed}
 use Rattle.typedef_laws.specs.Agreeing.{agrees}
 use Rattle.renamed_tree_laws.specs.Loose.{AllLoose, StaysWhole}

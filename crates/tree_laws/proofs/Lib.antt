@@ -32,3 +32,5 @@ mod Forms
 mod NameClasses
 mod NamePlaces
 mod NameTable
+-- Words of the crates below, passed on.
+pub mod Below

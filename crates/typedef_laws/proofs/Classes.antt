@@ -4,17 +4,17 @@ use Rattle.std.specs.List.{list_all}
 use Rattle.std.specs.Option.{option_map_or}
 use Rattle.std.specs.Str.{bytes_eq}
 use Rattle.std.proofs.lemmas.Bool.{false≢true, and_parts}
-use Rattle.cs_base.specs.Token.{Token}
-use Rattle.cs_base.specs.declared.tokens.Kind.{Kind}
-use Rattle.cs_base.specs.declared.tokens.Kind.TheVariants as kind
-use Rattle.c99_tree.specs.declared.production.Production.TheVariants.{Enumerator, Pdirect}
-use Rattle.c99_grammar.specs.Classes.{among}
-use Rattle.c99_grammar.specs.Items.{names}
-use Rattle.c99_grammar.specs.Grammar.{table}
-use Rattle.c99_grammar.specs.Spellings.{Spelled, keywords, punctuators}
-use Rattle.c99_grammar.specs.Standard.{c99}
-use Rattle.c99_read.specs.State.{State, base_at, is_identifier, is_typedef_at, class_at}
-use Rattle.c99_grammar.specs.TokenClasses.{spelled_class, class_of_kind, base_class}
+use Rattle.tree_laws.specs.Below.cs_base.Token.{Token}
+use Rattle.tree_laws.specs.Below.cs_base.declared.tokens.Kind.{Kind}
+use Rattle.tree_laws.specs.Below.cs_base.declared.tokens.Kind.TheVariants as kind
+use Rattle.tree_laws.specs.Below.c99_tree.declared.production.Production.TheVariants.{Enumerator, Pdirect}
+use Rattle.tree_laws.specs.Below.c99_grammar.Classes.{among}
+use Rattle.tree_laws.specs.Below.c99_grammar.Items.{names}
+use Rattle.tree_laws.specs.Below.c99_grammar.Grammar.{table}
+use Rattle.tree_laws.specs.Below.c99_grammar.Spellings.{Spelled, keywords, punctuators}
+use Rattle.tree_laws.specs.Below.c99_grammar.Standard.{c99}
+use Rattle.tree_laws.specs.Below.c99_read.State.{State, base_at, is_identifier, is_typedef_at, class_at}
+use Rattle.tree_laws.specs.Below.c99_grammar.TokenClasses.{spelled_class, class_of_kind, base_class}
 use Rattle.typedef_laws.proofs.Private.{Class}
 use Rattle.typedef_laws.proofs.Parts.{first_body, rest_of, front_of, inside_of, classes_of, second_test, asked_second}
 

@@ -2,21 +2,21 @@
 use Rattle.std.proofs.Common.{ℕ, zero, suc, ◌+◌, ◌≡◌, Bool, true, false, ◌&&◌, if◌then◌else◌, ◌==◌, List, [], ◌∷◌, length, Option, None, Some, Ok, Err, nat_lt, ◌⊎◌, inl, inr, refl, sym, ap, subst}
 use Rattle.std.specs.List.{list_all}
 use Rattle.std.proofs.lemmas.Bool.{false≢true, and_parts, and_left}
-use Rattle.cs_base.specs.Token.{Token}
-use Rattle.c99_tree.specs.Tree.{Forest}
-use Rattle.c99_tree.specs.declared.production.Label.{Label}
-use Rattle.c99_tree.specs.declared.production.Production.{Production}
-use Rattle.c99_tree.specs.declared.production.Production.TheVariants.{TranslationUnit, External, ExtRest, ExtTail, FunBody, Declaration, DeclRest, InitDecl, Declarator, Suffix, Block, BlockItem, Statement, Sub, ForInit}
-use Rattle.c99_tree.specs.contracts.production.ProductionPartialEq.TheImpl.{ghosts}
-use Rattle.c99_grammar.specs.Items.{Item, one, part, end_of_text, act, ◌·◌, choice, maybe, many, deep, Test, own, scope, end, declare, name, keep, again, Alternative}
-use Rattle.c99_grammar.specs.Grammar.{table}
-use Rattle.c99_grammar.specs.Standard.{c99}
-use Rattle.c99_read.specs.Sound.{is_met, goal_has_token}
-use Rattle.c99_read.specs.State.{State, Names, last_declared, last_identifier, declaration, in_innermost, with_declared, acted, opened, closed}
-use Rattle.c99_read.specs.Reading.{Goal, produce, repeat, Step, syntax, and_then, deepest, take_one, enter, may, step, alternative, pick, read_within}
-use Rattle.c99_read.proofs.Moves.{Moves}
-use Rattle.c_types.specs.Trees.{is_list, last_token}
-use Rattle.name_chains.specs.Entering.{inner}
+use Rattle.tree_laws.specs.Below.cs_base.Token.{Token}
+use Rattle.tree_laws.specs.Below.c99_tree.Tree.{Forest}
+use Rattle.tree_laws.specs.Below.c99_tree.declared.production.Label.{Label}
+use Rattle.tree_laws.specs.Below.c99_tree.declared.production.Production.{Production}
+use Rattle.tree_laws.specs.Below.c99_tree.declared.production.Production.TheVariants.{TranslationUnit, External, ExtRest, ExtTail, FunBody, Declaration, DeclRest, InitDecl, Declarator, Suffix, Block, BlockItem, Statement, Sub, ForInit}
+use Rattle.tree_laws.specs.Below.c99_tree.contracts.production.ProductionPartialEq.TheImpl.{ghosts}
+use Rattle.tree_laws.specs.Below.c99_grammar.Items.{Item, one, part, end_of_text, act, ◌·◌, choice, maybe, many, deep, Test, own, scope, end, declare, name, keep, again, Alternative}
+use Rattle.tree_laws.specs.Below.c99_grammar.Grammar.{table}
+use Rattle.tree_laws.specs.Below.c99_grammar.Standard.{c99}
+use Rattle.tree_laws.specs.Below.c99_read.Sound.{is_met, goal_has_token}
+use Rattle.tree_laws.specs.Below.c99_read.State.{State, Names, last_declared, last_identifier, declaration, in_innermost, with_declared, acted, opened, closed}
+use Rattle.tree_laws.specs.Below.c99_read.Reading.{Goal, produce, repeat, Step, syntax, and_then, deepest, take_one, enter, may, step, alternative, pick, read_within}
+use Rattle.tree_laws.proofs.Below.c99_read.Moves.{Moves}
+use Rattle.tree_laws.specs.Below.c_types.Trees.{is_list, last_token}
+use Rattle.tree_laws.specs.Below.name_chains.Entering.{inner}
 use Rattle.typedef_laws.specs.Laws.{is_bodiless}
 use Rattle.typedef_laws.proofs.Private.{Class, Declaration as Declared}
 use Rattle.typedef_laws.proofs.Parts.{first_body, second_body, rest_of, front_of, classes_of}

@@ -1,19 +1,19 @@
 -- Names that are declared: at the end of a declarator, and in an identifier list.
 use Rattle.std.proofs.Common.{ℕ, ◌+◌, ◌<◌, ◌≤◌, ◌≡◌, Bool, true, false, ◌&&◌, ◌||◌, if◌then◌else◌, ◌==◌, List, [], ◌∷◌, Option, None, Some, Ok, Err, inl, inr, refl, sym, ap, subst, ◌∙◌, arith}
 use Rattle.std.proofs.lemmas.Bool.{false≢true, and_parts}
-use Rattle.cs_base.specs.Token.{Token}
-use Rattle.c99_tree.specs.Tree.{Forest, none, token, node, Node, inner, put, count_of}
-use Rattle.c99_tree.specs.declared.production.Label.{Label}
-use Rattle.c99_tree.specs.declared.production.Production.{Production}
-use Rattle.c99_tree.specs.declared.production.Production.TheVariants.{InitDecl, Specs, Declarator, Direct, Param, Pdecl, Pdirect}
-use Rattle.c99_tree.specs.contracts.production.ProductionPartialEq.TheImpl.{ghosts}
-use Rattle.c99_grammar.specs.Items.{Item, part, act, ◌·◌, maybe, own, declare}
-use Rattle.c99_grammar.specs.Grammar.{table}
-use Rattle.c99_grammar.specs.Standard.{c99}
-use Rattle.c99_read.specs.State.{State, name_below as reader_name, is_declaring, is_direct, last_declared, declaration, in_innermost, with_declared, acted, opened}
-use Rattle.c99_read.specs.Reading.{Goal, produce, Step, and_then, may, step}
-use Rattle.scope_bind.specs.Named.{Scope}
-use Rattle.c_types.specs.Trees.{is_node, has_mod, holds_name, has_name, name_below, last_token}
+use Rattle.tree_laws.specs.Below.cs_base.Token.{Token}
+use Rattle.tree_laws.specs.Below.c99_tree.Tree.{Forest, none, token, node, Node, inner, put, count_of}
+use Rattle.tree_laws.specs.Below.c99_tree.declared.production.Label.{Label}
+use Rattle.tree_laws.specs.Below.c99_tree.declared.production.Production.{Production}
+use Rattle.tree_laws.specs.Below.c99_tree.declared.production.Production.TheVariants.{InitDecl, Specs, Declarator, Direct, Param, Pdecl, Pdirect}
+use Rattle.tree_laws.specs.Below.c99_tree.contracts.production.ProductionPartialEq.TheImpl.{ghosts}
+use Rattle.tree_laws.specs.Below.c99_grammar.Items.{Item, part, act, ◌·◌, maybe, own, declare}
+use Rattle.tree_laws.specs.Below.c99_grammar.Grammar.{table}
+use Rattle.tree_laws.specs.Below.c99_grammar.Standard.{c99}
+use Rattle.tree_laws.specs.Below.c99_read.State.{State, name_below as reader_name, is_declaring, is_direct, last_declared, declaration, in_innermost, with_declared, acted, opened}
+use Rattle.tree_laws.specs.Below.c99_read.Reading.{Goal, produce, Step, and_then, may, step}
+use Rattle.tree_laws.specs.Below.scope_bind.Named.{Scope}
+use Rattle.tree_laws.specs.Below.c_types.Trees.{is_node, has_mod, holds_name, has_name, name_below, last_token}
 use Rattle.typedef_laws.proofs.Private.{Declaration}
 use Rattle.typedef_laws.proofs.Parts.{first_body, rest_of}
 use Rattle.typedef_laws.proofs.Outline.{Outline, Entry, entry, begun, outlined, named_entries, in_declaration, in_parameter, entries_after, all_agree}

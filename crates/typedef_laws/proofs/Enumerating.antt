@@ -1,15 +1,15 @@
 -- Enumerators (6.7.2.2), and parameters in parentheses (6.7.5.3 paragraph 11).
 use Rattle.std.proofs.Common.{ℕ, ◌+◌, ◌<◌, ◌≡◌, Bool, true, false, List, length, None, Some, Ok, Err, nat_lt, inl, inr, refl, sym, ap, subst, ◌∙◌, arith}
-use Rattle.cs_base.specs.Token.{Token}
-use Rattle.c99_tree.specs.Tree.{none, Node}
-use Rattle.c99_tree.specs.declared.production.Label.{Label}
-use Rattle.c99_tree.specs.declared.production.Production.TheVariants.{Enumerator, Cond}
-use Rattle.c99_grammar.specs.Classes.{among}
-use Rattle.c99_grammar.specs.Items.{Item, one, part, act, ◌·◌, maybe, deep, own, names, name}
-use Rattle.c99_grammar.specs.Standard.{c99}
-use Rattle.c99_read.specs.State.{State, class_at, last_identifier, declaration, in_innermost, acted, opened}
-use Rattle.c99_read.specs.Reading.{Goal, produce, Step, and_then, deepest, take_one, enter, may, step}
-use Rattle.c_types.specs.Trees.{last_token}
+use Rattle.tree_laws.specs.Below.cs_base.Token.{Token}
+use Rattle.tree_laws.specs.Below.c99_tree.Tree.{none, Node}
+use Rattle.tree_laws.specs.Below.c99_tree.declared.production.Label.{Label}
+use Rattle.tree_laws.specs.Below.c99_tree.declared.production.Production.TheVariants.{Enumerator, Cond}
+use Rattle.tree_laws.specs.Below.c99_grammar.Classes.{among}
+use Rattle.tree_laws.specs.Below.c99_grammar.Items.{Item, one, part, act, ◌·◌, maybe, deep, own, names, name}
+use Rattle.tree_laws.specs.Below.c99_grammar.Standard.{c99}
+use Rattle.tree_laws.specs.Below.c99_read.State.{State, class_at, last_identifier, declaration, in_innermost, acted, opened}
+use Rattle.tree_laws.specs.Below.c99_read.Reading.{Goal, produce, Step, and_then, deepest, take_one, enter, may, step}
+use Rattle.tree_laws.specs.Below.c_types.Trees.{last_token}
 use Rattle.typedef_laws.proofs.Classes.{equals, name_is, equals_is}
 use Rattle.typedef_laws.proofs.Outline.{Outline, begun, outlined}
 use Rattle.typedef_laws.proofs.Matching.{Bounds, outer_further, outer_open, bounds_sooner}

@@ -1,17 +1,17 @@
 -- Reading bodies of functions, and what stands around them (6.9.1).
 use Rattle.std.proofs.Common.{ℕ, ◌+◌, ◌<◌, ◌≤◌, ◌≡◌, Bool, true, false, ◌&&◌, not, if◌then◌else◌, List, [], ◌∷◌, ◌++◌, length, Option, None, Some, Ok, Err, nat_lt, refl, sym, ap, subst, ◌∙◌, arith}
 use Rattle.std.proofs.lemmas.Bool.{false≢true, le-ltb}
-use Rattle.cs_base.specs.Token.{Token}
-use Rattle.c99_tree.specs.Tree.{Forest, Node, node_of, leaf, inner, put, count_of, collapsed}
-use Rattle.c99_tree.specs.declared.production.Label.{Label}
-use Rattle.c99_tree.specs.declared.production.Production.{Production}
-use Rattle.c99_tree.specs.declared.production.Production.TheVariants.{External, ExtRest, ExtTail, FunBody, Specs, Declarator}
-use Rattle.c99_tree.specs.contracts.production.ProductionPartialEq.TheImpl.{ghosts}
-use Rattle.c99_grammar.specs.Items.{Item, one, act, ◌·◌, end}
-use Rattle.c99_grammar.specs.Standard.{c99}
-use Rattle.c99_read.specs.State.{State, Names, with_scope_ended, is_declarator, head_closed, names_closed, nearest, collapses, acted, opened, closed}
-use Rattle.c99_read.specs.Reading.{Goal, Step, and_then, take_one, step}
-use Rattle.c_types.specs.Trees.{has_mod, last_token}
+use Rattle.tree_laws.specs.Below.cs_base.Token.{Token}
+use Rattle.tree_laws.specs.Below.c99_tree.Tree.{Forest, Node, node_of, leaf, inner, put, count_of, collapsed}
+use Rattle.tree_laws.specs.Below.c99_tree.declared.production.Label.{Label}
+use Rattle.tree_laws.specs.Below.c99_tree.declared.production.Production.{Production}
+use Rattle.tree_laws.specs.Below.c99_tree.declared.production.Production.TheVariants.{External, ExtRest, ExtTail, FunBody, Specs, Declarator}
+use Rattle.tree_laws.specs.Below.c99_tree.contracts.production.ProductionPartialEq.TheImpl.{ghosts}
+use Rattle.tree_laws.specs.Below.c99_grammar.Items.{Item, one, act, ◌·◌, end}
+use Rattle.tree_laws.specs.Below.c99_grammar.Standard.{c99}
+use Rattle.tree_laws.specs.Below.c99_read.State.{State, Names, with_scope_ended, is_declarator, head_closed, names_closed, nearest, collapses, acted, opened, closed}
+use Rattle.tree_laws.specs.Below.c99_read.Reading.{Goal, Step, and_then, take_one, step}
+use Rattle.tree_laws.specs.Below.c_types.Trees.{has_mod, last_token}
 use Rattle.typedef_laws.proofs.Private.{Class, Declaration}
 use Rattle.typedef_laws.proofs.Outline.{Entry, Outline, begun, copies, kept_entries, entries_after, outlined, is_open, all_agree}
 use Rattle.typedef_laws.proofs.Matching.{shown, Matches, Bounds, Within, IsOpen, SameOuter, outer_still, bounds_within, bounds_inner, within_sooner}

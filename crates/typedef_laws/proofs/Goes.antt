@@ -1,16 +1,16 @@
 -- Reading goes on beside the outline of binding.
 use Rattle.std.proofs.Common.{ℕ, ◌+◌, ◌<◌, ◌≤◌, ◌≡◌, Bool, true, false, ◌&&◌, if◌then◌else◌, List, length, Ok, Err, refl, sym, ap, subst, ◌∙◌, arith}
 use Rattle.std.proofs.lemmas.Bool.{false≢true, and_parts}
-use Rattle.cs_base.specs.Token.{Token}
-use Rattle.c99_tree.specs.Tree.{Forest, none, token, node, Node, node_of, leaf, inner, put, count_of, lone, collapsed}
-use Rattle.c99_tree.specs.declared.production.Label.{Label}
-use Rattle.c99_tree.specs.declared.production.Production.{Production}
-use Rattle.c99_tree.specs.declared.production.Production.TheVariants.{Specs}
-use Rattle.c99_read.specs.State.{State, Names, collapses, finished, is_declarator, head_closed, names_closed, nearest, closed}
-use Rattle.c99_read.specs.Reading.{Step}
-use Rattle.scope_bind.specs.Named.{Scope}
-use Rattle.c_types.specs.Trees.{is_node, has_mod}
-use Rattle.name_chains.specs.Entering.{scope_in}
+use Rattle.tree_laws.specs.Below.cs_base.Token.{Token}
+use Rattle.tree_laws.specs.Below.c99_tree.Tree.{Forest, none, token, node, Node, node_of, leaf, inner, put, count_of, lone, collapsed}
+use Rattle.tree_laws.specs.Below.c99_tree.declared.production.Label.{Label}
+use Rattle.tree_laws.specs.Below.c99_tree.declared.production.Production.{Production}
+use Rattle.tree_laws.specs.Below.c99_tree.declared.production.Production.TheVariants.{Specs}
+use Rattle.tree_laws.specs.Below.c99_read.State.{State, Names, collapses, finished, is_declarator, head_closed, names_closed, nearest, closed}
+use Rattle.tree_laws.specs.Below.c99_read.Reading.{Step}
+use Rattle.tree_laws.specs.Below.scope_bind.Named.{Scope}
+use Rattle.tree_laws.specs.Below.c_types.Trees.{is_node, has_mod}
+use Rattle.tree_laws.specs.Below.name_chains.Entering.{scope_in}
 use Rattle.typedef_laws.proofs.Outline.{Outline, Entry, added, begun, entries_in, outlined, stepped, is_listing, token_agrees, node_agrees, all_agree}
 use Rattle.typedef_laws.proofs.Matching.{Matches, Bounds, IsOpen, SameOuter, matches_later, outer_still, outer_further, outer_open, bounds_sooner}
 use Rattle.typedef_laws.proofs.Places.{EndsAt, ends_leaf, ends_inner, count_leaf, count_inner, outlined_leaf, outlined_inner, behind, agree_leaf, agree_inner}

@@ -2,18 +2,18 @@
 use Rattle.std.proofs.Common.{ℕ, ◌+◌, ◌<◌, ◌≤◌, ◌≡◌, Bool, true, false, ◌&&◌, if◌then◌else◌, ◌==◌, List, [], ◌∷◌, ◌++◌, length, Option, None, Some, ◌⊎◌, inl, inr, refl, sym, ap, subst, ◌∙◌, arith}
 use Rattle.std.specs.Option.{option_or}
 use Rattle.std.proofs.lemmas.Bool.{false≢true, and_parts, and_left, eqb-true, ne_eqb}
-use Rattle.cs_base.specs.Token.{Token}
-use Rattle.c99_tree.specs.Tree.{Forest, none, token, node, Node, node_of, leaf, inner, put, lone, collapsed}
-use Rattle.c99_tree.specs.declared.production.Label.{Label}
-use Rattle.c99_tree.specs.declared.production.Production.{Production}
-use Rattle.c99_tree.specs.declared.production.Production.TheVariants.{TranslationUnit, External, ExtRest, ExtTail, FunBody, Specs, Main, Mod, Enumerator, Declarator, Direct, Suffix, Pdecl, Pdirect}
-use Rattle.c99_tree.specs.contracts.production.ProductionPartialEq.TheImpl.{ghosts}
-use Rattle.c99_grammar.specs.Items.{scope, end, keep}
-use Rattle.c99_grammar.specs.Standard.{c99}
-use Rattle.c99_read.specs.State.{State, Names, given_names, with_scope_ended, is_declarator, with_head, names_opened, head_closed, names_closed, collapses, finished, acted, opened, closed}
-use Rattle.scope_bind.specs.Named.{Scope}
-use Rattle.c_types.specs.Trees.{is_node, is_list, has_mod, last_token, first_list}
-use Rattle.name_chains.specs.Entering.{scope_in}
+use Rattle.tree_laws.specs.Below.cs_base.Token.{Token}
+use Rattle.tree_laws.specs.Below.c99_tree.Tree.{Forest, none, token, node, Node, node_of, leaf, inner, put, lone, collapsed}
+use Rattle.tree_laws.specs.Below.c99_tree.declared.production.Label.{Label}
+use Rattle.tree_laws.specs.Below.c99_tree.declared.production.Production.{Production}
+use Rattle.tree_laws.specs.Below.c99_tree.declared.production.Production.TheVariants.{TranslationUnit, External, ExtRest, ExtTail, FunBody, Specs, Main, Mod, Enumerator, Declarator, Direct, Suffix, Pdecl, Pdirect}
+use Rattle.tree_laws.specs.Below.c99_tree.contracts.production.ProductionPartialEq.TheImpl.{ghosts}
+use Rattle.tree_laws.specs.Below.c99_grammar.Items.{scope, end, keep}
+use Rattle.tree_laws.specs.Below.c99_grammar.Standard.{c99}
+use Rattle.tree_laws.specs.Below.c99_read.State.{State, Names, given_names, with_scope_ended, is_declarator, with_head, names_opened, head_closed, names_closed, collapses, finished, acted, opened, closed}
+use Rattle.tree_laws.specs.Below.scope_bind.Named.{Scope}
+use Rattle.tree_laws.specs.Below.c_types.Trees.{is_node, is_list, has_mod, last_token, first_list}
+use Rattle.tree_laws.specs.Below.name_chains.Entering.{scope_in}
 use Rattle.typedef_laws.proofs.Private.{Declaration}
 use Rattle.typedef_laws.proofs.Outline.{Entry, entry, Outline, stepped, entries_in, begun, ended, outlined}
 use Rattle.typedef_laws.proofs.Matching.{IsOpen, SameOuter}

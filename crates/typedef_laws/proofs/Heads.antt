@@ -4,9 +4,9 @@ use Rattle.std.specs.Option.{option_or, option_map_or}
 use Rattle.std.proofs.lemmas.Bool.{eq-eqb, ne_eqb}
 use Rattle.std.proofs.lemmas.List.{length-append}
 use Rattle.std.proofs.Math.Seq.{take-append_seam}
-use Rattle.c99_tree.specs.Tree.{Forest, none, token, node, Node, leaf, inner, put}
-use Rattle.c99_read.specs.State.{Head, Names, given_names, head_closed}
-use Rattle.c_types.specs.Trees.{is_list, last_token, first_list}
+use Rattle.tree_laws.specs.Below.c99_tree.Tree.{Forest, none, token, node, Node, leaf, inner, put}
+use Rattle.tree_laws.specs.Below.c99_read.State.{Head, Names, given_names, head_closed}
+use Rattle.tree_laws.specs.Below.c_types.Trees.{is_list, last_token, first_list}
 use Rattle.typedef_laws.proofs.Private.{Declaration}
 
 -- ---- Giving

@@ -1,15 +1,15 @@
 -- The names of a parameter list that ends are the declarations of its scope.
 use Rattle.std.proofs.Common.{ℕ, ◌+◌, ◌<◌, ◌≤◌, ◌≡◌, Bool, true, false, ◌&&◌, not, if◌then◌else◌, List, [], ◌∷◌, ◌++◌, None, nat_lt, refl, sym, ap, subst, ◌∙◌, arith}
 use Rattle.std.proofs.lemmas.Bool.{le-ltb, lt-ltb}
-use Rattle.cs_base.specs.Token.{Token}
-use Rattle.c99_tree.specs.Tree.{Forest, none, token, node, leaf, put}
-use Rattle.c99_tree.specs.declared.production.Label.{Label}
-use Rattle.c99_tree.specs.declared.production.Production.TheVariants.{Suffix}
-use Rattle.c99_grammar.specs.Items.{scope}
-use Rattle.c99_grammar.specs.Standard.{c99}
-use Rattle.c99_read.specs.State.{State, declaration, acted, opened}
-use Rattle.scope_bind.specs.Named.{Scope}
-use Rattle.name_chains.specs.Entering.{inner}
+use Rattle.tree_laws.specs.Below.cs_base.Token.{Token}
+use Rattle.tree_laws.specs.Below.c99_tree.Tree.{Forest, none, token, node, leaf, put}
+use Rattle.tree_laws.specs.Below.c99_tree.declared.production.Label.{Label}
+use Rattle.tree_laws.specs.Below.c99_tree.declared.production.Production.TheVariants.{Suffix}
+use Rattle.tree_laws.specs.Below.c99_grammar.Items.{scope}
+use Rattle.tree_laws.specs.Below.c99_grammar.Standard.{c99}
+use Rattle.tree_laws.specs.Below.c99_read.State.{State, declaration, acted, opened}
+use Rattle.tree_laws.specs.Below.scope_bind.Named.{Scope}
+use Rattle.tree_laws.specs.Below.name_chains.Entering.{inner}
 use Rattle.typedef_laws.proofs.Private.{Declaration}
 use Rattle.typedef_laws.proofs.Outline.{Entry, entry, Outline, added, begun, outlined, is_listing, stepped}
 use Rattle.typedef_laws.proofs.Matching.{seen, shown, Within, IsOpen, SameOuter, bounds_inner}

@@ -1,17 +1,17 @@
 -- Names that are declared where they stand: in an identifier list, and at the end of an enumerator.
 use Rattle.std.proofs.Common.{ℕ, ◌+◌, ◌<◌, ◌≡◌, true, false, not, if◌then◌else◌, ◌==◌, ◌%◌, List, length, Option, None, Some, Ok, Err, refl, sym, ap, subst, ◌∙◌, arith}
 use Rattle.std.proofs.lemmas.Bool.{eqb-false, eqb-true, eq-eqb, ne_eqb}
-use Rattle.cs_base.specs.Token.{Token}
-use Rattle.c99_tree.specs.Tree.{Forest, none, token, node, Node, leaf, inner, put, count_of}
-use Rattle.c99_tree.specs.declared.production.Label.{Label}
-use Rattle.c99_tree.specs.declared.production.Production.TheVariants.{Params}
-use Rattle.c99_grammar.specs.Classes.{among}
-use Rattle.c99_grammar.specs.Items.{Item, one, act, ◌·◌, many, own, name}
-use Rattle.c99_grammar.specs.Grammar.{table}
-use Rattle.c99_grammar.specs.Standard.{c99}
-use Rattle.c99_read.specs.State.{State, base_at, is_identifier, class_at, last_identifier, declaration, in_innermost, acted, opened}
-use Rattle.c99_read.specs.Reading.{Goal, repeat, Step, and_then, take_one, may, step}
-use Rattle.scope_bind.specs.Named.{Scope}
+use Rattle.tree_laws.specs.Below.cs_base.Token.{Token}
+use Rattle.tree_laws.specs.Below.c99_tree.Tree.{Forest, none, token, node, Node, leaf, inner, put, count_of}
+use Rattle.tree_laws.specs.Below.c99_tree.declared.production.Label.{Label}
+use Rattle.tree_laws.specs.Below.c99_tree.declared.production.Production.TheVariants.{Params}
+use Rattle.tree_laws.specs.Below.c99_grammar.Classes.{among}
+use Rattle.tree_laws.specs.Below.c99_grammar.Items.{Item, one, act, ◌·◌, many, own, name}
+use Rattle.tree_laws.specs.Below.c99_grammar.Grammar.{table}
+use Rattle.tree_laws.specs.Below.c99_grammar.Standard.{c99}
+use Rattle.tree_laws.specs.Below.c99_read.State.{State, base_at, is_identifier, class_at, last_identifier, declaration, in_innermost, acted, opened}
+use Rattle.tree_laws.specs.Below.c99_read.Reading.{Goal, repeat, Step, and_then, take_one, may, step}
+use Rattle.tree_laws.specs.Below.scope_bind.Named.{Scope}
 use Rattle.typedef_laws.proofs.Private.{Class}
 use Rattle.typedef_laws.proofs.Parts.{first_body, rest_of, front_of, inside_of, classes_of}
 use Rattle.typedef_laws.proofs.Classes.{identifiers, identifier_is}

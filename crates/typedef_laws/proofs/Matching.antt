@@ -3,10 +3,10 @@
 use Rattle.std.proofs.Common.{ℕ, ◌+◌, ◌≤◌, ◌≡◌, Bool, true, false, ◌&&◌, not, if◌then◌else◌, List, [], ◌∷◌, ◌++◌, Option, None, Some, nat_lt, refl, sym, ap, subst, ◌∙◌, arith, unwrap_or}
 use Rattle.std.proofs.lemmas.Bool.{le-ltb, lt-ltb}
 use Rattle.std.specs.Str.{bytes_eq}
-use Rattle.cs_base.specs.Token.{Token}
-use Rattle.c99_tree.specs.Names.{latest}
-use Rattle.c99_read.specs.State.{declaration, spelling_at, spelled_scope, is_typedef_at}
-use Rattle.c_types.specs.Declarations.{alike}
+use Rattle.tree_laws.specs.Below.cs_base.Token.{Token}
+use Rattle.tree_laws.specs.Below.c99_tree.Names.{latest}
+use Rattle.tree_laws.specs.Below.c99_read.State.{declaration, spelling_at, spelled_scope, is_typedef_at}
+use Rattle.tree_laws.specs.Below.c_types.Declarations.{alike}
 use Rattle.typedef_laws.proofs.Private.{Declaration}
 use Rattle.typedef_laws.proofs.Outline.{Entry, entry, is_open, typedef_among}
 use Rattle.typedef_laws.proofs.Outlines.{among_step}

@@ -3,26 +3,26 @@ use Rattle.std.proofs.Common.{ℕ, ◌+◌, ◌≡◌, Bool, true, false, ◌&&�
 use Rattle.std.specs.Prelude.{find, filter_map}
 use Rattle.std.specs.List.{cons_option}
 use Rattle.std.specs.Option.{option_map_or}
-use Rattle.cs_base.specs.Token.{Token}
-use Rattle.c99_tree.specs.Tree.{Forest, none, token, node}
-use Rattle.c99_tree.specs.declared.production.Label.{Label}
-use Rattle.c99_tree.specs.declared.production.Production.{Production}
-use Rattle.c99_tree.specs.declared.production.Production.TheVariants.{TranslationUnit, ExtRest, FunBody, InitDecl, Specs, Members, Mdecl, Main, SuRest, EnRest, Params, Primary, Post, Designator, Statement, Pdirect, Enumerators, Enumerator, Declarator, Param, Pdecl}
-use Rattle.c99_grammar.specs.Standard.{c99}
-use Rattle.c99_read.specs.State.{base_at, is_identifier}
-use Rattle.c_types.specs.declared.entity.EntityKind.TheVariants.{Object, Function, Typedef, Parameter, Enumerator as Constant}
-use Rattle.scope_bind.specs.Named.{Body, Cause, Declaration, Declared, Frame, Role, Scope, ordinary, tags, labels, undeclared, tag_redefined, redeclared, mixed_linkage, designator_after_elision}
-use Rattle.c_types.specs.Types.{CType, adjusted, arithmetic, is_function, is_unknown, target_of}
-use Rattle.c_types.specs.Trees.{last_token, name_below, is_at, is_node, words_of, declarator_type}
-use Rattle.c_types.specs.Declarations.{Facts, is_space, is_live, is_typedef_name, has_linkage, alike, is_named, in_scope, is_mixed, with_fault, with_use, with_declaration, with_begun, visible, anywhere}
-use Rattle.name_chains.specs.Frames.{State}
-use Rattle.scope_bind.specs.Ordinary.{is_listed, is_again, used, used_as, is_func, declared_faults, declared_after, declared, plain_name, new_object, with_object, with_parameter}
-use Rattle.c_types.specs.Tags.{with_tag, tag_declaration, tag_named, tag_entity, is_same_tag, is_declaring, prior_tag, enumeration_used}
-use Rattle.name_chains.specs.Members.{with_member, member_used_as, member_at}
-use Rattle.scope_bind.specs.Labels.{with_label, with_jumps, jump_to, with_labels}
-use Rattle.name_chains.specs.Entering.{is_member, kept_here, with_kept, facts_in, entered}
-use Rattle.scope_bind.specs.Roles.{role_of}
-use Rattle.scope_bind.specs.Walk.{facts_at, passed, declared_in, parameter_in, facts_after, left, walked}
+use Rattle.tree_laws.specs.Below.cs_base.Token.{Token}
+use Rattle.tree_laws.specs.Below.c99_tree.Tree.{Forest, none, token, node}
+use Rattle.tree_laws.specs.Below.c99_tree.declared.production.Label.{Label}
+use Rattle.tree_laws.specs.Below.c99_tree.declared.production.Production.{Production}
+use Rattle.tree_laws.specs.Below.c99_tree.declared.production.Production.TheVariants.{TranslationUnit, ExtRest, FunBody, InitDecl, Specs, Members, Mdecl, Main, SuRest, EnRest, Params, Primary, Post, Designator, Statement, Pdirect, Enumerators, Enumerator, Declarator, Param, Pdecl}
+use Rattle.tree_laws.specs.Below.c99_grammar.Standard.{c99}
+use Rattle.tree_laws.specs.Below.c99_read.State.{base_at, is_identifier}
+use Rattle.tree_laws.specs.Below.c_types.declared.entity.EntityKind.TheVariants.{Object, Function, Typedef, Parameter, Enumerator as Constant}
+use Rattle.tree_laws.specs.Below.scope_bind.Named.{Body, Cause, Declaration, Declared, Frame, Role, Scope, ordinary, tags, labels, undeclared, tag_redefined, redeclared, mixed_linkage, designator_after_elision}
+use Rattle.tree_laws.specs.Below.c_types.Types.{CType, adjusted, arithmetic, is_function, is_unknown, target_of}
+use Rattle.tree_laws.specs.Below.c_types.Trees.{last_token, name_below, is_at, is_node, words_of, declarator_type}
+use Rattle.tree_laws.specs.Below.c_types.Declarations.{Facts, is_space, is_live, is_typedef_name, has_linkage, alike, is_named, in_scope, is_mixed, with_fault, with_use, with_declaration, with_begun, visible, anywhere}
+use Rattle.tree_laws.specs.Below.name_chains.Frames.{State}
+use Rattle.tree_laws.specs.Below.scope_bind.Ordinary.{is_listed, is_again, used, used_as, is_func, declared_faults, declared_after, declared, plain_name, new_object, with_object, with_parameter}
+use Rattle.tree_laws.specs.Below.c_types.Tags.{with_tag, tag_declaration, tag_named, tag_entity, is_same_tag, is_declaring, prior_tag, enumeration_used}
+use Rattle.tree_laws.specs.Below.name_chains.Members.{with_member, member_used_as, member_at}
+use Rattle.tree_laws.specs.Below.scope_bind.Labels.{with_label, with_jumps, jump_to, with_labels}
+use Rattle.tree_laws.specs.Below.name_chains.Entering.{is_member, kept_here, with_kept, facts_in, entered}
+use Rattle.tree_laws.specs.Below.scope_bind.Roles.{role_of}
+use Rattle.tree_laws.specs.Below.scope_bind.Walk.{facts_at, passed, declared_in, parameter_in, facts_after, left, walked}
 use Rattle.typedef_laws.specs.Agreeing.{is_read_so, is_named_so, agrees}
 use Rattle.typedef_laws.proofs.Outline.{Entry, entry, Outline, added, is_listing, stepped, copies, kept_entries, entries_in, begun, named_entries, in_declaration, in_parameter, entries_after, ended, outlined, is_open, typedef_among, token_agrees, node_agrees, all_agree}
 

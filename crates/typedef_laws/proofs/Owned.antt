@@ -1,15 +1,15 @@
 -- Declarations of the outline that pass a test: those of one scope, and those whose ranges hold a token.
 use Rattle.std.proofs.Common.{ℕ, ◌+◌, ◌<◌, ◌≤◌, ◌≡◌, Bool, true, false, ◌&&◌, not, if◌then◌else◌, ◌==◌, List, [], ◌∷◌, ◌++◌, Option, None, Some, nat_lt, refl, sym, ap, ◌∙◌, arith}
 use Rattle.std.proofs.lemmas.Bool.{and_parts, eqb-true}
-use Rattle.c99_tree.specs.Tree.{Forest, none, token, node}
-use Rattle.c99_tree.specs.declared.production.Label.{Label}
-use Rattle.c99_tree.specs.declared.production.Production.{Production}
-use Rattle.c99_tree.specs.declared.production.Production.TheVariants.{ExtRest, FunBody, InitDecl, Enumerator, Declarator, Param, Pdecl, Block, Suffix, Sub, Statement}
-use Rattle.scope_bind.specs.Named.{Scope}
-use Rattle.c_types.specs.Trees.{is_list, last_token, name_below}
-use Rattle.name_chains.specs.Entering.{inner, is_scoped, scope_in}
+use Rattle.tree_laws.specs.Below.c99_tree.Tree.{Forest, none, token, node}
+use Rattle.tree_laws.specs.Below.c99_tree.declared.production.Label.{Label}
+use Rattle.tree_laws.specs.Below.c99_tree.declared.production.Production.{Production}
+use Rattle.tree_laws.specs.Below.c99_tree.declared.production.Production.TheVariants.{ExtRest, FunBody, InitDecl, Enumerator, Declarator, Param, Pdecl, Block, Suffix, Sub, Statement}
+use Rattle.tree_laws.specs.Below.scope_bind.Named.{Scope}
+use Rattle.tree_laws.specs.Below.c_types.Trees.{is_list, last_token, name_below}
+use Rattle.tree_laws.specs.Below.name_chains.Entering.{inner, is_scoped, scope_in}
 use Rattle.typedef_laws.proofs.Private.{Declaration}
-use Rattle.c99_read.specs.State.{declaration}
+use Rattle.tree_laws.specs.Below.c99_read.State.{declaration}
 use Rattle.typedef_laws.proofs.Outline.{Entry, entry, Outline, added, is_listing, token_entries, stepped, copies, kept_entries, entries_in, begun, named_entries, in_declaration, in_parameter, entries_after, ended, outlined, is_open}
 use Rattle.typedef_laws.proofs.Matching.{shown}
 

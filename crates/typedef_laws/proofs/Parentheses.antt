@@ -1,15 +1,15 @@
 -- A parameter's declarator in parentheses (6.7.5.3 paragraph 11).
 use Rattle.std.proofs.Common.{ℕ, ◌+◌, ◌<◌, ◌≡◌, Bool, true, false, ◌||◌, not, List, length, Ok, Err, refl, sym, ap, subst, ◌∙◌, arith}
-use Rattle.cs_base.specs.Token.{Token}
-use Rattle.c99_tree.specs.declared.production.Label.{Label}
-use Rattle.c99_tree.specs.declared.production.Production.TheVariants.{Pdirect}
-use Rattle.c99_grammar.specs.Classes.{among}
-use Rattle.c99_grammar.specs.Items.{Item, one, ◌·◌}
-use Rattle.c99_grammar.specs.Standard.{c99}
-use Rattle.c99_read.specs.Sound.{has_token, is_low, is_met, goal_has_token}
-use Rattle.c99_read.specs.State.{State, base_at, is_identifier, is_typedef_at, class_at, opened}
-use Rattle.c99_read.specs.Reading.{Goal, Step, and_then, take_one, step}
-use Rattle.c99_read.proofs.Moves.{Moves, Moves-step}
+use Rattle.tree_laws.specs.Below.cs_base.Token.{Token}
+use Rattle.tree_laws.specs.Below.c99_tree.declared.production.Label.{Label}
+use Rattle.tree_laws.specs.Below.c99_tree.declared.production.Production.TheVariants.{Pdirect}
+use Rattle.tree_laws.specs.Below.c99_grammar.Classes.{among}
+use Rattle.tree_laws.specs.Below.c99_grammar.Items.{Item, one, ◌·◌}
+use Rattle.tree_laws.specs.Below.c99_grammar.Standard.{c99}
+use Rattle.tree_laws.specs.Below.c99_read.Sound.{has_token, is_low, is_met, goal_has_token}
+use Rattle.tree_laws.specs.Below.c99_read.State.{State, base_at, is_identifier, is_typedef_at, class_at, opened}
+use Rattle.tree_laws.specs.Below.c99_read.Reading.{Goal, Step, and_then, take_one, step}
+use Rattle.tree_laws.proofs.Below.c99_read.Moves.{Moves, Moves-step}
 use Rattle.typedef_laws.proofs.Private.{Class}
 use Rattle.typedef_laws.proofs.Classes.{bare, bare_is}
 use Rattle.typedef_laws.proofs.Outline.{Outline, Entry, typedef_among}

@@ -1,6 +1,6 @@
 -- Parts of the table of productions.
 use Rattle.std.proofs.Common.{List, [], ◌∷◌}
-use Rattle.c99_grammar.specs.Items.{Item, one, end_of_text, ◌·◌, maybe, many, Test, own, next_two, Ask, is, Alternative}
+use Rattle.tree_laws.specs.Below.c99_grammar.Items.{Item, one, end_of_text, ◌·◌, maybe, many, Test, own, next_two, Ask, is, Alternative}
 use Rattle.typedef_laws.proofs.Private.{Class}
 
 abbrev pub first_body : List Alternative → Item

@@ -1,9 +1,9 @@
 -- What one more child changes: the last token below, how many children there are, and the outline.
 use Rattle.std.proofs.Common.{ℕ, ◌+◌, ◌≡◌, Bool, true, false, ◌&&◌, List, ◌⊎◌, inl, inr, refl, sym, ap, ◌∙◌}
 use Rattle.std.proofs.lemmas.Bool.{and_parts}
-use Rattle.cs_base.specs.Token.{Token}
-use Rattle.c99_tree.specs.Tree.{Forest, none, token, node, Node, leaf, inner, put, count_of}
-use Rattle.c_types.specs.Trees.{last_token}
+use Rattle.tree_laws.specs.Below.cs_base.Token.{Token}
+use Rattle.tree_laws.specs.Below.c99_tree.Tree.{Forest, none, token, node, Node, leaf, inner, put, count_of}
+use Rattle.tree_laws.specs.Below.c_types.Trees.{last_token}
 use Rattle.typedef_laws.proofs.Outline.{Outline, stepped, begun, ended, outlined, token_agrees, node_agrees, all_agree}
 
 pub and_both : (p q : Bool) → p ≡ true → q ≡ true → (p && q) ≡ true

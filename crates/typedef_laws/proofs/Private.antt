@@ -1,7 +1,7 @@
 -- Types that the reader keeps to itself, by what gives a value of them.
-use Rattle.c99_grammar.specs.Standard.{c99}
-use Rattle.c99_read.specs.State.{declaration}
-use Rattle.c99_grammar.specs.TokenClasses.{base_class}
+use Rattle.tree_laws.specs.Below.c99_grammar.Standard.{c99}
+use Rattle.tree_laws.specs.Below.c99_read.State.{declaration}
+use Rattle.tree_laws.specs.Below.c99_grammar.TokenClasses.{base_class}
 
 abbrev pub Given : {A B : Type 0} → (A → B) → Type 0
 Given {A} {B} f = B

@@ -1,18 +1,18 @@
 -- Which productions declare and which begin scopes, and what may stand in them.
 use Rattle.std.proofs.Common.{ℕ, ◌+◌, ◌%◌, ◌≡◌, Bool, true, false, ◌&&◌, ◌||◌, not, if◌then◌else◌, ◌==◌, List, Option, refl, sym, ap, ◌∙◌}
 use Rattle.std.proofs.lemmas.Bool.{false≢true, and_parts}
-use Rattle.cs_base.specs.Token.{Token}
-use Rattle.c99_tree.specs.Tree.{Forest, none, token, node, leaf, inner, Node, put}
-use Rattle.c99_tree.specs.declared.production.Label.{Label}
-use Rattle.c99_tree.specs.declared.production.Production.{Production}
-use Rattle.c99_tree.specs.declared.production.Production.TheVariants.{ExtRest, FunBody, InitDecl, Specs, Main, Mod, Enumerator, Declarator, Direct, Suffix, Params, Param, Pdecl, Pdirect, Primary, Block, Statement, Sub, Expr, Assign, Cond, Lor, Land, Bor, Bxor, Band, Equal, Relate, Shift, Add, Mul, Cast, Unary}
-use Rattle.c99_grammar.specs.Items.{Item, one, part, end_of_text, act, ◌·◌, choice, maybe, many, deep}
-use Rattle.c99_tree.specs.contracts.production.ProductionPartialEq.TheImpl.{ghosts}
-use Rattle.c99_grammar.specs.Standard.{c99}
-use Rattle.c99_read.specs.State.{base_at, is_identifier, collapses, nearest, is_mod, is_main, is_specs, is_typedef_part, typedef_word_in, has_typedef}
-use Rattle.scope_bind.specs.Named.{Scope}
-use Rattle.c_types.specs.Trees.{is_at, is_node, has_node, has_mod, last_token}
-use Rattle.name_chains.specs.Entering.{inner as inner_scope, is_scoped, scope_in}
+use Rattle.tree_laws.specs.Below.cs_base.Token.{Token}
+use Rattle.tree_laws.specs.Below.c99_tree.Tree.{Forest, none, token, node, leaf, inner, Node, put}
+use Rattle.tree_laws.specs.Below.c99_tree.declared.production.Label.{Label}
+use Rattle.tree_laws.specs.Below.c99_tree.declared.production.Production.{Production}
+use Rattle.tree_laws.specs.Below.c99_tree.declared.production.Production.TheVariants.{ExtRest, FunBody, InitDecl, Specs, Main, Mod, Enumerator, Declarator, Direct, Suffix, Params, Param, Pdecl, Pdirect, Primary, Block, Statement, Sub, Expr, Assign, Cond, Lor, Land, Bor, Bxor, Band, Equal, Relate, Shift, Add, Mul, Cast, Unary}
+use Rattle.tree_laws.specs.Below.c99_grammar.Items.{Item, one, part, end_of_text, act, ◌·◌, choice, maybe, many, deep}
+use Rattle.tree_laws.specs.Below.c99_tree.contracts.production.ProductionPartialEq.TheImpl.{ghosts}
+use Rattle.tree_laws.specs.Below.c99_grammar.Standard.{c99}
+use Rattle.tree_laws.specs.Below.c99_read.State.{base_at, is_identifier, collapses, nearest, is_mod, is_main, is_specs, is_typedef_part, typedef_word_in, has_typedef}
+use Rattle.tree_laws.specs.Below.scope_bind.Named.{Scope}
+use Rattle.tree_laws.specs.Below.c_types.Trees.{is_at, is_node, has_node, has_mod, last_token}
+use Rattle.tree_laws.specs.Below.name_chains.Entering.{inner as inner_scope, is_scoped, scope_in}
 use Rattle.typedef_laws.specs.Laws.{is_bodiless}
 use Rattle.typedef_laws.proofs.Outline.{Entry, Outline, added, is_listing, entries_in, in_declaration, in_parameter, entries_after, typedef_among, token_agrees, node_agrees}
 

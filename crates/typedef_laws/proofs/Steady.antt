@@ -2,16 +2,16 @@
 use Rattle.std.proofs.Common.{ℕ, ◌+◌, ◌-◌, ◌<◌, ◌≤◌, ◌≡◌, Bool, true, false, ◌&&◌, if◌then◌else◌, ◌==◌, List, [], ◌∷◌, length, take, Option, None, Some, unwrap_or, inl, inr, ◌⊎◌, refl, sym, ap, subst, ◌∙◌, arith}
 use Rattle.std.proofs.lemmas.Bool.{and_left, ne_eqb}
 use Rattle.std.proofs.lemmas.List.{length-append, length-take-le}
-use Rattle.c99_tree.specs.Tree.{Forest, none, token, node, Node, leaf, inner, put, lone, collapsed}
-use Rattle.c99_tree.specs.declared.production.Label.{Label}
-use Rattle.c99_tree.specs.declared.production.Production.{Production}
-use Rattle.c99_grammar.specs.Items.{Action, scope, end, declare, name, keep, again}
-use Rattle.c99_grammar.specs.Standard.{c99}
-use Rattle.c99_read.specs.State.{State, Names, Head, given_names, last_declared, last_identifier, with_declared, with_scope_ended, is_declarator, with_head, head_closed, names_closed, collapses, finished, names_after, acted, opened, closed}
-use Rattle.c99_read.specs.Reading.{Goal, read_within}
+use Rattle.tree_laws.specs.Below.c99_tree.Tree.{Forest, none, token, node, Node, leaf, inner, put, lone, collapsed}
+use Rattle.tree_laws.specs.Below.c99_tree.declared.production.Label.{Label}
+use Rattle.tree_laws.specs.Below.c99_tree.declared.production.Production.{Production}
+use Rattle.tree_laws.specs.Below.c99_grammar.Items.{Action, scope, end, declare, name, keep, again}
+use Rattle.tree_laws.specs.Below.c99_grammar.Standard.{c99}
+use Rattle.tree_laws.specs.Below.c99_read.State.{State, Names, Head, given_names, last_declared, last_identifier, with_declared, with_scope_ended, is_declarator, with_head, head_closed, names_closed, collapses, finished, names_after, acted, opened, closed}
+use Rattle.tree_laws.specs.Below.c99_read.Reading.{Goal, read_within}
 use Rattle.tree_laws.proofs.Walked.{kept_anywhere}
-use Rattle.scope_bind.specs.Named.{Scope}
-use Rattle.name_chains.specs.Entering.{scope_in}
+use Rattle.tree_laws.specs.Below.scope_bind.Named.{Scope}
+use Rattle.tree_laws.specs.Below.name_chains.Entering.{scope_in}
 use Rattle.typedef_laws.proofs.Private.{Declaration}
 use Rattle.typedef_laws.proofs.Outline.{entry, Outline, begun, outlined}
 use Rattle.typedef_laws.proofs.Goes.{After}

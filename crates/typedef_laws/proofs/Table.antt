@@ -1,19 +1,19 @@
 -- Each production of C99 reads to a node that agrees with the outline of binding.
 use Rattle.std.proofs.Common.{ℕ, zero, suc, ◌+◌, ◌≡◌, Bool, true, false, ◌&&◌, ◌||◌, not, if◌then◌else◌, List, [], ◌∷◌, length, Ok, Err, inl, inr, refl, ap, arith}
 use Rattle.std.proofs.lemmas.Bool.{false≢true, and_parts, or_cases}
-use Rattle.cs_base.specs.Token.{Token}
-use Rattle.c99_tree.specs.declared.production.Production.{Production}
-use Rattle.c99_tree.specs.declared.production.Production.TheVariants.{TranslationUnit, External, ExtRest, ExtTail, FunBody, Declaration, DeclRest, InitDecl, Specs, Main, Mod, Qual, Word, StructSpec, SuRest, Members, Member, Mdecl, EnumSpec, EnRest, Enumerators, Enumerator, Declarator, Pointer, Direct, Suffix, Bound, Params, Param, Pdecl, Pdirect, TypeName, Adecl, Adirect, Init, InitList, InitItem, Designator, Expr, Assign, Asgop, Cond, Lor, Land, Bor, Bxor, Band, Equal, Relate, Shift, Add, Mul, Cast, CastRest, Unary, SizeRest, SizeLit, Primary, Post, Args, Block, BlockItem, Statement, Sub, ForInit}
-use Rattle.c99_grammar.specs.Classes.{among}
-use Rattle.c99_grammar.specs.Items.{Item, many, end_of_text, own, Alternative, plain}
-use Rattle.c99_grammar.specs.Grammar.{table}
-use Rattle.c99_grammar.specs.Standard.{c99}
-use Rattle.c99_read.specs.Sound.{never_empty, is_met, goal_has_token}
-use Rattle.c99_read.specs.State.{State, class_at, opened}
-use Rattle.c99_read.specs.Reading.{Goal, produce, repeat, Step, may, step, pick, read_within}
-use Rattle.c99_read.proofs.Moves.{Moves, Moves-read_within}
-use Rattle.c99_read.proofs.C99Sound.{c99-sound}
-use Rattle.c_types.specs.Trees.{is_at}
+use Rattle.tree_laws.specs.Below.cs_base.Token.{Token}
+use Rattle.tree_laws.specs.Below.c99_tree.declared.production.Production.{Production}
+use Rattle.tree_laws.specs.Below.c99_tree.declared.production.Production.TheVariants.{TranslationUnit, External, ExtRest, ExtTail, FunBody, Declaration, DeclRest, InitDecl, Specs, Main, Mod, Qual, Word, StructSpec, SuRest, Members, Member, Mdecl, EnumSpec, EnRest, Enumerators, Enumerator, Declarator, Pointer, Direct, Suffix, Bound, Params, Param, Pdecl, Pdirect, TypeName, Adecl, Adirect, Init, InitList, InitItem, Designator, Expr, Assign, Asgop, Cond, Lor, Land, Bor, Bxor, Band, Equal, Relate, Shift, Add, Mul, Cast, CastRest, Unary, SizeRest, SizeLit, Primary, Post, Args, Block, BlockItem, Statement, Sub, ForInit}
+use Rattle.tree_laws.specs.Below.c99_grammar.Classes.{among}
+use Rattle.tree_laws.specs.Below.c99_grammar.Items.{Item, many, end_of_text, own, Alternative, plain}
+use Rattle.tree_laws.specs.Below.c99_grammar.Grammar.{table}
+use Rattle.tree_laws.specs.Below.c99_grammar.Standard.{c99}
+use Rattle.tree_laws.specs.Below.c99_read.Sound.{never_empty, is_met, goal_has_token}
+use Rattle.tree_laws.specs.Below.c99_read.State.{State, class_at, opened}
+use Rattle.tree_laws.specs.Below.c99_read.Reading.{Goal, produce, repeat, Step, may, step, pick, read_within}
+use Rattle.tree_laws.proofs.Below.c99_read.Moves.{Moves, Moves-read_within}
+use Rattle.tree_laws.proofs.Below.c99_read.C99Sound.{c99-sound}
+use Rattle.tree_laws.specs.Below.c_types.Trees.{is_at}
 use Rattle.typedef_laws.specs.Laws.{is_bodiless}
 use Rattle.typedef_laws.proofs.Parts.{first_body, second_body, second_test, asked_first, rest_of, front_of, classes_of}
 use Rattle.typedef_laws.proofs.Classes.{bare}

@@ -1,13 +1,13 @@
 -- Tokens that are read by their class: type names and primary expressions.
 use Rattle.std.proofs.Common.{ℕ, ◌+◌, ◌≡◌, Bool, true, false, not, if◌then◌else◌, ◌==◌, List, Ok, Err, refl, sym, ap, ◌∙◌, arith}
-use Rattle.cs_base.specs.Token.{Token}
-use Rattle.c99_tree.specs.declared.production.Label.{Label}
-use Rattle.c99_tree.specs.declared.production.Production.TheVariants.{Main, Mod, Primary}
-use Rattle.c99_grammar.specs.Classes.{among}
-use Rattle.c99_grammar.specs.Items.{one, part, ◌·◌, many, own}
-use Rattle.c99_grammar.specs.Standard.{c99}
-use Rattle.c99_read.specs.State.{State, class_at, is_typedef_at, opened}
-use Rattle.c99_read.specs.Reading.{Goal, Step, take_one, step}
+use Rattle.tree_laws.specs.Below.cs_base.Token.{Token}
+use Rattle.tree_laws.specs.Below.c99_tree.declared.production.Label.{Label}
+use Rattle.tree_laws.specs.Below.c99_tree.declared.production.Production.TheVariants.{Main, Mod, Primary}
+use Rattle.tree_laws.specs.Below.c99_grammar.Classes.{among}
+use Rattle.tree_laws.specs.Below.c99_grammar.Items.{one, part, ◌·◌, many, own}
+use Rattle.tree_laws.specs.Below.c99_grammar.Standard.{c99}
+use Rattle.tree_laws.specs.Below.c99_read.State.{State, class_at, is_typedef_at, opened}
+use Rattle.tree_laws.specs.Below.c99_read.Reading.{Goal, Step, take_one, step}
 use Rattle.typedef_laws.proofs.Classes.{identifiers, typedef_names, identifier_is, typedef_is}
 use Rattle.typedef_laws.proofs.Outline.{Entry, Outline, outlined, typedef_among, token_agrees}
 use Rattle.typedef_laws.proofs.Matching.{Bounds, bounds_within, same_typedef}

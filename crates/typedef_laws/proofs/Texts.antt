@@ -1,13 +1,13 @@
 -- A text that is read as one production, and one that is read as a unit.
 use Rattle.std.proofs.Common.{◌≤◌, ◌≡◌, true, List, [], ◌∷◌, length, Result, Ok, Err, refl, ap, subst, ◌∙◌, arith}
-use Rattle.cs_base.specs.Token.{Token}
-use Rattle.c99_tree.specs.Tree.{none, node, Node, node_of, lone}
-use Rattle.c99_tree.specs.declared.production.Production.{Production}
-use Rattle.c99_tree.specs.declared.production.Production.TheVariants.{TranslationUnit}
-use Rattle.c99_read.specs.State.{State}
-use Rattle.c99_read.specs.Reading.{Step, Stop, produce, steps_for, read_within, whole, at_first, tree_of}
-use Rattle.c99_grammar.specs.Standard.{c99}
-use Rattle.name_chains.specs.Frames.{at_first as before}
+use Rattle.tree_laws.specs.Below.cs_base.Token.{Token}
+use Rattle.tree_laws.specs.Below.c99_tree.Tree.{none, node, Node, node_of, lone}
+use Rattle.tree_laws.specs.Below.c99_tree.declared.production.Production.{Production}
+use Rattle.tree_laws.specs.Below.c99_tree.declared.production.Production.TheVariants.{TranslationUnit}
+use Rattle.tree_laws.specs.Below.c99_read.State.{State}
+use Rattle.tree_laws.specs.Below.c99_read.Reading.{Step, Stop, produce, steps_for, read_within, whole, at_first, tree_of}
+use Rattle.tree_laws.specs.Below.c99_grammar.Standard.{c99}
+use Rattle.tree_laws.specs.Below.name_chains.Frames.{at_first as before}
 use Rattle.typedef_laws.specs.Agreeing.{agrees}
 use Rattle.typedef_laws.specs.Laws.{NamesAreReadAsTheyAreBound, NamesOfPartsAreReadAsTheyAreBound}
 use Rattle.typedef_laws.proofs.Outline.{node_agrees}

@@ -1,14 +1,14 @@
 -- Two outlines of one list: with the range that its names have, and with one that holds a later token.
 use Rattle.std.proofs.Common.{ℕ, ◌+◌, ◌<◌, ◌≤◌, ◌≡◌, Bool, true, false, ◌&&◌, not, if◌then◌else◌, ◌==◌, ◌⊎◌, inl, inr, List, ◌∷◌, Option, None, Some, nat_lt, refl, sym, ap, subst, ◌∙◌, arith}
 use Rattle.std.proofs.lemmas.Bool.{and_left, eq-eqb, ne_eqb, le-ltb, lt-ltb}
-use Rattle.c99_tree.specs.Tree.{Forest, none, token, node}
-use Rattle.c99_tree.specs.declared.production.Label.{Label}
-use Rattle.c99_tree.specs.declared.production.Production.{Production}
-use Rattle.c99_tree.specs.declared.production.Production.TheVariants.{ExtRest, FunBody, InitDecl, Specs, Enumerator, Declarator, Param, Pdecl, Block, Suffix, Sub, Statement}
-use Rattle.c99_read.specs.State.{declaration}
-use Rattle.scope_bind.specs.Named.{Scope}
-use Rattle.c_types.specs.Trees.{is_node, is_list, has_mod, last_token, has_name, holds_name, name_below}
-use Rattle.name_chains.specs.Entering.{inner, is_scoped, scope_in}
+use Rattle.tree_laws.specs.Below.c99_tree.Tree.{Forest, none, token, node}
+use Rattle.tree_laws.specs.Below.c99_tree.declared.production.Label.{Label}
+use Rattle.tree_laws.specs.Below.c99_tree.declared.production.Production.{Production}
+use Rattle.tree_laws.specs.Below.c99_tree.declared.production.Production.TheVariants.{ExtRest, FunBody, InitDecl, Specs, Enumerator, Declarator, Param, Pdecl, Block, Suffix, Sub, Statement}
+use Rattle.tree_laws.specs.Below.c99_read.State.{declaration}
+use Rattle.tree_laws.specs.Below.scope_bind.Named.{Scope}
+use Rattle.tree_laws.specs.Below.c_types.Trees.{is_node, is_list, has_mod, last_token, has_name, holds_name, name_below}
+use Rattle.tree_laws.specs.Below.name_chains.Entering.{inner, is_scoped, scope_in}
 use Rattle.typedef_laws.proofs.Outline.{Entry, entry, Outline, added, is_listing, stepped, entries_in, begun, named_entries, in_declaration, in_parameter, entries_after, ended, outlined, is_open}
 use Rattle.typedef_laws.proofs.Owned.{chosen, is_of, chosen_take, inside_deaf, deeper_closed, Below, last_below, last_until, until_closed}
 

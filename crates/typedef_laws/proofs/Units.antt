@@ -1,20 +1,20 @@
 -- Reading external definitions (6.9), and the unit that is made of them.
 use Rattle.std.proofs.Common.{ℕ, zero, suc, ◌<◌, ◌≤◌, ◌≡◌, Bool, true, false, ◌&&◌, if◌then◌else◌, ◌==◌, List, [], ◌∷◌, length, Option, None, Some, Ok, Err, refl, sym, ap, subst, ◌∙◌, arith}
-use Rattle.cs_base.specs.Token.{Token}
-use Rattle.c99_tree.specs.Tree.{Forest, none, node, Node, inner, put}
-use Rattle.c99_tree.specs.declared.production.Label.{Label}
-use Rattle.c99_tree.specs.declared.production.Production.{Production}
-use Rattle.c99_tree.specs.declared.production.Production.TheVariants.{TranslationUnit, External, ExtRest, ExtTail, FunBody, Specs, Declarator, Suffix}
-use Rattle.c99_tree.specs.contracts.production.ProductionPartialEq.TheImpl.{ghosts}
-use Rattle.c99_grammar.specs.Items.{Item, part, end_of_text, act, ◌·◌, many, own, end, declare, again}
-use Rattle.c99_grammar.specs.Grammar.{table}
-use Rattle.c99_grammar.specs.Standard.{c99}
-use Rattle.c99_read.specs.State.{State, Names, last_declared, with_declared, with_scope_ended, acted, opened, closed}
-use Rattle.c99_read.specs.Reading.{Goal, produce, repeat, Step, syntax, at_end, at_first, and_then, may, step, alternative, pick, read_within}
-use Rattle.c99_read.proofs.Moves.{Moves}
-use Rattle.scope_bind.specs.Named.{Scope}
-use Rattle.name_chains.specs.Frames.{at_first as before}
-use Rattle.c_types.specs.Trees.{last_token, first_list, name_below}
+use Rattle.tree_laws.specs.Below.cs_base.Token.{Token}
+use Rattle.tree_laws.specs.Below.c99_tree.Tree.{Forest, none, node, Node, inner, put}
+use Rattle.tree_laws.specs.Below.c99_tree.declared.production.Label.{Label}
+use Rattle.tree_laws.specs.Below.c99_tree.declared.production.Production.{Production}
+use Rattle.tree_laws.specs.Below.c99_tree.declared.production.Production.TheVariants.{TranslationUnit, External, ExtRest, ExtTail, FunBody, Specs, Declarator, Suffix}
+use Rattle.tree_laws.specs.Below.c99_tree.contracts.production.ProductionPartialEq.TheImpl.{ghosts}
+use Rattle.tree_laws.specs.Below.c99_grammar.Items.{Item, part, end_of_text, act, ◌·◌, many, own, end, declare, again}
+use Rattle.tree_laws.specs.Below.c99_grammar.Grammar.{table}
+use Rattle.tree_laws.specs.Below.c99_grammar.Standard.{c99}
+use Rattle.tree_laws.specs.Below.c99_read.State.{State, Names, last_declared, with_declared, with_scope_ended, acted, opened, closed}
+use Rattle.tree_laws.specs.Below.c99_read.Reading.{Goal, produce, repeat, Step, syntax, at_end, at_first, and_then, may, step, alternative, pick, read_within}
+use Rattle.tree_laws.proofs.Below.c99_read.Moves.{Moves}
+use Rattle.tree_laws.specs.Below.scope_bind.Named.{Scope}
+use Rattle.tree_laws.specs.Below.name_chains.Frames.{at_first as before}
+use Rattle.tree_laws.specs.Below.c_types.Trees.{last_token, first_list, name_below}
 use Rattle.typedef_laws.proofs.Private.{Declaration}
 use Rattle.typedef_laws.proofs.Parts.{first_body, second_body, first_test, second_test, rest_of, front_of, classes_of}
 use Rattle.typedef_laws.proofs.Outline.{Entry, Outline, begun, entries_after, named_entries, in_declaration, outlined, all_agree}

@@ -1,19 +1,19 @@
 -- Where a tree is read as its names are bound (ISO/IEC 9899:1999, 6.2.1, 6.7.7 and 6.7.5.3 paragraph 11).
 use Rattle.std.specs.Prelude.{ℕ, Bool, true, false, ◌&&◌, ◌||◌, ◌+◌, not, List, if◌then◌else◌, ◌==◌, ◌%◌}
 use Rattle.std.specs.Option.{option_map_or}
-use Rattle.cs_base.specs.Token.{Token}
-use Rattle.c99_tree.specs.Tree.{Forest, none, token, node}
-use Rattle.c99_tree.specs.declared.production.Label.{Label}
-use Rattle.c99_tree.specs.declared.production.Production.{Production}
-use Rattle.c99_tree.specs.declared.production.Production.TheVariants.{Main, Params, Primary, Pdirect}
-use Rattle.c99_grammar.specs.Standard.{c99}
-use Rattle.c99_read.specs.State.{base_at, is_identifier}
-use Rattle.scope_bind.specs.Named.{ordinary}
-use Rattle.c_types.specs.Trees.{is_at}
-use Rattle.c_types.specs.Declarations.{Facts, is_typedef_name, visible}
-use Rattle.name_chains.specs.Frames.{State}
-use Rattle.name_chains.specs.Entering.{entered}
-use Rattle.scope_bind.specs.Walk.{passed, left, walked}
+use Rattle.tree_laws.specs.Below.cs_base.Token.{Token}
+use Rattle.tree_laws.specs.Below.c99_tree.Tree.{Forest, none, token, node}
+use Rattle.tree_laws.specs.Below.c99_tree.declared.production.Label.{Label}
+use Rattle.tree_laws.specs.Below.c99_tree.declared.production.Production.{Production}
+use Rattle.tree_laws.specs.Below.c99_tree.declared.production.Production.TheVariants.{Main, Params, Primary, Pdirect}
+use Rattle.tree_laws.specs.Below.c99_grammar.Standard.{c99}
+use Rattle.tree_laws.specs.Below.c99_read.State.{base_at, is_identifier}
+use Rattle.tree_laws.specs.Below.scope_bind.Named.{ordinary}
+use Rattle.tree_laws.specs.Below.c_types.Trees.{is_at}
+use Rattle.tree_laws.specs.Below.c_types.Declarations.{Facts, is_typedef_name, visible}
+use Rattle.tree_laws.specs.Below.name_chains.Frames.{State}
+use Rattle.tree_laws.specs.Below.name_chains.Entering.{entered}
+use Rattle.tree_laws.specs.Below.scope_bind.Walk.{passed, left, walked}
 
 module _ (toks : List Token) where
   -- the ordinary declaration that token i denotes, or would denote if it were a use, is one of a typedef name

@@ -1,12 +1,12 @@
 -- What is true of each text that is read, as to its typedef names.
 use Rattle.std.specs.Prelude.{Bool, true, false, ◌≡◌, List, length, Ok}
-use Rattle.cs_base.specs.Token.{Token}
-use Rattle.c99_tree.specs.Tree.{none, node, Node}
-use Rattle.c99_tree.specs.declared.production.Production.{Production}
-use Rattle.c99_tree.specs.declared.production.Production.TheVariants.{TranslationUnit, External, ExtRest, ExtTail, FunBody}
-use Rattle.c99_read.specs.Reading.{produce, at_first, whole, tree_of, read_of}
-use Rattle.c99_grammar.specs.Standard.{c99}
-use Rattle.name_chains.specs.Frames.{at_first as before}
+use Rattle.tree_laws.specs.Below.cs_base.Token.{Token}
+use Rattle.tree_laws.specs.Below.c99_tree.Tree.{none, node, Node}
+use Rattle.tree_laws.specs.Below.c99_tree.declared.production.Production.{Production}
+use Rattle.tree_laws.specs.Below.c99_tree.declared.production.Production.TheVariants.{TranslationUnit, External, ExtRest, ExtTail, FunBody}
+use Rattle.tree_laws.specs.Below.c99_read.Reading.{produce, at_first, whole, tree_of, read_of}
+use Rattle.tree_laws.specs.Below.c99_grammar.Standard.{c99}
+use Rattle.tree_laws.specs.Below.name_chains.Frames.{at_first as before}
 use Rattle.typedef_laws.specs.Agreeing.{agrees}
 
 -- below a node of the production stands no body of a function (ISO/IEC 9899:1999, 6.9.1)

@@ -2,15 +2,15 @@
 use Rattle.std.proofs.Common.{◌≡◌, ℕ, zero, suc, ◌+◌, ◌-◌, ◌≤◌, ◌^◌, ◌==◌, ◌&&◌, ◌||◌, Bool, true, false, nat_lt, List, [], ◌∷◌, ◌++◌, length, take, drop, Option, Some, None, Ok, is_ok, is_some, unwrap_or, ◌⊎◌, inl, inr, refl, sym, ap, ◌∙◌, arith}
 use Rattle.std.specs.List.{list_all}
 use Rattle.std.proofs.lemmas.Bool.{cases_Bool, lt-ltb, ltb-true}
-use Rattle.cs_base.specs.declared.tokens.Kind.{Kind}
-use Rattle.cs_base.specs.declared.tokens.Kind.TheVariants.{Header, Other}
-use Rattle.part_lexer.specs.Characters.{less_than, double_quote, line_feed, slash, star, is_white, begins}
-use Rattle.part_lexer.specs.Spelling.{is_header_text, kind_of, kind_in}
-use Rattle.part_lexer.specs.Logical.{Character, gone_length, logical_from, logical_of, spelling, line_at}
-use Rattle.part_lexer.specs.Tokens.{Found, longest, front_length, kind_or_other, comment_end, comment_or_open, token_piece, piece_of, expects_header, piece_at, piece_length, leaves_gap, line_front_after, found_in, found_from, found_of, tokens_in, tokens_of, open_comment_of}
-use Rattle.part_lexer.specs.FileText.{TextValue, most_bytes, text_value, text_or_open, file_text}
-use Rattle.part_lexer.proofs.ScanLemmas.{line_at-bound}
-use Rattle.source_files.proofs.OpeningLemmas.{readable-small}
+use Rattle.include_tree.specs.Below.cs_base.declared.tokens.Kind.{Kind}
+use Rattle.include_tree.specs.Below.cs_base.declared.tokens.Kind.TheVariants.{Header, Other}
+use Rattle.include_tree.specs.Below.part_lexer.Characters.{less_than, double_quote, line_feed, slash, star, is_white, begins}
+use Rattle.include_tree.specs.Below.part_lexer.Spelling.{is_header_text, kind_of, kind_in}
+use Rattle.include_tree.specs.Below.part_lexer.Logical.{Character, gone_length, logical_from, logical_of, spelling, line_at}
+use Rattle.include_tree.specs.Below.part_lexer.Tokens.{Found, longest, front_length, kind_or_other, comment_end, comment_or_open, token_piece, piece_of, expects_header, piece_at, piece_length, leaves_gap, line_front_after, found_in, found_from, found_of, tokens_in, tokens_of, open_comment_of}
+use Rattle.include_tree.specs.Below.part_lexer.FileText.{TextValue, most_bytes, text_value, text_or_open, file_text}
+use Rattle.include_tree.proofs.Below.part_lexer.ScanLemmas.{line_at-bound}
+use Rattle.include_tree.proofs.Below.source_files.OpeningLemmas.{readable-small}
 use Rattle.expansion_laws.specs.Spelled.{fits, is_lone, is_spelled}
 use Rattle.expansion_laws.proofs.TextKindLemmas.{kind_fits}
 

@@ -9,3 +9,5 @@ pub mod JudgingLemmas
 pub mod BeginningLemmas
 pub mod IncludingLemmas
 pub mod VisitLemmas
+-- Words of the crates below, passed on.
+pub mod Below

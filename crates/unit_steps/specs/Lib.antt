@@ -12,3 +12,5 @@ pub mod Keeping
 pub mod SourceTexts
 pub mod Moments
 pub mod Answering
+-- Words of the crates below, passed on.
+pub mod Below

@@ -4,8 +4,8 @@ use Rattle.std.specs.Prelude.{◌⊎◌, MatchBool, nat_eq}
 use Rattle.std.proofs.lemmas.Bool.{cases_lt, eq-eqb, eqb-true}
 use Rattle.std.proofs.lemmas.Option.{none-some, same_Some, slice_get_within}
 use Rattle.cs_base.specs.declared.positions.Pos.{Pos}
-use Rattle.unit_steps.specs.declared.events.Event.{Event}
-use Rattle.unit_steps.specs.Texts.{UnitTextValue}
+use Rattle.include_tree.specs.Below.unit_steps.declared.events.Event.{Event}
+use Rattle.include_tree.specs.Below.unit_steps.Texts.{UnitTextValue}
 use Rattle.scope_bind.specs.declared.bound.Name.{Name}
 use Rattle.ws_core.specs.Analysis.{UnitAnalysis}
 use Rattle.unused_names.specs.Inclusions.{is_enter}

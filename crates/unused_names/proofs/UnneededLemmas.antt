@@ -5,7 +5,7 @@ use Rattle.std.proofs.lemmas.Bool.{cases_Bool, cases_lt}
 use Rattle.std.proofs.lemmas.List.Kept.{IsStrictlySortedBy-filter}
 use Rattle.std.proofs.lemmas.Option.{same_Some, slice_get_within}
 use Rattle.cs_base.specs.declared.positions.Pos.{Pos}
-use Rattle.unit_steps.specs.Texts.{UnitTextValue}
+use Rattle.include_tree.specs.Below.unit_steps.Texts.{UnitTextValue}
 use Rattle.scope_bind.specs.declared.bound.Name.{Name}
 use Rattle.ws_core.specs.Analysis.{UnitAnalysis, AnalysisValue}
 use Rattle.ws_core.specs.Places.{is_read_only}

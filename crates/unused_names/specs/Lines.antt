@@ -2,7 +2,7 @@
 use Rattle.std.specs.Prelude.{ℕ, ◌≡◌, ◌<◌, ◌⊎◌, ◌&&◌, ◌||◌, not, nat_eq, Bool, true, false, Some, List, [], ◌∷◌, ◌++◌, slice_get}
 use Rattle.cs_base.specs.declared.positions.Pos.{Pos}
 use Rattle.indexmap.specs.IndexSet.{IndexSet, contains_by}
-use Rattle.unit_steps.specs.Texts.{UnitTextValue}
+use Rattle.include_tree.specs.Below.unit_steps.Texts.{UnitTextValue}
 use Rattle.scope_bind.specs.declared.bound.Name.{Name}
 use Rattle.ws_core.specs.Analysis.{UnitAnalysis, AnalysisValue}
 use Rattle.ws_core.specs.Places.{is_read_only}

@@ -4,13 +4,13 @@ use Rattle.std.specs.Prelude.{ℕ, ◌+◌, ◌&&◌, Bool, true, false, not, if
 use Rattle.std.specs.List.{flat_map}
 use Rattle.std.specs.Option.{option_map_or, option_and_then}
 use Rattle.cs_base.specs.Token.{Token}
-use Rattle.unit_steps.specs.declared.events.Event.{Event}
-use Rattle.unit_steps.specs.declared.events.EventKind.{EventKind}
-use Rattle.unit_steps.specs.declared.events.EventKind.TheVariants as event
-use Rattle.unit_steps.specs.Texts.{UnitTextValue}
+use Rattle.include_tree.specs.Below.unit_steps.declared.events.Event.{Event}
+use Rattle.include_tree.specs.Below.unit_steps.declared.events.EventKind.{EventKind}
+use Rattle.include_tree.specs.Below.unit_steps.declared.events.EventKind.TheVariants as event
+use Rattle.include_tree.specs.Below.unit_steps.Texts.{UnitTextValue}
 use Rattle.scope_bind.specs.declared.bound.Name.{Name}
-use Rattle.c_types.specs.declared.entity.EntityKind.{EntityKind}
-use Rattle.c_types.specs.declared.entity.EntityKind.TheVariants as entity
+use Rattle.ws_core.specs.Below.c_types.declared.entity.EntityKind.{EntityKind}
+use Rattle.ws_core.specs.Below.c_types.declared.entity.EntityKind.TheVariants as entity
 use Rattle.scope_bind.specs.Names.{entity_at, declares_at, kind_at}
 use Rattle.ws_core.specs.Analysis.{UnitAnalysis, AnalysisValue}
 use Rattle.unused_names.specs.declared.roles.Role.{Role}

@@ -4,10 +4,10 @@ use Rattle.std.specs.List.Sorted.{IsStrictlySortedBy}
 use Rattle.std.specs.Option.{option_map_or}
 use Rattle.cs_base.specs.declared.positions.Pos.{Pos}
 use Rattle.cs_base.specs.Token.{Token}
-use Rattle.unit_steps.specs.declared.events.Event.{Event}
-use Rattle.unit_steps.specs.declared.events.EventKind.{EventKind}
-use Rattle.unit_steps.specs.declared.events.EventKind.TheVariants as kind
-use Rattle.unit_steps.specs.Texts.{UnitTextValue}
+use Rattle.include_tree.specs.Below.unit_steps.declared.events.Event.{Event}
+use Rattle.include_tree.specs.Below.unit_steps.declared.events.EventKind.{EventKind}
+use Rattle.include_tree.specs.Below.unit_steps.declared.events.EventKind.TheVariants as kind
+use Rattle.include_tree.specs.Below.unit_steps.Texts.{UnitTextValue}
 use Rattle.scope_bind.specs.declared.bound.Name.{Name}
 use Rattle.scope_bind.specs.Names.{entity_at}
 use Rattle.ws_core.specs.Analysis.{UnitAnalysis, AnalysisValue}

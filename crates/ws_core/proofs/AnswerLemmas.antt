@@ -4,16 +4,16 @@ use Rattle.std.specs.Prelude.{IfSome, OnOk}
 use Rattle.std.specs.Option.{option_map}
 use Rattle.cs_base.specs.Answer.{Gives, result_then, result_map_err}
 use Rattle.cs_base.specs.Units.{UnitValue, IsUnit}
-use Rattle.source_files.specs.declared.pre_fault.PreFault.{PreFault}
-use Rattle.source_files.specs.declared.pre_fault.PreFault.TheVariants as unit
-use Rattle.source_files.specs.Answers as pre
-use Rattle.source_files.specs.Faults.{Fault}
-use Rattle.source_files.specs.Files.{Source, Carried, nothing_carried}
-use Rattle.unit_steps.specs.Texts.{UnitTextValue}
+use Rattle.include_tree.specs.Below.source_files.declared.pre_fault.PreFault.{PreFault}
+use Rattle.include_tree.specs.Below.source_files.declared.pre_fault.PreFault.TheVariants as unit
+use Rattle.include_tree.specs.Below.source_files.Answers as pre
+use Rattle.include_tree.specs.Below.source_files.Faults.{Fault}
+use Rattle.include_tree.specs.Below.source_files.Files.{Source, Carried, nothing_carried}
+use Rattle.include_tree.specs.Below.unit_steps.Texts.{UnitTextValue}
 use Rattle.include_tree.specs.Preprocessed.{Preprocessed, with_text, preprocessed}
-use Rattle.source_files.specs.Tables.{AreFound, HasEachOnce}
-use Rattle.source_files.proofs.AgreeLemmas.{some_source}
-use Rattle.source_files.proofs.FileTableLemmas.{slice_get-at}
+use Rattle.include_tree.specs.Below.source_files.Tables.{AreFound, HasEachOnce}
+use Rattle.include_tree.proofs.Below.source_files.AgreeLemmas.{some_source}
+use Rattle.include_tree.proofs.Below.source_files.FileTableLemmas.{slice_get-at}
 use Rattle.ws_core.specs.declared.analyse_fault.AnalyseFault.{AnalyseFault}
 use Rattle.ws_core.specs.declared.analyse_fault.AnalyseFault.TheVariants as answer
 use Rattle.ws_core.specs.Texts.{UnitFault, unit_fault, unit_with, unit_at, alone, one_text_of}

@@ -4,15 +4,15 @@ use Rattle.std.specs.Prelude.{IfSome}
 use Rattle.cs_base.specs.Outside.{FileMap}
 use Rattle.cs_base.specs.Units.{UnitValue, IsUnit}
 use Rattle.cs_base.specs.Token.{Token}
-use Rattle.part_lexer.specs.FileText.{file_text}
-use Rattle.source_files.specs.Limits.{the_limits}
-use Rattle.source_files.specs.Faults.{Fault}
-use Rattle.source_files.specs.Files.{Source, source_of, Table, Carried, nothing_carried, found_at, defines_path}
-use Rattle.unit_steps.specs.State.{Outcome}
+use Rattle.include_tree.specs.Below.part_lexer.FileText.{file_text}
+use Rattle.include_tree.specs.Below.source_files.Limits.{the_limits}
+use Rattle.include_tree.specs.Below.source_files.Faults.{Fault}
+use Rattle.include_tree.specs.Below.source_files.Files.{Source, source_of, Table, Carried, nothing_carried, found_at, defines_path}
+use Rattle.include_tree.specs.Below.unit_steps.State.{Outcome}
 use Rattle.include_tree.specs.Unit.{unit_outcome}
 use Rattle.include_tree.specs.Preprocessed.{Preprocessed, preprocessed, preprocessed_by}
 use Rattle.include_tree.specs.Laws.{IfDone}
-use Rattle.source_files.specs.Tables.{AreFound, StaysHeld}
+use Rattle.include_tree.specs.Below.source_files.Tables.{AreFound, StaysHeld}
 use Rattle.include_tree.specs.PseudoFiles.{is_pseudo}
 use Rattle.include_tree.proofs.PseudoLemmas.{others_stay}
 use Rattle.ws_core.specs.Carrying.{IsFresh, IsOver}

@@ -7,8 +7,8 @@ use Rattle.std.proofs.lemmas.Option.{none-some, same_Some, slice_get-get_or, sli
 use Rattle.cs_base.specs.declared.positions.Part.{Part}
 use Rattle.cs_base.specs.Token.{Token}
 use Rattle.eclass_map.specs.ClassTable.{Table as Classes, added_tokens}
-use Rattle.source_files.specs.Files.{Table, Entry, Absent, entry}
-use Rattle.source_files.specs.KeptFiles.{kept_at}
+use Rattle.include_tree.specs.Below.source_files.Files.{Table, Entry, Absent, entry}
+use Rattle.include_tree.specs.Below.source_files.KeptFiles.{kept_at}
 use Rattle.ws_core.specs.Analysis.{AnalysisValue}
 use Rattle.ws_core.specs.BroughtNumbers.{AreNumbers, all_brought}
 use Rattle.ws_core.specs.Classes.{HasFileTokens}

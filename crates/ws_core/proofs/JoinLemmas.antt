@@ -9,7 +9,7 @@ use Rattle.cs_base.specs.Token.{Token}
 use Rattle.eclass_map.specs.ClassTable.{Table, AreLinks, HasParts, added_tokens}
 use Rattle.linkage_join.specs.Linkage.{links_of as external_links}
 use Rattle.scope_bind.specs.Bound.{Bound}
-use Rattle.unit_steps.specs.Texts.{UnitTextValue}
+use Rattle.include_tree.specs.Below.unit_steps.Texts.{UnitTextValue}
 use Rattle.ws_core.specs.Analysis.{UnitAnalysis, AnalysisValue}
 use Rattle.ws_core.specs.Joins.{Joins, Awaits, alike_pairs}
 use Rattle.ws_core.specs.Links.{are_alike, pair_of, occurrence_links, unit_links, names_of_units, links_of, linked_pairs}

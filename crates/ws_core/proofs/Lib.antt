@@ -22,3 +22,5 @@ pub mod PlaceNameLemmas
 pub mod PositionLemmas
 pub mod SpellingLemmas
 pub mod JoinedLemmas
+-- Words of the crates below, passed on.
+pub mod Below

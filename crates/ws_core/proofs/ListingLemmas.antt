@@ -18,7 +18,7 @@ use Rattle.std.proofs.lemmas.Grind.{take_at_read}
 use Rattle.cs_base.specs.declared.positions.Part.{Part}
 use Rattle.cs_base.specs.declared.positions.Pos.{Pos}
 use Rattle.eclass_map.specs.ClassTable.{Table, HasParts, class_in, members_of}
-use Rattle.source_files.specs.Files.{Table as Files}
+use Rattle.include_tree.specs.Below.source_files.Files.{Table as Files}
 use Rattle.ws_core.specs.Analysis.{AnalysisValue}
 use Rattle.ws_core.specs.Analysed.{ClassLists, class_lists, AreLists}
 use Rattle.ws_core.specs.Classes.{AreItsClasses}

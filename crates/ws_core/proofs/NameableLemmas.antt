@@ -4,7 +4,7 @@ use Rattle.std.specs.Prelude.{slice_get, slice_range}
 use Rattle.std.proofs.lemmas.List.{drop-drop}
 use Rattle.std.proofs.lemmas.Option.{same_Some}
 use Rattle.cs_base.specs.Token.{Token}
-use Rattle.source_files.specs.HeaderNames.{is_header}
+use Rattle.include_tree.specs.Below.source_files.HeaderNames.{is_header}
 use Rattle.ws_core.specs.Naming.{computed_name}
 
 -- ---- ranges of lists

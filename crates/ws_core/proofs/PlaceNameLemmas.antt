@@ -10,12 +10,12 @@ use Rattle.std.proofs.lemmas.Option.{same_Some, slice_get-get_or}
 use Rattle.cs_base.specs.declared.positions.Part.{Part}
 use Rattle.cs_base.specs.declared.positions.Pos.{Pos}
 use Rattle.cs_base.specs.Token.{Token}
-use Rattle.part_lexer.specs.Tokens.{tokens_of}
+use Rattle.include_tree.specs.Below.part_lexer.Tokens.{tokens_of}
 use Rattle.eclass_map.specs.ClassTable.{Table as Classes, part_of}
 use Rattle.eclass_map.specs.Positions.{holds}
 use Rattle.eclass_map.proofs.TokenFacts.{holding}
-use Rattle.source_files.specs.Files.{Entry, Table, Absent, entry}
-use Rattle.source_files.specs.KeptFiles.{KeptValue, kept, kept_bytes, kept_in, kept_at}
+use Rattle.include_tree.specs.Below.source_files.Files.{Entry, Table, Absent, entry}
+use Rattle.include_tree.specs.Below.source_files.KeptFiles.{KeptValue, kept, kept_bytes, kept_in, kept_at}
 use Rattle.ws_core.specs.Analysis.{AnalysisValue}
 use Rattle.ws_core.specs.Classes.{AreItsClasses}
 use Rattle.ws_core.specs.FileTokens.{span_of}

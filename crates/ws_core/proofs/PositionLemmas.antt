@@ -12,12 +12,12 @@ use Rattle.cs_base.specs.declared.positions.Pos.{Pos}
 use Rattle.cs_base.proofs.FileMapLemmas.{bytes_eq-same, bytes_eq-equal}
 use Rattle.line_shape.specs.MacroLine.{are_distinct}
 use Rattle.line_laws.proofs.InverseLemmas.{characters_placed, places_inverse}
-use Rattle.part_lexer.specs.Lines.{byte_offset_of, line_column_of, offset_of, place_of_byte}
-use Rattle.part_lexer.specs.Places.{pos}
-use Rattle.source_files.specs.Faults.{place_of}
-use Rattle.source_files.specs.Files.{Entry, Table, Lines, entry, lines_path}
-use Rattle.source_files.specs.KeptFiles.{KeptValue, kept, kept_bytes, kept_in, kept_at}
-use Rattle.source_files.specs.Tables.{paths_in, BeginsWithLines, HasEachOnce}
+use Rattle.include_tree.specs.Below.part_lexer.Lines.{byte_offset_of, line_column_of, offset_of, place_of_byte}
+use Rattle.include_tree.specs.Below.part_lexer.Places.{pos}
+use Rattle.include_tree.specs.Below.source_files.Faults.{place_of}
+use Rattle.include_tree.specs.Below.source_files.Files.{Entry, Table, Lines, entry, lines_path}
+use Rattle.include_tree.specs.Below.source_files.KeptFiles.{KeptValue, kept, kept_bytes, kept_in, kept_at}
+use Rattle.include_tree.specs.Below.source_files.Tables.{paths_in, BeginsWithLines, HasEachOnce}
 use Rattle.ws_core.specs.Naming.{character_of, file_named}
 use Rattle.ws_core.specs.Places.{place_at, place_in_file, place_in_lines}
 use Rattle.ws_core.specs.Placing.{StandsIn, IsPositionAt, byte_at, byte_in_file, has_place_in_lines, position_at, position_in_lines}

@@ -6,14 +6,14 @@ use Rattle.std.specs.Option.{option_map_or, option_and_then}
 use Rattle.std.proofs.lemmas.Bool.{cases_Bool, both_ways}
 use Rattle.std.proofs.lemmas.Option.{same_Some}
 use Rattle.cs_base.specs.Token.{Token}
-use Rattle.part_lexer.specs.FileText.{TextValue, most_bytes, text_value, text_or_open, file_text}
-use Rattle.part_lexer.specs.Tokens.{tokens_of, firsts_of, open_comment_of}
+use Rattle.include_tree.specs.Below.part_lexer.FileText.{TextValue, most_bytes, text_value, text_or_open, file_text}
+use Rattle.include_tree.specs.Below.part_lexer.Tokens.{tokens_of, firsts_of, open_comment_of}
 use Rattle.line_shape.specs.declared.items.Item.{Item}
 use Rattle.line_shape.specs.Items.{items_of}
 use Rattle.line_shape.specs.Signs.{is_name}
-use Rattle.unit_steps.specs.declared.events.Reached.{Reached}
-use Rattle.source_files.specs.Files.{Table}
-use Rattle.source_files.specs.KeptFiles.{KeptValue, kept_at}
+use Rattle.include_tree.specs.Below.unit_steps.declared.events.Reached.{Reached}
+use Rattle.include_tree.specs.Below.source_files.Files.{Table}
+use Rattle.include_tree.specs.Below.source_files.KeptFiles.{KeptValue, kept_at}
 use Rattle.include_tree.specs.Walk.{ItemText, item_text}
 use Rattle.ws_core.specs.Marking.{is_marked, MarksItem, Has, IsMarkedToken, MarksTokens, AreMarked}
 use Rattle.ws_core.specs.Naming.{nameable, item_at, names_in_item, names_reached}

@@ -5,8 +5,8 @@ use Rattle.std.proofs.lemmas.List.{at_drop_more, at_drop_all, append-nil}
 use Rattle.cs_base.specs.Answer.{result_then}
 use Rattle.cs_base.specs.Units.{UnitValue}
 use Rattle.include_tree.specs.Preprocessed.{with_text}
-use Rattle.source_files.specs.Files.{Source, Carried, nothing_carried}
-use Rattle.unit_steps.specs.Texts.{UnitTextValue}
+use Rattle.include_tree.specs.Below.source_files.Files.{Source, Carried, nothing_carried}
+use Rattle.include_tree.specs.Below.unit_steps.Texts.{UnitTextValue}
 use Rattle.ws_core.specs.Texts.{TextsValue, texts_and, UnitFault, with_front, unit_with, texts_from, texts_of}
 
 -- texts, and then those of later units

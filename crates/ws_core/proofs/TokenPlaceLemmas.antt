@@ -7,12 +7,12 @@ use Rattle.std.proofs.lemmas.Option.{same_Some}
 use Rattle.cs_base.specs.declared.positions.Part.{Part}
 use Rattle.cs_base.specs.declared.positions.Pos.{Pos}
 use Rattle.cs_base.specs.Token.{Token}
-use Rattle.part_lexer.specs.Logical.{Character, logical_of, spelling, line_at}
-use Rattle.part_lexer.specs.Places.{pos, origins_from}
-use Rattle.part_lexer.specs.Order.{InOrder}
-use Rattle.part_lexer.specs.Characters.{line_feed, slash, star, is_white, begins}
-use Rattle.part_lexer.specs.Tokens.{Found, comment_end, comment_or_open, token_piece, piece_of, expects_header, piece_at, piece_length, leaves_gap, line_front_after, found_in, found_from, found_of, tokens_in, tokens_of}
-use Rattle.part_lexer.proofs.OrderLemmas.{tokens_of-in_order}
+use Rattle.include_tree.specs.Below.part_lexer.Logical.{Character, logical_of, spelling, line_at}
+use Rattle.include_tree.specs.Below.part_lexer.Places.{pos, origins_from}
+use Rattle.include_tree.specs.Below.part_lexer.Order.{InOrder}
+use Rattle.include_tree.specs.Below.part_lexer.Characters.{line_feed, slash, star, is_white, begins}
+use Rattle.include_tree.specs.Below.part_lexer.Tokens.{Found, comment_end, comment_or_open, token_piece, piece_of, expects_header, piece_at, piece_length, leaves_gap, line_front_after, found_in, found_from, found_of, tokens_in, tokens_of}
+use Rattle.include_tree.proofs.Below.part_lexer.OrderLemmas.{tokens_of-in_order}
 use Rattle.eclass_map.specs.ClassTable.{part_of_file}
 use Rattle.ws_core.specs.FileTokens.{span_of}
 use Rattle.ws_core.specs.TokenSearch.{AreInLine}

@@ -6,9 +6,9 @@ use Rattle.cs_base.specs.Answer.{Gives, result_then}
 use Rattle.cs_base.specs.Outside.{FileMap}
 use Rattle.cs_base.specs.Units.{UnitValue}
 use Rattle.ws_file.specs.Workspace.{WorkspaceValue}
-use Rattle.source_files.specs.Files.{Source, Table, Carried, nothing_carried}
+use Rattle.include_tree.specs.Below.source_files.Files.{Source, Table, Carried, nothing_carried}
 use Rattle.include_tree.specs.Preprocessed.{with_text}
-use Rattle.unit_steps.specs.Texts.{UnitTextValue}
+use Rattle.include_tree.specs.Below.unit_steps.Texts.{UnitTextValue}
 use Rattle.include_tree.specs.Preprocessed.{Preprocessed}
 use Rattle.ws_core.specs.Texts.{UnitFault, unit_with}
 use Rattle.ws_core.specs.Analysis.{UnitAnalysis, UnitsValue, units_and, with_unit, unit_read, analysed_from, AnalysisValue, analysis_and, analysis_of}

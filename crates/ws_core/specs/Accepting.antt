@@ -4,7 +4,7 @@ use Rattle.cs_base.specs.Answer.{result_then}
 use Rattle.cs_base.specs.declared.causes.Cause.{Cause}
 use Rattle.cs_base.specs.Token.{Token}
 use Rattle.cs_base.specs.Units.{UnitValue}
-use Rattle.source_files.specs.Files.{Source, Table, Carried, nothing_carried}
+use Rattle.include_tree.specs.Below.source_files.Files.{Source, Table, Carried, nothing_carried}
 use Rattle.c99_read.specs.Reading.{Stop}
 use Rattle.ws_core.specs.declared.analyse_fault.AnalyseFault.{AnalyseFault}
 use Rattle.ws_core.specs.declared.analyse_fault.AnalyseFault.TheVariants as answer

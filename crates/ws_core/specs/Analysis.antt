@@ -10,9 +10,9 @@ use Rattle.cs_base.specs.declared.positions.Place.{Place}
 use Rattle.cs_base.specs.Token.{Token}
 use Rattle.cs_base.specs.Units.{UnitValue}
 use Rattle.ws_file.specs.Workspace.{WorkspaceValue}
-use Rattle.source_files.specs.Files.{Source, Table, Carried, nothing_carried}
-use Rattle.source_files.specs.Faults.{Fault, fault, first_place}
-use Rattle.unit_steps.specs.Texts.{UnitTextValue}
+use Rattle.include_tree.specs.Below.source_files.Files.{Source, Table, Carried, nothing_carried}
+use Rattle.include_tree.specs.Below.source_files.Faults.{Fault, fault, first_place}
+use Rattle.include_tree.specs.Below.unit_steps.Texts.{UnitTextValue}
 use Rattle.include_tree.specs.Preprocessed.{Preprocessed}
 use Rattle.c99_tree.specs.Tree.{Node}
 use Rattle.c99_read.specs.Reading.{Stop, syntax, too_deep, read_of}

@@ -1,7 +1,7 @@
 -- The private fields of an analysis.
 use Rattle.std.specs.Prelude.{◌≡◌, Bool, List, None}
 use Rattle.cs_base.specs.Token.{Token}
-use Rattle.source_files.specs.KeptFiles.{kept_at}
+use Rattle.include_tree.specs.Below.source_files.KeptFiles.{kept_at}
 use Rattle.eclass_map.specs.ClassTable.{Table}
 use Rattle.ws_core.specs.Analysed.{ClassLists, AreLists}
 use Rattle.ws_core.specs.Analysis.{AnalysisValue}

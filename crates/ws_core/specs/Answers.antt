@@ -1,7 +1,7 @@
 -- What `texts` and `one_text` answer, as contracts see it.
 use Rattle.std.specs.Prelude.{Option, Some, None, Result, Ok, Err}
 use Rattle.cs_base.specs.Outside.{ReadEnd, NoneFailed, FailedAt, MayHaveFailed}
-use Rattle.source_files.specs.Faults.{fault}
+use Rattle.include_tree.specs.Below.source_files.Faults.{fault}
 use Rattle.ws_core.specs.declared.analyse_fault.AnalyseFault.{AnalyseFault}
 use Rattle.ws_core.specs.declared.analyse_fault.AnalyseFault.TheVariants as answer
 use Rattle.ws_core.specs.Texts.{UnitFault, unit_fault}

@@ -1,10 +1,10 @@
 -- What is carried from unit to unit, and the refusal of one unit.
 use Rattle.std.specs.Prelude.{◌≡◌, ◌≤◌, ◌<◌, ◌^◌, ℕ, None, Option, IfSome}
 use Rattle.cs_base.specs.Outside.{FileMap}
-use Rattle.source_files.specs.declared.pre_fault.PreFault.{PreFault}
-use Rattle.source_files.specs.declared.pre_fault.PreFault.TheVariants as unit
-use Rattle.source_files.specs.Files.{Source, source_of, Table, found_at, defines_path}
-use Rattle.source_files.specs.Tables.{IsGrown, AreFound, HasEachOnce, StaysHeld}
+use Rattle.include_tree.specs.Below.source_files.declared.pre_fault.PreFault.{PreFault}
+use Rattle.include_tree.specs.Below.source_files.declared.pre_fault.PreFault.TheVariants as unit
+use Rattle.include_tree.specs.Below.source_files.Files.{Source, source_of, Table, found_at, defines_path}
+use Rattle.include_tree.specs.Below.source_files.Tables.{IsGrown, AreFound, HasEachOnce, StaysHeld}
 use Rattle.ws_core.specs.declared.analyse_fault.AnalyseFault.{AnalyseFault}
 use Rattle.ws_core.specs.declared.analyse_fault.AnalyseFault.TheVariants as answer
 

@@ -2,7 +2,7 @@
 use Rattle.std.specs.Prelude.{◌≡◌, Ok}
 use Rattle.cs_base.specs.declared.positions.Part.{Part}
 use Rattle.ws_file.specs.Workspace.{WorkspaceValue}
-use Rattle.source_files.specs.Files.{Source}
+use Rattle.include_tree.specs.Below.source_files.Files.{Source}
 use Rattle.eclass_map.specs.ClassTable.{Table, IsAdded, AreLinks, HasParts}
 use Rattle.ws_core.specs.Analysis.{AnalysisValue, analysis_of}
 use Rattle.ws_core.specs.FileTokens.{IsFileToken}

@@ -8,15 +8,15 @@ use Rattle.std.specs.Str.{bytes_eq}
 use Rattle.cs_base.specs.declared.positions.Part.{Part}
 use Rattle.cs_base.specs.declared.positions.Pos.{Pos}
 use Rattle.cs_base.specs.Token.{Token, has_origins, origin_at}
-use Rattle.part_lexer.specs.Places.{pos}
-use Rattle.part_lexer.specs.Tokens.{tokens_of}
-use Rattle.macro_body.specs.Substitution.{line_number}
-use Rattle.unit_steps.specs.declared.events.Event.{Event}
-use Rattle.unit_steps.specs.declared.events.EventKind.{EventKind}
-use Rattle.unit_steps.specs.declared.events.EventKind.TheVariants as kind
-use Rattle.source_files.specs.Files.{Entry, Table}
-use Rattle.source_files.specs.KeptFiles.{KeptValue, kept_in}
-use Rattle.unit_steps.specs.Texts.{UnitTextValue}
+use Rattle.include_tree.specs.Below.part_lexer.Places.{pos}
+use Rattle.include_tree.specs.Below.part_lexer.Tokens.{tokens_of}
+use Rattle.macro_expand.specs.Below.macro_body.Substitution.{line_number}
+use Rattle.include_tree.specs.Below.unit_steps.declared.events.Event.{Event}
+use Rattle.include_tree.specs.Below.unit_steps.declared.events.EventKind.{EventKind}
+use Rattle.include_tree.specs.Below.unit_steps.declared.events.EventKind.TheVariants as kind
+use Rattle.include_tree.specs.Below.source_files.Files.{Entry, Table}
+use Rattle.include_tree.specs.Below.source_files.KeptFiles.{KeptValue, kept_in}
+use Rattle.include_tree.specs.Below.unit_steps.Texts.{UnitTextValue}
 use Rattle.ws_core.specs.Analysis.{UnitAnalysis, AnalysisValue}
 
 -- ---- kept files

@@ -25,3 +25,5 @@ pub mod Adding
 pub mod BroughtNumbers
 pub mod AnalysisFields
 pub mod AnalysisAnswers
+-- Words of the crates below, passed on.
+pub mod Below

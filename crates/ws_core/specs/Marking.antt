@@ -1,12 +1,12 @@
 -- Marks on the tokens of files, by the number of the file and that of the token in it.
 use Rattle.std.specs.Prelude.{ℕ, ◌≡◌, ◌≤◌, ◌<◌, ◌⊎◌, Bool, true, false, List, [], Some, slice_get, slice_index_or, slice_range}
 use Rattle.cs_base.specs.Token.{Token}
-use Rattle.part_lexer.specs.Tokens.{tokens_of}
+use Rattle.include_tree.specs.Below.part_lexer.Tokens.{tokens_of}
 use Rattle.line_shape.specs.Signs.{is_name}
 use Rattle.line_shape.specs.declared.items.Item.{Item}
-use Rattle.unit_steps.specs.declared.events.Reached.{Reached}
-use Rattle.source_files.specs.Files.{Table}
-use Rattle.source_files.specs.KeptFiles.{KeptValue, kept_at}
+use Rattle.include_tree.specs.Below.unit_steps.declared.events.Reached.{Reached}
+use Rattle.include_tree.specs.Below.source_files.Files.{Table}
+use Rattle.include_tree.specs.Below.source_files.KeptFiles.{KeptValue, kept_at}
 use Rattle.ws_core.specs.Naming.{nameable}
 
 -- whether token k of file number n is marked

@@ -7,16 +7,16 @@ use Rattle.std.specs.Str.{bytes_eq}
 use Rattle.cs_base.specs.declared.positions.Part.{Part}
 use Rattle.cs_base.specs.declared.positions.Pos.{Pos}
 use Rattle.cs_base.specs.Token.{Token}
-use Rattle.part_lexer.specs.Lines.{offset_of}
-use Rattle.part_lexer.specs.Places.{pos}
-use Rattle.part_lexer.specs.Tokens.{tokens_of, firsts_of}
+use Rattle.include_tree.specs.Below.part_lexer.Lines.{offset_of}
+use Rattle.include_tree.specs.Below.part_lexer.Places.{pos}
+use Rattle.include_tree.specs.Below.part_lexer.Tokens.{tokens_of, firsts_of}
 use Rattle.line_shape.specs.declared.items.ItemKind.{ItemKind}
 use Rattle.line_shape.specs.declared.items.ItemKind.TheVariants as kind
 use Rattle.line_shape.specs.Signs.{is_name}
-use Rattle.unit_steps.specs.declared.events.Reached.{Reached}
-use Rattle.source_files.specs.Files.{Table}
-use Rattle.source_files.specs.HeaderNames.{is_header}
-use Rattle.source_files.specs.KeptFiles.{KeptValue, kept_in, kept_at}
+use Rattle.include_tree.specs.Below.unit_steps.declared.events.Reached.{Reached}
+use Rattle.include_tree.specs.Below.source_files.Files.{Table}
+use Rattle.include_tree.specs.Below.source_files.HeaderNames.{is_header}
+use Rattle.include_tree.specs.Below.source_files.KeptFiles.{KeptValue, kept_in, kept_at}
 use Rattle.include_tree.specs.Walk.{ItemText, item_texts}
 use Rattle.eclass_map.specs.Positions.{holds}
 use Rattle.eclass_map.specs.ClassTable.{Table as Classes, part_of}

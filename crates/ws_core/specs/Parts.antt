@@ -5,7 +5,7 @@ use Rattle.std.specs.declared.cmp.Ordering.{Ordering}
 use Rattle.std.specs.declared.cmp.Ordering.TheVariants.{Less}
 use Rattle.cs_base.specs.declared.positions.Part.{Part}
 use Rattle.cs_base.specs.declared.positions.Pos.{Pos}
-use Rattle.source_files.specs.KeptFiles.{kept_at}
+use Rattle.include_tree.specs.Below.source_files.KeptFiles.{kept_at}
 use Rattle.eclass_map.specs.Chain.{Chain}
 use Rattle.eclass_map.specs.ClassTable.{LinkedBy}
 use Rattle.eclass_map.specs.Positions.{along, holds}

@@ -7,10 +7,10 @@ use Rattle.std.specs.declared.cmp.Ordering.{Ordering}
 use Rattle.std.specs.Cmp.Lexicographic.{slice_cmp}
 use Rattle.cs_base.specs.declared.positions.Pos.{Pos}
 use Rattle.cs_base.specs.declared.positions.Place.{Place}
-use Rattle.part_lexer.specs.Lines.{line_column_of}
-use Rattle.source_files.specs.Files.{Table, lines_path}
-use Rattle.source_files.specs.Faults.{place_of}
-use Rattle.source_files.specs.KeptFiles.{KeptValue, kept_at}
+use Rattle.include_tree.specs.Below.part_lexer.Lines.{line_column_of}
+use Rattle.include_tree.specs.Below.source_files.Files.{Table, lines_path}
+use Rattle.include_tree.specs.Below.source_files.Faults.{place_of}
+use Rattle.include_tree.specs.Below.source_files.KeptFiles.{KeptValue, kept_at}
 use Rattle.include_tree.specs.PseudoFiles.{is_pseudo}
 
 -- ---- places

@@ -5,10 +5,10 @@ use Rattle.std.specs.Option.{option_and_then}
 use Rattle.std.specs.Str.{bytes_eq}
 use Rattle.cs_base.specs.declared.positions.Place.{Place}
 use Rattle.cs_base.specs.declared.positions.Pos.{Pos}
-use Rattle.part_lexer.specs.Lines.{byte_offset_of}
-use Rattle.part_lexer.specs.Places.{pos}
-use Rattle.source_files.specs.Files.{Table, lines_path}
-use Rattle.source_files.specs.KeptFiles.{KeptValue, kept_at}
+use Rattle.include_tree.specs.Below.part_lexer.Lines.{byte_offset_of}
+use Rattle.include_tree.specs.Below.part_lexer.Places.{pos}
+use Rattle.include_tree.specs.Below.source_files.Files.{Table, lines_path}
+use Rattle.include_tree.specs.Below.source_files.KeptFiles.{KeptValue, kept_at}
 use Rattle.ws_core.specs.Naming.{character_of, file_named}
 use Rattle.ws_core.specs.Places.{digits_apart, place_at}
 

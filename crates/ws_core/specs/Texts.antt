@@ -3,9 +3,9 @@ use Rattle.std.specs.Prelude.{ℕ, zero, suc, ◌+◌, Option, None, List, [], �
 use Rattle.std.specs.Option.{option_map}
 use Rattle.cs_base.specs.Answer.{result_then, result_map_err}
 use Rattle.cs_base.specs.Units.{UnitValue}
-use Rattle.source_files.specs.Faults.{Fault}
-use Rattle.source_files.specs.Files.{Source, Table, Carried, nothing_carried}
-use Rattle.unit_steps.specs.Texts.{UnitTextValue}
+use Rattle.include_tree.specs.Below.source_files.Faults.{Fault}
+use Rattle.include_tree.specs.Below.source_files.Files.{Source, Table, Carried, nothing_carried}
+use Rattle.include_tree.specs.Below.unit_steps.Texts.{UnitTextValue}
 use Rattle.include_tree.specs.Preprocessed.{Preprocessed, preprocessed}
 
 -- The texts of units in order, and what each number of a file stands for.

@@ -1,8 +1,8 @@
 // A workspace whose units are accepted: preprocessed, read and bound.
 ghost use Rattle.std.specs.Prelude.{◌≡◌, ◌≤◌, length, option_copied, slice_get};
 ghost use Rattle.std.specs.Option.{option_map};
-ghost use Rattle.source_files.specs.KeptFiles.{kept_at};
-ghost use Rattle.source_files.specs.Tables.{AreText, BeginsWithLines, HasEachOnce};
+ghost use Rattle.include_tree.specs.Below.source_files.KeptFiles.{kept_at};
+ghost use Rattle.include_tree.specs.Below.source_files.Tables.{AreText, BeginsWithLines, HasEachOnce};
 
 use c99_tree::Tree;
 use include_tree::{Cache, KeptFile, UnitText};

@@ -2,8 +2,8 @@
 ghost use Rattle.std.specs.Prelude.{◌≡◌, ◌≤◌, ◌+◌, ◌++◌, ◌∷◌, [], IfOk, OnOk, length};
 ghost use Rattle.cs_base.specs.Answer.{Gives};
 ghost use Rattle.cs_base.specs.Outside.{ReadsOnly};
-ghost use Rattle.source_files.specs.Files.{Source, Table, nothing_carried};
-ghost use Rattle.source_files.specs.Tables.{AreFound};
+ghost use Rattle.include_tree.specs.Below.source_files.Files.{Source, Table, nothing_carried};
+ghost use Rattle.include_tree.specs.Below.source_files.Tables.{AreFound};
 ghost use Rattle.ws_core.specs.Answers.{fault_of, reads_of};
 ghost use Rattle.ws_core.specs.Analysis.{units_and, analysis_of};
 ghost use Rattle.ws_core.specs.Carrying.{IsFresh, ReadsMore, IsOver};

@@ -1,7 +1,7 @@
 // The units of a workspace that are preprocessed.
 ghost use Rattle.std.specs.Prelude.{◌≡◌, ◌≤◌, ◌-◌, Some, length, slice_get, option_copied};
-ghost use Rattle.source_files.specs.KeptFiles.{kept_at};
-ghost use Rattle.source_files.specs.Tables.{AreText, HasEachOnce};
+ghost use Rattle.include_tree.specs.Below.source_files.KeptFiles.{kept_at};
+ghost use Rattle.include_tree.specs.Below.source_files.Tables.{AreText, HasEachOnce};
 
 use include_tree::{Cache, KeptFile, UnitText};
 use std::marker::Model;

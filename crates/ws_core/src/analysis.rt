@@ -3,10 +3,10 @@ ghost use Rattle.std.specs.Prelude.{◌≡◌, ◌≤◌, ◌-◌, Some, IfOk, I
 ghost use Rattle.std.specs.Option.{option_map};
 ghost use Rattle.cs_base.specs.Answer.{Gives};
 ghost use Rattle.cs_base.specs.Outside.{ReadsOnly};
-ghost use Rattle.source_files.specs.Faults.{place_of};
-ghost use Rattle.source_files.specs.Files.{Table, source_of};
-ghost use Rattle.source_files.specs.KeptFiles.{kept_at};
-ghost use Rattle.source_files.specs.Tables.{AreText, HasEachOnce};
+ghost use Rattle.include_tree.specs.Below.source_files.Faults.{place_of};
+ghost use Rattle.include_tree.specs.Below.source_files.Files.{Table, source_of};
+ghost use Rattle.include_tree.specs.Below.source_files.KeptFiles.{kept_at};
+ghost use Rattle.include_tree.specs.Below.source_files.Tables.{AreText, HasEachOnce};
 ghost use Rattle.ws_core.specs.Analysis.{analysis_of};
 ghost use Rattle.ws_core.specs.AnalysisAnswers.{IsAnalysedOr};
 ghost use Rattle.ws_core.specs.Answers.{fault_of, reads_of};

@@ -1,6 +1,6 @@
 // Where a fault at a token of a unit stands.
 ghost use Rattle.std.specs.Prelude.{◌≡◌, IfOk, option_copied};
-ghost use Rattle.source_files.specs.Faults.{first_place};
+ghost use Rattle.include_tree.specs.Below.source_files.Faults.{first_place};
 ghost use Rattle.ws_core.specs.Analysis.{token_or_last, place_of_index};
 ghost use Rattle.ws_core.specs.Places.{place_at};
 

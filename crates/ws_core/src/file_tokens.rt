@@ -3,7 +3,7 @@ ghost use Rattle.std.specs.Prelude.{◌≡◌, ◌++◌, ◌∷◌, [], filter, 
 ghost use Rattle.std.specs.Option.{option_map_or};
 ghost use Rattle.cs_base.specs.Token.{has_origins};
 ghost use Rattle.eclass_map.specs.ClassTable.{AreLinks, HasParts};
-ghost use Rattle.source_files.specs.KeptFiles.{kept_at};
+ghost use Rattle.include_tree.specs.Below.source_files.KeptFiles.{kept_at};
 ghost use Rattle.ws_core.specs.BroughtNumbers.{AreNumbers, all_brought};
 ghost use Rattle.ws_core.specs.Classes.{HasFileTokens};
 ghost use Rattle.ws_core.specs.FileTokens.{kept_tokens, span_of, table_tokens};

@@ -1,6 +1,6 @@
 // Which tokens of a reached item a place may name (6.10).
 ghost use Rattle.std.specs.Prelude.{◌≡◌, ◌≤◌, ◌<◌, ◌+◌, ◌^◌, min, length, slice_range};
-ghost use Rattle.source_files.specs.HeaderNames.{is_header};
+ghost use Rattle.include_tree.specs.Below.source_files.HeaderNames.{is_header};
 ghost use Rattle.ws_core.specs.Naming.{computed_name, nameable};
 
 use cs_base::{Kind, Tok};

@@ -1,8 +1,8 @@
 // The part that a place names.
 ghost use Rattle.std.specs.Prelude.{◌≡◌, Some, slice_get, option_copied};
 ghost use Rattle.std.specs.Str.{bytes_eq};
-ghost use Rattle.source_files.specs.Files.{Entry};
-ghost use Rattle.source_files.specs.KeptFiles.{kept_at};
+ghost use Rattle.include_tree.specs.Below.source_files.Files.{Entry};
+ghost use Rattle.include_tree.specs.Below.source_files.KeptFiles.{kept_at};
 ghost use Rattle.ws_core.specs.Classes.{AreItsClasses};
 ghost use Rattle.ws_core.specs.Marking.{AreMarked};
 ghost use Rattle.std.specs.Option.{option_and_then};

@@ -2,9 +2,9 @@
 ghost use Rattle.std.specs.Prelude.{◌≡◌, option_copied, unwrap_or};
 ghost use Rattle.std.specs.Option.{option_map_or};
 ghost use Rattle.std.specs.Str.{bytes_eq};
-ghost use Rattle.part_lexer.specs.Lines.{line_column_of};
-ghost use Rattle.source_files.specs.Faults.{place_of};
-ghost use Rattle.source_files.specs.Files.{lines_path};
+ghost use Rattle.include_tree.specs.Below.part_lexer.Lines.{line_column_of};
+ghost use Rattle.include_tree.specs.Below.source_files.Faults.{place_of};
+ghost use Rattle.include_tree.specs.Below.source_files.Files.{lines_path};
 ghost use Rattle.ws_core.specs.Places.{place_in_file, place_in_lines};
 ghost use Rattle.ws_core.specs.Placing.{IsPositionAt, byte_at, has_place_in_lines, position_at, position_in_lines};
 

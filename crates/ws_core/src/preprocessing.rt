@@ -2,8 +2,8 @@
 ghost use Rattle.std.specs.Prelude.{◌≡◌, ◌≤◌, ◌+◌, ◌++◌, ◌∷◌, [], IfOk, IfSome, OnOk, length};
 ghost use Rattle.cs_base.specs.Answer.{Gives, result_map_err};
 ghost use Rattle.cs_base.specs.Outside.{ReadsOnly};
-ghost use Rattle.source_files.specs.Files.{Source, Table, source_of, nothing_carried};
-ghost use Rattle.source_files.specs.Tables.{AreFound};
+ghost use Rattle.include_tree.specs.Below.source_files.Files.{Source, Table, source_of, nothing_carried};
+ghost use Rattle.include_tree.specs.Below.source_files.Tables.{AreFound};
 ghost use Rattle.include_tree.specs.Preprocessed.{with_text};
 ghost use Rattle.ws_core.specs.Texts.{texts_and, unit_with, texts_of, one_text_of};
 ghost use Rattle.ws_core.specs.Answers.{fault_of, reads_of};

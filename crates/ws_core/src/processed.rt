@@ -2,10 +2,10 @@
 ghost use Rattle.std.specs.Prelude.{◌≡◌, ℕ, false, Some, IfOk, OnOk, length};
 ghost use Rattle.std.specs.Option.{option_map_or};
 ghost use Rattle.std.specs.List.{flat_map};
-ghost use Rattle.part_lexer.specs.Tokens.{tokens_of, firsts_of};
+ghost use Rattle.include_tree.specs.Below.part_lexer.Tokens.{tokens_of, firsts_of};
 ghost use Rattle.line_shape.specs.Items.{items_of};
-ghost use Rattle.source_files.specs.Files.{Table};
-ghost use Rattle.source_files.specs.KeptFiles.{kept_at};
+ghost use Rattle.include_tree.specs.Below.source_files.Files.{Table};
+ghost use Rattle.include_tree.specs.Below.source_files.KeptFiles.{kept_at};
 ghost use Rattle.ws_core.specs.Marking.{is_marked, AreMarked, MarksItem, MarksTokens};
 ghost use Rattle.ws_core.specs.Naming.{names_processed, names_reached};
 

@@ -2,7 +2,7 @@
 ghost use Rattle.std.specs.Prelude.{◌≡◌, ℕ, Some, None, true, slice_get};
 ghost use Rattle.cs_base.specs.Token.{Token};
 ghost use Rattle.eclass_map.specs.Positions.{holds};
-ghost use Rattle.source_files.specs.KeptFiles.{kept_at};
+ghost use Rattle.include_tree.specs.Below.source_files.KeptFiles.{kept_at};
 ghost use Rattle.ws_core.specs.BroughtNumbers.{AreNumbers, all_brought};
 ghost use Rattle.ws_core.specs.FileTokens.{span_of};
 ghost use Rattle.ws_core.specs.Parts.{IsCharacter};

@@ -1,10 +1,10 @@
 use Rattle.std.proofs.Common.{refl}
-use Rattle.c99_read.specs.Reading.{read_within, whole, take_one, at_end, enter}
-use Rattle.c99_read.specs.State.{class_at, acted, opened, closed}
-use Rattle.c99_grammar.specs.TokenClasses.{spelled_class, base_class}
-use Rattle.scope_bind.specs.Bound.{binding_of}
-use Rattle.scope_bind.specs.Walk.{walked}
-use Rattle.no_offence_laws.specs.Renamings.{spell_from}
+use Rattle.kept_meaning_laws.specs.Below.c99_read.Reading.{read_within, whole, take_one, at_end, enter}
+use Rattle.kept_meaning_laws.specs.Below.c99_read.State.{class_at, acted, opened, closed}
+use Rattle.kept_meaning_laws.specs.Below.c99_grammar.TokenClasses.{spelled_class, base_class}
+use Rattle.kept_meaning_laws.specs.Below.scope_bind.Bound.{binding_of}
+use Rattle.kept_meaning_laws.specs.Below.scope_bind.Walk.{walked}
+use Rattle.kept_meaning_laws.specs.Below.no_offence_laws.Renamings.{spell_from}
 use Rattle.meaning_rows.specs.Rows.{pasted_names}
 use Rattle.meaning_rows.proofs.RowLemmas.{keeps}
 use Rattle.meaning_rows.proofs.RowTokens.{tree_of, bound_of, pasted_names_read}

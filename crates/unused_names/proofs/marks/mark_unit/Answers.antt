@@ -1,7 +1,7 @@
 use Rattle.std.proofs.Common.{List, ap, ◌∙◌}
 use Rattle.std.specs.List.{flat_map}
 use Rattle.cs_base.specs.Token.{Token}
-use Rattle.unit_steps.specs.declared.events.Event.{Event}
+use Rattle.include_tree.specs.Below.unit_steps.declared.events.Event.{Event}
 use Rattle.unused_names.specs.Marks.{with_tokens}
 use Rattle.unused_names.specs.Roles.{event_name, tokens_with}
 use Rattle.unused_names.proofs.MarkLemmas.{both_lists}

@@ -5,7 +5,7 @@ use Rattle.cs_base.specs.declared.positions.Part.{Part}
 use Rattle.eclass_map.specs.ClassTable.{Table, class_in}
 use Rattle.scope_bind.specs.Bound.{Bound}
 use Rattle.scope_bind.specs.declared.bound.Name.{Name}
-use Rattle.unit_steps.specs.Texts.{UnitTextValue}
+use Rattle.include_tree.specs.Below.unit_steps.Texts.{UnitTextValue}
 use Rattle.rename_rules.proofs.UnitLemmas.{bound_of_unit, unit_of_text}
 use Rattle.ws_core.specs.Analysis.{UnitAnalysis}
 use Rattle.unused_names.specs.Marks.{with_tokens}

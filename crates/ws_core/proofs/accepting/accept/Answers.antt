@@ -1,5 +1,5 @@
 use Rattle.std.proofs.Common.{refl}
-use Rattle.source_files.specs.Files.{nothing_carried}
+use Rattle.include_tree.specs.Below.source_files.Files.{nothing_carried}
 use Rattle.ws_core.specs.Analysis.{units_and}
 use Rattle.ws_core.specs.Answers.{fault_of}
 use Rattle.ws_core.proofs.CarryLemmas.{over_nothing, over_map}

@@ -1,7 +1,7 @@
 use Rattle.std.proofs.Common.{◌≡◌, ◌+◌, drop, length}
 use Rattle.std.specs.Prelude.{IfSome}
-use Rattle.source_files.specs.Files.{Source, source_of}
-use Rattle.source_files.specs.Tables.{AreFound, HasEachOnce}
+use Rattle.include_tree.specs.Below.source_files.Files.{Source, source_of}
+use Rattle.include_tree.specs.Below.source_files.Tables.{AreFound, HasEachOnce}
 use Rattle.ws_core.specs.Analysis.{analysed_from}
 use Rattle.ws_core.specs.Accepting.{units_of}
 use Rattle.ws_core.specs.Carrying.{IsFresh}

@@ -1,5 +1,5 @@
 use Rattle.std.proofs.Common.{◌+◌, ◌<◌, ◌≤◌, Bool, cond, drop, length, sym, ap, ◌∙◌, arith}
-use Rattle.source_files.specs.KeptFiles.{kept_at}
+use Rattle.include_tree.specs.Below.source_files.KeptFiles.{kept_at}
 use Rattle.ws_core.specs.Naming.{file_named}
 use Rattle.ws_core.proofs.PlaceNameLemmas.{named_here, named_past}
 use Rattle.ws_core.proofs.naming.file_named.Goals as goal

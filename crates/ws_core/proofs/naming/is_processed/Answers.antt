@@ -1,6 +1,6 @@
 use Rattle.std.proofs.Common.{◌≡◌, List, Some, None, sym, subst, ◌∙◌}
 use Rattle.cs_base.specs.Token.{Token}
-use Rattle.part_lexer.specs.Tokens.{tokens_of}
+use Rattle.include_tree.specs.Below.part_lexer.Tokens.{tokens_of}
 use Rattle.ws_core.specs.TokenSearch.{IsOver}
 use Rattle.ws_core.proofs.PlaceNameLemmas.{file_in_line, processed_some, processed_none}
 use Rattle.ws_core.proofs.naming.is_processed.Goals as goal

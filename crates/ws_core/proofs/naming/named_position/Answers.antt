@@ -1,6 +1,6 @@
 use Rattle.std.proofs.Common.{Option, sym, ap, ◌∙◌}
 use Rattle.std.specs.Option.{option_and_then}
-use Rattle.source_files.specs.KeptFiles.{KeptValue}
+use Rattle.include_tree.specs.Below.source_files.KeptFiles.{KeptValue}
 use Rattle.ws_core.specs.Naming.{character_of, where_processed, named_position}
 use Rattle.ws_core.proofs.PlaceNameLemmas.{named_kept}
 use Rattle.ws_core.proofs.naming.named_position.Goals as goal

@@ -1,6 +1,6 @@
 use Rattle.std.proofs.Common.{Option, sym, subst}
 use Rattle.cs_base.specs.declared.positions.Pos.{Pos}
-use Rattle.source_files.specs.Faults.{place_of}
+use Rattle.include_tree.specs.Below.source_files.Faults.{place_of}
 use Rattle.ws_core.specs.Placing.{IsPositionAt}
 use Rattle.ws_core.proofs.PositionLemmas.{position_is}
 use Rattle.ws_core.proofs.placing.position.Goals as goal

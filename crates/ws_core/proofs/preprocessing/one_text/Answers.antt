@@ -1,8 +1,8 @@
 use Rattle.std.proofs.Common.{sym, subst}
 use Rattle.cs_base.specs.Answer.{Gives}
 use Rattle.include_tree.specs.Preprocessed.{with_text}
-use Rattle.source_files.specs.Files.{Carried, nothing_carried}
-use Rattle.source_files.specs.Tables.{StaysHeld}
+use Rattle.include_tree.specs.Below.source_files.Files.{Carried, nothing_carried}
+use Rattle.include_tree.specs.Below.source_files.Tables.{StaysHeld}
 use Rattle.ws_core.specs.Texts.{unit_with}
 use Rattle.ws_core.specs.Answers.{fault_of}
 use Rattle.ws_core.specs.Carrying.{IsFresh}

@@ -1,9 +1,9 @@
 use Rattle.std.proofs.Common.{rules, ◌∙◌, arith, refl, sym, subst}
 use Rattle.std.proofs.lemmas.Grind.{common_steps}
 use Rattle.std.specs.Prelude.{IfSome}
-use Rattle.source_files.specs.Files.{Carried, source_of}
-use Rattle.source_files.specs.Tables.{AreFound, HasEachOnce}
-use Rattle.source_files.proofs.TableLemmas.{earlier_found}
+use Rattle.include_tree.specs.Below.source_files.Files.{Carried, source_of}
+use Rattle.include_tree.specs.Below.source_files.Tables.{AreFound, HasEachOnce}
+use Rattle.include_tree.proofs.Below.source_files.TableLemmas.{earlier_found}
 use Rattle.ws_core.specs.Answers.{fault_of}
 use Rattle.ws_core.specs.Carrying.{IsFresh}
 use Rattle.ws_core.proofs.CarryLemmas.{fresh_first, none_found, found_more}

@@ -1,7 +1,7 @@
 use Rattle.std.proofs.Common.{◌≡◌, List, sym, ap, ◌∙◌}
 use Rattle.std.specs.Prelude.{slice_get}
 use Rattle.cs_base.specs.Token.{Token}
-use Rattle.part_lexer.specs.Tokens.{tokens_of}
+use Rattle.include_tree.specs.Below.part_lexer.Tokens.{tokens_of}
 use Rattle.ws_core.specs.BroughtNumbers.{all_brought}
 use Rattle.ws_core.proofs.PlaceNameLemmas.{file_in_line}
 use Rattle.ws_core.proofs.SpellingLemmas.{spelled_kept, spelled_number, number_file, numbers_in_line}

@@ -1,6 +1,6 @@
 use Rattle.std.proofs.Common.{rules, ◌≡◌, List, ℕ, Bor, None, ap, ◌∙◌}
 use Rattle.std.specs.Option.{option_copied}
-use Rattle.linkage_join.specs.Firsts.{first_at}
+use Rattle.ws_core.specs.Below.linkage_join.Firsts.{first_at}
 use Rattle.calls_of.proofs.ExternalLemmas.{adds-put}
 use Rattle.calls_of.proofs.OwnerLemmas.{option_copied-cond}
 use Rattle.calls_of.proofs.firsts.Firsts.keep.Goals as goal

@@ -1,5 +1,5 @@
 use Rattle.std.proofs.Common.{◌<◌, ◌≤◌, length, min, arith}
-use Rattle.linkage_join.specs.Firsts.{first_at}
+use Rattle.ws_core.specs.Below.linkage_join.Firsts.{first_at}
 use Rattle.ws_core.specs.Links.{names_of_units}
 use Rattle.calls_of.proofs.ExternalLemmas.{units-next, units-all, unit-of-text, bound-of-unit}
 use Rattle.calls_of.proofs.firsts.Firsts.keep_units.Goals as goal

@@ -1,0 +1,5 @@
+-- Words of the crates below, passed on: who needs them in definitions and proofs alone lists this crate in their place.
+pub use Rattle.cs_base.specs as cs_base
+pub use Rattle.line_shape.specs as line_shape
+pub use Rattle.paste_origin.specs as paste_origin
+pub use Rattle.macro_body.specs as macro_body
