@@ -12,9 +12,9 @@ use Rattle.ws_core.specs.Parts.{AreMembers}
 use Rattle.kept_meaning_laws.specs.Below.analysis_laws.Tables.{IsOpened}
 use Rattle.kept_meaning_laws.specs.Below.rename_rules.First.{IsAmong, IsFirst, offences_of}
 use Rattle.kept_meaning_laws.specs.Below.rename_rules.Runs.{runs, file_of, new_bytes}
-use Rattle.kept_meaning_laws.specs.RenamedSource.{TextsAreRenamed, AnalysisIsRenamed}
 use Rattle.command_words.specs.Request.{RequestValue, renaming_asked, RenameValue}
 use Rattle.cscout_run.specs.Answer.{workspace_at}
+use Rattle.renamed.specs.Renamed.{TextsAreRenamed, AnalysisIsRenamed}
 
 -- What a class is renamed in: the workspace of the workspace file, its analysis, the part at the place, and the
 -- members of its class.

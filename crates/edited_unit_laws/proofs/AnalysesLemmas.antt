@@ -1,25 +1,26 @@
 -- An analysis is the texts of its units, each read and bound; so that of the edited files is the renamed one.
 use Rattle.std.proofs.Common.{◌≡◌, ℕ, ◌+◌, List, [], ◌∷◌, map, Result, Ok, Err, refl, ap, sym, subst, ◌∙◌}
-use Rattle.ws_core.specs.Below.cs_base.Answer.{result_then, result_map_err}
-use Rattle.ws_core.specs.Below.macro_expand.Renaming.{Renaming}
-use Rattle.ws_core.specs.Below.source_files.Faults.{Fault}
-use Rattle.ws_core.specs.Below.source_files.Files.{Table, nothing_carried}
-use Rattle.ws_core.specs.Below.source_files.Tables.{IsGrown}
-use Rattle.ws_core.specs.Below.unit_steps.Texts.{UnitTextValue}
-use Rattle.ws_core.specs.Below.include_tree.Preprocessed.{Preprocessed}
-use Rattle.ws_core.proofs.Below.source_files.TableLemmas.{grown_refl}
-use Rattle.ws_core.specs.Below.c99_read.Reading.{Stop, read_of}
-use Rattle.ws_core.specs.Below.c99_grammar.Standard.{c99}
-use Rattle.ws_core.specs.Below.scope_bind.Named.{Fault as BindFault}
-use Rattle.ws_core.specs.Below.scope_bind.Bound.{Bound, binding_of}
-use Rattle.ws_core.specs.Below.scope_bind.Causes.{cause_of, index_of}
-use Rattle.ws_core.specs.Texts.{TextsValue, texts_and, UnitFault, unit_fault, with_front, unit_with, texts_from}
-use Rattle.ws_core.specs.Analysis.{UnitAnalysis, unit_analysis, UnitsValue, units_and, AnalysisValue, analysis_and, with_unit, fault_at_index, bound_unit, read_unit, unit_read, stop_index, stop_cause, analysed_from}
+use Rattle.renamed.specs.Below.cs_base.Answer.{result_then, result_map_err}
+use Rattle.renamed.specs.Below.macro_expand.Renaming.{Renaming}
+use Rattle.renamed.specs.Below.source_files.Faults.{Fault}
+use Rattle.renamed.specs.Below.source_files.Files.{Table, nothing_carried}
+use Rattle.renamed.specs.Below.source_files.Tables.{IsGrown}
+use Rattle.renamed.specs.Below.unit_steps.Texts.{UnitTextValue}
+use Rattle.renamed.specs.Below.include_tree.Preprocessed.{Preprocessed}
+use Rattle.renamed.proofs.Below.source_files.TableLemmas.{grown_refl}
+use Rattle.renamed.specs.Below.c99_read.Reading.{Stop, read_of}
+use Rattle.renamed.specs.Below.c99_grammar.Standard.{c99}
+use Rattle.renamed.specs.Below.scope_bind.Named.{Fault as BindFault}
+use Rattle.renamed.specs.Below.scope_bind.Bound.{Bound, binding_of}
+use Rattle.renamed.specs.Below.scope_bind.Causes.{cause_of, index_of}
+use Rattle.renamed.specs.Below.ws_core.Texts.{TextsValue, texts_and, UnitFault, unit_fault, with_front, unit_with, texts_from}
+use Rattle.renamed.specs.Below.ws_core.Analysis.{UnitAnalysis, unit_analysis, UnitsValue, units_and, AnalysisValue, analysis_and, with_unit, fault_at_index, bound_unit, read_unit, unit_read, stop_index, stop_cause, analysed_from}
 use Rattle.edited_unit_laws.specs.Lines.{Each}
 use Rattle.edited_unit_laws.specs.Edited.{edited_carried}
 use Rattle.edited_unit_laws.specs.UnitTexts.{renamed_text}
 use Rattle.edited_unit_laws.proofs.WorkspaceLemmas.{workspaces_are_renamed}
-use Rattle.edited_unit_laws.specs.Analyses.{IsRead, texts_in, AnalysesHaveTexts, TextsHaveAnalyses, renamed_unit_analysis, renamed_units, renamed_analysis, ReadsAlike, UnitAnalysesAreRenamed, WorkspaceAnalysisIsRenamed}
+use Rattle.edited_unit_laws.specs.Analyses.{IsRead, AnalysesHaveTexts, TextsHaveAnalyses, renamed_unit_analysis, renamed_units, renamed_analysis, ReadsAlike, UnitAnalysesAreRenamed, WorkspaceAnalysisIsRenamed}
+use Rattle.renamed.specs.Renamed.{texts_in}
 
 ok-same : {A E : Type 0} (a b : A) → ◌≡◌ {A = Result A E} (Ok a) (Ok b) → a ≡ b
 ok-same a b h = cc

@@ -5,25 +5,25 @@ use Rattle.std.specs.Option.{option_map}
 use Rattle.std.proofs.lemmas.Bool.{cases_Bool}
 use Rattle.std.proofs.lemmas.List.{map-append}
 use Rattle.std.proofs.lemmas.Option.{none-some, same_Some}
-use Rattle.ws_core.specs.Below.cs_base.declared.causes.Cause.TheVariants.{DefinedFromMacro}
-use Rattle.ws_core.specs.Below.cs_base.declared.positions.Pos.{Pos}
-use Rattle.ws_core.specs.Below.cs_base.declared.tokens.Kind.TheVariants.{Number}
-use Rattle.ws_core.specs.Below.cs_base.Token.{Token}
-use Rattle.ws_core.specs.Below.part_lexer.FileText.{TextValue}
-use Rattle.ws_core.specs.Below.line_shape.Signs.{is_name, is_open, is_close}
-use Rattle.ws_core.specs.Below.cond_eval.declared.faults.CondFault.{CondFault}
-use Rattle.ws_core.specs.Below.cond_eval.Evaluation.{condition}
-use Rattle.ws_core.specs.Below.macro_body.Macro.{Table as Macros}
-use Rattle.ws_core.specs.Below.macro_expand.Renaming.{renamed}
-use Rattle.ws_core.specs.Below.source_files.Faults.{fault_at}
-use Rattle.ws_core.specs.Below.source_files.Files.{SourceFile}
-use Rattle.ws_core.specs.Below.unit_steps.Notes.{Note, Tested, Left, Answered}
-use Rattle.ws_core.specs.Below.unit_steps.State.{State, Did, did, onward}
-use Rattle.ws_core.specs.Below.unit_steps.Names.{name_links, with_name}
-use Rattle.ws_core.specs.Below.unit_steps.Expanding.{expanded_in}
-use Rattle.ws_core.specs.Below.unit_steps.Conditions.{Piece, Plain, Asks, is_defined, in_parentheses, operand_of, onto_pieces, asks_with, pieces_from, answer_for, is_macro, test_notes, with_front, answered, left_name, left_over, valued, judged, asked_pieces, holds}
-use Rattle.ws_core.specs.Below.source_files.Tables.{IsGrown}
-use Rattle.ws_core.proofs.Below.source_files.TableLemmas.{grown_refl, grown_trans}
+use Rattle.renamed.specs.Below.cs_base.declared.causes.Cause.TheVariants.{DefinedFromMacro}
+use Rattle.renamed.specs.Below.cs_base.declared.positions.Pos.{Pos}
+use Rattle.renamed.specs.Below.cs_base.declared.tokens.Kind.TheVariants.{Number}
+use Rattle.renamed.specs.Below.cs_base.Token.{Token}
+use Rattle.renamed.specs.Below.part_lexer.FileText.{TextValue}
+use Rattle.renamed.specs.Below.line_shape.Signs.{is_name, is_open, is_close}
+use Rattle.renamed.specs.Below.cond_eval.declared.faults.CondFault.{CondFault}
+use Rattle.renamed.specs.Below.cond_eval.Evaluation.{condition}
+use Rattle.renamed.specs.Below.macro_body.Macro.{Table as Macros}
+use Rattle.renamed.specs.Below.macro_expand.Renaming.{renamed}
+use Rattle.renamed.specs.Below.source_files.Faults.{fault_at}
+use Rattle.renamed.specs.Below.source_files.Files.{SourceFile}
+use Rattle.renamed.specs.Below.unit_steps.Notes.{Note, Tested, Left, Answered}
+use Rattle.renamed.specs.Below.unit_steps.State.{State, Did, did, onward}
+use Rattle.renamed.specs.Below.unit_steps.Names.{name_links, with_name}
+use Rattle.renamed.specs.Below.unit_steps.Expanding.{expanded_in}
+use Rattle.renamed.specs.Below.unit_steps.Conditions.{Piece, Plain, Asks, is_defined, in_parentheses, operand_of, onto_pieces, asks_with, pieces_from, answer_for, is_macro, test_notes, with_front, answered, left_name, left_over, valued, judged, asked_pieces, holds}
+use Rattle.renamed.specs.Below.source_files.Tables.{IsGrown}
+use Rattle.renamed.proofs.Below.source_files.TableLemmas.{grown_refl, grown_trans}
 use Rattle.edited_unit_laws.specs.Lines.{Each}
 use Rattle.edited_unit_laws.specs.UnitLines.{renamed_piece}
 use Rattle.edited_unit_laws.proofs.MacroLineLemmas.{any-kept}

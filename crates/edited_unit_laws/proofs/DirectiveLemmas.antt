@@ -2,30 +2,30 @@
 use Rattle.std.proofs.Common.{◌≡◌, Bool, true, List, [], ◌∷◌, ◌++◌, map, Option, Some, None, Ok, refl, ap, sym, subst, ◌∙◌}
 use Rattle.std.specs.Option.{option_map}
 use Rattle.std.proofs.lemmas.List.{map-append}
-use Rattle.ws_core.specs.Below.cs_base.declared.positions.Pos.{Pos}
-use Rattle.ws_core.specs.Below.cs_base.Token.{Token}
-use Rattle.ws_core.specs.Below.line_shape.declared.items.ItemKind.{ItemKind}
-use Rattle.ws_core.specs.Below.line_shape.declared.items.ItemKind.TheVariants as kind
-use Rattle.ws_core.specs.Below.line_shape.Directives.{takes_name}
-use Rattle.ws_core.specs.Below.line_shape.Items.{line_kind}
-use Rattle.ws_core.specs.Below.line_shape.Signs.{is_name}
-use Rattle.ws_core.specs.Below.line_shape.MacroLine.{MacroParts, macro_of}
-use Rattle.ws_core.specs.Below.macro_body.declared.definitions.Definition.{Definition}
-use Rattle.ws_core.specs.Below.macro_body.Defining.{definition_of, defined_by}
-use Rattle.ws_core.specs.Below.macro_body.Live.{with_macro, without_macro}
-use Rattle.ws_core.specs.Below.macro_body.Macro.{Table as Macros}
-use Rattle.ws_core.specs.Below.macro_expand.Renaming.{spelled, renamed, renamed_macro, occurs}
-use Rattle.ws_core.specs.Below.source_files.Files.{SourceFile}
-use Rattle.ws_core.specs.Below.unit_steps.Notes.{Note, Defined, Undefined, Tested}
-use Rattle.ws_core.specs.Below.unit_steps.State.{State, did}
-use Rattle.ws_core.specs.Below.unit_steps.Names.{name_links, with_name, definition_links}
-use Rattle.ws_core.specs.Below.unit_steps.Conditions.{is_macro, test_notes}
-use Rattle.ws_core.specs.Below.unit_steps.Directives.{operand_in, define_notes, after_define, defined_as, define_of, undefined_as, undef_of, asks_name}
+use Rattle.renamed.specs.Below.cs_base.declared.positions.Pos.{Pos}
+use Rattle.renamed.specs.Below.cs_base.Token.{Token}
+use Rattle.renamed.specs.Below.line_shape.declared.items.ItemKind.{ItemKind}
+use Rattle.renamed.specs.Below.line_shape.declared.items.ItemKind.TheVariants as kind
+use Rattle.renamed.specs.Below.line_shape.Directives.{takes_name}
+use Rattle.renamed.specs.Below.line_shape.Items.{line_kind}
+use Rattle.renamed.specs.Below.line_shape.Signs.{is_name}
+use Rattle.renamed.specs.Below.line_shape.MacroLine.{MacroParts, macro_of}
+use Rattle.renamed.specs.Below.macro_body.declared.definitions.Definition.{Definition}
+use Rattle.renamed.specs.Below.macro_body.Defining.{definition_of, defined_by}
+use Rattle.renamed.specs.Below.macro_body.Live.{with_macro, without_macro}
+use Rattle.renamed.specs.Below.macro_body.Macro.{Table as Macros}
+use Rattle.renamed.specs.Below.macro_expand.Renaming.{spelled, renamed, renamed_macro, occurs}
+use Rattle.renamed.specs.Below.source_files.Files.{SourceFile}
+use Rattle.renamed.specs.Below.unit_steps.Notes.{Note, Defined, Undefined, Tested}
+use Rattle.renamed.specs.Below.unit_steps.State.{State, did}
+use Rattle.renamed.specs.Below.unit_steps.Names.{name_links, with_name, definition_links}
+use Rattle.renamed.specs.Below.unit_steps.Conditions.{is_macro, test_notes}
+use Rattle.renamed.specs.Below.unit_steps.Directives.{operand_in, define_notes, after_define, defined_as, define_of, undefined_as, undef_of, asks_name}
 use Rattle.edited_unit_laws.specs.Lines.{Each, KeepsToken, KeepsParameters, defines, KeepsLine}
 use Rattle.edited_unit_laws.proofs.MacroLineLemmas.{definitions_are_renamed}
 use Rattle.edited_unit_laws.specs.Keeping.{Change, KeepsNames, Fits}
 use Rattle.edited_unit_laws.specs.Renamed.{renamed_happening}
-use Rattle.edited_unit_laws.specs.Steps.{IsTaken, moved, GoesAlike, IsRenamed, IsSame}
+use Rattle.edited_unit_laws.specs.Steps.{IsTaken, moved, GoesAlike, IsPutOutRenamed, IsSame}
 use Rattle.edited_unit_laws.proofs.FollowLemmas.{each-more}
 use Rattle.edited_unit_laws.proofs.LineLemmas.{takes-name}
 use Rattle.edited_unit_laws.proofs.MacroLemmas.{keeps-defined, keeps-left, all-defined, all-left}
@@ -44,7 +44,7 @@ module _ (c : Change) (names : KeepsNames c) where
   -- ---- definitions
 
   define-goes : (m : Definition) → IsKnown c m.name → PartsGo c m.params m.body → (file new : SourceFile) (at : Pos) (macros : Macros) (s : State)
-      → GoesAlike c (IsRenamed c) macros s (Ok (did [] (define_notes m s) (after_define m s))) (defined_as new at (moved c macros s) (Some (renamed_macro c.renaming m)))
+      → GoesAlike c (IsPutOutRenamed c) macros s (Ok (did [] (define_notes m s) (after_define m s))) (defined_as new at (moved c macros s) (Some (renamed_macro c.renaming m)))
   define-goes m known parts file new at macros s = λ reach kept told.
       let taken : IsTaken c m.name = record { occurs = known.occurs; named = known.named; keeps = told.0 } in
       let macros2 : Macros = with_macro (renamed_macro c.renaming m) macros in
@@ -67,17 +67,17 @@ module _ (c : Change) (names : KeepsNames c) where
 
   define-by : (hash word name : Token) (ts : List Token) (o : Option MacroParts) → macro_of ts ≡ o → Each (Fits c) (hash ∷ word ∷ name ∷ ts) → IsKnown c name → KeepsParameters c.renaming ts
       → (file new : SourceFile) (at at2 : Pos) (macros : Macros) (s : State)
-      → GoesAlike c (IsRenamed c) macros s (defined_as file at s (option_map (definition_of name) o)) (define_of new at2 (map (renamed c.renaming) (hash ∷ word ∷ name ∷ ts)) (moved c macros s))
+      → GoesAlike c (IsPutOutRenamed c) macros s (defined_as file at s (option_map (definition_of name) o)) (define_of new at2 (map (renamed c.renaming) (hash ∷ word ∷ name ∷ ts)) (moved c macros s))
   define-by hash word name ts None is h known same file new at at2 macros s = tt
   define-by hash word name ts (Some parts) is h known same file new at at2 macros s =
       let anew : defined_by (map (renamed c.renaming) (hash ∷ word ∷ name ∷ ts)) ≡ Some (renamed_macro c.renaming (definition_of name parts)) =
       definitions_are_renamed c.renaming (hash ∷ word ∷ name ∷ ts) (kept-tokens c (hash ∷ word ∷ name ∷ ts) h) same
       ∙ ap (λ (p : Option MacroParts). option_map (renamed_macro c.renaming) (option_map (definition_of name) p)) is in
-      subst (λ (o : Option Definition). GoesAlike c (IsRenamed c) macros s (defined_as file at s (Some (definition_of name parts))) (defined_as new at2 (moved c macros s) o)) (sym anew)
+      subst (λ (o : Option Definition). GoesAlike c (IsPutOutRenamed c) macros s (defined_as file at s (Some (definition_of name parts))) (defined_as new at2 (moved c macros s) o)) (sym anew)
       (define-goes (definition_of name parts) known (macro-goes c ts parts h.1.1.1 same is) file new at2 macros s)
 
   pub define-alike : (file new : SourceFile) (at at2 : Pos) (toks : List Token) (macros : Macros) (s : State) → Each (Fits c) toks → line_kind toks ≡ kind.Define → KeepsLine c.renaming toks
-      → GoesAlike c (IsRenamed c) macros s (define_of file at toks s) (define_of new at2 (map (renamed c.renaming) toks) (moved c macros s))
+      → GoesAlike c (IsPutOutRenamed c) macros s (define_of file at toks s) (define_of new at2 (map (renamed c.renaming) toks) (moved c macros s))
   define-alike file new at at2 [] macros s h is keeps = tt
   define-alike file new at at2 (hash ∷ []) macros s h is keeps = tt
   define-alike file new at at2 (hash ∷ word ∷ []) macros s h is keeps = tt
@@ -89,7 +89,7 @@ module _ (c : Change) (names : KeepsNames c) where
   -- ---- names that are taken away
 
   undef-goes : (name : Token) → IsKnown c name → (file new : SourceFile) (at at2 : Pos) (macros : Macros) (s : State)
-      → GoesAlike c (IsRenamed c) macros s (undefined_as file at s (Some name)) (undefined_as new at2 (moved c macros s) (Some (renamed c.renaming name)))
+      → GoesAlike c (IsPutOutRenamed c) macros s (undefined_as file at s (Some name)) (undefined_as new at2 (moved c macros s) (Some (renamed c.renaming name)))
   undef-goes name known file new at at2 macros s = λ reach kept told.
       let taken : IsTaken c name = record { occurs = known.occurs; named = known.named; keeps = told.0 } in
       let macros2 : Macros = without_macro (spelled c.renaming name) macros in
@@ -107,7 +107,7 @@ module _ (c : Change) (names : KeepsNames c) where
       }
 
   pub undef-alike : (file new : SourceFile) (at at2 : Pos) (toks : List Token) (macros : Macros) (s : State) → Each (Fits c) toks → line_kind toks ≡ kind.Undef
-      → GoesAlike c (IsRenamed c) macros s (undef_of file at toks s) (undef_of new at2 (map (renamed c.renaming) toks) (moved c macros s))
+      → GoesAlike c (IsPutOutRenamed c) macros s (undef_of file at toks s) (undef_of new at2 (map (renamed c.renaming) toks) (moved c macros s))
   undef-alike file new at at2 [] macros s h is = tt
   undef-alike file new at at2 (hash ∷ []) macros s h is = tt
   undef-alike file new at at2 (hash ∷ word ∷ []) macros s h is = tt

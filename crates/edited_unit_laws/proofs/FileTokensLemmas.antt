@@ -5,24 +5,24 @@ use Rattle.std.specs.Fmt.{decimal}
 use Rattle.std.specs.List.{flat_map}
 use Rattle.std.specs.Option.{option_map}
 use Rattle.std.specs.Str.{bytes_eq}
-use Rattle.ws_core.specs.Below.cs_base.declared.positions.Pos.{Pos}
-use Rattle.ws_core.specs.Below.cs_base.declared.tokens.Kind.TheVariants.{Number}
-use Rattle.ws_core.specs.Below.cs_base.Token.{Token, token}
-use Rattle.ws_core.specs.Below.macro_expand.Renaming.{Renaming, spelled, renamed}
-use Rattle.ws_core.specs.Below.macro_body.Substitution.{digit_origins, line_number}
-use Rattle.ws_core.specs.Below.unit_steps.declared.events.Event.{Event}
-use Rattle.ws_core.specs.Below.unit_steps.declared.events.EventKind.{EventKind}
-use Rattle.ws_core.specs.Below.unit_steps.declared.events.EventKind.TheVariants as kind
-use Rattle.ws_core.specs.Below.source_files.Files.{Entry, Table}
-use Rattle.ws_core.specs.Analysis.{UnitAnalysis}
-use Rattle.ws_core.specs.FileTokens.{entry_tokens, table_tokens, number_for, number_of_event, numbers_brought, file_tokens}
+use Rattle.renamed.specs.Below.cs_base.declared.positions.Pos.{Pos}
+use Rattle.renamed.specs.Below.cs_base.declared.tokens.Kind.TheVariants.{Number}
+use Rattle.renamed.specs.Below.cs_base.Token.{Token, token}
+use Rattle.renamed.specs.Below.macro_expand.Renaming.{Renaming, spelled, renamed}
+use Rattle.renamed.specs.Below.macro_body.Substitution.{digit_origins, line_number}
+use Rattle.renamed.specs.Below.unit_steps.declared.events.Event.{Event}
+use Rattle.renamed.specs.Below.unit_steps.declared.events.EventKind.{EventKind}
+use Rattle.renamed.specs.Below.unit_steps.declared.events.EventKind.TheVariants as kind
+use Rattle.renamed.specs.Below.source_files.Files.{Entry, Table}
+use Rattle.renamed.specs.Below.ws_core.Analysis.{UnitAnalysis}
+use Rattle.renamed.specs.Below.ws_core.FileTokens.{entry_tokens, table_tokens, number_for, number_of_event, numbers_brought, file_tokens}
 use Rattle.edited_unit_laws.specs.Lines.{Each}
-use Rattle.edited_unit_laws.specs.Edited.{edited_from}
 use Rattle.edited_unit_laws.specs.Keeping.{Change}
 use Rattle.edited_unit_laws.specs.UnitTexts.{renamed_event}
 use Rattle.edited_unit_laws.specs.Analyses.{renamed_unit_analysis}
 use Rattle.edited_unit_laws.specs.FileTokens.{edited_entry, EntryIsRenamed, NamesLineAsBefore, FileTokensAreRenamed}
 use Rattle.edited_unit_laws.proofs.LinksLemmas.{both}
+use Rattle.renamed.specs.Renamed.{edited_from}
 
 -- ---- files
 

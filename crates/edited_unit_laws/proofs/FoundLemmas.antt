@@ -2,10 +2,10 @@
 use Rattle.std.proofs.Common.{◌≡◌, ℕ, suc, ◌+◌, List, [], ◌∷◌, Some, refl, ap, ◌∙◌, arith}
 use Rattle.std.specs.Prelude.{slice_get}
 use Rattle.std.specs.Option.{option_map}
-use Rattle.ws_core.specs.Below.source_files.Files.{Source, Found, Lines, Absent, Unopened, Opened, Made, Entry, Table}
-use Rattle.ws_core.specs.Below.source_files.Tables.{IsFound, AreFound}
-use Rattle.edited_unit_laws.specs.Edited.{Editing, edited_found, edited_from}
+use Rattle.renamed.specs.Below.source_files.Files.{Source, Found, Lines, Absent, Unopened, Opened, Made, Entry, Table}
+use Rattle.renamed.specs.Below.source_files.Tables.{IsFound, AreFound}
 use Rattle.edited_unit_laws.specs.EditedFiles.{EditedTablesAreFound}
+use Rattle.renamed.specs.Renamed.{Editing, edited_found, edited_from}
 
 found-anew : (old new : Source) (edit : List ℕ → List ℕ) (path : List ℕ) (f : Found) → new path ≡ option_map edit (old path) → IsFound old path f → IsFound new path (edited_found edit f)
 found-anew old new edit path Lines h is = tt

@@ -5,27 +5,27 @@ use Rattle.std.specs.Str.{bytes_eq}
 use Rattle.std.proofs.lemmas.Bool.{cases_Bool}
 use Rattle.std.proofs.lemmas.List.{drop-map}
 use Rattle.std.proofs.lemmas.Option.{none-some, same_Some}
-use Rattle.ws_core.specs.Below.cs_base.declared.positions.Pos.{Pos}
-use Rattle.ws_core.specs.Below.cs_base.declared.tokens.Kind.{Kind}
-use Rattle.ws_core.specs.Below.cs_base.declared.tokens.Kind.TheVariants.{Ident, Number, Char, Str, Punct, Other, Header as HeaderName}
-use Rattle.ws_core.specs.Below.cs_base.Token.{Token}
-use Rattle.ws_core.specs.Below.part_lexer.FileText.{TextValue}
-use Rattle.ws_core.specs.Below.line_shape.Signs.{is_identifier, is_punctuator, is_sign}
-use Rattle.ws_core.specs.Below.macro_body.Macro.{Table as Macros}
-use Rattle.ws_core.specs.Below.macro_expand.Renaming.{Renaming, spelled as respelled, renamed}
-use Rattle.ws_core.specs.Below.source_files.Files.{Source, SourceFile}
-use Rattle.ws_core.specs.Below.unit_steps.Notes.{Entered, Exited}
-use Rattle.ws_core.specs.Below.unit_steps.State.{State, did, onward}
-use Rattle.ws_core.specs.Below.source_files.Search.{Header, header}
-use Rattle.ws_core.specs.Below.include_tree.GivenFiles.{unit_context}
-use Rattle.ws_core.specs.Below.unit_steps.Expanding.{expanded_in}
-use Rattle.ws_core.specs.Below.include_tree.Including.{open_header, Process, Inner, entered, included, include_of}
-use Rattle.ws_core.specs.Below.unit_steps.IncludeNames.{header_or, computed_header, header_named}
-use Rattle.ws_core.specs.Below.source_files.HeaderNames.{is_header, header_in, is_less, is_greater, before_greater, gap_text, spaced, spelled, header_of_signs, header_of_toks}
-use Rattle.ws_core.proofs.Below.source_files.TableLemmas.{grown_refl}
+use Rattle.renamed.specs.Below.cs_base.declared.positions.Pos.{Pos}
+use Rattle.renamed.specs.Below.cs_base.declared.tokens.Kind.{Kind}
+use Rattle.renamed.specs.Below.cs_base.declared.tokens.Kind.TheVariants.{Ident, Number, Char, Str, Punct, Other, Header as HeaderName}
+use Rattle.renamed.specs.Below.cs_base.Token.{Token}
+use Rattle.renamed.specs.Below.part_lexer.FileText.{TextValue}
+use Rattle.renamed.specs.Below.line_shape.Signs.{is_identifier, is_punctuator, is_sign}
+use Rattle.renamed.specs.Below.macro_body.Macro.{Table as Macros}
+use Rattle.renamed.specs.Below.macro_expand.Renaming.{Renaming, spelled as respelled, renamed}
+use Rattle.renamed.specs.Below.source_files.Files.{Source, SourceFile}
+use Rattle.renamed.specs.Below.unit_steps.Notes.{Entered, Exited}
+use Rattle.renamed.specs.Below.unit_steps.State.{State, did, onward}
+use Rattle.renamed.specs.Below.source_files.Search.{Header, header}
+use Rattle.renamed.specs.Below.include_tree.GivenFiles.{unit_context}
+use Rattle.renamed.specs.Below.unit_steps.Expanding.{expanded_in}
+use Rattle.renamed.specs.Below.include_tree.Including.{open_header, Process, Inner, entered, included, include_of}
+use Rattle.renamed.specs.Below.unit_steps.IncludeNames.{header_or, computed_header, header_named}
+use Rattle.renamed.specs.Below.source_files.HeaderNames.{is_header, header_in, is_less, is_greater, before_greater, gap_text, spaced, spelled, header_of_signs, header_of_toks}
+use Rattle.renamed.proofs.Below.source_files.TableLemmas.{grown_refl}
 use Rattle.edited_unit_laws.specs.Lines.{Each}
 use Rattle.edited_unit_laws.specs.Keeping.{Change, KeepsNames, KeepsFile, KeepsFiles, Fits}
-use Rattle.edited_unit_laws.specs.Steps.{moved, GoesAlike, AreRenamed, IsRenamed, IsSame, with_text, OpensAlike, ProcessAlike, InnerAlike, Grows, ProcessGrows, InnerGrows}
+use Rattle.edited_unit_laws.specs.Steps.{moved, GoesAlike, AreRenamed, IsPutOutRenamed, IsSame, with_text, OpensAlike, ProcessAlike, InnerAlike, Grows, ProcessGrows, InnerGrows}
 use Rattle.edited_unit_laws.proofs.FollowLemmas.{noted-grows, onward-grows, alike-noted, alike-onward, alike-only, alike-did}
 use Rattle.edited_unit_laws.proofs.OpenLemmas.{header-grows, header-alike}
 use Rattle.edited_unit_laws.proofs.PartLemmas.{each-drop}
@@ -157,38 +157,38 @@ module _ (c : Change) (names : KeepsNames c) where
         (λ f t. entered-grows process grows at f t)
 
     entered-alike : (process process2 : Process) → ProcessGrows process → ProcessAlike c process process2 → (at : Pos) (file : SourceFile) (k : KeepsFile c file) (macros : Macros) (s : State)
-        → GoesAlike c (IsRenamed c) macros s (entered process at file s) (entered process2 (c.renaming.move at) (with_text file k.text) (moved c macros s))
+        → GoesAlike c (IsPutOutRenamed c) macros s (entered process at file s) (entered process2 (c.renaming.move at) (with_text file k.text) (moved c macros s))
     entered-alike process process2 grows alike at file k macros s =
         let new : SourceFile = with_text file k.text in
         let at2 : Pos = c.renaming.move at in
-        alike-noted c (IsRenamed c) macros s (Entered at file.number s.before ∷ []) (onward (process file s) (λ toks t. Ok (did toks (Exited at file.number t.before ∷ []) t)))
+        alike-noted c (IsPutOutRenamed c) macros s (Entered at file.number s.before ∷ []) (onward (process file s) (λ toks t. Ok (did toks (Exited at file.number t.before ∷ []) t)))
         (onward (process2 new (moved c macros s)) (λ toks t. Ok (did toks (Exited at2 file.number t.before ∷ []) t)))
-        (alike-onward c (IsRenamed c) (IsRenamed c) macros s (process file s) (process2 new (moved c macros s))
+        (alike-onward c (IsPutOutRenamed c) (IsPutOutRenamed c) macros s (process file s) (process2 new (moved c macros s))
         (λ toks t. Ok (did toks (Exited at file.number t.before ∷ []) t)) (λ toks t. Ok (did toks (Exited at2 file.number t.before ∷ []) t))
         (λ toks t. grown_refl t.table) (alike file k macros s)
-        (λ toks new_toks t macros2 v. alike-did c (IsRenamed c) macros2 macros2 t t toks new_toks (Exited at file.number t.before ∷ []) v (λ kept told. kept)))
+        (λ toks new_toks t macros2 v. alike-did c (IsPutOutRenamed c) macros2 macros2 t t toks new_toks (Exited at file.number t.before ∷ []) v (λ kept told. kept)))
 
     included-alike : (inner inner2 : Inner) → InnerGrows inner → InnerAlike c inner inner2 → (file : SourceFile) (text : TextValue) (at : Pos) (h : Header) (macros : Macros) (s : State)
-        → GoesAlike c (IsRenamed c) macros s (included (unit_context old ipath earlier) inner file at h s)
+        → GoesAlike c (IsPutOutRenamed c) macros s (included (unit_context old ipath earlier) inner file at h s)
         (included (unit_context source ipath earlier) inner2 (with_text file text) (c.renaming.move at) h (moved c macros s))
     included-alike None inner2 grows alike file text at h macros s = tt
     included-alike (Some process) None grows alike file text at h macros s = absurd alike
     included-alike (Some process) (Some process2) grows alike file text at h macros s =
-        alike-onward c (OpensAlike c) (IsRenamed c) macros s (open_header (unit_context old ipath earlier) file at h s)
+        alike-onward c (OpensAlike c) (IsPutOutRenamed c) macros s (open_header (unit_context old ipath earlier) file at h s)
         (open_header (unit_context source ipath earlier) (with_text file text) (c.renaming.move at) h (moved c macros s)) (entered process at) (entered process2 (c.renaming.move at))
         (λ f t. entered-grows process grows at f t) (header-alike c source files old ipath earlier file text at (c.renaming.move at) h macros s)
         (λ f new t macros2 v.
-        subst (λ (g : SourceFile). GoesAlike c (IsRenamed c) macros2 t (entered process at f t) (entered process2 (c.renaming.move at) g (moved c macros2 t))) (sym v.1)
+        subst (λ (g : SourceFile). GoesAlike c (IsPutOutRenamed c) macros2 t (entered process at f t) (entered process2 (c.renaming.move at) g (moved c macros2 t))) (sym v.1)
         (entered-alike process process2 grows alike at f v.0 macros2 t))
 
     pub include-alike : (inner inner2 : Inner) → InnerGrows inner → InnerAlike c inner inner2 → (file : SourceFile) (text : TextValue) (at : Pos) (toks : List Token) (macros : Macros) (s : State) → Each (Fits c) toks
-        → GoesAlike c (IsRenamed c) macros s (include_of (unit_context old ipath earlier) inner file at toks s)
+        → GoesAlike c (IsPutOutRenamed c) macros s (include_of (unit_context old ipath earlier) inner file at toks s)
         (include_of (unit_context source ipath earlier) inner2 (with_text file text) (c.renaming.move at) (map (renamed c.renaming) toks) (moved c macros s))
     include-alike inner inner2 grows alike file text at toks macros s h =
         rw (drop-map (renamed c.renaming) 2 toks)
-        (alike-onward c (IsSame {A = Header}) (IsRenamed c) macros s (header_named file at (drop 2 toks) s) (header_named (with_text file text) (c.renaming.move at) (map (renamed c.renaming) (drop 2 toks)) (moved c macros s))
+        (alike-onward c (IsSame {A = Header}) (IsPutOutRenamed c) macros s (header_named file at (drop 2 toks) s) (header_named (with_text file text) (c.renaming.move at) (map (renamed c.renaming) (drop 2 toks)) (moved c macros s))
         (included (unit_context old ipath earlier) inner file at) (included (unit_context source ipath earlier) inner2 (with_text file text) (c.renaming.move at))
         (λ g t. included-grows inner grows file at g t) (named-alike file text at (c.renaming.move at) (drop 2 toks) macros s (each-drop (Fits c) 2 toks h))
         (λ g g2 t macros2 v.
-        subst (λ (x : Header). GoesAlike c (IsRenamed c) macros2 t (included (unit_context old ipath earlier) inner file at g t) (included (unit_context source ipath earlier) inner2 (with_text file text) (c.renaming.move at) x (moved c macros2 t))) (sym v)
+        subst (λ (x : Header). GoesAlike c (IsPutOutRenamed c) macros2 t (included (unit_context old ipath earlier) inner file at g t) (included (unit_context source ipath earlier) inner2 (with_text file text) (c.renaming.move at) x (moved c macros2 t))) (sym v)
         (included-alike inner inner2 grows alike file text at g macros2 t)))

@@ -5,34 +5,34 @@ use Rattle.std.specs.Option.{option_map, option_and_then}
 use Rattle.std.specs.Str.{bytes_eq}
 use Rattle.std.proofs.lemmas.Bool.{cases_Bool, le-ltb}
 use Rattle.std.proofs.lemmas.Option.{same_Some}
-use Rattle.ws_core.proofs.Below.cs_base.FileMapLemmas.{bytes_eq-equal}
-use Rattle.ws_core.specs.Below.cs_base.declared.causes.Cause.TheVariants.{TooManyFiles, TooManyBytes}
-use Rattle.ws_core.specs.Below.cs_base.declared.positions.Place.{Place}
-use Rattle.ws_core.specs.Below.cs_base.declared.positions.Pos.{Pos}
-use Rattle.ws_core.specs.Below.part_lexer.FileText.{TextValue, LexFault, FileTooLarge, OpenComment, file_text}
-use Rattle.ws_core.specs.Below.macro_body.Macro.{Table as Macros}
-use Rattle.ws_core.specs.Below.source_files.Faults.{Fault, fault, place_in}
-use Rattle.ws_core.specs.Below.source_files.Files.{Source, Found, Lines, Absent, Unopened, Opened, Made, Entry, entry, Table, SourceFile, source_file, number_of, found_at, asked, opened, files_opened, bytes_opened}
-use Rattle.ws_core.specs.Below.source_files.KeptFiles.{KeptValue, kept, kept_bytes, kept_in, kept_at}
-use Rattle.ws_core.specs.Below.source_files.Tables.{Becomes, IsGrown, AreFound}
-use Rattle.ws_core.specs.Below.source_files.Limits.{the_limits}
-use Rattle.ws_core.specs.Below.source_files.Opening.{Opening, file_read, is_too_large, readable, are_too_many, first_opened, opened_as, opening}
-use Rattle.ws_core.specs.Below.include_tree.OpeningStep.{with_opened, open_file}
-use Rattle.ws_core.specs.Below.source_files.Search.{Header, Searched, searched, candidates_of, search, search_on}
-use Rattle.ws_core.specs.Below.source_files.Sources.{read_as, source_kept, source_at}
-use Rattle.ws_core.specs.Below.include_tree.GivenFiles.{unit_context}
-use Rattle.ws_core.specs.Below.unit_steps.State.{State, Outcome}
-use Rattle.ws_core.specs.Below.include_tree.Including.{open_searched, open_header}
-use Rattle.ws_core.proofs.Below.source_files.TableLemmas.{grown_refl, grown_trans}
-use Rattle.ws_core.proofs.Below.source_files.OpeningLemmas.{bytes-opened}
-use Rattle.ws_core.proofs.Below.include_tree.SearchLemmas.{search_wide}
-use Rattle.ws_core.proofs.Below.source_files.SourcesLemmas.{found-opened, opening-as}
-use Rattle.ws_core.proofs.Below.include_tree.StayingLemmas.{source-grown}
-use Rattle.edited_unit_laws.specs.Edited.{Editing, edited_found, edited_table}
+use Rattle.renamed.proofs.Below.cs_base.FileMapLemmas.{bytes_eq-equal}
+use Rattle.renamed.specs.Below.cs_base.declared.causes.Cause.TheVariants.{TooManyFiles, TooManyBytes}
+use Rattle.renamed.specs.Below.cs_base.declared.positions.Place.{Place}
+use Rattle.renamed.specs.Below.cs_base.declared.positions.Pos.{Pos}
+use Rattle.renamed.specs.Below.part_lexer.FileText.{TextValue, LexFault, FileTooLarge, OpenComment, file_text}
+use Rattle.renamed.specs.Below.macro_body.Macro.{Table as Macros}
+use Rattle.renamed.specs.Below.source_files.Faults.{Fault, fault, place_in}
+use Rattle.renamed.specs.Below.source_files.Files.{Source, Found, Lines, Absent, Unopened, Opened, Made, Entry, entry, Table, SourceFile, source_file, number_of, found_at, asked, opened, files_opened, bytes_opened}
+use Rattle.renamed.specs.Below.source_files.KeptFiles.{KeptValue, kept, kept_bytes, kept_in, kept_at}
+use Rattle.renamed.specs.Below.source_files.Tables.{Becomes, IsGrown, AreFound}
+use Rattle.renamed.specs.Below.source_files.Limits.{the_limits}
+use Rattle.renamed.specs.Below.source_files.Opening.{Opening, file_read, is_too_large, readable, are_too_many, first_opened, opened_as, opening}
+use Rattle.renamed.specs.Below.include_tree.OpeningStep.{with_opened, open_file}
+use Rattle.renamed.specs.Below.source_files.Search.{Header, Searched, searched, candidates_of, search, search_on}
+use Rattle.renamed.specs.Below.source_files.Sources.{read_as, source_kept, source_at}
+use Rattle.renamed.specs.Below.include_tree.GivenFiles.{unit_context}
+use Rattle.renamed.specs.Below.unit_steps.State.{State, Outcome}
+use Rattle.renamed.specs.Below.include_tree.Including.{open_searched, open_header}
+use Rattle.renamed.proofs.Below.source_files.TableLemmas.{grown_refl, grown_trans}
+use Rattle.renamed.proofs.Below.source_files.OpeningLemmas.{bytes-opened}
+use Rattle.renamed.proofs.Below.include_tree.SearchLemmas.{search_wide}
+use Rattle.renamed.proofs.Below.source_files.SourcesLemmas.{found-opened, opening-as}
+use Rattle.renamed.proofs.Below.include_tree.StayingLemmas.{source-grown}
 use Rattle.edited_unit_laws.specs.Keeping.{Change, edited_files, KeepsFile, KeepsFiles}
 use Rattle.edited_unit_laws.specs.Steps.{KeepsState, moved, GoesAlike, with_text, OpensAlike, Grows}
 use Rattle.edited_unit_laws.proofs.FollowLemmas.{later-grows, alike-reach}
 use Rattle.edited_unit_laws.proofs.TableLemmas.{number-edited, found-edited, grown-edited, asked-edited, opened-edited, files-edited, bytes-grown}
+use Rattle.renamed.specs.Renamed.{Editing, edited_found, edited_table}
 
 -- ---- searching
 

@@ -2,23 +2,23 @@
 use Rattle.std.proofs.Common.{◌≡◌, ℕ, ◌+◌, Bool, List, [], ◌∷◌, ◌++◌, length, map, Result, Ok, refl, ap, sym, ◌∙◌}
 use Rattle.std.specs.List.{flat_map}
 use Rattle.std.proofs.lemmas.List.{map-append, length-map}
-use Rattle.ws_core.specs.Below.cs_base.Token.{Token}
-use Rattle.ws_core.specs.Below.macro_body.Notes as expansion
-use Rattle.ws_core.specs.Below.macro_expand.Renaming.{Renaming, renamed, renamed_note}
-use Rattle.ws_core.specs.Below.unit_steps.declared.events.Event.{Event}
-use Rattle.ws_core.specs.Below.unit_steps.declared.events.EventKind.TheVariants as kind
-use Rattle.ws_core.specs.Below.unit_steps.declared.events.Reached.{Reached}
-use Rattle.ws_core.specs.Below.source_files.Faults.{Fault}
-use Rattle.ws_core.specs.Below.source_files.Files.{carried}
-use Rattle.ws_core.specs.Below.unit_steps.Notes.{Note, Reaches, Happened, Defined, Undefined, Tested, Left, Linked, Answered, Named, Entered, Exited, links_then, pasted_then, stringized_then, events_then, links_of, pasted_of, stringized_of, header_of, answers_of, events_of, reached_of, named_event, before_in}
-use Rattle.ws_core.specs.Below.unit_steps.Texts.{UnitTextValue, reached_in, unit_text}
-use Rattle.ws_core.specs.Below.include_tree.Preprocessed.{Preprocessed, preprocessed_by, preprocessed}
+use Rattle.renamed.specs.Below.cs_base.Token.{Token}
+use Rattle.renamed.specs.Below.macro_body.Notes as expansion
+use Rattle.renamed.specs.Below.macro_expand.Renaming.{Renaming, renamed, renamed_note}
+use Rattle.renamed.specs.Below.unit_steps.declared.events.Event.{Event}
+use Rattle.renamed.specs.Below.unit_steps.declared.events.EventKind.TheVariants as kind
+use Rattle.renamed.specs.Below.unit_steps.declared.events.Reached.{Reached}
+use Rattle.renamed.specs.Below.source_files.Faults.{Fault}
+use Rattle.renamed.specs.Below.source_files.Files.{carried}
+use Rattle.renamed.specs.Below.unit_steps.Notes.{Note, Reaches, Happened, Defined, Undefined, Tested, Left, Linked, Answered, Named, Entered, Exited, links_then, pasted_then, stringized_then, events_then, links_of, pasted_of, stringized_of, header_of, answers_of, events_of, reached_of, named_event, before_in}
+use Rattle.renamed.specs.Below.unit_steps.Texts.{UnitTextValue, reached_in, unit_text}
+use Rattle.renamed.specs.Below.include_tree.Preprocessed.{Preprocessed, preprocessed_by, preprocessed}
 use Rattle.edited_unit_laws.specs.Lines.{Each}
-use Rattle.edited_unit_laws.specs.Edited.{edited_table}
 use Rattle.edited_unit_laws.specs.Keeping.{Change}
 use Rattle.edited_unit_laws.specs.Renamed.{renamed_happening}
 use Rattle.edited_unit_laws.specs.UnitTexts.{renamed_link, renamed_event, renamed_text, renamed_unit, MovesMacro, UnitTextsAreRenamed}
 use Rattle.edited_unit_laws.proofs.UnitLemmas.{units_are_renamed}
+use Rattle.renamed.specs.Renamed.{edited_table}
 
 -- ---- each note
 

@@ -1,25 +1,25 @@
 -- Runs of text lines over the edited files.
 use Rattle.std.proofs.Common.{◌≡◌, ℕ, ◌+◌, ◌-◌, nat_lt, Bool, true, false, cond, List, [], ◌∷◌, length, map, drop, Result, Ok, Err, refl, ap, sym, subst, ◌∙◌}
 use Rattle.std.proofs.lemmas.List.{length-map}
-use Rattle.ws_core.specs.Below.cs_base.Token.{Token}
-use Rattle.ws_core.specs.Below.part_lexer.FileText.{TextValue}
-use Rattle.ws_core.specs.Below.macro_body.Hides.{toks_of}
-use Rattle.ws_core.specs.Below.macro_body.Macro.{Table as Macros}
-use Rattle.ws_core.specs.Below.macro_body.Notes as expansion
-use Rattle.ws_core.specs.Below.macro_expand.Expansion.{expansion}
-use Rattle.ws_core.specs.Below.macro_expand.Renaming.{Renaming, renamed, renamed_note, renamed_expansion, AllOccur, AllRespected}
+use Rattle.renamed.specs.Below.cs_base.Token.{Token}
+use Rattle.renamed.specs.Below.part_lexer.FileText.{TextValue}
+use Rattle.renamed.specs.Below.macro_body.Hides.{toks_of}
+use Rattle.renamed.specs.Below.macro_body.Macro.{Table as Macros}
+use Rattle.renamed.specs.Below.macro_body.Notes as expansion
+use Rattle.renamed.specs.Below.macro_expand.Expansion.{expansion}
+use Rattle.renamed.specs.Below.macro_expand.Renaming.{Renaming, renamed, renamed_note, renamed_expansion, AllOccur, AllRespected}
 use Rattle.expansion_laws.proofs.FollowsLemmas.{expansion_is_renamed}
 use Rattle.expansion_laws.proofs.RenamedLemmas.{toks_of-renamed}
-use Rattle.ws_core.specs.Below.unit_steps.Expanding.{expanded_as, expanded_in, most_toks, past_limit, put_out, run_of}
-use Rattle.ws_core.specs.Below.source_files.Files.{SourceFile}
-use Rattle.ws_core.specs.Below.unit_steps.Notes.{Note, Happened}
-use Rattle.ws_core.specs.Below.include_tree.GivenFiles.{unit_context}
-use Rattle.ws_core.specs.Below.unit_steps.State.{Context, State, did, only}
-use Rattle.ws_core.proofs.Below.source_files.TableLemmas.{grown_refl}
+use Rattle.renamed.specs.Below.unit_steps.Expanding.{expanded_as, expanded_in, most_toks, past_limit, put_out, run_of}
+use Rattle.renamed.specs.Below.source_files.Files.{SourceFile}
+use Rattle.renamed.specs.Below.unit_steps.Notes.{Note, Happened}
+use Rattle.renamed.specs.Below.include_tree.GivenFiles.{unit_context}
+use Rattle.renamed.specs.Below.unit_steps.State.{Context, State, did, only}
+use Rattle.renamed.proofs.Below.source_files.TableLemmas.{grown_refl}
 use Rattle.edited_unit_laws.specs.Lines.{Each}
 use Rattle.edited_unit_laws.specs.Keeping.{Change, KeepsNames, Fits, KeepsNote, GoesWell}
 use Rattle.edited_unit_laws.specs.Renamed.{renamed_happening}
-use Rattle.edited_unit_laws.specs.Steps.{KeepsState, moved, GoesAlike, AreRenamed, IsRenamed, with_text, Grows}
+use Rattle.edited_unit_laws.specs.Steps.{KeepsState, moved, GoesAlike, AreRenamed, IsPutOutRenamed, with_text, Grows}
 use Rattle.edited_unit_laws.specs.StepLaws.{RunsGoAlike}
 use Rattle.edited_unit_laws.proofs.FitLemmas.{expanded-fits}
 use Rattle.edited_unit_laws.proofs.FollowLemmas.{alike-onward, alike-test, alike-did}
@@ -88,29 +88,29 @@ module _ (c : Change) (names : KeepsNames c) where
       by false = grown_refl s.table
 
   put-alike : (ctx ctx2 : Context) (file : SourceFile) (text : TextValue) (toks new : List Token) (macros : Macros) (s : State) → most_toks ctx2 ≡ most_toks ctx → new ≡ map (renamed c.renaming) toks
-      → GoesAlike c (IsRenamed c) macros s (put_out ctx file toks s) (put_out ctx2 (with_text file text) new (moved c macros s))
+      → GoesAlike c (IsPutOutRenamed c) macros s (put_out ctx file toks s) (put_out ctx2 (with_text file text) new (moved c macros s))
   put-alike ctx ctx2 file text toks new macros s most is =
       let len : length new ≡ length toks = ap length is ∙ length-map toks (renamed c.renaming) in
       let file2 : SourceFile = with_text file text in
       let test : nat_lt (most_toks ctx2) (s.before + length new) ≡ nat_lt (most_toks ctx) (s.before + length toks) =
       ap (λ (m : ℕ). nat_lt m (s.before + length new)) most ∙ ap (λ (n : ℕ). nat_lt (most_toks ctx) (s.before + n)) len in
       subst
-      (λ (b : Bool). GoesAlike c (IsRenamed c) macros s (put_out ctx file toks s) (cond b (Err (past_limit file2 (drop (most_toks ctx2 - s.before) new))) (only new (record (moved c macros s) { before = s.before + length new }))))
+      (λ (b : Bool). GoesAlike c (IsPutOutRenamed c) macros s (put_out ctx file toks s) (cond b (Err (past_limit file2 (drop (most_toks ctx2 - s.before) new))) (only new (record (moved c macros s) { before = s.before + length new }))))
       (sym test)
       (subst
-      (λ (n : ℕ). GoesAlike c (IsRenamed c) macros s (put_out ctx file toks s)
+      (λ (n : ℕ). GoesAlike c (IsPutOutRenamed c) macros s (put_out ctx file toks s)
       (cond (nat_lt (most_toks ctx) (s.before + length toks)) (Err (past_limit file2 (drop (most_toks ctx2 - s.before) new))) (only new (record (moved c macros s) { before = s.before + n }))))
       (sym len)
-      (alike-test c (IsRenamed c) macros s (nat_lt (most_toks ctx) (s.before + length toks)) (past_limit file (drop (most_toks ctx - s.before) toks))
+      (alike-test c (IsPutOutRenamed c) macros s (nat_lt (most_toks ctx) (s.before + length toks)) (past_limit file (drop (most_toks ctx - s.before) toks))
       (past_limit file2 (drop (most_toks ctx2 - s.before) new)) (only toks (record s { before = s.before + length toks }))
       (only new (record (moved c macros s) { before = s.before + length toks }))
-      (alike-did c (IsRenamed c) macros macros s (record s { before = s.before + length toks }) toks new [] is
+      (alike-did c (IsPutOutRenamed c) macros macros s (record s { before = s.before + length toks }) toks new [] is
       (λ kept told. record { macros = kept.macros; bodies = kept.bodies; names = kept.names }))))
 
   pub run-alike : (ctx ctx2 : Context) (file : SourceFile) (text : TextValue) (toks : List Token) (macros : Macros) (s : State) → most_toks ctx2 ≡ most_toks ctx → Each (Fits c) toks
-      → GoesAlike c (IsRenamed c) macros s (run_of ctx file toks s) (run_of ctx2 (with_text file text) (map (renamed c.renaming) toks) (moved c macros s))
+      → GoesAlike c (IsPutOutRenamed c) macros s (run_of ctx file toks s) (run_of ctx2 (with_text file text) (map (renamed c.renaming) toks) (moved c macros s))
   run-alike ctx ctx2 file text toks macros s most h =
-      alike-onward c (AreRenamed c) (IsRenamed c) macros s (expanded_in true file toks s) (expanded_in true (with_text file text) (map (renamed c.renaming) toks) (moved c macros s))
+      alike-onward c (AreRenamed c) (IsPutOutRenamed c) macros s (expanded_in true file toks s) (expanded_in true (with_text file text) (map (renamed c.renaming) toks) (moved c macros s))
       (put_out ctx file) (put_out ctx2 (with_text file text)) (put-grows ctx file) (expanded-alike true file text toks macros s h)
       (λ out new t macros2 v. put-alike ctx ctx2 file text out new macros2 t most v.0)
 

@@ -5,38 +5,38 @@ use Rattle.std.specs.Option.{is_none}
 use Rattle.std.specs.Str.{bytes_eq}
 use Rattle.std.proofs.lemmas.Option.{none-some, same_Some}
 use Rattle.std.proofs.lemmas.Slice.Eq.{bytes_eq-Decides}
-use Rattle.ws_core.specs.Below.cs_base.declared.positions.Pos.{Pos}
-use Rattle.ws_core.specs.Below.cs_base.declared.tokens.Kind.TheVariants.{Other}
-use Rattle.ws_core.specs.Below.cs_base.Padding.{padded}
-use Rattle.ws_core.specs.Below.cs_base.Token.{Token, token}
-use Rattle.ws_core.specs.Below.cs_base.Units.{UnitValue, defines_text}
-use Rattle.ws_core.specs.Below.part_lexer.FileText.{file_text}
-use Rattle.ws_core.specs.Below.macro_body.declared.definitions.Form.{Form}
-use Rattle.ws_core.specs.Below.macro_body.declared.definitions.Form.TheVariants as form
-use Rattle.ws_core.specs.Below.macro_body.declared.definitions.Definition.{Definition}
-use Rattle.ws_core.specs.Below.macro_body.Defining.{first_definition, line_macro, file_macro, first_macros}
-use Rattle.ws_core.specs.Below.macro_body.Macro.{Table as Macros}
-use Rattle.ws_core.specs.Below.macro_expand.Renaming.{renamed_macro, KeepsBody, Keeps}
-use Rattle.ws_core.specs.Below.source_files.Faults.{first_place}
-use Rattle.ws_core.specs.Below.source_files.Files.{Source, Made, entry, Table, SourceFile, Carried, defines_path, asked}
-use Rattle.ws_core.specs.Below.source_files.Tables.{IsGrown}
-use Rattle.ws_core.specs.Below.source_files.Limits.{the_limits}
-use Rattle.ws_core.specs.Below.include_tree.OpeningStep.{open_file}
-use Rattle.ws_core.specs.Below.include_tree.GivenFiles.{unit_context}
-use Rattle.ws_core.specs.Below.unit_steps.State.{Context, State, Did, did, Outcome, only, onward}
-use Rattle.ws_core.specs.Below.include_tree.Unit.{first_state, outer_file, main_file, both_files, unit_outcome}
-use Rattle.ws_core.specs.Below.include_tree.Walk.{file_items}
-use Rattle.ws_core.proofs.Below.source_files.TableLemmas.{grown_refl, grown_trans, widens_asked}
+use Rattle.renamed.specs.Below.cs_base.declared.positions.Pos.{Pos}
+use Rattle.renamed.specs.Below.cs_base.declared.tokens.Kind.TheVariants.{Other}
+use Rattle.renamed.specs.Below.cs_base.Padding.{padded}
+use Rattle.renamed.specs.Below.cs_base.Token.{Token, token}
+use Rattle.renamed.specs.Below.cs_base.Units.{UnitValue, defines_text}
+use Rattle.renamed.specs.Below.part_lexer.FileText.{file_text}
+use Rattle.renamed.specs.Below.macro_body.declared.definitions.Form.{Form}
+use Rattle.renamed.specs.Below.macro_body.declared.definitions.Form.TheVariants as form
+use Rattle.renamed.specs.Below.macro_body.declared.definitions.Definition.{Definition}
+use Rattle.renamed.specs.Below.macro_body.Defining.{first_definition, line_macro, file_macro, first_macros}
+use Rattle.renamed.specs.Below.macro_body.Macro.{Table as Macros}
+use Rattle.renamed.specs.Below.macro_expand.Renaming.{renamed_macro, KeepsBody, Keeps}
+use Rattle.renamed.specs.Below.source_files.Faults.{first_place}
+use Rattle.renamed.specs.Below.source_files.Files.{Source, Made, entry, Table, SourceFile, Carried, defines_path, asked}
+use Rattle.renamed.specs.Below.source_files.Tables.{IsGrown}
+use Rattle.renamed.specs.Below.source_files.Limits.{the_limits}
+use Rattle.renamed.specs.Below.include_tree.OpeningStep.{open_file}
+use Rattle.renamed.specs.Below.include_tree.GivenFiles.{unit_context}
+use Rattle.renamed.specs.Below.unit_steps.State.{Context, State, Did, did, Outcome, only, onward}
+use Rattle.renamed.specs.Below.include_tree.Unit.{first_state, outer_file, main_file, both_files, unit_outcome}
+use Rattle.renamed.specs.Below.include_tree.Walk.{file_items}
+use Rattle.renamed.proofs.Below.source_files.TableLemmas.{grown_refl, grown_trans, widens_asked}
 use Rattle.edited_unit_laws.specs.Lines.{Each, KeepsToken}
-use Rattle.edited_unit_laws.specs.Edited.{edited_table}
 use Rattle.edited_unit_laws.specs.Keeping.{Change, KeepsName, KeepsNames, KeepsFiles}
 use Rattle.edited_unit_laws.specs.Renamed.{renamed_happening}
-use Rattle.edited_unit_laws.specs.Steps.{KeepsState, moved, GoesAlike, Follows, IsRenamed, OpensAlike, Grows}
+use Rattle.edited_unit_laws.specs.Steps.{KeepsState, moved, GoesAlike, Follows, IsPutOutRenamed, OpensAlike, Grows}
 use Rattle.edited_unit_laws.specs.Units.{UnitsAreRenamed}
 use Rattle.edited_unit_laws.proofs.FollowLemmas.{later-grows, onward-grows, alike-onward, alike-reach}
 use Rattle.edited_unit_laws.proofs.OpenLemmas.{open-alike, open-grows, alike-table}
 use Rattle.edited_unit_laws.proofs.TableLemmas.{push-edited, asked-edited, grown-push}
 use Rattle.edited_unit_laws.proofs.WalkLemmas.{both-alike, files-alike, files-grow}
+use Rattle.renamed.specs.Renamed.{edited_table}
 
 -- ---- the macros that each unit begins with (6.10.8)
 
@@ -154,27 +154,27 @@ module _ (c : Change) (names : KeepsNames c) (source : Source) (files : KeepsFil
   abbrev ctx2 : Context
   ctx2 = unit_context source ipath earlier
 
-  outer-alike : (path : List ℕ) (macros : Macros) (s : State) → GoesAlike c (IsRenamed c) macros s (outer_file ctx path s) (outer_file ctx2 path (moved c macros s))
+  outer-alike : (path : List ℕ) (macros : Macros) (s : State) → GoesAlike c (IsPutOutRenamed c) macros s (outer_file ctx path s) (outer_file ctx2 path (moved c macros s))
   outer-alike path macros s =
-      alike-onward c (OpensAlike c) (IsRenamed c) macros s (open_file ctx (first_place path) path s) (open_file ctx2 (first_place path) path (moved c macros s))
+      alike-onward c (OpensAlike c) (IsPutOutRenamed c) macros s (open_file ctx (first_place path) path s) (open_file ctx2 (first_place path) path (moved c macros s))
       (file_items ctx room) (file_items ctx2 room) (λ f t. files-grow ctx room f t)
       (open-alike c source files old source ipath earlier (first_place path) (first_place path) path macros s)
       (λ f new t macros2 v.
-      subst (λ (g : SourceFile). GoesAlike c (IsRenamed c) macros2 t (file_items ctx room f t) (file_items ctx2 room g (moved c macros2 t))) (sym v.1)
+      subst (λ (g : SourceFile). GoesAlike c (IsPutOutRenamed c) macros2 t (file_items ctx room f t) (file_items ctx2 room g (moved c macros2 t))) (sym v.1)
       (files-alike c names source files old ipath earlier room f v.0 macros2 t))
 
-  main-alike : (path : List ℕ) (macros : Macros) (s : State) → GoesAlike c (IsRenamed c) macros s (main_file ctx path s) (main_file ctx2 path (moved c macros s))
+  main-alike : (path : List ℕ) (macros : Macros) (s : State) → GoesAlike c (IsPutOutRenamed c) macros s (main_file ctx path s) (main_file ctx2 path (moved c macros s))
   main-alike path macros s =
-      alike-reach c (IsRenamed c) macros s (asked old path s.table) (outer_file ctx path (at_main old path s)) (main_file ctx2 path (moved c macros s)) (outer-grows old ipath earlier path (at_main old path s))
+      alike-reach c (IsPutOutRenamed c) macros s (asked old path s.table) (outer_file ctx path (at_main old path s)) (main_file ctx2 path (moved c macros s)) (outer-grows old ipath earlier path (at_main old path s))
       (λ reach.
-      subst (λ (t : Table). GoesAlike c (IsRenamed c) macros s (outer_file ctx path (at_main old path s)) (outer_file ctx2 path (record (moved c macros s) { table = t })))
+      subst (λ (t : Table). GoesAlike c (IsPutOutRenamed c) macros s (outer_file ctx path (at_main old path s)) (outer_file ctx2 path (record (moved c macros s) { table = t })))
       (sym (asked-edited old source c.editing path s.table c.files reach files.found))
-      (alike-table c source files (IsRenamed c) macros s (asked old path s.table) (outer_file ctx path (at_main old path s)) (outer_file ctx2 path (moved c macros (at_main old path s)))
+      (alike-table c source files (IsPutOutRenamed c) macros s (asked old path s.table) (outer_file ctx path (at_main old path s)) (outer_file ctx2 path (moved c macros (at_main old path s)))
       (outer-alike path macros (at_main old path s))))
 
-  files_of-alike : (defines path : List ℕ) (macros : Macros) (s : State) → GoesAlike c (IsRenamed c) macros s (both_files ctx defines path s) (both_files ctx2 defines path (moved c macros s))
+  files_of-alike : (defines path : List ℕ) (macros : Macros) (s : State) → GoesAlike c (IsPutOutRenamed c) macros s (both_files ctx defines path s) (both_files ctx2 defines path (moved c macros s))
   files_of-alike defines path macros s =
-      alike-onward c (IsRenamed c) (IsRenamed c) macros s (outer_file ctx defines s) (outer_file ctx2 defines (moved c macros s))
+      alike-onward c (IsPutOutRenamed c) (IsPutOutRenamed c) macros s (outer_file ctx defines s) (outer_file ctx2 defines (moved c macros s))
       (λ toks t. onward (main_file ctx path t) (λ more u. only (toks ++ more) u)) (λ toks t. onward (main_file ctx2 path t) (λ more u. only (toks ++ more) u))
       (λ toks t. rest-grows old ipath earlier path toks t)
       (outer-alike defines macros s)
@@ -185,9 +185,9 @@ units_are_renamed = λ c old new number unit before d is reach keeps.
     let s : State = first_state the_limits number unit before.table in
     let cx2 : Context = unit_context new unit.ipath before.toks in
     let all = files_of-alike c keeps.names new keeps.files old unit.ipath before.toks (defines_path number) unit.path first_macros s in
-    let done : GoesAlike c (IsRenamed c) first_macros s (Ok d) (both_files cx2 (defines_path number) unit.path (moved c first_macros s)) =
-    subst (λ (m : Outcome (List Token)). GoesAlike c (IsRenamed c) first_macros s m (both_files cx2 (defines_path number) unit.path (moved c first_macros s))) is all in
-    let f : Follows c (IsRenamed c) d (both_files cx2 (defines_path number) unit.path (moved c first_macros s)) = done reach (first-kept c keeps.names number unit before.table) keeps.notes in (
+    let done : GoesAlike c (IsPutOutRenamed c) first_macros s (Ok d) (both_files cx2 (defines_path number) unit.path (moved c first_macros s)) =
+    subst (λ (m : Outcome (List Token)). GoesAlike c (IsPutOutRenamed c) first_macros s m (both_files cx2 (defines_path number) unit.path (moved c first_macros s))) is all in
+    let f : Follows c (IsPutOutRenamed c) d (both_files cx2 (defines_path number) unit.path (moved c first_macros s)) = done reach (first-kept c keeps.names number unit before.table) keeps.notes in (
       f.macros,
       ap (both_files cx2 (defines_path number) unit.path) (first-moved c number unit before.table) ∙ f.is
           ∙ ap (λ (ts : List Token). Ok (did ts (map (renamed_happening c.renaming) d.notes) (moved c f.macros d.state))) f.goes_with,

@@ -1,34 +1,34 @@
 -- The items of files, in their sections, over the edited files (ISO/IEC 9899:1999, 6.10, 6.10.1).
 use Rattle.std.proofs.Common.{◌≡◌, ℕ, zero, suc, ◌+◌, Bool, true, false, not, List, [], ◌∷◌, ◌++◌, map, drop, Some, None, Ok, Err, refl, ap, sym, subst, ◌∙◌}
 use Rattle.std.proofs.lemmas.List.{map-append, drop-map}
-use Rattle.ws_core.specs.Below.cs_base.declared.causes.Cause.TheVariants as cause
-use Rattle.ws_core.specs.Below.cs_base.declared.positions.Pos.{Pos}
-use Rattle.ws_core.specs.Below.cs_base.Token.{Token}
-use Rattle.ws_core.specs.Below.part_lexer.FileText.{TextValue}
-use Rattle.ws_core.specs.Below.line_shape.declared.items.ItemKind.{ItemKind}
-use Rattle.ws_core.specs.Below.line_shape.declared.items.ItemKind.TheVariants as kind
-use Rattle.ws_core.specs.Below.macro_body.Macro.{Table as Macros}
-use Rattle.ws_core.specs.Below.macro_expand.Renaming.{renamed}
-use Rattle.ws_core.specs.Below.source_files.Faults.{fault_at}
-use Rattle.ws_core.specs.Below.source_files.Files.{Source, SourceFile}
-use Rattle.ws_core.specs.Below.include_tree.Laws.{IfDone}
-use Rattle.ws_core.specs.Below.unit_steps.Notes.{Reaches}
-use Rattle.ws_core.specs.Below.unit_steps.State.{Context, State, Outcome, only, onward}
-use Rattle.ws_core.specs.Below.include_tree.GivenFiles.{unit_context}
-use Rattle.ws_core.specs.Below.include_tree.Including.{Inner}
-use Rattle.ws_core.specs.Below.include_tree.Sections.{Group, Processed, Awaited, Over, Skipped, Section, section, are_processed, group_if, group_after, group_of_else, Turn, Opens, GoesOn, GoesLast, Ends, Stays, turn_of}
-use Rattle.ws_core.specs.Below.unit_steps.Conditions.{holds}
-use Rattle.ws_core.specs.Below.unit_steps.Directives.{opens_with, is_if}
-use Rattle.ws_core.specs.Below.include_tree.Walk.{ItemText, item_texts, items_in, processed, Stepped, stepped, reaching, reaching_alive, go_on, opens, goes_on, in_section, turned, item_step, file_end, walk, file_items}
-use Rattle.ws_core.proofs.Below.include_tree.StepLemmas.{PutsOut}
-use Rattle.ws_core.proofs.Below.source_files.TableLemmas.{grown_refl}
-use Rattle.ws_core.proofs.Below.include_tree.WalkLemmas.{InnerLeads, walk_leads, files_lead}
+use Rattle.renamed.specs.Below.cs_base.declared.causes.Cause.TheVariants as cause
+use Rattle.renamed.specs.Below.cs_base.declared.positions.Pos.{Pos}
+use Rattle.renamed.specs.Below.cs_base.Token.{Token}
+use Rattle.renamed.specs.Below.part_lexer.FileText.{TextValue}
+use Rattle.renamed.specs.Below.line_shape.declared.items.ItemKind.{ItemKind}
+use Rattle.renamed.specs.Below.line_shape.declared.items.ItemKind.TheVariants as kind
+use Rattle.renamed.specs.Below.macro_body.Macro.{Table as Macros}
+use Rattle.renamed.specs.Below.macro_expand.Renaming.{renamed}
+use Rattle.renamed.specs.Below.source_files.Faults.{fault_at}
+use Rattle.renamed.specs.Below.source_files.Files.{Source, SourceFile}
+use Rattle.renamed.specs.Below.include_tree.Laws.{IfDone}
+use Rattle.renamed.specs.Below.unit_steps.Notes.{Reaches}
+use Rattle.renamed.specs.Below.unit_steps.State.{Context, State, Outcome, only, onward}
+use Rattle.renamed.specs.Below.include_tree.GivenFiles.{unit_context}
+use Rattle.renamed.specs.Below.include_tree.Including.{Inner}
+use Rattle.renamed.specs.Below.include_tree.Sections.{Group, Processed, Awaited, Over, Skipped, Section, section, are_processed, group_if, group_after, group_of_else, Turn, Opens, GoesOn, GoesLast, Ends, Stays, turn_of}
+use Rattle.renamed.specs.Below.unit_steps.Conditions.{holds}
+use Rattle.renamed.specs.Below.unit_steps.Directives.{opens_with, is_if}
+use Rattle.renamed.specs.Below.include_tree.Walk.{ItemText, item_texts, items_in, processed, Stepped, stepped, reaching, reaching_alive, go_on, opens, goes_on, in_section, turned, item_step, file_end, walk, file_items}
+use Rattle.renamed.proofs.Below.include_tree.StepLemmas.{PutsOut}
+use Rattle.renamed.proofs.Below.source_files.TableLemmas.{grown_refl}
+use Rattle.renamed.proofs.Below.include_tree.WalkLemmas.{InnerLeads, walk_leads, files_lead}
 use Rattle.edited_unit_laws.specs.Lines.{Each, renamed_kind}
 use Rattle.edited_unit_laws.specs.UnitLines.{renamed_item_text}
 use Rattle.edited_unit_laws.proofs.UnitLineLemmas.{item_texts_are_renamed}
 use Rattle.edited_unit_laws.specs.Keeping.{Change, KeepsNames, KeepsFile, KeepsFiles, Fits}
 use Rattle.edited_unit_laws.specs.Renamed.{renamed_section, renamed_stepped}
-use Rattle.edited_unit_laws.specs.Steps.{moved, GoesAlike, IsRenamed, IsSame, IsStepped, with_text, ProcessAlike, InnerAlike, Grows, InnerGrows}
+use Rattle.edited_unit_laws.specs.Steps.{moved, GoesAlike, IsPutOutRenamed, IsSame, IsStepped, with_text, ProcessAlike, InnerAlike, Grows, InnerGrows}
 use Rattle.edited_unit_laws.proofs.ConditionLemmas.{holds-alike}
 use Rattle.edited_unit_laws.proofs.DirectiveLemmas.{define-alike, undef-alike, asks-alike, kept-tokens}
 use Rattle.edited_unit_laws.proofs.FollowLemmas.{onward-grows, alike-noted, alike-onward, alike-only, alike-cond, alike-test}
@@ -96,12 +96,12 @@ module _ (c : Change) (names : KeepsNames c) (source : Source) (files : KeepsFil
   abbrev ctx2 : Context
   ctx2 = unit_context source ipath earlier
 
-  nothing-alike : (macros : Macros) (s : State) → GoesAlike c (IsRenamed c) macros s (only [] s) (only [] (moved c macros s))
-  nothing-alike macros s = alike-only c (IsRenamed c) macros s [] [] refl
+  nothing-alike : (macros : Macros) (s : State) → GoesAlike c (IsPutOutRenamed c) macros s (only [] s) (only [] (moved c macros s))
+  nothing-alike macros s = alike-only c (IsPutOutRenamed c) macros s [] [] refl
 
   processed-alike : (inner inner2 : Inner) → InnerGrows inner → InnerAlike c inner inner2 → (file : SourceFile) (text : TextValue) (k : ItemKind) (at : Pos) (toks : List Token) (macros : Macros) (s : State)
       → LineGoes c k toks
-      → GoesAlike c (IsRenamed c) macros s (processed ctx inner file k at toks s)
+      → GoesAlike c (IsPutOutRenamed c) macros s (processed ctx inner file k at toks s)
       (processed ctx2 inner2 (with_text file text) (renamed_kind c.renaming k) (c.renaming.move at) (map (renamed c.renaming) toks) (moved c macros s))
   processed-alike inner inner2 grows alike file text kind.Run at toks macros s h = run-alike c names ctx ctx2 file text toks macros s refl h.toks
   processed-alike inner inner2 grows alike file text kind.Define at toks macros s h =
@@ -228,10 +228,10 @@ module _ (c : Change) (names : KeepsNames c) (source : Source) (files : KeepsFil
       alike-test c (IsStepped c) macros s o.after_else (fault_at file i.at cause.UnbalancedIf) (fault_at (with_text file text) (c.renaming.move i.at) cause.UnbalancedIf) (next o around)
       (next2 (renamed_section c.renaming o) (map (renamed_section c.renaming) around)) (h o around)
 
-  put-stepped : (sections : List Section) (macros : Macros) (s : State) (m new : Outcome (List Token)) → GoesAlike c (IsRenamed c) macros s m new
+  put-stepped : (sections : List Section) (macros : Macros) (s : State) (m new : Outcome (List Token)) → GoesAlike c (IsPutOutRenamed c) macros s m new
       → GoesAlike c (IsStepped c) macros s (onward m (λ toks t. only (stepped toks sections) t)) (onward new (λ toks t. only (stepped toks (map (renamed_section c.renaming) sections)) t))
   put-stepped sections macros s m new h =
-      alike-onward c (IsRenamed c) (IsStepped c) macros s m new (λ toks t. only (stepped toks sections) t) (λ toks t. only (stepped toks (map (renamed_section c.renaming) sections)) t)
+      alike-onward c (IsPutOutRenamed c) (IsStepped c) macros s m new (λ toks t. only (stepped toks sections) t) (λ toks t. only (stepped toks (map (renamed_section c.renaming) sections)) t)
       (λ toks t. grown_refl t.table) h
       (λ toks toks2 t macros2 v. alike-only c (IsStepped c) macros2 t (stepped toks sections) (stepped toks2 (map (renamed_section c.renaming) sections)) (ap (λ (ts : List Token). stepped ts (map (renamed_section c.renaming) sections)) v))
 
@@ -276,17 +276,17 @@ module _ (c : Change) (names : KeepsNames c) (source : Source) (files : KeepsFil
   -- ---- files
 
   end-alike : (file : SourceFile) (text : TextValue) (sections : List Section) (macros : Macros) (s : State)
-      → GoesAlike c (IsRenamed c) macros s (file_end file sections s) (file_end (with_text file text) (map (renamed_section c.renaming) sections) (moved c macros s))
+      → GoesAlike c (IsPutOutRenamed c) macros s (file_end file sections s) (file_end (with_text file text) (map (renamed_section c.renaming) sections) (moved c macros s))
   end-alike file text [] macros s = nothing-alike macros s
   end-alike file text (o ∷ sections) macros s = tt
 
   -- tokens behind tokens
-  pub both-alike : (toks toks2 : List Token) (macros : Macros) (s : State) (m new : Outcome (List Token)) → toks2 ≡ map (renamed c.renaming) toks → GoesAlike c (IsRenamed c) macros s m new
-      → GoesAlike c (IsRenamed c) macros s (onward m (λ more u. only (toks ++ more) u)) (onward new (λ more u. only (toks2 ++ more) u))
+  pub both-alike : (toks toks2 : List Token) (macros : Macros) (s : State) (m new : Outcome (List Token)) → toks2 ≡ map (renamed c.renaming) toks → GoesAlike c (IsPutOutRenamed c) macros s m new
+      → GoesAlike c (IsPutOutRenamed c) macros s (onward m (λ more u. only (toks ++ more) u)) (onward new (λ more u. only (toks2 ++ more) u))
   both-alike toks toks2 macros s m new is h =
-      alike-onward c (IsRenamed c) (IsRenamed c) macros s m new (λ more u. only (toks ++ more) u) (λ more u. only (toks2 ++ more) u) (λ more u. grown_refl u.table) h
+      alike-onward c (IsPutOutRenamed c) (IsPutOutRenamed c) macros s m new (λ more u. only (toks ++ more) u) (λ more u. only (toks2 ++ more) u) (λ more u. grown_refl u.table) h
       (λ more more2 t macros2 v.
-      alike-only c (IsRenamed c) macros2 t (toks ++ more) (toks2 ++ more2)
+      alike-only c (IsPutOutRenamed c) macros2 t (toks ++ more) (toks2 ++ more2)
       (ap (λ (ts : List Token). ts ++ more2) is ∙ ap (λ (ts : List Token). map (renamed c.renaming) toks ++ ts) v ∙ sym (map-append (renamed c.renaming) toks more)))
 
   rest-grows : (inner : Inner) → InnerLeads ctx inner → (file : SourceFile) (k : ℕ) (items : List ItemText) (d : Stepped) (t : State)
@@ -297,19 +297,19 @@ module _ (c : Change) (names : KeepsNames c) (source : Source) (files : KeepsFil
 
   walk-alike : (inner inner2 : Inner) → InnerLeads ctx inner → InnerAlike c inner inner2 → (file : SourceFile) (text : TextValue) (k : ℕ) (items : List ItemText) (sections : List Section) (macros : Macros) (s : State)
       → Each (ItemGoes c) items
-      → GoesAlike c (IsRenamed c) macros s (walk ctx inner file k items sections s)
+      → GoesAlike c (IsPutOutRenamed c) macros s (walk ctx inner file k items sections s)
       (walk ctx2 inner2 (with_text file text) k (map (renamed_item_text c.renaming) items) (map (renamed_section c.renaming) sections) (moved c macros s))
   unfolding walk
   walk-alike inner inner2 leads alike file text k [] sections macros s h = end-alike file text sections macros s
   walk-alike inner inner2 leads alike file text k (i ∷ items) sections macros s h =
-      alike-onward c (IsStepped c) (IsRenamed c) macros s (item_step ctx inner file k i sections s)
+      alike-onward c (IsStepped c) (IsPutOutRenamed c) macros s (item_step ctx inner file k i sections s)
       (item_step ctx2 inner2 (with_text file text) k (renamed_item_text c.renaming i) (map (renamed_section c.renaming) sections) (moved c macros s))
       (λ d t. onward (walk ctx inner file (k + 1) items d.sections t) (λ toks u. only (d.toks ++ toks) u))
       (λ d t. onward (walk ctx2 inner2 (with_text file text) (k + 1) (map (renamed_item_text c.renaming) items) d.sections t) (λ toks u. only (d.toks ++ toks) u))
       (λ d t. rest-grows inner leads file (k + 1) items d t)
       (step-alike inner inner2 (inner-grows ctx inner leads) alike file text k i sections macros s h.0)
       (λ d d2 t macros2 v.
-      subst (λ (x : Stepped). GoesAlike c (IsRenamed c) macros2 t (onward (walk ctx inner file (k + 1) items d.sections t) (λ toks u. only (d.toks ++ toks) u))
+      subst (λ (x : Stepped). GoesAlike c (IsPutOutRenamed c) macros2 t (onward (walk ctx inner file (k + 1) items d.sections t) (λ toks u. only (d.toks ++ toks) u))
       (onward (walk ctx2 inner2 (with_text file text) (k + 1) (map (renamed_item_text c.renaming) items) x.sections (moved c macros2 t)) (λ toks u. only (x.toks ++ toks) u))) (sym v)
       (both-alike d.toks (map (renamed c.renaming) d.toks) macros2 t (walk ctx inner file (k + 1) items d.sections t)
       (walk ctx2 inner2 (with_text file text) (k + 1) (map (renamed_item_text c.renaming) items) (map (renamed_section c.renaming) d.sections) (moved c macros2 t)) refl
@@ -321,7 +321,7 @@ module _ (c : Change) (names : KeepsNames c) (source : Source) (files : KeepsFil
       ∙ item_texts_are_renamed c.renaming file.text.toks file.text.firsts (kept-tokens c file.text.toks k.tokens) k.lines
 
   file-alike : (inner inner2 : Inner) → InnerLeads ctx inner → InnerAlike c inner inner2 → (file : SourceFile) (k : KeepsFile c file) (macros : Macros) (s : State)
-      → GoesAlike c (IsRenamed c) macros s (walk ctx inner file 0 (items_in file) [] s) (walk ctx2 inner2 (with_text file k.text) 0 (items_in (with_text file k.text)) [] (moved c macros s))
+      → GoesAlike c (IsPutOutRenamed c) macros s (walk ctx inner file 0 (items_in file) [] s) (walk ctx2 inner2 (with_text file k.text) 0 (items_in (with_text file k.text)) [] (moved c macros s))
   file-alike inner inner2 leads alike file k macros s =
       rw (items-same file k) (walk-alike inner inner2 leads alike file k.text 0 (items_in file) [] macros s (file-items-go c file.text.toks file.text.firsts k.tokens k.lines))
 

@@ -1,21 +1,23 @@
 -- The analysis of a workspace over edited files (ISO/IEC 9899:1999, 5.1.1.2 phases 4 and 7).
 use Rattle.std.specs.Prelude.{◌≡◌, ℕ, List, map, Ok}
-use Rattle.ws_core.specs.Below.cs_base.Units.{UnitValue}
-use Rattle.ws_core.specs.Below.ws_file.Workspace.{WorkspaceValue}
-use Rattle.ws_core.specs.Below.macro_expand.Renaming.{Renaming}
-use Rattle.ws_core.specs.Below.source_files.Files.{Source, Table, Carried, nothing_carried}
-use Rattle.ws_core.specs.Below.source_files.Tables.{IsGrown}
-use Rattle.ws_core.specs.Below.unit_steps.Texts.{UnitTextValue}
-use Rattle.ws_core.specs.Below.c99_read.Reading.{read_of}
-use Rattle.ws_core.specs.Below.c99_grammar.Standard.{c99}
-use Rattle.ws_core.specs.Below.scope_bind.Bound.{binding_of}
-use Rattle.ws_core.specs.Texts.{texts_and, texts_from}
-use Rattle.ws_core.specs.Analysis.{UnitAnalysis, unit_analysis, UnitsValue, units_and, AnalysisValue, analysis_and, analysed_from, analysis_of}
+use Rattle.renamed.specs.Below.cs_base.Units.{UnitValue}
+use Rattle.renamed.specs.Below.ws_file.Workspace.{WorkspaceValue}
+use Rattle.renamed.specs.Below.macro_expand.Renaming.{Renaming}
+use Rattle.renamed.specs.Below.source_files.Files.{Source, Table, Carried, nothing_carried}
+use Rattle.renamed.specs.Below.source_files.Tables.{IsGrown}
+use Rattle.renamed.specs.Below.unit_steps.Texts.{UnitTextValue}
+use Rattle.renamed.specs.Below.c99_read.Reading.{read_of}
+use Rattle.renamed.specs.Below.c99_grammar.Standard.{c99}
+use Rattle.renamed.specs.Below.scope_bind.Bound.{binding_of}
+use Rattle.renamed.specs.Below.ws_core.Texts.{texts_and, texts_from}
+use Rattle.renamed.specs.Below.ws_core.Analysis.{UnitAnalysis, unit_analysis, UnitsValue, units_and, AnalysisValue, analysis_and, analysed_from, analysis_of}
 use Rattle.edited_unit_laws.specs.Lines.{Each}
-use Rattle.edited_unit_laws.specs.Edited.{edited_table, edited_carried}
+use Rattle.edited_unit_laws.specs.Edited.{edited_carried}
 use Rattle.edited_unit_laws.specs.Keeping.{Change}
-use Rattle.edited_unit_laws.specs.UnitTexts.{renamed_text}
+use Rattle.edited_unit_laws.specs.UnitTexts.{promised}
 use Rattle.edited_unit_laws.specs.WorkspaceTexts.{MacroNames, KeepsUnits}
+use Rattle.renamed.specs.Renamed.{edited_table, texts_in}
+use Rattle.renamed.specs.Renamed as page
 
 -- ---- what an analysis is made of
 
@@ -23,10 +25,6 @@ use Rattle.edited_unit_laws.specs.WorkspaceTexts.{MacroNames, KeepsUnits}
 pub record IsRead (u : UnitAnalysis) : Type 0 where
   pub reads : read_of c99 u.text.toks ≡ Ok u.tree
   pub binds : binding_of u.text.toks u.tree ≡ Ok u.bound
-
--- the texts of units that are accepted
-abbrev pub texts_in : List UnitAnalysis → List UnitTextValue
-texts_in us = map (λ u. u.text) us
 
 -- The law: units that are accepted have these texts and this table, and each text is read and bound so.
 abbrev pub AnalysesHaveTexts : Type 0
@@ -44,14 +42,14 @@ TextsHaveAnalyses = (source : Source) (number : ℕ) (units : List UnitValue) (b
 
 -- a unit over the edited files: its text is renamed; its tree, and what its identifiers denote, are as before
 abbrev pub renamed_unit_analysis : Renaming → UnitAnalysis → UnitAnalysis
-renamed_unit_analysis r u = unit_analysis (renamed_text r u.text) u.tree u.bound
+renamed_unit_analysis r u = page.renamed_unit (promised r) u
 
 -- units over the edited files, and an analysis: each unit is renamed, and the table has the edited bytes
 abbrev pub renamed_units : Change → UnitsValue → UnitsValue
 renamed_units c v = units_and (map (renamed_unit_analysis c.renaming) v.units) (edited_table c.editing v.table)
 
 abbrev pub renamed_analysis : Change → AnalysisValue → AnalysisValue
-renamed_analysis c a = analysis_and a.workspace (map (renamed_unit_analysis c.renaming) a.units) (edited_table c.editing a.table)
+renamed_analysis c a = page.renamed_analysis (promised c.renaming) c.editing a
 
 -- the renamed tokens of a unit are read to the tree that it had, and bound as they were
 abbrev pub ReadsAlike : Renaming → UnitAnalysis → Type 0

@@ -1,8 +1,8 @@
 -- Controlling expressions in which identifiers are spelled otherwise (ISO/IEC 9899:1999, 6.10.1).
 use Rattle.std.specs.Prelude.{◌≡◌, false, List, [], ◌∷◌}
-use Rattle.ws_core.specs.Below.cs_base.Token.{Token}
-use Rattle.ws_core.specs.Below.line_shape.Signs.{is_name}
-use Rattle.ws_core.specs.Below.cond_eval.Evaluation.{condition}
+use Rattle.renamed.specs.Below.cs_base.Token.{Token}
+use Rattle.renamed.specs.Below.line_shape.Signs.{is_name}
+use Rattle.renamed.specs.Below.cond_eval.Evaluation.{condition}
 
 -- Two tokens count alike: they are of one kind, and spelled alike unless they are identifiers.
 abbrev pub CountAlike : Token → Token → Type 0

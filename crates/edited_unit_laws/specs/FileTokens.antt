@@ -1,17 +1,17 @@
 -- File tokens of an analysis over edited files (this project's).
 use Rattle.std.specs.Prelude.{◌≡◌, ℕ, Some, List, codes, map, slice_get}
 use Rattle.std.specs.Str.{bytes_eq}
-use Rattle.ws_core.specs.Below.cs_base.Token.{Token}
-use Rattle.ws_core.specs.Below.macro_expand.Renaming.{Renaming, spelled, renamed}
-use Rattle.ws_core.specs.Below.macro_body.Substitution.{digit_origins}
-use Rattle.ws_core.specs.Below.unit_steps.declared.events.Event.{Event}
-use Rattle.ws_core.specs.Below.source_files.Files.{Entry, entry}
-use Rattle.ws_core.specs.Analysis.{UnitAnalysis, AnalysisValue}
-use Rattle.ws_core.specs.FileTokens.{entry_tokens, file_tokens}
+use Rattle.renamed.specs.Below.cs_base.Token.{Token}
+use Rattle.renamed.specs.Below.macro_expand.Renaming.{Renaming, spelled, renamed}
+use Rattle.renamed.specs.Below.macro_body.Substitution.{digit_origins}
+use Rattle.renamed.specs.Below.unit_steps.declared.events.Event.{Event}
+use Rattle.renamed.specs.Below.source_files.Files.{Entry, entry}
+use Rattle.renamed.specs.Below.ws_core.Analysis.{UnitAnalysis, AnalysisValue}
+use Rattle.renamed.specs.Below.ws_core.FileTokens.{entry_tokens, file_tokens}
 use Rattle.edited_unit_laws.specs.Lines.{Each}
-use Rattle.edited_unit_laws.specs.Edited.{Editing, edited_found}
 use Rattle.edited_unit_laws.specs.Keeping.{Change}
 use Rattle.edited_unit_laws.specs.Analyses.{renamed_analysis}
+use Rattle.renamed.specs.Renamed.{Editing, edited_found}
 
 -- an entry, edited
 abbrev pub edited_entry : Editing → ℕ → Entry → Entry

@@ -2,23 +2,23 @@
 use Rattle.std.specs.Prelude.{ℕ, ◌≡◌, ◌≤◌, true, false, List, map, Option, Some, codes}
 use Rattle.std.specs.List.{list_all}
 use Rattle.std.specs.Option.{is_none}
-use Rattle.ws_core.specs.Below.cs_base.declared.positions.Pos.{Pos}
-use Rattle.ws_core.specs.Below.cs_base.declared.tokens.Kind.{Kind}
-use Rattle.ws_core.specs.Below.cs_base.Token.{Token}
-use Rattle.ws_core.specs.Below.part_lexer.FileText.{TextValue}
-use Rattle.ws_core.specs.Below.part_lexer.Places.{pos}
-use Rattle.ws_core.specs.Below.line_shape.Signs.{is_name, is_identifier, is_punctuator}
-use Rattle.ws_core.specs.Below.line_shape.Items.{lines_of}
-use Rattle.ws_core.specs.Below.macro_body.Notes as expansion
-use Rattle.ws_core.specs.Below.macro_expand.Renaming.{Renaming, spelled, renamed, Occurring, occurs, Respects}
-use Rattle.ws_core.specs.Below.macro_body.Substitution.{digit_origins}
-use Rattle.ws_core.specs.Below.source_files.Files.{Source, Table, SourceFile, source_file, bytes_opened}
-use Rattle.ws_core.specs.Below.source_files.Tables.{AreFound}
-use Rattle.ws_core.specs.Below.source_files.Limits.{the_limits}
-use Rattle.ws_core.specs.Below.unit_steps.Notes.{Note, Happened, Defined, Undefined, Tested, Left, Named}
-use Rattle.ws_core.specs.Below.source_files.Sources.{source_at}
+use Rattle.renamed.specs.Below.cs_base.declared.positions.Pos.{Pos}
+use Rattle.renamed.specs.Below.cs_base.declared.tokens.Kind.{Kind}
+use Rattle.renamed.specs.Below.cs_base.Token.{Token}
+use Rattle.renamed.specs.Below.part_lexer.FileText.{TextValue}
+use Rattle.renamed.specs.Below.part_lexer.Places.{pos}
+use Rattle.renamed.specs.Below.line_shape.Signs.{is_name, is_identifier, is_punctuator}
+use Rattle.renamed.specs.Below.line_shape.Items.{lines_of}
+use Rattle.renamed.specs.Below.macro_body.Notes as expansion
+use Rattle.renamed.specs.Below.macro_expand.Renaming.{Renaming, spelled, renamed, Occurring, occurs, Respects}
+use Rattle.renamed.specs.Below.macro_body.Substitution.{digit_origins}
+use Rattle.renamed.specs.Below.source_files.Files.{Source, Table, SourceFile, source_file, bytes_opened}
+use Rattle.renamed.specs.Below.source_files.Tables.{AreFound}
+use Rattle.renamed.specs.Below.source_files.Limits.{the_limits}
+use Rattle.renamed.specs.Below.unit_steps.Notes.{Note, Happened, Defined, Undefined, Tested, Left, Named}
+use Rattle.renamed.specs.Below.source_files.Sources.{source_at}
 use Rattle.edited_unit_laws.specs.Lines.{Each, KeepsToken, KeepsLine}
-use Rattle.edited_unit_laws.specs.Edited.{Editing, edited_table}
+use Rattle.renamed.specs.Renamed.{Editing, edited_table}
 
 -- A change of files: which tokens occur in them, how these are renamed, how the files are edited, and the files that
 -- the units have in the end.

@@ -2,16 +2,16 @@
 use Rattle.std.specs.Prelude.{◌≡◌, Bool, true, false, if◌then◌else◌, List, [], ◌∷◌, drop, map, codes}
 use Rattle.std.specs.Option.{option_map, option_map_or}
 use Rattle.std.specs.Str.{bytes_eq}
-use Rattle.ws_core.specs.Below.cs_base.Token.{Token}
-use Rattle.ws_core.specs.Below.line_shape.declared.items.Item.{Item}
-use Rattle.ws_core.specs.Below.line_shape.declared.items.ItemKind.{ItemKind}
-use Rattle.ws_core.specs.Below.line_shape.declared.items.ItemKind.TheVariants.{Bad}
-use Rattle.ws_core.specs.Below.line_shape.Signs.{is_name, is_word, is_va_args, is_hash}
-use Rattle.ws_core.specs.Below.line_shape.Directives.{directive_named, is_define}
-use Rattle.ws_core.specs.Below.line_shape.MacroLine.{is_function_like, before_close, params_in}
-use Rattle.ws_core.specs.Below.line_shape.Items.{lines_of, items_of}
-use Rattle.ws_core.specs.Below.macro_expand.Renaming.{Renaming, spelled, renamed, renamed_macro}
-use Rattle.ws_core.specs.Below.macro_body.Defining.{defined_by}
+use Rattle.renamed.specs.Below.cs_base.Token.{Token}
+use Rattle.renamed.specs.Below.line_shape.declared.items.Item.{Item}
+use Rattle.renamed.specs.Below.line_shape.declared.items.ItemKind.{ItemKind}
+use Rattle.renamed.specs.Below.line_shape.declared.items.ItemKind.TheVariants.{Bad}
+use Rattle.renamed.specs.Below.line_shape.Signs.{is_name, is_word, is_va_args, is_hash}
+use Rattle.renamed.specs.Below.line_shape.Directives.{directive_named, is_define}
+use Rattle.renamed.specs.Below.line_shape.MacroLine.{is_function_like, before_close, params_in}
+use Rattle.renamed.specs.Below.line_shape.Items.{lines_of, items_of}
+use Rattle.renamed.specs.Below.macro_expand.Renaming.{Renaming, spelled, renamed, renamed_macro}
+use Rattle.renamed.specs.Below.macro_body.Defining.{defined_by}
 
 -- a fact is true of each element
 abbrev pub Each : {X : Type 0} → (X → Type 0) → List X → Type 0

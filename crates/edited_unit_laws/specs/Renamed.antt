@@ -1,12 +1,12 @@
 -- Units under a renaming (ISO/IEC 9899:1999, 5.1.1.2 phase 4): what happens, states, and what steps give.
 use Rattle.std.specs.Prelude.{map}
-use Rattle.ws_core.specs.Below.macro_body.Macro.{Table as Macros}
-use Rattle.ws_core.specs.Below.macro_expand.Renaming.{Renaming, renamed, renamed_macro, renamed_note}
-use Rattle.ws_core.specs.Below.unit_steps.Notes.{Note, Reaches, Happened, Defined, Undefined, Tested, Left, Linked, Answered, Named, Entered, Exited}
-use Rattle.ws_core.specs.Below.include_tree.Sections.{Section, section}
-use Rattle.ws_core.specs.Below.unit_steps.State.{State}
-use Rattle.ws_core.specs.Below.include_tree.Walk.{Stepped, stepped}
-use Rattle.edited_unit_laws.specs.Edited.{Editing, edited_table}
+use Rattle.renamed.specs.Below.macro_body.Macro.{Table as Macros}
+use Rattle.renamed.specs.Below.macro_expand.Renaming.{Renaming, renamed, renamed_macro, renamed_note}
+use Rattle.renamed.specs.Below.unit_steps.Notes.{Note, Reaches, Happened, Defined, Undefined, Tested, Left, Linked, Answered, Named, Entered, Exited}
+use Rattle.renamed.specs.Below.include_tree.Sections.{Section, section}
+use Rattle.renamed.specs.Below.unit_steps.State.{State}
+use Rattle.renamed.specs.Below.include_tree.Walk.{Stepped, stepped}
+use Rattle.renamed.specs.Renamed.{Editing, edited_table}
 
 -- what happens, renamed: counts, and the numbers of files and items, stay
 abbrev pub renamed_happening : Renaming → Note → Note

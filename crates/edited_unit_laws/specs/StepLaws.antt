@@ -1,25 +1,25 @@
 -- The steps of a unit go alike over the edited files, kind by kind (ISO/IEC 9899:1999, 6.10).
 use Rattle.std.specs.Prelude.{◌≡◌, ℕ, Bool, true, List, map}
-use Rattle.ws_core.specs.Below.cs_base.declared.positions.Pos.{Pos}
-use Rattle.ws_core.specs.Below.cs_base.Token.{Token}
-use Rattle.ws_core.specs.Below.part_lexer.FileText.{TextValue}
-use Rattle.ws_core.specs.Below.line_shape.declared.items.ItemKind.{ItemKind}
-use Rattle.ws_core.specs.Below.line_shape.declared.items.ItemKind.TheVariants.{Define, Undef}
-use Rattle.ws_core.specs.Below.line_shape.Directives.{takes_name}
-use Rattle.ws_core.specs.Below.line_shape.Items.{line_kind}
-use Rattle.ws_core.specs.Below.macro_body.Macro.{Table as Macros}
-use Rattle.ws_core.specs.Below.macro_expand.Renaming.{renamed}
-use Rattle.ws_core.specs.Below.unit_steps.Conditions.{holds}
-use Rattle.ws_core.specs.Below.unit_steps.Directives.{operand_in, define_of, undef_of, asks_name}
-use Rattle.ws_core.specs.Below.unit_steps.Expanding.{run_of}
-use Rattle.ws_core.specs.Below.source_files.Files.{Source, SourceFile}
-use Rattle.ws_core.specs.Below.include_tree.Including.{Inner, include_of}
-use Rattle.ws_core.specs.Below.include_tree.GivenFiles.{unit_context}
-use Rattle.ws_core.specs.Below.unit_steps.State.{State}
-use Rattle.ws_core.specs.Below.include_tree.Walk.{file_items}
+use Rattle.renamed.specs.Below.cs_base.declared.positions.Pos.{Pos}
+use Rattle.renamed.specs.Below.cs_base.Token.{Token}
+use Rattle.renamed.specs.Below.part_lexer.FileText.{TextValue}
+use Rattle.renamed.specs.Below.line_shape.declared.items.ItemKind.{ItemKind}
+use Rattle.renamed.specs.Below.line_shape.declared.items.ItemKind.TheVariants.{Define, Undef}
+use Rattle.renamed.specs.Below.line_shape.Directives.{takes_name}
+use Rattle.renamed.specs.Below.line_shape.Items.{line_kind}
+use Rattle.renamed.specs.Below.macro_body.Macro.{Table as Macros}
+use Rattle.renamed.specs.Below.macro_expand.Renaming.{renamed}
+use Rattle.renamed.specs.Below.unit_steps.Conditions.{holds}
+use Rattle.renamed.specs.Below.unit_steps.Directives.{operand_in, define_of, undef_of, asks_name}
+use Rattle.renamed.specs.Below.unit_steps.Expanding.{run_of}
+use Rattle.renamed.specs.Below.source_files.Files.{Source, SourceFile}
+use Rattle.renamed.specs.Below.include_tree.Including.{Inner, include_of}
+use Rattle.renamed.specs.Below.include_tree.GivenFiles.{unit_context}
+use Rattle.renamed.specs.Below.unit_steps.State.{State}
+use Rattle.renamed.specs.Below.include_tree.Walk.{file_items}
 use Rattle.edited_unit_laws.specs.Lines.{Each, KeepsLine}
 use Rattle.edited_unit_laws.specs.Keeping.{Change, Fits, KeepsNames, KeepsFiles}
-use Rattle.edited_unit_laws.specs.Steps.{moved, GoesAlike, IsRenamed, IsSame, with_text, ProcessAlike, InnerAlike, InnerGrows}
+use Rattle.edited_unit_laws.specs.Steps.{moved, GoesAlike, IsPutOutRenamed, IsSame, with_text, ProcessAlike, InnerAlike, InnerGrows}
 
 -- ---- runs of text lines (6.10.3)
 
@@ -27,7 +27,7 @@ use Rattle.edited_unit_laws.specs.Steps.{moved, GoesAlike, IsRenamed, IsSame, wi
 abbrev pub RunsGoAlike : Type 0
 RunsGoAlike = (c : Change) → KeepsNames c → (old new : Source) (ipath : List (List ℕ)) (earlier : ℕ) (file : SourceFile) (text : TextValue) (toks : List Token) (macros : Macros) (s : State)
     → Each (Fits c) toks
-    → GoesAlike c (IsRenamed c) macros s (run_of (unit_context old ipath earlier) file toks s)
+    → GoesAlike c (IsPutOutRenamed c) macros s (run_of (unit_context old ipath earlier) file toks s)
     (run_of (unit_context new ipath earlier) (with_text file text) (map (renamed c.renaming) toks) (moved c macros s))
 
 -- ---- definitions (6.10.3, 6.10.3.5)
@@ -36,13 +36,13 @@ RunsGoAlike = (c : Change) → KeepsNames c → (old new : Source) (ipath : List
 abbrev pub DefinitionsGoAlike : Type 0
 DefinitionsGoAlike = (c : Change) → KeepsNames c → (file new : SourceFile) (at at2 : Pos) (toks : List Token) (macros : Macros) (s : State)
     → Each (Fits c) toks → line_kind toks ≡ Define → KeepsLine c.renaming toks
-    → GoesAlike c (IsRenamed c) macros s (define_of file at toks s) (define_of new at2 (map (renamed c.renaming) toks) (moved c macros s))
+    → GoesAlike c (IsPutOutRenamed c) macros s (define_of file at toks s) (define_of new at2 (map (renamed c.renaming) toks) (moved c macros s))
 
 -- So are they behind a renamed `undef` line.
 abbrev pub UndefinitionsGoAlike : Type 0
 UndefinitionsGoAlike = (c : Change) → KeepsNames c → (file new : SourceFile) (at at2 : Pos) (toks : List Token) (macros : Macros) (s : State)
     → Each (Fits c) toks → line_kind toks ≡ Undef
-    → GoesAlike c (IsRenamed c) macros s (undef_of file at toks s) (undef_of new at2 (map (renamed c.renaming) toks) (moved c macros s))
+    → GoesAlike c (IsPutOutRenamed c) macros s (undef_of file at toks s) (undef_of new at2 (map (renamed c.renaming) toks) (moved c macros s))
 
 -- ---- conditions (6.10.1)
 
@@ -63,7 +63,7 @@ ConditionsGoAlike = (c : Change) → KeepsNames c → (file : SourceFile) (text 
 abbrev pub InclusionsGoAlike : Type 0
 InclusionsGoAlike = (c : Change) → KeepsNames c → (old new : Source) → KeepsFiles c new → (ipath : List (List ℕ)) (earlier : ℕ) (inner inner2 : Inner) → InnerGrows inner → InnerAlike c inner inner2
     → (file : SourceFile) (text : TextValue) (at : Pos) (toks : List Token) (macros : Macros) (s : State) → Each (Fits c) toks
-    → GoesAlike c (IsRenamed c) macros s (include_of (unit_context old ipath earlier) inner file at toks s)
+    → GoesAlike c (IsPutOutRenamed c) macros s (include_of (unit_context old ipath earlier) inner file at toks s)
     (include_of (unit_context new ipath earlier) inner2 (with_text file text) (c.renaming.move at) (map (renamed c.renaming) toks) (moved c macros s))
 
 -- ---- files

@@ -1,16 +1,16 @@
 -- The steps of a unit over the files as they were, and over the edited ones (ISO/IEC 9899:1999, 6.10).
 use Rattle.std.specs.Prelude.{◌≡◌, ℕ, true, List, map, Some, None, Ok, Err}
-use Rattle.ws_core.specs.Below.cs_base.Token.{Token}
-use Rattle.ws_core.specs.Below.line_shape.Signs.{is_name}
-use Rattle.ws_core.specs.Below.macro_body.declared.definitions.Definition.{Definition}
-use Rattle.ws_core.specs.Below.macro_body.Macro.{Table as Macros}
-use Rattle.ws_core.specs.Below.macro_expand.Renaming.{renamed, occurs, Keeps}
-use Rattle.ws_core.specs.Below.part_lexer.FileText.{TextValue}
-use Rattle.ws_core.specs.Below.source_files.Files.{SourceFile, source_file}
-use Rattle.ws_core.specs.Below.include_tree.Including.{Process, Inner}
-use Rattle.ws_core.specs.Below.source_files.Tables.{IsGrown}
-use Rattle.ws_core.specs.Below.unit_steps.State.{State, Did, did, Outcome}
-use Rattle.ws_core.specs.Below.include_tree.Walk.{Stepped}
+use Rattle.renamed.specs.Below.cs_base.Token.{Token}
+use Rattle.renamed.specs.Below.line_shape.Signs.{is_name}
+use Rattle.renamed.specs.Below.macro_body.declared.definitions.Definition.{Definition}
+use Rattle.renamed.specs.Below.macro_body.Macro.{Table as Macros}
+use Rattle.renamed.specs.Below.macro_expand.Renaming.{renamed, occurs, Keeps}
+use Rattle.renamed.specs.Below.part_lexer.FileText.{TextValue}
+use Rattle.renamed.specs.Below.source_files.Files.{SourceFile, source_file}
+use Rattle.renamed.specs.Below.include_tree.Including.{Process, Inner}
+use Rattle.renamed.specs.Below.source_files.Tables.{IsGrown}
+use Rattle.renamed.specs.Below.unit_steps.State.{State, Did, did, Outcome}
+use Rattle.renamed.specs.Below.include_tree.Walk.{Stepped}
 use Rattle.edited_unit_laws.specs.Lines.{Each, KeepsToken}
 use Rattle.edited_unit_laws.specs.Keeping.{Change, Fits, KeepsFile, KeepsMacro, KeepsNote}
 use Rattle.edited_unit_laws.specs.Renamed.{renamed_happening, renamed_state, renamed_stepped}
@@ -54,8 +54,8 @@ abbrev pub AreRenamed : Change → List Token → List Token → Type 0
 AreRenamed c toks new = (new ≡ map (renamed c.renaming) toks) × Each (Fits c) toks
 
 -- the tokens that a step puts out, renamed
-abbrev pub IsRenamed : Change → List Token → List Token → Type 0
-IsRenamed c toks new = new ≡ map (renamed c.renaming) toks
+abbrev pub IsPutOutRenamed : Change → List Token → List Token → Type 0
+IsPutOutRenamed c toks new = new ≡ map (renamed c.renaming) toks
 
 -- what an item gives, renamed
 abbrev pub IsStepped : Change → Stepped → Stepped → Type 0
@@ -78,7 +78,7 @@ OpensAlike c file new = (k : KeepsFile c file) × (new ≡ with_text file k.text
 -- the items of an included file, as they were and edited
 abbrev pub ProcessAlike : Change → Process → Process → Type 0
 ProcessAlike c process new = (file : SourceFile) (k : KeepsFile c file) (macros : Macros) (s : State)
-    → GoesAlike c (IsRenamed c) macros s (process file s) (new (with_text file k.text) (moved c macros s))
+    → GoesAlike c (IsPutOutRenamed c) macros s (process file s) (new (with_text file k.text) (moved c macros s))
 
 abbrev pub InnerAlike : Change → Inner → Inner → Type 0
 InnerAlike c None None = Unit {0}

@@ -1,45 +1,40 @@
 -- What callers see of a unit over the edited files (ISO/IEC 9899:1999, 5.1.1.2 phase 4).
 use Rattle.std.specs.Prelude.{◌≡◌, ℕ, List, map, Ok}
 use Rattle.std.specs.Option.{option_map}
-use Rattle.ws_core.specs.Below.cs_base.declared.tokens.Link.{Link}
-use Rattle.ws_core.specs.Below.cs_base.Token.{Token, origin_at}
-use Rattle.ws_core.specs.Below.cs_base.Units.{UnitValue}
-use Rattle.ws_core.specs.Below.part_lexer.FileText.{file_text}
-use Rattle.ws_core.specs.Below.macro_body.Notes as expansion
-use Rattle.ws_core.specs.Below.macro_expand.Renaming.{Renaming, renamed}
-use Rattle.ws_core.specs.Below.unit_steps.declared.events.Event.{Event}
-use Rattle.ws_core.specs.Below.source_files.Files.{Source, Carried}
-use Rattle.ws_core.specs.Below.source_files.Tables.{IsGrown}
-use Rattle.ws_core.specs.Below.source_files.Limits.{the_limits}
-use Rattle.ws_core.specs.Below.unit_steps.Notes.{Note, Happened, link}
-use Rattle.ws_core.specs.Below.unit_steps.State.{Did}
-use Rattle.ws_core.specs.Below.unit_steps.Texts.{UnitTextValue, text_of}
-use Rattle.ws_core.specs.Below.include_tree.Preprocessed.{Preprocessed, preprocessed}
-use Rattle.ws_core.specs.Below.include_tree.Unit.{unit_outcome}
+use Rattle.renamed.specs.Below.cs_base.declared.tokens.Link.{Link}
+use Rattle.renamed.specs.Below.cs_base.Token.{Token, origin_at}
+use Rattle.renamed.specs.Below.cs_base.Units.{UnitValue}
+use Rattle.renamed.specs.Below.part_lexer.FileText.{file_text}
+use Rattle.renamed.specs.Below.macro_body.Notes as expansion
+use Rattle.renamed.specs.Below.macro_expand.Renaming.{Renaming, renamed}
+use Rattle.renamed.specs.Below.unit_steps.declared.events.Event.{Event}
+use Rattle.renamed.specs.Below.source_files.Files.{Source, Carried}
+use Rattle.renamed.specs.Below.source_files.Tables.{IsGrown}
+use Rattle.renamed.specs.Below.source_files.Limits.{the_limits}
+use Rattle.renamed.specs.Below.unit_steps.Notes.{Note, Happened, link}
+use Rattle.renamed.specs.Below.unit_steps.State.{Did}
+use Rattle.renamed.specs.Below.unit_steps.Texts.{UnitTextValue, text_of}
+use Rattle.renamed.specs.Below.include_tree.Preprocessed.{Preprocessed, preprocessed}
+use Rattle.renamed.specs.Below.include_tree.Unit.{unit_outcome}
 use Rattle.edited_unit_laws.specs.Lines.{Each}
-use Rattle.edited_unit_laws.specs.Edited.{Editing, edited_carried}
+use Rattle.edited_unit_laws.specs.Edited.{edited_carried}
 use Rattle.edited_unit_laws.specs.Keeping.{Change, KeepsUnit}
+use Rattle.renamed.specs.Renamed.{Editing}
+use Rattle.renamed.specs.Renamed as page
 
--- a link, renamed
+-- a renaming without the spellings of macros' names: what is promised of a rename knows no macro
+abbrev pub promised : Renaming → page.Renaming
+promised r = record { spell = r.spell; trace = r.trace; move = r.move }
+
+-- a link, an event and the text of a unit, renamed
 abbrev pub renamed_link : Renaming → Link → Link
-renamed_link r l = link (renamed r l.x) (renamed r l.y)
+renamed_link r l = page.renamed_link (promised r) l
 
--- an event, renamed: its name, and where it stands; what is counted, and the numbers of files, stay
 abbrev pub renamed_event : Renaming → Event → Event
-renamed_event r e = record {
-  kind = e.kind;
-  name = option_map (renamed r) e.name;
-  at = r.move e.at;
-  def = option_map r.move e.def;
-  file = e.file;
-  before = e.before;
-}
+renamed_event r e = page.renamed_event (promised r) e
 
--- the text of a unit, renamed: the same items are reached
 abbrev pub renamed_text : Renaming → UnitTextValue → UnitTextValue
-renamed_text r k =
-    text_of (map (renamed r) k.toks) (map (renamed_link r) k.links) (map (renamed r) k.pasted) (map (renamed r) k.stringized) (map (renamed r) k.header)
-    (map (renamed r) k.answers) k.reached (map (renamed_event r) k.events)
+renamed_text r k = page.renamed_text (promised r) k
 
 -- the same with what is carried to the next unit
 abbrev pub renamed_unit : Editing → Renaming → Preprocessed → Preprocessed

@@ -1,18 +1,20 @@
 -- The units of a workspace over edited files (ISO/IEC 9899:1999, 5.1.1.2 phase 4).
 use Rattle.std.specs.Prelude.{◌≡◌, ℕ, ◌+◌, List, [], ◌∷◌, length, map, Ok}
-use Rattle.ws_core.specs.Below.cs_base.Token.{Token}
-use Rattle.ws_core.specs.Below.cs_base.Units.{UnitValue}
-use Rattle.ws_core.specs.Below.part_lexer.FileText.{file_text}
-use Rattle.ws_core.specs.Below.source_files.Files.{Source, Carried, carried, nothing_carried}
-use Rattle.ws_core.specs.Below.source_files.Tables.{IsGrown}
-use Rattle.ws_core.specs.Below.source_files.Limits.{the_limits}
-use Rattle.ws_core.specs.Below.unit_steps.State.{Did}
-use Rattle.ws_core.specs.Below.include_tree.Unit.{unit_outcome}
-use Rattle.ws_core.specs.Texts.{TextsValue, texts_and, texts_from, texts_of}
+use Rattle.renamed.specs.Below.cs_base.Token.{Token}
+use Rattle.renamed.specs.Below.cs_base.Units.{UnitValue}
+use Rattle.renamed.specs.Below.part_lexer.FileText.{file_text}
+use Rattle.renamed.specs.Below.source_files.Files.{Source, Carried, carried, nothing_carried}
+use Rattle.renamed.specs.Below.source_files.Tables.{IsGrown}
+use Rattle.renamed.specs.Below.source_files.Limits.{the_limits}
+use Rattle.renamed.specs.Below.unit_steps.State.{Did}
+use Rattle.renamed.specs.Below.include_tree.Unit.{unit_outcome}
+use Rattle.renamed.specs.Below.ws_core.Texts.{TextsValue, texts_and, texts_from, texts_of}
 use Rattle.edited_unit_laws.specs.Lines.{Each}
-use Rattle.edited_unit_laws.specs.Edited.{edited_table, edited_carried}
+use Rattle.edited_unit_laws.specs.Edited.{edited_carried}
 use Rattle.edited_unit_laws.specs.Keeping.{Change, KeepsUnit}
-use Rattle.edited_unit_laws.specs.UnitTexts.{renamed_text, MovesMacro}
+use Rattle.edited_unit_laws.specs.UnitTexts.{promised, MovesMacro}
+use Rattle.renamed.specs.Renamed.{edited_table}
+use Rattle.renamed.specs.Renamed as page
 
 -- The new spellings of macros' names, by the number of a unit and the old spelling: each unit has its own.
 abbrev pub MacroNames : Type 0
@@ -32,7 +34,7 @@ KeepsUnits c names old new number (unit ∷ units) before =
 
 -- texts over the edited files: each is renamed, and the table has the edited bytes
 abbrev pub renamed_texts : Change → TextsValue → TextsValue
-renamed_texts c t = texts_and (map (renamed_text c.renaming) t.texts) (edited_table c.editing t.table)
+renamed_texts c t = page.renamed_texts (promised c.renaming) c.editing t
 
 -- The law: the units over the edited files have the renamed texts, and the table the same paths and the edited bytes.
 abbrev pub WorkspacesAreRenamed : Type 0

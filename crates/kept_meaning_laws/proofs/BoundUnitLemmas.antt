@@ -11,7 +11,7 @@ use Rattle.tree_laws.specs.Below.c99_read.State.{base_at, is_identifier}
 use Rattle.tree_laws.specs.Below.scope_bind.declared.bound.Name.{Name}
 use Rattle.tree_laws.specs.Below.c_types.Declarations.{spelling_at, alike}
 use Rattle.tree_laws.specs.Below.scope_bind.Names.{entity_at}
-use Rattle.tree_laws.specs.RenamedNames.{IsRenamed}
+use Rattle.tree_laws.specs.RenamedNames.{NamesAreRenamed}
 use Rattle.tree_laws.proofs.HeldNames.{spelled_as_entities}
 use Rattle.tree_laws.proofs.RenamedWalk.{renamed_bind_alike}
 use Rattle.no_offence_laws.specs.Below.part_respell.Respelled.{spelled}
@@ -101,7 +101,7 @@ module _ (a : Analysed) (members : List Part) (name : List ℕ) (r : Renaming) (
       alike_from (spelling_at (map (renamed r) toks) n.index) (spelling_at (map (renamed r) toks) n.entity)
       (new_first n.index n.entity b f ∙ sym (new_first n.entity n.entity c f))
 
-  unit_renamed : IsRenamed toks (map (renamed r) toks) names
+  unit_renamed : NamesAreRenamed toks (map (renamed r) toks) names
   unit_renamed = record {
     as_long = as_long a members name r h spells keeps u i;
     words = λ word k own. words_kept a members name r h spells keeps u i word k own;

@@ -23,10 +23,8 @@ use Rattle.no_offence_laws.proofs.Below.eclass_map.TokenFacts.{holding}
 use Rattle.no_offence_laws.specs.Below.part_respell.Respelled.{member_over, put_in, put_of, respelled}
 use Rattle.analysis_laws.specs.Tables.{IsPseudoIfMade, MadeArePseudo}
 use Rattle.analysis_laws.proofs.MadeLemmas.{made_files_pseudo}
-use Rattle.no_offence_laws.specs.Below.edited_unit_laws.EditedTokens.{moved_to}
 use Rattle.no_offence_laws.specs.Below.edited_unit_laws.Lines.{Each, KeepsToken, KeepsLine}
 use Rattle.no_offence_laws.proofs.Below.edited_unit_laws.EditedTokenLemmas.{edited_files_keep_tokens}
-use Rattle.no_offence_laws.specs.Below.edited_unit_laws.Edited.{Editing, edited_found, edited_from, edited_table}
 use Rattle.no_offence_laws.specs.Below.edited_unit_laws.EditedFiles.{HoldsEdited, IsEdited}
 use Rattle.no_offence_laws.specs.Below.edited_unit_laws.Keeping.{Change, Fits, KeepsFile, KeepsFiles}
 use Rattle.no_offence_laws.proofs.Below.edited_unit_laws.FoundLemmas.{edited_tables_are_found}
@@ -48,6 +46,7 @@ use Rattle.no_offence_laws.proofs.TracedLemmas.{source_of_kept}
 use Rattle.kept_meaning_laws.specs.KeptUnits.{change_by}
 use Rattle.kept_meaning_laws.specs.Limits.{AreWithinLimits}
 use Rattle.kept_meaning_laws.proofs.FoundLemmas.{analysis_finds}
+use Rattle.no_offence_laws.specs.Below.renamed.Renamed.{Editing, edited_found, edited_from, edited_table, moved_to}
 
 -- ---- files without members
 

@@ -40,7 +40,7 @@ use Rattle.no_offence_laws.specs.KeptLines.{LinesStayAlike}
 use Rattle.no_offence_laws.specs.KeptTokens.{Spells}
 use Rattle.no_offence_laws.specs.MadeTokens.{IsOutcome}
 use Rattle.no_offence_laws.specs.Occurring.{KeepsOccurring, occurring_in, same_origin}
-use Rattle.no_offence_laws.specs.Renamings.{KeepsUnedited, moved_in, move_to, name_for, trace_from}
+use Rattle.no_offence_laws.specs.Renamings.{KeepsUnedited, name_for}
 use Rattle.no_offence_laws.specs.Spellings.{IsPasted}
 use Rattle.no_offence_laws.proofs.ListLemmas.{In, all_at}
 use Rattle.no_offence_laws.proofs.KeptTokenLemmas.{each_of, pasted_tokens_are_kept}
@@ -56,6 +56,7 @@ use Rattle.kept_meaning_laws.specs.Limits.{AreWithinLimits}
 use Rattle.no_offence_laws.specs.ToldNames.{KeepsToldNames}
 use Rattle.kept_meaning_laws.proofs.KeptFileLemmas.{files_kept}
 use Rattle.no_offence_laws.proofs.KeptNameLemmas.{line_reserved, file_reserved, told_traced, told_names_are_kept}
+use Rattle.no_offence_laws.specs.Below.renamed.Renamed.{moved_in, move_to, trace_from}
 
 -- ---- where the name of a macro stands
 

@@ -20,7 +20,6 @@ use Rattle.no_offence_laws.specs.Below.edited_unit_laws.Keeping.{KeepsUnit}
 use Rattle.no_offence_laws.specs.Below.edited_unit_laws.UnitTexts.{MovesMacro}
 use Rattle.no_offence_laws.specs.Below.edited_unit_laws.WorkspaceTexts.{KeepsUnits}
 use Rattle.no_offence_laws.proofs.Below.edited_unit_laws.WorkspaceLemmas.{workspace_is_renamed}
-use Rattle.no_offence_laws.specs.Below.edited_unit_laws.Analyses.{texts_in}
 use Rattle.no_offence_laws.proofs.Below.edited_unit_laws.AnalysesLemmas.{analyses_have_texts, analysis_is_renamed}
 use Rattle.no_offence_laws.specs.Below.ws_core.Analysed.{Analysed}
 use Rattle.no_offence_laws.specs.Below.ws_core.Analysis.{UnitAnalysis, UnitsValue, AnalysisValue, analysis_and, with_unit, unit_read, read_unit, analysed_from}
@@ -37,6 +36,7 @@ use Rattle.kept_meaning_laws.specs.Limits.{AreWithinLimits}
 use Rattle.no_offence_laws.proofs.AlikeLineLemmas.{lines_stay_alike_where_named}
 use Rattle.kept_meaning_laws.proofs.KeptNoteLemmas.{unit_kept, macros_move}
 use Rattle.kept_meaning_laws.proofs.SizeLemmas.{edited_files_are_within_limits}
+use Rattle.no_offence_laws.specs.Below.renamed.Renamed.{texts_in}
 
 -- what a unit without a fault gives
 abbrev given : Carried → Did (List Token) → Preprocessed

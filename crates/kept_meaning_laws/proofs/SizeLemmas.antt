@@ -11,7 +11,6 @@ use Rattle.no_offence_laws.specs.Below.source_files.Files.{Found, Lines, Absent,
 use Rattle.no_offence_laws.specs.Below.source_files.KeptFiles.{KeptValue, kept, kept_bytes, kept_in, kept_at}
 use Rattle.no_offence_laws.specs.Below.include_tree.PseudoFiles.{is_pseudo}
 use Rattle.no_offence_laws.specs.Below.part_respell.Respelled.{respelled}
-use Rattle.no_offence_laws.specs.Below.edited_unit_laws.Edited.{edited_found, edited_from}
 use Rattle.no_offence_laws.specs.Below.ws_core.Analysed.{Analysed}
 use Rattle.no_offence_laws.specs.Below.ws_core.Analysis.{AnalysisValue}
 use Rattle.no_offence_laws.specs.Below.ws_core.Places.{is_read_only, is_read_only_path}
@@ -28,6 +27,7 @@ use Rattle.kept_meaning_laws.proofs.FoundLemmas.{AreReal, IsReal, analysis_real}
 use Rattle.kept_meaning_laws.proofs.KeptFileLemmas.{respelled_same}
 use Rattle.kept_meaning_laws.proofs.MemberOrderLemmas.{StandTogether, members_together}
 use Rattle.kept_meaning_laws.proofs.RunLemmas.{run_of, rest_of, runs_are, rest_less, rest_together, rest_respelled, rest_edited, size_by, run_size, sizes_small, cond_none, not_more}
+use Rattle.no_offence_laws.specs.Below.renamed.Renamed.{edited_found, edited_from}
 
 -- ---- sizes of all edited files
 

@@ -17,5 +17,5 @@ pub use Rattle.no_offence_laws.specs.Below.ws_core as ws_core
 pub use Rattle.analysis_laws.specs as analysis_laws
 pub use Rattle.no_offence_laws.specs.Below.part_respell as part_respell
 pub use Rattle.no_offence_laws.specs.Below.rename_rules as rename_rules
+pub use Rattle.no_offence_laws.specs.Below.renamed as renamed
 pub use Rattle.no_offence_laws.specs.Below.edited_unit_laws as edited_unit_laws
-pub use Rattle.no_offence_laws.specs as no_offence_laws

@@ -3,13 +3,13 @@ use Rattle.std.specs.Prelude.{◌≡◌, ℕ, List, map, Ok}
 use Rattle.tree_laws.specs.Below.cs_base.declared.positions.Part.{Part}
 use Rattle.no_offence_laws.specs.Below.macro_expand.Renaming.{Renaming, renamed}
 use Rattle.tree_laws.specs.Below.scope_bind.Bound.{binding_of}
-use Rattle.tree_laws.specs.RenamedNames.{IsRenamed}
+use Rattle.tree_laws.specs.RenamedNames.{NamesAreRenamed}
 use Rattle.no_offence_laws.specs.Below.ws_core.Analysed.{Analysed}
 use Rattle.no_offence_laws.specs.Below.ws_core.Analysis.{UnitAnalysis}
 use Rattle.no_offence_laws.specs.Allowed.{IsAllowed}
 use Rattle.no_offence_laws.specs.KeptTokens.{Spells}
 use Rattle.no_offence_laws.specs.Renamings.{KeepsUnedited, renaming}
-use Rattle.no_offence_laws.specs.Spellings.{IsIn}
+use Rattle.no_offence_laws.specs.Below.unit_laws.UnitLinks.{IsIn}
 
 -- The law: where nothing stands against spelling the members of a class otherwise, and a renaming spells tokens so, the
 -- renamed tokens of each unit of the analysis, with the tree that the unit has, are bound name for name as before.
@@ -26,4 +26,4 @@ UnitsBindAsBefore = (a : Analysed) (members : List Part) (name : List ℕ) → I
 -- apart stay apart, and all names of an entity go together.
 abbrev pub UnitsAreRenamedWhole : Type 0
 UnitsAreRenamedWhole = (a : Analysed) (members : List Part) (name : List ℕ) (r : Renaming) → IsAllowed a members name → Spells members name r → KeepsUnedited r
-    → (u : UnitAnalysis) → IsIn a.value.units u → IsRenamed u.text.toks (map (renamed r) u.text.toks) u.bound.names
+    → (u : UnitAnalysis) → IsIn a.value.units u → NamesAreRenamed u.text.toks (map (renamed r) u.text.toks) u.bound.names

@@ -9,7 +9,7 @@ use Rattle.no_offence_laws.specs.Below.edited_unit_laws.Lines.{Each}
 use Rattle.no_offence_laws.specs.Below.edited_unit_laws.EditedFiles.{HoldsEdited}
 use Rattle.no_offence_laws.specs.Below.edited_unit_laws.Keeping.{Change}
 use Rattle.no_offence_laws.specs.Below.edited_unit_laws.WorkspaceTexts.{MacroNames, KeepsUnits, renamed_texts}
-use Rattle.no_offence_laws.specs.Below.edited_unit_laws.Analyses.{ReadsAlike, renamed_analysis, texts_in}
+use Rattle.no_offence_laws.specs.Below.edited_unit_laws.Analyses.{ReadsAlike, renamed_analysis}
 use Rattle.no_offence_laws.specs.Below.ws_core.Analysed.{Analysed}
 use Rattle.no_offence_laws.specs.Below.ws_core.Analysis.{UnitAnalysis, AnalysisValue, analysis_of}
 use Rattle.no_offence_laws.specs.Below.ws_core.Naming.{Names}
@@ -18,8 +18,9 @@ use Rattle.no_offence_laws.specs.Allowed.{IsAllowed}
 use Rattle.no_offence_laws.specs.KeptFiles.{WordsAreFree}
 use Rattle.no_offence_laws.specs.KeptLines.{LinesStayAlike}
 use Rattle.no_offence_laws.specs.Occurring.{occurring_in}
-use Rattle.no_offence_laws.specs.Renamings.{move_to, name_for, spell_from, trace_from}
+use Rattle.no_offence_laws.specs.Renamings.{name_for}
 use Rattle.kept_meaning_laws.specs.Limits.{AreWithinLimits}
+use Rattle.no_offence_laws.specs.Below.renamed.Renamed.{move_to, spell_from, trace_from, texts_in}
 
 -- ---- the change that spelling the members of a class otherwise makes
 

@@ -8,11 +8,11 @@ use Rattle.no_offence_laws.specs.Below.source_files.Files.{bytes_opened}
 use Rattle.no_offence_laws.specs.Below.source_files.KeptFiles.{KeptValue, kept_at}
 use Rattle.no_offence_laws.specs.Below.source_files.Tables.{HasEachOnce}
 use Rattle.no_offence_laws.specs.Below.source_files.Limits.{the_limits}
-use Rattle.no_offence_laws.specs.Below.edited_unit_laws.Edited.{edited_table}
 use Rattle.no_offence_laws.specs.Below.ws_core.Analysed.{Analysed}
 use Rattle.no_offence_laws.specs.Below.ws_core.Analysis.{AnalysisValue}
 use Rattle.no_offence_laws.specs.Below.ws_core.Naming.{Names}
 use Rattle.no_offence_laws.specs.Allowed.{IsAllowed}
+use Rattle.no_offence_laws.specs.Below.renamed.Renamed.{edited_table}
 
 -- The edited files are within the limits: each by itself, if it was, and all that are opened together.
 pub record AreWithinLimits (a : AnalysisValue) (members : List Part) (name : List ℕ) : Type 0 where

@@ -9,7 +9,7 @@ use Rattle.no_offence_laws.specs.Below.source_files.Files.{Source}
 use Rattle.no_offence_laws.specs.Below.source_files.Tables.{HasEachOnce}
 use Rattle.no_offence_laws.specs.Below.rename_rules.First.{IsFirst, offences_of}
 use Rattle.no_offence_laws.specs.Below.edited_unit_laws.WorkspaceTexts.{renamed_texts}
-use Rattle.no_offence_laws.specs.Below.edited_unit_laws.Analyses.{renamed_analysis, texts_in}
+use Rattle.no_offence_laws.specs.Below.edited_unit_laws.Analyses.{renamed_analysis}
 use Rattle.no_offence_laws.specs.Below.ws_core.Analysis.{AnalysisValue, analysis_of}
 use Rattle.no_offence_laws.specs.Below.ws_core.Classes.{AreItsClasses}
 use Rattle.no_offence_laws.specs.Below.ws_core.Naming.{Names}
@@ -17,16 +17,7 @@ use Rattle.no_offence_laws.specs.Below.ws_core.Parts.{AreMembers}
 use Rattle.no_offence_laws.specs.Below.ws_core.Texts.{texts_and, texts_of}
 use Rattle.kept_meaning_laws.specs.KeptUnits.{change}
 use Rattle.kept_meaning_laws.specs.EditedSource.{AreRespelled}
-
--- Over these files each unit has the text that it had, with the members of the class respelled: the same tokens but for
--- these, from the same places, edited; and the files read are the same, with the edited bytes.
-abbrev pub TextsAreRenamed : Source → WorkspaceValue → AnalysisValue → List Part → List ℕ → Type 0
-TextsAreRenamed now ws a members name = texts_of now ws.units ≡ Ok (renamed_texts (change a members name) (texts_and (texts_in a.units) a.table))
-
--- Over these files the workspace has the analysis that it had, renamed: each unit is read to the tree that it had, and each
--- name is bound as before.
-abbrev pub AnalysisIsRenamed : Source → WorkspaceValue → AnalysisValue → List Part → List ℕ → Type 0
-AnalysisIsRenamed now ws a members name = analysis_of now ws ≡ Ok (renamed_analysis (change a members name) a)
+use Rattle.no_offence_laws.specs.Below.renamed.Renamed.{texts_in, TextsAreRenamed, AnalysisIsRenamed}
 
 -- A renaming against which nothing stands: of the class of the part that a place names, in a workspace that is accepted.
 pub record IsAccepted (source : Source) (ws : WorkspaceValue) (a : AnalysisValue) (table : classes.Table) (part : Part) (members : List Part) (name : List ℕ) : Type 0 where

@@ -17,12 +17,12 @@ use Rattle.kept_meaning_laws.specs.Below.scope_bind.declared.bound.Name.{Name}
 use Rattle.kept_meaning_laws.specs.Below.scope_bind.Bound.{Bound, binding_of}
 use Rattle.kept_meaning_laws.specs.Below.scope_bind.Walk.{walked}
 use Rattle.kept_meaning_laws.specs.Below.rename_rules.Tokens.{holders}
-use Rattle.kept_meaning_laws.specs.Below.no_offence_laws.Renamings.{spell_from}
 use Rattle.kept_meaning_laws.proofs.Below.no_offence_laws.ListLemmas.{In, any_at}
 use Rattle.meaning_rows.specs.Rows.{member, BreaksMeaning, IsOffence, two_objects, pasted_name, pasted_names, hidden_typedef}
 use Rattle.meaning_rows.proofs.OffenceLemmas as offences
 use Rattle.meaning_rows.proofs.RowLemmas.{breaks, its_bound}
 use Rattle.meaning_rows.proofs.RowTokens.{tree_of, bound_of, two_objects_read, pasted_names_read, hidden_typedef_read, two_objects_lexed, hidden_typedef_lexed}
+use Rattle.kept_meaning_laws.specs.Below.renamed.Renamed.{spell_from}
 
 -- ---- what tells bindings and trees apart
 

@@ -8,7 +8,7 @@ use Rattle.kept_meaning_laws.specs.Below.ws_core.Analysis.{AnalysisValue}
 use Rattle.kept_meaning_laws.specs.Below.edited_unit_laws.Lines.{Each}
 use Rattle.kept_meaning_laws.specs.Below.edited_unit_laws.Analyses.{ReadsAlike}
 use Rattle.kept_meaning_laws.specs.KeptUnits.{change}
-use Rattle.kept_meaning_laws.specs.RenamedSource.{AnalysisIsRenamed}
+use Rattle.kept_meaning_laws.specs.Below.renamed.Renamed.{AnalysisIsRenamed}
 
 -- The renamed tokens of each unit are read to the tree that it had (Annex A), and bound as they were (6.2).
 abbrev pub UnitsReadAlike : AnalysisValue → List Part → List ℕ → Type 0

@@ -20,8 +20,8 @@ use Rattle.kept_meaning_laws.specs.Below.include_tree.Unit.{unit_outcome}
 use Rattle.kept_meaning_laws.specs.Below.ws_core.Analysis.{UnitAnalysis, AnalysisValue}
 use Rattle.kept_meaning_laws.specs.Below.edited_unit_laws.Analyses.{IsRead}
 use Rattle.kept_meaning_laws.specs.Below.rename_rules.First.{IsAmong, offence, offences_of}
-use Rattle.kept_meaning_laws.specs.RenamedSource.{AnalysisIsRenamed}
 use Rattle.meaning_rows.specs.Clause.{UnitsReadAlike}
+use Rattle.kept_meaning_laws.specs.Below.renamed.Renamed.{AnalysisIsRenamed}
 
 -- A row: the bytes of its file, which has number 2, the tokens of its unit, and those of them that were pasted.
 pub record Row : Type 0 where

@@ -42,7 +42,7 @@ use Rattle.rename_rules.specs.Offences.{stringized_places, header_places}
 use Rattle.rename_rules.specs.Tokens.{holders, holds_member, pasted_tokens, starts_in}
 use Rattle.no_offence_laws.specs.Allowed.{IsAllowed}
 use Rattle.no_offence_laws.specs.MadeTokens.{IsOutcome, IsMadeAnew, TokensAreMadeAnew, StringsAndHeadersStay}
-use Rattle.no_offence_laws.specs.Renamings.{spell_from, moved_in, move_to, origins_for, trace_from, renaming}
+use Rattle.no_offence_laws.specs.Renamings.{renaming}
 use Rattle.no_offence_laws.proofs.ListLemmas.{In, all_at, flat_nil, in_flat}
 use Rattle.no_offence_laws.proofs.LinkLemmas.{IsWhole, pasted_whole, whole_chained}
 use Rattle.no_offence_laws.proofs.MemberLemmas.{over_begins}
@@ -53,6 +53,7 @@ use Rattle.no_offence_laws.proofs.RenamingLemmas.{spell-same}
 use Rattle.no_offence_laws.proofs.SpellLemmas.{spelled-kept}
 use Rattle.no_offence_laws.proofs.TracedLemmas.{AreChained, Traced, spelled_fits, rules_traced}
 use Rattle.no_offence_laws.proofs.UnitsLemmas.{IsUnit, unit_is, unit_traced, no_lines, brought_in}
+use Rattle.edited_unit_laws.specs.Below.renamed.Renamed.{spell_from, moved_in, move_to, origins_for, trace_from}
 
 -- ---- tokens that stay
 

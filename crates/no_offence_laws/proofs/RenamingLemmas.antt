@@ -14,14 +14,15 @@ use Rattle.rename_rules.specs.Below.macro_expand.Renaming.{renamed}
 use Rattle.rename_rules.specs.Below.source_files.KeptFiles.{KeptValue, kept_at}
 use Rattle.rename_rules.specs.Below.unit_steps.Texts.{UnitTextValue}
 use Rattle.rename_rules.specs.Below.part_respell.Respelled.{member_over, put_in, put_at, put_of, put_for, spelled, spelled_from}
-use Rattle.edited_unit_laws.specs.EditedTokens.{moved_to, edited_token, EditedFilesKeepTokens}
+use Rattle.edited_unit_laws.specs.EditedTokens.{edited_token, EditedFilesKeepTokens}
 use Rattle.rename_rules.specs.Below.ws_core.Analysis.{AnalysisValue}
 use Rattle.rename_rules.proofs.Below.ws_core.PlaceNameLemmas.{kept_number}
 use Rattle.rename_rules.proofs.Below.ws_core.TokenPlaceLemmas.{token_placed}
-use Rattle.no_offence_laws.specs.Renamings.{spell_from, moved_in, move_to, origins_for, trace_from, renaming, RenamingsSpell, EditedFilesAreRenamed}
+use Rattle.no_offence_laws.specs.Renamings.{renaming, RenamingsSpell, EditedFilesAreRenamed}
 use Rattle.no_offence_laws.proofs.ListLemmas.{In}
 use Rattle.no_offence_laws.proofs.FileLemmas.{StandsIn, token_stands}
 use Rattle.no_offence_laws.proofs.KeptLemmas.{files_keep_pieces}
+use Rattle.edited_unit_laws.specs.Below.renamed.Renamed.{moved_to, spell_from, moved_in, move_to, origins_for, trace_from}
 
 -- ---- spellings
 

@@ -12,12 +12,13 @@ use Rattle.rename_rules.specs.Below.part_respell.Respelled.{member_over, put_at}
 use Rattle.rename_rules.specs.Below.ws_core.Analysed.{Analysed}
 use Rattle.rename_rules.specs.Below.ws_core.Analysis.{AnalysisValue}
 use Rattle.no_offence_laws.specs.Allowed.{IsAllowed}
-use Rattle.no_offence_laws.specs.Renamings.{spell_from, moved_in, move_to, origins_for, trace_from, RenamingsKeepUnedited}
+use Rattle.no_offence_laws.specs.Renamings.{RenamingsKeepUnedited}
 use Rattle.no_offence_laws.proofs.KeptLemmas.{nothing}
 use Rattle.no_offence_laws.proofs.MemberLemmas.{over_in}
 use Rattle.no_offence_laws.proofs.NoneLemmas.{none_stand, no_line}
 use Rattle.no_offence_laws.proofs.PutLemmas.{put-stays}
 use Rattle.no_offence_laws.proofs.UnitsLemmas.{no_lines}
+use Rattle.edited_unit_laws.specs.Below.renamed.Renamed.{spell_from, moved_in, move_to, origins_for, trace_from}
 
 spell_untraced : (members : List Part) (name : List ℕ) (os : List (Option Pos)) (text : List ℕ) → list_all is_none os ≡ true → spell_from members name os text ≡ text
 unfolding spell_from

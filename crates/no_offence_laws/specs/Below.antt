@@ -15,4 +15,5 @@ pub use Rattle.rename_rules.specs.Below.linkage_join as linkage_join
 pub use Rattle.rename_rules.specs.Below.ws_core as ws_core
 pub use Rattle.rename_rules.specs.Below.part_respell as part_respell
 pub use Rattle.rename_rules.specs as rename_rules
+pub use Rattle.edited_unit_laws.specs.Below.renamed as renamed
 pub use Rattle.edited_unit_laws.specs as edited_unit_laws

@@ -21,7 +21,7 @@ use Rattle.rename_rules.specs.Below.ws_core.Analysed.{Analysed}
 use Rattle.rename_rules.specs.Below.ws_core.Analysis.{UnitAnalysis, AnalysisValue}
 use Rattle.no_offence_laws.specs.Allowed.{IsAllowed}
 use Rattle.no_offence_laws.specs.Renamings.{renaming}
-use Rattle.no_offence_laws.specs.Spellings.{IsIn}
+use Rattle.unit_laws.specs.UnitLinks.{IsIn}
 
 -- what the preprocessing of a unit of an analysis gave: the table of files only grows behind it
 pub record IsOutcome (a : AnalysisValue) (u : UnitAnalysis) (d : Did (List Token)) : Type 0 where

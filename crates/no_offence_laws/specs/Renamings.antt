@@ -14,36 +14,12 @@ use Rattle.rename_rules.specs.Below.unit_steps.declared.events.Event.{Event}
 use Rattle.rename_rules.specs.Below.source_files.KeptFiles.{KeptValue, kept_at}
 use Rattle.rename_rules.specs.Below.unit_steps.Texts.{UnitTextValue}
 use Rattle.rename_rules.specs.Below.part_respell.Respelled.{put_at, put_for, respelled, spelled}
-use Rattle.edited_unit_laws.specs.EditedTokens.{moved_to}
 use Rattle.rename_rules.specs.Below.ws_core.Analysed.{Analysed}
 use Rattle.rename_rules.specs.Below.ws_core.Analysis.{AnalysisValue}
 use Rattle.no_offence_laws.specs.Allowed.{IsAllowed}
 use Rattle.no_offence_laws.specs.KeptFiles.{WordsAreFree}
 use Rattle.no_offence_laws.specs.KeptTokens.{Spells}
-
--- what stands for characters with these origins; a character without one stays
-unfoldable pub spell_from : List Part → List ℕ → List (Option Pos) → List ℕ → List ℕ
-spell_from members name [] text = text
-spell_from members name (origin ∷ origins) [] = []
-spell_from members name (origin ∷ origins) (c ∷ text) = put_for members name origin c ++ spell_from members name origins text
-
--- where a position of a file moves; what stands in no kept file stays
-abbrev pub moved_in : List Part → List ℕ → Pos → KeptValue → Pos
-moved_in members name p f = pos p.file (moved_to members name p.file f.bytes p.at)
-
-abbrev pub move_to : AnalysisValue → List Part → List ℕ → Pos → Pos
-move_to a members name p = option_map_or (moved_in members name p) (kept_at a.table p.file) p
-
--- the origins of what stands for a character
-abbrev pub origins_for : AnalysisValue → List Part → List ℕ → Option Pos → ℕ → List (Option Pos)
-origins_for a members name None c = None ∷ []
-origins_for a members name (Some p) c = origins_from p.file (move_to a members name p).at (length (put_at members name p c))
-
--- those of what stands for characters with these origins
-unfoldable pub trace_from : AnalysisValue → List Part → List ℕ → List (Option Pos) → List ℕ → List (Option Pos)
-trace_from a members name [] text = []
-trace_from a members name (origin ∷ origins) [] = origin ∷ origins
-trace_from a members name (origin ∷ origins) (c ∷ text) = origins_for a members name origin c ++ trace_from a members name origins text
+use Rattle.edited_unit_laws.specs.Below.renamed.Renamed.{moved_to, spell_from, move_to, trace_from}
 
 -- the names of which the events of a unit tell
 abbrev pub name_in : Event → List Token

@@ -12,10 +12,7 @@ use Rattle.rename_rules.specs.Below.ws_core.Analysed.{Analysed}
 use Rattle.rename_rules.specs.Below.ws_core.Analysis.{UnitAnalysis, AnalysisValue}
 use Rattle.rename_rules.specs.Below.ws_core.Links.{links_of}
 use Rattle.no_offence_laws.specs.Allowed.{IsAllowed}
-
--- the list has it
-abbrev pub IsIn : {X : Type 0} → List X → X → Type 0
-IsIn xs x = (k : ℕ) × (slice_get xs k ≡ Some x)
+use Rattle.unit_laws.specs.UnitLinks.{IsIn}
 
 -- The law: both tokens of a link get one new spelling.
 abbrev pub LinkedStayAlike : Type 0

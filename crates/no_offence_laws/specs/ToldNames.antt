@@ -11,7 +11,7 @@ use Rattle.rename_rules.specs.Below.ws_core.Analysis.{UnitAnalysis, AnalysisValu
 use Rattle.no_offence_laws.specs.Allowed.{IsAllowed}
 use Rattle.no_offence_laws.specs.Occurring.{occurring_in}
 use Rattle.no_offence_laws.specs.Renamings.{name_for}
-use Rattle.no_offence_laws.specs.Spellings.{IsIn}
+use Rattle.unit_laws.specs.UnitLinks.{IsIn}
 
 -- The tokens of a unit, and the names of which it tells, occur.
 pub record UnitOccurs (a : AnalysisValue) (u : UnitAnalysis) : Type 0 where

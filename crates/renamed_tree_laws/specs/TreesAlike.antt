@@ -8,7 +8,7 @@ use Rattle.tree_laws.specs.Below.c99_read.State.{base_at}
 use Rattle.tree_laws.specs.Below.c99_grammar.Standard.{c99}
 use Rattle.tree_laws.specs.Below.scope_bind.Bound.{Bound, binding_of}
 use Rattle.tree_laws.specs.Below.name_chains.Frames.{at_first as before, outermost}
-use Rattle.tree_laws.specs.RenamedNames.{IsRenamed}
+use Rattle.tree_laws.specs.RenamedNames.{NamesAreRenamed}
 use Rattle.typedef_laws.specs.Agreeing.{agrees}
 use Rattle.renamed_tree_laws.specs.Loose.{AllLoose, StaysWhole}
 
@@ -24,7 +24,7 @@ AgreeingTextsReadAlike =
 -- with all tokens of its spelling where a typedef name of this spelling is hidden (6.7.5.3 paragraphs 3 and 11).
 abbrev pub RenamedTextsReadAlike : Type 0
 RenamedTextsReadAlike =
-    (old new : List Token) (tree : Node) (b : Bound) → read_of c99 old ≡ Ok tree → binding_of old tree ≡ Ok b → IsRenamed old new b.names
+    (old new : List Token) (tree : Node) (b : Bound) → read_of c99 old ≡ Ok tree → binding_of old tree ≡ Ok b → NamesAreRenamed old new b.names
     → ((k : ℕ) → base_at c99 old k ≡ base_at c99 new k) → AllLoose old (StaysWhole old new b.typedefs) (outermost 0).label 0 tree.under
     → read_of c99 new ≡ Ok tree
 

@@ -18,7 +18,7 @@ is_own_word word = list_any (λ w. bytes_eq w word) own_words
 
 -- A renaming of a text whose identifiers are bound so. As many tokens stand in both; the words that binding asks for
 -- stay; tokens that are spelled apart stay apart; and all names of an entity go together.
-pub record IsRenamed (old new : List Token) (names : List Name) : Type 0 where
+pub record NamesAreRenamed (old new : List Token) (names : List Name) : Type 0 where
   pub as_long : length new ≡ length old
   pub words : (word : List ℕ) (k : ℕ) → is_own_word word ≡ true → bytes_eq (spelling_at new k) word ≡ bytes_eq (spelling_at old k) word
   pub apart : (i j : ℕ) → alike new i j ≡ true → alike old i j ≡ true
@@ -27,4 +27,4 @@ pub record IsRenamed (old new : List Token) (names : List Name) : Type 0 where
 -- a text that is renamed so, and read to the same tree, binds name for name as before
 abbrev pub RenamedBindAlike : Type 0
 RenamedBindAlike =
-    (old new : List Token) (tree : Node) (b : Bound) → binding_of old tree ≡ Ok b → IsRenamed old new b.names → binding_of new tree ≡ Ok b
+    (old new : List Token) (tree : Node) (b : Bound) → binding_of old tree ≡ Ok b → NamesAreRenamed old new b.names → binding_of new tree ≡ Ok b

@@ -3,7 +3,7 @@
 //!
 //! No program stands here: each law is the `ensures` of a function without a body. `bound.rt` speaks of `binding_of`
 //! of the crate `scope_bind`. A name is spelled as the token that names its entity, and a text that is renamed,
-//! `IsRenamed` of `specs/RenamedNames.antt`, binds name for name as before: that is so for each list of tokens and
+//! `NamesAreRenamed` of `specs/RenamedNames.antt`, binds name for name as before: that is so for each list of tokens and
 //! each tree. The other laws there ask that the tree is one of these tokens, `IsTreeOf` of `specs/TreesOfTexts.antt`.
 //! Then names, entities and faults stand in the text, no token is two names, the token that names an entity is a name
 //! of it, what is true of tokens where names stand is true of names, lists stand in order of their names, and bodies

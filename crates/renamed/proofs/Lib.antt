@@ -1,0 +1,3 @@
+mod StayLemmas
+-- Words of the crates below, passed on.
+pub mod Below

@@ -1,0 +1,149 @@
+-- What a rename keeps of a workspace, on one page (this project's, over ISO/IEC 9899:1999, 5.1.1.2 phases 1 to 7): what a
+-- token, a text, a table of files and an analysis are behind it. Nothing else has to be read to see what "renamed" means.
+use Rattle.std.specs.Prelude.{ℕ, ◌≡◌, suc, Option, Some, None, List, [], ◌∷◌, ◌++◌, length, map, Ok}
+use Rattle.std.specs.Option.{option_map, option_map_or}
+use Rattle.ws_core.specs.Below.cs_base.declared.positions.Part.{Part}
+use Rattle.ws_core.specs.Below.cs_base.declared.positions.Pos.{Pos}
+use Rattle.ws_core.specs.Below.cs_base.declared.tokens.Link.{Link}
+use Rattle.ws_core.specs.Below.cs_base.Token.{Token, token}
+use Rattle.ws_core.specs.Below.part_lexer.Logical.{logical_of, spelling}
+use Rattle.ws_core.specs.Below.part_lexer.Places.{pos, origins_from}
+use Rattle.ws_core.specs.Below.part_lexer.Respelling.{moved}
+use Rattle.ws_core.specs.Below.ws_file.Workspace.{WorkspaceValue}
+use Rattle.ws_core.specs.Below.source_files.Files.{Source, Table, Found, Lines, Absent, Unopened, Opened, Made, entry}
+use Rattle.ws_core.specs.Below.source_files.KeptFiles.{KeptValue, kept_at}
+use Rattle.ws_core.specs.Below.unit_steps.Notes.{link}
+use Rattle.ws_core.specs.Below.unit_steps.declared.events.Event.{Event}
+use Rattle.ws_core.specs.Below.unit_steps.Texts.{UnitTextValue, text_of}
+use Rattle.part_respell.specs.Respelled.{put_at, put_for, put_of, respelled}
+use Rattle.ws_core.specs.Analysis.{UnitAnalysis, unit_analysis, AnalysisValue, analysis_and, analysis_of}
+use Rattle.ws_core.specs.Texts.{TextsValue, texts_and, texts_of}
+
+-- ---- tokens
+
+-- A renaming: the new spelling and the new origins of a token, by the origins of its characters and its spelling; and where
+-- a position moves to.
+pub record Renaming : Type 0 where
+  pub spell : List (Option Pos) → List ℕ → List ℕ
+  pub trace : List (Option Pos) → List ℕ → List (Option Pos)
+  pub move : Pos → Pos
+
+-- a token, renamed: its kind, white space, line and directness stay
+abbrev pub renamed_token : Renaming → Token → Token
+renamed_token r t = token t.kind (r.spell t.origins t.text) (r.trace t.origins t.text) t.gap (r.move t.at) t.line t.direct
+
+-- ---- the text of a unit
+
+-- a link of two tokens, renamed
+abbrev pub renamed_link : Renaming → Link → Link
+renamed_link r l = link (renamed_token r l.x) (renamed_token r l.y)
+
+-- an event, renamed: its name, and where it stands; what is counted, and the numbers of files, stay
+abbrev pub renamed_event : Renaming → Event → Event
+renamed_event r e = record {
+  kind = e.kind;
+  name = option_map (renamed_token r) e.name;
+  at = r.move e.at;
+  def = option_map r.move e.def;
+  file = e.file;
+  before = e.before;
+}
+
+-- the text of a unit, renamed: each token, link and event; the same items are reached
+abbrev pub renamed_text : Renaming → UnitTextValue → UnitTextValue
+renamed_text r k =
+    text_of (map (renamed_token r) k.toks) (map (renamed_link r) k.links) (map (renamed_token r) k.pasted)
+    (map (renamed_token r) k.stringized) (map (renamed_token r) k.header) (map (renamed_token r) k.answers)
+    k.reached (map (renamed_event r) k.events)
+
+-- ---- the table of files
+
+-- How files are edited: the new bytes, by the number of a file and its bytes.
+abbrev pub Editing : Type 0
+Editing = ℕ → List ℕ → List ℕ
+
+-- what a number stands for behind the edit: a pseudo file is not edited
+abbrev pub edited_found : (List ℕ → List ℕ) → Found → Found
+edited_found edit Lines = Lines
+edited_found edit Absent = Absent
+edited_found edit (Unopened bytes) = Unopened (edit bytes)
+edited_found edit (Opened bytes) = Opened (edit bytes)
+edited_found edit (Made bytes) = Made bytes
+
+-- the entries of a table from this number on: paths and numbers stay
+abbrev pub edited_from : Editing → ℕ → Table → Table
+edited_from edit number [] = []
+edited_from edit number (e ∷ table) = entry e.path (edited_found (edit number) e.found) ∷ edited_from edit (suc number) table
+
+abbrev pub edited_table : Editing → Table → Table
+edited_table edit table = edited_from edit 0 table
+
+-- ---- all units
+
+-- the texts of all units, renamed, with the edited table
+abbrev pub renamed_texts : Renaming → Editing → TextsValue → TextsValue
+renamed_texts r edit t = texts_and (map (renamed_text r) t.texts) (edited_table edit t.table)
+
+-- an accepted unit, renamed: its text; its tree (Annex A), and what its identifiers denote (6.2), are as before
+abbrev pub renamed_unit : Renaming → UnitAnalysis → UnitAnalysis
+renamed_unit r u = unit_analysis (renamed_text r u.text) u.tree u.bound
+
+-- the analysis of a workspace, renamed: each unit, with the edited table
+abbrev pub renamed_analysis : Renaming → Editing → AnalysisValue → AnalysisValue
+renamed_analysis r edit a = analysis_and a.workspace (map (renamed_unit r) a.units) (edited_table edit a.table)
+
+-- the texts of units that are accepted
+abbrev pub texts_in : List UnitAnalysis → List UnitTextValue
+texts_in us = map (λ u. u.text) us
+
+-- ---- the renaming of a class: for the first character of each member the new name stands, and nothing for its others
+
+-- what stands for characters with these origins; a character without one stays
+unfoldable pub spell_from : List Part → List ℕ → List (Option Pos) → List ℕ → List ℕ
+spell_from members name [] text = text
+spell_from members name (origin ∷ origins) [] = []
+spell_from members name (origin ∷ origins) (c ∷ text) = put_for members name origin c ++ spell_from members name origins text
+
+-- the place to which a character of a file with these bytes moves
+abbrev pub moved_to : List Part → List ℕ → ℕ → List ℕ → ℕ → ℕ
+moved_to members name file bytes at = moved (put_of members name file) (spelling (logical_of bytes)) at
+
+-- where a position of a file moves; what stands in no kept file stays
+abbrev pub moved_in : List Part → List ℕ → Pos → KeptValue → Pos
+moved_in members name p f = pos p.file (moved_to members name p.file f.bytes p.at)
+
+abbrev pub move_to : AnalysisValue → List Part → List ℕ → Pos → Pos
+move_to a members name p = option_map_or (moved_in members name p) (kept_at a.table p.file) p
+
+-- the origins of what stands for a character
+abbrev pub origins_for : AnalysisValue → List Part → List ℕ → Option Pos → ℕ → List (Option Pos)
+origins_for a members name None c = None ∷ []
+origins_for a members name (Some p) c = origins_from p.file (move_to a members name p).at (length (put_at members name p c))
+
+-- those of what stands for characters with these origins
+unfoldable pub trace_from : AnalysisValue → List Part → List ℕ → List (Option Pos) → List ℕ → List (Option Pos)
+trace_from a members name [] text = []
+trace_from a members name (origin ∷ origins) [] = origin ∷ origins
+trace_from a members name (origin ∷ origins) (c ∷ text) = origins_for a members name origin c ++ trace_from a members name origins text
+
+-- the renaming that spells the members of a class otherwise
+abbrev pub renaming_of : AnalysisValue → List Part → List ℕ → Renaming
+renaming_of a members name = record {
+  spell = spell_from members name;
+  trace = trace_from a members name;
+  move = move_to a members name;
+}
+
+-- ---- what a rename keeps, over the files behind it
+
+-- Each unit has the text that it had, with the members of the class respelled: the same tokens but for these, from the same
+-- places, edited; and the files read are the same, with the edited bytes.
+abbrev pub TextsAreRenamed : Source → WorkspaceValue → AnalysisValue → List Part → List ℕ → Type 0
+TextsAreRenamed now ws a members name =
+    texts_of now ws.units ≡ Ok (renamed_texts (renaming_of a members name) (respelled members name) (texts_and (texts_in a.units) a.table))
+
+-- The workspace has the analysis that it had, renamed: each unit is read to the tree that it had, and each name is bound as
+-- before.
+abbrev pub AnalysisIsRenamed : Source → WorkspaceValue → AnalysisValue → List Part → List ℕ → Type 0
+AnalysisIsRenamed now ws a members name =
+    analysis_of now ws ≡ Ok (renamed_analysis (renaming_of a members name) (respelled members name) a)
