@@ -5,12 +5,11 @@ use Rattle.renamed.specs.Below.ws_file.Workspace.{WorkspaceValue}
 use Rattle.renamed.specs.Below.macro_expand.Renaming.{Renaming}
 use Rattle.renamed.specs.Below.source_files.Files.{Source, Table, Carried, nothing_carried}
 use Rattle.renamed.specs.Below.source_files.Tables.{IsGrown}
-use Rattle.renamed.specs.Below.unit_steps.Texts.{UnitTextValue}
 use Rattle.renamed.specs.Below.c99_read.Reading.{read_of}
 use Rattle.renamed.specs.Below.c99_grammar.Standard.{c99}
 use Rattle.renamed.specs.Below.scope_bind.Bound.{binding_of}
 use Rattle.renamed.specs.Below.ws_core.Texts.{texts_and, texts_from}
-use Rattle.renamed.specs.Below.ws_core.Analysis.{UnitAnalysis, unit_analysis, UnitsValue, units_and, AnalysisValue, analysis_and, analysed_from, analysis_of}
+use Rattle.renamed.specs.Below.ws_core.Analysis.{UnitAnalysis, UnitsValue, units_and, AnalysisValue, analysed_from, analysis_of}
 use Rattle.edited_unit_laws.specs.Lines.{Each}
 use Rattle.edited_unit_laws.specs.Edited.{edited_carried}
 use Rattle.edited_unit_laws.specs.Keeping.{Change}
@@ -42,7 +41,7 @@ TextsHaveAnalyses = (source : Source) (number : ℕ) (units : List UnitValue) (b
 
 -- a unit over the edited files: its text is renamed; its tree, and what its identifiers denote, are as before
 abbrev pub renamed_unit_analysis : Renaming → UnitAnalysis → UnitAnalysis
-renamed_unit_analysis r u = page.renamed_unit (promised r) u
+renamed_unit_analysis r u = page.renamed_unit_analysis (promised r) u
 
 -- units over the edited files, and an analysis: each unit is renamed, and the table has the edited bytes
 abbrev pub renamed_units : Change → UnitsValue → UnitsValue

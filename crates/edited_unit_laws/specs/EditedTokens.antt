@@ -3,9 +3,8 @@ use Rattle.std.specs.Prelude.{ℕ, ◌≡◌, List, length, map}
 use Rattle.std.specs.Option.{option_map}
 use Rattle.renamed.specs.Below.cs_base.declared.positions.Part.{Part}
 use Rattle.renamed.specs.Below.cs_base.Token.{Token, token}
-use Rattle.renamed.specs.Below.part_lexer.Logical.{logical_of, spelling}
 use Rattle.renamed.specs.Below.part_lexer.Places.{pos, origins_from}
-use Rattle.renamed.specs.Below.part_lexer.Respelling.{KeepsPieces, moved}
+use Rattle.renamed.specs.Below.part_lexer.Respelling.{KeepsPieces}
 use Rattle.renamed.specs.Below.part_lexer.Tokens.{tokens_of, firsts_of, open_comment_of}
 use Rattle.renamed.specs.Below.part_respell.Respelled.{put_of, respelled, spelled}
 use Rattle.renamed.specs.Renamed.{moved_to}

@@ -1,5 +1,5 @@
 -- What callers see of a unit over the edited files (ISO/IEC 9899:1999, 5.1.1.2 phase 4).
-use Rattle.std.specs.Prelude.{◌≡◌, ℕ, List, map, Ok}
+use Rattle.std.specs.Prelude.{◌≡◌, ℕ, List, Ok}
 use Rattle.std.specs.Option.{option_map}
 use Rattle.renamed.specs.Below.cs_base.declared.tokens.Link.{Link}
 use Rattle.renamed.specs.Below.cs_base.Token.{Token, origin_at}
@@ -11,9 +11,9 @@ use Rattle.renamed.specs.Below.unit_steps.declared.events.Event.{Event}
 use Rattle.renamed.specs.Below.source_files.Files.{Source, Carried}
 use Rattle.renamed.specs.Below.source_files.Tables.{IsGrown}
 use Rattle.renamed.specs.Below.source_files.Limits.{the_limits}
-use Rattle.renamed.specs.Below.unit_steps.Notes.{Note, Happened, link}
+use Rattle.renamed.specs.Below.unit_steps.Notes.{Note, Happened}
 use Rattle.renamed.specs.Below.unit_steps.State.{Did}
-use Rattle.renamed.specs.Below.unit_steps.Texts.{UnitTextValue, text_of}
+use Rattle.renamed.specs.Below.unit_steps.Texts.{UnitTextValue}
 use Rattle.renamed.specs.Below.include_tree.Preprocessed.{Preprocessed, preprocessed}
 use Rattle.renamed.specs.Below.include_tree.Unit.{unit_outcome}
 use Rattle.edited_unit_laws.specs.Lines.{Each}

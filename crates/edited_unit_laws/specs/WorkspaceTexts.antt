@@ -1,5 +1,5 @@
 -- The units of a workspace over edited files (ISO/IEC 9899:1999, 5.1.1.2 phase 4).
-use Rattle.std.specs.Prelude.{◌≡◌, ℕ, ◌+◌, List, [], ◌∷◌, length, map, Ok}
+use Rattle.std.specs.Prelude.{◌≡◌, ℕ, ◌+◌, List, [], ◌∷◌, length, Ok}
 use Rattle.renamed.specs.Below.cs_base.Token.{Token}
 use Rattle.renamed.specs.Below.cs_base.Units.{UnitValue}
 use Rattle.renamed.specs.Below.part_lexer.FileText.{file_text}
@@ -8,12 +8,11 @@ use Rattle.renamed.specs.Below.source_files.Tables.{IsGrown}
 use Rattle.renamed.specs.Below.source_files.Limits.{the_limits}
 use Rattle.renamed.specs.Below.unit_steps.State.{Did}
 use Rattle.renamed.specs.Below.include_tree.Unit.{unit_outcome}
-use Rattle.renamed.specs.Below.ws_core.Texts.{TextsValue, texts_and, texts_from, texts_of}
+use Rattle.renamed.specs.Below.ws_core.Texts.{TextsValue, texts_from, texts_of}
 use Rattle.edited_unit_laws.specs.Lines.{Each}
 use Rattle.edited_unit_laws.specs.Edited.{edited_carried}
 use Rattle.edited_unit_laws.specs.Keeping.{Change, KeepsUnit}
 use Rattle.edited_unit_laws.specs.UnitTexts.{promised, MovesMacro}
-use Rattle.renamed.specs.Renamed.{edited_table}
 use Rattle.renamed.specs.Renamed as page
 
 -- The new spellings of macros' names, by the number of a unit and the old spelling: each unit has its own.

@@ -8,16 +8,12 @@ use Rattle.no_offence_laws.specs.Below.ws_file.Workspace.{WorkspaceValue, IsWork
 use Rattle.no_offence_laws.specs.Below.source_files.Files.{Source}
 use Rattle.no_offence_laws.specs.Below.source_files.Tables.{HasEachOnce}
 use Rattle.no_offence_laws.specs.Below.rename_rules.First.{IsFirst, offences_of}
-use Rattle.no_offence_laws.specs.Below.edited_unit_laws.WorkspaceTexts.{renamed_texts}
-use Rattle.no_offence_laws.specs.Below.edited_unit_laws.Analyses.{renamed_analysis}
 use Rattle.no_offence_laws.specs.Below.ws_core.Analysis.{AnalysisValue, analysis_of}
 use Rattle.no_offence_laws.specs.Below.ws_core.Classes.{AreItsClasses}
 use Rattle.no_offence_laws.specs.Below.ws_core.Naming.{Names}
 use Rattle.no_offence_laws.specs.Below.ws_core.Parts.{AreMembers}
-use Rattle.no_offence_laws.specs.Below.ws_core.Texts.{texts_and, texts_of}
-use Rattle.kept_meaning_laws.specs.KeptUnits.{change}
 use Rattle.kept_meaning_laws.specs.EditedSource.{AreRespelled}
-use Rattle.no_offence_laws.specs.Below.renamed.Renamed.{texts_in, TextsAreRenamed, AnalysisIsRenamed}
+use Rattle.no_offence_laws.specs.Below.renamed.Renamed.{TextsAreRenamed, AnalysisIsRenamed}
 
 -- A renaming against which nothing stands: of the class of the part that a place names, in a workspace that is accepted.
 pub record IsAccepted (source : Source) (ws : WorkspaceValue) (a : AnalysisValue) (table : classes.Table) (part : Part) (members : List Part) (name : List ℕ) : Type 0 where

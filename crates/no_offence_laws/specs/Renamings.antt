@@ -1,19 +1,19 @@
 -- The renaming of tokens, positions and macros that spelling the members of a class otherwise makes (this project's).
-use Rattle.std.specs.Prelude.{ℕ, ◌≡◌, true, Option, Some, None, List, [], ◌∷◌, ◌++◌, length, map, find}
+use Rattle.std.specs.Prelude.{ℕ, ◌≡◌, true, Option, Some, List, [], ◌∷◌, map, find}
 use Rattle.std.specs.List.{flat_map, list_all}
 use Rattle.std.specs.Option.{is_none, option_map, option_map_or}
 use Rattle.std.specs.Str.{bytes_eq}
 use Rattle.rename_rules.specs.Below.cs_base.declared.positions.Part.{Part}
 use Rattle.rename_rules.specs.Below.cs_base.declared.positions.Pos.{Pos}
 use Rattle.rename_rules.specs.Below.cs_base.Token.{Token}
-use Rattle.rename_rules.specs.Below.part_lexer.Places.{pos, origins_from}
+use Rattle.rename_rules.specs.Below.part_lexer.Places.{pos}
 use Rattle.rename_rules.specs.Below.part_lexer.Tokens.{tokens_of, firsts_of, open_comment_of}
 use Rattle.rename_rules.specs.Below.macro_expand.Renaming.{Renaming, renamed}
 use Rattle.rename_rules.specs.Below.macro_body.Substitution.{digit_origins}
 use Rattle.rename_rules.specs.Below.unit_steps.declared.events.Event.{Event}
 use Rattle.rename_rules.specs.Below.source_files.KeptFiles.{KeptValue, kept_at}
 use Rattle.rename_rules.specs.Below.unit_steps.Texts.{UnitTextValue}
-use Rattle.rename_rules.specs.Below.part_respell.Respelled.{put_at, put_for, respelled, spelled}
+use Rattle.rename_rules.specs.Below.part_respell.Respelled.{respelled, spelled}
 use Rattle.rename_rules.specs.Below.ws_core.Analysed.{Analysed}
 use Rattle.rename_rules.specs.Below.ws_core.Analysis.{AnalysisValue}
 use Rattle.no_offence_laws.specs.Allowed.{IsAllowed}

@@ -1,6 +1,6 @@
 -- New spellings of tokens under a renaming against which nothing stands (this project's): what is linked stays alike, and
 -- what was apart stays apart.
-use Rattle.std.specs.Prelude.{ℕ, ◌≡◌, ◌⊎◌, true, List, Some, slice_get}
+use Rattle.std.specs.Prelude.{ℕ, ◌≡◌, ◌⊎◌, true, List, Some}
 use Rattle.rename_rules.specs.Below.cs_base.declared.positions.Part.{Part}
 use Rattle.rename_rules.specs.Below.cs_base.declared.tokens.Link.{Link}
 use Rattle.rename_rules.specs.Below.cs_base.Token.{Token}

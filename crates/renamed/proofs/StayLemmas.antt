@@ -2,9 +2,8 @@
 use Rattle.std.proofs.Common.{◌≡◌, ℕ, suc, List, [], ◌∷◌, map, refl, ap}
 use Rattle.ws_core.specs.Below.cs_base.Token.{Token}
 use Rattle.ws_core.specs.Below.source_files.Files.{Table, Entry}
-use Rattle.ws_core.specs.Below.unit_steps.Texts.{UnitTextValue}
-use Rattle.ws_core.specs.Analysis.{UnitAnalysis, AnalysisValue}
-use Rattle.renamed.specs.Renamed.{Renaming, Editing, renamed_token, renamed_unit, edited_from}
+use Rattle.ws_core.specs.Analysis.{UnitAnalysis}
+use Rattle.renamed.specs.Renamed.{Editing, renamed_token, renamed_unit_analysis, edited_from}
 use Rattle.renamed.specs.Staying.{RenamedTokensStay, EditedPathsStay, RenamedUnitsStay}
 
 -- what is the same of each element is so of the list
@@ -29,6 +28,6 @@ edited_paths_stay = λ edit table. paths-from edit 0 table
 
 pub renamed_units_stay : RenamedUnitsStay
 renamed_units_stay = λ r edit a. record {
-  trees = map-stays (λ (u : UnitAnalysis). u.tree) (renamed_unit r) (λ u. refl) a.units;
-  bindings = map-stays (λ (u : UnitAnalysis). u.bound) (renamed_unit r) (λ u. refl) a.units;
+  trees = map-stays (λ (u : UnitAnalysis). u.tree) (renamed_unit_analysis r) (λ u. refl) a.units;
+  bindings = map-stays (λ (u : UnitAnalysis). u.bound) (renamed_unit_analysis r) (λ u. refl) a.units;
 }

@@ -85,12 +85,12 @@ abbrev pub renamed_texts : Renaming → Editing → TextsValue → TextsValue
 renamed_texts r edit t = texts_and (map (renamed_text r) t.texts) (edited_table edit t.table)
 
 -- an accepted unit, renamed: its text; its tree (Annex A), and what its identifiers denote (6.2), are as before
-abbrev pub renamed_unit : Renaming → UnitAnalysis → UnitAnalysis
-renamed_unit r u = unit_analysis (renamed_text r u.text) u.tree u.bound
+abbrev pub renamed_unit_analysis : Renaming → UnitAnalysis → UnitAnalysis
+renamed_unit_analysis r u = unit_analysis (renamed_text r u.text) u.tree u.bound
 
 -- the analysis of a workspace, renamed: each unit, with the edited table
 abbrev pub renamed_analysis : Renaming → Editing → AnalysisValue → AnalysisValue
-renamed_analysis r edit a = analysis_and a.workspace (map (renamed_unit r) a.units) (edited_table edit a.table)
+renamed_analysis r edit a = analysis_and a.workspace (map (renamed_unit_analysis r) a.units) (edited_table edit a.table)
 
 -- the texts of units that are accepted
 abbrev pub texts_in : List UnitAnalysis → List UnitTextValue

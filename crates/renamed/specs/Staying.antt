@@ -1,5 +1,5 @@
 -- What stays under every renaming: all but spellings, origins, positions and the bytes of files.
-use Rattle.std.specs.Prelude.{◌≡◌, ℕ, List, map}
+use Rattle.std.specs.Prelude.{◌≡◌, List, map}
 use Rattle.ws_core.specs.Below.cs_base.Token.{Token}
 use Rattle.ws_core.specs.Below.source_files.Files.{Table}
 use Rattle.ws_core.specs.Below.unit_steps.Texts.{UnitTextValue}
