@@ -17,4 +17,6 @@ mod requests;
 pub use help_texts::{help, version};
 pub use lines::{edited_text, size_text};
 pub use messages::{tell, tell_line, tell_offence, tell_unit};
-pub use requests::{NamedClass, Rename, Request, UnitTokens, asked, workspace_file};
+pub use requests::{
+    NamedClass, Rename, Request, UnitTokens, asked, is_number, number, workspace_file,
+};

@@ -204,8 +204,8 @@ fn asked_rename<'a>(
     }
 }
 
-// Whether the word is a number: one to nine decimal digits, the first not 0.
-fn is_number(word: &[u8]) -> bool
+/// Whether the word is a number: one to nine decimal digits, the first not 0.
+pub fn is_number(word: &[u8]) -> bool
     ensures answer { result ≡ is_number word.now }
     ensures digits { IsTrue result → IsTrue (are_digits word.now) }
     ensures few { IsTrue result → length word.now ≤ 9 }
@@ -237,8 +237,8 @@ fn begins_with_zero(word: &[u8]) -> bool
     }
 }
 
-// The number that the digits spell.
-fn number(digits: &[u8]) -> u32
+/// The number that the digits spell.
+pub fn number(digits: &[u8]) -> u32
     requires digits { IsTrue (are_digits digits.now) }
     requires few { length digits.now ≤ 9 }
     ensures { result ≡ number_of digits.now }

@@ -1,0 +1,74 @@
+// Lines of a batch file as values.
+ghost use Rattle.std.specs.Prelude.{◌≡◌, IsUtf8};
+
+use cs_base::Text;
+use std::marker::Model;
+use std::str;
+
+/// A line that asks for a rename. Contracts see the record of its place and of the new name.
+#[derive(Drop)]
+pub struct BatchLine {
+    path: Text,
+    line: u32,
+    column: u32,
+    name: Text,
+}
+
+impl Model for BatchLine {
+    ghost use Rattle.std.specs.Prelude.{IsUtf8};
+    ghost use Rattle.batch_file.specs.Line.{LineValue, line_value};
+
+    ghost Value = { LineValue };
+
+    ghost view = { λ l. line_value l.path l.line l.column l.name };
+
+    ghost invariant = { λ l. IsUtf8 l.path };
+}
+
+impl BatchLine {
+    ghost use Rattle.batch_file.specs.Line.{line_value};
+
+    /// A rename of what stands at this place.
+    pub fn new(path: Text, line: u32, column: u32, name: Text) -> BatchLine
+        requires { IsUtf8 path }
+        ensures { result ≡ line_value path line column name }
+    {
+        BatchLine {
+            path,
+            line,
+            column,
+            name,
+        }
+    }
+
+    /// The path of the place, in its normal form.
+    pub fn path(&self) -> &str
+        ensures { result.now ≡ self.now.path }
+    {
+        match str::from_utf8(self.path.bytes()) {
+            Ok(text) => text,
+            Err(_) => unreachable!(),
+        }
+    }
+
+    /// The line of the place, from 1.
+    pub fn line(&self) -> u32
+        ensures { result ≡ self.now.line }
+    {
+        self.line
+    }
+
+    /// The column of the place, from 1.
+    pub fn column(&self) -> u32
+        ensures { result ≡ self.now.column }
+    {
+        self.column
+    }
+
+    /// The new name, as written.
+    pub fn name(&self) -> &[u8]
+        ensures { result.now ≡ self.now.name }
+    {
+        self.name.bytes()
+    }
+}
