@@ -2,9 +2,10 @@
 use Rattle.std.proofs.Common.{◌≡◌, Bool, true, false, ◌||◌, List, [], ◌∷◌, ◌++◌, refl, sym, ap, ◌∙◌}
 use Rattle.std.proofs.Math.Bool.{or_assoc}
 use Rattle.c99_grammar.specs.declared.classes.Class.{Class}
-use Rattle.c99_grammar.specs.declared.classes.Class.TheVariants.{Auto, Break, Case, Char, Const, Continue, Default, Do, Double, Else, Enum, Extern, Float, For, Goto, If, Inline, Int, Long, Register, Restrict, Return, Short, Signed, Sizeof, Static, Struct, Switch, Typedef, Union, Unsigned, Void, Volatile, While, BoolWord, ComplexWord, ImaginaryWord, LeftBracket, RightBracket, LeftParen, RightParen, LeftBrace, RightBrace, Dot, Arrow, PlusPlus, MinusMinus, Amp, Star, Plus, Minus, Tilde, Bang, Slash, Percent, ShiftLeft, ShiftRight, Less, Greater, LessEq, GreaterEq, EqEq, BangEq, Caret, Bar, AmpAmp, BarBar, Question, Colon, Semicolon, Ellipsis, Eq, StarEq, SlashEq, PercentEq, PlusEq, MinusEq, ShiftLeftEq, ShiftRightEq, AmpEq, CaretEq, BarEq, Comma, Hash, HashHash, Identifier, TypedefName, Constant, CharConstant, StringLiteral, End, NoClass}
+use Rattle.c99_grammar.specs.declared.classes.Class.TheVariants.{Auto, Break, Case, Char, Const, Continue, Default, Do, Double, Else, Enum, Extern, Float, For, Goto, If, Inline, Int, Long, Register, Restrict, Return, Short, Signed, Sizeof, Static, Struct, Switch, Typedef, Union, Unsigned, Void, Volatile, While, BoolWord, ComplexWord, ImaginaryWord, Alignas, Alignof, Atomic, Generic, Noreturn, StaticAssert, ThreadLocal, LeftBracket, RightBracket, LeftParen, RightParen, LeftBrace, RightBrace, Dot, Arrow, PlusPlus, MinusMinus, Amp, Star, Plus, Minus, Tilde, Bang, Slash, Percent, ShiftLeft, ShiftRight, Less, Greater, LessEq, GreaterEq, EqEq, BangEq, Caret, Bar, AmpAmp, BarBar, Question, Colon, Semicolon, Ellipsis, Eq, StarEq, SlashEq, PercentEq, PlusEq, MinusEq, ShiftLeftEq, ShiftRightEq, AmpEq, CaretEq, BarEq, Comma, Hash, HashHash, Identifier, TypedefName, Constant, CharConstant, StringLiteral, End, NoClass}
 use Rattle.c99_grammar.specs.Classes.{among, is_same}
-use Rattle.c99_grammar.specs.First.{every}
+use Rattle.cs_base.specs.declared.ws_units.Standard.TheVariants.{C99, C11}
+use Rattle.c99_grammar.specs.First.{every, by_c11}
 
 pub among-append : (xs ys : List Class) (c : Class) → (among xs c || among ys c) ≡ among (xs ++ ys) c
 among-append [] ys c = refl
@@ -17,6 +18,16 @@ in_first x a b y at is_true both = is_true ∙ ap (λ v. v || b) (sym is_true) �
 pub in_second : (x z a b y : Bool) → x ≡ a → x ≡ false → z ≡ b → (a || b) ≡ y → z ≡ y
 in_second x z a b y at is_false at_second both =
     at_second ∙ ap (λ v. v || b) (sym is_false) ∙ ap (λ v. v || b) at ∙ both
+
+-- C99 adds nothing
+pub among-none : (classes : List Class) (c : Class) → false ≡ among (by_c11 classes C99) c
+among-none [] c = refl
+among-none (x ∷ classes) c = refl
+
+-- C11 adds all
+pub among-all : (classes : List Class) (c : Class) → among classes c ≡ among (by_c11 classes C11) c
+among-all [] c = refl
+among-all (x ∷ classes) c = refl
 
 pub among-every : (c : Class) → true ≡ among every c
 among-every Auto = refl
@@ -56,6 +67,13 @@ among-every While = refl
 among-every BoolWord = refl
 among-every ComplexWord = refl
 among-every ImaginaryWord = refl
+among-every Alignas = refl
+among-every Alignof = refl
+among-every Atomic = refl
+among-every Generic = refl
+among-every Noreturn = refl
+among-every StaticAssert = refl
+among-every ThreadLocal = refl
 among-every LeftBracket = refl
 among-every RightBracket = refl
 among-every LeftParen = refl

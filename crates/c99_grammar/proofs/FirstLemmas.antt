@@ -2,14 +2,16 @@
 use Rattle.std.proofs.Common.{ℕ, zero, suc, ◌<◌, ◌≡◌, Bool, true, false, not, List, [], ◌∷◌, length, get_or, refl, sym, ap, ◌∙◌, lit<, arith}
 use Rattle.std.specs.List.{list_all}
 use Rattle.std.proofs.lemmas.Bool.{and_parts}
+use Rattle.cs_base.specs.declared.ws_units.Standard.{Standard}
 use Rattle.c99_tree.specs.declared.production.Production.{Production}
-use Rattle.c99_tree.specs.declared.production.Production.TheVariants.{TranslationUnit, External, ExtRest, ExtTail, FunBody, Declaration, DeclRest, InitDecl, Specs, Main, Mod, Qual, Word, StructSpec, SuRest, Members, Member, Mdecl, EnumSpec, EnRest, Enumerators, Enumerator, Declarator, Pointer, Direct, Suffix, Bound, Params, Param, Pdecl, Pdirect, TypeName, Adecl, Adirect, Init, InitList, InitItem, Designator, Expr, Assign, Asgop, Cond, Lor, Land, Bor, Bxor, Band, Equal, Relate, Shift, Add, Mul, Cast, CastRest, Unary, SizeRest, SizeLit, Primary, Post, Args, Block, BlockItem, Statement, Sub, ForInit}
+use Rattle.c99_tree.specs.declared.production.Production.TheVariants.{TranslationUnit, External, ExtRest, ExtTail, FunBody, Declaration, DeclRest, InitDecl, Sassert, Specs, Main, Mod, Qual, Word, StructSpec, SuRest, Members, Member, MemRest, Mdecl, EnumSpec, EnRest, Enumerators, Enumerator, Declarator, Pointer, Direct, Suffix, Bound, Params, Param, Pdecl, Pdirect, TypeName, Adecl, Adirect, Init, InitList, InitItem, Designator, Expr, Assign, Asgop, Cond, Lor, Land, Bor, Bxor, Band, Equal, Relate, Shift, Add, Mul, Cast, CastRest, Unary, SizeRest, SizeLit, Primary, Post, Args, Block, BlockItem, Statement, Sub, ForInit}
 use Rattle.c99_grammar.specs.declared.classes.Class.{Class}
 use Rattle.c99_grammar.specs.declared.classes.Class.TheVariants as class
 use Rattle.c99_grammar.specs.First.{every}
 use Rattle.c99_grammar.specs.FirstSets.{alternative_starts, FirstSetsAreTheTables}
 use Rattle.c99_grammar.specs.Starting.{production_starts}
-use Rattle.c99_grammar.specs.Standard.{c99}
+use Rattle.c99_grammar.specs.Standard.{grammar}
+use Rattle.c99_grammar.proofs.StandardLemmas.{both}
 
 same_bool : Bool → Bool → Bool
 same_bool true b = b
@@ -60,61 +62,68 @@ place class.While = (33, lit< tt, refl)
 place class.BoolWord = (34, lit< tt, refl)
 place class.ComplexWord = (35, lit< tt, refl)
 place class.ImaginaryWord = (36, lit< tt, refl)
-place class.LeftBracket = (37, lit< tt, refl)
-place class.RightBracket = (38, lit< tt, refl)
-place class.LeftParen = (39, lit< tt, refl)
-place class.RightParen = (40, lit< tt, refl)
-place class.LeftBrace = (41, lit< tt, refl)
-place class.RightBrace = (42, lit< tt, refl)
-place class.Dot = (43, lit< tt, refl)
-place class.Arrow = (44, lit< tt, refl)
-place class.PlusPlus = (45, lit< tt, refl)
-place class.MinusMinus = (46, lit< tt, refl)
-place class.Amp = (47, lit< tt, refl)
-place class.Star = (48, lit< tt, refl)
-place class.Plus = (49, lit< tt, refl)
-place class.Minus = (50, lit< tt, refl)
-place class.Tilde = (51, lit< tt, refl)
-place class.Bang = (52, lit< tt, refl)
-place class.Slash = (53, lit< tt, refl)
-place class.Percent = (54, lit< tt, refl)
-place class.ShiftLeft = (55, lit< tt, refl)
-place class.ShiftRight = (56, lit< tt, refl)
-place class.Less = (57, lit< tt, refl)
-place class.Greater = (58, lit< tt, refl)
-place class.LessEq = (59, lit< tt, refl)
-place class.GreaterEq = (60, lit< tt, refl)
-place class.EqEq = (61, lit< tt, refl)
-place class.BangEq = (62, lit< tt, refl)
-place class.Caret = (63, lit< tt, refl)
-place class.Bar = (64, lit< tt, refl)
-place class.AmpAmp = (65, lit< tt, refl)
-place class.BarBar = (66, lit< tt, refl)
-place class.Question = (67, lit< tt, refl)
-place class.Colon = (68, lit< tt, refl)
-place class.Semicolon = (69, lit< tt, refl)
-place class.Ellipsis = (70, lit< tt, refl)
-place class.Eq = (71, lit< tt, refl)
-place class.StarEq = (72, lit< tt, refl)
-place class.SlashEq = (73, lit< tt, refl)
-place class.PercentEq = (74, lit< tt, refl)
-place class.PlusEq = (75, lit< tt, refl)
-place class.MinusEq = (76, lit< tt, refl)
-place class.ShiftLeftEq = (77, lit< tt, refl)
-place class.ShiftRightEq = (78, lit< tt, refl)
-place class.AmpEq = (79, lit< tt, refl)
-place class.CaretEq = (80, lit< tt, refl)
-place class.BarEq = (81, lit< tt, refl)
-place class.Comma = (82, lit< tt, refl)
-place class.Hash = (83, lit< tt, refl)
-place class.HashHash = (84, lit< tt, refl)
-place class.Identifier = (85, lit< tt, refl)
-place class.TypedefName = (86, lit< tt, refl)
-place class.Constant = (87, lit< tt, refl)
-place class.CharConstant = (88, lit< tt, refl)
-place class.StringLiteral = (89, lit< tt, refl)
-place class.End = (90, lit< tt, refl)
-place class.NoClass = (91, lit< tt, refl)
+place class.Alignas = (37, lit< tt, refl)
+place class.Alignof = (38, lit< tt, refl)
+place class.Atomic = (39, lit< tt, refl)
+place class.Generic = (40, lit< tt, refl)
+place class.Noreturn = (41, lit< tt, refl)
+place class.StaticAssert = (42, lit< tt, refl)
+place class.ThreadLocal = (43, lit< tt, refl)
+place class.LeftBracket = (44, lit< tt, refl)
+place class.RightBracket = (45, lit< tt, refl)
+place class.LeftParen = (46, lit< tt, refl)
+place class.RightParen = (47, lit< tt, refl)
+place class.LeftBrace = (48, lit< tt, refl)
+place class.RightBrace = (49, lit< tt, refl)
+place class.Dot = (50, lit< tt, refl)
+place class.Arrow = (51, lit< tt, refl)
+place class.PlusPlus = (52, lit< tt, refl)
+place class.MinusMinus = (53, lit< tt, refl)
+place class.Amp = (54, lit< tt, refl)
+place class.Star = (55, lit< tt, refl)
+place class.Plus = (56, lit< tt, refl)
+place class.Minus = (57, lit< tt, refl)
+place class.Tilde = (58, lit< tt, refl)
+place class.Bang = (59, lit< tt, refl)
+place class.Slash = (60, lit< tt, refl)
+place class.Percent = (61, lit< tt, refl)
+place class.ShiftLeft = (62, lit< tt, refl)
+place class.ShiftRight = (63, lit< tt, refl)
+place class.Less = (64, lit< tt, refl)
+place class.Greater = (65, lit< tt, refl)
+place class.LessEq = (66, lit< tt, refl)
+place class.GreaterEq = (67, lit< tt, refl)
+place class.EqEq = (68, lit< tt, refl)
+place class.BangEq = (69, lit< tt, refl)
+place class.Caret = (70, lit< tt, refl)
+place class.Bar = (71, lit< tt, refl)
+place class.AmpAmp = (72, lit< tt, refl)
+place class.BarBar = (73, lit< tt, refl)
+place class.Question = (74, lit< tt, refl)
+place class.Colon = (75, lit< tt, refl)
+place class.Semicolon = (76, lit< tt, refl)
+place class.Ellipsis = (77, lit< tt, refl)
+place class.Eq = (78, lit< tt, refl)
+place class.StarEq = (79, lit< tt, refl)
+place class.SlashEq = (80, lit< tt, refl)
+place class.PercentEq = (81, lit< tt, refl)
+place class.PlusEq = (82, lit< tt, refl)
+place class.MinusEq = (83, lit< tt, refl)
+place class.ShiftLeftEq = (84, lit< tt, refl)
+place class.ShiftRightEq = (85, lit< tt, refl)
+place class.AmpEq = (86, lit< tt, refl)
+place class.CaretEq = (87, lit< tt, refl)
+place class.BarEq = (88, lit< tt, refl)
+place class.Comma = (89, lit< tt, refl)
+place class.Hash = (90, lit< tt, refl)
+place class.HashHash = (91, lit< tt, refl)
+place class.Identifier = (92, lit< tt, refl)
+place class.TypedefName = (93, lit< tt, refl)
+place class.Constant = (94, lit< tt, refl)
+place class.CharConstant = (95, lit< tt, refl)
+place class.StringLiteral = (96, lit< tt, refl)
+place class.End = (97, lit< tt, refl)
+place class.NoClass = (98, lit< tt, refl)
 
 list_all-get : (P : Class → Bool) (xs : List Class) (k : ℕ) (d : Class) → list_all P xs ≡ true → k < length xs → P (get_or xs k d) ≡ true
 list_all-get P [] k d all within = absurd (omega arith)
@@ -126,340 +135,350 @@ all_of P all c =
     let at = place c in
     ap P (sym at.2) ∙ list_all-get P every at.0 c all at.1
 
-is_right : Production → Class → Class → Bool
-is_right p c d = same_bool (production_starts c99 p c d) (alternative_starts p c d)
+is_right : Production → Standard → Class → Class → Bool
+is_right p s c d = same_bool (production_starts (grammar s) p c d) (alternative_starts s p c d)
 
-abbrev IsRight : Production → Type 0
-IsRight p = list_all (λ c. list_all (λ d. is_right p c d) every) every ≡ true
+abbrev IsRight : Production → Standard → Type 0
+IsRight p s = list_all (λ c. list_all (λ d. is_right p s c d) every) every ≡ true
 
-right_at-TranslationUnit : IsRight TranslationUnit
+right_at-TranslationUnit : (s : Standard) → IsRight TranslationUnit s
 unfolding is_right same_bool
-right_at-TranslationUnit = refl
+right_at-TranslationUnit = both (IsRight TranslationUnit) refl refl
 
-right_at-External : IsRight External
+right_at-External : (s : Standard) → IsRight External s
 unfolding is_right same_bool
-right_at-External = refl
+right_at-External = both (IsRight External) refl refl
 
-right_at-ExtRest : IsRight ExtRest
+right_at-ExtRest : (s : Standard) → IsRight ExtRest s
 unfolding is_right same_bool
-right_at-ExtRest = refl
+right_at-ExtRest s = refl
 
-right_at-ExtTail : IsRight ExtTail
+right_at-ExtTail : (s : Standard) → IsRight ExtTail s
 unfolding is_right same_bool
-right_at-ExtTail = refl
+right_at-ExtTail = both (IsRight ExtTail) refl refl
 
-right_at-FunBody : IsRight FunBody
+right_at-FunBody : (s : Standard) → IsRight FunBody s
 unfolding is_right same_bool
-right_at-FunBody = refl
+right_at-FunBody = both (IsRight FunBody) refl refl
 
-right_at-Declaration : IsRight Declaration
+right_at-Declaration : (s : Standard) → IsRight Declaration s
 unfolding is_right same_bool
-right_at-Declaration = refl
+right_at-Declaration = both (IsRight Declaration) refl refl
 
-right_at-DeclRest : IsRight DeclRest
+right_at-DeclRest : (s : Standard) → IsRight DeclRest s
 unfolding is_right same_bool
-right_at-DeclRest = refl
+right_at-DeclRest s = refl
 
-right_at-InitDecl : IsRight InitDecl
+right_at-InitDecl : (s : Standard) → IsRight InitDecl s
 unfolding is_right same_bool
-right_at-InitDecl = refl
+right_at-InitDecl s = refl
 
-right_at-Specs : IsRight Specs
+right_at-Sassert : (s : Standard) → IsRight Sassert s
 unfolding is_right same_bool
-right_at-Specs = refl
+right_at-Sassert = both (IsRight Sassert) refl refl
 
-right_at-Main : IsRight Main
+right_at-Specs : (s : Standard) → IsRight Specs s
 unfolding is_right same_bool
-right_at-Main = refl
+right_at-Specs = both (IsRight Specs) refl refl
 
-right_at-Mod : IsRight Mod
+right_at-Main : (s : Standard) → IsRight Main s
 unfolding is_right same_bool
-right_at-Mod = refl
+right_at-Main = both (IsRight Main) refl refl
 
-right_at-Qual : IsRight Qual
+right_at-Mod : (s : Standard) → IsRight Mod s
 unfolding is_right same_bool
-right_at-Qual = refl
+right_at-Mod = both (IsRight Mod) refl refl
 
-right_at-Word : IsRight Word
+right_at-Qual : (s : Standard) → IsRight Qual s
 unfolding is_right same_bool
-right_at-Word = refl
+right_at-Qual s = refl
 
-right_at-StructSpec : IsRight StructSpec
+right_at-Word : (s : Standard) → IsRight Word s
 unfolding is_right same_bool
-right_at-StructSpec = refl
+right_at-Word s = refl
 
-right_at-SuRest : IsRight SuRest
+right_at-StructSpec : (s : Standard) → IsRight StructSpec s
 unfolding is_right same_bool
-right_at-SuRest = refl
+right_at-StructSpec s = refl
 
-right_at-Members : IsRight Members
+right_at-SuRest : (s : Standard) → IsRight SuRest s
 unfolding is_right same_bool
-right_at-Members = refl
+right_at-SuRest s = refl
 
-right_at-Member : IsRight Member
+right_at-Members : (s : Standard) → IsRight Members s
 unfolding is_right same_bool
-right_at-Member = refl
+right_at-Members = both (IsRight Members) refl refl
 
-right_at-Mdecl : IsRight Mdecl
+right_at-Member : (s : Standard) → IsRight Member s
 unfolding is_right same_bool
-right_at-Mdecl = refl
+right_at-Member = both (IsRight Member) refl refl
 
-right_at-EnumSpec : IsRight EnumSpec
+right_at-MemRest : (s : Standard) → IsRight MemRest s
 unfolding is_right same_bool
-right_at-EnumSpec = refl
+right_at-MemRest = both (IsRight MemRest) refl refl
 
-right_at-EnRest : IsRight EnRest
+right_at-Mdecl : (s : Standard) → IsRight Mdecl s
 unfolding is_right same_bool
-right_at-EnRest = refl
+right_at-Mdecl s = refl
 
-right_at-Enumerators : IsRight Enumerators
+right_at-EnumSpec : (s : Standard) → IsRight EnumSpec s
 unfolding is_right same_bool
-right_at-Enumerators = refl
+right_at-EnumSpec s = refl
 
-right_at-Enumerator : IsRight Enumerator
+right_at-EnRest : (s : Standard) → IsRight EnRest s
 unfolding is_right same_bool
-right_at-Enumerator = refl
+right_at-EnRest s = refl
 
-right_at-Declarator : IsRight Declarator
+right_at-Enumerators : (s : Standard) → IsRight Enumerators s
 unfolding is_right same_bool
-right_at-Declarator = refl
+right_at-Enumerators s = refl
 
-right_at-Pointer : IsRight Pointer
+right_at-Enumerator : (s : Standard) → IsRight Enumerator s
 unfolding is_right same_bool
-right_at-Pointer = refl
+right_at-Enumerator s = refl
 
-right_at-Direct : IsRight Direct
+right_at-Declarator : (s : Standard) → IsRight Declarator s
 unfolding is_right same_bool
-right_at-Direct = refl
+right_at-Declarator s = refl
 
-right_at-Suffix : IsRight Suffix
+right_at-Pointer : (s : Standard) → IsRight Pointer s
 unfolding is_right same_bool
-right_at-Suffix = refl
+right_at-Pointer s = refl
 
-right_at-Bound : IsRight Bound
+right_at-Direct : (s : Standard) → IsRight Direct s
 unfolding is_right same_bool
-right_at-Bound = refl
+right_at-Direct s = refl
 
-right_at-Params : IsRight Params
+right_at-Suffix : (s : Standard) → IsRight Suffix s
 unfolding is_right same_bool
-right_at-Params = refl
+right_at-Suffix s = refl
 
-right_at-Param : IsRight Param
+right_at-Bound : (s : Standard) → IsRight Bound s
 unfolding is_right same_bool
-right_at-Param = refl
+right_at-Bound s = refl
 
-right_at-Pdecl : IsRight Pdecl
+right_at-Params : (s : Standard) → IsRight Params s
 unfolding is_right same_bool
-right_at-Pdecl = refl
+right_at-Params = both (IsRight Params) refl refl
 
-right_at-Pdirect : IsRight Pdirect
+right_at-Param : (s : Standard) → IsRight Param s
 unfolding is_right same_bool
-right_at-Pdirect = refl
+right_at-Param = both (IsRight Param) refl refl
 
-right_at-TypeName : IsRight TypeName
+right_at-Pdecl : (s : Standard) → IsRight Pdecl s
 unfolding is_right same_bool
-right_at-TypeName = refl
+right_at-Pdecl s = refl
 
-right_at-Adecl : IsRight Adecl
+right_at-Pdirect : (s : Standard) → IsRight Pdirect s
 unfolding is_right same_bool
-right_at-Adecl = refl
+right_at-Pdirect s = refl
 
-right_at-Adirect : IsRight Adirect
+right_at-TypeName : (s : Standard) → IsRight TypeName s
 unfolding is_right same_bool
-right_at-Adirect = refl
+right_at-TypeName = both (IsRight TypeName) refl refl
 
-right_at-Init : IsRight Init
+right_at-Adecl : (s : Standard) → IsRight Adecl s
 unfolding is_right same_bool
-right_at-Init = refl
+right_at-Adecl s = refl
 
-right_at-InitList : IsRight InitList
+right_at-Adirect : (s : Standard) → IsRight Adirect s
 unfolding is_right same_bool
-right_at-InitList = refl
+right_at-Adirect s = refl
 
-right_at-InitItem : IsRight InitItem
+right_at-Init : (s : Standard) → IsRight Init s
 unfolding is_right same_bool
-right_at-InitItem = refl
+right_at-Init s = refl
 
-right_at-Designator : IsRight Designator
+right_at-InitList : (s : Standard) → IsRight InitList s
 unfolding is_right same_bool
-right_at-Designator = refl
+right_at-InitList s = refl
 
-right_at-Expr : IsRight Expr
+right_at-InitItem : (s : Standard) → IsRight InitItem s
 unfolding is_right same_bool
-right_at-Expr = refl
+right_at-InitItem s = refl
 
-right_at-Assign : IsRight Assign
+right_at-Designator : (s : Standard) → IsRight Designator s
 unfolding is_right same_bool
-right_at-Assign = refl
+right_at-Designator s = refl
 
-right_at-Asgop : IsRight Asgop
+right_at-Expr : (s : Standard) → IsRight Expr s
 unfolding is_right same_bool
-right_at-Asgop = refl
+right_at-Expr s = refl
 
-right_at-Cond : IsRight Cond
+right_at-Assign : (s : Standard) → IsRight Assign s
 unfolding is_right same_bool
-right_at-Cond = refl
+right_at-Assign s = refl
 
-right_at-Lor : IsRight Lor
+right_at-Asgop : (s : Standard) → IsRight Asgop s
 unfolding is_right same_bool
-right_at-Lor = refl
+right_at-Asgop s = refl
 
-right_at-Land : IsRight Land
+right_at-Cond : (s : Standard) → IsRight Cond s
 unfolding is_right same_bool
-right_at-Land = refl
+right_at-Cond s = refl
 
-right_at-Bor : IsRight Bor
+right_at-Lor : (s : Standard) → IsRight Lor s
 unfolding is_right same_bool
-right_at-Bor = refl
+right_at-Lor s = refl
 
-right_at-Bxor : IsRight Bxor
+right_at-Land : (s : Standard) → IsRight Land s
 unfolding is_right same_bool
-right_at-Bxor = refl
+right_at-Land s = refl
 
-right_at-Band : IsRight Band
+right_at-Bor : (s : Standard) → IsRight Bor s
 unfolding is_right same_bool
-right_at-Band = refl
+right_at-Bor s = refl
 
-right_at-Equal : IsRight Equal
+right_at-Bxor : (s : Standard) → IsRight Bxor s
 unfolding is_right same_bool
-right_at-Equal = refl
+right_at-Bxor s = refl
 
-right_at-Relate : IsRight Relate
+right_at-Band : (s : Standard) → IsRight Band s
 unfolding is_right same_bool
-right_at-Relate = refl
+right_at-Band s = refl
 
-right_at-Shift : IsRight Shift
+right_at-Equal : (s : Standard) → IsRight Equal s
 unfolding is_right same_bool
-right_at-Shift = refl
+right_at-Equal s = refl
 
-right_at-Add : IsRight Add
+right_at-Relate : (s : Standard) → IsRight Relate s
 unfolding is_right same_bool
-right_at-Add = refl
+right_at-Relate s = refl
 
-right_at-Mul : IsRight Mul
+right_at-Shift : (s : Standard) → IsRight Shift s
 unfolding is_right same_bool
-right_at-Mul = refl
+right_at-Shift s = refl
 
-right_at-Cast : IsRight Cast
+right_at-Add : (s : Standard) → IsRight Add s
 unfolding is_right same_bool
-right_at-Cast = refl
+right_at-Add s = refl
 
-right_at-CastRest : IsRight CastRest
+right_at-Mul : (s : Standard) → IsRight Mul s
 unfolding is_right same_bool
-right_at-CastRest = refl
+right_at-Mul s = refl
 
-right_at-Unary : IsRight Unary
+right_at-Cast : (s : Standard) → IsRight Cast s
 unfolding is_right same_bool
-right_at-Unary = refl
+right_at-Cast = both (IsRight Cast) refl refl
 
-right_at-SizeRest : IsRight SizeRest
+right_at-CastRest : (s : Standard) → IsRight CastRest s
 unfolding is_right same_bool
-right_at-SizeRest = refl
+right_at-CastRest s = refl
 
-right_at-SizeLit : IsRight SizeLit
+right_at-Unary : (s : Standard) → IsRight Unary s
 unfolding is_right same_bool
-right_at-SizeLit = refl
+right_at-Unary s = refl
 
-right_at-Primary : IsRight Primary
+right_at-SizeRest : (s : Standard) → IsRight SizeRest s
 unfolding is_right same_bool
-right_at-Primary = refl
+right_at-SizeRest = both (IsRight SizeRest) refl refl
 
-right_at-Post : IsRight Post
+right_at-SizeLit : (s : Standard) → IsRight SizeLit s
 unfolding is_right same_bool
-right_at-Post = refl
+right_at-SizeLit s = refl
 
-right_at-Args : IsRight Args
+right_at-Primary : (s : Standard) → IsRight Primary s
 unfolding is_right same_bool
-right_at-Args = refl
+right_at-Primary s = refl
 
-right_at-Block : IsRight Block
+right_at-Post : (s : Standard) → IsRight Post s
 unfolding is_right same_bool
-right_at-Block = refl
+right_at-Post s = refl
 
-right_at-BlockItem : IsRight BlockItem
+right_at-Args : (s : Standard) → IsRight Args s
 unfolding is_right same_bool
-right_at-BlockItem = refl
+right_at-Args s = refl
 
-right_at-Statement : IsRight Statement
+right_at-Block : (s : Standard) → IsRight Block s
 unfolding is_right same_bool
-right_at-Statement = refl
+right_at-Block s = refl
 
-right_at-Sub : IsRight Sub
+right_at-BlockItem : (s : Standard) → IsRight BlockItem s
 unfolding is_right same_bool
-right_at-Sub = refl
+right_at-BlockItem = both (IsRight BlockItem) refl refl
 
-right_at-ForInit : IsRight ForInit
+right_at-Statement : (s : Standard) → IsRight Statement s
 unfolding is_right same_bool
-right_at-ForInit = refl
+right_at-Statement s = refl
 
-right_at : (p : Production) → IsRight p
-right_at TranslationUnit = right_at-TranslationUnit
-right_at External = right_at-External
-right_at ExtRest = right_at-ExtRest
-right_at ExtTail = right_at-ExtTail
-right_at FunBody = right_at-FunBody
-right_at Declaration = right_at-Declaration
-right_at DeclRest = right_at-DeclRest
-right_at InitDecl = right_at-InitDecl
-right_at Specs = right_at-Specs
-right_at Main = right_at-Main
-right_at Mod = right_at-Mod
-right_at Qual = right_at-Qual
-right_at Word = right_at-Word
-right_at StructSpec = right_at-StructSpec
-right_at SuRest = right_at-SuRest
-right_at Members = right_at-Members
-right_at Member = right_at-Member
-right_at Mdecl = right_at-Mdecl
-right_at EnumSpec = right_at-EnumSpec
-right_at EnRest = right_at-EnRest
-right_at Enumerators = right_at-Enumerators
-right_at Enumerator = right_at-Enumerator
-right_at Declarator = right_at-Declarator
-right_at Pointer = right_at-Pointer
-right_at Direct = right_at-Direct
-right_at Suffix = right_at-Suffix
-right_at Bound = right_at-Bound
-right_at Params = right_at-Params
-right_at Param = right_at-Param
-right_at Pdecl = right_at-Pdecl
-right_at Pdirect = right_at-Pdirect
-right_at TypeName = right_at-TypeName
-right_at Adecl = right_at-Adecl
-right_at Adirect = right_at-Adirect
-right_at Init = right_at-Init
-right_at InitList = right_at-InitList
-right_at InitItem = right_at-InitItem
-right_at Designator = right_at-Designator
-right_at Expr = right_at-Expr
-right_at Assign = right_at-Assign
-right_at Asgop = right_at-Asgop
-right_at Cond = right_at-Cond
-right_at Lor = right_at-Lor
-right_at Land = right_at-Land
-right_at Bor = right_at-Bor
-right_at Bxor = right_at-Bxor
-right_at Band = right_at-Band
-right_at Equal = right_at-Equal
-right_at Relate = right_at-Relate
-right_at Shift = right_at-Shift
-right_at Add = right_at-Add
-right_at Mul = right_at-Mul
-right_at Cast = right_at-Cast
-right_at CastRest = right_at-CastRest
-right_at Unary = right_at-Unary
-right_at SizeRest = right_at-SizeRest
-right_at SizeLit = right_at-SizeLit
-right_at Primary = right_at-Primary
-right_at Post = right_at-Post
-right_at Args = right_at-Args
-right_at Block = right_at-Block
-right_at BlockItem = right_at-BlockItem
-right_at Statement = right_at-Statement
-right_at Sub = right_at-Sub
-right_at ForInit = right_at-ForInit
+right_at-Sub : (s : Standard) → IsRight Sub s
+unfolding is_right same_bool
+right_at-Sub s = refl
+
+right_at-ForInit : (s : Standard) → IsRight ForInit s
+unfolding is_right same_bool
+right_at-ForInit = both (IsRight ForInit) refl refl
+
+right_at : (p : Production) (s : Standard) → IsRight p s
+right_at TranslationUnit s = right_at-TranslationUnit s
+right_at External s = right_at-External s
+right_at ExtRest s = right_at-ExtRest s
+right_at ExtTail s = right_at-ExtTail s
+right_at FunBody s = right_at-FunBody s
+right_at Declaration s = right_at-Declaration s
+right_at DeclRest s = right_at-DeclRest s
+right_at InitDecl s = right_at-InitDecl s
+right_at Sassert s = right_at-Sassert s
+right_at Specs s = right_at-Specs s
+right_at Main s = right_at-Main s
+right_at Mod s = right_at-Mod s
+right_at Qual s = right_at-Qual s
+right_at Word s = right_at-Word s
+right_at StructSpec s = right_at-StructSpec s
+right_at SuRest s = right_at-SuRest s
+right_at Members s = right_at-Members s
+right_at Member s = right_at-Member s
+right_at MemRest s = right_at-MemRest s
+right_at Mdecl s = right_at-Mdecl s
+right_at EnumSpec s = right_at-EnumSpec s
+right_at EnRest s = right_at-EnRest s
+right_at Enumerators s = right_at-Enumerators s
+right_at Enumerator s = right_at-Enumerator s
+right_at Declarator s = right_at-Declarator s
+right_at Pointer s = right_at-Pointer s
+right_at Direct s = right_at-Direct s
+right_at Suffix s = right_at-Suffix s
+right_at Bound s = right_at-Bound s
+right_at Params s = right_at-Params s
+right_at Param s = right_at-Param s
+right_at Pdecl s = right_at-Pdecl s
+right_at Pdirect s = right_at-Pdirect s
+right_at TypeName s = right_at-TypeName s
+right_at Adecl s = right_at-Adecl s
+right_at Adirect s = right_at-Adirect s
+right_at Init s = right_at-Init s
+right_at InitList s = right_at-InitList s
+right_at InitItem s = right_at-InitItem s
+right_at Designator s = right_at-Designator s
+right_at Expr s = right_at-Expr s
+right_at Assign s = right_at-Assign s
+right_at Asgop s = right_at-Asgop s
+right_at Cond s = right_at-Cond s
+right_at Lor s = right_at-Lor s
+right_at Land s = right_at-Land s
+right_at Bor s = right_at-Bor s
+right_at Bxor s = right_at-Bxor s
+right_at Band s = right_at-Band s
+right_at Equal s = right_at-Equal s
+right_at Relate s = right_at-Relate s
+right_at Shift s = right_at-Shift s
+right_at Add s = right_at-Add s
+right_at Mul s = right_at-Mul s
+right_at Cast s = right_at-Cast s
+right_at CastRest s = right_at-CastRest s
+right_at Unary s = right_at-Unary s
+right_at SizeRest s = right_at-SizeRest s
+right_at SizeLit s = right_at-SizeLit s
+right_at Primary s = right_at-Primary s
+right_at Post s = right_at-Post s
+right_at Args s = right_at-Args s
+right_at Block s = right_at-Block s
+right_at BlockItem s = right_at-BlockItem s
+right_at Statement s = right_at-Statement s
+right_at Sub s = right_at-Sub s
+right_at ForInit s = right_at-ForInit s
 
 pub first_sets : FirstSetsAreTheTables
 unfolding is_right
-first_sets p c d =
-    same_bool-true _ _ (all_of (is_right p c) (all_of (λ k. list_all (λ n. is_right p k n) every) (right_at p) c) d)
+first_sets s p c d =
+    same_bool-true _ _ (all_of (is_right p s c) (all_of (λ k. list_all (λ n. is_right p s k n) every) (right_at p s) c) d)

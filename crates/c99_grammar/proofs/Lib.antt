@@ -1,2 +1,4 @@
+pub mod SpelledLemmas
+pub mod StandardLemmas
 pub mod AmongLemmas
 pub mod FirstLemmas

@@ -1,9 +1,11 @@
 -- With which classes each production starts. That these are the right ones is checked against the table.
 use Rattle.std.specs.Prelude.{ℕ, List, [], ◌∷◌, ◌++◌}
+use Rattle.cs_base.specs.declared.ws_units.Standard.{Standard}
+use Rattle.cs_base.specs.declared.ws_units.Standard.TheVariants.{C99, C11}
 use Rattle.c99_tree.specs.declared.production.Production.{Production}
-use Rattle.c99_tree.specs.declared.production.Production.TheVariants.{TranslationUnit, External, ExtRest, ExtTail, FunBody, Declaration, DeclRest, InitDecl, Specs, Main, Mod, Qual, Word, StructSpec, SuRest, Members, Member, Mdecl, EnumSpec, EnRest, Enumerators, Enumerator, Declarator, Pointer, Direct, Suffix, Bound, Params, Param, Pdecl, Pdirect, TypeName, Adecl, Adirect, Init, InitList, InitItem, Designator, Expr, Assign, Asgop, Cond, Lor, Land, Bor, Bxor, Band, Equal, Relate, Shift, Add, Mul, Cast, CastRest, Unary, SizeRest, SizeLit, Primary, Post, Args, Block, BlockItem, Statement, Sub, ForInit}
+use Rattle.c99_tree.specs.declared.production.Production.TheVariants.{TranslationUnit, External, ExtRest, ExtTail, FunBody, Declaration, DeclRest, InitDecl, Sassert, Specs, Main, Mod, Qual, Word, StructSpec, SuRest, Members, Member, MemRest, Mdecl, EnumSpec, EnRest, Enumerators, Enumerator, Declarator, Pointer, Direct, Suffix, Bound, Params, Param, Pdecl, Pdirect, TypeName, Adecl, Adirect, Init, InitList, InitItem, Designator, Expr, Assign, Asgop, Cond, Lor, Land, Bor, Bxor, Band, Equal, Relate, Shift, Add, Mul, Cast, CastRest, Unary, SizeRest, SizeLit, Primary, Post, Args, Block, BlockItem, Statement, Sub, ForInit}
 use Rattle.c99_grammar.specs.declared.classes.Class.{Class}
-use Rattle.c99_grammar.specs.declared.classes.Class.TheVariants.{Auto, Break, Case, Char, Const, Continue, Default, Do, Double, Else, Enum, Extern, Float, For, Goto, If, Inline, Int, Long, Register, Restrict, Return, Short, Signed, Sizeof, Static, Struct, Switch, Typedef, Union, Unsigned, Void, Volatile, While, BoolWord, ComplexWord, ImaginaryWord, LeftBracket, RightBracket, LeftParen, RightParen, LeftBrace, RightBrace, Dot, Arrow, PlusPlus, MinusMinus, Amp, Star, Plus, Minus, Tilde, Bang, Slash, Percent, ShiftLeft, ShiftRight, Less, Greater, LessEq, GreaterEq, EqEq, BangEq, Caret, Bar, AmpAmp, BarBar, Question, Colon, Semicolon, Ellipsis, Eq, StarEq, SlashEq, PercentEq, PlusEq, MinusEq, ShiftLeftEq, ShiftRightEq, AmpEq, CaretEq, BarEq, Comma, Hash, HashHash, Identifier, TypedefName, Constant, CharConstant, StringLiteral, End, NoClass}
+use Rattle.c99_grammar.specs.declared.classes.Class.TheVariants.{Auto, Break, Case, Char, Const, Continue, Default, Do, Double, Else, Enum, Extern, Float, For, Goto, If, Inline, Int, Long, Register, Restrict, Return, Short, Signed, Sizeof, Static, Struct, Switch, Typedef, Union, Unsigned, Void, Volatile, While, BoolWord, ComplexWord, ImaginaryWord, Alignas, Alignof, Atomic, Generic, Noreturn, StaticAssert, ThreadLocal, LeftBracket, RightBracket, LeftParen, RightParen, LeftBrace, RightBrace, Dot, Arrow, PlusPlus, MinusMinus, Amp, Star, Plus, Minus, Tilde, Bang, Slash, Percent, ShiftLeft, ShiftRight, Less, Greater, LessEq, GreaterEq, EqEq, BangEq, Caret, Bar, AmpAmp, BarBar, Question, Colon, Semicolon, Ellipsis, Eq, StarEq, SlashEq, PercentEq, PlusEq, MinusEq, ShiftLeftEq, ShiftRightEq, AmpEq, CaretEq, BarEq, Comma, Hash, HashHash, Identifier, TypedefName, Constant, CharConstant, StringLiteral, End, NoClass}
 
 abbrev pub specifiers : List Class
 specifiers =
@@ -63,7 +65,8 @@ every =
     Auto ∷ Break ∷ Case ∷ Char ∷ Const ∷ Continue ∷ Default ∷ Do ∷ Double ∷ Else ∷ Enum ∷
     Extern ∷ Float ∷ For ∷ Goto ∷ If ∷ Inline ∷ Int ∷ Long ∷ Register ∷ Restrict ∷ Return ∷
     Short ∷ Signed ∷ Sizeof ∷ Static ∷ Struct ∷ Switch ∷ Typedef ∷ Union ∷ Unsigned ∷ Void ∷
-    Volatile ∷ While ∷ BoolWord ∷ ComplexWord ∷ ImaginaryWord ∷ LeftBracket ∷ RightBracket ∷
+    Volatile ∷ While ∷ BoolWord ∷ ComplexWord ∷ ImaginaryWord ∷ Alignas ∷ Alignof ∷ Atomic ∷ Generic ∷ Noreturn ∷
+    StaticAssert ∷ ThreadLocal ∷ LeftBracket ∷ RightBracket ∷
     LeftParen ∷ RightParen ∷ LeftBrace ∷ RightBrace ∷ Dot ∷ Arrow ∷ PlusPlus ∷ MinusMinus ∷ Amp
     ∷ Star ∷ Plus ∷ Minus ∷ Tilde ∷ Bang ∷ Slash ∷ Percent ∷ ShiftLeft ∷ ShiftRight ∷ Less ∷
     Greater ∷ LessEq ∷ GreaterEq ∷ EqEq ∷ BangEq ∷ Caret ∷ Bar ∷ AmpAmp ∷ BarBar ∷ Question ∷
@@ -71,72 +74,112 @@ every =
     ShiftLeftEq ∷ ShiftRightEq ∷ AmpEq ∷ CaretEq ∷ BarEq ∷ Comma ∷ Hash ∷ HashHash ∷ Identifier
     ∷ TypedefName ∷ Constant ∷ CharConstant ∷ StringLiteral ∷ End ∷ NoClass ∷ []
 
-abbrev pub first : Production → List Class
-first TranslationUnit = Semicolon ∷ End ∷ specifiers
-first External = members
-first ExtRest = LeftParen ∷ Star ∷ Semicolon ∷ Identifier ∷ TypedefName ∷ []
-first ExtTail = every
-first FunBody = LeftBrace ∷ specifiers
-first Declaration = specifiers
-first DeclRest = LeftParen ∷ Star ∷ Semicolon ∷ Identifier ∷ TypedefName ∷ []
-first InitDecl = declarators
-first Specs = specifiers
-first Main = Char ∷ Double ∷ Enum ∷ Float ∷ Int ∷ Long ∷ Short ∷ Signed ∷ Struct ∷ Union ∷ Unsigned ∷ Void ∷ BoolWord ∷ ComplexWord ∷ ImaginaryWord ∷ TypedefName ∷ []
-first Mod = modifiers
-first Qual = qualifiers
-first Word = words
-first StructSpec = Struct ∷ Union ∷ []
-first SuRest = LeftBrace ∷ Identifier ∷ TypedefName ∷ []
-first Members = members
-first Member = members
-first Mdecl = LeftParen ∷ Star ∷ Colon ∷ Identifier ∷ TypedefName ∷ []
-first EnumSpec = Enum ∷ []
-first EnRest = LeftBrace ∷ Identifier ∷ TypedefName ∷ []
-first Enumerators = Identifier ∷ TypedefName ∷ []
-first Enumerator = Identifier ∷ TypedefName ∷ []
-first Declarator = declarators
-first Pointer = Star ∷ []
-first Direct = LeftParen ∷ Identifier ∷ TypedefName ∷ []
-first Suffix = LeftBracket ∷ LeftParen ∷ []
-first Bound = expressions
-first Params = Identifier ∷ specifiers
-first Param = specifiers
-first Pdecl = LeftBracket ∷ LeftParen ∷ Star ∷ Identifier ∷ TypedefName ∷ []
-first Pdirect = LeftBracket ∷ LeftParen ∷ Identifier ∷ TypedefName ∷ []
-first TypeName = specifiers
-first Adecl = LeftBracket ∷ LeftParen ∷ Star ∷ []
-first Adirect = LeftBracket ∷ LeftParen ∷ []
-first Init = initializers
-first InitList = initializer_items
-first InitItem = initializer_items
-first Designator = LeftBracket ∷ Dot ∷ []
-first Expr = expressions
-first Assign = expressions
-first Asgop = assignments
-first Cond = expressions
-first Lor = expressions
-first Land = expressions
-first Bor = expressions
-first Bxor = expressions
-first Band = expressions
-first Equal = expressions
-first Relate = expressions
-first Shift = expressions
-first Add = expressions
-first Mul = expressions
-first Cast = expressions
-first CastRest = initializers
-first Unary = expressions
-first SizeRest = expressions
-first SizeLit = LeftBrace ∷ []
-first Primary = LeftParen ∷ Identifier ∷ Constant ∷ CharConstant ∷ StringLiteral ∷ []
-first Post = LeftBracket ∷ LeftParen ∷ Dot ∷ Arrow ∷ PlusPlus ∷ MinusMinus ∷ []
-first Args = expressions
-first Block = LeftBrace ∷ []
-first BlockItem = specifiers ++ statements
-first Statement = statements
-first Sub = statements
-first ForInit = specifiers ++ (Semicolon ∷ expressions)
+-- with which classes a production starts by each standard
+abbrev pub shared : Production → List Class
+shared TranslationUnit = Semicolon ∷ End ∷ specifiers
+shared External = members
+shared ExtRest = LeftParen ∷ Star ∷ Semicolon ∷ Identifier ∷ TypedefName ∷ []
+shared ExtTail = every
+shared FunBody = LeftBrace ∷ specifiers
+shared Declaration = specifiers
+shared DeclRest = LeftParen ∷ Star ∷ Semicolon ∷ Identifier ∷ TypedefName ∷ []
+shared InitDecl = declarators
+shared Sassert = []
+shared Specs = specifiers
+shared Main = Char ∷ Double ∷ Enum ∷ Float ∷ Int ∷ Long ∷ Short ∷ Signed ∷ Struct ∷ Union ∷ Unsigned ∷ Void ∷ BoolWord ∷ ComplexWord ∷ ImaginaryWord ∷ TypedefName ∷ []
+shared Mod = modifiers
+shared Qual = qualifiers
+shared Word = words
+shared StructSpec = Struct ∷ Union ∷ []
+shared SuRest = LeftBrace ∷ Identifier ∷ TypedefName ∷ []
+shared Members = members
+shared Member = members
+shared MemRest = []
+shared Mdecl = LeftParen ∷ Star ∷ Colon ∷ Identifier ∷ TypedefName ∷ []
+shared EnumSpec = Enum ∷ []
+shared EnRest = LeftBrace ∷ Identifier ∷ TypedefName ∷ []
+shared Enumerators = Identifier ∷ TypedefName ∷ []
+shared Enumerator = Identifier ∷ TypedefName ∷ []
+shared Declarator = declarators
+shared Pointer = Star ∷ []
+shared Direct = LeftParen ∷ Identifier ∷ TypedefName ∷ []
+shared Suffix = LeftBracket ∷ LeftParen ∷ []
+shared Bound = expressions
+shared Params = Identifier ∷ specifiers
+shared Param = specifiers
+shared Pdecl = LeftBracket ∷ LeftParen ∷ Star ∷ Identifier ∷ TypedefName ∷ []
+shared Pdirect = LeftBracket ∷ LeftParen ∷ Identifier ∷ TypedefName ∷ []
+shared TypeName = specifiers
+shared Adecl = LeftBracket ∷ LeftParen ∷ Star ∷ []
+shared Adirect = LeftBracket ∷ LeftParen ∷ []
+shared Init = initializers
+shared InitList = initializer_items
+shared InitItem = initializer_items
+shared Designator = LeftBracket ∷ Dot ∷ []
+shared Expr = expressions
+shared Assign = expressions
+shared Asgop = assignments
+shared Cond = expressions
+shared Lor = expressions
+shared Land = expressions
+shared Bor = expressions
+shared Bxor = expressions
+shared Band = expressions
+shared Equal = expressions
+shared Relate = expressions
+shared Shift = expressions
+shared Add = expressions
+shared Mul = expressions
+shared Cast = expressions
+shared CastRest = initializers
+shared Unary = expressions
+shared SizeRest = expressions
+shared SizeLit = LeftBrace ∷ []
+shared Primary = LeftParen ∷ Identifier ∷ Constant ∷ CharConstant ∷ StringLiteral ∷ []
+shared Post = LeftBracket ∷ LeftParen ∷ Dot ∷ Arrow ∷ PlusPlus ∷ MinusMinus ∷ []
+shared Args = expressions
+shared Block = LeftBrace ∷ []
+shared BlockItem = specifiers ++ statements
+shared Statement = statements
+shared Sub = statements
+shared ForInit = specifiers ++ (Semicolon ∷ expressions)
+
+-- specifiers that C11 adds (6.7.4)
+abbrev pub specifiers_added : List Class
+specifiers_added = Noreturn ∷ []
+
+-- what C11 adds where a declaration may stand (6.7.4, 6.7.10)
+abbrev pub declarations_added : List Class
+declarations_added = Noreturn ∷ StaticAssert ∷ []
+
+-- with which classes it starts by C11 alone
+abbrev pub added : Production → List Class
+added TranslationUnit = declarations_added
+added External = declarations_added
+added FunBody = declarations_added
+added Declaration = declarations_added
+added Sassert = StaticAssert ∷ []
+added Specs = specifiers_added
+added Mod = specifiers_added
+added Members = declarations_added
+added Member = declarations_added
+added MemRest = LeftParen ∷ Star ∷ Colon ∷ Semicolon ∷ Identifier ∷ TypedefName ∷ []
+added Params = specifiers_added
+added Param = specifiers_added
+added TypeName = specifiers_added
+added BlockItem = declarations_added
+added ForInit = declarations_added
+added _ = []
+
+-- These by C11, and none by C99. The list decides first, so that nothing added is nothing for any standard.
+abbrev pub by_c11 : List Class → Standard → List Class
+by_c11 [] s = []
+by_c11 (c ∷ classes) C99 = []
+by_c11 (c ∷ classes) C11 = c ∷ classes
+
+-- with which classes a production starts
+abbrev pub first : Production → Standard → List Class
+first p s = shared p ++ by_c11 (added p) s
 
 -- with which classes it starts where a colon stands behind, beside those
 abbrev pub labels : Production → List Class
@@ -154,6 +197,7 @@ order FunBody = 4
 order Declaration = 3
 order DeclRest = 3
 order InitDecl = 2
+order Sassert = 0
 order Specs = 2
 order Main = 1
 order Mod = 1
@@ -163,6 +207,7 @@ order StructSpec = 0
 order SuRest = 0
 order Members = 4
 order Member = 3
+order MemRest = 3
 order Mdecl = 2
 order EnumSpec = 0
 order EnRest = 0

@@ -8,7 +8,8 @@ use crate::rows::{plain, sequence, some, token, when};
 use c99_tree::Production::{
     Assign, BlockItem, Cond, DeclRest, Declaration, Declarator, Designator, EnRest, EnumSpec,
     Enumerator, Enumerators, ExtRest, ExtTail, External, FunBody, Init, InitDecl, InitItem,
-    InitList, Main, Mdecl, Member, Members, Mod, Qual, Specs, StructSpec, SuRest, Word,
+    InitList, Main, Mdecl, MemRest, Member, Members, Mod, Qual, Sassert, Specs, StructSpec, SuRest,
+    Word,
 };
 
 // ---- External definitions (6.9)
@@ -20,6 +21,12 @@ pub(crate) static TRANSLATION_UNIT: [Alternative; 1] = [plain![
 
 pub(crate) static EXTERNAL: [Alternative; 2] = [
     plain![token![Semicolon]],
+    plain![Part(Specs), Part(ExtRest)],
+];
+
+pub(crate) static EXTERNAL_OF_C11: [Alternative; 3] = [
+    plain![token![Semicolon]],
+    plain![Part(Sassert)],
     plain![Part(Specs), Part(ExtRest)],
 ];
 
@@ -54,6 +61,21 @@ pub(crate) static FUN_BODY: [Alternative; 1] = [plain![
 
 pub(crate) static DECLARATION: [Alternative; 1] = [plain![Part(Specs), Part(DeclRest)]];
 
+pub(crate) static DECLARATION_OF_C11: [Alternative; 2] = [
+    plain![Part(Sassert)],
+    plain![Part(Specs), Part(DeclRest)],
+];
+
+pub(crate) static SASSERT: [Alternative; 1] = [plain![
+    token![StaticAssert],
+    token![LeftParen],
+    Deep(Cond),
+    token![Comma],
+    some![token![StringLiteral]],
+    token![RightParen],
+    token![Semicolon]
+]];
+
 pub(crate) static DECL_REST: [Alternative; 2] = [
     plain![token![Semicolon]],
     plain![
@@ -87,6 +109,17 @@ pub(crate) static MOD: [Alternative; 7] = [
     plain![token![Auto]],
     plain![token![Register]],
     plain![token![Inline]],
+    plain![Part(Qual)],
+];
+
+pub(crate) static MOD_OF_C11: [Alternative; 8] = [
+    plain![token![Typedef]],
+    plain![token![Extern]],
+    plain![token![Static]],
+    plain![token![Auto]],
+    plain![token![Register]],
+    plain![token![Inline]],
+    plain![token![Noreturn]],
     plain![Part(Qual)],
 ];
 
@@ -127,6 +160,21 @@ pub(crate) static MEMBER: [Alternative; 2] = [
     plain![token![Semicolon]],
     plain![
         Part(Specs),
+        Part(Mdecl),
+        Many(Own, &sequence![token![Comma], Part(Mdecl)]),
+        token![Semicolon]
+    ],
+];
+
+pub(crate) static MEMBER_OF_C11: [Alternative; 3] = [
+    plain![token![Semicolon]],
+    plain![Part(Sassert)],
+    plain![Part(Specs), Part(MemRest)],
+];
+
+pub(crate) static MEM_REST: [Alternative; 2] = [
+    plain![token![Semicolon]],
+    plain![
         Part(Mdecl),
         Many(Own, &sequence![token![Comma], Part(Mdecl)]),
         token![Semicolon]

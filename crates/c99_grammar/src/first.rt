@@ -1,8 +1,8 @@
 // With which classes each production starts.
 ghost use Rattle.std.specs.Prelude.{◌≡◌, ◌∷◌};
-ghost use Rattle.c99_tree.specs.declared.production.Production.TheVariants.{TranslationUnit, ExtRest, FunBody, Main, StructSpec, SuRest, Mdecl, EnumSpec, Enumerators, Pointer, Direct, Suffix, Params, Pdecl, Pdirect, Adecl, Designator, SizeLit, Primary, Post, BlockItem, ForInit};
+ghost use Rattle.c99_tree.specs.declared.production.Production.TheVariants.{TranslationUnit, ExtRest, FunBody, Sassert, Main, StructSpec, SuRest, MemRest, Mdecl, EnumSpec, Enumerators, Pointer, Direct, Suffix, Params, Pdecl, Pdirect, Adecl, Designator, SizeLit, Primary, Post, BlockItem, ForInit};
 ghost use Rattle.c99_grammar.specs.Classes.{among};
-ghost use Rattle.c99_grammar.specs.First.{first, labels, expressions};
+ghost use Rattle.c99_grammar.specs.First.{shared, added, by_c11, first, labels, expressions, specifiers_added, declarations_added};
 ghost use Rattle.c99_grammar.specs.declared.classes.Class.TheVariants.{Semicolon};
 
 use crate::classes::Class;
@@ -12,9 +12,10 @@ use crate::first_sets::{
     starts_statement, starts_word,
 };
 use c99_tree::Production;
+use cs_base::Standard;
 
 fn starts_translation_unit(class: Class) -> bool
-    ensures { result ≡ among (first TranslationUnit) class }
+    ensures { result ≡ among (shared TranslationUnit) class }
 {
     matches!(
         class,
@@ -49,7 +50,7 @@ fn starts_translation_unit(class: Class) -> bool
 }
 
 fn starts_ext_rest(class: Class) -> bool
-    ensures { result ≡ among (first ExtRest) class }
+    ensures { result ≡ among (shared ExtRest) class }
 {
     matches!(
         class,
@@ -58,7 +59,7 @@ fn starts_ext_rest(class: Class) -> bool
 }
 
 fn starts_fun_body(class: Class) -> bool
-    ensures { result ≡ among (first FunBody) class }
+    ensures { result ≡ among (shared FunBody) class }
 {
     matches!(
         class,
@@ -92,7 +93,7 @@ fn starts_fun_body(class: Class) -> bool
 }
 
 fn starts_main(class: Class) -> bool
-    ensures { result ≡ among (first Main) class }
+    ensures { result ≡ among (shared Main) class }
 {
     matches!(
         class,
@@ -116,13 +117,13 @@ fn starts_main(class: Class) -> bool
 }
 
 fn starts_struct_spec(class: Class) -> bool
-    ensures { result ≡ among (first StructSpec) class }
+    ensures { result ≡ among (shared StructSpec) class }
 {
     matches!(class, Class::Struct | Class::Union)
 }
 
 fn starts_su_rest(class: Class) -> bool
-    ensures { result ≡ among (first SuRest) class }
+    ensures { result ≡ among (shared SuRest) class }
 {
     matches!(
         class,
@@ -131,7 +132,7 @@ fn starts_su_rest(class: Class) -> bool
 }
 
 fn starts_mdecl(class: Class) -> bool
-    ensures { result ≡ among (first Mdecl) class }
+    ensures { result ≡ among (shared Mdecl) class }
 {
     matches!(
         class,
@@ -140,25 +141,25 @@ fn starts_mdecl(class: Class) -> bool
 }
 
 fn starts_enum_spec(class: Class) -> bool
-    ensures { result ≡ among (first EnumSpec) class }
+    ensures { result ≡ among (shared EnumSpec) class }
 {
     matches!(class, Class::Enum)
 }
 
 fn starts_enumerators(class: Class) -> bool
-    ensures { result ≡ among (first Enumerators) class }
+    ensures { result ≡ among (shared Enumerators) class }
 {
     matches!(class, Class::Identifier | Class::TypedefName)
 }
 
 fn starts_pointer(class: Class) -> bool
-    ensures { result ≡ among (first Pointer) class }
+    ensures { result ≡ among (shared Pointer) class }
 {
     matches!(class, Class::Star)
 }
 
 fn starts_direct(class: Class) -> bool
-    ensures { result ≡ among (first Direct) class }
+    ensures { result ≡ among (shared Direct) class }
 {
     matches!(
         class,
@@ -167,13 +168,13 @@ fn starts_direct(class: Class) -> bool
 }
 
 fn starts_suffix(class: Class) -> bool
-    ensures { result ≡ among (first Suffix) class }
+    ensures { result ≡ among (shared Suffix) class }
 {
     matches!(class, Class::LeftBracket | Class::LeftParen)
 }
 
 fn starts_params(class: Class) -> bool
-    ensures { result ≡ among (first Params) class }
+    ensures { result ≡ among (shared Params) class }
 {
     matches!(
         class,
@@ -207,7 +208,7 @@ fn starts_params(class: Class) -> bool
 }
 
 fn starts_pdecl(class: Class) -> bool
-    ensures { result ≡ among (first Pdecl) class }
+    ensures { result ≡ among (shared Pdecl) class }
 {
     matches!(
         class,
@@ -216,7 +217,7 @@ fn starts_pdecl(class: Class) -> bool
 }
 
 fn starts_pdirect(class: Class) -> bool
-    ensures { result ≡ among (first Pdirect) class }
+    ensures { result ≡ among (shared Pdirect) class }
 {
     matches!(
         class,
@@ -225,25 +226,25 @@ fn starts_pdirect(class: Class) -> bool
 }
 
 fn starts_adecl(class: Class) -> bool
-    ensures { result ≡ among (first Adecl) class }
+    ensures { result ≡ among (shared Adecl) class }
 {
     matches!(class, Class::LeftBracket | Class::LeftParen | Class::Star)
 }
 
 fn starts_designator(class: Class) -> bool
-    ensures { result ≡ among (first Designator) class }
+    ensures { result ≡ among (shared Designator) class }
 {
     matches!(class, Class::LeftBracket | Class::Dot)
 }
 
 fn starts_size_lit(class: Class) -> bool
-    ensures { result ≡ among (first SizeLit) class }
+    ensures { result ≡ among (shared SizeLit) class }
 {
     matches!(class, Class::LeftBrace)
 }
 
 fn starts_primary(class: Class) -> bool
-    ensures { result ≡ among (first Primary) class }
+    ensures { result ≡ among (shared Primary) class }
 {
     matches!(
         class,
@@ -256,7 +257,7 @@ fn starts_primary(class: Class) -> bool
 }
 
 fn starts_post(class: Class) -> bool
-    ensures { result ≡ among (first Post) class }
+    ensures { result ≡ among (shared Post) class }
 {
     matches!(
         class,
@@ -270,7 +271,7 @@ fn starts_post(class: Class) -> bool
 }
 
 fn starts_block_item(class: Class) -> bool
-    ensures { result ≡ among (first BlockItem) class }
+    ensures { result ≡ among (shared BlockItem) class }
 {
     starts_specifier(class) || starts_statement(class)
 }
@@ -299,14 +300,14 @@ fn starts_expression_line(class: Class) -> bool
 }
 
 fn starts_for_init(class: Class) -> bool
-    ensures { result ≡ among (first ForInit) class }
+    ensures { result ≡ among (shared ForInit) class }
 {
     starts_specifier(class) || starts_expression_line(class)
 }
 
-/// The production starts with the class.
-pub(crate) fn starts_with(production: Production, class: Class) -> bool
-    ensures { result ≡ among (first production) class }
+// The production starts with the class by each standard.
+fn starts_by_each(production: Production, class: Class) -> bool
+    ensures { result ≡ among (shared production) class }
 {
     match production {
         Production::TranslationUnit => starts_translation_unit(class),
@@ -317,6 +318,7 @@ pub(crate) fn starts_with(production: Production, class: Class) -> bool
         Production::Declaration => starts_specifier(class),
         Production::DeclRest => starts_ext_rest(class),
         Production::InitDecl => starts_declarator(class),
+        Production::Sassert => false,
         Production::Specs => starts_specifier(class),
         Production::Main => starts_main(class),
         Production::Mod => starts_modifier(class),
@@ -326,6 +328,7 @@ pub(crate) fn starts_with(production: Production, class: Class) -> bool
         Production::SuRest => starts_su_rest(class),
         Production::Members => starts_member(class),
         Production::Member => starts_member(class),
+        Production::MemRest => false,
         Production::Mdecl => starts_mdecl(class),
         Production::EnumSpec => starts_enum_spec(class),
         Production::EnRest => starts_su_rest(class),
@@ -375,6 +378,79 @@ pub(crate) fn starts_with(production: Production, class: Class) -> bool
         Production::Sub => starts_statement(class),
         Production::ForInit => starts_for_init(class),
     }
+}
+
+fn starts_added_specifier(class: Class) -> bool
+    ensures { result ≡ among specifiers_added class }
+{
+    matches!(class, Class::Noreturn)
+}
+
+fn starts_added_declaration(class: Class) -> bool
+    ensures { result ≡ among declarations_added class }
+{
+    matches!(class, Class::Noreturn | Class::StaticAssert)
+}
+
+fn starts_static_assertion(class: Class) -> bool
+    ensures { result ≡ among (added Sassert) class }
+{
+    matches!(class, Class::StaticAssert)
+}
+
+fn starts_member_rest(class: Class) -> bool
+    ensures { result ≡ among (added MemRest) class }
+{
+    matches!(
+        class,
+        Class::LeftParen
+            | Class::Star
+            | Class::Colon
+            | Class::Semicolon
+            | Class::Identifier
+            | Class::TypedefName
+    )
+}
+
+// The production starts with the class by C11 alone.
+fn starts_added(production: Production, class: Class) -> bool
+    ensures { result ≡ among (added production) class }
+{
+    match production {
+        Production::TranslationUnit => starts_added_declaration(class),
+        Production::External => starts_added_declaration(class),
+        Production::FunBody => starts_added_declaration(class),
+        Production::Declaration => starts_added_declaration(class),
+        Production::Sassert => starts_static_assertion(class),
+        Production::Specs => starts_added_specifier(class),
+        Production::Mod => starts_added_specifier(class),
+        Production::Members => starts_added_declaration(class),
+        Production::Member => starts_added_declaration(class),
+        Production::MemRest => starts_member_rest(class),
+        Production::Params => starts_added_specifier(class),
+        Production::Param => starts_added_specifier(class),
+        Production::TypeName => starts_added_specifier(class),
+        Production::BlockItem => starts_added_declaration(class),
+        Production::ForInit => starts_added_declaration(class),
+        _ => false,
+    }
+}
+
+// The production starts with the class by the standard, and not by C99.
+fn starts_by(production: Production, class: Class, standard: Standard) -> bool
+    ensures { result ≡ among (by_c11 (added production) standard) class }
+{
+    match standard {
+        Standard::C99 => false,
+        Standard::C11 => starts_added(production, class),
+    }
+}
+
+/// The production starts with the class by the standard.
+pub(crate) fn starts_with(production: Production, class: Class, standard: Standard) -> bool
+    ensures { result ≡ among (first production standard) class }
+{
+    starts_by_each(production, class) || starts_by(production, class, standard)
 }
 
 /// The production starts with the class where a colon stands behind.

@@ -1,12 +1,14 @@
-// Which class a token has by its spelling: keywords (6.4.1) and punctuators (6.4.6).
+// Which class a token has by its spelling and a standard: keywords (6.4.1) and punctuators (6.4.6).
 ghost use Rattle.std.specs.Prelude.{◌≡◌, map};
 ghost use Rattle.std.specs.Str.{bytes_eq};
 ghost use Rattle.c99_grammar.specs.Words.{spelled_of};
 ghost use Rattle.c99_grammar.specs.TokenClasses.{spelled_class, base_class};
-ghost use Rattle.c99_grammar.specs.Standard.{c99};
+ghost use Rattle.c99_grammar.specs.Standard.{grammar};
+ghost use Rattle.c99_grammar.specs.Spellings.{keywords_of};
+ghost use Rattle.c99_grammar.specs.declared.classes.Class.TheVariants.{Identifier};
 
 use crate::classes::Class;
-use cs_base::{Kind, Tok};
+use cs_base::{Kind, Standard, Tok};
 
 /// A spelling and its class.
 #[derive(Clone, Copy)]
@@ -15,6 +17,7 @@ pub(crate) struct Word {
     class: Class,
 }
 
+// The keywords of C99.
 static KEYWORDS: [Word; 37] = [
     Word {
         text: b"auto",
@@ -163,6 +166,38 @@ static KEYWORDS: [Word; 37] = [
     Word {
         text: b"_Imaginary",
         class: Class::ImaginaryWord,
+    },
+];
+
+// Those that C11 adds.
+static KEYWORDS_ADDED: [Word; 7] = [
+    Word {
+        text: b"_Alignas",
+        class: Class::Alignas,
+    },
+    Word {
+        text: b"_Alignof",
+        class: Class::Alignof,
+    },
+    Word {
+        text: b"_Atomic",
+        class: Class::Atomic,
+    },
+    Word {
+        text: b"_Generic",
+        class: Class::Generic,
+    },
+    Word {
+        text: b"_Noreturn",
+        class: Class::Noreturn,
+    },
+    Word {
+        text: b"_Static_assert",
+        class: Class::StaticAssert,
+    },
+    Word {
+        text: b"_Thread_local",
+        class: Class::ThreadLocal,
     },
 ];
 
@@ -408,13 +443,26 @@ fn spelled(words: &[Word], text: &[u8], other: Class) -> Class
     }
 }
 
+// The class of an identifier by a standard.
+fn word_class(text: &[u8], standard: Standard) -> Class
+    ensures { result ≡ spelled_class (keywords_of standard) text.now Identifier }
+{
+    match standard {
+        Standard::C99 => spelled(&KEYWORDS, text, Class::Identifier),
+        Standard::C11 => {
+            let other = spelled(&KEYWORDS_ADDED, text, Class::Identifier);
+            spelled(&KEYWORDS, text, other)
+        }
+    }
+}
+
 #[tactic(auto, unfolding(crate::specs::TokenClasses::base_class))]
-/// The class of a token, where each identifier that is no keyword counts as no typedef name.
-pub fn base_class(tok: &Tok) -> Class
-    ensures { result ≡ base_class c99 tok.now }
+/// The class of a token by a standard, where each identifier that is no keyword counts as no typedef name.
+pub fn base_class(tok: &Tok, standard: Standard) -> Class
+    ensures { result ≡ base_class (grammar standard) tok.now }
 {
     match tok.kind() {
-        Kind::Ident => spelled(&KEYWORDS, tok.text(), Class::Identifier),
+        Kind::Ident => word_class(tok.text(), standard),
         Kind::Punct => spelled(&PUNCTUATORS, tok.text(), Class::NoClass),
         Kind::Number => Class::Constant,
         Kind::Char => Class::CharConstant,

@@ -4,12 +4,13 @@ ghost use Rattle.c99_grammar.specs.declared.classes.Class.TheVariants.{Colon, En
 ghost use Rattle.c99_grammar.specs.Classes.{among};
 ghost use Rattle.c99_grammar.specs.ItemsOf.{ask_of, item_of, test_of};
 ghost use Rattle.c99_grammar.specs.Starting.{production_starts, asks, holds, is_passed, starts};
-ghost use Rattle.c99_grammar.specs.Standard.{c99};
+ghost use Rattle.c99_grammar.specs.Standard.{grammar};
 
 use crate::classes::Class;
 use crate::first::{is_label, starts_with};
 use crate::items::{Ask, Item, Test};
 use c99_tree::Production;
+use cs_base::Standard;
 
 fn is_colon(class: Class) -> bool
     ensures { result ≡ among (Colon ∷ []) class }
@@ -24,10 +25,15 @@ fn is_end(class: Class) -> bool
 }
 
 /// The production starts with the class, before the class behind.
-pub fn production_starts(production: Production, class: Class, behind: Class) -> bool
-    ensures { result ≡ production_starts c99 production class behind }
+pub fn production_starts(
+    production: Production,
+    class: Class,
+    behind: Class,
+    standard: Standard,
+) -> bool
+    ensures { result ≡ production_starts (grammar standard) production class behind }
 {
-    starts_with(production, class) || (is_label(production, class) && is_colon(behind))
+    starts_with(production, class, standard) || (is_label(production, class) && is_colon(behind))
 }
 
 fn is_among(class: Class, classes: &[Class]) -> bool
@@ -37,15 +43,15 @@ fn is_among(class: Class, classes: &[Class]) -> bool
 }
 
 /// What is asked is true of the class.
-pub(crate) fn asks(ask: &Ask, class: Class) -> bool
-    ensures { result ≡ asks c99 (ask_of ask.now) class }
+pub(crate) fn asks(ask: &Ask, class: Class, standard: Standard) -> bool
+    ensures { result ≡ asks (grammar standard) (ask_of ask.now) class }
 {
     match ask {
         Ask::Is(classes) => is_among(class, classes),
         Ask::IsNot(classes) => !is_among(class, classes),
-        Ask::Begins(production) => starts_with(*production, class),
+        Ask::Begins(production) => starts_with(*production, class, standard),
         Ask::IsOrBegins(classes, production) => {
-            is_among(class, classes) || starts_with(*production, class)
+            is_among(class, classes) || starts_with(*production, class, standard)
         }
     }
 }
@@ -64,38 +70,45 @@ fn is_passed(item: &Item) -> bool
 }
 
 /// The item starts with the class, before the class behind.
-pub fn starts(item: &Item, class: Class, behind: Class) -> bool
-    ensures { result ≡ starts c99 (item_of item.now) class behind }
+pub fn starts(item: &Item, class: Class, behind: Class, standard: Standard) -> bool
+    ensures { result ≡ starts (grammar standard) (item_of item.now) class behind }
 {
     match item {
         Item::One(classes) => is_among(class, classes),
-        Item::Part(production) => production_starts(*production, class, behind),
+        Item::Part(production) => production_starts(*production, class, behind, standard),
         Item::EndOfText => is_end(class),
         Item::Act(_) => false,
         Item::Then(first, second) => {
             if is_passed(first) {
-                starts(first, class, behind) || starts(second, class, behind)
+                starts(first, class, behind, standard) || starts(second, class, behind, standard)
             } else {
-                starts(first, class, behind)
+                starts(first, class, behind, standard)
             }
         }
         Item::Choice(first, second) => {
-            starts(first, class, behind) || starts(second, class, behind)
+            starts(first, class, behind, standard) || starts(second, class, behind, standard)
         }
-        Item::Maybe(only) => starts(only, class, behind),
-        Item::Many(test, only) => holds(test, starts(only, class, behind), class, behind),
-        Item::Deep(production) => production_starts(*production, class, behind),
+        Item::Maybe(only) => starts(only, class, behind, standard),
+        Item::Many(test, only) => holds(
+            test,
+            starts(only, class, behind, standard),
+            class,
+            behind,
+            standard,
+        ),
+        Item::Deep(production) => production_starts(*production, class, behind, standard),
     }
 }
 
 /// The test holds of the class before the class behind; `started` says whether its item starts there.
-pub fn holds(test: &Test, started: bool, class: Class, behind: Class) -> bool
-    ensures { result ≡ holds c99 (test_of test.now) started class behind }
+pub fn holds(test: &Test, started: bool, class: Class, behind: Class, standard: Standard) -> bool
+    ensures { result ≡ holds (grammar standard) (test_of test.now) started class behind }
 {
     match test {
         Test::Own => started,
         Test::Otherwise => true,
-        Test::Next(ask) => asks(ask, class),
-        Test::NextTwo(ask, ask_behind) => asks(ask, class) && asks(ask_behind, behind),
+        Test::Next(ask) => asks(ask, class, standard),
+        Test::NextTwo(ask, ask_behind) => asks(ask, class, standard)
+            && asks(ask_behind, behind, standard),
     }
 }

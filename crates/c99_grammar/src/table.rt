@@ -1,12 +1,13 @@
-// The table of productions (Annex A.2), row by row as in specs/Grammar.antt.
+// The tables of productions (Annex A.2), row by row as in specs/Grammar.antt.
 ghost use Rattle.std.specs.Prelude.{◌≡◌, ◌<◌, length, map};
-ghost use Rattle.c99_grammar.specs.Grammar.{table};
+ghost use Rattle.c99_grammar.specs.Grammar.{table, externals, declarations, static_assertions, modifiers, member_lines, member_rests};
 ghost use Rattle.c99_grammar.specs.ItemsOf.{alternative_of};
 
 use crate::declarations::{
-    DECL_REST, DECLARATION, DESIGNATOR, EN_REST, ENUM_SPEC, ENUMERATOR, ENUMERATORS, EXT_REST,
-    EXT_TAIL, EXTERNAL, FUN_BODY, INIT, INIT_DECL, INIT_ITEM, INIT_LIST, MAIN, MDECL, MEMBER,
-    MEMBERS, MOD, QUAL, SPECS, STRUCT_SPEC, SU_REST, TRANSLATION_UNIT, WORD,
+    DECL_REST, DECLARATION, DECLARATION_OF_C11, DESIGNATOR, EN_REST, ENUM_SPEC, ENUMERATOR,
+    ENUMERATORS, EXT_REST, EXT_TAIL, EXTERNAL, EXTERNAL_OF_C11, FUN_BODY, INIT, INIT_DECL,
+    INIT_ITEM, INIT_LIST, MAIN, MDECL, MEM_REST, MEMBER, MEMBER_OF_C11, MEMBERS, MOD, MOD_OF_C11,
+    QUAL, SASSERT, SPECS, STRUCT_SPEC, SU_REST, TRANSLATION_UNIT, WORD,
 };
 use crate::declarators::{
     ADECL, ADIRECT, BOUND, DECLARATOR, DIRECT, PARAM, PARAMS, PDECL, PDIRECT, POINTER, SUFFIX,
@@ -19,30 +20,95 @@ use crate::expressions::{
 use crate::items::Alternative;
 use crate::statements::{BLOCK, BLOCK_ITEM, FOR_INIT, STATEMENT, SUB};
 use c99_tree::Production;
+use cs_base::Standard;
 
-/// The alternatives of a production, the first one first.
-pub fn alternatives(production: Production) -> &'static [Alternative]
-    ensures rows { map alternative_of result.now ≡ table production }
+// ---- Rows that C11 changes
+
+fn externals(standard: Standard) -> &'static [Alternative]
+    ensures rows { map alternative_of result.now ≡ externals standard }
+    ensures few { length result.now < 200 }
+{
+    match standard {
+        Standard::C99 => &EXTERNAL,
+        Standard::C11 => &EXTERNAL_OF_C11,
+    }
+}
+
+fn declarations(standard: Standard) -> &'static [Alternative]
+    ensures rows { map alternative_of result.now ≡ declarations standard }
+    ensures few { length result.now < 200 }
+{
+    match standard {
+        Standard::C99 => &DECLARATION,
+        Standard::C11 => &DECLARATION_OF_C11,
+    }
+}
+
+fn static_assertions(standard: Standard) -> &'static [Alternative]
+    ensures rows { map alternative_of result.now ≡ static_assertions standard }
+    ensures few { length result.now < 200 }
+{
+    match standard {
+        Standard::C99 => &[],
+        Standard::C11 => &SASSERT,
+    }
+}
+
+fn modifiers(standard: Standard) -> &'static [Alternative]
+    ensures rows { map alternative_of result.now ≡ modifiers standard }
+    ensures few { length result.now < 200 }
+{
+    match standard {
+        Standard::C99 => &MOD,
+        Standard::C11 => &MOD_OF_C11,
+    }
+}
+
+fn member_lines(standard: Standard) -> &'static [Alternative]
+    ensures rows { map alternative_of result.now ≡ member_lines standard }
+    ensures few { length result.now < 200 }
+{
+    match standard {
+        Standard::C99 => &MEMBER,
+        Standard::C11 => &MEMBER_OF_C11,
+    }
+}
+
+fn member_rests(standard: Standard) -> &'static [Alternative]
+    ensures rows { map alternative_of result.now ≡ member_rests standard }
+    ensures few { length result.now < 200 }
+{
+    match standard {
+        Standard::C99 => &[],
+        Standard::C11 => &MEM_REST,
+    }
+}
+
+/// The alternatives of a production by a standard, the first one first.
+pub fn alternatives(production: Production, standard: Standard) -> &'static [Alternative]
+    ensures rows { map alternative_of result.now ≡ table production standard }
     ensures few { length result.now < 200 }
 {
     match production {
         Production::TranslationUnit => &TRANSLATION_UNIT,
-        Production::External => &EXTERNAL,
+        Production::External => externals(standard),
         Production::ExtRest => &EXT_REST,
         Production::ExtTail => &EXT_TAIL,
         Production::FunBody => &FUN_BODY,
-        Production::Declaration => &DECLARATION,
+        Production::Declaration => declarations(standard),
         Production::DeclRest => &DECL_REST,
         Production::InitDecl => &INIT_DECL,
+        Production::Sassert => static_assertions(standard),
         Production::Specs => &SPECS,
         Production::Main => &MAIN,
-        Production::Mod => &MOD,
+        Production::Mod => modifiers(standard),
         Production::Qual => &QUAL,
         Production::Word => &WORD,
         Production::StructSpec => &STRUCT_SPEC,
         Production::SuRest => &SU_REST,
         Production::Members => &MEMBERS,
-        Production::Member => &MEMBER,
+        Production::Member => member_lines(standard),
+        Production::MemRest => member_rests(standard),
         Production::Mdecl => &MDECL,
         Production::EnumSpec => &ENUM_SPEC,
         Production::EnRest => &EN_REST,

@@ -6,7 +6,6 @@ use Rattle.c99_tree.specs.Names.{latest}
 use Rattle.c99_tree.specs.Tree.{Forest, none, token, node}
 use Rattle.c99_tree.specs.declared.production.Production.{Production}
 use Rattle.c99_tree.specs.declared.production.Production.TheVariants.{TranslationUnit}
-use Rattle.c99_grammar.specs.Standard.{c99}
 use Rattle.c99_grammar.specs.declared.classes.Class.{Class}
 use Rattle.c99_read.specs.declared.names.Declaration.{Declaration}
 use Rattle.c99_grammar.specs.declared.classes.Class.TheVariants.{TypedefName}
@@ -14,7 +13,7 @@ use Rattle.c99_read.specs.Alike.{IsAlike, AlikeReadAlike}
 use Rattle.c99_grammar.specs.Classes.{among}
 use Rattle.c99_grammar.specs.Items.{Item, one, part, end_of_text, act, ◌·◌, choice, maybe, many, deep, Test, own, Action, scope, end, declare, name, keep, again, Alternative}
 use Rattle.c99_read.specs.State.{State, base_at, spelling_at, spelled_scope, is_typedef_at, is_identifier, class_at, last_identifier, with_declared, acted, opened, closed}
-use Rattle.c99_grammar.specs.Standard.{Grammar}
+use Rattle.c99_grammar.specs.Standard.{Grammar, grammar}
 use Rattle.c99_read.specs.Reading.{Goal, produce, repeat, Step, and_then, goal_order, tree_of, at_first, take_one, at_end, enter, may, step, pick, run, read_within, whole}
 use Rattle.c99_grammar.specs.Starting.{holds, starts}
 
@@ -165,5 +164,5 @@ tree_alike g a b alike (Ok s) r' same = sym (ap tree_of same.1)
 tree_alike g a b alike (Err stop) r' same = sym (ap tree_of same)
 
 pub alike_read_alike : AlikeReadAlike
-alike_read_alike a b alike =
-    tree_alike c99 a b alike _ _ (same_whole c99 a b alike 0 (produce TranslationUnit) (at_first a) refl)
+alike_read_alike std a b alike =
+    tree_alike (grammar std) a b alike _ _ (same_whole (grammar std) a b alike 0 (produce TranslationUnit) (at_first a) refl)

@@ -4,7 +4,7 @@ use Rattle.std.proofs.Math.Bool.{or_assoc}
 use Rattle.cs_base.specs.Token.{Token}
 use Rattle.c99_tree.specs.Tree.{Forest, none, token, node, Node, inner, put, count_of, collapsed}
 use Rattle.c99_read.specs.OpenNode.{with_last}
-use Rattle.c99_grammar.specs.Standard.{c99}
+use Rattle.c99_grammar.specs.Standard.{Grammar}
 use Rattle.c99_read.specs.State.{last_identifier, last_declared, name_below, has_typedef, is_typedef_part}
 
 -- no child: the only one is that which waits
@@ -34,13 +34,13 @@ has_typedef-put (node l first under rest) last =
     or_assoc (is_typedef_part l under) (has_typedef rest) (is_typedef_part last.label last.under)
     ∙ ap (λ b. is_typedef_part l under || b) (has_typedef-put rest last)
 
-pub last_identifier-put : (toks : List Token) (f : Forest) (last : Node) (found : Option ℕ)
-    → last_identifier c99 toks f found ≡ last_identifier c99 toks (put f (inner last)) found
-last_identifier-put toks none last found = refl
-last_identifier-put toks (token i rest) last found = last_identifier-put toks rest last _
-last_identifier-put toks (node l first under rest) last found = last_identifier-put toks rest last found
+pub last_identifier-put : (g : Grammar) (toks : List Token) (f : Forest) (last : Node) (found : Option ℕ)
+    → last_identifier g toks f found ≡ last_identifier g toks (put f (inner last)) found
+last_identifier-put g toks none last found = refl
+last_identifier-put g toks (token i rest) last found = last_identifier-put g toks rest last _
+last_identifier-put g toks (node l first under rest) last found = last_identifier-put g toks rest last found
 
-pub last_identifier-with : (toks : List Token) (n : Node) (last : Option Node) (found : Option ℕ)
-    → last_identifier c99 toks n.under found ≡ last_identifier c99 toks (with_last n last).under found
-last_identifier-with toks n None found = refl
-last_identifier-with toks n (Some last) found = last_identifier-put toks n.under last found
+pub last_identifier-with : (g : Grammar) (toks : List Token) (n : Node) (last : Option Node) (found : Option ℕ)
+    → last_identifier g toks n.under found ≡ last_identifier g toks (with_last n last).under found
+last_identifier-with g toks n None found = refl
+last_identifier-with g toks n (Some last) found = last_identifier-put g toks n.under last found

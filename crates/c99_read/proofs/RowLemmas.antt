@@ -2,15 +2,17 @@
 use Rattle.std.proofs.Common.{ℕ, ◌+◌, ◌≡◌, ◌<◌, ◌≤◌, Bool, true, false, if◌then◌else◌, nat_lt, List, [], ◌∷◌, Option, None, Some, refl, subst, lit<, arith}
 use Rattle.std.specs.List.{list_all}
 use Rattle.std.proofs.lemmas.Bool.{and_parts, ltb-true}
+use Rattle.cs_base.specs.declared.ws_units.Standard.{Standard}
 use Rattle.c99_tree.specs.declared.production.Production.{Production}
-use Rattle.c99_tree.specs.declared.production.Production.TheVariants.{TranslationUnit, External, ExtRest, ExtTail, FunBody, Declaration, DeclRest, InitDecl, Specs, Main, Mod, Qual, Word, StructSpec, SuRest, Members, Member, Mdecl, EnumSpec, EnRest, Enumerators, Enumerator, Declarator, Pointer, Direct, Suffix, Bound, Params, Param, Pdecl, Pdirect, TypeName, Adecl, Adirect, Init, InitList, InitItem, Designator, Expr, Assign, Asgop, Cond, Lor, Land, Bor, Bxor, Band, Equal, Relate, Shift, Add, Mul, Cast, CastRest, Unary, SizeRest, SizeLit, Primary, Post, Args, Block, BlockItem, Statement, Sub, ForInit}
+use Rattle.c99_tree.specs.declared.production.Production.TheVariants.{TranslationUnit, External, ExtRest, ExtTail, FunBody, Declaration, DeclRest, InitDecl, Sassert, Specs, Main, Mod, Qual, Word, StructSpec, SuRest, Members, Member, MemRest, Mdecl, EnumSpec, EnRest, Enumerators, Enumerator, Declarator, Pointer, Direct, Suffix, Bound, Params, Param, Pdecl, Pdirect, TypeName, Adecl, Adirect, Init, InitList, InitItem, Designator, Expr, Assign, Asgop, Cond, Lor, Land, Bor, Bxor, Band, Equal, Relate, Shift, Add, Mul, Cast, CastRest, Unary, SizeRest, SizeLit, Primary, Post, Args, Block, BlockItem, Statement, Sub, ForInit}
 use Rattle.c99_grammar.specs.Grammar.{table}
 use Rattle.c99_grammar.specs.Items.{Item, one, part, end_of_text, act, ◌·◌, choice, maybe, many, deep, Alternative}
 use Rattle.c99_read.specs.Choosing.{Choice, chosen}
 use Rattle.c99_read.specs.Levels.{level_of, height, size, Met, is_ready}
 use Rattle.c99_read.specs.Reading.{may}
 use Rattle.c99_read.specs.Sound.{has_token, is_low}
-use Rattle.c99_grammar.specs.Standard.{c99}
+use Rattle.c99_grammar.specs.Standard.{Grammar, grammar}
+use Rattle.c99_grammar.proofs.StandardLemmas.{both}
 use Rattle.c99_read.specs.State.{State}
 
 pub level-small : (p : Production) → level_of p < 20
@@ -22,6 +24,7 @@ level-small FunBody = lit< tt
 level-small Declaration = lit< tt
 level-small DeclRest = lit< tt
 level-small InitDecl = lit< tt
+level-small Sassert = lit< tt
 level-small Specs = lit< tt
 level-small Main = lit< tt
 level-small Mod = lit< tt
@@ -31,6 +34,7 @@ level-small StructSpec = lit< tt
 level-small SuRest = lit< tt
 level-small Members = lit< tt
 level-small Member = lit< tt
+level-small MemRest = lit< tt
 level-small Mdecl = lit< tt
 level-small EnumSpec = lit< tt
 level-small EnRest = lit< tt
@@ -81,72 +85,77 @@ level-small Sub = lit< tt
 level-small ForInit = lit< tt
 
 -- each alternative of the table is ready to be read
-ready-at : (p : Production) → list_all (λ a. is_ready p a.body) (table p) ≡ true
-ready-at TranslationUnit = refl
-ready-at External = refl
-ready-at ExtRest = refl
-ready-at ExtTail = refl
-ready-at FunBody = refl
-ready-at Declaration = refl
-ready-at DeclRest = refl
-ready-at InitDecl = refl
-ready-at Specs = refl
-ready-at Main = refl
-ready-at Mod = refl
-ready-at Qual = refl
-ready-at Word = refl
-ready-at StructSpec = refl
-ready-at SuRest = refl
-ready-at Members = refl
-ready-at Member = refl
-ready-at Mdecl = refl
-ready-at EnumSpec = refl
-ready-at EnRest = refl
-ready-at Enumerators = refl
-ready-at Enumerator = refl
-ready-at Declarator = refl
-ready-at Pointer = refl
-ready-at Direct = refl
-ready-at Suffix = refl
-ready-at Bound = refl
-ready-at Params = refl
-ready-at Param = refl
-ready-at Pdecl = refl
-ready-at Pdirect = refl
-ready-at TypeName = refl
-ready-at Adecl = refl
-ready-at Adirect = refl
-ready-at Init = refl
-ready-at InitList = refl
-ready-at InitItem = refl
-ready-at Designator = refl
-ready-at Expr = refl
-ready-at Assign = refl
-ready-at Asgop = refl
-ready-at Cond = refl
-ready-at Lor = refl
-ready-at Land = refl
-ready-at Bor = refl
-ready-at Bxor = refl
-ready-at Band = refl
-ready-at Equal = refl
-ready-at Relate = refl
-ready-at Shift = refl
-ready-at Add = refl
-ready-at Mul = refl
-ready-at Cast = refl
-ready-at CastRest = refl
-ready-at Unary = refl
-ready-at SizeRest = refl
-ready-at SizeLit = refl
-ready-at Primary = refl
-ready-at Post = refl
-ready-at Args = refl
-ready-at Block = refl
-ready-at BlockItem = refl
-ready-at Statement = refl
-ready-at Sub = refl
-ready-at ForInit = refl
+abbrev AreReady : Production → Standard → Type 0
+AreReady p std = list_all (λ a. is_ready p a.body) (table p std) ≡ true
+
+ready-at : (p : Production) (std : Standard) → AreReady p std
+ready-at TranslationUnit std = refl
+ready-at External std = both (AreReady External) refl refl std
+ready-at ExtRest std = refl
+ready-at ExtTail std = refl
+ready-at FunBody std = refl
+ready-at Declaration std = both (AreReady Declaration) refl refl std
+ready-at DeclRest std = refl
+ready-at InitDecl std = refl
+ready-at Sassert std = both (AreReady Sassert) refl refl std
+ready-at Specs std = refl
+ready-at Main std = refl
+ready-at Mod std = both (AreReady Mod) refl refl std
+ready-at Qual std = refl
+ready-at Word std = refl
+ready-at StructSpec std = refl
+ready-at SuRest std = refl
+ready-at Members std = refl
+ready-at Member std = both (AreReady Member) refl refl std
+ready-at MemRest std = both (AreReady MemRest) refl refl std
+ready-at Mdecl std = refl
+ready-at EnumSpec std = refl
+ready-at EnRest std = refl
+ready-at Enumerators std = refl
+ready-at Enumerator std = refl
+ready-at Declarator std = refl
+ready-at Pointer std = refl
+ready-at Direct std = refl
+ready-at Suffix std = refl
+ready-at Bound std = refl
+ready-at Params std = refl
+ready-at Param std = refl
+ready-at Pdecl std = refl
+ready-at Pdirect std = refl
+ready-at TypeName std = refl
+ready-at Adecl std = refl
+ready-at Adirect std = refl
+ready-at Init std = refl
+ready-at InitList std = refl
+ready-at InitItem std = refl
+ready-at Designator std = refl
+ready-at Expr std = refl
+ready-at Assign std = refl
+ready-at Asgop std = refl
+ready-at Cond std = refl
+ready-at Lor std = refl
+ready-at Land std = refl
+ready-at Bor std = refl
+ready-at Bxor std = refl
+ready-at Band std = refl
+ready-at Equal std = refl
+ready-at Relate std = refl
+ready-at Shift std = refl
+ready-at Add std = refl
+ready-at Mul std = refl
+ready-at Cast std = refl
+ready-at CastRest std = refl
+ready-at Unary std = refl
+ready-at SizeRest std = refl
+ready-at SizeLit std = refl
+ready-at Primary std = refl
+ready-at Post std = refl
+ready-at Args std = refl
+ready-at Block std = refl
+ready-at BlockItem std = refl
+ready-at Statement std = refl
+ready-at Sub std = refl
+ready-at ForInit std = refl
 
 same-if : (b x : Bool) → (if b then x else x) ≡ true → x ≡ true
 same-if true x e = e
@@ -189,17 +198,17 @@ ready-if true p first c rest here later e =
     subst ready_in e here
 ready-if false p first c rest here later e = later e
 
-chosen-ready : (p : Production) (s : State) (n : ℕ) (alternatives : List Alternative) (c : Choice)
-    → list_all (λ a. is_ready p a.body) alternatives ≡ true → chosen s n alternatives ≡ Some c → is_ready p c.body ≡ true
-chosen-ready p s n [] c ready e = absurd (none≢some e)
+chosen-ready : (g : Grammar) (p : Production) (s : State) (n : ℕ) (alternatives : List Alternative) (c : Choice)
+    → list_all (λ a. is_ready p a.body) alternatives ≡ true → chosen g s n alternatives ≡ Some c → is_ready p c.body ≡ true
+chosen-ready g p s n [] c ready e = absurd (none≢some e)
   where
     none≢some : ◌≡◌ {A = Option Choice} None (Some c) → ⊥
     none≢some f = cc
-chosen-ready p s n (a ∷ more) c ready e =
+chosen-ready g p s n (a ∷ more) c ready e =
     let both = and_parts (is_ready p a.body) _ ready in
-    ready-if (may c99 a.test a.body s) p (record { number = n; body = a.body }) c (chosen s (n + 1) more) both.0
-    (chosen-ready p s (n + 1) more c both.1) e
+    ready-if (may g a.test a.body s) p (record { number = n; body = a.body }) c (chosen g s (n + 1) more) both.0
+    (chosen-ready g p s (n + 1) more c both.1) e
 
 -- an alternative of the table that was chosen
-pub row-ready : (p : Production) (s : State) (c : Choice) → chosen s 1 (table p) ≡ Some c → IsReady p c.body
-row-ready p s c e = ready-parts p c.body (chosen-ready p s 1 (table p) c (ready-at p) e)
+pub row-ready : (std : Standard) (p : Production) (s : State) (c : Choice) → chosen (grammar std) s 1 (table p std) ≡ Some c → IsReady p c.body
+row-ready std p s c e = ready-parts p c.body (chosen-ready (grammar std) p s 1 (table p std) c (ready-at p std) e)

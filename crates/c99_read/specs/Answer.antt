@@ -1,11 +1,13 @@
 -- How the answers of the reader's procedures are tied to the definition.
 use Rattle.std.specs.Prelude.{ℕ, ◌≡◌, List, Option, None, Some, Result, Ok, Err, IfSome}
+use Rattle.cs_base.specs.declared.ws_units.Standard.{Standard}
 use Rattle.cs_base.specs.Token.{Token}
 use Rattle.c99_tree.specs.declared.production.Production.{Production}
 use Rattle.c99_read.specs.declared.faults.ReadRefusal.{ReadRefusal}
 use Rattle.c99_read.specs.declared.faults.ReadRefusal.TheVariants as refusal
 use Rattle.c99_read.specs.declared.reader.Outer.{Outer}
 use Rattle.c99_read.specs.State.{State, opened}
+use Rattle.c99_read.specs.Kept.{Reading}
 use Rattle.c99_read.specs.Reading.{Stop, syntax, too_deep, Step, at_first}
 
 -- what the definition calls the refusal; none for want of memory
@@ -29,7 +31,7 @@ abbrev pub Opens : Result Outer ReadRefusal → State → State → Production �
 Opens (Ok outer) old new p n = (new ≡ opened p n old) × IsAround outer old
 Opens (Err e) old new p n = e ≡ refusal.Memory
 
--- a reader before the first token, unless memory ran out
-abbrev pub Starts : Result State ReadRefusal → List Token → Type 0
-Starts (Ok s) toks = s ≡ at_first toks
-Starts (Err e) toks = e ≡ refusal.Memory
+-- a reader by the standard before the first token, unless memory ran out
+abbrev pub Starts : Result Reading ReadRefusal → Standard → List Token → Type 0
+Starts (Ok r) standard toks = (r.standard ≡ standard) × (r.state ≡ at_first toks)
+Starts (Err e) standard toks = e ≡ refusal.Memory

@@ -1,7 +1,7 @@
 -- How the productions stand over one another: what a production reads at its own depth has a lower level.
 use Rattle.std.specs.Prelude.{ℕ, ◌+◌, ◌≡◌, Bool, true, ◌&&◌, nat_lt, max}
 use Rattle.c99_tree.specs.declared.production.Production.{Production}
-use Rattle.c99_tree.specs.declared.production.Production.TheVariants.{TranslationUnit, External, ExtRest, ExtTail, FunBody, Declaration, DeclRest, InitDecl, Specs, Main, Mod, Qual, Word, StructSpec, SuRest, Members, Member, Mdecl, EnumSpec, EnRest, Enumerators, Enumerator, Declarator, Pointer, Direct, Suffix, Bound, Params, Param, Pdecl, Pdirect, TypeName, Adecl, Adirect, Init, InitList, InitItem, Designator, Expr, Assign, Asgop, Cond, Lor, Land, Bor, Bxor, Band, Equal, Relate, Shift, Add, Mul, Cast, CastRest, Unary, SizeRest, SizeLit, Primary, Post, Args, Block, BlockItem, Statement, Sub, ForInit}
+use Rattle.c99_tree.specs.declared.production.Production.TheVariants.{TranslationUnit, External, ExtRest, ExtTail, FunBody, Declaration, DeclRest, InitDecl, Sassert, Specs, Main, Mod, Qual, Word, StructSpec, SuRest, Members, Member, MemRest, Mdecl, EnumSpec, EnRest, Enumerators, Enumerator, Declarator, Pointer, Direct, Suffix, Bound, Params, Param, Pdecl, Pdirect, TypeName, Adecl, Adirect, Init, InitList, InitItem, Designator, Expr, Assign, Asgop, Cond, Lor, Land, Bor, Bxor, Band, Equal, Relate, Shift, Add, Mul, Cast, CastRest, Unary, SizeRest, SizeLit, Primary, Post, Args, Block, BlockItem, Statement, Sub, ForInit}
 use Rattle.c99_grammar.specs.Items.{Item, one, part, end_of_text, act, ◌·◌, choice, maybe, many, deep}
 use Rattle.c99_read.specs.Reading.{repeat}
 use Rattle.c99_read.specs.Sound.{is_low, is_met}
@@ -15,6 +15,7 @@ level_of FunBody = 7
 level_of Declaration = 6
 level_of DeclRest = 5
 level_of InitDecl = 4
+level_of Sassert = 0
 level_of Specs = 3
 level_of Main = 2
 level_of Mod = 1
@@ -22,8 +23,9 @@ level_of Qual = 0
 level_of Word = 0
 level_of StructSpec = 1
 level_of SuRest = 0
-level_of Members = 6
-level_of Member = 5
+level_of Members = 7
+level_of Member = 6
+level_of MemRest = 5
 level_of Mdecl = 4
 level_of EnumSpec = 1
 level_of EnRest = 0

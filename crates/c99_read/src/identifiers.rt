@@ -2,24 +2,29 @@
 ghost use Rattle.std.specs.Prelude.{◌≡◌, None, Some, map};
 ghost use Rattle.c99_tree.specs.Tree.{part_at, leaf};
 ghost use Rattle.c99_read.specs.Children.{identifier_found};
-ghost use Rattle.c99_grammar.specs.Standard.{c99};
+ghost use Rattle.c99_grammar.specs.Standard.{grammar};
 ghost use Rattle.c99_read.specs.State.{last_identifier};
 ghost use Rattle.c99_grammar.specs.TokenClasses.{base_class};
 
 use crate::ahead::base_at;
 use c99_grammar::Class;
 use c99_tree::{Child, Tree};
-use cs_base::Tok;
+use cs_base::{Standard, Tok};
 
 /// The last identifier among the tokens of the node.
-pub(crate) fn last_identifier(toks: &[Tok], classes: &[Class], node: &Tree) -> Option<u32>
-    requires classes_of { classes.now ≡ map (base_class c99) toks.now }
-    ensures { result ≡ last_identifier c99 toks.now node.now.under None }
+pub(crate) fn last_identifier(
+    standard: Standard,
+    toks: &[Tok],
+    classes: &[Class],
+    node: &Tree,
+) -> Option<u32>
+    requires classes_of { classes.now ≡ map (base_class (grammar standard)) toks.now }
+    ensures { result ≡ last_identifier (grammar standard) toks.now node.now.under None }
 {
     let mut k = node.len();
     'children: while k > 0 {
         k -= 1;
-        if let Some(index) = identifier_at(toks, classes, node, k) {
+        if let Some(index) = identifier_at(standard, toks, classes, node, k) {
             return Some(index);
         }
     }
@@ -27,22 +32,28 @@ pub(crate) fn last_identifier(toks: &[Tok], classes: &[Class], node: &Tree) -> O
 }
 
 // Child `k` of the node, where it is an identifier.
-fn identifier_at(toks: &[Tok], classes: &[Class], node: &Tree, k: u32) -> Option<u32>
-    requires classes_of { classes.now ≡ map (base_class c99) toks.now }
-    ensures { result ≡ identifier_found c99 toks.now (part_at node.now.under k) }
+fn identifier_at(
+    standard: Standard,
+    toks: &[Tok],
+    classes: &[Class],
+    node: &Tree,
+    k: u32,
+) -> Option<u32>
+    requires classes_of { classes.now ≡ map (base_class (grammar standard)) toks.now }
+    ensures { result ≡ identifier_found (grammar standard) toks.now (part_at node.now.under k) }
 {
     match node.child(k) {
-        Some(Child::Token(index)) => identifier(toks, classes, index),
+        Some(Child::Token(index)) => identifier(standard, toks, classes, index),
         Some(Child::Node(_)) => None,
         None => None,
     }
 }
 
-fn identifier(toks: &[Tok], classes: &[Class], index: u32) -> Option<u32>
-    requires classes_of { classes.now ≡ map (base_class c99) toks.now }
-    ensures { result ≡ identifier_found c99 toks.now (Some (leaf index)) }
+fn identifier(standard: Standard, toks: &[Tok], classes: &[Class], index: u32) -> Option<u32>
+    requires classes_of { classes.now ≡ map (base_class (grammar standard)) toks.now }
+    ensures { result ≡ identifier_found (grammar standard) toks.now (Some (leaf index)) }
 {
-    if base_at(toks, classes, index as usize) == Class::Identifier {
+    if base_at(standard, toks, classes, index as usize) == Class::Identifier {
         Some(index)
     } else {
         None

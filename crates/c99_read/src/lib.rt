@@ -1,9 +1,9 @@
-//! The reader of C (ISO/IEC 9899:1999, Annex A.2): translation phase 7 as far as the syntax goes.
+//! The reader of C (ISO/IEC 9899:1999 and 9899:2011, Annex A.2): translation phase 7 as far as the syntax goes.
 //!
 //! `read` takes the tokens of a preprocessed translation unit and gives its tree, or the first fault:
 //! `Syntax` where nothing that may follow starts, `TooDeep` where the 257th level would begin. It equals
-//! `read_of` of `specs/Reading.antt`, one interpreter of a table of productions, at the table of
-//! `c99_grammar`; a second standard is another table. A token counts by its class alone, and whether a name
+//! `read_of` of `specs/Reading.antt`, one interpreter of a table of productions, at the table that
+//! `c99_grammar` has for the standard. A token counts by its class alone, and whether a name
 //! is a typedef name where it stands (6.7.7) the reader keeps for itself while it reads. Types, tags,
 //! members, labels and what is declared twice belong to the crates above. A few procedures read any item of
 //! the table; nesting is bounded, so a text of any length needs little stack. Trees, classes and names want
@@ -15,7 +15,7 @@ ghost use Rattle.std.specs.Prelude.{◌<◌, ◌^◌, length};
 ghost use Rattle.cs_base.specs.Answer.{Gives};
 ghost use Rattle.c99_read.specs.Answer.{stop_of};
 ghost use Rattle.c99_read.specs.Reading.{read_of};
-ghost use Rattle.c99_grammar.specs.Standard.{c99};
+ghost use Rattle.c99_grammar.specs.Standard.{grammar};
 
 mod ahead;
 mod chosen;
@@ -30,18 +30,18 @@ mod reading;
 
 pub use c99_grammar::first_sets_are_the_tables;
 use c99_tree::{Production, Tree};
-use cs_base::Tok;
+use cs_base::{Standard, Tok};
 pub use faults::ReadRefusal;
 pub use laws::alike_tokens_read_alike;
 use reader::Reader;
 use std::alloc::Global;
 
-/// The tree of the tokens of a translation unit, or the first fault.
-pub fn read(alloc: Global, toks: &[Tok]) -> Result<Tree, ReadRefusal>
+/// The tree of the tokens of a translation unit by a standard, or the first fault.
+pub fn read(alloc: Global, toks: &[Tok], standard: Standard) -> Result<Tree, ReadRefusal>
     requires few { length toks.now < 2 ^ 32 }
-    ensures answer { Gives (λ tree. tree) stop_of result (read_of c99 toks.now) }
+    ensures answer { Gives (λ tree. tree) stop_of result (read_of (grammar standard) toks.now) }
 {
-    let mut reader = Reader::new(alloc, toks)?;
-    reader.produce(0, Production::TranslationUnit)?;
+    let mut reader = Reader::new(alloc, toks, standard)?;
+    reader.produce(0, Production::TranslationUnit, standard)?;
     Ok(reader.into_tree()?)
 }

@@ -4,7 +4,7 @@ ghost use Rattle.std.specs.Prelude.{◌≡◌, ℕ, List, Option, IfOk, OnOk};
 ghost use Rattle.cs_base.specs.Token.{Token};
 ghost use Rattle.c99_tree.specs.Tree.{node_of, none, leaf, inner, put, collapsed};
 ghost use Rattle.c99_read.specs.OpenNode.{with_last};
-ghost use Rattle.c99_grammar.specs.Standard.{c99};
+ghost use Rattle.c99_grammar.specs.Standard.{Grammar};
 ghost use Rattle.c99_read.specs.State.{last_declared, has_typedef, last_identifier};
 
 use crate::parts::{has_typedef, is_typedef_part, last_declared, name_below};
@@ -108,7 +108,7 @@ impl OpenNode {
 
     /// A node with the same tokens.
     pub(crate) fn tokens(&self) -> &Tree
-        ensures { (toks : List Token) (found : Option ℕ) → last_identifier c99 toks result.now.under found ≡ last_identifier c99 toks self.now.under found }
+        ensures { (g : Grammar) (toks : List Token) (found : Option ℕ) → last_identifier g toks result.now.under found ≡ last_identifier g toks self.now.under found }
     {
         &self.tree
     }

@@ -8,7 +8,8 @@ ghost use Rattle.c99_grammar.specs.Items.{scope, end, declare, name, keep, again
 ghost use Rattle.c99_read.specs.Reading.{take_one, at_end, enter, syntax};
 ghost use Rattle.c99_read.specs.State.{State, class_at, acted, closed, is_declarator, is_specs, names_opened, names_closed, nearest, finished, spelled_scopes, with_scope_ended, with_declared, last_identifier, no_names};
 ghost use Rattle.c99_grammar.specs.TokenClasses.{base_class};
-ghost use Rattle.c99_grammar.specs.Standard.{c99};
+ghost use Rattle.c99_grammar.specs.Standard.{grammar};
+ghost use Rattle.c99_read.specs.Kept.{Reading};
 
 use crate::ahead::{Ahead, look_ahead, moved_on, spelling};
 use crate::faults::ReadRefusal;
@@ -18,14 +19,15 @@ use crate::open_node::OpenNode;
 use crate::parts::collapses;
 use c99_grammar::{Class, base_class};
 use c99_tree::{Label, Production, Tree, Visible};
-use cs_base::{Memory, Tok};
+use cs_base::{Memory, Standard, Tok};
 use std::alloc::{AllocError, Global};
 use std::marker::Model;
 use std::mem;
 
-/// Contracts see the state of specs/State.antt.
+/// Contracts see the reading of specs/Kept.antt: the standard, and the state of specs/State.antt.
 #[derive(Drop)]
 pub(crate) struct Reader<'a> {
+    standard: Standard,
     toks: &'a [Tok],
     classes: Vec<Class>,
     at: usize,
@@ -38,19 +40,22 @@ pub(crate) struct Reader<'a> {
 }
 
 impl<'a> Model for Reader<'a> {
-    ghost use Rattle.c99_read.specs.State.{State};
-    ghost use Rattle.c99_read.specs.Kept.{IsKept};
+    ghost use Rattle.c99_grammar.specs.Standard.{grammar};
+    ghost use Rattle.c99_read.specs.Kept.{Reading, IsKept};
 
-    ghost Value = { State };
+    ghost Value = { Reading };
 
     ghost use Rattle.std.specs.Coded.{codes};
     ghost use Rattle.c99_tree.specs.TreeCode.{forest_code};
 
     ghost coded = { Prim.hlevel (codes, forest_code) };
 
-    ghost view = { λ r. record { toks = r.toks.now; at = r.at; names = r.names; near = r.near; built = r.built } };
+    ghost view = { λ r. record {
+      standard = r.standard;
+      state = record { toks = r.toks.now; at = r.at; names = r.names; near = r.near; built = r.built };
+    } };
 
-    ghost invariant = { λ r. IsKept r.toks.now r.classes.items r.at r.names r.visible r.ahead };
+    ghost invariant = { λ r. IsKept (grammar r.standard) r.toks.now r.classes.items r.at r.names r.visible r.ahead };
 }
 
 /// What was open around a node.
@@ -73,16 +78,21 @@ pub(crate) type Read = Result<(), ReadRefusal>;
 
 impl<'a> Reader<'a> {
     /// Before the first token. The node that is open takes that of the whole text.
-    pub(crate) fn new(alloc: Global, toks: &'a [Tok]) -> Result<Reader<'a>, ReadRefusal>
+    pub(crate) fn new(
+        alloc: Global,
+        toks: &'a [Tok],
+        standard: Standard,
+    ) -> Result<Reader<'a>, ReadRefusal>
         requires few { length toks.now < 2 ^ 32 }
-        ensures { Starts result toks.now }
+        ensures { Starts result standard toks.now }
     {
-        match classes_of(alloc, toks) {
+        match classes_of(alloc, toks, standard) {
             Ok(classes) => {
                 let visible = Visible::new(alloc);
                 Ok(Reader {
+                    standard,
                     toks,
-                    ahead: look_ahead(toks, classes.as_slice(), &visible, 0),
+                    ahead: look_ahead(standard, toks, classes.as_slice(), &visible, 0),
                     classes,
                     at: 0,
                     names: NameTable::new(alloc),
@@ -98,42 +108,46 @@ impl<'a> Reader<'a> {
 
     /// What was read: the only node of the open node, if there is one.
     pub(crate) fn into_tree(self) -> Result<Tree, Memory>
-        ensures { IfOk result (λ tree. tree ≡ collapsed self.entry.built) }
+        ensures { IfOk result (λ tree. tree ≡ collapsed self.entry.state.built) }
     {
         self.built.collapsed()
     }
 
     /// The class of the next token.
-    pub(crate) fn class_here(&self) -> Class
-        ensures { result ≡ class_at c99 self.now self.now.at }
+    pub(crate) fn class_here(&self, standard: Standard) -> Class
+        requires by { self.now.standard ≡ standard }
+        ensures { result ≡ class_at (grammar standard) self.now.state self.now.state.at }
     {
         self.ahead.here
     }
 
     /// The class of the token behind the next one.
-    pub(crate) fn class_behind(&self) -> Class
-        ensures { result ≡ class_at c99 self.now (self.now.at + 1) }
+    pub(crate) fn class_behind(&self, standard: Standard) -> Class
+        requires by { self.now.standard ≡ standard }
+        ensures { result ≡ class_at (grammar standard) self.now.state (self.now.state.at + 1) }
     {
         self.ahead.behind
     }
 
     /// The next token is of one of the classes.
-    pub(crate) fn is(&self, classes: &[Class]) -> bool
-        ensures { result ≡ among classes.now (class_at c99 self.now self.now.at) }
+    pub(crate) fn is(&self, classes: &[Class], standard: Standard) -> bool
+        requires by { self.now.standard ≡ standard }
+        ensures { result ≡ among classes.now (class_at (grammar standard) self.now.state self.now.state.at) }
     {
-        classes.contains(&self.class_here())
+        classes.contains(&self.class_here(standard))
     }
 
     /// The token behind the next one is of one of the classes.
-    pub(crate) fn is_then(&self, classes: &[Class]) -> bool
-        ensures { result ≡ among classes.now (class_at c99 self.now (self.now.at + 1)) }
+    pub(crate) fn is_then(&self, classes: &[Class], standard: Standard) -> bool
+        requires by { self.now.standard ≡ standard }
+        ensures { result ≡ among classes.now (class_at (grammar standard) self.now.state (self.now.state.at + 1)) }
     {
-        classes.contains(&self.class_behind())
+        classes.contains(&self.class_behind(standard))
     }
 
     /// Nothing that may follow starts here.
     pub(crate) fn syntax(&self) -> Read
-        ensures { Reads result self.now (Err (syntax self.now.at)) }
+        ensures { Reads result self.now.state (Err (syntax self.now.state.at)) }
     {
         Err(ReadRefusal::Syntax {
             index: self.at as u32,
@@ -142,26 +156,31 @@ impl<'a> Reader<'a> {
 
     #[tactic(auto, unfolding(crate::specs::Reading::take_one))]
     /// A token of one of the classes becomes a child of the open node.
-    pub(crate) fn take(&mut self, classes: &[Class]) -> Read
-        ensures { Reads result self.new (take_one c99 classes.now self.old) }
+    pub(crate) fn take(&mut self, classes: &[Class], standard: Standard) -> Read
+        requires by { self.old.standard ≡ standard }
+        ensures by { self.new.standard ≡ standard }
+        ensures answer { Reads result self.new.state (take_one (grammar standard) classes.now self.old.state) }
     {
         if self.at >= self.toks.len() {
             return self.syntax();
         }
-        if !self.is(classes) {
+        if !self.is(classes, standard) {
             return self.syntax();
         }
         self.built.push_token(self.at as u32)?;
-        self.move_on();
+        self.move_on(standard);
         Ok(())
     }
 
     // The token behind the next one is next.
-    fn move_on(&mut self)
-        requires { self.old.at < length self.old.toks }
-        ensures { self.new ≡ record self.old { at = self.old.at + 1 } }
+    fn move_on(&mut self, standard: Standard)
+        requires by { self.old.standard ≡ standard }
+        requires within { self.old.state.at < length self.old.state.toks }
+        ensures by { self.new.standard ≡ standard }
+        ensures answer { self.new.state ≡ record self.old.state { at = self.old.state.at + 1 } }
     {
         self.ahead = moved_on(
+            standard,
             self.ahead,
             self.toks,
             self.classes.as_slice(),
@@ -174,7 +193,7 @@ impl<'a> Reader<'a> {
     #[tactic(auto, unfolding(crate::specs::Reading::at_end))]
     /// No token is left.
     pub(crate) fn finish(&self) -> Read
-        ensures { Reads result self.now (at_end self.now) }
+        ensures { Reads result self.now.state (at_end self.now.state) }
     {
         if self.at == self.toks.len() {
             Ok(())
@@ -186,7 +205,7 @@ impl<'a> Reader<'a> {
     #[tactic(auto, unfolding(crate::specs::Reading::enter))]
     /// One level deeper, where something starts here.
     pub(crate) fn enter(&self, depth: usize, started: bool) -> Read
-        ensures answer { Reads result self.now (enter depth started self.now) }
+        ensures answer { Reads result self.now.state (enter depth started self.now.state) }
         ensures below { OnOk result (depth < 256) }
     {
         if !started {
@@ -206,8 +225,11 @@ impl<'a> Reader<'a> {
         &mut self,
         production: Production,
         alternative: u8,
+        standard: Standard,
     ) -> Result<Outer, ReadRefusal>
-        ensures { Opens result self.old self.new production alternative }
+        requires by { self.old.standard ≡ standard }
+        ensures by { self.new.standard ≡ standard }
+        ensures answer { Opens result self.old.state self.new.state production alternative }
     {
         open_names(&mut self.names, production)?;
         let label = Label {
@@ -222,8 +244,10 @@ impl<'a> Reader<'a> {
     }
 
     /// The open node is closed, and becomes a child of what was open before.
-    pub(crate) fn close(&mut self, outer: Outer, production: Production) -> Read
-        ensures { (s : State) → IsAround outer s → Reads result self.new (Ok (closed production s self.old)) }
+    pub(crate) fn close(&mut self, outer: Outer, production: Production, standard: Standard) -> Read
+        requires by { self.old.standard ≡ standard }
+        ensures by { self.new.standard ≡ standard }
+        ensures answer { (s : State) → IsAround outer s → Reads result self.new.state (Ok (closed production s self.old.state)) }
     {
         close_names(&mut self.names, production);
         self.near = nearest(production, &self.built, outer.near);
@@ -235,28 +259,46 @@ impl<'a> Reader<'a> {
 
     #[tactic(auto, unfolding(crate::specs::State::acted))]
     /// A scope begins.
-    pub(crate) fn begin_scope(&mut self) -> Read
-        ensures { Reads result self.new (Ok (acted c99 scope self.old)) }
+    pub(crate) fn begin_scope(&mut self, standard: Standard) -> Read
+        requires by { self.old.standard ≡ standard }
+        ensures by { self.new.standard ≡ standard }
+        ensures answer { Reads result self.new.state (Ok (acted (grammar standard) scope self.old.state)) }
     {
         let outcome = begin_scope(self.toks, &mut self.names, &mut self.visible, self.alloc);
-        self.ahead = look_ahead(self.toks, self.classes.as_slice(), &self.visible, self.at);
+        self.ahead = look_ahead(
+            standard,
+            self.toks,
+            self.classes.as_slice(),
+            &self.visible,
+            self.at,
+        );
         outcome?;
         Ok(())
     }
 
     #[tactic(auto, unfolding(crate::specs::State::acted))]
     /// A scope ends.
-    pub(crate) fn end_scope(&mut self) -> Read
-        ensures { Reads result self.new (Ok (acted c99 end self.old)) }
+    pub(crate) fn end_scope(&mut self, standard: Standard) -> Read
+        requires by { self.old.standard ≡ standard }
+        ensures by { self.new.standard ≡ standard }
+        ensures answer { Reads result self.new.state (Ok (acted (grammar standard) end self.old.state)) }
     {
         end_scope(self.toks, &mut self.names, &mut self.visible);
-        self.ahead = look_ahead(self.toks, self.classes.as_slice(), &self.visible, self.at);
+        self.ahead = look_ahead(
+            standard,
+            self.toks,
+            self.classes.as_slice(),
+            &self.visible,
+            self.at,
+        );
         Ok(())
     }
 
     // The name at a token is declared.
-    fn declare_at(&mut self, name_at: u32, typedef: bool) -> Read
-        ensures { Reads result self.new (Ok (record self.old { names = with_declared self.old.names (Some name_at) typedef })) }
+    fn declare_at(&mut self, name_at: u32, typedef: bool, standard: Standard) -> Read
+        requires by { self.old.standard ≡ standard }
+        ensures by { self.new.standard ≡ standard }
+        ensures answer { Reads result self.new.state (Ok (record self.old.state { names = with_declared self.old.state.names (Some name_at) typedef })) }
     {
         let outcome = declare(
             self.toks,
@@ -266,44 +308,62 @@ impl<'a> Reader<'a> {
             name_at,
             typedef,
         );
-        self.ahead = look_ahead(self.toks, self.classes.as_slice(), &self.visible, self.at);
+        self.ahead = look_ahead(
+            standard,
+            self.toks,
+            self.classes.as_slice(),
+            &self.visible,
+            self.at,
+        );
         outcome?;
         Ok(())
     }
 
     #[tactic(auto, unfolding(crate::specs::State::acted))]
     /// The declarator that stands just before is declared, if there is one and it has a name.
-    pub(crate) fn declare(&mut self) -> Read
-        ensures { Reads result self.new (Ok (acted c99 declare self.old)) }
+    pub(crate) fn declare(&mut self, standard: Standard) -> Read
+        requires by { self.old.standard ≡ standard }
+        ensures by { self.new.standard ≡ standard }
+        ensures answer { Reads result self.new.state (Ok (acted (grammar standard) declare self.old.state)) }
     {
         match self.built.last_declared() {
-            Some(name_at) => self.declare_at(name_at, self.near),
+            Some(name_at) => self.declare_at(name_at, self.near, standard),
             None => Ok(()),
         }
     }
 
     #[tactic(auto, unfolding(crate::specs::State::acted))]
     /// The last identifier of the open node is declared, as no typedef name.
-    pub(crate) fn declare_name(&mut self) -> Read
-        ensures { Reads result self.new (Ok (acted c99 name self.old)) }
+    pub(crate) fn declare_name(&mut self, standard: Standard) -> Read
+        requires by { self.old.standard ≡ standard }
+        ensures by { self.new.standard ≡ standard }
+        ensures answer { Reads result self.new.state (Ok (acted (grammar standard) name self.old.state)) }
     {
-        match self.last_identifier() {
-            Some(name_at) => self.declare_at(name_at, false),
+        match self.last_identifier(standard) {
+            Some(name_at) => self.declare_at(name_at, false, standard),
             None => Ok(()),
         }
     }
 
     // The last identifier among the tokens of the open node.
-    fn last_identifier(&self) -> Option<u32>
-        ensures { result ≡ last_identifier c99 self.now.toks self.now.built.under None }
+    fn last_identifier(&self, standard: Standard) -> Option<u32>
+        requires by { self.now.standard ≡ standard }
+        ensures { result ≡ last_identifier (grammar standard) self.now.state.toks self.now.state.built.under None }
     {
-        last_identifier(self.toks, self.classes.as_slice(), self.built.tokens())
+        last_identifier(
+            standard,
+            self.toks,
+            self.classes.as_slice(),
+            self.built.tokens(),
+        )
     }
 
     #[tactic(auto, unfolding(crate::specs::State::acted))]
     /// The names of the scope just ended go to the outermost declarator that began in this scope.
-    pub(crate) fn keep(&mut self) -> Read
-        ensures { Reads result self.new (Ok (acted c99 keep self.old)) }
+    pub(crate) fn keep(&mut self, standard: Standard) -> Read
+        requires by { self.old.standard ≡ standard }
+        ensures by { self.new.standard ≡ standard }
+        ensures answer { Reads result self.new.state (Ok (acted (grammar standard) keep self.old.state)) }
     {
         self.names.keep()?;
         Ok(())
@@ -311,23 +371,27 @@ impl<'a> Reader<'a> {
 
     #[tactic(auto, unfolding(crate::specs::State::acted))]
     /// A scope begins, with the names that were given to the declarator read last.
-    pub(crate) fn again(&mut self) -> Read
-        ensures { Reads result self.new (Ok (acted c99 again self.old)) }
+    pub(crate) fn again(&mut self, standard: Standard) -> Read
+        requires by { self.old.standard ≡ standard }
+        ensures by { self.new.standard ≡ standard }
+        ensures answer { Reads result self.new.state (Ok (acted (grammar standard) again self.old.state)) }
     {
-        self.begin_scope()?;
+        self.begin_scope(standard)?;
         let count = self.names.kept_len();
         'names: for k in 0..count {
             let kept = self.names.kept_at(k);
-            self.declare_at(kept.name_at, kept.typedef)?;
+            self.declare_at(kept.name_at, kept.typedef, standard)?;
         }
         Ok(())
     }
 }
 
-fn classes_of(alloc: Global, toks: &[Tok]) -> Result<Vec<Class>, AllocError>
-    ensures { IfOk result (λ classes. classes.items ≡ map (base_class c99) toks.now) }
+fn classes_of(alloc: Global, toks: &[Tok], standard: Standard) -> Result<Vec<Class>, AllocError>
+    ensures { IfOk result (λ classes. classes.items ≡ map (base_class (grammar standard)) toks.now) }
 {
-    toks.iter().map(|tok| base_class(tok)).collect(alloc)
+    toks.iter()
+        .map(|tok| base_class(tok, standard))
+        .collect(alloc)
 }
 
 fn open_names(names: &mut NameTable, production: Production) -> Result<(), Memory>

@@ -1,6 +1,6 @@
 // The labels of nodes.
 
-/// A production of the grammar (ISO/IEC 9899:1999, Annex A): the kind of a node.
+/// A production of the grammar (ISO/IEC 9899:1999 and 9899:2011, Annex A): the kind of a node.
 #[derive(Clone, Copy, Debug, PartialEq, Eq)]
 pub enum Production {
     TranslationUnit,
@@ -11,6 +11,7 @@ pub enum Production {
     Declaration,
     DeclRest,
     InitDecl,
+    Sassert,
     Specs,
     Main,
     Mod,
@@ -20,6 +21,7 @@ pub enum Production {
     SuRest,
     Members,
     Member,
+    MemRest,
     Mdecl,
     EnumSpec,
     EnRest,

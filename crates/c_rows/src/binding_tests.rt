@@ -4,7 +4,7 @@ use crate::fault_rows::FAULTS;
 use crate::list_rows::{KINDS, LISTS, PARAMETERS};
 use c99_read::read;
 use c99_tree::Tree;
-use cs_base::Tok;
+use cs_base::{Standard, Tok};
 use part_lexer::lex;
 use scope_bind::{Bound, List, ParameterList, Range, bind, parameter_lists};
 use std::alloc::Global;
@@ -139,7 +139,7 @@ fn answer_of(alloc: Global, asked: Asked, toks: &[Tok]) -> Result<String, Fail> 
     if toks.len() > 1000 {
         return Ok(format!(in alloc; "too long")?);
     }
-    match read(alloc, toks) {
+    match read(alloc, toks, Standard::C99) {
         Ok(tree) => match bind(alloc, toks, &tree) {
             Ok(bound) => told(alloc, asked, &tree, &bound, toks.len() as u32),
             Err(refusal) => Ok(format!(in alloc; "{refusal}")?),

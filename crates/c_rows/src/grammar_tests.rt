@@ -1,22 +1,27 @@
 // The classes of tokens (6.4.1, 6.4.6), and what starts with them (Annex A.2).
 use c99_grammar::{Class, alternatives, base_class, production_starts};
 use c99_tree::Production;
+use cs_base::Standard;
 use row_tools::toks;
 use std::test::Fail;
 
-const WORDS: &[u8] = b"int x _Bool 1 'c' \"s\" -> <: %:%: #";
+const WORDS: &[u8] = b"int x _Bool _Noreturn _Generic u8 1 'c' \"s\" -> <: %:%: #";
 
-const CLASSES: [Class; 10] = [
-    Class::Int,
-    Class::Identifier,
-    Class::BoolWord,
-    Class::Constant,
-    Class::CharConstant,
-    Class::StringLiteral,
-    Class::Arrow,
-    Class::LeftBracket,
-    Class::HashHash,
-    Class::Hash,
+// Their classes by C99 and by C11.
+const CLASSES: [(Class, Class); 13] = [
+    (Class::Int, Class::Int),
+    (Class::Identifier, Class::Identifier),
+    (Class::BoolWord, Class::BoolWord),
+    (Class::Identifier, Class::Noreturn),
+    (Class::Identifier, Class::Generic),
+    (Class::Identifier, Class::Identifier),
+    (Class::Constant, Class::Constant),
+    (Class::CharConstant, Class::CharConstant),
+    (Class::StringLiteral, Class::StringLiteral),
+    (Class::Arrow, Class::Arrow),
+    (Class::LeftBracket, Class::LeftBracket),
+    (Class::HashHash, Class::HashHash),
+    (Class::Hash, Class::Hash),
 ];
 
 #[test]
@@ -24,13 +29,20 @@ fn tokens_have_their_classes(rt: HostRuntime) -> Result<(), Fail> {
     let toks = toks(rt.alloc(), WORDS)?;
     assert_eq!(rt; toks.len(), CLASSES.len());
     for k in 0..toks.len() {
-        assert!(rt; base_class(&toks[k]) == CLASSES[k], "{k}");
+        assert!(rt;
+            base_class(&toks[k], Standard::C99) == CLASSES[k].0,
+            "{k} by C99"
+        );
+        assert!(rt;
+            base_class(&toks[k], Standard::C11) == CLASSES[k].1,
+            "{k} by C11"
+        );
     }
     Ok(())
 }
 
-// A production, the classes of two tokens, and whether it starts with the first of them.
-const STARTS: [(Production, Class, Class, bool); 6] = [
+// A production, the classes of two tokens, and whether it starts with the first of them by C11.
+const STARTS: [(Production, Class, Class, bool); 7] = [
     (Production::Statement, Class::If, Class::LeftParen, true),
     (Production::Statement, Class::Else, Class::Semicolon, false),
     (
@@ -47,19 +59,33 @@ const STARTS: [(Production, Class, Class, bool); 6] = [
     ),
     (Production::Declarator, Class::Star, Class::Identifier, true),
     (Production::Expr, Class::Semicolon, Class::End, false),
+    (
+        Production::BlockItem,
+        Class::StaticAssert,
+        Class::LeftParen,
+        true,
+    ),
 ];
 
 #[test]
 fn productions_start_as_the_rows_say(rt: HostRuntime) -> Result<(), Fail> {
     for (production, class, behind, want) in STARTS {
-        assert_eq!(rt; production_starts(production, class, behind), want);
+        assert_eq!(rt;
+            production_starts(production, class, behind, Standard::C11),
+            want
+        );
     }
     Ok(())
 }
 
 #[test]
-fn a_statement_has_its_alternatives(rt: HostRuntime) -> Result<(), Fail> {
-    assert_eq!(rt; alternatives(Production::Statement).len(), 15);
-    assert_eq!(rt; alternatives(Production::TranslationUnit).len(), 1);
+fn productions_have_their_alternatives(rt: HostRuntime) -> Result<(), Fail> {
+    assert_eq!(rt;
+        alternatives(Production::Statement, Standard::C99).len(),
+        15
+    );
+    assert_eq!(rt; alternatives(Production::Sassert, Standard::C99).len(), 0);
+    assert_eq!(rt; alternatives(Production::Sassert, Standard::C11).len(), 1);
+    assert_eq!(rt; alternatives(Production::Mod, Standard::C11).len(), 8);
     Ok(())
 }

@@ -1,7 +1,7 @@
 // Worked programs and faults. The trees and the places are those of the grammar's rules, worked outside.
 use c99_read::{ReadRefusal, read};
 use c99_tree::{Child, Tree};
-use cs_base::Memory;
+use cs_base::{Memory, Standard};
 use row_tools::toks;
 use std::alloc::Global;
 use std::fmt::Write;
@@ -118,11 +118,11 @@ const TREES: [(&[u8], &str); 6] = [
     ),
 ];
 
-// The answer for a text, of fewer than 2^32 tokens.
+// The answer for a text of C99, of fewer than 2^32 tokens.
 fn answer(alloc: Global, text: &[u8]) -> Result<Option<Result<Tree, ReadRefusal>>, Memory> {
     let toks = toks(alloc, text)?;
     Ok(if toks.len() <= u32::MAX as usize {
-        Some(read(alloc, &toks))
+        Some(read(alloc, &toks, Standard::C99))
     } else {
         None
     })
@@ -142,7 +142,7 @@ fn write_head(out: &mut String, node: &Tree) -> Result<(), Fail> {
 }
 
 // The tree with its labels, as TREES has it.
-fn written(alloc: Global, tree: &Tree) -> Result<String, Fail> {
+pub(crate) fn written(alloc: Global, tree: &Tree) -> Result<String, Fail> {
     let mut out = String::new(alloc);
     let mut open: Vec<(&Tree, u32)> = Vec::new(alloc);
     write_head(&mut out, tree)?;

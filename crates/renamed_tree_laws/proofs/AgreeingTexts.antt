@@ -1,11 +1,12 @@
 -- A text whose names agree with the tree of another one is read to it.
 use Rattle.std.proofs.Common.{ℕ, ◌≡◌, Bool, true, List, length, Result, Ok, Err, sym, ap, subst, ◌∙◌}
+use Rattle.tree_laws.specs.Below.cs_base.declared.ws_units.Standard.{Standard}
 use Rattle.tree_laws.specs.Below.cs_base.Token.{Token}
 use Rattle.tree_laws.specs.Below.c99_tree.Tree.{Node, node_of, lone}
 use Rattle.tree_laws.specs.Below.c99_tree.declared.production.Production.TheVariants.{TranslationUnit}
 use Rattle.tree_laws.specs.Below.c99_read.State.{base_at}
 use Rattle.tree_laws.specs.Below.c99_read.Reading.{Step, Stop, produce, steps_for, read_within, read_of, whole, at_first, tree_of}
-use Rattle.tree_laws.specs.Below.c99_grammar.Standard.{c99}
+use Rattle.tree_laws.specs.Below.c99_grammar.Standard.{grammar}
 use Rattle.tree_laws.specs.Below.name_chains.Frames.{at_first as before}
 use Rattle.typedef_laws.specs.Agreeing.{agrees}
 use Rattle.typedef_laws.proofs.Outlines.{agrees_same}
@@ -24,27 +25,28 @@ read_as n = Ok n
 same_node : (x y c : Node) → read_as x ≡ read_as y → x ≡ c → y ≡ c
 same_node x y c h k = cc
 
-module _ (a b : List Token) (same : (k : ℕ) → base_at c99 a k ≡ base_at c99 b k) (tree : Node) (agree : agrees b tree.under (before (length a)) ≡ true) where
-  step_told : (v : Bool) (r : Step) → After (UnitTold a b same v) r → tree_of r ≡ Ok tree → v ≡ true
-  step_told v (Err stop) m e = absurd (cc)
-  step_told v (Ok s) m e =
-      let unit : Node = node_of (unit_label a) 0 m.last_one.built.under in
-      let is : tree ≡ unit = same_node (lone s.built.under s.built) tree unit e (ap (λ (n : Node). lone n.under n) m.built) in
-      m.told (sym (agrees_same b m.last_one.built.under (before (length a))) ∙ subst (λ (n : Node). agrees b n.under (before (length a)) ≡ true) is agree)
+module _ (std : Standard) where
+  module _ (a b : List Token) (same : (k : ℕ) → base_at (grammar std) a k ≡ base_at (grammar std) b k) (tree : Node) (agree : agrees std b tree.under (before (length a)) ≡ true) where
+    step_told : (v : Bool) (r : Step) → After (UnitTold std a b same v) r → tree_of r ≡ Ok tree → v ≡ true
+    step_told v (Err stop) m e = absurd (cc)
+    step_told v (Ok s) m e =
+        let unit : Node = node_of (unit_label std a) 0 m.last_one.built.under in
+        let is : tree ≡ unit = same_node (lone s.built.under s.built) tree unit e (ap (λ (n : Node). lone n.under n) m.built) in
+        m.told (sym (agrees_same std b m.last_one.built.under (before (length a))) ∙ subst (λ (n : Node). agrees std b n.under (before (length a)) ≡ true) is agree)
 
-  along_told : read_of c99 a ≡ Ok tree → all_along c99 (of_token a b) (of_node a b) a ≡ true
-  unfolding whole
-  along_told e =
-      step_told (all_along c99 (of_token a b) (of_node a b) a) (read_within c99 (steps_for (produce TranslationUnit) (at_first a)) 0 (produce TranslationUnit) (at_first a))
-      (unit_asks a b same (steps_for (produce TranslationUnit) (at_first a))) e
+    along_told : read_of (grammar std) a ≡ Ok tree → all_along (grammar std) (of_token std a b) (of_node std a b) a ≡ true
+    unfolding whole
+    along_told e =
+        step_told (all_along (grammar std) (of_token std a b) (of_node std a b) a) (read_within (grammar std) (steps_for (produce TranslationUnit) (at_first a)) 0 (produce TranslationUnit) (at_first a))
+        (unit_asks std a b same (steps_for (produce TranslationUnit) (at_first a))) e
 
-pub read_so : (a b : List Token) (tree : Node) → length a ≡ length b → ((k : ℕ) → base_at c99 a k ≡ base_at c99 b k) → read_of c99 a ≡ Ok tree
-    → agrees b tree.under (before (length b)) ≡ true → IsReadSo a b
-read_so a b tree as_long same e agree = record {
-  as_long = as_long;
-  classes = same;
-  kinds = along_told a b same tree (ap (λ n. agrees b tree.under (before n)) as_long ∙ agree) e;
-}
+  pub read_so : (a b : List Token) (tree : Node) → length a ≡ length b → ((k : ℕ) → base_at (grammar std) a k ≡ base_at (grammar std) b k) → read_of (grammar std) a ≡ Ok tree
+      → agrees std b tree.under (before (length b)) ≡ true → IsReadSo std a b
+  read_so a b tree as_long same e agree = record {
+    as_long = as_long;
+    classes = same;
+    kinds = along_told a b same tree (ap (λ n. agrees std b tree.under (before n)) as_long ∙ agree) e;
+  }
 
 pub agreeing_alike : AgreeingTextsReadAlike
-agreeing_alike a b tree as_long same e agree = one_kind_alike a b tree (read_so a b tree as_long same e agree) e
+agreeing_alike std a b tree as_long same e agree = one_kind_alike std a b tree (read_so std a b tree as_long same e agree) e

@@ -4,11 +4,14 @@ use Rattle.std.specs.List.{list_all}
 use Rattle.std.specs.Option.{option_map_or}
 use Rattle.std.specs.Str.{bytes_eq}
 use Rattle.std.proofs.lemmas.Bool.{false≢true, and_parts}
+use Rattle.tree_laws.specs.Below.cs_base.declared.ws_units.Standard.{Standard}
 use Rattle.tree_laws.specs.Below.cs_base.Token.{Token}
 use Rattle.tree_laws.specs.Below.cs_base.declared.tokens.Kind.{Kind}
 use Rattle.tree_laws.specs.Below.cs_base.declared.tokens.Kind.TheVariants as kind
-use Rattle.tree_laws.specs.Below.c99_grammar.Spellings.{Spelled, keywords, punctuators}
-use Rattle.tree_laws.specs.Below.c99_grammar.Standard.{c99}
+use Rattle.tree_laws.specs.Below.cs_base.declared.ws_units.Standard.TheVariants.{C11}
+use Rattle.tree_laws.specs.Below.c99_grammar.Spellings.{Spelled, keywords_of, punctuators}
+use Rattle.tree_laws.specs.Below.c99_grammar.Standard.{c99, grammar}
+use Rattle.tree_laws.proofs.Below.c99_grammar.StandardLemmas.{keywords_fit}
 use Rattle.tree_laws.specs.Below.c99_read.State.{base_at, is_identifier}
 use Rattle.tree_laws.specs.Below.c99_grammar.TokenClasses.{spelled_class, class_of_kind, base_class}
 use Rattle.renamed_tree_laws.proofs.Private.{Class, identifier, no_class, end_class, covers}
@@ -26,7 +29,7 @@ spelled_so P (w ∷ words) text other all last =
     by false h k = k
 
 record Covered (P : Class → Bool) : Type 0 where
-  words : list_all (λ w. P w.1) keywords ≡ true
+  words : list_all (λ w. P w.1) (keywords_of C11) ≡ true
   signs : list_all (λ w. P w.1) punctuators ≡ true
   names : P identifier ≡ true
   none : P no_class ≡ true
@@ -37,7 +40,7 @@ record Covered (P : Class → Bool) : Type 0 where
 
 covered : (P : Class → Bool) → covers P ≡ true → Covered P
 covered P h =
-    let h1 = and_parts (list_all (λ w. P w.1) keywords) _ h in
+    let h1 = and_parts (list_all (λ w. P w.1) (keywords_of C11)) _ h in
     let h2 = and_parts (list_all (λ w. P w.1) punctuators) _ h1.1 in
     let h3 = and_parts (P identifier) _ h2.1 in
     let h4 = and_parts (P no_class) _ h3.1 in
@@ -45,29 +48,6 @@ covered P h =
     let h6 = and_parts (P (class_of_kind c99 kind.Number [])) _ h5.1 in
     let h7 = and_parts (P (class_of_kind c99 kind.Char [])) (P (class_of_kind c99 kind.Str [])) h6.1 in
     record { words = h1.0; signs = h2.0; names = h3.0; none = h4.0; last = h5.0; number = h6.0; char = h7.0; str = h7.1 }
-
-kind_so : (P : Class → Bool) → Covered P → (k : Kind) (text : List ℕ) → P (class_of_kind c99 k text) ≡ true
-kind_so P h kind.Ident text = spelled_so P keywords text identifier h.words h.names
-kind_so P h kind.Punct text = spelled_so P punctuators text no_class h.signs h.none
-kind_so P h kind.Number text = h.number
-kind_so P h kind.Char text = h.char
-kind_so P h kind.Str text = h.str
-kind_so P h _ text = h.none
-
-token_so : (P : Class → Bool) → Covered P → (t : Token) → P (base_class c99 t) ≡ true
-unfolding base_class
-token_so P h t = kind_so P h t.kind t.text
-
-pub base_so : (P : Class → Bool) → covers P ≡ true → (toks : List Token) (k : ℕ) → P (base_at c99 toks k) ≡ true
-base_so P e toks k = by (slice_get toks k) (k == length toks) end_class no_class h.last h.none
-  where
-    h : Covered P
-    h = covered P e
-
-    by : (t : Option Token) (c : Bool) (x y : Class) → P x ≡ true → P y ≡ true → P (option_map_or (base_class c99) t (if c then x else y)) ≡ true
-    by None true x y l n = l
-    by None false x y l n = n
-    by (Some t) c x y l n = token_so P h t
 
 -- ---- The class of an identifier
 
@@ -88,24 +68,48 @@ spelled_is (w ∷ words) text other all h =
     by true n f e = absurd (false≢true (sym n ∙ e))
     by false n f e = f e
 
-kind_is : (k : Kind) (text : List ℕ) → is_identifier (class_of_kind c99 k text) ≡ true → class_of_kind c99 k text ≡ identifier
-kind_is kind.Ident text h = spelled_is keywords text identifier refl h
-kind_is kind.Punct text h =
-    absurd (false≢true (sym (refuted _ (spelled_so (λ c. not (is_identifier c)) punctuators text no_class refl refl)) ∙ h))
-kind_is kind.Number text h = absurd (false≢true h)
-kind_is kind.Char text h = absurd (false≢true h)
-kind_is kind.Str text h = absurd (false≢true h)
-kind_is _ text h = absurd (false≢true h)
+module _ (std : Standard) where
+  kind_so : (P : Class → Bool) → Covered P → (k : Kind) (text : List ℕ) → P (class_of_kind (grammar std) k text) ≡ true
+  kind_so P h kind.Ident text = spelled_so P (keywords_of std) text identifier (keywords_fit P h.words std) h.names
+  kind_so P h kind.Punct text = spelled_so P punctuators text no_class h.signs h.none
+  kind_so P h kind.Number text = h.number
+  kind_so P h kind.Char text = h.char
+  kind_so P h kind.Str text = h.str
+  kind_so P h _ text = h.none
 
-token_is : (t : Token) → is_identifier (base_class c99 t) ≡ true → base_class c99 t ≡ identifier
-unfolding base_class
-token_is t h = kind_is t.kind t.text h
+  token_so : (P : Class → Bool) → Covered P → (t : Token) → P (base_class (grammar std) t) ≡ true
+  unfolding base_class
+  token_so P h t = kind_so P h t.kind t.text
 
-pub base_is : (toks : List Token) (k : ℕ) → is_identifier (base_at c99 toks k) ≡ true → base_at c99 toks k ≡ identifier
-base_is toks k h = by (slice_get toks k) (k == length toks) h
-  where
-    by : (t : Option Token) (c : Bool) → is_identifier (option_map_or (base_class c99) t (if c then end_class else no_class)) ≡ true
-        → option_map_or (base_class c99) t (if c then end_class else no_class) ≡ identifier
-    by None true e = absurd (false≢true e)
-    by None false e = absurd (false≢true e)
-    by (Some t) c e = token_is t e
+  pub base_so : (P : Class → Bool) → covers P ≡ true → (toks : List Token) (k : ℕ) → P (base_at (grammar std) toks k) ≡ true
+  base_so P e toks k = by (slice_get toks k) (k == length toks) end_class no_class h.last h.none
+    where
+      h : Covered P
+      h = covered P e
+
+      by : (t : Option Token) (c : Bool) (x y : Class) → P x ≡ true → P y ≡ true → P (option_map_or (base_class (grammar std)) t (if c then x else y)) ≡ true
+      by None true x y l n = l
+      by None false x y l n = n
+      by (Some t) c x y l n = token_so P h t
+
+  kind_is : (k : Kind) (text : List ℕ) → is_identifier (class_of_kind (grammar std) k text) ≡ true → class_of_kind (grammar std) k text ≡ identifier
+  kind_is kind.Ident text h = spelled_is (keywords_of std) text identifier (keywords_fit (λ c. not (is_identifier c)) refl std) h
+  kind_is kind.Punct text h =
+      absurd (false≢true (sym (refuted _ (spelled_so (λ c. not (is_identifier c)) punctuators text no_class refl refl)) ∙ h))
+  kind_is kind.Number text h = absurd (false≢true h)
+  kind_is kind.Char text h = absurd (false≢true h)
+  kind_is kind.Str text h = absurd (false≢true h)
+  kind_is _ text h = absurd (false≢true h)
+
+  token_is : (t : Token) → is_identifier (base_class (grammar std) t) ≡ true → base_class (grammar std) t ≡ identifier
+  unfolding base_class
+  token_is t h = kind_is t.kind t.text h
+
+  pub base_is : (toks : List Token) (k : ℕ) → is_identifier (base_at (grammar std) toks k) ≡ true → base_at (grammar std) toks k ≡ identifier
+  base_is toks k h = by (slice_get toks k) (k == length toks) h
+    where
+      by : (t : Option Token) (c : Bool) → is_identifier (option_map_or (base_class (grammar std)) t (if c then end_class else no_class)) ≡ true
+          → option_map_or (base_class (grammar std)) t (if c then end_class else no_class) ≡ identifier
+      by None true e = absurd (false≢true e)
+      by None false e = absurd (false≢true e)
+      by (Some t) c e = token_is t e

@@ -1,5 +1,6 @@
 -- A parameter's declarator in parentheses whose first token is an identifier begins with this name.
 use Rattle.std.proofs.Common.{ℕ, zero, suc, ◌+◌, ◌≡◌, Bool, true, false, ◌&&◌, not, if◌then◌else◌, List, [], ◌∷◌, length, Ok, Err, nat_lt, refl, sym, ap, ◌∙◌}
+use Rattle.tree_laws.specs.Below.cs_base.declared.ws_units.Standard.{Standard}
 use Rattle.tree_laws.specs.Below.c99_tree.Tree.{Forest, none, token, node, Node, Part, leaf, inner, put, lone}
 use Rattle.tree_laws.specs.Below.c99_tree.declared.production.Label.{Label}
 use Rattle.tree_laws.specs.Below.c99_tree.declared.production.Production.{Production}
@@ -7,8 +8,7 @@ use Rattle.tree_laws.specs.Below.c99_tree.declared.production.Production.TheVari
 use Rattle.tree_laws.specs.Below.c99_tree.contracts.production.ProductionPartialEq.TheImpl.{ghosts}
 use Rattle.tree_laws.specs.Below.c99_grammar.Classes.{among}
 use Rattle.tree_laws.specs.Below.c99_grammar.Items.{Item, one, part, ◌·◌, deep, own, names, Action}
-use Rattle.tree_laws.specs.Below.c99_grammar.Grammar.{table}
-use Rattle.tree_laws.specs.Below.c99_grammar.Standard.{c99}
+use Rattle.tree_laws.specs.Below.c99_grammar.Standard.{c99, grammar}
 use Rattle.tree_laws.specs.Below.c99_read.State.{State, base_at, is_identifier, is_typedef_at, class_at, collapses, finished, acted, opened, closed}
 use Rattle.tree_laws.specs.Below.c99_read.Reading.{Goal, produce, Step, syntax, too_deep, and_then, deepest, take_one, enter, may, step, alternative, read_within}
 use Rattle.tree_laws.specs.Below.c99_grammar.Starting.{starts}
@@ -19,19 +19,6 @@ use Rattle.tree_laws.proofs.Walked.{After, with_token, after_if, kept_by_item}
 use Rattle.typedef_laws.proofs.Parts.{first_body, rest_of}
 use Rattle.renamed_tree_laws.proofs.Private.{Class, identifier, typedef_name}
 use Rattle.renamed_tree_laws.proofs.Bases.{base_is}
-
--- ---- The class of an identifier
-
--- what is so of the two classes that an identifier may have is so of its class
-either_class : (Q : Class → Bool) → Q identifier ≡ true → Q typedef_name ≡ true → (s : State) (k : ℕ) → is_identifier (base_at c99 s.toks k) ≡ true
-    → Q (class_at c99 s k) ≡ true
-unfolding class_at
-either_class Q i t s k h =
-    by (base_at c99 s.toks k) (is_identifier (base_at c99 s.toks k) && is_typedef_at s.toks s.names.scopes k) (base_is s.toks k h)
-  where
-    by : (b : Class) (c : Bool) → b ≡ identifier → Q (if c then typedef_name else b) ≡ true
-    by b true e = t
-    by b false e = ap Q e ∙ i
 
 refuted : (c : Bool) → not c ≡ true → c ≡ false
 refuted true h = absurd (false≢true h)
@@ -44,36 +31,6 @@ after_true P false r r' e m = absurd (false≢true e)
 after_false : (P : State → Type 0) (c : Bool) (r r' : Step) → c ≡ false → After P r' → After P (if c then r else r')
 after_false P true r r' e m = absurd (false≢true (sym e))
 after_false P false r r' e m = m
-
--- ---- What stays so with more children
-
-module _ (so : Node → Type 0) (more : (n : Node) (x : Part) → so n → so (record n { under = put n.under x })) (fuel : ℕ) where
-  abbrev Grows : State → State → Type 0
-  Grows s s' = so s.built → so s'.built
-
-  acted_grows : (a : Action) (s : State) → Grows s (acted c99 a s)
-  unfolding acted
-  acted_grows a s = λ w. w
-
-  node_grows : (p : Production) (s s' : State) → Grows s (closed p s s')
-  unfolding closed
-  node_grows p s s' = λ w. more s.built (inner (finished p s'.built)) w
-
-  grows_step : (item : Item) (depth : ℕ) (s : State) → After (Grows s) (step c99 (read_within c99 fuel) depth item s)
-  grows_step =
-      kept_by_item c99 Grows
-      (record { still = λ s w. w; further = λ s s' s'' k k' w. k' (k w); taken = λ s w. more s.built (leaf s.at) w; done = acted_grows })
-      (λ p n s s' grows. node_grows p s s') fuel
-
-  -- it is so behind one step, and so behind the items that follow
-  so_further : (r : Step) (depth : ℕ) (item : Item) → After (λ s. so s.built) r
-      → After (λ s. so s.built) (and_then r (step c99 (read_within c99 fuel) depth item))
-  so_further (Err stop) depth item m = tt
-  so_further (Ok s) depth item m = by (step c99 (read_within c99 fuel) depth item s) (grows_step item depth s)
-    where
-      by : (r : Step) → After (Grows s) r → After (λ s'. so s'.built) r
-      by (Err stop) k = tt
-      by (Ok s') k = k m
 
 -- ---- A node that is read
 
@@ -90,15 +47,6 @@ closed_adds Good p s s' plain h = record { child = s'.built; under = ap (λ n. p
     by : (c : Bool) → c ≡ false → (if c then lone s'.built.under s'.built else s'.built) ≡ s'.built
     by true e = absurd (false≢true (sym e))
     by false e = refl
-
-module _ (Good : Node → Type 0) (below : ℕ → Goal → State → Step) where
-  alternative_adds : (depth : ℕ) (p : Production) (n : ℕ) (body : Item) (s : State) → collapses p ≡ false
-      → After (λ s'. Good s'.built) (step c99 below depth body (opened p n s)) → After (Adds Good s) (alternative c99 below depth p n body s)
-  alternative_adds depth p n body s plain m = by (step c99 below depth body (opened p n s)) m
-    where
-      by : (r : Step) → After (λ s'. Good s'.built) r → After (Adds Good s) (and_then r (λ s'. Ok (closed p s s')))
-      by (Err stop) m = tt
-      by (Ok s') m = closed_adds Good p s s' plain m
 
 -- ---- The name first
 
@@ -118,22 +66,6 @@ head_more (node l first under rest) x k h = absurd (cc)
 named_more : (k : ℕ) (n : Node) (x : Part) → IsNamed k n → IsNamed k (record n { under = put n.under x })
 named_more k n x h = (h.0, head_more n.under x k h.1)
 
-module _ (fuel : ℕ) where
-  name_first : (depth : ℕ) (classes : List Class) (rest : Item) (s : State)
-      → After (λ s'. IsNamed s.at s'.built) (step c99 (read_within c99 fuel) depth (one classes · rest) (opened Pdirect 1 s))
-  unfolding take_one opened
-  name_first depth classes rest s =
-      so_further (IsNamed s.at) (named_more s.at) fuel (take_one c99 classes (opened Pdirect 1 s)) depth rest
-      (after_if (λ s'. IsNamed s.at s'.built) (nat_lt s.at (length s.toks) && among classes (class_at c99 (opened Pdirect 1 s) s.at)) _ _ (refl, refl) tt)
-
-direct_adds : (fuel depth : ℕ) (s : State) → is_identifier (base_at c99 s.toks s.at) ≡ true
-    → After (Adds (IsNamed s.at) s) (read_within c99 fuel depth (produce Pdirect) s)
-unfolding read_within
-direct_adds zero depth s h = tt
-direct_adds (suc fuel) depth s h =
-    after_true (Adds (IsNamed s.at) s) (among names (class_at c99 s s.at)) _ _ (either_class (among names) refl refl s s.at h)
-    (alternative_adds (IsNamed s.at) (read_within c99 fuel) depth Pdirect 1 (first_body (table Pdirect)) s refl (name_first fuel depth names (rest_of (first_body (table Pdirect))) s))
-
 -- ---- A declarator that begins with a name
 
 abbrev named_in : Forest → List ℕ
@@ -151,27 +83,6 @@ begins_by l b (node m first under rest) k e h = absurd (cc)
 begins_so : (k : ℕ) (s s' : State) → s.built.under ≡ none → Adds (IsNamed k) s s' → Begins k s'.built
 begins_so k s s' empty a =
     ap named_in (a.under ∙ ap (λ f. put f (inner a.child)) empty) ∙ begins_by a.child.label a.child.first a.child.under k a.good.0 a.good.1
-
-direct_begins : (fuel depth : ℕ) (s : State) → is_identifier (base_at c99 s.toks s.at) ≡ true
-    → After (λ s'. Begins s.at s'.built) (read_within c99 fuel depth (produce Pdirect) (opened Pdecl 2 s))
-unfolding opened
-direct_begins fuel depth s h =
-    by (read_within c99 fuel depth (produce Pdirect) (opened Pdecl 2 s)) (direct_adds fuel depth (opened Pdecl 2 s) h)
-  where
-    by : (r : Step) → After (Adds (IsNamed s.at) (opened Pdecl 2 s)) r → After (λ s'. Begins s.at s'.built) r
-    by (Err stop) m = tt
-    by (Ok s') m = begins_so s.at (opened Pdecl 2 s) s' refl m
-
--- it has no pointer in front
-declarator_adds : (fuel depth : ℕ) (s : State) → is_identifier (base_at c99 s.toks s.at) ≡ true
-    → After (Adds (Begins s.at) s) (read_within c99 fuel depth (produce Pdecl) s)
-unfolding read_within
-declarator_adds zero depth s h = tt
-declarator_adds (suc fuel) depth s h =
-    after_false (Adds (Begins s.at) s) (starts c99 (first_body (table Pdecl)) (class_at c99 s s.at) (class_at c99 s (s.at + 1))) _ _
-    (refuted _ (either_class (λ c. not (starts c99 (first_body (table Pdecl)) c (class_at c99 s (s.at + 1)))) refl refl s s.at h))
-    (after_if (Adds (Begins s.at) s) (may c99 own (part Pdirect) s) _ _
-    (alternative_adds (Begins s.at) (read_within c99 fuel) depth Pdecl 2 (part Pdirect) s refl (direct_begins fuel depth s h)) tt)
 
 -- ---- A declarator in parentheses
 
@@ -208,38 +119,128 @@ holds_so : (p k : ℕ) (s s' : State) → s.built.under ≡ token p none → Add
 holds_so p k s s' alone a =
     ap name_in (a.under ∙ ap (λ f. put f (inner a.child)) alone) ∙ (name_so p a.child.label a.child.first a.child.under ∙ a.good)
 
-module _ (fuel : ℕ) where
-  deep_holds : (depth p : ℕ) (s : State) → s.built.under ≡ token p none → is_identifier (base_at c99 s.toks s.at) ≡ true
-      → After (λ s'. Holds s.at s'.built) (step c99 (read_within c99 fuel) depth (deep (part Pdecl)) s)
-  unfolding enter
-  deep_holds depth p s alone h = by_start (may c99 own (part Pdecl) s)
+module _ (std : Standard) where
+  -- ---- The class of an identifier
+
+  -- what is so of the two classes that an identifier may have is so of its class
+  either_class : (Q : Class → Bool) → Q identifier ≡ true → Q typedef_name ≡ true → (s : State) (k : ℕ) → is_identifier (base_at (grammar std) s.toks k) ≡ true
+      → Q (class_at (grammar std) s k) ≡ true
+  unfolding class_at
+  either_class Q i t s k h =
+      by (base_at (grammar std) s.toks k) (is_identifier (base_at (grammar std) s.toks k) && is_typedef_at s.toks s.names.scopes k) (base_is std s.toks k h)
     where
-      within : (r : Step) → After (Adds (Begins s.at) s) r → After (λ s'. Holds s.at s'.built) r
-      within (Err stop) m = tt
-      within (Ok s') m = holds_so p s.at s s' alone m
+      by : (b : Class) (c : Bool) → b ≡ identifier → Q (if c then typedef_name else b) ≡ true
+      by b true e = t
+      by b false e = ap Q e ∙ i
 
-      by_depth : (c : Bool) → After (λ s'. Holds s.at s'.built) (and_then (if c then Ok s else Err (too_deep s.at)) (step c99 (read_within c99 fuel) (depth + 1) (part Pdecl)))
-      by_depth true = within (read_within c99 fuel (depth + 1) (produce Pdecl) s) (declarator_adds fuel (depth + 1) s h)
-      by_depth false = tt
+  -- ---- What stays so with more children
 
-      by_start : (c : Bool) → After (λ s'. Holds s.at s'.built) (and_then (enter depth c s) (step c99 (read_within c99 fuel) (depth + 1) (part Pdecl)))
-      by_start true = by_depth (nat_lt depth deepest)
-      by_start false = tt
+  module _ (so : Node → Type 0) (more : (n : Node) (x : Part) → so n → so (record n { under = put n.under x })) (fuel : ℕ) where
+    abbrev Grows : State → State → Type 0
+    Grows s s' = so s.built → so s'.built
 
-  parenthesized_holds : (depth : ℕ) (classes : List Class) (rest : Item) (s : State) → is_identifier (base_at c99 s.toks (s.at + 1)) ≡ true
-      → After (λ s'. Holds (s.at + 1) s'.built) (step c99 (read_within c99 fuel) depth (one classes · (deep (part Pdecl) · rest)) (opened Pdirect 2 s))
-  unfolding take_one opened
-  parenthesized_holds depth classes rest s h = by (nat_lt s.at (length s.toks) && among classes (class_at c99 (opened Pdirect 2 s) s.at))
+    acted_grows : (a : Action) (s : State) → Grows s (acted (grammar std) a s)
+    unfolding acted
+    acted_grows a s = λ w. w
+
+    node_grows : (p : Production) (s s' : State) → Grows s (closed p s s')
+    unfolding closed
+    node_grows p s s' = λ w. more s.built (inner (finished p s'.built)) w
+
+    grows_step : (item : Item) (depth : ℕ) (s : State) → After (Grows s) (step (grammar std) (read_within (grammar std) fuel) depth item s)
+    grows_step =
+        kept_by_item (grammar std) Grows
+        (record { still = λ s w. w; further = λ s s' s'' k k' w. k' (k w); taken = λ s w. more s.built (leaf s.at) w; done = acted_grows })
+        (λ p n s s' grows. node_grows p s s') fuel
+
+    -- it is so behind one step, and so behind the items that follow
+    so_further : (r : Step) (depth : ℕ) (item : Item) → After (λ s. so s.built) r
+        → After (λ s. so s.built) (and_then r (step (grammar std) (read_within (grammar std) fuel) depth item))
+    so_further (Err stop) depth item m = tt
+    so_further (Ok s) depth item m = by (step (grammar std) (read_within (grammar std) fuel) depth item s) (grows_step item depth s)
+      where
+        by : (r : Step) → After (Grows s) r → After (λ s'. so s'.built) r
+        by (Err stop) k = tt
+        by (Ok s') k = k m
+
+  module _ (Good : Node → Type 0) (below : ℕ → Goal → State → Step) where
+    alternative_adds : (depth : ℕ) (p : Production) (n : ℕ) (body : Item) (s : State) → collapses p ≡ false
+        → After (λ s'. Good s'.built) (step (grammar std) below depth body (opened p n s)) → After (Adds Good s) (alternative (grammar std) below depth p n body s)
+    alternative_adds depth p n body s plain m = by (step (grammar std) below depth body (opened p n s)) m
+      where
+        by : (r : Step) → After (λ s'. Good s'.built) r → After (Adds Good s) (and_then r (λ s'. Ok (closed p s s')))
+        by (Err stop) m = tt
+        by (Ok s') m = closed_adds Good p s s' plain m
+
+  module _ (fuel : ℕ) where
+    name_first : (depth : ℕ) (classes : List Class) (rest : Item) (s : State)
+        → After (λ s'. IsNamed s.at s'.built) (step (grammar std) (read_within (grammar std) fuel) depth (one classes · rest) (opened Pdirect 1 s))
+    unfolding take_one opened
+    name_first depth classes rest s =
+        so_further (IsNamed s.at) (named_more s.at) fuel (take_one (grammar std) classes (opened Pdirect 1 s)) depth rest
+        (after_if (λ s'. IsNamed s.at s'.built) (nat_lt s.at (length s.toks) && among classes (class_at (grammar std) (opened Pdirect 1 s) s.at)) _ _ (refl, refl) tt)
+
+  direct_adds : (fuel depth : ℕ) (s : State) → is_identifier (base_at (grammar std) s.toks s.at) ≡ true
+      → After (Adds (IsNamed s.at) s) (read_within (grammar std) fuel depth (produce Pdirect) s)
+  unfolding read_within
+  direct_adds zero depth s h = tt
+  direct_adds (suc fuel) depth s h =
+      after_true (Adds (IsNamed s.at) s) (among names (class_at (grammar std) s s.at)) _ _ (either_class (among names) refl refl s s.at h)
+      (alternative_adds (IsNamed s.at) (read_within (grammar std) fuel) depth Pdirect 1 (first_body (c99.table Pdirect)) s refl (name_first fuel depth names (rest_of (first_body (c99.table Pdirect))) s))
+
+  direct_begins : (fuel depth : ℕ) (s : State) → is_identifier (base_at (grammar std) s.toks s.at) ≡ true
+      → After (λ s'. Begins s.at s'.built) (read_within (grammar std) fuel depth (produce Pdirect) (opened Pdecl 2 s))
+  unfolding opened
+  direct_begins fuel depth s h =
+      by (read_within (grammar std) fuel depth (produce Pdirect) (opened Pdecl 2 s)) (direct_adds fuel depth (opened Pdecl 2 s) h)
     where
-      by : (c : Bool) → After (λ s'. Holds (s.at + 1) s'.built)
-          (and_then (if c then Ok (with_token (opened Pdirect 2 s)) else Err (syntax s.at)) (step c99 (read_within c99 fuel) depth (deep (part Pdecl) · rest)))
-      by true =
-          so_further (Holds (s.at + 1)) (holds_more (s.at + 1)) fuel (step c99 (read_within c99 fuel) depth (deep (part Pdecl)) (with_token (opened Pdirect 2 s)))
-          depth rest (deep_holds depth s.at (with_token (opened Pdirect 2 s)) refl h)
-      by false = tt
+      by : (r : Step) → After (Adds (IsNamed s.at) (opened Pdecl 2 s)) r → After (λ s'. Begins s.at s'.built) r
+      by (Err stop) m = tt
+      by (Ok s') m = begins_so s.at (opened Pdecl 2 s) s' refl m
 
-  -- where an identifier follows the parenthesis, it is the name
-  pub enclosed_step : (depth : ℕ) (body : Item) (s : State) → is_parenthesized body ≡ true → is_identifier (base_at c99 s.toks (s.at + 1)) ≡ true
-      → After (λ s'. Holds (s.at + 1) s'.built) (step c99 (read_within c99 fuel) depth body (opened Pdirect 2 s))
-  enclosed_step depth (one classes · (deep (part Pdecl) · rest)) s e h = parenthesized_holds depth classes rest s h
-  enclosed_step depth _ s e h = absurd (false≢true e)
+  -- it has no pointer in front
+  declarator_adds : (fuel depth : ℕ) (s : State) → is_identifier (base_at (grammar std) s.toks s.at) ≡ true
+      → After (Adds (Begins s.at) s) (read_within (grammar std) fuel depth (produce Pdecl) s)
+  unfolding read_within
+  declarator_adds zero depth s h = tt
+  declarator_adds (suc fuel) depth s h =
+      after_false (Adds (Begins s.at) s) (starts (grammar std) (first_body (c99.table Pdecl)) (class_at (grammar std) s s.at) (class_at (grammar std) s (s.at + 1))) _ _
+      (refuted _ (either_class (λ c. not (starts (grammar std) (first_body (c99.table Pdecl)) c (class_at (grammar std) s (s.at + 1)))) refl refl s s.at h))
+      (after_if (Adds (Begins s.at) s) (may (grammar std) own (part Pdirect) s) _ _
+      (alternative_adds (Begins s.at) (read_within (grammar std) fuel) depth Pdecl 2 (part Pdirect) s refl (direct_begins fuel depth s h)) tt)
+
+  module _ (fuel : ℕ) where
+    deep_holds : (depth p : ℕ) (s : State) → s.built.under ≡ token p none → is_identifier (base_at (grammar std) s.toks s.at) ≡ true
+        → After (λ s'. Holds s.at s'.built) (step (grammar std) (read_within (grammar std) fuel) depth (deep (part Pdecl)) s)
+    unfolding enter
+    deep_holds depth p s alone h = by_start (may (grammar std) own (part Pdecl) s)
+      where
+        within : (r : Step) → After (Adds (Begins s.at) s) r → After (λ s'. Holds s.at s'.built) r
+        within (Err stop) m = tt
+        within (Ok s') m = holds_so p s.at s s' alone m
+
+        by_depth : (c : Bool) → After (λ s'. Holds s.at s'.built) (and_then (if c then Ok s else Err (too_deep s.at)) (step (grammar std) (read_within (grammar std) fuel) (depth + 1) (part Pdecl)))
+        by_depth true = within (read_within (grammar std) fuel (depth + 1) (produce Pdecl) s) (declarator_adds fuel (depth + 1) s h)
+        by_depth false = tt
+
+        by_start : (c : Bool) → After (λ s'. Holds s.at s'.built) (and_then (enter depth c s) (step (grammar std) (read_within (grammar std) fuel) (depth + 1) (part Pdecl)))
+        by_start true = by_depth (nat_lt depth deepest)
+        by_start false = tt
+
+    parenthesized_holds : (depth : ℕ) (classes : List Class) (rest : Item) (s : State) → is_identifier (base_at (grammar std) s.toks (s.at + 1)) ≡ true
+        → After (λ s'. Holds (s.at + 1) s'.built) (step (grammar std) (read_within (grammar std) fuel) depth (one classes · (deep (part Pdecl) · rest)) (opened Pdirect 2 s))
+    unfolding take_one opened
+    parenthesized_holds depth classes rest s h = by (nat_lt s.at (length s.toks) && among classes (class_at (grammar std) (opened Pdirect 2 s) s.at))
+      where
+        by : (c : Bool) → After (λ s'. Holds (s.at + 1) s'.built)
+            (and_then (if c then Ok (with_token (opened Pdirect 2 s)) else Err (syntax s.at)) (step (grammar std) (read_within (grammar std) fuel) depth (deep (part Pdecl) · rest)))
+        by true =
+            so_further (Holds (s.at + 1)) (holds_more (s.at + 1)) fuel (step (grammar std) (read_within (grammar std) fuel) depth (deep (part Pdecl)) (with_token (opened Pdirect 2 s)))
+            depth rest (deep_holds depth s.at (with_token (opened Pdirect 2 s)) refl h)
+        by false = tt
+
+    -- where an identifier follows the parenthesis, it is the name
+    pub enclosed_step : (depth : ℕ) (body : Item) (s : State) → is_parenthesized body ≡ true → is_identifier (base_at (grammar std) s.toks (s.at + 1)) ≡ true
+        → After (λ s'. Holds (s.at + 1) s'.built) (step (grammar std) (read_within (grammar std) fuel) depth body (opened Pdirect 2 s))
+    enclosed_step depth (one classes · (deep (part Pdecl) · rest)) s e h = parenthesized_holds depth classes rest s h
+    enclosed_step depth _ s e h = absurd (false≢true e)

@@ -3,6 +3,7 @@ use Rattle.std.proofs.Common.{ℕ, ◌+◌, ◌≡◌, Bool, true, false, ◌&&�
 use Rattle.std.specs.Prelude.{find, IfSome}
 use Rattle.std.specs.List.{list_any}
 use Rattle.std.specs.Option.{option_map_or}
+use Rattle.tree_laws.specs.Below.cs_base.declared.ws_units.Standard.{Standard}
 use Rattle.tree_laws.specs.Below.cs_base.Token.{Token}
 use Rattle.tree_laws.specs.Below.c99_tree.Tree.{Forest, none, token, node}
 use Rattle.tree_laws.specs.Below.c99_tree.declared.production.Label.{Label}
@@ -17,13 +18,6 @@ use Rattle.renamed_tree_laws.specs.Loose.{is_hidden, StaysWhole}
 
 abbrev pub range_of : Entry → Range
 range_of e = record { name = e.name_at; from = e.from; to = e.to }
-
-pub any_in : {X : Type 0} (p : X → Bool) (xs : List X) (x : X) → In x xs → p x ≡ true → list_any p xs ≡ true
-any_in p xs x w h = by (list_any p xs) refl
-  where
-    by : (c : Bool) → list_any p xs ≡ c → c ≡ true
-    by true e = refl
-    by false e = absurd (false≢true (sym (any_none p xs x e w) ∙ h))
 
 -- ---- The declarations of the outline stay
 
@@ -71,45 +65,53 @@ outlined_in e (node l first under rest) o w =
     (after_in e l.production first o l under (outlined under (begun l first under o)).entries
     (outlined_in e under (begun l first under o) (begun_in e l.production first under o.kept o.scope.depth o.entries w)))
 
--- ---- A name that is asked for by itself
+module _ (std : Standard) where
+  pub any_in : {X : Type 0} (p : X → Bool) (xs : List X) (x : X) → In x xs → p x ≡ true → list_any p xs ≡ true
+  any_in p xs x w h = by (list_any p xs) refl
+    where
+      by : (c : Bool) → list_any p xs ≡ c → c ≡ true
+      by true e = refl
+      by false e = absurd (false≢true (sym (any_none p xs x e w) ∙ h))
 
-module _ (a b : List Token) (apart : (i j : ℕ) → alike b i j ≡ true → alike a i j ≡ true) (typedefs : List Range) where
-  -- each typedef name among the declarations has its range
-  abbrev pub Covered : List Entry → Type 0
-  Covered es = (e : Entry) → In e es → e.typedef ≡ true → In (range_of e) typedefs
+  -- ---- A name that is asked for by itself
 
-  module _ (i : ℕ) (es : List Entry) where
-    abbrev of_a : Entry → Bool
-    of_a e = alike a i e.name_at && is_open i e
+  module _ (a b : List Token) (apart : (i j : ℕ) → alike b i j ≡ true → alike a i j ≡ true) (typedefs : List Range) where
+    -- each typedef name among the declarations has its range
+    abbrev pub Covered : List Entry → Type 0
+    Covered es = (e : Entry) → In e es → e.typedef ≡ true → In (range_of e) typedefs
 
-    abbrev of_b : Entry → Bool
-    of_b e = alike b i e.name_at && is_open i e
+    module _ (i : ℕ) (es : List Entry) where
+      abbrev of_a : Entry → Bool
+      of_a e = alike a i e.name_at && is_open i e
 
-    stronger : (e : Entry) → of_b e ≡ true → of_a e ≡ true
-    stronger e h = and_both (alike a i e.name_at) (is_open i e) (apart i e.name_at (and_left (alike b i e.name_at) (is_open i e) h)) (and_right (alike b i e.name_at) (is_open i e) h)
+      abbrev of_b : Entry → Bool
+      of_b e = alike b i e.name_at && is_open i e
 
-    found_too : ((j : ℕ) → alike a i j ≡ true → alike b i j ≡ true) → (r : Option Entry) → find of_a es ≡ r → IfSome r (λ e. of_b e ≡ true)
-    found_too stays None h = tt
-    found_too stays (Some e) h =
-        let p : of_a e ≡ true = found_passes of_a es e h in
-        and_both (alike b i e.name_at) (is_open i e) (stays e.name_at (and_left (alike a i e.name_at) (is_open i e) p)) (and_right (alike a i e.name_at) (is_open i e) p)
+      stronger : (e : Entry) → of_b e ≡ true → of_a e ≡ true
+      stronger e h = and_both (alike a i e.name_at) (is_open i e) (apart i e.name_at (and_left (alike b i e.name_at) (is_open i e) h)) (and_right (alike b i e.name_at) (is_open i e) h)
 
-    -- where all of its spelling go with it
-    pub whole_same : ((j : ℕ) → alike a i j ≡ true → alike b i j ≡ true) → typedef_among b i es ≡ typedef_among a i es
-    whole_same stays =
-        ap (λ r. option_map_or (λ (e : Entry). e.typedef) r false) (find_same of_b of_a es (find of_a es) stronger refl (found_too stays (find of_a es) refl))
+      found_too : ((j : ℕ) → alike a i j ≡ true → alike b i j ≡ true) → (r : Option Entry) → find of_a es ≡ r → IfSome r (λ e. of_b e ≡ true)
+      found_too stays None h = tt
+      found_too stays (Some e) h =
+          let p : of_a e ≡ true = found_passes of_a es e h in
+          and_both (alike b i e.name_at) (is_open i e) (stays e.name_at (and_left (alike a i e.name_at) (is_open i e) p)) (and_right (alike a i e.name_at) (is_open i e) p)
 
-    pub none_still : Covered es → StaysWhole a b typedefs i → not (typedef_among a i es) ≡ true → not (typedef_among b i es) ≡ true
-    none_still covered stays h = by (find of_b es) refl
-      where
-        hidden : (e : Entry) → find of_b es ≡ Some e → e.typedef ≡ true → list_any (is_hidden a i) typedefs ≡ true
-        hidden e f t = any_in (is_hidden a i) typedefs (range_of e) (covered e (found_in of_b es e f) t) (stronger e (found_passes of_b es e f))
+      -- where all of its spelling go with it
+      pub whole_same : ((j : ℕ) → alike a i j ≡ true → alike b i j ≡ true) → typedef_among std b i es ≡ typedef_among std a i es
+      whole_same stays =
+          ap (λ r. option_map_or (λ (e : Entry). e.typedef) r false) (find_same of_b of_a es (find of_a es) stronger refl (found_too stays (find of_a es) refl))
 
-        found : (e : Entry) (c : Bool) → find of_b es ≡ Some e → e.typedef ≡ c → not e.typedef ≡ true
-        found e false f t = ap not t
-        found e true f t =
-            sym (ap (λ r. not (option_map_or (λ (x : Entry). x.typedef) r false)) f) ∙ (ap not (whole_same (stays (hidden e f t))) ∙ h)
+      pub none_still : Covered es → StaysWhole a b typedefs i → not (typedef_among std a i es) ≡ true → not (typedef_among std b i es) ≡ true
+      none_still covered stays h = by (find of_b es) refl
+        where
+          hidden : (e : Entry) → find of_b es ≡ Some e → e.typedef ≡ true → list_any (is_hidden a i) typedefs ≡ true
+          hidden e f t = any_in (is_hidden a i) typedefs (range_of e) (covered e (found_in of_b es e f) t) (stronger e (found_passes of_b es e f))
 
-        by : (r : Option Entry) → find of_b es ≡ r → not (option_map_or (λ (x : Entry). x.typedef) r false) ≡ true
-        by None f = refl
-        by (Some e) f = found e e.typedef f refl
+          found : (e : Entry) (c : Bool) → find of_b es ≡ Some e → e.typedef ≡ c → not e.typedef ≡ true
+          found e false f t = ap not t
+          found e true f t =
+              sym (ap (λ r. not (option_map_or (λ (x : Entry). x.typedef) r false)) f) ∙ (ap not (whole_same (stays (hidden e f t))) ∙ h)
+
+          by : (r : Option Entry) → find of_b es ≡ r → not (option_map_or (λ (x : Entry). x.typedef) r false) ≡ true
+          by None f = refl
+          by (Some e) f = found e e.typedef f refl

@@ -1,11 +1,12 @@
 -- What the table says of the next token where an item is read: how far it is known to be the same in both lists.
 use Rattle.std.proofs.Common.{ℕ, ◌+◌, Bool, true, false, ◌&&◌, ◌||◌, not, if◌then◌else◌, ◌==◌, List, [], ◌∷◌}
+use Rattle.tree_laws.specs.Below.cs_base.declared.ws_units.Standard.{Standard}
 use Rattle.tree_laws.specs.Below.c99_tree.declared.production.Label.{Label}
 use Rattle.tree_laws.specs.Below.c99_tree.declared.production.Production.{Production}
-use Rattle.tree_laws.specs.Below.c99_tree.declared.production.Production.TheVariants.{ExtRest, DeclRest, InitDecl, SuRest, Members, Mdecl, EnRest, Enumerators, Enumerator, Declarator, Direct, Pdecl, Pdirect, Cast, Unary, SizeRest, Primary, Suffix, Statement, BlockItem, Sub, Main, Params}
+use Rattle.tree_laws.specs.Below.c99_tree.declared.production.Production.TheVariants.{ExtRest, DeclRest, InitDecl, SuRest, Members, MemRest, Mdecl, EnRest, Enumerators, Enumerator, Declarator, Direct, Pdecl, Pdirect, Cast, Unary, SizeRest, Primary, Suffix, Statement, BlockItem, Sub, Main, Params}
 use Rattle.tree_laws.specs.Below.c99_grammar.Classes.{among}
 use Rattle.tree_laws.specs.Below.c99_grammar.Items.{Item, one, part, end_of_text, act, ◌·◌, choice, maybe, many, deep, Test, own, otherwise, next, next_two, Ask, is, is_not, begins, either, scope, Alternative}
-use Rattle.tree_laws.specs.Below.c99_grammar.Standard.{c99}
+use Rattle.tree_laws.specs.Below.c99_grammar.Standard.{grammar}
 use Rattle.tree_laws.specs.Below.c99_read.State.{is_identifier, has_name}
 use Rattle.tree_laws.specs.Below.c99_grammar.Starting.{is_passed}
 use Rattle.renamed_tree_laws.proofs.Private.{Class, identifier, typedef_name, colons, parens, covers}
@@ -43,6 +44,7 @@ start_mood ExtRest = any
 start_mood DeclRest = any
 start_mood InitDecl = any
 start_mood SuRest = any
+start_mood MemRest = any
 start_mood Mdecl = any
 start_mood EnRest = any
 start_mood Enumerators = any
@@ -125,63 +127,11 @@ second_known (a · b) = second_known a || is_calm_behind a b
 second_known (deep a) = second_known a
 second_known _ = false
 
--- ---- Tests
-
-abbrev pub joint : Production → Bool
-joint p =
-    agree (among (c99.first p) identifier || among (c99.labels p) identifier)
-    (among (c99.first p) typedef_name || among (c99.labels p) typedef_name)
-
--- how lists of classes are seen: `sees` of the first token, and `parts` of a production that may start with it
-abbrev pub asks_same : (List Class → Bool) → Ask → Bool
-asks_same sees (is L) = sees L
-asks_same sees (is_not L) = sees L
-asks_same sees (begins p) = sees (c99.first p)
-asks_same sees (either a b) = asks_same sees a && asks_same sees b
-
-abbrev pub test_same : (List Class → Bool) → Test → Bool → Bool
-test_same sees own started = started
-test_same sees otherwise started = true
-test_same sees (next a) started = asks_same sees a
-test_same sees (next_two a b) started = asks_same sees a && asks_same blind b
-
-abbrev pub starts_same : (List Class → Bool) → (Production → Bool) → Item → Bool
-starts_same sees parts (one L) = sees L
-starts_same sees parts (part p) = parts p
-starts_same sees parts end_of_text = true
-starts_same sees parts (act a) = true
-starts_same sees parts (a · b) = starts_same sees parts a && (if is_passed a then starts_same sees parts b else true)
-starts_same sees parts (choice a b) = starts_same sees parts a && starts_same sees parts b
-starts_same sees parts (maybe a) = starts_same sees parts a
-starts_same sees parts (many t a) = test_same sees t (starts_same sees parts a)
-starts_same sees parts (deep a) = starts_same sees parts a
-
-abbrev pub blind_part : Production → Bool
-blind_part p = blind (c99.first p) && blind (c99.labels p)
-
 abbrev pub each_list : List Class → Bool
 each_list L = true
 
 abbrev pub each_part : Production → Bool
 each_part p = true
-
--- the test has the same answer in both lists, where so much is known
-abbrev pub decides : Mood → Test → Item → Bool
-decides any t a = test_same blind t (starts_same blind blind_part a)
-decides label t a = test_same blind t (starts_same blind joint a) && test_same each_list t (starts_same each_list each_part a)
-decides _ t a = test_same each_list t (starts_same each_list each_part a)
-
--- the repetitions and options of an item are decided alike, where this is known behind it
-abbrev pub fits : Mood → Item → Bool
-fits m (one L) = true
-fits m (part p) = at_least m (end_mood p)
-fits m end_of_text = true
-fits m (act a) = true
-fits m (a · b) = fits (mood b m) a && fits m b
-fits m (choice a b) = (decides any own a && decides any own b) && (fits m a && fits m b)
-fits m (maybe a) = decides (mood (maybe a) m) own a && fits m a
-fits m (many t a) = decides (mood (many t a) m) t a && fits (mood (many t a) m) a
-fits m (deep a) = decides (mood a m) own a && fits m a
 
 abbrev pub told_where : Mood → Bool → Bool
 told_where calm told = told
@@ -209,21 +159,11 @@ abbrev pub is_paren : Ask → Bool
 is_paren (is L) = covers (λ c. not (among L c) || among parens c) && (not (among L typedef_name) || among parens typedef_name)
 is_paren _ = false
 
--- the second token that the test asks for may be a name, where the first one is a parenthesis
-abbrev pub decides_second : Bool → Mood → Test → Item → Bool
-decides_second second m (next_two x y) a = (decides m (next_two x y) a) || (second && (is_paren x && asks_same blind x))
-decides_second second m t a = decides m t a
-
 -- where the test does not hold, no name stands before a colon
 abbrev pub raised : Mood → Test → Mood
 raised label (next_two (is L) (is M)) =
     if (among L identifier && among L typedef_name) && covers (λ c. not (among colons c) || among M c) then calm else label
 raised m t = m
-
--- the tests of alternatives have the same answers
-abbrev pub decided : Bool → Mood → List Alternative → Bool
-decided second m [] = true
-decided second m (a ∷ more) = decides_second second m a.test a.body && decided second (raised m a.test) more
 
 -- the second token that the test asks for is no typedef name
 abbrev pub is_bare_test : Test → Bool
@@ -235,15 +175,78 @@ second_where false asked t body = true
 second_where true true t body = is_bare_test t
 second_where true false t body = second_known body
 
--- an alternative of the production is as the table of moods says
-abbrev pub is_known : Production → ℕ → Alternative → Bool
-is_known p n a =
-    at_least (mood a.body any) (start_mood p) && (second_where (is_second p) (is_asked p n) a.test a.body &&
-    (placed (record { production = p; alternative = n }) a.body && fits (end_mood p) a.body))
+module _ (std : Standard) where
+  -- ---- Tests
 
-abbrev pub are_known : Production → ℕ → List Alternative → Bool
-are_known p n [] = true
-are_known p n (a ∷ more) = is_known p n a && are_known p (n + 1) more
+  abbrev pub joint : Production → Bool
+  joint p =
+      agree (among ((grammar std).first p) identifier || among ((grammar std).labels p) identifier)
+      (among ((grammar std).first p) typedef_name || among ((grammar std).labels p) typedef_name)
 
-abbrev pub is_production_known : Production → Bool
-is_production_known p = are_known p 1 (c99.table p) && decided (is_second p) (start_mood p) (c99.table p)
+  -- how lists of classes are seen: `sees` of the first token, and `parts` of a production that may start with it
+  abbrev pub asks_same : (List Class → Bool) → Ask → Bool
+  asks_same sees (is L) = sees L
+  asks_same sees (is_not L) = sees L
+  asks_same sees (begins p) = sees ((grammar std).first p)
+  asks_same sees (either a b) = asks_same sees a && asks_same sees b
+
+  abbrev pub test_same : (List Class → Bool) → Test → Bool → Bool
+  test_same sees own started = started
+  test_same sees otherwise started = true
+  test_same sees (next a) started = asks_same sees a
+  test_same sees (next_two a b) started = asks_same sees a && asks_same blind b
+
+  abbrev pub starts_same : (List Class → Bool) → (Production → Bool) → Item → Bool
+  starts_same sees parts (one L) = sees L
+  starts_same sees parts (part p) = parts p
+  starts_same sees parts end_of_text = true
+  starts_same sees parts (act a) = true
+  starts_same sees parts (a · b) = starts_same sees parts a && (if is_passed a then starts_same sees parts b else true)
+  starts_same sees parts (choice a b) = starts_same sees parts a && starts_same sees parts b
+  starts_same sees parts (maybe a) = starts_same sees parts a
+  starts_same sees parts (many t a) = test_same sees t (starts_same sees parts a)
+  starts_same sees parts (deep a) = starts_same sees parts a
+
+  abbrev pub blind_part : Production → Bool
+  blind_part p = blind ((grammar std).first p) && blind ((grammar std).labels p)
+
+  -- the test has the same answer in both lists, where so much is known
+  abbrev pub decides : Mood → Test → Item → Bool
+  decides any t a = test_same blind t (starts_same blind blind_part a)
+  decides label t a = test_same blind t (starts_same blind joint a) && test_same each_list t (starts_same each_list each_part a)
+  decides _ t a = test_same each_list t (starts_same each_list each_part a)
+
+  -- the repetitions and options of an item are decided alike, where this is known behind it
+  abbrev pub fits : Mood → Item → Bool
+  fits m (one L) = true
+  fits m (part p) = at_least m (end_mood p)
+  fits m end_of_text = true
+  fits m (act a) = true
+  fits m (a · b) = fits (mood b m) a && fits m b
+  fits m (choice a b) = (decides any own a && decides any own b) && (fits m a && fits m b)
+  fits m (maybe a) = decides (mood (maybe a) m) own a && fits m a
+  fits m (many t a) = decides (mood (many t a) m) t a && fits (mood (many t a) m) a
+  fits m (deep a) = decides (mood a m) own a && fits m a
+
+  -- the second token that the test asks for may be a name, where the first one is a parenthesis
+  abbrev pub decides_second : Bool → Mood → Test → Item → Bool
+  decides_second second m (next_two x y) a = (decides m (next_two x y) a) || (second && (is_paren x && asks_same blind x))
+  decides_second second m t a = decides m t a
+
+  -- the tests of alternatives have the same answers
+  abbrev pub decided : Bool → Mood → List Alternative → Bool
+  decided second m [] = true
+  decided second m (a ∷ more) = decides_second second m a.test a.body && decided second (raised m a.test) more
+
+  -- an alternative of the production is as the table of moods says
+  abbrev pub is_known : Production → ℕ → Alternative → Bool
+  is_known p n a =
+      at_least (mood a.body any) (start_mood p) && (second_where (is_second p) (is_asked p n) a.test a.body &&
+      (placed (record { production = p; alternative = n }) a.body && fits (end_mood p) a.body))
+
+  abbrev pub are_known : Production → ℕ → List Alternative → Bool
+  are_known p n [] = true
+  are_known p n (a ∷ more) = is_known p n a && are_known p (n + 1) more
+
+  abbrev pub is_production_known : Production → Bool
+  is_production_known p = are_known p 1 ((grammar std).table p) && decided (is_second p) (start_mood p) ((grammar std).table p)

@@ -3,9 +3,9 @@ use Rattle.std.proofs.Common.{Bool, ◌&&◌, List, [], ◌∷◌, drop}
 use Rattle.std.specs.List.{list_all}
 use Rattle.tree_laws.specs.Below.cs_base.declared.tokens.Kind.TheVariants as kind
 use Rattle.tree_laws.specs.Below.c99_tree.declared.production.Production.TheVariants.{Statement, Pdirect}
-use Rattle.tree_laws.specs.Below.c99_grammar.Grammar.{table}
+use Rattle.tree_laws.specs.Below.cs_base.declared.ws_units.Standard.TheVariants.{C11}
 use Rattle.tree_laws.specs.Below.c99_grammar.Items.{names, Test, own, next_two, Ask, is, Alternative}
-use Rattle.tree_laws.specs.Below.c99_grammar.Spellings.{keywords, punctuators}
+use Rattle.tree_laws.specs.Below.c99_grammar.Spellings.{keywords_of, punctuators}
 use Rattle.tree_laws.specs.Below.c99_grammar.Standard.{c99}
 use Rattle.tree_laws.specs.Below.c99_read.State.{base_at}
 use Rattle.tree_laws.specs.Below.c99_grammar.TokenClasses.{base_class, class_of_kind}
@@ -54,14 +54,14 @@ second_test _ = own
 
 -- the colon behind a label
 abbrev pub colons : List Class
-colons = asked_second (first_test (table Statement))
+colons = asked_second (first_test (c99.table Statement))
 
 -- the parenthesis of a parameter's declarator
 abbrev pub parens : List Class
-parens = asked_first (second_test (table Pdirect))
+parens = asked_first (second_test (c99.table Pdirect))
 
 -- it is so of each class that tokens have by themselves
 abbrev pub covers : (Class → Bool) → Bool
 covers P =
-    list_all (λ w. P w.1) keywords && (list_all (λ w. P w.1) punctuators && (P identifier && (P no_class && (P end_class &&
+    list_all (λ w. P w.1) (keywords_of C11) && (list_all (λ w. P w.1) punctuators && (P identifier && (P no_class && (P end_class &&
     (P (class_of_kind c99 kind.Number []) && (P (class_of_kind c99 kind.Char []) && P (class_of_kind c99 kind.Str [])))))))

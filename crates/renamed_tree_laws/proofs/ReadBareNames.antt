@@ -2,10 +2,11 @@
 use Rattle.std.proofs.Common.{ℕ, suc, ◌≡◌, List, [], ◌∷◌, Some, Ok, slice_get, inl, inr, ap, subst}
 use Rattle.std.specs.List.{Contains}
 use Rattle.std.proofs.lemmas.Option.{slice_get_within, get_or_from_slice_get}
+use Rattle.tree_laws.specs.Below.cs_base.declared.ws_units.Standard.{Standard}
 use Rattle.tree_laws.specs.Below.cs_base.Token.{Token}
 use Rattle.tree_laws.specs.Below.c99_tree.Tree.{Node}
 use Rattle.tree_laws.specs.Below.c99_read.Reading.{read_of}
-use Rattle.tree_laws.specs.Below.c99_grammar.Standard.{c99}
+use Rattle.tree_laws.specs.Below.c99_grammar.Standard.{grammar}
 use Rattle.tree_laws.specs.Below.c_types.Declarations.{Facts}
 use Rattle.tree_laws.specs.Below.name_chains.Frames.{outermost}
 use Rattle.tree_laws.specs.Below.c_types.Lists.{bare_in}
@@ -22,20 +23,21 @@ each_got P [] all x w = absurd w
 each_got P (y ∷ xs) all x (inl s) = all 0 x (ap Some s)
 each_got P (y ∷ xs) all x (inr w) = each_got P xs (λ k z e. all (suc k) z e) x w
 
--- what is so of each bare name is so of each loose name
-abbrev pub BareNamesAreLoose : Type 1
-BareNamesAreLoose =
-    (toks : List Token) (tree : Node) (b : Bound) → read_of c99 toks ≡ Ok tree → binding_of toks tree ≡ Ok b → (P : ℕ → Type 0)
-    → ((k x : ℕ) → slice_get b.bare k ≡ Some x → P x) → AllLoose toks P (outermost 0).label 0 tree.under
+module _ (std : Standard) where
+  -- what is so of each bare name is so of each loose name
+  abbrev pub BareNamesAreLoose : Type 1
+  BareNamesAreLoose =
+      (toks : List Token) (tree : Node) (b : Bound) → read_of (grammar std) toks ≡ Ok tree → binding_of toks tree ≡ Ok b → (P : ℕ → Type 0)
+      → ((k x : ℕ) → slice_get b.bare k ≡ Some x → P x) → AllLoose std toks P (outermost 0).label 0 tree.under
 
-pub bare_names_are_loose : BareNamesAreLoose
-unfolding binding_of
-bare_names_are_loose toks tree b read e P all =
-    let facts : Facts = facts_of toks tree.under in
-    let bare : b.bare ≡ bare_in tree.under = ap (λ (x : Bound). x.bare) (bound_is tree.under facts facts.fault b e) in
-    loose_of_bare toks P tree.under (outermost 0).label 0 (read_encloses toks tree read) (subst (Each P) bare (each_got P b.bare all)) (λ h. absurd (false≢true h))
+  pub bare_names_are_loose : BareNamesAreLoose
+  unfolding binding_of
+  bare_names_are_loose toks tree b read e P all =
+      let facts : Facts = facts_of toks tree.under in
+      let bare : b.bare ≡ bare_in tree.under = ap (λ (x : Bound). x.bare) (bound_is tree.under facts facts.fault b e) in
+      (loose_of_bare std) toks P tree.under (outermost 0).label 0 (read_encloses std toks tree read) (subst (Each P) bare (each_got P b.bare all)) (λ h. absurd (false≢true h))
 
 pub loose_are_bare : LooseNamesAreBare
-loose_are_bare toks tree b read e =
-    bare_names_are_loose toks tree b read e (Contains b.bare)
+loose_are_bare std toks tree b read e =
+    (bare_names_are_loose std) toks tree b read e (Contains b.bare)
     (λ k x at. (k, slice_get_within b.bare k x at, get_or_from_slice_get b.bare k x x at))

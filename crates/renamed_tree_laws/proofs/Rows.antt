@@ -1,20 +1,16 @@
 -- What is asked of short texts.
 use Rattle.std.proofs.Common.{ℕ, ◌≡◌, Bool, true, false, List, [], ◌∷◌, refl}
 use Rattle.std.specs.Prelude.{codes}
+use Rattle.tree_laws.specs.Below.cs_base.declared.ws_units.Standard.TheVariants.{C99}
 use Rattle.tree_laws.specs.Below.cs_base.Token.{Token}
 use Rattle.tree_laws.specs.Below.cs_base.declared.tokens.Kind.TheVariants.{Ident, Punct}
 use Rattle.tree_laws.specs.Below.c99_read.Reading.{read_within, take_one, at_end, enter}
-use Rattle.tree_laws.specs.Below.c99_grammar.Standard.{c99}
+use Rattle.tree_laws.specs.Below.c99_grammar.Standard.{grammar}
 use Rattle.tree_laws.specs.Below.c99_read.State.{class_at, acted, opened, closed}
 use Rattle.tree_laws.specs.Below.c99_grammar.TokenClasses.{spelled_class, base_class}
 use Rattle.tree_laws.proofs.Below.c99_read.ReadRows.{tok}
 use Rattle.renamed_tree_laws.specs.Along.{all_along, along_within}
 use Rattle.renamed_tree_laws.specs.Respelled.{is_kind_so, is_token_so, is_node_so}
-
-abbrev names_so : List Token → List Token → Bool
-names_so a b =
-    all_along c99 (λ s. is_token_so a b s.built.label.production s.built.label.alternative s.names.scopes s.at)
-    (λ p n s. is_node_so b p n s.names.scopes s.at) a
 
 abbrev word : List ℕ → Token
 word text = tok Ident text
@@ -28,6 +24,24 @@ members member name use_ =
     word (codes "struct") ∷ sign (codes "{") ∷ word (codes "int") ∷ word member ∷ sign (codes ";") ∷ sign (codes "}") ∷ word (codes "y") ∷ sign (codes ";") ∷
     word (codes "typedef") ∷ word (codes "int") ∷ word name ∷ sign (codes ";") ∷ word use_ ∷ word (codes "x") ∷ sign (codes ";") ∷ []
 
+-- typedef int T; int f(int (NAME));
+abbrev parenthesised : List ℕ → List Token
+parenthesised name =
+    word (codes "typedef") ∷ word (codes "int") ∷ word (codes "T") ∷ sign (codes ";") ∷ word (codes "int") ∷ word (codes "f") ∷ sign (codes "(") ∷
+    word (codes "int") ∷ sign (codes "(") ∷ word name ∷ sign (codes ")") ∷ sign (codes ")") ∷ sign (codes ";") ∷ []
+
+-- typedef int T; int f(NAME) int NAME; { T: return (USE); }
+abbrev old_style : List ℕ → List ℕ → List ℕ → List Token
+old_style name label use_ =
+    word (codes "typedef") ∷ word (codes "int") ∷ word (codes "T") ∷ sign (codes ";") ∷ word (codes "int") ∷ word (codes "f") ∷ sign (codes "(") ∷
+    word name ∷ sign (codes ")") ∷ word (codes "int") ∷ word name ∷ sign (codes ";") ∷ sign (codes "{") ∷ word label ∷ sign (codes ":") ∷
+    word (codes "return") ∷ sign (codes "(") ∷ word use_ ∷ sign (codes ")") ∷ sign (codes ";") ∷ sign (codes "}") ∷ []
+
+abbrev names_so : List Token → List Token → Bool
+names_so a b =
+    all_along (grammar C99) (λ s. is_token_so C99 a b s.built.label.production s.built.label.alternative s.names.scopes s.at)
+    (λ p n s. is_node_so C99 b p n s.names.scopes s.at) a
+
 -- the member is another name; the use is not
 pub members-apart : names_so (members (codes "T") (codes "T") (codes "T")) (members (codes "T") (codes "U") (codes "U")) ≡ true
 unfolding along_within read_within take_one at_end enter spelled_class base_class class_at acted opened closed
@@ -36,12 +50,6 @@ members-apart = refl
 pub use-left : names_so (members (codes "T") (codes "T") (codes "T")) (members (codes "T") (codes "U") (codes "T")) ≡ false
 unfolding along_within read_within take_one at_end enter spelled_class base_class class_at acted opened closed
 use-left = refl
-
--- typedef int T; int f(int (NAME));
-abbrev parenthesised : List ℕ → List Token
-parenthesised name =
-    word (codes "typedef") ∷ word (codes "int") ∷ word (codes "T") ∷ sign (codes ";") ∷ word (codes "int") ∷ word (codes "f") ∷ sign (codes "(") ∷
-    word (codes "int") ∷ sign (codes "(") ∷ word name ∷ sign (codes ")") ∷ sign (codes ")") ∷ sign (codes ";") ∷ []
 
 -- a parameter's name in parentheses may be any name but that of a typedef
 pub parameter-free : names_so (parenthesised (codes "x")) (parenthesised (codes "y")) ≡ true
@@ -57,13 +65,6 @@ pub type-kept : names_so (parenthesised (codes "T")) (parenthesised (codes "T"))
 unfolding along_within read_within take_one at_end enter spelled_class base_class class_at acted opened closed
 type-kept = refl
 
--- typedef int T; int f(NAME) int NAME; { T: return (USE); }
-abbrev old_style : List ℕ → List ℕ → List ℕ → List Token
-old_style name label use_ =
-    word (codes "typedef") ∷ word (codes "int") ∷ word (codes "T") ∷ sign (codes ";") ∷ word (codes "int") ∷ word (codes "f") ∷ sign (codes "(") ∷
-    word name ∷ sign (codes ")") ∷ word (codes "int") ∷ word name ∷ sign (codes ";") ∷ sign (codes "{") ∷ word label ∷ sign (codes ":") ∷
-    word (codes "return") ∷ sign (codes "(") ∷ word use_ ∷ sign (codes ")") ∷ sign (codes ";") ∷ sign (codes "}") ∷ []
-
 -- a label may be respelled by itself, a parameter with its uses
 pub label-apart : names_so (old_style (codes "a") (codes "T") (codes "a")) (old_style (codes "b") (codes "L") (codes "b")) ≡ true
 unfolding along_within read_within take_one at_end enter spelled_class base_class class_at acted opened closed
@@ -76,8 +77,8 @@ list-taken = refl
 -- the same, asked by kinds alone
 abbrev kinds_so : List Token → List Token → Bool
 kinds_so a b =
-    all_along c99 (λ s. is_kind_so b s.built.label.production s.built.label.alternative s.names.scopes s.at)
-    (λ p n s. is_node_so b p n s.names.scopes s.at) a
+    all_along (grammar C99) (λ s. is_kind_so C99 b s.built.label.production s.built.label.alternative s.names.scopes s.at)
+    (λ p n s. is_node_so C99 b p n s.names.scopes s.at) a
 
 pub members-apart-kinds : kinds_so (members (codes "T") (codes "T") (codes "T")) (members (codes "T") (codes "U") (codes "U")) ≡ true
 unfolding along_within read_within take_one at_end enter spelled_class base_class class_at acted opened closed

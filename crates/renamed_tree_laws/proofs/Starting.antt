@@ -2,12 +2,13 @@
 use Rattle.std.proofs.Common.{ℕ, zero, suc, ◌+◌, ◌≡◌, Bool, true, false, ◌&&◌, ◌||◌, not, if◌then◌else◌, ◌==◌, List, [], ◌∷◌, length, None, slice_get, Ok, refl, sym, ap, subst, ◌∙◌, arith, inl, inr}
 use Rattle.std.specs.Option.{option_map_or}
 use Rattle.std.proofs.lemmas.Bool.{false≢true, and_parts, and_from, or_cases}
+use Rattle.tree_laws.specs.Below.cs_base.declared.ws_units.Standard.{Standard}
 use Rattle.tree_laws.specs.Below.cs_base.Token.{Token}
 use Rattle.tree_laws.specs.Below.c99_tree.declared.production.Label.{Label}
 use Rattle.tree_laws.specs.Below.c99_tree.declared.production.Production.{Production}
 use Rattle.tree_laws.specs.Below.c99_grammar.Classes.{among}
 use Rattle.tree_laws.specs.Below.c99_grammar.Items.{Item, one, part, end_of_text, act, ◌·◌, choice, maybe, many, deep, own, Test, next_two, is, Action, scope, Alternative}
-use Rattle.tree_laws.specs.Below.c99_grammar.Standard.{c99}
+use Rattle.tree_laws.specs.Below.c99_grammar.Standard.{grammar}
 use Rattle.tree_laws.specs.Below.c99_read.State.{State, base_at, is_identifier, class_at, acted, opened, closed}
 use Rattle.tree_laws.specs.Below.c99_grammar.TokenClasses.{base_class}
 use Rattle.tree_laws.specs.Below.c99_read.Reading.{Goal, produce, repeat, Step, enter, may, step, pick, run, read_within}
@@ -26,257 +27,258 @@ none_past [] k e = refl
 none_past (t ∷ toks) zero e = absurd (omega (arith, e))
 none_past (t ∷ toks) (suc k) e = none_past toks k (omega (arith, e))
 
-end_is : (toks : List Token) (k : ℕ) → k ≡ length toks → is_identifier (base_at c99 toks k) ≡ false
-end_is toks k e =
-    subst (λ t. is_identifier (option_map_or (base_class c99) t (if k == length toks then end_class else no_class)) ≡ false)
-    (sym (none_past toks k e)) (by (k == length toks))
-  where
-    by : (c : Bool) → is_identifier (if c then end_class else no_class) ≡ false
-    by true = refl
-    by false = refl
-
 pub rest_so : (r : Step) (asked : State → Bool) (s : State) → r ≡ Ok s → along_rest r asked ≡ true → asked s ≡ true
 rest_so r asked s e h = subst (λ x. along_rest x asked ≡ true) e h
 
--- What is asked along the reading makes tokens the same: of a token that is read by what it denotes, and of the second
--- token of a node.
-pub record Asked (a b : List Token) (Good : State → Type 0) (of_token : State → Bool) (of_node : Production → ℕ → State → Bool) : Type 0 where
-  pub tokens : (s : State) (L : List Class) → s.toks ≡ a → Good s → is_told s.built.label.production s.built.label.alternative L ≡ true
-      → among L (class_at c99 s s.at) ≡ true → of_token s ≡ true → Same a b s.names.scopes s.at
-  pub nodes : (p : Production) (n : ℕ) (s : State) (M : List Class) → s.toks ≡ a → is_asked p n ≡ true → among M typedef_name ≡ false
-      → among M (class_at c99 s (s.at + 1)) ≡ true → of_node p n s ≡ true → Same a b s.names.scopes (s.at + 1)
-
-module _ (a b : List Token) (Good : State → Type 0) (kept : Kept a Good) (of_token : State → Bool) (of_node : Production → ℕ → State → Bool)
-    (asked : Asked a b Good of_token of_node) where
-  abbrev pub Knows : Mood → State → Type 0
-  Knows m s = Known a b s.names.scopes s.at m
-
-  -- what the table of moods says of a production
-  pub record Begins (p : Production) (s : State) : Type 0 where
-    pub first : Knows (start_mood p) s
-    pub second : is_second p ≡ true → among parens (class_at c99 s s.at) ≡ true → Same a b s.names.scopes (s.at + 1)
-
-  no_identifier : (s : State) (k : ℕ) → s.toks ≡ a → is_identifier (base_at c99 s.toks k) ≡ false → is_identifier (base_at c99 a k) ≡ false
-  no_identifier s k of_a h = ap (λ t. is_identifier (base_at c99 t k)) (sym of_a) ∙ h
-
-  -- a token that was taken
-  taken_knows : (l : Label) (L : List Class) (s : State) → placed l (one L) ≡ true → Fine a Good kept l s → among L (class_at c99 s s.at) ≡ true
-      → of_token s ≡ true → Knows (taken L) s
-  taken_knows l L s h f e so =
-      by (among L identifier) (among L typedef_name) refl refl
-      (and_parts (told_where (taken L) (is_told l.production l.alternative L)) (named_where _ L) h).0
+module _ (std : Standard) where
+  end_is : (toks : List Token) (k : ℕ) → k ≡ length toks → is_identifier (base_at (grammar std) toks k) ≡ false
+  end_is toks k e =
+      subst (λ t. is_identifier (option_map_or (base_class (grammar std)) t (if k == length toks then end_class else no_class)) ≡ false)
+      (sym (none_past toks k e)) (by (k == length toks))
     where
-      told : is_told l.production l.alternative L ≡ true → Same a b s.names.scopes s.at
-      told k = asked.tokens s L f.text f.good (ap (λ (m : Label). is_told m.production m.alternative L) f.label ∙ k) e so
+      by : (c : Bool) → is_identifier (if c then end_class else no_class) ≡ false
+      by true = refl
+      by false = refl
 
-      by : (i t : Bool) → among L identifier ≡ i → among L typedef_name ≡ t
-          → told_where (if i then (if t then any else calm) else (if t then calm else solid)) (is_told l.production l.alternative L) ≡ true
-          → Knows (if i then (if t then any else calm) else (if t then calm else solid)) s
-      by true true n m k = tt
-      by true false n m k = told k
-      by false true n m k = told k
-      by false false n m k = no_identifier s s.at f.text (plain_is s s.at L n m e)
+  -- What is asked along the reading makes tokens the same: of a token that is read by what it denotes, and of the second
+  -- token of a node.
+  pub record Asked (a b : List Token) (Good : State → Type 0) (of_token : State → Bool) (of_node : Production → ℕ → State → Bool) : Type 0 where
+    pub tokens : (s : State) (L : List Class) → s.toks ≡ a → Good s → is_told s.built.label.production s.built.label.alternative L ≡ true
+        → among L (class_at (grammar std) s s.at) ≡ true → of_token s ≡ true → Same std a b s.names.scopes s.at
+    pub nodes : (p : Production) (n : ℕ) (s : State) (M : List Class) → s.toks ≡ a → is_asked p n ≡ true → among M typedef_name ≡ false
+        → among M (class_at (grammar std) s (s.at + 1)) ≡ true → of_node p n s ≡ true → Same std a b s.names.scopes (s.at + 1)
 
-  acted_knows : (action : Action) (m : Mood) (s : State) → Knows m (acted c99 action s) → Knows (mood (act action) m) s
-  unfolding acted
-  acted_knows scope any s k = tt
-  acted_knows scope label s k = k
-  acted_knows scope calm s k = k
-  acted_knows scope solid s k = k
-  acted_knows _ any s k = tt
-  acted_knows _ label s k = tt
-  acted_knows _ calm s k = tt
-  acted_knows _ solid s k = k
+  module _ (a b : List Token) (Good : State → Type 0) (kept : Kept std a Good) (of_token : State → Bool) (of_node : Production → ℕ → State → Bool)
+      (asked : Asked a b Good of_token of_node) where
+    abbrev pub Knows : Mood → State → Type 0
+    Knows m s = Known std a b s.names.scopes s.at m
 
-  module _ (below : ℕ → Goal → State → Step) (along_below : ℕ → Goal → State → Bool)
-      (keeps : (depth : ℕ) (goal : Goal) (l : Label) (s s' : State) → placed_goal l goal ≡ true → Fine a Good kept l s → below depth goal s ≡ Ok s' → Fine a Good kept l s')
-      (begins : (depth : ℕ) (p : Production) (l : Label) (s s' : State) → Fine a Good kept l s → below depth (produce p) s ≡ Ok s'
-      → along_below depth (produce p) s ≡ true → Begins p s) where
-    colon_next : (x : Item) (depth : ℕ) (s s' : State) → takes_colon x ≡ true → s.toks ≡ a → step c99 below depth x s ≡ Ok s'
-        → among colons (base_at c99 a s.at) ≡ true
-    colon_next (one L) depth s s' h of_a e =
-        let t = takes L s s' e in
-        let both = and_parts (covers (λ c. not (among L c) || among colons c)) (not (among L typedef_name) || among colons typedef_name) h in
-        let c : among colons (class_at c99 s s.at) ≡ true = implied _ _ (class_so s s.at (λ c. not (among L c) || among colons c) both.0 both.1) t.here in
-        let i : is_identifier (base_at c99 s.toks s.at) ≡ false = plain_is s s.at colons refl refl c in
-        ap (λ x. among colons (base_at c99 x s.at)) (sym of_a) ∙ (ap (among colons) (sym (plain_class s s.at i)) ∙ c)
-    colon_next (x · y) depth s s' h of_a e =
-        colon_next x depth s (between (step c99 below depth x s) (step c99 below depth y) s' e).state h of_a
-        (between (step c99 below depth x s) (step c99 below depth y) s' e).first
-    colon_next _ depth s s' h of_a e = absurd (false≢true h)
+    -- what the table of moods says of a production
+    pub record Begins (p : Production) (s : State) : Type 0 where
+      pub first : Knows (start_mood p) s
+      pub second : is_second p ≡ true → among parens (class_at (grammar std) s s.at) ≡ true → Same std a b s.names.scopes (s.at + 1)
 
-    labelled_knows : (x y : Item) (depth : ℕ) (s s' s'' : State) → s.toks ≡ a → step c99 below depth x s ≡ Ok s' → step c99 below depth y s' ≡ Ok s''
-        → Knows (labelled_mood x y) s
-    labelled_knows (one L) y depth s s' s'' of_a e e' = by (taken L) (takes_colon y) refl
+    no_identifier : (s : State) (k : ℕ) → s.toks ≡ a → is_identifier (base_at (grammar std) s.toks k) ≡ false → is_identifier (base_at (grammar std) a k) ≡ false
+    no_identifier s k of_a h = ap (λ t. is_identifier (base_at (grammar std) t k)) (sym of_a) ∙ h
+
+    -- a token that was taken
+    taken_knows : (l : Label) (L : List Class) (s : State) → placed l (one L) ≡ true → Fine std a Good kept l s → among L (class_at (grammar std) s s.at) ≡ true
+        → of_token s ≡ true → Knows (taken L) s
+    taken_knows l L s h f e so =
+        by (among L identifier) (among L typedef_name) refl refl
+        (and_parts (told_where (taken L) (is_told l.production l.alternative L)) (named_where _ L) h).0
       where
-        t : Takes L s s'
-        t = takes L s s' e
+        told : is_told l.production l.alternative L ≡ true → Same std a b s.names.scopes s.at
+        told k = asked.tokens s L f.text f.good (ap (λ (m : Label). is_told m.production m.alternative L) f.label ∙ k) e so
 
-        colon : takes_colon y ≡ true → among colons (base_at c99 a (s.at + 1)) ≡ true
-        colon h = ap (λ (z : State). among colons (base_at c99 a z.at)) t.new ∙ colon_next y depth s' s'' h (ap (λ (z : State). z.toks) (sym t.new) ∙ of_a) e'
+        by : (i t : Bool) → among L identifier ≡ i → among L typedef_name ≡ t
+            → told_where (if i then (if t then any else calm) else (if t then calm else solid)) (is_told l.production l.alternative L) ≡ true
+            → Knows (if i then (if t then any else calm) else (if t then calm else solid)) s
+        by true true n m k = tt
+        by true false n m k = told k
+        by false true n m k = told k
+        by false false n m k = no_identifier s s.at f.text (plain_is std s s.at L n m e)
 
-        by : (m : Mood) (c : Bool) → takes_colon y ≡ c → Knows (before_colon m y) s
-        by any c h = by_colon c h
-          where
-            by_colon : (c : Bool) → takes_colon y ≡ c → Knows (if takes_colon y then label else any) s
-            by_colon true h = subst (λ d. Knows (if d then label else any) s) (sym h) (inr (colon h))
-            by_colon false h = subst (λ d. Knows (if d then label else any) s) (sym h) tt
-        by label c h = tt
-        by calm c h = tt
-        by solid c h = tt
-    labelled_knows _ y depth s s' s'' of_a e e' = tt
+    acted_knows : (action : Action) (m : Mood) (s : State) → Knows m (acted (grammar std) action s) → Knows (mood (act action) m) s
+    unfolding acted
+    acted_knows scope any s k = tt
+    acted_knows scope label s k = k
+    acted_knows scope calm s k = k
+    acted_knows scope solid s k = k
+    acted_knows _ any s k = tt
+    acted_knows _ label s k = tt
+    acted_knows _ calm s k = tt
+    acted_knows _ solid s k = k
 
-    pub step_knows : (item : Item) (depth : ℕ) (l : Label) (m : Mood) (s s' : State) → placed l item ≡ true → Fine a Good kept l s
-        → step c99 below depth item s ≡ Ok s' → along_item c99 of_token of_node below along_below depth item s ≡ true → Knows m s' → Knows (mood item m) s
-    step_knows (one L) depth l m s s' h f e so k = taken_knows l L s h f (takes L s s' e).here so
-    step_knows (part p) depth l m s s' h f e so k = (begins depth p l s s' f e so).first
-    step_knows end_of_text depth l m s s' h f e so k =
-        no_identifier s s.at f.text (end_is s.toks s.at (ends s s' e).last)
-    step_knows (act action) depth l m s s' h f e so k = acted_knows action m s (subst (Knows m) (sym (ok_is _ _ e)) k)
-    step_knows (x · y) depth l m s s' h f e so k =
-        let both = and_parts (placed l x) (placed l y) h in
-        let t = between (step c99 below depth x s) (step c99 below depth y) s' e in
-        let sos = and_parts (along_item c99 of_token of_node below along_below depth x s) _ so in
-        let fine = step_keeps a Good kept below keeps x depth l s t.state both.0 f t.first in
-        let inner = step_knows y depth l m t.state s' both.1 fine t.second
-        (rest_so (step c99 below depth x s) (along_item c99 of_token of_node below along_below depth y) t.state t.first sos.1) k in
-        known_both a b s.names.scopes s.at (labelled_mood x y) (mood x (mood y m)) (labelled_knows x y depth s t.state s' f.text t.first t.second)
-        (step_knows x depth l (mood y m) s t.state both.0 f t.first sos.0 inner)
-    step_knows (choice x y) depth l m s s' h f e so k =
-        let both = and_parts (placed l x) (placed l y) h in
-        branch (may c99 own x s) _ _ _ _ s'
-        (λ c e' so'. known_first a b s.names.scopes s.at (mood x m) (mood y m) (step_knows x depth l m s s' both.0 f e' so' k))
-        (λ c e' so'.
-        branch (may c99 own y s) _ _ _ _ s'
-        (λ d e'' so''. known_second a b s.names.scopes s.at (mood x m) (mood y m) (step_knows y depth l m s s' both.1 f e'' so'' k))
-        (λ d e'' so''. absurd (stopped _ _ e''))
-        e' (as_it_is (may c99 own y s) _ so'))
-        e so
-      where
-        as_it_is : (c x : Bool) → x ≡ true → (if c then x else x) ≡ true
-        as_it_is true x g = g
-        as_it_is false x g = g
-    step_knows (maybe x) depth l m s s' h f e so k =
-        branch (may c99 own x s) _ _ _ _ s'
-        (λ c e' so'. known_first a b s.names.scopes s.at (mood x m) m (step_knows x depth l m s s' h f e' so' k))
-        (λ c e' so'. known_second a b s.names.scopes s.at (mood x m) m (subst (Knows m) (sym (ok_is _ _ e')) k))
-        e so
-    step_knows (many t x) depth l m s s' h f e so k =
-        branch (may c99 t x s) _ _ _ _ s'
-        (λ c e' so'.
-        let u = between (step c99 below depth x s) (below depth (repeat t x)) s' e' in
-        let sos = and_parts (along_item c99 of_token of_node below along_below depth x s) _ so' in
-        known_first a b s.names.scopes s.at (mood x any) m (step_knows x depth l any s u.state h f u.first sos.0 tt))
-        (λ c e' so'. known_second a b s.names.scopes s.at (mood x any) m (subst (Knows m) (sym (ok_is _ _ e')) k))
-        e so
-    step_knows (deep x) depth l m s s' h f e so k =
-        let t = between (enter depth (may c99 own x s) s) (step c99 below (depth + 1) x) s' e in
-        let e' : step c99 below (depth + 1) x s ≡ Ok s' = ap (step c99 below (depth + 1) x) (enters depth _ s t.state t.first).new ∙ t.second in
-        step_knows x (depth + 1) l m s s' h f e' so k
+    module _ (below : ℕ → Goal → State → Step) (along_below : ℕ → Goal → State → Bool)
+        (keeps : (depth : ℕ) (goal : Goal) (l : Label) (s s' : State) → placed_goal l goal ≡ true → Fine std a Good kept l s → below depth goal s ≡ Ok s' → Fine std a Good kept l s')
+        (begins : (depth : ℕ) (p : Production) (l : Label) (s s' : State) → Fine std a Good kept l s → below depth (produce p) s ≡ Ok s'
+        → along_below depth (produce p) s ≡ true → Begins p s) where
+      colon_next : (x : Item) (depth : ℕ) (s s' : State) → takes_colon x ≡ true → s.toks ≡ a → step (grammar std) below depth x s ≡ Ok s'
+          → among colons (base_at (grammar std) a s.at) ≡ true
+      colon_next (one L) depth s s' h of_a e =
+          let t = takes std L s s' e in
+          let both = and_parts (covers (λ c. not (among L c) || among colons c)) (not (among L typedef_name) || among colons typedef_name) h in
+          let c : among colons (class_at (grammar std) s s.at) ≡ true = implied _ _ (class_so std s s.at (λ c. not (among L c) || among colons c) both.0 both.1) t.here in
+          let i : is_identifier (base_at (grammar std) s.toks s.at) ≡ false = plain_is std s s.at colons refl refl c in
+          ap (λ x. among colons (base_at (grammar std) x s.at)) (sym of_a) ∙ (ap (among colons) (sym (plain_class std s s.at i)) ∙ c)
+      colon_next (x · y) depth s s' h of_a e =
+          colon_next x depth s (between (step (grammar std) below depth x s) (step (grammar std) below depth y) s' e).state h of_a
+          (between (step (grammar std) below depth x s) (step (grammar std) below depth y) s' e).first
+      colon_next _ depth s s' h of_a e = absurd (false≢true h)
 
-    -- ---- The second token
+      labelled_knows : (x y : Item) (depth : ℕ) (s s' s'' : State) → s.toks ≡ a → step (grammar std) below depth x s ≡ Ok s' → step (grammar std) below depth y s' ≡ Ok s''
+          → Knows (labelled_mood x y) s
+      labelled_knows (one L) y depth s s' s'' of_a e e' = by (taken L) (takes_colon y) refl
+        where
+          t : Takes std L s s'
+          t = takes std L s s' e
 
-    second_behind : (x y : Item) (depth : ℕ) (l : Label) (s s' s'' : State) → is_calm_behind x y ≡ true → placed l x ≡ true → placed l y ≡ true → Fine a Good kept l s
-        → step c99 below depth x s ≡ Ok s' → step c99 below depth y s' ≡ Ok s'' → along_item c99 of_token of_node below along_below depth y s' ≡ true
-        → Same a b s.names.scopes (s.at + 1)
-    second_behind (one L) y depth l s s' s'' h g g' f e e' so =
-        let t = takes L s s' e in
-        let fine = step_keeps a Good kept below keeps (one L) depth l s s' g f e in
-        let known = known_less a b s'.names.scopes s'.at (mood y any) calm h (step_knows y depth l any s' s'' g' fine e' so tt) in
-        subst (λ (z : State). Same a b z.names.scopes z.at) (sym t.new) known
-    second_behind _ y depth l s s' s'' h g g' f e e' so = absurd (false≢true h)
+          colon : takes_colon y ≡ true → among colons (base_at (grammar std) a (s.at + 1)) ≡ true
+          colon h = ap (λ (z : State). among colons (base_at (grammar std) a z.at)) t.new ∙ colon_next y depth s' s'' h (ap (λ (z : State). z.toks) (sym t.new) ∙ of_a) e'
 
-    pub step_second : (item : Item) (depth : ℕ) (l : Label) (s s' : State) → second_known item ≡ true → placed l item ≡ true → Fine a Good kept l s
-        → step c99 below depth item s ≡ Ok s' → along_item c99 of_token of_node below along_below depth item s ≡ true
-        → among parens (class_at c99 s s.at) ≡ true → Same a b s.names.scopes (s.at + 1)
-    step_second (one L) depth l s s' h g f e so p =
-        let both = and_parts (covers (λ c. not (among L c && among parens c))) (not (among L typedef_name && among parens typedef_name)) h in
-        absurd (false≢true (ap not (sym (and_from _ _ (takes L s s' e).here p)) ∙ class_so s s.at (λ c. not (among L c && among parens c)) both.0 both.1))
-    step_second (part p) depth l s s' h g f e so q = (begins depth p l s s' f e so).second h q
-    step_second (x · y) depth l s s' h g f e so p =
-        let both = and_parts (placed l x) (placed l y) g in
-        let t = between (step c99 below depth x s) (step c99 below depth y) s' e in
-        let sos = and_parts (along_item c99 of_token of_node below along_below depth x s) _ so in
-        elim (or_cases (second_known x) (is_calm_behind x y) h) [
-          | inl known ↦ step_second x depth l s t.state known both.0 f t.first sos.0 p
-          | inr behind ↦ second_behind x y depth l s t.state s' behind both.0 both.1 f t.first t.second
-              (rest_so (step c99 below depth x s) (along_item c99 of_token of_node below along_below depth y) t.state t.first sos.1)
-        ]
-    step_second (deep x) depth l s s' h g f e so p =
-        let t = between (enter depth (may c99 own x s) s) (step c99 below (depth + 1) x) s' e in
-        let e' : step c99 below (depth + 1) x s ≡ Ok s' = ap (step c99 below (depth + 1) x) (enters depth _ s t.state t.first).new ∙ t.second in
-        step_second x (depth + 1) l s s' h g f e' so p
-    step_second _ depth l s s' h g f e so p = absurd (false≢true h)
+          by : (m : Mood) (c : Bool) → takes_colon y ≡ c → Knows (before_colon m y) s
+          by any c h = by_colon c h
+            where
+              by_colon : (c : Bool) → takes_colon y ≡ c → Knows (if takes_colon y then label else any) s
+              by_colon true h = subst (λ d. Knows (if d then label else any) s) (sym h) (inr (colon h))
+              by_colon false h = subst (λ d. Knows (if d then label else any) s) (sym h) tt
+          by label c h = tt
+          by calm c h = tt
+          by solid c h = tt
+      labelled_knows _ y depth s s' s'' of_a e e' = tt
 
-    -- ---- Productions
+      pub step_knows : (item : Item) (depth : ℕ) (l : Label) (m : Mood) (s s' : State) → placed l item ≡ true → Fine std a Good kept l s
+          → step (grammar std) below depth item s ≡ Ok s' → along_item (grammar std) of_token of_node below along_below depth item s ≡ true → Knows m s' → Knows (mood item m) s
+      step_knows (one L) depth l m s s' h f e so k = taken_knows l L s h f (takes std L s s' e).here so
+      step_knows (part p) depth l m s s' h f e so k = (begins depth p l s s' f e so).first
+      step_knows end_of_text depth l m s s' h f e so k =
+          no_identifier s s.at f.text (end_is s.toks s.at (ends s s' e).last)
+      step_knows (act action) depth l m s s' h f e so k = acted_knows action m s (subst (Knows m) (sym (ok_is _ _ e)) k)
+      step_knows (x · y) depth l m s s' h f e so k =
+          let both = and_parts (placed l x) (placed l y) h in
+          let t = between (step (grammar std) below depth x s) (step (grammar std) below depth y) s' e in
+          let sos = and_parts (along_item (grammar std) of_token of_node below along_below depth x s) _ so in
+          let fine = step_keeps std a Good kept below keeps x depth l s t.state both.0 f t.first in
+          let inner = step_knows y depth l m t.state s' both.1 fine t.second
+          (rest_so (step (grammar std) below depth x s) (along_item (grammar std) of_token of_node below along_below depth y) t.state t.first sos.1) k in
+          (known_both std) a b s.names.scopes s.at (labelled_mood x y) (mood x (mood y m)) (labelled_knows x y depth s t.state s' f.text t.first t.second)
+          (step_knows x depth l (mood y m) s t.state both.0 f t.first sos.0 inner)
+      step_knows (choice x y) depth l m s s' h f e so k =
+          let both = and_parts (placed l x) (placed l y) h in
+          branch (may (grammar std) own x s) _ _ _ _ s'
+          (λ c e' so'. known_first std a b s.names.scopes s.at (mood x m) (mood y m) (step_knows x depth l m s s' both.0 f e' so' k))
+          (λ c e' so'.
+          branch (may (grammar std) own y s) _ _ _ _ s'
+          (λ d e'' so''. known_second std a b s.names.scopes s.at (mood x m) (mood y m) (step_knows y depth l m s s' both.1 f e'' so'' k))
+          (λ d e'' so''. absurd (stopped _ _ e''))
+          e' (as_it_is (may (grammar std) own y s) _ so'))
+          e so
+        where
+          as_it_is : (c x : Bool) → x ≡ true → (if c then x else x) ≡ true
+          as_it_is true x g = g
+          as_it_is false x g = g
+      step_knows (maybe x) depth l m s s' h f e so k =
+          branch (may (grammar std) own x s) _ _ _ _ s'
+          (λ c e' so'. known_first std a b s.names.scopes s.at (mood x m) m (step_knows x depth l m s s' h f e' so' k))
+          (λ c e' so'. known_second std a b s.names.scopes s.at (mood x m) m (subst (Knows m) (sym (ok_is _ _ e')) k))
+          e so
+      step_knows (many t x) depth l m s s' h f e so k =
+          branch (may (grammar std) t x s) _ _ _ _ s'
+          (λ c e' so'.
+          let u = between (step (grammar std) below depth x s) (below depth (repeat t x)) s' e' in
+          let sos = and_parts (along_item (grammar std) of_token of_node below along_below depth x s) _ so' in
+          (known_first std) a b s.names.scopes s.at (mood x any) m (step_knows x depth l any s u.state h f u.first sos.0 tt))
+          (λ c e' so'. known_second std a b s.names.scopes s.at (mood x any) m (subst (Knows m) (sym (ok_is _ _ e')) k))
+          e so
+      step_knows (deep x) depth l m s s' h f e so k =
+          let t = between (enter depth (may (grammar std) own x s) s) (step (grammar std) below (depth + 1) x) s' e in
+          let e' : step (grammar std) below (depth + 1) x s ≡ Ok s' = ap (step (grammar std) below (depth + 1) x) (enters depth _ s t.state t.first).new ∙ t.second in
+          step_knows x (depth + 1) l m s s' h f e' so k
 
-    asked_second : (p : Production) (n : ℕ) (t : Test) (item : Item) (s : State) → s.toks ≡ a → is_asked p n ≡ true → is_bare_test t ≡ true
-        → may c99 t item s ≡ true → of_node p n s ≡ true → Same a b s.names.scopes (s.at + 1)
-    asked_second p n (next_two x (is M)) item s of_a h bare m so =
-        asked.nodes p n s M of_a h (refuted _ bare) (and_parts (asks c99 x (class_at c99 s s.at)) (among M (class_at c99 s (s.at + 1))) m).1 so
-    asked_second p n _ item s of_a h bare m so = absurd (false≢true bare)
+      -- ---- The second token
 
-    second_by : (p : Production) (n : ℕ) (x : Alternative) (depth : ℕ) (l : Label) (s s' : State) (second is_here : Bool) → is_asked p n ≡ is_here
-        → second_where second is_here x.test x.body ≡ true → placed (labelled p n) x.body ≡ true → Fine a Good kept l s → may c99 x.test x.body s ≡ true
-        → step c99 below depth x.body (opened p n s) ≡ Ok s' → of_node p n s ≡ true
-        → along_item c99 of_token of_node below along_below depth x.body (opened p n s) ≡ true
-        → second ≡ true → among parens (class_at c99 s s.at) ≡ true → Same a b s.names.scopes (s.at + 1)
-    second_by p n x depth l s s' false is_here i h g f m e so so' q r = absurd (false≢true q)
-    second_by p n x depth l s s' true true i h g f m e so so' q r = asked_second p n x.test x.body s f.text i h m so
-    second_by p n x depth l s s' true false i h g f m e so so' q r =
-        second_opened p n s
-        (step_second x.body depth (labelled p n) (opened p n s) s' h g (fine_opened a Good kept l p n s f) e so' (paren_opened p n s r))
-      where
-        second_opened : (p : Production) (n : ℕ) (s : State) → Same a b (opened p n s).names.scopes ((opened p n s).at + 1) → Same a b s.names.scopes (s.at + 1)
-        second_opened p n s k = subst (λ sc. Same a b sc (s.at + 1)) (opened_scopes p n s) (subst (λ j. Same a b (opened p n s).names.scopes (j + 1)) (opened_at p n s) k)
+      second_behind : (x y : Item) (depth : ℕ) (l : Label) (s s' s'' : State) → is_calm_behind x y ≡ true → placed l x ≡ true → placed l y ≡ true → Fine std a Good kept l s
+          → step (grammar std) below depth x s ≡ Ok s' → step (grammar std) below depth y s' ≡ Ok s'' → along_item (grammar std) of_token of_node below along_below depth y s' ≡ true
+          → Same std a b s.names.scopes (s.at + 1)
+      second_behind (one L) y depth l s s' s'' h g g' f e e' so =
+          let t = takes std L s s' e in
+          let fine = step_keeps std a Good kept below keeps (one L) depth l s s' g f e in
+          let known = known_less std a b s'.names.scopes s'.at (mood y any) calm h (step_knows y depth l any s' s'' g' fine e' so tt) in
+          subst (λ (z : State). Same std a b z.names.scopes z.at) (sym t.new) known
+      second_behind _ y depth l s s' s'' h g g' f e e' so = absurd (false≢true h)
 
-        paren_opened : (p : Production) (n : ℕ) (s : State) → among parens (class_at c99 s s.at) ≡ true
-            → among parens (class_at c99 (opened p n s) (opened p n s).at) ≡ true
-        paren_opened p n s k =
-            ap (λ j. among parens (class_at c99 (opened p n s) j)) (opened_at p n s) ∙ (ap (among parens) (opened_class p n s s.at) ∙ k)
+      pub step_second : (item : Item) (depth : ℕ) (l : Label) (s s' : State) → second_known item ≡ true → placed l item ≡ true → Fine std a Good kept l s
+          → step (grammar std) below depth item s ≡ Ok s' → along_item (grammar std) of_token of_node below along_below depth item s ≡ true
+          → among parens (class_at (grammar std) s s.at) ≡ true → Same std a b s.names.scopes (s.at + 1)
+      step_second (one L) depth l s s' h g f e so p =
+          let both = and_parts (covers (λ c. not (among L c && among parens c))) (not (among L typedef_name && among parens typedef_name)) h in
+          absurd (false≢true (ap not (sym (and_from _ _ (takes std L s s' e).here p)) ∙ class_so std s s.at (λ c. not (among L c && among parens c)) both.0 both.1))
+      step_second (part p) depth l s s' h g f e so q = (begins depth p l s s' f e so).second h q
+      step_second (x · y) depth l s s' h g f e so p =
+          let both = and_parts (placed l x) (placed l y) g in
+          let t = between (step (grammar std) below depth x s) (step (grammar std) below depth y) s' e in
+          let sos = and_parts (along_item (grammar std) of_token of_node below along_below depth x s) _ so in
+          elim (or_cases (second_known x) (is_calm_behind x y) h) [
+            | inl known ↦ step_second x depth l s t.state known both.0 f t.first sos.0 p
+            | inr behind ↦ second_behind x y depth l s t.state s' behind both.0 both.1 f t.first t.second
+                (rest_so (step (grammar std) below depth x s) (along_item (grammar std) of_token of_node below along_below depth y) t.state t.first sos.1)
+          ]
+      step_second (deep x) depth l s s' h g f e so p =
+          let t = between (enter depth (may (grammar std) own x s) s) (step (grammar std) below (depth + 1) x) s' e in
+          let e' : step (grammar std) below (depth + 1) x s ≡ Ok s' = ap (step (grammar std) below (depth + 1) x) (enters depth _ s t.state t.first).new ∙ t.second in
+          step_second x (depth + 1) l s s' h g f e' so p
+      step_second _ depth l s s' h g f e so p = absurd (false≢true h)
 
-    pick_begins : (p : Production) (alternatives : List Alternative) (depth n : ℕ) (l : Label) (s s' : State) → are_known p n alternatives ≡ true
-        → Fine a Good kept l s → pick c99 below depth p n alternatives s ≡ Ok s'
-        → along_first c99 of_token of_node below along_below depth p n alternatives s ≡ true → Begins p s
-    pick_begins p [] depth n l s s' h f e so = absurd (stopped _ _ e)
-    pick_begins p (x ∷ more) depth n l s s' h f e so =
-        let both = and_parts (is_known p n x) (are_known p (n + 1) more) h in
-        let ft = fit p n x both.0 in
-        branch (may c99 x.test x.body s) _ _ _ _ s'
-        (λ c e' so'.
-        let t = between (step c99 below depth x.body (opened p n s)) (λ z. Ok (closed p s z)) s' e' in
-        let sos = and_parts (of_node p n s) _ so' in
-        let k : Knows (mood x.body any) (opened p n s)
-        = step_knows x.body depth (labelled p n) any (opened p n s) t.state ft.placed (fine_opened a Good kept l p n s f) t.first sos.1 tt in
-        record {
-          first = known_less a b s.names.scopes s.at (mood x.body any) (start_mood p) ft.starts
-              (subst (λ sc. Known a b sc s.at (mood x.body any)) (opened_scopes p n s)
-              (subst (λ j. Known a b (opened p n s).names.scopes j (mood x.body any)) (opened_at p n s) k));
-          second = second_by p n x depth l s t.state (is_second p) (is_asked p n) refl ft.second ft.placed f c t.first sos.0 sos.1;
-        })
-        (λ c e' so'. pick_begins p more depth (n + 1) l s s' both.1 f e' so')
-        e so
+      -- ---- Productions
 
-    run_begins : ((p : Production) → is_production_known p ≡ true) → (depth : ℕ) (p : Production) (l : Label) (s s' : State) → Fine a Good kept l s
-        → run c99 below depth (produce p) s ≡ Ok s' → along_goal c99 of_token of_node below along_below depth (produce p) s ≡ true → Begins p s
-    run_begins known depth p l s s' f e so =
-        pick_begins p (c99.table p) depth 1 l s s' (and_parts (are_known p 1 (c99.table p)) (decided (is_second p) (start_mood p) (c99.table p)) (known p)).0 f e so
+      asked_second : (p : Production) (n : ℕ) (t : Test) (item : Item) (s : State) → s.toks ≡ a → is_asked p n ≡ true → is_bare_test t ≡ true
+          → may (grammar std) t item s ≡ true → of_node p n s ≡ true → Same std a b s.names.scopes (s.at + 1)
+      asked_second p n (next_two x (is M)) item s of_a h bare m so =
+          asked.nodes p n s M of_a h (refuted _ bare) (and_parts (asks (grammar std) x (class_at (grammar std) s s.at)) (among M (class_at (grammar std) s (s.at + 1))) m).1 so
+      asked_second p n _ item s of_a h bare m so = absurd (false≢true bare)
 
-  module _ (known : (p : Production) → is_production_known p ≡ true) where
-    pub within_begins : (fuel depth : ℕ) (p : Production) (l : Label) (s s' : State) → Fine a Good kept l s → read_within c99 fuel depth (produce p) s ≡ Ok s'
-        → along_within c99 of_token of_node fuel depth (produce p) s ≡ true → Begins p s
-    unfolding read_within along_within
-    within_begins zero depth p l s s' f e so = absurd (stopped _ _ e)
-    within_begins (suc fuel) depth p l s s' f e so =
-        run_begins (read_within c99 fuel) (along_within c99 of_token of_node fuel) (within_keeps a Good kept known fuel) (within_begins fuel)
-        known depth p l s s' f e so
+      second_by : (p : Production) (n : ℕ) (x : Alternative) (depth : ℕ) (l : Label) (s s' : State) (second is_here : Bool) → is_asked p n ≡ is_here
+          → second_where second is_here x.test x.body ≡ true → placed (labelled p n) x.body ≡ true → Fine std a Good kept l s → may (grammar std) x.test x.body s ≡ true
+          → step (grammar std) below depth x.body (opened p n s) ≡ Ok s' → of_node p n s ≡ true
+          → along_item (grammar std) of_token of_node below along_below depth x.body (opened p n s) ≡ true
+          → second ≡ true → among parens (class_at (grammar std) s s.at) ≡ true → Same std a b s.names.scopes (s.at + 1)
+      second_by p n x depth l s s' false is_here i h g f m e so so' q r = absurd (false≢true q)
+      second_by p n x depth l s s' true true i h g f m e so so' q r = asked_second p n x.test x.body s f.text i h m so
+      second_by p n x depth l s s' true false i h g f m e so so' q r =
+          second_opened p n s
+          (step_second x.body depth (labelled p n) (opened p n s) s' h g (fine_opened std a Good kept l p n s f) e so' (paren_opened p n s r))
+        where
+          second_opened : (p : Production) (n : ℕ) (s : State) → Same std a b (opened p n s).names.scopes ((opened p n s).at + 1) → Same std a b s.names.scopes (s.at + 1)
+          second_opened p n s k = subst (λ sc. Same std a b sc (s.at + 1)) (opened_scopes p n s) (subst (λ j. Same std a b (opened p n s).names.scopes (j + 1)) (opened_at p n s) k)
 
-    -- .. and before what is left of a repetition
-    pub within_repeats : (fuel depth : ℕ) (t : Test) (x : Item) (l : Label) (m : Mood) (s s' : State) → placed l x ≡ true → Fine a Good kept l s
-        → read_within c99 fuel depth (repeat t x) s ≡ Ok s' → along_within c99 of_token of_node fuel depth (repeat t x) s ≡ true
-        → Knows m s' → Knows (mood (many t x) m) s
-    unfolding read_within along_within
-    within_repeats zero depth t x l m s s' h f e so k = absurd (stopped _ _ e)
-    within_repeats (suc fuel) depth t x l m s s' h f e so k =
-        step_knows (read_within c99 fuel) (along_within c99 of_token of_node fuel) (within_keeps a Good kept known fuel) (within_begins fuel)
-        (many t x) depth l m s s' h f e so k
+          paren_opened : (p : Production) (n : ℕ) (s : State) → among parens (class_at (grammar std) s s.at) ≡ true
+              → among parens (class_at (grammar std) (opened p n s) (opened p n s).at) ≡ true
+          paren_opened p n s k =
+              ap (λ j. among parens (class_at (grammar std) (opened p n s) j)) (opened_at p n s) ∙ (ap (among parens) (opened_class std p n s s.at) ∙ k)
+
+      pick_begins : (p : Production) (alternatives : List Alternative) (depth n : ℕ) (l : Label) (s s' : State) → are_known std p n alternatives ≡ true
+          → Fine std a Good kept l s → pick (grammar std) below depth p n alternatives s ≡ Ok s'
+          → along_first (grammar std) of_token of_node below along_below depth p n alternatives s ≡ true → Begins p s
+      pick_begins p [] depth n l s s' h f e so = absurd (stopped _ _ e)
+      pick_begins p (x ∷ more) depth n l s s' h f e so =
+          let both = and_parts (is_known std p n x) (are_known std p (n + 1) more) h in
+          let ft = fit std p n x both.0 in
+          branch (may (grammar std) x.test x.body s) _ _ _ _ s'
+          (λ c e' so'.
+          let t = between (step (grammar std) below depth x.body (opened p n s)) (λ z. Ok (closed p s z)) s' e' in
+          let sos = and_parts (of_node p n s) _ so' in
+          let k : Knows (mood x.body any) (opened p n s)
+          = step_knows x.body depth (labelled p n) any (opened p n s) t.state ft.placed (fine_opened std a Good kept l p n s f) t.first sos.1 tt in
+          record {
+            first = known_less std a b s.names.scopes s.at (mood x.body any) (start_mood p) ft.starts
+                (subst (λ sc. Known std a b sc s.at (mood x.body any)) (opened_scopes p n s)
+                (subst (λ j. Known std a b (opened p n s).names.scopes j (mood x.body any)) (opened_at p n s) k));
+            second = second_by p n x depth l s t.state (is_second p) (is_asked p n) refl ft.second ft.placed f c t.first sos.0 sos.1;
+          })
+          (λ c e' so'. pick_begins p more depth (n + 1) l s s' both.1 f e' so')
+          e so
+
+      run_begins : ((p : Production) → is_production_known std p ≡ true) → (depth : ℕ) (p : Production) (l : Label) (s s' : State) → Fine std a Good kept l s
+          → run (grammar std) below depth (produce p) s ≡ Ok s' → along_goal (grammar std) of_token of_node below along_below depth (produce p) s ≡ true → Begins p s
+      run_begins known depth p l s s' f e so =
+          pick_begins p ((grammar std).table p) depth 1 l s s' (and_parts (are_known std p 1 ((grammar std).table p)) (decided std (is_second p) (start_mood p) ((grammar std).table p)) (known p)).0 f e so
+
+    module _ (known : (p : Production) → is_production_known std p ≡ true) where
+      pub within_begins : (fuel depth : ℕ) (p : Production) (l : Label) (s s' : State) → Fine std a Good kept l s → read_within (grammar std) fuel depth (produce p) s ≡ Ok s'
+          → along_within (grammar std) of_token of_node fuel depth (produce p) s ≡ true → Begins p s
+      unfolding read_within along_within
+      within_begins zero depth p l s s' f e so = absurd (stopped _ _ e)
+      within_begins (suc fuel) depth p l s s' f e so =
+          run_begins (read_within (grammar std) fuel) (along_within (grammar std) of_token of_node fuel) (within_keeps std a Good kept known fuel) (within_begins fuel)
+          known depth p l s s' f e so
+
+      -- .. and before what is left of a repetition
+      pub within_repeats : (fuel depth : ℕ) (t : Test) (x : Item) (l : Label) (m : Mood) (s s' : State) → placed l x ≡ true → Fine std a Good kept l s
+          → read_within (grammar std) fuel depth (repeat t x) s ≡ Ok s' → along_within (grammar std) of_token of_node fuel depth (repeat t x) s ≡ true
+          → Knows m s' → Knows (mood (many t x) m) s
+      unfolding read_within along_within
+      within_repeats zero depth t x l m s s' h f e so k = absurd (stopped _ _ e)
+      within_repeats (suc fuel) depth t x l m s s' h f e so k =
+          step_knows (read_within (grammar std) fuel) (along_within (grammar std) of_token of_node fuel) (within_keeps std a Good kept known fuel) (within_begins fuel)
+          (many t x) depth l m s s' h f e so k

@@ -1,11 +1,12 @@
 -- What is so of a step of reading that does not stop.
 use Rattle.std.proofs.Common.{ℕ, ◌+◌, ◌≡◌, Bool, true, false, ◌&&◌, if◌then◌else◌, List, length, Ok, Err, nat_lt, ◌==◌, eqb-true, refl, sym, ap, ◌∙◌}
 use Rattle.std.proofs.lemmas.Bool.{false≢true}
+use Rattle.tree_laws.specs.Below.cs_base.declared.ws_units.Standard.{Standard}
 use Rattle.tree_laws.specs.Below.cs_base.Token.{Token}
 use Rattle.tree_laws.specs.Below.c99_tree.Tree.{leaf, put}
 use Rattle.tree_laws.specs.Below.c99_tree.declared.production.Production.{Production}
 use Rattle.tree_laws.specs.Below.c99_grammar.Classes.{among}
-use Rattle.tree_laws.specs.Below.c99_grammar.Standard.{c99}
+use Rattle.tree_laws.specs.Below.c99_grammar.Standard.{grammar}
 use Rattle.tree_laws.specs.Below.c99_read.State.{State, Names, base_at, is_identifier, is_typedef_at, class_at, is_declarator, with_head, head_closed, names_opened, names_closed, opened, closed}
 use Rattle.tree_laws.specs.Below.c99_read.Reading.{Stop, syntax, too_deep, Step, and_then, take_one, at_end, enter}
 use Rattle.renamed_tree_laws.specs.Respelled.{Declaration}
@@ -65,21 +66,6 @@ branches false c' r r' u u' q q' s' t same f g e h = if_no c' u u' same ∙ g re
 abbrev pub with_token : State → State
 with_token s = record s { at = s.at + 1; built = record s.built { under = put s.built.under (leaf s.at) } }
 
-pub record Takes (L : List Class) (s s' : State) : Type 0 where
-  pub within : nat_lt s.at (length s.toks) ≡ true
-  pub here : among L (class_at c99 s s.at) ≡ true
-  pub new : with_token s ≡ s'
-
-pub takes : (L : List Class) (s s' : State) → take_one c99 L s ≡ Ok s' → Takes L s s'
-unfolding take_one
-takes L s s' e = by (nat_lt s.at (length s.toks)) (among L (class_at c99 s s.at)) refl refl e
-  where
-    by : (c d : Bool) → nat_lt s.at (length s.toks) ≡ c → among L (class_at c99 s s.at) ≡ d
-        → (if c && d then Ok (with_token s) else Err (syntax s.at)) ≡ Ok s' → Takes L s s'
-    by true true h k m = record { within = h; here = k; new = ok_is _ _ m }
-    by true false h k m = absurd (stopped _ _ m)
-    by false d h k m = absurd (stopped _ _ m)
-
 pub record Ends (s s' : State) : Type 0 where
   pub last : s.at ≡ length s.toks
   pub new : s ≡ s'
@@ -123,22 +109,9 @@ pub opened_at : (p : Production) (n : ℕ) (s : State) → (opened p n s).at ≡
 unfolding opened
 opened_at p n s = refl
 
-class_in : List Token → List (List Declaration) → ℕ → Class
-class_in toks scopes k = if is_identifier (base_at c99 toks k) && is_typedef_at toks scopes k then typedef_name else base_at c99 toks k
-
-class_is : (s : State) (k : ℕ) → class_at c99 s k ≡ class_in s.toks s.names.scopes k
-unfolding class_at class_in
-class_is s k = refl
-
 opened_toks : (p : Production) (n : ℕ) (s : State) → (opened p n s).toks ≡ s.toks
 unfolding opened
 opened_toks p n s = refl
-
-pub opened_class : (p : Production) (n : ℕ) (s : State) (k : ℕ) → class_at c99 (opened p n s) k ≡ class_at c99 s k
-opened_class p n s k =
-    class_is (opened p n s) k
-    ∙ (ap (λ t. class_in t (opened p n s).names.scopes k) (opened_toks p n s)
-    ∙ (ap (λ sc. class_in s.toks sc k) (opened_scopes p n s) ∙ sym (class_is s k)))
 
 closed_names : (p : Production) (names : Names) → (names_closed p names).scopes ≡ names.scopes
 closed_names p names = by (is_declarator p)
@@ -154,3 +127,32 @@ closed_scopes p outer s = closed_names p s.names
 pub closed_at : (p : Production) (outer s : State) → (closed p outer s).at ≡ s.at
 unfolding closed
 closed_at p outer s = refl
+
+module _ (std : Standard) where
+  pub record Takes (L : List Class) (s s' : State) : Type 0 where
+    pub within : nat_lt s.at (length s.toks) ≡ true
+    pub here : among L (class_at (grammar std) s s.at) ≡ true
+    pub new : with_token s ≡ s'
+
+  pub takes : (L : List Class) (s s' : State) → take_one (grammar std) L s ≡ Ok s' → Takes L s s'
+  unfolding take_one
+  takes L s s' e = by (nat_lt s.at (length s.toks)) (among L (class_at (grammar std) s s.at)) refl refl e
+    where
+      by : (c d : Bool) → nat_lt s.at (length s.toks) ≡ c → among L (class_at (grammar std) s s.at) ≡ d
+          → (if c && d then Ok (with_token s) else Err (syntax s.at)) ≡ Ok s' → Takes L s s'
+      by true true h k m = record { within = h; here = k; new = ok_is _ _ m }
+      by true false h k m = absurd (stopped _ _ m)
+      by false d h k m = absurd (stopped _ _ m)
+
+  class_in : List Token → List (List Declaration) → ℕ → Class
+  class_in toks scopes k = if is_identifier (base_at (grammar std) toks k) && is_typedef_at toks scopes k then typedef_name else base_at (grammar std) toks k
+
+  class_is : (s : State) (k : ℕ) → class_at (grammar std) s k ≡ class_in s.toks s.names.scopes k
+  unfolding class_at class_in
+  class_is s k = refl
+
+  pub opened_class : (p : Production) (n : ℕ) (s : State) (k : ℕ) → class_at (grammar std) (opened p n s) k ≡ class_at (grammar std) s k
+  opened_class p n s k =
+      class_is (opened p n s) k
+      ∙ (ap (λ t. class_in t (opened p n s).names.scopes k) (opened_toks p n s)
+      ∙ (ap (λ sc. class_in s.toks sc k) (opened_scopes p n s) ∙ sym (class_is s k)))

@@ -1,11 +1,11 @@
 -- What is asked along a whole unit.
 use Rattle.std.proofs.Common.{ℕ, zero, suc, ◌≡◌, Bool, true, false, ◌&&◌, if◌then◌else◌, ◌==◌, List, [], ◌∷◌, length, Ok, Err, refl, ap, ◌∙◌, arith}
+use Rattle.tree_laws.specs.Below.cs_base.declared.ws_units.Standard.{Standard}
 use Rattle.tree_laws.specs.Below.cs_base.Token.{Token}
 use Rattle.tree_laws.specs.Below.c99_tree.Tree.{none, node}
 use Rattle.tree_laws.specs.Below.c99_tree.declared.production.Production.TheVariants.{TranslationUnit, External}
 use Rattle.tree_laws.specs.Below.c99_grammar.Items.{Item, part, end_of_text, many, own}
-use Rattle.tree_laws.specs.Below.c99_grammar.Grammar.{table}
-use Rattle.tree_laws.specs.Below.c99_grammar.Standard.{c99}
+use Rattle.tree_laws.specs.Below.c99_grammar.Standard.{c99, grammar}
 use Rattle.tree_laws.specs.Below.c99_read.State.{State, base_at, opened, closed}
 use Rattle.tree_laws.specs.Below.c99_read.Reading.{Goal, produce, repeat, Step, syntax, at_end, at_first, and_then, may, step, alternative, read_within}
 use Rattle.tree_laws.specs.Below.name_chains.Frames.{at_first as before}
@@ -27,164 +27,165 @@ use Rattle.renamed_tree_laws.proofs.Asking.{of_token, of_node, along}
 use Rattle.renamed_tree_laws.proofs.AskTable.{asked_within}
 use Rattle.renamed_tree_laws.proofs.OuterAsks.{DefinitionAsks, OuterAsked, body_made, tail_made, rest_made, external_made}
 
-module _ (a b : List Token) (same : (k : ℕ) → base_at c99 a k ≡ base_at c99 b k) where
-  abbrev along_steps : ℕ → ℕ → Goal → State → Bool
-  along_steps fuel = along_within c99 (of_token a b) (of_node a b) fuel
+module _ (std : Standard) where
+  module _ (a b : List Token) (same : (k : ℕ) → base_at (grammar std) a k ≡ base_at (grammar std) b k) where
+    abbrev along_steps : ℕ → ℕ → Goal → State → Bool
+    along_steps fuel = along_within (grammar std) (of_token std a b) (of_node std a b) fuel
 
-  outer_asked : (fuel : ℕ) → OuterAsked a b (read_within c99 fuel) (along_steps fuel)
-  unfolding read_within along_within
-  outer_asked zero = record { bodies = λ depth s. tt; tails = λ depth s. tt; rests = λ depth s. tt; definitions = λ depth s. tt }
-  outer_asked (suc fuel) = record {
-    bodies = λ depth s.
-        body_made a b (read_within c99 fuel) (along_steps fuel) (reads_within a fuel) (asked_within a b same fuel) (outer_within a fuel) (outer_asked fuel)
-        (declarator_hands a fuel) (steady_within fuel) depth s;
-    tails = λ depth s.
-        tail_made a b (read_within c99 fuel) (along_steps fuel) (reads_within a fuel) (asked_within a b same fuel) (outer_within a fuel) (outer_asked fuel)
-        (declarator_hands a fuel) (steady_within fuel) depth s;
-    rests = λ depth s.
-        rest_made a b (read_within c99 fuel) (along_steps fuel) (reads_within a fuel) (asked_within a b same fuel) (outer_within a fuel) (outer_asked fuel)
-        (declarator_hands a fuel) (steady_within fuel) depth s;
-    definitions = λ depth s.
-        external_made a b (read_within c99 fuel) (along_steps fuel) (reads_within a fuel) (asked_within a b same fuel) (outer_within a fuel) (outer_asked fuel)
-        (declarator_hands a fuel) (steady_within fuel) depth s;
-  }
+    outer_asked : (fuel : ℕ) → OuterAsked std a b (read_within (grammar std) fuel) (along_steps fuel)
+    unfolding read_within along_within
+    outer_asked zero = record { bodies = λ depth s. tt; tails = λ depth s. tt; rests = λ depth s. tt; definitions = λ depth s. tt }
+    outer_asked (suc fuel) = record {
+      bodies = λ depth s.
+          (body_made std) a b (read_within (grammar std) fuel) (along_steps fuel) (reads_within std a fuel) (asked_within std a b same fuel) (outer_within std a fuel) (outer_asked fuel)
+          (declarator_hands std a fuel) (steady_within std fuel) depth s;
+      tails = λ depth s.
+          (tail_made std) a b (read_within (grammar std) fuel) (along_steps fuel) (reads_within std a fuel) (asked_within std a b same fuel) (outer_within std a fuel) (outer_asked fuel)
+          (declarator_hands std a fuel) (steady_within std fuel) depth s;
+      rests = λ depth s.
+          (rest_made std) a b (read_within (grammar std) fuel) (along_steps fuel) (reads_within std a fuel) (asked_within std a b same fuel) (outer_within std a fuel) (outer_asked fuel)
+          (declarator_hands std a fuel) (steady_within std fuel) depth s;
+      definitions = λ depth s.
+          (external_made std) a b (read_within (grammar std) fuel) (along_steps fuel) (reads_within std a fuel) (asked_within std a b same fuel) (outer_within std a fuel) (outer_asked fuel)
+          (declarator_hands std a fuel) (steady_within std fuel) depth s;
+    }
 
-  -- between definitions
-  abbrev UnitAsks : Bool → State → State → Type 0
-  UnitAsks v s s' =
-      (o : Outline) (ends : List ℕ) → Bounds s'.at o.scope.to s'.names.scopes ends → Between a s ends o → all_agree b s'.built.under o ≡ true
-      → (all_agree b s.built.under o ≡ true) × (v ≡ true)
+    -- between definitions
+    abbrev UnitAsks : Bool → State → State → Type 0
+    UnitAsks v s s' =
+        (o : Outline) (ends : List ℕ) → Bounds s'.at o.scope.to s'.names.scopes ends → Between std a s ends o → all_agree std b s'.built.under o ≡ true
+        → (all_agree std b s.built.under o ≡ true) × (v ≡ true)
 
-  unit_further : (v w : Bool) (s s' s'' : State) → UnitGoes a s s' → UnitGoes a s' s'' → UnitAsks v s s' → UnitAsks w s' s'' → UnitAsks (v && w) s s''
-  unit_further v w s s' s'' g g' k k' = λ o ends bounds f agree. (
-      let op = outer_open s.names.scopes s'.names.scopes f.fits.opens (g.outer f.fits.opens) in
-      let sooner = bounds_sooner s'.at s''.at o.scope.to s'.names.scopes s''.names.scopes ends op g'.later (g'.outer op) bounds in
-      let second = k' o ends bounds (g.goes o ends sooner f) agree in
-      let start = k o ends sooner f second.0 in
-      (start.0, and_both v w start.1 second.1))
+    unit_further : (v w : Bool) (s s' s'' : State) → UnitGoes std a s s' → UnitGoes std a s' s'' → UnitAsks v s s' → UnitAsks w s' s'' → UnitAsks (v && w) s s''
+    unit_further v w s s' s'' g g' k k' = λ o ends bounds f agree. (
+        let op = outer_open s.names.scopes s'.names.scopes f.fits.opens (g.outer f.fits.opens) in
+        let sooner = bounds_sooner s'.at s''.at o.scope.to s'.names.scopes s''.names.scopes ends op g'.later (g'.outer op) bounds in
+        let second = k' o ends bounds (g.goes o ends sooner f) agree in
+        let start = k o ends sooner f second.0 in
+        (start.0, and_both v w start.1 second.1))
 
-  unit_then : (v : Bool) (w : State → Bool) (s : State) (r : Step) (next_step : State → Step) → After (UnitGoes a s) r → After (UnitAsks v s) r
-      → ((s' : State) → After (UnitGoes a s') (next_step s')) → ((s' : State) → After (UnitAsks (w s') s') (next_step s'))
-      → After (UnitAsks (v && along_rest r w) s) (and_then r next_step)
-  unit_then v w s (Err stop) next_step g k g' k' = tt
-  unit_then v w s (Ok s') next_step g k g' k' = onward (next_step s') (g' s') (k' s')
-    where
-      onward : (r : Step) → After (UnitGoes a s') r → After (UnitAsks (w s') s') r → After (UnitAsks (v && w s') s) r
-      onward (Err stop) h m = tt
-      onward (Ok s'') h m = unit_further v (w s') s s' s'' g h k m
+    unit_then : (v : Bool) (w : State → Bool) (s : State) (r : Step) (next_step : State → Step) → After (UnitGoes std a s) r → After (UnitAsks v s) r
+        → ((s' : State) → After (UnitGoes std a s') (next_step s')) → ((s' : State) → After (UnitAsks (w s') s') (next_step s'))
+        → After (UnitAsks (v && along_rest r w) s) (and_then r next_step)
+    unit_then v w s (Err stop) next_step g k g' k' = tt
+    unit_then v w s (Ok s') next_step g k g' k' = onward (next_step s') (g' s') (k' s')
+      where
+        onward : (r : Step) → After (UnitGoes std a s') r → After (UnitAsks (w s') s') r → After (UnitAsks (v && w s') s) r
+        onward (Err stop) h m = tt
+        onward (Ok s'') h m = unit_further v (w s') s s' s'' g h k m
 
-  definition_asks : (v : Bool) (s s' : State) → DefinitionAsks a b v s s' → UnitAsks v s s'
-  definition_asks v s s' k = λ o ends bounds f agree. (
-      let here : Outline = now s o in
-      let scope : here.scope ≡ o.scope = outlined_scope s.built.under o in
-      k o ends f.fits.text f.fits.opens bounds f.fits.matches f.fits.near (f.heads, λ list h. listed_scope here o list here.entries scope ∙ f.past list h) agree)
+    definition_asks : (v : Bool) (s s' : State) → DefinitionAsks std a b v s s' → UnitAsks v s s'
+    definition_asks v s s' k = λ o ends bounds f agree. (
+        let here : Outline = now s o in
+        let scope : here.scope ≡ o.scope = outlined_scope s.built.under o in
+        k o ends f.fits.text f.fits.opens bounds f.fits.matches f.fits.near (f.heads, λ list h. listed_scope here o list here.entries scope ∙ f.past list h) agree)
 
-  definitions_ask : (fuel depth : ℕ) (s : State) → After (UnitAsks (along_steps fuel depth (produce External) s) s) (read_within c99 fuel depth (produce External) s)
-  definitions_ask fuel depth s = by (read_within c99 fuel depth (produce External) s) ((outer_asked fuel).definitions depth s)
-    where
-      by : (r : Step) → After (DefinitionAsks a b (along_steps fuel depth (produce External) s) s) r → After (UnitAsks (along_steps fuel depth (produce External) s) s) r
-      by (Err stop) k = tt
-      by (Ok s') k = definition_asks (along_steps fuel depth (produce External) s) s s' k
+    definitions_ask : (fuel depth : ℕ) (s : State) → After (UnitAsks (along_steps fuel depth (produce External) s) s) (read_within (grammar std) fuel depth (produce External) s)
+    definitions_ask fuel depth s = by (read_within (grammar std) fuel depth (produce External) s) ((outer_asked fuel).definitions depth s)
+      where
+        by : (r : Step) → After (DefinitionAsks std a b (along_steps fuel depth (produce External) s) s) r → After (UnitAsks (along_steps fuel depth (produce External) s) s) r
+        by (Err stop) k = tt
+        by (Ok s') k = definition_asks (along_steps fuel depth (produce External) s) s s' k
 
-  unit_still : (s : State) → UnitAsks true s s
-  unit_still s = λ o ends bounds f agree. (agree, refl)
+    unit_still : (s : State) → UnitAsks true s s
+    unit_still s = λ o ends bounds f agree. (agree, refl)
 
-  again_if : (v : Bool) (s : State) (c : Bool) (r : Step) → After (UnitAsks v s) r → After (UnitAsks (if c then v else true) s) (if c then r else Ok s)
-  again_if v s true r m = m
-  again_if v s false r m = unit_still s
+    again_if : (v : Bool) (s : State) (c : Bool) (r : Step) → After (UnitAsks v s) r → After (UnitAsks (if c then v else true) s) (if c then r else Ok s)
+    again_if v s true r m = m
+    again_if v s false r m = unit_still s
 
-  many_ask : (fuel depth : ℕ) (s : State) → After (UnitAsks (along_steps fuel depth (repeat own (part External)) s) s) (read_within c99 fuel depth (repeat own (part External)) s)
-  unfolding read_within along_within
-  many_ask zero depth s = tt
-  many_ask (suc fuel) depth s =
-      again_if (along_steps fuel depth (produce External) s && along_rest (read_within c99 fuel depth (produce External) s) (along_steps fuel depth (repeat own (part External)))) s
-      (may c99 own (part External) s)
-      (and_then (read_within c99 fuel depth (produce External) s) (read_within c99 fuel depth (repeat own (part External))))
-      (unit_then (along_steps fuel depth (produce External) s) (along_steps fuel depth (repeat own (part External))) s (read_within c99 fuel depth (produce External) s)
-      (read_within c99 fuel depth (repeat own (part External))) (definitions_within a fuel depth s) (definitions_ask fuel depth s) (many_within a fuel depth) (many_ask fuel depth))
+    many_ask : (fuel depth : ℕ) (s : State) → After (UnitAsks (along_steps fuel depth (repeat own (part External)) s) s) (read_within (grammar std) fuel depth (repeat own (part External)) s)
+    unfolding read_within along_within
+    many_ask zero depth s = tt
+    many_ask (suc fuel) depth s =
+        again_if (along_steps fuel depth (produce External) s && along_rest (read_within (grammar std) fuel depth (produce External) s) (along_steps fuel depth (repeat own (part External)))) s
+        (may (grammar std) own (part External) s)
+        (and_then (read_within (grammar std) fuel depth (produce External) s) (read_within (grammar std) fuel depth (repeat own (part External))))
+        (unit_then (along_steps fuel depth (produce External) s) (along_steps fuel depth (repeat own (part External))) s (read_within (grammar std) fuel depth (produce External) s)
+        (read_within (grammar std) fuel depth (repeat own (part External))) (definitions_within std a fuel depth s) (definitions_ask fuel depth s) (many_within std a fuel depth) (many_ask fuel depth))
 
-  end_asks : (s : State) → After (UnitAsks true s) (at_end s)
-  unfolding at_end
-  end_asks s = by (s.at == length s.toks)
-    where
-      by : (c : Bool) → After (UnitAsks true s) (if c then Ok s else Err (syntax s.at))
-      by true = unit_still s
-      by false = tt
+    end_asks : (s : State) → After (UnitAsks true s) (at_end s)
+    unfolding at_end
+    end_asks s = by (s.at == length s.toks)
+      where
+        by : (c : Bool) → After (UnitAsks true s) (if c then Ok s else Err (syntax s.at))
+        by true = unit_still s
+        by false = tt
 
-  abbrev unit_items : Item
-  unit_items = first_body (table TranslationUnit)
+    abbrev unit_items : Item
+    unit_items = first_body (c99.table TranslationUnit)
 
-  abbrev definitions_item : Item
-  definitions_item = many own (part External)
+    abbrev definitions_item : Item
+    definitions_item = many own (part External)
 
-  -- all definitions, and the end of the text
-  all_ask : (fuel depth : ℕ) (s : State)
-      → After (UnitAsks (along a b (read_within c99 fuel) (along_steps fuel) depth unit_items s) s) (step c99 (read_within c99 fuel) depth unit_items s)
-  all_ask fuel depth s =
-      unit_then (along a b (read_within c99 fuel) (along_steps fuel) depth definitions_item s) (along a b (read_within c99 fuel) (along_steps fuel) depth end_of_text) s
-      (step c99 (read_within c99 fuel) depth definitions_item s) at_end
-      (goes_if (may c99 own (part External) s) (and_then (read_within c99 fuel depth (produce External) s) (read_within c99 fuel depth (repeat own (part External))))
-      (goes_then (read_within c99 fuel depth (produce External) s) (definitions_within a fuel depth s)))
-      (again_if (along_steps fuel depth (produce External) s && along_rest (read_within c99 fuel depth (produce External) s) (along_steps fuel depth (repeat own (part External)))) s
-      (may c99 own (part External) s)
-      (and_then (read_within c99 fuel depth (produce External) s) (read_within c99 fuel depth (repeat own (part External))))
-      (unit_then (along_steps fuel depth (produce External) s) (along_steps fuel depth (repeat own (part External))) s (read_within c99 fuel depth (produce External) s)
-      (read_within c99 fuel depth (repeat own (part External))) (definitions_within a fuel depth s) (definitions_ask fuel depth s) (many_within a fuel depth) (many_ask fuel depth)))
-      (end_goes a) end_asks
-    where
-      goes_then : (r : Step) → After (UnitGoes a s) r → After (UnitGoes a s) (and_then r (read_within c99 fuel depth (repeat own (part External))))
-      goes_then r g = goes_onward a s r (read_within c99 fuel depth (repeat own (part External))) g (many_within a fuel depth)
+    -- all definitions, and the end of the text
+    all_ask : (fuel depth : ℕ) (s : State)
+        → After (UnitAsks (along std a b (read_within (grammar std) fuel) (along_steps fuel) depth unit_items s) s) (step (grammar std) (read_within (grammar std) fuel) depth unit_items s)
+    all_ask fuel depth s =
+        unit_then (along std a b (read_within (grammar std) fuel) (along_steps fuel) depth definitions_item s) (along std a b (read_within (grammar std) fuel) (along_steps fuel) depth end_of_text) s
+        (step (grammar std) (read_within (grammar std) fuel) depth definitions_item s) at_end
+        (goes_if (may (grammar std) own (part External) s) (and_then (read_within (grammar std) fuel depth (produce External) s) (read_within (grammar std) fuel depth (repeat own (part External))))
+        (goes_then (read_within (grammar std) fuel depth (produce External) s) (definitions_within std a fuel depth s)))
+        (again_if (along_steps fuel depth (produce External) s && along_rest (read_within (grammar std) fuel depth (produce External) s) (along_steps fuel depth (repeat own (part External)))) s
+        (may (grammar std) own (part External) s)
+        (and_then (read_within (grammar std) fuel depth (produce External) s) (read_within (grammar std) fuel depth (repeat own (part External))))
+        (unit_then (along_steps fuel depth (produce External) s) (along_steps fuel depth (repeat own (part External))) s (read_within (grammar std) fuel depth (produce External) s)
+        (read_within (grammar std) fuel depth (repeat own (part External))) (definitions_within std a fuel depth s) (definitions_ask fuel depth s) (many_within std a fuel depth) (many_ask fuel depth)))
+        (end_goes std a) end_asks
+      where
+        goes_then : (r : Step) → After (UnitGoes std a s) r → After (UnitGoes std a s) (and_then r (read_within (grammar std) fuel depth (repeat own (part External))))
+        goes_then r g = goes_onward std a s r (read_within (grammar std) fuel depth (repeat own (part External))) g (many_within std a fuel depth)
 
-      goes_if : (c : Bool) (r : Step) → After (UnitGoes a s) r → After (UnitGoes a s) (if c then r else Ok s)
-      goes_if true r m = m
-      goes_if false r m = goes_still a s
+        goes_if : (c : Bool) (r : Step) → After (UnitGoes std a s) r → After (UnitGoes std a s) (if c then r else Ok s)
+        goes_if true r m = m
+        goes_if false r m = goes_still std a s
 
-  -- ---- The text
+    -- ---- The text
 
-  -- the node of the unit
-  closed_unit : (s : State) → UnitGoes a (opened TranslationUnit 1 (at_first a)) s
-      → (closed TranslationUnit (at_first a) s).built ≡ record (at_first a).built { under = node (unit_label a) 0 s.built.under none }
-  unfolding opened closed
-  closed_unit s g =
-      let i = g.inside (record { label = refl; begins = refl }) in
-      ap (λ l. record (at_first a).built { under = node l s.built.first s.built.under none }) i.label
-      ∙ ap (λ k. record (at_first a).built { under = node (unit_label a) k s.built.under none }) i.begins
+    -- the node of the unit
+    closed_unit : (s : State) → UnitGoes std a (opened TranslationUnit 1 (at_first a)) s
+        → (closed TranslationUnit (at_first a) s).built ≡ record (at_first a).built { under = node (unit_label std a) 0 s.built.under none }
+    unfolding opened closed
+    closed_unit s g =
+        let i = g.inside (record { label = refl; begins = refl }) in
+        ap (λ l. record (at_first a).built { under = node l s.built.first s.built.under none }) i.label
+        ∙ ap (λ k. record (at_first a).built { under = node (unit_label std a) k s.built.under none }) i.begins
 
-  opened_start : (opened TranslationUnit 1 (at_first a)).at ≡ 0
-  unfolding opened
-  opened_start = refl
+    opened_start : (opened TranslationUnit 1 (at_first a)).at ≡ 0
+    unfolding opened
+    opened_start = refl
 
-  unit_told : (v : Bool) (s : State) → UnitGoes a (opened TranslationUnit 1 (at_first a)) s → UnitAsks v (opened TranslationUnit 1 (at_first a)) s
-      → all_agree b s.built.under (outline (before (length a))) ≡ true → v ≡ true
-  unfolding opened
-  unit_told v s g k agree =
-      (k (outline (before (length a))) (length a ∷ []) (file_bounds s.at (length a) s.names.scopes (g.outer tt) (g.within (omega arith))) (unit_begins a (length a)) agree).1
+    unit_told : (v : Bool) (s : State) → UnitGoes std a (opened TranslationUnit 1 (at_first a)) s → UnitAsks v (opened TranslationUnit 1 (at_first a)) s
+        → all_agree std b s.built.under (outline (before (length a))) ≡ true → v ≡ true
+    unfolding opened
+    unit_told v s g k agree =
+        (k (outline (before (length a))) (length a ∷ []) (file_bounds s.at (length a) s.names.scopes (g.outer tt) (g.within (omega arith))) (unit_begins std a (length a)) agree).1
 
-  -- what is known of the state that is left once a unit was read
-  pub record UnitTold (v : Bool) (s : State) : Type 0 where
-    pub last_one : State
-    pub built : s.built ≡ record (at_first a).built { under = node (unit_label a) 0 last_one.built.under none }
-    pub told : all_agree b last_one.built.under (outline (before (length a))) ≡ true → v ≡ true
+    -- what is known of the state that is left once a unit was read
+    pub record UnitTold (v : Bool) (s : State) : Type 0 where
+      pub last_one : State
+      pub built : s.built ≡ record (at_first a).built { under = node (unit_label std a) 0 last_one.built.under none }
+      pub told : all_agree std b last_one.built.under (outline (before (length a))) ≡ true → v ≡ true
 
-  pub unit_asks : (fuel : ℕ) → After (UnitTold (along_steps fuel 0 (produce TranslationUnit) (at_first a))) (read_within c99 fuel 0 (produce TranslationUnit) (at_first a))
-  unfolding read_within along_within
-  unit_asks zero = tt
-  unit_asks (suc fuel) = choose (may c99 own unit_items (at_first a))
-    where
-      by : (r : Step) → After (UnitGoes a (opened TranslationUnit 1 (at_first a))) r
-          → After (UnitAsks (along a b (read_within c99 fuel) (along_steps fuel) 0 unit_items (opened TranslationUnit 1 (at_first a))) (opened TranslationUnit 1 (at_first a))) r
-          → After (UnitTold (along a b (read_within c99 fuel) (along_steps fuel) 0 unit_items (opened TranslationUnit 1 (at_first a)))) (and_then r (λ s'. Ok (closed TranslationUnit (at_first a) s')))
-      by (Err stop) g k = tt
-      by (Ok s') g k = record {
-        last_one = s';
-        built = closed_unit s' g;
-        told = unit_told (along a b (read_within c99 fuel) (along_steps fuel) 0 unit_items (opened TranslationUnit 1 (at_first a))) s' g k;
-      }
+    pub unit_asks : (fuel : ℕ) → After (UnitTold (along_steps fuel 0 (produce TranslationUnit) (at_first a))) (read_within (grammar std) fuel 0 (produce TranslationUnit) (at_first a))
+    unfolding read_within along_within
+    unit_asks zero = tt
+    unit_asks (suc fuel) = choose (may (grammar std) own unit_items (at_first a))
+      where
+        by : (r : Step) → After (UnitGoes std a (opened TranslationUnit 1 (at_first a))) r
+            → After (UnitAsks (along std a b (read_within (grammar std) fuel) (along_steps fuel) 0 unit_items (opened TranslationUnit 1 (at_first a))) (opened TranslationUnit 1 (at_first a))) r
+            → After (UnitTold (along std a b (read_within (grammar std) fuel) (along_steps fuel) 0 unit_items (opened TranslationUnit 1 (at_first a)))) (and_then r (λ s'. Ok (closed TranslationUnit (at_first a) s')))
+        by (Err stop) g k = tt
+        by (Ok s') g k = record {
+          last_one = s';
+          built = closed_unit s' g;
+          told = unit_told (along std a b (read_within (grammar std) fuel) (along_steps fuel) 0 unit_items (opened TranslationUnit 1 (at_first a))) s' g k;
+        }
 
-      choose : (c : Bool)
-          → After (UnitTold (if c then along a b (read_within c99 fuel) (along_steps fuel) 0 unit_items (opened TranslationUnit 1 (at_first a)) else true))
-          (if c then alternative c99 (read_within c99 fuel) 0 TranslationUnit 1 unit_items (at_first a) else Err (syntax 0))
-      choose true =
-          by (step c99 (read_within c99 fuel) 0 unit_items (opened TranslationUnit 1 (at_first a))) (all_within a fuel 0 (opened TranslationUnit 1 (at_first a)))
-          (all_ask fuel 0 (opened TranslationUnit 1 (at_first a)))
-      choose false = tt
+        choose : (c : Bool)
+            → After (UnitTold (if c then along std a b (read_within (grammar std) fuel) (along_steps fuel) 0 unit_items (opened TranslationUnit 1 (at_first a)) else true))
+            (if c then alternative (grammar std) (read_within (grammar std) fuel) 0 TranslationUnit 1 unit_items (at_first a) else Err (syntax 0))
+        choose true =
+            by (step (grammar std) (read_within (grammar std) fuel) 0 unit_items (opened TranslationUnit 1 (at_first a))) (all_within std a fuel 0 (opened TranslationUnit 1 (at_first a)))
+            (all_ask fuel 0 (opened TranslationUnit 1 (at_first a)))
+        choose false = tt

@@ -2,10 +2,11 @@
 use Rattle.std.specs.Prelude.{ℕ, ◌+◌, ◌≡◌, ◌||◌, Bool, true, not, List, [], ◌∷◌, Option, None, Some, length, if◌then◌else◌, ◌==◌}
 use Rattle.std.specs.Option.{option_map_or}
 use Rattle.std.specs.Str.{bytes_eq}
+use Rattle.tree_laws.specs.Below.cs_base.declared.ws_units.Standard.{Standard}
 use Rattle.tree_laws.specs.Below.cs_base.Token.{Token}
 use Rattle.tree_laws.specs.Below.c99_tree.declared.production.Production.{Production}
 use Rattle.tree_laws.specs.Below.c99_tree.declared.production.Production.TheVariants.{Main, Primary, Params, Pdirect}
-use Rattle.tree_laws.specs.Below.c99_grammar.Standard.{c99}
+use Rattle.tree_laws.specs.Below.c99_grammar.Standard.{grammar}
 use Rattle.tree_laws.specs.Below.c99_read.State.{declaration, base_at, spelling_at, is_identifier, is_typedef_at}
 use Rattle.renamed_tree_laws.specs.Along.{all_along}
 
@@ -30,53 +31,54 @@ abbrev pub denoted : List Token → List (List Declaration) → ℕ → Option D
 denoted toks [] k = None
 denoted toks (scope ∷ outer) k = or_outer (declared_in toks scope k) (denoted toks outer k)
 
--- What is asked of a name in these scopes, so that it is read as the same kind of name: a type name is a typedef name
--- (6.7.2 paragraph 2); a primary expression is none (6.5.1 paragraph 2), and a name in an identifier list is none before
--- it is declared there (6.7.5.3 paragraph 3).
-module _ (toks : List Token) where
-  -- token k, where it is an identifier, is no typedef name
-  abbrev pub is_bare_so : List (List Declaration) → ℕ → Bool
-  is_bare_so scopes k = not (is_identifier (base_at c99 toks k)) || not (is_typedef_at toks scopes k)
+module _ (std : Standard) where
+  -- What is asked of a name in these scopes, so that it is read as the same kind of name: a type name is a typedef name
+  -- (6.7.2 paragraph 2); a primary expression is none (6.5.1 paragraph 2), and a name in an identifier list is none before
+  -- it is declared there (6.7.5.3 paragraph 3).
+  module _ (toks : List Token) where
+    -- token k, where it is an identifier, is no typedef name
+    abbrev pub is_bare_so : List (List Declaration) → ℕ → Bool
+    is_bare_so scopes k = not (is_identifier (base_at (grammar std) toks k)) || not (is_typedef_at toks scopes k)
 
-  abbrev pub is_kind_so : Production → ℕ → List (List Declaration) → ℕ → Bool
-  is_kind_so Main n scopes k = if n == 4 then is_typedef_at toks scopes k else true
-  is_kind_so Primary n scopes k = if n == 1 then is_bare_so scopes k else true
-  is_kind_so Params n scopes k = if n == 1 then is_bare_so scopes k else true
-  is_kind_so _ n scopes k = true
+    abbrev pub is_kind_so : Production → ℕ → List (List Declaration) → ℕ → Bool
+    is_kind_so Main n scopes k = if n == 4 then is_typedef_at toks scopes k else true
+    is_kind_so Primary n scopes k = if n == 1 then is_bare_so scopes k else true
+    is_kind_so Params n scopes k = if n == 1 then is_bare_so scopes k else true
+    is_kind_so _ n scopes k = true
 
-  -- An identifier behind the parenthesis that begins a parameter's declarator is the declared name: it is no typedef
-  -- name (6.7.5.3 paragraph 11).
-  abbrev pub is_node_so : Production → ℕ → List (List Declaration) → ℕ → Bool
-  is_node_so Pdirect n scopes k = if n == 2 then is_bare_so scopes (k + 1) else true
-  is_node_so _ n scopes k = true
+    -- An identifier behind the parenthesis that begins a parameter's declarator is the declared name: it is no typedef
+    -- name (6.7.5.3 paragraph 11).
+    abbrev pub is_node_so : Production → ℕ → List (List Declaration) → ℕ → Bool
+    is_node_so Pdirect n scopes k = if n == 2 then is_bare_so scopes (k + 1) else true
+    is_node_so _ n scopes k = true
 
-module _ (a b : List Token) where
-  -- As many tokens, of the same classes but for typedef names; and along the reading of the first list, names of the
-  -- second one are of the kinds that are read.
-  pub record IsReadSo : Type 0 where
-    pub as_long : length a ≡ length b
-    pub classes : (k : ℕ) → base_at c99 a k ≡ base_at c99 b k
-    pub kinds : all_along c99 (λ s. is_kind_so b s.built.label.production s.built.label.alternative s.names.scopes s.at)
-        (λ p n s. is_node_so b p n s.names.scopes s.at) a ≡ true
+  module _ (a b : List Token) where
+    -- As many tokens, of the same classes but for typedef names; and along the reading of the first list, names of the
+    -- second one are of the kinds that are read.
+    pub record IsReadSo : Type 0 where
+      pub as_long : length a ≡ length b
+      pub classes : (k : ℕ) → base_at (grammar std) a k ≡ base_at (grammar std) b k
+      pub kinds : all_along (grammar std) (λ s. is_kind_so b s.built.label.production s.built.label.alternative s.names.scopes s.at)
+          (λ p n s. is_node_so b p n s.names.scopes s.at) a ≡ true
 
-  -- token k, and the token that declared what it denotes, are spelled alike anew
-  abbrev pub is_named_so : List (List Declaration) → ℕ → Bool
-  is_named_so scopes k = option_map_or (λ d. bytes_eq (spelling_at b k) (spelling_at b d.name_at)) (denoted a scopes k) true
+    -- token k, and the token that declared what it denotes, are spelled alike anew
+    abbrev pub is_named_so : List (List Declaration) → ℕ → Bool
+    is_named_so scopes k = option_map_or (λ d. bytes_eq (spelling_at b k) (spelling_at b d.name_at)) (denoted a scopes k) true
 
-  -- A type name and a primary expression name what they named; a name in an identifier list, which names nothing before
-  -- it is declared there, is no typedef name.
-  abbrev pub is_token_so : Production → ℕ → List (List Declaration) → ℕ → Bool
-  is_token_so Main n scopes k = if n == 4 then is_named_so scopes k else true
-  is_token_so Primary n scopes k = if n == 1 then is_named_so scopes k else true
-  is_token_so Params n scopes k = if n == 1 then is_bare_so b scopes k else true
-  is_token_so _ n scopes k = true
+    -- A type name and a primary expression name what they named; a name in an identifier list, which names nothing before
+    -- it is declared there, is no typedef name.
+    abbrev pub is_token_so : Production → ℕ → List (List Declaration) → ℕ → Bool
+    is_token_so Main n scopes k = if n == 4 then is_named_so scopes k else true
+    is_token_so Primary n scopes k = if n == 1 then is_named_so scopes k else true
+    is_token_so Params n scopes k = if n == 1 then is_bare_so b scopes k else true
+    is_token_so _ n scopes k = true
 
-  -- As many tokens, of the same classes but for typedef names; identifiers that are spelled alike anew were so before;
-  -- and, along the reading of the first list, names name what they named.
-  pub record IsRespelled : Type 0 where
-    pub as_long : length a ≡ length b
-    pub classes : (k : ℕ) → base_at c99 a k ≡ base_at c99 b k
-    pub apart : (i j : ℕ) → is_identifier (base_at c99 a i) ≡ true → is_identifier (base_at c99 a j) ≡ true
-        → bytes_eq (spelling_at b i) (spelling_at b j) ≡ true → bytes_eq (spelling_at a i) (spelling_at a j) ≡ true
-    pub names : all_along c99 (λ s. is_token_so s.built.label.production s.built.label.alternative s.names.scopes s.at)
-        (λ p n s. is_node_so b p n s.names.scopes s.at) a ≡ true
+    -- As many tokens, of the same classes but for typedef names; identifiers that are spelled alike anew were so before;
+    -- and, along the reading of the first list, names name what they named.
+    pub record IsRespelled : Type 0 where
+      pub as_long : length a ≡ length b
+      pub classes : (k : ℕ) → base_at (grammar std) a k ≡ base_at (grammar std) b k
+      pub apart : (i j : ℕ) → is_identifier (base_at (grammar std) a i) ≡ true → is_identifier (base_at (grammar std) a j) ≡ true
+          → bytes_eq (spelling_at b i) (spelling_at b j) ≡ true → bytes_eq (spelling_at a i) (spelling_at a j) ≡ true
+      pub names : all_along (grammar std) (λ s. is_token_so s.built.label.production s.built.label.alternative s.names.scopes s.at)
+          (λ p n s. is_node_so b p n s.names.scopes s.at) a ≡ true

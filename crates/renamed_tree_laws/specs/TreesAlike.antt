@@ -1,11 +1,12 @@
 -- What is true of a text whose names agree with the tree of another one.
 use Rattle.std.specs.Prelude.{ℕ, ◌≡◌, true, List, length, Ok}
 use Rattle.std.specs.List.{Contains}
+use Rattle.tree_laws.specs.Below.cs_base.declared.ws_units.Standard.{Standard}
 use Rattle.tree_laws.specs.Below.cs_base.Token.{Token}
 use Rattle.tree_laws.specs.Below.c99_tree.Tree.{Node}
 use Rattle.tree_laws.specs.Below.c99_read.Reading.{read_of}
 use Rattle.tree_laws.specs.Below.c99_read.State.{base_at}
-use Rattle.tree_laws.specs.Below.c99_grammar.Standard.{c99}
+use Rattle.tree_laws.specs.Below.c99_grammar.Standard.{grammar}
 use Rattle.tree_laws.specs.Below.scope_bind.Bound.{Bound, binding_of}
 use Rattle.tree_laws.specs.Below.name_chains.Frames.{at_first as before, outermost}
 use Rattle.tree_laws.specs.RenamedNames.{NamesAreRenamed}
@@ -16,21 +17,21 @@ use Rattle.renamed_tree_laws.specs.Loose.{AllLoose, StaysWhole}
 -- one if in this tree its own names are read as they are bound (ISO/IEC 9899:1999, 6.2.1 and 6.7.7).
 abbrev pub AgreeingTextsReadAlike : Type 0
 AgreeingTextsReadAlike =
-    (a b : List Token) (tree : Node) → length a ≡ length b → ((k : ℕ) → base_at c99 a k ≡ base_at c99 b k) → read_of c99 a ≡ Ok tree
-    → agrees b tree.under (before (length b)) ≡ true → read_of c99 b ≡ Ok tree
+    (s : Standard) (a b : List Token) (tree : Node) → length a ≡ length b → ((k : ℕ) → base_at (grammar s) a k ≡ base_at (grammar s) b k) → read_of (grammar s) a ≡ Ok tree
+    → agrees s b tree.under (before (length b)) ≡ true → read_of (grammar s) b ≡ Ok tree
 
 -- A text that is renamed so that all names of an entity go together is read to the same tree, if each name in an
 -- identifier list or behind the parenthesis of a parameter's declarator, which names nothing before it is declared, goes
 -- with all tokens of its spelling where a typedef name of this spelling is hidden (6.7.5.3 paragraphs 3 and 11).
 abbrev pub RenamedTextsReadAlike : Type 0
 RenamedTextsReadAlike =
-    (old new : List Token) (tree : Node) (b : Bound) → read_of c99 old ≡ Ok tree → binding_of old tree ≡ Ok b → NamesAreRenamed old new b.names
-    → ((k : ℕ) → base_at c99 old k ≡ base_at c99 new k) → AllLoose old (StaysWhole old new b.typedefs) (outermost 0).label 0 tree.under
-    → read_of c99 new ≡ Ok tree
+    (s : Standard) (old new : List Token) (tree : Node) (b : Bound) → read_of (grammar s) old ≡ Ok tree → binding_of old tree ≡ Ok b → NamesAreRenamed old new b.names
+    → ((k : ℕ) → base_at (grammar s) old k ≡ base_at (grammar s) new k) → AllLoose s old (StaysWhole old new b.typedefs) (outermost 0).label 0 tree.under
+    → read_of (grammar s) new ≡ Ok tree
 
 -- Of a tree that is read, each name in an identifier list or directly behind the parenthesis of a parameter's declarator
 -- is one of the bare names of its binding (6.7.5.3 paragraphs 3 and 11).
 abbrev pub LooseNamesAreBare : Type 0
 LooseNamesAreBare =
-    (toks : List Token) (tree : Node) (b : Bound) → read_of c99 toks ≡ Ok tree → binding_of toks tree ≡ Ok b
-    → AllLoose toks (Contains b.bare) (outermost 0).label 0 tree.under
+    (s : Standard) (toks : List Token) (tree : Node) (b : Bound) → read_of (grammar s) toks ≡ Ok tree → binding_of toks tree ≡ Ok b
+    → AllLoose s toks (Contains b.bare) (outermost 0).label 0 tree.under

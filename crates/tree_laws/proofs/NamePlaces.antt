@@ -1,6 +1,7 @@
 -- Where names stand, a production reads identifiers.
 use Rattle.std.proofs.Common.{ℕ, zero, suc, ◌+◌, ◌%◌, ◌≡◌, Bool, true, false, ◌&&◌, ◌||◌, not, if◌then◌else◌, ◌==◌, List, length, Ok, Err, nat_lt, inl, inr, refl, sym, ap, subst, ◌∙◌, arith}
 use Rattle.std.proofs.lemmas.Bool.{false≢true, and_parts, cases_eq, eq-eqb, ne_eqb}
+use Rattle.cs_base.specs.declared.ws_units.Standard.{Standard}
 use Rattle.cs_base.specs.Token.{Token}
 use Rattle.c99_tree.specs.Tree.{Forest, none, token, node, Node, leaf, inner, put, count_of}
 use Rattle.c99_tree.specs.declared.production.Label.{Label}
@@ -8,7 +9,7 @@ use Rattle.c99_tree.specs.declared.production.Production.{Production}
 use Rattle.c99_tree.specs.declared.production.Production.TheVariants.{Main, SuRest, EnRest, Params, Designator, Primary, Post, Statement, Enumerator}
 use Rattle.c99_grammar.specs.Classes.{among}
 use Rattle.c99_grammar.specs.Items.{Item, one, part, end_of_text, act, ◌·◌, choice, maybe, many, deep, own, Test, Action}
-use Rattle.c99_grammar.specs.Standard.{c99}
+use Rattle.c99_grammar.specs.Standard.{grammar}
 use Rattle.c99_read.specs.State.{State, base_at, class_at, is_identifier, acted}
 use Rattle.c99_read.specs.Reading.{Goal, produce, repeat, Step, syntax, and_then, deepest, take_one, at_end, enter, may, step}
 use Rattle.scope_bind.specs.Named.{is_plain_role}
@@ -193,19 +194,6 @@ fits l (many t a) X =
     fits l a (behind (many t a) X) && (is_within (behind a (behind (many t a) X)) (behind (many t a) X) && is_within X (behind (many t a) X))
 fits l (deep a) X = fits l a X
 
-each_place : (test : Place → Bool) (c : Place) → all_places test ≡ true → test c ≡ true
-each_place test c all =
-    let one_ = and_parts (test first) (test second && (test even && test odd)) all in
-    let two_ = and_parts (test second) (test even && test odd) one_.1 in
-    let three_ = and_parts (test even) (test odd) two_.1 in
-    by c one_.0 two_.0 three_.0 three_.1
-  where
-    by : (d : Place) → test first ≡ true → test second ≡ true → test even ≡ true → test odd ≡ true → test d ≡ true
-    by first h i j k = h
-    by second h i j k = i
-    by even h i j k = j
-    by odd h i j k = k
-
 implied : (c d : Bool) → (not c || d) ≡ true → c ≡ true → d ≡ true
 implied true d h e = h
 implied false d h e = absurd (false≢true e)
@@ -278,108 +266,122 @@ count_inner none n = refl
 count_inner (token j rest) n = omega (arith, count_inner rest n)
 count_inner (node l begin under rest) n = omega (arith, count_inner rest n)
 
--- ---- Items
+module _ (std : Standard) where
+  each_place : (test : Place → Bool) (c : Place) → all_places test ≡ true → test c ≡ true
+  each_place test c all =
+      let one_ = and_parts (test first) (test second && (test even && test odd)) all in
+      let two_ = and_parts (test second) (test even && test odd) one_.1 in
+      let three_ = and_parts (test even) (test odd) two_.1 in
+      by c one_.0 two_.0 three_.0 three_.1
+    where
+      by : (d : Place) → test first ≡ true → test second ≡ true → test even ≡ true → test odd ≡ true → test d ≡ true
+      by first h i j k = h
+      by second h i j k = i
+      by even h i j k = j
+      by odd h i j k = k
 
-module _ (toks : List Token) (l : Label) where
-  -- the token is an identifier
-  abbrev pub is_named : ℕ → Bool
-  is_named i = is_identifier (base_at c99 toks i)
+  -- ---- Items
 
-  -- in the open node names are identifiers so far, and the next child stands at one of these places
-  pub record Stands (X : Place → Bool) (s : State) : Type 0 where
-    pub text : s.toks ≡ toks
-    pub here : X (place (count_of s.built.under)) ≡ true
-    pub own : own_pass is_named l 0 s.built.under ≡ true
+  module _ (toks : List Token) (l : Label) where
+    -- the token is an identifier
+    abbrev pub is_named : ℕ → Bool
+    is_named i = is_identifier (base_at (grammar std) toks i)
 
-  wider : (X Y : Place → Bool) → ((c : Place) → X c ≡ true → Y c ≡ true) → (r : Step) → After (Stands X) r → After (Stands Y) r
-  wider X Y on (Err stop) h = tt
-  wider X Y on (Ok s) h = record { text = h.text; here = on (place (count_of s.built.under)) h.here; own = h.own }
+    -- in the open node names are identifiers so far, and the next child stands at one of these places
+    pub record Stands (X : Place → Bool) (s : State) : Type 0 where
+      pub text : s.toks ≡ toks
+      pub here : X (place (count_of s.built.under)) ≡ true
+      pub own : own_pass is_named l 0 s.built.under ≡ true
 
-  stands_then : (X Y : Place → Bool) (r : Step) (next_step : State → Step) → After (Stands X) r → ((s : State) → Stands X s → After (Stands Y) (next_step s))
-      → After (Stands Y) (and_then r next_step)
-  stands_then X Y (Err stop) next_step h n = tt
-  stands_then X Y (Ok s) next_step h n = n s h
+    wider : (X Y : Place → Bool) → ((c : Place) → X c ≡ true → Y c ≡ true) → (r : Step) → After (Stands X) r → After (Stands Y) r
+    wider X Y on (Err stop) h = tt
+    wider X Y on (Ok s) h = record { text = h.text; here = on (place (count_of s.built.under)) h.here; own = h.own }
 
-  acted_stands : (X : Place → Bool) (a : Action) (s : State) → Stands X s → Stands X (acted c99 a s)
-  unfolding acted
-  acted_stands X a s h = record { text = h.text; here = h.here; own = h.own }
+    stands_then : (X Y : Place → Bool) (r : Step) (next_step : State → Step) → After (Stands X) r → ((s : State) → Stands X s → After (Stands Y) (next_step s))
+        → After (Stands Y) (and_then r next_step)
+    stands_then X Y (Err stop) next_step h n = tt
+    stands_then X Y (Ok s) next_step h n = n s h
 
-  end_stands : (X : Place → Bool) (s : State) → Stands X s → After (Stands X) (at_end s)
-  unfolding at_end
-  end_stands X s h = after_if (Stands X) (s.at == length s.toks) _ _ h tt
+    acted_stands : (X : Place → Bool) (a : Action) (s : State) → Stands X s → Stands X (acted (grammar std) a s)
+    unfolding acted
+    acted_stands X a s h = record { text = h.text; here = h.here; own = h.own }
 
-  enter_stands : (X : Place → Bool) (depth : ℕ) (b : Bool) (s : State) → Stands X s → After (Stands X) (enter depth b s)
-  unfolding enter
-  enter_stands X depth b s h = after_if (Stands X) b _ _ (after_if (Stands X) (nat_lt depth deepest) _ _ h tt) tt
+    end_stands : (X : Place → Bool) (s : State) → Stands X s → After (Stands X) (at_end s)
+    unfolding at_end
+    end_stands X s h = after_if (Stands X) (s.at == length s.toks) _ _ h tt
 
-  token_stands : (X : Place → Bool) (s : State) → (is_name_place l (count_of s.built.under) ≡ true → is_named s.at ≡ true) → Stands X s
-      → Stands (shifted X) (with_token s)
-  token_stands X s named h = record {
-    text = h.text;
-    here = subst (λ n. shifted X (place n) ≡ true) (sym (count_leaf s.built.under s.at)) (shifted_next X (place (count_of s.built.under)) h.here);
-    own = own_leaf is_named l s.built.under 0 (count_of s.built.under) s.at (omega arith) h.own named;
-  }
+    enter_stands : (X : Place → Bool) (depth : ℕ) (b : Bool) (s : State) → Stands X s → After (Stands X) (enter depth b s)
+    unfolding enter
+    enter_stands X depth b s h = after_if (Stands X) b _ _ (after_if (Stands X) (nat_lt depth deepest) _ _ h tt) tt
 
-  module _ (below : ℕ → Goal → State → Step)
-      (parts : (depth : ℕ) (p : Production) (s : State) (X : Place → Bool) → Stands X s → After (Stands (shifted X)) (below depth (produce p) s))
-      (more : (depth : ℕ) (t : Test) (a : Item) (s : State) (X : Place → Bool) → fits l a X ≡ true → is_within (behind a X) X ≡ true → Stands X s
-      → After (Stands X) (below depth (repeat t a) s)) where
-    pub own_step : (item : Item) (depth : ℕ) (s : State) (X : Place → Bool) → fits l item X ≡ true → Stands X s
-        → After (Stands (behind item X)) (step c99 below depth item s)
-    unfolding take_one
-    own_step (one classes) depth s X fit h = by (nat_lt s.at (length s.toks) && among classes (class_at c99 s s.at)) refl
-      where
-        named : among classes (class_at c99 s s.at) ≡ true → is_name_place l (count_of s.built.under) ≡ true → is_named s.at ≡ true
-        named there stands =
-            let c : Place = place (count_of s.built.under) in
-            let at : named_at l c ≡ true = sym (named_number l (count_of s.built.under)) ∙ stands in
-            let only : only_names classes ≡ true =
-            implied (named_at l c && X c) (only_names classes) (each_place (λ d. not (named_at l d && X d) || only_names classes) c fit) (and_both _ _ at h.here) in
-            subst (λ ts. is_identifier (base_at c99 ts s.at) ≡ true) h.text (name_is classes only s s.at there)
+    token_stands : (X : Place → Bool) (s : State) → (is_name_place l (count_of s.built.under) ≡ true → is_named s.at ≡ true) → Stands X s
+        → Stands (shifted X) (with_token s)
+    token_stands X s named h = record {
+      text = h.text;
+      here = subst (λ n. shifted X (place n) ≡ true) (sym (count_leaf s.built.under s.at)) (shifted_next X (place (count_of s.built.under)) h.here);
+      own = own_leaf is_named l s.built.under 0 (count_of s.built.under) s.at (omega arith) h.own named;
+    }
 
-        by : (b : Bool) → (nat_lt s.at (length s.toks) && among classes (class_at c99 s s.at)) ≡ b
-            → After (Stands (shifted X)) (if b then Ok (with_token s) else Err (syntax s.at))
-        by true e = token_stands X s (named (and_parts (nat_lt s.at (length s.toks)) (among classes (class_at c99 s s.at)) e).1) h
-        by false e = tt
-    own_step (part p) depth s X fit h = parts depth p s X h
-    own_step end_of_text depth s X fit h = end_stands X s h
-    own_step (act a) depth s X fit h = acted_stands X a s h
-    own_step (a · b) depth s X fit h =
-        let both = and_parts (fits l a X) (fits l b (behind a X)) fit in
-        stands_then (behind a X) (behind b (behind a X)) (step c99 below depth a s) (step c99 below depth b) (own_step a depth s X both.0 h)
-        (λ s' h'. own_step b depth s' (behind a X) both.1 h')
-    own_step (choice a b) depth s X fit h =
-        let both = and_parts (fits l a X) (fits l b X) fit in
-        after_if (Stands (joined (behind a X) (behind b X))) (may c99 own a s) _ _
-        (wider (behind a X) (joined (behind a X) (behind b X)) (λ c e. either_left _ _ e) (step c99 below depth a s) (own_step a depth s X both.0 h))
-        (after_if (Stands (joined (behind a X) (behind b X))) (may c99 own b s) _ _
-        (wider (behind b X) (joined (behind a X) (behind b X)) (λ c e. either_right _ _ e) (step c99 below depth b s) (own_step b depth s X both.1 h)) tt)
-    own_step (maybe a) depth s X fit h =
-        after_if (Stands (joined X (behind a X))) (may c99 own a s) _ _
-        (wider (behind a X) (joined X (behind a X)) (λ c e. either_right _ _ e) (step c99 below depth a s) (own_step a depth s X fit h))
-        (wider X (joined X (behind a X)) (λ c e. either_left _ _ e) (Ok s) h)
-    own_step (many t a) depth s X fit h =
-        let Y : Place → Bool = behind (many t a) X in
-        let three = and_parts (fits l a Y) (is_within (behind a Y) Y && is_within X Y) fit in
-        let two = and_parts (is_within (behind a Y) Y) (is_within X Y) three.1 in
-        let h' : After (Stands Y) (Ok s) = wider X Y (λ c e. implied (X c) (Y c) (each_place (λ d. not (X d) || Y d) c two.1) e) (Ok s) h in
-        after_if (Stands Y) (may c99 t a s) _ _
-        (stands_then Y Y (step c99 below depth a s) (below depth (repeat t a))
-        (wider (behind a Y) Y (λ c e. implied (behind a Y c) (Y c) (each_place (λ d. not (behind a Y d) || Y d) c two.0) e) (step c99 below depth a s)
-        (own_step a depth s Y three.0 h'))
-        (λ s' k. more depth t a s' Y three.0 two.0 k))
-        h'
-    own_step (deep a) depth s X fit h =
-        stands_then X (behind a X) (enter depth (may c99 own a s) s) (step c99 below (depth + 1) a) (enter_stands X depth (may c99 own a s) s h)
-        (λ s' h'. own_step a (depth + 1) s' X fit h')
+    module _ (below : ℕ → Goal → State → Step)
+        (parts : (depth : ℕ) (p : Production) (s : State) (X : Place → Bool) → Stands X s → After (Stands (shifted X)) (below depth (produce p) s))
+        (more : (depth : ℕ) (t : Test) (a : Item) (s : State) (X : Place → Bool) → fits l a X ≡ true → is_within (behind a X) X ≡ true → Stands X s
+        → After (Stands X) (below depth (repeat t a) s)) where
+      pub own_step : (item : Item) (depth : ℕ) (s : State) (X : Place → Bool) → fits l item X ≡ true → Stands X s
+          → After (Stands (behind item X)) (step (grammar std) below depth item s)
+      unfolding take_one
+      own_step (one classes) depth s X fit h = by (nat_lt s.at (length s.toks) && among classes (class_at (grammar std) s s.at)) refl
+        where
+          named : among classes (class_at (grammar std) s s.at) ≡ true → is_name_place l (count_of s.built.under) ≡ true → is_named s.at ≡ true
+          named there stands =
+              let c : Place = place (count_of s.built.under) in
+              let at : named_at l c ≡ true = sym (named_number l (count_of s.built.under)) ∙ stands in
+              let only : only_names classes ≡ true =
+              implied (named_at l c && X c) (only_names classes) (each_place (λ d. not (named_at l d && X d) || only_names classes) c fit) (and_both _ _ at h.here) in
+              subst (λ ts. is_identifier (base_at (grammar std) ts s.at) ≡ true) h.text (name_is std classes only s s.at there)
 
-    -- a repetition that goes on
-    pub own_repeat : (t : Test) (a : Item) (depth : ℕ) (s : State) (X : Place → Bool) → fits l a X ≡ true → is_within (behind a X) X ≡ true → Stands X s
-        → After (Stands X) (step c99 below depth (many t a) s)
-    own_repeat t a depth s X fit closed h =
-        after_if (Stands X) (may c99 t a s) _ _
-        (stands_then X X (step c99 below depth a s) (below depth (repeat t a))
-        (wider (behind a X) X (λ c e. implied (behind a X c) (X c) (each_place (λ d. not (behind a X d) || X d) c closed) e) (step c99 below depth a s)
-        (own_step a depth s X fit h))
-        (λ s' k. more depth t a s' X fit closed k))
-        h
+          by : (b : Bool) → (nat_lt s.at (length s.toks) && among classes (class_at (grammar std) s s.at)) ≡ b
+              → After (Stands (shifted X)) (if b then Ok (with_token s) else Err (syntax s.at))
+          by true e = token_stands X s (named (and_parts (nat_lt s.at (length s.toks)) (among classes (class_at (grammar std) s s.at)) e).1) h
+          by false e = tt
+      own_step (part p) depth s X fit h = parts depth p s X h
+      own_step end_of_text depth s X fit h = end_stands X s h
+      own_step (act a) depth s X fit h = acted_stands X a s h
+      own_step (a · b) depth s X fit h =
+          let both = and_parts (fits l a X) (fits l b (behind a X)) fit in
+          stands_then (behind a X) (behind b (behind a X)) (step (grammar std) below depth a s) (step (grammar std) below depth b) (own_step a depth s X both.0 h)
+          (λ s' h'. own_step b depth s' (behind a X) both.1 h')
+      own_step (choice a b) depth s X fit h =
+          let both = and_parts (fits l a X) (fits l b X) fit in
+          after_if (Stands (joined (behind a X) (behind b X))) (may (grammar std) own a s) _ _
+          (wider (behind a X) (joined (behind a X) (behind b X)) (λ c e. either_left _ _ e) (step (grammar std) below depth a s) (own_step a depth s X both.0 h))
+          (after_if (Stands (joined (behind a X) (behind b X))) (may (grammar std) own b s) _ _
+          (wider (behind b X) (joined (behind a X) (behind b X)) (λ c e. either_right _ _ e) (step (grammar std) below depth b s) (own_step b depth s X both.1 h)) tt)
+      own_step (maybe a) depth s X fit h =
+          after_if (Stands (joined X (behind a X))) (may (grammar std) own a s) _ _
+          (wider (behind a X) (joined X (behind a X)) (λ c e. either_right _ _ e) (step (grammar std) below depth a s) (own_step a depth s X fit h))
+          (wider X (joined X (behind a X)) (λ c e. either_left _ _ e) (Ok s) h)
+      own_step (many t a) depth s X fit h =
+          let Y : Place → Bool = behind (many t a) X in
+          let three = and_parts (fits l a Y) (is_within (behind a Y) Y && is_within X Y) fit in
+          let two = and_parts (is_within (behind a Y) Y) (is_within X Y) three.1 in
+          let h' : After (Stands Y) (Ok s) = wider X Y (λ c e. implied (X c) (Y c) (each_place (λ d. not (X d) || Y d) c two.1) e) (Ok s) h in
+          after_if (Stands Y) (may (grammar std) t a s) _ _
+          (stands_then Y Y (step (grammar std) below depth a s) (below depth (repeat t a))
+          (wider (behind a Y) Y (λ c e. implied (behind a Y c) (Y c) (each_place (λ d. not (behind a Y d) || Y d) c two.0) e) (step (grammar std) below depth a s)
+          (own_step a depth s Y three.0 h'))
+          (λ s' k. more depth t a s' Y three.0 two.0 k))
+          h'
+      own_step (deep a) depth s X fit h =
+          stands_then X (behind a X) (enter depth (may (grammar std) own a s) s) (step (grammar std) below (depth + 1) a) (enter_stands X depth (may (grammar std) own a s) s h)
+          (λ s' h'. own_step a (depth + 1) s' X fit h')
+
+      -- a repetition that goes on
+      pub own_repeat : (t : Test) (a : Item) (depth : ℕ) (s : State) (X : Place → Bool) → fits l a X ≡ true → is_within (behind a X) X ≡ true → Stands X s
+          → After (Stands X) (step (grammar std) below depth (many t a) s)
+      own_repeat t a depth s X fit closed h =
+          after_if (Stands X) (may (grammar std) t a s) _ _
+          (stands_then X X (step (grammar std) below depth a s) (below depth (repeat t a))
+          (wider (behind a X) X (λ c e. implied (behind a X c) (X c) (each_place (λ d. not (behind a X d) || X d) c closed) e) (step (grammar std) below depth a s)
+          (own_step a depth s X fit h))
+          (λ s' k. more depth t a s' X fit closed k))
+          h

@@ -1,11 +1,11 @@
 -- What is true of the tree of every text that is read.
 use Rattle.std.specs.Prelude.{ℕ, ◌<◌, ◌≤◌, ◌≡◌, ◌≢◌, true, List, length, Some, Ok, IfErr, All, AllPairs}
+use Rattle.cs_base.specs.declared.ws_units.Standard.{Standard}
 use Rattle.cs_base.specs.Token.{Token}
 use Rattle.c99_tree.specs.Tree.{Node}
 use Rattle.c99_read.specs.Reading.{Stop, syntax, too_deep, read_of}
-use Rattle.c99_grammar.specs.Standard.{c99}
 use Rattle.c99_read.specs.State.{base_at, is_identifier}
-use Rattle.c99_grammar.specs.Standard.{Grammar}
+use Rattle.c99_grammar.specs.Standard.{Grammar, grammar}
 use Rattle.scope_bind.specs.declared.bound.Name.{Name}
 use Rattle.c_types.specs.declared.lists.List.{List as NameList}
 use Rattle.c_types.specs.declared.lists.Range.{Range}
@@ -29,9 +29,9 @@ abbrev pub AllTokensStandInTrees : Type 0
 AllTokensStandInTrees =
     (g : Grammar) (toks : List Token) (tree : Node) → reads_all g ≡ true → Reads g toks tree → token_count tree.under ≡ length toks
 
--- the tree that is read is one of the text (ISO/IEC 9899:1999, Annex A.2)
+-- by each standard the tree that is read is one of the text (ISO/IEC 9899:1999 and 9899:2011, Annex A.2)
 abbrev pub TreesAreOfTheirTexts : Type 0
-TreesAreOfTheirTexts = (toks : List Token) (tree : Node) → Reads c99 toks tree → IsTreeOf (length toks) tree
+TreesAreOfTheirTexts = (s : Standard) (toks : List Token) (tree : Node) → Reads (grammar s) toks tree → IsTreeOf (length toks) tree
 
 -- the index of the token at which reading stops
 abbrev pub place_of : Stop → ℕ
@@ -44,45 +44,46 @@ ReadingStopsInTheText = (g : Grammar) (toks : List Token) → IfErr (read_of g t
 
 -- ---- Texts that are read and bound
 
--- this is so of each text and its binding
-abbrev pub OfEachBinding : (List Token → Bound → Type 0) → Type 0
-OfEachBinding P = (toks : List Token) (tree : Node) (b : Bound) → Reads c99 toks tree → Binds toks tree b → P toks b
+-- this is so of each text that is read by a standard, and of its binding
+abbrev pub OfEachBinding : (Standard → List Token → Bound → Type 0) → Type 0
+OfEachBinding P =
+    (s : Standard) (toks : List Token) (tree : Node) (b : Bound) → Reads (grammar s) toks tree → Binds toks tree b → P s toks b
 
 -- a name is a token of the text, and so is the one that names its entity (6.2.1)
 abbrev pub ReadNamesStandInTheText : Type 0
-ReadNamesStandInTheText = OfEachBinding (λ toks b. All (λ (n : Name). (n.index < length toks) × (n.entity < length toks)) b.names)
+ReadNamesStandInTheText = OfEachBinding (λ s toks b. All (λ (n : Name). (n.index < length toks) × (n.entity < length toks)) b.names)
 
 -- a fault of binding stands at a token of the text
 abbrev pub ReadFaultsStandInTheText : Type 0
 ReadFaultsStandInTheText =
-    (toks : List Token) (tree : Node) → Reads c99 toks tree → IfErr (binding_of toks tree) (λ f. index_of f < length toks)
+    (s : Standard) (toks : List Token) (tree : Node) → Reads (grammar s) toks tree → IfErr (binding_of toks tree) (λ f. index_of f < length toks)
 
 -- no token is two names
 abbrev pub EachReadTokenIsOneName : Type 0
-EachReadTokenIsOneName = OfEachBinding (λ toks b. AllPairs (λ (m n : Name). m.index ≢ n.index) b.names)
+EachReadTokenIsOneName = OfEachBinding (λ s toks b. AllPairs (λ (m n : Name). m.index ≢ n.index) b.names)
 
 -- a name is an identifier (6.4.2) that is no keyword, and so is the one that names its entity
 abbrev pub ReadNamesAreIdentifiers : Type 0
 ReadNamesAreIdentifiers =
-    OfEachBinding (λ toks b. All (λ (n : Name). (is_identifier (base_at c99 toks n.index) ≡ true) × (is_identifier (base_at c99 toks n.entity) ≡ true)) b.names)
+    OfEachBinding (λ s toks b. All (λ (n : Name). (is_identifier (base_at (grammar s) toks n.index) ≡ true) × (is_identifier (base_at (grammar s) toks n.entity) ≡ true)) b.names)
 
 -- the token that names an entity is itself a name, and of this entity
 abbrev pub ReadEntitiesAreNames : Type 0
 ReadEntitiesAreNames =
-    OfEachBinding (λ toks b. All (λ (n : Name). (entity_at b.names n.index ≡ Some n.entity) × (entity_at b.names n.entity ≡ Some n.entity)) b.names)
+    OfEachBinding (λ s toks b. All (λ (n : Name). (entity_at b.names n.index ≡ Some n.entity) × (entity_at b.names n.entity ≡ Some n.entity)) b.names)
 
 -- the parameter lists stand in order of the declared names, each of which has one at most (6.7.5.3)
 abbrev pub ReadParameterListsAreInOrder : Type 0
-ReadParameterListsAreInOrder = OfEachBinding (λ toks b. AllPairs (λ (l m : NameList). l.name < m.name) b.declarators)
+ReadParameterListsAreInOrder = OfEachBinding (λ s toks b. AllPairs (λ (l m : NameList). l.name < m.name) b.declarators)
 
 -- the argument lists stand in order of the names that are called, each of which has one at most (6.5.2.2)
 abbrev pub ReadArgumentListsAreInOrder : Type 0
-ReadArgumentListsAreInOrder = OfEachBinding (λ toks b. AllPairs (λ (l m : NameList). l.name < m.name) b.calls)
+ReadArgumentListsAreInOrder = OfEachBinding (λ s toks b. AllPairs (λ (l m : NameList). l.name < m.name) b.calls)
 
 -- a body stands behind its name, and in the text (6.9.1)
 abbrev pub ReadBodiesStandInTheText : Type 0
-ReadBodiesStandInTheText = OfEachBinding (λ toks b. All (IsBody (length toks)) b.functions)
+ReadBodiesStandInTheText = OfEachBinding (λ s toks b. All (IsBody (length toks)) b.functions)
 
 -- each body ends before the name of a later one
 abbrev pub ReadBodiesAreApart : Type 0
-ReadBodiesAreApart = OfEachBinding (λ toks b. AllPairs (λ (r s : Range). r.to < s.name) b.functions)
+ReadBodiesAreApart = OfEachBinding (λ s toks b. AllPairs (λ (r s : Range). r.to < s.name) b.functions)

@@ -4,15 +4,17 @@ use Rattle.std.specs.List.{list_all}
 use Rattle.std.specs.Option.{option_map_or}
 use Rattle.std.specs.Str.{bytes_eq}
 use Rattle.std.proofs.lemmas.Bool.{false≢true, and_parts}
+use Rattle.tree_laws.specs.Below.cs_base.declared.ws_units.Standard.{Standard}
 use Rattle.tree_laws.specs.Below.cs_base.Token.{Token}
 use Rattle.tree_laws.specs.Below.cs_base.declared.tokens.Kind.{Kind}
 use Rattle.tree_laws.specs.Below.cs_base.declared.tokens.Kind.TheVariants as kind
 use Rattle.tree_laws.specs.Below.c99_tree.declared.production.Production.TheVariants.{Enumerator, Pdirect}
+use Rattle.tree_laws.specs.Below.cs_base.declared.ws_units.Standard.TheVariants.{C11}
 use Rattle.tree_laws.specs.Below.c99_grammar.Classes.{among}
 use Rattle.tree_laws.specs.Below.c99_grammar.Items.{names}
-use Rattle.tree_laws.specs.Below.c99_grammar.Grammar.{table}
-use Rattle.tree_laws.specs.Below.c99_grammar.Spellings.{Spelled, keywords, punctuators}
-use Rattle.tree_laws.specs.Below.c99_grammar.Standard.{c99}
+use Rattle.tree_laws.specs.Below.c99_grammar.Spellings.{Spelled, keywords_of, punctuators}
+use Rattle.tree_laws.specs.Below.c99_grammar.Standard.{c99, grammar}
+use Rattle.tree_laws.proofs.Below.c99_grammar.StandardLemmas.{keywords_fit}
 use Rattle.tree_laws.specs.Below.c99_read.State.{State, base_at, is_identifier, is_typedef_at, class_at}
 use Rattle.tree_laws.specs.Below.c99_grammar.TokenClasses.{spelled_class, class_of_kind, base_class}
 use Rattle.typedef_laws.proofs.Private.{Class}
@@ -34,11 +36,11 @@ typedef_name = first_class (base_at c99 [] 0) typedef_names
 
 -- the sign behind an enumerator's name
 abbrev pub equals : List Class
-equals = classes_of (front_of (inside_of (front_of (rest_of (first_body (table Enumerator))))))
+equals = classes_of (front_of (inside_of (front_of (rest_of (first_body (c99.table Enumerator))))))
 
 -- what stands behind the parenthesis of a parameter's declarator
 abbrev pub bare : List Class
-bare = asked_second (second_test (table Pdirect))
+bare = asked_second (second_test (c99.table Pdirect))
 
 -- A class by itself says nothing of typedef names.
 abbrev is_base : Class → Bool
@@ -58,27 +60,6 @@ spelled_base (w ∷ words) text other all last =
     by true h k = h
     by false h k = k
 
-kind_base : (k : Kind) (text : List ℕ) → is_base (class_of_kind c99 k text) ≡ true
-kind_base kind.Ident text = spelled_base keywords text _ refl refl
-kind_base kind.Punct text = spelled_base punctuators text _ refl refl
-kind_base kind.Number text = refl
-kind_base kind.Char text = refl
-kind_base kind.Str text = refl
-kind_base _ text = refl
-
-base_base : (t : Token) → is_base (base_class c99 t) ≡ true
-unfolding base_class
-base_base t = kind_base t.kind t.text
-
-at_base : (toks : List Token) (k : ℕ) → is_base (base_at c99 toks k) ≡ true
-at_base toks k = by (slice_get toks k) (k == length toks) _ _ refl refl
-  where
-    by : (t : Option Token) (c : Bool) (x y : Class) → is_base x ≡ true → is_base y ≡ true
-        → is_base (option_map_or (base_class c99) t (if c then x else y)) ≡ true
-    by None true x y h h' = h
-    by None false x y h h' = h'
-    by (Some t) c x y h h' = base_base t
-
 implied : (c d : Bool) → (not c || d) ≡ true → c ≡ true → d ≡ true
 implied true d h e = h
 implied false d h e = absurd (false≢true e)
@@ -87,65 +68,87 @@ refuted : (c : Bool) → not c ≡ true → c ≡ false
 refuted true h = absurd (false≢true h)
 refuted false h = refl
 
-module _ (s : State) (k : ℕ) where
-  abbrev here : Class
-  here = base_at c99 s.toks k
+module _ (std : Standard) where
+  kind_base : (k : Kind) (text : List ℕ) → is_base (class_of_kind (grammar std) k text) ≡ true
+  kind_base kind.Ident text = spelled_base (keywords_of std) text _ (keywords_fit is_base refl std) refl
+  kind_base kind.Punct text = spelled_base punctuators text _ refl refl
+  kind_base kind.Number text = refl
+  kind_base kind.Char text = refl
+  kind_base kind.Str text = refl
+  kind_base _ text = refl
 
-  base_parts : (among names here ≡ true → is_identifier here ≡ true)
-      × ((among identifiers here ≡ true → is_identifier here ≡ true) × ((among typedef_names here ≡ false) × (among equals here ≡ true → is_identifier here ≡ false)))
-  base_parts =
-      let both = and_parts (not (among names here) || is_identifier here) _ (at_base s.toks k) in
-      let more = and_parts (not (among identifiers here) || is_identifier here) _ both.1 in
-      let last = and_parts (not (among typedef_names here)) (not (among equals here) || not (is_identifier here)) more.1 in
-      (implied _ _ both.0, (implied _ _ more.0, (refuted _ last.0, λ e. refuted _ (implied _ _ last.1 e))))
+  base_base : (t : Token) → is_base (base_class (grammar std) t) ≡ true
+  unfolding base_class
+  base_base t = kind_base t.kind t.text
 
-  name_case : (b x : Class) (i t : Bool) → (among names b ≡ true → i ≡ true) → among names (if i && t then x else b) ≡ true → i ≡ true
-  name_case b x true t h e = refl
-  name_case b x false t h e = h e
+  at_base : (toks : List Token) (k : ℕ) → is_base (base_at (grammar std) toks k) ≡ true
+  at_base toks k = by (slice_get toks k) (k == length toks) _ _ refl refl
+    where
+      by : (t : Option Token) (c : Bool) (x y : Class) → is_base x ≡ true → is_base y ≡ true
+          → is_base (option_map_or (base_class (grammar std)) t (if c then x else y)) ≡ true
+      by None true x y h h' = h
+      by None false x y h h' = h'
+      by (Some t) c x y h h' = base_base t
 
-  -- a name is an identifier
-  pub name_is : among names (class_at c99 s k) ≡ true → is_identifier here ≡ true
-  unfolding class_at
-  name_is e = name_case here typedef_name (is_identifier here) (is_typedef_at s.toks s.names.scopes k) base_parts.0 e
+  module _ (s : State) (k : ℕ) where
+    abbrev here : Class
+    here = base_at (grammar std) s.toks k
 
-  identifier_case : (b x : Class) (i t : Bool) → (among identifiers b ≡ true → i ≡ true) → among identifiers x ≡ false
-      → among identifiers (if i && t then x else b) ≡ true → (i ≡ true) × (t ≡ false)
-  identifier_case b x true true h gone e = absurd (false≢true (sym gone ∙ e))
-  identifier_case b x true false h gone e = (refl, refl)
-  identifier_case b x false t h gone e = absurd (false≢true (h e))
+    base_parts : (among names here ≡ true → is_identifier here ≡ true)
+        × ((among identifiers here ≡ true → is_identifier here ≡ true) × ((among typedef_names here ≡ false) × (among equals here ≡ true → is_identifier here ≡ false)))
+    base_parts =
+        let both = and_parts (not (among names here) || is_identifier here) _ (at_base s.toks k) in
+        let more = and_parts (not (among identifiers here) || is_identifier here) _ both.1 in
+        let last = and_parts (not (among typedef_names here)) (not (among equals here) || not (is_identifier here)) more.1 in
+        (implied _ _ both.0, (implied _ _ more.0, (refuted _ last.0, λ e. refuted _ (implied _ _ last.1 e))))
 
-  -- an identifier that counts as no typedef name
-  pub identifier_is : among identifiers (class_at c99 s k) ≡ true → (is_identifier here ≡ true) × (is_typedef_at s.toks s.names.scopes k ≡ false)
-  unfolding class_at
-  identifier_is e = identifier_case here typedef_name (is_identifier here) (is_typedef_at s.toks s.names.scopes k) base_parts.1.0 refl e
+    name_case : (b x : Class) (i t : Bool) → (among names b ≡ true → i ≡ true) → among names (if i && t then x else b) ≡ true → i ≡ true
+    name_case b x true t h e = refl
+    name_case b x false t h e = h e
 
-  typedef_case : (b x : Class) (i t : Bool) → among typedef_names b ≡ false → among typedef_names (if i && t then x else b) ≡ true → t ≡ true
-  typedef_case b x true true gone e = refl
-  typedef_case b x true false gone e = absurd (false≢true (sym gone ∙ e))
-  typedef_case b x false t gone e = absurd (false≢true (sym gone ∙ e))
+    -- a name is an identifier
+    pub name_is : among names (class_at (grammar std) s k) ≡ true → is_identifier here ≡ true
+    unfolding class_at
+    name_is e = name_case here typedef_name (is_identifier here) (is_typedef_at s.toks s.names.scopes k) base_parts.0 e
 
-  -- .. and one that does
-  pub typedef_is : among typedef_names (class_at c99 s k) ≡ true → is_typedef_at s.toks s.names.scopes k ≡ true
-  unfolding class_at
-  typedef_is e = typedef_case here typedef_name (is_identifier here) (is_typedef_at s.toks s.names.scopes k) base_parts.1.1.0 e
+    identifier_case : (b x : Class) (i t : Bool) → (among identifiers b ≡ true → i ≡ true) → among identifiers x ≡ false
+        → among identifiers (if i && t then x else b) ≡ true → (i ≡ true) × (t ≡ false)
+    identifier_case b x true true h gone e = absurd (false≢true (sym gone ∙ e))
+    identifier_case b x true false h gone e = (refl, refl)
+    identifier_case b x false t h gone e = absurd (false≢true (h e))
 
-  equals_case : (b x : Class) (i t : Bool) → (among equals b ≡ true → i ≡ false) → among equals x ≡ false
-      → among equals (if i && t then x else b) ≡ true → i ≡ false
-  equals_case b x true true h gone e = absurd (false≢true (sym gone ∙ e))
-  equals_case b x true false h gone e = h e
-  equals_case b x false t h gone e = refl
+    -- an identifier that counts as no typedef name
+    pub identifier_is : among identifiers (class_at (grammar std) s k) ≡ true → (is_identifier here ≡ true) × (is_typedef_at s.toks s.names.scopes k ≡ false)
+    unfolding class_at
+    identifier_is e = identifier_case here typedef_name (is_identifier here) (is_typedef_at s.toks s.names.scopes k) base_parts.1.0 refl e
 
-  -- the sign is no identifier
-  pub equals_is : among equals (class_at c99 s k) ≡ true → is_identifier here ≡ false
-  unfolding class_at
-  equals_is e = equals_case here typedef_name (is_identifier here) (is_typedef_at s.toks s.names.scopes k) base_parts.1.1.1 refl e
+    typedef_case : (b x : Class) (i t : Bool) → among typedef_names b ≡ false → among typedef_names (if i && t then x else b) ≡ true → t ≡ true
+    typedef_case b x true true gone e = refl
+    typedef_case b x true false gone e = absurd (false≢true (sym gone ∙ e))
+    typedef_case b x false t gone e = absurd (false≢true (sym gone ∙ e))
 
-  bare_case : (b x : Class) (i t : Bool) → among bare x ≡ false → among bare (if i && t then x else b) ≡ true → i ≡ true → t ≡ false
-  bare_case b x true true gone e h = absurd (false≢true (sym gone ∙ e))
-  bare_case b x true false gone e h = refl
-  bare_case b x false t gone e h = absurd (false≢true h)
+    -- .. and one that does
+    pub typedef_is : among typedef_names (class_at (grammar std) s k) ≡ true → is_typedef_at s.toks s.names.scopes k ≡ true
+    unfolding class_at
+    typedef_is e = typedef_case here typedef_name (is_identifier here) (is_typedef_at s.toks s.names.scopes k) base_parts.1.1.0 e
 
-  -- an identifier there is no typedef name
-  pub bare_is : among bare (class_at c99 s k) ≡ true → is_identifier here ≡ true → is_typedef_at s.toks s.names.scopes k ≡ false
-  unfolding class_at
-  bare_is e h = bare_case here typedef_name (is_identifier here) (is_typedef_at s.toks s.names.scopes k) refl e h
+    equals_case : (b x : Class) (i t : Bool) → (among equals b ≡ true → i ≡ false) → among equals x ≡ false
+        → among equals (if i && t then x else b) ≡ true → i ≡ false
+    equals_case b x true true h gone e = absurd (false≢true (sym gone ∙ e))
+    equals_case b x true false h gone e = h e
+    equals_case b x false t h gone e = refl
+
+    -- the sign is no identifier
+    pub equals_is : among equals (class_at (grammar std) s k) ≡ true → is_identifier here ≡ false
+    unfolding class_at
+    equals_is e = equals_case here typedef_name (is_identifier here) (is_typedef_at s.toks s.names.scopes k) base_parts.1.1.1 refl e
+
+    bare_case : (b x : Class) (i t : Bool) → among bare x ≡ false → among bare (if i && t then x else b) ≡ true → i ≡ true → t ≡ false
+    bare_case b x true true gone e h = absurd (false≢true (sym gone ∙ e))
+    bare_case b x true false gone e h = refl
+    bare_case b x false t gone e h = absurd (false≢true h)
+
+    -- an identifier there is no typedef name
+    pub bare_is : among bare (class_at (grammar std) s k) ≡ true → is_identifier here ≡ true → is_typedef_at s.toks s.names.scopes k ≡ false
+    unfolding class_at
+    bare_is e h = bare_case here typedef_name (is_identifier here) (is_typedef_at s.toks s.names.scopes k) refl e h

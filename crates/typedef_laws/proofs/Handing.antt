@@ -2,6 +2,7 @@
 use Rattle.std.proofs.Common.{ℕ, ◌+◌, ◌<◌, ◌≤◌, ◌≡◌, Bool, true, false, ◌&&◌, if◌then◌else◌, ◌==◌, List, [], ◌∷◌, ◌++◌, length, Option, None, Some, ◌⊎◌, inl, inr, refl, sym, ap, subst, ◌∙◌, arith}
 use Rattle.std.specs.Option.{option_or}
 use Rattle.std.proofs.lemmas.Bool.{false≢true, and_parts, and_left, eqb-true, ne_eqb}
+use Rattle.tree_laws.specs.Below.cs_base.declared.ws_units.Standard.{Standard}
 use Rattle.tree_laws.specs.Below.cs_base.Token.{Token}
 use Rattle.tree_laws.specs.Below.c99_tree.Tree.{Forest, none, token, node, Node, node_of, leaf, inner, put, lone, collapsed}
 use Rattle.tree_laws.specs.Below.c99_tree.declared.production.Label.{Label}
@@ -9,7 +10,7 @@ use Rattle.tree_laws.specs.Below.c99_tree.declared.production.Production.{Produc
 use Rattle.tree_laws.specs.Below.c99_tree.declared.production.Production.TheVariants.{TranslationUnit, External, ExtRest, ExtTail, FunBody, Specs, Main, Mod, Enumerator, Declarator, Direct, Suffix, Pdecl, Pdirect}
 use Rattle.tree_laws.specs.Below.c99_tree.contracts.production.ProductionPartialEq.TheImpl.{ghosts}
 use Rattle.tree_laws.specs.Below.c99_grammar.Items.{scope, end, keep}
-use Rattle.tree_laws.specs.Below.c99_grammar.Standard.{c99}
+use Rattle.tree_laws.specs.Below.c99_grammar.Standard.{grammar}
 use Rattle.tree_laws.specs.Below.c99_read.State.{State, Names, given_names, with_scope_ended, is_declarator, with_head, names_opened, head_closed, names_closed, collapses, finished, acted, opened, closed}
 use Rattle.tree_laws.specs.Below.scope_bind.Named.{Scope}
 use Rattle.tree_laws.specs.Below.c_types.Trees.{is_node, is_list, has_mod, last_token, first_list}
@@ -212,390 +213,391 @@ collapsing_list : (p : Production) → collapses p ≡ true → ghosts.eq p Suff
 collapsing_list Suffix h = absurd (false≢true h)
 collapsing_list _ h = refl
 
--- a tame node says its declarations alone
-tame_behind : (l : Label) (begins : ℕ) (under : Forest) (o : Outline) → is_tame l.production ≡ true
-    → behind (node_of l begins under) o ≡ record o { entries = (outlined under (begun l begins under o)).entries; nth = o.nth + 1 }
-tame_behind l begins under o t =
-    let x : Outline = outlined under (begun l begins under o) in
-    ap (λ es. record o { entries = es; nth = o.nth + 1; typedef = (if is_node l Specs then has_mod 1 under else o.typedef); kept = (if is_node l Declarator then first_list under else o.kept) })
-    (after_tame l.production begins o l under x.entries t)
-    ∙ (ap (λ c. record o { entries = x.entries; nth = o.nth + 1; typedef = (if c then has_mod 1 under else o.typedef); kept = (if is_node l Declarator then first_list under else o.kept) })
-    (tame_specs l.production t)
-    ∙ ap (λ c. record o { entries = x.entries; nth = o.nth + 1; kept = (if c then first_list under else o.kept) }) (tame_declarator l.production t))
-
-collapsed_behind : (p : Production) (n first : ℕ) (l : Label) (begins : ℕ) (under : Forest) (o : Outline) → collapses p ≡ true → is_tame l.production ≡ true
-    → behind (node_of l begins under) o ≡ behind (node_of (labelled p n) first (node l begins under none)) o
-collapsed_behind p n first l begins under o c t =
-    let f : Forest = node l begins under none in
-    let inside : Outline = begun (labelled p n) first f o in
-    let entries : entries_in p first f o.kept o.scope.depth o.entries ≡ o.entries = collapsed_entries p first f o.kept o.scope.depth o.entries c in
-    let scope : scope_in p (labelled p n) f o.scope ≡ o.scope = collapsed_scope p (labelled p n) f o.scope c in
-    let same : begun l begins under inside ≡ begun l begins under o =
-    ap (λ es. begun l begins under (record inside { entries = es })) entries ∙ ap (λ c. begun l begins under (record inside { entries = o.entries; scope = c })) scope in
-    let below : (outlined f inside).entries ≡ (outlined under (begun l begins under o)).entries =
-    after_tame l.production begins inside l under (outlined under (begun l begins under inside)).entries t ∙ ap (λ (x : Outline). (outlined under x).entries) same in
-    tame_behind l begins under o t
-    ∙ (ap (λ es. record o { entries = es; nth = o.nth + 1 }) (sym below) ∙ sym (tame_behind (labelled p n) first f o (collapsing_tame p c)))
-
-lone_behind : (p : Production) (n first : ℕ) (under whole : Forest) (o : Outline) → whole ≡ under → collapses p ≡ true → all_hold p under ≡ true
-    → behind (lone under (node_of (labelled p n) first whole)) o ≡ behind (node_of (labelled p n) first under) o
-lone_behind p n first none whole o e c h = ap (λ f. behind (node_of (labelled p n) first f) o) e
-lone_behind p n first (token i rest) whole o e c h = ap (λ f. behind (node_of (labelled p n) first f) o) e
-lone_behind p n first (node l begins under (token i rest)) whole o e c h = ap (λ f. behind (node_of (labelled p n) first f) o) e
-lone_behind p n first (node l begins under (node m second below rest)) whole o e c h = ap (λ f. behind (node_of (labelled p n) first f) o) e
-lone_behind p n first (node l begins under none) whole o e c h =
-    collapsed_behind p n first l begins under o c (collapsed_tame p l.production c (and_parts (stands p l.production) _ h).0)
-
-finished_now : (p : Production) (n first : ℕ) (f under : Forest) (o : Outline) → all_hold p under ≡ true
-    → outlined (put f (inner (finished p (node_of (labelled p n) first under)))) o ≡ behind (node_of (labelled p n) first under) (outlined f o)
-finished_now p n first f under o h = outlined_inner f (finished p (node_of (labelled p n) first under)) o ∙ by (collapses p) refl
-  where
-    by : (c : Bool) → collapses p ≡ c
-        → behind (if c then collapsed (node_of (labelled p n) first under) else node_of (labelled p n) first under) (outlined f o)
-        ≡ behind (node_of (labelled p n) first under) (outlined f o)
-    by true e = lone_behind p n first under under (outlined f o) refl e h
-    by false e = refl
-
-lone_list : (p : Production) (n first : ℕ) (under whole : Forest) → whole ≡ under → is_list (labelled p n) ≡ false
-    → list_of (lone under (node_of (labelled p n) first whole)) ≡ first_list under
-lone_list p n first none whole e h = ap (λ c. if c then Some (last_token whole 0) else first_list whole) h ∙ ap first_list e
-lone_list p n first (token i rest) whole e h = ap (λ c. if c then Some (last_token whole 0) else first_list whole) h ∙ ap first_list e
-lone_list p n first (node l begins under (token i rest)) whole e h = ap (λ c. if c then Some (last_token whole 0) else first_list whole) h ∙ ap first_list e
-lone_list p n first (node l begins under (node m second below rest)) whole e h = ap (λ c. if c then Some (last_token whole 0) else first_list whole) h ∙ ap first_list e
-lone_list p n first (node l begins under none) whole e h = ap (λ r. if is_list l then Some (last_token under 0) else r) (sym (or_none (first_list under)))
-
-finished_list : (p : Production) (n first : ℕ) (under : Forest) → is_list (labelled p n) ≡ false
-    → list_of (finished p (node_of (labelled p n) first under)) ≡ first_list under
-finished_list p n first under h = by (collapses p)
-  where
-    by : (c : Bool) → list_of (if c then collapsed (node_of (labelled p n) first under) else node_of (labelled p n) first under) ≡ first_list under
-    by true = lone_list p n first under under refl h
-    by false = ap (λ c. if c then Some (last_token under 0) else first_list under) h
-
 names_same : (o o' : Outline) (x : Option ℕ) (es es' : List Entry) → ((list : ℕ) → listed o' list es' ≡ listed o list es) → names_of o x es ≡ names_of o' x es'
 names_same o o' None es es' h = refl
 names_same o o' (Some list) es es' h = ap (λ r. Some r) (sym (h list))
 
-names_closed_scopes : (p : Production) (names : Names) → (names_closed p names).scopes ≡ names.scopes
-names_closed_scopes p names = by (is_declarator p)
-  where
-    by : (c : Bool) → (if c then head_closed names else names).scopes ≡ names.scopes
-    by true = refl
-    by false = refl
+module _ (std : Standard) where
+  -- a tame node says its declarations alone
+  tame_behind : (l : Label) (begins : ℕ) (under : Forest) (o : Outline) → is_tame l.production ≡ true
+      → behind (node_of l begins under) o ≡ record o { entries = (outlined under (begun l begins under o)).entries; nth = o.nth + 1 }
+  tame_behind l begins under o t =
+      let x : Outline = outlined under (begun l begins under o) in
+      ap (λ es. record o { entries = es; nth = o.nth + 1; typedef = (if is_node l Specs then has_mod 1 under else o.typedef); kept = (if is_node l Declarator then first_list under else o.kept) })
+      (after_tame l.production begins o l under x.entries t)
+      ∙ (ap (λ c. record o { entries = x.entries; nth = o.nth + 1; typedef = (if c then has_mod 1 under else o.typedef); kept = (if is_node l Declarator then first_list under else o.kept) })
+      (tame_specs l.production t)
+      ∙ ap (λ c. record o { entries = x.entries; nth = o.nth + 1; kept = (if c then first_list under else o.kept) }) (tame_declarator l.production t))
 
-module _ (toks : List Token) where
-  -- a production was read; `kept` speaks of a declarator that stands in no other one
-  pub record HandsOn (p : Production) (s s' : State) : Type 0 where
-    pub hands : Hands toks s s'
-    pub kept : is_declarator p ≡ true → s.names.heads ≡ [] → first_list s.built.under ≡ None
-        → (o : Outline) → s.toks ≡ toks → 0 < length s.names.scopes → IsReady s o
-        → s'.names.kept ≡ names_given (names_of o (first_list s'.built.under) (now s' o).entries)
+  collapsed_behind : (p : Production) (n first : ℕ) (l : Label) (begins : ℕ) (under : Forest) (o : Outline) → collapses p ≡ true → is_tame l.production ≡ true
+      → behind (node_of l begins under) o ≡ behind (node_of (labelled p n) first (node l begins under none)) o
+  collapsed_behind p n first l begins under o c t =
+      let f : Forest = node l begins under none in
+      let inside : Outline = begun (labelled p n) first f o in
+      let entries : entries_in p first f o.kept o.scope.depth o.entries ≡ o.entries = collapsed_entries p first f o.kept o.scope.depth o.entries c in
+      let scope : scope_in p (labelled p n) f o.scope ≡ o.scope = collapsed_scope p (labelled p n) f o.scope c in
+      let same : begun l begins under inside ≡ begun l begins under o =
+      ap (λ es. begun l begins under (record inside { entries = es })) entries ∙ ap (λ c. begun l begins under (record inside { entries = o.entries; scope = c })) scope in
+      let below : (outlined f inside).entries ≡ (outlined under (begun l begins under o)).entries =
+      after_tame l.production begins inside l under (outlined under (begun l begins under inside)).entries t ∙ ap (λ (x : Outline). (outlined under x).entries) same in
+      tame_behind l begins under o t
+      ∙ (ap (λ es. record o { entries = es; nth = o.nth + 1 }) (sym below) ∙ sym (tame_behind (labelled p n) first f o (collapsing_tame p c)))
 
-  -- ---- The end of a node that is no list
+  lone_behind : (p : Production) (n first : ℕ) (under whole : Forest) (o : Outline) → whole ≡ under → collapses p ≡ true → all_hold p under ≡ true
+      → behind (lone under (node_of (labelled p n) first whole)) o ≡ behind (node_of (labelled p n) first under) o
+  lone_behind p n first none whole o e c h = ap (λ f. behind (node_of (labelled p n) first f) o) e
+  lone_behind p n first (token i rest) whole o e c h = ap (λ f. behind (node_of (labelled p n) first f) o) e
+  lone_behind p n first (node l begins under (token i rest)) whole o e c h = ap (λ f. behind (node_of (labelled p n) first f) o) e
+  lone_behind p n first (node l begins under (node m second below rest)) whole o e c h = ap (λ f. behind (node_of (labelled p n) first f) o) e
+  lone_behind p n first (node l begins under none) whole o e c h =
+      collapsed_behind p n first l begins under o c (collapsed_tame p l.production c (and_parts (stands p l.production) _ h).0)
 
-  module _ (p : Production) (n : ℕ) (s s' : State) (plain : IsPlain p (labelled p n) s'.built.under) (unlisted : is_list (labelled p n) ≡ false)
-      (b : Body toks p n s s') (h : Hands toks (opened p n s) s') where
-    abbrev under : Forest
-    under = s'.built.under
+  finished_now : (p : Production) (n first : ℕ) (f under : Forest) (o : Outline) → all_hold p under ≡ true
+      → outlined (put f (inner (finished p (node_of (labelled p n) first under)))) o ≡ behind (node_of (labelled p n) first under) (outlined f o)
+  finished_now p n first f under o h = outlined_inner f (finished p (node_of (labelled p n) first under)) o ∙ by (collapses p) refl
+    where
+      by : (c : Bool) → collapses p ≡ c
+          → behind (if c then collapsed (node_of (labelled p n) first under) else node_of (labelled p n) first under) (outlined f o)
+          ≡ behind (node_of (labelled p n) first under) (outlined f o)
+      by true e = lone_behind p n first under under (outlined f o) refl e h
+      by false e = refl
 
-    abbrev whole : Node
-    whole = node_of (labelled p n) s.at under
+  lone_list : (p : Production) (n first : ℕ) (under whole : Forest) → whole ≡ under → is_list (labelled p n) ≡ false
+      → list_of (lone under (node_of (labelled p n) first whole)) ≡ first_list under
+  lone_list p n first none whole e h = ap (λ c. if c then Some (last_token whole 0) else first_list whole) h ∙ ap first_list e
+  lone_list p n first (token i rest) whole e h = ap (λ c. if c then Some (last_token whole 0) else first_list whole) h ∙ ap first_list e
+  lone_list p n first (node l begins under (token i rest)) whole e h = ap (λ c. if c then Some (last_token whole 0) else first_list whole) h ∙ ap first_list e
+  lone_list p n first (node l begins under (node m second below rest)) whole e h = ap (λ c. if c then Some (last_token whole 0) else first_list whole) h ∙ ap first_list e
+  lone_list p n first (node l begins under none) whole e h = ap (λ r. if is_list l then Some (last_token under 0) else r) (sym (or_none (first_list under)))
 
-    abbrev around : Outline → Outline
-    around o = begun (labelled p n) s.at under (now s o)
+  finished_list : (p : Production) (n first : ℕ) (under : Forest) → is_list (labelled p n) ≡ false
+      → list_of (finished p (node_of (labelled p n) first under)) ≡ first_list under
+  finished_list p n first under h = by (collapses p)
+    where
+      by : (c : Bool) → list_of (if c then collapsed (node_of (labelled p n) first under) else node_of (labelled p n) first under) ≡ first_list under
+      by true = lone_list p n first under under refl h
+      by false = ap (λ c. if c then Some (last_token under 0) else first_list under) h
 
-    built_is : s'.built ≡ whole
-    built_is = ap (λ l. node_of l s'.built.first under) b.inside.label ∙ ap (λ k. node_of (labelled p n) k under) b.inside.begins
+  names_closed_scopes : (p : Production) (names : Names) → (names_closed p names).scopes ≡ names.scopes
+  names_closed_scopes p names = by (is_declarator p)
+    where
+      by : (c : Bool) → (if c then head_closed names else names).scopes ≡ names.scopes
+      by true = refl
+      by false = refl
 
-    around_depth : (o : Outline) → (around o).scope.depth ≡ o.scope.depth
-    around_depth o = ap (λ (c : Scope). c.depth) (plain.0 (now s o).scope) ∙ now_depth s o
+  module _ (toks : List Token) where
+    -- a production was read; `kept` speaks of a declarator that stands in no other one
+    pub record HandsOn (p : Production) (s s' : State) : Type 0 where
+      pub hands : Hands toks s s'
+      pub kept : is_declarator p ≡ true → s.names.heads ≡ [] → first_list s.built.under ≡ None
+          → (o : Outline) → s.toks ≡ toks → 0 < length s.names.scopes → IsReady s o
+          → s'.names.kept ≡ names_given (names_of o (first_list s'.built.under) (now s' o).entries)
 
-    around_listed : (o : Outline) (list : ℕ) (es : List Entry) → listed (around o) list es ≡ listed o list es
-    around_listed o list es = ap (λ d. chosen (is_of (d + 1) list) es) (around_depth o)
+    -- ---- The end of a node that is no list
 
-    around_entries : (o : Outline) → (around o).entries ≡ (now s o).entries
-    around_entries o = plain.1 s.at (now s o).kept (now s o).scope.depth (now s o).entries
+    module _ (p : Production) (n : ℕ) (s s' : State) (plain : IsPlain p (labelled p n) s'.built.under) (unlisted : is_list (labelled p n) ≡ false)
+        (b : Body std toks p n s s') (h : Hands toks (opened p n s) s') where
+      abbrev under : Forest
+      under = s'.built.under
 
-    opened_under : (opened p n s).built.under ≡ none
-    unfolding opened
-    opened_under = refl
+      abbrev whole : Node
+      whole = node_of (labelled p n) s.at under
 
-    around_now : (o : Outline) (list : ℕ) → listed (around o) list (now (opened p n s) (around o)).entries ≡ listed o list (now s o).entries
-    around_now o list =
-        ap (λ f. listed (around o) list (outlined f (around o)).entries) opened_under
-        ∙ (around_listed o list (around o).entries ∙ ap (listed o list) (around_entries o))
+      abbrev around : Outline → Outline
+      around o = begun (labelled p n) s.at under (now s o)
 
-    around_ready : (o : Outline) → IsReady s o → IsReady (opened p n s) (around o)
-    unfolding opened
-    around_ready o ready = record { near = ready.near; fresh = λ list e. around_now o list ∙ ready.fresh list e }
+      built_is : s'.built ≡ whole
+      built_is = ap (λ l. node_of l s'.built.first under) b.inside.label ∙ ap (λ k. node_of (labelled p n) k under) b.inside.begins
 
-    opened_few : Few (length s.names.scopes) s.names.heads → Few (length (opened p n s).names.scopes) (opened p n s).names.heads
-    unfolding opened
-    opened_few few = by (is_declarator p)
-      where
-        by : (c : Bool) → Few (length (if c then with_head s.names else s.names).scopes) (if c then with_head s.names else s.names).heads
-        by true = few_last (length s.names.scopes) s.names.heads (record { scopes_open = length s.names.scopes; given = None }) few (omega arith)
-        by false = few
+      around_depth : (o : Outline) → (around o).scope.depth ≡ o.scope.depth
+      around_depth o = ap (λ (c : Scope). c.depth) (plain.0 (now s o).scope) ∙ now_depth s o
 
-    opened_count : length (opened p n s).names.scopes ≡ length s.names.scopes
-    unfolding opened
-    opened_count = ap length (opened_scopes toks p s.names)
+      around_listed : (o : Outline) (list : ℕ) (es : List Entry) → listed (around o) list es ≡ listed o list es
+      around_listed o list es = ap (λ d. chosen (is_of (d + 1) list) es) (around_depth o)
 
-    inside : (o : Outline) → s.toks ≡ toks → 0 < length s.names.scopes → Few (length s.names.scopes) s.names.heads → IsReady s o → Handed (around o) (opened p n s) s'
-    unfolding opened
-    inside o t op few ready =
-        h.passes (around o) t (subst (λ k. 0 < k) (sym opened_count) op) (opened_few few) (around_ready o ready)
+      around_entries : (o : Outline) → (around o).entries ≡ (now s o).entries
+      around_entries o = plain.1 s.at (now s o).kept (now s o).scope.depth (now s o).entries
 
-    abbrev last_state : State
-    last_state = closed p s s'
+      opened_under : (opened p n s).built.under ≡ none
+      unfolding opened
+      opened_under = refl
 
-    closed_now : (o : Outline) → now last_state o ≡ behind whole (now s o)
-    unfolding closed
-    closed_now o =
-        ap (λ (x : Node). outlined (put s.built.under (inner (finished p x))) o) built_is ∙ finished_now p n s.at s.built.under under o b.holds
+      around_now : (o : Outline) (list : ℕ) → listed (around o) list (now (opened p n s) (around o)).entries ≡ listed o list (now s o).entries
+      around_now o list =
+          ap (λ f. listed (around o) list (outlined f (around o)).entries) opened_under
+          ∙ (around_listed o list (around o).entries ∙ ap (listed o list) (around_entries o))
 
-    closed_listed : (o : Outline) (list : ℕ) → listed o list (now last_state o).entries ≡ listed (around o) list (now s' (around o)).entries
-    closed_listed o list =
-        ap (λ (x : Outline). listed o list x.entries) (closed_now o)
-        ∙ (after_deaf (is_of (o.scope.depth + 1) list) (λ c. c.depth ≡ o.scope.depth) (own_deaf o list) p s.at (now s o) (labelled p n) under
-        (now s' (around o)).entries (now_depth s o)
-        ∙ sym (around_listed o list (now s' (around o)).entries))
+      around_ready : (o : Outline) → IsReady s o → IsReady (opened p n s) (around o)
+      unfolding opened
+      around_ready o ready = record { near = ready.near; fresh = λ list e. around_now o list ∙ ready.fresh list e }
 
-    closed_first : (x : Option ℕ) → first_list under ≡ x → first_list last_state.built.under ≡ option_or (first_list s.built.under) x
-    unfolding closed
-    closed_first x e =
-        list_inner s.built.under (finished p s'.built)
-        ∙ ap (option_or (first_list s.built.under)) (ap (λ (y : Node). list_of (finished p y)) built_is ∙ (finished_list p n s.at under unlisted ∙ e))
+      opened_few : Few (length s.names.scopes) s.names.heads → Few (length (opened p n s).names.scopes) (opened p n s).names.heads
+      unfolding opened
+      opened_few few = by (is_declarator p)
+        where
+          by : (c : Bool) → Few (length (if c then with_head s.names else s.names).scopes) (if c then with_head s.names else s.names).heads
+          by true = few_last (length s.names.scopes) s.names.heads (record { scopes_open = length s.names.scopes; given = None }) few (omega arith)
+          by false = few
 
-    inside_first : (o : Outline) (r : Handed (around o) (opened p n s) s') → first_list under ≡ r.new
-    inside_first o r = r.first ∙ ap (λ f. option_or (first_list f) r.new) opened_under
+      opened_count : length (opened p n s).names.scopes ≡ length s.names.scopes
+      unfolding opened
+      opened_count = ap length (opened_scopes std toks p s.names)
 
-    closed_names_of : (o : Outline) (x : Option ℕ) → names_of (around o) x (now s' (around o)).entries ≡ names_of o x (now last_state o).entries
-    closed_names_of o x = names_same (around o) o x (now s' (around o)).entries (now last_state o).entries (closed_listed o)
+      inside : (o : Outline) → s.toks ≡ toks → 0 < length s.names.scopes → Few (length s.names.scopes) s.names.heads → IsReady s o → Handed (around o) (opened p n s) s'
+      unfolding opened
+      inside o t op few ready =
+          h.passes (around o) t (subst (λ k. 0 < k) (sym opened_count) op) (opened_few few) (around_ready o ready)
 
-    closed_heads_are : (o : Outline) (r : Handed (around o) (opened p n s) s')
-        → last_state.names.heads ≡ handed (length s.names.scopes) (names_of o r.new (now last_state o).entries) s.names.heads
-    unfolding opened closed
-    closed_heads_are o r = by (is_declarator p) refl
-      where
-        by : (c : Bool) → is_declarator p ≡ c → (if c then head_closed s'.names else s'.names).heads
-            ≡ handed (length s.names.scopes) (names_of o r.new (now last_state o).entries) s.names.heads
-        by true e =
-            closed_heads (length s.names.scopes) (names_of o r.new (now last_state o).entries) s.names.heads (record { scopes_open = length s.names.scopes; given = None }) s'.names
-            (r.heads
-            ∙ (ap (λ k. handed k (names_of (around o) r.new (now s' (around o)).entries) (names_opened p s.names).heads) opened_count
-            ∙ (ap (λ x. handed (length s.names.scopes) x (names_opened p s.names).heads) (closed_names_of o r.new)
-            ∙ ap (λ c. handed (length s.names.scopes) (names_of o r.new (now last_state o).entries) (if c then with_head s.names else s.names).heads) e)))
-        by false e =
-            r.heads
-            ∙ (ap (λ k. handed k (names_of (around o) r.new (now s' (around o)).entries) (names_opened p s.names).heads) opened_count
-            ∙ (ap (λ x. handed (length s.names.scopes) x (names_opened p s.names).heads) (closed_names_of o r.new)
-            ∙ ap (λ c. handed (length s.names.scopes) (names_of o r.new (now last_state o).entries) (if c then with_head s.names else s.names).heads) e))
+      abbrev last_state : State
+      last_state = closed p s s'
 
-    closed_kept_are : (o : Outline) (r : Handed (around o) (opened p n s) s') → is_declarator p ≡ true → s.names.heads ≡ []
-        → last_state.names.kept ≡ names_given (names_of o r.new (now last_state o).entries)
-    unfolding opened closed
-    closed_kept_are o r d none_open =
-        ap (λ c. (if c then head_closed s'.names else s'.names).kept) d
-        ∙ closed_kept (length s.names.scopes) (names_of o r.new (now last_state o).entries) s'.names
-        (r.heads
-        ∙ (ap (λ k. handed k (names_of (around o) r.new (now s' (around o)).entries) (names_opened p s.names).heads) opened_count
-        ∙ (ap (λ x. handed (length s.names.scopes) x (names_opened p s.names).heads) (closed_names_of o r.new)
-        ∙ (ap (λ c. handed (length s.names.scopes) (names_of o r.new (now last_state o).entries) (if c then with_head s.names else s.names).heads) d
-        ∙ ap (λ hs. handed (length s.names.scopes) (names_of o r.new (now last_state o).entries) (hs ++ record { scopes_open = length s.names.scopes; given = None } ∷ [])) none_open))))
+      closed_now : (o : Outline) → now last_state o ≡ behind whole (now s o)
+      unfolding closed
+      closed_now o =
+          ap (λ (x : Node). outlined (put s.built.under (inner (finished p x))) o) built_is ∙ finished_now p n s.at s.built.under under o b.holds
 
-    closed_ready : (o : Outline) → IsReady s o → IsReady s' (around o) → IsReady last_state o
-    unfolding closed
-    closed_ready o ready ended = record {
-      near = ap (λ (x : Outline). x.typedef) (closed_now o)
-          ∙ (ap (λ t. if is_node (labelled p n) Specs then has_mod 1 under else t) ready.near ∙ sym (nearest_same p n s'.built under s.near refl b.holds));
-      fresh = λ list e. closed_listed o list ∙ ended.fresh list e;
-    }
+      closed_listed : (o : Outline) (list : ℕ) → listed o list (now last_state o).entries ≡ listed (around o) list (now s' (around o)).entries
+      closed_listed o list =
+          ap (λ (x : Outline). listed o list x.entries) (closed_now o)
+          ∙ (after_deaf (is_of (o.scope.depth + 1) list) (λ c. c.depth ≡ o.scope.depth) (own_deaf o list) p s.at (now s o) (labelled p n) under
+          (now s' (around o)).entries (now_depth s o)
+          ∙ sym (around_listed o list (now s' (around o)).entries))
 
-    closed_hands : Hands toks s last_state
-    unfolding opened closed
-    closed_hands = record {
-      same_text = b.same_text;
-      later = b.later;
-      count = λ op. ap length (names_closed_scopes p s'.names) ∙ (h.count (subst (λ k. 0 < k) (sym opened_count) op) ∙ opened_count);
-      passes = λ o t op few ready. (
-          let r = inside o t op few ready in
-          record {
-            new = r.new;
-            first = closed_first r.new (inside_first o r);
-            stands = r.stands;
-            heads = closed_heads_are o r;
-            ready = closed_ready o ready r.ready;
-            still = λ list e. closed_listed o list ∙ (r.still list e ∙ around_now o list);
-          });
-    }
+      closed_first : (x : Option ℕ) → first_list under ≡ x → first_list last_state.built.under ≡ option_or (first_list s.built.under) x
+      unfolding closed
+      closed_first x e =
+          list_inner s.built.under (finished p s'.built)
+          ∙ ap (option_or (first_list s.built.under)) (ap (λ (y : Node). list_of (finished p y)) built_is ∙ (finished_list p n s.at under unlisted ∙ e))
 
-    pub closed_on : HandsOn p s last_state
-    closed_on = record {
-      hands = closed_hands;
-      kept = λ d none_open no_list o t op ready. (
-          let few : Few (length s.names.scopes) s.names.heads = subst (Few (length s.names.scopes)) (sym none_open) tt in
-          let r = inside o t op few ready in
-          closed_kept_are o r d none_open
-          ∙ ap (λ x. names_given (names_of o x (now last_state o).entries))
-          (sym (closed_first r.new (inside_first o r) ∙ ap (λ f. option_or f r.new) no_list)));
-    }
+      inside_first : (o : Outline) (r : Handed (around o) (opened p n s) s') → first_list under ≡ r.new
+      inside_first o r = r.first ∙ ap (λ f. option_or (first_list f) r.new) opened_under
 
-  -- ---- The end of a list
+      closed_names_of : (o : Outline) (x : Option ℕ) → names_of (around o) x (now s' (around o)).entries ≡ names_of o x (now last_state o).entries
+      closed_names_of o x = names_same (around o) o x (now s' (around o)).entries (now last_state o).entries (closed_listed o)
 
-  ended_names : (names : Names) (scopes x : List (List Declaration)) → IsOpen scopes → SameOuter ([] ∷ scopes) x
-      → ((with_scope_ended names x).ended ≡ head_of x) × ((with_scope_ended names x).heads ≡ names.heads)
-  ended_names names [] x op same = absurd op
-  ended_names names (a ∷ outer) [] op same = absurd same
-  ended_names names (a ∷ outer) (l ∷ x) op same =
-      (ap (λ y. (with_scope_ended names (l ∷ y)).ended) same, ap (λ y. (with_scope_ended names (l ∷ y)).heads) same)
+      closed_heads_are : (o : Outline) (r : Handed (around o) (opened p n s) s')
+          → last_state.names.heads ≡ handed (length s.names.scopes) (names_of o r.new (now last_state o).entries) s.names.heads
+      unfolding opened closed
+      closed_heads_are o r = by (is_declarator p) refl
+        where
+          by : (c : Bool) → is_declarator p ≡ c → (if c then head_closed s'.names else s'.names).heads
+              ≡ handed (length s.names.scopes) (names_of o r.new (now last_state o).entries) s.names.heads
+          by true e =
+              closed_heads (length s.names.scopes) (names_of o r.new (now last_state o).entries) s.names.heads (record { scopes_open = length s.names.scopes; given = None }) s'.names
+              (r.heads
+              ∙ (ap (λ k. handed k (names_of (around o) r.new (now s' (around o)).entries) (names_opened p s.names).heads) opened_count
+              ∙ (ap (λ x. handed (length s.names.scopes) x (names_opened p s.names).heads) (closed_names_of o r.new)
+              ∙ ap (λ c. handed (length s.names.scopes) (names_of o r.new (now last_state o).entries) (if c then with_head s.names else s.names).heads) e)))
+          by false e =
+              r.heads
+              ∙ (ap (λ k. handed k (names_of (around o) r.new (now s' (around o)).entries) (names_opened p s.names).heads) opened_count
+              ∙ (ap (λ x. handed (length s.names.scopes) x (names_opened p s.names).heads) (closed_names_of o r.new)
+              ∙ ap (λ c. handed (length s.names.scopes) (names_of o r.new (now last_state o).entries) (if c then with_head s.names else s.names).heads) e))
 
-  some_open : (x : List (List Declaration)) → 0 < length x → IsOpen x
-  some_open [] h = absurd (omega arith)
-  some_open (a ∷ x) h = tt
+      closed_kept_are : (o : Outline) (r : Handed (around o) (opened p n s) s') → is_declarator p ≡ true → s.names.heads ≡ []
+          → last_state.names.kept ≡ names_given (names_of o r.new (now last_state o).entries)
+      unfolding opened closed
+      closed_kept_are o r d none_open =
+          ap (λ c. (if c then head_closed s'.names else s'.names).kept) d
+          ∙ closed_kept (length s.names.scopes) (names_of o r.new (now last_state o).entries) s'.names
+          (r.heads
+          ∙ (ap (λ k. handed k (names_of (around o) r.new (now s' (around o)).entries) (names_opened p s.names).heads) opened_count
+          ∙ (ap (λ x. handed (length s.names.scopes) x (names_opened p s.names).heads) (closed_names_of o r.new)
+          ∙ (ap (λ c. handed (length s.names.scopes) (names_of o r.new (now last_state o).entries) (if c then with_head s.names else s.names).heads) d
+          ∙ ap (λ hs. handed (length s.names.scopes) (names_of o r.new (now last_state o).entries) (hs ++ record { scopes_open = length s.names.scopes; given = None } ∷ [])) none_open))))
 
-  module _ (d list : ℕ) where
-    -- a scope whose names are not those of this list
-    abbrev IsApart : Scope → Type 0
-    IsApart c = (d < c.depth) × (c.depth ≡ d + 1 → c.to ≡ list → ⊥)
+      closed_ready : (o : Outline) → IsReady s o → IsReady s' (around o) → IsReady last_state o
+      unfolding closed
+      closed_ready o ready ended = record {
+        near = ap (λ (x : Outline). x.typedef) (closed_now o)
+            ∙ (ap (λ t. if is_node (labelled p n) Specs then has_mod 1 under else t) ready.near ∙ sym (nearest_same p n s'.built under s.near refl b.holds));
+        fresh = λ list e. closed_listed o list ∙ ended.fresh list e;
+      }
 
-    apart_deaf : (c : Scope) → IsApart c → (i : ℕ) (t : Bool) (from : ℕ) → is_of (d + 1) list (entry i t c.depth from c.to) ≡ false
-    apart_deaf c h i t from = by (c.depth == d + 1) refl
-      where
-        right_false : (x y : Bool) → y ≡ false → (x && y) ≡ false
-        right_false true y e = e
-        right_false false y e = refl
+      closed_hands : Hands toks s last_state
+      unfolding opened closed
+      closed_hands = record {
+        same_text = b.same_text;
+        later = b.later;
+        count = λ op. ap length (names_closed_scopes p s'.names) ∙ (h.count (subst (λ k. 0 < k) (sym opened_count) op) ∙ opened_count);
+        passes = λ o t op few ready. (
+            let r = inside o t op few ready in
+            record {
+              new = r.new;
+              first = closed_first r.new (inside_first o r);
+              stands = r.stands;
+              heads = closed_heads_are o r;
+              ready = closed_ready o ready r.ready;
+              still = λ list e. closed_listed o list ∙ (r.still list e ∙ around_now o list);
+            });
+      }
 
-        by : (x : Bool) → (c.depth == d + 1) ≡ x → ((c.to == list) && ((c.depth == d + 1) && true)) ≡ false
-        by true e = and_left (c.to == list) ((c.depth == d + 1) && true) (ne_eqb c.to list (h.1 (eqb-true c.depth (d + 1) e)))
-        by false e = right_false (c.to == list) ((c.depth == d + 1) && true) (and_left (c.depth == d + 1) true e)
+      pub closed_on : HandsOn p s last_state
+      closed_on = record {
+        hands = closed_hands;
+        kept = λ d none_open no_list o t op ready. (
+            let few : Few (length s.names.scopes) s.names.heads = subst (Few (length s.names.scopes)) (sym none_open) tt in
+            let r = inside o t op few ready in
+            closed_kept_are o r d none_open
+            ∙ ap (λ x. names_given (names_of o x (now last_state o).entries))
+            (sym (closed_first r.new (inside_first o r) ∙ ap (λ f. option_or f r.new) no_list)));
+      }
 
-    apart_closed : (f : Forest) → Closed IsApart f
-    apart_closed none = tt
-    apart_closed (token i rest) = apart_closed rest
-    apart_closed (node l first under rest) = (λ c h. by c h (scope_kind l.production l under), apart_closed under, apart_closed rest)
-      where
-        by : (c : Scope) → IsApart c → IsPlain l.production l under ⊎ IsInner l.production l under → IsApart (scope_in l.production l under c)
-        by c h (inl plain) = subst IsApart (sym (plain.0 c)) h
-        by c h (inr deep) = (let e = h.0 in let e' = deep.0 c in omega arith, λ same to. (let e = h.0 in let e' = deep.0 c in omega arith))
+    -- ---- The end of a list
 
-  module _ (s s' : State) (g : Goes toks (labelled Suffix 2) s.at (acted c99 scope (with_token (opened Suffix 2 s))) s')
-      (h : Hands toks (acted c99 scope (with_token (opened Suffix 2 s))) s') where
-    abbrev list_begun : State
-    list_begun = acted c99 scope (with_token (opened Suffix 2 s))
+    ended_names : (names : Names) (scopes x : List (List Declaration)) → IsOpen scopes → SameOuter ([] ∷ scopes) x
+        → ((with_scope_ended names x).ended ≡ head_of std x) × ((with_scope_ended names x).heads ≡ names.heads)
+    ended_names names [] x op same = absurd op
+    ended_names names (a ∷ outer) [] op same = absurd same
+    ended_names names (a ∷ outer) (l ∷ x) op same =
+        (ap (λ y. (with_scope_ended names (l ∷ y)).ended) same, ap (λ y. (with_scope_ended names (l ∷ y)).heads) same)
 
-    abbrev list_ended : State
-    list_ended = closed Suffix s (with_token (acted c99 keep (acted c99 end s')))
+    some_open : (x : List (List Declaration)) → 0 < length x → IsOpen x
+    some_open [] h = absurd (omega arith)
+    some_open (a ∷ x) h = tt
 
-    abbrev all : Forest
-    all = put s'.built.under (leaf s'.at)
+    module _ (d list : ℕ) where
+      -- a scope whose names are not those of this list
+      abbrev IsApart : Scope → Type 0
+      IsApart c = (d < c.depth) × (c.depth ≡ d + 1 → c.to ≡ list → ⊥)
 
-    abbrev list_node : Node
-    list_node = node_of (labelled Suffix 2) s.at all
+      apart_deaf : (c : Scope) → IsApart c → (i : ℕ) (t : Bool) (from : ℕ) → is_of (d + 1) list (entry i t c.depth from c.to) ≡ false
+      apart_deaf c h i t from = by (c.depth == d + 1) refl
+        where
+          right_false : (x y : Bool) → y ≡ false → (x && y) ≡ false
+          right_false true y e = e
+          right_false false y e = refl
 
-    list_scopes : list_begun.names.scopes ≡ [] ∷ s.names.scopes
-    unfolding opened
-    list_scopes = scoped_scopes toks (with_token (opened Suffix 2 s)) ∙ ap (λ x. [] ∷ x) (opened_scopes toks Suffix s.names)
+          by : (x : Bool) → (c.depth == d + 1) ≡ x → ((c.to == list) && ((c.depth == d + 1) && true)) ≡ false
+          by true e = and_left (c.to == list) ((c.depth == d + 1) && true) (ne_eqb c.to list (h.1 (eqb-true c.depth (d + 1) e)))
+          by false e = right_false (c.to == list) ((c.depth == d + 1) && true) (and_left (c.depth == d + 1) true e)
 
-    list_outer : SameOuter ([] ∷ s.names.scopes) s'.names.scopes
-    list_outer = subst (λ x. SameOuter x s'.names.scopes) list_scopes g.outer
+      apart_closed : (f : Forest) → Closed IsApart f
+      apart_closed none = tt
+      apart_closed (token i rest) = apart_closed rest
+      apart_closed (node l first under rest) = (λ c h. by c h (scope_kind l.production l under), apart_closed under, apart_closed rest)
+        where
+          by : (c : Scope) → IsApart c → IsPlain l.production l under ⊎ IsInner l.production l under → IsApart (scope_in l.production l under c)
+          by c h (inl plain) = subst IsApart (sym (plain.0 c)) h
+          by c h (inr deep) = (let e = h.0 in let e' = deep.0 c in omega arith, λ same to. (let e = h.0 in let e' = deep.0 c in omega arith))
 
-    list_in : IsIn (labelled Suffix 2) s.at s'
-    unfolding opened acted
-    list_in = g.inside (record { label = refl; begins = refl })
+    module _ (s s' : State) (g : Goes std toks (labelled Suffix 2) s.at (acted (grammar std) scope (with_token (opened Suffix 2 s))) s')
+        (h : Hands toks (acted (grammar std) scope (with_token (opened Suffix 2 s))) s') where
+      abbrev list_begun : State
+      list_begun = acted (grammar std) scope (with_token (opened Suffix 2 s))
 
-    list_built : record s'.built { under = all } ≡ list_node
-    list_built = ap (λ l. node_of l s'.built.first all) list_in.label ∙ ap (λ k. node_of (labelled Suffix 2) k all) list_in.begins
+      abbrev list_ended : State
+      list_ended = closed Suffix s (with_token (acted (grammar std) keep (acted (grammar std) end s')))
 
-    -- nothing is known where a list begins but its specifiers
-    abbrev empty : Outline
-    empty = record { entries = []; label = labelled Suffix 2; nth = 0; scope = record { depth = 0; to = 0 }; typedef = s.near; kept = None }
+      abbrev all : Forest
+      all = put s'.built.under (leaf s'.at)
 
-    list_length : length s.names.scopes < length list_begun.names.scopes
-    list_length = let e = ap length list_scopes in omega arith
+      abbrev list_node : Node
+      list_node = node_of (labelled Suffix 2) s.at all
 
-    list_heads : s.toks ≡ toks → Few (length s.names.scopes) s.names.heads → s'.names.heads ≡ s.names.heads
-    unfolding opened acted
-    list_heads t few =
-        let r = h.passes empty t (let e = list_length in omega arith) (few_more (length s.names.scopes) (length list_begun.names.scopes) s.names.heads (let e = list_length in omega arith) few)
-        (record { near = refl; fresh = λ list e. refl }) in
-        r.heads ∙ handed_inside (length s.names.scopes) (length list_begun.names.scopes) (names_of empty r.new (now s' empty).entries) s.names.heads list_length few
+      list_scopes : list_begun.names.scopes ≡ [] ∷ s.names.scopes
+      unfolding opened
+      list_scopes = scoped_scopes std toks (with_token (opened Suffix 2 s)) ∙ ap (λ x. [] ∷ x) (opened_scopes std toks Suffix s.names)
 
-    list_now : (o : Outline) → now list_ended o ≡ behind list_node (now s o)
-    unfolding acted closed
-    list_now o = ap (λ (x : Node). outlined (put s.built.under (inner x)) o) list_built ∙ outlined_inner s.built.under list_node o
+      list_outer : SameOuter ([] ∷ s.names.scopes) s'.names.scopes
+      list_outer = subst (λ x. SameOuter x s'.names.scopes) list_scopes g.outer
 
-    list_apart : (o : Outline) (list : ℕ) → (s'.at ≡ list → ⊥) → listed o list (now list_ended o).entries ≡ listed o list (now s o).entries
-    list_apart o list other =
-        ap (λ (x : Outline). listed o list x.entries) (list_now o)
-        ∙ inside_deaf (is_of (o.scope.depth + 1) list) (IsApart o.scope.depth list) (apart_deaf o.scope.depth list) (labelled Suffix 2) s.at all (now s o)
-        (apart_closed o.scope.depth list all)
-        (let e = now_depth s o in omega arith, λ same to. other (sym (last_leaf s'.built.under s'.at 0) ∙ to))
+      list_in : IsIn (labelled Suffix 2) s.at s'
+      unfolding opened acted
+      list_in = g.inside (record { label = refl; begins = refl })
 
-    list_first : first_list list_ended.built.under ≡ option_or (first_list s.built.under) (Some s'.at)
-    unfolding acted closed
-    list_first =
-        ap (λ (x : Node). first_list (put s.built.under (inner x))) list_built
-        ∙ (list_inner s.built.under list_node ∙ ap (λ i. option_or (first_list s.built.under) (Some i)) (last_leaf s'.built.under s'.at 0))
+      list_built : record s'.built { under = all } ≡ list_node
+      list_built = ap (λ l. node_of l s'.built.first all) list_in.label ∙ ap (λ k. node_of (labelled Suffix 2) k all) list_in.begins
 
-    list_names : (o : Outline) → s.toks ≡ toks → IsOpen s.names.scopes → IsReady s o → s.at < s'.at
-        → head_of s'.names.scopes ≡ listed o s'.at (now list_ended o).entries
-    list_names o t op ready more =
-        listed_names toks s s' g t op (now s o) ready.near
-        (ap (λ d. chosen (is_of (d + 1) s'.at) (now s o).entries) (now_depth s o) ∙ ready.fresh s'.at more)
-        ∙ (ap (λ d. chosen (is_of (d + 1) s'.at) (outlined all (begun (labelled Suffix 2) s.at all (now s o))).entries) (now_depth s o)
-        ∙ sym (ap (λ (x : Outline). listed o s'.at x.entries) (list_now o)))
+      -- nothing is known where a list begins but its specifiers
+      abbrev empty : Outline
+      empty = record { entries = []; label = labelled Suffix 2; nth = 0; scope = record { depth = 0; to = 0 }; typedef = s.near; kept = None }
 
-    list_at : list_begun.at ≡ s.at + 1
-    unfolding opened acted
-    list_at = refl
+      list_length : length s.names.scopes < length list_begun.names.scopes
+      list_length = let e = ap length list_scopes in omega arith
 
-    list_later : s.at < s'.at
-    list_later = (let e = g.later in let e' = list_at in omega arith)
+      list_heads : s.toks ≡ toks → Few (length s.names.scopes) s.names.heads → s'.names.heads ≡ s.names.heads
+      unfolding opened acted
+      list_heads t few =
+          let r = h.passes empty t (let e = list_length in omega arith) (few_more (length s.names.scopes) (length list_begun.names.scopes) s.names.heads (let e = list_length in omega arith) few)
+          (record { near = refl; fresh = λ list e. refl }) in
+          r.heads ∙ handed_inside (length s.names.scopes) (length list_begun.names.scopes) (names_of empty r.new (now s' empty).entries) s.names.heads list_length few
 
-    list_count : IsOpen s.names.scopes → length list_ended.names.scopes ≡ length s.names.scopes
-    unfolding acted closed
-    list_count op = ap length (ended_scopes s'.names s.names.scopes s'.names.scopes op list_outer)
+      list_now : (o : Outline) → now list_ended o ≡ behind list_node (now s o)
+      unfolding acted closed
+      list_now o = ap (λ (x : Node). outlined (put s.built.under (inner x)) o) list_built ∙ outlined_inner s.built.under list_node o
 
-    list_given : (o : Outline) → s.toks ≡ toks → IsOpen s.names.scopes → Few (length s.names.scopes) s.names.heads → IsReady s o
-        → list_ended.names.heads ≡ given_names (length s.names.scopes) (listed o s'.at (now list_ended o).entries) s.names.heads
-    unfolding acted closed
-    list_given o t op few ready =
-        let w = ended_names s'.names s.names.scopes s'.names.scopes op list_outer in
-        ap (λ x. given_names (length x) (with_scope_ended s'.names s'.names.scopes).ended (with_scope_ended s'.names s'.names.scopes).heads)
-        (ended_scopes s'.names s.names.scopes s'.names.scopes op list_outer)
-        ∙ (ap (λ x. given_names (length s.names.scopes) x (with_scope_ended s'.names s'.names.scopes).heads) (w.0 ∙ list_names o t op ready list_later)
-        ∙ ap (given_names (length s.names.scopes) (listed o s'.at (now list_ended o).entries)) (w.1 ∙ list_heads t few))
+      list_apart : (o : Outline) (list : ℕ) → (s'.at ≡ list → ⊥) → listed o list (now list_ended o).entries ≡ listed o list (now s o).entries
+      list_apart o list other =
+          ap (λ (x : Outline). listed o list x.entries) (list_now o)
+          ∙ inside_deaf (is_of (o.scope.depth + 1) list) (IsApart o.scope.depth list) (apart_deaf o.scope.depth list) (labelled Suffix 2) s.at all (now s o)
+          (apart_closed o.scope.depth list all)
+          (let e = now_depth s o in omega arith, λ same to. other (sym (last_leaf s'.built.under s'.at 0) ∙ to))
 
-    list_toks : list_ended.toks ≡ s.toks
-    unfolding opened acted closed
-    list_toks = g.same_text
+      list_first : first_list list_ended.built.under ≡ option_or (first_list s.built.under) (Some s'.at)
+      unfolding acted closed
+      list_first =
+          ap (λ (x : Node). first_list (put s.built.under (inner x))) list_built
+          ∙ (list_inner s.built.under list_node ∙ ap (λ i. option_or (first_list s.built.under) (Some i)) (last_leaf s'.built.under s'.at 0))
 
-    list_at_end : list_ended.at ≡ s'.at + 1
-    unfolding acted closed
-    list_at_end = refl
+      list_names : (o : Outline) → s.toks ≡ toks → IsOpen s.names.scopes → IsReady s o → s.at < s'.at
+          → head_of std s'.names.scopes ≡ listed o s'.at (now list_ended o).entries
+      list_names o t op ready more =
+          (listed_names std) toks s s' g t op (now s o) ready.near
+          (ap (λ d. chosen (is_of (d + 1) s'.at) (now s o).entries) (now_depth s o) ∙ ready.fresh s'.at more)
+          ∙ (ap (λ d. chosen (is_of (d + 1) s'.at) (outlined all (begun (labelled Suffix 2) s.at all (now s o))).entries) (now_depth s o)
+          ∙ sym (ap (λ (x : Outline). listed o s'.at x.entries) (list_now o)))
 
-    list_near : list_ended.near ≡ s.near
-    unfolding closed
-    list_near = refl
+      list_at : list_begun.at ≡ s.at + 1
+      unfolding opened acted
+      list_at = refl
 
-    list_hands : Hands toks s list_ended
-    list_hands = record {
-      same_text = list_toks;
-      later = (let e = list_later in let e' = list_at_end in omega arith);
-      count = λ some. list_count (some_open s.names.scopes some);
-      passes = λ o t some few ready. record {
-        new = Some s'.at;
-        first = list_first;
-        stands = (list_later, let e = list_at_end in omega arith);
-        heads = list_given o t (some_open s.names.scopes some) few ready;
-        ready = record {
-          near = ap (λ (x : Outline). x.typedef) (list_now o) ∙ (ready.near ∙ sym list_near);
-          fresh = λ list e. list_apart o list (λ same. (let e' = list_at_end in omega arith)) ∙ ready.fresh list (let e' = list_later in let e'' = list_at_end in omega arith);
+      list_later : s.at < s'.at
+      list_later = (let e = g.later in let e' = list_at in omega arith)
+
+      list_count : IsOpen s.names.scopes → length list_ended.names.scopes ≡ length s.names.scopes
+      unfolding acted closed
+      list_count op = ap length (ended_scopes s'.names s.names.scopes s'.names.scopes op list_outer)
+
+      list_given : (o : Outline) → s.toks ≡ toks → IsOpen s.names.scopes → Few (length s.names.scopes) s.names.heads → IsReady s o
+          → list_ended.names.heads ≡ given_names (length s.names.scopes) (listed o s'.at (now list_ended o).entries) s.names.heads
+      unfolding acted closed
+      list_given o t op few ready =
+          let w = ended_names s'.names s.names.scopes s'.names.scopes op list_outer in
+          ap (λ x. given_names (length x) (with_scope_ended s'.names s'.names.scopes).ended (with_scope_ended s'.names s'.names.scopes).heads)
+          (ended_scopes s'.names s.names.scopes s'.names.scopes op list_outer)
+          ∙ (ap (λ x. given_names (length s.names.scopes) x (with_scope_ended s'.names s'.names.scopes).heads) (w.0 ∙ list_names o t op ready list_later)
+          ∙ ap (given_names (length s.names.scopes) (listed o s'.at (now list_ended o).entries)) (w.1 ∙ list_heads t few))
+
+      list_toks : list_ended.toks ≡ s.toks
+      unfolding opened acted closed
+      list_toks = g.same_text
+
+      list_at_end : list_ended.at ≡ s'.at + 1
+      unfolding acted closed
+      list_at_end = refl
+
+      list_near : list_ended.near ≡ s.near
+      unfolding closed
+      list_near = refl
+
+      list_hands : Hands toks s list_ended
+      list_hands = record {
+        same_text = list_toks;
+        later = (let e = list_later in let e' = list_at_end in omega arith);
+        count = λ some. list_count (some_open s.names.scopes some);
+        passes = λ o t some few ready. record {
+          new = Some s'.at;
+          first = list_first;
+          stands = (list_later, let e = list_at_end in omega arith);
+          heads = list_given o t (some_open s.names.scopes some) few ready;
+          ready = record {
+            near = ap (λ (x : Outline). x.typedef) (list_now o) ∙ (ready.near ∙ sym list_near);
+            fresh = λ list e. list_apart o list (λ same. (let e' = list_at_end in omega arith)) ∙ ready.fresh list (let e' = list_later in let e'' = list_at_end in omega arith);
+          };
+          still = λ list e. list_apart o list (λ same. (let e' = list_later in omega arith));
         };
-        still = λ list e. list_apart o list (λ same. (let e' = list_later in omega arith));
-      };
-    }
+      }
 
-    pub list_on : HandsOn Suffix s list_ended
-    list_on = record { hands = list_hands; kept = λ d none_open no_list o t some ready. absurd (false≢true d) }
+      pub list_on : HandsOn Suffix s list_ended
+      list_on = record { hands = list_hands; kept = λ d none_open no_list o t some ready. absurd (false≢true d) }

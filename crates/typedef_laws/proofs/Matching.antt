@@ -3,6 +3,7 @@
 use Rattle.std.proofs.Common.{ℕ, ◌+◌, ◌≤◌, ◌≡◌, Bool, true, false, ◌&&◌, not, if◌then◌else◌, List, [], ◌∷◌, ◌++◌, Option, None, Some, nat_lt, refl, sym, ap, subst, ◌∙◌, arith, unwrap_or}
 use Rattle.std.proofs.lemmas.Bool.{le-ltb, lt-ltb}
 use Rattle.std.specs.Str.{bytes_eq}
+use Rattle.tree_laws.specs.Below.cs_base.declared.ws_units.Standard.{Standard}
 use Rattle.tree_laws.specs.Below.cs_base.Token.{Token}
 use Rattle.tree_laws.specs.Below.c99_tree.Names.{latest}
 use Rattle.tree_laws.specs.Below.c99_read.State.{declaration, spelling_at, spelled_scope, is_typedef_at}
@@ -136,54 +137,55 @@ abbrev pub first_of : List Token → ℕ → List Declaration → Option Bool
 first_of toks i [] = None
 first_of toks i (d ∷ ds) = if bytes_eq (spelling_at toks i) (spelling_at toks d.name_at) then Some d.typedef else first_of toks i ds
 
-module _ (toks : List Token) (i : ℕ) where
-  latest_first : (s : List Declaration) → latest (spelled_scope toks s) (spelling_at toks i) ≡ first_of toks i s
-  latest_first [] = refl
-  latest_first (d ∷ older) =
-      ap (λ r. if bytes_eq (spelling_at toks i) (spelling_at toks d.name_at) then Some d.typedef else r) (latest_first older)
+module _ (std : Standard) where
+  module _ (toks : List Token) (i : ℕ) where
+    latest_first : (s : List Declaration) → latest (spelled_scope toks s) (spelling_at toks i) ≡ first_of toks i s
+    latest_first [] = refl
+    latest_first (d ∷ older) =
+        ap (λ r. if bytes_eq (spelling_at toks i) (spelling_at toks d.name_at) then Some d.typedef else r) (latest_first older)
 
-  first_append : (s ds : List Declaration)
-      → unwrap_or (first_of toks i (s ++ ds)) false ≡ unwrap_or (first_of toks i s) (unwrap_or (first_of toks i ds) false)
-  first_append [] ds = refl
-  first_append (d ∷ s) ds = by (bytes_eq (spelling_at toks i) (spelling_at toks d.name_at)) (first_append s ds)
-    where
-      by : (c : Bool) → unwrap_or (first_of toks i (s ++ ds)) false ≡ unwrap_or (first_of toks i s) (unwrap_or (first_of toks i ds) false)
-          → unwrap_or (if c then Some d.typedef else first_of toks i (s ++ ds)) false
-          ≡ unwrap_or (if c then Some d.typedef else first_of toks i s) (unwrap_or (first_of toks i ds) false)
-      by true e = refl
-      by false e = e
+    first_append : (s ds : List Declaration)
+        → unwrap_or (first_of toks i (s ++ ds)) false ≡ unwrap_or (first_of toks i s) (unwrap_or (first_of toks i ds) false)
+    first_append [] ds = refl
+    first_append (d ∷ s) ds = by (bytes_eq (spelling_at toks i) (spelling_at toks d.name_at)) (first_append s ds)
+      where
+        by : (c : Bool) → unwrap_or (first_of toks i (s ++ ds)) false ≡ unwrap_or (first_of toks i s) (unwrap_or (first_of toks i ds) false)
+            → unwrap_or (if c then Some d.typedef else first_of toks i (s ++ ds)) false
+            ≡ unwrap_or (if c then Some d.typedef else first_of toks i s) (unwrap_or (first_of toks i ds) false)
+        by true e = refl
+        by false e = e
 
-  -- in scopes that all hold the token
-  seen_typedef : (scopes : List (List Declaration)) (ends : List ℕ) → Within (i + 1) scopes ends
-      → is_typedef_at toks scopes i ≡ unwrap_or (first_of toks i (seen i scopes ends)) false
-  seen_typedef [] ends w = refl
-  seen_typedef (s ∷ outer) [] w = absurd w
-  seen_typedef (s ∷ outer) (e ∷ ends) w =
-      let here : i + 1 ≤ e = w.0 in
-      let open_ : nat_lt i e ≡ true = lt-ltb i e (omega arith) in
-      ap (λ r. unwrap_or r (is_typedef_at toks outer i)) (latest_first s)
-      ∙ (ap (λ r. unwrap_or (first_of toks i s) r) (seen_typedef outer ends w.1)
-      ∙ (sym (first_append s (seen i outer ends))
-      ∙ ap (λ c. unwrap_or (first_of toks i ((if c then s else []) ++ seen i outer ends)) false) (sym open_)))
+    -- in scopes that all hold the token
+    seen_typedef : (scopes : List (List Declaration)) (ends : List ℕ) → Within (i + 1) scopes ends
+        → is_typedef_at toks scopes i ≡ unwrap_or (first_of toks i (seen i scopes ends)) false
+    seen_typedef [] ends w = refl
+    seen_typedef (s ∷ outer) [] w = absurd w
+    seen_typedef (s ∷ outer) (e ∷ ends) w =
+        let here : i + 1 ≤ e = w.0 in
+        let open_ : nat_lt i e ≡ true = lt-ltb i e (omega arith) in
+        ap (λ r. unwrap_or r (is_typedef_at toks outer i)) (latest_first s)
+        ∙ (ap (λ r. unwrap_or (first_of toks i s) r) (seen_typedef outer ends w.1)
+        ∙ (sym (first_append s (seen i outer ends))
+        ∙ ap (λ c. unwrap_or (first_of toks i ((if c then s else []) ++ seen i outer ends)) false) (sym open_)))
 
-  shown_case : (a l t x : Bool) (d : Declaration) (ds : List Declaration)
-      → bytes_eq (spelling_at toks i) (spelling_at toks d.name_at) ≡ a → d.typedef ≡ t → x ≡ unwrap_or (first_of toks i ds) false
-      → (if a && l then t else x) ≡ unwrap_or (first_of toks i (if l then d ∷ ds else ds)) false
-  shown_case true true t x d ds e f same =
-      sym (ap (λ c. unwrap_or (if c then Some d.typedef else first_of toks i ds) false) e ∙ f)
-  shown_case false true t x d ds e f same =
-      same ∙ sym (ap (λ c. unwrap_or (if c then Some d.typedef else first_of toks i ds) false) e)
-  shown_case true false t x d ds e f same = same
-  shown_case false false t x d ds e f same = same
+    shown_case : (a l t x : Bool) (d : Declaration) (ds : List Declaration)
+        → bytes_eq (spelling_at toks i) (spelling_at toks d.name_at) ≡ a → d.typedef ≡ t → x ≡ unwrap_or (first_of toks i ds) false
+        → (if a && l then t else x) ≡ unwrap_or (first_of toks i (if l then d ∷ ds else ds)) false
+    shown_case true true t x d ds e f same =
+        sym (ap (λ c. unwrap_or (if c then Some d.typedef else first_of toks i ds) false) e ∙ f)
+    shown_case false true t x d ds e f same =
+        same ∙ sym (ap (λ c. unwrap_or (if c then Some d.typedef else first_of toks i ds) false) e)
+    shown_case true false t x d ds e f same = same
+    shown_case false false t x d ds e f same = same
 
-  shown_typedef : (es : List Entry) → typedef_among toks i es ≡ unwrap_or (first_of toks i (shown i es)) false
-  shown_typedef [] = refl
-  shown_typedef (e ∷ es) =
-      among_step toks i e es
-      ∙ shown_case (alike toks i e.name_at) (is_open i e) e.typedef (typedef_among toks i es) (declaration e.name_at e.typedef) (shown i es) refl refl (shown_typedef es)
+    shown_typedef : (es : List Entry) → typedef_among std toks i es ≡ unwrap_or (first_of toks i (shown i es)) false
+    shown_typedef [] = refl
+    shown_typedef (e ∷ es) =
+        (among_step std) toks i e es
+        ∙ shown_case (alike toks i e.name_at) (is_open i e) e.typedef (typedef_among std toks i es) (declaration e.name_at e.typedef) (shown i es) refl refl (shown_typedef es)
 
-  -- the reader and the walk agree on it
-  pub same_typedef : (at : ℕ) (scopes : List (List Declaration)) (ends : List ℕ) (es : List Entry) → at ≤ i → Within (i + 1) scopes ends
-      → Matches at scopes ends es → is_typedef_at toks scopes i ≡ typedef_among toks i es
-  same_typedef at scopes ends es h w m =
-      seen_typedef scopes ends w ∙ (ap (λ ds. unwrap_or (first_of toks i ds) false) (sym (m i h)) ∙ sym (shown_typedef es))
+    -- the reader and the walk agree on it
+    pub same_typedef : (at : ℕ) (scopes : List (List Declaration)) (ends : List ℕ) (es : List Entry) → at ≤ i → Within (i + 1) scopes ends
+        → Matches at scopes ends es → is_typedef_at toks scopes i ≡ typedef_among std toks i es
+    same_typedef at scopes ends es h w m =
+        seen_typedef scopes ends w ∙ (ap (λ ds. unwrap_or (first_of toks i ds) false) (sym (m i h)) ∙ sym (shown_typedef es))

@@ -2,12 +2,13 @@
 use Rattle.std.proofs.Common.{ℕ, ◌+◌, Bool, true, false, ◌&&◌, ◌||◌, not, if◌then◌else◌, ◌==◌, ◌%◌, List, [], ◌∷◌, ◌++◌, Option, None, Some}
 use Rattle.std.specs.Prelude.{find, nat_lt}
 use Rattle.std.specs.Option.{option_map_or}
+use Rattle.tree_laws.specs.Below.cs_base.declared.ws_units.Standard.{Standard}
 use Rattle.tree_laws.specs.Below.cs_base.Token.{Token}
 use Rattle.tree_laws.specs.Below.c99_tree.Tree.{Forest, none, token, node}
 use Rattle.tree_laws.specs.Below.c99_tree.declared.production.Label.{Label}
 use Rattle.tree_laws.specs.Below.c99_tree.declared.production.Production.{Production}
 use Rattle.tree_laws.specs.Below.c99_tree.declared.production.Production.TheVariants.{ExtRest, FunBody, InitDecl, Main, Params, Primary, Pdirect, Specs, Enumerator, Declarator, Param, Pdecl}
-use Rattle.tree_laws.specs.Below.c99_grammar.Standard.{c99}
+use Rattle.tree_laws.specs.Below.c99_grammar.Standard.{grammar}
 use Rattle.tree_laws.specs.Below.c99_read.State.{base_at, is_identifier}
 use Rattle.tree_laws.specs.Below.scope_bind.Named.{Scope}
 use Rattle.tree_laws.specs.Below.c_types.Trees.{is_node, is_at, last_token, name_below, has_mod, first_list}
@@ -118,23 +119,24 @@ outlined (node l first under rest) o = outlined rest (ended l first under o (out
 abbrev pub is_open : ℕ → Entry → Bool
 is_open k e = not (nat_lt k e.from) && nat_lt k e.to
 
-module _ (toks : List Token) where
-  abbrev pub typedef_among : ℕ → List Entry → Bool
-  typedef_among i es = option_map_or (λ e. e.typedef) (find (λ e. alike toks i e.name_at && is_open i e) es) false
+module _ (std : Standard) where
+  module _ (toks : List Token) where
+    abbrev pub typedef_among : ℕ → List Entry → Bool
+    typedef_among i es = option_map_or (λ e. e.typedef) (find (λ e. alike toks i e.name_at && is_open i e) es) false
 
-  abbrev pub token_agrees : Production → ℕ → ℕ → ℕ → List Entry → Bool
-  token_agrees Main a k i es = if (a == 4) && (k == 0) then typedef_among i es else true
-  token_agrees Primary a k i es = if a == 1 then not (typedef_among i es) else true
-  token_agrees Params a k i es = if (a == 1) && (k % 2 == 0) then not (typedef_among i es) else true
-  token_agrees _ a k i es = true
+    abbrev pub token_agrees : Production → ℕ → ℕ → ℕ → List Entry → Bool
+    token_agrees Main a k i es = if (a == 4) && (k == 0) then typedef_among i es else true
+    token_agrees Primary a k i es = if a == 1 then not (typedef_among i es) else true
+    token_agrees Params a k i es = if (a == 1) && (k % 2 == 0) then not (typedef_among i es) else true
+    token_agrees _ a k i es = true
 
-  abbrev pub node_agrees : Label → ℕ → List Entry → Bool
-  node_agrees l first es = if is_at l Pdirect 2 then not (is_identifier (base_at c99 toks (first + 1))) || not (typedef_among (first + 1) es) else true
+    abbrev pub node_agrees : Label → ℕ → List Entry → Bool
+    node_agrees l first es = if is_at l Pdirect 2 then not (is_identifier (base_at (grammar std) toks (first + 1))) || not (typedef_among (first + 1) es) else true
 
-  abbrev pub all_agree : Forest → Outline → Bool
-  all_agree none o = true
-  all_agree (token i rest) o =
-      token_agrees o.label.production o.label.alternative o.nth i o.entries && all_agree rest (stepped i o)
-  all_agree (node l first under rest) o =
-      node_agrees l first o.entries &&
-      (all_agree under (begun l first under o) && all_agree rest (ended l first under o (outlined under (begun l first under o))))
+    abbrev pub all_agree : Forest → Outline → Bool
+    all_agree none o = true
+    all_agree (token i rest) o =
+        token_agrees o.label.production o.label.alternative o.nth i o.entries && all_agree rest (stepped i o)
+    all_agree (node l first under rest) o =
+        node_agrees l first o.entries &&
+        (all_agree under (begun l first under o) && all_agree rest (ended l first under o (outlined under (begun l first under o))))

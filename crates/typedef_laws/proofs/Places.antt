@@ -1,6 +1,7 @@
 -- What one more child changes: the last token below, how many children there are, and the outline.
 use Rattle.std.proofs.Common.{ℕ, ◌+◌, ◌≡◌, Bool, true, false, ◌&&◌, List, ◌⊎◌, inl, inr, refl, sym, ap, ◌∙◌}
 use Rattle.std.proofs.lemmas.Bool.{and_parts}
+use Rattle.tree_laws.specs.Below.cs_base.declared.ws_units.Standard.{Standard}
 use Rattle.tree_laws.specs.Below.cs_base.Token.{Token}
 use Rattle.tree_laws.specs.Below.c99_tree.Tree.{Forest, none, token, node, Node, leaf, inner, put, count_of}
 use Rattle.tree_laws.specs.Below.c_types.Trees.{last_token}
@@ -69,31 +70,32 @@ outlined_inner none n o = refl
 outlined_inner (token j rest) n o = outlined_inner rest n (stepped j o)
 outlined_inner (node l first under rest) n o = outlined_inner rest n (ended l first under o (outlined under (begun l first under o)))
 
-module _ (toks : List Token) where
-  -- what is asked of a token behind these children, and of a node
-  abbrev pub TokenAgrees : ℕ → Outline → Type 0
-  TokenAgrees i o = token_agrees toks o.label.production o.label.alternative o.nth i o.entries ≡ true
+module _ (std : Standard) where
+  module _ (toks : List Token) where
+    -- what is asked of a token behind these children, and of a node
+    abbrev pub TokenAgrees : ℕ → Outline → Type 0
+    TokenAgrees i o = token_agrees std toks o.label.production o.label.alternative o.nth i o.entries ≡ true
 
-  pub agree_leaf : (f : Forest) (i : ℕ) (o : Outline) → all_agree toks f o ≡ true → TokenAgrees i (outlined f o) → all_agree toks (put f (leaf i)) o ≡ true
-  agree_leaf none i o all here = and_both _ true here refl
-  agree_leaf (token j rest) i o all here =
-      let both = and_parts (token_agrees toks o.label.production o.label.alternative o.nth j o.entries) (all_agree toks rest (stepped j o)) all in
-      and_both _ _ both.0 (agree_leaf rest i (stepped j o) both.1 here)
-  agree_leaf (node l first under rest) i o all here =
-      let after : Outline = ended l first under o (outlined under (begun l first under o)) in
-      let both = and_parts (node_agrees toks l first o.entries) _ all in
-      let more = and_parts (all_agree toks under (begun l first under o)) (all_agree toks rest after) both.1 in
-      and_both _ _ both.0 (and_both _ _ more.0 (agree_leaf rest i after more.1 here))
+    pub agree_leaf : (f : Forest) (i : ℕ) (o : Outline) → all_agree std toks f o ≡ true → TokenAgrees i (outlined f o) → all_agree std toks (put f (leaf i)) o ≡ true
+    agree_leaf none i o all here = and_both _ true here refl
+    agree_leaf (token j rest) i o all here =
+        let both = and_parts (token_agrees std toks o.label.production o.label.alternative o.nth j o.entries) (all_agree std toks rest (stepped j o)) all in
+        and_both _ _ both.0 (agree_leaf rest i (stepped j o) both.1 here)
+    agree_leaf (node l first under rest) i o all here =
+        let after : Outline = ended l first under o (outlined under (begun l first under o)) in
+        let both = and_parts (node_agrees std toks l first o.entries) _ all in
+        let more = and_parts (all_agree std toks under (begun l first under o)) (all_agree std toks rest after) both.1 in
+        and_both _ _ both.0 (and_both _ _ more.0 (agree_leaf rest i after more.1 here))
 
-  pub agree_inner : (f : Forest) (n : Node) (o : Outline) → all_agree toks f o ≡ true
-      → node_agrees toks n.label n.first (outlined f o).entries ≡ true
-      → all_agree toks n.under (begun n.label n.first n.under (outlined f o)) ≡ true → all_agree toks (put f (inner n)) o ≡ true
-  agree_inner none n o all here below = and_both _ _ here (and_both _ true below refl)
-  agree_inner (token j rest) n o all here below =
-      let both = and_parts (token_agrees toks o.label.production o.label.alternative o.nth j o.entries) (all_agree toks rest (stepped j o)) all in
-      and_both _ _ both.0 (agree_inner rest n (stepped j o) both.1 here below)
-  agree_inner (node l first under rest) n o all here below =
-      let after : Outline = ended l first under o (outlined under (begun l first under o)) in
-      let both = and_parts (node_agrees toks l first o.entries) _ all in
-      let more = and_parts (all_agree toks under (begun l first under o)) (all_agree toks rest after) both.1 in
-      and_both _ _ both.0 (and_both _ _ more.0 (agree_inner rest n after more.1 here below))
+    pub agree_inner : (f : Forest) (n : Node) (o : Outline) → all_agree std toks f o ≡ true
+        → node_agrees std toks n.label n.first (outlined f o).entries ≡ true
+        → all_agree std toks n.under (begun n.label n.first n.under (outlined f o)) ≡ true → all_agree std toks (put f (inner n)) o ≡ true
+    agree_inner none n o all here below = and_both _ _ here (and_both _ true below refl)
+    agree_inner (token j rest) n o all here below =
+        let both = and_parts (token_agrees std toks o.label.production o.label.alternative o.nth j o.entries) (all_agree std toks rest (stepped j o)) all in
+        and_both _ _ both.0 (agree_inner rest n (stepped j o) both.1 here below)
+    agree_inner (node l first under rest) n o all here below =
+        let after : Outline = ended l first under o (outlined under (begun l first under o)) in
+        let both = and_parts (node_agrees std toks l first o.entries) _ all in
+        let more = and_parts (all_agree std toks under (begun l first under o)) (all_agree std toks rest after) both.1 in
+        and_both _ _ both.0 (and_both _ _ more.0 (agree_inner rest n after more.1 here below))

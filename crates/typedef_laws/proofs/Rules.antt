@@ -1,6 +1,7 @@
 -- Which productions declare and which begin scopes, and what may stand in them.
 use Rattle.std.proofs.Common.{ℕ, ◌+◌, ◌%◌, ◌≡◌, Bool, true, false, ◌&&◌, ◌||◌, not, if◌then◌else◌, ◌==◌, List, Option, refl, sym, ap, ◌∙◌}
 use Rattle.std.proofs.lemmas.Bool.{false≢true, and_parts}
+use Rattle.tree_laws.specs.Below.cs_base.declared.ws_units.Standard.{Standard}
 use Rattle.tree_laws.specs.Below.cs_base.Token.{Token}
 use Rattle.tree_laws.specs.Below.c99_tree.Tree.{Forest, none, token, node, leaf, inner, Node, put}
 use Rattle.tree_laws.specs.Below.c99_tree.declared.production.Label.{Label}
@@ -8,7 +9,7 @@ use Rattle.tree_laws.specs.Below.c99_tree.declared.production.Production.{Produc
 use Rattle.tree_laws.specs.Below.c99_tree.declared.production.Production.TheVariants.{ExtRest, FunBody, InitDecl, Specs, Main, Mod, Enumerator, Declarator, Direct, Suffix, Params, Param, Pdecl, Pdirect, Primary, Block, Statement, Sub, Expr, Assign, Cond, Lor, Land, Bor, Bxor, Band, Equal, Relate, Shift, Add, Mul, Cast, Unary}
 use Rattle.tree_laws.specs.Below.c99_grammar.Items.{Item, one, part, end_of_text, act, ◌·◌, choice, maybe, many, deep}
 use Rattle.tree_laws.specs.Below.c99_tree.contracts.production.ProductionPartialEq.TheImpl.{ghosts}
-use Rattle.tree_laws.specs.Below.c99_grammar.Standard.{c99}
+use Rattle.tree_laws.specs.Below.c99_grammar.Standard.{grammar}
 use Rattle.tree_laws.specs.Below.c99_read.State.{base_at, is_identifier, collapses, nearest, is_mod, is_main, is_specs, is_typedef_part, typedef_word_in, has_typedef}
 use Rattle.tree_laws.specs.Below.scope_bind.Named.{Scope}
 use Rattle.tree_laws.specs.Below.c_types.Trees.{is_at, is_node, has_node, has_mod, last_token}
@@ -334,22 +335,9 @@ pub tame_alone : (p : Production) (first : ℕ) (o : Outline) (under : Forest) (
 tame_alone Enumerator first o under es h = absurd (false≢true h)
 tame_alone _ first o under es h = refl
 
--- ---- Tokens
-
-pub quiet_token : (toks : List Token) (p : Production) (a k i : ℕ) (es : List Entry) → is_quiet p a ≡ true → token_agrees toks p a k i es ≡ true
-quiet_token toks Primary a k i es h = ap (λ c. if c then not (typedef_among toks i es) else true) (off (a == 1) h)
-quiet_token toks Main a k i es h = ap (λ c. if c && (k == 0) then typedef_among toks i es else true) (off (a == 4) h)
-quiet_token toks Params a k i es h = ap (λ c. if c && (k % 2 == 0) then not (typedef_among toks i es) else true) (off (a == 1) h)
-quiet_token toks _ a k i es h = refl
-
 pub quiet_listing : (p : Production) (a k : ℕ) → is_quiet p a ≡ true → is_listing p a k ≡ false
 quiet_listing Params a k h = ap (λ c. c && (k % 2 == 0)) (off (a == 1) h)
 quiet_listing _ a k h = refl
-
-pub plain_named : (toks : List Token) (p : Production) (n first : ℕ) (es : List Entry) → (is_at (labelled p n) Pdirect 2) ≡ false
-    → node_agrees toks (labelled p n) first es ≡ true
-plain_named toks p n first es h =
-    ap (λ c. if c then not (is_identifier (base_at c99 toks (first + 1))) || not (typedef_among toks (first + 1) es) else true) h
 
 pub collapsed_alone : (p : Production) (first : ℕ) (o : Outline) (under : Forest) (es : List Entry) → collapses p ≡ true → entries_alone p first o under es ≡ es
 collapsed_alone Enumerator first o under es h = absurd (false≢true h)
@@ -386,3 +374,17 @@ held_told Param q h = in_param_told q h
 held_told InitDecl q h = tame_told q h
 held_told ExtRest q h = tame_told q h
 held_told p q h = either_told (collapses p) (is_tame q) (is_bodiless q) (tame_told q) h
+
+module _ (std : Standard) where
+  -- ---- Tokens
+
+  pub quiet_token : (toks : List Token) (p : Production) (a k i : ℕ) (es : List Entry) → is_quiet p a ≡ true → token_agrees std toks p a k i es ≡ true
+  quiet_token toks Primary a k i es h = ap (λ c. if c then not (typedef_among std toks i es) else true) (off (a == 1) h)
+  quiet_token toks Main a k i es h = ap (λ c. if c && (k == 0) then typedef_among std toks i es else true) (off (a == 4) h)
+  quiet_token toks Params a k i es h = ap (λ c. if c && (k % 2 == 0) then not (typedef_among std toks i es) else true) (off (a == 1) h)
+  quiet_token toks _ a k i es h = refl
+
+  pub plain_named : (toks : List Token) (p : Production) (n first : ℕ) (es : List Entry) → (is_at (labelled p n) Pdirect 2) ≡ false
+      → node_agrees std toks (labelled p n) first es ≡ true
+  plain_named toks p n first es h =
+      ap (λ c. if c then not (is_identifier (base_at (grammar std) toks (first + 1))) || not (typedef_among std toks (first + 1) es) else true) h

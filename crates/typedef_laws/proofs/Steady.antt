@@ -2,11 +2,12 @@
 use Rattle.std.proofs.Common.{ℕ, ◌+◌, ◌-◌, ◌<◌, ◌≤◌, ◌≡◌, Bool, true, false, ◌&&◌, if◌then◌else◌, ◌==◌, List, [], ◌∷◌, length, take, Option, None, Some, unwrap_or, inl, inr, ◌⊎◌, refl, sym, ap, subst, ◌∙◌, arith}
 use Rattle.std.proofs.lemmas.Bool.{and_left, ne_eqb}
 use Rattle.std.proofs.lemmas.List.{length-append, length-take-le}
+use Rattle.tree_laws.specs.Below.cs_base.declared.ws_units.Standard.{Standard}
 use Rattle.tree_laws.specs.Below.c99_tree.Tree.{Forest, none, token, node, Node, leaf, inner, put, lone, collapsed}
 use Rattle.tree_laws.specs.Below.c99_tree.declared.production.Label.{Label}
 use Rattle.tree_laws.specs.Below.c99_tree.declared.production.Production.{Production}
 use Rattle.tree_laws.specs.Below.c99_grammar.Items.{Action, scope, end, declare, name, keep, again}
-use Rattle.tree_laws.specs.Below.c99_grammar.Standard.{c99}
+use Rattle.tree_laws.specs.Below.c99_grammar.Standard.{grammar}
 use Rattle.tree_laws.specs.Below.c99_read.State.{State, Names, Head, given_names, last_declared, last_identifier, with_declared, with_scope_ended, is_declarator, with_head, head_closed, names_closed, collapses, finished, names_after, acted, opened, closed}
 use Rattle.tree_laws.specs.Below.c99_read.Reading.{Goal, read_within}
 use Rattle.tree_laws.proofs.Walked.{kept_anywhere}
@@ -78,14 +79,6 @@ ended_heads n [] = refl
 ended_heads n (s ∷ []) = refl
 ended_heads n (s ∷ (next_scope ∷ outer)) = refl
 
-acted_heads : (a : Action) (s : State) → length (names_after c99 a s).heads ≡ length s.names.heads
-acted_heads scope s = refl
-acted_heads end s = ap length (ended_heads s.names s.names.scopes)
-acted_heads declare s = ap length (declared_heads s.names (last_declared s.built.under) s.near)
-acted_heads name s = ap length (declared_heads s.names (last_identifier c99 s.toks s.built.under None) false)
-acted_heads keep s = given_length (length s.names.scopes) s.names.ended s.names.heads
-acted_heads again s = refl
-
 take_length : (n : ℕ) (heads : List Head) → length heads ≡ n + 1 → length (take n heads) ≡ n
 take_length n heads h = length-take-le n heads (omega arith)
 
@@ -97,10 +90,6 @@ pub record Steady (s s' : State) : Type 0 where
   pub first : s'.built.first ≡ s.built.first
   pub below : Below s.at s.built.under → Below s'.at s'.built.under
   pub heads : length s'.names.heads ≡ length s.names.heads
-
-acted_steady : (a : Action) (s : State) → Steady s (acted c99 a s)
-unfolding acted
-acted_steady a s = record { later = omega arith; first = refl; below = λ w. w; heads = acted_heads a s }
 
 closed_heads : (p : Production) (s s' : State) → length s'.names.heads ≡ length (opened p 1 s).names.heads
     → length (names_closed p s'.names).heads ≡ length s.names.heads
@@ -128,27 +117,6 @@ node_steady p n s s' w = record {
       below_inner s'.at s.built.under (finished p s'.built) (below_more s.at s'.at s.built.under w.later b) done.0 done.1);
   heads = closed_heads p s s' w.heads;
 }
-
-pub steady_within : (fuel depth : ℕ) (goal : Goal) (s : State) → After (Steady s) (read_within c99 fuel depth goal s)
-steady_within fuel depth goal s =
-    kept_anywhere c99 Steady
-    (record {
-      still = λ s. record { later = omega arith; first = refl; below = λ w. w; heads = refl };
-      further = λ s s' s'' w w'. record {
-        later = (let e = w.later in let e' = w'.later in omega arith);
-        first = w'.first ∙ w.first;
-        below = λ b. w'.below (w.below b);
-        heads = w'.heads ∙ w.heads;
-      };
-      taken = λ s. record {
-        later = omega arith;
-        first = refl;
-        below = λ b. below_leaf (s.at + 1) s.built.under s.at (below_more s.at (s.at + 1) s.built.under (omega arith) b) (omega arith);
-        heads = refl;
-      };
-      done = acted_steady;
-    })
-    node_steady fuel depth goal s
 
 -- none is open
 pub none_open : (heads : List Head) → length heads ≡ 0 → heads ≡ []
@@ -198,3 +166,37 @@ past_inside b l first under o w h past list e =
     inside_deaf (is_of (o.scope.depth + 1) list) (Ends o.scope.depth b) (ends_deaf o.scope.depth b list e) l first under o (ends_closed o.scope.depth b under w h)
     (ends_here o.scope.depth b l.production l under w h o.scope (inl refl))
     ∙ past list e
+
+module _ (std : Standard) where
+  acted_heads : (a : Action) (s : State) → length (names_after (grammar std) a s).heads ≡ length s.names.heads
+  acted_heads scope s = refl
+  acted_heads end s = ap length (ended_heads s.names s.names.scopes)
+  acted_heads declare s = ap length (declared_heads s.names (last_declared s.built.under) s.near)
+  acted_heads name s = ap length (declared_heads s.names (last_identifier (grammar std) s.toks s.built.under None) false)
+  acted_heads keep s = given_length (length s.names.scopes) s.names.ended s.names.heads
+  acted_heads again s = refl
+
+  acted_steady : (a : Action) (s : State) → Steady s (acted (grammar std) a s)
+  unfolding acted
+  acted_steady a s = record { later = omega arith; first = refl; below = λ w. w; heads = acted_heads a s }
+
+  pub steady_within : (fuel depth : ℕ) (goal : Goal) (s : State) → After (Steady s) (read_within (grammar std) fuel depth goal s)
+  steady_within fuel depth goal s =
+      kept_anywhere (grammar std) Steady
+      (record {
+        still = λ s. record { later = omega arith; first = refl; below = λ w. w; heads = refl };
+        further = λ s s' s'' w w'. record {
+          later = (let e = w.later in let e' = w'.later in omega arith);
+          first = w'.first ∙ w.first;
+          below = λ b. w'.below (w.below b);
+          heads = w'.heads ∙ w.heads;
+        };
+        taken = λ s. record {
+          later = omega arith;
+          first = refl;
+          below = λ b. below_leaf (s.at + 1) s.built.under s.at (below_more s.at (s.at + 1) s.built.under (omega arith) b) (omega arith);
+          heads = refl;
+        };
+        done = acted_steady;
+      })
+      node_steady fuel depth goal s

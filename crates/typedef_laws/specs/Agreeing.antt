@@ -1,12 +1,13 @@
 -- Where a tree is read as its names are bound (ISO/IEC 9899:1999, 6.2.1, 6.7.7 and 6.7.5.3 paragraph 11).
 use Rattle.std.specs.Prelude.{ℕ, Bool, true, false, ◌&&◌, ◌||◌, ◌+◌, not, List, if◌then◌else◌, ◌==◌, ◌%◌}
 use Rattle.std.specs.Option.{option_map_or}
+use Rattle.tree_laws.specs.Below.cs_base.declared.ws_units.Standard.{Standard}
 use Rattle.tree_laws.specs.Below.cs_base.Token.{Token}
 use Rattle.tree_laws.specs.Below.c99_tree.Tree.{Forest, none, token, node}
 use Rattle.tree_laws.specs.Below.c99_tree.declared.production.Label.{Label}
 use Rattle.tree_laws.specs.Below.c99_tree.declared.production.Production.{Production}
 use Rattle.tree_laws.specs.Below.c99_tree.declared.production.Production.TheVariants.{Main, Params, Primary, Pdirect}
-use Rattle.tree_laws.specs.Below.c99_grammar.Standard.{c99}
+use Rattle.tree_laws.specs.Below.c99_grammar.Standard.{grammar}
 use Rattle.tree_laws.specs.Below.c99_read.State.{base_at, is_identifier}
 use Rattle.tree_laws.specs.Below.scope_bind.Named.{ordinary}
 use Rattle.tree_laws.specs.Below.c_types.Trees.{is_at}
@@ -28,18 +29,20 @@ module _ (toks : List Token) where
   is_read_so Params alternative k i facts = if (alternative == 1) && (k % 2 == 0) then not (denotes_typedef i facts) else true
   is_read_so _ alternative k i facts = true
 
-  -- An identifier directly behind the parenthesis that begins a parameter's declarator is the declared name: it is none
-  -- before it is declared (6.7.5.3 paragraph 11).
-  abbrev pub is_named_so : Label → ℕ → Facts → Bool
-  is_named_so l first facts =
-      if is_at l Pdirect 2 then not (is_identifier (base_at c99 toks (first + 1))) || not (denotes_typedef (first + 1) facts) else true
+module _ (std : Standard) where
+  module _ (toks : List Token) where
+    -- An identifier directly behind the parenthesis that begins a parameter's declarator is the declared name: it is none
+    -- before it is declared (6.7.5.3 paragraph 11).
+    abbrev pub is_named_so : Label → ℕ → Facts → Bool
+    is_named_so l first facts =
+        if is_at l Pdirect 2 then not (is_identifier (base_at (grammar std) toks (first + 1))) || not (denotes_typedef toks (first + 1) facts) else true
 
-  -- each name below is read as it is bound, at its moment of the walk
-  abbrev pub agrees : Forest → State → Bool
-  agrees none s = true
-  agrees (token i rest) s =
-      is_read_so s.frame.label.production s.frame.label.alternative s.frame.nth i s.facts && agrees rest (passed toks i s)
-  agrees (node l first under rest) s =
-      is_named_so l first s.facts &&
-      (agrees under (entered toks l first under s) &&
-      agrees rest (left toks l first under s (walked toks under (entered toks l first under s))))
+    -- each name below is read as it is bound, at its moment of the walk
+    abbrev pub agrees : Forest → State → Bool
+    agrees none s = true
+    agrees (token i rest) s =
+        is_read_so toks s.frame.label.production s.frame.label.alternative s.frame.nth i s.facts && agrees rest (passed toks i s)
+    agrees (node l first under rest) s =
+        is_named_so l first s.facts &&
+        (agrees under (entered toks l first under s) &&
+        agrees rest (left toks l first under s (walked toks under (entered toks l first under s))))

@@ -1,11 +1,12 @@
 -- What is true of each text that is read, as to its typedef names.
 use Rattle.std.specs.Prelude.{Bool, true, false, ◌≡◌, List, length, Ok}
+use Rattle.tree_laws.specs.Below.cs_base.declared.ws_units.Standard.{Standard}
 use Rattle.tree_laws.specs.Below.cs_base.Token.{Token}
 use Rattle.tree_laws.specs.Below.c99_tree.Tree.{none, node, Node}
 use Rattle.tree_laws.specs.Below.c99_tree.declared.production.Production.{Production}
 use Rattle.tree_laws.specs.Below.c99_tree.declared.production.Production.TheVariants.{TranslationUnit, External, ExtRest, ExtTail, FunBody}
 use Rattle.tree_laws.specs.Below.c99_read.Reading.{produce, at_first, whole, tree_of, read_of}
-use Rattle.tree_laws.specs.Below.c99_grammar.Standard.{c99}
+use Rattle.tree_laws.specs.Below.c99_grammar.Standard.{grammar}
 use Rattle.tree_laws.specs.Below.name_chains.Frames.{at_first as before}
 use Rattle.typedef_laws.specs.Agreeing.{agrees}
 
@@ -23,10 +24,10 @@ is_bodiless _ = true
 -- and the declaration lists before them too.
 abbrev pub NamesAreReadAsTheyAreBound : Type 0
 NamesAreReadAsTheyAreBound =
-    (toks : List Token) (tree : Node) → read_of c99 toks ≡ Ok tree → agrees toks tree.under (before (length toks)) ≡ true
+    (s : Standard) (toks : List Token) (tree : Node) → read_of (grammar s) toks ≡ Ok tree → agrees s toks tree.under (before (length toks)) ≡ true
 
 -- So it is in the tree that is read of a text as one production by itself, a declaration, a statement or an expression.
 abbrev pub NamesOfPartsAreReadAsTheyAreBound : Type 0
 NamesOfPartsAreReadAsTheyAreBound =
-    (toks : List Token) (p : Production) (tree : Node) → is_bodiless p ≡ true → tree_of (whole c99 0 (produce p) (at_first toks)) ≡ Ok tree
-    → agrees toks (node tree.label tree.first tree.under none) (before (length toks)) ≡ true
+    (s : Standard) (toks : List Token) (p : Production) (tree : Node) → is_bodiless p ≡ true → tree_of (whole (grammar s) 0 (produce p) (at_first toks)) ≡ Ok tree
+    → agrees s toks (node tree.label tree.first tree.under none) (before (length toks)) ≡ true

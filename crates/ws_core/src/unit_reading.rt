@@ -17,7 +17,7 @@ use crate::analyse_fault::AnalyseFault;
 use crate::fault_places::place_of_index;
 use c99_read::{ReadRefusal, read};
 use c99_tree::Tree;
-use cs_base::{Cause, Tok};
+use cs_base::{Cause, Standard, Tok};
 use include_tree::{Cache, UnitText};
 use scope_bind::{BindRefusal, bind};
 use std::alloc::Global;
@@ -54,7 +54,7 @@ fn read_toks(alloc: Global, toks: &[Tok]) -> Result<Tree, ReadRefusal>
     if toks.len() > u32::MAX as usize {
         return Err(ReadRefusal::Memory);
     }
-    read(alloc, toks)
+    read(alloc, toks, Standard::C99)
 }
 
 // The same for a unit whose tokens have this tree.

@@ -1,20 +1,20 @@
 use Rattle.std.proofs.Common.{sym, ap, ◌∙◌}
-use Rattle.c99_grammar.specs.Spellings.{keywords, punctuators}
+use Rattle.c99_grammar.specs.Spellings.{keywords_of, punctuators}
 use Rattle.c99_grammar.specs.TokenClasses.{spelled_class, base_class, class_of_kind}
-use Rattle.c99_grammar.specs.Standard.{c99}
+use Rattle.c99_grammar.specs.Standard.{grammar}
 use Rattle.c99_grammar.specs.declared.classes.Class.TheVariants.{Identifier, NoClass}
 use Rattle.c99_grammar.proofs.spellings.base_class.Goals as goal
 
 pub returns-in-Ident : goal.returns-in-Ident
 unfolding base_class
 returns-in-Ident c =
-    c.spelled.ensures
-    ∙ ap (λ t. spelled_class keywords t Identifier) c.text.ensures.answer
-    ∙ ap (λ k. class_of_kind c99 k c.args.tok.now.text) (sym c.in-Ident.is ∙ c.kind.ensures)
+    c.word_class.ensures
+    ∙ ap (λ t. spelled_class (keywords_of c.args.standard) t Identifier) c.text.ensures.answer
+    ∙ ap (λ k. class_of_kind (grammar c.args.standard) k c.args.tok.now.text) (sym c.in-Ident.is ∙ c.kind.ensures)
 
 pub returns-in-Punct : goal.returns-in-Punct
 unfolding base_class
 returns-in-Punct c =
-    c.spelled-in-Punct.ensures
+    c.spelled.ensures
     ∙ ap (λ t. spelled_class punctuators t NoClass) c.text-in-Punct.ensures.answer
-    ∙ ap (λ k. class_of_kind c99 k c.args.tok.now.text) (sym c.in-Punct.is ∙ c.kind.ensures)
+    ∙ ap (λ k. class_of_kind (grammar c.args.standard) k c.args.tok.now.text) (sym c.in-Punct.is ∙ c.kind.ensures)

@@ -2,6 +2,6 @@ use Rattle.tree_laws.proofs.bindings.read_bodies_stand_apart.Goals as goal
 
 pub returns : goal.returns
 returns c = record {
-  within = λ toks tree b read binds. c.bodies_stand_apart.ensures.within toks tree b (c.trees_are_of_their_texts.ensures toks tree read) binds;
-  apart = λ toks tree b read binds. c.bodies_stand_apart.ensures.apart toks tree b (c.trees_are_of_their_texts.ensures toks tree read) binds;
+  within = λ std toks tree b read binds. c.bodies_stand_apart.ensures.within toks tree b (c.trees_are_of_their_texts.ensures std toks tree read) binds;
+  apart = λ std toks tree b read binds. c.bodies_stand_apart.ensures.apart toks tree b (c.trees_are_of_their_texts.ensures std toks tree read) binds;
 }

@@ -2,6 +2,6 @@ use Rattle.tree_laws.proofs.bindings.read_lists_stand_in_order.Goals as goal
 
 pub returns : goal.returns
 returns c = record {
-  parameters = λ toks tree b read binds. c.lists_stand_in_order.ensures.parameters toks tree b (c.trees_are_of_their_texts.ensures toks tree read) binds;
-  arguments = λ toks tree b read binds. c.lists_stand_in_order.ensures.arguments toks tree b (c.trees_are_of_their_texts.ensures toks tree read) binds;
+  parameters = λ std toks tree b read binds. c.lists_stand_in_order.ensures.parameters toks tree b (c.trees_are_of_their_texts.ensures std toks tree read) binds;
+  arguments = λ std toks tree b read binds. c.lists_stand_in_order.ensures.arguments toks tree b (c.trees_are_of_their_texts.ensures std toks tree read) binds;
 }

@@ -3,7 +3,7 @@ use Rattle.c99_grammar.specs.Items.{many}
 use Rattle.c99_grammar.specs.ItemsOf.{item_of, test_of}
 use Rattle.c99_read.specs.Levels.{level_of, height, size}
 use Rattle.c99_read.specs.Reading.{step, whole, tokens_left}
-use Rattle.c99_grammar.specs.Standard.{c99}
+use Rattle.c99_grammar.specs.Standard.{grammar}
 use Rattle.c99_read.proofs.reader.Reader.+reading.Given as goal
 
 abbrev pub decreases-produce : goal.decreases-produce
@@ -40,8 +40,9 @@ decreases-deep l = 100000 * (257 - l.depth) + 2
 
 abbrev pub invariant-repeated-turns : goal.invariant-repeated-turns
 invariant-repeated-turns l =
-    step c99 (whole c99) l.depth (many (test_of l.test) (item_of l.item)) l.self
-    ≡ step c99 (whole c99) l.depth (many (test_of l.test) (item_of l.item)) l.initial.self
+    (l.self.standard ≡ l.standard) ×
+    (step (grammar l.standard) (whole (grammar l.standard)) l.depth (many (test_of l.test) (item_of l.item)) l.self.state
+    ≡ step (grammar l.standard) (whole (grammar l.standard)) l.depth (many (test_of l.test) (item_of l.item)) l.initial.self.state)
 
 abbrev pub decreases-repeated-turns : goal.decreases-repeated-turns
-decreases-repeated-turns l = tokens_left l.self
+decreases-repeated-turns l = tokens_left l.self.state

@@ -4,8 +4,8 @@ use Rattle.c99_read.specs.State.{nearest, finished}
 use Rattle.c99_read.proofs.StateLemmas.{closed-parts}
 use Rattle.c99_read.proofs.reader.Reader.close.Goals as goal
 
-pub returns : goal.returns
-returns c = λ s around.
+pub returns-clause-answer : goal.returns-clause-answer
+returns-clause-answer c = λ s around.
     let behind : Node → Node → Node = λ o n. record o { under = put o.under (inner n) } in
     rw (← c.self.view_is)
     (ap Ok
