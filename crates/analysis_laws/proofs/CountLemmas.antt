@@ -2,6 +2,7 @@
 use Rattle.std.proofs.Common.{◌≡◌, ◌≤◌, ◌+◌, ◌-◌, ◌^◌, ℕ, min, List, [], ◌∷◌, None, Ok, Err, length, refl, ap, arith}
 use Rattle.std.specs.Prelude.{All}
 use Rattle.std.proofs.lemmas.List.Elements.{All-head, All-tail}
+use Rattle.ws_core.specs.Below.cs_base.declared.ws_units.Standard.{Standard}
 use Rattle.ws_core.specs.Below.cs_base.Token.{Token}
 use Rattle.ws_core.specs.Below.cs_base.Units.{UnitValue, IsUnit}
 use Rattle.ws_core.specs.Below.part_lexer.FileText.{file_text}
@@ -46,15 +47,15 @@ unit_counted source number unit before p few none e =
     (units_end the_limits file_text source number unit before none)) e
 
 -- a unit that is read and bound keeps its text
-bound_text : (table : Table) (path : List ℕ) (text : UnitTextValue) (tree : Node) (u : UnitAnalysis) → bound_unit table path text tree ≡ Ok u → u.text ≡ text
-bound_text table path text tree u e =
-    let bound = done_first _ (λ bound. Ok (unit_analysis text tree bound)) u e in
-    ok_holds {E = Fault} (λ (v : UnitAnalysis). v.text ≡ text) (unit_analysis text tree bound.0) u bound.2 refl
+bound_text : (standard : Standard) (table : Table) (path : List ℕ) (text : UnitTextValue) (tree : Node) (u : UnitAnalysis) → bound_unit standard table path text tree ≡ Ok u → u.text ≡ text
+bound_text standard table path text tree u e =
+    let bound = done_first _ (λ bound. Ok (unit_analysis standard text tree bound)) u e in
+    ok_holds {E = Fault} (λ (v : UnitAnalysis). v.text ≡ text) (unit_analysis standard text tree bound.0) u bound.2 refl
 
-read_text : (table : Table) (path : List ℕ) (text : UnitTextValue) (u : UnitAnalysis) → read_unit table path text ≡ Ok u → u.text ≡ text
-read_text table path text u e =
-    let tree = done_first _ (bound_unit table path text) u e in
-    bound_text table path text tree.0 u tree.2
+read_text : (standard : Standard) (table : Table) (path : List ℕ) (text : UnitTextValue) (u : UnitAnalysis) → read_unit standard table path text ≡ Ok u → u.text ≡ text
+read_text standard table path text u e =
+    let tree = done_first _ (bound_unit standard table path text) u e in
+    bound_text standard table path text tree.0 u tree.2
 
 units_few : (source : Source) (number : ℕ) (units : List UnitValue) (before : Carried) (v : UnitsValue) → All IsUnit units
     → number + length units ≤ 2 ^ 32 → IsFresh number before.table → before.toks ≤ 2 ^ 23
@@ -64,11 +65,11 @@ units_few source number [] before v are small fresh few e =
     ok_holds {E = UnitFault} (λ (u : UnitsValue). before.toks + tokens_in u.units ≤ 2 ^ 23) _ v e (omega arith)
 units_few source number (unit ∷ units) before v are small fresh few e =
     let p = done_first (unit_with source number unit before) _ v e in
-    let u = done_first (unit_read number unit.path p.0) _ v p.2 in
+    let u = done_first (unit_read unit.standard number unit.path p.0) _ v p.2 in
     let later = done_first (analysed_from source (number + 1) units p.0.after) _ v u.2 in
     let done = unmapped (preprocessed source number unit before) (unit_fault number) p.0 p.1 in
     let counts = unit_counted source number unit before p.0 few (fresh number (omega arith) (omega arith)) done in
-    let text = read_text p.0.after.table unit.path p.0.text u.0 (unmapped (read_unit p.0.after.table unit.path p.0.text) (unit_fault number) u.0 u.1) in
+    let text = read_text unit.standard p.0.after.table unit.path p.0.text u.0 (unmapped (read_unit unit.standard p.0.after.table unit.path p.0.text) (unit_fault number) u.0 u.1) in
     let same : length u.0.text.toks ≡ length p.0.text.toks = ap (λ (t : UnitTextValue). length t.toks) text in
     let rest = units_few source (number + 1) units p.0.after later.0 (All-tail IsUnit unit units are) (omega arith)
     (fresh_on source number unit before p.0 (All-head IsUnit unit units are) (omega arith) fresh done) counts.1 later.1 in

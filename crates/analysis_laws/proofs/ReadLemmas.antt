@@ -218,7 +218,7 @@ unfolding analysed_from
 units_keep path source number [] before v h e = ok_holds {E = UnitFault} (λ (u : UnitsValue). IsOpened path u.table) _ v e h
 units_keep path source number (unit ∷ units) before v h e =
     let p = done_first (unit_with source number unit before) _ v e in
-    let u = done_first (unit_read number unit.path p.0) _ v p.2 in
+    let u = done_first (unit_read unit.standard number unit.path p.0) _ v p.2 in
     let later = done_first (analysed_from source (number + 1) units p.0.after) _ v u.2 in
     let after = opened_after path source number unit before p.0 h (unmapped (preprocessed source number unit before) (unit_fault number) p.0 p.1) in
     let rest = units_keep path source (number + 1) units p.0.after later.0 after later.1 in
@@ -230,7 +230,7 @@ unfolding analysed_from
 units_open source number [] before v are h e = All-nil (IsUnitOpened v.table)
 units_open source number (unit ∷ units) before v are h e =
     let p = done_first (unit_with source number unit before) _ v e in
-    let u = done_first (unit_read number unit.path p.0) _ v p.2 in
+    let u = done_first (unit_read unit.standard number unit.path p.0) _ v p.2 in
     let later = done_first (analysed_from source (number + 1) units p.0.after) _ v u.2 in
     let done = unmapped (preprocessed source number unit before) (unit_fault number) p.0 p.1 in
     let here = opened_here source number unit before p.0 (unit_real unit (All-head IsUnit unit units are)) h done in

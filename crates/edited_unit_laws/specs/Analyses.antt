@@ -6,7 +6,7 @@ use Rattle.renamed.specs.Below.macro_expand.Renaming.{Renaming}
 use Rattle.renamed.specs.Below.source_files.Files.{Source, Table, Carried, nothing_carried}
 use Rattle.renamed.specs.Below.source_files.Tables.{IsGrown}
 use Rattle.renamed.specs.Below.c99_read.Reading.{read_of}
-use Rattle.renamed.specs.Below.c99_grammar.Standard.{c99}
+use Rattle.renamed.specs.Below.c99_grammar.Standard.{grammar}
 use Rattle.renamed.specs.Below.scope_bind.Bound.{binding_of}
 use Rattle.renamed.specs.Below.ws_core.Texts.{texts_and, texts_from}
 use Rattle.renamed.specs.Below.ws_core.Analysis.{UnitAnalysis, UnitsValue, units_and, AnalysisValue, analysed_from, analysis_of}
@@ -20,21 +20,25 @@ use Rattle.renamed.specs.Renamed as page
 
 -- ---- what an analysis is made of
 
--- The tokens of a unit are read to its tree (Annex A), and bound so (6.2).
+-- The tokens of a unit are read by its standard to its tree (Annex A), and bound so (6.2).
 pub record IsRead (u : UnitAnalysis) : Type 0 where
-  pub reads : read_of c99 u.text.toks ≡ Ok u.tree
+  pub reads : read_of (grammar u.standard) u.text.toks ≡ Ok u.tree
   pub binds : binding_of u.text.toks u.tree ≡ Ok u.bound
 
--- The law: units that are accepted have these texts and this table, and each text is read and bound so.
+-- they are of the standards of these units
+abbrev pub AreOfStandards : List UnitValue → List UnitAnalysis → Type 0
+AreOfStandards units us = map (λ u. u.standard) us ≡ map (λ u. u.standard) units
+
+-- The law: units that are accepted have these standards, texts and this table, and each text is read and bound so.
 abbrev pub AnalysesHaveTexts : Type 0
 AnalysesHaveTexts = (source : Source) (number : ℕ) (units : List UnitValue) (before : Carried) (v : UnitsValue)
     → analysed_from source number units before ≡ Ok v
-    → (texts_from source number units before ≡ Ok (texts_and (texts_in v.units) v.table)) × Each IsRead v.units
+    → (texts_from source number units before ≡ Ok (texts_and (texts_in v.units) v.table)) × (Each IsRead v.units × AreOfStandards units v.units)
 
--- The law: where units have these texts, and each is read and bound so, they are accepted, and this is their analysis.
+-- The law: where units have these standards and texts, and each is read and bound so, they are accepted, and this is their analysis.
 abbrev pub TextsHaveAnalyses : Type 0
 TextsHaveAnalyses = (source : Source) (number : ℕ) (units : List UnitValue) (before : Carried) (us : List UnitAnalysis) (table : Table)
-    → texts_from source number units before ≡ Ok (texts_and (texts_in us) table) → Each IsRead us
+    → texts_from source number units before ≡ Ok (texts_and (texts_in us) table) → Each IsRead us → AreOfStandards units us
     → analysed_from source number units before ≡ Ok (units_and us table)
 
 -- ---- the same over edited files

@@ -6,6 +6,8 @@ use Rattle.std.specs.Option.{option_map_or}
 use Rattle.std.specs.Str.{bytes_eq}
 use Rattle.std.proofs.lemmas.Bool.{and_parts}
 use Rattle.std.proofs.lemmas.Option.{slice_get-map}
+use Rattle.tree_laws.specs.Below.cs_base.declared.ws_units.Standard.{Standard}
+use Rattle.tree_laws.specs.Below.cs_base.declared.ws_units.Standard.TheVariants.{C99, C11}
 use Rattle.tree_laws.specs.Below.cs_base.declared.positions.Part.{Part}
 use Rattle.tree_laws.specs.Below.cs_base.declared.tokens.Kind.{Kind}
 use Rattle.tree_laws.specs.Below.cs_base.declared.tokens.Kind.TheVariants as kind
@@ -14,8 +16,8 @@ use Rattle.tree_laws.specs.Below.cs_base.Token.{Token}
 use Rattle.no_offence_laws.specs.Below.line_shape.Signs as signs
 use Rattle.no_offence_laws.specs.Below.macro_expand.Renaming.{Renaming, renamed}
 use Rattle.no_offence_laws.specs.Below.macro_expand.Renaming as macros
-use Rattle.tree_laws.specs.Below.c99_grammar.Spellings.{Spelled, keywords}
-use Rattle.tree_laws.specs.Below.c99_grammar.Standard.{c99}
+use Rattle.tree_laws.specs.Below.c99_grammar.Spellings.{Spelled, keywords_of}
+use Rattle.tree_laws.specs.Below.c99_grammar.Standard.{grammar}
 use Rattle.tree_laws.specs.Below.c99_read.State.{base_at}
 use Rattle.tree_laws.specs.Below.c99_grammar.TokenClasses.{spelled_class, class_of_kind, base_class}
 use Rattle.renamed_tree_laws.proofs.Private.{Class, identifier, no_class, end_class}
@@ -34,9 +36,10 @@ abbrev is_kept : Spelled → Bool
 is_kept s = is_reserved_text s.0
 
 -- each keyword is reserved (6.4.1)
-keywords_reserved : list_all is_kept keywords ≡ true
+keywords_reserved : (std : Standard) → list_all is_kept (keywords_of std) ≡ true
 unfolding is_reserved_text
-keywords_reserved = refl
+keywords_reserved C99 = refl
+keywords_reserved C11 = refl
 
 module _ (x y : List ℕ) (same : (word : List ℕ) → is_reserved_text word ≡ true → bytes_eq x word ≡ bytes_eq y word) where
   -- two texts that are the same reserved words, or none, are of one class
@@ -48,10 +51,10 @@ module _ (x y : List ℕ) (same : (word : List ℕ) → is_reserved_text word �
       ap (λ (b : Bool). if b then s.1 else spelled_class words x other) (same s.0 both.0)
       ∙ ap (λ (c : Class). if bytes_eq y s.0 then s.1 else c) (spelled_alike words other both.1)
 
-kind_alike : (k : Kind) (x y : List ℕ) → (signs.is_identifier k ≡ true → (word : List ℕ) → is_reserved_text word ≡ true → bytes_eq x word ≡ bytes_eq y word)
-    → (signs.is_identifier k ≡ false → x ≡ y) → class_of_kind c99 k x ≡ class_of_kind c99 k y
-kind_alike kind.Ident x y named other = spelled_alike x y (named refl) keywords identifier keywords_reserved
-kind_alike k x y named other = ap (class_of_kind c99 k) (other refl)
+kind_alike : (std : Standard) (k : Kind) (x y : List ℕ) → (signs.is_identifier k ≡ true → (word : List ℕ) → is_reserved_text word ≡ true → bytes_eq x word ≡ bytes_eq y word)
+    → (signs.is_identifier k ≡ false → x ≡ y) → class_of_kind (grammar std) k x ≡ class_of_kind (grammar std) k y
+kind_alike std kind.Ident x y named other = spelled_alike x y (named refl) (keywords_of std) identifier (keywords_reserved std)
+kind_alike std k x y named other = ap (class_of_kind (grammar std) k) (other refl)
 
 -- ---- classes of the tokens of a unit
 
@@ -63,25 +66,25 @@ module _ (a : Analysed) (members : List Part) (name : List ℕ) (r : Renaming) (
   abbrev new : List Token
   new = map (renamed r) u.text.toks
 
-  class_kept : (t : Token) → In t old → base_class c99 t ≡ base_class c99 (renamed r t)
+  class_kept : (t : Token) → In t old → base_class (grammar u.standard) t ≡ base_class (grammar u.standard) (renamed r t)
   unfolding base_class
   class_kept t j =
       let kept = tokens_kept a members name r h spells keeps u i t j in
-      kind_alike t.kind t.text (macros.spelled r t)
+      kind_alike u.standard t.kind t.text (macros.spelled r t)
       (λ named word reserved. sym (reserved_same a members name r h spells keeps u i t j named word reserved)) (λ other. sym (kept.stays other))
 
   abbrev behind : ℕ → ℕ → Class
   behind k n = if k == n then end_class else no_class
 
   abbrev class_of : ℕ → Option Token → Class
-  class_of k o = option_map_or (base_class c99) o (behind k (length old))
+  class_of k o = option_map_or (base_class (grammar u.standard)) o (behind k (length old))
 
   -- token k is of the class that it had, and as many tokens stand there
-  pub bases_kept : (k : ℕ) → base_at c99 old k ≡ base_at c99 new k
+  pub bases_kept : (k : ℕ) → base_at (grammar u.standard) old k ≡ base_at (grammar u.standard) new k
   bases_kept k =
       by (slice_get old k) refl
       ∙ sym (ap (class_of k) (slice_get-map (renamed r) old k))
-      ∙ sym (ap (λ n. option_map_or (base_class c99) (slice_get new k) (behind k n)) (as_long a members name r h spells keeps u i))
+      ∙ sym (ap (λ n. option_map_or (base_class (grammar u.standard)) (slice_get new k) (behind k n)) (as_long a members name r h spells keeps u i))
     where
       by : (o : Option Token) → slice_get old k ≡ o → class_of k (slice_get old k) ≡ class_of k (option_map (renamed r) (slice_get old k))
       by None e = ap (class_of k) e ∙ sym (ap (λ (o : Option Token). class_of k (option_map (renamed r) o)) e)

@@ -82,7 +82,7 @@ module _ (source : Source) (J : Table → Type 0) (K : List ℕ → Type 0) (rul
       subst P same h
   after_units number (unit ∷ units) before v own h e =
       let p = done_first (unit_with source number unit before) _ v e in
-      let u = done_first (unit_read number unit.path p.0) _ v p.2 in
+      let u = done_first (unit_read unit.standard number unit.path p.0) _ v p.2 in
       let later = done_first (analysed_from source (number + 1) units p.0.after) _ v u.2 in
       let is_text = unmapped (preprocessed source number unit before) (unit_fault number) p.0 p.1 in
       let rest = after_units (number + 1) units p.0.after later.0 own.1 (after_unit number unit before p.0 own.0 h is_text) later.1 in

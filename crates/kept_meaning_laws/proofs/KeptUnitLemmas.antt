@@ -65,11 +65,11 @@ module _ (a : Analysed) (members : List Part) (name : List ℕ) (h : IsAllowed a
   kept_from number (unit ∷ units) before v from e grown at = λ d is.
       let source : Source = h.source in
       let p = done_first (unit_with source number unit before) _ v e in
-      let r = done_first (unit_read number unit.path p.0) _ v p.2 in
+      let r = done_first (unit_read unit.standard number unit.path p.0) _ v p.2 in
       let u : UnitAnalysis = r.0 in
       let later = done_first (analysed_from source (number + 1) units p.0.after) _ v r.2 in
       let is_text = unmapped (preprocessed source number unit before) (unit_fault number) p.0 p.1 in
-      let is_read = unmapped (read_unit p.0.after.table unit.path p.0.text) (unit_fault number) u r.1 in
+      let is_read = unmapped (read_unit unit.standard p.0.after.table unit.path p.0.text) (unit_fault number) u r.1 in
       let gives = unit_gives source number unit before p.0 d is_text is in
       let same = ok_same {E = UnitFault} (with_unit u later.0) v later.2 in
       let grows = (units_are source (number + 1) units p.0.after later.0 later.1).0 in
@@ -87,7 +87,7 @@ module _ (a : Analysed) (members : List Part) (name : List ℕ) (h : IsAllowed a
         unit = unit;
         before = before;
         outcome = is;
-        text = ap (λ (x : Preprocessed). x.text) gives ∙ bound_text p.0.after.table unit.path p.0.text u is_read;
+        text = ap (λ (x : Preprocessed). x.text) gives ∙ bound_text unit.standard p.0.after.table unit.path p.0.text u is_read;
         grown = here;
       } in
       let kept = subst (KeepsOne a.value members name new d) (sym first) (one_kept u (number - 1, first) d outcome) in

@@ -8,6 +8,7 @@ use Rattle.std.specs.Str.{bytes_eq}
 use Rattle.std.proofs.lemmas.Bool.{cases_Bool, both_ways, and_parts, and_from, eqb-true, eq-eqb}
 use Rattle.std.proofs.lemmas.List.Elements.{All-head, All-tail}
 use Rattle.std.proofs.lemmas.Option.{same_Some}
+use Rattle.tree_laws.specs.Below.cs_base.declared.ws_units.Standard.{Standard}
 use Rattle.tree_laws.specs.Below.cs_base.declared.tokens.Kind.{Kind}
 use Rattle.tree_laws.specs.Below.cs_base.declared.tokens.Kind.TheVariants as kind
 use Rattle.tree_laws.specs.Below.cs_base.declared.tokens.Link.{Link}
@@ -16,7 +17,7 @@ use Rattle.no_offence_laws.specs.Below.line_shape.Signs.{is_name}
 use Rattle.no_offence_laws.specs.Below.line_shape.Signs as signs
 use Rattle.no_offence_laws.specs.Below.linkage_join.Linkage.{link_to, links_of as external_links}
 use Rattle.tree_laws.specs.Below.c99_grammar.Spellings.{Spelled, punctuators}
-use Rattle.tree_laws.specs.Below.c99_grammar.Standard.{c99}
+use Rattle.tree_laws.specs.Below.c99_grammar.Standard.{grammar}
 use Rattle.tree_laws.specs.Below.c99_read.State.{base_at, is_identifier}
 use Rattle.tree_laws.specs.Below.c99_grammar.TokenClasses.{spelled_class, class_of_kind, base_class}
 use Rattle.tree_laws.specs.Below.scope_bind.declared.bound.Name.{Name}
@@ -187,26 +188,26 @@ sign_class (w ∷ words) text other all last =
     by true k m = not_true (is_identifier w.1) k
     by false k m = m
 
-kind_named : (k : Kind) (text : List ℕ) → is_identifier (class_of_kind c99 k text) ≡ true → signs.is_identifier k ≡ true
-kind_named kind.Ident text h = refl
-kind_named kind.Punct text h = absurd (both_ways (is_identifier (class_of_kind c99 kind.Punct text)) (sign_class punctuators text _ refl refl) h)
-kind_named kind.Number text h = absurd (both_ways (is_identifier (class_of_kind c99 kind.Number text)) refl h)
-kind_named kind.Char text h = absurd (both_ways (is_identifier (class_of_kind c99 kind.Char text)) refl h)
-kind_named kind.Str text h = absurd (both_ways (is_identifier (class_of_kind c99 kind.Str text)) refl h)
-kind_named kind.Header text h = absurd (both_ways (is_identifier (class_of_kind c99 kind.Header text)) refl h)
-kind_named kind.Other text h = absurd (both_ways (is_identifier (class_of_kind c99 kind.Other text)) refl h)
+kind_named : (std : Standard) (k : Kind) (text : List ℕ) → is_identifier (class_of_kind (grammar std) k text) ≡ true → signs.is_identifier k ≡ true
+kind_named std kind.Ident text h = refl
+kind_named std kind.Punct text h = absurd (both_ways (is_identifier (class_of_kind (grammar std) kind.Punct text)) (sign_class punctuators text _ refl refl) h)
+kind_named std kind.Number text h = absurd (both_ways (is_identifier (class_of_kind (grammar std) kind.Number text)) refl h)
+kind_named std kind.Char text h = absurd (both_ways (is_identifier (class_of_kind (grammar std) kind.Char text)) refl h)
+kind_named std kind.Str text h = absurd (both_ways (is_identifier (class_of_kind (grammar std) kind.Str text)) refl h)
+kind_named std kind.Header text h = absurd (both_ways (is_identifier (class_of_kind (grammar std) kind.Header text)) refl h)
+kind_named std kind.Other text h = absurd (both_ways (is_identifier (class_of_kind (grammar std) kind.Other text)) refl h)
 
-class_named : (t : Token) → is_identifier (base_class c99 t) ≡ true → is_name t ≡ true
+class_named : (std : Standard) (t : Token) → is_identifier (base_class (grammar std) t) ≡ true → is_name t ≡ true
 unfolding base_class
-class_named t h = kind_named t.kind t.text h
+class_named std t h = kind_named std t.kind t.text h
 
 -- an identifier, as reading sees it, is one
-pub named_token : (toks : List Token) (k : ℕ) → is_identifier (base_at c99 toks k) ≡ true → (t : Token) × (slice_get toks k ≡ Some t) × (is_name t ≡ true)
-named_token toks k h = by (slice_get toks k) (k == length toks) refl h
+pub named_token : (std : Standard) (toks : List Token) (k : ℕ) → is_identifier (base_at (grammar std) toks k) ≡ true → (t : Token) × (slice_get toks k ≡ Some t) × (is_name t ≡ true)
+named_token std toks k h = by (slice_get toks k) (k == length toks) refl h
   where
     by : (o : Option Token) (c : Bool) → slice_get toks k ≡ o
-        → is_identifier (option_map_or (base_class c99) o (if c then base_at c99 [] 0 else base_at c99 [] 1)) ≡ true
+        → is_identifier (option_map_or (base_class (grammar std)) o (if c then base_at (grammar std) [] 0 else base_at (grammar std) [] 1)) ≡ true
         → (t : Token) × (slice_get toks k ≡ Some t) × (is_name t ≡ true)
-    by None true at is = absurd (both_ways (is_identifier (base_at c99 [] 0)) refl is)
-    by None false at is = absurd (both_ways (is_identifier (base_at c99 [] 1)) refl is)
-    by (Some t) c at is = (t, at, class_named t is)
+    by None true at is = absurd (both_ways (is_identifier (base_at (grammar std) [] 0)) refl is)
+    by None false at is = absurd (both_ways (is_identifier (base_at (grammar std) [] 1)) refl is)
+    by (Some t) c at is = (t, at, class_named std t is)

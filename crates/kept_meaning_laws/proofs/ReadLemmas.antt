@@ -1,6 +1,5 @@
 -- The renamed tokens of each unit are read and bound as before.
 use Rattle.std.proofs.Common.{ℕ, List, map}
-use Rattle.tree_laws.specs.Below.cs_base.declared.ws_units.Standard.TheVariants.{C99}
 use Rattle.tree_laws.specs.Below.cs_base.declared.positions.Part.{Part}
 use Rattle.tree_laws.specs.Below.cs_base.Token.{Token}
 use Rattle.no_offence_laws.specs.Below.macro_expand.Renaming.{Renaming, renamed}
@@ -32,10 +31,10 @@ module _ (a : Analysed) (members : List Part) (name : List ℕ) (r : Renaming) (
       let is = unit_read_so h.source h.workspace a.value h.accepted u i in
       let old : List Token = u.text.toks in
       let new : List Token = map (renamed r) u.text.toks in
-      let loose = bare_names_are_loose C99 old u.tree u.bound is.reads is.binds (StaysWhole old new u.bound.typedefs)
+      let loose = bare_names_are_loose u.standard old u.tree u.bound is.reads is.binds (StaysWhole old new u.bound.typedefs)
       (λ k x at. bare_stays a members name r h spells keeps u i x (k, at)) in
       record {
-        reads = renamed_alike C99 old new u.tree u.bound is.reads is.binds (units_are_renamed_whole a members name r h spells keeps u i)
+        reads = renamed_alike u.standard old new u.tree u.bound is.reads is.binds (units_are_renamed_whole a members name r h spells keeps u i)
             (bases_kept a members name r h spells keeps u i) loose;
         binds = names_bind_as_before a members name r h spells keeps u i;
       }

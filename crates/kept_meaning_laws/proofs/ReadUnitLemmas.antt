@@ -2,13 +2,14 @@
 use Rattle.std.proofs.Common.{◌≡◌, ℕ, zero, suc, ◌+◌, List, [], ◌∷◌, Some, Ok, subst}
 use Rattle.std.specs.Prelude.{slice_get}
 use Rattle.std.proofs.lemmas.Option.{same_Some}
+use Rattle.tree_laws.specs.Below.cs_base.declared.ws_units.Standard.{Standard}
 use Rattle.tree_laws.specs.Below.cs_base.Units.{UnitValue}
 use Rattle.no_offence_laws.specs.Below.ws_file.Workspace.{WorkspaceValue}
 use Rattle.no_offence_laws.specs.Below.source_files.Faults.{Fault}
 use Rattle.no_offence_laws.specs.Below.source_files.Files.{Source, Table, Carried, nothing_carried}
 use Rattle.no_offence_laws.specs.Below.unit_steps.Texts.{UnitTextValue}
 use Rattle.tree_laws.specs.Below.c99_read.Reading.{read_of}
-use Rattle.tree_laws.specs.Below.c99_grammar.Standard.{c99}
+use Rattle.tree_laws.specs.Below.c99_grammar.Standard.{grammar}
 use Rattle.tree_laws.specs.Below.scope_bind.Bound.{binding_of}
 use Rattle.no_offence_laws.specs.Below.ws_core.Analysis.{UnitAnalysis, UnitsValue, AnalysisValue, analysis_and, with_unit, unit_read, analysed_from, analysis_of, read_unit, bound_unit, unit_analysis}
 use Rattle.no_offence_laws.specs.Below.ws_core.Texts.{UnitFault, unit_fault, unit_with}
@@ -17,18 +18,18 @@ use Rattle.no_offence_laws.proofs.UnitsLemmas.{ok_same, done_first, unmapped}
 
 -- The tokens of a unit are read to its tree (Annex A), and bound so (6.2).
 pub record IsReadSo (u : UnitAnalysis) : Type 0 where
-  pub reads : read_of c99 u.text.toks ≡ Ok u.tree
+  pub reads : read_of (grammar u.standard) u.text.toks ≡ Ok u.tree
   pub binds : binding_of u.text.toks u.tree ≡ Ok u.bound
 
-one_read : (table : Table) (path : List ℕ) (text : UnitTextValue) (u : UnitAnalysis) → read_unit table path text ≡ Ok u → IsReadSo u
-one_read table path text u e =
-    let r = done_first {E = Fault} _ (bound_unit table path text) u e in
-    let b = done_first {E = Fault} _ (λ bound. Ok (unit_analysis text r.0 bound)) u r.2 in
-    let own : IsReadSo (unit_analysis text r.0 b.0) = record {
-      reads = unmapped (read_of c99 text.toks) _ r.0 r.1;
+one_read : (standard : Standard) (table : Table) (path : List ℕ) (text : UnitTextValue) (u : UnitAnalysis) → read_unit standard table path text ≡ Ok u → IsReadSo u
+one_read standard table path text u e =
+    let r = done_first {E = Fault} _ (bound_unit standard table path text) u e in
+    let b = done_first {E = Fault} _ (λ bound. Ok (unit_analysis standard text r.0 bound)) u r.2 in
+    let own : IsReadSo (unit_analysis standard text r.0 b.0) = record {
+      reads = unmapped (read_of (grammar standard) text.toks) _ r.0 r.1;
       binds = unmapped (binding_of text.toks r.0) _ b.0 b.1;
     } in
-    subst IsReadSo (ok_same {E = Fault} (unit_analysis text r.0 b.0) u b.2) own
+    subst IsReadSo (ok_same {E = Fault} (unit_analysis standard text r.0 b.0) u b.2) own
 
 units_read : (source : Source) (number : ℕ) (units : List UnitValue) (before : Carried) (v : UnitsValue)
     → analysed_from source number units before ≡ Ok v → (u : UnitAnalysis) → In u v.units → IsReadSo u
@@ -39,9 +40,9 @@ units_read source number [] before v e =
     subst P same (λ u i. absurd (let at = i.1 in cc))
 units_read source number (unit ∷ units) before v e =
     let p = done_first (unit_with source number unit before) _ v e in
-    let u = done_first (unit_read number unit.path p.0) _ v p.2 in
+    let u = done_first (unit_read unit.standard number unit.path p.0) _ v p.2 in
     let later = done_first (analysed_from source (number + 1) units p.0.after) _ v u.2 in
-    let first = one_read p.0.after.table unit.path p.0.text u.0 (unmapped (read_unit p.0.after.table unit.path p.0.text) (unit_fault number) u.0 u.1) in
+    let first = one_read unit.standard p.0.after.table unit.path p.0.text u.0 (unmapped (read_unit unit.standard p.0.after.table unit.path p.0.text) (unit_fault number) u.0 u.1) in
     let rest = units_read source (number + 1) units p.0.after later.0 later.1 in
     let same = ok_same {E = UnitFault} (with_unit u.0 later.0) v later.2 in
     let P : UnitsValue → Type 0 = λ w. (x : UnitAnalysis) → In x w.units → IsReadSo x in

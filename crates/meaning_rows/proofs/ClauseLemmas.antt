@@ -30,5 +30,5 @@ kept_meaning_reads_alike now ws a members name h =
     let done = then_done _ (analysed_from now 1 ws.units nothing_carried) (renamed_analysis c a) h in
     let v : UnitsValue = done.0 in
     let whole : analysis_and ws v.units v.table ≡ renamed_analysis c a = one_answer _ (analysis_and ws v.units v.table) (renamed_analysis c a) refl done.2 in
-    let read : Each IsRead v.units = (analyses_have_texts now 1 ws.units nothing_carried v done.1).1 in
+    let read : Each IsRead v.units = (analyses_have_texts now 1 ws.units nothing_carried v done.1).1.0 in
     unrenamed c.renaming a.units (subst (λ (x : AnalysisValue). Each IsRead x.units) whole read)

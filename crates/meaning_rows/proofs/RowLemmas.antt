@@ -1,10 +1,11 @@
 -- An analysis of a row has the tree and the binding of its tokens; so it keeps or breaks meaning as these do.
 use Rattle.std.proofs.Common.{◌≡◌, ℕ, List, [], ◌∷◌, map, Ok, sym, subst}
+use Rattle.kept_meaning_laws.specs.Below.cs_base.declared.ws_units.Standard.{Standard}
 use Rattle.kept_meaning_laws.specs.Below.cs_base.Token.{Token}
 use Rattle.kept_meaning_laws.specs.Below.macro_expand.Renaming.{Renaming, renamed}
 use Rattle.kept_meaning_laws.specs.Below.c99_tree.Tree.{Node}
 use Rattle.kept_meaning_laws.specs.Below.c99_read.Reading.{read_of}
-use Rattle.kept_meaning_laws.specs.Below.c99_grammar.Standard.{c99}
+use Rattle.kept_meaning_laws.specs.Below.c99_grammar.Standard.{c99, grammar}
 use Rattle.kept_meaning_laws.specs.Below.scope_bind.Bound.{Bound, binding_of}
 use Rattle.kept_meaning_laws.specs.Below.ws_core.Analysis.{UnitAnalysis, AnalysisValue}
 use Rattle.kept_meaning_laws.specs.Below.edited_unit_laws.Lines.{Each}
@@ -25,7 +26,7 @@ renaming a at name = (change a (member at) name).renaming
 module _ (r : Row) (tree : Node) (bound : Bound) (old : ReadSo r.toks tree bound) (a : AnalysisValue) (h : IsOf r a) where
   its_tree : h.unit.tree ≡ tree
   its_tree =
-      let reads : read_of c99 r.toks ≡ Ok h.unit.tree = subst (λ (toks : List Token). read_of c99 toks ≡ Ok h.unit.tree) h.toks h.read.reads in
+      let reads : read_of c99 r.toks ≡ Ok h.unit.tree = subst (λ (toks : List Token). read_of c99 toks ≡ Ok h.unit.tree) h.toks (subst (λ (s : Standard). read_of (grammar s) h.unit.text.toks ≡ Ok h.unit.tree) h.standard h.read.reads) in
       one_answer (read_of c99 r.toks) h.unit.tree tree reads old.reads
 
   pub its_bound : h.unit.bound ≡ bound
@@ -45,7 +46,10 @@ keeps r at name tree bound old anew a h =
     subst (λ (t : Node). ReadSo (map (renamed c) u.text.toks) t bound) (sym (its_tree r tree bound old a h)) now in
     let so : ReadSo (map (renamed c) u.text.toks) u.tree u.bound =
     subst (λ (b : Bound). ReadSo (map (renamed c) u.text.toks) u.tree b) (sym (its_bound r tree bound old a h)) on_tree in
-    let alike : ReadsAlike c u = record { reads = so.reads; binds = so.binds } in
+    let alike : ReadsAlike c u = record {
+      reads = subst (λ (s : Standard). read_of (grammar s) (map (renamed c) u.text.toks) ≡ Ok u.tree) (sym h.standard) so.reads;
+      binds = so.binds;
+    } in
     subst (Each (ReadsAlike c)) (sym h.only) (alike, tt)
 
 -- where they are not, no analysis of the row keeps meaning
@@ -55,7 +59,10 @@ breaks r at name tree bound old never a h now ws kept =
     let c : Renaming = renaming a at name in
     let u : UnitAnalysis = h.unit in
     let each : Each (ReadsAlike c) (u ∷ []) = subst (Each (ReadsAlike c)) h.only (kept_meaning_reads_alike now ws a (member at) name kept) in
-    let so : ReadSo (map (renamed c) u.text.toks) u.tree u.bound = record { reads = each.0.reads; binds = each.0.binds } in
+    let so : ReadSo (map (renamed c) u.text.toks) u.tree u.bound = record {
+      reads = subst (λ (s : Standard). read_of (grammar s) (map (renamed c) u.text.toks) ≡ Ok u.tree) h.standard each.0.reads;
+      binds = each.0.binds;
+    } in
     let on_bound : ReadSo (map (renamed c) u.text.toks) u.tree bound =
     subst (λ (b : Bound). ReadSo (map (renamed c) u.text.toks) u.tree b) (its_bound r tree bound old a h) so in
     let on_tree : ReadSo (map (renamed c) u.text.toks) tree bound =

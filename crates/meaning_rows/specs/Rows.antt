@@ -33,10 +33,11 @@ pub record Row : Type 0 where
 abbrev row : List ℕ → List Token → List Token → Row
 row bytes toks pasted = record { bytes = bytes; toks = toks; pasted = pasted }
 
--- An analysis of the row: of one unit that has these tokens, read and bound as they are.
+-- An analysis of the row: of one unit of C99 that has these tokens, read and bound as they are.
 pub record IsOf (r : Row) (a : AnalysisValue) : Type 0 where
   pub unit : UnitAnalysis
   pub only : a.units ≡ unit ∷ []
+  pub standard : unit.standard ≡ C99
   pub toks : unit.text.toks ≡ r.toks
   pub pasted : unit.text.pasted ≡ r.pasted
   pub read : IsRead unit

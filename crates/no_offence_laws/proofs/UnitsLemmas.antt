@@ -4,6 +4,7 @@ use Rattle.std.specs.Prelude.{slice_get, cond}
 use Rattle.std.specs.List.{flat_map}
 use Rattle.std.specs.Str.{bytes_eq}
 use Rattle.std.proofs.lemmas.Option.{same_Some}
+use Rattle.rename_rules.specs.Below.cs_base.declared.ws_units.Standard.{Standard}
 use Rattle.rename_rules.specs.Below.cs_base.Answer.{result_then, result_map_err}
 use Rattle.rename_rules.specs.Below.cs_base.Token.{Token}
 use Rattle.rename_rules.specs.Below.cs_base.Units.{UnitValue, defines_text}
@@ -144,11 +145,11 @@ unit_later old new u more h = record {
   grown = (let text = h.text in grown_trans text.after.table old new h.grown more);
 }
 
-pub bound_text : (table : Table) (path : List ℕ) (text : UnitTextValue) (u : UnitAnalysis) → read_unit table path text ≡ Ok u → text ≡ u.text
-bound_text table path text u e =
-    let r = done_first {E = Fault} _ (bound_unit table path text) u e in
-    let b = done_first {E = Fault} _ (λ bound. Ok (unit_analysis text r.0 bound)) u r.2 in
-    ap (λ (v : UnitAnalysis). v.text) (ok_same {E = Fault} (unit_analysis text r.0 b.0) u b.2)
+pub bound_text : (standard : Standard) (table : Table) (path : List ℕ) (text : UnitTextValue) (u : UnitAnalysis) → read_unit standard table path text ≡ Ok u → text ≡ u.text
+bound_text standard table path text u e =
+    let r = done_first {E = Fault} _ (bound_unit standard table path text) u e in
+    let b = done_first {E = Fault} _ (λ bound. Ok (unit_analysis standard text r.0 bound)) u r.2 in
+    ap (λ (v : UnitAnalysis). v.text) (ok_same {E = Fault} (unit_analysis standard text r.0 b.0) u b.2)
 
 pub units_are : (source : Source) (number : ℕ) (units : List UnitValue) (before : Carried) (v : UnitsValue)
     → analysed_from source number units before ≡ Ok v → IsGrown before.table v.table × ((u : UnitAnalysis) → In u v.units → IsUnit v.table u)
@@ -159,10 +160,10 @@ units_are source number [] before v e =
     subst P same (grown_refl before.table, λ u i. absurd (let at = i.1 in cc))
 units_are source number (unit ∷ units) before v e =
     let p = done_first (unit_with source number unit before) _ v e in
-    let u = done_first (unit_read number unit.path p.0) _ v p.2 in
+    let u = done_first (unit_read unit.standard number unit.path p.0) _ v p.2 in
     let later = done_first (analysed_from source (number + 1) units p.0.after) _ v u.2 in
     let is_text = unmapped (preprocessed source number unit before) (unit_fault number) p.0 p.1 in
-    let is_read = unmapped (read_unit p.0.after.table unit.path p.0.text) (unit_fault number) u.0 u.1 in
+    let is_read = unmapped (read_unit unit.standard p.0.after.table unit.path p.0.text) (unit_fault number) u.0 u.1 in
     let rest = units_are source (number + 1) units p.0.after later.0 later.1 in
     let grows = unit_grows source number unit before p.0 is_text in
     let own : IsUnit later.0.table u.0 = record {
@@ -172,7 +173,7 @@ units_are source number (unit ∷ units) before v e =
       before = before;
       text = p.0;
       is_text = is_text;
-      own = bound_text p.0.after.table unit.path p.0.text u.0 is_read;
+      own = bound_text unit.standard p.0.after.table unit.path p.0.text u.0 is_read;
       grown = rest.0;
     } in
     let same = ok_same {E = UnitFault} (with_unit u.0 later.0) v later.2 in

@@ -84,9 +84,9 @@ edited_table edit table = edited_from edit 0 table
 abbrev pub renamed_texts : Renaming → Editing → TextsValue → TextsValue
 renamed_texts r edit t = texts_and (map (renamed_text r) t.texts) (edited_table edit t.table)
 
--- an accepted unit, renamed: its text; its tree (Annex A), and what its identifiers denote (6.2), are as before
+-- an accepted unit, renamed: its text; its standard, its tree (Annex A), and what its identifiers denote (6.2), are as before
 abbrev pub renamed_unit_analysis : Renaming → UnitAnalysis → UnitAnalysis
-renamed_unit_analysis r u = unit_analysis (renamed_text r u.text) u.tree u.bound
+renamed_unit_analysis r u = unit_analysis u.standard (renamed_text r u.text) u.tree u.bound
 
 -- the analysis of a workspace, renamed: each unit, with the edited table
 abbrev pub renamed_analysis : Renaming → Editing → AnalysisValue → AnalysisValue

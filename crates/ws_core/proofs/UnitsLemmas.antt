@@ -68,7 +68,7 @@ rest_fault source units i unit d all before None h p rest step = tt
 rest_fault source units i unit d all before (Some f) h p rest step =
     let more = at_drop_more (λ (us : List UnitValue). behind all (analysed_from source (i + 1) us before)) units i d h in
     let now = rw (← p) at more in
-    let first = passed_first (λ k. analysed_from source (i + 1 + 1) (drop (i + 1) units) k) (unit_read (i + 1) unit.path) (unit_with source (i + 1) unit before) in
+    let first = passed_first (λ k. analysed_from source (i + 1 + 1) (drop (i + 1) units) k) (unit_read unit.standard (i + 1) unit.path) (unit_with source (i + 1) unit before) in
     let next = rw step at first in
     sym rest ∙ now ∙ ap (behind all) next
 
@@ -82,7 +82,7 @@ unfolding analysed_from
 rest_more source units i unit d all now u before after h p is rest step =
     let more = at_drop_more (λ (us : List UnitValue). behind all (analysed_from source (i + 1) us before)) units i d h in
     let head = rw (← p) at more in
-    let first = passed_first (λ k. analysed_from source (i + 1 + 1) (drop (i + 1) units) k) (unit_read (i + 1) unit.path) (unit_with source (i + 1) unit before) in
+    let first = passed_first (λ k. analysed_from source (i + 1 + 1) (drop (i + 1) units) k) (unit_read unit.standard (i + 1) unit.path) (unit_with source (i + 1) unit before) in
     let next = rw step at first in
     rw is (sym (behind-front all u (analysed_from source (i + 1 + 1) (drop (i + 1) units) after)) ∙ sym (ap (behind all) next) ∙ sym head ∙ rest)
 
@@ -135,14 +135,14 @@ passed-gives after (Err answer.Memory) expected h = tt
 
 -- a unit that is read and bound behind its text
 pub passed-read : (source : Source) (number : ℕ) (unit : UnitValue) (before after : Carried) (text : UnitTextValue) (r : Result UnitAnalysis AnalyseFault)
-    → unit_with source number unit before ≡ Ok (with_text after text) → Gives (λ u. u) fault_of r (unit_read number unit.path (with_text after text))
+    → unit_with source number unit before ≡ Ok (with_text after text) → Gives (λ u. u) fault_of r (unit_read unit.standard number unit.path (with_text after text))
     → Gives (passed after) fault_of r (passed_with source number unit before)
 passed-read source number unit before after text r is h =
-    subst (λ (x : Result Preprocessed UnitFault). Gives (passed after) fault_of r (result_then (λ p. result_then (λ u. Ok (passed p.after u)) (unit_read number unit.path p)) x)) (sym is)
-    (passed-gives after r (unit_read number unit.path (with_text after text)) h)
+    subst (λ (x : Result Preprocessed UnitFault). Gives (passed after) fault_of r (result_then (λ p. result_then (λ u. Ok (passed p.after u)) (unit_read unit.standard number unit.path p)) x)) (sym is)
+    (passed-gives after r (unit_read unit.standard number unit.path (with_text after text)) h)
 
 -- one that has no text
 pub passed-fault : (source : Source) (number : ℕ) (unit : UnitValue) (before : Carried) (named : Option UnitFault) → IfSome named (λ f. unit_with source number unit before ≡ Err f)
     → IfSome named (λ f. passed_with source number unit before ≡ Err f)
 passed-fault source number unit before None h = tt
-passed-fault source number unit before (Some f) h = ap (result_then (λ (p : Preprocessed). result_then (λ u. Ok (passed p.after u)) (unit_read number unit.path p))) h
+passed-fault source number unit before (Some f) h = ap (result_then (λ (p : Preprocessed). result_then (λ u. Ok (passed p.after u)) (unit_read unit.standard number unit.path p))) h

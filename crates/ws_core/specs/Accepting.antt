@@ -23,7 +23,7 @@ passed after unit = record { unit = unit; after = after }
 -- unit `number`, with what is carried from the units before, or its fault
 abbrev pub passed_with : Source → ℕ → UnitValue → Carried → Result Passed UnitFault
 passed_with source number unit before =
-    result_then (λ p. result_then (λ u. Ok (passed p.after u)) (unit_read number unit.path p)) (unit_with source number unit before)
+    result_then (λ p. result_then (λ u. Ok (passed p.after u)) (unit_read unit.standard number unit.path p)) (unit_with source number unit before)
 
 -- all units, or the first fault
 abbrev pub units_of : Source → List UnitValue → Result UnitsValue UnitFault

@@ -3,6 +3,7 @@
 -- preprocessing comes before reading, and reading before binding.
 use Rattle.std.specs.Prelude.{ℕ, ◌+◌, ◌-◌, min, Option, List, [], ◌∷◌, Result, Ok, length, slice_get}
 use Rattle.std.specs.Option.{option_map_or}
+use Rattle.cs_base.specs.declared.ws_units.Standard.{Standard}
 use Rattle.cs_base.specs.Answer.{result_then, result_map_err}
 use Rattle.cs_base.specs.declared.causes.Cause.{Cause}
 use Rattle.cs_base.specs.declared.causes.Cause.TheVariants as cause
@@ -16,20 +17,21 @@ use Rattle.include_tree.specs.Below.unit_steps.Texts.{UnitTextValue}
 use Rattle.include_tree.specs.Preprocessed.{Preprocessed}
 use Rattle.c99_tree.specs.Tree.{Node}
 use Rattle.c99_read.specs.Reading.{Stop, syntax, too_deep, read_of}
-use Rattle.c99_grammar.specs.Standard.{c99}
+use Rattle.c99_grammar.specs.Standard.{grammar}
 use Rattle.scope_bind.specs.Bound.{Bound, binding_of}
 use Rattle.scope_bind.specs.Causes.{cause_of, index_of}
 use Rattle.ws_core.specs.Texts.{UnitFault, unit_fault, unit_with}
 use Rattle.ws_core.specs.Places.{place_at}
 
--- A unit that is accepted: its text, its syntax tree (Annex A), and what its identifiers denote (6.2).
+-- A unit that is accepted: its standard, its text, its syntax tree (Annex A), and what its identifiers denote (6.2).
 pub record UnitAnalysis : Type 0 where
+  pub standard : Standard
   pub text : UnitTextValue
   pub tree : Node
   pub bound : Bound
 
-abbrev pub unit_analysis : UnitTextValue → Node → Bound → UnitAnalysis
-unit_analysis text tree bound = record { text = text; tree = tree; bound = bound }
+abbrev pub unit_analysis : Standard → UnitTextValue → Node → Bound → UnitAnalysis
+unit_analysis standard text tree bound = record { standard = standard; text = text; tree = tree; bound = bound }
 
 -- A workspace all of whose units are accepted: the workspace, its units in order, and what each number of a
 -- file stands for behind the last of them.
@@ -70,16 +72,16 @@ abbrev pub fault_at_index : Table → List ℕ → List Token → ℕ → Cause 
 fault_at_index table path toks index why = fault (place_of_index table path toks index) why
 
 -- a unit whose tokens have this tree, bound, or its fault
-abbrev pub bound_unit : Table → List ℕ → UnitTextValue → Node → Result UnitAnalysis Fault
-bound_unit table path text tree =
-    result_then (λ bound. Ok (unit_analysis text tree bound))
+abbrev pub bound_unit : Standard → Table → List ℕ → UnitTextValue → Node → Result UnitAnalysis Fault
+bound_unit standard table path text tree =
+    result_then (λ bound. Ok (unit_analysis standard text tree bound))
     (result_map_err (λ f. fault_at_index table path text.toks (index_of f) (cause_of f)) (binding_of text.toks tree))
 
--- a unit of this text, read and bound, or its fault
-abbrev pub read_unit : Table → List ℕ → UnitTextValue → Result UnitAnalysis Fault
-read_unit table path text =
-    result_then (bound_unit table path text)
-    (result_map_err (λ stop. fault_at_index table path text.toks (stop_index stop) (stop_cause stop)) (read_of c99 text.toks))
+-- a unit of this text, read by a standard and bound, or its fault
+abbrev pub read_unit : Standard → Table → List ℕ → UnitTextValue → Result UnitAnalysis Fault
+read_unit standard table path text =
+    result_then (bound_unit standard table path text)
+    (result_map_err (λ stop. fault_at_index table path text.toks (stop_index stop) (stop_cause stop)) (read_of (grammar standard) text.toks))
 
 -- Units that are accepted, and what each number of a file stands for behind them.
 pub record UnitsValue : Type 0 where
@@ -93,9 +95,9 @@ units_and units table = record { units = units; table = table }
 abbrev pub with_unit : UnitAnalysis → UnitsValue → UnitsValue
 with_unit u later = units_and (u ∷ later.units) later.table
 
--- unit `number` of this path, once it is preprocessed
-abbrev pub unit_read : ℕ → List ℕ → Preprocessed → Result UnitAnalysis UnitFault
-unit_read number path p = result_map_err (unit_fault number) (read_unit p.after.table path p.text)
+-- unit `number` of this standard and path, once it is preprocessed
+abbrev pub unit_read : Standard → ℕ → List ℕ → Preprocessed → Result UnitAnalysis UnitFault
+unit_read standard number path p = result_map_err (unit_fault number) (read_unit standard p.after.table path p.text)
 
 -- The units from number `number` on, with what is carried from the units before; or the first fault.
 unfoldable pub analysed_from : Source → ℕ → List UnitValue → Carried → Result UnitsValue UnitFault
@@ -104,7 +106,7 @@ analysed_from source number (unit ∷ units) before =
     result_then (λ p.
     result_then (λ u.
     result_then (λ later. Ok (with_unit u later)) (analysed_from source (number + 1) units p.after))
-    (unit_read number unit.path p))
+    (unit_read unit.standard number unit.path p))
     (unit_with source number unit before)
 
 -- the analysis of a workspace, or its first fault

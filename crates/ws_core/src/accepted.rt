@@ -5,14 +5,16 @@ ghost use Rattle.include_tree.specs.Below.source_files.KeptFiles.{kept_at};
 ghost use Rattle.include_tree.specs.Below.source_files.Tables.{AreText, BeginsWithLines, HasEachOnce};
 
 use c99_tree::Tree;
+use cs_base::Standard;
 use include_tree::{Cache, KeptFile, UnitText};
 use scope_bind::Bound;
 use std::marker::Model;
 use ws_file::Workspace;
 
-/// A unit that is accepted: its text, its tree, and what its identifiers denote.
+/// A unit that is accepted: its standard, its text, its tree, and what its identifiers denote.
 #[derive(Drop)]
 pub(crate) struct UnitParts {
+    standard: Standard,
     text: UnitText,
     tree: Tree,
     bound: Bound,
@@ -27,16 +29,21 @@ impl Model for UnitParts {
 
     ghost coded = { Prim.hlevel (codes, node_code) };
 
-    ghost view = { λ u. unit_analysis u.text u.tree u.bound };
+    ghost view = { λ u. unit_analysis u.standard u.text u.tree u.bound };
 }
 
 impl UnitParts {
     ghost use Rattle.ws_core.specs.Analysis.{unit_analysis};
 
-    pub(crate) fn new(text: UnitText, tree: Tree, bound: Bound) -> UnitParts
-        ensures { result ≡ unit_analysis text tree bound }
+    pub(crate) fn new(standard: Standard, text: UnitText, tree: Tree, bound: Bound) -> UnitParts
+        ensures { result ≡ unit_analysis standard text tree bound }
     {
-        UnitParts { text, tree, bound }
+        UnitParts {
+            standard,
+            text,
+            tree,
+            bound,
+        }
     }
 
     pub(crate) fn text(&self) -> &UnitText

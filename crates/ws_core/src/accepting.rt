@@ -89,7 +89,14 @@ fn next_unit<F: Files>(
     ensures faults { ReadsOnly (F.told files.old) (F.told files.new) (reads_of result) }
 {
     match next_text(alloc, cache, files, unit, number) {
-        Ok(text) => read_text(alloc, cache, number, unit.path().bytes(), text),
+        Ok(text) => read_text(
+            alloc,
+            cache,
+            number,
+            unit.standard(),
+            unit.path().bytes(),
+            text,
+        ),
         Err(fault) => Err(fault),
     }
 }

@@ -4,7 +4,7 @@ ghost use Rattle.std.specs.Option.{option_map};
 ghost use Rattle.cs_base.specs.Answer.{Gives, result_map_err};
 ghost use Rattle.c99_read.specs.Answer.{stop_of};
 ghost use Rattle.c99_read.specs.Reading.{read_of};
-ghost use Rattle.c99_grammar.specs.Standard.{c99};
+ghost use Rattle.c99_grammar.specs.Standard.{grammar};
 ghost use Rattle.scope_bind.specs.Causes.{cause_of, index_of};
 ghost use Rattle.c_types.specs.Faults.{fault_of as name_fault_of};
 ghost use Rattle.ws_core.specs.Texts.{unit_fault};
@@ -22,20 +22,21 @@ use include_tree::{Cache, UnitText};
 use scope_bind::{BindRefusal, bind};
 use std::alloc::Global;
 
-/// Reads and binds unit `number` of this path, whose text this is, or names its fault. The cache has the
+/// Reads by this standard and binds unit `number` of this path, whose text this is, or names its fault. The cache has the
 /// files that the text comes from.
 pub(crate) fn read_text(
     alloc: Global,
     cache: &Cache,
     number: u32,
+    standard: Standard,
     path: &[u8],
     text: UnitText,
 ) -> Result<UnitParts, AnalyseFault>
-    ensures answer { Gives (λ u. u) fault_of result (result_map_err (unit_fault number) (read_unit cache.now.table path.now text)) }
+    ensures answer { Gives (λ u. u) fault_of result (result_map_err (unit_fault number) (read_unit standard cache.now.table path.now text)) }
     ensures no_read { IfErr result IsNoReadFault }
 {
-    match read_toks(alloc, text.toks()) {
-        Ok(tree) => bind_text(alloc, cache, number, path, text, tree),
+    match read_toks(alloc, text.toks(), standard) {
+        Ok(tree) => bind_text(alloc, cache, number, standard, path, text, tree),
         Err(refusal) => Err(refused(
             alloc,
             cache,
@@ -48,13 +49,13 @@ pub(crate) fn read_text(
 }
 
 // The tree of the tokens; 2^32 of them and more want too much memory.
-fn read_toks(alloc: Global, toks: &[Tok]) -> Result<Tree, ReadRefusal>
-    ensures { Gives (λ tree. tree) stop_of result (read_of c99 toks.now) }
+fn read_toks(alloc: Global, toks: &[Tok], standard: Standard) -> Result<Tree, ReadRefusal>
+    ensures { Gives (λ tree. tree) stop_of result (read_of (grammar standard) toks.now) }
 {
     if toks.len() > u32::MAX as usize {
         return Err(ReadRefusal::Memory);
     }
-    read(alloc, toks, Standard::C99)
+    read(alloc, toks, standard)
 }
 
 // The same for a unit whose tokens have this tree.
@@ -62,15 +63,16 @@ fn bind_text(
     alloc: Global,
     cache: &Cache,
     number: u32,
+    standard: Standard,
     path: &[u8],
     text: UnitText,
     tree: Tree,
 ) -> Result<UnitParts, AnalyseFault>
-    ensures answer { Gives (λ u. u) fault_of result (result_map_err (unit_fault number) (bound_unit cache.now.table path.now text tree)) }
+    ensures answer { Gives (λ u. u) fault_of result (result_map_err (unit_fault number) (bound_unit standard cache.now.table path.now text tree)) }
     ensures no_read { IfErr result IsNoReadFault }
 {
     match bind(alloc, text.toks(), &tree) {
-        Ok(bound) => Ok(UnitParts::new(text, tree, bound)),
+        Ok(bound) => Ok(UnitParts::new(standard, text, tree, bound)),
         Err(refusal) => Err(refused(
             alloc,
             cache,

@@ -9,7 +9,7 @@ returns-in-Ok-clause-fresh g c = λ fresh. on_any c.read_text.result (IsFresh (c
 
 pub returns-in-Ok-clause-answer : goal.returns-in-Ok-clause-answer
 returns-in-Ok-clause-answer g c =
-    let read = rw (c.bytes.ensures, c.path.ensures.answer) at c.read_text.ensures.answer in
+    let read = rw (c.bytes.ensures, c.path.ensures.answer, c.standard.ensures.answer) at c.read_text.ensures.answer in
     λ fresh source found.
     passed-read source c.args.number c.args.unit.now c.args.cache.now c.next_text.new.cache c.in-Ok.text c.read_text.result (c.in-Ok.ensures.answer fresh source found) read
 
