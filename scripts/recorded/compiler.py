@@ -1,0 +1,112 @@
+"""What a compiler says of itself: where it looks for headers, and which macros it defines."""
+
+import os
+import subprocess
+
+from options import Odd
+from record import Refused
+
+MACHINES = (("__ILP32__", "other"), ("__x86_64__", "x86_64"), ("__aarch64__", "aarch64"), ("__i386__", "i386"))
+
+
+class Answer:
+    """`quote` and `angle` are the directories of both kinds of include lines, in order, `own` those of them that are
+    the compiler's, `macros` pairs of a macro's head and body, `library` what the C library calls itself, `machine` the
+    processor."""
+
+    def __init__(self, quote, angle, own, macros, library):
+        self.quote, self.angle, self.own, self.macros, self.library = quote, angle, own, macros, library
+        names = {head for head, _ in macros}
+        self.machine = next((machine for name, machine in MACHINES if name in names), "other")
+
+
+def _run(words, directory, text=""):
+    surroundings = dict(os.environ, LC_ALL="C", LANG="C")
+    try:
+        return subprocess.run(words, cwd=directory, input=text, capture_output=True, text=True, errors="surrogateescape",
+                              env=surroundings, check=False)
+    except FileNotFoundError:
+        raise Refused(f"no compiler {words[0]}") from None
+    except OSError as fault:
+        raise Refused(f"compiler {words[0]}: {fault.strerror}") from None
+
+
+def _directories(said):
+    """The two lists that `-v` prints, each directory as it stands there."""
+    quote, angle, into = [], [], None
+    for line in said.splitlines():
+        if line.startswith('#include "..." search starts here:'):
+            into = quote
+        elif line.startswith("#include <...> search starts here:"):
+            into = angle
+        elif line.startswith("End of search list."):
+            into = None
+        elif into is not None and line.startswith(" ") and not line.endswith("(framework directory)"):
+            into.append(line[1:])
+    return quote, angle
+
+
+def head_and_body(text):
+    """`NAME BODY` or `NAME(..) BODY`, parted: the name with its parameters, and the rest."""
+    end = 0
+    while end < len(text) and (text[end].isalnum() or text[end] == "_"):
+        end += 1
+    if text[end:end + 1] == "(":
+        end = text.index(")", end) + 1
+    return text[:end], text[end:].strip()
+
+
+def _macros(said):
+    lines = [line[len("#define "):] for line in said.splitlines() if line.startswith("#define ")]
+    return [head_and_body(line) for line in lines]
+
+
+class Compilers:
+    """Asks each compiler once for each directory and list of options."""
+
+    def __init__(self):
+        self.known, self.folders, self.libraries = {}, {}, {}
+
+    def ask(self, compiler, directory, options):
+        if "/" in compiler:
+            compiler = os.path.join(directory, compiler)
+        key = compiler, directory, tuple(options)
+        if key not in self.known:
+            self.known[key] = self._ask(compiler, directory, options)
+        return self.known[key]
+
+    def _ask(self, compiler, directory, options):
+        answer = _run([compiler, *options, "-E", "-dM", "-v", "-x", "c", "/dev/null"], directory)
+        if answer.returncode:
+            said = [line for line in answer.stderr.splitlines() if "error" in line] or ["it gives no reason"]
+            raise Odd(f"the compiler {compiler} does not take the options: {said[0].strip()}")
+        quote, angle = _directories(answer.stderr)
+        macros = _macros(answer.stdout)
+        if not macros:
+            raise Odd(f"{compiler} prints no macros with -E -dM")
+        own = self._own(compiler, directory)
+        at = [os.path.realpath(os.path.join(directory, folder)) for folder in angle]
+        return Answer(quote, angle, {folder for folder, real in zip(angle, at) if real in own}, macros,
+                      self._library(compiler, directory, options))
+
+    def _own(self, compiler, directory):
+        """The compiler's own folders, with the headers that it brings itself."""
+        if compiler not in self.folders:
+            found = set()
+            for name in "include", "include-fixed":
+                said = _run([compiler, "-print-file-name=" + name], directory).stdout.strip()
+                if "/" in said:
+                    found.add(os.path.realpath(said))
+            self.folders[compiler] = found
+        return self.folders[compiler]
+
+    def _library(self, compiler, directory, options):
+        key = compiler, tuple(option for option in options if not option.startswith(("-I", "-f", "-W", "-O", "-g")))
+        if key not in self.libraries:
+            said = _run([compiler, *options, "-E", "-dM", "-x", "c", "-"], directory, "#include <limits.h>\n")
+            names = {head for head, _ in _macros(said.stdout)}
+            if said.returncode:
+                self.libraries[key] = None
+            else:
+                self.libraries[key] = "glibc" if "__GLIBC__" in names else "musl"
+        return self.libraries[key]

@@ -1,0 +1,141 @@
+"""Small records, odd and broken, and what the import makes of them.
+
+Each row: what it shows; files beside a.c; the record (entries, to which `directory` and `file` a.c are added where they do not say
+it, or a text); the words of the command; the status; the lines of the workspace without what compiler and kit bring; and what is
+said, `@AT@` standing for the folder."""
+
+ONE = "import: 1 units of 1 files\n"
+PLAIN = "project default\nfile a.c"
+
+
+def cc(*words):
+    return {"arguments": ["cc", *words, "-c", "a.c"]}
+
+
+ODD = [
+    ("arguments", {}, [cc("-DA", "-DB=2", "-D", "C=x y", "-DD=", "-DE(x)=x + 1")], ["c.json"], 0,
+     "project default\ndefine A 1\ndefine B 2\ndefine C x y\ndefine D\ndefine E(x) x + 1\nfile a.c", ONE),
+    ("a command is split as a shell does", {}, [{"command": "cc -DA='\"x y\"' -DB=\\\"z\\\" -c a.c"}], ["c.json"], 0,
+     'project default\ndefine A "x y"\ndefine B "z"\nfile a.c', ONE),
+    ("the last word on a name counts", {}, [cc("-DA=1", "-UA", "-DB=1", "-DB=2", "-UC")], ["c.json"], 0,
+     "project default\ndefine B 2\nfile a.c", ONE),
+    ("a macro of the compiler goes", {"b.c": ""}, [cc("-std=gnu99", "-Ulinux"), {"arguments": ["cc", "-std=gnu99", "-c", "b.c"], "file": "b.c"}],
+     ["c.json"], 0, "project default\nfile a.c\ndefine linux 1\nfile b.c", "import: 2 units of 2 files\n"),
+    ("words behind commas", {}, [cc("-Wp,-MD,a.dep,-DA=1", "-Xpreprocessor", "-DB")], ["c.json"], 0,
+     "project default\ndefine A 1\ndefine B 1\nfile a.c", ONE),
+    ("words of a file", {"words": "-DA=1 '-DB=x y' @more", "more": "-DC=3"}, [cc("@words")], ["c.json"], 0,
+     "project default\ndefine A 1\ndefine B x y\ndefine C 3\nfile a.c", ONE),
+    ("a launcher goes before the compiler", {}, [{"arguments": ["ccache", "cc", "-DA", "-c", "a.c"]}], ["c.json"], 0,
+     "project default\ndefine A 1\nfile a.c", ONE),
+    ("include paths in the compiler's order", {"i/x.h": "", "q/x.h": "", "s/x.h": "", "l/x.h": ""},
+     [cc("-isystem", "s", "-idirafter", "l", "-iquoteq", "-I", "i", "-I./i/../i", "-Inowhere")], ["c.json"], 0,
+     "readonly s/\nproject default\nipath q\nipath i\nipath s\nipath l\nfile a.c",
+     "import: a.c: q/x.h is found by #include <..> too, and the compiler takes another file\n" + ONE),
+    ("a folder of its own for each command", {"d/b.c": "", "h/y.h": ""},
+     [{"directory": "@AT@/d", "file": "b.c", "arguments": ["cc", "-I../h", "-I.", "-c", "b.c"]}], ["c.json"], 0,
+     "project default\nipath h\nipath d\nfile d/b.c", ONE),
+    ("the root", {"d/b.c": "", "h/y.h": ""}, [{"file": "d/b.c", "arguments": ["cc", "-Id", "-c", "d/b.c"]}],
+     ["--root", "d", "c.json"], 0, "project default\nipath .\nfile b.c", ONE),
+    ("one unit for a file and its settings", {}, [cc("-DA"), cc("-O2", "-g", "-DA"), cc("-DA=1", "-o", "x.o"), cc("-DA=2")],
+     ["c.json"], 0, "project default\ndefine A 1\nfile a.c\ndefine A 2\nfile a.c",
+     "import: 2 units of 1 files\n"),
+    ("shared settings come once", {"b.c": "", "d.c": ""},
+     [cc("-DONE", "-DTWO=2"), {"arguments": ["cc", "-DTWO=2", "-c", "b.c"], "file": "b.c"},
+      {"arguments": ["cc", "-DTWO=2", "-DONE", "-c", "d.c"], "file": "d.c"}], ["c.json"], 0,
+     "project default\ndefine TWO 2\ndefine ONE 1\nfile a.c\nfile d.c\nundefine ONE\nfile b.c", "import: 3 units of 3 files\n"),
+    ("programs that are linked apart", {"b.c": "", "u.c": ""},
+     [{"arguments": ["cc", "a.c", "u.o", "-o", "one"]}, {"arguments": ["cc", "b.c", "u.o", "-o", "two"], "file": "b.c"},
+      {"arguments": ["cc", "-c", "u.c"], "file": "u.c"}], ["c.json"], 0,
+     "project one\nfile a.c\nfile u.c\nproject two\nfile b.c\nfile u.c", "import: 4 units of 3 files\n"),
+    ("a library leaves all in one project", {"b.c": ""},
+     [{"arguments": ["cc", "a.c", "l.a", "-o", "one"]}, {"arguments": ["cc", "b.c", "-o", "two"], "file": "b.c"}], ["c.json"], 0,
+     "project default\nfile a.c\nfile b.c", "import: 2 units of 2 files\n"),
+    ("projects by pattern", {"t/b.c": "", "d.c": ""},
+     [cc(), {"file": "t/b.c", "arguments": ["cc", "-c", "t/b.c"]}, {"file": "d.c", "arguments": ["cc", "-c", "d.c"]}],
+     ["--project", "test=t/*", "--project=main=a.c", "c.json"], 0,
+     "project main\nfile a.c\nproject test\nfile t/b.c\nproject default\nfile d.c", "import: 3 units of 3 files\n"),
+    ("what is left out is told", {"b.cc": "", "s.S": "", "x.h": "", "g.c": ""},
+     [cc("-include", "x.h", "-D_FORTIFY_SOURCE=2"), {"file": "b.cc", "arguments": ["c++", "-c", "b.cc"]},
+      {"file": "s.S", "arguments": ["cc", "-c", "s.S"]}, {"file": "g.c", "arguments": ["g++", "-c", "g.c"]}], ["c.json"], 0, PLAIN,
+     "import: b.cc: left out: C++\nimport: s.S: left out: assembler\nimport: g.c: left out: C++\n"
+     "import: a.c: -include x.h is left out: a unit begins with its own file, so what it brings is not seen\n"
+     "import: a.c: -D_FORTIFY_SOURCE is left out: kit/left-out-of-commands says why\n" + ONE),
+    ("a word that is nothing", {}, [cc("-DA", "-frandom-seed=x", "y")], ["c.json"], 0, "project default\ndefine A 1\nfile a.c",
+     "import: a.c: y is no option and no file, and is passed over\n" + ONE),
+    ("the language of an option", {"p.inc": ""}, [{"file": "p.inc", "arguments": ["cc", "-x", "c", "-c", "p.inc"]}], ["c.json"], 0,
+     "project default\nfile p.inc", ONE),
+    ("without", {"b.c": ""}, [cc(), {"file": "gone.c", "arguments": ["cc", "-c", "gone.c"]}], ["--without", "g*.c", "c.json"], 0, PLAIN,
+     "import: gone.c: left out: --without g*.c\n" + ONE),
+    ("links", {"i/x.h": "", "i/y.h": "-> x.h", "b.c": "-> a.c"},
+     [{"file": "b.c", "arguments": ["cc", "-Ii", "-c", "b.c"]}], ["c.json"], 0, "project default\nipath i\nfile b.c",
+     "import: b.c: a link to a.c: they are two files to cscout\nimport: i/y.h: a link to i/x.h: they are two files to cscout\n" + ONE),
+    ("settings of the caller", {}, [cc("-DA")], ["--define", "A 2", "--define=F(x) x", "--readonly", "gen/", "--standard", "c11", "c.json"],
+     0, "readonly gen/\nproject default\nstandard c11\ndefine A 2\ndefine F(x) x\nfile a.c", ONE),
+    ("no kit", {}, [cc("-D_FORTIFY_SOURCE=2")], ["--no-kit", "c.json"], 0, "project default\ndefine _FORTIFY_SOURCE 2\nfile a.c", ONE),
+]
+
+
+def broken(name, record, said, options=("c.json",), status=1, files=None):
+    return name, files or {}, record, list(options), status, "", said
+
+
+def by_entry(name, entry, said, files=None):
+    """A good entry and then this one."""
+    return broken(name, [cc(), entry], f"import: c.json: entry 2{'' if said[0] == ':' else ' '}{said}\n", files=files)
+
+
+BROKEN = [
+    broken("no record is there", None, "import: c.json: No such file or directory\n"),
+    broken("no JSON", "[{", "import: c.json: not JSON: Expecting property name enclosed in double quotes: line 1 column 3 (char 2)\n"),
+    broken("no text", "[\0]", "import: c.json: not JSON: Expecting value: line 1 column 2 (char 1)\n"),
+    broken("no list", "{}", "import: c.json: not a list of entries\n"),
+    broken("an empty list", "[]", "import: c.json: no entries\n"),
+    broken("deep", "[" * 100000, "import: c.json: not a list of entries\n"),
+    by_entry("an entry that is a text", "x", "is no object"),
+    by_entry("no file", {"file": "", "arguments": ["cc", "-c", "a.c"]}, "has no file"),
+    by_entry("no directory", {"directory": None, "arguments": ["cc", "-c", "a.c"]}, "has no directory"),
+    by_entry("a directory that is gone", {"directory": "@AT@/gone", "arguments": ["cc", "-c", "a.c"]},
+             "has a directory that is not there: @AT@/gone"),
+    by_entry("no command", {}, "has neither arguments nor command"),
+    by_entry("arguments of no words", {"arguments": ["cc", 1]}, "has arguments that are no list of words"),
+    by_entry("arguments that are a text", {"arguments": "cc -c a.c"}, "has arguments that are no list of words"),
+    by_entry("an open quote", {"command": "cc -DA=' -c a.c"}, "has a command that no shell splits: No closing quotation"),
+    by_entry("an empty command", {"command": " "}, "has a command without words"),
+    by_entry("no compiler", {"arguments": ["-c", "a.c"]}, ": the command has no compiler"),
+    by_entry("a file that is gone", {"file": "gone.c", "arguments": ["cc", "-c", "gone.c"]},
+             "has a file that is not there: gone.c (`--without 'gone.c'` leaves it out)"),
+    by_entry("another file", {"arguments": ["cc", "-c", "b.c"]}, "does not name its file a.c in its command"),
+    by_entry("an option without its word", {"arguments": ["cc", "-c", "a.c", "-I"]}, ": -I has no word behind it"),
+    by_entry("a definition without a name", cc("-D2x=1"), ": -D2x names no macro"),
+    by_entry("a backslash at the end", cc("-DA=x\\"),
+             ": -DA has a value that ends in a backslash, which a workspace line cannot say"),
+    by_entry("two lines", cc("-DA=x\ny"), ": -DA has a value of more than one line"),
+    by_entry("a comment", cc("-DA=/*"), ": -DA has a value with a comment"),
+    by_entry("the old sign for quotes", cc("-I-"), ": -I- is not taken: name the directories with -iquote"),
+    by_entry("another preprocessor", cc("-traditional-cpp"), ": -traditional-cpp preprocesses otherwise than C does"),
+    by_entry("a language", cc("-x", "d"), ": -x d is no language that is known here"),
+    by_entry("a file of words that is gone", cc("@gone"), ": @@AT@/gone: No such file or directory"),
+    by_entry("files of words in a circle", cc("@circle"), ": @@AT@/circle: files of options go deeper than 20", {"circle": "@circle"}),
+    by_entry("a path with a blank at its end", {"file": "b.c ", "arguments": ["cc", "-x", "c", "-c", "b.c "]},
+             ": 'b.c ' is a path that a workspace line cannot say", {"b.c ": ""}),
+    by_entry("a directory with a backslash at its end", cc("-Ib\\"), ": 'b\\\\' is a directory that a workspace line cannot say",
+             {"b\\/x.h": ""}),
+    broken("two broken entries", [{"file": 1}, cc(), {"command": "'"}],
+           "import: c.json: entry 1 has no file\nimport: c.json: entry 3 has a command that no shell splits: No closing quotation\n"),
+    broken("no C at all", [{"file": "b.cc", "arguments": ["c++", "-c", "b.cc"]}],
+           "import: b.cc: left out: C++\nimport: c.json: no entry is a C file that is taken\n", files={"b.cc": ""}),
+    broken("a compiler that is gone", [{"arguments": ["no-such-cc", "-c", "a.c"]}], "import: no compiler no-such-cc\n"),
+    broken("a compiler in a folder that is gone", [{"arguments": ["tools/cc", "-c", "a.c"]}], "import: no compiler @AT@/tools/cc\n"),
+    broken("a compiler that does nothing", [{"arguments": ["true", "-c", "a.c"]}],
+           "import: c.json: entry 1: true prints no macros with -E -dM\n"),
+    broken("no record is named", None, "import: no record is named\n", [], 2),
+    broken("two records", [cc()], "import: one record is taken, and d.json is a second\n", ["c.json", "d.json"], 2),
+    broken("no such option", [cc()], "import: --paint is no option\n", ["--paint", "red", "c.json"], 2),
+    broken("an option at the end", [cc()], "import: --root wants a word behind it\n", ["c.json", "--root"], 2),
+    broken("a root that is no folder", [cc()], "import: --root a.c is no folder\n", ["--root", "a.c", "c.json"], 2),
+    broken("a standard", [cc()], "import: --standard c17 is neither c99 nor c11\n", ["--standard", "c17", "c.json"], 2),
+    broken("a project without a pattern", [cc()], "import: --project x is not NAME=PATTERN\n", ["--project", "x", "c.json"], 2),
+    broken("a project of two words", [cc()], "import: --project x y=* is not NAME=PATTERN\n", ["--project", "x y=*", "c.json"], 2),
+    broken("a setting", [cc()], "import: --define '2' is no setting\n", ["--define", "2", "c.json"], 2),
+    broken("a kit", [cc()], "import: --kit . has no words.cs\n", ["--kit", ".", "c.json"], 2),
+]

@@ -1,0 +1,195 @@
+"""Units of a recorded build as the text of a workspace file."""
+
+import fnmatch
+import os
+
+from compiler import head_and_body
+from options import Odd
+
+MOST_UNITS = 1024
+MOST_BYTES = 1 << 22
+# What `__has_builtin` is asked about.
+BUILT_IN = ("__builtin_", "__sync_", "__atomic_")
+# What the settings of a unit may come to before a project line begins them anew; the program takes 2^16 bytes.
+MOST_SETTINGS = 48_000
+
+
+class Kit:
+    """The folder of define lines and stand-in headers; without one, nothing stands in for anything."""
+
+    def __init__(self, path):
+        self.path = None if path is None else os.path.realpath(path)
+        self.left = self._lines("left-out")
+        self.left_of_commands = self._lines("left-out-of-commands")
+
+    def _lines(self, name):
+        if self.path is None:
+            return []
+        try:
+            with open(os.path.join(self.path, name), encoding="utf-8") as file:
+                return [line.strip() for line in file if line.strip() and not line.startswith("#")]
+        except FileNotFoundError:
+            return []
+
+    @staticmethod
+    def _is_one(name, patterns):
+        return any(fnmatch.fnmatchcase(name, pattern) for pattern in patterns)
+
+    def leaves_out(self, name):
+        """Whether a macro of the compiler is left out."""
+        return self._is_one(name, self.left)
+
+    def leaves_out_of_commands(self, name):
+        return self._is_one(name, self.left_of_commands)
+
+    def words(self, library, standard, strict):
+        """The settings for units of a C library and a standard, of a mode that keeps GNU's plain words or not."""
+        names = ["words.cs", f"words-{standard}.cs"]
+        if not strict:
+            names.append("words-gnu.cs")
+        if library is not None:
+            names.append(f"words-{library}.cs")
+        lines = [line.partition(" ")[2].strip() for name in names for line in self._lines(name)]
+        calls = [name_of(head_and_body(line)[0]) for line in lines if line.startswith(BUILT_IN)]
+        return lines + [f"cscout_has_{name} 1" for name in calls]
+
+    def folders(self, library, standard, machine):
+        """The folders of stand-in headers, which are searched before the system's."""
+        names = [f"{library}-{standard}-{machine}", f"{library}-{standard}", f"{library}", f"headers-{standard}", "headers"]
+        if self.path is None:
+            return []
+        return [folder for folder in (os.path.join(self.path, name) for name in names) if os.path.isdir(folder)]
+
+
+class Unit:
+    """A unit: its project, file, include paths, and what its settings come to, each macro's head by its name."""
+
+    def __init__(self, project, path, folders, settings):
+        self.project, self.path, self.folders, self.settings = project, path, tuple(folders), settings
+
+    def key(self):
+        return self.project, self.path, self.folders, tuple(sorted(self.settings.items()))
+
+
+def name_of(head):
+    return head.partition("(")[0]
+
+
+def _folder(name):
+    if name.strip(" \t\r") != name or name.endswith("\\") or "\n" in name:
+        raise Odd(f"{name!r} is a directory that a workspace line cannot say")
+    try:
+        name.encode("utf-8")
+    except UnicodeEncodeError:
+        raise Odd(f"{name!r} is a directory that is not UTF-8") from None
+    return name or "."
+
+
+def folders_of(entry, answer, root, kit, standard):
+    """The include paths: what `-iquote` and `-I` name, then the kit's stand-ins, then the others of the compiler's list,
+    its own last."""
+    def named(folder):
+        return _folder(root.folder(os.path.join(entry.directory, folder)))
+    given = {named(word[2:]) for word in entry.options.asking if word.startswith("-I") and len(word) > 2}
+    angle = [named(folder) for folder in answer.angle if folder not in answer.own]
+    front = next((n for n, folder in enumerate(angle) if folder not in given), len(angle))
+    kept = [_folder(root.below(folder)) for folder in kit.folders(answer.library, standard, answer.machine)]
+    own = [named(folder) for folder in answer.angle if folder in answer.own]
+    return list(dict.fromkeys([named(f) for f in answer.quote] + angle[:front] + kept + angle[front:] + own))
+
+
+def settings_of(entry, answer, kit, standard, added, dropped):
+    """What the settings come to: the compiler's macros without what the kit leaves out, the kit's words, the command's
+    own, and what the caller adds. Names of the command's that are left out come to `dropped`."""
+    result = {}
+
+    def take(kind, text):
+        head, body = head_and_body(text)
+        result.pop(name_of(head), None)
+        if kind == "define":
+            result[name_of(head)] = (head, body)
+    for head, body in answer.macros:
+        if not kit.leaves_out(name_of(head)):
+            take("define", f"{head} {body}")
+    strict = any(head == "__STRICT_ANSI__" for head, _ in answer.macros)
+    for text in kit.words(answer.library, standard, strict):
+        take("define", text)
+    for kind, text in entry.options.settings:
+        name = name_of(head_and_body(text)[0])
+        if kit.leaves_out_of_commands(name):
+            dropped.append(name)
+        else:
+            take(kind, text)
+    for kind, text in added:
+        take(kind, text)
+    return result
+
+
+def shared_directories(entry, answer):
+    """Headers of `-iquote` directories that `<..>` would find there and the compiler does not: the workspace's include
+    paths serve both kinds of include lines."""
+    found = []
+    for folder in answer.quote:
+        at = os.path.join(entry.directory, folder)
+        for name in sorted(os.listdir(at)) if os.path.isdir(at) else []:
+            if name.endswith(".h") and any(os.path.isfile(os.path.join(entry.directory, other, name)) for other in answer.angle):
+                found.append(os.path.join(folder, name))
+    return found
+
+
+def _define(head, body):
+    return f"define {head} {body}".rstrip(" \t")
+
+
+class _Heading:
+    """One `project` line with what stands below it: the include paths, the settings that all share, and the units."""
+
+    def __init__(self, project, folders, units, standard):
+        self.lines = [f"project {project}"]
+        if standard != "c99":
+            self.lines.append(f"standard {standard}")
+        self.lines += [f"ipath {folder}" for folder in folders]
+        first = units[0].settings
+        self.shared = {name: macro for name, macro in first.items() if all(u.settings.get(name) == macro for u in units)}
+        self.lines += [_define(*macro) for macro in self.shared.values()]
+        self.start = list(self.lines)
+        self.now, self.size = dict(self.shared), self._size(self.shared)
+
+    @staticmethod
+    def _size(settings):
+        return sum(len(head) + len(body) + 10 for head, body in settings.values())
+
+    def add(self, unit):
+        """The lines that lead from the settings in force to the unit's, and its `file` line."""
+        gone = [name for name in self.now if name not in unit.settings]
+        new = {name: macro for name, macro in unit.settings.items() if self.now.get(name) != macro}
+        cost = sum(len(name) + 10 for name in gone) + self._size(new)
+        if self.size + cost > MOST_SETTINGS:
+            self.lines += self.start
+            self.now, self.size = dict(self.shared), self._size(self.shared)
+            gone, new = [], {name: macro for name, macro in unit.settings.items() if self.shared.get(name) != macro}
+            cost = self._size(new)
+        self.lines += [f"undefine {name}" for name in gone]
+        self.lines += [_define(*macro) for macro in new.values()]
+        self.lines.append(f"file {unit.path}")
+        self.now, self.size = dict(unit.settings), self.size + cost
+
+
+def text_of(units, readonly, standard):
+    """The workspace file: units of one project and one list of include paths below one heading, those of one setting
+    beside each other, all in the order in which each first came."""
+    groups = {}
+    for unit in units:
+        groups.setdefault((unit.project, unit.folders), {}).setdefault(unit.key()[3], []).append(unit)
+    lines = ["# made by scripts/import out of a recorded build"] + [f"readonly {prefix}" for prefix in readonly]
+    ordered = {}
+    for project, folders in groups:
+        ordered.setdefault(project, []).append(folders)
+    for project, lists in ordered.items():
+        for folders in lists:
+            together = [unit for alike in groups[project, folders].values() for unit in alike]
+            heading = _Heading(project, folders, together, standard)
+            for unit in together:
+                heading.add(unit)
+            lines += heading.lines
+    return "\n".join(lines) + "\n"
