@@ -5,12 +5,6 @@ import re
 import shutil
 import subprocess
 
-from cscout_ref import rename
-from cscout_ref.model import C11_KEYWORDS, C99_KEYWORDS
-
-# The model knows C11 too, whose further keywords are names in C99.
-rename.RESERVED = rename.RESERVED - (C11_KEYWORDS - C99_KEYWORDS)
-
 TOKEN = re.compile(
     rb"""L?"(?:[^"\\]|\\.)*"|L?'(?:[^'\\]|\\.)*'"""
     rb"""|\.?[0-9](?:[eEpP][-+]|[0-9A-Za-z_.])*|[A-Za-z_][A-Za-z0-9_]*"""
