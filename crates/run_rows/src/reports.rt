@@ -104,9 +104,17 @@ pub const REFUSED_REPORTS: [Row; 11] = [
     },
 ];
 
-// Runs that preprocess units.
-pub const REPORTS: [Row; 21] = [
-    // The generated workspace: no file is read, whatever is there.
+// Workspaces that are generated: no file is read, whatever is there. Each unit has as many tokens, and a place that
+// changes beside that of the header.
+pub const GENERATED: [Row; 3] = [
+    Row {
+        files: "h.h:int total;\n",
+        words: "generate 1",
+        after: "h.h:int total;\n",
+        out: "units 1 tokens 21 members 2\n",
+        err: "",
+        status: Status::Done,
+    },
     Row {
         files: "h.h:int total;\n",
         words: "generate 2",
@@ -115,6 +123,18 @@ pub const REPORTS: [Row; 21] = [
         err: "",
         status: Status::Done,
     },
+    Row {
+        files: "h.h:int total;\n",
+        words: "generate 1000",
+        after: "h.h:int total;\n",
+        out: "units 1000 tokens 21000 members 1001\n",
+        err: "",
+        status: Status::Done,
+    },
+];
+
+// Runs that preprocess units.
+pub const REPORTS: [Row; 20] = [
     // EXAMPLE 3 of 6.10.3.5.
     Row {
         files: "w.cs:file a.c\n@a.c:#define x 3\n#define f(a) f(x * (a))\n#undef x\n#define x 2\n#define g f\n#define z z[0]\n#define h g(~\n#define m(a) a(w)\n#define w 0,1\n#define t(a) a\n#define p() int\n#define q(x) x\n#define r(x,y) x ## y\n#define str(x) # x\n\nf(y+1) + f(f(z)) % t(t(g)(0) + t)(1);\ng(x+(3,4)-w) | h 5) & m\n      (f)^m(m);\np() i[q()] = { q(1), r(2,3), r(4,), r(,5), r(,) };\nchar c[2][6] = { str(hello), str() };\n",

@@ -1,7 +1,7 @@
 // Whole runs over files and sinks in memory, and the adapters over one real file.
 use crate::classes::{CLASSES, FAILING_CLASSES};
 use crate::lists::{FAILING_LISTS, LISTS};
-use crate::reports::{FAILING_REPORTS, REFUSED_REPORTS, REPORTS};
+use crate::reports::{FAILING_REPORTS, GENERATED, REFUSED_REPORTS, REPORTS};
 use crate::tables::{FAILING, ROWS, Row, TWO_FILES};
 use cs_base::{Files, Got, MemFiles, MemSink, Memory, Put};
 use cscout_run::{HostFiles, Status, run};
@@ -113,6 +113,14 @@ fn reports_answer_as_worked_by_hand(rt: HostRuntime) -> Result<(), Memory> {
             failing.out_call,
             failing.err_call,
         )?;
+    }
+    Ok(())
+}
+
+#[test]
+fn generated_workspaces_are_told_by_their_sizes(rt: HostRuntime) -> Result<(), Memory> {
+    for row in &GENERATED {
+        check(&rt, row, 0, 0, 0)?;
     }
     Ok(())
 }
