@@ -156,7 +156,8 @@ ShowsAnswer IsAnswer before now Memory = (a : Answer) → IsEndOf a before now M
 ShowsAnswer IsAnswer before now ended = (a : Answer) × IsAnswer a × IsEndOf a before now ended
 
 -- How a run ends. `IsAnswer` says what is an answer over the files held before, where they are told. Where it is an
--- equation, as for every command but `class`, the end is one of that answer.
+-- equation, as for `--help`, `--version`, `tokens` and `skipped`, the end is one of that answer; for the other commands,
+-- which rest on classes or calls, it is one of such an answer.
 pub record Ends (IsAnswer : FileMap → Answer → Type 0) (before now : World) (ended : Status) : Type 0 where
   pub shows : IfSome before.held (λ fs. ShowsAnswer (IsAnswer fs) before now ended)
   pub causes : HasCauses before now ended
