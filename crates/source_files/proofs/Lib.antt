@@ -2,6 +2,7 @@ pub mod TableLemmas
 pub mod AgreeLemmas
 pub mod FileTableLemmas
 pub mod OpenedLemmas
+pub mod EditedLemmas
 pub mod OpeningLemmas
 pub mod SearchedLemmas
 pub mod HeaderLemmas

@@ -6,6 +6,7 @@ pub mod Faults
 pub mod Search
 pub mod HeaderNames
 pub mod Opening
+pub mod Edited
 pub mod KeptFiles
 pub mod Answers
 pub mod Slots

@@ -31,6 +31,18 @@ bytes_in _ = []
 abbrev pub opened_slot : ℕ → List ℕ → List ℕ → Slot
 opened_slot number path bytes = slot.Opened (kept number path bytes)
 
+-- a file that is kept, with these bytes
+abbrev pub slot_with : List ℕ → Slot → Slot
+slot_with bytes (slot.Opened file) = slot.Opened (kept file.number file.path bytes)
+slot_with bytes (slot.Made file) = slot.Made (kept file.number file.path bytes)
+slot_with bytes other = other
+
+-- the number of a file that is kept
+abbrev pub number_in : Slot → ℕ
+number_in (slot.Opened file) = file.number
+number_in (slot.Made file) = file.number
+number_in _ = 0
+
 -- the file that is kept
 abbrev pub kept_of : Slot → Option KeptValue
 kept_of slot.Absent = None

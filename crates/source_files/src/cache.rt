@@ -13,6 +13,7 @@ ghost use Rattle.source_files.specs.Tables.{AreFound, AreText, BeginsWithLines, 
 ghost use Rattle.source_files.specs.Statuses.{IsUnread, is_missing};
 ghost use Rattle.source_files.specs.Answers.{fault_of, OpensFile, IsNoReadFault, reads_of, AsksOn};
 
+mod editing;
 mod making;
 
 use crate::asking::ask;

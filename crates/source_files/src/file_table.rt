@@ -1,10 +1,11 @@
 // The table of files: what is known of each path that has a number.
-ghost use Rattle.std.specs.Prelude.{◌≡◌, ◌∷◌, [], false, None, is_some, IfSome, OnOk, OnErr, option_copied, length, slice_get, true, Err, IfErr, is_ok};
+ghost use Rattle.std.specs.Prelude.{◌≡◌, ◌∷◌, [], false, None, is_some, IfSome, OnOk, OnErr, IsSome, option_copied, length, slice_get, true, Err, IfErr, is_ok};
 ghost use Rattle.std.specs.Option.{option_map};
 ghost use Rattle.std.specs.Str.{bytes_eq, is_utf8};
 ghost use Rattle.part_lexer.specs.FileText.{file_text};
 ghost use Rattle.part_lexer.specs.Refusal.{fault_of};
 ghost use Rattle.source_files.specs.Files.{lines_path, Lines, entry, found_at, number_of, number_at, numbered, opened};
+ghost use Rattle.source_files.specs.Edited.{edited, size_at};
 ghost use Rattle.source_files.specs.KeptFiles.{kept_at};
 ghost use Rattle.source_files.specs.Tables.{AreText, BeginsWithLines, HasEachOnce};
 ghost use Rattle.source_files.specs.Slots.{found_of, IsNumbered};
@@ -153,5 +154,29 @@ impl FileTable {
             Some(i) => self.slots[i].open(alloc, i as u32 + 1, path),
             None => unreachable!(),
         }
+    }
+
+    // The kept file of a number gets other bytes, or these have a fault.
+    pub(crate) fn edit(
+        &mut self,
+        alloc: Global,
+        number: u32,
+        bytes: Vec<u8>,
+    ) -> Result<(), LexRefusal>
+        requires { IsSome (kept_at self.old number) }
+        ensures ok { OnOk result (self.new ≡ edited number bytes.items self.old) }
+        ensures readable { OnOk result (is_ok (file_text number bytes.items) ≡ true) }
+        ensures refused { IfErr result (λ e. IfSome (fault_of e) (λ fault. file_text number bytes.items ≡ Err fault)) }
+        ensures unchanged { OnErr result (self.new ≡ self.old) }
+    {
+        self.slots[number as usize - 1].edit(alloc, bytes)
+    }
+
+    // How many bytes the file of a number has, if it was opened.
+    pub(crate) fn opened_size(&self, number: u32) -> Option<usize>
+        requires { IsSome (kept_at self.now number) }
+        ensures { result ≡ size_at self.now number }
+    {
+        self.slots[number as usize - 1].opened_size()
     }
 }

@@ -1,5 +1,5 @@
 // A source file that is kept: its number, its path, its bytes, its text and its items.
-ghost use Rattle.std.specs.Prelude.{◌≡◌, true, Ok, Err, IfOk, IfErr, IfSome, OnOk, is_ok};
+ghost use Rattle.std.specs.Prelude.{◌≡◌, true, Ok, Err, IfOk, IfErr, IfSome, OnOk, OnErr, is_ok};
 ghost use Rattle.part_lexer.specs.FileText.{TextValue, file_text};
 ghost use Rattle.part_lexer.specs.Refusal.{fault_of};
 ghost use Rattle.line_shape.specs.Items.{items_of};
@@ -64,6 +64,21 @@ impl KeptFile {
         ensures { (text : TextValue) → file_text self.now.number self.now.bytes ≡ Ok text → result.now ≡ items_of text.toks text.firsts }
     {
         self.items.as_slice()
+    }
+
+    // The file gets other bytes, or these have a fault.
+    pub(crate) fn edit(&mut self, alloc: Global, bytes: Vec<u8>) -> Result<(), LexRefusal>
+        ensures ok { OnOk result (self.new ≡ kept self.old.number self.old.path bytes.items) }
+        ensures readable { OnOk result (is_ok (file_text self.old.number bytes.items) ≡ true) }
+        ensures refused { IfErr result (λ e. IfSome (fault_of e) (λ fault. file_text self.old.number bytes.items ≡ Err fault)) }
+        ensures unchanged { OnErr result (self.new ≡ self.old) }
+    {
+        let text = lex(alloc, self.number, bytes.as_slice())?;
+        let items = shape(alloc, &text)?;
+        self.bytes = bytes;
+        self.text = text;
+        self.items = items;
+        Ok(())
     }
 
     // Reads a file, or gives the fault of its text, and its bytes back.

@@ -1,5 +1,7 @@
 // What a number stands for.
-ghost use Rattle.std.specs.Prelude.{◌≡◌, true, IfErr, IfSome, Err, OnOk, OnErr, is_ok, option_copied};
+ghost use Rattle.std.specs.Prelude.{◌≡◌, true, IfErr, IfSome, IsSome, Err, OnOk, OnErr, is_ok, length, option_copied};
+ghost use Rattle.std.specs.Option.{option_map};
+ghost use Rattle.source_files.specs.Files.{opened_bytes};
 ghost use Rattle.part_lexer.specs.FileText.{file_text};
 ghost use Rattle.part_lexer.specs.Refusal.{fault_of};
 
@@ -19,7 +21,7 @@ pub enum Slot {
 }
 
 impl Slot {
-    ghost use Rattle.source_files.specs.Slots.{kept_of, bytes_in, is_unopened, opened_slot};
+    ghost use Rattle.source_files.specs.Slots.{found_of, kept_of, bytes_in, is_unopened, number_in, opened_slot, slot_with};
 
     // The file that is kept.
     pub(crate) fn kept(&self) -> Option<&KeptFile>
@@ -53,6 +55,31 @@ impl Slot {
                 }
             },
             _ => unreachable!(),
+        }
+    }
+
+    // The file that is kept gets other bytes, or these have a fault.
+    pub(crate) fn edit(&mut self, alloc: Global, bytes: Vec<u8>) -> Result<(), LexRefusal>
+        requires { IsSome (kept_of self.old) }
+        ensures ok { OnOk result (self.new ≡ slot_with bytes.items self.old) }
+        ensures readable { OnOk result (is_ok (file_text (number_in self.old) bytes.items) ≡ true) }
+        ensures refused { IfErr result (λ e. IfSome (fault_of e) (λ fault. file_text (number_in self.old) bytes.items ≡ Err fault)) }
+        ensures unchanged { OnErr result (self.new ≡ self.old) }
+    {
+        match self {
+            Slot::Opened(file) => file.edit(alloc, bytes),
+            Slot::Made(file) => file.edit(alloc, bytes),
+            _ => unreachable!(),
+        }
+    }
+
+    // How many bytes the file has, if it was opened.
+    pub(crate) fn opened_size(&self) -> Option<usize>
+        ensures { result ≡ option_map length (opened_bytes (found_of self.now)) }
+    {
+        match self {
+            Slot::Opened(file) => Some(file.bytes().len()),
+            _ => None,
         }
     }
 }
