@@ -1,5 +1,6 @@
 // A unit that is preprocessed.
 ghost use Rattle.std.specs.Prelude.{◌≡◌};
+ghost use Rattle.unit_steps.specs.Texts.{text_of};
 
 mod noting;
 
@@ -30,6 +31,32 @@ impl Model for UnitText {
 }
 
 impl UnitText {
+    /// A text of these parts, each list as it is.
+    pub fn of(
+        toks: Vec<Tok>,
+        links: Vec<Link>,
+        pasted: Vec<Tok>,
+        stringized: Vec<Tok>,
+        header: Vec<Tok>,
+        answers: Vec<Tok>,
+        reached: Vec<Reached>,
+        events: Vec<Event>,
+    ) -> UnitText
+        ensures { result ≡ text_of toks.items links.items pasted.items stringized.items header.items answers.items
+            reached.items events.items }
+    {
+        UnitText {
+            toks,
+            links,
+            pasted,
+            stringized,
+            header,
+            answers,
+            reached,
+            events,
+        }
+    }
+
     /// The tokens of the unit, in order.
     pub fn toks(&self) -> &[Tok]
         ensures { result.now ≡ self.now.toks }
