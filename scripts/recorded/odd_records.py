@@ -1,4 +1,4 @@
-"""Small records, odd and broken, and what the import makes of them.
+"""Small records, odd and broken, and what the import makes of them; and pairs of texts, with what differs between their objects.
 
 Each row: what it shows; files beside a.c; the record (entries, to which `directory` and `file` a.c are added where they do not say
 it, or a text); the words of the command; the status; the lines of the workspace without what compiler and kit bring; and what is
@@ -138,4 +138,19 @@ BROKEN = [
     broken("a project of two words", [cc()], "import: --project x y=* is not NAME=PATTERN\n", ["--project", "x y=*", "c.json"], 2),
     broken("a setting", [cc()], "import: --define '2' is no setting\n", ["--define", "2", "c.json"], 2),
     broken("a kit", [cc()], "import: --kit . has no words.cs\n", ["--kit", ".", "c.json"], 2),
+]
+
+JUDGED = [
+    ("int f(int name) { return name; }", "int f(int next) { return next; }", None),
+    ("int name; int f(void) { return name; }", "int next; int f(void) { return next; }", None),
+    ("const char *name(void) { return __func__; }", "const char *next(void) { return __func__; }", None),
+    ("int name(int n) { static int k = 1; return k += n; }", "int next(int n) { static int k = 1; return k += n; }", None),
+    ("int name(void); int f(void) { return name(); }", "int next(void); int f(void) { return next(); }", None),
+    ("int name(void); int f(void) { return name(); }", "int more(void); int f(void) { return more(); }", "symbol name is more"),
+    ("int f(int n) { return n + 1; }", "int f(int n) { return n + 2; }", "section .text differs"),
+    ("int a = 1, name;", "int a = 2, name;", "section .data differs"),
+    ("int f(void) { return 1; }", "int f(void) { return 1; } int g;", "the sections differ"),
+    ("int a[2]; int f(void) { return a[0] - a[1]; }", "int a[2]; int f(void) { return a[1] - a[0]; }", "the relocations differ"),
+    ("char *s = \"names\";", "char *s = \"nexts\";", None),
+    ("char *s = \"names\";", "char *s = \"namet\";", "section .rodata.str1.1 differs"),
 ]
