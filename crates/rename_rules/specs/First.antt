@@ -19,7 +19,8 @@ use Rattle.rename_rules.specs.Offences.{read_only_places, reserved_places, strin
 abbrev pub offence : Cause → Pos → Offence
 offence cause at = record { at = at; cause = cause }
 
--- the number of a cause: of two at one place the first is named
+-- the number of a cause among those against a renaming, and among those against a new order of parameters: of two at
+-- one place the first is named
 abbrev pub number_of : Cause → ℕ
 number_of cause.ReadOnly = 1
 number_of cause.Reserved = 2
@@ -30,6 +31,14 @@ number_of cause.Occurs = 6
 number_of cause.Clash = 7
 number_of cause.TooLarge = 8
 number_of cause.ShadowedTypedef = 9
+number_of cause.NoPrototype = 2
+number_of cause.FunctionAsValue = 3
+number_of cause.InMacro = 4
+number_of cause.AcrossDirective = 5
+number_of cause.LineNumber = 6
+number_of cause.DeclarationInArgument = 7
+number_of cause.ParameterDependence = 8
+number_of cause.ArgumentCount = 9
 number_of _ = 10
 
 -- the path of the places in a file; the pseudo file of lines is kept nowhere

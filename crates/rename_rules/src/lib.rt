@@ -25,7 +25,7 @@ pub use classes::{holds_member, member_at, member_over};
 pub use held_tokens::holders;
 pub use member_offences::{header_names, no_identifiers, read_only, stringized};
 pub use occurrences::occurring;
-pub use offences::{Offence, first_with};
+pub use offences::{Offence, compare, first_with};
 pub use respelling_table::{Respelling, is_clash, is_new_spelling, is_old_spelling, respellings};
 pub use sizes::{run_length, too_large};
 pub use spelling::spelled;

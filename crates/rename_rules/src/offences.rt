@@ -28,6 +28,14 @@ fn number_of(cause: Cause) -> u32
         Cause::Clash => 7,
         Cause::TooLarge => 8,
         Cause::ShadowedTypedef => 9,
+        Cause::NoPrototype => 2,
+        Cause::FunctionAsValue => 3,
+        Cause::InMacro => 4,
+        Cause::AcrossDirective => 5,
+        Cause::LineNumber => 6,
+        Cause::DeclarationInArgument => 7,
+        Cause::ParameterDependence => 8,
+        Cause::ArgumentCount => 9,
         _ => 10,
     }
 }
@@ -42,8 +50,8 @@ fn path_of(a: &Analysis, number: u32) -> &[u8]
     }
 }
 
-// Which of two positions comes first.
-fn compare(a: &Analysis, p: Pos, q: Pos) -> Ordering
+/// Which of two positions comes first: by the bytes of their paths, and then by their characters.
+pub fn compare(a: &Analysis, p: Pos, q: Pos) -> Ordering
     ensures { result ≡ position_cmp a.now.value.table p q }
 {
     match path_of(a, p.file).cmp(path_of(a, q.file)) {

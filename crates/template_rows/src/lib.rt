@@ -5,3 +5,5 @@
 
 #[cfg(test)]
 mod list_tests;
+#[cfg(test)]
+mod offence_tests;

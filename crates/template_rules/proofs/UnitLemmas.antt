@@ -1,0 +1,68 @@
+-- What is told of a unit of an analysis, and what stands against a new order in it.
+use Rattle.std.proofs.Common.{◌≡◌, ℕ, ◌+◌, ◌-◌, ◌++◌, List, [], Option, Some, None, slice_get, refl, sym, ap, ◌∙◌, arith}
+use Rattle.std.specs.Prelude.{slice_index_or}
+use Rattle.std.specs.List.{flat_map}
+use Rattle.std.specs.Option.{option_map}
+use Rattle.cs_base.specs.declared.positions.Part.{Part}
+use Rattle.cs_base.specs.Token.{Token}
+use Rattle.unit_steps.specs.Texts.{UnitTextValue}
+use Rattle.c99_tree.specs.Tree.{Node}
+use Rattle.c_types.specs.declared.lists.List.{List as NameList}
+use Rattle.c_types.specs.declared.parameters.ParameterList.{ParameterList}
+use Rattle.c_types.specs.Parameters.{parameters_in}
+use Rattle.scope_bind.specs.declared.bound.Name.{Name}
+use Rattle.scope_bind.specs.Bound.{Bound}
+use Rattle.ws_core.specs.Analysis.{UnitAnalysis, AnalysisValue}
+use Rattle.rename_rules.proofs.UnitLemmas.{unit_of_text, bound_of_unit}
+use Rattle.template_rules.specs.Functions.{AreFunctionsOf, AreFunctions}
+use Rattle.template_rules.specs.Lists.{declarator_of, declarators_in}
+use Rattle.template_rules.specs.NameOffences.{name_offences, unit_names}
+use Rattle.template_rules.specs.Marks.{declarator_marks, call_marks, unit_marks}
+use Rattle.template_rules.proofs.StepLemmas.{tree_of_unit}
+
+-- The unit whose text, binding and tree are told.
+pub record IsUnit (units : List UnitAnalysis) (k : ℕ) (text : UnitTextValue) (bound : Bound) (tree : Node) : Type 0 where
+  pub unit : UnitAnalysis
+  pub at : slice_get units k ≡ Some unit
+  pub of_text : unit.text ≡ text
+  pub of_bound : unit.bound ≡ bound
+  pub of_tree : unit.tree ≡ tree
+
+pub unit_told : (units : List UnitAnalysis) (k : ℕ) (text : UnitTextValue) (bound : Bound) (tree : Node)
+    → option_map (λ (u : UnitAnalysis). u.text) (slice_get units (k + 1 - 1)) ≡ Some text
+    → option_map (λ (u : UnitAnalysis). u.bound) (slice_get units (k + 1 - 1)) ≡ Some bound
+    → option_map (λ (u : UnitAnalysis). u.tree) (slice_get units (k + 1 - 1)) ≡ Some tree
+    → IsUnit units k text bound tree
+unit_told units k text bound tree has_text has_bound has_tree =
+    let u = unit_of_text units k text has_text in
+    record {
+      unit = u.0;
+      at = u.1;
+      of_text = u.2;
+      of_bound = bound_of_unit units k u.0 bound u.1 has_bound;
+      of_tree = tree_of_unit units k u.0 tree u.1 has_tree;
+    }
+
+-- the functions of the unit, by its tokens and names as they are told
+pub functions_told : (members : List Part) (a : AnalysisValue) (functions : List (List ℕ)) (k : ℕ) (u : UnitAnalysis) (toks : List Token) (names : List Name) (entities : List ℕ)
+    → AreFunctions members a functions → slice_get a.units k ≡ Some u → toks ≡ u.text.toks → names ≡ u.bound.names
+    → entities ≡ slice_index_or functions k [] → AreFunctionsOf members toks names entities
+functions_told members a functions k u toks names entities are at same_toks same_names same = rw (same_toks, same_names, same) (are.each k u at)
+
+pub declarators_told : (members : List Part) (u : UnitAnalysis) (toks : List Token) (names : List Name) (lists : List ParameterList)
+    → toks ≡ u.text.toks → names ≡ u.bound.names → lists ≡ parameters_in u.tree.under
+    → flat_map (declarator_of members toks names lists) names ≡ declarators_in members u
+declarators_told members u toks names lists same_toks same_names same_lists = rw (same_toks, same_names, same_lists) refl
+
+pub names_told : (members : List Part) (u : UnitAnalysis) (toks : List Token) (names : List Name) (calls : List NameList) (lists : List ParameterList)
+    → toks ≡ u.text.toks → names ≡ u.bound.names → calls ≡ u.bound.calls → lists ≡ parameters_in u.tree.under
+    → flat_map (name_offences members toks names calls lists) names ≡ unit_names members u
+names_told members u toks names calls lists same_toks same_names same_calls same_lists = rw (same_toks, same_names, same_calls, same_lists) refl
+
+pub marks_told : (members : List Part) (a : AnalysisValue) (count : ℕ) (u : UnitAnalysis) (text : UnitTextValue) (bound : Bound) (lists : List ParameterList) (declarators calls : List NameList)
+    → u.text ≡ text → u.bound ≡ bound → lists ≡ parameters_in u.tree.under → declarators ≡ bound.declarators → calls ≡ bound.calls
+    → flat_map (declarator_marks members a count text.toks text.reached bound.names lists) declarators
+    ++ flat_map (call_marks members a count text.toks text.reached bound.names) calls
+    ≡ unit_marks members a count u
+marks_told members a count u text bound lists declarators calls same_text same_bound same_lists same_declarators same_calls =
+    rw (same_declarators, same_calls, same_lists, ← same_text, ← same_bound) refl

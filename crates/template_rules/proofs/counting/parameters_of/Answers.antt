@@ -1,0 +1,8 @@
+use Rattle.std.proofs.Common.{refl}
+use Rattle.template_rules.proofs.counting.parameters_of.Goals as goal
+
+pub returns-in-Some : goal.returns-in-Some
+returns-in-Some c = rw (← c.in-Some.ensures) c.declarations_in.ensures
+
+pub returns-in-None : goal.returns-in-None
+returns-in-None c = rw (← c.in-None.ensures) refl

@@ -1,0 +1,5 @@
+use Rattle.template_rules.proofs.FunctionLemmas.{AreBefore}
+use Rattle.template_rules.proofs.functions.named_functions.Given as goal
+
+abbrev pub invariant-loop-unit : goal.invariant-loop-unit
+invariant-loop-unit l = AreBefore l.members l.a.value l.units.items l.unit

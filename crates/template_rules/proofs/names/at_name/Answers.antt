@@ -1,0 +1,12 @@
+use Rattle.cs_base.specs.declared.causes.Cause.TheVariants as cause
+use Rattle.rename_rules.specs.First.{standing}
+use Rattle.rename_rules.proofs.FirstLemmas.{then_both}
+use Rattle.template_rules.specs.NameOffences.{no_prototype_place, value_place}
+use Rattle.template_rules.proofs.names.at_name.Goals as goal
+
+pub returns : goal.returns
+returns c =
+    then_both c.args.a.now.value.table
+    (standing cause.NoPrototype (no_prototype_place c.args.members.now c.args.toks.now c.args.names.now c.args.lists.now c.args.name))
+    (standing cause.FunctionAsValue (value_place c.args.members.now c.args.toks.now c.args.names.now c.args.calls.now c.args.name))
+    c.args.first c.no_prototype_at-lacking.result c.value_at.result c.no_prototype_at-lacking.ensures c.value_at.ensures

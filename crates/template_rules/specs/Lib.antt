@@ -1,0 +1,10 @@
+-- What the public contracts rest on.
+pub mod Functions
+pub mod Lists
+pub mod Marks
+pub mod NameOffences
+-- What stands against a new order besides: of these there are definitions alone.
+pub mod MacroOffences
+pub mod ScopeOffences
+pub mod LineOffences
+pub mod Offences

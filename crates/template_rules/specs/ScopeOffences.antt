@@ -1,0 +1,101 @@
+-- What scopes say against a new order of items (this project's, over ISO/IEC 9899:1999, 6.2.1, 6.7.5.3 and 6.9.1): names
+-- that an item declares for what stands behind it, and uses of one parameter's name in another parameter.
+use Rattle.std.specs.Prelude.{ℕ, ◌+◌, ◌-◌, ◌==◌, ◌&&◌, ◌||◌, not, nat_lt, if◌then◌else◌, Bool, true, false, Option, List, [], ◌∷◌, ◌++◌, remove}
+use Rattle.std.specs.List.{flat_map, list_any}
+use Rattle.std.specs.Option.{option_map_or}
+use Rattle.std.specs.Str.{bytes_eq}
+use Rattle.cs_base.specs.declared.positions.Pos.{Pos}
+use Rattle.cs_base.specs.Token.{Token}
+use Rattle.c99_tree.specs.Tree.{Forest, none, token, node}
+use Rattle.c99_tree.specs.declared.production.Production.TheVariants.{ExtRest, FunBody}
+use Rattle.c_types.specs.declared.entity.EntityKind.{EntityKind}
+use Rattle.c_types.specs.declared.entity.EntityKind.TheVariants as entity
+use Rattle.c_types.specs.declared.lists.List.{List as NameList}
+use Rattle.c_types.specs.declared.parameters.ParameterList.{ParameterList}
+use Rattle.c_types.specs.Declarations.{spelling_at, is_in}
+use Rattle.c_types.specs.Trees.{is_node, first_list}
+use Rattle.scope_bind.specs.declared.bound.Name.{Name}
+use Rattle.list_cuts.specs.Cuts.{numbers}
+use Rattle.template_rules.specs.Functions.{place_of}
+use Rattle.template_rules.specs.Lists.{parameters_at, separators}
+
+-- token k stands inside a list
+abbrev pub is_inside : NameList → ℕ → Bool
+is_inside l k = nat_lt l.begin k && nat_lt k l.close
+
+-- ---- DeclarationInArgument
+
+abbrev pub is_tag_or_enumerator : EntityKind → Bool
+is_tag_or_enumerator entity.Tag = true
+is_tag_or_enumerator entity.Enumerator = true
+is_tag_or_enumerator _ = false
+
+-- a tag or an enumerator that is declared inside a list
+abbrev pub declaration_place : List Token → NameList → Name → List Pos
+declaration_place toks l n = if (n.declares && is_tag_or_enumerator n.kind) && is_inside l n.index then place_of toks n.index else []
+
+abbrev pub declaration_places : List Token → List Name → NameList → List Pos
+declaration_places toks names l = flat_map (declaration_place toks l) names
+
+-- what follows a declarator begins with a body
+abbrev pub begins_body : Forest → Bool
+begins_body (node l first under rest) = is_node l FunBody
+begins_body _ = false
+
+-- where the list ends whose names a body begins with, given a declarator and what follows it: the first list of the
+-- declarator that stands in no other one
+abbrev pub body_list : Forest → List ℕ
+body_list (node l first declarator (node m second tail rest)) =
+    if begins_body tail then option_map_or (λ k. k ∷ []) (first_list declarator) [] else []
+body_list _ = []
+
+-- the same for each definition of a unit
+abbrev pub body_lists_in : Forest → List ℕ
+body_lists_in none = []
+body_lists_in (token i rest) = body_lists_in rest
+body_lists_in (node l first under rest) = (if is_node l ExtRest then body_list under else body_lists_in under) ++ body_lists_in rest
+
+-- the name of an argument list inside which such a list ends: a body may follow any declarator, and in another order
+-- another list would be the first
+abbrev pub body_place : List Token → List ℕ → NameList → List Pos
+body_place toks ends l = if list_any (is_inside l) ends then place_of toks l.name else []
+
+-- ---- ParameterDependence
+
+abbrev pub is_ordinary : EntityKind → Bool
+is_ordinary entity.Tag = false
+is_ordinary entity.Member = false
+is_ordinary entity.Label = false
+is_ordinary _ = true
+
+-- the name uses an ordinary identifier
+abbrev pub uses_ordinary : Name → Bool
+uses_ordinary n = not n.declares && is_ordinary n.kind
+
+-- token k is such a name, or a bare one (6.7.5.3 paragraph 11)
+abbrev pub is_use : List Name → List ℕ → ℕ → Bool
+is_use names bare k = list_any (λ (n : Name). n.index == k && uses_ordinary n) names || is_in bare k
+
+-- the token is spelled as the name of a parameter
+abbrev pub is_spelled_as : List Token → ℕ → Option ℕ → Bool
+is_spelled_as toks k name = option_map_or (λ j. bytes_eq (spelling_at toks j) (spelling_at toks k)) name false
+
+-- token k, where it uses the name of one of these parameters
+abbrev pub dependence_place : List Token → List Name → List ℕ → List (Option ℕ) → ℕ → List Pos
+dependence_place toks names bare others k =
+    if is_use names bare k && list_any (is_spelled_as toks k) others then place_of toks k else []
+
+-- in the tokens of an item, between two separators, where these are the names of the other parameters
+abbrev pub dependence_between : List Token → List Name → List ℕ → List (Option ℕ) → ℕ → ℕ → List Pos
+dependence_between toks names bare others begin close =
+    flat_map (dependence_place toks names bare others) (numbers (begin + 1) (close - (begin + 1)))
+
+-- in the items of a list from number k on, given the names of all its parameters and the separators that are left
+abbrev pub dependence_from : List Token → List Name → List ℕ → List (Option ℕ) → ℕ → List ℕ → List Pos
+dependence_from toks names bare all k (begin ∷ close ∷ more) =
+    dependence_between toks names bare (remove all k) begin close ++ dependence_from toks names bare all (k + 1) (close ∷ more)
+dependence_from toks names bare all k _ = []
+
+abbrev pub dependence_places : List Token → List Name → List ℕ → List ParameterList → NameList → List Pos
+dependence_places toks names bare lists l =
+    option_map_or (λ (p : ParameterList). dependence_from toks names bare p.names 0 (separators l)) (parameters_at lists l.name) []

@@ -1,0 +1,232 @@
+// What the marks of lists say against a new order.
+ghost use Rattle.std.specs.Prelude.{◌≡◌, ◌++◌, IfOk};
+ghost use Rattle.std.specs.List.{flat_map};
+ghost use Rattle.cs_base.specs.declared.causes.Cause.TheVariants as cause;
+ghost use Rattle.rename_rules.specs.First.{standing, FirstThen};
+ghost use Rattle.template_rules.specs.Functions.{AreFunctions, AreFunctionsOf, names_function};
+ghost use Rattle.template_rules.specs.Lists.{arguments_of, parameters_of};
+ghost use Rattle.template_rules.specs.Marks.{read_only_place, is_across, across_place, count_place, mark_offences, declarator_marks, call_marks, all_marks};
+
+use crate::counting::{arguments_of, parameters_of};
+use crate::functions::{Functions, names_function};
+use crate::places::{at_token, origin_of};
+use cs_base::{Cause, Memory, Part, Tok};
+use rename_rules::{Offence, first_with};
+use scope_bind::{Bound, List, ParameterList, parameter_lists};
+use std::alloc::Global;
+use unit_steps::{Reached, UnitText};
+use ws_core::Analysis;
+
+// `ReadOnly` at a list.
+fn read_only_at(a: &Analysis, toks: &[Tok], list: &List, first: Option<Offence>) -> Option<Offence>
+    ensures { FirstThen a.now.value.table (standing cause.ReadOnly (read_only_place a.now.value toks.now list.now)) first result }
+{
+    match origin_of(toks, list.begin) {
+        Some(at) => {
+            if a.read_only(at.file) {
+                first_with(a, first, at, Cause::ReadOnly)
+            } else {
+                first
+            }
+        }
+        None => first,
+    }
+}
+
+fn is_across(reached: &[Reached], list: &List) -> bool
+    ensures { result ≡ is_across reached.now list.now }
+{
+    reached.iter().any(|item| list.name < item.before && item.before <= list.close)
+}
+
+// `AcrossDirective` at a list.
+fn across_at(
+    a: &Analysis,
+    toks: &[Tok],
+    reached: &[Reached],
+    list: &List,
+    first: Option<Offence>,
+) -> Option<Offence>
+    ensures { FirstThen a.now.value.table (standing cause.AcrossDirective (across_place toks.now reached.now list.now)) first result }
+{
+    if is_across(reached, list) {
+        at_token(a, toks, list.name, Cause::AcrossDirective, first)
+    } else {
+        first
+    }
+}
+
+// `ArgumentCount` at a list of so many items.
+fn count_at(
+    a: &Analysis,
+    count: usize,
+    length: usize,
+    toks: &[Tok],
+    list: &List,
+    first: Option<Offence>,
+) -> Option<Offence>
+    ensures { FirstThen a.now.value.table (standing cause.ArgumentCount (count_place count length toks.now list.now)) first result }
+{
+    if length == count {
+        first
+    } else {
+        at_token(a, toks, list.name, Cause::ArgumentCount, first)
+    }
+}
+
+// All three at a list.
+fn marks_at(
+    a: &Analysis,
+    count: usize,
+    toks: &[Tok],
+    reached: &[Reached],
+    length: usize,
+    list: &List,
+    first: Option<Offence>,
+) -> Option<Offence>
+    ensures { FirstThen a.now.value.table (mark_offences a.now.value count toks.now reached.now length list.now) first result }
+{
+    let kept = read_only_at(a, toks, list, first);
+    let across = across_at(a, toks, reached, list, kept);
+    count_at(a, count, length, toks, list, across)
+}
+
+// All three at the parameter list of a declarator, if it is one of a function that the class names.
+fn at_declarator(
+    a: &Analysis,
+    members: &[Part],
+    count: usize,
+    text: &UnitText,
+    bound: &Bound,
+    entities: &[u32],
+    lists: &[ParameterList],
+    list: &List,
+    first: Option<Offence>,
+) -> Option<Offence>
+    requires { AreFunctionsOf members.now text.now.toks bound.now.names entities.now }
+    ensures { FirstThen a.now.value.table (declarator_marks members.now a.now.value count text.now.toks text.now.reached bound.now.names lists.now list.now) first result }
+{
+    if names_function(members, text.toks(), bound, entities, list.name) {
+        let length = parameters_of(lists, list.name);
+        marks_at(a, count, text.toks(), text.reached(), length, list, first)
+    } else {
+        first
+    }
+}
+
+// All three at the argument list of a call of one.
+fn at_call(
+    a: &Analysis,
+    members: &[Part],
+    count: usize,
+    text: &UnitText,
+    bound: &Bound,
+    entities: &[u32],
+    list: &List,
+    first: Option<Offence>,
+) -> Option<Offence>
+    requires { AreFunctionsOf members.now text.now.toks bound.now.names entities.now }
+    ensures { FirstThen a.now.value.table (call_marks members.now a.now.value count text.now.toks text.now.reached bound.now.names list.now) first result }
+{
+    if names_function(members, text.toks(), bound, entities, list.name) {
+        marks_at(
+            a,
+            count,
+            text.toks(),
+            text.reached(),
+            arguments_of(list),
+            list,
+            first,
+        )
+    } else {
+        first
+    }
+}
+
+// The same at all these declarators.
+fn at_declarators(
+    a: &Analysis,
+    members: &[Part],
+    count: usize,
+    text: &UnitText,
+    bound: &Bound,
+    entities: &[u32],
+    lists: &[ParameterList],
+    all: &[List],
+    first: Option<Offence>,
+) -> Option<Offence>
+    requires { AreFunctionsOf members.now text.now.toks bound.now.names entities.now }
+    ensures { FirstThen a.now.value.table (flat_map (declarator_marks members.now a.now.value count text.now.toks text.now.reached bound.now.names lists.now) all.now) first result }
+{
+    let mut now = first;
+    for list in all {
+        now = at_declarator(a, members, count, text, bound, entities, lists, list, now);
+    }
+    now
+}
+
+// The same at all these calls.
+fn at_calls(
+    a: &Analysis,
+    members: &[Part],
+    count: usize,
+    text: &UnitText,
+    bound: &Bound,
+    entities: &[u32],
+    all: &[List],
+    first: Option<Offence>,
+) -> Option<Offence>
+    requires { AreFunctionsOf members.now text.now.toks bound.now.names entities.now }
+    ensures { FirstThen a.now.value.table (flat_map (call_marks members.now a.now.value count text.now.toks text.now.reached bound.now.names) all.now) first result }
+{
+    let mut now = first;
+    for list in all {
+        now = at_call(a, members, count, text, bound, entities, list, now);
+    }
+    now
+}
+
+/// `ReadOnly`, at the `(` of a list in a file that is not edited; `AcrossDirective`, at the name of a list that goes on
+/// behind a directive; `ArgumentCount`, at the name of a list that has not so many items.
+pub fn at_marks(
+    alloc: Global,
+    a: &Analysis,
+    members: &[Part],
+    functions: &Functions,
+    count: usize,
+    first: Option<Offence>,
+) -> Result<Option<Offence>, Memory>
+    requires { AreFunctions members.now a.now.value functions.now }
+    ensures answer { IfOk result (FirstThen a.now.value.table (all_marks members.now a.now.value count) first) }
+{
+    let mut now = first;
+    for unit in 0..a.units() {
+        let text = a.text(unit + 1);
+        let bound = a.bound(unit + 1);
+        let tree = a.tree(unit + 1);
+        let lists = parameter_lists(alloc, tree)?;
+        let entities = functions.of(unit);
+        let declared = at_declarators(
+            a,
+            members,
+            count,
+            text,
+            bound,
+            entities,
+            &lists,
+            bound.declarators(),
+            now,
+        );
+        now = at_calls(
+            a,
+            members,
+            count,
+            text,
+            bound,
+            entities,
+            bound.calls(),
+            declared,
+        );
+    }
+    Ok(now)
+}
