@@ -1,10 +1,10 @@
 -- What a cut does to the elements, whatever they are.
-use Rattle.std.proofs.Common.{ℕ, zero, suc, ◌+◌, ◌-◌, ◌≡◌, ◌<◌, ◌≤◌, true, false, List, [], ◌∷◌, ◌++◌, length, take, drop, map, get_or, refl, sym, ap, ◌∙◌, arith, inl, inr, length-append, length-drop, append_assoc, take-add, length-take-le}
+use Rattle.std.proofs.Common.{ℕ, ◌+◌, ◌-◌, ◌≡◌, ◌<◌, ◌≤◌, true, false, List, [], ◌∷◌, ◌++◌, length, take, drop, map, get_or, refl, sym, ap, ◌∙◌, arith, length-drop, append_assoc, take-add}
 use Rattle.std.specs.Prelude.{sum_by, ◌==◌, ◌||◌, nat_lt, Bool, IsPermutation}
 use Rattle.std.specs.List.{list_any}
-use Rattle.std.proofs.lemmas.Bool.{cases_Bool, lt-ltb, eq-eqb}
+use Rattle.std.proofs.lemmas.Bool.{lt-ltb, eq-eqb}
 use Rattle.std.proofs.lemmas.List.Folds.{list_any_at}
-use Rattle.std.proofs.lemmas.List.{length-map, drop-drop, take-append-le, same_lists, get_or-map, get_or_default, nil_from_length, drop-append-le, take-append-drop, take-map, drop-map, map-append, drop-take}
+use Rattle.std.proofs.lemmas.List.{length-map, drop-drop, take-append-le, same_lists, get_or-map, get_or_default, nil_from_length, drop-append-le, take-append-drop, take-map, drop-map, map-append}
 use Rattle.std.proofs.lemmas.List.Sums.{sum_by-cons, sum_by-append}
 use Rattle.std.proofs.lemmas.List.Sorted.{sum_by-IsPermutation, length_permutation, IsPermutation-refl, IsPermutation-map}
 use Rattle.std.proofs.Math.ListN as listn

@@ -1,5 +1,5 @@
 -- Lists keep their length when their items change places.
-use Rattle.std.proofs.Common.{ℕ, zero, suc, ◌+◌, ◌-◌, ◌≡◌, ◌<◌, ◌≤◌, true, List, [], ◌∷◌, ◌++◌, length, take, drop, map, get_or, min, refl, sym, ap, ◌∙◌, inl, inr, arith, length-append, length-drop, length-take, length-take-le, append-nil}
+use Rattle.std.proofs.Common.{ℕ, ◌+◌, ◌-◌, ◌≡◌, ◌<◌, ◌≤◌, true, List, [], ◌∷◌, ◌++◌, length, take, drop, map, get_or, refl, sym, ap, ◌∙◌, inl, inr, arith, length-append, length-drop, length-take-le, append-nil}
 use Rattle.std.specs.Prelude.{◌==◌, sum_by}
 use Rattle.std.proofs.lemmas.Bool.{cases_Bool, and_parts, and_from, eqb-true, eq-eqb}
 use Rattle.std.proofs.lemmas.List.{length-map, drop-drop, drop_all, drop_more, take_all}
@@ -8,8 +8,8 @@ use Rattle.std.proofs.lemmas.List.Sums.{sum_by-cons}
 use Rattle.list_cuts.specs.declared.spans.Span.{Span}
 use Rattle.list_cuts.specs.Cuts.{IsOrder, picked, woven}
 use Rattle.list_cuts.specs.Spans.{text_of, between, end_of, stand_in_order, fits, reordered, rearranged, all_rearranged}
-use Rattle.list_cuts.proofs.OrderLemmas.{picked_permutes, length-picked}
-use Rattle.list_cuts.proofs.SpanLemmas.{no_span, First, first_stands, from_within, length-between}
+use Rattle.list_cuts.proofs.OrderLemmas.{picked_permutes}
+use Rattle.list_cuts.proofs.SpanLemmas.{no_span, first_stands, from_within, length-between}
 
 -- how many elements some lists have together
 abbrev pub total : {X : Type 0} → List (List X) → ℕ

@@ -4,3 +4,4 @@ pub mod SpanLemmas
 pub mod OrderLemmas
 pub mod LengthLemmas
 pub mod CutLemmas
+pub mod CutOfLemmas

@@ -1,10 +1,10 @@
 -- Where the items of a list stand in a text.
-use Rattle.std.proofs.Common.{ℕ, zero, suc, ◌+◌, ◌-◌, ◌≡◌, ◌<◌, ◌≤◌, true, List, [], ◌∷◌, ◌++◌, length, take, drop, map, get_or, refl, sym, ap, ◌∙◌, arith, length-append, length-drop, length-take}
+use Rattle.std.proofs.Common.{ℕ, zero, suc, ◌+◌, ◌-◌, ◌≡◌, ◌<◌, ◌≤◌, true, List, [], ◌∷◌, length, take, drop, map, get_or, refl, ap, arith}
 use Rattle.std.specs.Prelude.{nat_le, ◌&&◌}
 use Rattle.std.proofs.lemmas.Bool.{and_parts, leb-true}
-use Rattle.std.proofs.lemmas.List.{get_or-map}
+use Rattle.std.proofs.lemmas.List.{get_or-map, drop_all, drop_more}
 use Rattle.list_cuts.specs.declared.spans.Span.{Span}
-use Rattle.list_cuts.specs.Spans.{text_of, between, end_of, stand_in_order}
+use Rattle.list_cuts.specs.Spans.{text_of, between, stand_in_order}
 
 abbrev pub no_span : Span
 no_span = record { begin = 0; end = 0 }
@@ -90,3 +90,16 @@ unfolding between
 length-between xs [] = refl
 length-between xs (s ∷ []) = refl
 length-between xs (s ∷ t ∷ more) = ap (λ (n : ℕ). suc n) (length-between xs (t ∷ more))
+
+-- ---- from one item on
+
+pub in_order_past : (from size k : ℕ) (l : List Span) → length l ≤ k → stand_in_order from size (drop k l) ≡ nat_le from size
+unfolding stand_in_order
+in_order_past from size k l past = rw (drop_all k l past) refl
+
+pub in_order_next : (from size k : ℕ) (l : List Span) → k < length l
+    → stand_in_order from size (drop k l)
+    ≡ (nat_le from (get_or l k no_span).begin && (nat_le (get_or l k no_span).begin (get_or l k no_span).end
+    && stand_in_order (get_or l k no_span).end size (drop (k + 1) l)))
+unfolding stand_in_order
+in_order_next from size k l lt = rw (drop_more l k no_span lt) refl

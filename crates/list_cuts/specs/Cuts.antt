@@ -1,6 +1,6 @@
 -- Lists whose items change places (this project's). A cut tells where lists and their items stand, whatever the
 -- elements are: bytes of a file, tokens, or their numbers. So one rule orders all of them alike.
-use Rattle.std.specs.Prelude.{ℕ, zero, suc, ◌+◌, ◌-◌, ◌==◌, ◌≡◌, List, [], ◌∷◌, ◌++◌, take, drop, map, length, position, unwrap_or, slice_index_or, IsPermutation}
+use Rattle.std.specs.Prelude.{ℕ, zero, suc, ◌+◌, ◌-◌, ◌==◌, ◌≡◌, List, [], ◌∷◌, ◌++◌, take, drop, map, position, unwrap_or, slice_index_or, IsPermutation}
 
 mutual
   -- What is done with some elements: all that are left stay; so many stay, and then more is done; or a list begins.

@@ -3,3 +3,4 @@ pub mod Cuts
 pub mod Orders
 pub mod Spans
 pub mod Laws
+pub mod CutOf

@@ -1,7 +1,7 @@
 -- Lists in the bytes of a file (this project's): where their items stand, and the bytes once these change places.
-use Rattle.std.specs.Prelude.{ℕ, ◌+◌, ◌-◌, ◌==◌, ◌&&◌, nat_le, if◌then◌else◌, Bool, List, [], ◌∷◌, ◌++◌, take, drop, map, length}
+use Rattle.std.specs.Prelude.{ℕ, ◌-◌, ◌==◌, ◌&&◌, nat_le, if◌then◌else◌, Bool, List, [], ◌∷◌, ◌++◌, take, drop, map, length}
 use Rattle.list_cuts.specs.declared.spans.Span.{Span}
-use Rattle.list_cuts.specs.Cuts.{Cut, done, keep, list, Items, ended, item, picked, woven}
+use Rattle.list_cuts.specs.Cuts.{picked, woven}
 
 -- the elements from where an item begins to before where it ends
 abbrev pub text_of : {X : Type 0} → List X → Span → List X

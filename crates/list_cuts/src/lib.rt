@@ -13,7 +13,7 @@ mod orders;
 mod rearranging;
 mod spans;
 
-pub use laws::{elements_move, images_move};
+pub use laws::{elements_move, images_move, lists_are_cuts};
 pub use orders::is_order;
 pub use rearranging::{arrange, rearrange};
 pub use spans::{ListSpans, Span};

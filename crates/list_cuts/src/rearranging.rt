@@ -7,17 +7,18 @@ use crate::spans::{ListSpans, Span};
 use cs_base::Memory;
 use std::alloc::Global;
 
-// Whether the items stand one behind the other, from an element on, in a text of so many.
-#[tactic(auto, unfolding(crate::specs::Spans::stand_in_order))]
-fn stand_in_order(from: usize, size: usize, list: &[Span]) -> bool
-    ensures { result ≡ stand_in_order from size list.now }
+// Whether the items stand one behind the other in a text of so many elements.
+fn stand_in_order(size: usize, list: &[Span]) -> bool
+    ensures { result ≡ stand_in_order 0 size list.now }
 {
-    match list {
-        [] => from <= size,
-        [first, more @ ..] => {
-            from <= first.begin && first.begin <= first.end && stand_in_order(first.end, size, more)
+    let mut from = 0;
+    for span in list {
+        if from > span.begin || span.begin > span.end {
+            return false;
         }
+        from = span.end;
     }
+    from <= size
 }
 
 // The bytes of an item.
@@ -71,7 +72,7 @@ pub fn rearrange(
     ensures answer { OnOk result (bytes.new ≡ rearranged order.now list.now bytes.old) }
     ensures unchanged { OnErr result (bytes.new ≡ bytes.old) }
 {
-    if list.len() != order.len() || !stand_in_order(0, bytes.len(), list) {
+    if list.len() != order.len() || !stand_in_order(bytes.len(), list) {
         return Ok(());
     }
     match list {

@@ -1,4 +1,4 @@
-use Rattle.std.proofs.Common.{ℕ, ◌≡◌, ◌<◌, ◌≤◌, arith, sym, length, take, List, Bool, get_or, false, true}
+use Rattle.std.proofs.Common.{ℕ, ◌≡◌, ◌<◌, arith, sym, length, take, get_or, false, true}
 use Rattle.std.proofs.lemmas.List.{take_all}
 use Rattle.list_cuts.proofs.MetLemmas.{IsMet, all_met, one_missed}
 use Rattle.list_cuts.proofs.OrderLemmas.{orders_permute}

@@ -1,5 +1,4 @@
 use Rattle.std.proofs.Common.{ℕ, ◌≡◌, ◌<◌, true, false, [], take, get_or}
-use Rattle.list_cuts.specs.Orders.{has_number}
 use Rattle.list_cuts.proofs.MetLemmas.{IsMet}
 use Rattle.list_cuts.proofs.orders.is_order.Given as goal
 

@@ -1,4 +1,4 @@
-use Rattle.std.proofs.Common.{ℕ, ◌≡◌, ◌<◌, ◌≤◌, ◌+◌, ◌-◌, arith, sym, length, drop, ap, ◌∙◌, List}
+use Rattle.std.proofs.Common.{ℕ, ◌≡◌, ◌<◌, ◌+◌, ◌-◌, arith, sym, length, drop, ap, ◌∙◌, List}
 use Rattle.list_cuts.specs.Spans.{rearranged, all_rearranged}
 use Rattle.list_cuts.specs.declared.spans.Span.{Span}
 use Rattle.list_cuts.proofs.LengthLemmas.{length-rearranged, whole_put, all_rearranged_none, all_rearranged_more}

@@ -1,4 +1,4 @@
-use Rattle.std.proofs.Common.{◌≡◌, ◌≤◌, ℕ, length, drop}
+use Rattle.std.proofs.Common.{◌≡◌, ◌≤◌, length, drop}
 use Rattle.list_cuts.specs.Spans.{all_rearranged}
 use Rattle.list_cuts.proofs.rearranging.arrange.Given as goal
 

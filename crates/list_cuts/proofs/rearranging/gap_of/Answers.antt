@@ -1,4 +1,4 @@
-use Rattle.std.proofs.Common.{◌≡◌, ◌+◌, sym, arith, rules, length}
+use Rattle.std.proofs.Common.{◌+◌, sym, rules, length}
 use Rattle.list_cuts.proofs.SpanLemmas.{stands, stands_behind, between_at, between_last}
 use Rattle.list_cuts.proofs.rearranging.gap_of.Goals as goal
 

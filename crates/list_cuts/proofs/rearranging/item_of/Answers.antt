@@ -1,4 +1,4 @@
-use Rattle.std.proofs.Common.{◌≡◌, arith, rules, length}
+use Rattle.std.proofs.Common.{rules, length}
 use Rattle.list_cuts.proofs.SpanLemmas.{stands}
 use Rattle.list_cuts.proofs.rearranging.item_of.Goals as goal
 

@@ -1,4 +1,4 @@
-use Rattle.std.proofs.Common.{ℕ, ◌≡◌, ◌<◌, ◌≤◌, ◌+◌, ◌-◌, arith, rules, sym, length, ◌∙◌, List, get_or}
+use Rattle.std.proofs.Common.{◌≡◌, ◌+◌, ◌-◌, arith, rules, sym, length, ◌∙◌, get_or}
 use Rattle.list_cuts.proofs.SpanLemmas.{no_span}
 use Rattle.list_cuts.proofs.LengthLemmas.{IsText, no_list, text_long, text_put}
 use Rattle.list_cuts.proofs.rearranging.rearrange.Goals as goal

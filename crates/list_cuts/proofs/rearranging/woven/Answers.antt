@@ -1,5 +1,4 @@
-use Rattle.std.proofs.Common.{ℕ, ◌≡◌, ◌<◌, ◌≤◌, ◌-◌, arith, sym, map, length, get_or, refl, ◌∙◌}
-use Rattle.std.proofs.lemmas.List.{length-map}
+use Rattle.std.proofs.Common.{◌≡◌, arith, map, length}
 use Rattle.list_cuts.specs.Cuts.{picked}
 use Rattle.list_cuts.specs.Spans.{text_of, between}
 use Rattle.list_cuts.proofs.OrderLemmas.{orders_within, length-picked, picked_at}

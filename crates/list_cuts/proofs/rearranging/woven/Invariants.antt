@@ -1,4 +1,4 @@
-use Rattle.std.proofs.Common.{[], map}
+use Rattle.std.proofs.Common.{map}
 use Rattle.list_cuts.specs.Cuts.{picked}
 use Rattle.list_cuts.specs.Spans.{text_of, between}
 use Rattle.list_cuts.proofs.WovenLemmas.{IsWoven}
