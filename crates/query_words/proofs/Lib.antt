@@ -1,4 +1,5 @@
 pub mod AtomLemmas
 pub mod LawLemmas
 pub mod PatternLemmas
+pub mod SatisfyingLemmas
 pub mod WalkLemmas

@@ -2,6 +2,7 @@
 pub mod Attributes
 pub mod Patterns
 pub mod Queries
+pub mod Satisfying
 pub mod Reading
 pub mod Laws
 -- What inner functions promise each other.

@@ -1,8 +1,5 @@
-pub mod AnswerLemmas
 pub mod InclusionLemmas
 pub mod UseLemmas
 pub mod LineLemmas
 pub mod UnneededLemmas
 pub mod OrderLemmas
-pub mod MarkLemmas
-pub mod UnusedLemmas

@@ -2,10 +2,8 @@
 pub mod Inclusions
 pub mod Order
 pub mod Unneeded
-pub mod Roles
 pub mod Unused
 -- What inner functions promise each other.
 pub mod Spans
 pub mod LastUses
 pub mod Lines
-pub mod Marks

@@ -7,20 +7,17 @@
 //! read-only files and classes with a member there are left out. How a workspace is analysed belongs to the crate
 //! below, and how the answers are printed to those above. Nothing is refused; want of memory is answered `Memory`.
 //! `unused` walks over all names twice; `unneeded` looks at each token and event of a unit once for each inclusion that
-//! is open there, whose number is limited. Read `specs/Inclusions.antt`, `specs/Unneeded.antt`, `specs/Roles.antt` and
+//! is open there, whose number is limited. Read `specs/Inclusions.antt`, `specs/Unneeded.antt` and
 //! `specs/Unused.antt`, then `unneeded_lines.rt` and `unused_classes.rt`.
 #![tactic(auto)]
 
 mod inclusions;
 mod last_uses;
 mod lines;
-mod marks;
 mod order;
-mod roles;
 mod spans;
 mod unneeded_lines;
 mod unused_classes;
 
-pub use roles::Role;
 pub use unneeded_lines::unneeded;
-pub use unused_classes::unused;
+pub use unused_classes::{is_unused, unused};

@@ -2,30 +2,15 @@
 ghost use Rattle.std.specs.Prelude.{◌≡◌, IfOk, MatchBool, codes};
 ghost use Rattle.std.specs.Str.{bytes_eq};
 ghost use Rattle.ws_core.specs.Parts.{IsFirst, IsPart};
-ghost use Rattle.unused_names.specs.Marks.{AreMarked};
-ghost use Rattle.unused_names.specs.Roles.{names_with};
-ghost use Rattle.unused_names.specs.Unused.{AreUnused, IsDeclaredAlone, IsReadOnlyClass, IsUnused};
-ghost use Rattle.unused_names.specs.declared.roles.Role.TheVariants as role;
+ghost use Rattle.class_marks.specs.Marks.{AreMarked};
+ghost use Rattle.class_marks.specs.Roles.{names_with};
+ghost use Rattle.unused_names.specs.Unused.{AreUnused, IsDeclaredAlone, IsUnused};
+ghost use Rattle.class_marks.specs.declared.roles.Role.TheVariants as role;
 
-use crate::marks::{is_marked, marks_of};
-use crate::roles::Role;
+use class_marks::{Role, has_read_only, is_marked, marks_of};
 use cs_base::{Memory, Part};
 use std::alloc::Global;
 use ws_core::Analysis;
-
-// Whether some member of the class lies in a read-only file.
-fn has_read_only(a: &Analysis, part: Part) -> bool
-    requires { IsPart a.now.value part }
-    ensures { MatchBool result (IsReadOnlyClass a.now.value part) (IsReadOnlyClass a.now.value part → ⊥) }
-{
-    let members = a.members(part);
-    for member in members {
-        if a.read_only(member.start.file) {
-            return true;
-        }
-    }
-    false
-}
 
 // Whether the class of a part has a name that declares, and none that uses.
 fn is_declared_alone(a: &Analysis, declared: &[bool], used: &[bool], part: Part) -> bool
@@ -34,14 +19,10 @@ fn is_declared_alone(a: &Analysis, declared: &[bool], used: &[bool], part: Part)
     requires used { AreMarked a.now.classes (names_with role.Uses a.now.value) used.now }
     ensures { MatchBool result (IsDeclaredAlone a.now.value part) (IsDeclaredAlone a.now.value part → ⊥) }
 {
-    let classes = a.classes();
-    let Some(class) = classes.class_of(part) else {
-        return false;
-    };
-    if !is_marked(declared, class) {
+    if !is_marked(a, declared, part) {
         return false;
     }
-    let is_used = is_marked(used, class);
+    let is_used = is_marked(a, used, part);
     !is_used
 }
 
@@ -52,8 +33,8 @@ fn is_main(name: &[u8]) -> bool
     name == b"main".as_slice()
 }
 
-// Whether this is the first member of a class that is unused.
-fn is_unused(a: &Analysis, declared: &[bool], used: &[bool], part: Part) -> bool
+/// Whether the first member of a class is one that is declared and not used, by the marks of both roles.
+pub fn is_unused(a: &Analysis, declared: &[bool], used: &[bool], part: Part) -> bool
     requires first { IsFirst a.now.value part }
     requires declared { AreMarked a.now.classes (names_with role.Declares a.now.value) declared.now }
     requires used { AreMarked a.now.classes (names_with role.Uses a.now.value) used.now }

@@ -4,7 +4,7 @@ use Rattle.unused_names.specs.Inclusions.{end_of}
 use Rattle.unused_names.specs.LastUses.{MeansBehind}
 use Rattle.unused_names.specs.Spans.{ReachesOut}
 use Rattle.unused_names.specs.Unneeded.{IsUnneeded}
-use Rattle.unused_names.proofs.AnswerLemmas.{said_not}
+use Rattle.class_marks.proofs.AnswerLemmas.{said_not}
 use Rattle.unused_names.proofs.UnneededLemmas.{is_unneeded, needed_by_entity, needed_by_name}
 use Rattle.unused_names.proofs.lines.is_unneeded.Goals as goal
 

@@ -1,7 +1,7 @@
 use Rattle.std.proofs.Common.{◌≡◌, filter, sym, subst}
 use Rattle.unused_names.specs.Lines.{has_position, is_chosen, lines_in}
 use Rattle.unused_names.specs.Unneeded.{AreUnneeded}
-use Rattle.unused_names.proofs.AnswerLemmas.{if_ok_then}
+use Rattle.class_marks.proofs.AnswerLemmas.{if_ok_then}
 use Rattle.unused_names.proofs.UnneededLemmas.{are_unneeded}
 use Rattle.unused_names.proofs.unneeded_lines.unneeded.Goals as goal
 

@@ -3,9 +3,9 @@ use Rattle.std.proofs.lemmas.List.{take_all}
 use Rattle.std.proofs.lemmas.Option.{slice_get-get_or}
 use Rattle.cs_base.specs.declared.positions.Part.{Part}
 use Rattle.ws_core.specs.Parts.{part_cmp}
-use Rattle.unused_names.specs.Marks.{Keeps}
+use Rattle.class_marks.specs.Keeping.{Keeps}
 use Rattle.unused_names.specs.Unused.{IsUnused}
-use Rattle.unused_names.proofs.UnusedLemmas.{keeps_all, keeps_each, keeps_more, keeps_none, keeps_same, keeps_sorted}
+use Rattle.class_marks.proofs.KeepLemmas.{keeps_all, keeps_each, keeps_more, keeps_none, keeps_same, keeps_sorted}
 use Rattle.unused_names.proofs.unused_classes.chosen.Goals as goal
 use Rattle.unused_names.proofs.unused_classes.chosen.Goals.{then-is_unused+in_ok-push, else-is_unused}
 

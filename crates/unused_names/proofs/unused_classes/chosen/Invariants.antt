@@ -1,5 +1,5 @@
 use Rattle.std.proofs.Common.{take}
-use Rattle.unused_names.specs.Marks.{Keeps}
+use Rattle.class_marks.specs.Keeping.{Keeps}
 use Rattle.unused_names.specs.Unused.{IsUnused}
 use Rattle.unused_names.proofs.unused_classes.chosen.Given as goal
 

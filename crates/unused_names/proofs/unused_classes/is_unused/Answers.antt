@@ -3,7 +3,7 @@ use Rattle.std.specs.Prelude.{codes}
 use Rattle.std.specs.Str.{bytes_eq}
 use Rattle.ws_core.specs.Spellings.{spelling_of}
 use Rattle.unused_names.specs.Unused.{IsUnused}
-use Rattle.unused_names.proofs.AnswerLemmas.{told_not}
+use Rattle.class_marks.proofs.AnswerLemmas.{told_not}
 use Rattle.unused_names.proofs.unused_classes.is_unused.Goals as goal
 
 pub is_declared_alone-requires : goal.is_declared_alone-requires

@@ -1,0 +1,5 @@
+pub mod AnswerLemmas
+pub mod KeepLemmas
+pub mod MarkLemmas
+pub mod ReadOnlyLemmas
+pub mod RoleLemmas

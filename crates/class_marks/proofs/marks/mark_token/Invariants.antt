@@ -1,0 +1,7 @@
+use Rattle.std.proofs.Common.{◌≡◌, take}
+use Rattle.std.specs.List.{fold}
+use Rattle.class_marks.specs.Marks.{with_character}
+use Rattle.class_marks.proofs.marks.mark_token.Given as goal
+
+abbrev pub invariant-loop-k : goal.invariant-loop-k
+invariant-loop-k l = l.marks.items ≡ fold (with_character l.classes) l.initial.marks.items (take l.k l.tok.origins)

@@ -1,0 +1,6 @@
+-- What the public contracts rest on.
+pub mod Roles
+pub mod Touching
+pub mod Marks
+-- What inner functions promise each other, and those of crates above.
+pub mod Keeping

@@ -1,0 +1,33 @@
+-- What names touch a class, and where its members stand (this project's).
+use Rattle.std.specs.Prelude.{ℕ, ◌≡◌, true, Some, slice_get}
+use Rattle.cs_base.specs.declared.positions.Part.{Part}
+use Rattle.cs_base.specs.declared.positions.Pos.{Pos}
+use Rattle.cs_base.specs.Token.{Token, origin_at}
+use Rattle.eclass_map.specs.Positions.{holds}
+use Rattle.ws_core.specs.Analysis.{AnalysisValue}
+use Rattle.ws_core.specs.Parts.{IsMember}
+use Rattle.ws_core.specs.Places.{is_read_only}
+use Rattle.class_marks.specs.declared.roles.Role.{Role}
+use Rattle.class_marks.specs.Roles.{names_with}
+
+-- Some character of the token comes from a member of the class of the part.
+pub record Touches (a : AnalysisValue) (part : Part) (t : Token) : Type 0 where
+  pub character : ℕ
+  pub at : Pos
+  pub member : Part
+  pub origin : origin_at t character ≡ Some at
+  pub is_member : IsMember a part member
+  pub held : holds member at ≡ true
+
+-- some name with the role has a character of the class: each part of a name gives its class the role
+pub record HasRole (a : AnalysisValue) (role : Role) (part : Part) : Type 0 where
+  pub number : ℕ
+  pub name : Token
+  pub listed : slice_get (names_with role a) number ≡ Some name
+  pub touches : Touches a part name
+
+-- a member of the class lies in a read-only file or a pseudo file
+pub record IsReadOnlyClass (a : AnalysisValue) (part : Part) : Type 0 where
+  pub member : Part
+  pub is_member : IsMember a part member
+  pub kept_from_edits : is_read_only a.table a.workspace.readonly member.start.file ≡ true

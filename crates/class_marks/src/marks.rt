@@ -1,0 +1,198 @@
+// Marks on classes, set where a name touches them.
+ghost use Rattle.std.specs.Prelude.{◌≡◌, ◌<◌, ◌∷◌, [], ℕ, Some, IfOk, OnOk, MatchBool, length, false, slice_index_or, option_copied, if◌then◌else◌};
+ghost use Rattle.std.specs.List.{flat_map};
+ghost use Rattle.std.specs.Option.{option_map_or};
+ghost use Rattle.cs_base.specs.declared.positions.Part.{Part};
+ghost use Rattle.eclass_map.specs.ClassTable.{class_in};
+ghost use Rattle.ws_core.specs.Parts.{IsPart};
+ghost use Rattle.class_marks.specs.declared.roles.Role.{Role};
+ghost use Rattle.class_marks.specs.Touching.{HasRole};
+ghost use Rattle.class_marks.specs.Marks.{AreMarked, class_at, mark_class, with_character, with_token, with_tokens};
+ghost use Rattle.class_marks.specs.Roles.{event_name, names_in, names_with, tokens_with};
+
+use crate::roles::{Role, event_has, token_has};
+use cs_base::{Memory, Part, Pos, Tok};
+use eclass_map::Classes;
+use include_tree::{Event, UnitText};
+use scope_bind::Bound;
+use std::alloc::Global;
+use ws_core::Analysis;
+
+// The class of the part that a character comes from.
+fn class_at(classes: &Classes, origin: Option<Pos>) -> Option<u32>
+    ensures { result ≡ class_at classes.now origin }
+{
+    match classes.part_at(origin?) {
+        Some(part) => classes.class_of(part),
+        None => None,
+    }
+}
+
+// Marks a class.
+fn mark_class(marks: &mut Vec<bool>, class: u32)
+    ensures { marks.new.items ≡ mark_class marks.old.items class }
+{
+    if (class as usize) < marks.len() {
+        marks[class as usize] = true;
+    }
+}
+
+// Marks the class of a character.
+fn mark_character(marks: &mut Vec<bool>, classes: &Classes, origin: Option<Pos>)
+    ensures { marks.new.items ≡ with_character classes.now marks.old.items origin }
+{
+    if let Some(class) = class_at(classes, origin) {
+        mark_class(marks, class);
+    }
+}
+
+// How many characters a token has.
+fn length(tok: &Tok) -> u32
+    ensures { result ≡ length tok.now.origins }
+{
+    tok.text().len() as u32
+}
+
+// Marks the classes of a token.
+fn mark_token(marks: &mut Vec<bool>, classes: &Classes, tok: &Tok)
+    ensures { marks.new.items ≡ with_token classes.now marks.old.items tok.now }
+{
+    let count = length(tok);
+    for k in 0..count {
+        mark_character(marks, classes, tok.origins(k));
+    }
+}
+
+// The name of an event, if it has the role.
+fn named(role: Role, event: &Event) -> Option<&Tok>
+    ensures { event_name role event.now ≡ option_map_or (λ name. name ∷ []) (option_copied result) [] }
+{
+    if !event_has(role, event.kind) {
+        return None;
+    }
+    match &event.name {
+        Some(name) => Some(name),
+        None => None,
+    }
+}
+
+// Marks those of the name of an event, if it has the role.
+fn mark_event(marks: &mut Vec<bool>, classes: &Classes, role: Role, event: &Event)
+    ensures { marks.new.items ≡ with_tokens classes.now marks.old.items (event_name role event.now) }
+{
+    match named(role, event) {
+        Some(name) => mark_token(marks, classes, name),
+        None => {}
+    }
+}
+
+// Marks those of the names of events that have the role.
+fn mark_events(marks: &mut Vec<bool>, classes: &Classes, role: Role, events: &[Event])
+    ensures { marks.new.items ≡ with_tokens classes.now marks.old.items (flat_map (event_name role) events.now) }
+{
+    for event in events {
+        mark_event(marks, classes, role, event);
+    }
+}
+
+// Marks those of a token, where it is wanted.
+fn mark_wanted(marks: &mut Vec<bool>, classes: &Classes, wanted: bool, tok: &Tok)
+    ensures { marks.new.items ≡ with_tokens classes.now marks.old.items (if wanted then tok.now ∷ [] else []) }
+{
+    if wanted {
+        mark_token(marks, classes, tok);
+    }
+}
+
+// How many tokens there are: `Memory` from 2^32 on.
+fn count_of(toks: &[Tok]) -> Result<u32, Memory>
+    ensures { IfOk result (λ count. count ≡ length toks.now) }
+{
+    if toks.len() > u32::MAX as usize {
+        return Err(Memory);
+    }
+    Ok(toks.len() as u32)
+}
+
+// Marks those of the tokens that have the role. `Memory` where there are 2^32 or more.
+fn mark_tokens(
+    marks: &mut Vec<bool>,
+    classes: &Classes,
+    role: Role,
+    bound: &Bound,
+    toks: &[Tok],
+) -> Result<(), Memory>
+    ensures { OnOk result (marks.new.items ≡ with_tokens classes.now marks.old.items (tokens_with role bound.now.names 0 toks.now)) }
+{
+    let count = count_of(toks)?;
+    for k in 0..count {
+        let wanted = token_has(role, bound, k);
+        mark_wanted(marks, classes, wanted, &toks[k as usize]);
+    }
+    Ok(())
+}
+
+// Marks those of the names of a unit that have the role.
+fn mark_unit(
+    marks: &mut Vec<bool>,
+    classes: &Classes,
+    role: Role,
+    text: &UnitText,
+    bound: &Bound,
+) -> Result<(), Memory>
+    ensures { OnOk result (marks.new.items ≡ with_tokens classes.now marks.old.items (names_in role text.now bound.now.names)) }
+{
+    mark_events(marks, classes, role, text.events());
+    mark_tokens(marks, classes, role, bound, text.toks())?;
+    Ok(())
+}
+
+#[tactic(auto, using(crate::proofs::MarkLemmas::blank_at))]
+// No marks.
+fn blank(alloc: Global, classes: &Classes) -> Result<Vec<bool>, Memory>
+    ensures none { IfOk result (λ marks. (c : ℕ) → slice_index_or marks.items c false ≡ false) }
+    ensures enough { IfOk result (λ marks. (part : Part) (c : ℕ) → class_in classes.now part ≡ Some c → c < length marks.items) }
+{
+    Ok(vec![in alloc; false; classes.class_numbers() as usize]?)
+}
+
+/// Marks on the classes that some name with the role touches.
+pub fn marks_of(alloc: Global, a: &Analysis, role: Role) -> Result<Vec<bool>, Memory>
+    ensures { IfOk result (λ marks. AreMarked a.now.classes (names_with role a.now.value) marks.items) }
+{
+    let classes = a.classes();
+    let mut marks = blank(alloc, classes)?;
+    for unit in 0..a.units() {
+        mark_unit(
+            &mut marks,
+            classes,
+            role,
+            a.text(unit + 1),
+            a.bound(unit + 1),
+        )?;
+    }
+    Ok(marks)
+}
+
+// Whether the class with a number is marked.
+fn is_set(marks: &[bool], class: u32) -> bool
+    ensures { result ≡ slice_index_or marks.now class false }
+{
+    if (class as usize) < marks.len() {
+        marks[class as usize]
+    } else {
+        false
+    }
+}
+
+/// Whether the class of a part is marked: whether some name with the role of the marks touches it.
+pub fn is_marked(a: &Analysis, marks: &[bool], part: Part) -> bool
+    requires { IsPart a.now.value part }
+    ensures { (role : Role) → AreMarked a.now.classes (names_with role a.now.value) marks.now
+        → MatchBool result (HasRole a.now.value role part) (HasRole a.now.value role part → ⊥) }
+{
+    match a.classes().class_of(part) {
+        Some(class) => is_set(marks, class),
+        None => false,
+    }
+}

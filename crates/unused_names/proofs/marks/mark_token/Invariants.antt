@@ -1,7 +1,0 @@
-use Rattle.std.proofs.Common.{◌≡◌, take}
-use Rattle.std.specs.List.{fold}
-use Rattle.unused_names.specs.Marks.{with_character}
-use Rattle.unused_names.proofs.marks.mark_token.Given as goal
-
-abbrev pub invariant-loop-k : goal.invariant-loop-k
-invariant-loop-k l = l.marks.items ≡ fold (with_character l.classes) l.initial.marks.items (take l.k l.tok.origins)
