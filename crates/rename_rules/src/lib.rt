@@ -24,6 +24,7 @@ pub use bare_offences::shadowed;
 pub use classes::{holds_member, member_at, member_over};
 pub use held_tokens::holders;
 pub use member_offences::{header_names, no_identifiers, read_only, stringized};
+pub use numbers::numbers_brought;
 pub use occurrences::occurring;
 pub use offences::{Offence, compare, first_with};
 pub use respelling_table::{Respelling, is_clash, is_new_spelling, is_old_spelling, respellings};

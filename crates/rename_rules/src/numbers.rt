@@ -12,7 +12,7 @@ use std::alloc::Global;
 use ws_core::Analysis;
 
 /// The numbers that the units bring, each for each time that it is brought.
-pub(crate) fn numbers_brought(alloc: Global, a: &Analysis) -> Result<Vec<Tok>, Memory>
+pub fn numbers_brought(alloc: Global, a: &Analysis) -> Result<Vec<Tok>, Memory>
     ensures { IfOk result (λ all. all.items ≡ all_brought a.now.value.units) }
 {
     let mut all = Vec::new(alloc);

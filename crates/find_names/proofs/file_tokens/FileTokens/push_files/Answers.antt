@@ -1,0 +1,20 @@
+use Rattle.std.proofs.Common.{◌||◌, arith}
+use Rattle.std.specs.List.{list_any}
+use Rattle.ws_core.specs.FileTokens.{table_tokens}
+use Rattle.find_names.specs.FileTokens.{has_span, is_span}
+use Rattle.find_names.proofs.TokenLemmas.{files_all, files_more}
+use Rattle.find_names.proofs.file_tokens.FileTokens.push_files.Goals as goal
+
+pub loop-number-preserved : goal.loop-number-preserved
+loop-number-preserved c =
+    λ part.
+    files_more part c.args.a.now.value.table c.loop-number.number (has_span c.loop-number.self.spans part) (has_span c.push_numbered.new.self.spans part)
+    (has_span c.args.self.now.spans part || list_any (is_span part) (table_tokens 0 c.args.a.now.value.table))
+    (omega (arith, c.files-number-end.ensures.answer)) (c.loop-number.invariant part) (c.in_ok-push_numbered.ensures part)
+
+pub returns : goal.returns
+returns c =
+    λ part.
+    files_all part c.args.a.now.value.table c.loop-number.number (has_span c.loop-number.self.spans part)
+    (has_span c.args.self.now.spans part || list_any (is_span part) (table_tokens 0 c.args.a.now.value.table))
+    (omega (arith, c.files-number-end.ensures.answer)) (c.loop-number.invariant part)

@@ -1,0 +1,173 @@
+// The classes that satisfy a query, and their lines.
+ghost use Rattle.std.specs.Prelude.{◌≡◌, ◌<◌, ◌^◌, ◌++◌, Ok, IfErr, IfOk, IfSome, MatchBool, OnOk, length};
+ghost use Rattle.ws_core.specs.Parts.{AreMembers, IsFirst, IsPart};
+ghost use Rattle.ws_core.specs.Spellings.{spelling_of};
+ghost use Rattle.ws_core.specs.ClassReport.{place_text};
+ghost use Rattle.ws_core.specs.Places.{place_at};
+ghost use Rattle.include_tree.specs.Below.source_files.Faults.{place_of};
+ghost use Rattle.query_words.specs.Queries.{Query};
+ghost use Rattle.query_words.specs.Reading.{parsed};
+ghost use Rattle.find_names.specs.FileTokens.{AreFileTokens};
+ghost use Rattle.find_names.specs.Found.{IsFound, found_line, PrintsFound, PrintsLine, Refuses};
+ghost use Rattle.find_names.specs.RoleMarks.{AreRoleMarks};
+
+use crate::class_facts::facts_of;
+use crate::file_tokens::FileTokens;
+use crate::questions::is_in_question;
+use crate::refusal::FindRefusal;
+use crate::role_marks::{RoleMarks, role_marks};
+use cs_base::{Memory, Part};
+use itoa::Buffer;
+use query_words::{Facts, satisfies};
+use std::alloc::Global;
+use ws_core::Analysis;
+
+// Whether the class of a first member is in question and satisfies the query.
+fn is_found(
+    a: &Analysis,
+    marks: &RoleMarks,
+    tokens: &FileTokens,
+    query: &[u8],
+    part: Part,
+    places: &mut [bool],
+) -> Result<bool, FindRefusal>
+    requires few { length query.now < 2 ^ 32 }
+    requires room { length query.now < length places.old }
+    requires first { IsFirst a.now.value part }
+    requires marks { AreRoleMarks a.now marks.now }
+    requires tokens { AreFileTokens a.now.value tokens.now }
+    ensures answer { IfOk result (λ b. (q : Query) → parsed query.now ≡ Ok q
+        → MatchBool b (IsFound a.now.value q part) (IsFound a.now.value q part → ⊥)) }
+    ensures refused { IfErr result (Refuses query.now) }
+{
+    let facts = facts_of(a, marks, tokens, part);
+    let satisfied = satisfies(query, &facts, a.spelling(part), places)?;
+    if !satisfied {
+        return Ok(false);
+    }
+    Ok(is_in_question(a, tokens, part))
+}
+
+// Adds the place of the first member of a class.
+fn push_place(text: &mut Vec<u8>, path: &[u8], place: (u32, u32)) -> Result<(), Memory>
+    ensures { OnOk result (text.new.items ≡ text.old.items ++ place_text (place_of path.now place)) }
+{
+    let mut line = Buffer::new();
+    let mut column = Buffer::new();
+    text.extend_from_slice(path)?;
+    text.extend_from_slice(b":")?;
+    text.extend_from_slice(line.format(place.0).as_bytes())?;
+    text.extend_from_slice(b":")?;
+    text.extend_from_slice(column.format(place.1).as_bytes())?;
+    Ok(())
+}
+
+// Adds the line of a class of so many members, by its first one.
+fn push_counted(text: &mut Vec<u8>, a: &Analysis, part: Part, count: usize) -> Result<(), Memory>
+    requires { IsPart a.now.value part }
+    ensures { OnOk result (text.new.items ≡ text.old.items ++ found_line a.now.value part count) }
+{
+    let (path, line, column) = a.place(part.start);
+    let mut digits = Buffer::new();
+    push_place(text, path, (line, column))?;
+    text.extend_from_slice(b" ")?;
+    text.extend_from_slice(digits.format(count).as_bytes())?;
+    text.extend_from_slice(b" ")?;
+    text.extend_from_slice(a.spelling(part))?;
+    text.extend_from_slice(b"\n")?;
+    Ok(())
+}
+
+// Adds the line of a class, by its first member.
+fn push_line(text: &mut Vec<u8>, a: &Analysis, part: Part) -> Result<(), Memory>
+    requires { IsPart a.now.value part }
+    ensures { OnOk result (PrintsLine a.now.value part text.old.items text.new.items) }
+{
+    let members = a.members(part);
+    push_counted(text, a, part, members.len())?;
+    Ok(())
+}
+
+// The lines of all classes that are found.
+fn lines(
+    alloc: Global,
+    a: &Analysis,
+    marks: &RoleMarks,
+    tokens: &FileTokens,
+    query: &[u8],
+    places: &mut [bool],
+) -> Result<Vec<u8>, FindRefusal>
+    requires few { length query.now < 2 ^ 32 }
+    requires room { length query.now < length places.old }
+    requires marks { AreRoleMarks a.now marks.now }
+    requires tokens { AreFileTokens a.now.value tokens.now }
+    ensures answer { IfOk result (λ text. (q : Query) → parsed query.now ≡ Ok q → PrintsFound a.now.value q text.items) }
+    ensures refused { IfErr result (Refuses query.now) }
+{
+    let firsts = a.firsts();
+    let mut text = Vec::new(alloc);
+    for part in firsts {
+        let found = is_found(a, marks, tokens, query, *part, places)?;
+        if found {
+            push_line(&mut text, a, *part)?;
+        }
+    }
+    Ok(text)
+}
+
+// No attributes.
+fn no_facts() -> Facts {
+    Facts {
+        macro_: false,
+        function: false,
+        object: false,
+        typedef: false,
+        parameter: false,
+        enumerator: false,
+        tag: false,
+        member: false,
+        label: false,
+        external: false,
+        read_only: false,
+        unused: false,
+        cut: false,
+    }
+}
+
+// Refuses a word that is no query.
+fn check(query: &[u8], places: &mut [bool]) -> Result<(), FindRefusal>
+    requires few { length query.now < 2 ^ 32 }
+    requires room { length query.now < length places.old }
+    ensures answer { IfOk result (λ _. (q : Query) × (parsed query.now ≡ Ok q)) }
+    ensures refused { IfErr result (Refuses query.now) }
+{
+    let facts = no_facts();
+    let _satisfied = satisfies(query, &facts, b"", places)?;
+    Ok(())
+}
+
+// Room for the places of each pattern of a query.
+fn places_for(alloc: Global, query: &[u8]) -> Result<Vec<bool>, Memory>
+    requires { length query.now < 2 ^ 32 }
+    ensures { IfOk result (λ places. length query.now < length places.items) }
+{
+    Ok(vec![in alloc; false; query.len() + 1]?)
+}
+
+/// A line for each class in question that satisfies the query: `PATH:LINE:COL COUNT TEXT`, with the place of the first
+/// member, the number of members and the spelling, in the order of the places. Refused: a word that is no query,
+/// by its first fault; `Memory` where memory ran out.
+pub fn find(alloc: Global, a: &Analysis, query: &[u8]) -> Result<Vec<u8>, FindRefusal>
+    ensures answer { IfOk result (λ text. (q : Query) × (parsed query.now ≡ Ok q) × PrintsFound a.now.value q text.items) }
+    ensures refused { IfErr result (Refuses query.now) }
+{
+    if query.len() > u32::MAX as usize {
+        return Err(FindRefusal::Memory);
+    }
+    let mut room = places_for(alloc, query)?;
+    let places = room.as_mut_slice();
+    check(query, places)?;
+    let marks = role_marks(alloc, a)?;
+    let tokens = FileTokens::of(alloc, a)?;
+    lines(alloc, a, &marks, &tokens, query, places)
+}

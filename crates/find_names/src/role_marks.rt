@@ -1,0 +1,74 @@
+// Marks on classes for each thing that a query may ask of their names.
+ghost use Rattle.std.specs.Prelude.{IfOk};
+ghost use Rattle.find_names.specs.RoleMarks.{AreKindMarks, AreRoleMarks};
+
+use class_marks::{Role, marks_of};
+use cs_base::Memory;
+use scope_bind::EntityKind;
+use std::alloc::Global;
+use ws_core::Analysis;
+
+/// Marks on the classes with an occurrence of an entity of a kind.
+#[derive(Drop)]
+pub(crate) struct KindMarks {
+    pub(crate) functions: Vec<bool>,
+    pub(crate) objects: Vec<bool>,
+    pub(crate) typedefs: Vec<bool>,
+    pub(crate) parameters: Vec<bool>,
+    pub(crate) enumerators: Vec<bool>,
+    pub(crate) tags: Vec<bool>,
+    pub(crate) members: Vec<bool>,
+    pub(crate) labels: Vec<bool>,
+}
+
+fn kind_marks(alloc: Global, a: &Analysis) -> Result<KindMarks, Memory>
+    ensures { IfOk result (AreKindMarks a.now) }
+{
+    let functions = marks_of(alloc, a, Role::OfKind(EntityKind::Function))?;
+    let objects = marks_of(alloc, a, Role::OfKind(EntityKind::Object))?;
+    let typedefs = marks_of(alloc, a, Role::OfKind(EntityKind::Typedef))?;
+    let parameters = marks_of(alloc, a, Role::OfKind(EntityKind::Parameter))?;
+    let enumerators = marks_of(alloc, a, Role::OfKind(EntityKind::Enumerator))?;
+    let tags = marks_of(alloc, a, Role::OfKind(EntityKind::Tag))?;
+    let members = marks_of(alloc, a, Role::OfKind(EntityKind::Member))?;
+    let labels = marks_of(alloc, a, Role::OfKind(EntityKind::Label))?;
+    Ok(KindMarks {
+        functions,
+        objects,
+        typedefs,
+        parameters,
+        enumerators,
+        tags,
+        members,
+        labels,
+    })
+}
+
+/// The same, and marks on the classes with the name of a macro that is defined, with an occurrence of an entity with
+/// external linkage, with a name that declares, and with one that uses.
+#[derive(Drop)]
+pub(crate) struct RoleMarks {
+    pub(crate) kinds: KindMarks,
+    pub(crate) macros: Vec<bool>,
+    pub(crate) externals: Vec<bool>,
+    pub(crate) declared: Vec<bool>,
+    pub(crate) used: Vec<bool>,
+}
+
+/// Those of all names of a workspace.
+pub(crate) fn role_marks(alloc: Global, a: &Analysis) -> Result<RoleMarks, Memory>
+    ensures { IfOk result (AreRoleMarks a.now) }
+{
+    let kinds = kind_marks(alloc, a)?;
+    let macros = marks_of(alloc, a, Role::Defines)?;
+    let externals = marks_of(alloc, a, Role::External)?;
+    let declared = marks_of(alloc, a, Role::Declares)?;
+    let used = marks_of(alloc, a, Role::Uses)?;
+    Ok(RoleMarks {
+        kinds,
+        macros,
+        externals,
+        declared,
+        used,
+    })
+}
