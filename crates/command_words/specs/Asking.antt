@@ -2,12 +2,13 @@
 use Rattle.std.specs.Prelude.{List, ℕ, []}
 use Rattle.cs_base.specs.Paths.{normal_path_of}
 use Rattle.generated.specs.Generated.{workspace_path}
+use Rattle.command_words.specs.declared.requests.Finding.{Finding}
 use Rattle.command_words.specs.declared.requests.NamedClass.{NamedClass}
 use Rattle.command_words.specs.declared.requests.Rename.{Rename}
 use Rattle.command_words.specs.declared.requests.Request.{Request}
-use Rattle.command_words.specs.declared.requests.Request.TheVariants.{Help, Version, Renaming, Tokens, Skipped, Class, Unused, Includes, Calls, Generated}
+use Rattle.command_words.specs.declared.requests.Request.TheVariants.{Help, Version, Renaming, Tokens, Skipped, Class, Unused, Includes, Calls, Find, Generated}
 use Rattle.command_words.specs.declared.requests.UnitTokens.{UnitTokens}
-use Rattle.command_words.specs.Request.{RenameValue, rename, TokensValue, tokens_of_unit, ClassValue, class_at, RequestValue, help_asked, version_asked, renaming_asked, tokens_asked, skipped_asked, class_asked, unused_asked, includes_asked, calls_asked, generated_asked}
+use Rattle.command_words.specs.Request.{RenameValue, rename, TokensValue, tokens_of_unit, ClassValue, class_at, FindValue, finding, RequestValue, help_asked, version_asked, renaming_asked, tokens_asked, skipped_asked, class_asked, unused_asked, includes_asked, calls_asked, find_asked, generated_asked}
 
 -- a rename in words, its path in its normal form
 abbrev pub rename_value : Rename → RenameValue
@@ -21,6 +22,10 @@ tokens_value q = tokens_of_unit q.ws.now q.unit
 abbrev pub class_value : NamedClass → ClassValue
 class_value q = class_at q.ws.now (normal_path_of q.path.now) q.line q.column
 
+-- a query over classes, in words
+abbrev pub find_value : Finding → FindValue
+find_value q = finding q.ws.now q.query.now
+
 -- the request that words make
 abbrev pub request_value : Request → RequestValue
 request_value Help = help_asked
@@ -32,6 +37,7 @@ request_value (Class q) = class_asked (class_value q)
 request_value (Unused ws) = unused_asked ws.now
 request_value (Includes ws) = includes_asked ws.now
 request_value (Calls ws) = calls_asked ws.now
+request_value (Find q) = find_asked (find_value q)
 request_value (Generated n) = generated_asked n
 
 -- the workspace file of a request, or nothing where it has none
@@ -45,4 +51,5 @@ workspace_file (Class q) = q.ws.now
 workspace_file (Unused ws) = ws.now
 workspace_file (Includes ws) = ws.now
 workspace_file (Calls ws) = ws.now
+workspace_file (Find q) = q.ws.now
 workspace_file (Generated n) = workspace_path

@@ -48,6 +48,10 @@ unit_line unit place cause = message (unit_pieces (decimal unit) (fault_pieces p
 abbrev pub refused_line : List ℕ → List ℕ
 refused_line words = message (refused_pieces (words ∷ []))
 
+-- a refusal of a query, at a byte of it
+abbrev pub query_line : List ℕ → ℕ → List ℕ
+query_line words at = message (refused_pieces (words ∷ codes " at " ∷ decimal at ∷ []))
+
 -- a refusal with a place
 abbrev pub offence_line : Place → Cause → List ℕ
 offence_line place cause = message (refused_pieces (fault_pieces place cause))

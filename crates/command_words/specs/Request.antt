@@ -37,6 +37,15 @@ pub record ClassValue : Type 0 where
 abbrev pub class_at : List ℕ → List ℕ → ℕ → ℕ → ClassValue
 class_at ws path line column = record { ws = ws; path = path; line = line; column = column }
 
+-- What classes are found: the workspace file, and the query.
+pub record FindValue : Type 0 where
+  pub ws : List ℕ
+  pub query : List ℕ
+
+-- such a report of these parts
+abbrev pub finding : List ℕ → List ℕ → FindValue
+finding ws query = record { ws = ws; query = query }
+
 -- What the program can be asked for. Reports on skipped groups, on unused names, on unneeded include lines and on calls
 -- have a workspace file alone.
 pub data RequestValue : Type 0 where
@@ -49,6 +58,7 @@ pub data RequestValue : Type 0 where
   unused_asked : List ℕ → RequestValue
   includes_asked : List ℕ → RequestValue
   calls_asked : List ℕ → RequestValue
+  find_asked : FindValue → RequestValue
   generated_asked : ℕ → RequestValue
 
 -- the number that decimal digits spell
@@ -106,12 +116,17 @@ workspace_command_of ws command =
     else (if bytes_eq command (codes "includes") then Some (includes_asked ws)
     else (if bytes_eq command (codes "calls") then Some (calls_asked ws) else generated_of ws command)))
 
--- three words: the workspace file, a command, and the number of a unit
+-- the workspace file, a command, and a query, which is any word
+abbrev pub query_command_of : List ℕ → List ℕ → List ℕ → Option RequestValue
+query_command_of ws command query =
+    if bytes_eq command (codes "find") then Some (find_asked (finding ws query)) else None
+
+-- three words: the workspace file, a command, and the number of a unit, or a query
 abbrev pub unit_command_of : List ℕ → List ℕ → List ℕ → Option RequestValue
 unit_command_of ws command unit =
     if bytes_eq command (codes "tokens") && is_number unit
     then Some (tokens_asked (tokens_of_unit ws (number_of unit)))
-    else None
+    else query_command_of ws command unit
 
 -- five words: the workspace file, a command, and a place
 abbrev pub place_command_of : List ℕ → List ℕ → List ℕ → List ℕ → List ℕ → Option RequestValue

@@ -19,6 +19,10 @@ cscout WS includes
     prints `PATH:LINE:COL` for each include line that brings nothing which is used
 cscout WS calls
     prints `PATH:LINE:COL NAME -> PATH:LINE:COL NAME` for each macro or function that another one calls
+cscout WS find QUERY
+    prints `PATH:LINE:COL COUNT TEXT` for the first place of each class that QUERY accepts. QUERY is one
+    word: name=PATTERN and attributes (macro, function, object, typedef, parameter, enumerator, tag,
+    member, label, external, readonly, unused, cut), joined by |, &, ! and parentheses
 cscout generate N
     makes a workspace of N units in memory, from 1 to 1024, analyses it and renames a name of it
 cscout --help

@@ -1,7 +1,7 @@
 // Messages, told in pieces: they want no memory.
 ghost use Rattle.std.specs.Prelude.{◌≡◌, map, flat_map};
 ghost use Rattle.cs_base.specs.Outside.{Writes, Faults, write_failed};
-ghost use Rattle.command_words.specs.Message.{message, place_pieces, unit_pieces, refused_pieces, ws_line, unit_line, offence_line};
+ghost use Rattle.command_words.specs.Message.{message, place_pieces, unit_pieces, refused_pieces, ws_line, unit_line, offence_line, query_line};
 ghost use Rattle.command_words.specs.Telling.{Told};
 
 use cs_base::{Cause, Place, Sink, Wrote};
@@ -82,6 +82,18 @@ fn tell_unit_pieces<E: Sink>(
         &[
             b"unit ", unit, b": ", path, b":", line, b":", column, b": ", words,
         ],
+    );
+}
+
+/// A refusal of a query, at a byte of it.
+pub fn tell_query<E: Sink>(err: &mut E, words: &[u8], at: u32)
+    ensures { Told (query_line words.now at)
+        (E.bytes err.old) (E.bytes err.new) (E.failed_writes err.old) (E.failed_writes err.new) }
+{
+    let mut digits = Buffer::new();
+    tell(
+        err,
+        &[b"refused: ", words, b" at ", digits.format(at).as_bytes()],
     );
 }
 

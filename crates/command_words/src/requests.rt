@@ -1,7 +1,7 @@
 // What the words after the program's name ask for.
 ghost use Rattle.std.specs.Prelude.{◌≡◌, ◌≤◌, length, map, string_bytes, IsTrue};
 ghost use Rattle.std.specs.Option.{option_map};
-ghost use Rattle.command_words.specs.Request.{asked, alone_of, workspace_command_of, unit_command_of, place_command_of, class_report_of, command_of, rename_of, generated_of, is_number, is_size, are_digits, begins_with_zero, number_of};
+ghost use Rattle.command_words.specs.Request.{asked, alone_of, workspace_command_of, unit_command_of, query_command_of, place_command_of, class_report_of, command_of, rename_of, generated_of, is_number, is_size, are_digits, begins_with_zero, number_of};
 ghost use Rattle.command_words.specs.Asking.{request_value, workspace_file};
 
 /// A rename in words: the path is as written.
@@ -30,6 +30,13 @@ pub struct NamedClass<'a> {
     pub column: u32,
 }
 
+/// A query over classes, in words.
+#[derive(Drop)]
+pub struct Finding<'a> {
+    pub ws: &'a str,
+    pub query: &'a str,
+}
+
 /// What the program is asked for. `Skipped`, `Unused`, `Includes` and `Calls` have the workspace file, `Generated` the
 /// number of units.
 #[derive(Drop)]
@@ -43,6 +50,7 @@ pub enum Request<'a> {
     Unused(&'a str),
     Includes(&'a str),
     Calls(&'a str),
+    Find(Finding<'a>),
     Generated(u32),
 }
 
@@ -119,7 +127,7 @@ fn asked_generated<'a>(word: &str, size: &str) -> Option<Request<'a>>
     }
 }
 
-fn asked_of_unit<'a>(ws: &'a str, command: &str, unit: &str) -> Option<Request<'a>>
+fn asked_of_unit<'a>(ws: &'a str, command: &str, unit: &'a str) -> Option<Request<'a>>
     ensures { option_map request_value result ≡ unit_command_of ws.now command.now unit.now }
 {
     if command == "tokens" && is_number(unit.as_bytes()) {
@@ -127,6 +135,16 @@ fn asked_of_unit<'a>(ws: &'a str, command: &str, unit: &str) -> Option<Request<'
             ws,
             unit: number(unit.as_bytes()),
         }))
+    } else {
+        asked_query(ws, command, unit)
+    }
+}
+
+fn asked_query<'a>(ws: &'a str, command: &str, query: &'a str) -> Option<Request<'a>>
+    ensures { option_map request_value result ≡ query_command_of ws.now command.now query.now }
+{
+    if command == "find" {
+        Some(Request::Find(Finding { ws, query }))
     } else {
         None
     }
@@ -262,6 +280,7 @@ pub fn workspace_file<'a>(request: &Request<'a>) -> &'a str
         Request::Unused(ws) => ws,
         Request::Includes(ws) => ws,
         Request::Calls(ws) => ws,
+        Request::Find(query) => query.ws,
         Request::Generated(_) => "w.cs",
         _ => "",
     }

@@ -1,6 +1,6 @@
 -- Answers to a renaming are alike: a place names one part, the members of its class stand in one list, and a
 -- reason stands against the renaming or none does.
-use Rattle.std.proofs.Common.{◌≡◌, ℕ, zero, suc, Bool, true, false, List, [], ◌∷◌, Option, None, Some, Result, Ok, Err, refl, ap, sym, subst, ◌∙◌}
+use Rattle.std.proofs.Common.{◌≡◌, ℕ, zero, suc, Bool, true, false, List, [], ◌∷◌, ◌++◌, length, Option, None, Some, Result, Ok, Err, refl, ap, sym, subst, ◌∙◌}
 use Rattle.std.specs.Prelude.{slice_get}
 use Rattle.std.specs.Cmp.{IsTotalOrder}
 use Rattle.std.specs.List.Sorted.{IsStrictlySortedBy}
@@ -25,6 +25,8 @@ use Rattle.query_report.specs.Below.unused_names.Order.{position_cmp}
 use Rattle.query_report.specs.Below.unused_names.Unneeded.{AreUnneeded}
 use Rattle.query_report.specs.Below.unused_names.Unused.{AreUnused}
 use Rattle.query_report.proofs.Below.unused_names.OrderLemmas.{position_cmp-total}
+use Rattle.query_words.specs.Queries.{Query}
+use Rattle.find_names.specs.Found.{AreFound, PrintsFound, PrintsLine, PrintsLines, found_line, nothing, more}
 
 -- ---- lists in strict order
 
@@ -105,6 +107,54 @@ pub one_unneeded : (a : AnalysisValue) (ps qs : List Pos) → AreUnneeded a ps �
 one_unneeded a ps qs these those =
     same_lists (position_cmp a.table) (position_cmp-total a.table) ps qs these.sorted those.sorted (unneeded_in a ps qs these those)
     (unneeded_in a qs ps those these)
+
+-- ---- what is found
+
+found_in : (a : AnalysisValue) (q : Query) (ms ns : List Part) → AreFound a q ms → AreFound a q ns → AreIn ms ns
+found_in a q ms ns these those m at = those.all m (these.each at.0 m at.1)
+
+-- what is found stands in one list
+found_once : (a : AnalysisValue) (q : Query) (ms ns : List Part) → AreFound a q ms → AreFound a q ns → ms ≡ ns
+found_once a q ms ns these those =
+    same_lists (part_cmp a) (part_cmp-total a) ms ns these.sorted those.sorted (found_in a q ms ns these those) (found_in a q ns ms those these)
+
+line_once : (a : AnalysisValue) (part : Part) (before after other : List ℕ) → PrintsLine a part before after → PrintsLine a part before other
+    → after ≡ other
+line_once a part before after other p q =
+    p.line
+    ∙ ap (λ (ms : List Part). before ++ found_line a part (length ms)) (one_list a part p.members q.members p.are_members q.are_members)
+    ∙ sym q.line
+
+-- the last element of a list that has one more
+snoc_apart : {X : Type 0} (xs : List X) (x : X) → xs ++ x ∷ [] ≡ [] → ⊥
+snoc_apart [] x is = cc
+snoc_apart (y ∷ xs) x is = cc
+
+snoc_same : {X : Type 0} (xs ys : List X) (x y : X) → xs ++ x ∷ [] ≡ ys ++ y ∷ [] → (xs ≡ ys) × (x ≡ y)
+snoc_same [] [] x y is = (refl, cc)
+snoc_same [] (z ∷ ys) x y is = absurd (let tail : [] ≡ ys ++ y ∷ [] = cc in snoc_apart ys y (sym tail))
+snoc_same (z ∷ xs) [] x y is = absurd (let tail : xs ++ x ∷ [] ≡ [] = cc in snoc_apart xs x tail)
+snoc_same {X} (z ∷ xs) (w ∷ ys) x y is =
+    let head : z ≡ w = cc in
+    let tail : xs ++ x ∷ [] ≡ ys ++ y ∷ [] = cc in
+    let rest = snoc_same xs ys x y tail in
+    (ap (λ (v : X). v ∷ xs) head ∙ ap (λ (vs : List X). w ∷ vs) rest.0, rest.1)
+
+lines_once : (a : AnalysisValue) (parts others : List Part) (text other : List ℕ) → PrintsLines a parts text → PrintsLines a others other
+    → parts ≡ others → text ≡ other
+lines_once a parts others text other nothing nothing same = refl
+lines_once a parts others text other nothing (more {parts = qs} part before line) same = absurd (snoc_apart qs part (sym same))
+lines_once a parts others text other (more {parts = ps} part before line) nothing same = absurd (snoc_apart ps part same)
+lines_once a parts others text other (more {parts = ps} {before = old} part earlier line) (more {parts = qs} {before = was} part' earlier' line') same =
+    let both = snoc_same ps qs part part' same in
+    let texts : old ≡ was = lines_once a ps qs old was earlier earlier' both.0 in
+    let line'' : PrintsLine a part old other =
+    subst (λ (t : List ℕ). PrintsLine a part t other) (sym texts) (subst (λ (p : Part). PrintsLine a p was other) (sym both.1) line') in
+    line_once a part old text other line line''
+
+-- and so do its lines
+pub one_found : (a : AnalysisValue) (q : Query) (text other : List ℕ) → PrintsFound a q text → PrintsFound a q other → text ≡ other
+one_found a q text other p r = lines_once a p.parts r.parts text other p.lines r.lines (found_once a q p.parts r.parts p.are_found r.are_found)
 
 -- ---- a place
 

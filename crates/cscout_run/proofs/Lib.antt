@@ -7,3 +7,4 @@ pub mod AlikeLemmas
 pub mod CallsLemmas
 pub mod PlannedLemmas
 pub mod SizeLemmas
+pub mod FindLemmas

@@ -29,7 +29,7 @@ use Rattle.kept_meaning_laws.specs.Below.rename_rules.Runs.{edit_of, edits_of, f
 use Rattle.kept_meaning_laws.specs.EditedSource.{AreRespelled}
 use Rattle.kept_meaning_laws.specs.RenamedSource.{IsAccepted}
 use Rattle.kept_meaning_laws.proofs.TextLemmas.{respelled_files_have_renamed_texts, respelled_files_have_renamed_analysis}
-use Rattle.command_words.specs.Request.{RequestValue, RenameValue, asked, help_asked, version_asked, renaming_asked, tokens_asked, skipped_asked, class_asked, unused_asked, includes_asked, calls_asked, generated_asked}
+use Rattle.command_words.specs.Request.{RequestValue, RenameValue, asked, help_asked, version_asked, renaming_asked, tokens_asked, skipped_asked, class_asked, unused_asked, includes_asked, calls_asked, find_asked, generated_asked}
 use Rattle.cscout_run.specs.Promise.{Renamed, IsRenamed, KeepsPromise}
 use Rattle.cscout_run.specs.Steps.{Planned, IsPlannedFor}
 use Rattle.cscout_run.specs.declared.preparing.Ready.{Ready}
@@ -322,6 +322,7 @@ promise_at (class_asked q) before ready p = tt
 promise_at (unused_asked ws) before ready p = tt
 promise_at (includes_asked ws) before ready p = tt
 promise_at (calls_asked ws) before ready p = tt
+promise_at (find_asked q) before ready p = tt
 promise_at (generated_asked n) before ready p = tt
 promise_at (renaming_asked q) before ready p = kept q before ready.edits p
 

@@ -12,6 +12,9 @@ use Rattle.ws_core.specs.Parts.{AreMembers}
 use Rattle.cs_base.specs.declared.positions.Part.{Part}
 use Rattle.std.proofs.lemmas.Option.{same_Some}
 use Rattle.kept_meaning_laws.specs.Below.rename_rules.Renaming.{Refusal}
+use Rattle.query_words.specs.Queries.{Query as FoundQuery}
+use Rattle.query_words.specs.Reading.{parsed}
+use Rattle.query_words.specs.declared.faults.QueryFault.{QueryFault}
 use Rattle.query_report.specs.Queries.{IsIncludesReport, IsUnusedReport, lines_of}
 use Rattle.query_report.specs.declared.queries.Query.TheVariants.{Unused, Includes}
 use Rattle.cscout_run.specs.Alike.{AreAlike}
@@ -21,8 +24,8 @@ use Rattle.cscout_run.specs.declared.status.Status.{Status}
 use Rattle.cscout_run.specs.declared.status.Status.TheVariants.{Done, Refused, Usage, Workspace, ReadFault, WriteFault, Memory}
 use Rattle.cscout_run.specs.declared.stops.Stop.{Stop}
 use Rattle.cscout_run.specs.declared.stops.Stop.TheVariants as stop
-use Rattle.command_words.specs.Request.{RequestValue, RenameValue, ClassValue, help_asked, version_asked, renaming_asked, tokens_asked, skipped_asked, class_asked, unused_asked, includes_asked, calls_asked, asked, generated_asked}
-use Rattle.cscout_run.specs.Answer.{Answer, IsAnswer, IsAnswerTo, IsRequestAnswer, IsClassAnswer, IsListAnswer, IsCallsAnswer, IsRenameAnswer, IsOverWorkspace, answer_of, class_answer, renaming_answer, shown, stopped, workspace_at, IsSizeAnswer, size_answer}
+use Rattle.command_words.specs.Request.{RequestValue, RenameValue, ClassValue, FindValue, help_asked, version_asked, renaming_asked, tokens_asked, skipped_asked, class_asked, unused_asked, includes_asked, calls_asked, find_asked, asked, generated_asked}
+use Rattle.cscout_run.specs.Answer.{Answer, IsAnswer, IsAnswerTo, IsRequestAnswer, IsClassAnswer, IsListAnswer, IsCallsAnswer, IsFindAnswer, IsFindReport, IsRenameAnswer, IsOverWorkspace, answer_of, class_answer, renaming_answer, shown, stopped, workspace_at, IsSizeAnswer, size_answer}
 use Rattle.command_words.specs.Message.{usage_line}
 use Rattle.cscout_run.specs.Outcome.{World, told_in, StatusIs, HasCauses, IsComplete, ShowsAnswer, Tells, FailedPut, Unmoved}
 use Rattle.cscout_run.specs.Steps.{Prepares}
@@ -33,7 +36,7 @@ use Rattle.calls_of.specs.Below.call_graphs.Graph.{GraphValue}
 use Rattle.calls_of.specs.Graphs.{calls_text}
 use Rattle.cscout_run.proofs.CallsLemmas.{one_graph}
 use Rattle.cscout_run.specs.Stopping.{Stops, stop_reads, status_of, line_of}
-use Rattle.cscout_run.proofs.AlikeLemmas.{ArePlansAlike, one_list, one_named, one_unneeded, one_unused, renamings_alike}
+use Rattle.cscout_run.proofs.AlikeLemmas.{ArePlansAlike, one_found, one_list, one_named, one_unneeded, one_unused, renamings_alike}
 
 -- what holds of every value holds of one that is told
 pub if_told : {A : Type 0} (o : Option A) (P : A → Type 0) → ((x : A) → P x) → IfSome o P
@@ -116,6 +119,18 @@ calls-alike (Ok value) a b p p' =
     (ap (λ (g : GraphValue). shown (calls_text value.table g)) (one_graph value p.0 p'.0 p.1 p'.1) ∙ p'.2)
 calls-alike (Err fault) a b p p' = same-answer _ a b p p'
 
+-- what is found is printed in one text
+found-alike : (value : AnalysisValue) (read : Result FoundQuery QueryFault) (a b : Answer) → IsFindReport value read a → IsFindReport value read b
+    → AreAlike a b
+found-alike value (Ok q) a b p p' =
+    same-answer (shown p.0) a b p.2 (ap (λ (text : List ℕ). shown text) (one_found value q p.0 p'.0 p.1 p'.1) ∙ p'.2)
+found-alike value (Err fault) a b p p' = same-answer _ a b p p'
+
+find-alike : (q : FindValue) (analysed : Result AnalysisValue UnitFault) (a b : Answer) → IsFindAnswer q analysed a → IsFindAnswer q analysed b
+    → AreAlike a b
+find-alike q (Ok value) a b p p' = found-alike value (parsed q.query) a b p p'
+find-alike q (Err fault) a b p p' = same-answer _ a b p p'
+
 planned-alike : (r s : Result (List Edit) Refusal) (a b : Answer) → ArePlansAlike r s → renaming_answer r ≡ a → renaming_answer s ≡ b → AreAlike a b
 planned-alike (Ok es) (Ok fs) a b alike is is' =
     same-answer (renaming_answer (Ok es)) a b is (ap (λ (edits : List Edit). renaming_answer (Ok edits)) alike ∙ is')
@@ -177,6 +192,9 @@ request-alike files (Some (includes_asked ws)) a b p p' =
 request-alike files (Some (calls_asked ws)) a b p p' =
     over-alike ws (λ w. IsCallsAnswer (analysis_of (source_of files) w)) (workspace_at ws files) a b
     (λ w. calls-alike (analysis_of (source_of files) w) a b) p p'
+request-alike files (Some (find_asked q)) a b p p' =
+    over-alike q.ws (λ w. IsFindAnswer q (analysis_of (source_of files) w)) (workspace_at q.ws files) a b
+    (λ w. find-alike q (analysis_of (source_of files) w) a b) p p'
 request-alike files (Some (generated_asked n)) a b p p' =
     over-alike workspace_path (λ w. IsSizeAnswer n (analysis_of (source_of (generated_files n)) w)) (workspace_at workspace_path (generated_files n)) a b
     (λ w. size-alike n (analysis_of (source_of (generated_files n)) w) a b) p p'
@@ -202,6 +220,8 @@ stops-map ws P Q (stop.UnreadFile path) follows p = tt
 stops-map ws P Q stop.NoUnit follows p = follows _ p
 stops-map ws P Q stop.BadName follows p = follows _ p
 stops-map ws P Q stop.NoName follows p = follows _ p
+stops-map ws P Q (stop.BadQuery at) follows p = follows _ p
+stops-map ws P Q (stop.DeepQuery at) follows p = follows _ p
 stops-map ws P Q (stop.Offence place cause) follows p = follows _ p
 stops-map ws P Q stop.Memory follows p = tt
 
@@ -217,6 +237,8 @@ stop-status ws IsOne (stop.UnreadFile path) a alike p q = tt
 stop-status ws IsOne stop.NoUnit a alike p q = alike a _ q p
 stop-status ws IsOne stop.BadName a alike p q = alike a _ q p
 stop-status ws IsOne stop.NoName a alike p q = alike a _ q p
+stop-status ws IsOne (stop.BadQuery at) a alike p q = alike a _ q p
+stop-status ws IsOne (stop.DeepQuery at) a alike p q = alike a _ q p
 stop-status ws IsOne (stop.Offence place cause) a alike p q = alike a _ q p
 stop-status ws IsOne stop.Memory a alike p q = tt
 
@@ -233,6 +255,8 @@ stop-shows ws IsOne (stop.UnreadFile path) before now p unmoved told reads = λ 
 stop-shows ws IsOne stop.NoUnit before now p unmoved told reads = (_, p, record { status = refl; leaves = unmoved; says = told })
 stop-shows ws IsOne stop.BadName before now p unmoved told reads = (_, p, record { status = refl; leaves = unmoved; says = told })
 stop-shows ws IsOne stop.NoName before now p unmoved told reads = (_, p, record { status = refl; leaves = unmoved; says = told })
+stop-shows ws IsOne (stop.BadQuery at) before now p unmoved told reads = (_, p, record { status = refl; leaves = unmoved; says = told })
+stop-shows ws IsOne (stop.DeepQuery at) before now p unmoved told reads = (_, p, record { status = refl; leaves = unmoved; says = told })
 stop-shows ws IsOne (stop.Offence place cause) before now p unmoved told reads = (_, p, record { status = refl; leaves = unmoved; says = told })
 stop-shows ws IsOne stop.Memory before now p unmoved told reads = λ a. record { status = tt; leaves = unmoved; says = told }
 
@@ -307,6 +331,8 @@ stop-causes ws (stop.UnreadFile path) before now reads puts outs = read-causes b
 stop-causes ws stop.NoUnit before now reads puts outs = quiet-causes before now Refused (reads_stay before now reads) puts outs (λ e. cc) (λ e. cc)
 stop-causes ws stop.BadName before now reads puts outs = quiet-causes before now Refused (reads_stay before now reads) puts outs (λ e. cc) (λ e. cc)
 stop-causes ws stop.NoName before now reads puts outs = quiet-causes before now Refused (reads_stay before now reads) puts outs (λ e. cc) (λ e. cc)
+stop-causes ws (stop.BadQuery at) before now reads puts outs = quiet-causes before now Refused (reads_stay before now reads) puts outs (λ e. cc) (λ e. cc)
+stop-causes ws (stop.DeepQuery at) before now reads puts outs = quiet-causes before now Refused (reads_stay before now reads) puts outs (λ e. cc) (λ e. cc)
 stop-causes ws (stop.Offence place cause) before now reads puts outs = quiet-causes before now Refused (reads_stay before now reads) puts outs (λ e. cc) (λ e. cc)
 stop-causes ws stop.Memory before now reads puts outs = memory-causes before now puts outs
 
@@ -364,5 +390,7 @@ stop-not_done (stop.UnreadFile path) e = cc
 stop-not_done stop.NoUnit e = cc
 stop-not_done stop.BadName e = cc
 stop-not_done stop.NoName e = cc
+stop-not_done (stop.BadQuery at) e = cc
+stop-not_done (stop.DeepQuery at) e = cc
 stop-not_done (stop.Offence place cause) e = cc
 stop-not_done stop.Memory e = cc

@@ -18,12 +18,17 @@ use Rattle.query_report.specs.declared.queries.Query.{Query}
 use Rattle.query_report.specs.declared.queries.Query.TheVariants.{Unused, Includes}
 use Rattle.calls_of.specs.Below.call_graphs.Graph.{GraphValue}
 use Rattle.calls_of.specs.Graphs.{IsGraphOf, calls_text}
+use Rattle.query_words.specs.Queries.{Query as FoundQuery}
+use Rattle.query_words.specs.Reading.{parsed}
+use Rattle.query_words.specs.declared.faults.QueryFault.{QueryFault}
+use Rattle.query_words.specs.declared.faults.QueryFault.TheVariants.{Bad, Deep}
+use Rattle.find_names.specs.Found.{PrintsFound}
 use Rattle.kept_meaning_laws.specs.Below.rename_rules.Renaming.{Refusal, bad_name, no_name, refused, IsRenaming}
 use Rattle.generated.specs.Generated.{header_path, workspace_path, generated_files}
 use Rattle.cscout_run.specs.declared.status.Status.{Status}
 use Rattle.cscout_run.specs.declared.status.Status.TheVariants.{Done, Refused, Usage, Workspace}
-use Rattle.command_words.specs.Request.{RequestValue, help_asked, version_asked, renaming_asked, tokens_asked, skipped_asked, class_asked, unused_asked, includes_asked, calls_asked, RenameValue, TokensValue, ClassValue, asked, generated_asked}
-use Rattle.command_words.specs.Message.{usage_line, absent_line, ws_line, unit_line, refused_line, offence_line, edited_lines, size_line}
+use Rattle.command_words.specs.Request.{RequestValue, help_asked, version_asked, renaming_asked, tokens_asked, skipped_asked, class_asked, unused_asked, includes_asked, calls_asked, find_asked, RenameValue, TokensValue, ClassValue, FindValue, asked, generated_asked}
+use Rattle.command_words.specs.Message.{usage_line, absent_line, ws_line, unit_line, refused_line, offence_line, query_line, edited_lines, size_line}
 use Rattle.command_words.specs.Help.{help_text, version_text}
 
 -- What a run does: its status, the text for `out`, the text for `err`, and the edits that it puts.
@@ -136,6 +141,23 @@ abbrev pub IsCallsAnswer : Result AnalysisValue units.UnitFault → Answer → T
 IsCallsAnswer (Ok value) a = (g : GraphValue) × IsGraphOf value g × (shown (calls_text value.table g) ≡ a)
 IsCallsAnswer (Err fault) a = stopped Workspace (text_fault_line fault) ≡ a
 
+-- ---- `find`
+
+-- a word that is no query
+abbrev pub fault_line : QueryFault → List ℕ
+fault_line (Bad at) = query_line (codes "bad query") at
+fault_line (Deep at) = query_line (codes "query too deep") at
+
+-- The answers over an analysed workspace: the lines of the classes that are found, or the first fault of the query.
+abbrev pub IsFindReport : AnalysisValue → Result FoundQuery QueryFault → Answer → Type 0
+IsFindReport value (Ok q) a = (text : List ℕ) × PrintsFound value q text × (shown text ≡ a)
+IsFindReport value (Err fault) a = stopped Refused (fault_line fault) ≡ a
+
+-- The answers over a workspace, once it is analysed.
+abbrev pub IsFindAnswer : FindValue → Result AnalysisValue units.UnitFault → Answer → Type 0
+IsFindAnswer q (Ok value) a = IsFindReport value (parsed q.query) a
+IsFindAnswer q (Err fault) a = stopped Workspace (text_fault_line fault) ≡ a
+
 -- ---- `rename`
 
 -- The same for a renaming of the class that a place names: the answer is that of what is planned.
@@ -198,6 +220,8 @@ IsRequestAnswer files (class_asked q) a =
 IsRequestAnswer files (unused_asked ws) a = IsListRequest files ws Unused a
 IsRequestAnswer files (includes_asked ws) a = IsListRequest files ws Includes a
 IsRequestAnswer files (calls_asked ws) a = IsCallsRequest files ws a
+IsRequestAnswer files (find_asked q) a =
+    IsOverWorkspace q.ws (λ w. IsFindAnswer q (analysis_of (source_of files) w)) (workspace_at q.ws files) a
 IsRequestAnswer files (generated_asked n) a = IsGenerated n a
 
 -- the same to words, which may be of no form

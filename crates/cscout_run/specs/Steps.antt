@@ -13,11 +13,13 @@ use Rattle.ws_core.specs.declared.analyse_fault.AnalyseFault.{AnalyseFault}
 use Rattle.ws_core.specs.declared.analyse_fault.AnalyseFault.TheVariants as fault
 use Rattle.cscout_run.specs.declared.status.Status.TheVariants as status
 use Rattle.cscout_run.specs.declared.stops.Stop.{Stop}
-use Rattle.cscout_run.specs.declared.stops.Stop.TheVariants.{UnreadWorkspace, UnitFault, UnreadFile, BadName, NoName, Offence, Memory}
+use Rattle.cscout_run.specs.declared.stops.Stop.TheVariants.{UnreadWorkspace, UnitFault, UnreadFile, BadName, NoName, BadQuery, DeepQuery, Offence, Memory}
 use Rattle.cscout_run.specs.declared.preparing.Ready.{Ready}
 use Rattle.kept_meaning_laws.specs.Below.rename_rules.Renaming.{IsRenaming}
 use Rattle.rename_edit.specs.declared.refusals.RenameRefusal.{RenameRefusal}
 use Rattle.rename_edit.specs.declared.refusals.RenameRefusal.TheVariants as refusal
+use Rattle.find_names.specs.declared.refusal.FindRefusal.{FindRefusal}
+use Rattle.find_names.specs.declared.refusal.FindRefusal.TheVariants as found
 use Rattle.command_words.specs.Request.{RequestValue, RenameValue, renaming_asked}
 use Rattle.cscout_run.specs.Answer.{Answer, answer_of, stopped, workspace_at, ws_fault_line}
 use Rattle.command_words.specs.Message.{absent_line}
@@ -51,6 +53,12 @@ stop_for refusal.BadName = BadName
 stop_for refusal.NoName = NoName
 stop_for (refusal.Offence place cause) = Offence place cause
 stop_for refusal.Memory = Memory
+
+-- why nothing is found, as an early end
+abbrev pub find_stop : FindRefusal → Stop
+find_stop (found.BadQuery at) = BadQuery at
+find_stop (found.TooDeep at) = DeepQuery at
+find_stop found.Memory = Memory
 
 -- what a step says of reads: where it goes on, none failed
 abbrev pub reads_of : {X : Type 0} → List ℕ → Result X Stop → ReadEnd
@@ -92,6 +100,8 @@ IsQuiet _ = Unit {0}
 abbrev pub IsPlanStop : Stop → Type 0
 IsPlanStop BadName = Unit {0}
 IsPlanStop NoName = Unit {0}
+IsPlanStop (BadQuery at) = Unit {0}
+IsPlanStop (DeepQuery at) = Unit {0}
 IsPlanStop (Offence place cause) = Unit {0}
 IsPlanStop Memory = Unit {0}
 IsPlanStop _ = ⊥

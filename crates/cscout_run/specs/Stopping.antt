@@ -4,9 +4,9 @@ use Rattle.cs_base.specs.Outside.{ReadEnd, NoneFailed, FailedAt, MayHaveFailed}
 use Rattle.cscout_run.specs.declared.status.Status.{Status}
 use Rattle.cscout_run.specs.declared.status.Status.TheVariants as status
 use Rattle.cscout_run.specs.declared.stops.Stop.{Stop}
-use Rattle.cscout_run.specs.declared.stops.Stop.TheVariants.{NoWorkspace, BadLine, TooManyUnits, UnreadWorkspace, UnitFault, UnreadFile, NoUnit, BadName, NoName, Offence, Memory}
+use Rattle.cscout_run.specs.declared.stops.Stop.TheVariants.{NoWorkspace, BadLine, TooManyUnits, UnreadWorkspace, UnitFault, UnreadFile, NoUnit, BadName, NoName, BadQuery, DeepQuery, Offence, Memory}
 use Rattle.cscout_run.specs.Answer.{Answer, stopped}
-use Rattle.command_words.specs.Message.{absent_line, ws_line, unit_line, refused_line, offence_line, unread_line, memory_line}
+use Rattle.command_words.specs.Message.{absent_line, ws_line, unit_line, refused_line, offence_line, query_line, unread_line, memory_line}
 
 -- the status of an early end
 abbrev pub status_of : Stop → Status
@@ -19,6 +19,8 @@ status_of (UnreadFile path) = status.ReadFault
 status_of NoUnit = status.Refused
 status_of BadName = status.Refused
 status_of NoName = status.Refused
+status_of (BadQuery at) = status.Refused
+status_of (DeepQuery at) = status.Refused
 status_of (Offence place cause) = status.Refused
 status_of Memory = status.Memory
 
@@ -33,6 +35,8 @@ line_of ws (UnreadFile path) = unread_line path
 line_of ws NoUnit = refused_line (codes "no unit")
 line_of ws BadName = refused_line (codes "bad name")
 line_of ws NoName = refused_line (codes "no name")
+line_of ws (BadQuery at) = query_line (codes "bad query") at
+line_of ws (DeepQuery at) = query_line (codes "query too deep") at
 line_of ws (Offence place cause) = offence_line place cause
 line_of ws Memory = memory_line
 

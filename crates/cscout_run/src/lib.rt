@@ -10,6 +10,7 @@
 #![tactic(auto)]
 
 mod calls;
+mod finding;
 mod generating;
 mod host;
 mod laws;

@@ -9,6 +9,7 @@ ghost use Rattle.command_words.specs.Request.{renaming_asked};
 ghost use Rattle.cscout_run.specs.Steps.{IsPlanStop, IsPlanned, IsPlannedFor, Prepares, reads_of, stop_for};
 
 use crate::calls::prepare_calls;
+use crate::finding::prepare_find;
 use crate::generating::prepare_generated;
 use crate::listing::prepare_list;
 use crate::reporting::{prepare_class, prepare_skipped, prepare_tokens, stop_of};
@@ -46,6 +47,7 @@ pub fn prepare<F: Files>(alloc: Global, request: &Request<'_>, files: &mut F) ->
         Request::Unused(ws) => prepare_list(alloc, ws, &Query::Unused, files),
         Request::Includes(ws) => prepare_list(alloc, ws, &Query::Includes, files),
         Request::Calls(ws) => prepare_calls(alloc, ws, files),
+        Request::Find(query) => prepare_find(alloc, query, files),
         Request::Generated(n) => prepare_generated(alloc, *n),
     }
 }

@@ -32,6 +32,14 @@ pub enum Stop {
     BadName,
     /// The place names nothing.
     NoName,
+    /// The word is no query: that byte is the first with which none goes on.
+    BadQuery {
+        at: u32,
+    },
+    /// Too many `!` and `(` are open in the query, at that byte.
+    DeepQuery {
+        at: u32,
+    },
     /// Something stands against the renaming.
     Offence {
         place: Place,

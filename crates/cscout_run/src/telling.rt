@@ -5,7 +5,7 @@ ghost use Rattle.command_words.specs.Telling.{Told};
 
 use crate::status::Status;
 use crate::stops::Stop;
-use command_words::{tell, tell_line, tell_offence, tell_unit};
+use command_words::{tell, tell_line, tell_offence, tell_query, tell_unit};
 use cs_base::Sink;
 
 /// Tells the line of an early end, and gives its status. `ws` is the workspace file.
@@ -49,6 +49,14 @@ pub fn tell_stop<E: Sink>(err: &mut E, ws: &str, stop: &Stop) -> Status
         }
         Stop::NoName => {
             tell(err, &[b"refused: ", b"no name"]);
+            Status::Refused
+        }
+        Stop::BadQuery { at } => {
+            tell_query(err, b"bad query", *at);
+            Status::Refused
+        }
+        Stop::DeepQuery { at } => {
+            tell_query(err, b"query too deep", *at);
             Status::Refused
         }
         Stop::Offence { place, cause } => {

@@ -1,8 +1,8 @@
-// The runs of the reports on unused names, on include lines and on calls, and what each must tell. No file changes.
+// The runs of the reports on unused names, on include lines and on calls, and on classes that are found, and what each must tell. No file changes.
 use crate::tables::{Failing, Row};
 use cscout_run::Status;
 
-pub const LISTS: [Row; 12] = [
+pub const LISTS: [Row; 17] = [
     // A macro and a function that nothing uses; `main` is left out.
     Row {
         files: "w.cs:file a.c\n@a.c:#define UNUSED 1\nstatic int f(void) { return 0; }\nint used;\nint main(void) { return used; }\n",
@@ -100,6 +100,51 @@ pub const LISTS: [Row; 12] = [
         err: "cscout: unit 1: a.c:1:22: undeclared\n",
         status: Status::Workspace,
     },
+    // Both attributes hold of one class.
+    Row {
+        files: "w.cs:file a.c\n@a.c:#define UNUSED 1\nstatic int f(void) { return 0; }\nint used;\nint main(void) { return used; }\n",
+        words: "w.cs find function&unused",
+        after: "w.cs:file a.c\n@a.c:#define UNUSED 1\nstatic int f(void) { return 0; }\nint used;\nint main(void) { return used; }\n",
+        out: "a.c:2:12 1 f\n",
+        err: "",
+        status: Status::Done,
+    },
+    // A pattern is matched by the whole spelling; a class is told once, by its first member.
+    Row {
+        files: "w.cs:file a.c\n@a.c:#define UNUSED 1\nstatic int f(void) { return 0; }\nint used;\nint main(void) { return used; }\n",
+        words: "w.cs find name=u*",
+        after: "w.cs:file a.c\n@a.c:#define UNUSED 1\nstatic int f(void) { return 0; }\nint used;\nint main(void) { return used; }\n",
+        out: "a.c:3:5 2 used\n",
+        err: "",
+        status: Status::Done,
+    },
+    // The query ends too early.
+    Row {
+        files: "w.cs:file a.c\n@a.c:#define UNUSED 1\nstatic int f(void) { return 0; }\nint used;\nint main(void) { return used; }\n",
+        words: "w.cs find function&",
+        after: "w.cs:file a.c\n@a.c:#define UNUSED 1\nstatic int f(void) { return 0; }\nint used;\nint main(void) { return used; }\n",
+        out: "",
+        err: "cscout: refused: bad query at 9\n",
+        status: Status::Refused,
+    },
+    // Both parts of a pasted external name are of that name.
+    Row {
+        files: "w.cs:file a.c\n@a.c:#define F(x) x##_f\nint a_f;\nint b = F(a);\n",
+        words: "w.cs find cut&!external",
+        after: "w.cs:file a.c\n@a.c:#define F(x) x##_f\nint a_f;\nint b = F(a);\n",
+        out: "",
+        err: "",
+        status: Status::Done,
+    },
+    // A `!` is of the next part alone, and no more.
+    Row {
+        files: "w.cs:file a.c\n@a.c:#define F(x) x##_f\nint a_f;\nint b = F(a);\n",
+        words: "w.cs find !macro&external",
+        after: "w.cs:file a.c\n@a.c:#define F(x) x##_f\nint a_f;\nint b = F(a);\n",
+        out: "a.c:1:17 2 _f\na.c:2:5 2 a\na.c:3:5 1 b\n",
+        err: "",
+        status: Status::Done,
+    },
     // One word too many.
     Row {
         files: "w.cs:",
@@ -113,7 +158,7 @@ pub const LISTS: [Row; 12] = [
 
 const ONE_UNIT: &str = "w.cs:file a.c\n@a.c:int x;\n";
 
-pub const FAILING_LISTS: [Failing; 4] = [
+pub const FAILING_LISTS: [Failing; 6] = [
     Failing {
         row: Row {
             files: ONE_UNIT,
@@ -157,6 +202,32 @@ pub const FAILING_LISTS: [Failing; 4] = [
         row: Row {
             files: ONE_UNIT,
             words: "w.cs unused",
+            after: ONE_UNIT,
+            out: "",
+            err: "cscout: cannot write output\n",
+            status: Status::WriteFault,
+        },
+        call: 0,
+        out_call: 1,
+        err_call: 0,
+    },
+    Failing {
+        row: Row {
+            files: ONE_UNIT,
+            words: "w.cs find object",
+            after: ONE_UNIT,
+            out: "",
+            err: "cscout: cannot read a.c\n",
+            status: Status::ReadFault,
+        },
+        call: 2,
+        out_call: 0,
+        err_call: 0,
+    },
+    Failing {
+        row: Row {
+            files: ONE_UNIT,
+            words: "w.cs find object",
             after: ONE_UNIT,
             out: "",
             err: "cscout: cannot write output\n",

@@ -23,3 +23,9 @@ returns-in-BadName-clause-told g c = rw c.in-BadName.is c.tell-in-BadName.ensure
 
 pub returns-in-NoName-clause-told : goal.returns-in-NoName-clause-told
 returns-in-NoName-clause-told g c = rw c.in-NoName.is c.tell-in-NoName.ensures
+
+pub returns-in-BadQuery-clause-told : goal.returns-in-BadQuery-clause-told
+returns-in-BadQuery-clause-told g c = rw c.in-BadQuery.is c.tell_query.ensures
+
+pub returns-in-DeepQuery-clause-told : goal.returns-in-DeepQuery-clause-told
+returns-in-DeepQuery-clause-told g c = rw c.in-DeepQuery.is c.tell_query-in-DeepQuery.ensures
