@@ -6,8 +6,8 @@ use Rattle.cs_base.specs.declared.positions.Part.{Part}
 use Rattle.ws_core.specs.Analysis.{AnalysisValue}
 use Rattle.ws_core.specs.Parts.{AreFirsts, IsFirst, part_cmp}
 use Rattle.ws_core.specs.Spellings.{spelling_of}
-use Rattle.class_marks.specs.Keeping.{Keeps}
-use Rattle.class_marks.proofs.KeepLemmas.{keeps_all, keeps_each, keeps_more, keeps_none, keeps_same, keeps_sorted}
+use Rattle.unused_names.specs.Below.class_marks.Keeping.{Keeps}
+use Rattle.unused_names.proofs.Below.class_marks.KeepLemmas.{keeps_all, keeps_each, keeps_more, keeps_none, keeps_same, keeps_sorted}
 use Rattle.query_words.specs.declared.attributes.Facts.{Facts}
 use Rattle.query_words.specs.declared.faults.QueryFault.{QueryFault}
 use Rattle.query_words.specs.declared.faults.QueryFault.TheVariants.{Bad, Deep}

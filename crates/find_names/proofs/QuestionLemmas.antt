@@ -9,9 +9,9 @@ use Rattle.std.proofs.lemmas.Str.{IsUtf8-from_is_utf8}
 use borrow.Author.Count.{below_more}
 use Rattle.cs_base.specs.declared.positions.Part.{Part}
 use Rattle.cs_base.specs.declared.positions.Pos.{Pos}
-use Rattle.rename_rules.specs.Below.eclass_map.Positions.{holds}
+use Rattle.ws_core.specs.Below.eclass_map.Positions.{holds}
 use Rattle.cs_base.proofs.FileMapLemmas.{bytes_eq-equal}
-use Rattle.rename_rules.proofs.ClassLemmas.{part_once}
+use Rattle.unused_names.proofs.Below.rename_rules.ClassLemmas.{part_once}
 use Rattle.include_tree.specs.Below.source_files.Files.{Entry, Table}
 use Rattle.ws_core.specs.Analysis.{AnalysisValue}
 use Rattle.ws_core.specs.Naming.{Names, file_named, named_position}

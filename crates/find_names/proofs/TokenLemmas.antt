@@ -17,8 +17,8 @@ use Rattle.include_tree.specs.Below.source_files.KeptFiles.{kept_at}
 use Rattle.ws_core.specs.Analysis.{AnalysisValue, UnitAnalysis}
 use Rattle.ws_core.specs.BroughtNumbers.{all_brought}
 use Rattle.ws_core.specs.FileTokens.{IsFileToken, file_tokens, kept_tokens, span_of, table_tokens}
-use Rattle.class_marks.proofs.AnswerLemmas.{told}
-use Rattle.class_marks.proofs.RoleLemmas.{any_at, some_passes}
+use Rattle.unused_names.proofs.Below.class_marks.AnswerLemmas.{told}
+use Rattle.unused_names.proofs.Below.class_marks.RoleLemmas.{any_at, some_passes}
 use Rattle.find_names.specs.FileTokens.{is_part, is_span}
 
 -- ---- tests

@@ -3,10 +3,10 @@ use Rattle.std.specs.Prelude.{Bool, List}
 use Rattle.ws_core.specs.Below.c_types.declared.entity.EntityKind.{EntityKind}
 use Rattle.ws_core.specs.Below.c_types.declared.entity.EntityKind.TheVariants as entity
 use Rattle.ws_core.specs.Analysed.{Analysed}
-use Rattle.class_marks.specs.declared.roles.Role.{Role}
-use Rattle.class_marks.specs.declared.roles.Role.TheVariants as role
-use Rattle.class_marks.specs.Marks.{AreMarked}
-use Rattle.class_marks.specs.Roles.{names_with}
+use Rattle.unused_names.specs.Below.class_marks.declared.roles.Role.{Role}
+use Rattle.unused_names.specs.Below.class_marks.declared.roles.Role.TheVariants as role
+use Rattle.unused_names.specs.Below.class_marks.Marks.{AreMarked}
+use Rattle.unused_names.specs.Below.class_marks.Roles.{names_with}
 use Rattle.find_names.specs.declared.role_marks.KindMarks.{KindMarks}
 use Rattle.find_names.specs.declared.role_marks.RoleMarks.{RoleMarks}
 

@@ -10,8 +10,8 @@ use Rattle.query_words.specs.declared.attributes.Attribute.{Attribute}
 use Rattle.query_words.specs.declared.attributes.Attribute.TheVariants.{Macro, Function, Object, Typedef, Parameter, Enumerator, Tag, Member, Label, External, ReadOnly, Unused, Cut}
 use Rattle.query_words.specs.Queries.{Query}
 use Rattle.query_words.specs.Satisfying.{Satisfies}
-use Rattle.class_marks.specs.declared.roles.Role.TheVariants as role
-use Rattle.class_marks.specs.Touching.{HasRole, IsReadOnlyClass}
+use Rattle.unused_names.specs.Below.class_marks.declared.roles.Role.TheVariants as role
+use Rattle.unused_names.specs.Below.class_marks.Touching.{HasRole, IsReadOnlyClass}
 use Rattle.unused_names.specs.Unused.{IsUnused}
 
 -- some member of the class is no whole token: the token has other parts too

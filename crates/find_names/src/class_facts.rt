@@ -8,10 +8,9 @@ ghost use Rattle.find_names.specs.Satisfying.{HasAttribute, IsCutClass};
 
 use crate::file_tokens::FileTokens;
 use crate::role_marks::RoleMarks;
-use class_marks::{has_read_only, is_marked};
 use cs_base::Part;
 use query_words::Facts;
-use unused_names::is_unused;
+use unused_names::{has_read_only, is_marked, is_unused};
 use ws_core::Analysis;
 
 // Whether some member of the class is no whole token.

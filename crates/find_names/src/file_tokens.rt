@@ -11,8 +11,8 @@ ghost use Rattle.find_names.specs.FileTokens.{AreFileTokens, has_span, is_span};
 use cs_base::{Kind, Memory, Part, Pos, Tok};
 use include_tree::KeptFile;
 use indexmap::IndexSet;
-use rename_rules::numbers_brought;
 use std::alloc::Global;
+use unused_names::numbers_brought;
 use ws_core::Analysis;
 
 // Where a token begins, and how many characters it has.

@@ -2,10 +2,10 @@
 ghost use Rattle.std.specs.Prelude.{IfOk};
 ghost use Rattle.find_names.specs.RoleMarks.{AreKindMarks, AreRoleMarks};
 
-use class_marks::{Role, marks_of};
 use cs_base::Memory;
 use scope_bind::EntityKind;
 use std::alloc::Global;
+use unused_names::{Role, marks_of};
 use ws_core::Analysis;
 
 /// Marks on the classes with an occurrence of an entity of a kind.

@@ -7,3 +7,5 @@ pub mod Unused
 pub mod Spans
 pub mod LastUses
 pub mod Lines
+-- Words of the crates below, passed on.
+pub mod Below

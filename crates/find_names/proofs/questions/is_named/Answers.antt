@@ -4,7 +4,7 @@ use Rattle.cs_base.specs.declared.positions.Place.{Place}
 use Rattle.ws_core.specs.Analysis.{AnalysisValue}
 use Rattle.ws_core.specs.Naming.{Names}
 use Rattle.ws_core.specs.Places.{place_at}
-use Rattle.class_marks.proofs.AnswerLemmas.{told}
+use Rattle.unused_names.proofs.Below.class_marks.AnswerLemmas.{told}
 use Rattle.find_names.specs.FileTokens.{is_part}
 use Rattle.find_names.specs.Question.{IsNamed, NamesPart}
 use Rattle.find_names.proofs.QuestionLemmas.{named_never, named_once}
