@@ -1,0 +1,136 @@
+// Batches over files in memory: what is told of the lines, and what is put; worked by hand and with another program.
+use batch_file::read_batch;
+use batch_run::{Batched, run_batch};
+use cs_base::Edits;
+use row_tools::held;
+use std::alloc::{AllocError, Global};
+use std::test::Fail;
+use ws_core::AnalyseFault;
+use ws_file::read_ws;
+
+// The files that are held, each as `PATH:TEXT` with `@` between them, of which `a.c` and `b.c` are units; the lines; what
+// is told; and what is put, each as `PATH:TEXT@`. A refused batch ends with `refused`.
+struct Row {
+    files: &'static str,
+    lines: &'static str,
+    told: &'static str,
+    put: &'static str,
+}
+
+const THREE: &str = "a.c:int a; int b; int d;@b.c:";
+
+const SHARED: &str =
+    "h.h:extern int n;\n@a.c:#include \"h.h\"\nint n;\n@b.c:#include \"h.h\"\nint f(void) { return n; }\n";
+
+const PASTED: &str = "a.c:#define F(x) x##_f\nint a_f;\nint b = F(a);\n@b.c:";
+
+const ROWS: [Row; 9] = [
+    Row {
+        files: THREE,
+        lines: "rename a.c 1 5 alpha\nrename a.c 1 16 beta\nrename a.c 1 26 delta\n",
+        told: "edited a.c 1\nedited a.c 1\nedited a.c 1\n",
+        put: "a.c:int alpha; int beta; int delta;@",
+    },
+    Row {
+        files: THREE,
+        lines: "rename a.c 1 5 alpha\nrename a.c 1 16 alpha\nrename a.c 1 26 delta\n",
+        told: "edited a.c 1\ncscout: refused: a.c:1:5: occurs\ncscout: refused: no name\nrefused",
+        put: "a.c:int alpha; int b; int d;@",
+    },
+    Row {
+        files: THREE,
+        lines: "rename a.c 1 5 2x\n",
+        told: "cscout: refused: bad name\nrefused",
+        put: "",
+    },
+    Row {
+        files: THREE,
+        lines: "",
+        told: "",
+        put: "",
+    },
+    // There and back: the file is put all the same.
+    Row {
+        files: THREE,
+        lines: "rename a.c 1 5 alpha\nrename a.c 1 5 a\n",
+        told: "edited a.c 1\nedited a.c 1\n",
+        put: "a.c:int a; int b; int d;@",
+    },
+    // A name that an earlier line freed.
+    Row {
+        files: THREE,
+        lines: "rename a.c 1 5 x\nrename a.c 1 12 a\nrename a.c 1 5 b\n",
+        told: "edited a.c 1\nedited a.c 1\nedited a.c 1\n",
+        put: "a.c:int b; int a; int d;@",
+    },
+    // Each file is put once, in order of path, as the last line leaves it.
+    Row {
+        files: SHARED,
+        lines: "rename b.c 2 5 g\nrename h.h 1 12 count\nrename b.c 2 5 main\nrename a.c 2 5 total\n",
+        told: "edited b.c 1\nedited a.c 1\nedited b.c 1\nedited h.h 1\nedited b.c 1\nedited a.c 1\nedited b.c 1\nedited h.h 1\n",
+        put: "a.c:#include \"h.h\"\nint total;\n@b.c:#include \"h.h\"\nint main(void) { return total; }\n@h.h:extern int total;\n@",
+    },
+    // A name that is pasted, renamed twice: its first part is found where it stands then.
+    Row {
+        files: PASTED,
+        lines: "rename a.c 2 5 count\nrename a.c 3 11 z\n",
+        told: "edited a.c 2\nedited a.c 2\n",
+        put: "a.c:#define F(x) x##_f\nint z_f;\nint b = F(z);\n@",
+    },
+    Row {
+        files: "a.c:int a;\nint f(void) { return c; }\n@b.c:",
+        lines: "rename a.c 1 5 alpha\n",
+        told: "unit 1",
+        put: "",
+    },
+];
+
+// Adds what is put.
+fn add_puts(text: &mut Vec<u8>, edits: &Edits) -> Result<(), AllocError> {
+    for k in 0..edits.len() {
+        text.extend_from_slice(edits.path(k))?;
+        text.push(b':')?;
+        text.extend_from_slice(edits.bytes(k))?;
+        text.push(b'@')?;
+    }
+    Ok(())
+}
+
+// What is told, and behind a line of its own what is put.
+fn shown(alloc: Global, files: &str, lines: &str) -> Result<Vec<u8>, Fail> {
+    let ws = read_ws(alloc, b"file a.c\nfile b.c\n")?;
+    let lines = read_batch(alloc, lines.as_bytes())?;
+    let mut held = held(alloc, files)?;
+    match run_batch(alloc, &ws, lines.as_slice(), &mut held) {
+        Ok(done) => {
+            let Batched {
+                edits,
+                text,
+                refused,
+            } = done;
+            let mut text = text;
+            if refused {
+                text.extend_from_slice(b"refused")?;
+            }
+            text.extend_from_slice(b"|")?;
+            add_puts(&mut text, &edits)?;
+            Ok(text)
+        }
+        Err(AnalyseFault::WorkspaceFault { unit, .. }) => {
+            Ok(format!(in alloc; "unit {unit}|")?.into_bytes())
+        }
+        Err(AnalyseFault::ReadFault { .. }) => Ok(format!(in alloc; "unread|")?.into_bytes()),
+        Err(AnalyseFault::Memory) => Err(AllocError)?,
+    }
+}
+
+#[test]
+fn lines_are_run_in_order_and_files_put_once(rt: HostRuntime) -> Result<(), Fail> {
+    let alloc = rt.alloc();
+    for row in &ROWS {
+        let text = shown(alloc, row.files, row.lines)?;
+        let want = format!(in alloc; "{}|{}", row.told, row.put)?;
+        assert_eq!(rt; text.as_slice(), want.as_bytes(), "{}", row.lines);
+    }
+    Ok(())
+}

@@ -1,0 +1,50 @@
+-- A batch: renames in order, each on the files as those before left them (this project's own).
+use Rattle.std.specs.Prelude.{ℕ, ◌≡◌, Bool, true, false, List, [], ◌∷◌, Result, Ok, Err, codes}
+use Rattle.cs_base.specs.Edit.{Edit, with_edits}
+use Rattle.cs_base.specs.Outside.{FileMap}
+use Rattle.command_words.specs.Message.{refused_line, offence_line, edited_lines}
+use Rattle.batch_file.specs.Line.{LineValue}
+use Rattle.edited_files.specs.Edited.{with_each}
+use Rattle.ws_file.specs.Workspace.{WorkspaceValue}
+use Rattle.ws_core.specs.Below.source_files.Files.{source_of}
+use Rattle.ws_core.specs.Analysis.{AnalysisValue, analysis_of}
+use Rattle.kept_meaning_laws.specs.Below.rename_rules.Renaming.{Refusal, bad_name, no_name, refused, IsRenaming}
+
+-- the answer to a line: the edits of its renaming, or why it is refused
+abbrev pub Plan : Type 0
+Plan = Result (List Edit) Refusal
+
+-- the edits of a batch, once a line is answered: a refused line changes nothing
+abbrev pub after : Plan → List Edit → List Edit
+after (Ok new) edits = with_each new edits
+after (Err refusal) edits = edits
+
+-- the same for lines in order
+abbrev pub after_each : List Plan → List Edit → List Edit
+after_each [] edits = edits
+after_each (plan ∷ plans) edits = after_each plans (after plan edits)
+
+-- A line over these files: their workspace is accepted, and the line is answered as the renaming that it asks for.
+abbrev pub IsLine : WorkspaceValue → FileMap → LineValue → Plan → Type 0
+IsLine ws files q plan = (a : AnalysisValue) × (analysis_of (source_of files) ws ≡ Ok a) × IsRenaming a q.path q.line q.column q.name plan
+
+-- The lines of a batch in order, and the answer to each, where files have the edits of the lines before. The workspace
+-- stays that of the beginning.
+abbrev pub IsBatch : WorkspaceValue → FileMap → List Edit → List LineValue → List Plan → Type 0
+IsBatch ws files edits [] [] = Unit {0}
+IsBatch ws files edits (q ∷ lines) (plan ∷ plans) =
+    IsLine ws (with_edits edits files) q plan × IsBatch ws files (after plan edits) lines plans
+IsBatch ws files edits [] (plan ∷ plans) = ⊥
+IsBatch ws files edits (q ∷ lines) [] = ⊥
+
+-- what is written of a line: a line for each file that it edits, or the message of its refusal
+abbrev pub plan_text : Plan → List ℕ
+plan_text (Ok new) = edited_lines new
+plan_text (Err bad_name) = refused_line (codes "bad name")
+plan_text (Err no_name) = refused_line (codes "no name")
+plan_text (Err (refused place cause)) = offence_line place cause
+
+-- a line that is refused
+abbrev pub is_refused : Plan → Bool
+is_refused (Ok new) = false
+is_refused (Err refusal) = true

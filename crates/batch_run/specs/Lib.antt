@@ -1,0 +1,7 @@
+-- What the public contracts rest on.
+pub mod Batch
+pub mod Renamed
+pub mod Running
+-- What inner functions promise each other.
+pub mod Keeping
+pub mod Stepping

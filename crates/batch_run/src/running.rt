@@ -1,0 +1,106 @@
+// A batch, line by line.
+ghost use Rattle.std.specs.Prelude.{◌≡◌, [], List, Ok, IfErr, IfOk, IfSome};
+ghost use Rattle.cs_base.specs.Outside.{FileMap, ReadsOnly};
+ghost use Rattle.ws_core.specs.Below.source_files.Files.{Source, source_of};
+ghost use Rattle.ws_core.specs.Below.source_files.Tables.{AreFound};
+ghost use Rattle.ws_core.specs.Analysis.{analysis_of};
+ghost use Rattle.ws_core.specs.Answers.{reads_of};
+ghost use Rattle.ws_core.specs.declared.analyse_fault.AnalyseFault.TheVariants.{Memory as no_memory};
+ghost use Rattle.batch_run.specs.Batch.{Plan};
+ghost use Rattle.batch_run.specs.Running.{IsRun, Runs};
+ghost use Rattle.batch_run.specs.Stepping.{RunTo};
+
+use crate::keeping::kept_texts;
+use crate::stepping::{Batching, run_line};
+use batch_file::BatchLine;
+use cs_base::{Edits, Files, Memory};
+use edited_files::{KeptTexts, TextEdits};
+use std::alloc::Global;
+use ws_core::{AnalyseFault, Analysis, analyse};
+use ws_file::Workspace;
+
+/// What a batch leaves to be done: the edits to put, the text to write, and whether a line was refused.
+#[derive(Drop)]
+pub struct Batched {
+    pub edits: Edits,
+    pub text: Vec<u8>,
+    pub refused: bool,
+}
+
+/// Runs the lines in order over the workspace, each on the files as those before left them. Puts nothing. Refused as
+/// `analyse` is: where a unit is not accepted, where a read failed, or where memory ran out.
+pub fn run_batch<F: Files>(
+    alloc: Global,
+    ws: &Workspace,
+    lines: &[BatchLine],
+    files: &mut F,
+) -> Result<Batched, AnalyseFault>
+    ensures answer { IfSome (F.told files.old).held (λ held. Runs ws.now held lines.now result) }
+    ensures faults { ReadsOnly (F.told files.old) (F.told files.new) (reads_of result) }
+{
+    match analyse(alloc, ws, files) {
+        Ok(analysis) => all_lines(alloc, ws, lines, analysis),
+        Err(fault) => Err(fault),
+    }
+}
+
+// The lines, once the workspace is analysed; refused only where memory ran out.
+fn all_lines(
+    alloc: Global,
+    ws: &Workspace,
+    lines: &[BatchLine],
+    analysis: Analysis,
+) -> Result<Batched, AnalyseFault>
+    requires { (source : Source) → AreFound source analysis.value.table → analysis_of source ws.now ≡ Ok analysis.value }
+    ensures answer { (files : FileMap) → analysis_of (source_of files) ws.now ≡ Ok analysis.value → Runs ws.now files lines.now result }
+    ensures memory { IfErr result (λ e. e ≡ no_memory) }
+{
+    match run_lines(alloc, ws, lines, analysis) {
+        Ok(done) => Ok(done),
+        Err(_) => Err(AnalyseFault::Memory),
+    }
+}
+
+// The same, line by line.
+fn run_lines(
+    alloc: Global,
+    ws: &Workspace,
+    lines: &[BatchLine],
+    analysis: Analysis,
+) -> Result<Batched, Memory>
+    requires { (source : Source) → AreFound source analysis.value.table → analysis_of source ws.now ≡ Ok analysis.value }
+    ensures { IfOk result (λ b. (plans : List Plan) × ((files : FileMap) → analysis_of (source_of files) ws.now ≡ Ok analysis.value → IsRun ws.now files lines.now b plans)) }
+{
+    let kept = kept_texts(alloc, &analysis)?;
+    let state = Batching {
+        analysis: Some(analysis),
+        edits: TextEdits::new(alloc),
+        text: Vec::new(alloc),
+        refused: false,
+    };
+    let state = each_line(alloc, ws, &kept, lines, state)?;
+    let edits = state.edits.edits(alloc)?;
+    Ok(Batched {
+        edits,
+        text: state.text,
+        refused: state.refused,
+    })
+}
+
+// Each line, over the files that were read at the beginning.
+fn each_line(
+    alloc: Global,
+    ws: &Workspace,
+    kept: &KeptTexts,
+    lines: &[BatchLine],
+    state: Batching,
+) -> Result<Batching, Memory>
+    requires { RunTo ws.now kept.now [] state }
+    ensures { IfOk result (λ behind. RunTo ws.now kept.now lines.now behind) }
+{
+    let mut state = state;
+    for line in lines {
+        state = run_line(alloc, ws, kept, line, state)?;
+    }
+    Ok(state)
+}
