@@ -1,5 +1,5 @@
-// How many parameters a function has, and the first of what stands against a new order of them, by its names and by the
-// parentheses and commas of its lists; worked by hand.
+// How many parameters a function has, and the first of what stands against a new order of them, by its names, by the
+// parentheses and commas of its lists and by what happens inside these; worked by hand.
 ghost use Rattle.rename_rules.specs.Class.{IsClass};
 
 use cs_base::Part;
@@ -7,7 +7,7 @@ use rename_rules::Offence;
 use std::alloc::{AllocError, Global};
 use std::test::Fail;
 use template_rules::{
-    Functions, at_marks, at_names, has_functions, named_functions, parameter_count,
+    at_insides, at_macro_names, at_marks, at_names, has_functions, named_functions, parameter_count,
 };
 use ws_core::{Analysis, analyse};
 use ws_file::read_ws;
@@ -117,6 +117,41 @@ int v(void) { return f(1, 2); }
 $a.c 2 22
 $2 inc/h.h:1:6: read-only
 %
+A line's number inside a list, and one outside.
+$file a.c
+$a.c:int f(int a, int b);
+int v(void) { return f(__LINE__,
+  2); }
+$a.c 1 5
+$2 a.c:2:24: line number
+%
+$file a.c
+$a.c:int f(int a, int b);
+#define L __LINE__
+int v(void) { return f(1, 2) + L; }
+$a.c 1 5
+$2
+%
+A tag that an argument declares, and an enumerator that a parameter declares.
+$file a.c
+$a.c:int f(int a, int b);
+int v(void) { return f(sizeof(struct q { int m; }), 2); }
+$a.c 1 5
+$2 a.c:2:38: declaration in argument
+%
+$file a.c
+$a.c:int f(int a, enum { E } b);
+$a.c 1 5
+$2 a.c:1:21: declaration in argument
+%
+A name that is pasted.
+$file a.c
+$a.c:#define P(x, y) x##y
+int ab(int a, int b);
+int v(void) { return P(a, b)(1, 2); }
+$a.c 2 5
+$2 a.c:3:24: in a macro
+%
 $file a.c
 $a.c:int x;
 int v(void) { return x; }
@@ -182,7 +217,9 @@ fn first_in(alloc: Global, a: &Analysis, members: &[Part], class: u32) -> Result
     }
     let count = parameter_count(alloc, a, members, &functions)?;
     let named = at_names(alloc, a, members, class, &functions, None)?;
-    let first = at_marks(alloc, a, members, &functions, count, named)?;
+    let marked = at_marks(alloc, a, members, &functions, count, named)?;
+    let replaced = at_macro_names(a, members, class, marked);
+    let first = at_insides(a, members, &functions, replaced);
     Ok(show(alloc, a, count, first)?)
 }
 

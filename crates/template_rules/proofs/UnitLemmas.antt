@@ -5,6 +5,8 @@ use Rattle.std.specs.List.{flat_map}
 use Rattle.std.specs.Option.{option_map}
 use Rattle.cs_base.specs.declared.positions.Part.{Part}
 use Rattle.cs_base.specs.Token.{Token}
+use Rattle.cs_base.specs.declared.causes.Cause.TheVariants as cause
+use Rattle.unit_steps.specs.declared.events.Event.{Event}
 use Rattle.unit_steps.specs.Texts.{UnitTextValue}
 use Rattle.c99_tree.specs.Tree.{Node}
 use Rattle.c_types.specs.declared.lists.List.{List as NameList}
@@ -18,6 +20,9 @@ use Rattle.template_rules.specs.Functions.{AreFunctionsOf, AreFunctions}
 use Rattle.template_rules.specs.Lists.{declarator_of, declarators_in}
 use Rattle.template_rules.specs.NameOffences.{name_offences, unit_names}
 use Rattle.template_rules.specs.Marks.{declarator_marks, call_marks, unit_marks}
+use Rattle.rename_rules.specs.First.{standing}
+use Rattle.template_rules.specs.Insides.{list_insides, unit_insides, unit_macro_names}
+use Rattle.template_rules.specs.MacroOffences.{replaced_place, pasted_place}
 use Rattle.template_rules.proofs.StepLemmas.{tree_of_unit}
 
 -- The unit whose text, binding and tree are told.
@@ -66,3 +71,16 @@ pub marks_told : (members : List Part) (a : AnalysisValue) (count : ℕ) (u : Un
     ≡ unit_marks members a count u
 marks_told members a count u text bound lists declarators calls same_text same_bound same_lists same_declarators same_calls =
     rw (same_declarators, same_calls, same_lists, ← same_text, ← same_bound) refl
+
+pub insides_told : (members : List Part) (u : UnitAnalysis) (text : UnitTextValue) (bound : Bound) (declarators calls : List NameList)
+    → u.text ≡ text → u.bound ≡ bound → declarators ≡ bound.declarators → calls ≡ bound.calls
+    → flat_map (list_insides members text.toks text.events bound.names) declarators ++ flat_map (list_insides members text.toks text.events bound.names) calls
+    ≡ unit_insides members u
+insides_told members u text bound declarators calls same_text same_bound same_declarators same_calls =
+    rw (same_declarators, same_calls, ← same_text, ← same_bound) refl
+
+pub macro_names_told : (members : List Part) (u : UnitAnalysis) (events : List Event) (pasted : List Token)
+    → events ≡ u.text.events → pasted ≡ u.text.pasted
+    → standing cause.InMacro (flat_map (replaced_place members) events) ++ standing cause.InMacro (flat_map (pasted_place members) pasted)
+    ≡ unit_macro_names members u
+macro_names_told members u events pasted same_events same_pasted = rw (same_events, same_pasted) refl

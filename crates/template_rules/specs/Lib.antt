@@ -3,8 +3,9 @@ pub mod Functions
 pub mod Lists
 pub mod Marks
 pub mod NameOffences
--- What stands against a new order besides: of these there are definitions alone.
 pub mod MacroOffences
 pub mod ScopeOffences
+pub mod Insides
+-- What stands against a new order besides: of these there are definitions alone.
 pub mod LineOffences
 pub mod Offences

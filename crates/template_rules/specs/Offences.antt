@@ -12,17 +12,15 @@ use Rattle.rename_rules.specs.First.{standing}
 use Rattle.template_rules.specs.Functions.{names_function}
 use Rattle.template_rules.specs.Marks.{all_marks}
 use Rattle.template_rules.specs.NameOffences.{all_names}
-use Rattle.template_rules.specs.MacroOffences.{macro_place, line_number_places, replaced_place, pasted_place}
-use Rattle.template_rules.specs.ScopeOffences.{declaration_places, body_lists_in, body_place, dependence_places}
+use Rattle.template_rules.specs.Insides.{all_insides, all_macro_names}
+use Rattle.template_rules.specs.MacroOffences.{macro_place}
+use Rattle.template_rules.specs.ScopeOffences.{body_lists_in, body_place, dependence_places}
 use Rattle.template_rules.specs.LineOffences.{odd_from}
 
--- what stands at a list beside what its marks say
+-- what stands at a list beside what its marks say and what happens inside it
 abbrev pub list_offences : List Part → AnalysisValue → UnitAnalysis → NameList → List Offence
 list_offences members a u l =
-    standing cause.InMacro (macro_place members a u.text.toks l)
-    ++ (standing cause.LineNumber (line_number_places u.text.events l)
-    ++ (standing cause.DeclarationInArgument (declaration_places u.text.toks u.bound.names l)
-    ++ standing cause.OddToken (odd_from u.text l 0 a.table)))
+    standing cause.InMacro (macro_place members a u.text.toks l) ++ standing cause.OddToken (odd_from u.text l 0 a.table)
 
 -- the same at the parameter list of a declarator, if it is one of a function that the class names
 abbrev pub declarator_offences : List Part → AnalysisValue → UnitAnalysis → NameList → List Offence
@@ -39,14 +37,12 @@ call_offences members a u l =
     then list_offences members a u l ++ standing cause.DeclarationInArgument (body_place u.text.toks (body_lists_in u.tree.under) l)
     else []
 
--- and at names that macros replace or make
 abbrev pub unit_offences : List Part → AnalysisValue → UnitAnalysis → List Offence
 unit_offences members a u =
-    flat_map (declarator_offences members a u) u.bound.declarators
-    ++ (flat_map (call_offences members a u) u.bound.calls
-    ++ (standing cause.InMacro (flat_map (replaced_place members) u.text.events)
-    ++ standing cause.InMacro (flat_map (pasted_place members) u.text.pasted)))
+    flat_map (declarator_offences members a u) u.bound.declarators ++ flat_map (call_offences members a u) u.bound.calls
 
 -- All offences against a new order of so many items, in no order.
 abbrev pub offences_of : AnalysisValue → List Part → ℕ → List Offence
-offences_of a members count = all_names members a ++ (all_marks members a count ++ flat_map (unit_offences members a) a.units)
+offences_of a members count =
+    all_names members a
+    ++ (all_marks members a count ++ (all_macro_names members a ++ (all_insides members a ++ flat_map (unit_offences members a) a.units)))

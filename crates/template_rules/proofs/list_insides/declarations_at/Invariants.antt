@@ -1,0 +1,9 @@
+use Rattle.std.proofs.Common.{take}
+use Rattle.std.specs.List.{flat_map}
+use Rattle.cs_base.specs.declared.causes.Cause.TheVariants as cause
+use Rattle.rename_rules.specs.First.{standing, FirstThen}
+use Rattle.template_rules.specs.ScopeOffences.{declaration_place}
+use Rattle.template_rules.proofs.list_insides.declarations_at.Given as goal
+
+abbrev pub invariant-loop-name : goal.invariant-loop-name
+invariant-loop-name l = FirstThen l.a.value.table (standing cause.DeclarationInArgument (flat_map (declaration_place l.toks l.list) (take l.name-index l.names))) l.initial.now l.now

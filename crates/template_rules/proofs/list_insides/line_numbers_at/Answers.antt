@@ -1,0 +1,17 @@
+use Rattle.rename_rules.proofs.FirstLemmas.{then_none, then_next, then_all}
+use Rattle.cs_base.specs.declared.causes.Cause.TheVariants as cause
+use Rattle.template_rules.specs.MacroOffences.{line_number_place}
+use Rattle.template_rules.proofs.list_insides.line_numbers_at.Goals as goal
+
+pub loop-event-init : goal.loop-event-init
+loop-event-init c = then_none c.args.a.now.value.table c.args.first
+
+pub loop-event-preserved : goal.loop-event-preserved
+loop-event-preserved c =
+    then_next c.args.a.now.value.table cause.LineNumber (line_number_place c.args.list.now) c.args.events.now c.loop-event.event-index c.event-item.result c.args.first c.loop-event.now c.line_number_at-now.result
+    c.loop-event-test.true c.event-item.is c.loop-event.invariant c.line_number_at-now.ensures
+
+pub returns : goal.returns
+returns c =
+    then_all c.args.a.now.value.table cause.LineNumber (line_number_place c.args.list.now) c.args.events.now c.loop-event.event-index c.args.first c.loop-event.now
+    c.loop-event-test.false c.loop-event.invariant

@@ -1,0 +1,9 @@
+use Rattle.std.proofs.Common.{take}
+use Rattle.std.specs.List.{flat_map}
+use Rattle.cs_base.specs.declared.causes.Cause.TheVariants as cause
+use Rattle.rename_rules.specs.First.{standing, FirstThen}
+use Rattle.template_rules.specs.MacroOffences.{line_number_place}
+use Rattle.template_rules.proofs.list_insides.line_numbers_at.Given as goal
+
+abbrev pub invariant-loop-event : goal.invariant-loop-event
+invariant-loop-event l = FirstThen l.a.value.table (standing cause.LineNumber (flat_map (line_number_place l.list) (take l.event-index l.events))) l.initial.now l.now

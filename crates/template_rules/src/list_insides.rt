@@ -1,0 +1,187 @@
+// What happens inside lists that stands against a new order.
+ghost use Rattle.std.specs.Prelude.{◌≡◌};
+ghost use Rattle.std.specs.List.{flat_map};
+ghost use Rattle.cs_base.specs.declared.causes.Cause.TheVariants as cause;
+ghost use Rattle.rename_rules.specs.First.{standing, FirstThen};
+ghost use Rattle.template_rules.specs.Functions.{AreFunctions, AreFunctionsOf};
+ghost use Rattle.template_rules.specs.Insides.{inside_offences, list_insides, all_insides};
+ghost use Rattle.template_rules.specs.MacroOffences.{is_line_number, line_number_place, line_number_places};
+ghost use Rattle.template_rules.specs.ScopeOffences.{is_tag_or_enumerator, declaration_place, declaration_places};
+
+use crate::functions::{Functions, names_function};
+use crate::macro_names::is_replacing;
+use crate::places::at_token;
+use cs_base::{Cause, Part, Tok};
+use rename_rules::{Offence, first_with};
+use scope_bind::{Bound, EntityKind, List, Name};
+use unit_steps::{Event, UnitText};
+use ws_core::Analysis;
+
+// Whether an event replaces `__LINE__` by the number of its line.
+fn is_line_number(event: &Event) -> bool
+    ensures { result ≡ is_line_number event.now.kind event.now.def event.now.name }
+{
+    if !is_replacing(event.kind) {
+        return false;
+    }
+    if event.def.is_some() {
+        return false;
+    }
+    match &event.name {
+        Some(name) => name.text() == b"__LINE__".as_slice(),
+        None => false,
+    }
+}
+
+// `LineNumber` at an event, if it happens inside a list.
+fn line_number_at(
+    a: &Analysis,
+    list: &List,
+    event: &Event,
+    first: Option<Offence>,
+) -> Option<Offence>
+    ensures { FirstThen a.now.value.table (standing cause.LineNumber (line_number_place list.now event.now)) first result }
+{
+    if is_line_number(event) && list.begin < event.before && event.before <= list.close {
+        first_with(a, first, event.at, Cause::LineNumber)
+    } else {
+        first
+    }
+}
+
+fn line_numbers_at(
+    a: &Analysis,
+    list: &List,
+    events: &[Event],
+    first: Option<Offence>,
+) -> Option<Offence>
+    ensures { FirstThen a.now.value.table (standing cause.LineNumber (line_number_places events.now list.now)) first result }
+{
+    let mut now = first;
+    for event in events {
+        now = line_number_at(a, list, event, now);
+    }
+    now
+}
+
+fn is_tag_or_enumerator(kind: EntityKind) -> bool
+    ensures { result ≡ is_tag_or_enumerator kind }
+{
+    match kind {
+        EntityKind::Tag | EntityKind::Enumerator => true,
+        _ => false,
+    }
+}
+
+// `DeclarationInArgument` at a name, if it declares a tag or an enumerator inside a list.
+fn declaration_at(
+    a: &Analysis,
+    toks: &[Tok],
+    list: &List,
+    name: Name,
+    first: Option<Offence>,
+) -> Option<Offence>
+    ensures { FirstThen a.now.value.table (standing cause.DeclarationInArgument (declaration_place toks.now list.now name)) first result }
+{
+    if name.declares
+        && is_tag_or_enumerator(name.kind)
+        && list.begin < name.index
+        && name.index < list.close
+    {
+        at_token(a, toks, name.index, Cause::DeclarationInArgument, first)
+    } else {
+        first
+    }
+}
+
+fn declarations_at(
+    a: &Analysis,
+    toks: &[Tok],
+    list: &List,
+    names: &[Name],
+    first: Option<Offence>,
+) -> Option<Offence>
+    ensures { FirstThen a.now.value.table (standing cause.DeclarationInArgument (declaration_places toks.now names.now list.now)) first result }
+{
+    let mut now = first;
+    for name in names {
+        now = declaration_at(a, toks, list, *name, now);
+    }
+    now
+}
+
+// Both in a list.
+fn insides_at(
+    a: &Analysis,
+    toks: &[Tok],
+    events: &[Event],
+    names: &[Name],
+    list: &List,
+    first: Option<Offence>,
+) -> Option<Offence>
+    ensures { FirstThen a.now.value.table (inside_offences toks.now events.now names.now list.now) first result }
+{
+    let numbered = line_numbers_at(a, list, events, first);
+    declarations_at(a, toks, list, names, numbered)
+}
+
+// Both in a list, if it is one of a function that the class names.
+fn at_list(
+    a: &Analysis,
+    members: &[Part],
+    text: &UnitText,
+    bound: &Bound,
+    entities: &[u32],
+    list: &List,
+    first: Option<Offence>,
+) -> Option<Offence>
+    requires { AreFunctionsOf members.now text.now.toks bound.now.names entities.now }
+    ensures { FirstThen a.now.value.table (list_insides members.now text.now.toks text.now.events bound.now.names list.now) first result }
+{
+    if names_function(members, text.toks(), bound, entities, list.name) {
+        insides_at(a, text.toks(), text.events(), bound.names(), list, first)
+    } else {
+        first
+    }
+}
+
+fn at_lists(
+    a: &Analysis,
+    members: &[Part],
+    text: &UnitText,
+    bound: &Bound,
+    entities: &[u32],
+    all: &[List],
+    first: Option<Offence>,
+) -> Option<Offence>
+    requires { AreFunctionsOf members.now text.now.toks bound.now.names entities.now }
+    ensures { FirstThen a.now.value.table (flat_map (list_insides members.now text.now.toks text.now.events bound.now.names) all.now) first result }
+{
+    let mut now = first;
+    for list in all {
+        now = at_list(a, members, text, bound, entities, list, now);
+    }
+    now
+}
+
+/// `LineNumber`, at each `__LINE__` that is replaced by a line's number inside a list; `DeclarationInArgument`, at each
+/// tag or enumerator that is declared inside one.
+pub fn at_insides(
+    a: &Analysis,
+    members: &[Part],
+    functions: &Functions,
+    first: Option<Offence>,
+) -> Option<Offence>
+    requires { AreFunctions members.now a.now.value functions.now }
+    ensures answer { FirstThen a.now.value.table (all_insides members.now a.now.value) first result }
+{
+    let mut now = first;
+    for unit in 0..a.units() {
+        let text = a.text(unit + 1);
+        let bound = a.bound(unit + 1);
+        let entities = functions.of(unit);
+        let declared = at_lists(a, members, text, bound, entities, bound.declarators(), now);
+        now = at_lists(a, members, text, bound, entities, bound.calls(), declared);
+    }
+    now
+}
