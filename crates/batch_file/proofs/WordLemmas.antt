@@ -4,22 +4,22 @@ use Rattle.std.specs.Prelude.{IsUtf8, None, codes, nat_lt, slice_index_or, if◌
 use Rattle.std.specs.Borrow.{Bor}
 use Rattle.std.specs.List.{list_all, join_with_byte}
 use Rattle.std.specs.Str.{bytes_eq, is_utf8}
-use Rattle.std.proofs.lemmas.Bool.{cases_Bool, eqb-true, le-ltb, lt-ltb}
+use Rattle.std.proofs.lemmas.Bool.{cases_Bool, eqb-true, le-ltb, lt-ltb, and_from, and_parts}
 use Rattle.std.proofs.lemmas.List.{reverse-append, reverse-reverse, take_at}
 use Rattle.std.proofs.lemmas.List.Splits.{join_with_byte-slice_split}
 use Rattle.std.proofs.lemmas.Str.{IsUtf8-from_is_utf8, is_utf8-from_IsUtf8, IsUtf8-nil}
 use Rattle.cs_base.specs.Paths.{slash, normal_path_of}
 use Rattle.cs_base.specs.Units.{begins_with, ends_with}
-use Rattle.cs_base.proofs.PathLaws.{IsByParts, and-both, and-left, and-right, normal_path_of-keeps}
+use Rattle.cs_base.proofs.PathLaws.{IsByParts, normal_path_of-keeps}
 use Rattle.cs_base.proofs.UnitLemmas.{is_utf8-front, is_utf8-back, is_utf8-around}
 use Rattle.batch_file.specs.Reading.{space, carriage_return, words_of, renaming_of, asked_by, without_return, line_at}
 use Rattle.batch_file.specs.Taking.{texts_of}
 
 parts_utf8 : (parts : List (List ℕ)) → is_utf8 (join_with_byte space parts) ≡ true → list_all is_utf8 parts ≡ true
 parts_utf8 [] h = refl
-parts_utf8 (x ∷ []) h = and-both _ _ h refl
+parts_utf8 (x ∷ []) h = and_from _ _ h refl
 parts_utf8 (x ∷ y ∷ parts) h =
-    and-both _ _ (is_utf8-front x (join_with_byte space (y ∷ parts)) space (lit< tt) h)
+    and_from _ _ (is_utf8-front x (join_with_byte space (y ∷ parts)) space (lit< tt) h)
     (parts_utf8 (y ∷ parts) (is_utf8-back x (join_with_byte space (y ∷ parts)) space (lit< tt) h))
 
 pub words_utf8 : (line : List ℕ) → is_utf8 line ≡ true → list_all is_utf8 (words_of line) ≡ true
@@ -70,7 +70,7 @@ asked_by-other (a ∷ b ∷ c ∷ d ∷ e ∷ f ∷ words) other = refl
 pub second_utf8 : (words : List (Bor (List ℕ))) → length words ≡ 5 → list_all is_utf8 (texts_of words) ≡ true → IsUtf8 (word_at words 1)
 second_utf8 [] five h = absurd (omega arith)
 second_utf8 (a ∷ []) five h = absurd (omega arith)
-second_utf8 (a ∷ b ∷ words) five h = IsUtf8-from_is_utf8 b.now (and-left _ _ (and-right _ _ h))
+second_utf8 (a ∷ b ∷ words) five h = IsUtf8-from_is_utf8 b.now ((and_parts _ _ ((and_parts _ _ h).1)).0)
 
 -- ---- a line without its carriage return
 

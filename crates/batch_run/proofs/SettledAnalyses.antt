@@ -2,7 +2,7 @@
 use Rattle.std.proofs.Common.{◌≡◌, ℕ, ◌+◌, Bool, true, false, ◌&&◌, ◌||◌, not, List, [], ◌∷◌, ◌++◌, Option, None, Some, Ok, Err, refl, sym, subst, ◌∙◌, inl, inr, arith}
 use Rattle.std.specs.List.{list_any}
 use Rattle.std.specs.Str.{bytes_eq}
-use Rattle.std.proofs.lemmas.Bool.{cases_Bool}
+use Rattle.std.proofs.lemmas.Bool.{cases_Bool, or_parts, and_parts, not-true}
 use Rattle.cs_base.specs.Outside.{FileMap, bytes_at}
 use Rattle.cs_base.specs.Token.{Token}
 use Rattle.cs_base.specs.Units.{UnitValue}
@@ -68,24 +68,8 @@ turned p q apart = elim (cases_Bool (bytes_eq q p)) [
   | inr other ↦ other
 ]
 
-or-left : (a b : Bool) → (a || b) ≡ false → a ≡ false
-or-left a b h = grind (arith, h)
-
-or-rest : (a b : Bool) → (a || b) ≡ false → b ≡ false
-or-rest a b h = grind (arith, h)
-
 or-true : (a b : Bool) → b ≡ true → (a || b) ≡ true
 or-true a b h = grind (arith, h)
-
-and-first : (a b : Bool) → (a && b) ≡ true → a ≡ true
-and-first a b h = grind (arith, h)
-
-and-rest : (a b : Bool) → (a && b) ≡ true → b ≡ true
-and-rest a b h = grind (arith, h)
-
-not-true : (a : Bool) → not a ≡ true → a ≡ false
-not-true true h = sym h
-not-true false h = refl
 
 -- a path that is not that of the first file
 other_front : (own path : List ℕ) (o : Option (List ℕ)) (rest : FileMap) → bytes_eq own path ≡ false
@@ -97,8 +81,8 @@ other_front own path (Some bytes) rest apart = rw apart refl
 not_kept : (path : List ℕ) (t : Table) → list_any (bytes_eq path) (paths_in t) ≡ false → bytes_at path (kept_files t) ≡ None
 not_kept path [] h = refl
 not_kept path (e ∷ t) h =
-    other_front e.path path (kept_bytes e.found) (kept_files t) (turned path e.path (or-left (bytes_eq path e.path) (list_any (bytes_eq path) (paths_in t)) h))
-    ∙ not_kept path t (or-rest (bytes_eq path e.path) (list_any (bytes_eq path) (paths_in t)) h)
+    other_front e.path path (kept_bytes e.found) (kept_files t) (turned path e.path ((or_parts (bytes_eq path e.path) (list_any (bytes_eq path) (paths_in t)) h).0))
+    ∙ not_kept path t ((or_parts (bytes_eq path e.path) (list_any (bytes_eq path) (paths_in t)) h).1)
 
 is_found_along : (source other : Source) (path : List ℕ) (found : Found) → other path ≡ source path → IsFound source path found → IsFound other path found
 is_found_along source other path Lines same h = tt
@@ -138,8 +122,8 @@ later_apart own path t apart among = elim (cases_Bool (bytes_eq own path)) [
 pub kept_agree : (t : Table) → HasEachOnce t → AreSettled t → AreFound (source_of (kept_files t)) t
 kept_agree [] once settled = tt
 kept_agree (e ∷ t) once settled =
-    let apart : list_any (bytes_eq e.path) (paths_in t) ≡ false = not-true _ (and-first _ _ once) in (
+    let apart : list_any (bytes_eq e.path) (paths_in t) ≡ false = not-true _ ((and_parts _ _ once).0) in (
       here_kept e.path e.found t settled.0 apart,
       found_along (source_of (kept_files t)) (source_of (kept_files (e ∷ t))) t
-          (λ path h. other_front e.path path (kept_bytes e.found) (kept_files t) (later_apart e.path path t apart h)) (kept_agree t (and-rest _ _ once) settled.1),
+          (λ path h. other_front e.path path (kept_bytes e.found) (kept_files t) (later_apart e.path path t apart h)) (kept_agree t ((and_parts _ _ once).1) settled.1),
     )

@@ -5,15 +5,13 @@ use Rattle.std.specs.Char.{is_ascii_digit}
 use Rattle.std.specs.Str.{byte}
 use Rattle.command_words.specs.Request.{are_digits}
 use Rattle.std.proofs.Math.Nat.{pow-succ', pow-le-pow_right}
+use Rattle.std.proofs.lemmas.Bool.{and_parts}
 
 pub below_pow : (n d i : ℕ) → n < 10 ^ i → d ≤ 9 → 10 * n + d < 10 ^ (i + 1)
 below_pow n d i below digit = rw (add-one i, pow-succ' 10 i) (omega arith)
 
 pub pow_small : (i : ℕ) → i < 9 → 10 ^ i ≤ 100000000
 pow_small i small = let eight : i ≤ 8 = omega arith in pow-le-pow_right {n = 10} (lit< tt) eight
-
-and-right : (a b : Bool) → (a && b) ≡ true → b ≡ true
-and-right a b h = grind (arith, h)
 
 -- a byte of decimal digits spells at most nine
 pub digit_small : (digits : List ℕ) (i d : ℕ) → i < length digits → IsTrue (are_digits digits)
@@ -22,4 +20,4 @@ digit_small [] i d within digits = absurd (omega arith)
 digit_small (b ∷ bs) zero d within digits = grind (arith, nat_tests)
 digit_small (b ∷ bs) (suc i) d within digits =
     let within' : i < length bs = omega arith in
-    digit_small bs i d within' (and-right (is_ascii_digit b) (are_digits bs) digits)
+    digit_small bs i d within' ((and_parts (is_ascii_digit b) (are_digits bs) digits).1)

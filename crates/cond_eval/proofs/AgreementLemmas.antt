@@ -1,6 +1,6 @@
 -- A walk finds what the tree's reading and evaluation give.
 use Rattle.std.proofs.Common.{◌≡◌, ℕ, zero, suc, ◌+◌, Bool, true, false, not, ◌&&◌, ◌||◌, cond, pos, Option, Some, None, Result, Ok, Err, List, length, codes, inl, inr, refl, ap}
-use Rattle.std.proofs.lemmas.Bool.{cases_Bool}
+use Rattle.std.proofs.lemmas.Bool.{cases_Bool, and_parts}
 use Rattle.cs_base.specs.Token.{Token}
 use Rattle.cond_eval.specs.declared.faults.CondFault.{CondFault}
 use Rattle.cond_eval.specs.declared.integers.Integer.{Integer}
@@ -147,10 +147,6 @@ dead_and : (b live : Bool) → live ≡ false → (live && b) ≡ false
 dead_and b true dead = absurd (cc)
 dead_and b false dead = refl
 
-live_and : (live b : Bool) → (live && b) ≡ true → (live ≡ true) × (b ≡ true)
-live_and true b e = (refl, e)
-live_and false b e = absurd (cc)
-
 -- what is found with a tree's number is what the tree gives
 numbered-same : (r : Result Integer CondFault) (n : Integer) (next : ℕ) → r ≡ Ok n → Ok (walked n next) ≡ numbered r next
 numbered-same r n next e = rw e refl
@@ -203,7 +199,7 @@ Agrees-joined part walk live left n operator h e =
     Agrees-and_then right_live live (part (left.next + 1)) _ _ _ (dead_and _ live) (h.agrees right_live (left.next + 1))
     (λ x m f. ap (λ r. numbered r x.next) (evaluation-infix live operator left.next left.tree x.tree n m e f))
     (λ x fault alive f.
-    let both = live_and live _ alive in
+    let both = and_parts live _ alive in
     infix-fault operator left.next left.tree x.tree n fault (rw both.0 at e) both.1 f)
 
 FailsWith-joined : (fault : CondFault) (part : ℕ → Result Read CondFault) (left : Read) (operator : Operator)
@@ -285,11 +281,11 @@ Agrees-branches inner within toks live x n h e =
     (Agrees-and_then (live && not (is_nonzero n)) live (inner Expression y.next) _ _ _ (dead_and _ live) (h.agrees _ Expression y.next)
     (λ z p g. numbered-same (evaluation live (Choice x.tree y.tree z.tree)) _ z.next (evaluation-choice live x.tree y.tree z.tree n m p e f g))
     (λ z fault alive g.
-    let both = live_and live _ alive in
+    let both = and_parts live _ alive in
     third-fault x.tree y.tree z.tree n fault (rw both.0 at e) both.1 g))
     (λ dead. refl))
     (λ y fault alive f.
-    let both = live_and live _ alive in
+    let both = and_parts live _ alive in
     FailsWith-cond fault (is_punct toks y.next (codes ":")) _ _
     (FailsWith-any fault (inner Expression y.next) _ (λ z. second-fault x.tree y.tree z.tree n fault (rw both.0 at e) both.1 f)) tt)
 

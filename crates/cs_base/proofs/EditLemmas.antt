@@ -2,24 +2,15 @@
 use Rattle.std.proofs.Common.{◌≡◌, Bool, true, ◌&&◌, List, [], ◌∷◌, ◌++◌, IsTrue, refl, arith, length, length-append, ◌+◌, ◌^◌, ◌<◌}
 use Rattle.std.proofs.lemmas.List.Elements.{All-append}
 use Rattle.std.specs.Prelude.{IsUtf8}
+use Rattle.std.proofs.lemmas.Bool.{and_from, and_parts}
 use Rattle.cs_base.specs.Edit.{Edit, comes_last, are_in_order, HaveTextPaths, IsKept}
-
-and-true : (a b : Bool) → a ≡ true → b ≡ true → (a && b) ≡ true
-and-true a b p q = grind (arith, p, q)
-
--- both parts of a conjunction
-pub and-left : (a b : Bool) → (a && b) ≡ true → a ≡ true
-and-left a b h = grind (arith, h)
-
-pub and-right : (a b : Bool) → (a && b) ≡ true → b ≡ true
-and-right a b h = grind (arith, h)
 
 pub are_in_order-push : (es : List Edit) (x : Edit) → IsTrue (are_in_order es) → IsTrue (comes_last x.path es)
     → IsTrue (are_in_order (es ++ x ∷ []))
 are_in_order-push [] x sorted last = refl
-are_in_order-push (e ∷ []) x sorted last = and-true _ true last refl
+are_in_order-push (e ∷ []) x sorted last = and_from _ true last refl
 are_in_order-push (e ∷ f ∷ es) x sorted last =
-    and-true _ _ (and-left _ _ sorted) (are_in_order-push (f ∷ es) x (and-right _ _ sorted) last)
+    and_from _ _ ((and_parts _ _ sorted).0) (are_in_order-push (f ∷ es) x ((and_parts _ _ sorted).1) last)
 
 pub HaveTextPaths-push : (es : List Edit) (x : Edit) → HaveTextPaths es → IsUtf8 x.path → HaveTextPaths (es ++ x ∷ [])
 HaveTextPaths-push es x texts text =

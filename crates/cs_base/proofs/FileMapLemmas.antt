@@ -5,13 +5,12 @@ use Rattle.std.specs.Ordering.{nat_cmp, is_lt}
 use Rattle.std.specs.declared.cmp.Ordering.TheVariants.{Less, Equal, Greater}
 use Rattle.std.specs.Cmp.Lexicographic.{slice_cmp}
 use Rattle.std.specs.Str.{bytes_eq}
-use Rattle.std.proofs.lemmas.Bool.{cases_Bool}
+use Rattle.std.proofs.lemmas.Bool.{cases_Bool, and_parts}
 use Rattle.std.proofs.lemmas.Cmp.{nat_list_cmp_total}
 use Rattle.std.proofs.lemmas.List.Elements.{All-cons, All-nil}
 use Rattle.std.proofs.lemmas.Map.Text.{is_eq-slice_cmp}
 use Rattle.std.proofs.lemmas.Slice.Eq.{bytes_eq-Decides}
 use Rattle.cs_base.specs.Outside.{FileMap, bytes_at, with_file}
-use Rattle.cs_base.proofs.EditLemmas.{and-left, and-right}
 use Rattle.cs_base.specs.Edit.{Edit, with_edits, comes_before, are_in_order}
 
 -- equal bytes are found equal
@@ -88,14 +87,14 @@ pub comes_before-are_in_order : (e : Edit) (es : List Edit) → IsTrue (are_in_o
     → All (λ f. comes_before e.path f.path ≡ true) es
 comes_before-are_in_order e [] sorted = All-nil (λ (f : Edit). comes_before e.path f.path ≡ true)
 comes_before-are_in_order e (f ∷ es) sorted =
-    let next = and-left _ _ sorted in
-    let rest = comes_before-are_in_order f es (and-right _ _ sorted) in
+    let next = (and_parts _ _ sorted).0 in
+    let rest = comes_before-are_in_order f es ((and_parts _ _ sorted).1) in
     All-cons (λ (g : Edit). comes_before e.path g.path ≡ true) f es next
     (λ k d below. comes_before-trans e.path f.path (get_or es k d).path next (rest k d below))
 
 are_in_order-tail : (e : Edit) (es : List Edit) → IsTrue (are_in_order (e ∷ es)) → IsTrue (are_in_order es)
 are_in_order-tail e [] sorted = refl
-are_in_order-tail e (f ∷ es) sorted = and-right _ _ sorted
+are_in_order-tail e (f ∷ es) sorted = (and_parts _ _ sorted).1
 
 -- the path of edit k holds its bytes
 pub bytes_at-with_edits : (es : List Edit) (files : FileMap) (k : ℕ) (d : Edit) → IsTrue (are_in_order es)

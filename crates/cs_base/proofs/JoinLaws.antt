@@ -3,7 +3,7 @@ use Rattle.std.proofs.Common.{◌≡◌, ℕ, Bool, true, false, ◌==◌, ◌<�
 use Rattle.std.specs.Prelude.{fold, codes}
 use Rattle.std.specs.List.{list_all, onto_first, join_with_byte}
 use Rattle.std.specs.Str.{bytes_eq}
-use Rattle.std.proofs.lemmas.Bool.{cases_Bool}
+use Rattle.std.proofs.lemmas.Bool.{cases_Bool, and_from, and_parts}
 use Rattle.std.proofs.lemmas.List.{reverse-append, reverse-reverse}
 use Rattle.std.proofs.lemmas.List.Folds.{list_all-append}
 use Rattle.std.proofs.lemmas.List.Splits.{length-slice_split}
@@ -12,7 +12,7 @@ use Rattle.std.proofs.lemmas.Slice.Eq.{bytes_eq-Decides}
 use Rattle.cs_base.specs.Paths.{slash, is_absolute, components_of, is_up, after_component, kept_of, path_of, normal_path_of, joined_path_of}
 use Rattle.cs_base.specs.Parts.{slashed}
 use Rattle.cs_base.proofs.PathLemmas.{join_with_byte-slashed}
-use Rattle.cs_base.proofs.PathLaws.{and-both, and-left, and-right, list_all-reverse}
+use Rattle.cs_base.proofs.PathLaws.{list_all-reverse}
 use Rattle.cs_base.proofs.NormalPaths.{is_plain, are_kept, are_plain, normal_path_of-is, normal_path_of-path_of, are_kept-components, is_absolute-normal_path_of, kept_of-normal_path_of}
 
 onto_first-append : (b : ℕ) (cs ds : List (List ℕ)) → 0 < length cs → onto_first b (cs ++ ds) ≡ onto_first b cs ++ ds
@@ -104,14 +104,14 @@ normal_path_of-up_absolute path =
 are_kept-up : (kept : List (List ℕ)) → are_kept false kept ≡ true → are_kept false (kept ++ codes ".." ∷ []) ≡ true
 are_kept-up [] h = refl
 are_kept-up (part ∷ kept) h =
-    let rest = are_kept-up kept (and-right _ _ h) in
-    let plain = and-left (is_plain part) _ (and-left _ _ h) in
+    let rest = are_kept-up kept ((and_parts _ _ h).1) in
+    let plain = (and_parts (is_plain part) _ ((and_parts _ _ h).0)).0 in
     elim (cases_Bool (is_up part)) [
       | inl up ↦
-          let ups : list_all is_up kept ≡ true = rw up at (and-right (is_plain part) _ (and-left _ _ h)) in
-          let all_up : list_all is_up (kept ++ codes ".." ∷ []) ≡ true = list_all-append is_up kept (codes ".." ∷ []) ∙ and-both _ _ ups refl in
-          rw up (and-both _ _ (and-both _ _ plain all_up) rest)
-      | inr named ↦ rw named (and-both _ _ (and-both _ _ plain refl) rest)
+          let ups : list_all is_up kept ≡ true = rw up at ((and_parts (is_plain part) _ ((and_parts _ _ h).0)).1) in
+          let all_up : list_all is_up (kept ++ codes ".." ∷ []) ≡ true = list_all-append is_up kept (codes ".." ∷ []) ∙ and_from _ _ ups refl in
+          rw up (and_from _ _ (and_from _ _ plain all_up) rest)
+      | inr named ↦ rw named (and_from _ _ (and_from _ _ plain refl) rest)
     ]
 
 join-up : (parts : List (List ℕ)) → 0 < length parts → join_with_byte slash (codes ".." ∷ parts) ≡ codes "../" ++ join_with_byte slash parts

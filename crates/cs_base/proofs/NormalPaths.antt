@@ -2,13 +2,13 @@
 use Rattle.std.proofs.Common.{◌≡◌, ℕ, Bool, true, false, not, ◌&&◌, ◌==◌, List, [], ◌∷◌, ◌++◌, cond, reverse, inl, inr, refl, ap, sym, ◌∙◌, arith}
 use Rattle.std.specs.Prelude.{fold}
 use Rattle.std.specs.List.{list_all, onto_first, join_with_byte}
-use Rattle.std.proofs.lemmas.Bool.{cases_Bool}
+use Rattle.std.proofs.lemmas.Bool.{cases_Bool, and_from, and_parts, not-true}
 use Rattle.std.proofs.lemmas.List.{reverse-append}
 use Rattle.std.proofs.lemmas.Slice.Eq.{bytes_eq-Decides}
 use Rattle.cs_base.specs.Paths.{slash, is_absolute, components_of, is_here, is_up, after_up, after_component, kept_of, path_of, normal_path_of, is_normal}
 use Rattle.cs_base.specs.Parts.{slashed}
 use Rattle.cs_base.proofs.PathLemmas.{kept_of-nil, kept_of-push, join_with_byte-slashed}
-use Rattle.cs_base.proofs.PathLaws.{and-both, and-left, and-right, not-true, list_all-reverse}
+use Rattle.cs_base.proofs.PathLaws.{list_all-reverse}
 
 abbrev pub has_no_slash : List ℕ → Bool
 has_no_slash part = list_all (λ b. not (b == slash)) part
@@ -29,16 +29,16 @@ are_kept absolute (part ∷ kept) = is_plain part && follows absolute part kept 
 are_kept-after_up : (absolute : Bool) (kept : List (List ℕ)) (part : List ℕ)
     → are_kept absolute kept ≡ true → is_plain part ≡ true → is_up part ≡ true → are_kept absolute (after_up absolute kept part) ≡ true
 are_kept-after_up true [] part h plain up = refl
-are_kept-after_up false [] part h plain up = rw up (and-both _ _ (and-both _ _ plain refl) refl)
+are_kept-after_up false [] part h plain up = rw up (and_from _ _ (and_from _ _ plain refl) refl)
 are_kept-after_up absolute (last ∷ kept) part h plain up =
     elim (cases_Bool (is_up last)) [
       | inl last_up ↦
-          let last_follows : (not absolute && list_all is_up kept) ≡ true = rw last_up at (and-right (is_plain last) (follows absolute last kept) (and-left _ (are_kept absolute kept) h)) in
-          let all_up : list_all is_up (last ∷ kept) ≡ true = and-both _ _ last_up (and-right (not absolute) _ last_follows) in
-          let relative : not absolute ≡ true = and-left (not absolute) (list_all is_up kept) last_follows in
-          let part_follows : follows absolute part (last ∷ kept) ≡ true = rw up (and-both _ _ relative all_up) in
-          rw last_up (and-both _ _ (and-both _ _ plain part_follows) h)
-      | inr named ↦ rw named (and-right _ _ h)
+          let last_follows : (not absolute && list_all is_up kept) ≡ true = rw last_up at ((and_parts (is_plain last) (follows absolute last kept) ((and_parts _ (are_kept absolute kept) h).0)).1) in
+          let all_up : list_all is_up (last ∷ kept) ≡ true = and_from _ _ last_up ((and_parts (not absolute) _ last_follows).1) in
+          let relative : not absolute ≡ true = (and_parts (not absolute) (list_all is_up kept) last_follows).0 in
+          let part_follows : follows absolute part (last ∷ kept) ≡ true = rw up (and_from _ _ relative all_up) in
+          rw last_up (and_from _ _ (and_from _ _ plain part_follows) h)
+      | inr named ↦ rw named ((and_parts _ _ h).1)
     ]
 
 are_kept-after : (absolute : Bool) (kept : List (List ℕ)) (part : List ℕ)
@@ -47,12 +47,12 @@ are_kept-after absolute kept part h one =
     elim (cases_Bool (is_here part)) [
       | inl here ↦ rw here h
       | inr away ↦
-          let plain : is_plain part ≡ true = and-both _ _ one (rw away refl) in
+          let plain : is_plain part ≡ true = and_from _ _ one (rw away refl) in
           elim (cases_Bool (is_up part)) [
             | inl up ↦ rw (away, up) (are_kept-after_up absolute kept part h plain up)
             | inr named ↦
                 let part_follows : follows absolute part kept ≡ true = rw named refl in
-                rw (away, named) (and-both _ _ (and-both _ _ plain part_follows) h)
+                rw (away, named) (and_from _ _ (and_from _ _ plain part_follows) h)
           ]
     ]
 
@@ -61,7 +61,7 @@ are_kept-fold : (absolute : Bool) (kept parts : List (List ℕ)) → are_kept ab
 are_kept-fold absolute kept [] h q = h
 are_kept-fold absolute kept (part ∷ parts) h q =
     are_kept-fold absolute (after_component absolute kept part) parts
-    (are_kept-after absolute kept part h (and-left _ _ q)) (and-right _ _ q)
+    (are_kept-after absolute kept part h ((and_parts _ _ q).0)) ((and_parts _ _ q).1)
 
 pub are_kept-kept_of : (absolute : Bool) (parts : List (List ℕ)) → list_all has_no_slash parts ≡ true → are_kept absolute (kept_of absolute parts) ≡ true
 unfolding kept_of
@@ -71,13 +71,13 @@ after_up-stays : (absolute : Bool) (kept : List (List ℕ)) (part : List ℕ) �
     → after_up absolute kept part ≡ part ∷ kept
 after_up-stays true kept part h = absurd (grind (arith, h))
 after_up-stays false [] part h = refl
-after_up-stays false (last ∷ kept) part h = rw (and-left (is_up last) _ (and-right true _ h)) refl
+after_up-stays false (last ∷ kept) part h = rw ((and_parts (is_up last) _ ((and_parts true _ h).1)).0) refl
 
 after_component-stays : (absolute : Bool) (kept : List (List ℕ)) (part : List ℕ) → are_kept absolute (part ∷ kept) ≡ true
     → after_component absolute kept part ≡ part ∷ kept
 after_component-stays absolute kept part h =
-    let away = not-true (is_here part) (and-right (has_no_slash part) _ (and-left _ _ (and-left _ _ h))) in
-    let part_follows : follows absolute part kept ≡ true = and-right _ _ (and-left _ _ h) in
+    let away = not-true (is_here part) ((and_parts (has_no_slash part) _ ((and_parts _ _ ((and_parts _ _ h).0)).0)).1) in
+    let part_follows : follows absolute part kept ≡ true = (and_parts _ _ ((and_parts _ _ h).0)).1 in
     elim (cases_Bool (is_up part)) [
       | inl up ↦ rw (away, up) (after_up-stays absolute kept part (rw up at part_follows))
       | inr named ↦ rw (away, named) refl
@@ -88,7 +88,7 @@ pub kept_of-reverse : (absolute : Bool) (kept : List (List ℕ)) → are_kept ab
 kept_of-reverse absolute [] h = kept_of-nil absolute
 kept_of-reverse absolute (part ∷ kept) h =
     let turned = reverse-append (part ∷ []) kept in
-    let rest = kept_of-reverse absolute kept (and-right (is_plain part && follows absolute part kept) (are_kept absolute kept) h) in
+    let rest = kept_of-reverse absolute kept ((and_parts (is_plain part && follows absolute part kept) (are_kept absolute kept) h).1) in
     rw (turned, kept_of-push absolute (reverse kept) part, rest) (after_component-stays absolute kept part h)
 
 -- `a == slash`, which cuts a path
@@ -111,22 +111,22 @@ has_no_slash-components (b ∷ path) =
 components_of-one : (part : List ℕ) → has_no_slash part ≡ true → components_of part ≡ part ∷ []
 components_of-one [] h = refl
 components_of-one (b ∷ part) h =
-    let other = not-true (cuts b) (and-left _ _ h) in
-    rw other (ap (λ (parts : List (List ℕ)). onto_first b parts) (components_of-one part (and-right _ _ h)))
+    let other = not-true (cuts b) ((and_parts _ _ h).0) in
+    rw other (ap (λ (parts : List (List ℕ)). onto_first b parts) (components_of-one part ((and_parts _ _ h).1)))
 
 -- a path is cut at its first slash
 pub components_of-slash : (part path : List ℕ) → has_no_slash part ≡ true → components_of (part ++ slash ∷ path) ≡ part ∷ components_of path
 components_of-slash [] path h = refl
 components_of-slash (b ∷ part) path h =
-    let other = not-true (cuts b) (and-left _ _ h) in
-    rw other (ap (λ (parts : List (List ℕ)). onto_first b parts) (components_of-slash part path (and-right _ _ h)))
+    let other = not-true (cuts b) ((and_parts _ _ h).0) in
+    rw other (ap (λ (parts : List (List ℕ)). onto_first b parts) (components_of-slash part path ((and_parts _ _ h).1)))
 
 components_of-join : (part : List ℕ) (parts : List (List ℕ)) → list_all has_no_slash (part ∷ parts) ≡ true
     → components_of (join_with_byte slash (part ∷ parts)) ≡ part ∷ parts
-components_of-join part [] h = components_of-one part (and-left _ _ h)
+components_of-join part [] h = components_of-one part ((and_parts _ _ h).0)
 components_of-join part (next ∷ parts) h =
-    components_of-slash part (join_with_byte slash (next ∷ parts)) (and-left _ _ h)
-    ∙ ap (λ (rest : List (List ℕ)). part ∷ rest) (components_of-join next parts (and-right _ _ h))
+    components_of-slash part (join_with_byte slash (next ∷ parts)) ((and_parts _ _ h).0)
+    ∙ ap (λ (rest : List (List ℕ)). part ∷ rest) (components_of-join next parts ((and_parts _ _ h).1))
 
 kept_of-empty : (absolute : Bool) (parts : List (List ℕ)) → kept_of absolute ([] ∷ parts) ≡ kept_of absolute parts
 unfolding kept_of
@@ -144,23 +144,23 @@ kept_of-path_of false parts h = kept_of-join false parts h
 
 is_absolute-first : (part rest : List ℕ) → is_plain part ≡ true → is_absolute (part ++ rest) ≡ false
 is_absolute-first [] rest h = absurd (grind (arith, h))
-is_absolute-first (b ∷ part) rest h = not-true (cuts b) (and-left _ _ (and-left _ _ h))
+is_absolute-first (b ∷ part) rest h = not-true (cuts b) ((and_parts _ _ ((and_parts _ _ h).0)).0)
 
 is_absolute-path_of : (absolute : Bool) (parts : List (List ℕ)) → list_all is_plain parts ≡ true
     → is_absolute (path_of absolute parts) ≡ absolute
 is_absolute-path_of true parts h = refl
 is_absolute-path_of false [] h = refl
 is_absolute-path_of false (part ∷ parts) h =
-    rw (join_with_byte-slashed part parts) (is_absolute-first part (slashed parts) (and-left _ _ h))
+    rw (join_with_byte-slashed part parts) (is_absolute-first part (slashed parts) ((and_parts _ _ h).0))
 
 pub are_plain : (absolute : Bool) (kept : List (List ℕ)) → are_kept absolute kept ≡ true → list_all is_plain kept ≡ true
 are_plain absolute [] h = refl
 are_plain absolute (part ∷ kept) h =
-    and-both _ _ (and-left _ _ (and-left _ _ h)) (are_plain absolute kept (and-right _ _ h))
+    and_from _ _ ((and_parts _ _ ((and_parts _ _ h).0)).0) (are_plain absolute kept ((and_parts _ _ h).1))
 
 have_no_slash : (parts : List (List ℕ)) → list_all is_plain parts ≡ true → list_all has_no_slash parts ≡ true
 have_no_slash [] h = refl
-have_no_slash (part ∷ parts) h = and-both _ _ (and-left _ _ (and-left _ _ h)) (have_no_slash parts (and-right _ _ h))
+have_no_slash (part ∷ parts) h = and_from _ _ ((and_parts _ _ ((and_parts _ _ h).0)).0) (have_no_slash parts ((and_parts _ _ h).1))
 
 pub normal_path_of-path_of : (absolute : Bool) (kept : List (List ℕ)) → are_kept absolute kept ≡ true
     → normal_path_of (path_of absolute (reverse kept)) ≡ path_of absolute (reverse kept)

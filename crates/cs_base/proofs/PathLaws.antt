@@ -2,31 +2,18 @@
 use Rattle.std.proofs.Common.{◌≡◌, ℕ, Bool, true, false, not, ◌&&◌, List, [], ◌∷◌, ◌++◌, reverse, inl, inr, refl, sym, arith}
 use Rattle.std.specs.Prelude.{fold}
 use Rattle.std.specs.List.{list_all, join_with_byte}
-use Rattle.std.proofs.lemmas.Bool.{cases_Bool}
+use Rattle.std.proofs.lemmas.Bool.{cases_Bool, and_from, and_parts}
 use Rattle.std.proofs.lemmas.List.{reverse-append}
 use Rattle.std.proofs.lemmas.List.Folds.{list_all-append}
 use Rattle.std.proofs.lemmas.List.Splits.{join_with_byte-slice_split}
 use Rattle.cs_base.specs.Paths.{slash, is_absolute, components_of, is_here, is_up, after_up, after_component, kept_of, path_of, normal_path_of}
 
-pub and-both : (a b : Bool) → a ≡ true → b ≡ true → (a && b) ≡ true
-and-both a b p q = grind (arith, p, q)
-
-pub and-left : (a b : Bool) → (a && b) ≡ true → a ≡ true
-and-left a b h = grind (arith, h)
-
-pub and-right : (a b : Bool) → (a && b) ≡ true → b ≡ true
-and-right a b h = grind (arith, h)
-
-pub not-true : (a : Bool) → not a ≡ true → a ≡ false
-not-true true h = sym h
-not-true false h = refl
-
 pub list_all-reverse : {X : Type 0} (p : X → Bool) (xs : List X) → list_all p xs ≡ true → list_all p (reverse xs) ≡ true
 list_all-reverse p [] h = refl
 list_all-reverse p (x ∷ xs) h =
     let turned = reverse-append (x ∷ []) xs in
-    let rest = list_all-reverse p xs (and-right _ _ h) in
-    rw (turned, list_all-append) (and-both _ _ rest (and-both _ _ (and-left _ _ h) refl))
+    let rest = list_all-reverse p xs ((and_parts _ _ h).1) in
+    rw (turned, list_all-append) (and_from _ _ rest (and_from _ _ ((and_parts _ _ h).0) refl))
 
 -- A test that a path passes exactly where what stands before and after a slash of it does.
 pub record IsByParts (p : List ℕ → Bool) : Type 0 where
@@ -38,26 +25,26 @@ pub record IsByParts (p : List ℕ → Bool) : Type 0 where
 parts_from_path : (p : List ℕ → Bool) → IsByParts p → (parts : List (List ℕ)) → p (join_with_byte slash parts) ≡ true
     → list_all p parts ≡ true
 parts_from_path p f [] h = refl
-parts_from_path p f (x ∷ []) h = and-both _ _ h refl
+parts_from_path p f (x ∷ []) h = and_from _ _ h refl
 parts_from_path p f (x ∷ y ∷ parts) h =
-    and-both _ _ (f.front x (join_with_byte slash (y ∷ parts)) h)
+    and_from _ _ (f.front x (join_with_byte slash (y ∷ parts)) h)
     (parts_from_path p f (y ∷ parts) (f.back x (join_with_byte slash (y ∷ parts)) h))
 
 path_from_parts : (p : List ℕ → Bool) → IsByParts p → (parts : List (List ℕ)) → list_all p parts ≡ true
     → p (join_with_byte slash parts) ≡ true
 path_from_parts p f [] h = f.nil
-path_from_parts p f (x ∷ []) h = and-left _ _ h
+path_from_parts p f (x ∷ []) h = (and_parts _ _ h).0
 path_from_parts p f (x ∷ y ∷ parts) h =
-    f.whole x (join_with_byte slash (y ∷ parts)) (and-left _ _ h) (path_from_parts p f (y ∷ parts) (and-right _ _ h))
+    f.whole x (join_with_byte slash (y ∷ parts)) ((and_parts _ _ h).0) (path_from_parts p f (y ∷ parts) ((and_parts _ _ h).1))
 
 after_up-keeps : (p : List ℕ → Bool) (absolute : Bool) (kept : List (List ℕ)) (part : List ℕ)
     → list_all p kept ≡ true → p part ≡ true → list_all p (after_up absolute kept part) ≡ true
 after_up-keeps p true [] part h q = refl
-after_up-keeps p false [] part h q = and-both _ _ q refl
+after_up-keeps p false [] part h q = and_from _ _ q refl
 after_up-keeps p absolute (last ∷ kept) part h q =
     elim (cases_Bool (is_up last)) [
-      | inl up ↦ rw up (and-both _ _ q h)
-      | inr named ↦ rw named (and-right _ _ h)
+      | inl up ↦ rw up (and_from _ _ q h)
+      | inr named ↦ rw named ((and_parts _ _ h).1)
     ]
 
 after_component-keeps : (p : List ℕ → Bool) (absolute : Bool) (kept : List (List ℕ)) (part : List ℕ)
@@ -68,7 +55,7 @@ after_component-keeps p absolute kept part h q =
       | inr away ↦
           elim (cases_Bool (is_up part)) [
             | inl up ↦ rw (away, up) (after_up-keeps p absolute kept part h q)
-            | inr named ↦ rw (away, named) (and-both _ _ q h)
+            | inr named ↦ rw (away, named) (and_from _ _ q h)
           ]
     ]
 
@@ -77,7 +64,7 @@ fold-keeps : (p : List ℕ → Bool) (absolute : Bool) (kept parts : List (List 
 fold-keeps p absolute kept [] h q = h
 fold-keeps p absolute kept (part ∷ parts) h q =
     fold-keeps p absolute (after_component absolute kept part) parts
-    (after_component-keeps p absolute kept part h (and-left _ _ q)) (and-right _ _ q)
+    (after_component-keeps p absolute kept part h ((and_parts _ _ q).0)) ((and_parts _ _ q).1)
 
 kept_of-keeps : (p : List ℕ → Bool) (absolute : Bool) (parts : List (List ℕ)) → list_all p parts ≡ true → list_all p (kept_of absolute parts) ≡ true
 unfolding kept_of

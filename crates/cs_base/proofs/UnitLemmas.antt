@@ -4,19 +4,19 @@ use Rattle.std.specs.Prelude.{IsUtf8, nat_lt}
 use Rattle.std.specs.List.{list_all}
 use Rattle.std.specs.Str.{is_utf8, IsAscii}
 use Rattle.std.proofs.lemmas.Str.{IsUtf8-from_is_utf8, is_utf8-from_IsUtf8, IsUtf8-append, IsUtf8-nil, IsUtf8-take, IsUtf8-drop, IsUtf8-from_ascii, IsCharBoundary-before_ascii, IsCharBoundary-after_ascii}
-use Rattle.std.proofs.lemmas.Bool.{ltb-true}
+use Rattle.std.proofs.lemmas.Bool.{ltb-true, and_parts, and_from}
 use Rattle.std.proofs.lemmas.List.{get_or_at, take_at, drop_at}
 use Rattle.std.proofs.lemmas.List.Folds.{list_all-append}
 use Rattle.cs_base.specs.Paths.{slash, normal_path_of}
 use Rattle.cs_base.specs.Units.{line_feed, has_bad_ends, is_writable, is_unit_path}
-use Rattle.cs_base.proofs.PathLaws.{IsByParts, and-left, and-right, and-both, normal_path_of-keeps}
+use Rattle.cs_base.proofs.PathLaws.{IsByParts, normal_path_of-keeps}
 
 pub IsUtf8-writable : (text : List ℕ) → IsTrue (is_writable text) → IsUtf8 text
 unfolding is_writable
-IsUtf8-writable text h = IsUtf8-from_is_utf8 text (and-left _ _ (and-left _ _ h))
+IsUtf8-writable text h = IsUtf8-from_is_utf8 text ((and_parts _ _ ((and_parts _ _ h).0)).0)
 
 pub IsUtf8-unit_path : (path : List ℕ) → IsTrue (is_unit_path path) → IsUtf8 path
-IsUtf8-unit_path path h = IsUtf8-writable path (and-left _ _ (and-left _ _ (and-left _ _ h)))
+IsUtf8-unit_path path h = IsUtf8-writable path ((and_parts _ _ ((and_parts _ _ ((and_parts _ _ h).0)).0)).0)
 
 -- UTF-8 before an ASCII byte
 pub is_utf8-front : (xs ys : List ℕ) (b : ℕ) → b < 128 → is_utf8 (xs ++ b ∷ ys) ≡ true → is_utf8 xs ≡ true
@@ -64,9 +64,9 @@ utf8_by_parts = record {
 all_by_parts : (p : ℕ → Bool) → p slash ≡ true → IsByParts (list_all p)
 all_by_parts p holds = record {
   nil = refl;
-  front = λ xs ys h. and-left (list_all p xs) (list_all p (slash ∷ ys)) (sym (list_all-append p xs (slash ∷ ys)) ∙ h);
-  back = λ xs ys h. and-right (p slash) (list_all p ys) (and-right (list_all p xs) (list_all p (slash ∷ ys)) (sym (list_all-append p xs (slash ∷ ys)) ∙ h));
-  whole = λ xs ys h q. list_all-append p xs (slash ∷ ys) ∙ and-both (list_all p xs) (list_all p (slash ∷ ys)) h (and-both (p slash) (list_all p ys) holds q);
+  front = λ xs ys h. (and_parts (list_all p xs) (list_all p (slash ∷ ys)) (sym (list_all-append p xs (slash ∷ ys)) ∙ h)).0;
+  back = λ xs ys h. (and_parts (p slash) (list_all p ys) ((and_parts (list_all p xs) (list_all p (slash ∷ ys)) (sym (list_all-append p xs (slash ∷ ys)) ∙ h)).1)).1;
+  whole = λ xs ys h q. list_all-append p xs (slash ∷ ys) ∙ and_from (list_all p xs) (list_all p (slash ∷ ys)) h (and_from (p slash) (list_all p ys) holds q);
 }
 
 -- the normal path of a text that a line can hold, where its ends are good
@@ -75,14 +75,14 @@ pub is_writable-normal_path_of : (path : List ℕ) → IsTrue (is_writable path)
 unfolding is_writable
 is_writable-normal_path_of path h ends =
     let is_other : ℕ → Bool = λ b. not (b == line_feed) in
-    let utf8 = normal_path_of-keeps is_utf8 utf8_by_parts path (and-left _ _ (and-left _ _ h)) in
-    let one_line = normal_path_of-keeps (list_all is_other) (all_by_parts is_other refl) path (and-right (is_utf8 path) _ (and-left _ _ h)) in
-    and-both _ _ (and-both _ _ utf8 one_line) (rw ends refl)
+    let utf8 = normal_path_of-keeps is_utf8 utf8_by_parts path ((and_parts _ _ ((and_parts _ _ h).0)).0) in
+    let one_line = normal_path_of-keeps (list_all is_other) (all_by_parts is_other refl) path ((and_parts (is_utf8 path) _ ((and_parts _ _ h).0)).1) in
+    and_from _ _ (and_from _ _ utf8 one_line) (rw ends refl)
 
 IsAscii-from_all : (text : List ℕ) → list_all (λ b. nat_lt b 128) text ≡ true → IsAscii text
 IsAscii-from_all [] h i = lit< tt
-IsAscii-from_all (b ∷ text) h zero = ltb-true b 128 (and-left _ _ h)
-IsAscii-from_all (b ∷ text) h (suc i) = IsAscii-from_all text (and-right _ _ h) i
+IsAscii-from_all (b ∷ text) h zero = ltb-true b 128 ((and_parts _ _ h).0)
+IsAscii-from_all (b ∷ text) h (suc i) = IsAscii-from_all text ((and_parts _ _ h).1) i
 
 -- ASCII is UTF-8
 pub is_utf8-ascii : (text : List ℕ) → list_all (λ b. nat_lt b 128) text ≡ true → is_utf8 text ≡ true

@@ -3,7 +3,7 @@ use Rattle.std.proofs.Common.{◌≡◌, ℕ, zero, suc, ◌<◌, Bool, true, fa
 use Rattle.std.specs.Prelude.{◌≢◌, IfSome, bytes_eq, slice_get}
 use Rattle.std.specs.List.{flat_map}
 use Rattle.std.specs.Option.{option_map, option_map_or, option_and_then}
-use Rattle.std.proofs.lemmas.Bool.{cases_Bool}
+use Rattle.std.proofs.lemmas.Bool.{cases_Bool, or_parts}
 use Rattle.std.proofs.lemmas.Option.{none-some, same_Some, slice_get-get_or}
 use Rattle.cs_base.specs.declared.causes.Cause.TheVariants as cause
 use Rattle.cs_base.specs.declared.positions.Part.{Part}
@@ -128,14 +128,6 @@ edit_for name run f = edit f.path (new_bytes name run f) (length run)
 
 -- ---- files that hold members
 
-or-left : (a b : Bool) → (a || b) ≡ false → a ≡ false
-or-left false b e = refl
-or-left true b e = cc
-
-or-right : (a b : Bool) → (a || b) ≡ false → b ≡ false
-or-right false b e = e
-or-right true b e = cc
-
 not_read_only : (a : AnalysisValue) (m : Part) → read_only_place a m ≡ [] → is_read_only a.table a.workspace.readonly m.start.file ≡ false
 not_read_only a m e = elim (cases_Bool (is_read_only a.table a.workspace.readonly m.start.file)) [
   | inl only ↦ absurd (let e' = rw only at e in cc)
@@ -156,9 +148,9 @@ real_file a members name k m f clear at here =
     let one : s1 ≡ [] = append_none s1 s2 (append_none (s1 ++ s2) s3 (append_none (s1 ++ s2 ++ s3) s4 four)) in
     let places : flat_map (read_only_place a) members ≡ [] = map_none (offence cause.ReadOnly) (read_only_places a members) one in
     let stays = not_read_only a m (flat_none (read_only_place a) members k m places at) in
-    let file : option_map_or (λ (g : KeptValue). is_read_only_path a.workspace.readonly g.path) (kept_at a.table m.start.file) false ≡ false = or-right (m.start.file == 0) _ stays in
+    let file : option_map_or (λ (g : KeptValue). is_read_only_path a.workspace.readonly g.path) (kept_at a.table m.start.file) false ≡ false = (or_parts (m.start.file == 0) _ stays).1 in
     let path : is_read_only_path a.workspace.readonly f.path ≡ false = rw here at file in
-    or-left (is_pseudo f.path) _ path
+    (or_parts (is_pseudo f.path) _ path).0
 
 not_both : (path : List ℕ) → is_pseudo path ≡ true → is_pseudo path ≡ false → ⊥
 not_both path made real = let e : true ≡ false = sym made ∙ real in cc

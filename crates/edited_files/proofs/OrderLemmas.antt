@@ -6,26 +6,22 @@ use Rattle.std.specs.declared.cmp.Ordering.{Ordering}
 use Rattle.std.specs.declared.cmp.Ordering.TheVariants.{Less, Equal, Greater}
 use Rattle.std.specs.Cmp.Lexicographic.{slice_cmp}
 use Rattle.std.specs.Str.{bytes_eq}
-use Rattle.std.proofs.lemmas.Bool.{cases_Bool}
+use Rattle.std.proofs.lemmas.Bool.{cases_Bool, and_from, and_parts}
 use Rattle.std.proofs.lemmas.Cmp.{nat_list_cmp_total}
 use Rattle.std.proofs.lemmas.List.Elements.{All-nil, All-cons, All-head, All-tail}
 use Rattle.std.proofs.lemmas.Map.Text.{is_eq-slice_cmp}
 use Rattle.cs_base.specs.Edit.{Edit, comes_before, comes_last, are_in_order, HaveTextPaths, IsKept}
-use Rattle.cs_base.proofs.EditLemmas.{and-left, and-right}
 use Rattle.cs_base.proofs.FileMapLemmas.{bytes_eq-same, bytes_eq-equal, comes_before-apart}
 use Rattle.edited_files.specs.Edited.{with_edit, with_each}
-
-pub both : (a b : Bool) → a ≡ true → b ≡ true → (a && b) ≡ true
-both a b p q = grind (arith, p, q)
 
 -- the edits behind the first are in order
 pub are_in_order-tail : (e : Edit) (es : List Edit) → IsTrue (are_in_order (e ∷ es)) → IsTrue (are_in_order es)
 are_in_order-tail e [] sorted = refl
-are_in_order-tail e (f ∷ es) sorted = and-right _ _ sorted
+are_in_order-tail e (f ∷ es) sorted = (and_parts _ _ sorted).1
 
 -- ---- paths
 
--- a path that comes before another is another, both ways
+-- a path that comes before another is another, and_from ways
 pub before-apart : (p q : List ℕ) → comes_before p q ≡ true → bytes_eq p q ≡ false
 before-apart p q before = elim (cases_Bool (bytes_eq p q)) [
   | inl same ↦
@@ -51,18 +47,18 @@ comes_before-other p q not_before apart =
 order_behind : (d e : Edit) (es : List Edit) → comes_before d.path e.path ≡ true → IsTrue (are_in_order (d ∷ es)) → IsTrue (are_in_order (with_edit e es))
     → IsTrue (are_in_order (d ∷ with_edit e es))
 unfolding with_edit
-order_behind d e [] before sorted rest = both _ _ before refl
+order_behind d e [] before sorted rest = and_from _ _ before refl
 order_behind d e (f ∷ es) before sorted rest = elim (cases_Bool (comes_before f.path e.path)) [
   | inl first ↦
       let rest' : IsTrue (are_in_order (f ∷ with_edit e es)) = rw first at rest in
-      rw first (both _ _ (and-left _ _ sorted) rest')
+      rw first (and_from _ _ ((and_parts _ _ sorted).0) rest')
   | inr later ↦ elim (cases_Bool (bytes_eq f.path e.path)) [
     | inl same ↦
         let rest' : IsTrue (are_in_order (e ∷ es)) = rw same at (rw later at rest) in
-        rw later (rw same (both _ _ before rest'))
+        rw later (rw same (and_from _ _ before rest'))
     | inr other ↦
         let rest' : IsTrue (are_in_order (e ∷ f ∷ es)) = rw other at (rw later at rest) in
-        rw later (rw other (both _ _ before rest'))
+        rw later (rw other (and_from _ _ before rest'))
   ]
 ]
 
@@ -70,7 +66,7 @@ order_behind d e (f ∷ es) before sorted rest = elim (cases_Bool (comes_before 
 order_in_place : (d e : Edit) (es : List Edit) → bytes_eq d.path e.path ≡ true → IsTrue (are_in_order (d ∷ es)) → IsTrue (are_in_order (e ∷ es))
 order_in_place d e [] same sorted = refl
 order_in_place d e (f ∷ es) same sorted =
-    both _ _ (subst (λ (p : List ℕ). comes_before p f.path ≡ true) (bytes_eq-equal d.path e.path same) (and-left _ _ sorted)) (and-right _ _ sorted)
+    and_from _ _ (subst (λ (p : List ℕ). comes_before p f.path ≡ true) (bytes_eq-equal d.path e.path same) ((and_parts _ _ sorted).0)) ((and_parts _ _ sorted).1)
 
 pub order_with : (e : Edit) (es : List Edit) → IsTrue (are_in_order es) → IsTrue (are_in_order (with_edit e es))
 unfolding with_edit
@@ -79,7 +75,7 @@ order_with e (d ∷ es) sorted = elim (cases_Bool (comes_before d.path e.path)) 
   | inl first ↦ rw first (order_behind d e es first sorted (order_with e es (are_in_order-tail d es sorted)))
   | inr later ↦ elim (cases_Bool (bytes_eq d.path e.path)) [
     | inl same ↦ rw later (rw same (order_in_place d e es same sorted))
-    | inr other ↦ rw later (rw other (both _ _ (comes_before-other d.path e.path later other) sorted))
+    | inr other ↦ rw later (rw other (and_from _ _ (comes_before-other d.path e.path later other) sorted))
   ]
 ]
 
@@ -123,5 +119,5 @@ pub last_behind : (es : List Edit) (k : ℕ) (d : Edit) → IsTrue (are_in_order
 last_behind [] k d sorted within = absurd (omega arith)
 last_behind (e ∷ es) zero d sorted within = refl
 last_behind (e ∷ []) (suc k) d sorted within = absurd (omega arith)
-last_behind (e ∷ f ∷ es) (suc zero) d sorted within = and-left _ _ sorted
-last_behind (e ∷ f ∷ es) (suc (suc k)) d sorted within = last_behind (f ∷ es) (suc k) d (and-right _ _ sorted) (omega arith)
+last_behind (e ∷ f ∷ es) (suc zero) d sorted within = (and_parts _ _ sorted).0
+last_behind (e ∷ f ∷ es) (suc (suc k)) d sorted within = last_behind (f ∷ es) (suc k) d ((and_parts _ _ sorted).1) (omega arith)

@@ -5,7 +5,7 @@ use Rattle.std.specs.Fmt.{decimal}
 use Rattle.std.specs.List.{list_all}
 use Rattle.std.specs.Option.{is_none}
 use Rattle.std.specs.Str.{bytes_eq}
-use Rattle.std.proofs.lemmas.Bool.{cases_Bool}
+use Rattle.std.proofs.lemmas.Bool.{cases_Bool, and_parts, and_from}
 use Rattle.std.proofs.lemmas.Slice.Eq.{bytes_eq-Decides}
 use Rattle.renamed.specs.Below.cs_base.declared.positions.Pos.{Pos}
 use Rattle.renamed.specs.Below.cs_base.declared.tokens.Kind.{Kind}
@@ -46,15 +46,6 @@ same-of true false h = absurd (cc)
 same-of false true h = absurd (cc)
 same-of false false h = refl
 
-both-true : (a b : Bool) → (a && b) ≡ true → (a ≡ true) × (b ≡ true)
-both-true true b h = (refl, h)
-both-true false b h = absurd (cc)
-
-both-of : (a b : Bool) → a ≡ true → b ≡ true → (a && b) ≡ true
-both-of true true h k = refl
-both-of true false h k = absurd (cc)
-both-of false b h k = absurd (cc)
-
 -- an identifier is spelled like a word exactly where it was
 word-stays : (n x y : Bool) → n ≡ true → (n && x) ≡ (n && y) → x ≡ y
 word-stays true x y is h = h
@@ -80,11 +71,11 @@ fits c kind origins text = c.occurring kind origins text && keeps_text c.renamin
 
 -- the same of both words, and of what is no identifier
 keeps-name : (n a b d e other : Bool) → n ≡ true → a ≡ b → d ≡ e → cond n (same a b && same d e) other ≡ true
-keeps-name true a b d e other is h k = both-of (same a b) (same d e) (same-of a b h) (same-of d e k)
+keeps-name true a b d e other is h k = and_from (same a b) (same d e) (same-of a b h) (same-of d e k)
 keeps-name false a b d e other is h k = absurd (cc)
 
 name-keeps : (n a b d e other : Bool) → n ≡ true → cond n (same a b && same d e) other ≡ true → (a ≡ b) × (d ≡ e)
-name-keeps true a b d e other is h = let k = both-true (same a b) (same d e) h in (same-true a b k.0, same-true d e k.1)
+name-keeps true a b d e other is h = let k = and_parts (same a b) (same d e) h in (same-true a b k.0, same-true d e k.1)
 name-keeps false a b d e other is h = absurd (cc)
 
 keeps-other : (n name other : Bool) → n ≡ false → other ≡ true → cond n name other ≡ true
@@ -135,12 +126,12 @@ true-keeps r t h = record {
 
 pub fits-true : (c : Change) (t : Token) → Fits c t → occurs (fits c) t ≡ true
 unfolding fits
-fits-true c t h = both-of (c.occurring t.kind t.origins t.text) (keeps_text c.renaming t.kind t.origins t.text) h.0 (keeps-true c.renaming t h.1)
+fits-true c t h = and_from (c.occurring t.kind t.origins t.text) (keeps_text c.renaming t.kind t.origins t.text) h.0 (keeps-true c.renaming t h.1)
 
 pub true-fits : (c : Change) (t : Token) → occurs (fits c) t ≡ true → Fits c t
 unfolding fits
 true-fits c t h =
-    let k = both-true (c.occurring t.kind t.origins t.text) (keeps_text c.renaming t.kind t.origins t.text) h in
+    let k = and_parts (c.occurring t.kind t.origins t.text) (keeps_text c.renaming t.kind t.origins t.text) h in
     (k.0, true-keeps c.renaming t k.1)
 
 -- ---- what comes from no file

@@ -1,27 +1,16 @@
 -- Where tokens begin in a text.
 use Rattle.std.proofs.Common.{◌≡◌, ℕ, zero, suc, ◌<◌, ◌&&◌, ◌||◌, ◌==◌, Bool, true, false, not, List, [], ◌∷◌, length, drop, inl, inr, refl, sym, ◌∙◌, arith}
 use Rattle.std.specs.List.{list_all}
-use Rattle.std.proofs.lemmas.Bool.{cases_Bool}
+use Rattle.std.proofs.lemmas.Bool.{cases_Bool, and_parts, and_from}
 use Rattle.std.proofs.lemmas.Bool.Decides.{nat_tests}
 use Rattle.part_lexer.specs.Characters.{slash, is_white, is_nondigit, is_word, is_quote}
 use Rattle.part_lexer.specs.Spelling.{may_follow, all_follow, begins_number, is_punctuator_text, punctuators_of_one, punctuators_of_two, punctuators_of_three, punctuators_of_four}
 use Rattle.part_lexer.proofs.TableLemmas.{punctuator-lacks}
 use Rattle.expansion_laws.proofs.FrontLemmas.{begins_token, is_dark}
 
-pub and_two : (a b : Bool) → (a && b) ≡ true → (a ≡ true) × (b ≡ true)
-and_two true b h = (refl, h)
-and_two false b h = absurd (cc)
-
-pub true_both : (a b : Bool) → a ≡ true → b ≡ true → (a && b) ≡ true
-true_both a b h k = rw (h, k) refl
-
 pub or_true : (b : Bool) → (b || true) ≡ true
 or_true true = refl
 or_true false = refl
-
-pub not_true : (b : Bool) → not b ≡ true → b ≡ false
-not_true true h = absurd (cc)
-not_true false h = refl
 
 -- ---- characters
 
@@ -80,8 +69,8 @@ begins_each (c ∷ cs) = begins_token (c ∷ cs) && begins_each cs
 
 pub each_begins : (text : List ℕ) (m : ℕ) → begins_each text ≡ true → m < length text → begins_token (drop m text) ≡ true
 each_begins [] m h below = absurd (omega arith)
-each_begins (c ∷ cs) zero h below = (and_two (begins_token (c ∷ cs)) (begins_each cs) h).0
-each_begins (c ∷ cs) (suc m) h below = each_begins cs m (and_two (begins_token (c ∷ cs)) (begins_each cs) h).1 (omega arith)
+each_begins (c ∷ cs) zero h below = (and_parts (begins_token (c ∷ cs)) (begins_each cs) h).0
+each_begins (c ∷ cs) (suc m) h below = each_begins cs m (and_parts (begins_token (c ∷ cs)) (begins_each cs) h).1 (omega arith)
 
 token_dark : (c : ℕ) (cs : List ℕ) → begins_token (c ∷ cs) ≡ true → not (is_white c) ≡ true
 token_dark c cs h = elim (cases_Bool (is_white c)) [
@@ -92,20 +81,20 @@ token_dark c cs h = elim (cases_Bool (is_white c)) [
 pub begins_each-dark : (text : List ℕ) → begins_each text ≡ true → is_dark text ≡ true
 begins_each-dark [] h = refl
 begins_each-dark (c ∷ cs) h =
-    let both = and_two (begins_token (c ∷ cs)) (begins_each cs) h in
+    let both = and_parts (begins_token (c ∷ cs)) (begins_each cs) h in
     rw (token_dark c cs both.0, begins_each-dark cs both.1) refl
 
 pub words_begin : (cs : List ℕ) → list_all is_word cs ≡ true → begins_each cs ≡ true
 words_begin [] h = refl
 words_begin (c ∷ cs) h =
-    let both = and_two (is_word c) (list_all is_word cs) h in
-    true_both (begins_token (c ∷ cs)) (begins_each cs) (token_begins c cs (word_dark c both.0) (word_slash c both.0)) (words_begin cs both.1)
+    let both = and_parts (is_word c) (list_all is_word cs) h in
+    and_from (begins_token (c ∷ cs)) (begins_each cs) (token_begins c cs (word_dark c both.0) (word_slash c both.0)) (words_begin cs both.1)
 
 pub follow_begins : (last : ℕ) (cs : List ℕ) → all_follow last cs ≡ true → begins_each cs ≡ true
 follow_begins last [] h = refl
 follow_begins last (c ∷ cs) h =
-    let both = and_two (may_follow last c) (all_follow c cs) h in
-    true_both (begins_token (c ∷ cs)) (begins_each cs) (token_begins c cs (follow_dark last c both.0) (follow_slash last c both.0)) (follow_begins c cs both.1)
+    let both = and_parts (may_follow last c) (all_follow c cs) h in
+    and_from (begins_token (c ∷ cs)) (begins_each cs) (token_begins c cs (follow_dark last c both.0) (follow_slash last c both.0)) (follow_begins c cs both.1)
 
 pub clash : (b : Bool) → b ≡ true → b ≡ false → ⊥
 clash b h k = let both : true ≡ false = sym h ∙ k in absurd (cc)

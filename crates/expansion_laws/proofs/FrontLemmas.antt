@@ -1,7 +1,7 @@
 -- A text that is one token: its front is that token, and no other begins behind it.
 use Rattle.std.proofs.Common.{◌≡◌, ℕ, zero, suc, ◌+◌, ◌-◌, ◌≤◌, ◌&&◌, ◌==◌, Bool, true, false, not, List, [], ◌∷◌, ◌++◌, length, take, drop, Option, Some, None, is_some, unwrap_or, refl, sym, ap, ◌∙◌, subst, arith, inl, inr}
 use Rattle.std.specs.List.{list_all}
-use Rattle.std.proofs.lemmas.Bool.{cases_Bool, cases_eq}
+use Rattle.std.proofs.lemmas.Bool.{cases_Bool, cases_eq, not-true, and_parts}
 use Rattle.std.proofs.lemmas.Bool.Decides.{nat_tests}
 use Rattle.macro_expand.specs.Below.cs_base.declared.tokens.Kind.{Kind}
 use Rattle.macro_expand.specs.Below.cs_base.declared.tokens.Kind.TheVariants.{Ident, Number, Char, Str, Punct, Header, Other}
@@ -24,10 +24,6 @@ and_three true true false h = absurd (cc)
 and_three true false c h = absurd (cc)
 and_three false b c h = absurd (cc)
 
-not_true : (b : Bool) → not b ≡ true → b ≡ false
-not_true true h = absurd (cc)
-not_true false h = refl
-
 dark_line : (c : ℕ) → is_white c ≡ false → (c == line_feed) ≡ false
 dark_line c h = grind (arith, nat_tests)
 
@@ -38,10 +34,10 @@ piece_begins : (header : Bool) (c : ℕ) (cs : List ℕ) → begins_token (c ∷
 unfolding piece_of
 piece_begins header c cs h =
     let parts = and_three (not (is_white c)) (not (c == slash && begins slash cs)) (not (c == slash && begins star cs)) h in
-    let dark = not_true (is_white c) parts.0 in
+    let dark = not-true (is_white c) parts.0 in
     let line = dark_line c dark in
-    let no_line = not_true (c == slash && begins slash cs) parts.1 in
-    let no_block = not_true (c == slash && begins star cs) parts.2 in
+    let no_line = not-true (c == slash && begins slash cs) parts.1 in
+    let no_block = not-true (c == slash && begins star cs) parts.2 in
     rw (line, dark, no_line, no_block) refl
 
 -- where a token begins, something is found
@@ -145,14 +141,10 @@ abbrev pub dark_first : List ℕ → Bool
 dark_first [] = true
 dark_first (c ∷ cs) = not (is_white c)
 
-and_two : (a b : Bool) → (a && b) ≡ true → (a ≡ true) × (b ≡ true)
-and_two true b h = (refl, h)
-and_two false b h = absurd (cc)
-
 no_new_line : (cs : List ℕ) → dark_first cs ≡ true → new_line_length cs ≡ 0
 no_new_line [] h = refl
 no_new_line (c ∷ cs) h =
-    let dark = not_true (is_white c) h in
+    let dark = not-true (is_white c) h in
     rw (dark_line c dark, dark_return c dark) refl
 
 -- a character stays, where no white space stands behind it
@@ -165,29 +157,29 @@ stays c cs dark h = elim (cases_Bool (c == backslash)) [
 
 dark_front : (cs ys : List ℕ) → is_dark cs ≡ true → dark_first ys ≡ true → dark_first (cs ++ ys) ≡ true
 dark_front [] ys h k = k
-dark_front (c ∷ cs) ys h k = (and_two (not (is_white c)) (is_dark cs) h).0
+dark_front (c ∷ cs) ys h k = (and_parts (not (is_white c)) (is_dark cs) h).0
 
 -- the logical text of such a text and what stands behind it
 pub logical_behind : (at : ℕ) (xs ys : List ℕ) → is_dark xs ≡ true → dark_first ys ≡ true
     → spelling (logical_from 0 at (xs ++ ys)) ≡ xs ++ spelling (logical_from 0 (at + length xs) ys)
 logical_behind at [] ys h k = let same : at + 0 ≡ at = omega arith in rw same refl
 logical_behind at (c ∷ cs) ys h k =
-    let both = and_two (not (is_white c)) (is_dark cs) h in
+    let both = and_parts (not (is_white c)) (is_dark cs) h in
     let on : at + suc (length cs) ≡ at + 1 + length cs = omega arith in
-    rw (logical_from-stays at c (cs ++ ys) (stays c (cs ++ ys) (not_true (is_white c) both.0) (dark_front cs ys both.1 k)), on)
+    rw (logical_from-stays at c (cs ++ ys) (stays c (cs ++ ys) (not-true (is_white c) both.0) (dark_front cs ys both.1 k)), on)
     (ap (λ (l : List ℕ). c ∷ l) (logical_behind (at + 1) cs ys both.1 k))
 
 pub logical_plain : (at : ℕ) (xs : List ℕ) → is_dark xs ≡ true → spelling (logical_from 0 at xs) ≡ xs
 unfolding logical_from
 logical_plain at [] h = refl
 logical_plain at (c ∷ cs) h =
-    let both = and_two (not (is_white c)) (is_dark cs) h in
-    rw (logical_from-stays at c cs (stays c cs (not_true (is_white c) both.0) (dark_all cs both.1)))
+    let both = and_parts (not (is_white c)) (is_dark cs) h in
+    rw (logical_from-stays at c cs (stays c cs (not-true (is_white c) both.0) (dark_all cs both.1)))
     (ap (λ (l : List ℕ). c ∷ l) (logical_plain (at + 1) cs both.1))
   where
     dark_all : (ds : List ℕ) → is_dark ds ≡ true → dark_first ds ≡ true
     dark_all [] k = refl
-    dark_all (d ∷ ds) k = (and_two (not (is_white d)) (is_dark ds) k).0
+    dark_all (d ∷ ds) k = (and_parts (not (is_white d)) (is_dark ds) k).0
 
 front_listed : (bytes text : List ℕ) (front : _) (cs : List Character) (k : Kind) → expects_header front ≡ false → spelling cs ≡ text → begins_token text ≡ true
     → only_token (found_from 0 bytes 0 true front 0 cs) ≡ Some k → OneFront text k

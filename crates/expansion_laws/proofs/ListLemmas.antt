@@ -3,6 +3,7 @@ use Rattle.std.proofs.Common.{◌≡◌, ℕ, zero, suc, ◌==◌, ◌&&◌, Boo
 use Rattle.std.specs.Prelude.{slice_get}
 use Rattle.std.specs.List.{list_all}
 use Rattle.std.proofs.lemmas.Option.{none-some, same_Some}
+use Rattle.std.proofs.lemmas.Bool.{and_parts}
 use Rattle.macro_expand.specs.Below.cs_base.Token.{Token}
 use Rattle.macro_expand.specs.Below.macro_body.declared.definitions.Definition.{Definition}
 use Rattle.macro_expand.specs.Below.macro_body.Hides.{Hidden, hide_more, toks_of}
@@ -125,13 +126,9 @@ pub toks_more : (P Q : Token → Type 0) (ts : List Token) → AllToks P ts → 
 toks_more P Q [] h more = tt
 toks_more P Q (t ∷ ts) h more = (more t h.0, toks_more P Q ts h.1 more)
 
-both_true : (a b : Bool) → (a && b) ≡ true → (a ≡ true) × (b ≡ true)
-both_true true b h = (refl, h)
-both_true false b h = absurd (cc)
-
 pub toks_pass : (p : Token → Bool) (ts : List Token) → list_all p ts ≡ true → AllToks (λ t. p t ≡ true) ts
 toks_pass p [] h = tt
-toks_pass p (t ∷ ts) h = let both = both_true (p t) (list_all p ts) h in (both.0, toks_pass p ts both.1)
+toks_pass p (t ∷ ts) h = let both = and_parts (p t) (list_all p ts) h in (both.0, toks_pass p ts both.1)
 
 pub pass_toks : (p : Token → Bool) (ts : List Token) → AllToks (λ t. p t ≡ true) ts → list_all p ts ≡ true
 pass_toks p [] h = refl

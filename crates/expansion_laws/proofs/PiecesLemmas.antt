@@ -4,6 +4,7 @@ use Rattle.std.specs.Prelude.{slice_get}
 use Rattle.std.specs.List.{list_all, flat_map}
 use Rattle.std.proofs.lemmas.Grind.{flat_map-append}
 use Rattle.std.proofs.lemmas.List.Folds.{list_all-append}
+use Rattle.std.proofs.lemmas.Bool.{and_parts}
 use Rattle.macro_expand.specs.Below.cs_base.declared.tokens.Kind.{Kind}
 use Rattle.macro_expand.specs.Below.cs_base.declared.positions.Pos.{Pos}
 use Rattle.macro_expand.specs.Below.cs_base.Token.{Token}
@@ -55,13 +56,9 @@ made_of_both files x y z text origins hx hy = record {
       ∙ sym (flat_map-append (λ (piece : Token). piece.origins) hx.pieces hy.pieces);
 }
 
-both_true : (a b : Bool) → (a && b) ≡ true → (a ≡ true) × (b ≡ true)
-both_true true b h = (refl, h)
-both_true false b h = absurd (cc)
-
 joined_whole : (among : Characters) (files : List Token) (x y : Token) (kind : Kind) → IsWhole among files x → IsWhole among files y → IsWhole among files (joined x y kind)
 joined_whole among files x y kind hx hy = λ h.
-    let both = both_true (list_all among x.text) (list_all among y.text) (sym (list_all-append among x.text y.text) ∙ h) in
+    let both = and_parts (list_all among x.text) (list_all among y.text) (sym (list_all-append among x.text y.text) ∙ h) in
     made_of_both files x y (joined x y kind) refl refl (hx both.0) (hy both.1)
 
 pub pasted_whole : (among : Characters) (files : List Token) (name x y z : Token) → IsWhole among files x → IsWhole among files y → glue_of x y ≡ Ok z
@@ -69,7 +66,7 @@ pub pasted_whole : (among : Characters) (files : List Token) (name x y z : Token
 pasted_whole among files name x y z hx hy is =
     let i = glue_is x y z is in
     subst (λ (t : Token). IsWhole among files (put_in name x.gap t)) i.2 (λ h.
-    let both = both_true (list_all among x.text) (list_all among y.text) (sym (list_all-append among x.text y.text) ∙ h) in
+    let both = and_parts (list_all among x.text) (list_all among y.text) (sym (list_all-append among x.text y.text) ∙ h) in
     made_of_both files x y (put_in name x.gap (joined x y i.0)) refl refl (hx both.0) (hy both.1))
 
 pub quoted_fails : (among : Characters) (text rest : List ℕ) → among double_quote ≡ false → text ≡ double_quote ∷ rest → list_all among text ≡ true → ⊥

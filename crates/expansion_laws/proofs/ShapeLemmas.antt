@@ -2,7 +2,7 @@
 use Rattle.std.proofs.Common.{◌≡◌, ℕ, ◌<◌, ◌&&◌, ◌||◌, ◌==◌, Bool, true, false, not, List, [], ◌∷◌, length, is_some, ◌⊎◌, inl, inr, refl, sym, subst, arith}
 use Rattle.std.specs.Prelude.{codes}
 use Rattle.std.specs.List.{list_all}
-use Rattle.std.proofs.lemmas.Bool.{cases_Bool, eqb-true}
+use Rattle.std.proofs.lemmas.Bool.{cases_Bool, eqb-true, and_parts, and_from, not-true}
 use Rattle.macro_expand.specs.Below.cs_base.declared.tokens.Kind.{Kind}
 use Rattle.macro_expand.specs.Below.cs_base.declared.tokens.Kind.TheVariants.{Ident, Number, Char, Str, Punct, Header, Other}
 use Rattle.macro_expand.specs.Below.cs_base.Token.{has_origins}
@@ -10,7 +10,7 @@ use Rattle.part_lexer.specs.Characters.{less_than, slash, star, double_quote, ca
 use Rattle.part_lexer.specs.Spelling.{is_identifier_text, all_follow, begins_number, is_number_text, is_punctuator_text, kind_of}
 use Rattle.expansion_laws.specs.Spelled.{quote_first, begins_quoted, is_lone, fits}
 use Rattle.expansion_laws.proofs.FrontLemmas.{begins_token}
-use Rattle.expansion_laws.proofs.BeginLemmas.{and_two, true_both, not_true, quote_word, word_dark, word_slash, nondigit_word, begins_dark, begins_slash, token_begins, begins_each, words_begin, follow_begins, clash, punctuator_has, signs_begin}
+use Rattle.expansion_laws.proofs.BeginLemmas.{quote_word, word_dark, word_slash, nondigit_word, begins_dark, begins_slash, token_begins, begins_each, words_begin, follow_begins, clash, punctuator_has, signs_begin}
 use Rattle.expansion_laws.proofs.TextKindLemmas.{double_is, kind_exact, identifier_kind, number_kind, sign_kind, some_kind, exact_slash, exact_star, alone}
 
 -- ---- shapes
@@ -36,9 +36,9 @@ quoted_shape (c ∷ cs) h = elim (cases_Bool (is_quote c)) [
 ]
   where
     wide : (ds : List ℕ) → (c == capital_l && quote_first ds) ≡ true → Shape (c ∷ ds)
-    wide [] k = let both = and_two (c == capital_l) false k in let no = both.1 in absurd (cc)
+    wide [] k = let both = and_parts (c == capital_l) false k in let no = both.1 in absurd (cc)
     wide (q ∷ ds) k =
-        let both = and_two (c == capital_l) (is_quote q) k in
+        let both = and_parts (c == capital_l) (is_quote q) k in
         subst (λ (x : ℕ). Shape (x ∷ q ∷ ds)) (sym (eqb-true c capital_l both.0)) (Wide q ds both.1)
 
 less_shape : (text : List ℕ) → begins less_than text ≡ true → Shape text
@@ -48,10 +48,10 @@ less_shape (c ∷ cs) h = subst (λ (x : ℕ). Shape (x ∷ cs)) (sym (eqb-true 
 identifier_shape : (text : List ℕ) → is_identifier_text text ≡ true → Shape text
 identifier_shape [] h = absurd (cc)
 identifier_shape (c ∷ cs) h =
-    let both = and_two (is_nondigit c) (list_all is_word cs) h in
+    let both = and_parts (is_nondigit c) (list_all is_word cs) h in
     let word = nondigit_word c both.0 in
     Solid (record {
-      each = true_both (begins_token (c ∷ cs)) (begins_each cs) (token_begins c cs (word_dark c word) (word_slash c word)) (words_begin cs both.1);
+      each = and_from (begins_token (c ∷ cs)) (begins_each cs) (token_begins c cs (word_dark c word) (word_slash c word)) (words_begin cs both.1);
       some = omega arith;
       whole = inl (identifier_kind (c ∷ cs) h);
     })
@@ -59,9 +59,9 @@ identifier_shape (c ∷ cs) h =
 number_shape : (text : List ℕ) → is_number_text text ≡ true → Shape text
 number_shape [] h = absurd (cc)
 number_shape (c ∷ cs) h =
-    let both = and_two (begins_number c cs) (all_follow c cs) h in
+    let both = and_parts (begins_number c cs) (all_follow c cs) h in
     Solid (record {
-      each = true_both (begins_token (c ∷ cs)) (begins_each cs) (token_begins c cs (begins_dark c cs both.0) (begins_slash c cs both.0)) (follow_begins c cs both.1);
+      each = and_from (begins_token (c ∷ cs)) (begins_each cs) (token_begins c cs (begins_dark c cs both.0) (begins_slash c cs both.0)) (follow_begins c cs both.1);
       some = omega arith;
       whole = inl (number_kind (c ∷ cs) h);
     })
@@ -75,8 +75,8 @@ lone_shape : (text : List ℕ) → is_lone text ≡ true → Shape text
 lone_shape [] h = absurd (cc)
 lone_shape (c ∷ d ∷ cs) h = absurd (cc)
 lone_shape (c ∷ []) h =
-    let both = and_two (not (is_white c)) (not (is_some (kind_of (c ∷ [])))) h in
-    let dark = not_true (is_white c) both.0 in
+    let both = and_parts (not (is_white c)) (not (is_some (kind_of (c ∷ [])))) h in
+    let dark = not-true (is_white c) both.0 in
     Solid (record { each = lone_begins c dark; some = omega arith; whole = inr refl })
   where
     lone_begins : (x : ℕ) → is_white x ≡ false → begins_each (x ∷ []) ≡ true
@@ -136,25 +136,25 @@ lone_word c h = elim (cases_Bool (is_nondigit c)) [
 quoted_word : (text : List ℕ) → begins_quoted text ≡ true → list_all is_word text ≡ true → ⊥
 quoted_word [] h k = absurd (cc)
 quoted_word (c ∷ cs) h k = elim (cases_Bool (is_quote c)) [
-  | inl quote ↦ clash (is_word c) (and_two (is_word c) (list_all is_word cs) k).0 (quote_word c quote)
-  | inr other ↦ by cs (and_two (c == capital_l) (quote_first cs) (rw other at h)).1 (and_two (is_word c) (list_all is_word cs) k).1
+  | inl quote ↦ clash (is_word c) (and_parts (is_word c) (list_all is_word cs) k).0 (quote_word c quote)
+  | inr other ↦ by cs (and_parts (c == capital_l) (quote_first cs) (rw other at h)).1 (and_parts (is_word c) (list_all is_word cs) k).1
 ]
   where
     by : (ds : List ℕ) → quote_first ds ≡ true → list_all is_word ds ≡ true → ⊥
     by [] a b = absurd (cc)
-    by (d ∷ ds) a b = clash (is_word d) (and_two (is_word d) (list_all is_word ds) b).0 (quote_word d a)
+    by (d ∷ ds) a b = clash (is_word d) (and_parts (is_word d) (list_all is_word ds) b).0 (quote_word d a)
 
 sign_word : (text : List ℕ) → is_punctuator_text text ≡ true → list_all is_word text ≡ true → ⊥
 unfolding is_punctuator_text
 sign_word [] h k = clash (is_punctuator_text []) h refl
 sign_word (c ∷ cs) h k =
     let none = punctuator_has (λ w. not (word_first w)) (c ∷ cs) h refl refl refl refl in
-    clash (is_word c) (and_two (is_word c) (list_all is_word cs) k).0 (not_true (is_word c) none)
+    clash (is_word c) (and_parts (is_word c) (list_all is_word cs) k).0 (not-true (is_word c) none)
 
 begins_word : (d : ℕ) (text : List ℕ) → is_word d ≡ false → begins d text ≡ true → list_all is_word text ≡ true → ⊥
 begins_word d [] other h k = absurd (cc)
 begins_word d (c ∷ cs) other h k =
-    clash (is_word d) (subst (λ (x : ℕ). is_word x ≡ true) (eqb-true c d h) (and_two (is_word c) (list_all is_word cs) k).0) other
+    clash (is_word d) (subst (λ (x : ℕ). is_word x ≡ true) (eqb-true c d h) (and_parts (is_word c) (list_all is_word cs) k).0) other
 
 either_none : (a b : Bool) → (a ≡ true → ⊥) → (b ≡ true → ⊥) → (a || b) ≡ true → ⊥
 either_none true b h k e = h refl
@@ -164,8 +164,8 @@ lone_none : (text : List ℕ) → is_lone text ≡ true → list_all is_word tex
 lone_none [] h k = absurd (cc)
 lone_none (c ∷ d ∷ cs) h k = absurd (cc)
 lone_none (c ∷ []) h k =
-    let both = and_two (not (is_white c)) (not (is_some (kind_of (c ∷ [])))) h in
-    clash (is_some (kind_of (c ∷ []))) (lone_word c (and_two (is_word c) true k).0) (not_true (is_some (kind_of (c ∷ []))) both.1)
+    let both = and_parts (not (is_white c)) (not (is_some (kind_of (c ∷ [])))) h in
+    clash (is_some (kind_of (c ∷ []))) (lone_word c (and_parts (is_word c) true k).0) (not-true (is_some (kind_of (c ∷ []))) both.1)
 
 pub words_are_names : (k : Kind) (text : List ℕ) → fits k text ≡ true → list_all is_word text ≡ true → has_origins k ≡ true
 words_are_names Ident text h k = refl
@@ -179,5 +179,5 @@ words_are_names Other text h k = absurd (lone_none text h k)
 pub names_are_words : (text : List ℕ) → fits Ident text ≡ true → list_all is_word text ≡ true
 names_are_words [] h = absurd (cc)
 names_are_words (c ∷ cs) h =
-    let both = and_two (is_nondigit c) (list_all is_word cs) h in
+    let both = and_parts (is_nondigit c) (list_all is_word cs) h in
     rw (nondigit_word c both.0, both.1) refl

@@ -4,7 +4,7 @@ use Rattle.std.specs.Fmt.{decimal}
 use Rattle.std.specs.Str.Parse.{AllDigits}
 use Rattle.std.proofs.lemmas.Fmt.{decimal_is_IsNumeral}
 use Rattle.std.proofs.lemmas.Str.Parse.{digit_at}
-use Rattle.std.proofs.lemmas.Bool.{ltb-true}
+use Rattle.std.proofs.lemmas.Bool.{ltb-true, and_parts}
 use Rattle.std.proofs.lemmas.Bool.Decides.{nat_tests}
 use Rattle.macro_expand.specs.Below.cs_base.Token.{Token}
 use Rattle.part_lexer.specs.Characters.{is_digit}
@@ -21,10 +21,6 @@ use Rattle.expansion_laws.proofs.PassingLemmas.{tests_are_kept}
 use Rattle.expansion_laws.proofs.PiecesLemmas.{glue_is}
 use Rattle.expansion_laws.proofs.TellingLemmas.{string_is}
 use Rattle.expansion_laws.proofs.SpelledLemmas.{pasted_fits}
-
-and_two : (a b : Bool) → (a && b) ≡ true → (a ≡ true) × (b ≡ true)
-and_two true b h = (refl, h)
-and_two false b h = absurd (cc)
 
 -- ---- numbers of lines
 
@@ -52,23 +48,23 @@ line_spelled n h =
 -- a token that stands on the line of another one
 pub standing_spelled : (name t : Token) → is_spelled name ≡ true → is_spelled t ≡ true → is_spelled (standing_at name t) ≡ true
 standing_spelled name t here h =
-    let line = (and_two (fits name.kind name.text) (nat_lt name.line (2 ^ 64)) here).1 in
-    let text = (and_two (fits t.kind t.text) (nat_lt t.line (2 ^ 64)) h).0 in
+    let line = (and_parts (fits name.kind name.text) (nat_lt name.line (2 ^ 64)) here).1 in
+    let text = (and_parts (fits t.kind t.text) (nat_lt t.line (2 ^ 64)) h).0 in
     rw (text, line) refl
 
 pub pasted_spelled : (name x y z : Token) → is_spelled name ≡ true → is_spelled x ≡ true → is_spelled y ≡ true → glue_of x y ≡ Ok z
     → is_spelled (standing_at name z) ≡ true
 pasted_spelled name x y z here hx hy is =
     let i = glue_is x y z is in
-    let line = (and_two (fits name.kind name.text) (nat_lt name.line (2 ^ 64)) here).1 in
-    let first = (and_two (fits x.kind x.text) (nat_lt x.line (2 ^ 64)) hx).0 in
-    let second = (and_two (fits y.kind y.text) (nat_lt y.line (2 ^ 64)) hy).0 in
+    let line = (and_parts (fits name.kind name.text) (nat_lt name.line (2 ^ 64)) here).1 in
+    let first = (and_parts (fits x.kind x.text) (nat_lt x.line (2 ^ 64)) hx).0 in
+    let second = (and_parts (fits y.kind y.text) (nat_lt y.line (2 ^ 64)) hy).0 in
     let both = pasted_fits x.kind y.kind i.0 x.text y.text first second i.1 in
     subst (λ (t : Token). is_spelled (standing_at name t) ≡ true) i.2 (rw (both, line) refl)
 
 pub string_spelled : (name : Token) (toks : List Token) (s : Token) → is_spelled name ≡ true → stringize_of toks ≡ Ok s → is_spelled (standing_at name s) ≡ true
 string_spelled name toks s here is =
-    let line = (and_two (fits name.kind name.text) (nat_lt name.line (2 ^ 64)) here).1 in
+    let line = (and_parts (fits name.kind name.text) (nat_lt name.line (2 ^ 64)) here).1 in
     subst (λ (t : Token). is_spelled (standing_at name t) ≡ true) (sym (string_is toks s is)) line
 
 made_spelled : MadePass is_spelled
@@ -79,11 +75,11 @@ made_spelled = record {
 
 pub number_spelled : (name : Token) → is_spelled name ≡ true → is_spelled (line_number name) ≡ true
 number_spelled name here =
-    let line = (and_two (fits name.kind name.text) (nat_lt name.line (2 ^ 64)) here).1 in
+    let line = (and_parts (fits name.kind name.text) (nat_lt name.line (2 ^ 64)) here).1 in
     rw (line_spelled name.line line, line) refl
 
 pub path_spelled : (path : List ℕ) (name : Token) → is_spelled name ≡ true → is_spelled (path_string path name) ≡ true
-path_spelled path name here = (and_two (fits name.kind name.text) (nat_lt name.line (2 ^ 64)) here).1
+path_spelled path name here = (and_parts (fits name.kind name.text) (nat_lt name.line (2 ^ 64)) here).1
 
 macros_spelled : (table : Table) (path : List ℕ) (notes : List Note) → MacrosAreSpelled table → MacrosPass is_spelled table path notes
 macros_spelled table path notes macros = record {

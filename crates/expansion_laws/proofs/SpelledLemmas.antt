@@ -1,7 +1,7 @@
 -- Tokens that are spelled as their kind says stay so when they are pasted.
 use Rattle.std.proofs.Common.{◌≡◌, ℕ, zero, suc, ◌+◌, ◌-◌, ◌≤◌, ◌&&◌, ◌==◌, Bool, true, false, not, List, [], ◌∷◌, ◌++◌, length, take, drop, Some, None, is_some, ◌⊎◌, inl, inr, refl, sym, ap, ◌∙◌, subst, arith, length-append}
 use Rattle.std.specs.Prelude.{codes}
-use Rattle.std.proofs.lemmas.Bool.{cases_Bool, cases_lt, eqb-true}
+use Rattle.std.proofs.lemmas.Bool.{cases_Bool, cases_lt, eqb-true, and_parts}
 use Rattle.std.proofs.lemmas.Bool.Decides.{nat_tests}
 use Rattle.std.proofs.Math.Seq.{take-append_seam}
 use Rattle.macro_expand.specs.Below.cs_base.declared.tokens.Kind.{Kind}
@@ -138,10 +138,6 @@ solid_less c cs more rest k hx i =
 
 -- ---- where both begin
 
-and_two : (a b : Bool) → (a && b) ≡ true → (a ≡ true) × (b ≡ true)
-and_two true b h = (refl, h)
-and_two false b h = absurd (cc)
-
 -- a slash with no slash or star behind it
 plain_slash : (c d : ℕ) (ds : List ℕ) → begins_token (c ∷ []) ≡ true → (d == slash) ≡ false → (d == star) ≡ false → begins_token (c ∷ d ∷ ds) ≡ true
 plain_slash c d ds h no_slash no_star = elim (cases_Bool (is_white c)) [
@@ -153,8 +149,8 @@ plain_slash c d ds h no_slash no_star = elim (cases_Bool (is_white c)) [
 ]
 
 solid_begins : (c : ℕ) (cs : List ℕ) (d : ℕ) (ds : List ℕ) → IsSolid (c ∷ cs) → (d == slash) ≡ false → (d == star) ≡ false → begins_token (c ∷ cs ++ d ∷ ds) ≡ true
-solid_begins c [] d ds h no_slash no_star = plain_slash c d ds (and_two (begins_token (c ∷ [])) true h.each).0 no_slash no_star
-solid_begins c (e ∷ cs) d ds h no_slash no_star = (and_two (begins_token (c ∷ e ∷ cs)) (begins_each (e ∷ cs)) h.each).0
+solid_begins c [] d ds h no_slash no_star = plain_slash c d ds (and_parts (begins_token (c ∷ [])) true h.each).0 no_slash no_star
+solid_begins c (e ∷ cs) d ds h no_slash no_star = (and_parts (begins_token (c ∷ e ∷ cs)) (begins_each (e ∷ cs)) h.each).0
 
 quote_slash : (q : ℕ) → is_quote q ≡ true → (q == slash) ≡ false
 quote_slash q h = grind (arith, nat_tests)
@@ -202,7 +198,7 @@ comment d ds k h (inr is) e =
 -- a token begins there, unless a comment does
 both_begin : (c : ℕ) (cs : List ℕ) (d : ℕ) (ds : List ℕ) (k : Kind) → IsSolid (c ∷ cs) → IsSolid (d ∷ ds) → one_token_of (c ∷ cs ++ d ∷ ds) ≡ Some k
     → begins_token (c ∷ cs ++ d ∷ ds) ≡ true
-both_begin c (e ∷ cs) d ds k hx hy is = (and_two (begins_token (c ∷ e ∷ cs)) (begins_each (e ∷ cs)) hx.each).0
+both_begin c (e ∷ cs) d ds k hx hy is = (and_parts (begins_token (c ∷ e ∷ cs)) (begins_each (e ∷ cs)) hx.each).0
 both_begin c [] d ds k hx hy is = elim (cases_Bool (d == slash)) [
   | inl first ↦ by (inl (eqb-true d slash first))
   | inr other ↦ elim (cases_Bool (d == star)) [
@@ -217,7 +213,7 @@ both_begin c [] d ds k hx hy is = elim (cases_Bool (d == slash)) [
           let there : one_token_of (slash ∷ d ∷ ds) ≡ Some k = subst (λ (x : ℕ). one_token_of (x ∷ d ∷ ds) ≡ Some k) (eqb-true c slash slashed) is in
           absurd (comment d ds k hy which there)
       | inr other ↦
-          let first = (and_two (begins_token (c ∷ [])) true hx.each).0 in
+          let first = (and_parts (begins_token (c ∷ [])) true hx.each).0 in
           elim (cases_Bool (is_white c)) [
             | inl white ↦ let no = rw white at first in absurd (cc)
             | inr dark ↦ rw (dark, other) refl
@@ -229,7 +225,7 @@ both_begin c [] d ds k hx hy is = elim (cases_Bool (d == slash)) [
 dark_both : (xs ys : List ℕ) → is_dark xs ≡ true → is_dark ys ≡ true → is_dark (xs ++ ys) ≡ true
 dark_both [] ys h k = k
 dark_both (x ∷ xs) ys h k =
-    let both = and_two (not (is_white x)) (is_dark xs) h in
+    let both = and_parts (not (is_white x)) (is_dark xs) h in
     rw (both.0, dark_both xs ys both.1 k) refl
 
 solid_both : (c : ℕ) (cs y : List ℕ) (k : Kind) → IsSolid (c ∷ cs) → IsSolid y → one_token_of (c ∷ cs ++ y) ≡ Some k → fits k (c ∷ cs ++ y) ≡ true

@@ -3,7 +3,7 @@ use Rattle.std.proofs.Common.{◌≡◌, ℕ, ◌&&◌, ◌||◌, ◌==◌, Bool
 use Rattle.std.specs.Prelude.{codes}
 use Rattle.std.specs.List.{list_all, list_any}
 use Rattle.std.specs.Str.{bytes_eq}
-use Rattle.std.proofs.lemmas.Bool.{cases_Bool}
+use Rattle.std.proofs.lemmas.Bool.{cases_Bool, and_parts}
 use Rattle.macro_expand.proofs.Below.cs_base.FileMapLemmas.{bytes_eq-equal}
 use Rattle.macro_expand.specs.Below.cs_base.declared.tokens.Kind.{Kind}
 use Rattle.macro_expand.specs.Below.cs_base.declared.tokens.Kind.TheVariants.{Ident, Number, Char, Str, Punct, Header, Other}
@@ -11,7 +11,7 @@ use Rattle.part_lexer.specs.Characters.{less_than, slash, star, single_quote, do
 use Rattle.part_lexer.specs.Spelling.{is_identifier_text, may_follow, all_follow, begins_number, is_number_text, is_plain_char_text, is_plain_string_text, without_prefix, is_char_text, is_string_text, is_punctuator_text, kind_of}
 use Rattle.part_lexer.proofs.TableLemmas.{punctuator-lacks, nondigit-punctuator, quote-punctuator}
 use Rattle.expansion_laws.specs.Spelled.{quote_first, begins_quoted, fits}
-use Rattle.expansion_laws.proofs.BeginLemmas.{and_two, or_true, quote_word, quote_nondigit, quote_begins, quote_follow, clash, punctuator_has}
+use Rattle.expansion_laws.proofs.BeginLemmas.{or_true, quote_word, quote_nondigit, quote_begins, quote_follow, clash, punctuator_has}
 
 -- ---- kinds of texts
 
@@ -107,12 +107,12 @@ sign_kind text h =
 -- ---- what no identifier, number or punctuator has inside
 
 all_in : (p : ℕ → Bool) (xs : List ℕ) (c : ℕ) (ys : List ℕ) → list_all p (xs ++ c ∷ ys) ≡ true → p c ≡ true
-all_in p [] c ys h = (and_two (p c) (list_all p ys) h).0
-all_in p (x ∷ xs) c ys h = all_in p xs c ys (and_two (p x) (list_all p (xs ++ c ∷ ys)) h).1
+all_in p [] c ys h = (and_parts (p c) (list_all p ys) h).0
+all_in p (x ∷ xs) c ys h = all_in p xs c ys (and_parts (p x) (list_all p (xs ++ c ∷ ys)) h).1
 
 follow_in : (last : ℕ) (xs : List ℕ) (c : ℕ) (ys : List ℕ) → all_follow last (xs ++ c ∷ ys) ≡ true → (before : ℕ) × (may_follow before c ≡ true)
-follow_in last [] c ys h = (last, (and_two (may_follow last c) (all_follow c ys) h).0)
-follow_in last (x ∷ xs) c ys h = follow_in x xs c ys (and_two (may_follow last x) (all_follow x (xs ++ c ∷ ys)) h).1
+follow_in last [] c ys h = (last, (and_parts (may_follow last c) (all_follow c ys) h).0)
+follow_in last (x ∷ xs) c ys h = follow_in x xs c ys (and_parts (may_follow last x) (all_follow x (xs ++ c ∷ ys)) h).1
 
 any_in : (p : ℕ → Bool) (xs : List ℕ) (c : ℕ) (ys : List ℕ) → p c ≡ true → list_any p (xs ++ c ∷ ys) ≡ true
 any_in p [] c ys h = rw h refl
@@ -121,8 +121,8 @@ any_in p (x ∷ xs) c ys h = rw (any_in p xs c ys h) (or_true (p x))
 -- ---- texts that begin with a quote, with an `L` and a quote, or with `<`
 
 exact_quote : (k : Kind) (q : ℕ) (ws zs : List ℕ) → is_quote q ≡ true → Exact k (q ∷ ws) → fits k (q ∷ zs) ≡ true
-exact_quote Ident q ws zs quote h = absurd (clash (is_nondigit q) (and_two (is_nondigit q) (list_all is_word ws) h).0 (quote_nondigit q quote))
-exact_quote Number q ws zs quote h = absurd (clash (begins_number q ws) (and_two (begins_number q ws) (all_follow q ws) h).0 (quote_begins q ws quote))
+exact_quote Ident q ws zs quote h = absurd (clash (is_nondigit q) (and_parts (is_nondigit q) (list_all is_word ws) h).0 (quote_nondigit q quote))
+exact_quote Number q ws zs quote h = absurd (clash (begins_number q ws) (and_parts (begins_number q ws) (all_follow q ws) h).0 (quote_begins q ws quote))
 exact_quote Char q ws zs quote h = quote_or q (q == capital_l && quote_first zs) quote
 exact_quote Str q ws zs quote h = quote_or q (q == capital_l && quote_first zs) quote
 exact_quote Punct q ws zs quote h = absurd (clash (is_punctuator_text (q ∷ ws)) h (quote-punctuator q ws quote))
@@ -133,7 +133,7 @@ pub quote_fits : (k : Kind) (q : ℕ) (ws zs : List ℕ) → is_quote q ≡ true
 quote_fits k q ws zs quote e = exact_quote k q ws zs quote (kind_exact (q ∷ ws) k e)
 
 exact_wide : (k : Kind) (q : ℕ) (ws zs : List ℕ) → is_quote q ≡ true → Exact k (capital_l ∷ q ∷ ws) → fits k (capital_l ∷ q ∷ zs) ≡ true
-exact_wide Ident q ws zs quote h = absurd (clash (is_word q) (and_two (is_word q) (list_all is_word ws) h).0 (quote_word q quote))
+exact_wide Ident q ws zs quote h = absurd (clash (is_word q) (and_parts (is_word q) (list_all is_word ws) h).0 (quote_word q quote))
 exact_wide Number q ws zs quote h = absurd (cc)
 exact_wide Char q ws zs quote h = quote
 exact_wide Str q ws zs quote h = quote
@@ -165,9 +165,9 @@ quoted_on x (d ∷ xs) c ys zs h = h
 
 exact_inner : (k : Kind) (x : ℕ) (xs : List ℕ) (q : ℕ) (ys zs : List ℕ) → is_quote q ≡ true → Exact k (x ∷ xs ++ q ∷ ys) → fits k (x ∷ xs ++ q ∷ zs) ≡ true
 exact_inner Ident x xs q ys zs quote h =
-    absurd (clash (is_word q) (all_in is_word xs q ys (and_two (is_nondigit x) (list_all is_word (xs ++ q ∷ ys)) h).1) (quote_word q quote))
+    absurd (clash (is_word q) (all_in is_word xs q ys (and_parts (is_nondigit x) (list_all is_word (xs ++ q ∷ ys)) h).1) (quote_word q quote))
 exact_inner Number x xs q ys zs quote h =
-    let i = follow_in x xs q ys (and_two (begins_number x (xs ++ q ∷ ys)) (all_follow x (xs ++ q ∷ ys)) h).1 in
+    let i = follow_in x xs q ys (and_parts (begins_number x (xs ++ q ∷ ys)) (all_follow x (xs ++ q ∷ ys)) h).1 in
     absurd (clash (may_follow i.0 q) i.1 (quote_follow i.0 q quote))
 exact_inner Char x xs q ys zs quote h = quoted_on x xs q ys zs h
 exact_inner Str x xs q ys zs quote h = quoted_on x xs q ys zs h
@@ -189,9 +189,9 @@ less_follow last = refl
 
 exact_inner_less : (k : Kind) (x : ℕ) (xs ys zs : List ℕ) → Exact k (x ∷ xs ++ less_than ∷ ys) → fits k (x ∷ xs ++ less_than ∷ zs) ≡ true
 exact_inner_less Ident x xs ys zs h =
-    absurd (clash (is_word less_than) (all_in is_word xs less_than ys (and_two (is_nondigit x) (list_all is_word (xs ++ less_than ∷ ys)) h).1) refl)
+    absurd (clash (is_word less_than) (all_in is_word xs less_than ys (and_parts (is_nondigit x) (list_all is_word (xs ++ less_than ∷ ys)) h).1) refl)
 exact_inner_less Number x xs ys zs h =
-    let i = follow_in x xs less_than ys (and_two (begins_number x (xs ++ less_than ∷ ys)) (all_follow x (xs ++ less_than ∷ ys)) h).1 in
+    let i = follow_in x xs less_than ys (and_parts (begins_number x (xs ++ less_than ∷ ys)) (all_follow x (xs ++ less_than ∷ ys)) h).1 in
     absurd (clash (may_follow i.0 less_than) i.1 (less_follow i.0))
 exact_inner_less Char x xs ys zs h = quoted_on x xs less_than ys zs h
 exact_inner_less Str x xs ys zs h = quoted_on x xs less_than ys zs h

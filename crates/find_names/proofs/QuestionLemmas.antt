@@ -3,7 +3,7 @@ use Rattle.std.proofs.Common.{◌≡◌, ℕ, zero, suc, ◌+◌, ◌<◌, Bool,
 use Rattle.std.specs.Prelude.{map, MatchBool}
 use Rattle.std.specs.List.{list_all}
 use Rattle.std.specs.Str.{IsUtf8, bytes_eq, is_utf8}
-use Rattle.std.proofs.lemmas.Bool.{cases_Bool}
+use Rattle.std.proofs.lemmas.Bool.{cases_Bool, and_parts}
 use Rattle.std.proofs.lemmas.Option.{none-some, same_Some, slice_get_within, slice_get-get_or, get_or_from_slice_get}
 use Rattle.std.proofs.lemmas.Str.{IsUtf8-from_is_utf8}
 use borrow.Author.Count.{below_more}
@@ -54,17 +54,13 @@ pub named_never : (a : AnalysisValue) (path : List ℕ) (line column : ℕ) (n :
     → Names a path line column (Some n) → ⊥
 named_never a path line column n p q = none-some q.0 (sym p ∙ q.1)
 
-both_true : (a b : Bool) → (a && b) ≡ true → (a ≡ true) × (b ≡ true)
-both_true true b h = (refl, h)
-both_true false b h = absurd (cc)
-
 -- a path that is no text is that of no kept file
 not_text : (path : List ℕ) (n : ℕ) (table : Table) → list_all is_utf8 (map (λ (e : Entry). e.path) table) ≡ true → (IsUtf8 path → ⊥)
     → file_named path n table ≡ None
 unfolding file_named
 not_text path n [] all not = refl
 not_text path n (e ∷ table) all not =
-    let each = both_true (is_utf8 e.path) (list_all is_utf8 (map (λ (f : Entry). f.path) table)) all in
+    let each = and_parts (is_utf8 e.path) (list_all is_utf8 (map (λ (f : Entry). f.path) table)) all in
     elim (cases_Bool (bytes_eq path e.path)) [
       | inl same ↦
           let is : path ≡ e.path = bytes_eq-equal path e.path same in

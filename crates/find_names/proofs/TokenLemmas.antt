@@ -4,7 +4,7 @@ use Rattle.std.specs.Prelude.{MatchBool, OnOk, filter, map, nat_eq}
 use Rattle.std.specs.List.{flat_map, list_any}
 use Rattle.std.specs.Option.{option_map, option_map_or}
 use Rattle.std.proofs.Math.Bool.{or_assoc}
-use Rattle.std.proofs.lemmas.Bool.{eq-eqb, eqb-true}
+use Rattle.std.proofs.lemmas.Bool.{eq-eqb, eqb-true, and_parts}
 use Rattle.std.proofs.lemmas.List.{at_drop_more, at_drop_all, take_more, take_all}
 use Rattle.std.proofs.lemmas.List.Elements.{filter-append}
 use Rattle.std.proofs.lemmas.List.Folds.{list_any-append}
@@ -37,10 +37,6 @@ pub or-false : (b : Bool) → b ≡ (b || false)
 or-false true = refl
 or-false false = refl
 
-both_true : (a b : Bool) → (a && b) ≡ true → (a ≡ true) × (b ≡ true)
-both_true true b h = (refl, h)
-both_true false b h = absurd (cc)
-
 part_of_parts : (p q : Part) → p.start.file ≡ q.start.file → p.start.at ≡ q.start.at → p.len ≡ q.len → p ≡ q
 part_of_parts p q e f g =
     ap (λ (n : ℕ). record { start = record { file = n; at = p.start.at }; len = p.len }) e
@@ -49,8 +45,8 @@ part_of_parts p q e f g =
 
 pub same_part : (p q : Part) → is_part p q ≡ true → p ≡ q
 same_part p q passed =
-    let outer = both_true (nat_eq p.start.file q.start.file && nat_eq p.start.at q.start.at) (nat_eq p.len q.len) passed in
-    let inner = both_true (nat_eq p.start.file q.start.file) (nat_eq p.start.at q.start.at) outer.0 in
+    let outer = and_parts (nat_eq p.start.file q.start.file && nat_eq p.start.at q.start.at) (nat_eq p.len q.len) passed in
+    let inner = and_parts (nat_eq p.start.file q.start.file) (nat_eq p.start.at q.start.at) outer.0 in
     part_of_parts p q (eqb-true p.start.file q.start.file inner.0) (eqb-true p.start.at q.start.at inner.1) (eqb-true p.len q.len outer.1)
 
 pub part_itself : (p : Part) → is_part p p ≡ true

@@ -3,7 +3,7 @@ use Rattle.std.proofs.Common.{◌≡◌, ℕ, zero, suc, ◌-◌, ◌<◌, ◌�
 use Rattle.std.specs.Prelude.{All, IfSome, slice_get, slice_range}
 use Rattle.std.specs.List.{list_all, list_any}
 use Rattle.std.specs.Option.{option_map}
-use Rattle.std.proofs.lemmas.Bool.{cases_Bool}
+use Rattle.std.proofs.lemmas.Bool.{cases_Bool, and_parts}
 use Rattle.std.proofs.lemmas.Option.{slice_get-map, slice_get_read, slice_get_past, same_Some}
 use Rattle.std.proofs.lemmas.List.Elements.{All-same}
 use Rattle.cs_base.specs.Token.{Token}
@@ -25,10 +25,6 @@ use Rattle.source_files.specs.Sources.{read_as, source_kept}
 use Rattle.unit_steps.proofs.FileToksLemmas.{text-sound}
 use Rattle.include_tree.specs.Walk.{ItemText, item_text, item_texts, items_in}
 
-both_hold : (a b : Bool) → (a && b) ≡ true → (a ≡ true) × (b ≡ true)
-both_hold true b h = (refl, h)
-both_hold false b h = absurd (cc)
-
 -- ---- parts of lists
 
 pub list_all-take : (p : Token → Bool) (n : ℕ) (ts : List Token) → list_all p ts ≡ true → list_all p (take n ts) ≡ true
@@ -36,7 +32,7 @@ list_all-take p zero [] h = refl
 list_all-take p zero (t ∷ ts) h = refl
 list_all-take p (suc n) [] h = refl
 list_all-take p (suc n) (t ∷ ts) h =
-    let both = both_hold (p t) (list_all p ts) h in
+    let both = and_parts (p t) (list_all p ts) h in
     let rest = list_all-take p n ts both.1 in
     rw (both.0, rest) refl
 
@@ -44,7 +40,7 @@ pub list_all-drop : (p : Token → Bool) (n : ℕ) (ts : List Token) → list_al
 list_all-drop p zero [] h = refl
 list_all-drop p zero (t ∷ ts) h = h
 list_all-drop p (suc n) [] h = refl
-list_all-drop p (suc n) (t ∷ ts) h = list_all-drop p n ts (both_hold (p t) (list_all p ts) h).1
+list_all-drop p (suc n) (t ∷ ts) h = list_all-drop p n ts (and_parts (p t) (list_all p ts) h).1
 
 pub list_all-range : (p : Token → Bool) (ts : List Token) (from to : ℕ) → list_all p ts ≡ true → list_all p (slice_range ts from to) ≡ true
 list_all-range p ts from to h = list_all-take p (to - from) (drop from ts) (list_all-drop p from ts h)
@@ -54,7 +50,7 @@ list_all-range p ts from to h = list_all-take p (to - from) (drop from ts) (list
 behind_close-all : (p : Token → Bool) (ts body : List Token) → behind_close ts ≡ Some body → list_all p ts ≡ true → list_all p body ≡ true
 behind_close-all p [] body e h = absurd (cc)
 behind_close-all p (t ∷ ts) body e h =
-    let both = both_hold (p t) (list_all p ts) h in
+    let both = and_parts (p t) (list_all p ts) h in
     elim (cases_Bool (is_close t)) [
       | inl close ↦ subst (λ (b : List Token). list_all p b ≡ true) (same_Some ts body (rw close at e)) both.1
       | inr other ↦ behind_close-all p ts body (rw other at e) both.1

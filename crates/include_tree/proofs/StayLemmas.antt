@@ -1,7 +1,7 @@
 -- What stays true of the table of files: whatever no step that asks for a path or opens a file undoes. Here the
 -- steps of expansions, definitions, conditions and searches.
 use Rattle.std.proofs.Common.{◌≡◌, ℕ, ◌+◌, nat_lt, nat_le, Bool, true, false, not, ◌&&◌, cond, is_some, List, [], ◌∷◌, ◌++◌, length, Option, None, Some, Result, Ok, Err, refl, inl, inr, arith}
-use Rattle.std.proofs.lemmas.Bool.{cases_Bool}
+use Rattle.std.proofs.lemmas.Bool.{cases_Bool, and_parts}
 use Rattle.std.specs.List.{list_any, list_all, filter}
 use Rattle.std.specs.Str.{is_utf8}
 use Rattle.cs_base.specs.declared.causes.Cause.TheVariants.{DefinedFromMacro, TooManyFiles, TooManyBytes}
@@ -160,22 +160,15 @@ search_on_stays J path t rest k (Some (Unopened bytes)) h = h
 search_on_stays J path t rest k (Some (Opened bytes)) h = h
 search_on_stays J path t rest k (Some (Made bytes)) h = h
 
--- the first and the rest pass the test
-all_first : (a b : Bool) → (a && b) ≡ true → a ≡ true
-all_first a b h = grind (arith, h)
-
-all_rest : (a b : Bool) → (a && b) ≡ true → b ≡ true
-all_rest a b h = grind (arith, h)
-
 pub search_stays : (source : Source) (J : Table → Type 0) → IsStable source J → (paths : List (List ℕ)) (t : Table) → list_all can_be_asked paths ≡ true → J t
     → J (search source paths t).table
 unfolding search
 search_stays source J k [] t all h = h
 search_stays source J k (path ∷ paths) t all h =
     search_on_stays J path (asked source path t) (search source paths)
-    (λ u g. search_stays source J k paths u (all_rest (can_be_asked path) (list_all can_be_asked paths) all) g)
+    (λ u g. search_stays source J k paths u ((and_parts (can_be_asked path) (list_all can_be_asked paths) all).1) g)
     (found_at path (asked source path t))
-    (k.asks path t (asked_is path (all_first (can_be_asked path) (list_all can_be_asked paths) all)) h)
+    (k.asks path t (asked_is path ((and_parts (can_be_asked path) (list_all can_be_asked paths) all).0)) h)
 
 pub list_all-filtered : {X : Type 0} (p : X → Bool) (xs : List X) → list_all p (filter p xs) ≡ true
 list_all-filtered p [] = refl

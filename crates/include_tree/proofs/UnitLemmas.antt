@@ -6,6 +6,7 @@ use Rattle.std.specs.Str.{bytes_eq, is_utf8, chars}
 use Rattle.std.proofs.lemmas.List.{append-nil}
 use Rattle.std.proofs.lemmas.Fmt.{IsAscii-decimal}
 use Rattle.std.proofs.lemmas.Str.{IsUtf8-append, IsUtf8-from_ascii, IsUtf8-from_is_utf8, is_utf8-from_IsUtf8}
+use Rattle.std.proofs.lemmas.Bool.{and_parts, and_from}
 use Rattle.cs_base.specs.Answer.{Gives}
 use Rattle.cs_base.specs.Token.{Token}
 use Rattle.cs_base.specs.declared.positions.Place.{Place}
@@ -193,24 +194,12 @@ pub not_met : (o : Option Found) (b : Bool) → b ≡ is_some o → b ≡ false 
 not_met None b h other = refl
 not_met (Some f) b h other = absurd (cc)
 
-and-left : (a b : Bool) → (a && b) ≡ true → a ≡ true
-and-left true b h = refl
-and-left false b h = absurd (cc)
-
-and-right : (a b : Bool) → (a && b) ≡ true → b ≡ true
-and-right true b h = h
-and-right false b h = absurd (cc)
-
-and-both : (a b : Bool) → a ≡ true → b ≡ true → (a && b) ≡ true
-and-both true b h k = k
-and-both false b h k = absurd (cc)
-
 -- the path of a unit can be asked for
 pub unit-asked : (path : List ℕ) (u : UnitValue) → path ≡ u.path → IsUnit u → can_be_asked path ≡ true
 unfolding is_writable
 unit-asked path u is sound =
     let placed : is_unit_path u.path ≡ true = sound.is_placed in
-    let other : not (begins_with (λ c. c == less_sign) u.path) ≡ true = and-right _ _ placed in
-    let writable : is_writable u.path ≡ true = and-left _ _ (and-left _ _ (and-left _ _ placed)) in
-    let text : is_utf8 u.path ≡ true = and-left _ _ (and-left _ _ writable) in
-    subst (λ (p : List ℕ). can_be_asked p ≡ true) (sym is) (and-both (is_utf8 u.path) (not (begins_with (λ c. c == less_sign) u.path)) text other)
+    let other : not (begins_with (λ c. c == less_sign) u.path) ≡ true = (and_parts _ _ placed).1 in
+    let writable : is_writable u.path ≡ true = (and_parts _ _ ((and_parts _ _ ((and_parts _ _ placed).0)).0)).0 in
+    let text : is_utf8 u.path ≡ true = (and_parts _ _ ((and_parts _ _ writable).0)).0 in
+    subst (λ (p : List ℕ). can_be_asked p ≡ true) (sym is) (and_from (is_utf8 u.path) (not (begins_with (λ c. c == less_sign) u.path)) text other)

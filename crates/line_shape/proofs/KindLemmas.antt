@@ -1,7 +1,7 @@
 -- A directive line is no run.
 use Rattle.std.proofs.Common.{◌≡◌, ℕ, Bool, false, not, ◌||◌, List, [], ◌∷◌, Option, Some, None, refl, inl, inr, arith}
 use Rattle.std.specs.Str.{bytes_eq}
-use Rattle.std.proofs.lemmas.Bool.{cases_Bool}
+use Rattle.std.proofs.lemmas.Bool.{cases_Bool, or_parts}
 use Rattle.cs_base.specs.Token.{Token}
 use Rattle.cs_base.specs.declared.positions.Pos.{Pos}
 use Rattle.cs_base.specs.declared.causes.Cause.{Cause}
@@ -21,18 +21,12 @@ abbrev has_run : List (List ℕ × ItemKind) → Bool
 has_run [] = false
 has_run (row ∷ rows) = is_run row.1 || has_run rows
 
-or-first : (a b : Bool) → (a || b) ≡ false → a ≡ false
-or-first a b h = grind (arith, h)
-
-or-second : (a b : Bool) → (a || b) ≡ false → b ≡ false
-or-second a b h = grind (arith, h)
-
 is_run_in-meaning_in : (rows : List (List ℕ × ItemKind)) (text : List ℕ) → has_run rows ≡ false → is_run_in (meaning_in rows text) ≡ false
 is_run_in-meaning_in [] text h = refl
 is_run_in-meaning_in (row ∷ rows) text h =
     elim (cases_Bool (bytes_eq text row.0)) [
-      | inl found ↦ rw found (or-first (is_run row.1) (has_run rows) h)
-      | inr other ↦ rw other (is_run_in-meaning_in rows text (or-second (is_run row.1) (has_run rows) h))
+      | inl found ↦ rw found ((or_parts (is_run row.1) (has_run rows) h).0)
+      | inr other ↦ rw other (is_run_in-meaning_in rows text ((or_parts (is_run row.1) (has_run rows) h).1))
     ]
 
 is_run_in-directive_named : (t : Token) → is_run_in (directive_named t) ≡ false

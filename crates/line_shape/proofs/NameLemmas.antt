@@ -2,7 +2,7 @@
 use Rattle.std.proofs.Common.{◌≡◌, ℕ, Bool, true, false, not, ◌&&◌, ◌||◌, List, [], ◌∷◌, ◌++◌, map, refl, sym, ◌∙◌, subst, true≢false, inl, inr, arith}
 use Rattle.std.specs.List.{list_any}
 use Rattle.std.specs.Str.{bytes_eq}
-use Rattle.std.proofs.lemmas.Bool.{cases_Bool}
+use Rattle.std.proofs.lemmas.Bool.{cases_Bool, and_parts, not-true, or_parts}
 use Rattle.std.proofs.lemmas.List.{map-append}
 use Rattle.std.proofs.lemmas.List.Folds.{list_any-append}
 use Rattle.cs_base.proofs.FileMapLemmas.{bytes_eq-same, bytes_eq-equal}
@@ -43,30 +43,15 @@ are_distinct-twice (x ∷ xs) y ys h =
           rw tail (grind arith)
     ]
 
-and-left : (a b : Bool) → (a && b) ≡ true → a ≡ true
-and-left a b h = grind (arith, h)
-
-and-right : (a b : Bool) → (a && b) ≡ true → b ≡ true
-and-right a b h = grind (arith, h)
-
-not-true : (a : Bool) → not a ≡ true → a ≡ false
-not-true a h = grind (arith, h)
-
-or-first : (a b : Bool) → (a || b) ≡ false → a ≡ false
-or-first a b h = grind (arith, h)
-
-or-second : (a b : Bool) → (a || b) ≡ false → b ≡ false
-or-second a b h = grind (arith, h)
-
 -- one name more, which is new
 pub are_distinct-new : (xs : List (List ℕ)) (y : List ℕ) → are_distinct xs ≡ true → list_any (bytes_eq y) xs ≡ false
     → are_distinct (xs ++ y ∷ []) ≡ true
 are_distinct-new [] y distinct new = refl
 are_distinct-new (x ∷ xs) y distinct new =
-    let once = not-true (list_any (bytes_eq x) xs) (and-left _ _ distinct) in
-    let other = bytes_eq-apart y x (or-first (bytes_eq y x) (list_any (bytes_eq y) xs) new) in
+    let once = not-true (list_any (bytes_eq x) xs) ((and_parts _ _ distinct).0) in
+    let other = bytes_eq-apart y x ((or_parts (bytes_eq y x) (list_any (bytes_eq y) xs) new).0) in
     let none : list_any (bytes_eq x) (xs ++ y ∷ []) ≡ false = list_any-append (bytes_eq x) xs (y ∷ []) ∙ rw (once, other) refl in
-    let more = are_distinct-new xs y (and-right _ _ distinct) (or-second (bytes_eq y x) (list_any (bytes_eq y) xs) new) in
+    let more = are_distinct-new xs y ((and_parts _ _ distinct).1) ((or_parts (bytes_eq y x) (list_any (bytes_eq y) xs) new).1) in
     rw (none, more) refl
 
 -- the spellings of the keys, one of which is new

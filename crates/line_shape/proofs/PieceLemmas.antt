@@ -1,7 +1,7 @@
 -- The pieces of a list of tokens: the first, and those behind.
 use Rattle.std.proofs.Common.{◌≡◌, ℕ, zero, suc, Bool, true, false, ◌&&◌, List, [], ◌∷◌, get_or, take, drop, refl, sym, ◌∙◌, inl, inr, arith}
 use Rattle.std.specs.List.{onto_first}
-use Rattle.std.proofs.lemmas.Bool.{cases_Bool}
+use Rattle.std.proofs.lemmas.Bool.{cases_Bool, and_parts}
 use Rattle.cs_base.specs.Token.{Token}
 use Rattle.line_shape.specs.declared.items.ItemKind.TheVariants.{Run}
 use Rattle.line_shape.specs.Signs.{is_hash}
@@ -81,12 +81,6 @@ text_pieces-last_line : (t u : Token) (lines : List (List Token)) → BeginsWith
 text_pieces-last_line t u lines b h =
     rw (pieces_of-directive u lines b h) (onto_pieces-before t _ (pieces_of b.more) (is_run-line_kind u b.toks ∙ rw h refl))
 
-and-left : (a b : Bool) → (a && b) ≡ true → a ≡ true
-and-left a b h = grind (arith, h)
-
-and-right : (a b : Bool) → (a && b) ≡ true → b ≡ true
-and-right a b h = grind (arith, h)
-
 -- the second token of a list
 is_hash_at-second : (t u : Token) (toks : List Token) → is_hash_at (t ∷ u ∷ toks) 1 ≡ is_hash u
 unfolding is_hash_at
@@ -111,8 +105,8 @@ text_pieces-run t [] firsts zero e = rw (lines_of-one t firsts, lines_of-nil (dr
 text_pieces-run t [] firsts (suc n) e = absurd (let w = e.within in omega arith)
 text_pieces-run t (u ∷ toks) firsts zero e =
     let ends = e.end (omega arith) in
-    let begins = and-left (get_or firsts 1 false) (is_hash_at (t ∷ u ∷ toks) 1) ends in
-    let hash = sym (is_hash_at-second t u toks) ∙ and-right (get_or firsts 1 false) (is_hash_at (t ∷ u ∷ toks) 1) ends in
+    let begins = (and_parts (get_or firsts 1 false) (is_hash_at (t ∷ u ∷ toks) 1) ends).0 in
+    let hash = sym (is_hash_at-second t u toks) ∙ (and_parts (get_or firsts 1 false) (is_hash_at (t ∷ u ∷ toks) 1) ends).1 in
     rw (lines_of-cons t (u ∷ toks) firsts, begins) (text_pieces-last_line t u _ (lines_of-BeginsWith u toks (drop 1 firsts)) hash)
 text_pieces-run t (u ∷ toks) firsts (suc n) e =
     let rest = text_pieces-run u toks (drop 1 firsts) n (EndsBehind-after false t u toks firsts n e) in

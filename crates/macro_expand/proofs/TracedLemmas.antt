@@ -7,7 +7,7 @@ use Rattle.std.specs.Option.{option_and_then}
 use Rattle.std.specs.Str.{bytes_eq}
 use Rattle.std.proofs.lemmas.Option.{same_Some}
 use Rattle.std.proofs.lemmas.List.{drop-drop}
-use Rattle.std.proofs.lemmas.Bool.{lt-ltb}
+use Rattle.std.proofs.lemmas.Bool.{lt-ltb, and_parts}
 use Rattle.std.proofs.lemmas.List.Elements.{All-nil, All-cons, All-same}
 use Rattle.std.proofs.Math.Seq.{take-append_seam, drop-append_seam}
 use Rattle.cs_base.specs.Token.{Token, IsToken, origin_at}
@@ -36,15 +36,11 @@ each-traced (o ∷ os) h =
 pub origins-traced : (t : Token) → IsToken t → ((k : ℕ) → k < length t.text → is_some (origin_at t k) ≡ true) → list_all is_some t.origins ≡ true
 origins-traced t is h = each-traced t.origins (λ k below. h k (let e = is.each in omega arith))
 
-and_both : (a b : Bool) → (a && b) ≡ true → (a ≡ true) × (b ≡ true)
-and_both true b h = (refl, h)
-and_both false b h = absurd (cc)
-
 pub list_all-left : (p q : Token → Bool) (ts : List Token) → list_all (λ (t : Token). p t && q t) ts ≡ true → list_all p ts ≡ true
 list_all-left p q [] h = refl
 list_all-left p q (t ∷ ts) h =
-    let both = and_both (p t && q t) (list_all (λ (u : Token). p u && q u) ts) h in
-    let first = and_both (p t) (q t) both.0 in
+    let both = and_parts (p t && q t) (list_all (λ (u : Token). p u && q u) ts) h in
+    let first = and_parts (p t) (q t) both.0 in
     let rest = list_all-left p q ts both.1 in
     rw (first.0, rest) refl
 
@@ -181,7 +177,7 @@ pub list_all-more : (p : Token → Bool) (ts : List Token) (k : ℕ) (t : Token)
 list_all-more p [] k t below is h here = absurd (omega arith)
 list_all-more p (u ∷ ts) zero t below is h here = let first : p u ≡ true = ap p (sym is) ∙ here in rw first refl
 list_all-more p (u ∷ ts) (suc k) t below is h here =
-    let both = and_both (p u) (list_all p (take k ts)) h in
+    let both = and_parts (p u) (list_all p (take k ts)) h in
     let rest = list_all-more p ts k t (omega arith) is both.1 here in
     let on : suc k + 1 ≡ suc (k + 1) = omega arith in
     rw on (rw (both.0, rest) refl)

@@ -2,7 +2,7 @@
 use borrow.Author.Tests.{ltb-true, ltb-false}
 use Rattle.std.proofs.Common.{Bool, true, false, ◌&&◌, ℕ, zero, suc, ◌-◌, ◌<◌, ◌≤◌, ◌≡◌, cond, nat_lt, List, [], ◌∷◌, ◌++◌, reverse, take, length, get_or, Option, None, Some, refl, sym, ap, subst, ◌∙◌, inl, inr, arith}
 use Rattle.std.specs.Prelude.{not, find, filter, slice_get}
-use Rattle.std.proofs.lemmas.Bool.{cases_Bool, eqb-true, cond-false, cond_both}
+use Rattle.std.proofs.lemmas.Bool.{cases_Bool, eqb-true, cond-false, cond_both, not-true}
 use Rattle.std.proofs.lemmas.List.{length_push, length-take-le, get_or_append_left, get_or_push}
 use Rattle.std.proofs.Math.Seq.{take-append_seam}
 use Rattle.cs_base.specs.Token.{Token}
@@ -18,10 +18,6 @@ use Rattle.name_chains.specs.Chains.{name_key, name_key_of, lasts, has_begun, ha
 use Rattle.name_chains.proofs.LatestLemmas.{slice_get_some}
 use Rattle.name_chains.proofs.ChainLemmas.{passes_here, leads_to, left_whole, left_all, left_on}
 use Rattle.name_chains.proofs.ChainedMore.{get_front, take_front, apart}
-
-pub not_true : (b : Bool) → not b ≡ true → b ≡ false
-not_true true e = cc
-not_true false e = refl
 
 and_false : (b c : Bool) → c ≡ false → (b && c) ≡ false
 and_false true c e = e
@@ -86,7 +82,7 @@ module _ {T : Type 0} (key_of : Declaration → ℕ) (n : ℕ) (asked : List Dec
       let same : n ≡ key_of x.0 = eqb-true n (key_of x.0) (passes_here (has_key key_of n) xs k x.0 l x.1 again) in
       subst (λ o. Down k (cond (has_begun at o) (get_or over k 0) (get_or before k 0))) (sym x.1)
       (cond_both (has_begun at (Some x.0)) (get_or over k 0) (get_or before k 0) (Down k)
-      (λ begun. by_over at k x.0 narrow x.1 same (ltb-false at x.0.from (not_true (nat_lt at x.0.from) begun)))
+      (λ begun. by_over at k x.0 narrow x.1 same (ltb-false at x.0.from (not-true (nat_lt at x.0.from) begun)))
       (λ _. by_before k l again))
 
   place_down : (a : Option ℕ) (k : ℕ) → ((at : ℕ) → a ≡ Some at → Narrow at) → suc k ≤ length xs
@@ -137,7 +133,7 @@ module _ (key_of : Declaration → ℕ) (n at : ℕ) where
         let x = slice_get_some xs k (omega (arith, left.within)) in
         let past_here : has_ended at (Some x.0) ≡ true = ap (has_ended at) (sym x.1) ∙ (ap (λ j. has_ended at (slice_get xs j)) (sym m) ∙ ended) in
         let none = cond-false (lasts key_of n at x.0) (x.0 ∷ lasting (reverse (take k xs))) (lasting (reverse (take k xs)))
-        (lasts_not x.0 (ltb-false at x.0.to (not_true (nat_lt at x.0.to) past_here))) in
+        (lasts_not x.0 (ltb-false at x.0.to (not-true (nat_lt at x.0.to) past_here))) in
         let down = subst (IsLeft (has_key key_of n) lasting (take k xs) (reverse (take k xs))) (sym (e ∙ ap (next_at xs before over at) m))
         (next_down key_of n lasting skip_other xs before over newest linked past at k narrow_lasting left.within left.again) in (
           left_on (has_key key_of n) lasting skip_other xs k next x.0 (reverse xs) left x.1 none down,

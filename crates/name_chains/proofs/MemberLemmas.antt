@@ -3,7 +3,7 @@ use Rattle.std.proofs.Common.{ℕ, zero, suc, ◌+◌, ◌-◌, ◌<◌, ◌≤�
 use Rattle.std.specs.Prelude.{not, filter, slice_get, ◌==◌}
 use Rattle.std.specs.List.{list_any}
 use Rattle.std.specs.Option.{option_map_or}
-use Rattle.std.proofs.lemmas.Bool.{cases_Bool, eqb-true, eq-eqb, cond-true, cond-false}
+use Rattle.std.proofs.lemmas.Bool.{cases_Bool, eqb-true, eq-eqb, cond-true, cond-false, and_parts}
 use Rattle.std.proofs.lemmas.List.{length-take-le, take-append-drop}
 use Rattle.c_types.specs.declared.declarations.Declaration.{Declaration}
 use Rattle.c_types.specs.declared.declarations.Space.TheVariants.{Members as members}
@@ -18,14 +18,6 @@ use Rattle.name_chains.proofs.LatestLemmas.{take_one_more, slice_get_some}
 use Rattle.name_chains.proofs.LinkedLemmas.{any_at}
 use Rattle.name_chains.proofs.ChainLemmas.{passes_here, leads_to, left_whole, left_all, left_on, back_more, length_back}
 use Rattle.name_chains.proofs.ChainedMore.{same_space}
-
-both_first : (a b : Bool) → (a && b) ≡ true → a ≡ true
-both_first true b e = refl
-both_first false b e = cc
-
-both_second : (a b : Bool) → (a && b) ≡ true → b ≡ true
-both_second true b e = e
-both_second false b e = cc
 
 -- ---- How many stand before a name
 
@@ -85,8 +77,8 @@ module _ (name : ℕ) where
         let within : suc k ≤ length xs = omega (arith, e, whole.within) in
         let x = slice_get_some xs k (omega (arith, within)) in
         let passes = passes_here named xs k x.0 within x.1 (subst (λ p. latest_place named (reverse (take p xs)) ≡ p) (sym e) whole.again) in
-        let holds = both_first (own x.0) (x.0.name_at == name) passes in
-        let same : (x.0.name_at == name) ≡ true = both_second (own x.0) (x.0.name_at == name) passes in
+        let holds = (and_parts (own x.0) (x.0.name_at == name) passes).0 in
+        let same : (x.0.name_at == name) ≡ true = (and_parts (own x.0) (x.0.name_at == name) passes).1 in
         ap (λ j. (rank_at ranks j).first) m
         ∙ ((ranked.told k number x.0 x.1 holds).first
         ∙ (ap (place_of (filter own (take k xs))) (eqb-true x.0.name_at name same)
@@ -107,8 +99,8 @@ module _ (name : ℕ) where
           elim (cases_Bool (named d)) [
             | inr e ↦ e
             | inl e ↦
-                let s : d.space ≡ members number = same_space d.space (members number) (both_first (own d) (d.name_at == name) e) in
-                let n : d.name_at ≡ name = eqb-true d.name_at name (both_second (own d) (d.name_at == name) e) in
+                let s : d.space ≡ members number = same_space d.space (members number) ((and_parts (own d) (d.name_at == name) e).0) in
+                let n : d.name_at ≡ name = eqb-true d.name_at name ((and_parts (own d) (d.name_at == name) e).1) in
                 let k : key ≡ name_key_of numbers d =
                 ap (λ j. space_key (count_of numbers) (members number) (number_at numbers j)) (sym n)
                 ∙ ap (λ t. space_key (count_of numbers) t (number_at numbers d.name_at)) (sym s) in

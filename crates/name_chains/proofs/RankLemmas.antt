@@ -2,7 +2,7 @@
 use borrow.Author.Tests.{ltb-true, ltb-false}
 use Rattle.std.proofs.Common.{ℕ, zero, suc, ◌+◌, ◌-◌, ◌<◌, ◌≤◌, ◌≡◌, Bool, true, false, nat_lt, List, [], ◌∷◌, ◌++◌, reverse, take, drop, length, get_or, if◌then◌else◌, Option, None, Some, refl, sym, ap, subst, ◌∙◌, ◌⊎◌, inl, inr, arith}
 use Rattle.std.specs.Prelude.{not, filter, slice_get, ◌==◌}
-use Rattle.std.proofs.lemmas.Bool.{cases_eq, eq-eqb, ne_eqb, cond-true, cond-false, cond_both}
+use Rattle.std.proofs.lemmas.Bool.{cases_eq, eq-eqb, ne_eqb, cond-true, cond-false, cond_both, not-false, not-true}
 use Rattle.std.proofs.lemmas.List.{reverse-append, length-take-le, take-take, take-append-drop, length_push}
 use Rattle.std.proofs.lemmas.Option.{slice_get_past}
 use Rattle.c_types.specs.declared.declarations.Declaration.{Declaration}
@@ -17,11 +17,6 @@ use Rattle.name_chains.proofs.LatestLemmas.{take_one_more, slice_get_some}
 use Rattle.name_chains.proofs.LinkedLemmas.{slice_front, slice_last, at_suc}
 use Rattle.name_chains.proofs.ChainLemmas.{passes_here, leads_to, left_whole, left_all, left_on}
 use Rattle.name_chains.proofs.ChainedMore.{joined_by}
-use Rattle.name_chains.proofs.ChainedOver.{not_true}
-
-not_false : (b : Bool) → not b ≡ false → b ≡ true
-not_false true e = refl
-not_false false e = cc
 
 -- ---- Those that pass, up to a place
 
@@ -181,7 +176,7 @@ module _ (number : ℕ) (xs : List Declaration) (ranks : List Rank) (ranked : Ar
       pub way_on : (p next : ℕ) → Way p → 0 < p → not (nat_lt (n + 1) (depth_at ranks p)) ≡ false → next ≡ next_towards structures.before ranks n (p - 1) → Way next × (next < p)
       way_on zero next way l more e = absurd (omega (arith, l))
       way_on (suc k) next way l more e =
-          let many : n + 1 < depth_at ranks (suc k) = ltb-true (n + 1) (depth_at ranks (suc k)) (not_false (nat_lt (n + 1) (depth_at ranks (suc k))) more) in
+          let many : n + 1 < depth_at ranks (suc k) = ltb-true (n + 1) (depth_at ranks (suc k)) (not-false (nat_lt (n + 1) (depth_at ranks (suc k))) more) in
           let m : suc k - 1 ≡ k = omega arith in
           let at = way_at (suc k) way in
           let x = slice_get_some xs k (omega (arith, way.within)) in
@@ -217,7 +212,7 @@ module _ (number : ℕ) (xs : List Declaration) (ranks : List Rank) (ranked : Ar
       pub way_ends : (p : ℕ) → Way p → 0 < p → not (nat_lt (n + 1) (depth_at ranks p)) ≡ true
           → (if depth_at ranks p == n + 1 then at_place xs p else None) ≡ slice_get (filter own xs) n
       way_ends p way l near =
-          let most : depth_at ranks p ≤ n + 1 = ltb-false (n + 1) (depth_at ranks p) (not_true (nat_lt (n + 1) (depth_at ranks p)) near) in
+          let most : depth_at ranks p ≤ n + 1 = ltb-false (n + 1) (depth_at ranks p) (not-true (nat_lt (n + 1) (depth_at ranks p)) near) in
           elim (cases_eq (depth_at ranks p) (n + 1)) [
             | inl same ↦ cond-true (depth_at ranks p == n + 1) (at_place xs p) None (eq-eqb (depth_at ranks p) (n + 1) same) ∙ way_found p way same
             | inr other ↦ cond-false (depth_at ranks p == n + 1) (at_place xs p) None (ne_eqb (depth_at ranks p) (n + 1) other) ∙ way_lost p way (omega (arith, most, other))

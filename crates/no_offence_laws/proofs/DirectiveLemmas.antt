@@ -4,7 +4,7 @@ use Rattle.std.specs.Prelude.{◌⊎◌, slice_get, slice_range}
 use Rattle.std.specs.List.{flat_map}
 use Rattle.std.specs.Str.{bytes_eq}
 use Rattle.std.proofs.Math.Seq.{take-append_seam, drop-append_seam}
-use Rattle.std.proofs.lemmas.Bool.{cases_Bool, both_ways}
+use Rattle.std.proofs.lemmas.Bool.{cases_Bool, both_ways, or_parts}
 use Rattle.std.proofs.lemmas.Option.{same_Some}
 use Rattle.rename_rules.specs.Below.cs_base.declared.causes.Cause.{Cause}
 use Rattle.rename_rules.specs.Below.cs_base.declared.positions.Pos.{Pos}
@@ -203,14 +203,10 @@ abbrev has_run : List (List ℕ × ItemKind) → Bool
 has_run [] = false
 has_run (row ∷ rows) = is_run row.1 || has_run rows
 
-neither : (a b : Bool) → (a || b) ≡ false → (a ≡ false) × (b ≡ false)
-neither true b h = absurd (cc)
-neither false b h = (refl, h)
-
 meaning_runs : (rows : List (List ℕ × ItemKind)) (text : List ℕ) → has_run rows ≡ false → RunIn (meaning_in rows text) ≡ false
 meaning_runs [] text h = refl
 meaning_runs (row ∷ rows) text h =
-    let both = neither (is_run row.1) (has_run rows) h in
+    let both = or_parts (is_run row.1) (has_run rows) h in
     elim (cases_Bool (bytes_eq text row.0)) [
       | inl found ↦ rw found both.0
       | inr other ↦ rw other (meaning_runs rows text both.1)

@@ -4,7 +4,7 @@ use Rattle.std.specs.Prelude.{◌&&◌, ◌||◌, cond}
 use Rattle.std.specs.List.{flat_map, list_any}
 use Rattle.std.specs.Option.{option_map_or}
 use Rattle.std.specs.Str.{bytes_eq}
-use Rattle.std.proofs.lemmas.Bool.{cases_Bool, both_ways}
+use Rattle.std.proofs.lemmas.Bool.{cases_Bool, both_ways, or_parts}
 use Rattle.rename_rules.proofs.Below.cs_base.FileMapLemmas.{bytes_eq-same, bytes_eq-equal}
 use Rattle.rename_rules.specs.Below.cs_base.declared.causes.Cause.TheVariants as cause
 use Rattle.rename_rules.specs.Below.cs_base.declared.positions.Part.{Part}
@@ -96,10 +96,6 @@ else_nil : (b : Bool) (xs : List Pos) → (xs ≡ [] → ⊥) → cond b [] xs �
 else_nil true xs some e = refl
 else_nil false xs some e = absurd (some e)
 
-neither : (a b : Bool) → (a || b) ≡ false → (a ≡ false) × (b ≡ false)
-neither true b h = absurd (cc)
-neither false b h = (refl, h)
-
 module _ (a : AnalysisValue) (members : List Part) (name : List ℕ) (none : NoneStand a members name) where
   -- no member is in a read-only file
   pub writable : (m : Part) → In m members → is_read_only a.table a.workspace.readonly m.start.file ≡ false
@@ -111,7 +107,7 @@ module _ (a : AnalysisValue) (members : List Part) (name : List ℕ) (none : Non
   -- nor in the pseudo file of lines
   pub no_line : (m : Part) → In m members → m.start.file ≡ 0 → ⊥
   no_line m i zero_file =
-      let no = (neither (m.start.file == 0) (option_map_or (λ (f : KeptValue). is_read_only_path a.workspace.readonly f.path) (kept_at a.table m.start.file) false) (writable m i)).0 in
+      let no = (or_parts (m.start.file == 0) (option_map_or (λ (f : KeptValue). is_read_only_path a.workspace.readonly f.path) (kept_at a.table m.start.file) false) (writable m i)).0 in
       let yes' : (m.start.file == 0) ≡ true = ap (λ (n : ℕ). n == 0) zero_file in
       both_ways (m.start.file == 0) no yes'
 
@@ -126,12 +122,12 @@ module _ (a : AnalysisValue) (members : List Part) (name : List ℕ) (none : Non
       else_nil (is_name t) (starts_in members t) (some_start members t held)
       (flat_nil (no_identifier_place members) (holders a members) t none.no_identifier i)
 
-  -- neither its old nor its new spelling is reserved
+  -- or_parts its old nor its new spelling is reserved
   pub holder_free : (t : Token) → In t (holders a members) → holds_member members t ≡ true
       → (is_reserved_text t.text ≡ false) × (is_reserved_text (spelled members name t) ≡ false)
   unfolding reserved_places
   holder_free t i held =
-      neither (is_reserved_text t.text) (is_reserved_text (spelled members name t))
+      or_parts (is_reserved_text t.text) (is_reserved_text (spelled members name t))
       (if_nil (is_reserved_text t.text || is_reserved_text (spelled members name t)) (starts_in members t) (some_start members t held)
       (flat_nil (reserved_place members name) (holders a members) t none.reserved i))
 

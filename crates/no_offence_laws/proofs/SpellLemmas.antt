@@ -3,6 +3,7 @@ use Rattle.std.proofs.Common.{◌≡◌, ℕ, zero, suc, ◌+◌, ◌<◌, ◌||
 use Rattle.std.specs.Prelude.{slice_get}
 use Rattle.std.specs.List.{list_any}
 use Rattle.std.specs.Option.{option_map_or, option_and_then}
+use Rattle.std.proofs.lemmas.Bool.{or_parts}
 use Rattle.rename_rules.specs.Below.cs_base.declared.positions.Part.{Part}
 use Rattle.rename_rules.specs.Below.cs_base.declared.positions.Pos.{Pos}
 use Rattle.rename_rules.specs.Below.part_lexer.Places.{pos, origins_from}
@@ -21,10 +22,6 @@ for_kept : (members : List Part) (name : List ℕ) (origin : Option Pos) (c : �
 for_kept members name None c none = refl
 for_kept members name (Some p) c none = put_kept name p c (member_over members p) none
 
-neither : (a b : Bool) → (a || b) ≡ false → (a ≡ false) × (b ≡ false)
-neither true b h = absurd (cc)
-neither false b h = (refl, h)
-
 -- a text that holds no member stays
 pub spelled-kept : (members : List Part) (name : List ℕ) (origins : List (Option Pos)) (text : List ℕ) → length origins ≡ length text
     → list_any (is_from members) origins ≡ false → spelled_from members name origins text ≡ text
@@ -33,7 +30,7 @@ spelled-kept members name [] [] same none = refl
 spelled-kept members name [] (c ∷ text) same none = absurd (omega (arith, same))
 spelled-kept members name (o ∷ origins) [] same none = refl
 spelled-kept members name (o ∷ origins) (c ∷ text) same none =
-    let both = neither (is_from members o) (list_any (is_from members) origins) none in
+    let both = or_parts (is_from members o) (list_any (is_from members) origins) none in
     let rest = spelled-kept members name origins text (omega (arith, same)) both.1 in
     rw (for_kept members name o c both.0, rest) refl
 
@@ -83,7 +80,7 @@ pub none_from : (members : List Part) (file at n : ℕ) → list_any (is_from me
     → (k : ℕ) → k < n → member_over members (pos file (at + k)) ≡ None
 none_from members file at zero none k less = absurd (omega arith)
 none_from members file at (suc n) none zero less =
-    let both = neither (is_from members (Some (pos file at))) (list_any (is_from members) (origins_from file (at + 1) n)) none in
+    let both = or_parts (is_from members (Some (pos file at))) (list_any (is_from members) (origins_from file (at + 1) n)) none in
     let same : at + 0 ≡ at = omega arith in
     rw same (nothing (member_over members (pos file at)) both.0)
   where
@@ -91,7 +88,7 @@ none_from members file at (suc n) none zero less =
     nothing None e = refl
     nothing (Some m) e = absurd (cc)
 none_from members file at (suc n) none (suc k) less =
-    let both = neither (is_from members (Some (pos file at))) (list_any (is_from members) (origins_from file (at + 1) n)) none in
+    let both = or_parts (is_from members (Some (pos file at))) (list_any (is_from members) (origins_from file (at + 1) n)) none in
     let same : at + suc k ≡ at + 1 + k = omega arith in
     rw same (none_from members file (at + 1) n both.1 k (omega arith))
 

@@ -9,7 +9,7 @@ use Rattle.std.specs.Str.{bytes_eq, is_utf8}
 use Rattle.std.specs.Cmp.Lexicographic.{slice_cmp}
 use Rattle.std.specs.declared.cmp.Ordering.{Ordering}
 use Rattle.std.specs.declared.cmp.Ordering.TheVariants.{Less, Equal, Greater}
-use Rattle.std.proofs.lemmas.Bool.{cases_Bool, eq-eqb, eqb-true}
+use Rattle.std.proofs.lemmas.Bool.{cases_Bool, eq-eqb, eqb-true, and_parts}
 use Rattle.std.proofs.lemmas.Cmp.{nat_list_cmp_total}
 use Rattle.std.proofs.lemmas.Map.Keys.{Less-from_sorted, sorted_tail}
 use Rattle.std.proofs.lemmas.Map.Text.{is_eq-slice_cmp}
@@ -31,14 +31,6 @@ use Rattle.rename_edit.specs.Order.{IsBefore, AreByPath, ComeBehind, IsNext}
 
 -- ---- each path once
 
-both_first : (a b : Bool) → (a && b) ≡ true → a ≡ true
-both_first true b h = refl
-both_first false b h = absurd (cc)
-
-both_second : (a b : Bool) → (a && b) ≡ true → b ≡ true
-both_second true b h = h
-both_second false b h = absurd (cc)
-
 any_from : {X : Type 0} (test : X → Bool) (xs : List X) (k : ℕ) (x : X) → slice_get xs k ≡ Some x → test x ≡ true → list_any test xs ≡ true
 any_from test [] k x e h = absurd (cc)
 any_from test (y ∷ xs) zero x e h = let here : test y ≡ true = ap test (same_Some y x e) ∙ h in rw here refl
@@ -49,13 +41,13 @@ any_from test (y ∷ xs) (suc k) x e h = elim (cases_Bool (test y)) [
 
 all_at : {X : Type 0} (test : X → Bool) (xs : List X) (k : ℕ) (x : X) → list_all test xs ≡ true → slice_get xs k ≡ Some x → test x ≡ true
 all_at test [] k x h e = absurd (cc)
-all_at test (y ∷ xs) zero x h e = ap test (sym (same_Some y x e)) ∙ both_first (test y) (list_all test xs) h
-all_at test (y ∷ xs) (suc k) x h e = all_at test xs k x (both_second (test y) (list_all test xs) h) e
+all_at test (y ∷ xs) zero x h e = ap test (sym (same_Some y x e)) ∙ (and_parts (test y) (list_all test xs) h).0
+all_at test (y ∷ xs) (suc k) x h e = all_at test xs k x ((and_parts (test y) (list_all test xs) h).1) e
 
 twice : (y : List ℕ) (ys : List (List ℕ)) (k : ℕ) (x : List ℕ) → are_distinct (y ∷ ys) ≡ true → y ≡ x → slice_get ys k ≡ Some x → ⊥
 twice y ys k x distinct same at =
     let among : list_any (bytes_eq y) ys ≡ true = any_from (bytes_eq y) ys k x at (ap (bytes_eq y) (sym same) ∙ bytes_eq-same y) in
-    let wrong : not true ≡ true = ap not (sym among) ∙ both_first (not (list_any (bytes_eq y) ys)) (are_distinct ys) distinct in
+    let wrong : not true ≡ true = ap not (sym among) ∙ (and_parts (not (list_any (bytes_eq y) ys)) (are_distinct ys) distinct).0 in
     absurd (cc)
 
 one_place : (names : List (List ℕ)) (i j : ℕ) (x : List ℕ) → are_distinct names ≡ true → slice_get names i ≡ Some x → slice_get names j ≡ Some x → i ≡ j
@@ -64,7 +56,7 @@ one_place (y ∷ ys) zero zero x distinct e f = refl
 one_place (y ∷ ys) zero (suc j) x distinct e f = absurd (twice y ys j x distinct (same_Some y x e) f)
 one_place (y ∷ ys) (suc i) zero x distinct e f = absurd (twice y ys i x distinct (same_Some y x f) e)
 one_place (y ∷ ys) (suc i) (suc j) x distinct e f =
-    ap suc (one_place ys i j x (both_second (not (list_any (bytes_eq y) ys)) (are_distinct ys) distinct) e f)
+    ap suc (one_place ys i j x ((and_parts (not (list_any (bytes_eq y) ys)) (are_distinct ys) distinct).1) e f)
 
 -- ---- the path of a number
 

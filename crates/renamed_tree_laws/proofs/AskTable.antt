@@ -1,6 +1,6 @@
 -- What is asked along each production of C99, where the second text's names agree with the tree.
 use Rattle.std.proofs.Common.{ℕ, zero, suc, ◌+◌, ◌≡◌, Bool, true, false, ◌&&◌, not, List, [], ◌∷◌, inl, inr, refl}
-use Rattle.std.proofs.lemmas.Bool.{false≢true, and_parts, or_cases}
+use Rattle.std.proofs.lemmas.Bool.{false≢true, and_parts, or_cases, not-true}
 use Rattle.tree_laws.specs.Below.cs_base.declared.ws_units.Standard.{Standard}
 use Rattle.tree_laws.specs.Below.cs_base.Token.{Token}
 use Rattle.tree_laws.specs.Below.c99_tree.declared.production.Production.{Production}
@@ -20,7 +20,7 @@ use Rattle.typedef_laws.proofs.Goes.{After, IsIn, Goes}
 use Rattle.typedef_laws.proofs.Steps.{Reads}
 use Rattle.typedef_laws.proofs.Listing.{listing, IsOdd, more_listed}
 use Rattle.typedef_laws.proofs.Scoping.{is_whole, whole_fine}
-use Rattle.typedef_laws.proofs.Table.{is_fine, is_ok, all_ok, later_of, nth_of, off, listed_within, moves_within, reads_within, bodies_within}
+use Rattle.typedef_laws.proofs.Table.{is_fine, is_ok, all_ok, later_of, nth_of, listed_within, moves_within, reads_within, bodies_within}
 use Rattle.renamed_tree_laws.specs.Along.{along_within}
 use Rattle.renamed_tree_laws.proofs.Asking.{of_token, of_node, Asks, along, Asked, asks_step, BodyAsks, fine_asks, AskedBodies, picked_asks}
 use Rattle.renamed_tree_laws.proofs.KindTokens.{primary_asks, main_asks, many_asks, list_asks as names_asks}
@@ -43,7 +43,7 @@ module _ (std : Standard) where
       ok_fine p n x s k =
           let first = and_parts (is_simple p n) (not (is_at (labelled p n) Pdirect 2) && fine (labelled p n) x.body) k in
           let second = and_parts (not (is_at (labelled p n) Pdirect 2)) (fine (labelled p n) x.body) first.1 in
-          (fine_asks std) a b below along_below reads asked depth p n x.body s first.0 (off (is_at (labelled p n) Pdirect 2) second.0) second.1
+          (fine_asks std) a b below along_below reads asked depth p n x.body s first.0 (not-true (is_at (labelled p n) Pdirect 2) second.0) second.1
 
       ok_whole : (p : Production) (n : ℕ) (x : Alternative) (s : State) → (is_whole p n && whole_fine (labelled p n) x.body) ≡ true → AlongBody p n x.body s
       ok_whole p n x s k =

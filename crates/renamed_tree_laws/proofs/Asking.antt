@@ -1,7 +1,7 @@
 -- What is asked of a second text's names along the reading of a first one, where these names agree with the tree that is
 -- read.
 use Rattle.std.proofs.Common.{ℕ, ◌+◌, ◌≤◌, ◌≡◌, Bool, true, false, ◌&&◌, not, if◌then◌else◌, ◌==◌, List, [], ◌∷◌, length, Ok, Err, nat_lt, refl, sym, ap, subst, ◌∙◌, arith}
-use Rattle.std.proofs.lemmas.Bool.{false≢true, and_parts}
+use Rattle.std.proofs.lemmas.Bool.{false≢true, and_parts, not-true, and_from}
 use Rattle.tree_laws.specs.Below.cs_base.declared.ws_units.Standard.{Standard}
 use Rattle.tree_laws.specs.Below.cs_base.Token.{Token}
 use Rattle.tree_laws.specs.Below.c99_tree.Tree.{Forest, none, token, node, Node, node_of, leaf, inner, put, lone, collapsed}
@@ -21,17 +21,12 @@ use Rattle.typedef_laws.specs.Laws.{is_bodiless}
 use Rattle.typedef_laws.proofs.Private.{Declaration}
 use Rattle.typedef_laws.proofs.Outline.{Outline, stepped, begun, ended, entries_in, outlined, token_agrees, node_agrees, all_agree}
 use Rattle.typedef_laws.proofs.Matching.{Matches, Bounds, IsOpen, SameOuter, outer_further, outer_open, bounds_sooner}
-use Rattle.typedef_laws.proofs.Places.{and_both}
 use Rattle.typedef_laws.proofs.Rules.{labelled, is_quiet, fine, held_told, is_simple, simple_scope, simple_entries, plain_named, collapsed_scope, collapsed_entries}
 use Rattle.typedef_laws.proofs.Goes.{After, with_token, IsIn, Fits, Goes, Body, closed_scopes, built_is}
 use Rattle.typedef_laws.proofs.Steps.{Reads, taken, goes_step, opened_in, opened_fits}
 use Rattle.typedef_laws.proofs.Table.{Bodies}
 use Rattle.renamed_tree_laws.specs.Along.{along_rest, along_item, along_first}
 use Rattle.renamed_tree_laws.specs.Respelled.{is_bare_so, is_kind_so, is_node_so}
-
-off : (c : Bool) → not c ≡ true → c ≡ false
-off true h = absurd (false≢true h)
-off false h = refl
 
 collapsed_plain : (p : Production) (n : ℕ) → collapses p ≡ true → is_at (labelled p n) Pdirect 2 ≡ false
 collapsed_plain Pdirect n h = absurd (false≢true h)
@@ -52,13 +47,13 @@ module _ (std : Standard) where
     before_leaf (token j rest) i o h =
         let both = and_parts (token_agrees std b o.label.production o.label.alternative o.nth j o.entries) (all_agree std b (put rest (leaf i)) (stepped j o)) h in
         let more = before_leaf rest i (stepped j o) both.1 in
-        (and_both _ _ both.0 more.0, more.1)
+        (and_from _ _ both.0 more.0, more.1)
     before_leaf (node l first under rest) i o h =
         let after : Outline = ended l first under o (outlined under (begun l first under o)) in
         let both = and_parts (node_agrees std b l first o.entries) _ h in
         let second = and_parts (all_agree std b under (begun l first under o)) (all_agree std b (put rest (leaf i)) after) both.1 in
         let more = before_leaf rest i after second.1 in
-        (and_both _ _ both.0 (and_both _ _ second.0 more.0), more.1)
+        (and_from _ _ both.0 (and_from _ _ second.0 more.0), more.1)
 
     pub before_inner : (f : Forest) (n : Node) (o : Outline) → all_agree std b (put f (inner n)) o ≡ true
         → (all_agree std b f o ≡ true)
@@ -70,20 +65,20 @@ module _ (std : Standard) where
     before_inner (token j rest) n o h =
         let both = and_parts (token_agrees std b o.label.production o.label.alternative o.nth j o.entries) (all_agree std b (put rest (inner n)) (stepped j o)) h in
         let more = before_inner rest n (stepped j o) both.1 in
-        (and_both _ _ both.0 more.0, more.1)
+        (and_from _ _ both.0 more.0, more.1)
     before_inner (node l first under rest) n o h =
         let after : Outline = ended l first under o (outlined under (begun l first under o)) in
         let both = and_parts (node_agrees std b l first o.entries) _ h in
         let second = and_parts (all_agree std b under (begun l first under o)) (all_agree std b (put rest (inner n)) after) both.1 in
         let more = before_inner rest n after second.1 in
-        (and_both _ _ both.0 (and_both _ _ second.0 more.0), more.1)
+        (and_from _ _ both.0 (and_from _ _ second.0 more.0), more.1)
 
   -- ---- Kinds that nothing is asked of
 
   quiet_kind : (b : List Token) (p : Production) (n : ℕ) (scopes : List (List Declaration)) (k : ℕ) → is_quiet p n ≡ true → is_kind_so std b p n scopes k ≡ true
-  quiet_kind b Primary n scopes k h = ap (λ c. if c then is_bare_so std b scopes k else true) (off (n == 1) h)
-  quiet_kind b Main n scopes k h = ap (λ c. if c then is_kind_so std b Main 4 scopes k else true) (off (n == 4) h)
-  quiet_kind b Params n scopes k h = ap (λ c. if c then is_bare_so std b scopes k else true) (off (n == 1) h)
+  quiet_kind b Primary n scopes k h = ap (λ c. if c then is_bare_so std b scopes k else true) (not-true (n == 1) h)
+  quiet_kind b Main n scopes k h = ap (λ c. if c then is_kind_so std b Main 4 scopes k else true) (not-true (n == 4) h)
+  quiet_kind b Params n scopes k h = ap (λ c. if c then is_bare_so std b scopes k else true) (not-true (n == 1) h)
   quiet_kind b _ n scopes k h = refl
 
   plain_node : (b : List Token) (p : Production) (n : ℕ) (scopes : List (List Declaration)) (k : ℕ) → is_at (labelled p n) Pdirect 2 ≡ false → is_node_so std b p n scopes k ≡ true
@@ -112,7 +107,7 @@ module _ (std : Standard) where
         let sooner = bounds_sooner s'.at s''.at o.scope.to s'.names.scopes s''.names.scopes ends (outer_open s.names.scopes s'.names.scopes f.opens g.outer) later same bounds in
         let second = k' o ends bounds (g.fits o ends sooner f) agree in
         let start = k o ends sooner f second.0 in
-        (start.0, and_both v w start.1 second.1))
+        (start.0, and_from v w start.1 second.1))
 
     -- a token
     pub token_asks : (l : Label) (s : State) (v : Bool)
@@ -273,7 +268,7 @@ module _ (std : Standard) where
         let scope : scope_in p (labelled p n) f o.scope ≡ o.scope = collapsed_scope p (labelled p n) f o.scope c in
         let same : begun l begins under inside ≡ begun l begins under o =
         ap (λ es. begun l begins under (record inside { entries = es })) entries ∙ ap (λ c. begun l begins under (record inside { entries = o.entries; scope = c })) scope in
-        and_both _ _ (ap (node_agrees std b l begins) entries ∙ h) (and_both _ true (ap (all_agree std b under) same ∙ k) refl)
+        and_from _ _ (ap (node_agrees std b l begins) entries ∙ h) (and_from _ true (ap (all_agree std b under) same ∙ k) refl)
 
     finished_agrees : (p : Production) (n first : ℕ) (o : Outline) (f : Forest)
         → node_agrees std b (finished p (node_of (labelled p n) first f)).label (finished p (node_of (labelled p n) first f)).first o.entries ≡ true
@@ -315,7 +310,7 @@ module _ (std : Standard) where
         let scope : scope_in p (labelled p n) under o.scope ≡ o.scope = simple_scope p n under o.scope simple in
         let r = k (begun (labelled p n) s.at under o) ends (subst (λ (c : Scope). Bounds s'.at c.to s'.names.scopes ends) (sym scope) bounds)
         (opened_fits std a p n s under o ends t op (simple_entries p n s.at under o.kept o.scope.depth o.entries simple) m near) agree in
-        and_both (of_node p n s) v (named o ends t op bounds m h) r.1)
+        and_from (of_node p n s) v (named o ends t op bounds m h) r.1)
 
     pub asks_body : (p : Production) (n : ℕ) (v : Bool) (s s' : State) → is_simple p n ≡ true → is_at (labelled p n) Pdirect 2 ≡ false
         → Asks (labelled p n) v (opened p n s) s' → BodyAsks p n (of_node p n s && v) s s'

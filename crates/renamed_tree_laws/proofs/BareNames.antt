@@ -1,6 +1,6 @@
 -- The names that are read as no typedef names, though they are uses of nothing, are the bare names of the tree.
 use Rattle.std.proofs.Common.{ℕ, ◌+◌, ◌≡◌, Bool, true, false, ◌&&◌, if◌then◌else◌, ◌==◌, ◌%◌, List, [], ◌∷◌, ◌++◌, inl, inr, refl, ap, subst, arith}
-use Rattle.std.proofs.lemmas.Bool.{eqb-true, eq-eqb}
+use Rattle.std.proofs.lemmas.Bool.{eqb-true, eq-eqb, and_parts}
 use Rattle.tree_laws.specs.Below.cs_base.declared.ws_units.Standard.{Standard}
 use Rattle.tree_laws.specs.Below.cs_base.Token.{Token}
 use Rattle.tree_laws.specs.Below.c99_tree.Tree.{Forest, none, token, node}
@@ -12,7 +12,7 @@ use Rattle.tree_laws.specs.Below.c99_grammar.Standard.{grammar}
 use Rattle.tree_laws.specs.Below.c99_read.State.{base_at, is_identifier}
 use Rattle.tree_laws.specs.Below.c_types.Trees.{is_at}
 use Rattle.tree_laws.specs.Below.c_types.Lists.{odd_tokens, even_tokens, name_in, bare_at, bare_in}
-use Rattle.tree_laws.proofs.Lookups.{false≢true, and_left, and_right, In}
+use Rattle.tree_laws.proofs.Lookups.{false≢true, In}
 use Rattle.renamed_tree_laws.specs.Loose.{is_enclosed, AllLoose}
 use Rattle.renamed_tree_laws.proofs.LooseNames.{more_in}
 
@@ -53,8 +53,8 @@ module _ (std : Standard) where
     enclosed_at : (l : Label) (first : ℕ) (under : Forest) → Each P (bare_at l under) → (is_enclosed std toks l first ≡ true → name_in under ≡ (first + 1) ∷ [])
         → is_enclosed std toks l first ≡ true → P (first + 1)
     enclosed_at l first under all named h =
-        let at : is_at l Pdirect 2 ≡ true = and_left (is_at l Pdirect 2) (is_identifier (base_at (grammar std) toks (first + 1))) h in
-        let other : is_at l Params 1 ≡ false = ap (λ c. c && (l.alternative == 1)) (no_list l.production (and_left (ghosts.eq l.production Pdirect) (l.alternative == 2) at)) in
+        let at : is_at l Pdirect 2 ≡ true = (and_parts (is_at l Pdirect 2) (is_identifier (base_at (grammar std) toks (first + 1))) h).0 in
+        let other : is_at l Params 1 ≡ false = ap (λ c. c && (l.alternative == 1)) (no_list l.production ((and_parts (ghosts.eq l.production Pdirect) (l.alternative == 2) at).0)) in
         let names : Each P (if is_at l Pdirect 2 then name_in under else []) =
         subst (λ c. Each P (if c then even_tokens under else (if is_at l Pdirect 2 then name_in under else []))) other all in
         let here : Each P (name_in under) = subst (λ c. Each P (if c then name_in under else [])) at names in
@@ -63,8 +63,8 @@ module _ (std : Standard) where
     pub loose_of_bare : (f : Forest) (l : Label) (k : ℕ) → Encloses toks f → Each P (bare_in f) → (is_at l Params 1 ≡ true → Each P (odd_tokens (k + 1) f)) → AllLoose std toks P l k f
     loose_of_bare none l k e all listed = tt
     loose_of_bare (token i rest) l k e all listed = (
-      λ h. odd_here ((k + 1) % 2 == 1) i (odd_tokens ((k + 1) + 1) rest) (odd_next k (and_right (is_at l Params 1) (k % 2 == 0) h))
-          (listed (and_left (is_at l Params 1) (k % 2 == 0) h)),
+      λ h. odd_here ((k + 1) % 2 == 1) i (odd_tokens ((k + 1) + 1) rest) (odd_next k ((and_parts (is_at l Params 1) (k % 2 == 0) h).1))
+          (listed ((and_parts (is_at l Params 1) (k % 2 == 0) h).0)),
       loose_of_bare rest l (k + 1) e all (λ h. odd_later ((k + 1) % 2 == 1) i (odd_tokens ((k + 1) + 1) rest) (listed h)),
     )
     loose_of_bare (node m first under rest) l k e all listed =

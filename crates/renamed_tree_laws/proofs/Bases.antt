@@ -3,7 +3,7 @@ use Rattle.std.proofs.Common.{ℕ, ◌≡◌, Bool, true, false, not, if◌then�
 use Rattle.std.specs.List.{list_all}
 use Rattle.std.specs.Option.{option_map_or}
 use Rattle.std.specs.Str.{bytes_eq}
-use Rattle.std.proofs.lemmas.Bool.{false≢true, and_parts}
+use Rattle.std.proofs.lemmas.Bool.{false≢true, and_parts, not-true}
 use Rattle.tree_laws.specs.Below.cs_base.declared.ws_units.Standard.{Standard}
 use Rattle.tree_laws.specs.Below.cs_base.Token.{Token}
 use Rattle.tree_laws.specs.Below.cs_base.declared.tokens.Kind.{Kind}
@@ -51,17 +51,13 @@ covered P h =
 
 -- ---- The class of an identifier
 
-refuted : (c : Bool) → not c ≡ true → c ≡ false
-refuted true h = absurd (false≢true h)
-refuted false h = refl
-
 spelled_is : (words : List Spelled) (text : List ℕ) (other : Class) → list_all (λ w. not (is_identifier w.1)) words ≡ true
     → is_identifier (spelled_class words text other) ≡ true → spelled_class words text other ≡ other
 unfolding spelled_class
 spelled_is [] text other all h = refl
 spelled_is (w ∷ words) text other all h =
     let parts = and_parts (not (is_identifier w.1)) (list_all (λ v. not (is_identifier v.1)) words) all in
-    by (bytes_eq text w.0) (refuted _ parts.0) (spelled_is words text other parts.1) h
+    by (bytes_eq text w.0) (not-true _ parts.0) (spelled_is words text other parts.1) h
   where
     by : (c : Bool) → is_identifier w.1 ≡ false → (is_identifier (spelled_class words text other) ≡ true → spelled_class words text other ≡ other)
         → is_identifier (if c then w.1 else spelled_class words text other) ≡ true → (if c then w.1 else spelled_class words text other) ≡ other
@@ -95,7 +91,7 @@ module _ (std : Standard) where
   kind_is : (k : Kind) (text : List ℕ) → is_identifier (class_of_kind (grammar std) k text) ≡ true → class_of_kind (grammar std) k text ≡ identifier
   kind_is kind.Ident text h = spelled_is (keywords_of std) text identifier (keywords_fit (λ c. not (is_identifier c)) refl std) h
   kind_is kind.Punct text h =
-      absurd (false≢true (sym (refuted _ (spelled_so (λ c. not (is_identifier c)) punctuators text no_class refl refl)) ∙ h))
+      absurd (false≢true (sym (not-true _ (spelled_so (λ c. not (is_identifier c)) punctuators text no_class refl refl)) ∙ h))
   kind_is kind.Number text h = absurd (false≢true h)
   kind_is kind.Char text h = absurd (false≢true h)
   kind_is kind.Str text h = absurd (false≢true h)

@@ -1,5 +1,6 @@
 -- A parameter's declarator in parentheses whose first token is an identifier begins with this name.
 use Rattle.std.proofs.Common.{ℕ, zero, suc, ◌+◌, ◌≡◌, Bool, true, false, ◌&&◌, not, if◌then◌else◌, List, [], ◌∷◌, length, Ok, Err, nat_lt, refl, sym, ap, ◌∙◌}
+use Rattle.std.proofs.lemmas.Bool.{not-true}
 use Rattle.tree_laws.specs.Below.cs_base.declared.ws_units.Standard.{Standard}
 use Rattle.tree_laws.specs.Below.c99_tree.Tree.{Forest, none, token, node, Node, Part, leaf, inner, put, lone}
 use Rattle.tree_laws.specs.Below.c99_tree.declared.production.Label.{Label}
@@ -19,10 +20,6 @@ use Rattle.tree_laws.proofs.Walked.{After, with_token, after_if, kept_by_item}
 use Rattle.typedef_laws.proofs.Parts.{first_body, rest_of}
 use Rattle.renamed_tree_laws.proofs.Private.{Class, identifier, typedef_name}
 use Rattle.renamed_tree_laws.proofs.Bases.{base_is}
-
-refuted : (c : Bool) → not c ≡ true → c ≡ false
-refuted true h = absurd (false≢true h)
-refuted false h = refl
 
 after_true : (P : State → Type 0) (c : Bool) (r r' : Step) → c ≡ true → After P r → After P (if c then r else r')
 after_true P true r r' e m = m
@@ -205,7 +202,7 @@ module _ (std : Standard) where
   declarator_adds zero depth s h = tt
   declarator_adds (suc fuel) depth s h =
       after_false (Adds (Begins s.at) s) (starts (grammar std) (first_body (c99.table Pdecl)) (class_at (grammar std) s s.at) (class_at (grammar std) s (s.at + 1))) _ _
-      (refuted _ (either_class (λ c. not (starts (grammar std) (first_body (c99.table Pdecl)) c (class_at (grammar std) s (s.at + 1)))) refl refl s s.at h))
+      (not-true _ (either_class (λ c. not (starts (grammar std) (first_body (c99.table Pdecl)) c (class_at (grammar std) s (s.at + 1)))) refl refl s s.at h))
       (after_if (Adds (Begins s.at) s) (may (grammar std) own (part Pdirect) s) _ _
       (alternative_adds (Begins s.at) (read_within (grammar std) fuel) depth Pdecl 2 (part Pdirect) s refl (direct_begins fuel depth s h)) tt)
 

@@ -1,6 +1,6 @@
 -- In each tree that is read an identifier behind the parenthesis that begins a parameter's declarator is the declared name there.
 use Rattle.std.proofs.Common.{ℕ, ◌+◌, ◌≡◌, Bool, true, false, ◌&&◌, ◌||◌, not, if◌then◌else◌, ◌==◌, List, [], ◌∷◌, Ok, Err, refl, sym, ap, subst, ◌∙◌}
-use Rattle.std.proofs.lemmas.Bool.{eqb-true}
+use Rattle.std.proofs.lemmas.Bool.{eqb-true, and_parts}
 use Rattle.tree_laws.specs.Below.cs_base.declared.ws_units.Standard.{Standard}
 use Rattle.tree_laws.specs.Below.cs_base.Token.{Token}
 use Rattle.tree_laws.specs.Below.c99_tree.Tree.{Forest, none, token, node, Node, leaf, inner, put, lone, collapsed}
@@ -14,7 +14,7 @@ use Rattle.tree_laws.specs.Below.c99_read.State.{State, base_at, is_identifier, 
 use Rattle.tree_laws.specs.Below.c99_read.Reading.{produce, Step, steps_for, step, read_within, whole, at_first, tree_of, read_of}
 use Rattle.tree_laws.specs.Below.c_types.Lists.{name_in}
 use Rattle.tree_laws.specs.Below.c_types.Trees.{is_at}
-use Rattle.tree_laws.proofs.Lookups.{false≢true, and_left, and_right}
+use Rattle.tree_laws.proofs.Lookups.{false≢true}
 use Rattle.tree_laws.proofs.Walked.{After, IsKept, fit_from, each_part, kept_within}
 use Rattle.typedef_laws.proofs.Rules.{labelled}
 use Rattle.renamed_tree_laws.specs.Loose.{is_enclosed}
@@ -38,8 +38,8 @@ direct_is _ e = absurd (false≢true e)
 
 second_is : (p : Production) (n : ℕ) → is_at (labelled p n) Pdirect 2 ≡ true → labelled p n ≡ labelled Pdirect 2
 second_is p n e =
-    let production = direct_is p (and_left (ghosts.eq p Pdirect) (n == 2) e) in
-    let alternative : n ≡ 2 = eqb-true n 2 (and_right (ghosts.eq p Pdirect) (n == 2) e) in
+    let production = direct_is p ((and_parts (ghosts.eq p Pdirect) (n == 2) e).0) in
+    let alternative : n ≡ 2 = eqb-true n 2 ((and_parts (ghosts.eq p Pdirect) (n == 2) e).1) in
     ap (λ q. labelled q n) production ∙ ap (λ k. labelled Pdirect k) alternative
 
 implied : (c d : Bool) → (not c || d) ≡ true → c ≡ true → d ≡ true
@@ -117,9 +117,9 @@ module _ (std : Standard) where
         → step (grammar std) (read_within (grammar std) fuel) depth a.body (opened p n s) ≡ Ok s' → s.toks ≡ toks → is_enclosed std toks (labelled p n) s.at ≡ true
         → name_in s'.built.under ≡ (s.at + 1) ∷ []
     own_name fuel depth p n a s s' fit is_read e h =
-        let at : is_at (labelled p n) Pdirect 2 ≡ true = and_left (is_at (labelled p n) Pdirect 2) _ h in
+        let at : is_at (labelled p n) Pdirect 2 ≡ true = (and_parts (is_at (labelled p n) Pdirect 2) _ h).0 in
         let named : is_identifier (base_at (grammar std) s.toks (s.at + 1)) ≡ true =
-        subst (λ ts. is_identifier (base_at (grammar std) ts (s.at + 1)) ≡ true) (sym e) (and_right (is_at (labelled p n) Pdirect 2) _ h) in
+        subst (λ ts. is_identifier (base_at (grammar std) ts (s.at + 1)) ≡ true) (sym e) ((and_parts (is_at (labelled p n) Pdirect 2) _ h).1) in
         let here : step (grammar std) (read_within (grammar std) fuel) depth a.body (opened Pdirect 2 s) ≡ Ok s' =
         ap (λ (l : Label). step (grammar std) (read_within (grammar std) fuel) depth a.body (opened l.production l.alternative s)) (sym (second_is p n at)) ∙ is_read in
         after_is (λ r. name_in r.built.under ≡ (s.at + 1) ∷ []) _ s' here (enclosed_step std fuel depth a.body s (implied _ _ fit at) named)

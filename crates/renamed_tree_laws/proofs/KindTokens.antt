@@ -1,6 +1,6 @@
 -- Tokens whose kind is asked: primary expressions, type names, and names in an identifier list.
 use Rattle.std.proofs.Common.{ℕ, ◌+◌, ◌<◌, ◌≡◌, Bool, true, false, ◌&&◌, ◌||◌, not, if◌then◌else◌, ◌==◌, ◌%◌, List, length, Ok, Err, refl, sym, ap, subst, ◌∙◌, arith}
-use Rattle.std.proofs.lemmas.Bool.{false≢true}
+use Rattle.std.proofs.lemmas.Bool.{false≢true, and_from}
 use Rattle.tree_laws.specs.Below.cs_base.declared.ws_units.Standard.{Standard}
 use Rattle.tree_laws.specs.Below.cs_base.Token.{Token}
 use Rattle.tree_laws.specs.Below.c99_tree.Tree.{count_of}
@@ -16,7 +16,7 @@ use Rattle.typedef_laws.proofs.Private.{Class}
 use Rattle.typedef_laws.proofs.Classes.{identifiers, typedef_names}
 use Rattle.typedef_laws.proofs.Outline.{Outline, outlined, typedef_among, token_agrees}
 use Rattle.typedef_laws.proofs.Matching.{Bounds, bounds_within, bounds_sooner, same_typedef}
-use Rattle.typedef_laws.proofs.Places.{and_both, count_leaf}
+use Rattle.typedef_laws.proofs.Places.{count_leaf}
 use Rattle.typedef_laws.proofs.Rules.{labelled}
 use Rattle.typedef_laws.proofs.Goes.{After, with_token, IsIn, Fits, Goes, token_goes}
 use Rattle.typedef_laws.proofs.Steps.{Reads, taken, goes_step, opened_in}
@@ -147,7 +147,7 @@ module _ (std : Standard) where
           ∙ bare_of (is_identifier (base_at (grammar std) b s.at)) _ _ (next_same listing s o ends bounds f)
           (list_held (outlined s.built.under o).nth s.at (outlined s.built.under o) (ap (λ n. n % 2 == 0) f.nth ∙ even) t))
           o ends sooner f agree in
-          (r.0, and_both (of_token std a b s) true r.1 refl)))
+          (r.0, and_from (of_token std a b s) true r.1 refl)))
 
       abbrev Named : State → Step → Type 0
       Named s r = After (λ s'. (s' ≡ with_token s) × ((among identifiers (class_at (grammar std) s s.at) ≡ true) × (s.at < length s.toks))) r

@@ -3,6 +3,7 @@ use Rattle.std.proofs.Common.{ℕ, ◌+◌, ◌≡◌, Bool, true, false, ◌&&�
 use Rattle.std.specs.Prelude.{find, IfSome}
 use Rattle.std.specs.List.{list_any}
 use Rattle.std.specs.Option.{option_map_or}
+use Rattle.std.proofs.lemmas.Bool.{and_parts, and_from}
 use Rattle.tree_laws.specs.Below.cs_base.declared.ws_units.Standard.{Standard}
 use Rattle.tree_laws.specs.Below.cs_base.Token.{Token}
 use Rattle.tree_laws.specs.Below.c99_tree.Tree.{Forest, none, token, node}
@@ -12,7 +13,7 @@ use Rattle.tree_laws.specs.Below.c99_tree.declared.production.Production.TheVari
 use Rattle.tree_laws.specs.Below.c_types.declared.lists.Range.{Range}
 use Rattle.tree_laws.specs.Below.c_types.Trees.{last_token, name_below}
 use Rattle.tree_laws.specs.Below.c_types.Declarations.{alike}
-use Rattle.tree_laws.proofs.Lookups.{false≢true, and_left, and_right, and_both, In, find_same, found_passes, found_in, any_none}
+use Rattle.tree_laws.proofs.Lookups.{false≢true, In, find_same, found_passes, found_in, any_none}
 use Rattle.typedef_laws.proofs.Outline.{Entry, Outline, is_listing, stepped, copies, kept_entries, entries_in, begun, named_entries, in_declaration, in_parameter, entries_after, ended, outlined, is_open, typedef_among}
 use Rattle.renamed_tree_laws.specs.Loose.{is_hidden, StaysWhole}
 
@@ -88,13 +89,13 @@ module _ (std : Standard) where
       of_b e = alike b i e.name_at && is_open i e
 
       stronger : (e : Entry) → of_b e ≡ true → of_a e ≡ true
-      stronger e h = and_both (alike a i e.name_at) (is_open i e) (apart i e.name_at (and_left (alike b i e.name_at) (is_open i e) h)) (and_right (alike b i e.name_at) (is_open i e) h)
+      stronger e h = and_from (alike a i e.name_at) (is_open i e) (apart i e.name_at ((and_parts (alike b i e.name_at) (is_open i e) h).0)) ((and_parts (alike b i e.name_at) (is_open i e) h).1)
 
       found_too : ((j : ℕ) → alike a i j ≡ true → alike b i j ≡ true) → (r : Option Entry) → find of_a es ≡ r → IfSome r (λ e. of_b e ≡ true)
       found_too stays None h = tt
       found_too stays (Some e) h =
           let p : of_a e ≡ true = found_passes of_a es e h in
-          and_both (alike b i e.name_at) (is_open i e) (stays e.name_at (and_left (alike a i e.name_at) (is_open i e) p)) (and_right (alike a i e.name_at) (is_open i e) p)
+          and_from (alike b i e.name_at) (is_open i e) (stays e.name_at ((and_parts (alike a i e.name_at) (is_open i e) p).0)) ((and_parts (alike a i e.name_at) (is_open i e) p).1)
 
       -- where all of its spelling go with it
       pub whole_same : ((j : ℕ) → alike a i j ≡ true → alike b i j ≡ true) → typedef_among std b i es ≡ typedef_among std a i es

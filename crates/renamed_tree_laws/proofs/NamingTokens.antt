@@ -1,5 +1,6 @@
 -- Names that are declared where they stand, and a parameter's declarator in parentheses.
 use Rattle.std.proofs.Common.{ℕ, ◌+◌, ◌<◌, ◌≡◌, Bool, true, false, ◌&&◌, ◌||◌, not, if◌then◌else◌, List, length, Option, None, Some, Ok, Err, refl, ap, subst, ◌∙◌, arith}
+use Rattle.std.proofs.lemmas.Bool.{and_from}
 use Rattle.tree_laws.specs.Below.cs_base.declared.ws_units.Standard.{Standard}
 use Rattle.tree_laws.specs.Below.cs_base.Token.{Token}
 use Rattle.tree_laws.specs.Below.c99_tree.declared.production.Label.{Label}
@@ -15,7 +16,6 @@ use Rattle.typedef_laws.proofs.Parts.{first_body, rest_of}
 use Rattle.typedef_laws.proofs.Classes.{equals}
 use Rattle.typedef_laws.proofs.Outline.{Outline, begun, node_agrees}
 use Rattle.typedef_laws.proofs.Matching.{Matches, Bounds, IsOpen, SameOuter, outer_still, outer_further, outer_open, bounds_within, bounds_sooner, same_typedef}
-use Rattle.typedef_laws.proofs.Places.{and_both}
 use Rattle.typedef_laws.proofs.Rules.{labelled, fine}
 use Rattle.typedef_laws.proofs.Goes.{After, with_token, IsIn, Goes, Makes, node_goes}
 use Rattle.typedef_laws.proofs.Steps.{Reads, Grows, taken, quiet_goes, goes_step, opened_in, opened_fits, opened_outer}
@@ -39,7 +39,7 @@ enumerator = labelled Enumerator 1
 module _ (std : Standard) where
   module _ (a b : List Token) where
     pub asks_true : (l : Label) (v : Bool) (s s' : State) → Asks std a b l v s s' → Asks std a b l (v && true) s s'
-    asks_true l v s s' k = λ o ends bounds f agree. (let r = k o ends bounds f agree in (r.0, and_both v true r.1 refl))
+    asks_true l v s s' k = λ o ends bounds f agree. (let r = k o ends bounds f agree in (r.0, and_from v true r.1 refl))
 
     -- a name is declared behind what was read
     renamed_asks : (l : Label) (v : Bool) (s s1 : State) (n : Names) → SameOuter s.names.scopes s1.names.scopes → SameOuter s1.names.scopes n.scopes

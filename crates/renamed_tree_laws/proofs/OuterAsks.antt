@@ -1,5 +1,6 @@
 -- What is asked along external definitions (6.9), and along bodies of functions (6.9.1).
 use Rattle.std.proofs.Common.{ℕ, ◌+◌, ◌<◌, ◌≡◌, Bool, true, false, ◌&&◌, if◌then◌else◌, List, [], ◌∷◌, Ok, Err, refl, sym, ap, subst, ◌∙◌, arith}
+use Rattle.std.proofs.lemmas.Bool.{and_from}
 use Rattle.tree_laws.specs.Below.cs_base.declared.ws_units.Standard.{Standard}
 use Rattle.tree_laws.specs.Below.cs_base.declared.ws_units.Standard.TheVariants.{C99}
 use Rattle.tree_laws.specs.Below.cs_base.Token.{Token}
@@ -19,7 +20,7 @@ use Rattle.typedef_laws.proofs.Private.{Declaration, Class}
 use Rattle.typedef_laws.proofs.Parts.{first_body, second_body, first_test, second_test, rest_of, front_of, classes_of}
 use Rattle.typedef_laws.proofs.Outline.{Outline, begun, node_agrees, all_agree}
 use Rattle.typedef_laws.proofs.Matching.{Matches, Bounds, Within, IsOpen, bounds_sooner, bounds_within, bounds_inner, within_sooner}
-use Rattle.typedef_laws.proofs.Places.{last_leaf, and_both}
+use Rattle.typedef_laws.proofs.Places.{last_leaf}
 use Rattle.typedef_laws.proofs.Rules.{labelled, is_simple, fine}
 use Rattle.typedef_laws.proofs.Goes.{After, IsIn, Fits, Goes, goes_still, goes_further, Makes, built_is}
 use Rattle.typedef_laws.proofs.Steps.{Reads, Grows, taken, goes_step, opened_in, opened_fits}
@@ -230,7 +231,7 @@ module _ (std : Standard) where
           let f : Fits std a (labelled ExtRest 2) declared_state ends o' = goes.fits o' ends sooner before in
           let second = tail_told o' ends f.text open2 bounds f.matches f.near (names_kept std a s s1 s' m grows h e s'.built.under o t (some_length std a s.names.scopes op) near fresh) agree in
           let start = declare_asks std a b (labelled ExtRest 2) v (opened ExtRest 2 s) s1 m.outer k o' ends sooner before second.0 in
-          and_both v w start.1 second.1
+          and_from v w start.1 second.1
 
       rest_opens : OpenAsks s.names.scopes (IsFresh s) ExtRest 2 (v && w) s s'
       rest_opens = record { inside = rest_inside; asks = rest_told }
@@ -250,7 +251,7 @@ module _ (std : Standard) where
           let f : Fits std a (labelled External n) s1 ends o' = (specs_goes std a n s s1 s' m grows w e).fits o' ends sooner before in
           let second = k' o' ends f.text open1 bounds f.matches f.near (specs_fresh std a n s s1 s' m grows w e s'.built.under o fresh) agree in
           let start = k o' ends sooner before second.0 in
-          and_both u v start.1 second.1
+          and_from u v start.1 second.1
 
       definition_opens : OpenAsks s.names.scopes (IsFresh s) External n (u && v) s s'
       definition_opens = record {

@@ -4,7 +4,7 @@ use mathlib.Core.List.{reverse-cons}
 use Rattle.std.specs.List.{list_all}
 use Rattle.std.specs.Option.{option_map_or}
 use Rattle.std.specs.Str.{bytes_eq}
-use Rattle.std.proofs.lemmas.Bool.{and_parts}
+use Rattle.std.proofs.lemmas.Bool.{and_parts, and_from}
 use Rattle.std.proofs.lemmas.Slice.Eq.{bytes_eq-Decides}
 use Rattle.tree_laws.specs.Below.cs_base.declared.ws_units.Standard.{Standard}
 use Rattle.tree_laws.specs.Below.cs_base.Token.{Token}
@@ -25,7 +25,7 @@ use Rattle.tree_laws.specs.Below.scope_bind.Roles.{role_of}
 use Rattle.tree_laws.specs.Below.scope_bind.Walk.{facts_at, passed, left, walked}
 use Rattle.tree_laws.specs.Below.scope_bind.Bound.{Bound, names_of, bound_of, range_of as range_of_declaration, typedefs_of, facts_of, binding_of}
 use Rattle.tree_laws.specs.RenamedNames.{is_own_word}
-use Rattle.tree_laws.proofs.Lookups.{and_both, and_right, In}
+use Rattle.tree_laws.proofs.Lookups.{In}
 use Rattle.tree_laws.proofs.Renaming.{Good, Kept}
 use Rattle.tree_laws.proofs.RenamedNames.{used_visible}
 use Rattle.tree_laws.proofs.RenamedSteps.{entered_kept, entered_same, passed_kept, passed_same, left_back, left_kept, left_same}
@@ -116,7 +116,7 @@ module _ (std : Standard) where
 
       func_case : (c : Bool) → is_func a f i ≡ c → Good b (if c then facts else used a i facts) → not (denotes_typedef a i facts) ≡ true → not (denotes_typedef b i facts) ≡ true
       func_case true e g h =
-          none_kept i facts covered (λ hidden j w. func_stays i (and_right (option_map_or (λ x. true) f.body false && not f.listing) (bytes_eq (spelling_at a i) func) e) j w) h
+          none_kept i facts covered (λ hidden j w. func_stays i ((and_parts (option_map_or (λ x. true) f.body false && not f.listing) (bytes_eq (spelling_at a i) func) e).1) j w) h
       func_case false e g h = ap not (denotes_same i facts (used_visible a b apart i facts kept g)) ∙ h
 
       primary_case : (c : Bool) → Good b (facts_at a (if c then role_of Primary 1 0 else role_of TranslationUnit 0 0) i f facts)
@@ -168,7 +168,7 @@ module _ (std : Standard) where
         let after : State = passed a i s in
         let g : Good b after.facts = walked_back a b apart words rest after h in
         let both = and_parts (is_read_so a s.frame.label.production s.frame.label.alternative s.frame.nth i s.facts) (agrees std a rest after) e in
-        and_both _ _
+        and_from _ _
         (read_kept i s.frame s.facts k (covered_back (token i rest) s c) s.frame.label.production s.frame.label.alternative s.frame.nth g loose.0 both.0)
         (ap (agrees std b rest) (passed_same a b apart words r i s k g)
         ∙ agree_kept rest after (passed_kept a b apart words r i s k g) h c loose.1 both.1)
@@ -182,9 +182,9 @@ module _ (std : Standard) where
         let below = walked_same a b apart words under inner_start start g' in
         let both = and_parts (is_named_so std a l first s.facts) _ e in
         let more = and_parts (agrees std a under inner_start) (agrees std a rest after) both.1 in
-        and_both _ _
+        and_from _ _
         (named_case (first + 1) s.facts (covered_back (node l first under rest) s c) (is_at l Pdirect 2) loose.0 both.0)
-        (and_both _ _
+        (and_from _ _
         (ap (agrees std b under) (entered_same a b apart words l first under s)
         ∙ agree_kept under inner_start start g' (covered_inside l first under s inside (covered_back rest after c)) loose.1.0 more.0)
         (ap (λ x. agrees std b rest (left b l first under s (walked b under x))) (entered_same a b apart words l first under s)

@@ -1,6 +1,6 @@
 -- Texts in which names are respelled are read alike.
 use Rattle.std.proofs.Common.{ℕ, ◌+◌, ◌-◌, ◌*◌, ◌≡◌, Bool, true, false, not, if◌then◌else◌, ◌==◌, List, length, Ok, Err, refl, sym, ap, ◌∙◌}
-use Rattle.std.proofs.lemmas.Bool.{false≢true, and_parts}
+use Rattle.std.proofs.lemmas.Bool.{false≢true, and_parts, not-true}
 use Rattle.tree_laws.specs.Below.cs_base.declared.ws_units.Standard.{Standard}
 use Rattle.tree_laws.specs.Below.cs_base.Token.{Token}
 use Rattle.tree_laws.specs.Below.c99_tree.Tree.{Node}
@@ -16,7 +16,7 @@ use Rattle.renamed_tree_laws.specs.Along.{all_along}
 use Rattle.renamed_tree_laws.specs.Respelled.{is_bare_so, is_kind_so, is_named_so, is_token_so, is_node_so, IsRespelled}
 use Rattle.renamed_tree_laws.specs.ReadAlike.{RespelledTextsReadAlike, TextsOfOneKindReadAlike}
 use Rattle.renamed_tree_laws.proofs.Private.{Class, identifier, typedef_name}
-use Rattle.renamed_tree_laws.proofs.Twins.{implied, refuted, not_typedef, some_typedef, Same}
+use Rattle.renamed_tree_laws.proofs.Twins.{implied, not_typedef, some_typedef, Same}
 use Rattle.renamed_tree_laws.proofs.Moods.{is_told, is_asked}
 use Rattle.renamed_tree_laws.proofs.Table.{production_known}
 use Rattle.renamed_tree_laws.proofs.Keeping.{labelled, Fine}
@@ -37,7 +37,7 @@ module _ (std : Standard) where
         → is_bare_so std b s.names.scopes k ≡ true → Same std a b s.names.scopes k
     bare_same s k L of_a n e h =
         λ i.
-        let in_b : is_typedef_at b s.names.scopes k ≡ false = refuted _ (implied _ _ h (ap is_identifier (sym (classes k)) ∙ i)) in
+        let in_b : is_typedef_at b s.names.scopes k ≡ false = not-true _ (implied _ _ h (ap is_identifier (sym (classes k)) ∙ i)) in
         let in_s : is_typedef_at s.toks s.names.scopes k ≡ false = not_typedef std s k L (ap (λ t. is_identifier (base_at (grammar std) t k)) of_a ∙ i) n e in
         in_b ∙ (sym in_s ∙ ap (λ t. is_typedef_at t s.names.scopes k) of_a)
 
@@ -57,13 +57,13 @@ module _ (std : Standard) where
         → among L (class_at (grammar std) s s.at) ≡ true → is_kind_so std b p n s.names.scopes s.at ≡ true → Same std a b s.names.scopes s.at
     kind_same Main n s L of_a h e q =
         let both = and_parts (n == 4) (not (among L identifier)) h in
-        typedef_same s s.at L of_a (refuted _ both.1) e (yes (n == 4) (is_typedef_at b s.names.scopes s.at) both.0 q)
+        typedef_same s s.at L of_a (not-true _ both.1) e (yes (n == 4) (is_typedef_at b s.names.scopes s.at) both.0 q)
     kind_same Primary n s L of_a h e q =
         let both = and_parts (n == 1) (not (among L typedef_name)) h in
-        bare_same s s.at L of_a (refuted _ both.1) e (yes (n == 1) (is_bare_so std b s.names.scopes s.at) both.0 q)
+        bare_same s s.at L of_a (not-true _ both.1) e (yes (n == 1) (is_bare_so std b s.names.scopes s.at) both.0 q)
     kind_same Params n s L of_a h e q =
         let both = and_parts (n == 1) (not (among L typedef_name)) h in
-        bare_same s s.at L of_a (refuted _ both.1) e (yes (n == 1) (is_bare_so std b s.names.scopes s.at) both.0 q)
+        bare_same s s.at L of_a (not-true _ both.1) e (yes (n == 1) (is_bare_so std b s.names.scopes s.at) both.0 q)
     kind_same _ n s L of_a h e q = absurd (false≢true h)
 
   -- ---- Names that are respelled with what they denote
@@ -80,7 +80,7 @@ module _ (std : Standard) where
         named_same s s.at g (yes (n == 1) (is_named_so std a b s.names.scopes s.at) (and_parts (n == 1) (not (among L typedef_name)) h).0 q)
     token_same Params n s L of_a g h e q =
         let both = and_parts (n == 1) (not (among L typedef_name)) h in
-        bare_same a b r.classes s s.at L of_a (refuted _ both.1) e (yes (n == 1) (is_bare_so std b s.names.scopes s.at) both.0 q)
+        bare_same a b r.classes s s.at L of_a (not-true _ both.1) e (yes (n == 1) (is_bare_so std b s.names.scopes s.at) both.0 q)
     token_same _ n s L of_a g h e q = absurd (false≢true h)
 
   -- ---- Whole texts

@@ -1,6 +1,6 @@
 -- Nodes that are scopes: blocks, parameter lists, statements and substatements (6.2.1 paragraph 4).
 use Rattle.std.proofs.Common.{ℕ, ◌+◌, ◌<◌, ◌≡◌, Bool, true, false, ◌&&◌, List, [], ◌∷◌, length, Ok, Err, inl, inr, refl, sym, ap, subst, ◌∙◌, arith}
-use Rattle.std.proofs.lemmas.Bool.{false≢true, and_parts}
+use Rattle.std.proofs.lemmas.Bool.{false≢true, and_parts, and_from}
 use Rattle.tree_laws.specs.Below.cs_base.declared.ws_units.Standard.{Standard}
 use Rattle.tree_laws.specs.Below.cs_base.Token.{Token}
 use Rattle.tree_laws.specs.Below.c99_tree.Tree.{Forest, leaf, put}
@@ -18,7 +18,7 @@ use Rattle.tree_laws.specs.Below.c_types.Trees.{is_at, last_token}
 use Rattle.typedef_laws.proofs.Private.{Class}
 use Rattle.typedef_laws.proofs.Outline.{Outline, begun}
 use Rattle.typedef_laws.proofs.Matching.{Bounds, IsOpen, SameOuter, bounds_within, bounds_inner, within_sooner}
-use Rattle.typedef_laws.proofs.Places.{EndsAt, ends_none, and_both}
+use Rattle.typedef_laws.proofs.Places.{EndsAt, ends_none}
 use Rattle.typedef_laws.proofs.Rules.{labelled, is_quiet, fine}
 use Rattle.typedef_laws.proofs.Goes.{After, with_token, IsIn, Goes, goes_still, goes_further}
 use Rattle.typedef_laws.proofs.Steps.{Reads, taken, quiet_fits, goes_step, opened_in, opened_fits, opened_scopes}
@@ -28,7 +28,7 @@ use Rattle.renamed_tree_laws.specs.Along.{along_rest}
 use Rattle.renamed_tree_laws.proofs.Asking.{before_leaf, of_token, of_node, Asks, asks_still, asks_further, quiet_so, plain_asked, told_after, along, Asked, asks_step, BodyAsks}
 
 all_so : (u t v : Bool) → u ≡ true → t ≡ true → v ≡ true → (u && (t && v)) ≡ true
-all_so u t v h k m = and_both u (t && v) h (and_both t v k m)
+all_so u t v h k m = and_from u (t && v) h (and_from t v k m)
 
 module _ (std : Standard) where
   module _ (a b : List Token) where
@@ -107,7 +107,7 @@ module _ (std : Standard) where
       unfolding acted
       block_end right v s' g k =
           let names : Names = with_scope_ended s'.names s'.names.scopes in
-          (told_after std) a b Block 1 v (v && of_token std a b (acted (grammar std) end s')) s (take_one (grammar std) right (acted (grammar std) end s')) (λ e. and_both v _ e (last_so Block 1 names s' refl g))
+          (told_after std) a b Block 1 v (v && of_token std a b (acted (grammar std) end s')) s (take_one (grammar std) right (acted (grammar std) end s')) (λ e. and_from v _ e (last_so Block 1 names s' refl g))
           (taken std (BodyAsks std a b Block 1 v s) right (acted (grammar std) end s')
           (λ c more. bracket_told Block 1 s s' names refl g (λ op. ended_scopes s'.names s.names.scopes s'.names.scopes op (inner_same Block 1 s' g))
           (block_scope std a s'.built.under s'.at) v k))
@@ -124,7 +124,7 @@ module _ (std : Standard) where
       list_end right v s' g k =
           let names : Names = (acted (grammar std) keep (acted (grammar std) end s')).names in
           (told_after std) a b Suffix 2 v (v && of_token std a b (acted (grammar std) keep (acted (grammar std) end s'))) s (take_one (grammar std) right (acted (grammar std) keep (acted (grammar std) end s')))
-          (λ e. and_both v _ e (last_so Suffix 2 names s' refl g))
+          (λ e. and_from v _ e (last_so Suffix 2 names s' refl g))
           (taken std (BodyAsks std a b Suffix 2 v s) right (acted (grammar std) keep (acted (grammar std) end s'))
           (λ c more. bracket_told Suffix 2 s s' names refl g (λ op. ended_scopes s'.names s.names.scopes s'.names.scopes op (inner_same Suffix 2 s' g))
           (list_scope std a s'.built.under s'.at) v k))
@@ -244,7 +244,7 @@ module _ (std : Standard) where
                 subst (BodyAsks std a b p n (of_node std a b p n s && along std a b below along_below depth rest (acted (grammar std) scope (opened p n s))) s) (sym same)
                 (told_after std a b p n (along std a b below along_below depth rest (acted (grammar std) scope (opened p n s)))
                 (of_node std a b p n s && along std a b below along_below depth rest (acted (grammar std) scope (opened p n s))) s (Ok (acted (grammar std) end last_one))
-                (λ e. and_both (of_node std a b p n s) _ (plain_asked std a b p n s named) e)
+                (λ e. and_from (of_node std a b p n s) _ (plain_asked std a b p n s named) e)
                 (whole_told p n s last_one m.goes (let e = begins_at p n s in let e' = at_end.0 in omega arith) (whole_scope std a p n last_one.built.under w)
                 (along std a b below along_below depth rest (acted (grammar std) scope (opened p n s))) m.asks))
         whole_asks p n depth _ s w named h = absurd (false≢true h)

@@ -1,7 +1,7 @@
 -- What is known of the next token where something was read and reading did not stop.
 use Rattle.std.proofs.Common.{ℕ, zero, suc, ◌+◌, ◌≡◌, Bool, true, false, ◌&&◌, ◌||◌, not, if◌then◌else◌, ◌==◌, List, [], ◌∷◌, length, None, slice_get, Ok, refl, sym, ap, subst, ◌∙◌, arith, inl, inr}
 use Rattle.std.specs.Option.{option_map_or}
-use Rattle.std.proofs.lemmas.Bool.{false≢true, and_parts, and_from, or_cases}
+use Rattle.std.proofs.lemmas.Bool.{false≢true, and_parts, and_from, or_cases, not-true}
 use Rattle.tree_laws.specs.Below.cs_base.declared.ws_units.Standard.{Standard}
 use Rattle.tree_laws.specs.Below.cs_base.Token.{Token}
 use Rattle.tree_laws.specs.Below.c99_tree.declared.production.Label.{Label}
@@ -15,7 +15,7 @@ use Rattle.tree_laws.specs.Below.c99_read.Reading.{Goal, produce, repeat, Step, 
 use Rattle.tree_laws.specs.Below.c99_grammar.Starting.{asks}
 use Rattle.renamed_tree_laws.specs.Along.{along_rest, along_item, along_first, along_goal, along_within}
 use Rattle.renamed_tree_laws.proofs.Private.{Class, identifier, typedef_name, end_class, no_class, colons, parens, covers}
-use Rattle.renamed_tree_laws.proofs.Twins.{implied, refuted, plain_is, plain_class, class_so, Same}
+use Rattle.renamed_tree_laws.proofs.Twins.{implied, plain_is, plain_class, class_so, Same}
 use Rattle.renamed_tree_laws.proofs.Moods.{Mood, any, label, calm, solid, taken, start_mood, is_second, is_asked, is_told, takes_colon, before_colon, labelled_mood, mood, is_calm_behind, second_known, told_where, named_where, placed, is_bare_test, second_where, is_known, are_known, is_production_known, decided}
 use Rattle.renamed_tree_laws.proofs.Knowing.{Known, known_less, known_first, known_second, known_both}
 use Rattle.renamed_tree_laws.proofs.Steps.{stopped, ok_is, between, branch, Takes, takes, ends, enters, opened_scopes, opened_at, opened_class}
@@ -215,7 +215,7 @@ module _ (std : Standard) where
       asked_second : (p : Production) (n : ℕ) (t : Test) (item : Item) (s : State) → s.toks ≡ a → is_asked p n ≡ true → is_bare_test t ≡ true
           → may (grammar std) t item s ≡ true → of_node p n s ≡ true → Same std a b s.names.scopes (s.at + 1)
       asked_second p n (next_two x (is M)) item s of_a h bare m so =
-          asked.nodes p n s M of_a h (refuted _ bare) (and_parts (asks (grammar std) x (class_at (grammar std) s s.at)) (among M (class_at (grammar std) s (s.at + 1))) m).1 so
+          asked.nodes p n s M of_a h (not-true _ bare) (and_parts (asks (grammar std) x (class_at (grammar std) s s.at)) (among M (class_at (grammar std) s (s.at + 1))) m).1 so
       asked_second p n _ item s of_a h bare m so = absurd (false≢true bare)
 
       second_by : (p : Production) (n : ℕ) (x : Alternative) (depth : ℕ) (l : Label) (s s' : State) (second is_here : Bool) → is_asked p n ≡ is_here

@@ -25,10 +25,6 @@ pub implied : (c d : Bool) → (not c || d) ≡ true → c ≡ true → d ≡ tr
 implied true d h e = h
 implied false d h e = absurd (false≢true e)
 
-pub refuted : (c : Bool) → not c ≡ true → c ≡ false
-refuted true h = absurd (false≢true h)
-refuted false h = refl
-
 -- the classes do not tell a typedef name from another
 abbrev pub blind : List Class → Bool
 blind L = agree (among L identifier) (among L typedef_name)

@@ -1,5 +1,6 @@
 -- What is asked along a whole unit.
 use Rattle.std.proofs.Common.{ℕ, zero, suc, ◌≡◌, Bool, true, false, ◌&&◌, if◌then◌else◌, ◌==◌, List, [], ◌∷◌, length, Ok, Err, refl, ap, ◌∙◌, arith}
+use Rattle.std.proofs.lemmas.Bool.{and_from}
 use Rattle.tree_laws.specs.Below.cs_base.declared.ws_units.Standard.{Standard}
 use Rattle.tree_laws.specs.Below.cs_base.Token.{Token}
 use Rattle.tree_laws.specs.Below.c99_tree.Tree.{none, node}
@@ -14,7 +15,6 @@ use Rattle.typedef_laws.proofs.Outline.{Outline, all_agree}
 use Rattle.typedef_laws.proofs.Outlines.{outline}
 use Rattle.typedef_laws.proofs.Matching.{Bounds, outer_open, bounds_sooner}
 use Rattle.typedef_laws.proofs.Beginning.{file_bounds}
-use Rattle.typedef_laws.proofs.Places.{and_both}
 use Rattle.typedef_laws.proofs.Goes.{After}
 use Rattle.typedef_laws.proofs.Listed.{outlined_scope}
 use Rattle.typedef_laws.proofs.Handing.{now}
@@ -62,7 +62,7 @@ module _ (std : Standard) where
         let sooner = bounds_sooner s'.at s''.at o.scope.to s'.names.scopes s''.names.scopes ends op g'.later (g'.outer op) bounds in
         let second = k' o ends bounds (g.goes o ends sooner f) agree in
         let start = k o ends sooner f second.0 in
-        (start.0, and_both v w start.1 second.1))
+        (start.0, and_from v w start.1 second.1))
 
     unit_then : (v : Bool) (w : State → Bool) (s : State) (r : Step) (next_step : State → Step) → After (UnitGoes std a s) r → After (UnitAsks v s) r
         → ((s' : State) → After (UnitGoes std a s') (next_step s')) → ((s' : State) → After (UnitAsks (w s') s') (next_step s'))

@@ -2,7 +2,7 @@
 use Rattle.std.proofs.Common.{◌≡◌, ℕ, Bool, true, false, not, ◌&&◌, ◌||◌, List, [], ◌∷◌, Option, None, Some, refl, ◌∙◌, subst, inl, inr, arith}
 use Rattle.std.specs.List.{list_any}
 use Rattle.std.specs.Str.{bytes_eq}
-use Rattle.std.proofs.lemmas.Bool.{cases_Bool}
+use Rattle.std.proofs.lemmas.Bool.{cases_Bool, and_parts}
 use Rattle.cs_base.proofs.FileMapLemmas.{bytes_eq-same, bytes_eq-equal}
 use Rattle.source_files.specs.Files.{Source, Found, Lines, Absent, Unopened, Opened, Made, Entry, Table, found_at}
 use Rattle.source_files.specs.Tables.{paths_in, IsFound, AreFound, HasEachOnce}
@@ -45,12 +45,6 @@ told-here source path (Unopened bytes) h = h
 told-here source path (Opened bytes) h = h
 told-here source path (Made bytes) h = tt
 
-and-left : (a b : Bool) → (a && b) ≡ true → a ≡ true
-and-left a b h = grind (arith, h)
-
-and-right : (a b : Bool) → (a && b) ≡ true → b ≡ true
-and-right a b h = grind (arith, h)
-
 -- a path behind the first entry is told of there
 later-told : (e : Entry) (table : Table) → HasEachOnce (e ∷ table) → (path : List ℕ) → list_any (bytes_eq path) (paths_in table) ≡ true
     → source_in (e ∷ table) path ≡ source_in table path
@@ -58,7 +52,7 @@ unfolding source_in found_at
 later-told e table once path among = elim (cases_Bool (bytes_eq path e.path)) [
   | inl same ↦ absurd (
       let is : path ≡ e.path = bytes_eq-equal path e.path same in
-      let other : not (list_any (bytes_eq e.path) (paths_in table)) ≡ true = and-left _ _ once in
+      let other : not (list_any (bytes_eq e.path) (paths_in table)) ≡ true = (and_parts _ _ once).0 in
       let there : list_any (bytes_eq e.path) (paths_in table) ≡ true = subst (λ (p : List ℕ). list_any (bytes_eq p) (paths_in table) ≡ true) is among in
       let wrong : false ≡ true = rw there at other in cc)
   | inr other ↦ rw other refl
@@ -72,7 +66,7 @@ table-source : (table : Table) → HasEachOnce table → AreFound (source_in tab
 table-source [] once = tt
 table-source (e ∷ table) once = (
   told-here (source_in (e ∷ table)) e.path e.found (first-told e table),
-  found-along (source_in table) (source_in (e ∷ table)) table (later-told e table once) (table-source table (and-right _ _ once)),
+  found-along (source_in table) (source_in (e ∷ table)) table (later-told e table once) (table-source table ((and_parts _ _ once).1)),
 )
 
 pub some_source : (table : Table) → HasEachOnce table → (source : Source) × AreFound source table

@@ -1,6 +1,6 @@
 -- A walk notes a token as a name as often as the tree shows at most.
 use Rattle.std.proofs.Common.{ℕ, ◌+◌, ◌≤◌, ◌≡◌, Bool, true, false, ◌||◌, not, if◌then◌else◌, List, [], ◌∷◌, ◌++◌, Option, None, Some, inl, inr, refl, sym, ap, subst, ◌∙◌, arith}
-use Rattle.std.proofs.lemmas.Bool.{cases_Bool}
+use Rattle.std.proofs.lemmas.Bool.{cases_Bool, not-true, or_parts, and_parts}
 use Rattle.cs_base.specs.Token.{Token}
 use Rattle.c99_tree.specs.Tree.{Forest, none, token, node}
 use Rattle.c99_tree.specs.declared.production.Label.{Label}
@@ -19,24 +19,12 @@ use Rattle.name_chains.specs.Entering.{facts_in, with_kept, entered}
 use Rattle.scope_bind.specs.Roles.{role_of}
 use Rattle.scope_bind.specs.Walk.{facts_at, passed, declared_in, parameter_in, facts_after, left, walked}
 use Rattle.tree_laws.specs.TreesOfTexts.{has_token, has_body, has_form, have_forms}
-use Rattle.tree_laws.proofs.InLists.{false≢true, and_right}
+use Rattle.tree_laws.proofs.InLists.{false≢true}
 use Rattle.tree_laws.proofs.Noted.{hit, hits, role_hit, declares, is_parameter, told_name, noted, form_here, forms_under, forms_behind}
 use Rattle.tree_laws.proofs.Adding.{count_in, Adds, adds_none, declared_adds, used_adds, object_adds, parameter_adds, tag_adds, enumeration_adds, member_adds, member_used_adds, designated_adds, label_adds, jump_to_adds}
 
-pub not_true : (c : Bool) → not c ≡ true → c ≡ false
-not_true true e = absurd (false≢true e)
-not_true false e = refl
-
-pub or_left : (p q : Bool) → (p || q) ≡ false → p ≡ false
-or_left true q h = h
-or_left false q h = refl
-
-pub or_right : (p q : Bool) → (p || q) ≡ false → q ≡ false
-or_right true q h = absurd (false≢true (sym h))
-or_right false q h = h
-
 outside_body : (b c d : Bool) → c ≡ true → (b ≡ true → (c || d) ≡ false) → b ≡ false
-outside_body true c d e h = absurd (false≢true (sym (or_left c d (h refl)) ∙ e))
+outside_body true c d e h = absurd (false≢true (sym ((or_parts c d (h refl)).0) ∙ e))
 outside_body false c d e h = refl
 
 -- how often the token is among the numbers
@@ -139,7 +127,7 @@ module _ (toks : List Token) (t : ℕ) where
   body_ends _ first f l under body facts same = absurd (false≢true same)
 
 body_holds_none : (p : Production) (under : Forest) → ghosts.eq p FunBody ≡ true → has_form p under ≡ true → has_body under ≡ false
-body_holds_none FunBody under same form = not_true (has_body under) (and_right (has_token under) (not (has_body under)) form)
+body_holds_none FunBody under same form = not-true (has_body under) ((and_parts (has_token under) (not (has_body under)) form).1)
 body_holds_none _ under same form = absurd (false≢true same)
 
 -- ---- The walk
@@ -162,7 +150,7 @@ module _ (toks : List Token) (t : ℕ) where
       let within : State = walked toks under before in
       let after : State = left toks l first under s within in
       let behind : total b t (walked toks rest after).facts ≤ total b t after.facts + noted t s.frame.label (s.frame.nth + 1) rest =
-      counted b rest after (λ e. or_right (has_body under) (has_body rest) (or_right (is_node l FunBody) (has_body under || has_body rest) (inside e)))
+      counted b rest after (λ e. (or_parts (has_body under) (has_body rest) ((or_parts (is_node l FunBody) (has_body under || has_body rest) (inside e)).1)).1)
       (forms_behind p under rest forms) in
       elim (cases_Bool (ghosts.eq p FunBody)) [
         | inl same ↦
@@ -174,7 +162,7 @@ module _ (toks : List Token) (t : ℕ) where
             omega (arith, behind, below, begins, subst (λ c. total c t after.facts ≤ total true t within.facts) (sym b_is) ends, ap (λ c. total c t s.facts) b_is)
         | inr other ↦
             let below : total b t within.facts ≤ total b t before.facts + noted t l 0 under =
-            counted b under before (λ e. or_left (has_body under) (has_body rest) (or_right (is_node l FunBody) (has_body under || has_body rest) (inside e)))
+            counted b under before (λ e. (or_parts (has_body under) (has_body rest) ((or_parts (is_node l FunBody) (has_body under || has_body rest) (inside e)).1)).0)
             (forms_under p under rest forms) in
             let begins : total b t before.facts ≤ total b t s.facts = before_counts toks t b p first under s.frame s.facts other in
             let ends : total b t after.facts ≤ total b t within.facts + hits t (told_name p s.frame.label.production first l under) =

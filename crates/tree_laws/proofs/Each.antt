@@ -1,7 +1,7 @@
 -- What is true of each node that reading makes is true of each node below the open one.
 use Rattle.std.proofs.Common.{ℕ, ◌≡◌, Bool, true, false, ◌&&◌, if◌then◌else◌, Ok, refl, ap, ◌∙◌}
 use Rattle.std.specs.List.{list_all}
-use Rattle.std.proofs.lemmas.Bool.{false≢true, and_parts}
+use Rattle.std.proofs.lemmas.Bool.{false≢true, and_parts, and_from}
 use Rattle.c99_tree.specs.Tree.{Forest, none, token, node, Node, leaf, inner, put, lone, collapsed}
 use Rattle.c99_tree.specs.declared.production.Production.{Production}
 use Rattle.c99_grammar.specs.Items.{Item, Action, Alternative}
@@ -10,10 +10,6 @@ use Rattle.c99_grammar.specs.Standard.{Grammar}
 use Rattle.c99_read.specs.Reading.{Goal, step, read_within}
 use Rattle.tree_laws.specs.Shapes.{goal_all, parts_all}
 use Rattle.tree_laws.proofs.Walked.{After, IsKept, fit_each, kept_step, kept_within}
-
-pub and_both : (p q : Bool) → p ≡ true → q ≡ true → (p && q) ≡ true
-and_both true q h k = k
-and_both false q h k = absurd (false≢true h)
 
 module _ (good : Production → Forest → Bool) where
   -- each node below is good
@@ -32,15 +28,15 @@ module _ (good : Production → Forest → Bool) where
   each_leaf (node l first under rest) i w =
       let here = and_parts (good l.production under) (each under && each rest) w in
       let below = and_parts (each under) (each rest) here.1 in
-      and_both _ _ here.0 (and_both _ _ below.0 (each_leaf rest i below.1))
+      and_from _ _ here.0 (and_from _ _ below.0 (each_leaf rest i below.1))
 
   each_inner : (f : Forest) (n : Node) → each f ≡ true → IsGood n → each (put f (inner n)) ≡ true
-  each_inner none n w is_good = and_both _ _ is_good.0 (and_both _ _ is_good.1 refl)
+  each_inner none n w is_good = and_from _ _ is_good.0 (and_from _ _ is_good.1 refl)
   each_inner (token j rest) n w is_good = each_inner rest n w is_good
   each_inner (node l first under rest) n w is_good =
       let here = and_parts (good l.production under) (each under && each rest) w in
       let below = and_parts (each under) (each rest) here.1 in
-      and_both _ _ here.0 (and_both _ _ below.0 (each_inner rest n below.1 is_good))
+      and_from _ _ here.0 (and_from _ _ below.0 (each_inner rest n below.1 is_good))
 
   good_lone : (f : Forest) (n : Node) → each f ≡ true → IsGood n → IsGood (lone f n)
   good_lone none n w is_good = is_good

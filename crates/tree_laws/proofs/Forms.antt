@@ -1,6 +1,6 @@
 -- Each node of a tree of C99 has its form.
 use Rattle.std.proofs.Common.{ℕ, ◌≡◌, Bool, true, false, ◌&&◌, ◌||◌, not, Ok, refl, sym, ap, subst}
-use Rattle.std.proofs.lemmas.Bool.{false≢true, and_parts}
+use Rattle.std.proofs.lemmas.Bool.{false≢true, and_parts, or_from, and_from}
 use Rattle.c99_tree.specs.Tree.{Forest, none, token, node}
 use Rattle.c99_tree.specs.declared.production.Label.{Label}
 use Rattle.c99_tree.specs.declared.production.Production.{Production}
@@ -15,7 +15,7 @@ use Rattle.tree_laws.specs.TreesOfTexts.{begins_with_token, has_token, has_body,
 use Rattle.tree_laws.specs.Shapes.{parts_all, begins, takes, has_no_body, has_no_declaring, passes_on, is_shaped, is_formed, IsFormed}
 use Rattle.tree_laws.proofs.Walked.{After, each_part}
 use Rattle.tree_laws.proofs.Growing.{begins_step, takes_step}
-use Rattle.tree_laws.proofs.Each.{each, and_both, AreGood, Keeps, keeps_within, keeps_step}
+use Rattle.tree_laws.proofs.Each.{each, AreGood, Keeps, keeps_within, keeps_step}
 
 -- ---- What the parts of a rule say
 
@@ -36,10 +36,6 @@ shape_part p a fit =
 
 -- ---- Trees without a body, and without a declaration
 
-or_none : (p q : Bool) → p ≡ false → q ≡ false → (p || q) ≡ false
-or_none false q h k = k
-or_none true q h k = absurd (false≢true (sym h))
-
 no_body_here : (p : Production) → has_no_body p ≡ true → ghosts.eq p FunBody ≡ false
 no_body_here FunBody h = absurd (false≢true h)
 no_body_here _ h = refl
@@ -50,7 +46,7 @@ no_body (token i rest) w = no_body rest w
 no_body (node l first under rest) w =
     let here = and_parts (has_no_body l.production) _ w in
     let below = and_parts (each (λ p under. has_no_body p) under) _ here.1 in
-    or_none _ _ (no_body_here l.production here.0) (or_none _ _ (no_body under below.0) (no_body rest below.1))
+    or_from _ _ (no_body_here l.production here.0) (or_from _ _ (no_body under below.0) (no_body rest below.1))
 
 no_declaring_here : (l : Label) (p : Production) → l.production ≡ p → has_no_declaring p ≡ true → is_declaring l ≡ false
 no_declaring_here l ExtRest e h = absurd (false≢true h)
@@ -63,7 +59,7 @@ no_declaring (token i rest) w = no_declaring rest w
 no_declaring (node l first under rest) w =
     let here = and_parts (has_no_declaring l.production) _ w in
     let below = and_parts (each (λ p under. has_no_declaring p) under) _ here.1 in
-    or_none _ _ (no_declaring_here l l.production refl here.0) (or_none _ _ (no_declaring under below.0) (no_declaring rest below.1))
+    or_from _ _ (no_declaring_here l l.production refl here.0) (or_from _ _ (no_declaring under below.0) (no_declaring rest below.1))
 
 -- ---- Each production
 
@@ -99,7 +95,7 @@ module _ (g : Grammar) (formed : IsFormed g) where
         let keeps = after_is (Keeps (λ p under. has_no_body p) s) _ s' is_read
         (keeps_step (λ p under. has_no_body p) g has_no_body is_formed bodiless fuel body depth s both.1) in
         let none_below = no_body s'.built.under (keeps.goes_on (each_empty (λ p under. has_no_body p))) in
-        and_both _ _ (after_is (λ r. has_token r.built.under ≡ true) _ s' is_read (takes_step g fuel body depth s both.0))
+        and_from _ _ (after_is (λ r. has_token r.built.under ≡ true) _ s' is_read (takes_step g fuel body depth s both.0))
         (ap not none_below)
 
     declarator_form : parts_all has_no_declaring body ≡ true → not (has_declaring s'.built.under) ≡ true

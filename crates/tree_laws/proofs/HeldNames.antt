@@ -2,6 +2,7 @@
 use Rattle.std.proofs.Common.{ℕ, ◌+◌, ◌<◌, ◌≤◌, ◌≡◌, Bool, true, false, ◌&&◌, ◌||◌, not, if◌then◌else◌, ◌==◌, List, [], ◌∷◌, length, map, Option, None, Some, Ok, ◌⊎◌, inl, inr, refl, sym, ap, subst, ◌∙◌, arith}
 use Rattle.std.specs.Prelude.{IfSome, IfErr, All}
 use Rattle.std.proofs.lemmas.Slice.Eq.{bytes_eq-Decides}
+use Rattle.std.proofs.lemmas.Bool.{and_parts}
 use Rattle.cs_base.specs.Token.{Token}
 use Rattle.c99_tree.specs.Tree.{Forest, none, token, node, Node}
 use Rattle.c99_tree.specs.declared.production.Label.{Label}
@@ -17,7 +18,7 @@ use Rattle.scope_bind.specs.Bound.{Bound, name_of, bound_of, bound_unless, facts
 use Rattle.scope_bind.specs.declared.bound.Name.{Name}
 use Rattle.tree_laws.specs.TreesOfTexts.{token_count, AreFrom, begins_with_token, has_form, have_forms, is_name_place, names_pass, IsTreeOf}
 use Rattle.tree_laws.specs.BoundNames.{NamesAreSpelledAsTheirEntities, NamesStandInTheText, FaultsStandInTheText, BoundNamesPass}
-use Rattle.tree_laws.proofs.InLists.{false≢true, and_left, and_right, In, all_mapped, all_reversed}
+use Rattle.tree_laws.proofs.InLists.{false≢true, In, all_mapped, all_reversed}
 use Rattle.tree_laws.proofs.Holding.{GoesOn, Holds}
 use Rattle.tree_laws.proofs.Noted.{declares, is_parameter, told_name, Within, told_within, form_here, forms_under, forms_behind}
 use Rattle.tree_laws.proofs.HeldSteps.{Tokens, walked_held}
@@ -161,11 +162,11 @@ module _ (test : ℕ → Bool) where
   name_passes : (l : Label) (k : ℕ) (f : Forest) → names_pass test l k f ≡ true → IfSome (name_below l f) Passes
   name_passes l k none w = tt
   name_passes l k (token i rest) w =
-      name_here l k i (has_name l) (name_below l rest) refl (and_left _ (names_pass test l (k + 1) rest) w)
-      (name_passes l (k + 1) rest (and_right (not (is_name_place l k) || test i) _ w))
+      name_here l k i (has_name l) (name_below l rest) refl ((and_parts _ (names_pass test l (k + 1) rest) w).0)
+      (name_passes l (k + 1) rest ((and_parts (not (is_name_place l k) || test i) _ w).1))
   name_passes l k (node m first under rest) w =
-      either_passes (holds_name m.production) (name_below m under) (name_below l rest) (name_passes m 0 under (and_left _ (names_pass test l (k + 1) rest) w))
-      (name_passes l (k + 1) rest (and_right (names_pass test m 0 under) _ w))
+      either_passes (holds_name m.production) (name_below m under) (name_below l rest) (name_passes m 0 under ((and_parts _ (names_pass test l (k + 1) rest) w).0))
+      (name_passes l (k + 1) rest ((and_parts (names_pass test m 0 under) _ w).1))
 
   -- the name of an enumerator
   first_passes : (m : Label) (j first : ℕ) (under : Forest) → m.production ≡ Enumerator → first ≡ j → AreFrom j under → begins_with_token under ≡ true
@@ -173,7 +174,7 @@ module _ (test : ℕ → Bool) where
   first_passes m j first none p e w begins h = absurd (false≢true begins)
   first_passes m j first (token i rest) p e w begins h =
       let here : is_name_place m 0 ≡ true = ap (λ q. not (is_plain_role (role_of q m.alternative 0)) || (has_name (record { production = q; alternative = m.alternative }) || is_node (record { production = q; alternative = m.alternative }) Enumerator && true)) p in
-      subst (λ n. test n ≡ true) (w.0 ∙ sym e) (place_passes (is_name_place m 0) i (and_left _ (names_pass test m 1 rest) h) here)
+      subst (λ n. test n ≡ true) (w.0 ∙ sym e) (place_passes (is_name_place m 0) i ((and_parts _ (names_pass test m 1 rest) h).0) here)
   first_passes m j first (node l second under rest) p e w begins h = absurd (false≢true begins)
 
   told_passes : (p q : Production) (m : Label) (j first : ℕ) (under : Forest) → m.production ≡ p → first ≡ j → AreFrom j under → has_form p under ≡ true
@@ -186,15 +187,15 @@ module _ (test : ℕ → Bool) where
   tokens_pass : (l : Label) (k : ℕ) (f : Forest) (j : ℕ) → AreFrom j f → have_forms f ≡ true → names_pass test l k f ≡ true → Tokens Passes l k f
   tokens_pass l k none j w forms h = tt
   tokens_pass l k (token i rest) j w forms h = (
-    λ e. place_passes (is_name_place l k) i (and_left _ (names_pass test l (k + 1) rest) h)
+    λ e. place_passes (is_name_place l k) i ((and_parts _ (names_pass test l (k + 1) rest) h).0)
         (role_place (is_plain_role (role_of l.production l.alternative k)) _ e),
-    tokens_pass l (k + 1) rest (j + 1) w.1 forms (and_right (not (is_name_place l k) || test i) _ h),
+    tokens_pass l (k + 1) rest (j + 1) w.1 forms ((and_parts (not (is_name_place l k) || test i) _ h).1),
   )
   tokens_pass l k (node m first under rest) j w forms h =
-      let below : names_pass test m 0 under ≡ true = and_left _ (names_pass test l (k + 1) rest) h in (
+      let below : names_pass test m 0 under ≡ true = (and_parts _ (names_pass test l (k + 1) rest) h).0 in (
         told_passes m.production l.production m j first under refl w.0 w.1 (form_here m.production under rest forms) below,
         tokens_pass m 0 under j w.1 (forms_under m.production under rest forms) below,
-        tokens_pass l (k + 1) rest (j + token_count under) w.2 (forms_behind m.production under rest forms) (and_right (names_pass test m 0 under) _ h),
+        tokens_pass l (k + 1) rest (j + token_count under) w.2 (forms_behind m.production under rest forms) ((and_parts (names_pass test m 0 under) _ h).1),
       )
 
 pub bound_names_pass : BoundNamesPass

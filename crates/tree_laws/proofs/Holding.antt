@@ -3,12 +3,13 @@
 use Rattle.std.proofs.Common.{ℕ, ◌≡◌, Bool, true, false, ◌&&◌, not, if◌then◌else◌, ◌==◌, List, [], ◌∷◌, ◌++◌, Option, None, Some, inl, inr, refl, subst}
 use Rattle.std.specs.Prelude.{IfSome, filter_map}
 use Rattle.std.specs.List.{cons_option}
+use Rattle.std.proofs.lemmas.Bool.{and_parts}
 use Rattle.cs_base.specs.Token.{Token}
 use Rattle.scope_bind.specs.Named.{Cause, Fault, Space, Declaration, Occurrence}
 use Rattle.c_types.specs.Faults.{first_fault, comes_first, fault_at}
 use Rattle.c_types.specs.Declarations.{Facts, is_space, alike, is_named, looked_up, with_fault, with_occurrence, with_declaration, with_begun, with_complete}
 use Rattle.name_chains.specs.Entering.{is_member, kept_here, with_kept}
-use Rattle.tree_laws.proofs.InLists.{and_left, and_right, In, found_passes, found_in}
+use Rattle.tree_laws.proofs.InLists.{In, found_passes, found_in}
 
 -- the token is noted as a name of the entity
 abbrev pub name_noted : ℕ → ℕ → Bool → Occurrence
@@ -135,7 +136,7 @@ module _ (toks : List Token) (S : ℕ → Type 0) (R : List Occurrence → ℕ �
   found_held space i test facts s h (Some d) e =
       let passes : (is_named toks space i d && test d) ≡ true = found_passes (λ d. is_named toks space i d && test d) facts.declared d e in
       law.spelled facts.occurrences i d.name_at d.entity s
-      (and_right (is_space d.space space) (alike toks i d.name_at) (and_left (is_named toks space i d) (test d) passes))
+      ((and_parts (is_space d.space space) (alike toks i d.name_at) ((and_parts (is_named toks space i d) (test d) passes).0)).1)
       (h.declared d (found_in (λ d. is_named toks space i d && test d) facts.declared d e))
 
   -- the entity of what a token denotes

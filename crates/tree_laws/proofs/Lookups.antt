@@ -3,6 +3,7 @@ use Rattle.std.proofs.Common.{ℕ, ◌≡◌, Bool, true, false, ◌&&◌, ◌||
 use Rattle.std.specs.Prelude.{find, IfSome}
 use Rattle.std.specs.List.{list_any}
 use Rattle.std.proofs.lemmas.Slice.Eq.{bytes_eq-Decides}
+use Rattle.std.proofs.lemmas.Bool.{and_parts, and_from, or_parts, or_from}
 use Rattle.cs_base.specs.Token.{Token}
 use Rattle.scope_bind.specs.Named.{Space, Declaration}
 use Rattle.c_types.specs.Declarations.{is_space, Facts, spelling_at, alike, is_named, looked_up}
@@ -11,30 +12,6 @@ use Rattle.c_types.specs.Declarations.{is_space, Facts, spelling_at, alike, is_n
 
 pub false≢true : false ≡ true → ⊥
 false≢true e = cc
-
-pub and_left : (p q : Bool) → (p && q) ≡ true → p ≡ true
-and_left true q h = refl
-and_left false q h = h
-
-pub and_right : (p q : Bool) → (p && q) ≡ true → q ≡ true
-and_right true q h = h
-and_right false q h = absurd (false≢true h)
-
-pub and_both : (p q : Bool) → p ≡ true → q ≡ true → (p && q) ≡ true
-and_both true q e h = h
-and_both false q e h = e
-
-pub or_right : (p q : Bool) → (p || q) ≡ false → q ≡ false
-or_right true q h = absurd (false≢true (sym h))
-or_right false q h = h
-
-pub or_left : (p q : Bool) → (p || q) ≡ false → p ≡ false
-or_left true q h = h
-or_left false q h = refl
-
-pub or_neither : (p q : Bool) → p ≡ false → q ≡ false → (p || q) ≡ false
-or_neither true q e h = e
-or_neither false q e h = h
 
 -- what follows from a test that fails where another one holds
 pub not_true : (q p : Bool) → (q ≡ true → p ≡ true) → p ≡ false → q ≡ false
@@ -97,8 +74,8 @@ none_passes p (x ∷ xs) y f within = none_step p (p x) x y (find p xs) xs refl 
 pub any_same : {X : Type 0} (q p : X → Bool) (xs : List X) → ((x : X) → q x ≡ true → p x ≡ true) → list_any p xs ≡ false → list_any q xs ≡ false
 any_same q p [] sub e = e
 any_same q p (x ∷ xs) sub e =
-    or_neither (q x) (list_any q xs) (not_true (q x) (p x) (sub x) (or_left (p x) (list_any p xs) e))
-    (any_same q p xs sub (or_right (p x) (list_any p xs) e))
+    or_from (q x) (list_any q xs) (not_true (q x) (p x) (sub x) ((or_parts (p x) (list_any p xs) e).0))
+    (any_same q p xs sub ((or_parts (p x) (list_any p xs) e).1))
 
 any_in_step : {X : Type 0} (p : X → Bool) (x y : X) (xs : List X) → p x ≡ false → (In y xs → p y ≡ false) → In y (x ∷ xs) → p y ≡ false
 any_in_step p x y xs e rest (inl s) = subst (λ z. p z ≡ false) s e
@@ -107,7 +84,7 @@ any_in_step p x y xs e rest (inr within) = rest within
 pub any_none : {X : Type 0} (p : X → Bool) (xs : List X) (y : X) → list_any p xs ≡ false → In y xs → p y ≡ false
 any_none p [] y e within = absurd within
 any_none p (x ∷ xs) y e within =
-    any_in_step p x y xs (or_left (p x) (list_any p xs) e) (any_none p xs y (or_right (p x) (list_any p xs) e)) within
+    any_in_step p x y xs ((or_parts (p x) (list_any p xs) e).0) (any_none p xs y ((or_parts (p x) (list_any p xs) e).1)) within
 
 -- ---- Spellings
 
@@ -122,13 +99,13 @@ alike_turned toks i j e =
     (bytes_eq-Decides (spelling_at toks j) (spelling_at toks i)).1 (sym ((bytes_eq-Decides (spelling_at toks i) (spelling_at toks j)).0 e))
 
 and3_mono : (s x y t : Bool) → (y ≡ true → x ≡ true) → ((s && y) && t) ≡ true → ((s && x) && t) ≡ true
-and3_mono true true y t sub h = and_right y t h
+and3_mono true true y t sub h = (and_parts y t h).1
 and3_mono true false true t sub h = absurd (false≢true (sub refl))
 and3_mono true false false t sub h = h
 and3_mono false x y t sub h = h
 
 and3_with : (s x y t : Bool) → ((s && x) && t) ≡ true → y ≡ true → ((s && y) && t) ≡ true
-and3_with true true y t h e = and_both y t e h
+and3_with true true y t h e = and_from y t e h
 and3_with true false y t h e = absurd (false≢true h)
 and3_with false x y t h e = h
 

@@ -1,6 +1,6 @@
 -- Where names stand, a production reads identifiers.
 use Rattle.std.proofs.Common.{ℕ, zero, suc, ◌+◌, ◌%◌, ◌≡◌, Bool, true, false, ◌&&◌, ◌||◌, not, if◌then◌else◌, ◌==◌, List, length, Ok, Err, nat_lt, inl, inr, refl, sym, ap, subst, ◌∙◌, arith}
-use Rattle.std.proofs.lemmas.Bool.{false≢true, and_parts, cases_eq, eq-eqb, ne_eqb}
+use Rattle.std.proofs.lemmas.Bool.{false≢true, and_parts, cases_eq, eq-eqb, ne_eqb, and_from}
 use Rattle.cs_base.specs.declared.ws_units.Standard.{Standard}
 use Rattle.cs_base.specs.Token.{Token}
 use Rattle.c99_tree.specs.Tree.{Forest, none, token, node, Node, leaf, inner, put, count_of}
@@ -17,7 +17,6 @@ use Rattle.scope_bind.specs.Roles.{role_of}
 use Rattle.c_types.specs.Trees.{is_node, has_name}
 use Rattle.tree_laws.specs.TreesOfTexts.{is_name_place, names_pass}
 use Rattle.tree_laws.proofs.Walked.{After, with_token, after_if}
-use Rattle.tree_laws.proofs.Each.{and_both}
 use Rattle.tree_laws.proofs.NameClasses.{only_names, name_is}
 
 -- ---- Places among children
@@ -230,30 +229,30 @@ pub both_pass : (test : ℕ → Bool) (l : Label) (k : ℕ) (f : Forest) → own
 both_pass test l k none h w = refl
 both_pass test l k (token i rest) h w =
     let here = and_parts (not (is_name_place l k) || test i) (own_pass test l (k + 1) rest) h in
-    and_both _ _ here.0 (both_pass test l (k + 1) rest here.1 w)
+    and_from _ _ here.0 (both_pass test l (k + 1) rest here.1 w)
 both_pass test l k (node m begin under rest) h w =
     let below = and_parts (names_pass test m 0 under) (below_pass test rest) w in
-    and_both _ _ below.0 (both_pass test l (k + 1) rest h below.1)
+    and_from _ _ below.0 (both_pass test l (k + 1) rest h below.1)
 
 own_leaf : (test : ℕ → Bool) (l : Label) (f : Forest) (k n i : ℕ) → k + count_of f ≡ n → own_pass test l k f ≡ true → (is_name_place l n ≡ true → test i ≡ true)
     → own_pass test l k (put f (leaf i)) ≡ true
 own_leaf test l none k n i e h here =
     let same : k ≡ n = omega (arith, e) in
-    and_both _ _ (may_be (is_name_place l k) (test i) (λ named. here (subst (λ j. is_name_place l j ≡ true) same named))) refl
+    and_from _ _ (may_be (is_name_place l k) (test i) (λ named. here (subst (λ j. is_name_place l j ≡ true) same named))) refl
   where
     may_be : (c d : Bool) → (c ≡ true → d ≡ true) → (not c || d) ≡ true
     may_be true d g = g refl
     may_be false d g = refl
 own_leaf test l (token j rest) k n i e h here =
     let both = and_parts (not (is_name_place l k) || test j) (own_pass test l (k + 1) rest) h in
-    and_both _ _ both.0 (own_leaf test l rest (k + 1) n i (omega (arith, e)) both.1 here)
+    and_from _ _ both.0 (own_leaf test l rest (k + 1) n i (omega (arith, e)) both.1 here)
 own_leaf test l (node m begin under rest) k n i e h here = own_leaf test l rest (k + 1) n i (omega (arith, e)) h here
 
 pub own_inner : (test : ℕ → Bool) (l : Label) (f : Forest) (k : ℕ) (n : Node) → own_pass test l k f ≡ true → own_pass test l k (put f (inner n)) ≡ true
 own_inner test l none k n h = refl
 own_inner test l (token j rest) k n h =
     let both = and_parts (not (is_name_place l k) || test j) (own_pass test l (k + 1) rest) h in
-    and_both _ _ both.0 (own_inner test l rest (k + 1) n both.1)
+    and_from _ _ both.0 (own_inner test l rest (k + 1) n both.1)
 own_inner test l (node m begin under rest) k n h = own_inner test l rest (k + 1) n h
 
 pub count_leaf : (f : Forest) (i : ℕ) → count_of (put f (leaf i)) ≡ suc (count_of f)
@@ -336,7 +335,7 @@ module _ (std : Standard) where
               let c : Place = place (count_of s.built.under) in
               let at : named_at l c ≡ true = sym (named_number l (count_of s.built.under)) ∙ stands in
               let only : only_names classes ≡ true =
-              implied (named_at l c && X c) (only_names classes) (each_place (λ d. not (named_at l d && X d) || only_names classes) c fit) (and_both _ _ at h.here) in
+              implied (named_at l c && X c) (only_names classes) (each_place (λ d. not (named_at l d && X d) || only_names classes) c fit) (and_from _ _ at h.here) in
               subst (λ ts. is_identifier (base_at (grammar std) ts s.at) ≡ true) h.text (name_is std classes only s s.at there)
 
           by : (b : Bool) → (nat_lt s.at (length s.toks) && among classes (class_at (grammar std) s s.at)) ≡ b

@@ -1,6 +1,6 @@
 -- The names of a tree that is read are identifiers.
 use Rattle.std.proofs.Common.{ℕ, zero, suc, ◌+◌, ◌≡◌, Bool, true, false, if◌then◌else◌, List, [], ◌∷◌, length, Ok, Err, refl, sym, subst, ◌∙◌, arith}
-use Rattle.std.proofs.lemmas.Bool.{and_parts}
+use Rattle.std.proofs.lemmas.Bool.{and_parts, and_from}
 use Rattle.cs_base.specs.declared.ws_units.Standard.{Standard}
 use Rattle.cs_base.specs.Token.{Token}
 use Rattle.c99_tree.specs.Tree.{Forest, none, token, node, Node, leaf, inner, put, lone, collapsed, count_of}
@@ -14,7 +14,6 @@ use Rattle.c99_read.specs.Reading.{produce, repeat, Step, and_then, may, step, a
 use Rattle.name_chains.specs.Frames.{outermost}
 use Rattle.tree_laws.specs.TreesOfTexts.{names_pass}
 use Rattle.tree_laws.proofs.Walked.{After, after_if, IsKept, fit_from, each_part, kept_step, kept_within, kept_by_item}
-use Rattle.tree_laws.proofs.Each.{and_both}
 use Rattle.tree_laws.proofs.NamePlaces.{Place, is_first, place, shifted, fits, is_within, behind, own_pass, below_pass, both_pass, own_inner, count_inner, shifted_next, is_named, Stands, own_step, own_repeat}
 use Rattle.tree_laws.proofs.NameTable.{labelled, fits_at, table_fits}
 
@@ -102,14 +101,14 @@ module _ (std : Standard) where
     below_leaf (token j rest) i w = below_leaf rest i w
     below_leaf (node m begin under rest) i w =
         let both = and_parts (names_pass test m 0 under) (below_pass test rest) w in
-        and_both _ _ both.0 (below_leaf rest i both.1)
+        and_from _ _ both.0 (below_leaf rest i both.1)
 
     below_inner : (f : Forest) (n : Node) → below_pass test f ≡ true → names_pass test n.label 0 n.under ≡ true → below_pass test (put f (inner n)) ≡ true
-    below_inner none n w h = and_both _ _ h refl
+    below_inner none n w h = and_from _ _ h refl
     below_inner (token j rest) n w h = below_inner rest n w h
     below_inner (node m begin under rest) n w h =
         let both = and_parts (names_pass test m 0 under) (below_pass test rest) w in
-        and_both _ _ both.0 (below_inner rest n both.1 h)
+        and_from _ _ both.0 (below_inner rest n both.1 h)
 
     -- a later state, in the same open node of the same text
     record Names (s s' : State) : Type 0 where

@@ -1,7 +1,7 @@
 -- How often a token may be noted as a name, by its place in the tree: once at most.
 use Rattle.std.proofs.Common.{ℕ, ◌+◌, ◌<◌, ◌≤◌, ◌≡◌, Bool, true, false, ◌&&◌, ◌||◌, if◌then◌else◌, ◌==◌, Option, None, Some, ◌⊎◌, inl, inr, refl, sym, ap, subst, ◌∙◌, arith}
 use Rattle.std.specs.Prelude.{IfSome, nat_lt}
-use Rattle.std.proofs.lemmas.Bool.{cases_Bool, cases_eq, eq-eqb, ne_eqb, ltb-true, ltb-false}
+use Rattle.std.proofs.lemmas.Bool.{cases_Bool, cases_eq, eq-eqb, ne_eqb, ltb-true, ltb-false, and_parts}
 use Rattle.c99_tree.specs.Tree.{Forest, none, token, node}
 use Rattle.c99_tree.specs.declared.production.Label.{Label}
 use Rattle.c99_tree.specs.declared.production.Production.{Production}
@@ -11,7 +11,7 @@ use Rattle.scope_bind.specs.Named.{Role, is_plain_role}
 use Rattle.c_types.specs.Trees.{has_name, holds_name, name_below}
 use Rattle.scope_bind.specs.Roles.{role_of}
 use Rattle.tree_laws.specs.TreesOfTexts.{token_count, AreFrom, begins_with_token, has_form, have_forms}
-use Rattle.tree_laws.proofs.InLists.{false≢true, and_left, and_right}
+use Rattle.tree_laws.proofs.InLists.{false≢true}
 
 -- ---- Counting
 
@@ -139,13 +139,13 @@ told_outside t p q first m under j e w form out =
 
 -- three facts of the forms of a node and of what follows
 pub form_here : (p : Production) (under rest : Forest) → (has_form p under && (have_forms under && have_forms rest)) ≡ true → has_form p under ≡ true
-form_here p under rest h = and_left (has_form p under) (have_forms under && have_forms rest) h
+form_here p under rest h = (and_parts (has_form p under) (have_forms under && have_forms rest) h).0
 
 pub forms_under : (p : Production) (under rest : Forest) → (has_form p under && (have_forms under && have_forms rest)) ≡ true → have_forms under ≡ true
-forms_under p under rest h = and_left (have_forms under) (have_forms rest) (and_right (has_form p under) (have_forms under && have_forms rest) h)
+forms_under p under rest h = (and_parts (have_forms under) (have_forms rest) ((and_parts (has_form p under) (have_forms under && have_forms rest) h).1)).0
 
 pub forms_behind : (p : Production) (under rest : Forest) → (has_form p under && (have_forms under && have_forms rest)) ≡ true → have_forms rest ≡ true
-forms_behind p under rest h = and_right (have_forms under) (have_forms rest) (and_right (has_form p under) (have_forms under && have_forms rest) h)
+forms_behind p under rest h = (and_parts (have_forms under) (have_forms rest) ((and_parts (has_form p under) (have_forms under && have_forms rest) h).1)).1
 
 noted_outside : (t j k : ℕ) (l : Label) (f : Forest) → AreFrom j f → have_forms f ≡ true → Outside t j (token_count f) → noted t l k f ≡ 0
 noted_outside t j k l none w forms out = refl

@@ -1,6 +1,7 @@
 -- Lists and bodies stand in the order of the tokens that they are called by.
 use Rattle.std.proofs.Common.{ℕ, ◌+◌, ◌<◌, ◌≤◌, ◌≡◌, Bool, true, false, ◌&&◌, ◌||◌, not, if◌then◌else◌, List, [], ◌∷◌, ◌++◌, Option, None, Some, ◌⊎◌, inl, inr, refl, sym, ap, subst, ◌∙◌, arith}
 use Rattle.std.specs.Prelude.{IfSome}
+use Rattle.std.proofs.lemmas.Bool.{and_parts, not-true, or_parts}
 use Rattle.c99_tree.specs.Tree.{Forest, none, token, node}
 use Rattle.c99_tree.specs.declared.production.Label.{Label}
 use Rattle.c99_tree.specs.declared.production.Production.{Production}
@@ -11,9 +12,8 @@ use Rattle.c_types.specs.declared.lists.Range.{Range}
 use Rattle.c_types.specs.Trees.{is_node, is_at, name_below, first_token, last_token}
 use Rattle.c_types.specs.Lists.{list_of, call_in, calls_in, body_of, tail_of, definition_in, bodies_in, nearest_of, own_list, declarator_in, is_declaring, lists_in}
 use Rattle.tree_laws.specs.TreesOfTexts.{token_count, AreFrom, has_token, has_body, has_declaring, has_form, have_forms}
-use Rattle.tree_laws.proofs.InLists.{false≢true, and_left}
+use Rattle.tree_laws.proofs.InLists.{false≢true}
 use Rattle.tree_laws.proofs.Noted.{Within, name_within, form_here, forms_under, forms_behind}
-use Rattle.tree_laws.proofs.Counted.{not_true, or_left, or_right}
 use Rattle.tree_laws.proofs.Climbing.{Climbs, climbs_lower, climbs_append, Laid, laid_append}
 
 abbrev pub name_of_list : NameList → ℕ
@@ -94,13 +94,13 @@ lists_none : (f : Forest) → has_declaring f ≡ false → lists_in f ≡ []
 lists_none none h = refl
 lists_none (token i rest) h = lists_none rest h
 lists_none (node l first under rest) h =
-    let more : (has_declaring under || has_declaring rest) ≡ false = or_right (is_declaring l) (has_declaring under || has_declaring rest) h in
-    ap (λ x. (x ++ lists_in under) ++ lists_in rest) (if_none (is_declaring l) (declarator_in under) (or_left (is_declaring l) (has_declaring under || has_declaring rest) h))
-    ∙ (ap (λ x. x ++ lists_in rest) (lists_none under (or_left (has_declaring under) (has_declaring rest) more))
-    ∙ lists_none rest (or_right (has_declaring under) (has_declaring rest) more))
+    let more : (has_declaring under || has_declaring rest) ≡ false = (or_parts (is_declaring l) (has_declaring under || has_declaring rest) h).1 in
+    ap (λ x. (x ++ lists_in under) ++ lists_in rest) (if_none (is_declaring l) (declarator_in under) ((or_parts (is_declaring l) (has_declaring under || has_declaring rest) h).0))
+    ∙ (ap (λ x. x ++ lists_in rest) (lists_none under ((or_parts (has_declaring under) (has_declaring rest) more).0))
+    ∙ lists_none rest ((or_parts (has_declaring under) (has_declaring rest) more).1))
 
 declarator_form : (p : Production) (under : Forest) → ghosts.eq p Declarator ≡ true → has_form p under ≡ true → has_declaring under ≡ false
-declarator_form Declarator under same form = not_true (has_declaring under) form
+declarator_form Declarator under same form = not-true (has_declaring under) form
 declarator_form _ under same form = absurd (false≢true same)
 
 declarator_declares : (l : Label) (p : Production) → l.production ≡ p → ghosts.eq p Declarator ≡ true → is_declaring l ≡ false
@@ -179,7 +179,7 @@ last_at_end (node l first under rest) j d w = elim (last_at_end rest (j + token_
 ]
 
 body_form : (p : Production) (under : Forest) → ghosts.eq p FunBody ≡ true → has_form p under ≡ true → has_token under ≡ true
-body_form FunBody under same form = and_left (has_token under) (not (has_body under)) form
+body_form FunBody under same form = (and_parts (has_token under) (not (has_body under)) form).0
 body_form _ under same form = absurd (false≢true same)
 
 ends_laid : (under : Forest) (name k j high : ℕ) → k ≤ name → name < j → AreFrom j under → has_token under ≡ true → j + token_count under ≤ high

@@ -2,6 +2,7 @@
 use Rattle.std.proofs.Common.{ℕ, ◌≡◌, Bool, true, false, not, if◌then◌else◌, List, [], ◌∷◌, Option, None, Some, refl, sym, ap, subst, ◌∙◌}
 use Rattle.std.specs.Prelude.{IfSome, is_some}
 use Rattle.std.specs.Option.{option_map_or}
+use Rattle.std.proofs.lemmas.Bool.{not-false}
 use Rattle.cs_base.specs.Token.{Token}
 use Rattle.c99_tree.specs.Tree.{Forest}
 use Rattle.scope_bind.specs.Named.{Space, Declaration, Body, Frame, undeclared, no_member, no_label, redeclared, tag_redefined, designator_after_elision, tags, members, labels}
@@ -19,10 +20,6 @@ use Rattle.tree_laws.proofs.RenamedNames.{if_true}
 no_some : {X : Type 0} (P : X → Type 0) (r : Option X) → is_some r ≡ false → IfSome r P
 no_some P None e = tt
 no_some P (Some x) e = absurd (false≢true (sym e))
-
-not_false : (c : Bool) → not c ≡ false → c ≡ true
-not_false true e = refl
-not_false false e = absurd (false≢true (sym e))
 
 module _ (a b : List Token) (apart : (i j : ℕ) → alike b i j ≡ true → alike a i j ≡ true) where
   -- ---- Tags
@@ -72,7 +69,7 @@ module _ (a b : List Token) (apart : (i j : ℕ) → alike b i j ≡ true → al
     tag_alike None h = tt
     tag_alike (Some d) h =
         let same : is_same_tag f facts d ≡ true =
-        not_false (is_same_tag f facts d) (fault_back b (not (is_same_tag f facts d)) tag_redefined i _ h) in
+        not-false (is_same_tag f facts d) (fault_back b (not (is_same_tag f facts d)) tag_redefined i _ h) in
         let inner : Good b (tag_named f i (Some d) (tag_entity f i facts (Some d)) facts) =
         fault_goes b (not (is_same_tag f facts d)) tag_redefined i _ h in
         subst (λ e. alike b i e ≡ true)

@@ -2,22 +2,18 @@
 use Rattle.std.proofs.Common.{ℕ, ◌≡◌, Bool, true, false, ◌&&◌, ◌||◌, not, if◌then◌else◌, ◌==◌, List, Option, None, Some, inl, inr, refl, sym, ap, subst, ◌∙◌}
 use Rattle.std.specs.Prelude.{IfSome}
 use Rattle.std.specs.Option.{option_map_or}
-use Rattle.std.proofs.lemmas.Bool.{cases_Bool}
+use Rattle.std.proofs.lemmas.Bool.{cases_Bool, not-false, and_parts, and_from}
 use Rattle.cs_base.specs.Token.{Token}
 use Rattle.c_types.specs.declared.entity.Linkage.{Linkage}
 use Rattle.scope_bind.specs.Named.{Declaration, Declared, Scope, undeclared, redeclared, mixed_linkage, ordinary}
 use Rattle.c_types.specs.Declarations.{is_space, Facts, has_linkage, is_linkage, is_live, with_fault, with_declaration, alike, is_named, looked_up, visible, in_scope, linked, is_mixed}
 use Rattle.scope_bind.specs.Ordinary.{is_again, linked_entity, entity_of, is_listed, declaration_of, declared_faults, declared_after, declared, used_as, used}
-use Rattle.tree_laws.proofs.Lookups.{false≢true, and_left, and_right, and_both, In, found_passes, found_in, none_passes, any_same, alike_same, alike_turned, named_apart}
+use Rattle.tree_laws.proofs.Lookups.{false≢true, In, found_passes, found_in, none_passes, any_same, alike_same, alike_turned, named_apart}
 use Rattle.tree_laws.proofs.Renaming.{Good, Kept, IsLinked, Joins, fault_back, fault_goes, fault_none, occurrence_back, occurrence_good, declaration_back, declaration_good, kept_declaration, kept_occurrence, found_again}
 
 pub if_true : {A : Type 0} (c : Bool) (x y : A) → c ≡ true → (if c then x else y) ≡ x
 if_true true x y e = refl
 if_true false x y e = absurd (false≢true e)
-
-not_false : (c : Bool) → not c ≡ false → c ≡ true
-not_false true e = refl
-not_false false e = absurd (false≢true (sym e))
 
 true≢false : (c : Bool) → c ≡ true → c ≡ false → ⊥
 true≢false c e f = false≢true (sym f ∙ e)
@@ -25,7 +21,7 @@ true≢false c e f = false≢true (sym f ∙ e)
 -- ---- The entity that a declaration is given
 
 again_of : (n : Declared) (d : Declaration) → option_map_or (λ e. not (is_again n e)) (Some d) false ≡ false → is_again n d ≡ true
-again_of n d e = not_false (is_again n d) e
+again_of n d e = not-false (is_again n d) e
 
 again_entity : (b : List Token) (n : Declared) (r l : Option Declaration) → option_map_or (λ e. not (is_again n e)) r false ≡ false
     → alike b n.name_at (entity_of n r l) ≡ true → IfSome r (λ d. alike b n.name_at d.entity ≡ true)
@@ -53,12 +49,12 @@ entity_same n (Some d) l m e h =
 
 relinked : (a : List Token) (i j : ℕ) (e : Declaration) → alike a i j ≡ true → IsLinked a i e → IsLinked a j e
 relinked a i j e same l =
-    let named : is_named a ordinary i e ≡ true = and_left (is_named a ordinary i e) (has_linkage e.linkage) l in
-    let spelled : alike a i e.name_at ≡ true = and_right (is_space e.space ordinary) (alike a i e.name_at) named in
+    let named : is_named a ordinary i e ≡ true = (and_parts (is_named a ordinary i e) (has_linkage e.linkage) l).0 in
+    let spelled : alike a i e.name_at ≡ true = (and_parts (is_space e.space ordinary) (alike a i e.name_at) named).1 in
     let turned : alike a j e.name_at ≡ true = alike_same a j e.name_at i (alike_turned a i j same) (alike_turned a i e.name_at spelled) in
-    and_both (is_named a ordinary j e) (has_linkage e.linkage)
-    (and_both (is_space e.space ordinary) (alike a j e.name_at) (and_left (is_space e.space ordinary) (alike a i e.name_at) named) turned)
-    (and_right (is_named a ordinary i e) (has_linkage e.linkage) l)
+    and_from (is_named a ordinary j e) (has_linkage e.linkage)
+    (and_from (is_space e.space ordinary) (alike a j e.name_at) ((and_parts (is_space e.space ordinary) (alike a i e.name_at) named).0) turned)
+    ((and_parts (is_named a ordinary i e) (has_linkage e.linkage) l).1)
 
 module _ (a : List Token) (n : Declared) (facts : Facts) (k : Kept a facts) where
   -- a declaration with linkage is of the entity of each one of its spelling that has linkage
@@ -73,11 +69,11 @@ module _ (a : List Token) (n : Declared) (facts : Facts) (k : Kept a facts) wher
       (found_passes (λ d. is_named a ordinary n.name_at d && has_linkage d.linkage) facts.declared d el) link
   joined (Some d) l test er el again hl e within link =
       let named : is_named a ordinary n.name_at d ≡ true =
-      and_left (is_named a ordinary n.name_at d) (test d) (found_passes (λ d. is_named a ordinary n.name_at d && test d) facts.declared d er) in
+      (and_parts (is_named a ordinary n.name_at d) (test d) (found_passes (λ d. is_named a ordinary n.name_at d && test d) facts.declared d er)).0 in
       let linkage : has_linkage d.linkage ≡ true = sym (if_true (has_linkage n.linkage) (has_linkage d.linkage) _ hl) ∙ again_of n d again in
       if_true (is_again n d) d.entity (linked_entity n l) (again_of n d again)
       ∙ k.one n.name_at d e (found_in (λ d. is_named a ordinary n.name_at d && test d) facts.declared d er) within
-      (and_both (is_named a ordinary n.name_at d) (has_linkage d.linkage) named linkage) link
+      (and_from (is_named a ordinary n.name_at d) (has_linkage d.linkage) named linkage) link
 
 -- ---- Declarations
 
@@ -142,9 +138,9 @@ module _ (a b : List Token) (apart : (i j : ℕ) → alike b i j ≡ true → al
 
     joins_new : Kept a facts → IsClear a b n prior facts → Joins a new_one facts
     joins_new k c i e within l m =
-        let named : alike a i n.name_at ≡ true = and_left (alike a i n.name_at) (has_linkage n.linkage) l in
+        let named : alike a i n.name_at ≡ true = (and_parts (alike a i n.name_at) (has_linkage n.linkage) l).0 in
         joined a n facts k prior link (λ d. is_live n.last d && (d.depth == scope.depth)) refl refl c.again
-        (and_right (alike a i n.name_at) (has_linkage n.linkage) l) e within (relinked a i n.name_at e named m)
+        ((and_parts (alike a i n.name_at) (has_linkage n.linkage) l).1) e within (relinked a i n.name_at e named m)
 
     pub declared_kept : Kept a facts → Good b (declared a scope n facts) → Kept a (declared a scope n facts)
     declared_kept k h =

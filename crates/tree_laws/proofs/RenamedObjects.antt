@@ -1,7 +1,7 @@
 -- Objects, functions, parameters and constants under a renaming: their linkage stays (ISO/IEC 9899:1999, 6.2.2).
 use Rattle.std.proofs.Common.{ℕ, ◌≡◌, Bool, true, false, ◌&&◌, ◌||◌, not, if◌then◌else◌, ◌==◌, List, Option, None, Some, inl, inr, refl, sym, ap, subst, ◌∙◌}
 use Rattle.std.specs.Prelude.{IfSome}
-use Rattle.std.proofs.lemmas.Bool.{cases_Bool}
+use Rattle.std.proofs.lemmas.Bool.{cases_Bool, and_parts, and_from}
 use Rattle.cs_base.specs.Token.{Token}
 use Rattle.c99_tree.specs.Tree.{Forest}
 use Rattle.c_types.specs.declared.entity.Linkage.{Linkage}
@@ -12,7 +12,7 @@ use Rattle.scope_bind.specs.Named.{Declaration, Declared, Frame, ordinary}
 use Rattle.c_types.specs.Declarations.{Facts, has_linkage, is_linkage, is_live, alike, is_named, visible, in_scope, linked, is_mixed}
 use Rattle.scope_bind.specs.Linkage.{prior_linkage, follows_prior, own_linkage}
 use Rattle.scope_bind.specs.Ordinary.{entity_of, declared, declaration_of, is_listed, declared_faults, new_linkage, new_object, with_object, new_parameter, with_parameter}
-use Rattle.tree_laws.proofs.Lookups.{false≢true, and_left, and_both, In, found_passes, found_in, any_none, named_apart}
+use Rattle.tree_laws.proofs.Lookups.{false≢true, In, found_passes, found_in, any_none, named_apart}
 use Rattle.tree_laws.proofs.Renaming.{Good, Kept, IsLinked, declaration_good, found_again}
 use Rattle.tree_laws.proofs.RenamedNames.{if_true, joined, IsClear, declared_clear, declared_back, declared_kept, declared_same}
 
@@ -51,7 +51,7 @@ module _ (a b : List Token) (apart : (i j : ℕ) → alike b i j ≡ true → al
         ∙ external_is q.linkage (not_both (is_named a ordinary i q) (has_linkage q.linkage) (is_linkage q.linkage External)
         (any_none (λ d. is_named a ordinary i d && (has_linkage d.linkage && not (is_linkage d.linkage External))) facts.declared q unmixed
         (found_in (λ d. is_named b ordinary i d && is_live last d) facts.declared q e))
-        (and_left (is_named a ordinary i q) (is_live last q) found) h)
+        ((and_parts (is_named a ordinary i q) (is_live last q) found).0) h)
     | inr h ↦ if_false (has_linkage q.linkage) q.linkage External h
   ]
 
@@ -65,10 +65,10 @@ module _ (a b : List Token) (apart : (i j : ℕ) → alike b i j ≡ true → al
   prior_same i last facts k g alike_all (Some p) e unmixed = elim (cases_Bool (has_linkage p.linkage)) [
     | inl h ↦
         let named : is_named a ordinary i p ≡ true =
-        and_left (is_named a ordinary i p) (is_live last p) (found_passes (λ d. is_named a ordinary i d && is_live last d) facts.declared p e) in
+        (and_parts (is_named a ordinary i p) (is_live last p) (found_passes (λ d. is_named a ordinary i d && is_live last d) facts.declared p e)).0 in
         let entity : alike b i p.entity ≡ true =
         alike_all p (found_in (λ d. is_named a ordinary i d && is_live last d) facts.declared p e)
-        (and_both (is_named a ordinary i p) (has_linkage p.linkage) named h) in
+        (and_from (is_named a ordinary i p) (has_linkage p.linkage) named h) in
         let P : Option Declaration → Type 0 = λ o. IfSome o (λ d. alike b i d.entity ≡ true) in
         ap prior_linkage (found_again a b apart facts k g ordinary i (is_live last) (subst P (sym e) entity) ∙ e)
     | inr h ↦

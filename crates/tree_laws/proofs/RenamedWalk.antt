@@ -4,6 +4,7 @@ use mathlib.Core.List.{reverse-cons}
 use Rattle.std.specs.List.{list_all}
 use Rattle.std.specs.Str.{bytes_eq}
 use Rattle.std.proofs.lemmas.List.Folds.{list_all-append}
+use Rattle.std.proofs.lemmas.Bool.{and_parts}
 use Rattle.cs_base.specs.Token.{Token}
 use Rattle.c99_tree.specs.Tree.{Forest, none, token, node}
 use Rattle.scope_bind.specs.Named.{Fault}
@@ -15,7 +16,7 @@ use Rattle.scope_bind.specs.Walk.{passed, left, walked}
 use Rattle.scope_bind.specs.Bound.{Bound, name_of, names_of, bound_of, bound_unless, bound_after, facts_of, binding_of}
 use Rattle.scope_bind.specs.declared.bound.Name.{Name}
 use Rattle.tree_laws.specs.RenamedNames.{is_own_word, RenamedBindAlike}
-use Rattle.tree_laws.proofs.Lookups.{and_left, and_right, In}
+use Rattle.tree_laws.proofs.Lookups.{In}
 use Rattle.tree_laws.proofs.Renaming.{Good, Kept}
 use Rattle.tree_laws.proofs.RenamedSteps.{entered_back, entered_kept, entered_same, passed_back, passed_kept, passed_same, left_back, left_kept, left_same}
 
@@ -71,11 +72,11 @@ reversed_pass p [] e x w = absurd w
 reversed_pass p (y ∷ ys) e x (inl s) =
     let both : (list_all p (reverse ys) && list_all p (y ∷ [])) ≡ true =
     sym (ap (list_all p) (reverse-cons y ys) ∙ list_all-append p (reverse ys) (y ∷ [])) ∙ e in
-    subst (λ z. p z ≡ true) s (and_left (p y) true (and_right (list_all p (reverse ys)) (list_all p (y ∷ [])) both))
+    subst (λ z. p z ≡ true) s ((and_parts (p y) true ((and_parts (list_all p (reverse ys)) (list_all p (y ∷ [])) both).1)).0)
 reversed_pass p (y ∷ ys) e x (inr w) =
     let both : (list_all p (reverse ys) && list_all p (y ∷ [])) ≡ true =
     sym (ap (list_all p) (reverse-cons y ys) ∙ list_all-append p (reverse ys) (y ∷ [])) ∙ e in
-    reversed_pass p ys (and_left (list_all p (reverse ys)) (list_all p (y ∷ [])) both) x w
+    reversed_pass p ys ((and_parts (list_all p (reverse ys)) (list_all p (y ∷ [])) both).0) x w
 
 in_map : {X Y : Type 0} (f : X → Y) (xs : List X) (x : X) → In x xs → In (f x) (map f xs)
 in_map f [] x w = absurd w

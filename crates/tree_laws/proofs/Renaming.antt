@@ -1,12 +1,12 @@
 -- What is true of the facts of a text without a fault, and of its renaming.
 use Rattle.std.proofs.Common.{ℕ, ◌≡◌, Bool, true, false, ◌&&◌, List, ◌∷◌, Option, None, Some, inl, inr, refl, sym, ap, subst, ◌∙◌}
 use Rattle.std.specs.Prelude.{IfSome}
-use Rattle.std.proofs.lemmas.Bool.{cases_Bool}
+use Rattle.std.proofs.lemmas.Bool.{cases_Bool, and_parts}
 use Rattle.cs_base.specs.Token.{Token}
 use Rattle.scope_bind.specs.Named.{Cause, Fault, Space, Declaration, Occurrence, ordinary}
 use Rattle.c_types.specs.Faults.{first_fault, comes_first}
 use Rattle.c_types.specs.Declarations.{Facts, has_linkage, with_fault, with_occurrence, with_declaration, alike, is_named, looked_up}
-use Rattle.tree_laws.proofs.Lookups.{false≢true, and_right, In, found_in, alike_same, looked_up_same}
+use Rattle.tree_laws.proofs.Lookups.{false≢true, In, found_in, alike_same, looked_up_same}
 
 abbrev pub occurrence : ℕ → ℕ → Bool → Occurrence
 occurrence index entity declares = record { index = index; entity = entity; declares = declares }
@@ -92,7 +92,7 @@ module _ (a : List Token) where
   -- a declaration without linkage joins all
   pub joins_unlinked : (d : Declaration) (facts : Facts) → has_linkage d.linkage ≡ false → Joins d facts
   joins_unlinked d facts e i x within l m =
-      absurd (false≢true (sym e ∙ and_right (is_named a ordinary i d) (has_linkage d.linkage) l))
+      absurd (false≢true (sym e ∙ (and_parts (is_named a ordinary i d) (has_linkage d.linkage) l).1))
 
 -- ---- Look-ups
 

@@ -3,7 +3,7 @@ use Rattle.std.proofs.Common.{ℕ, ◌≡◌, Bool, true, false, ◌&&◌, ◌||
 use Rattle.std.specs.List.{list_all}
 use Rattle.std.specs.Option.{option_map_or}
 use Rattle.std.specs.Str.{bytes_eq}
-use Rattle.std.proofs.lemmas.Bool.{false≢true, and_parts}
+use Rattle.std.proofs.lemmas.Bool.{false≢true, and_parts, not-true}
 use Rattle.tree_laws.specs.Below.cs_base.declared.ws_units.Standard.{Standard}
 use Rattle.tree_laws.specs.Below.cs_base.Token.{Token}
 use Rattle.tree_laws.specs.Below.cs_base.declared.tokens.Kind.{Kind}
@@ -64,10 +64,6 @@ implied : (c d : Bool) → (not c || d) ≡ true → c ≡ true → d ≡ true
 implied true d h e = h
 implied false d h e = absurd (false≢true e)
 
-refuted : (c : Bool) → not c ≡ true → c ≡ false
-refuted true h = absurd (false≢true h)
-refuted false h = refl
-
 module _ (std : Standard) where
   kind_base : (k : Kind) (text : List ℕ) → is_base (class_of_kind (grammar std) k text) ≡ true
   kind_base kind.Ident text = spelled_base (keywords_of std) text _ (keywords_fit is_base refl std) refl
@@ -100,7 +96,7 @@ module _ (std : Standard) where
         let both = and_parts (not (among names here) || is_identifier here) _ (at_base s.toks k) in
         let more = and_parts (not (among identifiers here) || is_identifier here) _ both.1 in
         let last = and_parts (not (among typedef_names here)) (not (among equals here) || not (is_identifier here)) more.1 in
-        (implied _ _ both.0, (implied _ _ more.0, (refuted _ last.0, λ e. refuted _ (implied _ _ last.1 e))))
+        (implied _ _ both.0, (implied _ _ more.0, (not-true _ last.0, λ e. not-true _ (implied _ _ last.1 e))))
 
     name_case : (b x : Class) (i t : Bool) → (among names b ≡ true → i ≡ true) → among names (if i && t then x else b) ≡ true → i ≡ true
     name_case b x true t h e = refl

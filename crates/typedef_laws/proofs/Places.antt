@@ -1,15 +1,11 @@
 -- What one more child changes: the last token below, how many children there are, and the outline.
 use Rattle.std.proofs.Common.{ℕ, ◌+◌, ◌≡◌, Bool, true, false, ◌&&◌, List, ◌⊎◌, inl, inr, refl, sym, ap, ◌∙◌}
-use Rattle.std.proofs.lemmas.Bool.{and_parts}
+use Rattle.std.proofs.lemmas.Bool.{and_parts, and_from}
 use Rattle.tree_laws.specs.Below.cs_base.declared.ws_units.Standard.{Standard}
 use Rattle.tree_laws.specs.Below.cs_base.Token.{Token}
 use Rattle.tree_laws.specs.Below.c99_tree.Tree.{Forest, none, token, node, Node, leaf, inner, put, count_of}
 use Rattle.tree_laws.specs.Below.c_types.Trees.{last_token}
 use Rattle.typedef_laws.proofs.Outline.{Outline, stepped, begun, ended, outlined, token_agrees, node_agrees, all_agree}
-
-pub and_both : (p q : Bool) → p ≡ true → q ≡ true → (p && q) ≡ true
-and_both true q h k = k
-and_both false q h k = h
 
 -- ---- The last token
 
@@ -77,25 +73,25 @@ module _ (std : Standard) where
     TokenAgrees i o = token_agrees std toks o.label.production o.label.alternative o.nth i o.entries ≡ true
 
     pub agree_leaf : (f : Forest) (i : ℕ) (o : Outline) → all_agree std toks f o ≡ true → TokenAgrees i (outlined f o) → all_agree std toks (put f (leaf i)) o ≡ true
-    agree_leaf none i o all here = and_both _ true here refl
+    agree_leaf none i o all here = and_from _ true here refl
     agree_leaf (token j rest) i o all here =
         let both = and_parts (token_agrees std toks o.label.production o.label.alternative o.nth j o.entries) (all_agree std toks rest (stepped j o)) all in
-        and_both _ _ both.0 (agree_leaf rest i (stepped j o) both.1 here)
+        and_from _ _ both.0 (agree_leaf rest i (stepped j o) both.1 here)
     agree_leaf (node l first under rest) i o all here =
         let after : Outline = ended l first under o (outlined under (begun l first under o)) in
         let both = and_parts (node_agrees std toks l first o.entries) _ all in
         let more = and_parts (all_agree std toks under (begun l first under o)) (all_agree std toks rest after) both.1 in
-        and_both _ _ both.0 (and_both _ _ more.0 (agree_leaf rest i after more.1 here))
+        and_from _ _ both.0 (and_from _ _ more.0 (agree_leaf rest i after more.1 here))
 
     pub agree_inner : (f : Forest) (n : Node) (o : Outline) → all_agree std toks f o ≡ true
         → node_agrees std toks n.label n.first (outlined f o).entries ≡ true
         → all_agree std toks n.under (begun n.label n.first n.under (outlined f o)) ≡ true → all_agree std toks (put f (inner n)) o ≡ true
-    agree_inner none n o all here below = and_both _ _ here (and_both _ true below refl)
+    agree_inner none n o all here below = and_from _ _ here (and_from _ true below refl)
     agree_inner (token j rest) n o all here below =
         let both = and_parts (token_agrees std toks o.label.production o.label.alternative o.nth j o.entries) (all_agree std toks rest (stepped j o)) all in
-        and_both _ _ both.0 (agree_inner rest n (stepped j o) both.1 here below)
+        and_from _ _ both.0 (agree_inner rest n (stepped j o) both.1 here below)
     agree_inner (node l first under rest) n o all here below =
         let after : Outline = ended l first under o (outlined under (begun l first under o)) in
         let both = and_parts (node_agrees std toks l first o.entries) _ all in
         let more = and_parts (all_agree std toks under (begun l first under o)) (all_agree std toks rest after) both.1 in
-        and_both _ _ both.0 (and_both _ _ more.0 (agree_inner rest n after more.1 here below))
+        and_from _ _ both.0 (and_from _ _ more.0 (agree_inner rest n after more.1 here below))

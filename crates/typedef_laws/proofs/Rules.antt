@@ -1,6 +1,6 @@
 -- Which productions declare and which begin scopes, and what may stand in them.
 use Rattle.std.proofs.Common.{ℕ, ◌+◌, ◌%◌, ◌≡◌, Bool, true, false, ◌&&◌, ◌||◌, not, if◌then◌else◌, ◌==◌, List, Option, refl, sym, ap, ◌∙◌}
-use Rattle.std.proofs.lemmas.Bool.{false≢true, and_parts}
+use Rattle.std.proofs.lemmas.Bool.{false≢true, and_parts, not-true}
 use Rattle.tree_laws.specs.Below.cs_base.declared.ws_units.Standard.{Standard}
 use Rattle.tree_laws.specs.Below.cs_base.Token.{Token}
 use Rattle.tree_laws.specs.Below.c99_tree.Tree.{Forest, none, token, node, leaf, inner, Node, put}
@@ -56,10 +56,6 @@ held p q = if collapses p then is_tame q else is_bodiless q
 -- a node of the second production may stand in one of the first, where nothing is declared by that
 abbrev pub may_hold : Production → Production → Bool
 may_hold p q = held p q
-
-off : (c : Bool) → not c ≡ true → c ≡ false
-off true h = absurd (false≢true h)
-off false h = refl
 
 -- no `main` stands directly in another one
 abbrev pub is_main_apart : Label → Forest → Bool
@@ -166,7 +162,7 @@ same_word (node l first under rest) h =
     (ap (λ x. x && typedef_word_in under) (is_main_same l.production) ∙ main_case (ghosts.eq l.production Main) more.0))
   where
     main_case : (c : Bool) → (if c then not (has_node Main under) else true) ≡ true → (c && typedef_word_in under) ≡ (c && has_mod 1 under)
-    main_case true k = words_below under (off (has_node Main under) k)
+    main_case true k = words_below under (not-true (has_node Main under) k)
     main_case false k = refl
 
 specs_same : (p : Production) → is_specs p ≡ ghosts.eq p Specs
@@ -224,8 +220,8 @@ pub simple_scope : (p : Production) (n : ℕ) (under : Forest) (around : Scope) 
 simple_scope Block n under around h = absurd (false≢true h)
 simple_scope FunBody n under around h = absurd (false≢true h)
 simple_scope Sub n under around h = absurd (false≢true h)
-simple_scope Suffix n under around h = ap (λ c. if c then inner_scope around (last_token under 0) else around) (off (n == 2) h)
-simple_scope Statement n under around h = ap (λ c. if c then inner_scope around (last_token under 0 + 1) else around) (off (is_scoped n) h)
+simple_scope Suffix n under around h = ap (λ c. if c then inner_scope around (last_token under 0) else around) (not-true (n == 2) h)
+simple_scope Statement n under around h = ap (λ c. if c then inner_scope around (last_token under 0 + 1) else around) (not-true (is_scoped n) h)
 simple_scope _ n under around h = refl
 
 pub simple_entries : (p : Production) (n first : ℕ) (under : Forest) (kept : Option ℕ) (depth : ℕ) (es : List Entry) → is_simple p n ≡ true
@@ -336,7 +332,7 @@ tame_alone Enumerator first o under es h = absurd (false≢true h)
 tame_alone _ first o under es h = refl
 
 pub quiet_listing : (p : Production) (a k : ℕ) → is_quiet p a ≡ true → is_listing p a k ≡ false
-quiet_listing Params a k h = ap (λ c. c && (k % 2 == 0)) (off (a == 1) h)
+quiet_listing Params a k h = ap (λ c. c && (k % 2 == 0)) (not-true (a == 1) h)
 quiet_listing _ a k h = refl
 
 pub collapsed_alone : (p : Production) (first : ℕ) (o : Outline) (under : Forest) (es : List Entry) → collapses p ≡ true → entries_alone p first o under es ≡ es
@@ -379,9 +375,9 @@ module _ (std : Standard) where
   -- ---- Tokens
 
   pub quiet_token : (toks : List Token) (p : Production) (a k i : ℕ) (es : List Entry) → is_quiet p a ≡ true → token_agrees std toks p a k i es ≡ true
-  quiet_token toks Primary a k i es h = ap (λ c. if c then not (typedef_among std toks i es) else true) (off (a == 1) h)
-  quiet_token toks Main a k i es h = ap (λ c. if c && (k == 0) then typedef_among std toks i es else true) (off (a == 4) h)
-  quiet_token toks Params a k i es h = ap (λ c. if c && (k % 2 == 0) then not (typedef_among std toks i es) else true) (off (a == 1) h)
+  quiet_token toks Primary a k i es h = ap (λ c. if c then not (typedef_among std toks i es) else true) (not-true (a == 1) h)
+  quiet_token toks Main a k i es h = ap (λ c. if c && (k == 0) then typedef_among std toks i es else true) (not-true (a == 4) h)
+  quiet_token toks Params a k i es h = ap (λ c. if c && (k % 2 == 0) then not (typedef_among std toks i es) else true) (not-true (a == 1) h)
   quiet_token toks _ a k i es h = refl
 
   pub plain_named : (toks : List Token) (p : Production) (n first : ℕ) (es : List Entry) → (is_at (labelled p n) Pdirect 2) ≡ false

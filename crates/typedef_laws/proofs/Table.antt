@@ -1,6 +1,6 @@
 -- Each production reads to a node that agrees with the outline of binding.
 use Rattle.std.proofs.Common.{ℕ, zero, suc, ◌+◌, ◌≡◌, Bool, true, false, ◌&&◌, ◌||◌, not, if◌then◌else◌, List, [], ◌∷◌, length, Ok, Err, inl, inr, refl, ap, arith}
-use Rattle.std.proofs.lemmas.Bool.{false≢true, and_parts, or_cases}
+use Rattle.std.proofs.lemmas.Bool.{false≢true, and_parts, or_cases, not-true}
 use Rattle.tree_laws.specs.Below.cs_base.declared.ws_units.Standard.{Standard}
 use Rattle.tree_laws.specs.Below.cs_base.Token.{Token}
 use Rattle.tree_laws.specs.Below.c99_tree.declared.production.Production.{Production}
@@ -48,10 +48,6 @@ nth_of k [] = plain end_of_text
 nth_of zero (a ∷ more) = a
 nth_of (suc k) (a ∷ more) = nth_of k more
 
-pub off : (c : Bool) → not c ≡ true → c ≡ false
-off true h = absurd (false≢true h)
-off false h = refl
-
 after_test : (P : State → Type 0) (b : Bool) (r r' : Step) → (b ≡ true → After P r) → After P r' → After P (if b then r else r')
 after_test P true r r' m m' = m refl
 after_test P false r r' m m' = m'
@@ -64,7 +60,7 @@ module _ (std : Standard) where
       ok_fine p n a s k =
           let first = and_parts (is_simple p n) (not (is_at (labelled p n) Pdirect 2) && fine (labelled p n) a.body) k in
           let second = and_parts (not (is_at (labelled p n) Pdirect 2)) (fine (labelled p n) a.body) first.1 in
-          (fine_body std) toks below reads depth p n a.body s first.0 (off (is_at (labelled p n) Pdirect 2) second.0) second.1
+          (fine_body std) toks below reads depth p n a.body s first.0 (not-true (is_at (labelled p n) Pdirect 2) second.0) second.1
 
       ok_whole : (p : Production) (n : ℕ) (a : Alternative) (s : State) → (is_whole p n && whole_fine (labelled p n) a.body) ≡ true
           → After (Body std toks p n s) (step (grammar std) below depth a.body (opened p n s))

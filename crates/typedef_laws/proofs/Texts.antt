@@ -1,5 +1,6 @@
 -- A text that is read as one production, and one that is read as a unit.
 use Rattle.std.proofs.Common.{◌≤◌, ◌≡◌, true, List, [], ◌∷◌, length, Result, Ok, Err, refl, ap, subst, ◌∙◌, arith}
+use Rattle.std.proofs.lemmas.Bool.{and_from}
 use Rattle.tree_laws.specs.Below.cs_base.declared.ws_units.Standard.{Standard}
 use Rattle.tree_laws.specs.Below.cs_base.Token.{Token}
 use Rattle.tree_laws.specs.Below.c99_tree.Tree.{none, node, Node, node_of, lone}
@@ -14,7 +15,6 @@ use Rattle.typedef_laws.specs.Laws.{NamesAreReadAsTheyAreBound, NamesOfPartsAreR
 use Rattle.typedef_laws.proofs.Outline.{node_agrees}
 use Rattle.typedef_laws.proofs.Outlines.{outline, agrees_same}
 use Rattle.typedef_laws.proofs.Beginning.{first_matches, file_bounds}
-use Rattle.typedef_laws.proofs.Places.{and_both}
 use Rattle.typedef_laws.proofs.Goes.{After, Makes}
 use Rattle.typedef_laws.proofs.Steps.{Grows}
 use Rattle.typedef_laws.proofs.Rules.{labelled}
@@ -39,7 +39,7 @@ module _ (std : Standard) where
         let made = m.fits o (length toks ∷ []) refl tt (file_bounds s.at (length toks) s.names.scopes m.outer within) (first_matches (length toks)) refl in
         subst (λ (n : Node). agrees std toks (node n.label n.first n.under none) (before (length toks)) ≡ true) same
         (agrees_same std toks (node m.child.label m.child.first m.child.under none) (before (length toks))
-        ∙ and_both (node_agrees std toks m.child.label m.child.first o.entries) _ made.named (and_both _ true made.agree refl))
+        ∙ and_from (node_agrees std toks m.child.label m.child.first o.entries) _ made.named (and_from _ true made.agree refl))
 
     step_agrees : (r : Step) → After (λ s. Makes std toks p (at_first toks) s × Grows p (at_first toks) s) r → (tree : Node) → tree_of r ≡ Ok tree
         → agrees std toks (node tree.label tree.first tree.under none) (before (length toks)) ≡ true

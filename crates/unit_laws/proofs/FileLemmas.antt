@@ -1,7 +1,7 @@
 -- The tokens of a file are spelled as their kinds say.
 use Rattle.std.proofs.Common.{◌≡◌, ℕ, zero, suc, ◌+◌, ◌-◌, ◌≤◌, ◌^◌, ◌==◌, ◌&&◌, ◌||◌, Bool, true, false, nat_lt, List, [], ◌∷◌, ◌++◌, length, take, drop, Option, Some, None, Ok, is_ok, is_some, unwrap_or, ◌⊎◌, inl, inr, refl, sym, ap, ◌∙◌, arith}
 use Rattle.std.specs.List.{list_all}
-use Rattle.std.proofs.lemmas.Bool.{cases_Bool, lt-ltb, ltb-true}
+use Rattle.std.proofs.lemmas.Bool.{cases_Bool, lt-ltb, ltb-true, and_parts}
 use Rattle.include_tree.specs.Below.cs_base.declared.tokens.Kind.{Kind}
 use Rattle.include_tree.specs.Below.cs_base.declared.tokens.Kind.TheVariants.{Header, Other}
 use Rattle.include_tree.specs.Below.part_lexer.Characters.{less_than, double_quote, line_feed, slash, star, is_white, begins}
@@ -13,10 +13,6 @@ use Rattle.include_tree.proofs.Below.part_lexer.ScanLemmas.{line_at-bound}
 use Rattle.include_tree.proofs.Below.source_files.OpeningLemmas.{readable-small}
 use Rattle.expansion_laws.specs.Spelled.{fits, is_lone, is_spelled}
 use Rattle.expansion_laws.proofs.TextKindLemmas.{kind_fits}
-
-and_two : (a b : Bool) → (a && b) ≡ true → (a ≡ true) × (b ≡ true)
-and_two true b h = (refl, h)
-and_two false b h = absurd (cc)
 
 -- ---- the front of a text
 
@@ -56,7 +52,7 @@ unfolding kind_in
 kind_in_fits header text k e = elim (cases_Bool (header && is_header_text text)) [
   | inl is ↦
       let same : Header ≡ k = (let some = rw is at e in cc) in
-      ap (λ (x : Kind). fits x text) (sym same) ∙ header_fits text (and_two header (is_header_text text) is).1
+      ap (λ (x : Kind). fits x text) (sym same) ∙ header_fits text (and_parts header (is_header_text text) is).1
   | inr is_not ↦ kind_fits text k (rw is_not at e)
 ]
 
@@ -134,9 +130,9 @@ unfolding found_from
 found_from-spelled file bytes zero gap front at [] few h = refl
 found_from-spelled file bytes (suc skip) gap front at [] few h = refl
 found_from-spelled file bytes (suc skip) gap front at (c ∷ cs) few h =
-    found_from-spelled file bytes skip gap front (at + 1) cs few (and_two (stands_before (length bytes) c) (list_all (stands_before (length bytes)) cs) h).1
+    found_from-spelled file bytes skip gap front (at + 1) cs few (and_parts (stands_before (length bytes) c) (list_all (stands_before (length bytes)) cs) h).1
 found_from-spelled file bytes zero gap front at (c ∷ cs) few h =
-    let both = and_two (stands_before (length bytes) c) (list_all (stands_before (length bytes)) cs) h in
+    let both = and_parts (stands_before (length bytes) c) (list_all (stands_before (length bytes)) cs) h in
     piece-spelled file (line_at bytes c.offset) gap front at (expects_header front) c.byte (spelling cs) _ (line-low bytes c few both.0)
     (found_from-spelled file bytes (piece_length (length (c ∷ cs)) (piece_at front c cs) - 1) (leaves_gap (piece_at front c cs))
     (line_front_after (spelling (c ∷ cs)) front (piece_at front c cs)) (at + 1) cs few both.1)

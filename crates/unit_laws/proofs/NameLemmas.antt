@@ -4,6 +4,7 @@ use Rattle.std.specs.Prelude.{slice_get}
 use Rattle.std.specs.List.{list_all}
 use Rattle.std.proofs.lemmas.List.{append-nil}
 use Rattle.std.proofs.lemmas.Option.{none-some, same_Some}
+use Rattle.std.proofs.lemmas.Bool.{and_parts}
 use Rattle.include_tree.specs.Below.cs_base.declared.tokens.Kind.{Kind}
 use Rattle.include_tree.specs.Below.cs_base.declared.tokens.Kind.TheVariants.{Ident, Number, Char, Str, Punct, Header, Other}
 use Rattle.include_tree.specs.Below.cs_base.Token.{Token}
@@ -20,12 +21,8 @@ use Rattle.unit_laws.specs.UnitNames.{HasNames, NamesAreMade, UnitNamesAreMade}
 use Rattle.unit_laws.proofs.TokenLemmas.{unit_links_are_alike, unit_tokens_are_whole}
 use Rattle.unit_laws.proofs.SpellingLemmas.{files_are_spelled, unit_tokens_are_spelled}
 
-and_two : (a b : Bool) → (a && b) ≡ true → (a ≡ true) × (b ≡ true)
-and_two true b h = (refl, h)
-and_two false b h = absurd (cc)
-
 spelled_fits : (t : Token) → is_spelled t ≡ true → fits t.kind t.text ≡ true
-spelled_fits t h = (and_two (fits t.kind t.text) (nat_lt t.line (2 ^ 64)) h).0
+spelled_fits t h = (and_parts (fits t.kind t.text) (nat_lt t.line (2 ^ 64)) h).0
 
 -- ---- a token of the list
 

@@ -3,6 +3,7 @@ use Rattle.std.proofs.Common.{◌≡◌, ℕ, ◌^◌, ◌&&◌, Bool, true, fal
 use Rattle.std.specs.List.{list_all}
 use Rattle.std.specs.Option.{option_and_then}
 use Rattle.std.proofs.lemmas.Option.{none-some, same_Some}
+use Rattle.std.proofs.lemmas.Bool.{and_parts}
 use Rattle.include_tree.specs.Below.cs_base.Token.{Token}
 use Rattle.include_tree.specs.Below.part_lexer.FileText.{TextValue, LexFault, file_text}
 use Rattle.include_tree.specs.Below.source_files.Files.{SourceFile, Table, source_file}
@@ -20,10 +21,6 @@ use Rattle.unit_laws.proofs.FileLemmas.{text_spelled}
 use Rattle.unit_laws.proofs.NoteLemmas.{LinkHas, EventHas, in_at}
 use Rattle.unit_laws.proofs.PartLemmas.{from_files}
 use Rattle.unit_laws.proofs.TextLemmas.{text_is, unit_text_has}
-
-and_two : (a b : Bool) → (a && b) ≡ true → (a ≡ true) × (b ≡ true)
-and_two true b h = (refl, h)
-and_two false b h = absurd (cc)
 
 -- ---- kept files
 
@@ -46,8 +43,8 @@ abbrev IsSpelled : Token → Type 0
 IsSpelled t = is_spelled t ≡ true
 
 answer_spelled : (word : Token) (b : Bool) → IsSpelled word → IsSpelled (answer_for word b)
-answer_spelled word true h = (let both = and_two (fits word.kind word.text) (nat_lt word.line (2 ^ 64)) h in both.1)
-answer_spelled word false h = (let both = and_two (fits word.kind word.text) (nat_lt word.line (2 ^ 64)) h in both.1)
+answer_spelled word true h = (let both = and_parts (fits word.kind word.text) (nat_lt word.line (2 ^ 64)) h in both.1)
+answer_spelled word false h = (let both = and_parts (fits word.kind word.text) (nat_lt word.line (2 ^ 64)) h in both.1)
 
 rules_spelled : (M : Note → Type 0) (table : Table) → UnitRules IsSpelled M table
 rules_spelled M table = record {

@@ -1,7 +1,7 @@
 -- The tokens of a file come from somewhere, at lines that a source file can have.
 use Rattle.std.proofs.Common.{◌≡◌, ℕ, zero, suc, ◌+◌, ◌-◌, ◌≤◌, ◌^◌, ◌==◌, ◌&&◌, Bool, true, false, nat_lt, List, [], ◌∷◌, ◌++◌, length, take, drop, Option, Some, None, Ok, is_ok, is_some, refl, sym, ap, inl, inr, arith}
 use Rattle.std.specs.List.{list_all}
-use Rattle.std.proofs.lemmas.Bool.{cases_Bool, lt-ltb, ltb-true}
+use Rattle.std.proofs.lemmas.Bool.{cases_Bool, lt-ltb, ltb-true, and_parts}
 use Rattle.cs_base.specs.Token.{Token}
 use Rattle.part_lexer.specs.Places.{origins_from}
 use Rattle.part_lexer.specs.Logical.{Character, gone_length, logical_from, logical_of, spelling, line_at}
@@ -15,10 +15,6 @@ use Rattle.source_files.proofs.OpeningLemmas.{readable-small}
 
 abbrev is_sound : Token → Bool
 is_sound t = is_traced t && is_low t
-
-both_hold : (a b : Bool) → (a && b) ≡ true → (a ≡ true) × (b ≡ true)
-both_hold true b h = (refl, h)
-both_hold false b h = absurd (cc)
 
 -- ---- characters
 
@@ -82,10 +78,10 @@ unfolding found_from
 found_from-sound file bytes zero gap front at [] few h = refl
 found_from-sound file bytes (suc skip) gap front at [] few h = refl
 found_from-sound file bytes (suc skip) gap front at (c ∷ cs) few h =
-    let both = both_hold (stands_before (length bytes) c) (list_all (stands_before (length bytes)) cs) h in
+    let both = and_parts (stands_before (length bytes) c) (list_all (stands_before (length bytes)) cs) h in
     found_from-sound file bytes skip gap front (at + 1) cs few both.1
 found_from-sound file bytes zero gap front at (c ∷ cs) few h =
-    let both = both_hold (stands_before (length bytes) c) (list_all (stands_before (length bytes)) cs) h in
+    let both = and_parts (stands_before (length bytes) c) (list_all (stands_before (length bytes)) cs) h in
     piece-sound file (line_at bytes c.offset) gap front at (expects_header front) c.byte (spelling cs) _ (line-low bytes c few both.0)
     (found_from-sound file bytes (piece_length (length (c ∷ cs)) (piece_at front c cs) - 1) (leaves_gap (piece_at front c cs))
     (line_front_after (spelling (c ∷ cs)) front (piece_at front c cs)) (at + 1) cs few both.1)

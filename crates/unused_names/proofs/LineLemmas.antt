@@ -1,7 +1,7 @@
 -- Include lines as they are met: one event more, and the end of a unit.
 use Rattle.std.proofs.Common.{◌≡◌, ℕ, zero, suc, ◌+◌, ◌<◌, Bool, true, false, ◌||◌, ◌&&◌, not, cond, List, [], ◌∷◌, ◌++◌, Some, length, slice_get, inl, inr, refl, sym, ap, ◌∙◌, subst, arith}
 use Rattle.std.specs.Prelude.{◌⊎◌, MatchBool, nat_eq}
-use Rattle.std.proofs.lemmas.Bool.{cases_lt, eq-eqb, eqb-true}
+use Rattle.std.proofs.lemmas.Bool.{cases_lt, eq-eqb, eqb-true, or_parts, and_parts}
 use Rattle.std.proofs.lemmas.Option.{none-some, same_Some, slice_get_within}
 use Rattle.cs_base.specs.declared.positions.Pos.{Pos}
 use Rattle.include_tree.specs.Below.unit_steps.declared.events.Event.{Event}
@@ -38,10 +38,6 @@ or_cases : (a b : Bool) → (a || b) ≡ true → (a ≡ true) ⊎ (b ≡ true)
 or_cases true b h = inl refl
 or_cases false b h = inr h
 
-neither : (a b : Bool) → (a || b) ≡ false → (a ≡ false) × (b ≡ false)
-neither true b h = absurd (cc)
-neither false b h = (refl, h)
-
 needed_only : (unneeded same : Bool) → (not unneeded && same) ≡ true → (unneeded ≡ false) × (same ≡ true)
 needed_only true same h = absurd (cc)
 needed_only false same h = (refl, h)
@@ -50,16 +46,12 @@ unneeded_at : (unneeded same : Bool) → (not unneeded && same) ≡ false → sa
 unneeded_at true same h passed = refl
 unneeded_at false same h passed = absurd (cc)
 
-both_true : (a b : Bool) → (a && b) ≡ true → (a ≡ true) × (b ≡ true)
-both_true true b h = (refl, h)
-both_true false b h = absurd (cc)
-
 pub position_itself : (p : Pos) → is_position p p ≡ true
 position_itself p = rw (eq-eqb p.file p.file refl, eq-eqb p.at p.at refl) refl
 
 pub position_same : (p q : Pos) → is_position p q ≡ true → p ≡ q
 position_same p q h =
-    let both = both_true (nat_eq p.file q.file) (nat_eq p.at q.at) h in
+    let both = and_parts (nat_eq p.file q.file) (nat_eq p.at q.at) h in
     same_pos p q (eqb-true p.file q.file both.0) (eqb-true p.at q.at both.1)
 
 -- what a test says where it answers
@@ -200,7 +192,7 @@ module _ (units : List UnitAnalysis) (n k : ℕ) (u : UnitAnalysis) (here : slic
                 )
           ];
       free = λ p v j failed x.
-          let none = neither (old.needs p) (not unneeded && is_position e.at p) (sym (meets.needs p) ∙ failed) in
+          let none = or_parts (old.needs p) (not unneeded && is_position e.at p) (sym (meets.needs p) ∙ failed) in
           elim (event_cases n k x.line.number j x.before) [
             | inl before ↦ h.free p v j none.0 (record { line = x.line; before = before })
             | inr now ↦

@@ -2,10 +2,9 @@
 use Rattle.std.proofs.Common.{◌≡◌, ℕ, true, false, ◌+◌, ◌≤◌, ◌^◌, List, [], ◌∷◌, ◌++◌, length, refl, ap, ◌∙◌, arith, length-append, append_assoc}
 use Rattle.std.specs.Prelude.{Some, Ok, nat_lt}
 use Rattle.std.specs.List.{list_all}
-use Rattle.std.proofs.lemmas.Bool.{le-ltb}
+use Rattle.std.proofs.lemmas.Bool.{le-ltb, and_from}
 use Rattle.std.proofs.lemmas.List.Folds.{list_all-append}
 use Rattle.cs_base.specs.Units.{line_feed, ended_line}
-use Rattle.cs_base.proofs.PathLaws.{and-both}
 use Rattle.ws_file.specs.Workspace.{most_units}
 use Rattle.ws_file.specs.Lines.{line_word}
 use Rattle.ws_file.specs.Reading.{Reading, with_word, with_line, checked, read_lines}
@@ -35,7 +34,7 @@ Leads-nil r = record {
 
 pub Leads-append : (xs ys : List (List ℕ)) (r s t : Reading) → Leads xs r s → Leads ys s t → Leads (xs ++ ys) r t
 Leads-append xs ys r s t f g = record {
-  are_lines = list_all-append has_no_feed xs ys ∙ and-both _ _ f.are_lines g.are_lines;
+  are_lines = list_all-append has_no_feed xs ys ∙ and_from _ _ f.are_lines g.are_lines;
   leads = λ number start more fits.
       let shape = append_assoc xs ys more in
       let fits' : start + length (lines_text (xs ++ (ys ++ more))) ≤ 2 ^ 22 = rw (← shape) fits in
@@ -61,7 +60,7 @@ Leads-line_with word rest r r' w q taken few =
     let line = line_with word rest in
     let few' : nat_lt most_units (length r'.units) ≡ false = le-ltb most_units (length r'.units) few in
     record {
-      are_lines = and-both _ _ (has_no_feed-line_with word rest w q) refl;
+      are_lines = and_from _ _ (has_no_feed-line_with word rest w q) refl;
       leads = λ number start more fits.
           let len = lines_len-cons line more in
           let within : start + length line ≤ 2 ^ 22 = omega (arith, len, fits) in

@@ -3,23 +3,16 @@ use Rattle.std.proofs.Common.{◌≡◌, ℕ, Bool, true, false, ◌&&◌, ◌||
 use Rattle.std.specs.Prelude.{nat_lt, nat_le}
 use Rattle.std.specs.List.{list_all, position_or_len}
 use Rattle.std.specs.Str.{is_utf8, bytes_eq}
-use Rattle.std.proofs.lemmas.Bool.{le-ltb}
+use Rattle.std.proofs.lemmas.Bool.{le-ltb, or_parts, and_parts, and_from, not-true}
 use Rattle.std.proofs.lemmas.Bool.Decides.{nat_tests}
 use Rattle.std.proofs.lemmas.List.{reverse-reverse, take_at, drop_at}
 use Rattle.std.proofs.lemmas.List.Folds.{list_all-append}
 use Rattle.cs_base.specs.Units.{space, is_blank, begins_with, ends_with, has_bad_ends, backslash, is_writable}
-use Rattle.cs_base.proofs.PathLaws.{and-left, and-right, and-both, not-true}
 use Rattle.cs_base.proofs.UnitLemmas.{is_utf8-ascii, is_utf8-around}
 use Rattle.ws_file.specs.Lines.{without_first_blanks, without_last_blanks, trimmed, first_word, rest_of, line_word}
 use Rattle.ws_file.specs.Reading.{Reading, number_sign, is_comment, with_word, with_text, with_line}
 use Rattle.ws_file.specs.Taking.{IsTrimmed, is_no_feed, has_no_feed}
 use Rattle.ws_file.proofs.TrimLemmas.{ends_with-append, rest_of-is}
-
-or-first : (a b : Bool) → (a || b) ≡ false → a ≡ false
-or-first a b h = grind (arith, h)
-
-or-second : (a b : Bool) → (a || b) ≡ false → b ≡ false
-or-second a b h = grind (arith, h)
 
 -- What is true of a rest that a line gives back.
 pub record IsRest (text : List ℕ) : Type 0 where
@@ -30,16 +23,16 @@ pub record IsRest (text : List ℕ) : Type 0 where
 pub IsRest-writable : (text : List ℕ) → is_writable text ≡ true → bytes_eq text [] ≡ false → IsRest text
 unfolding is_writable
 IsRest-writable text h some =
-    let ends : has_bad_ends text ≡ false = not-true _ (and-right (is_utf8 text && has_no_feed text) _ h) in
-    let blanks = or-first (begins_with is_blank text || ends_with is_blank text) (ends_with (λ b. b == backslash) text) ends in
+    let ends : has_bad_ends text ≡ false = not-true _ ((and_parts (is_utf8 text && has_no_feed text) _ h).1) in
+    let blanks = (or_parts (begins_with is_blank text || ends_with is_blank text) (ends_with (λ b. b == backslash) text) ends).0 in
     record {
       is_trimmed = record {
-        utf8 = and-left _ _ (and-left _ _ h);
-        one_line = and-right (is_utf8 text) _ (and-left _ _ h);
-        first = or-first (begins_with is_blank text) (ends_with is_blank text) blanks;
-        last = or-second (begins_with is_blank text) (ends_with is_blank text) blanks;
+        utf8 = (and_parts _ _ ((and_parts _ _ h).0)).0;
+        one_line = (and_parts (is_utf8 text) _ ((and_parts _ _ h).0)).1;
+        first = (or_parts (begins_with is_blank text) (ends_with is_blank text) blanks).0;
+        last = (or_parts (begins_with is_blank text) (ends_with is_blank text) blanks).1;
       };
-      unslashed = or-second (begins_with is_blank text || ends_with is_blank text) (ends_with (λ b. b == backslash) text) ends;
+      unslashed = (or_parts (begins_with is_blank text || ends_with is_blank text) (ends_with (λ b. b == backslash) text) ends).1;
       some = some;
     }
 
@@ -66,7 +59,7 @@ letter-no_feed b h = grind (arith, nat_tests, h)
 
 pub list_all-weaker : (p q : ℕ → Bool) → ((b : ℕ) → p b ≡ true → q b ≡ true) → (text : List ℕ) → list_all p text ≡ true → list_all q text ≡ true
 list_all-weaker p q step [] h = refl
-list_all-weaker p q step (b ∷ text) h = and-both _ _ (step b (and-left _ _ h)) (list_all-weaker p q step text (and-right _ _ h))
+list_all-weaker p q step (b ∷ text) h = and_from _ _ (step b ((and_parts _ _ h).0)) (list_all-weaker p q step text ((and_parts _ _ h).1))
 
 letters : (word : List ℕ) → is_line_word word ≡ true → list_all is_letter word ≡ true
 letters [] h = refl
@@ -84,15 +77,15 @@ is_utf8-line_with word rest w r =
 pub has_no_feed-line_with : (word rest : List ℕ) → is_line_word word ≡ true → IsRest rest → has_no_feed (line_with word rest) ≡ true
 has_no_feed-line_with word rest w r =
     list_all-append is_no_feed word (space ∷ rest)
-    ∙ and-both _ _ (list_all-weaker is_letter is_no_feed letter-no_feed word (letters word w)) r.is_trimmed.one_line
+    ∙ and_from _ _ (list_all-weaker is_letter is_no_feed letter-no_feed word (letters word w)) r.is_trimmed.one_line
 
 begins_with-line_with : (word rest : List ℕ) → is_line_word word ≡ true → begins_with is_blank (line_with word rest) ≡ false
 begins_with-line_with [] rest w = absurd (cc)
-begins_with-line_with (b ∷ word) rest w = letter-other b (and-left _ _ w)
+begins_with-line_with (b ∷ word) rest w = letter-other b ((and_parts _ _ w).0)
 
 is_comment-line_with : (word rest : List ℕ) → is_line_word word ≡ true → is_comment (line_with word rest) ≡ false
 is_comment-line_with [] rest w = absurd (cc)
-is_comment-line_with (b ∷ word) rest w = letter-no_comment b (and-left _ _ w)
+is_comment-line_with (b ∷ word) rest w = letter-no_comment b ((and_parts _ _ w).0)
 
 has_bytes : (text : List ℕ) → bytes_eq text [] ≡ false → 0 < length text
 has_bytes [] full = absurd (cc)
@@ -117,8 +110,8 @@ trimmed-same text first last =
 word_len-line_with : (word rest : List ℕ) → list_all is_letter word ≡ true → position_or_len is_blank (line_with word rest) ≡ length word
 word_len-line_with [] rest w = refl
 word_len-line_with (b ∷ word) rest w =
-    let len = word_len-line_with word rest (and-right _ _ w) in
-    rw (letter-other b (and-left _ _ w), len) (omega arith)
+    let len = word_len-line_with word rest ((and_parts _ _ w).1) in
+    rw (letter-other b ((and_parts _ _ w).0), len) (omega arith)
 
 first_word-line_with : (word rest : List ℕ) → is_line_word word ≡ true → first_word (line_with word rest) ≡ word
 unfolding first_word

@@ -5,19 +5,19 @@ use Rattle.std.specs.List.{list_all}
 use Rattle.std.specs.Str.{bytes_eq}
 use Rattle.std.proofs.lemmas.List.Folds.{list_all-append}
 use Rattle.std.proofs.lemmas.List.Elements.{All-append}
+use Rattle.std.proofs.lemmas.Bool.{or_parts, and_from}
 use Rattle.cs_base.specs.declared.ws_units.Setting.{Setting}
 use Rattle.cs_base.specs.declared.ws_units.Standard.TheVariants.{C99}
 use Rattle.cs_base.specs.Paths.{normal_path_of, is_normal}
 use Rattle.cs_base.specs.Units.{UnitValue, unit, IsUnit, less_sign, begins_with, has_bad_ends, is_writable, is_project, is_directory, is_unit_path, defines_fit}
 use Rattle.cs_base.proofs.NormalPaths.{is_normal-normal_path_of}
-use Rattle.cs_base.proofs.PathLaws.{and-both}
 use Rattle.cs_base.proofs.UnitLemmas.{is_utf8-ascii, is_writable-normal_path_of}
 use Rattle.ws_file.specs.Workspace.{IsC99}
 use Rattle.ws_file.specs.Reading.{reading, at_first, is_bad_path}
 use Rattle.ws_file.specs.Taking.{IsReading}
 
 list_all-push : {X : Type 0} (p : X → Bool) (xs : List X) (x : X) → list_all p xs ≡ true → p x ≡ true → list_all p (xs ++ x ∷ []) ≡ true
-list_all-push p xs x h q = list_all-append p xs (x ∷ []) ∙ and-both (list_all p xs) (list_all p (x ∷ [])) h (and-both (p x) true q refl)
+list_all-push p xs x h q = list_all-append p xs (x ∷ []) ∙ and_from (list_all p xs) (list_all p (x ∷ [])) h (and_from (p x) true q refl)
 
 is_project-default : is_project (codes "default") ≡ true
 unfolding is_writable
@@ -36,23 +36,17 @@ IsReading-first = record {
 pub is_directory-normal : (path : List ℕ) → IsTrue (is_writable path) → has_bad_ends (normal_path_of path) ≡ false
     → IsTrue (is_directory (normal_path_of path))
 is_directory-normal path h ends =
-    and-both (is_writable (normal_path_of path)) (is_normal (normal_path_of path)) (is_writable-normal_path_of path h ends) (is_normal-normal_path_of path)
-
-or-first : (a b : Bool) → (a || b) ≡ false → a ≡ false
-or-first a b h = grind (arith, h)
-
-or-second : (a b : Bool) → (a || b) ≡ false → b ≡ false
-or-second a b h = grind (arith, h)
+    and_from (is_writable (normal_path_of path)) (is_normal (normal_path_of path)) (is_writable-normal_path_of path h ends) (is_normal-normal_path_of path)
 
 pub is_unit_path-normal : (path : List ℕ) → IsTrue (is_writable path) → is_bad_path (normal_path_of path) ≡ false
     → IsTrue (is_unit_path (normal_path_of path))
 is_unit_path-normal path h good =
     let place = normal_path_of path in
-    let ends = or-second (bytes_eq place [] || begins_with (λ b. b == less_sign) place) (has_bad_ends place) good in
-    let front = or-first (bytes_eq place [] || begins_with (λ b. b == less_sign) place) (has_bad_ends place) good in
-    let some = or-first (bytes_eq place []) (begins_with (λ b. b == less_sign) place) front in
-    let real = or-second (bytes_eq place []) (begins_with (λ b. b == less_sign) place) front in
-    and-both _ _ (and-both _ _ (is_directory-normal path h ends) (rw some refl)) (rw real refl)
+    let ends = (or_parts (bytes_eq place [] || begins_with (λ b. b == less_sign) place) (has_bad_ends place) good).1 in
+    let front = (or_parts (bytes_eq place [] || begins_with (λ b. b == less_sign) place) (has_bad_ends place) good).0 in
+    let some = (or_parts (bytes_eq place []) (begins_with (λ b. b == less_sign) place) front).0 in
+    let real = (or_parts (bytes_eq place []) (begins_with (λ b. b == less_sign) place) front).1 in
+    and_from _ _ (and_from _ _ (is_directory-normal path h ends) (rw some refl)) (rw real refl)
 
 pub IsReading-directory : (project : List ℕ) (ipath : List (List ℕ)) (settings : List Setting) (units : List UnitValue) (readonly : List (List ℕ))
     (directory : List ℕ) → IsReading (reading project ipath settings units readonly) → IsTrue (is_directory directory)

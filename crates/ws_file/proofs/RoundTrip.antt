@@ -7,13 +7,14 @@ use Rattle.std.specs.Str.{bytes_eq, is_utf8}
 use Rattle.std.proofs.lemmas.Bool.Decides.{nat_tests}
 use Rattle.std.proofs.lemmas.List.{append-nil}
 use Rattle.std.proofs.lemmas.Slice.Eq.{bytes_eq-Decides}
+use Rattle.std.proofs.lemmas.Bool.{and_parts, and_from, not-true}
 use Rattle.cs_base.specs.declared.ws_units.Setting.{Setting}
 use Rattle.cs_base.specs.declared.ws_units.Setting.TheVariants.{Define, Undefine}
 use Rattle.cs_base.specs.declared.ws_units.Standard.{Standard}
 use Rattle.cs_base.specs.declared.ws_units.Standard.TheVariants.{C99}
 use Rattle.cs_base.specs.Paths.{normal_path_of, is_normal, kept_of}
 use Rattle.cs_base.specs.Units.{UnitValue, unit, IsUnit, line_feed, backslash, less_sign, is_blank, begins_with, has_bad_ends, is_writable, is_project, is_unit_path, is_directory, is_nondigit, is_identifier, is_setting, defines_fit}
-use Rattle.cs_base.proofs.PathLaws.{and-left, and-right, and-both, not-true, list_all-reverse}
+use Rattle.cs_base.proofs.PathLaws.{list_all-reverse}
 use Rattle.cs_base.proofs.UnitLemmas.{is_utf8-ascii}
 use Rattle.ws_file.specs.Workspace.{WorkspaceValue, workspace, IsC99, IsWorkspace, is_prefix, most_units}
 use Rattle.ws_file.specs.Lines.{lines_of, line_word}
@@ -43,19 +44,19 @@ word_byte-unslashed c h = grind (arith, nat_tests, h)
 
 begins_with-none : (p q : ℕ → Bool) → ((c : ℕ) → p c ≡ true → q c ≡ false) → (text : List ℕ) → list_all p text ≡ true → begins_with q text ≡ false
 begins_with-none p q step [] h = refl
-begins_with-none p q step (c ∷ text) h = step c (and-left _ _ h)
+begins_with-none p q step (c ∷ text) h = step c ((and_parts _ _ h).0)
 
 is_writable-identifier : (name : List ℕ) → is_identifier name ≡ true → is_writable name ≡ true
 unfolding is_writable
 is_writable-identifier name h =
-    let all : list_all is_word_byte name ≡ true = and-right (begins_with is_nondigit name) _ h in
+    let all : list_all is_word_byte name ≡ true = (and_parts (begins_with is_nondigit name) _ h).1 in
     let turned = list_all-reverse is_word_byte name all in
     let utf8 = is_utf8-ascii name (list_all-weaker is_word_byte (λ b. nat_lt b 128) word_byte-ascii name all) in
     let one_line = list_all-weaker is_word_byte is_no_feed word_byte-no_feed name all in
     let first = begins_with-none is_word_byte is_blank word_byte-other name all in
     let last = begins_with-none is_word_byte is_blank word_byte-other (reverse name) turned in
     let end = begins_with-none is_word_byte (λ b. b == backslash) word_byte-unslashed (reverse name) turned in
-    and-both _ _ (and-both _ _ utf8 one_line) (rw (first, last, end) refl)
+    and_from _ _ (and_from _ _ utf8 one_line) (rw (first, last, end) refl)
 
 some-first : (p : ℕ → Bool) (text : List ℕ) → begins_with p text ≡ true → bytes_eq text [] ≡ false
 some-first p [] h = absurd (cc)
@@ -68,16 +69,16 @@ Leads-prefix : (prefix : List ℕ) (r : Reading) → is_prefix prefix ≡ true �
 unfolding with_word line_word
 Leads-prefix prefix r h few =
     Leads-line_with (codes "readonly") prefix r _ refl
-    (IsRest-writable prefix (and-left _ _ h) (not-true _ (and-right _ _ h))) refl few
+    (IsRest-writable prefix ((and_parts _ _ h).0) (not-true _ ((and_parts _ _ h).1))) refl few
 
 Leads-project : (name : List ℕ) (r : Reading) → is_project name ≡ true → length r.units ≤ most_units
     → Leads (project_line name ∷ []) r (reading name [] [] r.units r.readonly)
 unfolding with_word line_word
 Leads-project name r h few =
-    let one : list_all (λ b. not (is_blank b)) name ≡ true = and-right (is_writable name && not (bytes_eq name [])) _ h in
-    let filled : (is_writable name && not (bytes_eq name [])) ≡ true = and-left _ _ h in
-    let some = not-true (bytes_eq name []) (and-right (is_writable name) _ filled) in
-    Leads-line_with (codes "project") name r _ refl (IsRest-writable name (and-left _ _ filled) some) (rw one refl) few
+    let one : list_all (λ b. not (is_blank b)) name ≡ true = (and_parts (is_writable name && not (bytes_eq name [])) _ h).1 in
+    let filled : (is_writable name && not (bytes_eq name [])) ≡ true = (and_parts _ _ h).0 in
+    let some = not-true (bytes_eq name []) ((and_parts (is_writable name) _ filled).1) in
+    Leads-line_with (codes "project") name r _ refl (IsRest-writable name ((and_parts _ _ filled).0) some) (rw one refl) few
 
 normal-path : (path : List ℕ) → is_normal path ≡ true → normal_path_of path ≡ path
 normal-path path h = (bytes_eq-Decides (normal_path_of path) path).0 h
@@ -88,7 +89,7 @@ normal-here = refl
 
 good_ends : (text : List ℕ) → is_writable text ≡ true → has_bad_ends text ≡ false
 unfolding is_writable
-good_ends text h = not-true _ (and-right (is_utf8 text && has_no_feed text) _ h)
+good_ends text h = not-true _ ((and_parts (is_utf8 text && has_no_feed text) _ h).1)
 
 is_writable-here : is_writable (codes ".") ≡ true
 unfolding is_writable
@@ -100,33 +101,33 @@ unfolding with_word line_word
 Leads-directory [] r h few = Leads-line_with (codes "ipath") (codes ".") r _ refl (IsRest-writable (codes ".") is_writable-here refl) (rw normal-here refl) few
 Leads-directory (b ∷ directory) r h few =
     let path = b ∷ directory in
-    let same = normal-path path (and-right _ _ h) in
-    let ends = good_ends path (and-left _ _ h) in
-    Leads-line_with (codes "ipath") path r _ refl (IsRest-writable path (and-left _ _ h) refl) (rw (same, ends) refl) few
+    let same = normal-path path ((and_parts _ _ h).1) in
+    let ends = good_ends path ((and_parts _ _ h).0) in
+    Leads-line_with (codes "ipath") path r _ refl (IsRest-writable path ((and_parts _ _ h).0) refl) (rw (same, ends) refl) few
 
 Leads-setting : (s : Setting) (r : Reading) → is_setting s ≡ true → length r.units ≤ most_units
     → Leads (define_line s ∷ []) r (reading r.project r.ipath (r.settings ++ s ∷ []) r.units r.readonly)
 unfolding with_word line_word
 Leads-setting (Define rest) r h few =
-    let begins = and-right _ _ h in
+    let begins = (and_parts _ _ h).1 in
     Leads-line_with (codes "define") rest r _ refl
-    (IsRest-writable rest (and-left _ _ h) (some-first is_nondigit rest begins)) (rw begins refl) few
+    (IsRest-writable rest ((and_parts _ _ h).0) (some-first is_nondigit rest begins)) (rw begins refl) few
 Leads-setting (Undefine name) r h few =
     Leads-line_with (codes "undefine") name r _ refl
-    (IsRest-writable name (is_writable-identifier name h) (some-first is_nondigit name (and-left _ _ h))) (rw h refl) few
+    (IsRest-writable name (is_writable-identifier name h) (some-first is_nondigit name ((and_parts _ _ h).0))) (rw h refl) few
 
 Leads-file : (path : List ℕ) (r : Reading) → is_unit_path path ≡ true → defines_fit C99 r.settings ≡ true → length r.units + 1 ≤ most_units
     → Leads (file_line path ∷ []) r (reading r.project r.ipath r.settings (r.units ++ unit r.project path r.ipath r.settings C99 ∷ []) r.readonly)
 unfolding with_word line_word
 Leads-file path r h fits few =
-    let place = and-left _ _ (and-left _ _ h) in
-    let some = not-true (bytes_eq path []) (and-right _ _ (and-left _ _ h)) in
-    let real = not-true (begins_with (λ b. b == less_sign) path) (and-right _ _ h) in
-    let same = normal-path path (and-right _ _ place) in
-    let ends = good_ends path (and-left _ _ place) in
+    let place = (and_parts _ _ ((and_parts _ _ h).0)).0 in
+    let some = not-true (bytes_eq path []) ((and_parts _ _ ((and_parts _ _ h).0)).1) in
+    let real = not-true (begins_with (λ b. b == less_sign) path) ((and_parts _ _ h).1) in
+    let same = normal-path path ((and_parts _ _ place).1) in
+    let ends = good_ends path ((and_parts _ _ place).0) in
     let u = unit r.project path r.ipath r.settings C99 in
     let few' : length (r.units ++ u ∷ []) ≤ most_units = omega (arith, length-append r.units (u ∷ [])) in
-    Leads-line_with (codes "file") path r _ refl (IsRest-writable path (and-left _ _ place) some)
+    Leads-line_with (codes "file") path r _ refl (IsRest-writable path ((and_parts _ _ place).0) some)
     (rw (same, some, real, ends, fits) refl) few'
 
 -- Lists of lines.
@@ -141,8 +142,8 @@ Leads-prefixes (prefix ∷ prefixes) r h few =
     let To : List (List ℕ) → Type 0 =
     λ all. Leads (map readonly_line (prefix ∷ prefixes)) r (reading r.project r.ipath r.settings r.units all) in
     subst To (append_assoc r.readonly (prefix ∷ []) prefixes)
-    (Leads-append (readonly_line prefix ∷ []) (map readonly_line prefixes) r next _ (Leads-prefix prefix r (and-left _ _ h) few)
-    (Leads-prefixes prefixes next (and-right _ _ h) few))
+    (Leads-append (readonly_line prefix ∷ []) (map readonly_line prefixes) r next _ (Leads-prefix prefix r ((and_parts _ _ h).0) few)
+    (Leads-prefixes prefixes next ((and_parts _ _ h).1) few))
 
 Leads-directories : (directories : List (List ℕ)) (r : Reading) → list_all is_directory directories ≡ true → length r.units ≤ most_units
     → Leads (map ipath_line directories) r (reading r.project (r.ipath ++ directories) r.settings r.units r.readonly)
@@ -154,8 +155,8 @@ Leads-directories (directory ∷ directories) r h few =
     let To : List (List ℕ) → Type 0 =
     λ all. Leads (map ipath_line (directory ∷ directories)) r (reading r.project all r.settings r.units r.readonly) in
     subst To (append_assoc r.ipath (directory ∷ []) directories)
-    (Leads-append (ipath_line directory ∷ []) (map ipath_line directories) r next _ (Leads-directory directory r (and-left _ _ h) few)
-    (Leads-directories directories next (and-right _ _ h) few))
+    (Leads-append (ipath_line directory ∷ []) (map ipath_line directories) r next _ (Leads-directory directory r ((and_parts _ _ h).0) few)
+    (Leads-directories directories next ((and_parts _ _ h).1) few))
 
 Leads-settings : (settings : List Setting) (r : Reading) → list_all is_setting settings ≡ true → length r.units ≤ most_units
     → Leads (map define_line settings) r (reading r.project r.ipath (r.settings ++ settings) r.units r.readonly)
@@ -167,8 +168,8 @@ Leads-settings (s ∷ settings) r h few =
     let To : List Setting → Type 0 =
     λ all. Leads (map define_line (s ∷ settings)) r (reading r.project r.ipath all r.units r.readonly) in
     subst To (append_assoc r.settings (s ∷ []) settings)
-    (Leads-append (define_line s ∷ []) (map define_line settings) r next _ (Leads-setting s r (and-left _ _ h) few)
-    (Leads-settings settings next (and-right _ _ h) few))
+    (Leads-append (define_line s ∷ []) (map define_line settings) r next _ (Leads-setting s r ((and_parts _ _ h).0) few)
+    (Leads-settings settings next ((and_parts _ _ h).1) few))
 
 Leads-unit : (u : UnitValue) (r : Reading) → IsUnit u → IsC99 u → length r.units + 1 ≤ most_units
     → Leads (unit_lines u) r (reading u.project u.ipath u.settings (r.units ++ u ∷ []) r.readonly)
@@ -230,16 +231,16 @@ LeadsTo-workspace ws h =
 lines_of-ended : (line rest : List ℕ) → has_no_feed line ≡ true → lines_of (line ++ line_feed ∷ rest) ≡ line ∷ lines_of rest
 lines_of-ended [] rest h = refl
 lines_of-ended (b ∷ line) rest h =
-    let other = not-true (b == line_feed) (and-left _ _ h) in
-    let same = lines_of-ended line rest (and-right _ _ h) in
+    let other = not-true (b == line_feed) ((and_parts _ _ h).0) in
+    let same = lines_of-ended line rest ((and_parts _ _ h).1) in
     rw (other, same) refl
 
 lines_of-lines_text : (lines : List (List ℕ)) → list_all has_no_feed lines ≡ true → lines_of (lines_text lines) ≡ lines
 lines_of-lines_text [] h = refl
 lines_of-lines_text (line ∷ lines) h =
     ap lines_of (append_assoc line (line_feed ∷ []) (lines_text lines))
-    ∙ lines_of-ended line (lines_text lines) (and-left _ _ h)
-    ∙ ap (λ (rest : List (List ℕ)). line ∷ rest) (lines_of-lines_text lines (and-right _ _ h))
+    ∙ lines_of-ended line (lines_text lines) ((and_parts _ _ h).0)
+    ∙ ap (λ (rest : List (List ℕ)). line ∷ rest) (lines_of-lines_text lines ((and_parts _ _ h).1))
 
 -- what is printed is read back
 pub workspace_of-workspace_text : (ws : WorkspaceValue) → IsWorkspace ws → length (workspace_text ws) ≤ 2 ^ 22

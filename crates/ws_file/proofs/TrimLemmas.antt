@@ -2,12 +2,12 @@
 use Rattle.std.proofs.Common.{◌≡◌, ℕ, suc, Bool, true, false, not, ◌==◌, ◌+◌, ◌<◌, List, [], ◌∷◌, ◌++◌, IsTrue, length, take, drop, reverse, inl, inr, refl, ap, sym, ◌∙◌, arith, append_assoc}
 use Rattle.std.specs.List.{list_all, position_or_len}
 use Rattle.std.specs.Str.{is_utf8, bytes_eq}
-use Rattle.std.proofs.lemmas.Bool.{cases_Bool}
+use Rattle.std.proofs.lemmas.Bool.{cases_Bool, and_parts, and_from}
 use Rattle.std.proofs.lemmas.Bool.Decides.{nat_tests}
 use Rattle.std.proofs.lemmas.List.{reverse-append, reverse-reverse, take-append-drop, length-reverse}
 use Rattle.std.proofs.lemmas.List.Folds.{list_all-append, length-prefix_len}
 use Rattle.cs_base.specs.Units.{is_blank, begins_with, ends_with, backslash, is_writable}
-use Rattle.cs_base.proofs.PathLaws.{and-right, and-both, list_all-reverse}
+use Rattle.cs_base.proofs.PathLaws.{list_all-reverse}
 use Rattle.cs_base.proofs.UnitLemmas.{is_utf8-front, is_utf8-back, is_utf8-ascii}
 use Rattle.ws_file.specs.Lines.{without_first_blanks, without_last_blanks, trimmed, first_word, rest_of}
 use Rattle.ws_file.specs.Taking.{IsTrimmed, is_no_feed, has_no_feed}
@@ -40,7 +40,7 @@ list_all-without_first : (p : ℕ → Bool) (text : List ℕ) → list_all p tex
 list_all-without_first p [] h = h
 list_all-without_first p (b ∷ text) h =
     elim (cases_Bool (is_blank b)) [
-      | inl blank ↦ rw blank (list_all-without_first p text (and-right _ _ h))
+      | inl blank ↦ rw blank (list_all-without_first p text ((and_parts _ _ h).1))
       | inr other ↦ rw other h
     ]
 
@@ -153,7 +153,7 @@ is_writable-rest_of text t slashed full =
     let all_line : list_all is_no_feed (word ++ more) ≡ true = rw whole t.one_line in
     let one_line =
     list_all-without_first is_no_feed more
-    (and-right (list_all is_no_feed word) (list_all is_no_feed more) (sym (list_all-append is_no_feed word more) ∙ all_line)) in
+    ((and_parts (list_all is_no_feed word) (list_all is_no_feed more) (sym (list_all-append is_no_feed word more) ∙ all_line)).1) in
     let blanks = first_blanks more in
     let text_is : (word ++ blanks.0) ++ rest ≡ text = append_assoc word blanks.0 rest ∙ ap (λ (bytes : List ℕ). word ++ bytes) blanks.1 ∙ whole in
     let is = rest_of-is text in
@@ -165,4 +165,4 @@ is_writable-rest_of text t slashed full =
     sym (ends_with-append (λ b. b == backslash) (word ++ blanks.0) rest some')
     ∙ ap (ends_with (λ b. b == backslash)) text_is ∙ slashed in
     let first = begins_with-without_first more in
-    rw is (and-both _ _ (and-both _ _ utf8 one_line) (rw (first, last, end) refl))
+    rw is (and_from _ _ (and_from _ _ utf8 one_line) (rw (first, last, end) refl))
