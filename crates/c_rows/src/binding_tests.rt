@@ -128,18 +128,23 @@ fn told(
 }
 
 // What is told of a program, or its first fault.
-fn answer(alloc: Global, asked: Asked, text: &[u8]) -> Result<String, Fail> {
+fn answer(alloc: Global, asked: Asked, text: &[u8], standard: Standard) -> Result<String, Fail> {
     match lex(alloc, 1, text) {
-        Ok(file) => answer_of(alloc, asked, file.toks()),
+        Ok(file) => answer_of(alloc, asked, file.toks(), standard),
         Err(_) => Ok(format!(in alloc; "not lexed")?),
     }
 }
 
-fn answer_of(alloc: Global, asked: Asked, toks: &[Tok]) -> Result<String, Fail> {
+fn answer_of(
+    alloc: Global,
+    asked: Asked,
+    toks: &[Tok],
+    standard: Standard,
+) -> Result<String, Fail> {
     if toks.len() > 1000 {
         return Ok(format!(in alloc; "too long")?);
     }
-    match read(alloc, toks, Standard::C99) {
+    match read(alloc, toks, standard) {
         Ok(tree) => match bind(alloc, toks, &tree) {
             Ok(bound) => told(alloc, asked, &tree, &bound, toks.len() as u32),
             Err(refusal) => Ok(format!(in alloc; "{refusal}")?),
@@ -149,9 +154,14 @@ fn answer_of(alloc: Global, asked: Asked, toks: &[Tok]) -> Result<String, Fail> 
 }
 
 // The first row that is answered otherwise, and its answer, or nothing.
-fn differing(alloc: Global, asked: Asked, rows: &[(&[u8], &str)]) -> Result<String, Fail> {
+fn differing(
+    alloc: Global,
+    asked: Asked,
+    rows: &[(&[u8], &str)],
+    standard: Standard,
+) -> Result<String, Fail> {
     for (k, (text, expected)) in rows.iter().enumerate() {
-        let found = answer(alloc, asked, text)?;
+        let found = answer(alloc, asked, text, standard)?;
         if found.as_str() != *expected {
             return Ok(format!(in alloc; "number {k}: {found}")?);
         }
@@ -159,17 +169,22 @@ fn differing(alloc: Global, asked: Asked, rows: &[(&[u8], &str)]) -> Result<Stri
     Ok(String::new(alloc))
 }
 
+/// The first row whose entities or fault are others by C11, or nothing.
+pub(crate) fn bound_by_c11(alloc: Global, rows: &[(&[u8], &str)]) -> Result<String, Fail> {
+    differing(alloc, Asked::Entities, rows, Standard::C11)
+}
+
 #[test]
 fn worked_programs(rt: HostRuntime) -> Result<(), Fail> {
-    let entities = differing(rt.alloc(), Asked::Entities, &BOUND)?;
+    let entities = differing(rt.alloc(), Asked::Entities, &BOUND, Standard::C99)?;
     assert_eq!(rt; entities.as_str(), "", "BOUND");
-    let faults = differing(rt.alloc(), Asked::Entities, &FAULTS)?;
+    let faults = differing(rt.alloc(), Asked::Entities, &FAULTS, Standard::C99)?;
     assert_eq!(rt; faults.as_str(), "", "FAULTS");
-    let kinds = differing(rt.alloc(), Asked::Kinds, &KINDS)?;
+    let kinds = differing(rt.alloc(), Asked::Kinds, &KINDS, Standard::C99)?;
     assert_eq!(rt; kinds.as_str(), "", "KINDS");
-    let lists = differing(rt.alloc(), Asked::Lists, &LISTS)?;
+    let lists = differing(rt.alloc(), Asked::Lists, &LISTS, Standard::C99)?;
     assert_eq!(rt; lists.as_str(), "", "LISTS");
-    let parameters = differing(rt.alloc(), Asked::Parameters, &PARAMETERS)?;
+    let parameters = differing(rt.alloc(), Asked::Parameters, &PARAMETERS, Standard::C99)?;
     assert_eq!(rt; parameters.as_str(), "", "PARAMETERS");
     Ok(())
 }

@@ -12,14 +12,16 @@ use Rattle.c_types.specs.declared.declarations.Cause.{Cause}
 use Rattle.c_types.specs.declared.declarations.Fault.{Fault}
 use Rattle.c_types.specs.Faults.{first_fault}
 use Rattle.c_types.specs.declared.declarations.Space.{Space}
-use Rattle.c_types.specs.declared.declarations.Space.TheVariants.{Ordinary as ordinary, Tags as tags, Members as members, Labels as labels}
+use Rattle.c_types.specs.declared.declarations.Space.TheVariants.{Ordinary as ordinary, Tags as tags, Members as members, Inner as inner, Labels as labels}
 use Rattle.c_types.specs.declared.declarations.Declaration.{Declaration}
 use Rattle.c_types.specs.declared.declarations.Occurrence.{Occurrence}
 
+-- the first is the second, or names in it are found where the second is asked for
 abbrev pub is_space : Space → Space → Bool
 is_space ordinary ordinary = true
 is_space tags tags = true
 is_space (members n) (members m) = n == m
+is_space (inner n) (members m) = n == m
 is_space (labels n) (labels m) = n == m
 is_space _ _ = false
 

@@ -4,7 +4,7 @@ use Rattle.std.specs.Option.{option_or}
 use Rattle.c99_tree.specs.Tree.{Forest, none, token, node}
 use Rattle.c99_tree.specs.declared.production.Label.{Label}
 use Rattle.c99_tree.specs.declared.production.Production.{Production}
-use Rattle.c99_tree.specs.declared.production.Production.TheVariants.{Main, Mod, Suffix, Direct, Declarator, Pdecl, Pdirect, Pointer, Primary}
+use Rattle.c99_tree.specs.declared.production.Production.TheVariants.{Main, StructSpec, SuRest, Mod, Suffix, Direct, Declarator, Pdecl, Pdirect, Pointer, Primary}
 use Rattle.c99_tree.specs.contracts.production.ProductionPartialEq.TheImpl.{ghosts}
 use Rattle.c_types.specs.declared.frames.Words.{Words}
 use Rattle.c_types.specs.Types.{CType, pointer, array, function}
@@ -41,6 +41,24 @@ has_mod n none = false
 has_mod n (token i rest) = has_mod n rest
 has_mod n (node l first under rest) = is_at l Mod n || ((is_node l Main && has_mod n under) || has_mod n rest)
 
+-- a node of the production and the alternative stands among some children
+abbrev pub has_at : Production → ℕ → Forest → Bool
+has_at p n none = false
+has_at p n (token i rest) = has_at p n rest
+has_at p n (node l first under rest) = is_at l p n || has_at p n rest
+
+-- a structure or union specifier with a list and without a tag stands among some children
+abbrev pub has_untagged : Forest → Bool
+has_untagged none = false
+has_untagged (token i rest) = has_untagged rest
+has_untagged (node l first under rest) = (is_node l StructSpec && has_at SuRest 2 under) || has_untagged rest
+
+-- .. among some specifiers
+abbrev pub is_anonymous : Forest → Bool
+is_anonymous none = false
+is_anonymous (token i rest) = is_anonymous rest
+is_anonymous (node l first under rest) = (is_node l Main && has_untagged under) || is_anonymous rest
+
 -- storage-class specifiers (6.7.1)
 abbrev pub words_of : Forest → Words
 words_of specs = record {
@@ -48,6 +66,7 @@ words_of specs = record {
   has_extern = has_mod 2 specs;
   has_static = has_mod 3 specs;
   has_any = has_mod 1 specs || (has_mod 2 specs || (has_mod 3 specs || (has_mod 4 specs || has_mod 5 specs)));
+  anonymous = is_anonymous specs;
 }
 
 -- The specifiers and the rest of a declaration are a structure or union specifier and a semicolon, and no

@@ -25,13 +25,15 @@ pub enum Position {
     Beyond,
 }
 
-/// The storage-class specifiers (6.7.1) among some specifiers, not inside a structure's.
+/// The storage-class specifiers (6.7.1) among some specifiers, not inside a structure's. `anonymous`: a structure or
+/// union stands among them with a list and without a tag.
 #[derive(Clone, Copy, Debug, PartialEq, Eq)]
 pub struct Words {
     pub has_typedef: bool,
     pub has_extern: bool,
     pub has_static: bool,
     pub has_any: bool,
+    pub anonymous: bool,
 }
 
 /// The node's label, how many of its children are read, and the last token that a child is.

@@ -3,7 +3,7 @@ ghost use Rattle.std.specs.Prelude.{◌≡◌, ◌+◌, ◌||◌, ℕ, unwrap_or
 ghost use Rattle.std.specs.Option.{option_map};
 ghost use Rattle.c_types.specs.Children.{from_child, with_part, HasRoom, IsBelow, only_node, only_if};
 ghost use Rattle.c_types.specs.Shapes.{leading_token};
-ghost use Rattle.c_types.specs.Trees.{is_node, is_at, last_token, first_token, has_node, has_mod, words_of, is_one, is_lone_main, is_text, is_list};
+ghost use Rattle.c_types.specs.Trees.{is_node, is_at, last_token, first_token, has_node, has_mod, has_at, has_untagged, is_anonymous, words_of, is_one, is_lone_main, is_text, is_list};
 
 use crate::frames::Words;
 use c99_tree::{Child, Label, Production, Tree};
@@ -168,6 +168,80 @@ fn is_mod_at(tree: &Tree, k: u32, alternative: u8) -> bool
     }
 }
 
+// A child of the node is a node of the production and the alternative.
+fn has_part(tree: &Tree, production: Production, alternative: u8) -> bool
+    ensures { result ≡ has_at production alternative tree.now.under }
+{
+    let count = tree.len();
+    'children: for k in 0..count {
+        if has_part_at(tree, k, production, alternative) {
+            return true;
+        }
+    }
+    false
+}
+
+// Child `k` is one.
+fn has_part_at(tree: &Tree, k: u32, production: Production, alternative: u8) -> bool
+    ensures { has_at production alternative (from_child k tree.now.under) ≡ (result || has_at production alternative (from_child (k + 1) tree.now.under)) }
+{
+    match child_at(tree, k) {
+        Part::End => false,
+        Part::Token(_) => false,
+        Part::Node(inner) => is_at(inner.label(), production, alternative),
+    }
+}
+
+// A child of the node is a structure or union specifier with a list and without a tag.
+fn has_untagged(tree: &Tree) -> bool
+    ensures { result ≡ has_untagged tree.now.under }
+{
+    let count = tree.len();
+    'children: for k in 0..count {
+        if has_untagged_at(tree, k) {
+            return true;
+        }
+    }
+    false
+}
+
+// Child `k` is one.
+fn has_untagged_at(tree: &Tree, k: u32) -> bool
+    ensures { has_untagged (from_child k tree.now.under) ≡ (result || has_untagged (from_child (k + 1) tree.now.under)) }
+{
+    match child_at(tree, k) {
+        Part::End => false,
+        Part::Token(_) => false,
+        Part::Node(inner) => {
+            is_node(inner.label(), Production::StructSpec) && has_part(inner, Production::SuRest, 2)
+        }
+    }
+}
+
+// Such a specifier stands among the specifiers.
+fn is_anonymous(tree: &Tree) -> bool
+    ensures { result ≡ is_anonymous tree.now.under }
+{
+    let count = tree.len();
+    'children: for k in 0..count {
+        if is_anonymous_at(tree, k) {
+            return true;
+        }
+    }
+    false
+}
+
+// Child `k` is one.
+fn is_anonymous_at(tree: &Tree, k: u32) -> bool
+    ensures { is_anonymous (from_child k tree.now.under) ≡ (result || is_anonymous (from_child (k + 1) tree.now.under)) }
+{
+    match child_at(tree, k) {
+        Part::End => false,
+        Part::Token(_) => false,
+        Part::Node(inner) => { is_node(inner.label(), Production::Main) && has_untagged(inner) }
+    }
+}
+
 /// The storage-class specifiers among some specifiers.
 pub fn words_of(specs: &Tree) -> Words
     ensures { result ≡ words_of specs.now.under }
@@ -181,6 +255,7 @@ pub fn words_of(specs: &Tree) -> Words
         has_static,
         has_any: has_typedef
             || (has_extern || (has_static || (has_mod(specs, 4) || has_mod(specs, 5)))),
+        anonymous: is_anonymous(specs),
     }
 }
 

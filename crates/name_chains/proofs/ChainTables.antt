@@ -10,7 +10,7 @@ use Rattle.name_chains.specs.Places.{is_member_of}
 use Rattle.name_chains.specs.Ranks.{no_rank, rank_at, IsRank, AreRanked}
 use Rattle.name_chains.specs.Links.{Links, with_link, TellsSame, HasRoom, has_key, AreChained, IsLeft}
 use Rattle.name_chains.specs.Linked.{linkage_key_of}
-use Rattle.name_chains.specs.Chains.{name_key_of, member_key_of, with_end, lasts, IsTabled}
+use Rattle.name_chains.specs.Chains.{name_key_of, member_key_of, found_key_of, with_end, lasts, IsTabled}
 use Rattle.name_chains.proofs.ChainedMore.{get_front, take_front, chained_more, chained_same, ended_more}
 use Rattle.name_chains.proofs.ChainedOver.{over_more}
 
@@ -41,16 +41,16 @@ ranked_more xs ranks d rank a new =
       ];
     }
 
-pub tabled_more : (toks : List Token) (numbers : List ℕ) (xs : List Declaration) (names linked structures : Links) (over ends : List ℕ) (ranks : List Rank) (d : Declaration)
-    (rank : Rank) (count place : ℕ) (xs' : List Declaration) (names' linked' structures' : Links) (over' ends' : List ℕ) (ranks' : List Rank)
-    → IsTabled toks numbers xs names linked structures over ends ranks → count ≡ length xs
+pub tabled_more : (toks : List Token) (numbers : List ℕ) (xs : List Declaration) (names linked structures found : Links) (over ends : List ℕ) (ranks : List Rank) (d : Declaration)
+    (rank : Rank) (count place : ℕ) (xs' : List Declaration) (names' linked' structures' found' : Links) (over' ends' : List ℕ) (ranks' : List Rank)
+    → IsTabled toks numbers xs names linked structures found over ends ranks → count ≡ length xs
     → AreChained (name_key_of numbers) (xs ++ d ∷ []) names' → AreChained (linkage_key_of numbers) (xs ++ d ∷ []) linked'
-    → AreChained member_key_of (xs ++ d ∷ []) structures'
+    → AreChained member_key_of (xs ++ d ∷ []) structures' → AreChained found_key_of (xs ++ d ∷ []) found'
     → IsLeft (has_key (name_key_of numbers) (name_key_of numbers d)) (filter (lasts (name_key_of numbers) (name_key_of numbers d) d.from)) xs (reverse xs) place
     → ((number : ℕ) → is_member_of number d ≡ true → IsRank number d.name_at xs rank)
     → xs' ≡ xs ++ d ∷ [] → over' ≡ over ++ place ∷ [] → ends' ≡ with_end d.to (count + 1) ends → ranks' ≡ ranks ++ rank ∷ []
-    → IsTabled toks numbers xs' names' linked' structures' over' ends' ranks'
-tabled_more toks numbers xs names linked structures over ends ranks d rank count place xs' names' linked' structures' over' ends' ranks' a c named joined owned left new g o h r =
+    → IsTabled toks numbers xs' names' linked' structures' found' over' ends' ranks'
+tabled_more toks numbers xs names linked structures found over ends ranks d rank count place xs' names' linked' structures' found' over' ends' ranks' a c named joined owned held left new g o h r =
     rw (g, o, h, r, c)
     (record {
       numbered = a.numbered;
@@ -58,20 +58,22 @@ tabled_more toks numbers xs names linked structures over ends ranks d rank count
       joined = joined;
       passed = over_more (name_key_of numbers) xs over d place a.passed left;
       owned = owned;
+      held = held;
       ended = ended_more xs ends d a.ended;
       ranked = ranked_more xs ranks d rank a.ranked new;
     })
 
 -- room changes nothing
-pub tabled_same : (toks : List Token) (numbers : List ℕ) (xs : List Declaration) (names linked structures names' linked' structures' : Links) (over ends : List ℕ) (ranks : List Rank)
-    → IsTabled toks numbers xs names linked structures over ends ranks → TellsSame names names' → TellsSame linked linked' → TellsSame structures structures'
-    → IsTabled toks numbers xs names' linked' structures' over ends ranks
-tabled_same toks numbers xs names linked structures names' linked' structures' over ends ranks a e f g = record {
+pub tabled_same : (toks : List Token) (numbers : List ℕ) (xs : List Declaration) (names linked structures found names' linked' structures' found' : Links) (over ends : List ℕ) (ranks : List Rank)
+    → IsTabled toks numbers xs names linked structures found over ends ranks → TellsSame names names' → TellsSame linked linked' → TellsSame structures structures' → TellsSame found found'
+    → IsTabled toks numbers xs names' linked' structures' found' over ends ranks
+tabled_same toks numbers xs names linked structures found names' linked' structures' found' over ends ranks a e f g h = record {
   numbered = a.numbered;
   named = chained_same (name_key_of numbers) xs names names' a.named e;
   joined = chained_same (linkage_key_of numbers) xs linked linked' a.joined f;
   passed = a.passed;
   owned = chained_same member_key_of xs structures structures' a.owned g;
+  held = chained_same found_key_of xs found found' a.held h;
   ended = a.ended;
   ranked = a.ranked;
 }

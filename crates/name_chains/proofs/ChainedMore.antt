@@ -11,11 +11,12 @@ use Rattle.c_types.specs.declared.declarations.Declaration.{Declaration}
 use Rattle.c_types.specs.Declarations.{is_space, alike, is_named}
 use Rattle.name_chains.specs.Entering.{kept_here}
 use Rattle.c_types.specs.declared.declarations.Space.{Space}
-use Rattle.c_types.specs.declared.declarations.Space.TheVariants.{Ordinary as ordinary, Tags as tags, Members as members, Labels as labels}
-use Rattle.name_chains.specs.Places.{is_member_of}
+use Rattle.c_types.specs.declared.declarations.Space.TheVariants.{Ordinary as ordinary, Tags as tags, Members as members, Inner as inner, Unnamed as unnamed, Labels as labels}
+use Rattle.name_chains.specs.Places.{is_place_in, is_member_of}
+use Rattle.name_chains.specs.Members.{is_found_in}
 use Rattle.name_chains.specs.Spellings.{number_at, AreNumbers}
 use Rattle.name_chains.specs.Links.{Links, with_link, TellsSame, HasRoom, has_key, latest_place, AreChained, AreLinked}
-use Rattle.name_chains.specs.Chains.{count_of, space_key, name_key, name_key_of, member_key, member_key_of, AreEnded, with_end}
+use Rattle.name_chains.specs.Chains.{count_of, space_key, name_key, name_key_of, member_key, member_key_of, found_key, found_key_of, AreEnded, with_end}
 
 None≢Some : (x : Declaration) → None ≡ Some x → ⊥
 None≢Some x e = cc
@@ -118,28 +119,58 @@ named_by numbers xs links space i n p a m e =
     subst (AreLinked (has_key (name_key_of numbers) (name_key numbers space i)) xs links.before) (sym (e ∙ ap (λ j. get_or links.newest j 0) m))
     (linked_by (name_key_of numbers) xs links (name_key numbers space i) a)
 
-pub same_space : (s t : Space) → is_space s t ≡ true → s ≡ t
-same_space ordinary ordinary e = refl
-same_space ordinary tags e = cc
-same_space ordinary (members n) e = cc
-same_space ordinary (labels n) e = cc
-same_space tags ordinary e = cc
-same_space tags tags e = refl
-same_space tags (members n) e = cc
-same_space tags (labels n) e = cc
-same_space (members m) ordinary e = cc
-same_space (members m) tags e = cc
-same_space (members m) (members n) e = ap members (eqb-true m n e)
-same_space (members m) (labels n) e = cc
-same_space (labels m) ordinary e = cc
-same_space (labels m) tags e = cc
-same_space (labels m) (members n) e = cc
-same_space (labels m) (labels n) e = ap labels (eqb-true m n e)
+-- what is found where a name space is asked for has the key of that
+same_key : (count number : ℕ) (s t : Space) → is_space s t ≡ true → space_key count t number ≡ space_key count s number
+same_key count number ordinary ordinary e = refl
+same_key count number ordinary tags e = cc
+same_key count number ordinary (members n) e = cc
+same_key count number ordinary (inner n) e = cc
+same_key count number ordinary (unnamed n) e = cc
+same_key count number ordinary (labels n) e = cc
+same_key count number tags ordinary e = cc
+same_key count number tags tags e = refl
+same_key count number tags (members n) e = cc
+same_key count number tags (inner n) e = cc
+same_key count number tags (unnamed n) e = cc
+same_key count number tags (labels n) e = cc
+same_key count number (members m) ordinary e = cc
+same_key count number (members m) tags e = cc
+same_key count number (members m) (members n) e = ap (λ j. space_key count (members j) number) (sym (eqb-true m n e))
+same_key count number (members m) (inner n) e = cc
+same_key count number (members m) (unnamed n) e = cc
+same_key count number (members m) (labels n) e = cc
+same_key count number (inner m) ordinary e = cc
+same_key count number (inner m) tags e = cc
+same_key count number (inner m) (members n) e = ap (λ j. space_key count (members j) number) (sym (eqb-true m n e))
+same_key count number (inner m) (inner n) e = cc
+same_key count number (inner m) (unnamed n) e = cc
+same_key count number (inner m) (labels n) e = cc
+same_key count number (unnamed m) ordinary e = cc
+same_key count number (unnamed m) tags e = cc
+same_key count number (unnamed m) (members n) e = cc
+same_key count number (unnamed m) (inner n) e = cc
+same_key count number (unnamed m) (unnamed n) e = cc
+same_key count number (unnamed m) (labels n) e = cc
+same_key count number (labels m) ordinary e = cc
+same_key count number (labels m) tags e = cc
+same_key count number (labels m) (members n) e = cc
+same_key count number (labels m) (inner n) e = cc
+same_key count number (labels m) (unnamed n) e = cc
+same_key count number (labels m) (labels n) e = ap (λ j. space_key count (labels j) number) (sym (eqb-true m n e))
+
+-- a place of a structure or union has the key of its members
+pub place_key : (count number n : ℕ) (s : Space) → is_place_in n s ≡ true → space_key count (members n) number ≡ space_key count s number
+place_key count number n ordinary e = cc
+place_key count number n tags e = cc
+place_key count number n (members m) e = ap (λ j. space_key count (members j) number) (sym (eqb-true m n e))
+place_key count number n (inner m) e = cc
+place_key count number n (unnamed m) e = ap (λ j. space_key count (members j) number) (sym (eqb-true m n e))
+place_key count number n (labels m) e = cc
 
 -- what has another key has not the name
 module _ (toks : List Token) (numbers : List ℕ) (are : AreNumbers toks numbers) (space : Space) (i : ℕ) where
-  unnamed : (d : Declaration) → has_key (name_key_of numbers) (name_key numbers space i) d ≡ false → is_named toks space i d ≡ false
-  unnamed d fails =
+  other_name : (d : Declaration) → has_key (name_key_of numbers) (name_key numbers space i) d ≡ false → is_named toks space i d ≡ false
+  other_name d fails =
       elim (cases_Bool (is_space d.space space)) [
         | inr other ↦ rw other refl
         | inl alike_space ↦ elim (cases_Bool (alike toks i d.name_at)) [
@@ -147,24 +178,38 @@ module _ (toks : List Token) (numbers : List ℕ) (are : AreNumbers toks numbers
           | inl alike_name ↦
               let n : number_at numbers i ≡ number_at numbers d.name_at = eqb-true (number_at numbers i) (number_at numbers d.name_at) (sym (are.same i d.name_at) ∙ alike_name) in
               let k : name_key numbers space i ≡ name_key_of numbers d =
-              ap (space_key (count_of numbers) space) n ∙ ap (λ s. space_key (count_of numbers) s (number_at numbers d.name_at)) (sym (same_space d.space space alike_space)) in
+              ap (space_key (count_of numbers) space) n ∙ same_key (count_of numbers) (number_at numbers d.name_at) d.space space alike_space in
               absurd (true≢false (sym (eq-eqb (name_key numbers space i) (name_key_of numbers d) k) ∙ fails))
         ]
       ]
 
   pub apart : (asked : Declaration → Bool) (d : Declaration) → has_key (name_key_of numbers) (name_key numbers space i) d ≡ false
       → (is_named toks space i d && asked d) ≡ false
-  apart asked d fails = rw (unnamed d fails) refl
+  apart asked d fails = rw (other_name d fails) refl
 
-member_keyed : (number : ℕ) (space : Space) → (number + 1 == member_key space) ≡ is_space space (members number)
-member_keyed number ordinary = ne_eqb (number + 1) 0 (λ e. omega (arith, e))
-member_keyed number tags = ne_eqb (number + 1) 0 (λ e. omega (arith, e))
-member_keyed number (labels n) = ne_eqb (number + 1) 0 (λ e. omega (arith, e))
-member_keyed number (members n) =
+-- the key of the structure or union itself
+own_keyed : (number n : ℕ) → (number + 1 == n + 1) ≡ (n == number)
+own_keyed number n =
     elim (cases_eq n number) [
       | inl same ↦ eq-eqb (number + 1) (n + 1) (omega (arith, same)) ∙ sym (eq-eqb n number same)
       | inr other ↦ ne_eqb (number + 1) (n + 1) (λ e. other (omega (arith, e))) ∙ sym (ne_eqb n number other)
     ]
+
+member_keyed : (number : ℕ) (space : Space) → (number + 1 == member_key space) ≡ is_place_in number space
+member_keyed number ordinary = ne_eqb (number + 1) 0 (λ e. omega (arith, e))
+member_keyed number tags = ne_eqb (number + 1) 0 (λ e. omega (arith, e))
+member_keyed number (labels n) = ne_eqb (number + 1) 0 (λ e. omega (arith, e))
+member_keyed number (inner n) = ne_eqb (number + 1) 0 (λ e. omega (arith, e))
+member_keyed number (members n) = own_keyed number n
+member_keyed number (unnamed n) = own_keyed number n
+
+found_keyed : (number : ℕ) (space : Space) → (number + 1 == found_key space) ≡ is_space space (members number)
+found_keyed number ordinary = ne_eqb (number + 1) 0 (λ e. omega (arith, e))
+found_keyed number tags = ne_eqb (number + 1) 0 (λ e. omega (arith, e))
+found_keyed number (labels n) = ne_eqb (number + 1) 0 (λ e. omega (arith, e))
+found_keyed number (unnamed n) = ne_eqb (number + 1) 0 (λ e. omega (arith, e))
+found_keyed number (members n) = own_keyed number n
+found_keyed number (inner n) = own_keyed number n
 
 pub joined_by : (xs : List Declaration) (links : Links) (number n p : ℕ) → AreChained member_key_of xs links
     → n ≡ number + 1 → p ≡ get_or links.newest n 0 → AreLinked (is_member_of number) xs links.before p
@@ -172,6 +217,13 @@ joined_by xs links number n p a m e =
     subst (λ (test : Declaration → Bool). AreLinked test xs links.before p) (fun_ext (λ (d : Declaration). member_keyed number d.space))
     (subst (AreLinked (has_key member_key_of (number + 1)) xs links.before) (sym (e ∙ ap (λ j. get_or links.newest j 0) m))
     (linked_by member_key_of xs links (number + 1) a))
+
+pub found_by : (xs : List Declaration) (links : Links) (number n p : ℕ) → AreChained found_key_of xs links
+    → n ≡ number + 1 → p ≡ get_or links.newest n 0 → AreLinked (is_found_in number) xs links.before p
+found_by xs links number n p a m e =
+    subst (λ (test : Declaration → Bool). AreLinked test xs links.before p) (fun_ext (λ (d : Declaration). found_keyed number d.space))
+    (subst (AreLinked (has_key found_key_of (number + 1)) xs links.before) (sym (e ∙ ap (λ j. get_or links.newest j 0) m))
+    (linked_by found_key_of xs links (number + 1) a))
 
 -- ---- Where ranges end
 

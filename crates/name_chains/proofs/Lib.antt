@@ -9,4 +9,5 @@ mod ChainTables
 mod KeptChains
 mod RankLemmas
 mod MemberLemmas
+mod LiftLemmas
 pub mod Reversed

@@ -9,7 +9,7 @@ use Rattle.cs_base.specs.Token.{Token}
 use Rattle.c_types.specs.declared.entity.Linkage.{Linkage}
 use Rattle.c_types.specs.declared.entity.Linkage.TheVariants.{External, Internal, Absent}
 use Rattle.c_types.specs.declared.declarations.Space.{Space}
-use Rattle.c_types.specs.declared.declarations.Space.TheVariants.{Ordinary as ordinary, Tags as tags, Members as members, Labels as labels}
+use Rattle.c_types.specs.declared.declarations.Space.TheVariants.{Ordinary as ordinary, Tags as tags, Members as members, Inner as inner, Unnamed as unnamed, Labels as labels}
 use Rattle.c_types.specs.declared.declarations.Declaration.{Declaration}
 use Rattle.c_types.specs.Declarations.{is_space, is_linkage, has_linkage, alike, is_named}
 use Rattle.name_chains.specs.Spellings.{number_at, AreNumbers}
@@ -140,6 +140,8 @@ module _ (toks : List Token) (numbers : List ℕ) (are : AreNumbers toks numbers
   keyed_at External Absent ordinary j e = no_key (own * 2 + 1) (alike toks i j) (omega arith)
   keyed_at External other tags j e = ne_eqb (own * 2 + 1) 0 (λ s. omega (arith, s))
   keyed_at External other (members n) j e = ne_eqb (own * 2 + 1) 0 (λ s. omega (arith, s))
+  keyed_at External other (inner n) j e = ne_eqb (own * 2 + 1) 0 (λ s. omega (arith, s))
+  keyed_at External other (unnamed n) j e = ne_eqb (own * 2 + 1) 0 (λ s. omega (arith, s))
   keyed_at External other (labels n) j e = ne_eqb (own * 2 + 1) 0 (λ s. omega (arith, s))
   keyed_at Internal External ordinary j e =
       ne_eqb (own * 2 + 2) (number_at numbers j * 2 + 1) (λ s. omega (arith, s)) ∙ and_none (alike toks i j)
@@ -149,6 +151,8 @@ module _ (toks : List Token) (numbers : List ℕ) (are : AreNumbers toks numbers
   keyed_at Internal Absent ordinary j e = no_key (own * 2 + 2) (alike toks i j) (omega arith)
   keyed_at Internal other tags j e = ne_eqb (own * 2 + 2) 0 (λ s. omega (arith, s))
   keyed_at Internal other (members n) j e = ne_eqb (own * 2 + 2) 0 (λ s. omega (arith, s))
+  keyed_at Internal other (inner n) j e = ne_eqb (own * 2 + 2) 0 (λ s. omega (arith, s))
+  keyed_at Internal other (unnamed n) j e = ne_eqb (own * 2 + 2) 0 (λ s. omega (arith, s))
   keyed_at Internal other (labels n) j e = ne_eqb (own * 2 + 2) 0 (λ s. omega (arith, s))
   keyed_at Absent other space j e = cc
 

@@ -17,7 +17,7 @@ use Rattle.name_chains.proofs.Reversed.{filter_append, any_reversed}
 use Rattle.name_chains.proofs.LatestLemmas.{take_one_more, slice_get_some}
 use Rattle.name_chains.proofs.LinkedLemmas.{any_at}
 use Rattle.name_chains.proofs.ChainLemmas.{passes_here, leads_to, left_whole, left_all, left_on, back_more, length_back}
-use Rattle.name_chains.proofs.ChainedMore.{same_space}
+use Rattle.name_chains.proofs.ChainedMore.{place_key}
 
 -- ---- How many stand before a name
 
@@ -99,11 +99,10 @@ module _ (name : ℕ) where
           elim (cases_Bool (named d)) [
             | inr e ↦ e
             | inl e ↦
-                let s : d.space ≡ members number = same_space d.space (members number) ((and_parts (own d) (d.name_at == name) e).0) in
                 let n : d.name_at ≡ name = eqb-true d.name_at name ((and_parts (own d) (d.name_at == name) e).1) in
                 let k : key ≡ name_key_of numbers d =
                 ap (λ j. space_key (count_of numbers) (members number) (number_at numbers j)) (sym n)
-                ∙ ap (λ t. space_key (count_of numbers) t (number_at numbers d.name_at)) (sym s) in
+                ∙ place_key (count_of numbers) (number_at numbers d.name_at) number d.space ((and_parts (own d) (d.name_at == name) e).0) in
                 absurd (true≢false (sym (eq-eqb key (name_key_of numbers d) k) ∙ fails))
           ]
 

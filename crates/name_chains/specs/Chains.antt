@@ -3,7 +3,7 @@
 use Rattle.std.specs.Prelude.{ℕ, ◌+◌, ◌*◌, ◌/◌, ◌%◌, ◌<◌, ◌≤◌, ◌≡◌, min, Bool, false, ◌&&◌, not, List, length, take, reverse, filter, get_or, slice_get, slice_set, Option, None, Some, nat_lt, ◌==◌, if◌then◌else◌}
 use Rattle.cs_base.specs.Token.{Token}
 use Rattle.c_types.specs.declared.declarations.Space.{Space}
-use Rattle.c_types.specs.declared.declarations.Space.TheVariants.{Ordinary as ordinary, Tags as tags, Members as members, Labels as labels}
+use Rattle.c_types.specs.declared.declarations.Space.TheVariants.{Ordinary as ordinary, Tags as tags, Members as members, Inner as inner, Unnamed as unnamed, Labels as labels}
 use Rattle.c_types.specs.declared.declarations.Declaration.{Declaration}
 use Rattle.name_chains.specs.declared.latest.Asked.{Asked}
 use Rattle.name_chains.specs.declared.latest.Asked.TheVariants.{Live, Within, Tag, Anywhere}
@@ -29,6 +29,8 @@ abbrev pub space_key : ℕ → Space → ℕ → ℕ
 space_key count ordinary number = count + 1 + number
 space_key count tags number = (number * 2654435761) % (count + 1)
 space_key count (members n) number = (number * 2654435761 + n * 2) % (count + 1)
+space_key count (inner n) number = (number * 2654435761 + n * 2) % (count + 1)
+space_key count (unnamed n) number = (number * 2654435761 + n * 2) % (count + 1)
 space_key count (labels n) number = (number * 2654435761 + n * 2 + 1) % (count + 1)
 
 -- what declarations in a name space that are named as token k have in common
@@ -38,13 +40,23 @@ name_key numbers space k = space_key (count_of numbers) space (number_at numbers
 abbrev pub name_key_of : List ℕ → Declaration → ℕ
 name_key_of numbers d = name_key numbers d.space d.name_at
 
--- what the members of a structure or union have in common
+-- what the members of a structure or union have in common, with the places of those without a name
 abbrev pub member_key : Space → ℕ
 member_key (members n) = n + 1
+member_key (unnamed n) = n + 1
 member_key _ = 0
 
 abbrev pub member_key_of : Declaration → ℕ
 member_key_of d = member_key d.space
+
+-- what all have in common that are found among the members of a structure or union
+abbrev pub found_key : Space → ℕ
+found_key (members n) = n + 1
+found_key (inner n) = n + 1
+found_key _ = 0
+
+abbrev pub found_key_of : Declaration → ℕ
+found_key_of d = found_key d.space
 
 -- For each token one more than the place of the first declaration whose range ends there, or 0. Of tokens behind
 -- the list nothing is said.
@@ -95,11 +107,12 @@ asked_at (Tag at anew depth) = Some at
 asked_at Anywhere = None
 
 -- the tables are those of the declarations
-pub record IsTabled (toks : List Token) (numbers : List ℕ) (declared : List Declaration) (names linked structures : Links) (over ends : List ℕ) (ranks : List Rank) : Type 0 where
+pub record IsTabled (toks : List Token) (numbers : List ℕ) (declared : List Declaration) (names linked structures found : Links) (over ends : List ℕ) (ranks : List Rank) : Type 0 where
   pub numbered : AreNumbers toks numbers
   pub named : AreChained (name_key_of numbers) declared names
   pub joined : AreChained (linkage_key_of numbers) declared linked
   pub passed : AreOver (name_key_of numbers) declared over
   pub owned : AreChained member_key_of declared structures
+  pub held : AreChained found_key_of declared found
   pub ended : AreEnded declared ends
   pub ranked : AreRanked declared ranks

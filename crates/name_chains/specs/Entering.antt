@@ -8,7 +8,7 @@ use Rattle.c99_tree.specs.declared.production.Production.TheVariants.{External, 
 use Rattle.c_types.specs.Types.{CType, arithmetic, array, enumeration, called}
 use Rattle.c_types.specs.Trees.{is_node, is_list, last_token, first_token, has_node, is_bare}
 use Rattle.c_types.specs.declared.declarations.Space.{Space}
-use Rattle.c_types.specs.declared.declarations.Space.TheVariants.{Members as members}
+use Rattle.c_types.specs.declared.declarations.Space.TheVariants.{Members as members, Inner as inner_names, Unnamed as unnamed}
 use Rattle.c_types.specs.declared.declarations.Declaration.{Declaration}
 use Rattle.c_types.specs.Declarations.{Facts}
 use Rattle.c_types.specs.declared.frames.Scope.{Scope}
@@ -79,6 +79,8 @@ position_in _ l f = f.position
 -- the name spaces of members have no scopes
 abbrev pub is_member : Space → Bool
 is_member (members n) = true
+is_member (inner_names n) = true
+is_member (unnamed n) = true
 is_member _ = false
 
 -- the declarations of a list that a body begins with: its names have the body as a second range

@@ -15,7 +15,7 @@ abbrev pub state : Facts → Frame → State
 state facts frame = record { facts = facts; frame = frame }
 
 abbrev pub no_words : Words
-no_words = record { has_typedef = false; has_extern = false; has_static = false; has_any = false }
+no_words = record { has_typedef = false; has_extern = false; has_static = false; has_any = false; anonymous = false }
 
 -- the frame of a unit of so many tokens: file scope (6.2.1 paragraph 4)
 abbrev pub outermost : ℕ → Frame

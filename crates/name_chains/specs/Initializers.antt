@@ -17,6 +17,8 @@ use Rattle.c_types.specs.declared.declarations.Declaration.{Declaration}
 use Rattle.c_types.specs.Declarations.{Facts, with_fault}
 use Rattle.c_types.specs.declared.frames.Frame.{Frame}
 use Rattle.c_types.specs.declared.frames.Position.{Position}
+use Rattle.c_types.specs.declared.declarations.Space.{Space}
+use Rattle.c_types.specs.declared.declarations.Space.TheVariants.{Inner as inner}
 use Rattle.c_types.specs.declared.frames.Position.TheVariants.{Numbered as numbered, Lost as lost, Beyond as beyond}
 use Rattle.name_chains.specs.Members.{is_known, members_of, member_at, member_used, member_type}
 
@@ -88,6 +90,10 @@ position_after _ f l under child = f.position
 
 -- ---- Designators
 
+abbrev pub is_inner : Space → Bool
+is_inner (inner n) = true
+is_inner _ = false
+
 -- how many members stand before this one
 abbrev pub number_before : List Declaration → Declaration → ℕ
 number_before [] d = 0
@@ -101,10 +107,11 @@ module _ (toks : List Token) where
   abbrev pub designated_type : CType → ℕ → Facts → CType
   designated_type place i facts = if is_unknown place then unknown else member_type toks place i unknown facts
 
-  -- the number of the member designated
+  -- the number of the member designated; behind a name of an anonymous member no place is known
   abbrev pub position_of : CType → Facts → Option Declaration → Position → Position
   position_of place facts None at = at
-  position_of place facts (Some d) at = numbered (number_before (members_of (number_in place) facts) d)
+  position_of place facts (Some d) at =
+      if is_inner d.space then lost else numbered (number_before (members_of (number_in place) facts) d)
 
   abbrev pub designated_position : CType → ℕ → Facts → Position → Position
   designated_position place i facts at = position_of place facts (member_at toks place i facts) at

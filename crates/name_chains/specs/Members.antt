@@ -1,5 +1,5 @@
 -- Members of structures and unions (ISO/IEC 9899:1999, 6.2.3, 6.5.2.3 and 6.7.2.1).
-use Rattle.std.specs.Prelude.{ℕ, ◌+◌, Bool, true, false, ◌&&◌, List, Option, None, Some, filter, reverse, is_some, if◌then◌else◌}
+use Rattle.std.specs.Prelude.{ℕ, ◌+◌, Bool, true, false, ◌&&◌, List, [], ◌∷◌, Option, None, Some, filter, reverse, is_some, if◌then◌else◌}
 use Rattle.std.specs.Option.{option_map_or}
 use Rattle.cs_base.specs.Token.{Token}
 use Rattle.c99_tree.specs.Tree.{Forest}
@@ -9,10 +9,11 @@ use Rattle.c_types.specs.declared.declarations.Cause.TheVariants.{NoMember as no
 use Rattle.c_types.specs.Types.{CType, is_record}
 use Rattle.c_types.specs.Tags.{number_in}
 use Rattle.c_types.specs.Trees.{last_token, declarator_type}
-use Rattle.c_types.specs.declared.declarations.Space.TheVariants.{Members as members}
+use Rattle.c_types.specs.declared.declarations.Space.TheVariants.{Members as members, Inner as inner, Unnamed as unnamed}
 use Rattle.c_types.specs.declared.declarations.Declaration.{Declaration}
 use Rattle.c_types.specs.Declarations.{is_space, Facts, is_in, with_fault, with_use, with_declaration, anywhere}
 use Rattle.c_types.specs.declared.frames.Frame.{Frame}
+use Rattle.name_chains.specs.Places.{is_member_of}
 
 abbrev pub member_declaration : Frame → ℕ → ℕ → CType → Declaration
 member_declaration f i last t = record {
@@ -32,9 +33,42 @@ member_declaration f i last t = record {
 abbrev pub is_known : CType → Facts → Bool
 is_known t facts = is_record t && is_in facts.complete (number_in t)
 
--- its members in order
+-- its members in order, with the places of those that are anonymous
 abbrev pub members_of : ℕ → Facts → List Declaration
-members_of number facts = reverse (filter (λ d. is_space d.space (members number)) facts.declared)
+members_of number facts = reverse (filter (is_member_of number) facts.declared)
+
+-- ---- Anonymous members (C11, 6.7.2.1 paragraph 13)
+
+-- it is found among the members of the structure or union
+abbrev pub is_found_in : ℕ → Declaration → Bool
+is_found_in number d = is_space d.space (members number)
+
+-- the same, as a name of an anonymous member of this one
+abbrev pub lifted : ℕ → Declaration → Declaration
+lifted owner d = record d { space = inner owner }
+
+-- all that is found there, in order
+abbrev pub found_of : ℕ → Facts → List Declaration
+found_of number facts = reverse (filter (is_found_in number) facts.declared)
+
+-- the place of a structure or union without a name, by the semicolon
+abbrev pub unnamed_declaration : Frame → ℕ → Declaration
+unnamed_declaration f i = record {
+  space = unnamed f.owner;
+  name_at = i;
+  entity = i;
+  kind = Member;
+  linkage = Absent;
+  ctype = f.base;
+  depth = f.scope.depth;
+  from = i + 1;
+  to = f.scope.to;
+  listed = false;
+}
+
+-- a declaration more that no identifier of its own declares
+abbrev pub with_silent : Declaration → Facts → Facts
+with_silent d facts = record facts { declared = d ∷ facts.declared }
 
 module _ (toks : List Token) where
   -- a member twice in one structure or union (6.2.3: each has a name space of its own)
@@ -43,6 +77,19 @@ module _ (toks : List Token) where
   with_member f under (Some i) facts =
       with_declaration (member_declaration f i (last_token under i) (declarator_type f.base under))
       (with_fault (is_some (anywhere toks (members f.owner) i facts)) redeclared i facts)
+
+  -- names of an anonymous member: one that the structure or union around it has is declared twice
+  abbrev pub with_lifted : ℕ → List Declaration → Facts → Facts
+  with_lifted owner [] facts = facts
+  with_lifted owner (d ∷ later) facts =
+      with_lifted owner later (with_silent (lifted owner d) (with_fault (is_some (anywhere toks (members owner) d.name_at facts)) redeclared d.name_at facts))
+
+  -- the semicolon behind the specifiers of a member without a declarator
+  abbrev pub with_anonymous : Frame → ℕ → Facts → Facts
+  with_anonymous f i facts =
+      if f.words.anonymous
+      then with_silent (unnamed_declaration f i) (with_lifted f.owner (found_of (number_in f.base) facts) facts)
+      else facts
 
   -- the member that token i names in a structure or union
   abbrev pub member_at : CType → ℕ → Facts → Option Declaration

@@ -1,11 +1,12 @@
 // Declarations, and the latest one that a name may denote.
-ghost use Rattle.std.specs.Prelude.{◌≡◌, ◌&&◌, not, ℕ, ◌++◌, [], ◌∷◌, find, filter, filter_map, reverse, take, get_or, slice_get, IfOk, OnOk, OnErr};
+ghost use Rattle.std.specs.Prelude.{◌≡◌, ◌&&◌, not, ℕ, ◌++◌, [], ◌∷◌, find, filter, filter_map, reverse, take, map, get_or, slice_get, IfOk, OnOk, OnErr};
 ghost use Rattle.std.specs.List.{list_any};
 ghost use Rattle.std.specs.Option.{option_map, option_to_list};
 ghost use Rattle.c_types.specs.declared.declarations.Space.TheVariants.{Ordinary};
 ghost use Rattle.c_types.specs.Declarations.{is_named, has_linkage, is_linkage};
 ghost use Rattle.name_chains.specs.Entering.{kept_here};
 ghost use Rattle.name_chains.specs.Latest.{passes};
+ghost use Rattle.name_chains.specs.Members.{is_found_in, lifted};
 ghost use Rattle.name_chains.specs.Places.{is_member_of, place_of};
 ghost use Rattle.name_chains.specs.Spellings.{AreNumbers};
 ghost use Rattle.name_chains.specs.Links.{has_key, AreChained, IsLeft};
@@ -16,7 +17,9 @@ use crate::latest::{Asked, tested};
 use crate::linked::{declaration_at, has_other, linkage_key, linked_place};
 use crate::links::{Links, place_at};
 use crate::spellings::{number_at, numbers_of};
-use crate::structures::{Rank, member_key, member_numbered, members_before, rank_of};
+use crate::structures::{
+    Rank, found_key, lifted_from, member_key, member_numbered, members_before, rank_of,
+};
 use c_types::{Declaration, Linkage, Space};
 use cs_base::{Memory, Tok};
 use std::alloc::Global;
@@ -35,6 +38,8 @@ pub struct Chains<'a> {
     names: Links,
     linked: Links,
     structures: Links,
+    // by structure or union, what is found among its members
+    found: Links,
     // for each declaration a place to go on from, where only those matter that have not ended as its range begins
     over: Vec<usize>,
     // for each token one more than the place of the first declaration whose range ends there, or 0
@@ -51,7 +56,7 @@ impl<'a> Model for Chains<'a> {
 
     ghost view = { λ c. record { toks = c.toks.now; declared = reverse c.declared.items } };
 
-    ghost invariant = { λ c. IsTabled c.toks.now c.numbers.items c.declared.items c.names c.linked c.structures c.over.items c.ends.items c.ranks.items };
+    ghost invariant = { λ c. IsTabled c.toks.now c.numbers.items c.declared.items c.names c.linked c.structures c.found c.over.items c.ends.items c.ranks.items };
 }
 
 // A table that tells no place.
@@ -79,6 +84,9 @@ fn space_key(count: u32, space: Space, number: u32) -> usize
         Space::Ordinary => count as usize + 1 + number as usize,
         Space::Tags => (number as usize * 2_654_435_761) % (count as usize + 1),
         Space::Members(n) => {
+            (number as usize * 2_654_435_761 + n as usize * 2) % (count as usize + 1)
+        }
+        Space::Inner(n) | Space::Unnamed(n) => {
             (number as usize * 2_654_435_761 + n as usize * 2) % (count as usize + 1)
         }
         Space::Labels(n) => {
@@ -210,6 +218,7 @@ impl<'a> Chains<'a> {
             names: Links::new(alloc),
             linked: Links::new(alloc),
             structures: Links::new(alloc),
+            found: Links::new(alloc),
             over: Vec::new(alloc),
             // The outermost scope ends at the count of the tokens.
             ends: blank(alloc, toks.len() + 1)?,
@@ -239,6 +248,7 @@ impl<'a> Chains<'a> {
         let name = name_key(self.numbers.as_slice(), d.space, d.name_at);
         let linkage = linkage_key(self.numbers.as_slice(), d.space, d.linkage, d.name_at);
         let structure = member_key(d.space);
+        let found = found_key(d.space);
         let over = place_over(
             self.declared.as_slice(),
             &self.names,
@@ -257,12 +267,14 @@ impl<'a> Chains<'a> {
         self.names.grow(count, name)?;
         self.linked.grow(count, linkage)?;
         self.structures.grow(count, structure)?;
+        self.found.grow(count, found)?;
         self.over.reserve(1)?;
         self.ranks.reserve(1)?;
         self.declared.reserve(1)?;
         self.names.link(count, name);
         self.linked.link(count, linkage);
         self.structures.link(count, structure);
+        self.found.link(count, found);
         self.over.push(over).unwrap();
         self.ranks.push(rank).unwrap();
         tell_end(&mut self.ends, d.to, count + 1);
@@ -335,6 +347,13 @@ impl<'a> Chains<'a> {
             self.push_some(kept)?;
         }
         Ok(())
+    }
+
+    /// What is found among the members of a structure or union, the latest first, as names of the one around it.
+    pub fn lifted(&self, alloc: Global, owner: u32, number: u32) -> Result<Vec<Declaration>, Memory>
+        ensures { IfOk result (λ v. v.items ≡ map (lifted owner) (filter (is_found_in number) self.now.declared)) }
+    {
+        lifted_from(alloc, self.declared.as_slice(), &self.found, owner, number)
     }
 
     /// Member number `n` of the structure or union.

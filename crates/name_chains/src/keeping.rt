@@ -2,6 +2,7 @@
 ghost use Rattle.std.specs.Prelude.{◌≡◌, ◌&&◌, ◌==◌, not, slice_get, IfOk};
 ghost use Rattle.std.specs.Option.{option_and_then};
 ghost use Rattle.name_chains.specs.Entering.{is_member, kept_here};
+ghost use Rattle.name_chains.specs.Members.{lifted};
 
 use c_types::{Declaration, Space};
 use cs_base::Memory;
@@ -10,7 +11,12 @@ use std::alloc::Global;
 fn is_member(space: Space) -> bool
     ensures { result ≡ is_member space }
 {
-    matches!(space, Space::Members(_))
+    match space {
+        Space::Members(_) => true,
+        Space::Inner(_) => true,
+        Space::Unnamed(_) => true,
+        _ => false,
+    }
 }
 
 // The declaration again, from one token to another.
@@ -27,6 +33,24 @@ fn moved(d: &Declaration, from: u32, to: u32) -> Result<Declaration, Memory>
         depth: d.depth,
         from,
         to,
+        listed: d.listed,
+    })
+}
+
+/// A name of an anonymous member, found among the members of the structure or union around it as well.
+pub(crate) fn lifted(d: &Declaration, owner: u32) -> Result<Declaration, Memory>
+    ensures { IfOk result (λ e. e ≡ lifted owner d.now) }
+{
+    Ok(Declaration {
+        space: Space::Inner(owner),
+        name_at: d.name_at,
+        entity: d.entity,
+        kind: d.kind,
+        linkage: d.linkage,
+        ctype: d.ctype.copied()?,
+        depth: d.depth,
+        from: d.from,
+        to: d.to,
         listed: d.listed,
     })
 }

@@ -44,7 +44,7 @@ fn alike(_toks: &[Tok], numbers: &[u32], i: u32, j: u32) -> bool
     number_at(numbers, i) == number_at(numbers, j)
 }
 
-/// They are one name space.
+/// They are one name space, or names in the first are found where the second is asked for.
 pub(crate) fn is_space(space: Space, other: Space) -> bool
     ensures { result ≡ is_space space other }
 {
@@ -52,6 +52,7 @@ pub(crate) fn is_space(space: Space, other: Space) -> bool
         (Space::Ordinary, Space::Ordinary) => true,
         (Space::Tags, Space::Tags) => true,
         (Space::Members(n), Space::Members(m)) => n == m,
+        (Space::Inner(n), Space::Members(m)) => n == m,
         (Space::Labels(n), Space::Labels(m)) => n == m,
         _ => false,
     }

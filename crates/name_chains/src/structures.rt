@@ -1,26 +1,50 @@
 // Members of a structure or union, found by their number and by their name.
-ghost use Rattle.std.specs.Prelude.{◌≡◌, ◌⊎◌, ◌+◌, ◌==◌, ℕ, true, false, not, nat_lt, get_or, length, filter, reverse, slice_get, None, if◌then◌else◌, IfOk};
-ghost use Rattle.std.specs.Option.{option_map, option_map_or};
-ghost use Rattle.name_chains.specs.Places.{is_member_of, place_of};
+ghost use Rattle.std.specs.Prelude.{◌≡◌, ◌⊎◌, ◌+◌, ◌++◌, ◌==◌, ℕ, true, false, not, nat_lt, get_or, length, filter, map, reverse, slice_get, None, if◌then◌else◌, IfOk, OnOk};
+ghost use Rattle.std.specs.Option.{option_map, option_map_or, option_to_list};
+ghost use Rattle.name_chains.specs.Places.{is_place_in, is_member_of, place_of};
 ghost use Rattle.name_chains.specs.Links.{latest_place, AreChained};
 ghost use Rattle.name_chains.specs.Linked.{at_place};
-ghost use Rattle.name_chains.specs.Chains.{name_key_of, member_key, member_key_of};
+ghost use Rattle.name_chains.specs.Chains.{name_key_of, member_key, member_key_of, found_key, found_key_of};
+ghost use Rattle.name_chains.specs.Members.{is_found_in, lifted};
 ghost use Rattle.name_chains.specs.Ranks.{rank_at, depth_at, jump_at, next_towards, is_member_at, IsRank, AreRanked};
 
 use crate::chains::name_key;
-use crate::latest::is_space;
+use crate::keeping::lifted;
 use crate::linked::declaration_at;
 use crate::links::Links;
 use c_types::{Declaration, Space};
 use cs_base::Memory;
+use std::alloc::Global;
 
-/// What the members of a structure or union have in common.
+/// What the members of a structure or union have in common, with the places of those without a name.
 pub(crate) fn member_key(space: Space) -> usize
     ensures { result ≡ member_key space }
 {
     match space {
         Space::Members(number) => number as usize + 1,
+        Space::Unnamed(number) => number as usize + 1,
         _ => 0,
+    }
+}
+
+/// What all have in common that are found among the members of a structure or union.
+pub(crate) fn found_key(space: Space) -> usize
+    ensures { result ≡ found_key space }
+{
+    match space {
+        Space::Members(number) => number as usize + 1,
+        Space::Inner(number) => number as usize + 1,
+        _ => 0,
+    }
+}
+
+fn is_place_in(number: u32, space: Space) -> bool
+    ensures { result ≡ is_place_in number space }
+{
+    match space {
+        Space::Members(n) => n == number,
+        Space::Unnamed(n) => n == number,
+        _ => false,
     }
 }
 
@@ -77,6 +101,39 @@ fn newest_member(structures: &Links, number: u32) -> usize
     ensures { result ≡ get_or structures.now.newest (number + 1) 0 }
 {
     structures.newest(member_key(Space::Members(number)))
+}
+
+// A declaration, where there is one, behind others.
+fn lift(all: &mut Vec<Declaration>, d: Option<&Declaration>, owner: u32) -> Result<(), Memory>
+    ensures { OnOk result (all.new.items ≡ all.old.items ++ map (lifted owner) (option_to_list (option_map (λ d. d.now) d.entry))) }
+{
+    match d {
+        Some(d) => {
+            all.push(lifted(d, owner)?)?;
+            Ok(())
+        }
+        None => Ok(()),
+    }
+}
+
+/// What is found among the members of a structure or union, the latest first, as names of the one around it.
+pub(crate) fn lifted_from(
+    alloc: Global,
+    declared: &[Declaration],
+    found: &Links,
+    owner: u32,
+    number: u32,
+) -> Result<Vec<Declaration>, Memory>
+    requires held { AreChained found_key_of declared.now found.now }
+    ensures { IfOk result (λ v. v.items ≡ map (lifted owner) (filter (is_found_in number) (reverse declared.now))) }
+{
+    let mut all = Vec::new(alloc);
+    let mut place = found.newest(found_key(Space::Members(number)));
+    'chain: while place > 0 {
+        lift(&mut all, declaration_at(declared, place), owner)?;
+        place = found.before(place - 1);
+    }
+    Ok(all)
 }
 
 // How many members the structure or union has.
@@ -149,7 +206,7 @@ fn is_member_at(declared: &[Declaration], k: usize, number: u32, name_at: u32) -
     ensures { result ≡ option_map_or (is_member_at number name_at) (slice_get declared.now k) false }
 {
     match declared.get(k) {
-        Some(d) => is_space(d.space, Space::Members(number)) && d.name_at == name_at,
+        Some(d) => is_place_in(number, d.space) && d.name_at == name_at,
         None => false,
     }
 }
@@ -247,7 +304,7 @@ pub(crate) fn rank_of(
     ensures { IfOk result (λ r. (number : ℕ) → is_member_of number d.now ≡ true → IsRank number d.now.name_at declared.now r) }
 {
     match d.space {
-        Space::Members(number) => {
+        Space::Members(number) | Space::Unnamed(number) => {
             member_rank(
                 declared, names, structures, ranks, numbers, number, d.name_at,
             )

@@ -1,5 +1,6 @@
 mod WalkLemmas
 mod PlaceLemmas
+mod LiftLemmas
 mod NameLemmas
 mod BoundLemmas
 mod NamingLemmas

@@ -1,12 +1,12 @@
 -- The binding of a unit: one walk over its tree, in the order of its tokens.
 -- A node is entered with what is known around it; a token does what its place in the node says; and when a node is
 -- left, the one around it goes on with what it knew, and with what its child has found.
-use Rattle.std.specs.Prelude.{ℕ, ◌+◌, List, Option, if◌then◌else◌}
+use Rattle.std.specs.Prelude.{ℕ, ◌+◌, ◌==◌, List, Option, if◌then◌else◌}
 use Rattle.cs_base.specs.Token.{Token}
 use Rattle.c99_tree.specs.Tree.{Forest, none, token, node}
 use Rattle.c99_tree.specs.declared.production.Label.{Label}
 use Rattle.c99_tree.specs.declared.production.Production.{Production}
-use Rattle.c99_tree.specs.declared.production.Production.TheVariants.{ExtRest, FunBody, InitDecl, Specs, Members, Mdecl, Enumerators, Enumerator, Declarator, Param, Pdecl}
+use Rattle.c99_tree.specs.declared.production.Production.TheVariants.{ExtRest, FunBody, InitDecl, Specs, Members, MemRest, Mdecl, Enumerators, Enumerator, Declarator, Param, Pdecl}
 use Rattle.c_types.specs.Types.{CType, arithmetic, target_of}
 use Rattle.c_types.specs.Trees.{words_of, name_below, is_node, last_token, first_list}
 use Rattle.c_types.specs.Declarations.{Facts, with_complete}
@@ -16,7 +16,7 @@ use Rattle.c_types.specs.declared.frames.Position.{Position}
 use Rattle.name_chains.specs.Frames.{State}
 use Rattle.scope_bind.specs.Ordinary.{used, used_type, named_facts, named_type, with_object, with_parameter, with_listed, with_enumerator}
 use Rattle.c_types.specs.Tags.{number_in, with_tag, tag_type, with_enumeration}
-use Rattle.name_chains.specs.Members.{with_member, member_used, member_type}
+use Rattle.name_chains.specs.Members.{with_member, with_anonymous, member_used, member_type}
 use Rattle.scope_bind.specs.Labels.{with_label, with_jump, with_labels}
 use Rattle.scope_bind.specs.Expressions.{found_after}
 use Rattle.name_chains.specs.Initializers.{position_after, designated_facts, designated_type, designated_position}
@@ -86,6 +86,7 @@ module _ (toks : List Token) where
   facts_after Declarator first f l under body facts = declared_in f.label.production f l under facts
   facts_after Pdecl first f l under body facts = parameter_in f.label.production f l under facts
   facts_after Enumerator first f l under body facts = with_enumerator toks f first (last_token under first) facts
+  facts_after MemRest first f l under body facts = if l.alternative == 1 then with_anonymous toks f first facts else facts
   facts_after Members first f l under body facts = with_complete (number_in f.found) facts
   facts_after Enumerators first f l under body facts = with_complete (number_in f.found) facts
   facts_after FunBody first f l under body facts = with_labels toks body facts

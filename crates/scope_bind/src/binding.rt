@@ -44,6 +44,7 @@ fn outermost(alloc: Global, count: u32) -> Frame
             has_extern: false,
             has_static: false,
             has_any: false,
+            anonymous: false,
         },
         kept: None,
         owner: 0,

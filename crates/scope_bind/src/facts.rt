@@ -1,5 +1,5 @@
 // What is known once a part of a unit is read.
-ghost use Rattle.std.specs.Prelude.{◌≡◌, [], reverse, slice_get, IfOk, OnOk, Some};
+ghost use Rattle.std.specs.Prelude.{◌≡◌, [], filter, map, reverse, slice_get, IfOk, OnOk, Some};
 ghost use Rattle.std.specs.Option.{option_map};
 ghost use Rattle.c_types.specs.Faults.{number_of, comes_first, first_fault};
 ghost use Rattle.c_types.specs.Declarations.{no_facts, is_in, with_fault, with_occurrence, with_declaration, with_begun, with_complete, looked_up, visible, in_scope, anywhere, linked, is_mixed};
@@ -7,7 +7,7 @@ ghost use Rattle.scope_bind.specs.Known.{known};
 ghost use Rattle.name_chains.specs.Latest.{passes};
 ghost use Rattle.name_chains.specs.declared.latest.Asked.TheVariants.{Tag};
 ghost use Rattle.scope_bind.specs.Labels.{with_jump};
-ghost use Rattle.name_chains.specs.Members.{members_of};
+ghost use Rattle.name_chains.specs.Members.{members_of, is_found_in, lifted, with_silent};
 ghost use Rattle.name_chains.specs.Places.{place_of};
 ghost use Rattle.name_chains.specs.Entering.{with_kept};
 ghost use Rattle.c_types.specs.declared.declarations.Space.TheVariants.{Ordinary, Tags};
@@ -131,6 +131,13 @@ impl<'a> Facts<'a> {
         self.chains.push(d)
     }
 
+    /// A declaration more, which no identifier of its own declares.
+    pub(crate) fn add(&mut self, d: Declaration) -> Result<(), Memory>
+        ensures { OnOk result (self.new ≡ known self.old.toks (with_silent d self.old.facts)) }
+    {
+        self.chains.push(d)
+    }
+
     pub(crate) fn begin(&mut self, begins: bool, entity: u32) -> Result<(), Memory>
         ensures { OnOk result (self.new ≡ known self.old.toks (with_begun begins entity self.old.facts)) }
     {
@@ -211,6 +218,18 @@ impl<'a> Facts<'a> {
         ensures { result ≡ is_in self.now.facts.complete number }
     {
         self.complete.has(number)
+    }
+
+    /// What is found among the members of a structure or union, the latest first, as names of the one around it.
+    pub(crate) fn lifted(
+        &self,
+        alloc: Global,
+        owner: u32,
+        number: u32,
+    ) -> Result<Vec<Declaration>, Memory>
+        ensures { IfOk result (λ v. v.items ≡ map (lifted owner) (filter (is_found_in number) self.now.facts.declared)) }
+    {
+        self.chains.lifted(alloc, owner, number)
     }
 
     /// Member number `n` of the structure or union.

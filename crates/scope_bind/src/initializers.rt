@@ -1,16 +1,16 @@
 // Places in brace lists (ISO/IEC 9899:1999, 6.7.8), as far as designators name members in them.
 ghost use Rattle.std.specs.Prelude.{◌≡◌, ◌&&◌, not, IfOk, OnOk, if◌then◌else◌};
-ghost use Rattle.std.specs.Option.{option_map};
+ghost use Rattle.std.specs.Option.{option_map, option_map_or};
 ghost use Rattle.c99_tree.specs.declared.production.Production.TheVariants.{InitItem as InitItemNode, InitList as InitListNode};
 ghost use Rattle.scope_bind.specs.Known.{known};
 ghost use Rattle.c_types.specs.Types.{unknown, arithmetic, inner_of, is_array, is_arithmetic};
 ghost use Rattle.name_chains.specs.Members.{members_of, member_at};
-ghost use Rattle.name_chains.specs.Places.{position_by};
-ghost use Rattle.name_chains.specs.Initializers.{member_place, is_union_base, place_at, next_member, is_lost, next_place, behind, element_of, is_part, is_elision, after_item, after_designator, position_after, designated_facts, designated_type, designated_position};
+ghost use Rattle.name_chains.specs.Places.{place_found};
+ghost use Rattle.name_chains.specs.Initializers.{is_inner, member_place, is_union_base, place_at, next_member, is_lost, next_place, behind, element_of, is_part, is_elision, after_item, after_designator, position_after, designated_facts, designated_type, designated_position};
 
 use crate::facts::Facts;
 use crate::tags::number_in;
-use c_types::{Base, CType, Cause, Frame, Position, is_node, is_text};
+use c_types::{Base, CType, Cause, Frame, Position, Space, is_node, is_text};
 use c99_tree::{Production, Tree};
 use cs_base::Memory;
 use std::alloc::Global;
@@ -31,6 +31,19 @@ fn is_union(t: &CType) -> bool
     ensures { result ≡ is_union_base t.now.base }
 {
     matches!(t.base(), Base::Union(_))
+}
+
+// A member that is found: in an anonymous member or not, and the token that is its name.
+#[derive(Clone, Copy)]
+struct Found {
+    inner: bool,
+    name_at: u32,
+}
+
+fn is_inner(space: Space) -> bool
+    ensures { result ≡ is_inner space }
+{
+    matches!(space, Space::Inner(_))
 }
 
 fn is_lost(at: Position) -> bool
@@ -236,24 +249,40 @@ impl Facts<'_> {
         }
     }
 
-    fn position_of(
-        &self,
-        number: u32,
-        member: Option<u32>,
-        at: Position,
-    ) -> Result<Position, Memory>
-        ensures { IfOk result (λ p. p ≡ position_by (members_of number self.now.facts) member at) }
+    fn found_position(&self, number: u32, found: Found) -> Result<Position, Memory>
+        ensures { IfOk result (λ p. p ≡ place_found (members_of number self.now.facts) found.inner found.name_at) }
     {
-        match member {
-            None => Ok(at),
-            Some(name_at) => Ok(Position::Numbered(self.number_before(number, name_at)?)),
+        if found.inner {
+            Ok(Position::Lost)
+        } else {
+            Ok(Position::Numbered(self.number_before(number, found.name_at)?))
         }
     }
 
-    fn designated_name(&self, place: &CType, i: u32) -> Option<u32>
-        ensures { result ≡ option_map (λ d. d.name_at) (member_at self.now.toks place.now i self.now.facts) }
+    fn position_of(
+        &self,
+        number: u32,
+        member: Option<Found>,
+        at: Position,
+    ) -> Result<Position, Memory>
+        ensures { IfOk result (λ p. p ≡ option_map_or (λ m. place_found (members_of number self.now.facts) m.inner m.name_at) member at) }
     {
-        self.member_at(place, i).map(|d| d.name_at)
+        match member {
+            None => Ok(at),
+            Some(found) => self.found_position(number, found),
+        }
+    }
+
+    fn designated_name(&self, place: &CType, i: u32) -> Option<Found>
+        ensures { result ≡ option_map (λ d. record { inner = is_inner d.space; name_at = d.name_at }) (member_at self.now.toks place.now i self.now.facts) }
+    {
+        match self.member_at(place, i) {
+            None => None,
+            Some(d) => Some(Found {
+                inner: is_inner(d.space),
+                name_at: d.name_at,
+            }),
+        }
     }
 
     /// The place of the member that token `i` designates.

@@ -1,5 +1,6 @@
 // What is known once a node is left: what it declares, and the frame around it.
-ghost use Rattle.std.specs.Prelude.{◌≡◌, [], OnOk};
+ghost use Rattle.std.specs.Prelude.{◌≡◌, ◌==◌, [], if◌then◌else◌, OnOk};
+ghost use Rattle.name_chains.specs.Members.{with_anonymous};
 ghost use Rattle.scope_bind.specs.Known.{known};
 ghost use Rattle.scope_bind.specs.Walk.{declared_in, parameter_in, facts_after, kept_after, frame_after};
 
@@ -34,6 +35,17 @@ impl Facts<'_> {
         }
     }
 
+    // A member without a declarator, where a semicolon alone stands behind its specifiers.
+    fn close_member(&mut self, alloc: Global, f: &Frame, tree: &Tree) -> Result<(), Memory>
+        ensures { OnOk result (self.new ≡ known self.old.toks (if tree.now.label.alternative == 1 then with_anonymous self.old.toks f.now tree.now.first self.old.facts else self.old.facts)) }
+    {
+        if tree.label().alternative == 1 {
+            self.declare_anonymous(alloc, f, tree.first())
+        } else {
+            Ok(())
+        }
+    }
+
     /// A node is left.
     #[inline(never)]
     pub(crate) fn leave(
@@ -52,6 +64,7 @@ impl Facts<'_> {
                 let last = last_token(tree, tree.first());
                 self.declare_enumerator(alloc, f, tree.first(), last)
             }
+            Production::MemRest => self.close_member(alloc, f, tree),
             Production::Members => self.complete(number_in(&f.found)),
             Production::Enumerators => self.complete(number_in(&f.found)),
             Production::FunBody => self.join_jumps(body),

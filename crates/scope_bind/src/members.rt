@@ -3,7 +3,7 @@ ghost use Rattle.std.specs.Prelude.{◌≡◌, is_some, IfOk, OnOk};
 ghost use Rattle.std.specs.Option.{option_map};
 ghost use Rattle.c_types.specs.Declarations.{with_fault, with_declaration, anywhere};
 ghost use Rattle.scope_bind.specs.Known.{known};
-ghost use Rattle.name_chains.specs.Members.{member_declaration, is_known, member_at, member_used, member_type};
+ghost use Rattle.name_chains.specs.Members.{member_declaration, unnamed_declaration, found_of, with_silent, with_lifted, with_anonymous, is_known, member_at, member_used, member_type};
 ghost use Rattle.scope_bind.specs.Labels.{label_declaration, with_label};
 ghost use Rattle.c_types.specs.declared.declarations.Cause.TheVariants.{Redeclared};
 ghost use Rattle.c_types.specs.declared.declarations.Space.TheVariants.{Members, Labels};
@@ -28,6 +28,28 @@ fn member_declaration(f: &Frame, i: u32, last: u32, t: CType) -> Result<Declarat
         kind: EntityKind::Member,
         linkage: Linkage::Absent,
         ctype: t,
+        depth: f.scope.depth,
+        from,
+        to: f.scope.to,
+        listed: false,
+    })
+}
+
+// The place of a structure or union without a name.
+fn unnamed_declaration(f: &Frame, i: u32) -> Result<Declaration, Memory>
+    ensures { IfOk result (λ d. d ≡ unnamed_declaration f.now i) }
+{
+    let from = match i.checked_add(1) {
+        Some(from) => from,
+        None => return Err(Memory),
+    };
+    Ok(Declaration {
+        space: Space::Unnamed(f.owner),
+        name_at: i,
+        entity: i,
+        kind: EntityKind::Member,
+        linkage: Linkage::Absent,
+        ctype: f.base.copied()?,
         depth: f.scope.depth,
         from,
         to: f.scope.to,
@@ -74,6 +96,43 @@ impl Facts<'_> {
     {
         let d = member_declaration(f, i, last, t)?;
         self.declare_once(Space::Members(f.owner), i, d)
+    }
+
+    // A name of an anonymous member, which the structure or union around it has at most once.
+    fn lift(&mut self, owner: u32, d: Declaration) -> Result<(), Memory>
+        ensures { OnOk result (self.new ≡ known self.old.toks (with_silent d (with_fault (is_some (anywhere self.old.toks (Members owner) d.name_at self.old.facts)) Redeclared d.name_at self.old.facts))) }
+    {
+        let twice = self.anywhere(Space::Members(owner), d.name_at).is_some();
+        self.note(twice, Cause::Redeclared, d.name_at);
+        self.add(d)
+    }
+
+    fn lift_all(&mut self, alloc: Global, owner: u32, number: u32) -> Result<(), Memory>
+        ensures { OnOk result (self.new ≡ known self.old.toks (with_lifted self.old.toks owner (found_of number self.old.facts) self.old.facts)) }
+    {
+        let mut rest = self.lifted(alloc, owner, number)?;
+        'names: while let Some(d) = rest.pop() {
+            self.lift(owner, d)?;
+        }
+        Ok(())
+    }
+
+    /// A semicolon behind the specifiers of a member.
+    pub(crate) fn declare_anonymous(
+        &mut self,
+        alloc: Global,
+        f: &Frame,
+        i: u32,
+    ) -> Result<(), Memory>
+        ensures { OnOk result (self.new ≡ known self.old.toks (with_anonymous self.old.toks f.now i self.old.facts)) }
+    {
+        if f.words.anonymous {
+            self.lift_all(alloc, f.owner, number_in(&f.base))?;
+            let d = unnamed_declaration(f, i)?;
+            self.add(d)
+        } else {
+            Ok(())
+        }
     }
 
     /// A labeled statement.

@@ -10,8 +10,8 @@ use Rattle.c_types.specs.Types.{CType, adjusted, is_unknown}
 use Rattle.c_types.specs.Trees.{last_token, declarator_type}
 use Rattle.c_types.specs.Declarations.{Facts, has_linkage, with_fault, with_occurrence, with_declaration, with_begun, visible, in_scope, linked, is_mixed, anywhere}
 use Rattle.scope_bind.specs.Ordinary.{is_again, entity_of, is_listed, declaration_of, declared, used_as, used, plain_name, new_object, with_object, with_parameter}
-use Rattle.c_types.specs.Tags.{is_same_tag, tag_entity, is_declaring, tag_declaration, renumbered, prior_tag, tag_named, is_complete, is_sort, enumeration_used, with_tag, with_enumeration}
-use Rattle.name_chains.specs.Members.{member_declaration, member_at, member_used_as, member_used, with_member}
+use Rattle.c_types.specs.Tags.{number_in, is_same_tag, tag_entity, is_declaring, tag_declaration, renumbered, prior_tag, tag_named, is_complete, is_sort, enumeration_used, with_tag, with_enumeration}
+use Rattle.name_chains.specs.Members.{member_declaration, lifted, found_of, unnamed_declaration, with_silent, with_lifted, with_anonymous, member_at, member_used_as, member_used, with_member}
 use Rattle.scope_bind.specs.Labels.{label_declaration, with_label, jump_to}
 use Rattle.name_chains.specs.Initializers.{designated_facts}
 use Rattle.tree_laws.proofs.Noted.{hit, hits}
@@ -51,7 +51,7 @@ before_begun : (t m : ℕ) (c : Bool) (e : ℕ) (facts new : Facts) → Adds t m
 before_begun t m true e facts new a = record { names = a.names; jumps = a.jumps }
 before_begun t m false e facts new a = a
 
-either_adds : (t m : ℕ) (c : Bool) (facts a b : Facts) → Adds t m facts a → Adds t m facts b → Adds t m facts (if c then a else b)
+pub either_adds : (t m : ℕ) (c : Bool) (facts a b : Facts) → Adds t m facts a → Adds t m facts b → Adds t m facts (if c then a else b)
 either_adds t m true facts a b h k = h
 either_adds t m false facts a b h k = k
 
@@ -125,6 +125,21 @@ module _ (toks : List Token) (t : ℕ) where
       (tag_adds f i facts) (enumeration_used_adds f i (visible toks tags i i facts) facts)
 
   -- ---- Members
+
+  lifted_adds : (owner : ℕ) (ds : List Declaration) (facts : Facts) → Adds t 0 facts (with_lifted toks owner ds facts)
+  lifted_adds owner [] facts = adds_none t 0 facts
+  lifted_adds owner (d ∷ later) facts =
+      let twice : Bool = is_some (anywhere toks (members owner) d.name_at facts) in
+      let next : Facts = with_silent (lifted owner d) (with_fault twice redeclared d.name_at facts) in
+      let a : Adds t 0 next (with_lifted toks owner later next) = lifted_adds owner later next in
+      behind_fault t 0 twice redeclared d.name_at facts (with_lifted toks owner later next) (record { names = a.names; jumps = a.jumps })
+
+  -- an anonymous member
+  pub anonymous_adds : (f : Frame) (i : ℕ) (facts : Facts) → Adds t 0 facts (with_anonymous toks f i facts)
+  anonymous_adds f i facts =
+      let all : Facts = with_lifted toks f.owner (found_of (number_in f.base) facts) facts in
+      let a : Adds t 0 facts all = lifted_adds f.owner (found_of (number_in f.base) facts) facts in
+      either_adds t 0 f.words.anonymous facts (with_silent (unnamed_declaration f i) all) facts (record { names = a.names; jumps = a.jumps }) (adds_none t 0 facts)
 
   pub member_adds : (f : Frame) (under : Forest) (name : Option ℕ) (facts : Facts) → Adds t (hits t name) facts (with_member toks f under name facts)
   member_adds f under None facts = adds_none t 0 facts

@@ -1,11 +1,11 @@
 -- A walk notes a token as a name as often as the tree shows at most.
-use Rattle.std.proofs.Common.{ℕ, ◌+◌, ◌≤◌, ◌≡◌, Bool, true, false, ◌||◌, not, if◌then◌else◌, List, [], ◌∷◌, ◌++◌, Option, None, Some, inl, inr, refl, sym, ap, subst, ◌∙◌, arith}
+use Rattle.std.proofs.Common.{ℕ, ◌+◌, ◌≤◌, ◌≡◌, Bool, true, false, ◌||◌, not, if◌then◌else◌, ◌==◌, List, [], ◌∷◌, ◌++◌, Option, None, Some, inl, inr, refl, sym, ap, subst, ◌∙◌, arith}
 use Rattle.std.proofs.lemmas.Bool.{cases_Bool, not-true, or_parts, and_parts}
 use Rattle.cs_base.specs.Token.{Token}
 use Rattle.c99_tree.specs.Tree.{Forest, none, token, node}
 use Rattle.c99_tree.specs.declared.production.Label.{Label}
 use Rattle.c99_tree.specs.declared.production.Production.{Production}
-use Rattle.c99_tree.specs.declared.production.Production.TheVariants.{ExtRest, FunBody, InitDecl, Members, Mdecl, Enumerators, Enumerator, Declarator, Param, Pdecl}
+use Rattle.c99_tree.specs.declared.production.Production.TheVariants.{ExtRest, FunBody, InitDecl, Members, MemRest, Mdecl, Enumerators, Enumerator, Declarator, Param, Pdecl}
 use Rattle.c99_tree.specs.contracts.production.ProductionPartialEq.TheImpl.{ghosts}
 use Rattle.c_types.specs.declared.entity.EntityKind.TheVariants.{Parameter, Enumerator as Constant}
 use Rattle.scope_bind.specs.Named.{labels, Declaration, Body, Frame, Role, by_role}
@@ -16,12 +16,13 @@ use Rattle.name_chains.specs.Frames.{State}
 use Rattle.scope_bind.specs.Ordinary.{is_func, used, plain_name}
 use Rattle.scope_bind.specs.Labels.{with_jump, jump_to, with_jumps, with_labels}
 use Rattle.name_chains.specs.Entering.{facts_in, with_kept, entered}
+use Rattle.name_chains.specs.Members.{with_anonymous}
 use Rattle.scope_bind.specs.Roles.{role_of}
 use Rattle.scope_bind.specs.Walk.{facts_at, passed, declared_in, parameter_in, facts_after, left, walked}
 use Rattle.tree_laws.specs.TreesOfTexts.{has_token, has_body, has_form, have_forms}
 use Rattle.tree_laws.proofs.InLists.{false≢true}
 use Rattle.tree_laws.proofs.Noted.{hit, hits, role_hit, declares, is_parameter, told_name, noted, form_here, forms_under, forms_behind}
-use Rattle.tree_laws.proofs.Adding.{count_in, Adds, adds_none, declared_adds, used_adds, object_adds, parameter_adds, tag_adds, enumeration_adds, member_adds, member_used_adds, designated_adds, label_adds, jump_to_adds}
+use Rattle.tree_laws.proofs.Adding.{count_in, Adds, adds_none, either_adds, anonymous_adds, declared_adds, used_adds, object_adds, parameter_adds, tag_adds, enumeration_adds, member_adds, member_used_adds, designated_adds, label_adds, jump_to_adds}
 
 outside_body : (b c d : Bool) → c ≡ true → (b ≡ true → (c || d) ≡ false) → b ≡ false
 outside_body true c d e h = absurd (false≢true (sym ((or_parts c d (h refl)).0) ∙ e))
@@ -102,6 +103,8 @@ module _ (toks : List Token) (t : ℕ) where
   after_adds Pdecl first f l under body facts other = parameter_in_adds f.label.production f l under facts
   after_adds Enumerator first f l under body facts other =
       declared_adds toks t f.scope (plain_name toks first (last_token under first) Constant arithmetic false) facts
+  after_adds MemRest first f l under body facts other =
+      either_adds t 0 (l.alternative == 1) facts (with_anonymous toks f first facts) facts (anonymous_adds toks t f first facts) (adds_none t 0 facts)
   after_adds Members first f l under body facts other = record { names = omega arith; jumps = refl }
   after_adds Enumerators first f l under body facts other = record { names = omega arith; jumps = refl }
   after_adds FunBody first f l under body facts other = absurd (false≢true (sym other))

@@ -1,11 +1,11 @@
 -- The relation holds after each step of the walk.
-use Rattle.std.proofs.Common.{ℕ, ◌+◌, ◌≡◌, Bool, true, false, if◌then◌else◌, List, [], Option, None, refl}
+use Rattle.std.proofs.Common.{ℕ, ◌+◌, ◌≡◌, Bool, true, false, if◌then◌else◌, ◌==◌, List, [], Option, None, refl}
 use Rattle.std.specs.Prelude.{IfSome}
 use Rattle.cs_base.specs.Token.{Token}
 use Rattle.c99_tree.specs.Tree.{Forest, none, token, node}
 use Rattle.c99_tree.specs.declared.production.Label.{Label}
 use Rattle.c99_tree.specs.declared.production.Production.{Production}
-use Rattle.c99_tree.specs.declared.production.Production.TheVariants.{ExtRest, FunBody, InitDecl, Members, Mdecl, Enumerators, Enumerator, Declarator, Param, Pdecl}
+use Rattle.c99_tree.specs.declared.production.Production.TheVariants.{ExtRest, FunBody, InitDecl, Members, MemRest, Mdecl, Enumerators, Enumerator, Declarator, Param, Pdecl}
 use Rattle.c_types.specs.declared.entity.EntityKind.TheVariants.{Parameter, Enumerator as Constant}
 use Rattle.scope_bind.specs.Named.{Occurrence, Body, Frame, Role, is_plain_role, by_role}
 use Rattle.c_types.specs.Types.{arithmetic, target_of}
@@ -20,7 +20,7 @@ use Rattle.scope_bind.specs.Roles.{role_of}
 use Rattle.scope_bind.specs.Walk.{facts_at, passed, declared_in, parameter_in, facts_after, left, walked}
 use Rattle.tree_laws.proofs.Noted.{declares, is_parameter, told_name}
 use Rattle.tree_laws.proofs.Holding.{GoesOn, Holds, complete_held, kept_held}
-use Rattle.tree_laws.proofs.HeldTags.{declared_held, used_held, object_held, parameter_held, tag_held, enumeration_held, member_declared_held, member_used_held, designated_held, label_held, labels_held, jump_more}
+use Rattle.tree_laws.proofs.HeldTags.{tag_named_case, anonymous_held, declared_held, used_held, object_held, parameter_held, tag_held, enumeration_held, member_declared_held, member_used_held, designated_held, label_held, labels_held, jump_more}
 
 -- ---- Which tokens there are
 
@@ -86,6 +86,8 @@ module _ (toks : List Token) (S : ℕ → Type 0) (R : List Occurrence → ℕ �
   facts_after_held Pdecl first f l under body facts w h = parameter_in_held f.label.production f l under facts w h
   facts_after_held Enumerator first f l under body facts w h =
       declared_held toks S R law f.scope (plain_name toks first (last_token under first) Constant arithmetic false) facts w h
+  facts_after_held MemRest first f l under body facts w h =
+      tag_named_case toks S R law (l.alternative == 1) facts _ _ (anonymous_held toks S R law f first facts h) h
   facts_after_held Members first f l under body facts w h = complete_held S R (number_in f.found) facts h
   facts_after_held Enumerators first f l under body facts w h = complete_held S R (number_in f.found) facts h
   facts_after_held FunBody first f l under body facts w h = labels_held toks S R law body facts h

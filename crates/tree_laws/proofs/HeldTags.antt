@@ -1,6 +1,8 @@
 -- The relation holds once names, tags, members and labels are declared and used.
-use Rattle.std.proofs.Common.{ℕ, Bool, true, false, ◌&&◌, ◌||◌, not, if◌then◌else◌, ◌==◌, List, [], ◌∷◌, ◌++◌, Option, None, Some, inl, inr, refl, subst}
-use Rattle.std.specs.Prelude.{IfSome, is_some}
+use Rattle.std.proofs.Common.{ℕ, Bool, true, false, ◌&&◌, ◌||◌, not, if◌then◌else◌, ◌==◌, List, [], ◌∷◌, ◌++◌, Option, None, Some, inl, inr, refl, sym, subst}
+use Rattle.std.specs.Prelude.{IfSome, is_some, filter}
+use Rattle.std.specs.List.{All}
+use Rattle.std.proofs.lemmas.List.Elements.{All-head, All-tail}
 use Rattle.std.specs.Option.{option_map_or}
 use Rattle.cs_base.specs.Token.{Token}
 use Rattle.c99_tree.specs.Tree.{Forest}
@@ -11,11 +13,12 @@ use Rattle.c_types.specs.Trees.{last_token, declarator_type}
 use Rattle.c_types.specs.Declarations.{Facts, has_linkage, with_fault, with_use, is_live, visible, in_scope, linked, is_mixed, anywhere}
 use Rattle.scope_bind.specs.Ordinary.{is_again, linked_entity, entity_of, is_listed, declaration_of, declared_faults, declared, used_as, used, plain_name, new_object, new_parameter, with_object, with_parameter}
 use Rattle.c_types.specs.Tags.{number_in, is_same_tag, tag_entity, is_declaring, tag_declaration, renumbered, is_prior_tag, prior_tag, tag_named, is_complete, is_sort, enumeration_used, with_tag, with_enumeration}
-use Rattle.name_chains.specs.Members.{member_declaration, is_known, member_at, member_used_as, member_used, with_member}
+use Rattle.name_chains.specs.Members.{member_declaration, is_found_in, lifted, found_of, unnamed_declaration, with_silent, with_lifted, with_anonymous, is_known, member_at, member_used_as, member_used, with_member}
 use Rattle.scope_bind.specs.Labels.{label_declaration, with_label, jump_to, with_jumps, with_labels}
 use Rattle.name_chains.specs.Initializers.{designated_facts}
-use Rattle.tree_laws.proofs.InLists.{In}
-use Rattle.tree_laws.proofs.Holding.{name_noted, GoesOn, Holds, noted_still, fault_held, occurrence_held, declaration_held, begun_held, looked_up_held}
+use Rattle.tree_laws.proofs.Unnamed.{found_named}
+use Rattle.tree_laws.proofs.InLists.{false≢true, In, all_reversed, all_filtered}
+use Rattle.tree_laws.proofs.Holding.{name_noted, GoesOn, Named, Holds, noted_still, fault_held, occurrence_held, declaration_held, silent_held, begun_held, looked_up_held}
 
 -- one fact of what is found follows from another
 found_on : (A B : Declaration → Type 0) (r : Option Declaration) → ((d : Declaration) → A d → B d) → IfSome r A → IfSome r B
@@ -92,7 +95,7 @@ module _ (toks : List Token) (S : ℕ → Type 0) (R : List Occurrence → ℕ �
       entity_held (IsNoted i true facts) n prior link (noted_itself i true facts s)
       (noted_found i true facts prior (looked_up_held toks S R law ordinary i (λ d. is_live n.last d && (d.depth == scope.depth)) facts s h))
       (noted_found i true facts link (looked_up_held toks S R law ordinary i (λ d. has_linkage d.linkage) facts s h)) in
-      declaration_held S R law.more (declaration_of scope n entity (n.listed || is_listed n prior)) (declared_faults toks n prior facts)
+      declaration_held S R law.more (declaration_of scope n entity (n.listed || is_listed n prior)) (declared_faults toks n prior facts) s
       (faults_still (λ os. R (name_noted i entity true ∷ os) i entity) n prior facts noted)
       (faults_held n prior facts s h)
 
@@ -123,7 +126,7 @@ module _ (toks : List Token) (S : ℕ → Type 0) (R : List Occurrence → ℕ �
 
   -- ---- Tags
 
-  tag_named_case : (c : Bool) (facts yes' no' : Facts) → Holds S R yes' → Holds S R no' → Holds S R (if c then yes' else no')
+  pub tag_named_case : (c : Bool) (facts yes' no' : Facts) → Holds S R yes' → Holds S R no' → Holds S R (if c then yes' else no')
   tag_named_case true facts yes' no' h k = h
   tag_named_case false facts yes' no' h k = k
 
@@ -131,7 +134,7 @@ module _ (toks : List Token) (S : ℕ → Type 0) (R : List Occurrence → ℕ �
       → IsNoted i true facts entity → Holds S R facts → Holds S R (tag_named f i r entity facts)
   tag_named_held f i r entity facts s k e h =
       tag_named_case (is_declaring f r) facts _ _
-      (begun_held S R f.has_body entity _ (declaration_held S R law.more (tag_declaration f.scope i entity (renumbered f.found entity)) facts e h))
+      (begun_held S R f.has_body entity _ (declaration_held S R law.more (tag_declaration f.scope i entity (renumbered f.found entity)) facts s e h))
       (occurrence_held S R law.more i (option_map_or (λ d. d.entity) r i) false facts
       (used_tag_held (IsNoted i false facts) i r (noted_itself i false facts s) (noted_found i false facts r k)) h)
 
@@ -168,9 +171,35 @@ module _ (toks : List Token) (S : ℕ → Type 0) (R : List Occurrence → ℕ �
   member_declared_held f under None facts s h = h
   member_declared_held f under (Some i) facts s h =
       let twice : Bool = is_some (anywhere toks (members f.owner) i facts) in
-      declaration_held S R law.more (member_declaration f i (last_token under i) (declarator_type f.base under)) (with_fault twice redeclared i facts)
+      declaration_held S R law.more (member_declaration f i (last_token under i) (declarator_type f.base under)) (with_fault twice redeclared i facts) s
       (noted_itself i true (with_fault twice redeclared i facts) s)
       (fault_held S R twice redeclared i facts s h)
+
+  -- names of an anonymous member, each of which is one of a member already
+  lifted_held : (owner : ℕ) (ds : List Declaration) (facts : Facts) → All (Named S R facts.occurrences) ds → Holds S R facts
+      → Holds S R (with_lifted toks owner ds facts)
+  lifted_held owner [] facts all h = h
+  lifted_held owner (d ∷ later) facts all h =
+      let twice : Bool = is_some (anywhere toks (members owner) d.name_at facts) in
+      let first : Facts = with_fault twice redeclared d.name_at facts in
+      let n : Named S R facts.occurrences d = All-head (Named S R facts.occurrences) d later all in
+      lifted_held owner later (with_silent (lifted owner d) first)
+      (noted_still (λ os. All (Named S R os) later) twice redeclared d.name_at facts (All-tail (Named S R facts.occurrences) d later all))
+      (silent_held S R (lifted owner d) first (λ _. noted_still (λ os. Named S R os d) twice redeclared d.name_at facts n)
+      (fault_held S R twice redeclared d.name_at facts n.0 h))
+
+  found_each : (number : ℕ) (facts : Facts) → Holds S R facts → All (Named S R facts.occurrences) (found_of number facts)
+  found_each number facts h =
+      all_reversed (Named S R facts.occurrences) (filter (is_found_in number) facts.declared)
+      (all_filtered (Named S R facts.occurrences) (is_found_in number) facts.declared
+      (λ d w p. h.declared d w (found_named d.space (members number) p)))
+
+  pub anonymous_held : (f : Frame) (i : ℕ) (facts : Facts) → Holds S R facts → Holds S R (with_anonymous toks f i facts)
+  anonymous_held f i facts h =
+      tag_named_case f.words.anonymous facts _ _
+      (silent_held S R (unnamed_declaration f i) (with_lifted toks f.owner (found_of (number_in f.base) facts) facts) (λ u. absurd (false≢true (sym u)))
+      (lifted_held f.owner (found_of (number_in f.base) facts) facts (found_each (number_in f.base) facts h) h))
+      h
 
   member_case : (P : Declaration → Type 0) (c : Bool) (r : Option Declaration) → IfSome r P → IfSome (if c then r else None) P
   member_case P true r k = k
@@ -197,7 +226,7 @@ module _ (toks : List Token) (S : ℕ → Type 0) (R : List Occurrence → ℕ �
   label_held None i facts s h = h
   label_held (Some b) i facts s h =
       let twice : Bool = is_some (anywhere toks (labels b.from) i facts) in
-      declaration_held S R law.more (label_declaration b i) (with_fault twice redeclared i facts)
+      declaration_held S R law.more (label_declaration b i) (with_fault twice redeclared i facts) s
       (noted_itself i true (with_fault twice redeclared i facts) s) (fault_held S R twice redeclared i facts s h)
 
   jump_to_held : (i : ℕ) (r : Option Declaration) (facts : Facts) → S i → IfSome r (λ d. R facts.occurrences i d.entity) → Holds S R facts → Holds S R (jump_to toks i r facts)

@@ -9,6 +9,8 @@ use Rattle.scope_bind.specs.Named.{Cause, Fault, Space, Declaration, Occurrence}
 use Rattle.c_types.specs.Faults.{first_fault, comes_first, fault_at}
 use Rattle.c_types.specs.Declarations.{Facts, is_space, alike, is_named, looked_up, with_fault, with_occurrence, with_declaration, with_begun, with_complete}
 use Rattle.name_chains.specs.Entering.{is_member, kept_here, with_kept}
+use Rattle.name_chains.specs.Members.{with_silent}
+use Rattle.tree_laws.proofs.Unnamed.{is_unnamed, found_named}
 use Rattle.tree_laws.proofs.InLists.{In, found_passes, found_in}
 
 -- the token is noted as a name of the entity
@@ -26,9 +28,13 @@ pub record GoesOn (toks : List Token) (S : ℕ → Type 0) (R : List Occurrence 
   pub spelled : (os : List Occurrence) (i j e : ℕ) → S i → alike toks i j ≡ true → R os j e → R os i e
   pub more : Stays R
 
+-- the token that is the name of a declaration is one of them, and has it with the entity
+abbrev pub Named : (ℕ → Type 0) → (List Occurrence → ℕ → ℕ → Type 0) → List Occurrence → Declaration → Type 0
+Named S R os d = S d.name_at × R os d.name_at d.entity
+
 -- it holds of all that is known
 pub record Holds (S : ℕ → Type 0) (R : List Occurrence → ℕ → ℕ → Type 0) (facts : Facts) : Type 0 where
-  pub declared : (d : Declaration) → In d facts.declared → R facts.occurrences d.name_at d.entity
+  pub declared : (d : Declaration) → In d facts.declared → is_unnamed d.space ≡ false → Named S R facts.occurrences d
   pub occurrences : (o : Occurrence) → In o facts.occurrences → R facts.occurrences o.index o.entity
   pub jumps : (j : ℕ) → In j facts.jumps → S j
   pub fault : IfSome facts.fault (λ f. S f.index)
@@ -67,26 +73,37 @@ module _ (S : ℕ → Type 0) (R : List Occurrence → ℕ → ℕ → Type 0) w
       let o : Occurrence = name_noted i e declares in
       let os : List Occurrence = facts.occurrences in
       record {
-        declared = λ x w. stays o os x.name_at x.entity (h.declared x w);
+        declared = λ x w u. let n = h.declared x w u in (n.0, stays o os x.name_at x.entity n.1);
         occurrences = λ x.
             first_or_more (λ (y : Occurrence). R (o ∷ os) y.index y.entity) x o os r (λ w. stays o os x.index x.entity (h.occurrences x w));
         jumps = h.jumps;
         fault = h.fault;
       }
 
-  pub declaration_held : Stays R → (d : Declaration) (facts : Facts) → R (name_noted d.name_at d.entity true ∷ facts.occurrences) d.name_at d.entity
+  pub declaration_held : Stays R → (d : Declaration) (facts : Facts) → S d.name_at → R (name_noted d.name_at d.entity true ∷ facts.occurrences) d.name_at d.entity
       → Holds S R facts → Holds S R (with_declaration d facts)
-  declaration_held stays d facts r h =
+  declaration_held stays d facts s r h =
       let o : Occurrence = name_noted d.name_at d.entity true in
       let os : List Occurrence = facts.occurrences in
       record {
         declared = λ x.
-            first_or_more (λ (y : Declaration). R (o ∷ os) y.name_at y.entity) x d facts.declared r (λ w. stays o os x.name_at x.entity (h.declared x w));
+            first_or_more (λ (y : Declaration). is_unnamed y.space ≡ false → Named S R (o ∷ os) y) x d facts.declared (λ u. (s, r))
+            (λ w u. let n = h.declared x w u in (n.0, stays o os x.name_at x.entity n.1));
         occurrences = λ x.
             first_or_more (λ (y : Occurrence). R (o ∷ os) y.index y.entity) x o os r (λ w. stays o os x.index x.entity (h.occurrences x w));
         jumps = h.jumps;
         fault = h.fault;
       }
+
+  -- one that no token of its own declares
+  pub silent_held : (d : Declaration) (facts : Facts) → (is_unnamed d.space ≡ false → Named S R facts.occurrences d) → Holds S R facts
+      → Holds S R (with_silent d facts)
+  silent_held d facts n h = record {
+    declared = λ x. first_or_more (λ (y : Declaration). is_unnamed y.space ≡ false → Named S R facts.occurrences y) x d facts.declared n (h.declared x);
+    occurrences = h.occurrences;
+    jumps = h.jumps;
+    fault = h.fault;
+  }
 
   pub begun_held : (c : Bool) (e : ℕ) (facts : Facts) → Holds S R facts → Holds S R (with_begun c e facts)
   begun_held true e facts h = record { declared = h.declared; occurrences = h.occurrences; jumps = h.jumps; fault = h.fault }
@@ -99,7 +116,7 @@ module _ (S : ℕ → Type 0) (R : List Occurrence → ℕ → ℕ → Type 0) w
 
   module _ (os : List Occurrence) where
     abbrev Related : Declaration → Type 0
-    Related d = R os d.name_at d.entity
+    Related d = is_unnamed d.space ≡ false → Named S R os d
 
     copied_step : (c : Bool) (from to : ℕ) (x d : Declaration) (copies : List Declaration) → Related d → (In x copies → Related x)
         → In x (cons_option (if c then Some (record d { from = from; to = to }) else None) copies) → Related x
@@ -135,9 +152,12 @@ module _ (toks : List Token) (S : ℕ → Type 0) (R : List Occurrence → ℕ �
   found_held space i test facts s h None e = tt
   found_held space i test facts s h (Some d) e =
       let passes : (is_named toks space i d && test d) ≡ true = found_passes (λ d. is_named toks space i d && test d) facts.declared d e in
+      let n : Named S R facts.occurrences d =
+      h.declared d (found_in (λ d. is_named toks space i d && test d) facts.declared d e)
+      (found_named d.space space ((and_parts (is_space d.space space) (alike toks i d.name_at) ((and_parts (is_named toks space i d) (test d) passes).0)).0)) in
       law.spelled facts.occurrences i d.name_at d.entity s
       ((and_parts (is_space d.space space) (alike toks i d.name_at) ((and_parts (is_named toks space i d) (test d) passes).0)).1)
-      (h.declared d (found_in (λ d. is_named toks space i d && test d) facts.declared d e))
+      n.1
 
   -- the entity of what a token denotes
   pub looked_up_held : (space : Space) (i : ℕ) (test : Declaration → Bool) (facts : Facts) → S i → Holds S R facts

@@ -1,7 +1,7 @@
 -- Elements of lists, and what is found among them.
 use Rattle.std.proofs.Common.{◌≡◌, Bool, true, false, ◌&&◌, cond, List, [], ◌∷◌, ◌++◌, map, reverse, Option, Some, ◌⊎◌, inl, inr, refl, subst}
 use mathlib.Core.List.{reverse-cons}
-use Rattle.std.specs.Prelude.{find}
+use Rattle.std.specs.Prelude.{find, filter}
 use Rattle.std.specs.List.{All}
 use Rattle.std.proofs.lemmas.List.Elements.{All-nil, All-cons, All-head, All-tail, All-push, All-same}
 
@@ -45,3 +45,12 @@ all_reversed P [] h = All-nil P
 all_reversed P (x ∷ xs) h =
     All-same P (reverse (x ∷ xs)) (reverse xs ++ x ∷ []) (reverse-cons x xs)
     (All-push P (reverse xs) x (all_reversed P xs (All-tail P x xs h)) (All-head P x xs h))
+
+all_step : {X : Type 0} (P : X → Type 0) (b : Bool) (x : X) (ys : List X) → (b ≡ true → P x) → All P ys → All P (cond b (x ∷ ys) ys)
+all_step P true x ys h rest = All-cons P x ys (h refl) rest
+all_step P false x ys h rest = rest
+
+-- .. and of those that pass
+pub all_filtered : {X : Type 0} (P : X → Type 0) (p : X → Bool) (xs : List X) → ((x : X) → In x xs → p x ≡ true → P x) → All P (filter p xs)
+all_filtered P p [] h = All-nil P
+all_filtered P p (x ∷ xs) h = all_step P (p x) x (filter p xs) (h x (inl refl)) (all_filtered P p xs (λ y w. h y (inr w)))

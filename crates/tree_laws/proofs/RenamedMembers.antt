@@ -1,6 +1,8 @@
 -- Tags, members and labels under a renaming.
-use Rattle.std.proofs.Common.{ℕ, ◌≡◌, Bool, true, false, not, if◌then◌else◌, List, [], ◌∷◌, Option, None, Some, refl, sym, ap, subst, ◌∙◌}
-use Rattle.std.specs.Prelude.{IfSome, is_some}
+use Rattle.std.proofs.Common.{ℕ, ◌≡◌, Bool, true, false, not, if◌then◌else◌, List, [], ◌∷◌, Option, None, Some, inl, inr, refl, sym, ap, subst, ◌∙◌}
+use Rattle.std.specs.Prelude.{IfSome, is_some, filter}
+use Rattle.std.specs.List.{All}
+use Rattle.std.proofs.lemmas.List.Elements.{All-head, All-tail}
 use Rattle.std.specs.Option.{option_map_or}
 use Rattle.std.proofs.lemmas.Bool.{not-false}
 use Rattle.cs_base.specs.Token.{Token}
@@ -11,15 +13,23 @@ use Rattle.c_types.specs.Types.{CType}
 use Rattle.c_types.specs.Trees.{last_token, declarator_type}
 use Rattle.c_types.specs.Declarations.{Facts, with_fault, with_use, with_declaration, with_begun, has_linkage, alike, visible, anywhere, is_live}
 use Rattle.c_types.specs.Tags.{number_in, renumbered, is_same_tag, tag_entity, is_declaring, tag_declaration, tag_named, is_prior_tag, with_tag_after, prior_tag, with_tag, tag_type, is_complete, is_sort, enumeration_used}
-use Rattle.name_chains.specs.Members.{member_declaration, is_known, with_member, member_at, member_used_as, member_used}
+use Rattle.name_chains.specs.Members.{member_declaration, is_found_in, lifted, found_of, unnamed_declaration, with_silent, with_lifted, with_anonymous, is_known, with_member, member_at, member_used_as, member_used}
 use Rattle.scope_bind.specs.Labels.{label_declaration, with_label, jump_to, with_jumps, with_labels}
-use Rattle.tree_laws.proofs.Lookups.{false≢true}
-use Rattle.tree_laws.proofs.Renaming.{Good, Kept, fault_back, fault_goes, fault_none, occurrence_back, occurrence_good, declaration_back, declaration_good, kept_declaration, kept_occurrence, joins_unlinked, found_again}
+use Rattle.tree_laws.proofs.Unnamed.{found_named}
+use Rattle.tree_laws.proofs.Lookups.{false≢true, In}
+use Rattle.tree_laws.proofs.InLists.{In as AnElement, all_reversed, all_filtered}
+use Rattle.tree_laws.proofs.Renaming.{Good, Kept, occurrence, kept_silent, fault_back, fault_goes, fault_none, occurrence_back, occurrence_good, declaration_back, declaration_good, kept_declaration, kept_occurrence, joins_unlinked, found_again}
 use Rattle.tree_laws.proofs.RenamedNames.{if_true}
 
 no_some : {X : Type 0} (P : X → Type 0) (r : Option X) → is_some r ≡ false → IfSome r P
 no_some P None e = tt
 no_some P (Some x) e = absurd (false≢true (sym e))
+
+-- an element by either word
+turned : {X : Type 0} (x : X) (xs : List X) → AnElement x xs → In x xs
+turned x [] w = w
+turned x (y ∷ xs) (inl e) = inl e
+turned x (y ∷ xs) (inr w) = inr (turned x xs w)
 
 module _ (a b : List Token) (apart : (i j : ℕ) → alike b i j ≡ true → alike a i j ≡ true) where
   -- ---- Tags
@@ -224,6 +234,106 @@ module _ (a b : List Token) (apart : (i j : ℕ) → alike b i j ≡ true → al
   with_member_same f under None facts k h = refl
   with_member_same f under (Some i) facts k h =
       once_same (members f.owner) i (member_declaration f i (last_token under i) (declarator_type f.base under)) facts k h
+
+  -- ---- Anonymous members
+
+  -- these are names of what is declared already
+  abbrev Covered : Facts → Declaration → Type 0
+  Covered facts d = In (occurrence d.name_at d.entity true) facts.occurrences
+
+  module _ (owner : ℕ) where
+    abbrev again : Declaration → Facts → Bool
+    again d facts = is_some (anywhere a (members owner) d.name_at facts)
+
+    abbrev faulted : Declaration → Facts → Facts
+    faulted d facts = with_fault (again d facts) redeclared d.name_at facts
+
+    abbrev next : Declaration → Facts → Facts
+    next d facts = with_silent (lifted owner d) (faulted d facts)
+
+    lifted_back : (ds : List Declaration) (facts : Facts) → Good b (with_lifted a owner ds facts) → Good b facts
+    lifted_back [] facts h = h
+    lifted_back (d ∷ later) facts h =
+        let g : Good b (next d facts) = lifted_back later (next d facts) h in
+        fault_goes b (again d facts) redeclared d.name_at facts (record { clean = g.clean; good = g.good })
+
+    once : (d : Declaration) (later : List Declaration) (facts : Facts) → Good b (with_lifted a owner later (next d facts)) → again d facts ≡ false
+    once d later facts h =
+        let g : Good b (next d facts) = lifted_back later (next d facts) h in
+        fault_back b (again d facts) redeclared d.name_at facts (record { clean = g.clean; good = g.good })
+
+    covered_still : (c : Bool) (d : Declaration) (later : List Declaration) (facts : Facts) → All (Covered facts) later
+        → All (Covered (with_fault c redeclared d.name_at facts)) later
+    covered_still true d later facts all = all
+    covered_still false d later facts all = all
+
+    next_kept : (d : Declaration) (later : List Declaration) (facts : Facts) → Covered facts d → Kept a facts → Good b (with_lifted a owner later (next d facts))
+        → Kept a (next d facts)
+    next_kept d later facts w k h =
+        subst (λ x. Kept a (with_silent (lifted owner d) x)) (sym (fault_none (again d facts) redeclared d.name_at facts (once d later facts h)))
+        (kept_silent a (lifted owner d) facts k (λ u. w) (λ i e v l m. absurd (false≢true l)))
+
+    lifted_kept : (ds : List Declaration) (facts : Facts) → All (Covered facts) ds → Kept a facts → Good b (with_lifted a owner ds facts)
+        → Kept a (with_lifted a owner ds facts)
+    lifted_kept [] facts all k h = k
+    lifted_kept (d ∷ later) facts all k h =
+        lifted_kept later (next d facts) (covered_still (again d facts) d later facts (All-tail (Covered facts) d later all))
+        (next_kept d later facts (All-head (Covered facts) d later all) k h) h
+
+    lifted_same : (ds : List Declaration) (facts : Facts) → All (Covered facts) ds → Kept a facts → Good b (with_lifted a owner ds facts)
+        → with_lifted b owner ds facts ≡ with_lifted a owner ds facts
+    lifted_same [] facts all k h = refl
+    lifted_same (d ∷ later) facts all k h =
+        let none : again d facts ≡ false = once d later facts h in
+        ap (λ r. with_lifted b owner later (with_silent (lifted owner d) (with_fault (is_some r) redeclared d.name_at facts)))
+        (found_again a b apart facts k (lifted_back (d ∷ later) facts h) (members owner) d.name_at (λ x. true)
+        (no_some (λ x. alike b d.name_at x.entity ≡ true) (anywhere a (members owner) d.name_at facts) none))
+        ∙ lifted_same later (next d facts) (covered_still (again d facts) d later facts (All-tail (Covered facts) d later all))
+        (next_kept d later facts (All-head (Covered facts) d later all) k h) h
+
+  found_covered : (number : ℕ) (facts : Facts) → Kept a facts → All (Covered facts) (found_of number facts)
+  found_covered number facts k =
+      all_reversed (Covered facts) (filter (is_found_in number) facts.declared)
+      (all_filtered (Covered facts) (is_found_in number) facts.declared
+      (λ d w p. k.covered d (turned d facts.declared w) (found_named d.space (members number) p)))
+
+  module _ (f : Frame) (i : ℕ) (facts : Facts) where
+    abbrev all : List Declaration
+    all = found_of (number_in f.base) facts
+
+    anonymous_case_back : (c : Bool) → Good b (if c then with_silent (unnamed_declaration f i) (with_lifted a f.owner all facts) else facts) → Good b facts
+    anonymous_case_back true h = lifted_back f.owner all facts (record { clean = h.clean; good = h.good })
+    anonymous_case_back false h = h
+
+    anonymous_case_kept : (c : Bool) → Kept a facts → Good b (if c then with_silent (unnamed_declaration f i) (with_lifted a f.owner all facts) else facts)
+        → Kept a (if c then with_silent (unnamed_declaration f i) (with_lifted a f.owner all facts) else facts)
+    anonymous_case_kept true k h =
+        kept_silent a (unnamed_declaration f i) (with_lifted a f.owner all facts)
+        (lifted_kept f.owner all facts (found_covered (number_in f.base) facts k) k (record { clean = h.clean; good = h.good }))
+        (λ u. absurd (false≢true (sym u))) (λ j e v l m. absurd (false≢true l))
+    anonymous_case_kept false k h = k
+
+    anonymous_case_same : (c : Bool) → Kept a facts → Good b (if c then with_silent (unnamed_declaration f i) (with_lifted a f.owner all facts) else facts)
+        → (if c then with_silent (unnamed_declaration f i) (with_lifted b f.owner all facts) else facts)
+        ≡ (if c then with_silent (unnamed_declaration f i) (with_lifted a f.owner all facts) else facts)
+    anonymous_case_same true k h =
+        ap (with_silent (unnamed_declaration f i))
+        (lifted_same f.owner all facts (found_covered (number_in f.base) facts k) k (record { clean = h.clean; good = h.good }))
+    anonymous_case_same false k h = refl
+
+    -- a semicolon alone, or members
+    pub closed_back : (c : Bool) → Good b (if c then with_anonymous a f i facts else facts) → Good b facts
+    closed_back true h = anonymous_case_back f.words.anonymous h
+    closed_back false h = h
+
+    pub closed_kept : (c : Bool) → Kept a facts → Good b (if c then with_anonymous a f i facts else facts) → Kept a (if c then with_anonymous a f i facts else facts)
+    closed_kept true k h = anonymous_case_kept f.words.anonymous k h
+    closed_kept false k h = k
+
+    pub closed_same : (c : Bool) → Kept a facts → Good b (if c then with_anonymous a f i facts else facts)
+        → (if c then with_anonymous b f i facts else facts) ≡ (if c then with_anonymous a f i facts else facts)
+    closed_same true k h = anonymous_case_same f.words.anonymous k h
+    closed_same false k h = refl
 
   -- ---- Labels
 

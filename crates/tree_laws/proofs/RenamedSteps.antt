@@ -7,7 +7,7 @@ use Rattle.cs_base.specs.Token.{Token}
 use Rattle.c99_tree.specs.Tree.{Forest}
 use Rattle.c99_tree.specs.declared.production.Label.{Label}
 use Rattle.c99_tree.specs.declared.production.Production.{Production}
-use Rattle.c99_tree.specs.declared.production.Production.TheVariants.{ExtRest, FunBody, InitDecl, Members, Mdecl, Enumerators, Enumerator, Declarator, Param, Pdecl, SuRest, Unary, Add}
+use Rattle.c99_tree.specs.declared.production.Production.TheVariants.{ExtRest, FunBody, InitDecl, Members, MemRest, Mdecl, Enumerators, Enumerator, Declarator, Param, Pdecl, SuRest, Unary, Add}
 use Rattle.c_types.specs.declared.entity.EntityKind.TheVariants.{Parameter, Enumerator as Constant}
 use Rattle.scope_bind.specs.Named.{Body, Frame, Role, by_role, designator_after_elision, ordinary}
 use Rattle.c_types.specs.Types.{is_unknown, CType, arithmetic, unknown, array, union, structure, pointer, pointed_to, sum_type, target_of}
@@ -26,7 +26,7 @@ use Rattle.tree_laws.proofs.Renaming.{Good, Kept}
 use Rattle.tree_laws.proofs.SecondRanges.{kept_with, good_with}
 use Rattle.tree_laws.proofs.RenamedNames.{declared_back, declared_kept, declared_same, used_back, used_kept, used_visible}
 use Rattle.tree_laws.proofs.RenamedObjects.{with_object_back, with_object_kept, with_object_same, with_parameter_back, with_parameter_kept, with_parameter_same}
-use Rattle.tree_laws.proofs.RenamedMembers.{with_tag_back, with_tag_kept, prior_tag_same, either_back, either_kept, either_same, either_type, member_used_back, member_used_kept, member_at_same, designated_back, designated_kept, designated_same, with_member_back, with_member_kept, with_member_same, with_label_back, with_label_kept, with_label_same, with_labels_back, with_labels_kept, with_labels_same}
+use Rattle.tree_laws.proofs.RenamedMembers.{with_tag_back, with_tag_kept, prior_tag_same, either_back, either_kept, either_same, either_type, member_used_back, member_used_kept, member_at_same, designated_back, designated_kept, designated_same, with_member_back, with_member_kept, with_member_same, closed_back, closed_kept, closed_same, with_label_back, with_label_kept, with_label_same, with_labels_back, with_labels_kept, with_labels_same}
 
 module _ (a b : List Token) (apart : (i j : ℕ) → alike b i j ≡ true → alike a i j ≡ true)
     (words : (word : List ℕ) (k : ℕ) → is_own_word word ≡ true → bytes_eq (spelling_at b k) word ≡ bytes_eq (spelling_at a k) word) where
@@ -246,6 +246,7 @@ module _ (a b : List Token) (apart : (i j : ℕ) → alike b i j ≡ true → al
     facts_after_back Pdecl h = parameter_in_back f.label.production f l under facts h
     facts_after_back Enumerator h =
         declared_back a b apart f.scope (plain_name a first (last_token under first) Constant arithmetic false) facts h
+    facts_after_back MemRest h = closed_back a b apart f first facts (l.alternative == 1) h
     facts_after_back Members h = record { clean = h.clean; good = h.good }
     facts_after_back Enumerators h = record { clean = h.clean; good = h.good }
     facts_after_back FunBody h = with_labels_back a b apart body facts h
@@ -256,6 +257,7 @@ module _ (a b : List Token) (apart : (i j : ℕ) → alike b i j ≡ true → al
     facts_after_kept Pdecl k h = parameter_in_kept f.label.production f l under facts k h
     facts_after_kept Enumerator k h =
         declared_kept a b apart f.scope (plain_name a first (last_token under first) Constant arithmetic false) facts k h
+    facts_after_kept MemRest k h = closed_kept a b apart f first facts (l.alternative == 1) k h
     facts_after_kept Members k h = record { covered = k.covered; one = k.one }
     facts_after_kept Enumerators k h = record { covered = k.covered; one = k.one }
     facts_after_kept FunBody k h = with_labels_kept a b apart body facts k h
@@ -267,6 +269,7 @@ module _ (a b : List Token) (apart : (i j : ℕ) → alike b i j ≡ true → al
     facts_after_same Pdecl k h = parameter_in_same f.label.production f l under facts k h
     facts_after_same Enumerator k h =
         declared_same a b apart f.scope (plain_name a first (last_token under first) Constant arithmetic false) facts k h
+    facts_after_same MemRest k h = closed_same a b apart f first facts (l.alternative == 1) k h
     facts_after_same Members k h = refl
     facts_after_same Enumerators k h = refl
     facts_after_same FunBody k h = with_labels_same a b apart body facts k h

@@ -5,8 +5,10 @@ use Rattle.std.proofs.lemmas.Bool.{cases_Bool, and_parts}
 use Rattle.cs_base.specs.Token.{Token}
 use Rattle.scope_bind.specs.Named.{Cause, Fault, Space, Declaration, Occurrence, ordinary}
 use Rattle.c_types.specs.Faults.{first_fault, comes_first}
-use Rattle.c_types.specs.Declarations.{Facts, has_linkage, with_fault, with_occurrence, with_declaration, alike, is_named, looked_up}
-use Rattle.tree_laws.proofs.Lookups.{false≢true, In, found_in, alike_same, looked_up_same}
+use Rattle.c_types.specs.Declarations.{Facts, has_linkage, with_fault, with_occurrence, with_declaration, is_space, alike, is_named, looked_up}
+use Rattle.name_chains.specs.Members.{with_silent}
+use Rattle.tree_laws.proofs.Unnamed.{is_unnamed, found_named}
+use Rattle.tree_laws.proofs.Lookups.{false≢true, In, found_passes, found_in, alike_same, looked_up_same}
 
 abbrev pub occurrence : ℕ → ℕ → Bool → Occurrence
 occurrence index entity declares = record { index = index; entity = entity; declares = declares }
@@ -20,9 +22,9 @@ pub record Good (b : List Token) (facts : Facts) : Type 0 where
 abbrev pub IsLinked : List Token → ℕ → Declaration → Type 0
 IsLinked a i d = (is_named a ordinary i d && has_linkage d.linkage) ≡ true
 
--- each declaration is an occurrence, and declarations of one spelling that have linkage are one entity
+-- each declaration that has a name is an occurrence, and declarations of one spelling that have linkage are one entity
 pub record Kept (a : List Token) (facts : Facts) : Type 0 where
-  pub covered : (d : Declaration) → In d facts.declared → In (occurrence d.name_at d.entity true) facts.occurrences
+  pub covered : (d : Declaration) → In d facts.declared → is_unnamed d.space ≡ false → In (occurrence d.name_at d.entity true) facts.occurrences
   pub one : (i : ℕ) (d e : Declaration) → In d facts.declared → In e facts.declared → IsLinked a i d → IsLinked a i e → d.entity ≡ e.entity
 
 -- ---- Faults
@@ -63,12 +65,12 @@ fault_none false cause i facts e = refl
 
 module _ (a : List Token) where
   pub kept_occurrence : (i e : ℕ) (d : Bool) (facts : Facts) → Kept a facts → Kept a (with_occurrence i e d facts)
-  kept_occurrence i e d facts k = record { covered = λ x within. inr (k.covered x within); one = k.one }
+  kept_occurrence i e d facts k = record { covered = λ x within u. inr (k.covered x within u); one = k.one }
 
-  covered_step : (d x : Declaration) (facts : Facts) → Kept a facts → In x (d ∷ facts.declared)
+  covered_step : (d x : Declaration) (facts : Facts) → Kept a facts → In x (d ∷ facts.declared) → is_unnamed x.space ≡ false
       → In (occurrence x.name_at x.entity true) (occurrence d.name_at d.entity true ∷ facts.occurrences)
-  covered_step d x facts k (inl same) = inl (ap (λ y. occurrence y.name_at y.entity true) same)
-  covered_step d x facts k (inr within) = inr (k.covered x within)
+  covered_step d x facts k (inl same) u = inl (ap (λ y. occurrence y.name_at y.entity true) same)
+  covered_step d x facts k (inr within) u = inr (k.covered x within u)
 
   -- the new declaration is of the entity of each one of its spelling that has linkage
   abbrev pub Joins : Declaration → Facts → Type 0
@@ -85,7 +87,21 @@ module _ (a : List Token) where
 
   pub kept_declaration : (d : Declaration) (facts : Facts) → Kept a facts → Joins d facts → Kept a (with_declaration d facts)
   kept_declaration d facts k joins = record {
-    covered = λ x within. covered_step d x facts k within;
+    covered = λ x within u. covered_step d x facts k within u;
+    one = one_step d facts k joins;
+  }
+
+  silent_step : (d x : Declaration) (facts : Facts) → Kept a facts → (is_unnamed d.space ≡ false → In (occurrence d.name_at d.entity true) facts.occurrences)
+      → In x (d ∷ facts.declared) → is_unnamed x.space ≡ false → In (occurrence x.name_at x.entity true) facts.occurrences
+  silent_step d x facts k h (inl same) u =
+      subst (λ (y : Declaration). is_unnamed y.space ≡ false → In (occurrence y.name_at y.entity true) facts.occurrences) same h u
+  silent_step d x facts k h (inr within) u = k.covered x within u
+
+  -- one that no token of its own declares
+  pub kept_silent : (d : Declaration) (facts : Facts) → Kept a facts → (is_unnamed d.space ≡ false → In (occurrence d.name_at d.entity true) facts.occurrences)
+      → Joins d facts → Kept a (with_silent d facts)
+  kept_silent d facts k h joins = record {
+    covered = λ x within u. silent_step d x facts k h within u;
     one = one_step d facts k joins;
   }
 
@@ -97,16 +113,18 @@ module _ (a : List Token) where
 -- ---- Look-ups
 
 module _ (a b : List Token) (apart : (i j : ℕ) → alike b i j ≡ true → alike a i j ≡ true) where
-  name_alike : (facts : Facts) → Kept a facts → Good b facts → (i : ℕ) (d : Declaration) → In d facts.declared → alike b i d.entity ≡ true
+  name_alike : (facts : Facts) → Kept a facts → Good b facts → (i : ℕ) (d : Declaration) → In d facts.declared → is_unnamed d.space ≡ false → alike b i d.entity ≡ true
       → alike b i d.name_at ≡ true
-  name_alike facts k g i d within e =
-      alike_same b i d.name_at d.entity e (g.good (occurrence d.name_at d.entity true) (k.covered d within))
+  name_alike facts k g i d within u e =
+      alike_same b i d.name_at d.entity e (g.good (occurrence d.name_at d.entity true) (k.covered d within u))
 
   names_alike : (facts : Facts) → Kept a facts → Good b facts → (space : Space) (i : ℕ) (test : Declaration → Bool) (r : Option Declaration)
       → looked_up a space i test facts ≡ r → IfSome r (λ d. alike b i d.entity ≡ true) → IfSome r (λ d. alike b i d.name_at ≡ true)
   names_alike facts k g space i test None e h = tt
   names_alike facts k g space i test (Some d) e h =
-      name_alike facts k g i d (found_in (λ d. is_named a space i d && test d) facts.declared d e) h
+      let passes : (is_named a space i d && test d) ≡ true = found_passes (λ d. is_named a space i d && test d) facts.declared d e in
+      name_alike facts k g i d (found_in (λ d. is_named a space i d && test d) facts.declared d e)
+      (found_named d.space space ((and_parts (is_space d.space space) (alike a i d.name_at) ((and_parts (is_named a space i d) (test d) passes).0)).0)) h
 
   -- a name is found again where its entity is spelled as it
   pub found_again : (facts : Facts) → Kept a facts → Good b facts → (space : Space) (i : ℕ) (test : Declaration → Bool)

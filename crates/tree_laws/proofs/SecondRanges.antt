@@ -7,6 +7,7 @@ use Rattle.c_types.specs.declared.entity.Linkage.{Linkage}
 use Rattle.scope_bind.specs.Named.{Space, Declaration, ordinary}
 use Rattle.c_types.specs.Declarations.{is_space, Facts, alike, has_linkage}
 use Rattle.name_chains.specs.Entering.{is_member, kept_here, with_kept}
+use Rattle.tree_laws.proofs.Unnamed.{is_unnamed}
 use Rattle.tree_laws.proofs.Lookups.{In}
 use Rattle.tree_laws.proofs.Renaming.{Good, Kept, occurrence}
 
@@ -55,9 +56,10 @@ module _ (a : List Token) where
 
   kept_copies : (list depth from to : ℕ) (facts : Facts) → Kept a facts → Kept a (with_kept (Some list) depth from to facts)
   kept_copies list depth from to facts k = record {
-    covered = λ x w.
+    covered = λ x w u.
         let f : From x facts.declared = from_all list depth from to x facts.declared w in
-        subst (λ (q : Key). In (occurrence q.name_at q.entity true) facts.occurrences) f.1.1 (k.covered f.0 f.1.0);
+        subst (λ (q : Key). In (occurrence q.name_at q.entity true) facts.occurrences) f.1.1
+        (k.covered f.0 f.1.0 (subst (λ (q : Key). is_unnamed q.space ≡ false) (sym f.1.1) u));
     one = λ i x y v w l m.
         let f : From x facts.declared = from_all list depth from to x facts.declared v in
         let g : From y facts.declared = from_all list depth from to y facts.declared w in

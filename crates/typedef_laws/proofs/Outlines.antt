@@ -1,6 +1,6 @@
 -- The outline of the walk follows the walk.
 use Rattle.std.proofs.Common.{ℕ, ◌+◌, ◌≡◌, Bool, true, false, ◌&&◌, ◌||◌, not, if◌then◌else◌, ◌==◌, ◌%◌, List, [], ◌∷◌, ◌++◌, Option, None, Some, refl, sym, ap, ◌∙◌}
-use Rattle.std.specs.Prelude.{find, filter_map}
+use Rattle.std.specs.Prelude.{find, filter_map, is_some}
 use Rattle.std.specs.List.{cons_option}
 use Rattle.std.specs.Option.{option_map_or}
 use Rattle.tree_laws.specs.Below.cs_base.declared.ws_units.Standard.{Standard}
@@ -8,18 +8,18 @@ use Rattle.tree_laws.specs.Below.cs_base.Token.{Token}
 use Rattle.tree_laws.specs.Below.c99_tree.Tree.{Forest, none, token, node}
 use Rattle.tree_laws.specs.Below.c99_tree.declared.production.Label.{Label}
 use Rattle.tree_laws.specs.Below.c99_tree.declared.production.Production.{Production}
-use Rattle.tree_laws.specs.Below.c99_tree.declared.production.Production.TheVariants.{TranslationUnit, ExtRest, FunBody, InitDecl, Specs, Members, Mdecl, Main, SuRest, EnRest, Params, Primary, Post, Designator, Statement, Pdirect, Enumerators, Enumerator, Declarator, Param, Pdecl}
+use Rattle.tree_laws.specs.Below.c99_tree.declared.production.Production.TheVariants.{TranslationUnit, ExtRest, FunBody, InitDecl, Specs, Members, MemRest, Mdecl, Main, SuRest, EnRest, Params, Primary, Post, Designator, Statement, Pdirect, Enumerators, Enumerator, Declarator, Param, Pdecl}
 use Rattle.tree_laws.specs.Below.c99_grammar.Standard.{grammar}
 use Rattle.tree_laws.specs.Below.c99_read.State.{base_at, is_identifier}
 use Rattle.tree_laws.specs.Below.c_types.declared.entity.EntityKind.TheVariants.{Object, Function, Typedef, Parameter, Enumerator as Constant}
-use Rattle.tree_laws.specs.Below.scope_bind.Named.{Body, Cause, Declaration, Declared, Frame, Role, Scope, ordinary, tags, labels, undeclared, tag_redefined, redeclared, mixed_linkage, designator_after_elision}
+use Rattle.tree_laws.specs.Below.scope_bind.Named.{Body, Cause, Declaration, Declared, Frame, Role, Scope, ordinary, tags, members, labels, undeclared, tag_redefined, redeclared, mixed_linkage, designator_after_elision}
 use Rattle.tree_laws.specs.Below.c_types.Types.{CType, adjusted, arithmetic, is_function, is_unknown, target_of}
 use Rattle.tree_laws.specs.Below.c_types.Trees.{last_token, name_below, is_at, is_node, words_of, declarator_type}
 use Rattle.tree_laws.specs.Below.c_types.Declarations.{Facts, is_space, is_live, is_typedef_name, has_linkage, alike, is_named, in_scope, is_mixed, with_fault, with_use, with_declaration, with_begun, visible, anywhere}
 use Rattle.tree_laws.specs.Below.name_chains.Frames.{State}
 use Rattle.tree_laws.specs.Below.scope_bind.Ordinary.{is_listed, is_again, used, used_as, is_func, declared_faults, declared_after, declared, plain_name, new_object, with_object, with_parameter}
-use Rattle.tree_laws.specs.Below.c_types.Tags.{with_tag, tag_declaration, tag_named, tag_entity, is_same_tag, is_declaring, prior_tag, enumeration_used}
-use Rattle.tree_laws.specs.Below.name_chains.Members.{with_member, member_used_as, member_at}
+use Rattle.tree_laws.specs.Below.c_types.Tags.{number_in, with_tag, tag_declaration, tag_named, tag_entity, is_same_tag, is_declaring, prior_tag, enumeration_used}
+use Rattle.tree_laws.specs.Below.name_chains.Members.{lifted, found_of, unnamed_declaration, with_silent, with_lifted, with_anonymous, with_member, member_used_as, member_at}
 use Rattle.tree_laws.specs.Below.scope_bind.Labels.{with_label, with_jumps, jump_to, with_labels}
 use Rattle.tree_laws.specs.Below.name_chains.Entering.{is_member, kept_here, with_kept, facts_in, entered}
 use Rattle.tree_laws.specs.Below.scope_bind.Roles.{role_of}
@@ -307,11 +307,31 @@ module _ (std : Standard) where
     parameter_same Param f l under facts o same typed = parameter_here f under (name_below l under) facts o same typed
     parameter_same _ f l under facts o same typed = refl
 
+    -- names of anonymous members are no ordinary identifiers
+    lifted_same : (owner : ℕ) (ds : List Declaration) (facts : Facts) → entries_of (with_lifted toks owner ds facts).declared ≡ entries_of facts.declared
+    lifted_same owner [] facts = refl
+    lifted_same owner (d ∷ later) facts =
+        let twice : Bool = is_some (anywhere toks (members owner) d.name_at facts) in
+        lifted_same owner later (with_silent (lifted owner d) (with_fault twice redeclared d.name_at facts))
+        ∙ ap entries_of (fault_same twice redeclared d.name_at facts)
+
+    anonymous_same : (c : Bool) (f : Frame) (i : ℕ) (facts : Facts)
+        → entries_of (if c then with_silent (unnamed_declaration f i) (with_lifted toks f.owner (found_of (number_in f.base) facts) facts) else facts).declared
+        ≡ entries_of facts.declared
+    anonymous_same true f i facts = lifted_same f.owner (found_of (number_in f.base) facts) facts
+    anonymous_same false f i facts = refl
+
+    closed_same : (c : Bool) (f : Frame) (i : ℕ) (facts : Facts)
+        → entries_of (if c then with_anonymous toks f i facts else facts).declared ≡ entries_of facts.declared
+    closed_same true f i facts = anonymous_same f.words.anonymous f i facts
+    closed_same false f i facts = refl
+
     after_same : (p : Production) (first : ℕ) (s : State) (l : Label) (under : Forest) (b : Option Body) (facts : Facts)
         → entries_of (facts_after toks p first s.frame l under b facts).declared ≡ entries_after p first (outline s) l under (entries_of facts.declared)
     after_same Declarator first s l under b facts = declaration_same s.frame.label.production s.frame l under facts (outline s) refl refl
     after_same Pdecl first s l under b facts = parameter_same s.frame.label.production s.frame l under facts (outline s) refl refl
     after_same Enumerator first s l under b facts = declared_new s.frame.scope (plain_name toks first (last_token under first) Constant arithmetic false) facts
+    after_same MemRest first s l under b facts = closed_same (l.alternative == 1) s.frame first facts
     after_same Members first s l under b facts = refl
     after_same Enumerators first s l under b facts = refl
     after_same FunBody first s l under b facts = ap entries_of (labels_same b facts)
