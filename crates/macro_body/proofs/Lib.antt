@@ -10,3 +10,5 @@ pub mod MakingLemmas
 pub mod PastingLemmas
 pub mod SoundLemmas
 pub mod ReplacementLemmas
+-- Words of the crates below, passed on.
+pub mod Below

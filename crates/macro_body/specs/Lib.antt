@@ -12,3 +12,5 @@ pub mod Sound
 pub mod BodyParts
 pub mod Costs
 pub mod Pastable
+-- Words of the crates below, passed on.
+pub mod Below

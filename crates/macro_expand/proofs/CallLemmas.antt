@@ -4,7 +4,7 @@ use Rattle.std.specs.Option.{option_map}
 use Rattle.std.proofs.lemmas.Option.{none-some, same_Some}
 use Rattle.cs_base.specs.Token.{Token}
 use Rattle.macro_body.specs.declared.definitions.Definition.{Definition}
-use Rattle.line_shape.specs.Signs.{is_open, is_close}
+use Rattle.macro_body.specs.Below.line_shape.Signs.{is_open, is_close}
 use Rattle.macro_body.specs.Hides.{Hidden}
 use Rattle.macro_body.specs.Macro.{arity}
 use Rattle.macro_expand.specs.Calls.{Call, Role, Closes, Separates, Belongs, CallFrom, role_of, level_after, fewer, onto_first, with_token, with_argument, closed, call_step, call_from, is_blank, completed, arguments_of}

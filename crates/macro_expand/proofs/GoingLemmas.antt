@@ -4,7 +4,7 @@ use Rattle.std.specs.Option.{IfSome}
 use Rattle.std.proofs.lemmas.List.{append-nil}
 use Rattle.cs_base.specs.Token.{Token}
 use Rattle.macro_body.specs.declared.definitions.Definition.{Definition}
-use Rattle.line_shape.specs.Signs.{is_open}
+use Rattle.macro_body.specs.Below.line_shape.Signs.{is_open}
 use Rattle.macro_body.specs.Hides.{Hidden, hide_more}
 use Rattle.macro_body.specs.Macro.{is_function}
 use Rattle.macro_expand.specs.Calls.{Call, call_from, commas_of, arguments_of}

@@ -6,7 +6,7 @@ use Rattle.cs_base.specs.Token.{Token}
 use Rattle.macro_body.specs.declared.definitions.Form.{Form}
 use Rattle.macro_body.specs.declared.definitions.Form.TheVariants as form
 use Rattle.macro_body.specs.declared.definitions.Definition.{Definition}
-use Rattle.line_shape.specs.Signs.{is_open}
+use Rattle.macro_body.specs.Below.line_shape.Signs.{is_open}
 use Rattle.macro_body.specs.Hides.{Hidden, hidden, hide_more}
 use Rattle.macro_body.specs.Macro.{is_function}
 use Rattle.macro_body.specs.Bodies.{Part, chains_of, occurs_alone}

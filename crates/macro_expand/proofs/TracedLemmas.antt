@@ -12,12 +12,12 @@ use Rattle.std.proofs.lemmas.List.Elements.{All-nil, All-cons, All-same}
 use Rattle.std.proofs.Math.Seq.{take-append_seam, drop-append_seam}
 use Rattle.cs_base.specs.Token.{Token, IsToken, origin_at}
 use Rattle.cs_base.specs.declared.positions.Pos.{Pos}
-use Rattle.line_shape.specs.declared.items.Item.{Item}
-use Rattle.line_shape.specs.declared.items.ItemKind.{ItemKind}
-use Rattle.line_shape.specs.declared.items.ItemKind.TheVariants.{Run, Define}
-use Rattle.line_shape.specs.Directives.{is_run}
-use Rattle.line_shape.specs.Items.{onto_lines, lines_of, line_kind, Piece, piece, onto_pieces, pieces_of, item_of, items_from, items_of, Follow}
-use Rattle.line_shape.proofs.CoverLemmas.{Follow-within}
+use Rattle.macro_body.specs.Below.line_shape.declared.items.Item.{Item}
+use Rattle.macro_body.specs.Below.line_shape.declared.items.ItemKind.{ItemKind}
+use Rattle.macro_body.specs.Below.line_shape.declared.items.ItemKind.TheVariants.{Run, Define}
+use Rattle.macro_body.specs.Below.line_shape.Directives.{is_run}
+use Rattle.macro_body.specs.Below.line_shape.Items.{onto_lines, lines_of, line_kind, Piece, piece, onto_pieces, pieces_of, item_of, items_from, items_of, Follow}
+use Rattle.macro_body.proofs.Below.line_shape.CoverLemmas.{Follow-within}
 use Rattle.macro_body.specs.declared.definitions.Definition.{Definition}
 use Rattle.macro_body.specs.Macro.{Table}
 use Rattle.macro_body.specs.Live.{no_macro, with_macro, without_macro}

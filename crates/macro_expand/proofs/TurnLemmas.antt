@@ -5,7 +5,7 @@ use Rattle.std.proofs.lemmas.Option.{none-some}
 use Rattle.cs_base.specs.Token.{Token}
 use Rattle.macro_body.specs.declared.definitions.Definition.{Definition}
 use Rattle.macro_body.specs.declared.fault.ExpandFault.{ExpandFault}
-use Rattle.line_shape.specs.Signs.{is_open}
+use Rattle.macro_body.specs.Below.line_shape.Signs.{is_open}
 use Rattle.macro_body.specs.Hides.{Hidden, hide_more, unhidden, toks_of}
 use Rattle.macro_body.specs.Macro.{Table, is_function}
 use Rattle.macro_expand.specs.Calls.{call_from, commas_of}

@@ -3,7 +3,7 @@ use Rattle.std.specs.Prelude.{ℕ, zero, suc, ◌+◌, ◌-◌, ◌&&◌, ◌==�
 use Rattle.std.specs.Option.{option_map}
 use Rattle.cs_base.specs.Token.{Token}
 use Rattle.macro_body.specs.declared.definitions.Definition.{Definition}
-use Rattle.line_shape.specs.Signs.{is_open, is_close, is_comma}
+use Rattle.macro_body.specs.Below.line_shape.Signs.{is_open, is_close, is_comma}
 use Rattle.macro_body.specs.Hides.{Hidden}
 use Rattle.macro_body.specs.Macro.{arity}
 

@@ -1,6 +1,6 @@
 -- What is true of all expansions.
 use Rattle.std.specs.Prelude.{◌≡◌, ℕ, zero, suc, ◌+◌, ◌≤◌, ◌&&◌, Bool, true, false, List, [], ◌∷◌, ◌++◌, length, Option, Some, None, Ok}
-use Rattle.line_shape.specs.Signs.{is_open}
+use Rattle.macro_body.specs.Below.line_shape.Signs.{is_open}
 use Rattle.macro_body.specs.declared.definitions.Definition.{Definition}
 use Rattle.cs_base.specs.Token.{Token}
 use Rattle.macro_body.specs.Hides.{Hidden}

@@ -6,10 +6,10 @@ use Rattle.std.specs.Option.{is_none}
 use Rattle.cs_base.specs.declared.tokens.Kind.{Kind}
 use Rattle.cs_base.specs.declared.positions.Pos.{Pos}
 use Rattle.cs_base.specs.Token.{Token, token}
-use Rattle.paste_origin.specs.Pasting.{glue_of}
-use Rattle.paste_origin.specs.Strings.{stringize_of}
+use Rattle.macro_body.specs.Below.paste_origin.Pasting.{glue_of}
+use Rattle.macro_body.specs.Below.paste_origin.Strings.{stringize_of}
 use Rattle.macro_body.specs.declared.definitions.Definition.{Definition}
-use Rattle.line_shape.specs.Signs.{is_name, is_identifier, is_punctuator}
+use Rattle.macro_body.specs.Below.line_shape.Signs.{is_name, is_identifier, is_punctuator}
 use Rattle.macro_body.specs.Hides.{Hidden, hidden}
 use Rattle.macro_body.specs.Macro.{Table, parameter_at}
 use Rattle.macro_body.specs.Notes.{Note, Replaced, Linked, Stringized, Pasted, Expanded, expanded}
