@@ -8,3 +8,5 @@ pub mod SearchedLemmas
 pub mod HeaderLemmas
 pub mod CandidateLemmas
 pub mod SourcesLemmas
+-- Words of the crates below, passed on.
+pub mod Below

@@ -14,3 +14,5 @@ pub mod Statuses
 pub mod FileTableFields
 pub mod CacheFields
 pub mod Sources
+-- Words of the crates below, passed on.
+pub mod Below

@@ -29,6 +29,8 @@ pub use candidates::candidates_of;
 pub use edit_refusal::EditRefusal;
 pub use header::{Header, header_in, header_of_toks, is_header};
 pub use kept_file::KeptFile;
+pub use line_shape::{Item, ItemKind};
 pub use opening::{first_place, open_file};
+pub use part_lexer::FileText;
 pub use pre_fault::{PreFault, fault_at, fault_there};
 pub use searching::{ask_bytes, search};

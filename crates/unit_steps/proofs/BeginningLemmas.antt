@@ -1,9 +1,9 @@
 -- What is known at the beginning of a unit.
 use Rattle.std.proofs.Common.{◌≡◌, refl}
-use Rattle.macro_body.specs.Macro.{Table}
-use Rattle.macro_body.specs.Live.{no_macro, with_macro}
-use Rattle.macro_body.specs.Defining.{line_macro, file_macro, first_macros}
-use Rattle.macro_body.specs.Sound.{AllTraced}
+use Rattle.macro_expand.specs.Below.macro_body.Macro.{Table}
+use Rattle.macro_expand.specs.Below.macro_body.Live.{no_macro, with_macro}
+use Rattle.macro_expand.specs.Below.macro_body.Defining.{line_macro, file_macro, first_macros}
+use Rattle.macro_expand.specs.Below.macro_body.Sound.{AllTraced}
 use Rattle.macro_expand.proofs.TracedLemmas.{traced-no_macro, traced-with_macro}
 
 -- the first macros have no replacement list

@@ -6,12 +6,12 @@ use Rattle.std.proofs.lemmas.List.{append-nil, take_all}
 use Rattle.std.proofs.lemmas.List.Concat.{flat_map-append}
 use Rattle.cs_base.specs.Token.{Token}
 use Rattle.cs_base.specs.declared.positions.Pos.{Pos}
-use Rattle.line_shape.specs.Signs.{is_name}
-use Rattle.macro_body.specs.declared.definitions.Definition.{Definition}
-use Rattle.macro_body.specs.Macro.{Table as Macros}
-use Rattle.macro_body.specs.Live.{Entries, table_of, with_macro, without_macro}
-use Rattle.macro_body.specs.Defining.{defined_by}
-use Rattle.macro_body.specs.Sound.{is_traced, AllTraced}
+use Rattle.macro_expand.specs.Below.line_shape.Signs.{is_name}
+use Rattle.macro_expand.specs.Below.macro_body.declared.definitions.Definition.{Definition}
+use Rattle.macro_expand.specs.Below.macro_body.Macro.{Table as Macros}
+use Rattle.macro_expand.specs.Below.macro_body.Live.{Entries, table_of, with_macro, without_macro}
+use Rattle.macro_expand.specs.Below.macro_body.Defining.{defined_by}
+use Rattle.macro_expand.specs.Below.macro_body.Sound.{is_traced, AllTraced}
 use Rattle.macro_expand.proofs.TracedLemmas.{traced-with_macro, traced-without_macro}
 use Rattle.unit_steps.specs.declared.events.Event.{Event}
 use Rattle.unit_steps.specs.declared.events.EventKind.{EventKind}

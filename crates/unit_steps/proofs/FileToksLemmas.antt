@@ -3,14 +3,14 @@ use Rattle.std.proofs.Common.{◌≡◌, ℕ, zero, suc, ◌+◌, ◌-◌, ◌�
 use Rattle.std.specs.List.{list_all}
 use Rattle.std.proofs.lemmas.Bool.{cases_Bool, lt-ltb, ltb-true, and_parts}
 use Rattle.cs_base.specs.Token.{Token}
-use Rattle.part_lexer.specs.Places.{origins_from}
-use Rattle.part_lexer.specs.Logical.{Character, gone_length, logical_from, logical_of, spelling, line_at}
-use Rattle.part_lexer.specs.Characters.{line_feed, slash, star, is_white, begins}
-use Rattle.part_lexer.specs.Tokens.{Found, front_length, comment_end, comment_or_open, token_piece, piece_of, expects_header, piece_at, piece_length, leaves_gap, line_front_after, found_in, found_from, found_of, tokens_in, tokens_of, open_comment_of}
-use Rattle.part_lexer.specs.FileText.{TextValue, most_bytes, text_value, text_or_open, file_text}
-use Rattle.part_lexer.proofs.OriginLemmas.{origins_from-traced}
-use Rattle.part_lexer.proofs.ScanLemmas.{line_at-bound}
-use Rattle.macro_body.specs.Sound.{is_traced, is_low}
+use Rattle.source_files.specs.Below.part_lexer.Places.{origins_from}
+use Rattle.source_files.specs.Below.part_lexer.Logical.{Character, gone_length, logical_from, logical_of, spelling, line_at}
+use Rattle.source_files.specs.Below.part_lexer.Characters.{line_feed, slash, star, is_white, begins}
+use Rattle.source_files.specs.Below.part_lexer.Tokens.{Found, front_length, comment_end, comment_or_open, token_piece, piece_of, expects_header, piece_at, piece_length, leaves_gap, line_front_after, found_in, found_from, found_of, tokens_in, tokens_of, open_comment_of}
+use Rattle.source_files.specs.Below.part_lexer.FileText.{TextValue, most_bytes, text_value, text_or_open, file_text}
+use Rattle.source_files.proofs.Below.part_lexer.OriginLemmas.{origins_from-traced}
+use Rattle.source_files.proofs.Below.part_lexer.ScanLemmas.{line_at-bound}
+use Rattle.macro_expand.specs.Below.macro_body.Sound.{is_traced, is_low}
 use Rattle.source_files.proofs.OpeningLemmas.{readable-small}
 
 abbrev is_sound : Token → Bool

@@ -4,10 +4,10 @@ use Rattle.std.specs.Option.{IfSome, IsSome}
 use Rattle.std.proofs.lemmas.Bool.{lt-ltb}
 use Rattle.cs_base.specs.Token.{Token}
 use Rattle.cs_base.specs.declared.causes.Cause.TheVariants as cause
-use Rattle.macro_body.specs.Hides.{toks_of}
-use Rattle.macro_body.specs.Notes as expansion
-use Rattle.macro_body.specs.Kept.{Kept, kept, kept_with, expanded_kept}
-use Rattle.macro_body.proofs.ResultLemmas.{ok_same}
+use Rattle.macro_expand.specs.Below.macro_body.Hides.{toks_of}
+use Rattle.macro_expand.specs.Below.macro_body.Notes as expansion
+use Rattle.macro_expand.specs.Below.macro_body.Kept.{Kept, kept, kept_with, expanded_kept}
+use Rattle.macro_expand.proofs.Below.macro_body.ResultLemmas.{ok_same}
 use Rattle.source_files.specs.Files.{SourceFile}
 use Rattle.source_files.specs.Faults.{Fault, fault_at}
 use Rattle.unit_steps.specs.State.{Context, State, Outcome, onward}

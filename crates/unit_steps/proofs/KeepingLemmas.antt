@@ -5,8 +5,8 @@ use Rattle.std.proofs.lemmas.List.{append-nil}
 use Rattle.std.proofs.lemmas.List.Concat.{flat_map-append}
 use Rattle.cs_base.specs.Token.{Token}
 use Rattle.cs_base.specs.declared.tokens.Link.{Link}
-use Rattle.macro_body.specs.Notes as expansion
-use Rattle.macro_body.specs.Kept.{kept, kept_with, link_of, replacement_of}
+use Rattle.macro_expand.specs.Below.macro_body.Notes as expansion
+use Rattle.macro_expand.specs.Below.macro_body.Kept.{kept, kept_with, link_of, replacement_of}
 use Rattle.unit_steps.specs.declared.events.Event.{Event}
 use Rattle.unit_steps.specs.declared.events.Reached.{Reached}
 use Rattle.unit_steps.specs.Notes.{Note, Happened, links_of, pasted_of, stringized_of, header_of, answers_of, events_of, reached_of}

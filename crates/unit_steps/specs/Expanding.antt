@@ -3,8 +3,8 @@
 use Rattle.std.specs.Prelude.{ℕ, ◌+◌, ◌-◌, Bool, true, nat_lt, min, if◌then◌else◌, List, [], ◌∷◌, Result, Ok, Err, length, map, drop}
 use Rattle.cs_base.specs.declared.causes.Cause.TheVariants as cause
 use Rattle.cs_base.specs.Token.{Token}
-use Rattle.macro_body.specs.Hides.{toks_of}
-use Rattle.macro_body.specs.Notes as expansion
+use Rattle.macro_expand.specs.Below.macro_body.Hides.{toks_of}
+use Rattle.macro_expand.specs.Below.macro_body.Notes as expansion
 use Rattle.macro_expand.specs.Expansion.{expansion}
 use Rattle.source_files.specs.Files.{SourceFile}
 use Rattle.source_files.specs.Faults.{Fault, fault, fault_at, first_place}

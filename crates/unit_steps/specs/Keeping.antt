@@ -2,8 +2,8 @@
 use Rattle.std.specs.Prelude.{ℕ, Bool, List, [], ◌++◌, map, length, Result, Ok, Err}
 use Rattle.std.specs.List.{flat_map}
 use Rattle.cs_base.specs.Token.{Token}
-use Rattle.macro_body.specs.declared.notes.Replacement.{Replacement}
-use Rattle.macro_body.specs.Kept.{Kept}
+use Rattle.macro_expand.specs.Below.macro_body.declared.notes.Replacement.{Replacement}
+use Rattle.macro_expand.specs.Below.macro_body.Kept.{Kept}
 use Rattle.unit_steps.specs.declared.events.Event.{Event}
 use Rattle.unit_steps.specs.declared.events.EventKind.TheVariants as kind
 use Rattle.source_files.specs.Faults.{Fault}

@@ -1,8 +1,8 @@
 -- What the program knows at each moment, and the state of the definition.
 use Rattle.std.specs.Prelude.{◌≡◌, ◌≤◌, ◌^◌, ◌++◌, ◌∷◌, [], ℕ, None, OnOk, Result, length}
 use Rattle.cs_base.specs.Token.{Token}
-use Rattle.macro_body.specs.Live.{table_of}
-use Rattle.macro_body.specs.Sound.{AllTraced}
+use Rattle.macro_expand.specs.Below.macro_body.Live.{table_of}
+use Rattle.macro_expand.specs.Below.macro_body.Sound.{AllTraced}
 use Rattle.unit_steps.specs.declared.events.EventKind.{EventKind}
 use Rattle.unit_steps.specs.declared.progress.Progress.{Progress}
 use Rattle.source_files.specs.Files.{Table}

@@ -3,8 +3,8 @@ use Rattle.std.specs.Prelude.{ℕ, ◌+◌, Bool, true, false, Option, Some, Non
 use Rattle.cs_base.specs.declared.positions.Pos.{Pos}
 use Rattle.cs_base.specs.declared.tokens.Link.{Link}
 use Rattle.cs_base.specs.Token.{Token, origin_at}
-use Rattle.macro_body.specs.declared.definitions.Definition.{Definition}
-use Rattle.macro_body.specs.Notes as expansion
+use Rattle.macro_expand.specs.Below.macro_body.declared.definitions.Definition.{Definition}
+use Rattle.macro_expand.specs.Below.macro_body.Notes as expansion
 use Rattle.unit_steps.specs.declared.events.Event.{Event}
 use Rattle.unit_steps.specs.declared.events.EventKind.{EventKind}
 use Rattle.unit_steps.specs.declared.events.EventKind.TheVariants as kind

@@ -2,7 +2,7 @@
 -- 5.1.1.2 phase 4).
 use Rattle.std.specs.Prelude.{ℕ, List, [], ◌++◌, Result, Ok, Err}
 use Rattle.cs_base.specs.Token.{Token}
-use Rattle.macro_body.specs.Macro.{Table as Macros}
+use Rattle.macro_expand.specs.Below.macro_body.Macro.{Table as Macros}
 use Rattle.source_files.specs.Files.{Source, Table}
 use Rattle.source_files.specs.Limits.{Limits}
 use Rattle.source_files.specs.Opening.{Reader}

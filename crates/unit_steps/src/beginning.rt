@@ -1,7 +1,7 @@
 // What is known at the beginning of a unit (6.10.8).
 ghost use Rattle.std.specs.Prelude.{◌≡◌, ◌≤◌, ◌^◌, [], IfOk};
-ghost use Rattle.macro_body.specs.Live.{table_of};
-ghost use Rattle.macro_body.specs.Defining.{first_definition, first_macros};
+ghost use Rattle.macro_expand.specs.Below.macro_body.Live.{table_of};
+ghost use Rattle.macro_expand.specs.Below.macro_body.Defining.{first_definition, first_macros};
 ghost use Rattle.source_files.specs.Files.{Table};
 ghost use Rattle.unit_steps.specs.Keeping.{no_text};
 ghost use Rattle.unit_steps.specs.Moments.{state_in, IsAble};

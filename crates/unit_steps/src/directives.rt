@@ -2,11 +2,11 @@
 ghost use Rattle.std.specs.Prelude.{◌≡◌, ◌&&◌, not, IsTrue, IfOk, OnOk, Some, cond, drop, option_copied, IfErr};
 ghost use Rattle.std.specs.List.{flat_map, list_all};
 ghost use Rattle.cs_base.specs.Answer.{Gives};
-ghost use Rattle.line_shape.specs.declared.items.ItemKind.TheVariants.{Define};
-ghost use Rattle.line_shape.specs.Items.{line_kind};
-ghost use Rattle.macro_body.specs.declared.definitions.Definition.{Definition as Macro};
-ghost use Rattle.macro_body.specs.Sound.{is_traced, is_low};
-ghost use Rattle.macro_body.specs.Defining.{defined_by};
+ghost use Rattle.macro_expand.specs.Below.line_shape.declared.items.ItemKind.TheVariants.{Define};
+ghost use Rattle.macro_expand.specs.Below.line_shape.Items.{line_kind};
+ghost use Rattle.macro_expand.specs.Below.macro_body.declared.definitions.Definition.{Definition as Macro};
+ghost use Rattle.macro_expand.specs.Below.macro_body.Sound.{is_traced, is_low};
+ghost use Rattle.macro_expand.specs.Below.macro_body.Defining.{defined_by};
 ghost use Rattle.source_files.specs.Files.{Table, SourceFile};
 ghost use Rattle.unit_steps.specs.Names.{linked_with, parameter_named, definition_links};
 ghost use Rattle.unit_steps.specs.Conditions.{is_macro, test_notes};
@@ -23,10 +23,8 @@ use crate::progress::{Progress, link_name};
 use crate::source_text::SourceText;
 use crate::unit_text::UnitText;
 use cs_base::{Cause, Memory, Pos, Tok};
-use line_shape::ItemKind;
-use macro_body::is_name;
-use macro_expand::Definition;
-use source_files::PreFault;
+use macro_expand::{Definition, is_name};
+use source_files::{ItemKind, PreFault};
 use std::alloc::Global;
 
 // The link of a token of a replacement list with the parameter that it names.

@@ -2,7 +2,7 @@
 ghost use Rattle.std.specs.Prelude.{◌≡◌, ◌&&◌, IsTrue, IfErr};
 ghost use Rattle.std.specs.List.{list_all};
 ghost use Rattle.cs_base.specs.Answer.{Gives};
-ghost use Rattle.macro_body.specs.Sound.{is_traced, is_low};
+ghost use Rattle.macro_expand.specs.Below.macro_body.Sound.{is_traced, is_low};
 ghost use Rattle.source_files.specs.Files.{Table};
 ghost use Rattle.source_files.specs.HeaderNames.{header_of_toks};
 ghost use Rattle.source_files.specs.Answers.{fault_of, IsNoReadFault};

@@ -2,8 +2,8 @@
 ghost use Rattle.std.specs.Prelude.{◌≡◌, ◌<◌, ◌^◌, ◌&&◌, IsTrue, length, is_some, IfOk, Some, IfErr};
 ghost use Rattle.std.specs.List.{list_all};
 ghost use Rattle.cs_base.specs.Answer.{Gives};
-ghost use Rattle.macro_body.specs.Live.{table_of};
-ghost use Rattle.macro_body.specs.Sound.{is_traced, is_low};
+ghost use Rattle.macro_expand.specs.Below.macro_body.Live.{table_of};
+ghost use Rattle.macro_expand.specs.Below.macro_body.Sound.{is_traced, is_low};
 ghost use Rattle.source_files.specs.Files.{Table};
 ghost use Rattle.unit_steps.specs.State.{Context};
 ghost use Rattle.unit_steps.specs.Names.{spelled_in, linked_with};

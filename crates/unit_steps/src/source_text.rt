@@ -1,15 +1,14 @@
 // A source file that is processed, as it is lent.
 ghost use Rattle.std.specs.Prelude.{◌≡◌, IfSome, IsSome, unwrap_or};
-ghost use Rattle.part_lexer.specs.FileText.{place_at};
-ghost use Rattle.macro_body.specs.Faults.{fault_of as expand_fault_of};
+ghost use Rattle.source_files.specs.Below.part_lexer.FileText.{place_at};
+ghost use Rattle.macro_expand.specs.Below.macro_body.Faults.{fault_of as expand_fault_of};
 ghost use Rattle.source_files.specs.Faults.{fault_at};
 ghost use Rattle.unit_steps.specs.Expanding.{expansion_fault};
 ghost use Rattle.source_files.specs.Answers.{fault_of, IsNoReadFault};
 
 use cs_base::{Cause, Pos};
 use macro_expand::ExpandFault;
-use part_lexer::FileText;
-use source_files::{PreFault, fault_at};
+use source_files::{FileText, PreFault, fault_at};
 use std::alloc::Global;
 
 /// The number, the path and the text of a kept file.

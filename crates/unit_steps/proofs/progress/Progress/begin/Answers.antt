@@ -1,5 +1,5 @@
 use Rattle.std.proofs.Common.{length, ap, arith}
-use Rattle.macro_body.specs.Live.{table_of}
+use Rattle.macro_expand.specs.Below.macro_body.Live.{table_of}
 use Rattle.unit_steps.proofs.BeginningLemmas.{traced-first}
 use Rattle.unit_steps.proofs.progress.Progress.begin.Goals as goal
 

@@ -1,7 +1,7 @@
 use Rattle.std.proofs.Common.{ℕ, refl, sym, ap, ◌∙◌}
-use Rattle.macro_body.specs.Live.{table_of}
+use Rattle.macro_expand.specs.Below.macro_body.Live.{table_of}
 use Rattle.macro_expand.specs.Expansion.{expansion}
-use Rattle.macro_body.specs.Kept.{Kept, expanded_kept}
+use Rattle.macro_expand.specs.Below.macro_body.Kept.{Kept, expanded_kept}
 use Rattle.unit_steps.specs.SourceTexts.{source_in}
 use Rattle.unit_steps.specs.Moments.{state_in}
 use Rattle.unit_steps.specs.Keeping.{expanded_into}

@@ -1,5 +1,5 @@
 use Rattle.std.proofs.Common.{ℕ, List, ◌∙◌, ap}
-use Rattle.macro_body.specs.Live.{table_of, without_macro}
+use Rattle.macro_expand.specs.Below.macro_body.Live.{table_of, without_macro}
 use Rattle.unit_steps.specs.SourceTexts.{source_in}
 use Rattle.unit_steps.proofs.DefiningLemmas.{undef-line, undef-able}
 use Rattle.unit_steps.proofs.progress.Progress.undef.Goals as goal
