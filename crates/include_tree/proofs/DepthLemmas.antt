@@ -2,8 +2,8 @@
 use Rattle.std.proofs.Common.{◌≡◌, ℕ, zero, suc, ◌+◌, Bool, true, false, cond, List, [], ◌∷◌, None, Some, Ok, Err, refl, sym, ap, subst, arith, drop}
 use Rattle.cs_base.specs.declared.positions.Pos.{Pos}
 use Rattle.cs_base.specs.Token.{Token}
-use Rattle.line_shape.specs.declared.items.ItemKind.{ItemKind}
-use Rattle.line_shape.specs.declared.items.ItemKind.TheVariants as kind
+use Rattle.source_files.specs.Below.line_shape.declared.items.ItemKind.{ItemKind}
+use Rattle.source_files.specs.Below.line_shape.declared.items.ItemKind.TheVariants as kind
 use Rattle.source_files.specs.Files.{SourceFile}
 use Rattle.unit_steps.specs.Notes.{Note, Reaches, Entered, Exited}
 use Rattle.unit_steps.specs.State.{Context, State, Did, did, Outcome, only, noted, onward}

@@ -8,13 +8,13 @@ use Rattle.std.proofs.lemmas.Option.{slice_get-map, slice_get_read, slice_get_pa
 use Rattle.std.proofs.lemmas.List.Elements.{All-same}
 use Rattle.cs_base.specs.Token.{Token}
 use Rattle.unit_steps.specs.Below.part_lexer.FileText.{TextValue, LexFault, file_text}
-use Rattle.line_shape.specs.declared.items.Item.{Item}
-use Rattle.line_shape.specs.declared.items.ItemKind.TheVariants.{Define}
-use Rattle.line_shape.specs.Signs.{is_close, is_ellipsis}
-use Rattle.line_shape.specs.MacroLine.{MacroParts, macro, is_function_like, is_parameter_list, function_macro, params_in, before_close, behind_close, macro_of}
-use Rattle.line_shape.specs.Directives.{is_run}
-use Rattle.line_shape.specs.Items.{line_kind, items_of}
-use Rattle.line_shape.proofs.CoverLemmas.{Follow-items_of, Follow-within}
+use Rattle.source_files.specs.Below.line_shape.declared.items.Item.{Item}
+use Rattle.source_files.specs.Below.line_shape.declared.items.ItemKind.TheVariants.{Define}
+use Rattle.source_files.specs.Below.line_shape.Signs.{is_close, is_ellipsis}
+use Rattle.source_files.specs.Below.line_shape.MacroLine.{MacroParts, macro, is_function_like, is_parameter_list, function_macro, params_in, before_close, behind_close, macro_of}
+use Rattle.source_files.specs.Below.line_shape.Directives.{is_run}
+use Rattle.source_files.specs.Below.line_shape.Items.{line_kind, items_of}
+use Rattle.source_files.proofs.Below.line_shape.CoverLemmas.{Follow-items_of, Follow-within}
 use Rattle.unit_steps.specs.Below.macro_body.declared.definitions.Definition.{Definition}
 use Rattle.unit_steps.specs.Below.macro_body.Defining.{defined_by, definition_of}
 use Rattle.unit_steps.specs.Below.macro_body.Sound.{is_traced, is_low}

@@ -9,7 +9,7 @@ use Rattle.cs_base.specs.declared.positions.Place.{Place}
 use Rattle.cs_base.specs.declared.positions.Pos.{Pos}
 use Rattle.cs_base.specs.Token.{Token}
 use Rattle.unit_steps.specs.Below.part_lexer.FileText.{TextValue, LexFault, FileTooLarge, OpenComment}
-use Rattle.line_shape.specs.Signs.{is_name}
+use Rattle.source_files.specs.Below.line_shape.Signs.{is_name}
 use Rattle.unit_steps.specs.Below.cond_eval.declared.faults.CondFault.{CondFault}
 use Rattle.unit_steps.specs.Below.cond_eval.Evaluation.{condition}
 use Rattle.unit_steps.specs.Below.macro_body.declared.definitions.Definition.{Definition}

@@ -3,8 +3,8 @@ use Rattle.std.proofs.Common.{◌≡◌, ℕ, zero, suc, ◌+◌, ◌-◌, Bool,
 use Rattle.cs_base.specs.declared.positions.Pos.{Pos}
 use Rattle.cs_base.specs.Token.{Token}
 use Rattle.cs_base.specs.Paths.{joined_path_of}
-use Rattle.line_shape.specs.declared.items.ItemKind.{ItemKind}
-use Rattle.line_shape.specs.declared.items.ItemKind.TheVariants as kind
+use Rattle.source_files.specs.Below.line_shape.declared.items.ItemKind.{ItemKind}
+use Rattle.source_files.specs.Below.line_shape.declared.items.ItemKind.TheVariants as kind
 use Rattle.source_files.specs.Files.{Table, SourceFile, asked}
 use Rattle.source_files.specs.Faults.{place_in, first_place}
 use Rattle.unit_steps.specs.Notes.{Reaches, Entered}

@@ -5,7 +5,7 @@ use Rattle.std.specs.List.{list_any}
 use Rattle.cs_base.specs.declared.causes.Cause.TheVariants.{DefinedFromMacro}
 use Rattle.cs_base.specs.declared.positions.Pos.{Pos}
 use Rattle.cs_base.specs.Token.{Token}
-use Rattle.line_shape.specs.Signs.{is_name}
+use Rattle.source_files.specs.Below.line_shape.Signs.{is_name}
 use Rattle.unit_steps.specs.Below.cond_eval.declared.faults.CondFault.{CondFault}
 use Rattle.unit_steps.specs.Below.cond_eval.Evaluation.{condition}
 use Rattle.unit_steps.specs.Below.macro_body.declared.definitions.Definition.{Definition}

@@ -3,8 +3,8 @@ use Rattle.std.proofs.Common.{◌≡◌, ℕ, zero, suc, ◌+◌, ◌-◌, ◌�
 use Rattle.cs_base.specs.declared.positions.Pos.{Pos}
 use Rattle.cs_base.specs.Token.{Token}
 use Rattle.cs_base.specs.Units.{UnitValue, defines_text}
-use Rattle.line_shape.specs.declared.items.ItemKind.{ItemKind}
-use Rattle.line_shape.specs.declared.items.ItemKind.TheVariants as kind
+use Rattle.source_files.specs.Below.line_shape.declared.items.ItemKind.{ItemKind}
+use Rattle.source_files.specs.Below.line_shape.declared.items.ItemKind.TheVariants as kind
 use Rattle.source_files.specs.Limits.{Limits}
 use Rattle.source_files.specs.Files.{Source, Made, Table, SourceFile, Carried, asked, found_at, defines_path}
 use Rattle.source_files.specs.Faults.{place_in, first_place}

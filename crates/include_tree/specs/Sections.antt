@@ -1,8 +1,8 @@
 -- If-sections (ISO/IEC 9899:1999, 6.10.1 paragraph 6): which groups are processed.
 use Rattle.std.specs.Prelude.{Bool, true, false, if◌then◌else◌, List, [], ◌∷◌}
 use Rattle.cs_base.specs.declared.positions.Pos.{Pos}
-use Rattle.line_shape.specs.declared.items.ItemKind.{ItemKind}
-use Rattle.line_shape.specs.declared.items.ItemKind.TheVariants.{If, Ifdef, Ifndef, Elif, Else, Endif, Bad}
+use Rattle.source_files.specs.Below.line_shape.declared.items.ItemKind.{ItemKind}
+use Rattle.source_files.specs.Below.line_shape.declared.items.ItemKind.TheVariants.{If, Ifdef, Ifndef, Elif, Else, Endif, Bad}
 
 -- How it stands with the groups of a section: the present one is processed; none was yet; one was, and
 -- the rest are skipped; or the section itself is skipped.

@@ -3,10 +3,10 @@ use Rattle.std.specs.Prelude.{ℕ, zero, suc, ◌+◌, Bool, true, false, if◌t
 use Rattle.cs_base.specs.declared.causes.Cause.TheVariants.{BadDirective, ErrorDirective, UnbalancedIf}
 use Rattle.cs_base.specs.declared.positions.Pos.{Pos}
 use Rattle.cs_base.specs.Token.{Token}
-use Rattle.line_shape.specs.declared.items.Item.{Item}
-use Rattle.line_shape.specs.declared.items.ItemKind.{ItemKind}
-use Rattle.line_shape.specs.declared.items.ItemKind.TheVariants as kind
-use Rattle.line_shape.specs.Items.{items_of}
+use Rattle.source_files.specs.Below.line_shape.declared.items.Item.{Item}
+use Rattle.source_files.specs.Below.line_shape.declared.items.ItemKind.{ItemKind}
+use Rattle.source_files.specs.Below.line_shape.declared.items.ItemKind.TheVariants as kind
+use Rattle.source_files.specs.Below.line_shape.Items.{items_of}
 use Rattle.source_files.specs.Files.{SourceFile}
 use Rattle.source_files.specs.Faults.{fault_at}
 use Rattle.unit_steps.specs.Notes.{Reaches}

@@ -1,8 +1,8 @@
 // The items of a file, one at a time: what each gives beside the files that it includes (6.10).
 ghost use Rattle.std.specs.Prelude.{◌≡◌, ◌&&◌, IsTrue, IfErr, Some};
 ghost use Rattle.std.specs.List.{list_all};
-ghost use Rattle.line_shape.specs.declared.items.ItemKind.TheVariants.{Define};
-ghost use Rattle.line_shape.specs.Items.{line_kind};
+ghost use Rattle.source_files.specs.Below.line_shape.declared.items.ItemKind.TheVariants.{Define};
+ghost use Rattle.source_files.specs.Below.line_shape.Items.{line_kind};
 ghost use Rattle.unit_steps.specs.Below.macro_body.declared.definitions.Definition.{Definition as Macro};
 ghost use Rattle.unit_steps.specs.Below.macro_body.Defining.{defined_by};
 ghost use Rattle.unit_steps.specs.Below.macro_body.Sound.{is_traced, is_low};
@@ -25,8 +25,7 @@ use crate::section_lines::{
 };
 use crate::sections::Sections;
 use cs_base::{Cause, Pos};
-use line_shape::ItemKind;
-use source_files::{Header, PreFault};
+use source_files::{Header, ItemKind, PreFault};
 use unit_steps::{Progress, SourceText, behind_word};
 
 /// An include line in a processed group: where its `#` stands, and the header that it names.

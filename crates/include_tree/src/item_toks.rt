@@ -2,8 +2,8 @@
 ghost use Rattle.std.specs.Prelude.{◌≡◌, ◌≤◌, ◌&&◌, IsTrue, IfSome, Some, length, slice_get, slice_range};
 ghost use Rattle.std.specs.List.{list_all};
 ghost use Rattle.std.specs.Option.{option_map};
-ghost use Rattle.line_shape.specs.declared.items.ItemKind.TheVariants.{Define};
-ghost use Rattle.line_shape.specs.Items.{line_kind};
+ghost use Rattle.source_files.specs.Below.line_shape.declared.items.ItemKind.TheVariants.{Define};
+ghost use Rattle.source_files.specs.Below.line_shape.Items.{line_kind};
 ghost use Rattle.unit_steps.specs.Below.macro_body.declared.definitions.Definition.{Definition as Macro};
 ghost use Rattle.unit_steps.specs.Below.macro_body.Defining.{defined_by};
 ghost use Rattle.unit_steps.specs.Below.macro_body.Sound.{is_traced, is_low};
@@ -13,8 +13,7 @@ ghost use Rattle.include_tree.specs.ItemTexts.{item_in};
 ghost use Rattle.include_tree.specs.Walk.{items_in};
 
 use cs_base::{Pos, Tok};
-use line_shape::{Item, ItemKind};
-use source_files::KeptFile;
+use source_files::{Item, ItemKind, KeptFile};
 use unit_steps::SourceText;
 
 /// An item of a file: its kind, the position of its first token, and its tokens.

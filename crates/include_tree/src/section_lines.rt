@@ -18,8 +18,7 @@ ghost use Rattle.include_tree.specs.Walking.{stepped_after, elif_of, else_of, en
 use crate::item_toks::ItemToks;
 use crate::sections::{Group, OpenSection, Sections, group_if, group_of_else, is_alive};
 use cs_base::{Cause, Memory, Tok};
-use line_shape::ItemKind;
-use source_files::PreFault;
+use source_files::{ItemKind, PreFault};
 use unit_steps::{Progress, SourceText, behind_word};
 
 /// What a line does to the sections: it opens one, goes on to the next group or to the last one, or ends it;
