@@ -11,3 +11,5 @@ pub mod Choosing
 pub mod Sound
 pub mod Levels
 pub mod Answer
+-- Words of the crates below, passed on.
+pub mod Below

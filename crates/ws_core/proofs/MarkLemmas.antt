@@ -4,7 +4,7 @@ use Rattle.std.specs.Prelude.{slice_get}
 use Rattle.std.proofs.lemmas.Bool.{cases_eq, both_ways}
 use Rattle.std.proofs.lemmas.Option.{same_Some}
 use Rattle.cs_base.specs.Token.{Token}
-use Rattle.line_shape.specs.Signs.{is_name}
+use Rattle.include_tree.specs.Below.line_shape.Signs.{is_name}
 use Rattle.ws_core.specs.Marking.{is_marked, SetsMark, IsNameIn, MarksNames}
 
 -- ---- the identifiers among some tokens

@@ -9,10 +9,10 @@ use Rattle.cs_base.specs.declared.tokens.Kind.TheVariants as token_kind
 use Rattle.cs_base.specs.declared.positions.Pos.{Pos}
 use Rattle.cs_base.specs.Token.{Token, has_origins}
 use Rattle.include_tree.specs.Below.part_lexer.Tokens.{tokens_of, firsts_of}
-use Rattle.line_shape.specs.declared.items.ItemKind.{ItemKind}
-use Rattle.line_shape.specs.declared.items.ItemKind.TheVariants as kind
-use Rattle.line_shape.specs.Items.{items_of}
-use Rattle.line_shape.specs.Signs.{is_name, is_identifier}
+use Rattle.include_tree.specs.Below.line_shape.declared.items.ItemKind.{ItemKind}
+use Rattle.include_tree.specs.Below.line_shape.declared.items.ItemKind.TheVariants as kind
+use Rattle.include_tree.specs.Below.line_shape.Items.{items_of}
+use Rattle.include_tree.specs.Below.line_shape.Signs.{is_name, is_identifier}
 use Rattle.include_tree.specs.Below.source_files.Files.{Table}
 use Rattle.include_tree.specs.Below.source_files.HeaderNames.{is_header}
 use Rattle.include_tree.specs.Below.source_files.KeptFiles.{KeptValue, kept_in, kept_at}

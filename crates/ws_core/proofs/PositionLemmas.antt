@@ -10,7 +10,7 @@ use Rattle.std.proofs.lemmas.Option.{same_Some}
 use Rattle.cs_base.specs.declared.positions.Place.{Place}
 use Rattle.cs_base.specs.declared.positions.Pos.{Pos}
 use Rattle.cs_base.proofs.FileMapLemmas.{bytes_eq-same, bytes_eq-equal}
-use Rattle.line_shape.specs.MacroLine.{are_distinct}
+use Rattle.include_tree.specs.Below.line_shape.MacroLine.{are_distinct}
 use Rattle.line_laws.proofs.InverseLemmas.{characters_placed, places_inverse}
 use Rattle.include_tree.specs.Below.part_lexer.Lines.{byte_offset_of, line_column_of, offset_of, place_of_byte}
 use Rattle.include_tree.specs.Below.part_lexer.Places.{pos}

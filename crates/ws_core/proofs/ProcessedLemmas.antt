@@ -8,9 +8,9 @@ use Rattle.std.proofs.lemmas.Option.{same_Some}
 use Rattle.cs_base.specs.Token.{Token}
 use Rattle.include_tree.specs.Below.part_lexer.FileText.{TextValue, most_bytes, text_value, text_or_open, file_text}
 use Rattle.include_tree.specs.Below.part_lexer.Tokens.{tokens_of, firsts_of, open_comment_of}
-use Rattle.line_shape.specs.declared.items.Item.{Item}
-use Rattle.line_shape.specs.Items.{items_of}
-use Rattle.line_shape.specs.Signs.{is_name}
+use Rattle.include_tree.specs.Below.line_shape.declared.items.Item.{Item}
+use Rattle.include_tree.specs.Below.line_shape.Items.{items_of}
+use Rattle.include_tree.specs.Below.line_shape.Signs.{is_name}
 use Rattle.include_tree.specs.Below.unit_steps.declared.events.Reached.{Reached}
 use Rattle.include_tree.specs.Below.source_files.Files.{Table}
 use Rattle.include_tree.specs.Below.source_files.KeptFiles.{KeptValue, kept_at}

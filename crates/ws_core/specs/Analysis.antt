@@ -17,7 +17,7 @@ use Rattle.include_tree.specs.Below.unit_steps.Texts.{UnitTextValue}
 use Rattle.include_tree.specs.Preprocessed.{Preprocessed}
 use Rattle.c99_tree.specs.Tree.{Node}
 use Rattle.c99_read.specs.Reading.{Stop, syntax, too_deep, read_of}
-use Rattle.c99_grammar.specs.Standard.{grammar}
+use Rattle.c99_read.specs.Below.c99_grammar.Standard.{grammar}
 use Rattle.scope_bind.specs.Bound.{Bound, binding_of}
 use Rattle.scope_bind.specs.Causes.{cause_of, index_of}
 use Rattle.ws_core.specs.Texts.{UnitFault, unit_fault, unit_with}

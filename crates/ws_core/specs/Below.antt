@@ -1,7 +1,7 @@
 -- Words of the crates below, passed on: who needs them in definitions and proofs alone lists this crate in their place.
 pub use Rattle.cs_base.specs as cs_base
 pub use Rattle.include_tree.specs.Below.part_lexer as part_lexer
-pub use Rattle.line_shape.specs as line_shape
+pub use Rattle.include_tree.specs.Below.line_shape as line_shape
 pub use Rattle.ws_file.specs as ws_file
 pub use Rattle.macro_expand.specs.Below.paste_origin as paste_origin
 pub use Rattle.macro_expand.specs.Below.macro_body as macro_body
@@ -11,7 +11,7 @@ pub use Rattle.include_tree.specs.Below.source_files as source_files
 pub use Rattle.include_tree.specs.Below.unit_steps as unit_steps
 pub use Rattle.include_tree.specs as include_tree
 pub use Rattle.c99_tree.specs as c99_tree
-pub use Rattle.c99_grammar.specs as c99_grammar
+pub use Rattle.c99_read.specs.Below.c99_grammar as c99_grammar
 pub use Rattle.c99_read.specs as c99_read
 pub use Rattle.c_types.specs as c_types
 pub use Rattle.scope_bind.specs as scope_bind

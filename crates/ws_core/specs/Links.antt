@@ -7,7 +7,7 @@ use Rattle.std.specs.Str.{bytes_eq}
 use Rattle.cs_base.specs.declared.tokens.Link.{Link}
 use Rattle.cs_base.specs.Token.{Token}
 use Rattle.cs_base.specs.Units.{UnitValue}
-use Rattle.line_shape.specs.Signs.{is_name}
+use Rattle.include_tree.specs.Below.line_shape.Signs.{is_name}
 use Rattle.linkage_join.specs.Linkage.{UnitValue as ExternalNames, unit as external_names, link_to, links_of as external_links}
 use Rattle.scope_bind.specs.declared.bound.Name.{Name}
 use Rattle.c_types.specs.declared.entity.Linkage.TheVariants.{External}

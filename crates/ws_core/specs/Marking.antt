@@ -2,8 +2,8 @@
 use Rattle.std.specs.Prelude.{ℕ, ◌≡◌, ◌≤◌, ◌<◌, ◌⊎◌, Bool, true, false, List, [], Some, slice_get, slice_index_or, slice_range}
 use Rattle.cs_base.specs.Token.{Token}
 use Rattle.include_tree.specs.Below.part_lexer.Tokens.{tokens_of}
-use Rattle.line_shape.specs.Signs.{is_name}
-use Rattle.line_shape.specs.declared.items.Item.{Item}
+use Rattle.include_tree.specs.Below.line_shape.Signs.{is_name}
+use Rattle.include_tree.specs.Below.line_shape.declared.items.Item.{Item}
 use Rattle.include_tree.specs.Below.unit_steps.declared.events.Reached.{Reached}
 use Rattle.include_tree.specs.Below.source_files.Files.{Table}
 use Rattle.include_tree.specs.Below.source_files.KeptFiles.{KeptValue, kept_at}

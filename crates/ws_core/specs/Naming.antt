@@ -10,9 +10,9 @@ use Rattle.cs_base.specs.Token.{Token}
 use Rattle.include_tree.specs.Below.part_lexer.Lines.{offset_of}
 use Rattle.include_tree.specs.Below.part_lexer.Places.{pos}
 use Rattle.include_tree.specs.Below.part_lexer.Tokens.{tokens_of, firsts_of}
-use Rattle.line_shape.specs.declared.items.ItemKind.{ItemKind}
-use Rattle.line_shape.specs.declared.items.ItemKind.TheVariants as kind
-use Rattle.line_shape.specs.Signs.{is_name}
+use Rattle.include_tree.specs.Below.line_shape.declared.items.ItemKind.{ItemKind}
+use Rattle.include_tree.specs.Below.line_shape.declared.items.ItemKind.TheVariants as kind
+use Rattle.include_tree.specs.Below.line_shape.Signs.{is_name}
 use Rattle.include_tree.specs.Below.unit_steps.declared.events.Reached.{Reached}
 use Rattle.include_tree.specs.Below.source_files.Files.{Table}
 use Rattle.include_tree.specs.Below.source_files.HeaderNames.{is_header}

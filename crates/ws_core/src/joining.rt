@@ -1,6 +1,6 @@
 // One link, joined.
 ghost use Rattle.std.specs.Prelude.{◌≡◌, ◌<◌, ◌∷◌, [], OnOk};
-ghost use Rattle.line_shape.specs.Signs.{is_name};
+ghost use Rattle.include_tree.specs.Below.line_shape.Signs.{is_name};
 ghost use Rattle.ws_core.specs.Joins.{CanBeJoined, Joins, JoinsPair, link_of};
 ghost use Rattle.ws_core.specs.Links.{are_alike};
 

@@ -4,7 +4,7 @@ ghost use Rattle.include_tree.specs.Below.source_files.HeaderNames.{is_header};
 ghost use Rattle.ws_core.specs.Naming.{computed_name, nameable};
 
 use cs_base::{Kind, Tok};
-use line_shape::{Item, ItemKind};
+use include_tree::{Item, ItemKind};
 
 fn is_header(tok: &Tok) -> bool
     ensures { result ≡ is_header tok.now.kind }

@@ -3,7 +3,7 @@ ghost use Rattle.std.specs.Prelude.{◌≡◌, ℕ, false, Some, IfOk, OnOk, len
 ghost use Rattle.std.specs.Option.{option_map_or};
 ghost use Rattle.std.specs.List.{flat_map};
 ghost use Rattle.include_tree.specs.Below.part_lexer.Tokens.{tokens_of, firsts_of};
-ghost use Rattle.line_shape.specs.Items.{items_of};
+ghost use Rattle.include_tree.specs.Below.line_shape.Items.{items_of};
 ghost use Rattle.include_tree.specs.Below.source_files.Files.{Table};
 ghost use Rattle.include_tree.specs.Below.source_files.KeptFiles.{kept_at};
 ghost use Rattle.ws_core.specs.Marking.{is_marked, AreMarked, MarksItem, MarksTokens};
@@ -13,8 +13,7 @@ use crate::accepted::Accepted;
 use crate::marks::{Marks, mark_names};
 use crate::nameable::nameable_range;
 use cs_base::Memory;
-use include_tree::{KeptFile, Reached};
-use line_shape::Item;
+use include_tree::{Item, KeptFile, Reached};
 use std::alloc::Global;
 
 // How many tokens the kept file with a number has.

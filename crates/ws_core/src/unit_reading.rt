@@ -4,7 +4,7 @@ ghost use Rattle.std.specs.Option.{option_map};
 ghost use Rattle.cs_base.specs.Answer.{Gives, result_map_err};
 ghost use Rattle.c99_read.specs.Answer.{stop_of};
 ghost use Rattle.c99_read.specs.Reading.{read_of};
-ghost use Rattle.c99_grammar.specs.Standard.{grammar};
+ghost use Rattle.c99_read.specs.Below.c99_grammar.Standard.{grammar};
 ghost use Rattle.scope_bind.specs.Causes.{cause_of, index_of};
 ghost use Rattle.c_types.specs.Faults.{fault_of as name_fault_of};
 ghost use Rattle.ws_core.specs.Texts.{unit_fault};

@@ -1,6 +1,6 @@
 use Rattle.std.proofs.Common.{◌∙◌, ap, List}
 use Rattle.cs_base.specs.Token.{Token}
-use Rattle.line_shape.specs.Items.{items_of}
+use Rattle.include_tree.specs.Below.line_shape.Items.{items_of}
 use Rattle.ws_core.proofs.ProcessedLemmas.{text_told}
 use Rattle.ws_core.proofs.processed.items_in.Goals as goal
 

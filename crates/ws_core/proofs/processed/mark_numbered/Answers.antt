@@ -1,7 +1,7 @@
 use Rattle.std.proofs.Common.{List, sym, ◌∙◌, ap}
 use Rattle.std.specs.Prelude.{slice_get}
 use Rattle.std.proofs.lemmas.Option.{slice_get-get_or, slice_get_past}
-use Rattle.line_shape.specs.declared.items.Item.{Item}
+use Rattle.include_tree.specs.Below.line_shape.declared.items.Item.{Item}
 use Rattle.ws_core.proofs.ProcessedLemmas.{item_marked, marks_none, no_item, on_ok}
 use Rattle.ws_core.proofs.processed.mark_numbered.Goals as goal
 
