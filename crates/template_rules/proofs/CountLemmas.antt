@@ -4,7 +4,7 @@ use Rattle.std.specs.List.{flat_map}
 use Rattle.std.proofs.lemmas.List.{get_or_default, take_all}
 use Rattle.std.proofs.lemmas.Option.{slice_get_within, get_or_from_slice_get}
 use Rattle.ws_core.specs.Analysis.{UnitAnalysis}
-use Rattle.source_files.specs.Files.{Table}
+use Rattle.include_tree.specs.Below.source_files.Files.{Table}
 use Rattle.template_rules.specs.declared.counting.Declarator.{Declarator}
 use Rattle.template_rules.specs.Lists.{sooner, soonest}
 use Rattle.template_rules.proofs.StepLemmas.{flat_map-more}

@@ -6,12 +6,12 @@ use Rattle.std.specs.Option.{option_map}
 use Rattle.cs_base.specs.declared.positions.Part.{Part}
 use Rattle.cs_base.specs.Token.{Token}
 use Rattle.cs_base.specs.declared.causes.Cause.TheVariants as cause
-use Rattle.unit_steps.specs.declared.events.Event.{Event}
-use Rattle.unit_steps.specs.Texts.{UnitTextValue}
-use Rattle.c99_tree.specs.Tree.{Node}
-use Rattle.c_types.specs.declared.lists.List.{List as NameList}
-use Rattle.c_types.specs.declared.parameters.ParameterList.{ParameterList}
-use Rattle.c_types.specs.Parameters.{parameters_in}
+use Rattle.include_tree.specs.Below.unit_steps.declared.events.Event.{Event}
+use Rattle.include_tree.specs.Below.unit_steps.Texts.{UnitTextValue}
+use Rattle.ws_core.specs.Below.c99_tree.Tree.{Node}
+use Rattle.ws_core.specs.Below.c_types.declared.lists.List.{List as NameList}
+use Rattle.ws_core.specs.Below.c_types.declared.parameters.ParameterList.{ParameterList}
+use Rattle.ws_core.specs.Below.c_types.Parameters.{parameters_in}
 use Rattle.scope_bind.specs.declared.bound.Name.{Name}
 use Rattle.scope_bind.specs.Bound.{Bound}
 use Rattle.ws_core.specs.Analysis.{UnitAnalysis, AnalysisValue}

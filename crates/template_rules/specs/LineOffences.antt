@@ -7,14 +7,14 @@ use Rattle.cs_base.specs.declared.positions.Pos.{Pos}
 use Rattle.cs_base.specs.declared.tokens.Kind.{Kind}
 use Rattle.cs_base.specs.declared.tokens.Kind.TheVariants.{Other}
 use Rattle.cs_base.specs.Token.{Token}
-use Rattle.part_lexer.specs.Characters.{line_feed}
-use Rattle.part_lexer.specs.Logical.{Character, logical_of}
-use Rattle.part_lexer.specs.Tokens.{tokens_of}
-use Rattle.unit_steps.specs.declared.events.Reached.{Reached}
-use Rattle.source_files.specs.Files.{Table}
-use Rattle.source_files.specs.KeptFiles.{KeptValue, kept_in}
-use Rattle.c_types.specs.declared.lists.List.{List as NameList}
-use Rattle.unit_steps.specs.Texts.{UnitTextValue}
+use Rattle.ws_core.specs.Below.part_lexer.Characters.{line_feed}
+use Rattle.ws_core.specs.Below.part_lexer.Logical.{Character, logical_of}
+use Rattle.ws_core.specs.Below.part_lexer.Tokens.{tokens_of}
+use Rattle.include_tree.specs.Below.unit_steps.declared.events.Reached.{Reached}
+use Rattle.include_tree.specs.Below.source_files.Files.{Table}
+use Rattle.include_tree.specs.Below.source_files.KeptFiles.{KeptValue, kept_in}
+use Rattle.ws_core.specs.Below.c_types.declared.lists.List.{List as NameList}
+use Rattle.include_tree.specs.Below.unit_steps.Texts.{UnitTextValue}
 use Rattle.list_cuts.specs.Cuts.{numbers}
 use Rattle.template_rules.specs.Functions.{origin_of}
 use Rattle.template_rules.specs.Marks.{is_across}

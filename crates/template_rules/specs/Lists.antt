@@ -8,13 +8,13 @@ use Rattle.std.specs.declared.cmp.Ordering.TheVariants.{Less}
 use Rattle.cs_base.specs.declared.positions.Part.{Part}
 use Rattle.cs_base.specs.declared.positions.Pos.{Pos}
 use Rattle.cs_base.specs.Token.{Token}
-use Rattle.c_types.specs.declared.lists.List.{List as NameList}
-use Rattle.c_types.specs.declared.parameters.ParameterForm.{ParameterForm}
-use Rattle.c_types.specs.declared.parameters.ParameterForm.TheVariants.{Empty as empty, Identifiers as identifiers, Types as types, Ellipsis as ellipsis}
-use Rattle.c_types.specs.declared.parameters.ParameterList.{ParameterList}
-use Rattle.c_types.specs.Parameters.{parameters_in}
+use Rattle.ws_core.specs.Below.c_types.declared.lists.List.{List as NameList}
+use Rattle.ws_core.specs.Below.c_types.declared.parameters.ParameterForm.{ParameterForm}
+use Rattle.ws_core.specs.Below.c_types.declared.parameters.ParameterForm.TheVariants.{Empty as empty, Identifiers as identifiers, Types as types, Ellipsis as ellipsis}
+use Rattle.ws_core.specs.Below.c_types.declared.parameters.ParameterList.{ParameterList}
+use Rattle.ws_core.specs.Below.c_types.Parameters.{parameters_in}
 use Rattle.scope_bind.specs.declared.bound.Name.{Name}
-use Rattle.source_files.specs.Files.{Table}
+use Rattle.include_tree.specs.Below.source_files.Files.{Table}
 use Rattle.ws_core.specs.Analysis.{UnitAnalysis, AnalysisValue}
 use Rattle.rename_rules.specs.First.{position_cmp}
 use Rattle.template_rules.specs.declared.counting.Declarator.{Declarator}

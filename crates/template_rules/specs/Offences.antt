@@ -4,8 +4,8 @@ use Rattle.std.specs.Prelude.{ℕ, if◌then◌else◌, List, [], ◌++◌}
 use Rattle.std.specs.List.{flat_map}
 use Rattle.cs_base.specs.declared.causes.Cause.TheVariants as cause
 use Rattle.cs_base.specs.declared.positions.Part.{Part}
-use Rattle.c_types.specs.declared.lists.List.{List as NameList}
-use Rattle.c_types.specs.Parameters.{parameters_in}
+use Rattle.ws_core.specs.Below.c_types.declared.lists.List.{List as NameList}
+use Rattle.ws_core.specs.Below.c_types.Parameters.{parameters_in}
 use Rattle.ws_core.specs.Analysis.{UnitAnalysis, AnalysisValue}
 use Rattle.rename_rules.specs.declared.offences.Offence.{Offence}
 use Rattle.rename_rules.specs.First.{standing}

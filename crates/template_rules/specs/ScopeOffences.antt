@@ -6,14 +6,14 @@ use Rattle.std.specs.Option.{option_map_or}
 use Rattle.std.specs.Str.{bytes_eq}
 use Rattle.cs_base.specs.declared.positions.Pos.{Pos}
 use Rattle.cs_base.specs.Token.{Token}
-use Rattle.c99_tree.specs.Tree.{Forest, none, token, node}
-use Rattle.c99_tree.specs.declared.production.Production.TheVariants.{ExtRest, FunBody}
-use Rattle.c_types.specs.declared.entity.EntityKind.{EntityKind}
-use Rattle.c_types.specs.declared.entity.EntityKind.TheVariants as entity
-use Rattle.c_types.specs.declared.lists.List.{List as NameList}
-use Rattle.c_types.specs.declared.parameters.ParameterList.{ParameterList}
-use Rattle.c_types.specs.Declarations.{spelling_at, is_in}
-use Rattle.c_types.specs.Trees.{is_node, first_list}
+use Rattle.ws_core.specs.Below.c99_tree.Tree.{Forest, none, token, node}
+use Rattle.ws_core.specs.Below.c99_tree.declared.production.Production.TheVariants.{ExtRest, FunBody}
+use Rattle.ws_core.specs.Below.c_types.declared.entity.EntityKind.{EntityKind}
+use Rattle.ws_core.specs.Below.c_types.declared.entity.EntityKind.TheVariants as entity
+use Rattle.ws_core.specs.Below.c_types.declared.lists.List.{List as NameList}
+use Rattle.ws_core.specs.Below.c_types.declared.parameters.ParameterList.{ParameterList}
+use Rattle.ws_core.specs.Below.c_types.Declarations.{spelling_at, is_in}
+use Rattle.ws_core.specs.Below.c_types.Trees.{is_node, first_list}
 use Rattle.scope_bind.specs.declared.bound.Name.{Name}
 use Rattle.list_cuts.specs.Cuts.{numbers}
 use Rattle.template_rules.specs.Functions.{place_of}

@@ -12,9 +12,9 @@ use crate::functions::{Functions, names_function};
 use crate::macro_names::is_replacing;
 use crate::places::at_token;
 use cs_base::{Cause, Part, Tok};
+use include_tree::{Event, UnitText};
 use rename_rules::{Offence, first_with};
 use scope_bind::{Bound, EntityKind, List, Name};
-use unit_steps::{Event, UnitText};
 use ws_core::Analysis;
 
 // Whether an event replaces `__LINE__` by the number of its line.

@@ -11,10 +11,10 @@ use crate::counting::{arguments_of, parameters_of};
 use crate::functions::{Functions, names_function};
 use crate::places::{at_token, origin_of};
 use cs_base::{Cause, Memory, Part, Tok};
+use include_tree::{Reached, UnitText};
 use rename_rules::{Offence, first_with};
 use scope_bind::{Bound, List, ParameterList, parameter_lists};
 use std::alloc::Global;
-use unit_steps::{Reached, UnitText};
 use ws_core::Analysis;
 
 // `ReadOnly` at a list.

@@ -2,7 +2,7 @@
 ghost use Rattle.std.specs.Prelude.{◌≡◌};
 ghost use Rattle.std.specs.List.{flat_map};
 ghost use Rattle.cs_base.specs.declared.causes.Cause.TheVariants as cause;
-ghost use Rattle.line_shape.specs.Signs.{is_name};
+ghost use Rattle.include_tree.specs.Below.line_shape.Signs.{is_name};
 ghost use Rattle.rename_rules.specs.Class.{IsClass};
 ghost use Rattle.rename_rules.specs.First.{standing, FirstThen};
 ghost use Rattle.rename_rules.specs.Tokens.{first_place};
@@ -10,8 +10,8 @@ ghost use Rattle.template_rules.specs.Insides.{all_macro_names};
 ghost use Rattle.template_rules.specs.MacroOffences.{is_replacing, held_place, replaced_place, pasted_place};
 
 use cs_base::{Cause, Kind, Part, Tok};
+use include_tree::{Event, EventKind};
 use rename_rules::{Offence, first_with, holds_member};
-use unit_steps::{Event, EventKind};
 use ws_core::Analysis;
 
 // A cause that stands where a token begins.

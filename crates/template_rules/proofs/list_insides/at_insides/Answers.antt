@@ -1,6 +1,6 @@
 use Rattle.std.proofs.Common.{◌≡◌, ap, sym, ◌∙◌, arith}
 use Rattle.std.specs.List.{flat_map}
-use Rattle.unit_steps.specs.Texts.{UnitTextValue}
+use Rattle.include_tree.specs.Below.unit_steps.Texts.{UnitTextValue}
 use Rattle.scope_bind.specs.Bound.{Bound}
 use Rattle.rename_rules.proofs.FirstLemmas.{then_none, then_both}
 use Rattle.rename_rules.proofs.UnitLemmas.{unit_of_text, bound_of_unit}

@@ -1,7 +1,7 @@
 use Rattle.std.proofs.Common.{◌≡◌, ap, sym, ◌∙◌, arith}
 use Rattle.std.specs.List.{flat_map}
 use Rattle.cs_base.specs.declared.causes.Cause.TheVariants as cause
-use Rattle.unit_steps.specs.Texts.{UnitTextValue}
+use Rattle.include_tree.specs.Below.unit_steps.Texts.{UnitTextValue}
 use Rattle.rename_rules.specs.First.{standing}
 use Rattle.rename_rules.proofs.FirstLemmas.{then_none, then_both}
 use Rattle.rename_rules.proofs.UnitLemmas.{unit_of_text}
