@@ -1,13 +1,13 @@
 // How many parameters a function has, and the first of what stands against a new order of them, by its names, by the
 // parentheses and commas of its lists and by what happens inside these; worked by hand.
-ghost use Rattle.rename_rules.specs.Class.{IsClass};
+ghost use Rattle.template_rules.specs.Below.rename_rules.Class.{IsClass};
 
 use cs_base::Part;
-use rename_rules::Offence;
 use std::alloc::{AllocError, Global};
 use std::test::Fail;
 use template_rules::{
-    at_insides, at_macro_names, at_marks, at_names, has_functions, named_functions, parameter_count,
+    Offence, at_insides, at_macro_names, at_marks, at_names, has_functions, named_functions,
+    parameter_count,
 };
 use ws_core::{Analysis, analyse};
 use ws_file::read_ws;

@@ -9,3 +9,5 @@ pub mod Insides
 -- What stands against a new order besides: of these there are definitions alone.
 pub mod LineOffences
 pub mod Offences
+-- Words of the crates below, passed on.
+pub mod Below

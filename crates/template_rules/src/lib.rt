@@ -23,3 +23,4 @@ pub use list_insides::at_insides;
 pub use list_marks::at_marks;
 pub use macro_names::at_macro_names;
 pub use names::at_names;
+pub use rename_rules::Offence;
