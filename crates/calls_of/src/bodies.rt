@@ -2,34 +2,11 @@
 ghost use Rattle.std.specs.Prelude.{◌≡◌, ◌<◌, length, IfSome};
 ghost use Rattle.std.specs.List.{position, slice_range};
 ghost use Rattle.line_shape.specs.MacroLine.{is_function_like};
-ghost use Rattle.line_shape.specs.Signs.{is_sign, is_open, is_close};
+ghost use Rattle.line_shape.specs.Signs.{is_open, is_close};
 ghost use Rattle.calls_of.specs.Bodies.{behind_first_close, is_define, list_behind};
 
-use cs_base::{Kind, Tok};
-use line_shape::ItemKind;
-
-fn is_sign(tok: &Tok, spelling: &[u8]) -> bool
-    ensures { result ≡ is_sign spelling.now tok.now }
-{
-    match tok.kind() {
-        Kind::Punct => tok.text() == spelling,
-        _ => false,
-    }
-}
-
-#[tactic(auto, unfolding(line_shape::specs::Signs::is_open))]
-fn is_open(tok: &Tok) -> bool
-    ensures { result ≡ is_open tok.now }
-{
-    is_sign(tok, b"(")
-}
-
-#[tactic(auto, unfolding(line_shape::specs::Signs::is_close))]
-fn is_close(tok: &Tok) -> bool
-    ensures { result ≡ is_close tok.now }
-{
-    is_sign(tok, b")")
-}
+use cs_base::Tok;
+use line_shape::{ItemKind, is_close, is_open};
 
 // Whether the tokens behind a macro's name make it function-like.
 fn is_function_like(toks: &[Tok]) -> bool
@@ -46,7 +23,7 @@ fn close_at(toks: &[Tok]) -> Option<usize>
     ensures answer { result ≡ position is_close toks.now }
     ensures within { IfSome result (λ k. k < length toks.now) }
 {
-    toks.iter().position(is_close)
+    toks.iter().position(|tok| is_close(tok))
 }
 
 fn behind_first_close(toks: &[Tok]) -> &[Tok]

@@ -2,17 +2,15 @@
 ghost use Rattle.std.specs.Prelude.{◌≡◌, ◌∷◌, [], List, ℕ, None, IfOk, OnOk};
 ghost use Rattle.std.specs.Option.{option_copied};
 ghost use Rattle.ws_core.specs.Below.linkage_join.Firsts.{first_at};
-ghost use Rattle.ws_core.specs.Below.c_types.Declarations.{is_linkage};
-ghost use Rattle.ws_core.specs.Below.c_types.declared.entity.Linkage.TheVariants.{External};
-ghost use Rattle.ws_core.specs.Links.{external_names_from, is_bound_to, is_external_name, names_of_units};
+ghost use Rattle.ws_core.specs.Links.{external_names_from, names_of_units};
 ghost use Rattle.calls_of.specs.Calls.{first_in};
 ghost use Rattle.calls_of.specs.Externals.{own_name, Adds, AddsUnits};
 
 use cs_base::{Memory, Tok, Unit};
 use indexmap::IndexMap;
-use scope_bind::{Bound, Linkage};
+use scope_bind::Bound;
 use std::alloc::Global;
-use ws_core::Analysis;
+use ws_core::{Analysis, is_external_name};
 
 /// For a project and a spelling the first token, where there is one. The keys and the tokens are lent.
 #[derive(Drop)]
@@ -100,31 +98,5 @@ impl<'a> Firsts<'a> {
         let mut firsts = Firsts::new(alloc);
         firsts.keep_units(units, a)?;
         Ok(firsts)
-    }
-}
-
-// Whether a token is the first that declares an entity of external linkage.
-fn is_external_name(bound: &Bound, k: u32) -> bool
-    ensures { result ≡ is_external_name bound.now.names k }
-{
-    is_own_entity(bound, k) && is_external(bound.linkage(k))
-}
-
-// Whether the token is bound to the entity that it is the first to declare.
-fn is_own_entity(bound: &Bound, k: u32) -> bool
-    ensures { result ≡ is_bound_to bound.now.names k k }
-{
-    match bound.entity(k) {
-        Some(entity) => entity == k,
-        None => false,
-    }
-}
-
-pub(crate) fn is_external(linkage: Linkage) -> bool
-    ensures { result ≡ is_linkage linkage External }
-{
-    match linkage {
-        Linkage::External => true,
-        _ => false,
     }
 }

@@ -1,15 +1,11 @@
 // The report on calls.
 ghost use Rattle.std.specs.Prelude.{◌≡◌, ◌++◌, IfOk, OnOk};
-ghost use Rattle.include_tree.specs.Below.source_files.Faults.{place_of};
-ghost use Rattle.ws_core.specs.ClassReport.{place_text};
-ghost use Rattle.ws_core.specs.Places.{place_at};
 ghost use Rattle.calls_of.specs.Graphs.{calls_text, edge_line, node_text, numbered_text};
 
 use call_graphs::{Edge, Graph, Node};
-use cs_base::{Memory, Pos};
-use itoa::Buffer;
+use cs_base::Memory;
 use std::alloc::Global;
-use ws_core::Analysis;
+use ws_core::{Analysis, push_place};
 
 /// The report `calls`: a line `PATH:LINE:COL NAME -> PATH:LINE:COL NAME` for each edge of a graph, whose nodes stand in
 /// the files of the analysis.
@@ -49,30 +45,8 @@ fn push_numbered(text: &mut Vec<u8>, a: &Analysis, g: &Graph, number: u32) -> Re
 fn push_node(text: &mut Vec<u8>, a: &Analysis, node: &Node) -> Result<(), Memory>
     ensures { OnOk result (text.new.items ≡ text.old.items ++ node_text a.now.value.table node.now) }
 {
-    push_position(text, a, node.at)?;
+    push_place(text, a, node.at)?;
     text.extend_from_slice(b" ")?;
     text.extend_from_slice(node.name.bytes())?;
-    Ok(())
-}
-
-// Adds the place of a position.
-fn push_position(text: &mut Vec<u8>, a: &Analysis, at: Pos) -> Result<(), Memory>
-    ensures { OnOk result (text.new.items ≡ text.old.items ++ place_text (place_at a.now.value.table at)) }
-{
-    let (path, line, column) = a.place(at);
-    push_place(text, path, (line, column))
-}
-
-// Adds a place of this path.
-fn push_place(text: &mut Vec<u8>, path: &[u8], place: (u32, u32)) -> Result<(), Memory>
-    ensures { OnOk result (text.new.items ≡ text.old.items ++ place_text (place_of path.now place)) }
-{
-    let mut line = Buffer::new();
-    let mut column = Buffer::new();
-    text.extend_from_slice(path)?;
-    text.extend_from_slice(b":")?;
-    text.extend_from_slice(line.format(place.0).as_bytes())?;
-    text.extend_from_slice(b":")?;
-    text.extend_from_slice(column.format(place.1).as_bytes())?;
     Ok(())
 }

@@ -9,7 +9,6 @@ ghost use Rattle.calls_of.specs.Graphs.{event_node};
 ghost use Rattle.calls_of.specs.InUnits.{first_of, function_node, macro_around, function_around, caller_of, entity_call, direct_call, replacing, replacement_call, unit_calls, function_named, unit_nodes};
 
 use crate::call::{NamedCall, call_for, push_call};
-use crate::firsts::is_external;
 use crate::known::Known;
 use crate::named::{Named, event_node, node_named, push_node};
 use crate::one_unit::OneUnit;
@@ -18,6 +17,7 @@ use call_graphs::NodeKind;
 use cs_base::{Memory, Pos, Tok};
 use include_tree::{Event, EventKind};
 use scope_bind::{EntityKind, List};
+use ws_core::is_external;
 
 impl<'a> OneUnit<'a> {
     // The first occurrence of an entity.

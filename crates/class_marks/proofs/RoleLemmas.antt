@@ -10,7 +10,7 @@ use Rattle.cs_base.specs.declared.positions.Pos.{Pos}
 use Rattle.cs_base.specs.Token.{Token}
 use Rattle.eclass_map.specs.ClassTable.{Table, class_in, part_of}
 use Rattle.eclass_map.specs.Positions.{holds}
-use Rattle.rename_rules.proofs.ClassLemmas.{held_character, part_once}
+use Rattle.ws_core.proofs.PartLemmas.{held_character, part_once}
 use Rattle.ws_core.specs.Analysed.{Analysed}
 use Rattle.ws_core.specs.Classes.{AreItsClasses}
 use Rattle.ws_core.specs.Parts.{Holds, IsPart}

@@ -14,5 +14,4 @@ mod roles;
 
 pub use marks::{is_marked, marks_of};
 pub use read_only::has_read_only;
-pub use rename_rules::numbers_brought;
 pub use roles::Role;

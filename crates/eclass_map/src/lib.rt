@@ -23,3 +23,4 @@ mod wholeness;
 
 pub use class_table::Classes;
 pub use laws::joins_relabel_little;
+pub use token_list::part_holds;

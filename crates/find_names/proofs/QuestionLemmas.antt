@@ -11,7 +11,7 @@ use Rattle.cs_base.specs.declared.positions.Part.{Part}
 use Rattle.cs_base.specs.declared.positions.Pos.{Pos}
 use Rattle.ws_core.specs.Below.eclass_map.Positions.{holds}
 use Rattle.cs_base.proofs.FileMapLemmas.{bytes_eq-equal}
-use Rattle.unused_names.proofs.Below.rename_rules.ClassLemmas.{part_once}
+use Rattle.ws_core.proofs.PartLemmas.{part_once}
 use Rattle.include_tree.specs.Below.source_files.Files.{Entry, Table}
 use Rattle.ws_core.specs.Analysis.{AnalysisValue}
 use Rattle.ws_core.specs.Naming.{Names, file_named, named_position}

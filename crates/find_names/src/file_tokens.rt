@@ -12,7 +12,6 @@ use cs_base::{Kind, Memory, Part, Pos, Tok};
 use include_tree::KeptFile;
 use indexmap::IndexSet;
 use std::alloc::Global;
-use unused_names::numbers_brought;
 use ws_core::Analysis;
 
 // Where a token begins, and how many characters it has.
@@ -120,8 +119,7 @@ impl FileTokens {
     {
         let mut tokens = FileTokens::new(alloc);
         tokens.push_files(a)?;
-        let numbers = numbers_brought(alloc, a)?;
-        tokens.push_all(&numbers)?;
+        tokens.push_all(a.numbers_brought())?;
         Ok(tokens)
     }
 

@@ -2,9 +2,6 @@
 ghost use Rattle.std.specs.Prelude.{◌≡◌, ◌<◌, ◌^◌, ◌++◌, Ok, IfErr, IfOk, IfSome, MatchBool, OnOk, length};
 ghost use Rattle.ws_core.specs.Parts.{AreMembers, IsFirst, IsPart};
 ghost use Rattle.ws_core.specs.Spellings.{spelling_of};
-ghost use Rattle.ws_core.specs.ClassReport.{place_text};
-ghost use Rattle.ws_core.specs.Places.{place_at};
-ghost use Rattle.include_tree.specs.Below.source_files.Faults.{place_of};
 ghost use Rattle.query_words.specs.Queries.{Query};
 ghost use Rattle.query_words.specs.Reading.{parsed};
 ghost use Rattle.find_names.specs.FileTokens.{AreFileTokens};
@@ -20,7 +17,7 @@ use cs_base::{Memory, Part};
 use itoa::Buffer;
 use query_words::{Facts, satisfies};
 use std::alloc::Global;
-use ws_core::Analysis;
+use ws_core::{Analysis, push_place};
 
 // Whether the class of a first member is in question and satisfies the query.
 fn is_found(
@@ -48,28 +45,13 @@ fn is_found(
     Ok(is_in_question(a, tokens, part))
 }
 
-// Adds the place of the first member of a class.
-fn push_place(text: &mut Vec<u8>, path: &[u8], place: (u32, u32)) -> Result<(), Memory>
-    ensures { OnOk result (text.new.items ≡ text.old.items ++ place_text (place_of path.now place)) }
-{
-    let mut line = Buffer::new();
-    let mut column = Buffer::new();
-    text.extend_from_slice(path)?;
-    text.extend_from_slice(b":")?;
-    text.extend_from_slice(line.format(place.0).as_bytes())?;
-    text.extend_from_slice(b":")?;
-    text.extend_from_slice(column.format(place.1).as_bytes())?;
-    Ok(())
-}
-
 // Adds the line of a class of so many members, by its first one.
 fn push_counted(text: &mut Vec<u8>, a: &Analysis, part: Part, count: usize) -> Result<(), Memory>
     requires { IsPart a.now.value part }
     ensures { OnOk result (text.new.items ≡ text.old.items ++ found_line a.now.value part count) }
 {
-    let (path, line, column) = a.place(part.start);
     let mut digits = Buffer::new();
-    push_place(text, path, (line, column))?;
+    push_place(text, a, part.start)?;
     text.extend_from_slice(b" ")?;
     text.extend_from_slice(digits.format(count).as_bytes())?;
     text.extend_from_slice(b" ")?;

@@ -15,7 +15,8 @@ pub fn is_name(tok: &Tok) -> bool
     }
 }
 
-fn is_word(tok: &Tok, spelling: &[u8]) -> bool
+/// An identifier of this spelling.
+pub fn is_word(tok: &Tok, spelling: &[u8]) -> bool
     ensures { result ≡ is_word spelling.now tok.now }
 {
     match tok.kind() {
@@ -24,7 +25,8 @@ fn is_word(tok: &Tok, spelling: &[u8]) -> bool
     }
 }
 
-fn is_sign(tok: &Tok, spelling: &[u8]) -> bool
+/// A punctuator of this spelling.
+pub fn is_sign(tok: &Tok, spelling: &[u8]) -> bool
     ensures { result ≡ is_sign spelling.now tok.now }
 {
     match tok.kind() {

@@ -9,8 +9,8 @@ ghost use Rattle.macro_body.specs.Sound.{is_traced, chains_traced};
 use crate::definitions::Definition;
 use crate::parameters::{parameter_at, quoted_parameter};
 use crate::shared_tokens::shared;
-use crate::signs::is_paste;
 use cs_base::{Memory, Tok};
+use line_shape::is_paste;
 use std::alloc::Global;
 use std::marker::Model;
 

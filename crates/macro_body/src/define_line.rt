@@ -10,8 +10,8 @@ ghost use Rattle.macro_body.specs.Defining.{defined_by, definition_of};
 
 use crate::definitions::{Definition, Form};
 use crate::shared_tokens::{all_shared, names_shared, shared};
-use crate::signs::{is_close, is_ellipsis, is_open};
 use cs_base::{Memory, Tok, Toks};
+use line_shape::{is_close, is_ellipsis, is_open};
 use std::alloc::Global;
 
 impl Definition {
@@ -76,11 +76,11 @@ fn close_at(toks: &[Tok]) -> Option<usize>
     ensures answer { result ≡ position is_close toks.now }
     ensures within { IfSome result (λ k. k < length toks.now) }
 {
-    toks.iter().position(is_close)
+    toks.iter().position(|tok| is_close(tok))
 }
 
 fn has_ellipsis(list: &[Tok]) -> bool
     ensures { result ≡ list_any is_ellipsis list.now }
 {
-    list.iter().any(is_ellipsis)
+    list.iter().any(|tok| is_ellipsis(tok))
 }

@@ -7,8 +7,8 @@ ghost use Rattle.macro_body.specs.Macro.{is_function, named_or_rest, parameter_a
 ghost use Rattle.macro_body.specs.Bodies.{next_parameter, quoted_parameter};
 
 use crate::definitions::{Definition, Form};
-use crate::signs::{is_hash, is_name};
 use cs_base::Tok;
+use line_shape::{is_hash, is_name};
 
 /// Which parameter a token of the replacement list names, from 0.
 pub fn parameter_at(m: &Definition, tok: &Tok) -> Option<usize>

@@ -2,8 +2,8 @@
 ghost use Rattle.std.specs.Prelude.{◌≡◌, ◌++◌, IfOk, filter};
 ghost use Rattle.line_shape.specs.Signs.{is_name};
 
-use crate::signs::is_name;
 use cs_base::{Memory, Tok};
+use line_shape::is_name;
 use std::alloc::Global;
 
 /// The same token.

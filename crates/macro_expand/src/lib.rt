@@ -23,6 +23,6 @@ mod rest;
 
 pub use expansion::expand;
 pub use macro_body::{
-    Definition, ExpandFault, Form, Macros, Notes, Replacement, Work, is_close, is_name, is_open,
-    line_number,
+    Definition, ExpandFault, Form, Macros, Notes, Replacement, Work, all_shared, is_close, is_name,
+    is_open, is_word, line_number, push_shared, shared,
 };

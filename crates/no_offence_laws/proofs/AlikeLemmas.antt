@@ -19,7 +19,8 @@ use Rattle.rename_rules.specs.Below.ws_core.Links.{links_of, linked_pairs, pair_
 use Rattle.rename_rules.specs.Below.ws_core.Parts.{Begins, IsCharacter, IsStart, IsPart}
 use Rattle.rename_rules.proofs.Below.ws_core.ClassLemmas.{character_told, same_told, same_held, part_held, held_by}
 use Rattle.rename_rules.specs.Class.{IsClass}
-use Rattle.rename_rules.proofs.ClassLemmas.{same_pos, over_member, over_other}
+use Rattle.rename_rules.proofs.Below.eclass_map.PartPlaces.{same_pos}
+use Rattle.rename_rules.proofs.ClassLemmas.{over_member, over_other}
 use Rattle.no_offence_laws.proofs.ListLemmas.{In}
 use Rattle.no_offence_laws.proofs.SpellLemmas.{PutAlike, spelled-alike}
 use Rattle.no_offence_laws.proofs.TracedLemmas.{GoOn, AreChained, Traced}

@@ -19,7 +19,8 @@ use Rattle.rename_rules.specs.Below.ws_core.Analysis.{UnitAnalysis, AnalysisValu
 use Rattle.rename_rules.specs.Below.ws_core.FileTokens.{kept_tokens, entry_tokens, table_tokens, numbers_brought, file_tokens, span_of, IsFileToken}
 use Rattle.rename_rules.specs.Below.ws_core.Parts.{IsCharacter, IsStart, IsPart, AreMembers}
 use Rattle.rename_rules.proofs.Below.ws_core.NamingLemmas.{split_at, in_left, in_right, in_filter}
-use Rattle.rename_rules.proofs.ClassLemmas.{same_pos, held_character}
+use Rattle.rename_rules.proofs.Below.eclass_map.PartPlaces.{same_pos}
+use Rattle.rename_rules.proofs.Below.ws_core.PartLemmas.{held_character}
 use Rattle.rename_rules.specs.Tokens.{file_toks, entry_tokens as entry_toks, kept_tokens as kept_toks, all_file_tokens}
 use Rattle.no_offence_laws.proofs.ListLemmas.{In, found}
 

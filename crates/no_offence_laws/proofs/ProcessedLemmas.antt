@@ -45,7 +45,7 @@ use Rattle.rename_rules.specs.Below.ws_core.Parts.{AreSame, IsPart, IsStart}
 use Rattle.rename_rules.proofs.Below.ws_core.NamingLemmas.{split_at, in_left, in_right, filter_in, any_in}
 use Rattle.rename_rules.proofs.Below.ws_core.PlaceNameLemmas.{kept_number}
 use Rattle.rename_rules.proofs.Below.ws_core.TokenPlaceLemmas.{token_placed}
-use Rattle.rename_rules.proofs.ClassLemmas.{same_pos}
+use Rattle.rename_rules.proofs.Below.eclass_map.PartPlaces.{same_pos}
 use Rattle.rename_rules.specs.Tokens.{holds_member}
 use Rattle.edited_unit_laws.specs.Lines.{Each}
 use Rattle.no_offence_laws.specs.Allowed.{IsAllowed}

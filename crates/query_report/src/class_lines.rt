@@ -1,20 +1,17 @@
 // The report `class`: the members of the class that a place names.
 ghost use Rattle.std.specs.Prelude.{◌≡◌, ◌++◌, ℕ, Err, None, Some, false, IfOk, OnOk, slice_get};
-ghost use Rattle.include_tree.specs.Below.source_files.Faults.{place_of};
 ghost use Rattle.include_tree.specs.Below.source_files.KeptFiles.{kept_at};
-ghost use Rattle.ws_core.specs.ClassReport.{IsClassReport, part_line, part_lines, place_text};
+ghost use Rattle.ws_core.specs.ClassReport.{IsClassReport, part_line, part_lines};
 ghost use Rattle.ws_core.specs.Naming.{file_named};
 ghost use Rattle.ws_core.specs.Parts.{IsPart};
-ghost use Rattle.ws_core.specs.Places.{place_at};
 ghost use Rattle.query_report.specs.Paths.{has_path};
 ghost use Rattle.query_report.specs.declared.queries.QueryRefusal.TheVariants.{NoName};
 
 use crate::queries::QueryRefusal;
-use cs_base::{Memory, Part, Place, Pos};
-use itoa::Buffer;
+use cs_base::{Memory, Part, Place};
 use std::alloc::Global;
 use std::str;
-use ws_core::Analysis;
+use ws_core::{Analysis, push_place};
 
 /// The members of the class of the name at a place, each as `PATH:LINE:COL TEXT` on a line, in the order of
 /// their places.
@@ -87,31 +84,9 @@ fn push_part(text: &mut Vec<u8>, a: &Analysis, part: Part) -> Result<(), Memory>
     requires { IsPart a.now.value part }
     ensures { OnOk result (text.new.items ≡ text.old.items ++ part_line a.now.value part) }
 {
-    push_position(text, a, part.start)?;
+    push_place(text, a, part.start)?;
     text.extend_from_slice(b" ")?;
     text.extend_from_slice(a.spelling(part))?;
     text.extend_from_slice(b"\n")?;
-    Ok(())
-}
-
-/// Adds the place of a position.
-pub(crate) fn push_position(text: &mut Vec<u8>, a: &Analysis, at: Pos) -> Result<(), Memory>
-    ensures { OnOk result (text.new.items ≡ text.old.items ++ place_text (place_at a.now.value.table at)) }
-{
-    let (path, line, column) = a.place(at);
-    push_place(text, path, (line, column))
-}
-
-// Adds a place of this path.
-fn push_place(text: &mut Vec<u8>, path: &[u8], place: (u32, u32)) -> Result<(), Memory>
-    ensures { OnOk result (text.new.items ≡ text.old.items ++ place_text (place_of path.now place)) }
-{
-    let mut line = Buffer::new();
-    let mut column = Buffer::new();
-    text.extend_from_slice(path)?;
-    text.extend_from_slice(b":")?;
-    text.extend_from_slice(line.format(place.0).as_bytes())?;
-    text.extend_from_slice(b":")?;
-    text.extend_from_slice(column.format(place.1).as_bytes())?;
     Ok(())
 }

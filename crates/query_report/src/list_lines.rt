@@ -2,11 +2,11 @@
 ghost use Rattle.std.specs.Prelude.{◌≡◌, ◌++◌, IfOk, OnOk};
 ghost use Rattle.query_report.specs.Queries.{line_of, lines_of, PrintsUnneeded, PrintsUnused};
 
-use crate::class_lines::{part_lines, push_position};
+use crate::class_lines::part_lines;
 use cs_base::{Memory, Pos};
 use std::alloc::Global;
 use unused_names::{unneeded, unused};
-use ws_core::Analysis;
+use ws_core::{Analysis, push_place};
 
 /// The first member of each class that is declared and not used, each as `PATH:LINE:COL NAME` on a line.
 pub(crate) fn unused_report(alloc: Global, a: &Analysis) -> Result<Vec<u8>, Memory>
@@ -40,7 +40,7 @@ fn place_lines(alloc: Global, a: &Analysis, places: &[Pos]) -> Result<Vec<u8>, M
 fn push_line(text: &mut Vec<u8>, a: &Analysis, at: Pos) -> Result<(), Memory>
     ensures { OnOk result (text.new.items ≡ text.old.items ++ line_of a.now.value at) }
 {
-    push_position(text, a, at)?;
+    push_place(text, a, at)?;
     text.extend_from_slice(b"\n")?;
     Ok(())
 }

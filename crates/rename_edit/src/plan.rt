@@ -135,7 +135,7 @@ fn spelling_offences(
     ensures { IfOk result (λ now. FirstThen a.now.value.table (spelling_offences a.now.value members.now name.now) first now) }
 {
     let table = respellings(alloc, a, members, number, name, toks)?;
-    let words = occurring(alloc, a, members, name, toks, &table, first)?;
+    let words = occurring(a, members, name, toks, &table, first);
     let pairs = clashing(alloc, a, members, number, name, toks, &table, words)?;
     let sizes = too_large(alloc, a, members, number, name, pairs)?;
     Ok(shadowed(a, members, name, toks, &table, sizes))

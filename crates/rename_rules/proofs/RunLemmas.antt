@@ -15,7 +15,7 @@ use Rattle.ws_core.specs.Analysis.{AnalysisValue}
 use Rattle.ws_core.specs.Parts.{IsStart, IsPart, AreMembers, part_cmp}
 use Rattle.ws_core.proofs.ListingLemmas.{in_one_file}
 use Rattle.rename_rules.specs.Runs.{with_member, runs, is_in, run_length, AreApart}
-use Rattle.rename_rules.proofs.ClassLemmas.{same_pos}
+use Rattle.eclass_map.proofs.PartPlaces.{same_pos}
 
 -- ---- members of one file are apart
 

@@ -2,7 +2,7 @@
 use Rattle.std.proofs.Common.{◌≡◌, true, false, inl, inr, ℕ, zero, suc, ◌+◌, ◌-◌, ◌<◌, ◌≤◌, Bool, List, [], ◌∷◌, ◌++◌, length, take, drop, get_or, Option, Some, None, slice_get, refl, sym, ap, ◌∙◌, append_assoc, append-nil, arith}
 use Rattle.std.specs.Prelude.{◌||◌, filter, is_some}
 use Rattle.std.specs.List.{flat_map, list_any}
-use Rattle.std.specs.Option.{option_map, option_map_or}
+use Rattle.std.specs.Option.{option_map_or}
 use Rattle.std.proofs.Math.Bool.{or-false}
 use Rattle.std.proofs.lemmas.Bool.{cases_Bool}
 use Rattle.std.proofs.lemmas.List.Folds.{list_any-append}
@@ -16,8 +16,6 @@ use Rattle.cs_base.specs.declared.positions.Pos.{Pos}
 use Rattle.cs_base.specs.Token.{Token, origin_at}
 use Rattle.include_tree.specs.Below.source_files.Files.{Table, Entry, Absent, entry}
 use Rattle.include_tree.specs.Below.source_files.KeptFiles.{kept_at}
-use Rattle.include_tree.specs.Below.unit_steps.Texts.{UnitTextValue}
-use Rattle.scope_bind.specs.Bound.{Bound}
 use Rattle.ws_core.specs.Analysis.{AnalysisValue, UnitAnalysis}
 use Rattle.ws_core.specs.BroughtNumbers.{all_brought}
 use Rattle.ws_core.specs.FileTokens.{file_tokens, kept_tokens as parted_tokens, numbers_brought, table_tokens}
@@ -27,30 +25,6 @@ use Rattle.rename_rules.specs.Tokens.{file_toks, holders, holds_member, kept_tok
 use Rattle.rename_rules.proofs.FirstLemmas.{then_none, then_both, then_next}
 
 -- ---- units
-
-text_in : (r : Option UnitAnalysis) (text : UnitTextValue) → option_map (λ (u : UnitAnalysis). u.text) r ≡ Some text
-    → (u : UnitAnalysis) × (r ≡ Some u) × (u.text ≡ text)
-text_in None text e = absurd (cc)
-text_in (Some u) text e = (u, refl, cc)
-
--- the unit whose text is told
-pub unit_of_text : (units : List UnitAnalysis) (k : ℕ) (text : UnitTextValue) → option_map (λ (u : UnitAnalysis). u.text) (slice_get units (k + 1 - 1)) ≡ Some text
-    → (u : UnitAnalysis) × (slice_get units k ≡ Some u) × (u.text ≡ text)
-unit_of_text units k text e =
-    let same : k + 1 - 1 ≡ k = omega arith in
-    let f : option_map (λ (u : UnitAnalysis). u.text) (slice_get units k) ≡ Some text = rw same at e in
-    text_in (slice_get units k) text f
-
-bound_in : (r : Option UnitAnalysis) (u : UnitAnalysis) (bound : Bound) → r ≡ Some u → option_map (λ (u : UnitAnalysis). u.bound) r ≡ Some bound → u.bound ≡ bound
-bound_in None u bound is e = absurd (cc)
-bound_in (Some v) u bound is e = cc
-
-pub bound_of_unit : (units : List UnitAnalysis) (k : ℕ) (u : UnitAnalysis) (bound : Bound) → slice_get units k ≡ Some u
-    → option_map (λ (u : UnitAnalysis). u.bound) (slice_get units (k + 1 - 1)) ≡ Some bound → u.bound ≡ bound
-bound_of_unit units k u bound is e =
-    let same : k + 1 - 1 ≡ k = omega arith in
-    let f : option_map (λ (u : UnitAnalysis). u.bound) (slice_get units k) ≡ Some bound = rw same at e in
-    bound_in (slice_get units k) u bound is f
 
 pub unit_next : (table : Table) (cause : Cause) (g : UnitAnalysis → List Pos) (units : List UnitAnalysis) (k : ℕ) (u : UnitAnalysis)
     (a b c : Option Offence) → slice_get units k ≡ Some u → FirstThen table (standing cause (flat_map g (take k units))) a b
@@ -211,14 +185,3 @@ holders_are a members files numbers all f n p =
     filter-append (holds_member members) (table_tokens 0 a.table) (all_brought a.units) ∙ ap (λ (ts : List Token). ts ++ held (all_brought a.units)) (sym f) ∙ sym n in
     p ∙ ap (λ (ts : List Token). ts ++ held (pasted_tokens a)) (sym both)
     ∙ sym (filter-append (holds_member members) (table_tokens 0 a.table ++ all_brought a.units) (pasted_tokens a))
-
-pub numbers_next : (units : List UnitAnalysis) (k : ℕ) (u : UnitAnalysis) (all more : List Token) → slice_get units k ≡ Some u
-    → all ≡ all_brought (take k units) → more ≡ all ++ numbers_brought u.text → more ≡ all_brought (take (k + 1) units)
-numbers_next units k u all more at so_far added =
-    let within = slice_get_within units k u at in
-    let next : take (k + 1) units ≡ take k units ++ u ∷ [] =
-    take_more units k u within ∙ ap (λ (v : UnitAnalysis). take k units ++ v ∷ []) (get_or_from_slice_get units k u u at) in
-    added ∙ ap (λ (ts : List Token). ts ++ numbers_brought u.text) so_far
-    ∙ ap (λ (ts : List Token). all_brought (take k units) ++ ts) (sym (append-nil (numbers_brought u.text)))
-    ∙ sym (flat_map-append (λ (v : UnitAnalysis). numbers_brought v.text) (take k units) (u ∷ []))
-    ∙ ap all_brought (sym next)

@@ -3,9 +3,9 @@ pub use Rattle.cs_base.specs as cs_base
 pub use Rattle.ws_core.specs.Below.part_lexer as part_lexer
 pub use Rattle.ws_core.specs.Below.line_shape as line_shape
 pub use Rattle.ws_core.specs.Below.ws_file as ws_file
-pub use Rattle.macro_expand.specs.Below.paste_origin as paste_origin
-pub use Rattle.macro_expand.specs.Below.macro_body as macro_body
-pub use Rattle.macro_expand.specs as macro_expand
+pub use Rattle.ws_core.specs.Below.paste_origin as paste_origin
+pub use Rattle.ws_core.specs.Below.macro_body as macro_body
+pub use Rattle.ws_core.specs.Below.macro_expand as macro_expand
 pub use Rattle.include_tree.specs.Below.source_files as source_files
 pub use Rattle.include_tree.specs.Below.unit_steps as unit_steps
 pub use Rattle.include_tree.specs as include_tree

@@ -9,7 +9,7 @@ ghost use Rattle.rename_rules.specs.Class.{IsApart, IsClass};
 ghost use Rattle.rename_rules.specs.Tokens.{holds_member, member_of};
 
 use cs_base::{Part, Pos, Tok};
-use eclass_map::Classes;
+use eclass_map::{Classes, part_holds};
 use ws_core::Analysis;
 
 // Whether a part is one of the class with this number.
@@ -59,13 +59,6 @@ pub(crate) fn length(tok: &Tok) -> u32
     tok.text().len() as u32
 }
 
-// Whether the part holds the character.
-fn holds(part: Part, pos: Pos) -> bool
-    ensures { result ≡ holds part pos }
-{
-    part.start.file == pos.file && (part.start.at <= pos.at && pos.at - part.start.at < part.len)
-}
-
 // Whether a member holds a character. No member has characters of the part `apart`, which is the part of this one
 // afterwards, if no member holds it: the characters of one part are looked up once.
 fn lies_in_member(a: &Analysis, members: &[Part], number: u32, pos: Pos, apart: &mut Part) -> bool
@@ -74,7 +67,7 @@ fn lies_in_member(a: &Analysis, members: &[Part], number: u32, pos: Pos, apart: 
     ensures answer { result ≡ is_some (member_over members.now pos) }
     ensures apart { IsApart members.now apart.new }
 {
-    if holds(*apart, pos) {
+    if part_holds(*apart, pos) {
         return false;
     }
     let classes = a.classes();

@@ -8,7 +8,6 @@ ghost use Rattle.rename_rules.specs.Class.{IsClass};
 ghost use Rattle.rename_rules.specs.Tokens.{holders, holds_member, pasted_tokens};
 
 use crate::classes::holds_member;
-use crate::numbers::numbers_brought;
 use cs_base::{Kind, Memory, Part, Tok};
 use include_tree::KeptFile;
 use std::alloc::Global;
@@ -150,8 +149,7 @@ pub fn holders(
 {
     let mut out = Vec::new(alloc);
     push_files(&mut out, a, members, number)?;
-    let numbers = numbers_brought(alloc, a)?;
-    push_all(&mut out, a, members, number, &numbers)?;
+    push_all(&mut out, a, members, number, a.numbers_brought())?;
     push_pasted(&mut out, a, members, number)?;
     Ok(out)
 }

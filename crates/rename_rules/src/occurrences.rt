@@ -10,7 +10,6 @@ ghost use Rattle.rename_rules.specs.Offences.{occurring_place, occurring_places}
 ghost use Rattle.rename_rules.specs.Respellings.{AreRespellings};
 ghost use Rattle.rename_rules.specs.Tokens.{file_toks, first_place, holders, kept_tokens, pasted_tokens};
 
-use crate::numbers::numbers_brought;
 use crate::offences::{Offence, first_with};
 use crate::respelling_table::{Respelling, is_new_spelling};
 use cs_base::{Cause, Memory, Part, Tok};
@@ -150,20 +149,19 @@ fn occurring_in_pasted(
 /// `Occurs`: at each file token, and at each pasted token, whose spelling is a new spelling of the tokens that hold
 /// members; the table tells their spellings. All tokens are looked at once.
 pub fn occurring(
-    alloc: Global,
     a: &Analysis,
     members: &[Part],
     name: &[u8],
     toks: &[Tok],
     table: &[Respelling],
     first: Option<Offence>,
-) -> Result<Option<Offence>, Memory>
+) -> Option<Offence>
     requires toks { toks.now ≡ holders a.now.value members.now }
     requires told { AreRespellings members.now name.now toks.now table.now }
-    ensures { IfOk result (λ now. FirstThen a.now.value.table (standing cause.Occurs (occurring_places a.now.value members.now name.now)) first now) }
+    ensures { FirstThen a.now.value.table (standing cause.Occurs (occurring_places a.now.value members.now name.now)) first result }
 {
-    let numbers = numbers_brought(alloc, a)?;
     let in_files = occurring_in_files(a, members, name, toks, table, first);
-    let in_numbers = occurring_in(a, members, name, toks, table, &numbers, in_files);
-    Ok(occurring_in_pasted(a, members, name, toks, table, in_numbers))
+    let brought = a.numbers_brought();
+    let in_numbers = occurring_in(a, members, name, toks, table, brought, in_files);
+    occurring_in_pasted(a, members, name, toks, table, in_numbers)
 }

@@ -15,7 +15,7 @@ use Rattle.ws_core.specs.Below.c_types.Parameters.{parameters_in}
 use Rattle.scope_bind.specs.declared.bound.Name.{Name}
 use Rattle.scope_bind.specs.Bound.{Bound}
 use Rattle.ws_core.specs.Analysis.{UnitAnalysis, AnalysisValue}
-use Rattle.rename_rules.proofs.UnitLemmas.{unit_of_text, bound_of_unit}
+use Rattle.ws_core.proofs.OneUnitLemmas.{unit_of_text, bound_of_unit}
 use Rattle.template_rules.specs.Functions.{AreFunctionsOf, AreFunctions}
 use Rattle.template_rules.specs.Lists.{declarator_of, declarators_in}
 use Rattle.template_rules.specs.NameOffences.{name_offences, unit_names}

@@ -4,7 +4,7 @@ ghost use Rattle.std.specs.List.{list_all, list_any};
 ghost use Rattle.std.specs.Option.{option_map};
 ghost use Rattle.cs_base.specs.Answer.{Gives};
 ghost use Rattle.cs_base.specs.Token.{Token};
-ghost use Rattle.macro_expand.specs.Below.line_shape.Signs.{is_open, is_name, is_word, is_close};
+ghost use Rattle.macro_expand.specs.Below.line_shape.Signs.{is_open, is_name, is_close};
 ghost use Rattle.macro_expand.specs.Below.macro_body.Sound.{is_traced, is_low};
 ghost use Rattle.source_files.specs.Files.{Table};
 ghost use Rattle.unit_steps.specs.State.{onward};
@@ -19,22 +19,12 @@ ghost use Rattle.unit_steps.specs.Moments.{state_in, IsAble, GoesOn};
 
 use crate::events::EventKind;
 use crate::progress::Progress;
-use crate::shared_tokens::shared;
 use crate::source_text::SourceText;
 use cond_eval::{CondFault, eval};
 use cs_base::{Cause, Kind, Memory, Pos, Tok};
-use macro_expand::{is_close, is_name, is_open};
+use macro_expand::{is_close, is_name, is_open, is_word, shared};
 use source_files::PreFault;
 use std::alloc::Global;
-
-fn is_word(tok: &Tok, spelling: &[u8]) -> bool
-    ensures { result ≡ is_word spelling.now tok.now }
-{
-    match tok.kind() {
-        Kind::Ident => tok.text() == spelling,
-        _ => false,
-    }
-}
 
 // The word `defined`.
 fn is_defined(tok: &Tok) -> bool

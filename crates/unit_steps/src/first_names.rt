@@ -3,9 +3,9 @@ ghost use Rattle.std.specs.Prelude.{◌≡◌, [], ℕ, List, is_some, IfOk, opt
 ghost use Rattle.unit_steps.specs.Names.{spelled_in};
 ghost use Rattle.unit_steps.specs.FirstNames.{names_with};
 
-use crate::shared_tokens::shared;
 use cs_base::{Memory, Tok};
 use indexmap::IndexMap;
+use macro_expand::shared;
 use std::alloc::Global;
 use std::marker::Model;
 

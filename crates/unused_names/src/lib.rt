@@ -19,6 +19,6 @@ mod spans;
 mod unneeded_lines;
 mod unused_classes;
 
-pub use class_marks::{Role, has_read_only, is_marked, marks_of, numbers_brought};
+pub use class_marks::{Role, has_read_only, is_marked, marks_of};
 pub use unneeded_lines::unneeded;
 pub use unused_classes::{is_unused, unused};

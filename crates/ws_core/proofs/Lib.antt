@@ -3,6 +3,8 @@ pub mod AnswerLemmas
 pub mod TextsLemmas
 pub mod UnitsLemmas
 pub mod ClassLemmas
+pub mod PartLemmas
+pub mod OneUnitLemmas
 pub mod NamingLemmas
 pub mod TokenPlaceLemmas
 pub mod TokenSearchLemmas

@@ -10,6 +10,7 @@ ghost use Rattle.include_tree.specs.Below.source_files.Tables.{AreText, HasEachO
 ghost use Rattle.ws_core.specs.Analysis.{analysis_of};
 ghost use Rattle.ws_core.specs.AnalysisAnswers.{IsAnalysedOr};
 ghost use Rattle.ws_core.specs.Answers.{fault_of, reads_of};
+ghost use Rattle.ws_core.specs.BroughtNumbers.{AreNumbers, all_brought};
 ghost use Rattle.ws_core.specs.Carrying.{IsOver};
 ghost use Rattle.ws_core.specs.Classes.{AreItsClasses};
 ghost use Rattle.ws_core.specs.Naming.{Names};
@@ -21,6 +22,7 @@ ghost use Rattle.ws_core.specs.Spellings.{spelling_of};
 use crate::accepted::Accepted;
 use crate::accepting::accept;
 use crate::analyse_fault::AnalyseFault;
+use crate::brought::all_brought;
 use crate::class_lists::lists;
 use crate::file_tokens::{file_classes, numbers};
 use crate::linking::join_links;
@@ -48,6 +50,7 @@ pub struct Analysis {
     classes: Classes,
     lists: Lists,
     marks: Vec<Marks>,
+    brought: Vec<Tok>,
     numbers: Vec<Tok>,
 }
 
@@ -63,7 +66,7 @@ impl Model for Analysis {
 
     ghost view = { λ a. analysed a.accepted a.classes };
 
-    ghost invariant = { λ a. IsAnalysed a.accepted a.classes a.lists a.marks.items a.numbers.items };
+    ghost invariant = { λ a. IsAnalysed a.accepted a.classes a.lists a.marks.items a.brought.items a.numbers.items };
 }
 
 /// Preprocesses, reads and binds all units of a workspace in order, and joins what must be spelled alike.
@@ -106,24 +109,27 @@ fn with_classes(alloc: Global, accepted: Accepted) -> Result<Analysis, Memory>
 {
     // The first number is that of the pseudo file of lines, which is not kept.
     let _files = accepted.files();
-    let classes = joined_classes(alloc, &accepted)?;
+    let brought = all_brought(alloc, accepted.units())?;
+    let numbers = numbers(alloc, &brought)?;
+    let classes = joined_classes(alloc, &accepted, &numbers)?;
     let lists = lists(alloc, &accepted, &classes)?;
     let marks = processed(alloc, &accepted)?;
-    let numbers = numbers(alloc, &accepted)?;
     Ok(Analysis {
         accepted,
         classes,
         lists,
         marks,
+        brought,
         numbers,
     })
 }
 
 // The table of classes: the file tokens, with the links joined.
-fn joined_classes(alloc: Global, accepted: &Accepted) -> Result<Classes, Memory>
+fn joined_classes(alloc: Global, accepted: &Accepted, numbers: &[Tok]) -> Result<Classes, Memory>
+    requires { AreNumbers (all_brought accepted.now.units) numbers.now }
     ensures { IfOk result (λ t. AreItsClasses accepted.now t) }
 {
-    let mut classes = file_classes(alloc, accepted)?;
+    let mut classes = file_classes(alloc, accepted, numbers)?;
     join_links(alloc, accepted, &mut classes)?;
     Ok(classes)
 }
@@ -268,6 +274,13 @@ impl Analysis {
         ensures { result.now ≡ spelling_of self.now.value part }
     {
         spelling(&self.accepted, &self.numbers, part)
+    }
+
+    /// The numbers that the units bring, each for each time that it is brought. Takes no memory.
+    pub fn numbers_brought(&self) -> &[Tok]
+        ensures { result.now ≡ all_brought self.now.value.units }
+    {
+        &self.brought
     }
 
     /// The first member of each class, in the order of their places. Takes no memory.

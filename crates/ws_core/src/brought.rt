@@ -8,7 +8,7 @@ ghost use Rattle.ws_core.specs.FileTokens.{number_of_event, numbers_brought};
 use crate::accepted::UnitParts;
 use cs_base::{Memory, Tok};
 use include_tree::{Event, EventKind, UnitText};
-use macro_expand::line_number;
+use macro_expand::{line_number, push_shared};
 use std::alloc::Global;
 
 /// The numbers that the units bring, each for each time that it is brought.
@@ -74,14 +74,4 @@ fn number_of(alloc: Global, name: &Tok) -> Result<Tok, Memory>
         return Err(Memory);
     }
     line_number(alloc, name)
-}
-
-// Adds the same tokens.
-fn push_shared(all: &mut Vec<Tok>, toks: &[Tok]) -> Result<(), Memory>
-    ensures { OnOk result (all.new.items ≡ all.old.items ++ toks.now) }
-{
-    for tok in toks {
-        all.push(tok.share(tok.gap(), tok.at(), tok.line(), tok.direct())?)?;
-    }
-    Ok(())
 }

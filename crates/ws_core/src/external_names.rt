@@ -8,6 +8,7 @@ use crate::accepted::UnitParts;
 use crate::occurrences::count_of;
 use cs_base::{Memory, Text, Tok, Toks, Unit};
 use linkage_join::UnitNames;
+use macro_expand::shared;
 use scope_bind::{Bound, Linkage};
 use std::alloc::Global;
 
@@ -42,13 +43,14 @@ fn external_names(alloc: Global, bound: &Bound, toks: &[Tok]) -> Result<Vec<Tok>
     let mut all = Vec::new(alloc);
     for k in 0..count {
         if is_external_name(bound, k) {
-            all.push(copied(&toks[k as usize])?)?;
+            all.push(shared(&toks[k as usize])?)?;
         }
     }
     Ok(all)
 }
 
-fn is_external_name(bound: &Bound, k: u32) -> bool
+/// Whether a token is the first that declares an entity of external linkage.
+pub fn is_external_name(bound: &Bound, k: u32) -> bool
     ensures { result ≡ is_external_name bound.now.names k }
 {
     is_own_entity(bound, k) && is_external(bound.linkage(k))
@@ -64,17 +66,12 @@ fn is_own_entity(bound: &Bound, k: u32) -> bool
     }
 }
 
-fn is_external(linkage: Linkage) -> bool
+/// Whether a linkage is external.
+pub fn is_external(linkage: Linkage) -> bool
     ensures { result ≡ is_linkage linkage External }
 {
     match linkage {
         Linkage::External => true,
         _ => false,
     }
-}
-
-fn copied(tok: &Tok) -> Result<Tok, Memory>
-    ensures { IfOk result (λ copy. copy ≡ tok.now) }
-{
-    tok.share(tok.gap(), tok.at(), tok.line(), tok.direct())
 }

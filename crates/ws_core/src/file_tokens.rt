@@ -10,34 +10,34 @@ ghost use Rattle.ws_core.specs.FileTokens.{kept_tokens, span_of, table_tokens};
 
 use crate::accepted::Accepted;
 use crate::adding::Adding;
-use crate::brought::all_brought;
 use crate::number_order::each_once;
 use cs_base::{Kind, Memory, Tok};
 use eclass_map::Classes;
 use include_tree::KeptFile;
+use macro_expand::all_shared;
 use std::alloc::Global;
 
 /// The table of classes whose tokens are the file tokens, and none of which are linked yet. Numbers of lines
 /// come first, since their file has number 0, and then each kept file by its number; so tokens are added in the
 /// order of their places. Tokens that overlap, and characters past the numbers that they can have, are answered
 /// by `Memory`.
-pub(crate) fn file_classes(alloc: Global, a: &Accepted) -> Result<Classes, Memory>
+pub(crate) fn file_classes(alloc: Global, a: &Accepted, numbers: &[Tok]) -> Result<Classes, Memory>
+    requires { AreNumbers (all_brought a.now.units) numbers.now }
     ensures tokens { IfOk result (λ t. HasFileTokens a.now t) }
     ensures links { IfOk result (λ t. AreLinks [] t) }
     ensures parts { IfOk result (λ t. HasParts t) }
 {
-    let brought = numbers(alloc, a)?;
     let mut adding = Adding::new(alloc);
-    add_toks(&mut adding, &brought)?;
+    add_toks(&mut adding, numbers)?;
     add_files(&mut adding, a)?;
     Ok(adding.into_classes())
 }
 
-/// The numbers that the units brought, one for each place, in the order of their places.
-pub(crate) fn numbers(alloc: Global, a: &Accepted) -> Result<Vec<Tok>, Memory>
-    ensures { IfOk result (λ numbers. AreNumbers (all_brought a.now.units) numbers.items) }
+/// Numbers that units brought, one for each place, in the order of their places.
+pub(crate) fn numbers(alloc: Global, brought: &[Tok]) -> Result<Vec<Tok>, Memory>
+    ensures { IfOk result (λ numbers. AreNumbers brought.now numbers.items) }
 {
-    each_once(alloc, all_brought(alloc, a.units())?)
+    each_once(alloc, all_shared(alloc, brought)?)
 }
 
 // Adds all of these tokens.

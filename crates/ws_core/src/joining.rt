@@ -1,11 +1,11 @@
 // One link, joined.
 ghost use Rattle.std.specs.Prelude.{◌≡◌, ◌<◌, ◌∷◌, [], OnOk};
-ghost use Rattle.include_tree.specs.Below.line_shape.Signs.{is_name};
 ghost use Rattle.ws_core.specs.Joins.{CanBeJoined, Joins, JoinsPair, link_of};
 ghost use Rattle.ws_core.specs.Links.{are_alike};
 
-use cs_base::{Kind, Memory, Steps, Tok};
+use cs_base::{Memory, Steps, Tok};
 use eclass_map::Classes;
+use macro_expand::is_name;
 use std::marker::Brand;
 use std::sync::ledger::{Blank, Ledger};
 
@@ -28,16 +28,6 @@ fn are_alike(x: &Tok, y: &Tok) -> bool
     ensures { result ≡ are_alike (link_of x.now y.now) }
 {
     is_name(x) && is_name(y) && x.text() == y.text()
-}
-
-/// Whether a token is an identifier.
-pub(crate) fn is_name(tok: &Tok) -> bool
-    ensures { result ≡ is_name tok.now }
-{
-    match tok.kind() {
-        Kind::Ident => true,
-        _ => false,
-    }
 }
 
 // The tokens are joined; the blank is for a count of steps that nobody reads.

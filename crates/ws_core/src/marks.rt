@@ -2,8 +2,8 @@
 ghost use Rattle.std.specs.Prelude.{◌≡◌, ◌≤◌, IfOk, OnOk, false, true, length, replicate, slice_set, slice_index_or};
 ghost use Rattle.ws_core.specs.Marking.{is_marked, SetsMark, MarksNames};
 
-use crate::joining::is_name;
 use cs_base::{Memory, Tok};
+use macro_expand::is_name;
 use std::alloc::Global;
 use std::marker::Model;
 

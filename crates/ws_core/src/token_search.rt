@@ -7,6 +7,7 @@ ghost use Rattle.ws_core.specs.TokenSearch.{AreInLine, IsOver, begins_by};
 
 use crate::adding::span;
 use cs_base::{Pos, Tok};
+use eclass_map::part_holds;
 
 // Whether a token begins at the character or before it.
 fn begins_by(tok: &Tok, at: u32) -> bool
@@ -19,9 +20,7 @@ fn begins_by(tok: &Tok, at: u32) -> bool
 fn holds(tok: &Tok, pos: Pos) -> bool
     ensures { result ≡ holds (span_of tok.now) pos }
 {
-    let part = span(tok);
-    let start = part.start;
-    start.file == pos.file && (start.at <= pos.at && pos.at - start.at < part.len)
+    part_holds(span(tok), pos)
 }
 
 // How many tokens begin at the character or before it.

@@ -5,9 +5,9 @@ ghost use Rattle.unit_steps.specs.Keeping.{no_text, noted_in, put_in, replaced_e
 
 use super::UnitText;
 use crate::events::{Event, EventKind, Reached};
-use crate::shared_tokens::{push_links, push_shared, shared};
+use crate::shared_links::push_links;
 use cs_base::{Link, Memory, Pos, Tok};
-use macro_expand::{Notes, Replacement};
+use macro_expand::{Notes, Replacement, push_shared, shared};
 use std::alloc::Global;
 
 #[tactic(auto, unfolding(crate::specs::Texts::reached_in))]

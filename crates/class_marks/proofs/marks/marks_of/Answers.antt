@@ -6,7 +6,7 @@ use Rattle.eclass_map.specs.ClassTable.{Table, class_in}
 use Rattle.scope_bind.specs.Bound.{Bound}
 use Rattle.scope_bind.specs.declared.bound.Name.{Name}
 use Rattle.include_tree.specs.Below.unit_steps.Texts.{UnitTextValue}
-use Rattle.rename_rules.proofs.UnitLemmas.{bound_of_unit, unit_of_text}
+use Rattle.ws_core.proofs.OneUnitLemmas.{bound_of_unit, unit_of_text}
 use Rattle.ws_core.specs.Analysis.{UnitAnalysis}
 use Rattle.class_marks.specs.Marks.{with_tokens}
 use Rattle.class_marks.specs.Roles.{names_in, names_with}

@@ -17,5 +17,5 @@ returns c =
     let s4 = standing cause.ShadowedTypedef (shadowed_places a ms) in
     let t = c.args.a.now.value.table in
     then_both t (s1 ++ s2 ++ s3) s4 _ _ _
-    (then_both t (s1 ++ s2) s3 _ _ _ (then_both t s1 s2 _ _ _ c.in_ok-words.ensures c.in_ok-pairs.ensures) c.in_ok-sizes.ensures)
+    (then_both t (s1 ++ s2) s3 _ _ _ (then_both t s1 s2 _ _ _ c.occurring-words.ensures c.in_ok-pairs.ensures) c.in_ok-sizes.ensures)
     c.shadowed.ensures

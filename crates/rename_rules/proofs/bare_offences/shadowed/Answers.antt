@@ -7,7 +7,8 @@ use Rattle.ws_core.specs.Analysis.{UnitAnalysis}
 use Rattle.rename_rules.specs.Offences.{bare_places, shadowed_places}
 use Rattle.rename_rules.proofs.FirstLemmas.{then_none, then_all}
 use Rattle.rename_rules.proofs.OccurrenceLemmas.{bare_unit}
-use Rattle.rename_rules.proofs.UnitLemmas.{bound_of_unit, unit_of_text, unit_next}
+use Rattle.ws_core.proofs.OneUnitLemmas.{bound_of_unit, unit_of_text}
+use Rattle.rename_rules.proofs.UnitLemmas.{unit_next}
 use Rattle.rename_rules.proofs.bare_offences.shadowed.Goals as goal
 
 pub loop-unit-init : goal.loop-unit-init

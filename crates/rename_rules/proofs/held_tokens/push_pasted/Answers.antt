@@ -2,7 +2,8 @@ use Rattle.std.proofs.Common.{arith}
 use Rattle.ws_core.specs.Analysis.{UnitAnalysis}
 use Rattle.rename_rules.specs.Tokens.{holds_member, pasted_tokens}
 use Rattle.std.proofs.lemmas.List.{take_all}
-use Rattle.rename_rules.proofs.UnitLemmas.{unit_of_text, held_units_more}
+use Rattle.ws_core.proofs.OneUnitLemmas.{unit_of_text}
+use Rattle.rename_rules.proofs.UnitLemmas.{held_units_more}
 use Rattle.rename_rules.proofs.held_tokens.push_pasted.Goals as goal
 
 pub loop-unit-preserved : goal.loop-unit-preserved

@@ -5,7 +5,8 @@ use Rattle.ws_core.specs.Analysis.{UnitAnalysis}
 use Rattle.rename_rules.specs.Offences.{stringized_places}
 use Rattle.rename_rules.specs.Tokens.{starts_in}
 use Rattle.rename_rules.proofs.FirstLemmas.{then_none, then_all}
-use Rattle.rename_rules.proofs.UnitLemmas.{unit_of_text, unit_next}
+use Rattle.ws_core.proofs.OneUnitLemmas.{unit_of_text}
+use Rattle.rename_rules.proofs.UnitLemmas.{unit_next}
 use Rattle.rename_rules.proofs.member_offences.stringized.Goals as goal
 
 pub loop-unit-init : goal.loop-unit-init

@@ -5,7 +5,8 @@ use Rattle.ws_core.specs.Analysis.{UnitAnalysis}
 use Rattle.rename_rules.specs.Offences.{occurring_place}
 use Rattle.rename_rules.specs.Tokens.{pasted_tokens}
 use Rattle.rename_rules.proofs.FirstLemmas.{then_none}
-use Rattle.rename_rules.proofs.UnitLemmas.{unit_of_text, unit_tokens_next}
+use Rattle.ws_core.proofs.OneUnitLemmas.{unit_of_text}
+use Rattle.rename_rules.proofs.UnitLemmas.{unit_tokens_next}
 use Rattle.rename_rules.proofs.occurrences.occurring_in_pasted.Goals as goal
 
 pub loop-unit-init : goal.loop-unit-init

@@ -1,5 +1,5 @@
 use Rattle.std.proofs.Common.{◌≡◌, length, arith}
-use Rattle.rename_rules.proofs.UnitLemmas.{unit_of_text, bound_of_unit}
+use Rattle.ws_core.proofs.OneUnitLemmas.{unit_of_text, bound_of_unit}
 use Rattle.template_rules.specs.Functions.{AreFunctionsOf}
 use Rattle.template_rules.proofs.FunctionLemmas.{before_none, before_next, before_all}
 use Rattle.template_rules.proofs.functions.named_functions.Goals as goal

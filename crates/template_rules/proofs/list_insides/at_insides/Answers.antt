@@ -3,7 +3,7 @@ use Rattle.std.specs.List.{flat_map}
 use Rattle.include_tree.specs.Below.unit_steps.Texts.{UnitTextValue}
 use Rattle.scope_bind.specs.Bound.{Bound}
 use Rattle.rename_rules.proofs.FirstLemmas.{then_none, then_both}
-use Rattle.rename_rules.proofs.UnitLemmas.{unit_of_text, bound_of_unit}
+use Rattle.ws_core.proofs.OneUnitLemmas.{unit_of_text, bound_of_unit}
 use Rattle.template_rules.specs.Insides.{list_insides, unit_insides}
 use Rattle.template_rules.proofs.StepLemmas.{more_unit, more_all}
 use Rattle.template_rules.proofs.UnitLemmas.{functions_told, insides_told}

@@ -4,7 +4,7 @@ use Rattle.cs_base.specs.declared.causes.Cause.TheVariants as cause
 use Rattle.include_tree.specs.Below.unit_steps.Texts.{UnitTextValue}
 use Rattle.rename_rules.specs.First.{standing}
 use Rattle.rename_rules.proofs.FirstLemmas.{then_none, then_both}
-use Rattle.rename_rules.proofs.UnitLemmas.{unit_of_text}
+use Rattle.ws_core.proofs.OneUnitLemmas.{unit_of_text}
 use Rattle.template_rules.specs.Insides.{unit_macro_names}
 use Rattle.template_rules.specs.MacroOffences.{replaced_place, pasted_place}
 use Rattle.template_rules.proofs.StepLemmas.{more_unit, more_all}

@@ -2,7 +2,7 @@ use Rattle.std.proofs.Common.{◌≡◌, ◌≤◌, ◌<◌, ◌++◌, true, fal
 use Rattle.ws_core.specs.Links.{external_names_from, is_external_name}
 use Rattle.ws_core.proofs.ExternalLemmas.{names_skip, names_more, names_end}
 use Rattle.ws_core.proofs.external_names.external_names.Goals as goal
-use Rattle.ws_core.proofs.external_names.external_names.Goals.{then-is_external_name+in_ok-copied+in_ok-push, else-is_external_name}
+use Rattle.ws_core.proofs.external_names.external_names.Goals.{then-is_external_name+in_ok-shared+in_ok-push, else-is_external_name}
 
 pub loop-k-preserved : goal.loop-k-preserved
 loop-k-preserved c =
@@ -12,12 +12,12 @@ loop-k-preserved c =
     let whole = external_names_from names 0 toks in
     let within : k < length toks = omega (arith, c.loop-k.invariant.counted, c.loop-k-test.true) in
     elim c.if-is_external_name.branch [
-      | then-is_external_name+in_ok-copied+in_ok-push w ↦
+      | then-is_external_name+in_ok-shared+in_ok-push w ↦
           let t = w.index-toks-k.result in
           let own : is_external_name names k ≡ true = sym c.is_external_name.ensures ∙ w.if-is_external_name.true in
           record {
             counted = c.loop-k.invariant.counted;
-            rest = names_more names toks k t w.in_ok-copied.field-0 c.loop-k.all.items c.if-is_external_name.all.items whole within own w.index-toks-k.is w.in_ok-copied.ensures (rw w.all-is w.in_ok-push.ensures.items)
+            rest = names_more names toks k t w.in_ok-shared.field-0 c.loop-k.all.items c.if-is_external_name.all.items whole within own w.index-toks-k.is w.in_ok-shared.ensures (rw w.all-is w.in_ok-push.ensures.items)
                 c.loop-k.invariant.rest;
           }
       | else-is_external_name w ↦

@@ -7,6 +7,6 @@ use Rattle.ws_core.proofs.file_tokens.file_classes.Goals as goal
 pub returns-clause-tokens : goal.returns-clause-tokens
 returns-clause-tokens c =
     let files : List Part = map span_of (table_tokens 0 c.args.a.now.table) in
-    let numbers = rw (c.new-adding.ensures, c.deref.ensures.value) at c.in_ok-add_toks.ensures in
-    has_file_tokens c.args.a.now c.into_classes.result c.in_ok-brought.brought.items c.in_ok-brought.ensures
+    let numbers = rw c.new-adding.ensures at c.in_ok-add_toks.ensures in
+    has_file_tokens c.args.a.now c.into_classes.result c.args.numbers.now c.requires
     (c.into_classes.ensures.tokens ∙ c.in_ok-add_files.ensures ∙ ap (λ (ps : List Part). ps ++ files) numbers)

@@ -1,24 +1,8 @@
-// Tokens whose text and origins are shared.
+// Links whose tokens are shared.
 ghost use Rattle.std.specs.Prelude.{◌≡◌, ◌++◌, IfOk};
 
-use cs_base::{Link, Memory, Tok};
-
-/// The same token.
-pub fn shared(tok: &Tok) -> Result<Tok, Memory>
-    ensures { IfOk result (λ t. t ≡ tok.now) }
-{
-    tok.share(tok.gap(), tok.at(), tok.line(), tok.direct())
-}
-
-/// Adds the same tokens.
-pub fn push_shared(all: &mut Vec<Tok>, toks: &[Tok]) -> Result<(), Memory>
-    ensures { IfOk result (λ _. all.new.items ≡ all.old.items ++ toks.now) }
-{
-    for tok in toks {
-        all.push(shared(tok)?)?;
-    }
-    Ok(())
-}
+use cs_base::{Link, Memory};
+use macro_expand::shared;
 
 /// The same link.
 pub fn shared_link(link: &Link) -> Result<Link, Memory>
