@@ -51,7 +51,12 @@ const KEPT: &str = "inc/h.h:extern int n;\n@a.c:#include \"inc/h.h\"\nint n;\n";
 
 const SHADOWED: &str = "a.c:typedef int t;\nvoid f(int t) { int g(t); }\n";
 
-const ROWS: [Row; 20] = [
+const GENERIC: &str = "a.c:int _Generic;\n";
+
+const BOTH: &str =
+    "a.c:#if __STDC_VERSION__ >= 201112L\n_Static_assert(sizeof(int) > 0, \"s\");\nstruct s { struct { int n; }; };\nint f(struct s *p) { return p->n; }\n#endif\nint n;\nint g(void) { return n; }\n";
+
+const ROWS: [Row; 23] = [
     Row {
         ws: "file a.c\nfile b.c\n",
         files: EXTERNAL,
@@ -186,6 +191,35 @@ const ROWS: [Row; 20] = [
         column: 5,
         name: "while",
         want: "a.c:1:5: reserved",
+    },
+    // A keyword of C11 is no name of a unit of C99 either.
+    Row {
+        ws: "file a.c\nfile b.c\n",
+        files: EXTERNAL,
+        path: "a.c",
+        line: 1,
+        column: 5,
+        name: "_Generic",
+        want: "a.c:1:5: reserved",
+    },
+    Row {
+        ws: "file a.c\n",
+        files: GENERIC,
+        path: "a.c",
+        line: 1,
+        column: 5,
+        name: "x",
+        want: "a.c:1:5: reserved",
+    },
+    // A file in two units, one of each standard: a member of the one, and a name of both.
+    Row {
+        ws: "file a.c\nstandard c11\nfile a.c\n",
+        files: BOTH,
+        path: "a.c",
+        line: 3,
+        column: 25,
+        name: "m",
+        want: "a.c 2:#if __STDC_VERSION__ >= 201112L\n_Static_assert(sizeof(int) > 0, \"s\");\nstruct s { struct { int m; }; };\nint f(struct s *p) { return p->m; }\n#endif\nint n;\nint g(void) { return n; }\n@",
     },
     Row {
         ws: "file a.c\nfile b.c\n",

@@ -35,7 +35,7 @@ const HEADER_STARTED: &str =
 const HEADER_RENAMED: &str =
     "w.cs:ipath i\nfile a.c\n@i/h.h:#define G sum\nextern int sum;\n@a.c:#include \"h.h\"\nint sum;\nint f(void) { return G; }\n";
 
-pub const ROWS: [Row; 40] = [
+pub const ROWS: [Row; 44] = [
     // The names of two files are one class.
     Row {
         files: TWO_FILES,
@@ -395,6 +395,42 @@ pub const ROWS: [Row; 40] = [
         out: "cscout 0.1\n",
         err: "",
         status: Status::Done,
+    },
+    // An anonymous member, in a unit of C11.
+    Row {
+        files: "w.cs:standard c11\nfile a.c\n@a.c:struct s { int k; union { int a; long b; }; };\n_Static_assert(sizeof(struct s) > 0, \"s\");\nint f(struct s *p) { return p->a + p->k; }\n",
+        words: "w.cs rename a.c 1 31 v",
+        after: "w.cs:standard c11\nfile a.c\n@a.c:struct s { int k; union { int v; long b; }; };\n_Static_assert(sizeof(struct s) > 0, \"s\");\nint f(struct s *p) { return p->v + p->k; }\n",
+        out: "edited a.c 2\n",
+        err: "",
+        status: Status::Done,
+    },
+    // The same in a unit of C99.
+    Row {
+        files: "w.cs:file a.c\n@a.c:struct s { int k; union { int a; long b; }; };\n_Static_assert(sizeof(struct s) > 0, \"s\");\nint f(struct s *p) { return p->a + p->k; }\n",
+        words: "w.cs rename a.c 1 31 v",
+        after: "w.cs:file a.c\n@a.c:struct s { int k; union { int a; long b; }; };\n_Static_assert(sizeof(struct s) > 0, \"s\");\nint f(struct s *p) { return p->a + p->k; }\n",
+        out: "",
+        err: "cscout: unit 1: a.c:1:43: syntax\n",
+        status: Status::Workspace,
+    },
+    // No such standard.
+    Row {
+        files: "w.cs:standard c17\nfile a.c\n@a.c:struct s { int k; union { int a; long b; }; };\n_Static_assert(sizeof(struct s) > 0, \"s\");\nint f(struct s *p) { return p->a + p->k; }\n",
+        words: "w.cs rename a.c 1 31 v",
+        after: "w.cs:standard c17\nfile a.c\n@a.c:struct s { int k; union { int a; long b; }; };\n_Static_assert(sizeof(struct s) > 0, \"s\");\nint f(struct s *p) { return p->a + p->k; }\n",
+        out: "",
+        err: "cscout: w.cs:1: bad workspace line\n",
+        status: Status::Workspace,
+    },
+    // A project begins with C99.
+    Row {
+        files: "w.cs:standard c11\nproject p\nfile a.c\n@a.c:struct s { int k; union { int a; long b; }; };\n_Static_assert(sizeof(struct s) > 0, \"s\");\nint f(struct s *p) { return p->a + p->k; }\n",
+        words: "w.cs rename a.c 1 31 v",
+        after: "w.cs:standard c11\nproject p\nfile a.c\n@a.c:struct s { int k; union { int a; long b; }; };\n_Static_assert(sizeof(struct s) > 0, \"s\");\nint f(struct s *p) { return p->a + p->k; }\n",
+        out: "",
+        err: "cscout: unit 1: a.c:1:43: syntax\n",
+        status: Status::Workspace,
     },
 ];
 

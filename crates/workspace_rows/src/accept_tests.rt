@@ -121,6 +121,37 @@ int a;
 @h.h:int h;
 $read h.h
 %
+One file in two units of different standards.
+$0
+$file a.c
+standard c11
+file a.c
+$a.c:#if __STDC_VERSION__ >= 201112L
+_Static_assert(sizeof(int) > 0, \"s\");
+#endif
+extern int n;
+int g(void) { return n; }
+$14 tokens, 3 names
+26 tokens, 3 names
+4 files
+%
+A unit of C11 is read by C11, and the one behind it by C99.
+$0
+$standard c11
+file a.c
+standard c99
+file a.c
+$a.c:struct s { struct { int a; }; };
+$unit 2: a.c:1:29: syntax
+%
+A word of the other standard is a name.
+$0
+$file a.c
+standard c11
+file a.c
+$a.c:int _Generic;
+$unit 2: a.c:1:5: syntax
+%
 Both units are accepted; no fourth read is made.
 $4
 $file a.c

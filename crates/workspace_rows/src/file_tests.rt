@@ -19,7 +19,12 @@ const LINES: &str = "\
     file x/<y$project default\nfile x/<y\n%\
     file /$project default\nfile /\n%\
     file \u{e9}.c$project default\nfile \u{e9}.c\n%\
-    ipath <x\ndefine _ 2$";
+    ipath <x\ndefine _ 2$%\
+    standard c11\nfile a.c$project default\nstandard c11\nfile a.c\n%\
+    standard c99\nfile a.c$project default\nfile a.c\n%\
+    standard\tc11 \nipath i\ndefine A\nfile a.c\nstandard c99\nfile a.c\nfile b.c$project default\nstandard c11\nipath i\ndefine A\nfile a.c\nproject default\nipath i\ndefine A\nfile a.c\nproject default\nipath i\ndefine A\nfile b.c\n%\
+    standard c11\nproject p\nfile a.c\nstandard c11\nfile a.c\nfile b.c$project p\nfile a.c\nproject p\nstandard c11\nfile a.c\nproject p\nstandard c11\nfile b.c\n%\
+    project p\nstandard c11\nreadonly r\nfile a.c$readonly r\nproject p\nstandard c11\nfile a.c\n";
 
 // Workspace files, each with the line that is refused.
 const BAD_LINES: &str = "\
@@ -36,6 +41,17 @@ const BAD_LINES: &str = "\
     undefine a-b$bad 1%\
     undefine 1$bad 1%\
     undefine a b$bad 1%\
+    standard$bad 1%\
+    standard \t$bad 1%\
+    standard c17$bad 1%\
+    standard C11$bad 1%\
+    standard c11 x$bad 1%\
+    standard c99 c11$bad 1%\
+    standard c$bad 1%\
+    standard c111$bad 1%\
+    Standard c11$bad 1%\
+    standards c11$bad 1%\
+    standardc11$bad 1%\
     File a.c$bad 1%\
     files a.c$bad 1%\
     \u{b}file a.c$bad 1%\
@@ -198,11 +214,12 @@ fn a_copy_is_printed_alike(rt: HostRuntime) -> Result<(), Fail> {
     let alloc = rt.alloc();
     let ws = read_ws(
         alloc,
-        b"readonly r\ndefine A 1\nundefine B\nipath .\nfile a.c",
+        b"readonly r\ndefine A 1\nundefine B\nipath .\nfile a.c\nstandard c11\nfile a.c",
     )?;
     let copy = ws.copy(alloc)?;
     let text = print_ws(alloc, &copy)?;
-    let want = "readonly r\nproject default\nipath .\ndefine A 1\nundefine B\nfile a.c\n";
+    let want =
+        "readonly r\nproject default\nipath .\ndefine A 1\nundefine B\nfile a.c\nproject default\nstandard c11\nipath .\ndefine A 1\nundefine B\nfile a.c\n";
     assert_eq!(rt; text.as_slice(), want.as_bytes());
     Ok(())
 }

@@ -5,7 +5,7 @@ use Rattle.std.proofs.lemmas.List.{append-nil}
 use Rattle.std.proofs.lemmas.Grind.{flat_map-append}
 use Rattle.cs_base.specs.Units.{UnitValue, ended_line}
 use Rattle.ws_file.specs.Workspace.{WorkspaceValue}
-use Rattle.ws_file.specs.Printing.{readonly_line, project_line, ipath_line, define_line, file_line, unit_lines, lines_text, workspace_lines, workspace_text}
+use Rattle.ws_file.specs.Printing.{readonly_line, project_line, standard_lines, ipath_line, define_line, file_line, unit_lines, lines_text, workspace_lines, workspace_text}
 
 pub lines_text-append : (xs ys : List (List ℕ)) → lines_text (xs ++ ys) ≡ lines_text xs ++ lines_text ys
 lines_text-append xs ys = flat_map-append ended_line xs ys
@@ -13,7 +13,8 @@ lines_text-append xs ys = flat_map-append ended_line xs ys
 -- the text of a unit
 pub lines_text-unit_lines : (u : UnitValue)
     → lines_text (unit_lines u)
-    ≡ ended_line (project_line u.project) ++ (lines_text (map ipath_line u.ipath) ++ (lines_text (map define_line u.settings) ++ ended_line (file_line u.path)))
+    ≡ ended_line (project_line u.project) ++ (lines_text (standard_lines u.standard) ++ (lines_text (map ipath_line u.ipath)
+    ++ (lines_text (map define_line u.settings) ++ ended_line (file_line u.path))))
 unfolding unit_lines
 lines_text-unit_lines u =
     let defines = map define_line u.settings in
@@ -21,7 +22,9 @@ lines_text-unit_lines u =
     let end : lines_text last ≡ ended_line (file_line u.path) = append-nil (ended_line (file_line u.path)) in
     let tail = lines_text-append defines last ∙ ap (λ (text : List ℕ). lines_text defines ++ text) end in
     let both = lines_text-append (map ipath_line u.ipath) (defines ++ last) ∙ ap (λ (text : List ℕ). lines_text (map ipath_line u.ipath) ++ text) tail in
-    ap (λ (text : List ℕ). ended_line (project_line u.project) ++ text) both
+    let all = lines_text-append (standard_lines u.standard) (map ipath_line u.ipath ++ (defines ++ last))
+    ∙ ap (λ (text : List ℕ). lines_text (standard_lines u.standard) ++ text) both in
+    ap (λ (text : List ℕ). ended_line (project_line u.project) ++ text) all
 
 -- the text of a workspace
 pub workspace_text-is : (ws : WorkspaceValue)

@@ -7,12 +7,11 @@ use Rattle.std.proofs.lemmas.List.Folds.{list_all-append}
 use Rattle.std.proofs.lemmas.List.Elements.{All-append}
 use Rattle.std.proofs.lemmas.Bool.{or_parts, and_from}
 use Rattle.cs_base.specs.declared.ws_units.Setting.{Setting}
-use Rattle.cs_base.specs.declared.ws_units.Standard.TheVariants.{C99}
+use Rattle.cs_base.specs.declared.ws_units.Standard.{Standard}
 use Rattle.cs_base.specs.Paths.{normal_path_of, is_normal}
 use Rattle.cs_base.specs.Units.{UnitValue, unit, IsUnit, less_sign, begins_with, has_bad_ends, is_writable, is_project, is_directory, is_unit_path, defines_fit}
 use Rattle.cs_base.proofs.NormalPaths.{is_normal-normal_path_of}
 use Rattle.cs_base.proofs.UnitLemmas.{is_utf8-ascii, is_writable-normal_path_of}
-use Rattle.ws_file.specs.Workspace.{IsC99}
 use Rattle.ws_file.specs.Reading.{reading, at_first, is_bad_path}
 use Rattle.ws_file.specs.Taking.{IsReading}
 
@@ -29,7 +28,6 @@ IsReading-first = record {
   are_directories = refl;
   are_settings = refl;
   are_units = λ k d h. absurd (omega arith);
-  are_c99 = λ k d h. absurd (omega arith);
   are_prefixes = refl;
 }
 
@@ -48,34 +46,32 @@ is_unit_path-normal path h good =
     let real = (or_parts (bytes_eq place []) (begins_with (λ b. b == less_sign) place) front).1 in
     and_from _ _ (and_from _ _ (is_directory-normal path h ends) (rw some refl)) (rw real refl)
 
-pub IsReading-directory : (project : List ℕ) (ipath : List (List ℕ)) (settings : List Setting) (units : List UnitValue) (readonly : List (List ℕ))
-    (directory : List ℕ) → IsReading (reading project ipath settings units readonly) → IsTrue (is_directory directory)
-    → IsReading (reading project (ipath ++ directory ∷ []) settings units readonly)
-IsReading-directory project ipath settings units readonly directory r h = record {
+pub IsReading-directory : (project : List ℕ) (ipath : List (List ℕ)) (settings : List Setting) (units : List UnitValue) (readonly : List (List ℕ)) (standard : Standard)
+    (directory : List ℕ) → IsReading (reading project ipath settings units readonly standard) → IsTrue (is_directory directory)
+    → IsReading (reading project (ipath ++ directory ∷ []) settings units readonly standard)
+IsReading-directory project ipath settings units readonly standard directory r h = record {
   is_named = r.is_named;
   are_directories = list_all-push is_directory ipath directory r.are_directories h;
   are_settings = r.are_settings;
   are_units = r.are_units;
-  are_c99 = r.are_c99;
   are_prefixes = r.are_prefixes;
 }
 
-pub IsReading-unit : (project : List ℕ) (ipath : List (List ℕ)) (settings : List Setting) (units : List UnitValue) (readonly : List (List ℕ))
-    (u : UnitValue) → IsReading (reading project ipath settings units readonly) → IsUnit u → IsC99 u
-    → IsReading (reading project ipath settings (units ++ u ∷ []) readonly)
-IsReading-unit project ipath settings units readonly u r h c = record {
+pub IsReading-unit : (project : List ℕ) (ipath : List (List ℕ)) (settings : List Setting) (units : List UnitValue) (readonly : List (List ℕ)) (standard : Standard)
+    (u : UnitValue) → IsReading (reading project ipath settings units readonly standard) → IsUnit u
+    → IsReading (reading project ipath settings (units ++ u ∷ []) readonly standard)
+IsReading-unit project ipath settings units readonly standard u r h = record {
   is_named = r.is_named;
   are_directories = r.are_directories;
   are_settings = r.are_settings;
   are_units = All-append IsUnit units (u ∷ []) r.are_units (λ k d below. let first : k ≡ 0 = omega arith in rw first h);
-  are_c99 = All-append IsC99 units (u ∷ []) r.are_c99 (λ k d below. let first : k ≡ 0 = omega arith in rw first c);
   are_prefixes = r.are_prefixes;
 }
 
-pub IsUnit-reading : (project : List ℕ) (ipath : List (List ℕ)) (settings : List Setting) (units : List UnitValue) (readonly : List (List ℕ))
-    (path : List ℕ) → IsReading (reading project ipath settings units readonly) → IsTrue (is_unit_path path) → IsTrue (defines_fit C99 settings)
-    → IsUnit (unit project path ipath settings C99)
-IsUnit-reading project ipath settings units readonly path r h fits = record {
+pub IsUnit-reading : (project : List ℕ) (ipath : List (List ℕ)) (settings : List Setting) (units : List UnitValue) (readonly : List (List ℕ)) (standard : Standard)
+    (path : List ℕ) → IsReading (reading project ipath settings units readonly standard) → IsTrue (is_unit_path path) → IsTrue (defines_fit standard settings)
+    → IsUnit (unit project path ipath settings standard)
+IsUnit-reading project ipath settings units readonly standard path r h fits = record {
   is_named = r.is_named;
   is_placed = h;
   are_directories = r.are_directories;

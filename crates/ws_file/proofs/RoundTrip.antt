@@ -11,15 +11,15 @@ use Rattle.std.proofs.lemmas.Bool.{and_parts, and_from, not-true}
 use Rattle.cs_base.specs.declared.ws_units.Setting.{Setting}
 use Rattle.cs_base.specs.declared.ws_units.Setting.TheVariants.{Define, Undefine}
 use Rattle.cs_base.specs.declared.ws_units.Standard.{Standard}
-use Rattle.cs_base.specs.declared.ws_units.Standard.TheVariants.{C99}
+use Rattle.cs_base.specs.declared.ws_units.Standard.TheVariants.{C99, C11}
 use Rattle.cs_base.specs.Paths.{normal_path_of, is_normal, kept_of}
 use Rattle.cs_base.specs.Units.{UnitValue, unit, IsUnit, line_feed, backslash, less_sign, is_blank, begins_with, has_bad_ends, is_writable, is_project, is_unit_path, is_directory, is_nondigit, is_identifier, is_setting, defines_fit}
 use Rattle.cs_base.proofs.PathLaws.{list_all-reverse}
 use Rattle.cs_base.proofs.UnitLemmas.{is_utf8-ascii}
-use Rattle.ws_file.specs.Workspace.{WorkspaceValue, workspace, IsC99, IsWorkspace, is_prefix, most_units}
+use Rattle.ws_file.specs.Workspace.{WorkspaceValue, workspace, IsWorkspace, is_prefix, most_units}
 use Rattle.ws_file.specs.Lines.{lines_of, line_word}
-use Rattle.ws_file.specs.Reading.{Reading, reading, at_first, with_word, read_lines, workspace_of}
-use Rattle.ws_file.specs.Printing.{readonly_line, project_line, ipath_line, define_line, file_line, unit_lines, lines_text, workspace_lines, workspace_text}
+use Rattle.ws_file.specs.Reading.{Reading, reading, at_first, of_standard, with_word, read_lines, workspace_of}
+use Rattle.ws_file.specs.Printing.{readonly_line, project_line, standard_lines, ipath_line, define_line, file_line, unit_lines, lines_text, workspace_lines, workspace_text}
 use Rattle.ws_file.specs.Taking.{is_no_feed, has_no_feed}
 use Rattle.ws_file.proofs.ReadLemmas.{read_lines-end}
 use Rattle.ws_file.proofs.PrintedLines.{IsRest-writable, list_all-weaker}
@@ -65,14 +65,14 @@ some-first p (b ∷ text) h = refl
 -- The lines, by their words.
 
 Leads-prefix : (prefix : List ℕ) (r : Reading) → is_prefix prefix ≡ true → length r.units ≤ most_units
-    → Leads (readonly_line prefix ∷ []) r (reading r.project r.ipath r.settings r.units (r.readonly ++ prefix ∷ []))
+    → Leads (readonly_line prefix ∷ []) r (reading r.project r.ipath r.settings r.units (r.readonly ++ prefix ∷ []) r.standard)
 unfolding with_word line_word
 Leads-prefix prefix r h few =
     Leads-line_with (codes "readonly") prefix r _ refl
     (IsRest-writable prefix ((and_parts _ _ h).0) (not-true _ ((and_parts _ _ h).1))) refl few
 
 Leads-project : (name : List ℕ) (r : Reading) → is_project name ≡ true → length r.units ≤ most_units
-    → Leads (project_line name ∷ []) r (reading name [] [] r.units r.readonly)
+    → Leads (project_line name ∷ []) r (reading name [] [] r.units r.readonly C99)
 unfolding with_word line_word
 Leads-project name r h few =
     let one : list_all (λ b. not (is_blank b)) name ≡ true = (and_parts (is_writable name && not (bytes_eq name [])) _ h).1 in
@@ -95,8 +95,12 @@ is_writable-here : is_writable (codes ".") ≡ true
 unfolding is_writable
 is_writable-here = rw (is_utf8-ascii (codes ".") refl) refl
 
+is_writable-c11 : is_writable (codes "c11") ≡ true
+unfolding is_writable
+is_writable-c11 = rw (is_utf8-ascii (codes "c11") refl) refl
+
 Leads-directory : (directory : List ℕ) (r : Reading) → is_directory directory ≡ true → length r.units ≤ most_units
-    → Leads (ipath_line directory ∷ []) r (reading r.project (r.ipath ++ directory ∷ []) r.settings r.units r.readonly)
+    → Leads (ipath_line directory ∷ []) r (reading r.project (r.ipath ++ directory ∷ []) r.settings r.units r.readonly r.standard)
 unfolding with_word line_word
 Leads-directory [] r h few = Leads-line_with (codes "ipath") (codes ".") r _ refl (IsRest-writable (codes ".") is_writable-here refl) (rw normal-here refl) few
 Leads-directory (b ∷ directory) r h few =
@@ -106,7 +110,7 @@ Leads-directory (b ∷ directory) r h few =
     Leads-line_with (codes "ipath") path r _ refl (IsRest-writable path ((and_parts _ _ h).0) refl) (rw (same, ends) refl) few
 
 Leads-setting : (s : Setting) (r : Reading) → is_setting s ≡ true → length r.units ≤ most_units
-    → Leads (define_line s ∷ []) r (reading r.project r.ipath (r.settings ++ s ∷ []) r.units r.readonly)
+    → Leads (define_line s ∷ []) r (reading r.project r.ipath (r.settings ++ s ∷ []) r.units r.readonly r.standard)
 unfolding with_word line_word
 Leads-setting (Define rest) r h few =
     let begins = (and_parts _ _ h).1 in
@@ -116,8 +120,8 @@ Leads-setting (Undefine name) r h few =
     Leads-line_with (codes "undefine") name r _ refl
     (IsRest-writable name (is_writable-identifier name h) (some-first is_nondigit name ((and_parts _ _ h).0))) (rw h refl) few
 
-Leads-file : (path : List ℕ) (r : Reading) → is_unit_path path ≡ true → defines_fit C99 r.settings ≡ true → length r.units + 1 ≤ most_units
-    → Leads (file_line path ∷ []) r (reading r.project r.ipath r.settings (r.units ++ unit r.project path r.ipath r.settings C99 ∷ []) r.readonly)
+Leads-file : (path : List ℕ) (r : Reading) → is_unit_path path ≡ true → defines_fit r.standard r.settings ≡ true → length r.units + 1 ≤ most_units
+    → Leads (file_line path ∷ []) r (reading r.project r.ipath r.settings (r.units ++ unit r.project path r.ipath r.settings r.standard ∷ []) r.readonly r.standard)
 unfolding with_word line_word
 Leads-file path r h fits few =
     let place = (and_parts _ _ ((and_parts _ _ h).0)).0 in
@@ -125,7 +129,7 @@ Leads-file path r h fits few =
     let real = not-true (begins_with (λ b. b == less_sign) path) ((and_parts _ _ h).1) in
     let same = normal-path path ((and_parts _ _ place).1) in
     let ends = good_ends path ((and_parts _ _ place).0) in
-    let u = unit r.project path r.ipath r.settings C99 in
+    let u = unit r.project path r.ipath r.settings r.standard in
     let few' : length (r.units ++ u ∷ []) ≤ most_units = omega (arith, length-append r.units (u ∷ [])) in
     Leads-line_with (codes "file") path r _ refl (IsRest-writable path ((and_parts _ _ place).0) some)
     (rw (same, some, real, ends, fits) refl) few'
@@ -133,63 +137,69 @@ Leads-file path r h fits few =
 -- Lists of lines.
 
 Leads-prefixes : (prefixes : List (List ℕ)) (r : Reading) → list_all is_prefix prefixes ≡ true → length r.units ≤ most_units
-    → Leads (map readonly_line prefixes) r (reading r.project r.ipath r.settings r.units (r.readonly ++ prefixes))
+    → Leads (map readonly_line prefixes) r (reading r.project r.ipath r.settings r.units (r.readonly ++ prefixes) r.standard)
 Leads-prefixes [] r h few =
-    let To : List (List ℕ) → Type 0 = λ all. Leads [] r (reading r.project r.ipath r.settings r.units all) in
+    let To : List (List ℕ) → Type 0 = λ all. Leads [] r (reading r.project r.ipath r.settings r.units all r.standard) in
     subst To (sym (append-nil r.readonly)) (Leads-nil r)
 Leads-prefixes (prefix ∷ prefixes) r h few =
-    let next = reading r.project r.ipath r.settings r.units (r.readonly ++ prefix ∷ []) in
+    let next = reading r.project r.ipath r.settings r.units (r.readonly ++ prefix ∷ []) r.standard in
     let To : List (List ℕ) → Type 0 =
-    λ all. Leads (map readonly_line (prefix ∷ prefixes)) r (reading r.project r.ipath r.settings r.units all) in
+    λ all. Leads (map readonly_line (prefix ∷ prefixes)) r (reading r.project r.ipath r.settings r.units all r.standard) in
     subst To (append_assoc r.readonly (prefix ∷ []) prefixes)
     (Leads-append (readonly_line prefix ∷ []) (map readonly_line prefixes) r next _ (Leads-prefix prefix r ((and_parts _ _ h).0) few)
     (Leads-prefixes prefixes next ((and_parts _ _ h).1) few))
 
 Leads-directories : (directories : List (List ℕ)) (r : Reading) → list_all is_directory directories ≡ true → length r.units ≤ most_units
-    → Leads (map ipath_line directories) r (reading r.project (r.ipath ++ directories) r.settings r.units r.readonly)
+    → Leads (map ipath_line directories) r (reading r.project (r.ipath ++ directories) r.settings r.units r.readonly r.standard)
 Leads-directories [] r h few =
-    let To : List (List ℕ) → Type 0 = λ all. Leads [] r (reading r.project all r.settings r.units r.readonly) in
+    let To : List (List ℕ) → Type 0 = λ all. Leads [] r (reading r.project all r.settings r.units r.readonly r.standard) in
     subst To (sym (append-nil r.ipath)) (Leads-nil r)
 Leads-directories (directory ∷ directories) r h few =
-    let next = reading r.project (r.ipath ++ directory ∷ []) r.settings r.units r.readonly in
+    let next = reading r.project (r.ipath ++ directory ∷ []) r.settings r.units r.readonly r.standard in
     let To : List (List ℕ) → Type 0 =
-    λ all. Leads (map ipath_line (directory ∷ directories)) r (reading r.project all r.settings r.units r.readonly) in
+    λ all. Leads (map ipath_line (directory ∷ directories)) r (reading r.project all r.settings r.units r.readonly r.standard) in
     subst To (append_assoc r.ipath (directory ∷ []) directories)
     (Leads-append (ipath_line directory ∷ []) (map ipath_line directories) r next _ (Leads-directory directory r ((and_parts _ _ h).0) few)
     (Leads-directories directories next ((and_parts _ _ h).1) few))
 
 Leads-settings : (settings : List Setting) (r : Reading) → list_all is_setting settings ≡ true → length r.units ≤ most_units
-    → Leads (map define_line settings) r (reading r.project r.ipath (r.settings ++ settings) r.units r.readonly)
+    → Leads (map define_line settings) r (reading r.project r.ipath (r.settings ++ settings) r.units r.readonly r.standard)
 Leads-settings [] r h few =
-    let To : List Setting → Type 0 = λ all. Leads [] r (reading r.project r.ipath all r.units r.readonly) in
+    let To : List Setting → Type 0 = λ all. Leads [] r (reading r.project r.ipath all r.units r.readonly r.standard) in
     subst To (sym (append-nil r.settings)) (Leads-nil r)
 Leads-settings (s ∷ settings) r h few =
-    let next = reading r.project r.ipath (r.settings ++ s ∷ []) r.units r.readonly in
+    let next = reading r.project r.ipath (r.settings ++ s ∷ []) r.units r.readonly r.standard in
     let To : List Setting → Type 0 =
-    λ all. Leads (map define_line (s ∷ settings)) r (reading r.project r.ipath all r.units r.readonly) in
+    λ all. Leads (map define_line (s ∷ settings)) r (reading r.project r.ipath all r.units r.readonly r.standard) in
     subst To (append_assoc r.settings (s ∷ []) settings)
     (Leads-append (define_line s ∷ []) (map define_line settings) r next _ (Leads-setting s r ((and_parts _ _ h).0) few)
     (Leads-settings settings next ((and_parts _ _ h).1) few))
 
-Leads-unit : (u : UnitValue) (r : Reading) → IsUnit u → IsC99 u → length r.units + 1 ≤ most_units
-    → Leads (unit_lines u) r (reading u.project u.ipath u.settings (r.units ++ u ∷ []) r.readonly)
+Leads-standard : (s : Standard) (r : Reading) → length r.units ≤ most_units
+    → Leads (standard_lines s) (of_standard C99 r) (of_standard s r)
+unfolding with_word line_word
+Leads-standard C99 r few = Leads-nil (of_standard C99 r)
+Leads-standard C11 r few =
+    Leads-line_with (codes "standard") (codes "c11") (of_standard C99 r) _ refl (IsRest-writable (codes "c11") is_writable-c11 refl) refl few
+
+Leads-unit : (u : UnitValue) (r : Reading) → IsUnit u → length r.units + 1 ≤ most_units
+    → Leads (unit_lines u) r (reading u.project u.ipath u.settings (r.units ++ u ∷ []) r.readonly u.standard)
 unfolding unit_lines
-Leads-unit u r h c few =
+Leads-unit u r h few =
     let few' : length r.units ≤ most_units = omega arith in
-    let named = reading u.project [] [] r.units r.readonly in
-    let placed = reading u.project u.ipath [] r.units r.readonly in
-    let set = reading u.project u.ipath u.settings r.units r.readonly in
+    let named = reading u.project [] [] r.units r.readonly C99 in
+    let dated = reading u.project [] [] r.units r.readonly u.standard in
+    let placed = reading u.project u.ipath [] r.units r.readonly u.standard in
+    let set = reading u.project u.ipath u.settings r.units r.readonly u.standard in
     let file = file_line u.path ∷ [] in
-    let fits : defines_fit C99 u.settings ≡ true = subst (λ s. defines_fit s u.settings ≡ true) c h.fits in
-    let To : Standard → Type 0 =
-    λ s. Leads (unit_lines u) r (reading u.project u.ipath u.settings (r.units ++ unit u.project u.path u.ipath u.settings s ∷ []) r.readonly) in
-    subst To (sym c)
-    (Leads-append (project_line u.project ∷ []) (map ipath_line u.ipath ++ (map define_line u.settings ++ file)) r named _
+    Leads-append (project_line u.project ∷ []) (standard_lines u.standard ++ (map ipath_line u.ipath ++ (map define_line u.settings ++ file))) r named _
     (Leads-project u.project r h.is_named few')
-    (Leads-append (map ipath_line u.ipath) (map define_line u.settings ++ file) named placed _
-    (Leads-directories u.ipath named h.are_directories few')
+    (Leads-append (standard_lines u.standard) (map ipath_line u.ipath ++ (map define_line u.settings ++ file)) named dated _
+    (Leads-standard u.standard named few')
+    (Leads-append (map ipath_line u.ipath) (map define_line u.settings ++ file) dated placed _
+    (Leads-directories u.ipath dated h.are_directories few')
     (Leads-append (map define_line u.settings) file placed set _
-    (Leads-settings u.settings placed h.are_settings few') (Leads-file u.path set h.is_placed fits few))))
+    (Leads-settings u.settings placed h.are_settings few') (Leads-file u.path set h.is_placed h.fits few))))
 
 -- Lines that lead to a reading of these units and prefixes.
 record LeadsTo (lines : List (List ℕ)) (r : Reading) (units : List UnitValue) (readonly : List (List ℕ)) : Type 0 where
@@ -198,17 +208,17 @@ record LeadsTo (lines : List (List ℕ)) (r : Reading) (units : List UnitValue) 
   has_units : last.units ≡ units
   has_readonly : last.readonly ≡ readonly
 
-LeadsTo-units : (units : List UnitValue) (r : Reading) → All IsUnit units → All IsC99 units → length r.units + length units ≤ most_units
+LeadsTo-units : (units : List UnitValue) (r : Reading) → All IsUnit units → length r.units + length units ≤ most_units
     → LeadsTo (flat_map unit_lines units) r (r.units ++ units) r.readonly
-LeadsTo-units [] r h c few = record { last = r; way = Leads-nil r; has_units = sym (append-nil r.units); has_readonly = refl }
-LeadsTo-units (u ∷ units) r h c few =
-    let next = reading u.project u.ipath u.settings (r.units ++ u ∷ []) r.readonly in
+LeadsTo-units [] r h few = record { last = r; way = Leads-nil r; has_units = sym (append-nil r.units); has_readonly = refl }
+LeadsTo-units (u ∷ units) r h few =
+    let next = reading u.project u.ipath u.settings (r.units ++ u ∷ []) r.readonly u.standard in
     let one : length r.units + 1 ≤ most_units = omega arith in
     let left : length next.units + length units ≤ most_units = omega (arith, length-append r.units (u ∷ [])) in
-    let more = LeadsTo-units units next (λ k d below. h (suc k) d (omega arith)) (λ k d below. c (suc k) d (omega arith)) left in
+    let more = LeadsTo-units units next (λ k d below. h (suc k) d (omega arith)) left in
     record {
       last = more.last;
-      way = Leads-append (unit_lines u) (flat_map unit_lines units) r next more.last (Leads-unit u r (h 0 u (omega arith)) (c 0 u (omega arith)) one) more.way;
+      way = Leads-append (unit_lines u) (flat_map unit_lines units) r next more.last (Leads-unit u r (h 0 u (omega arith)) one) more.way;
       has_units = more.has_units ∙ append_assoc r.units (u ∷ []) units;
       has_readonly = more.has_readonly;
     }
@@ -217,9 +227,9 @@ LeadsTo-workspace : (ws : WorkspaceValue) → IsWorkspace ws → LeadsTo (worksp
 unfolding workspace_lines
 LeadsTo-workspace ws h =
     let none : length at_first.units ≤ most_units = omega arith in
-    let protected = reading at_first.project [] [] [] ws.readonly in
+    let protected = reading at_first.project [] [] [] ws.readonly C99 in
     let few : length protected.units + length ws.units ≤ most_units = omega (arith, h.are_few) in
-    let units = LeadsTo-units ws.units protected h.are_units h.are_c99 few in
+    let units = LeadsTo-units ws.units protected h.are_units few in
     record {
       last = units.last;
       way = Leads-append (map readonly_line ws.readonly) (flat_map unit_lines ws.units) at_first protected units.last

@@ -5,7 +5,8 @@ use Rattle.std.specs.List.{flat_map}
 use Rattle.std.proofs.lemmas.Bool.{cases_Bool, leb-true, leb-false, le-leb, lt-leb}
 use Rattle.std.proofs.lemmas.Grind.{flat_map-append}
 use Rattle.cs_base.specs.declared.ws_units.Setting.{Setting}
-use Rattle.cs_base.specs.declared.ws_units.Standard.TheVariants.{C99}
+use Rattle.cs_base.specs.declared.ws_units.Standard.{Standard}
+use Rattle.cs_base.specs.declared.ws_units.Standard.TheVariants.{C99, C11}
 use Rattle.cs_base.specs.Units.{line_feed, setting_line, ended_line, fixed_lines, defines_text, defines_fit}
 use Rattle.ws_file.specs.Taking.{setting_len, fit_into}
 
@@ -38,14 +39,15 @@ fit_into-is room (s ∷ settings) =
     rw (lines_len-cons s settings)
     (fits-step (setting_len s) (lines_len settings) room _ (fit_into-is (room - setting_len s) settings))
 
-fixed_len : length (flat_map ended_line (fixed_lines C99)) ≡ 137
+fixed_len : (s : Standard) → length (flat_map ended_line (fixed_lines s)) ≡ 137
 unfolding fixed_lines
-fixed_len = refl
+fixed_len C99 = refl
+fixed_len C11 = refl
 
-pub defines_fit-is : (settings : List Setting) → defines_fit C99 settings ≡ fit_into 65399 settings
+pub defines_fit-is : (standard : Standard) (settings : List Setting) → defines_fit standard settings ≡ fit_into 65399 settings
 unfolding defines_fit defines_text
-defines_fit-is settings =
+defines_fit-is standard settings =
     let n = lines_len settings in
-    let whole : length (flat_map ended_line (fixed_lines C99 ++ map setting_line settings)) ≡ 137 + n =
-    rw (flat_map-append, length-append, fixed_len) refl in
+    let whole : length (flat_map ended_line (fixed_lines standard ++ map setting_line settings)) ≡ 137 + n =
+    rw (flat_map-append, length-append, fixed_len standard) refl in
     rw whole (sym (le-shift 137 n 65536 (omega arith)) ∙ sym (fit_into-is 65399 settings))

@@ -4,6 +4,8 @@ use Rattle.std.specs.List.{flat_map}
 use Rattle.std.specs.Str.{bytes_eq}
 use Rattle.cs_base.specs.declared.ws_units.Setting.{Setting}
 use Rattle.cs_base.specs.declared.ws_units.Setting.TheVariants.{Define, Undefine}
+use Rattle.cs_base.specs.declared.ws_units.Standard.{Standard}
+use Rattle.cs_base.specs.declared.ws_units.Standard.TheVariants.{C99, C11}
 use Rattle.cs_base.specs.Units.{UnitValue, ended_line}
 use Rattle.ws_file.specs.Workspace.{WorkspaceValue}
 
@@ -14,6 +16,11 @@ readonly_line prefix = codes "readonly " ++ prefix
 -- the line of a project
 abbrev pub project_line : List ℕ → List ℕ
 project_line name = codes "project " ++ name
+
+-- the line of a standard; C99 needs none
+abbrev pub standard_lines : Standard → List (List ℕ)
+standard_lines C99 = []
+standard_lines C11 = codes "standard c11" ∷ []
 
 -- the line of a directory; the empty one is `.`
 abbrev pub ipath_line : List ℕ → List ℕ
@@ -28,10 +35,11 @@ define_line (Undefine name) = codes "undefine " ++ name
 abbrev pub file_line : List ℕ → List ℕ
 file_line path = codes "file " ++ path
 
--- the lines of a unit: its project, include paths and settings, and then its path
+-- the lines of a unit: its project, standard, include paths and settings, and then its path
 unfoldable pub unit_lines : UnitValue → List (List ℕ)
 unit_lines u =
-    project_line u.project ∷ (map ipath_line u.ipath ++ (map define_line u.settings ++ file_line u.path ∷ []))
+    project_line u.project
+    ∷ (standard_lines u.standard ++ (map ipath_line u.ipath ++ (map define_line u.settings ++ file_line u.path ∷ [])))
 
 -- the lines of a workspace: its prefixes, and then its units
 unfoldable pub workspace_lines : WorkspaceValue → List (List ℕ)

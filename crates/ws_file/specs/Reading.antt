@@ -4,55 +4,68 @@ use Rattle.std.specs.List.{list_all}
 use Rattle.std.specs.Str.{bytes_eq, is_utf8}
 use Rattle.cs_base.specs.declared.ws_units.Setting.{Setting}
 use Rattle.cs_base.specs.declared.ws_units.Setting.TheVariants as setting
-use Rattle.cs_base.specs.declared.ws_units.Standard.TheVariants.{C99}
+use Rattle.cs_base.specs.declared.ws_units.Standard.{Standard as Language}
+use Rattle.cs_base.specs.declared.ws_units.Standard.TheVariants.{C99, C11}
 use Rattle.cs_base.specs.Paths.{normal_path_of}
 use Rattle.cs_base.specs.Units.{UnitValue, unit, backslash, less_sign, is_blank, begins_with, ends_with, has_bad_ends, is_nondigit, is_identifier, defines_fit}
 use Rattle.ws_file.specs.declared.words.LineWord.{LineWord}
-use Rattle.ws_file.specs.declared.words.LineWord.TheVariants.{Project, Ipath, Readonly, Define, Undefine, File, Other}
+use Rattle.ws_file.specs.declared.words.LineWord.TheVariants.{Project, Standard, Ipath, Readonly, Define, Undefine, File, Other}
 use Rattle.ws_file.specs.Workspace.{WorkspaceValue, workspace, most_units}
 use Rattle.ws_file.specs.Lines.{lines_of, trimmed, first_word, rest_of, line_word}
 
 -- What the lines read so far say: the project, include paths and settings of the next units, the units
--- in order, and the prefixes of read-only paths.
+-- in order, the prefixes of read-only paths, and the standard of the next units.
 pub record Reading : Type 0 where
   pub project : List ℕ
   pub ipath : List (List ℕ)
   pub settings : List Setting
   pub units : List UnitValue
   pub readonly : List (List ℕ)
+  pub standard : Language
 
 -- a reading of these parts
-abbrev pub reading : List ℕ → List (List ℕ) → List Setting → List UnitValue → List (List ℕ) → Reading
-reading project ipath settings units readonly = record {
+abbrev pub reading : List ℕ → List (List ℕ) → List Setting → List UnitValue → List (List ℕ) → Language → Reading
+reading project ipath settings units readonly standard = record {
   project = project;
   ipath = ipath;
   settings = settings;
   units = units;
   readonly = readonly;
+  standard = standard;
 }
 
 -- before the first line
 abbrev pub at_first : Reading
-at_first = reading (codes "default") [] [] [] []
+at_first = reading (codes "default") [] [] [] [] C99
 
--- `project NAME`, one word: later units belong to it, with no include path and no setting yet
+-- `project NAME`, one word: later units belong to it, with no include path and no setting yet, and are of C99
 abbrev pub with_project : List ℕ → Reading → Option Reading
 with_project name r =
-    if list_all (λ b. not (is_blank b)) name then Some (reading name [] [] r.units r.readonly) else None
+    if list_all (λ b. not (is_blank b)) name then Some (reading name [] [] r.units r.readonly C99) else None
+
+-- a standard that holds for later units of the project
+abbrev pub of_standard : Language → Reading → Reading
+of_standard s r = reading r.project r.ipath r.settings r.units r.readonly s
+
+-- `standard c99` or `standard c11`
+abbrev pub with_standard : List ℕ → Reading → Option Reading
+with_standard name r =
+    if bytes_eq name (codes "c99") then Some (of_standard C99 r)
+    else (if bytes_eq name (codes "c11") then Some (of_standard C11 r) else None)
 
 -- `ipath DIR`
 abbrev pub with_directory : List ℕ → Reading → Option Reading
 with_directory directory r =
     if has_bad_ends directory then None
-    else Some (reading r.project (r.ipath ++ directory ∷ []) r.settings r.units r.readonly)
+    else Some (reading r.project (r.ipath ++ directory ∷ []) r.settings r.units r.readonly r.standard)
 
 -- `readonly PREFIX`
 abbrev pub with_prefix : List ℕ → Reading → Option Reading
-with_prefix prefix r = Some (reading r.project r.ipath r.settings r.units (r.readonly ++ prefix ∷ []))
+with_prefix prefix r = Some (reading r.project r.ipath r.settings r.units (r.readonly ++ prefix ∷ []) r.standard)
 
 -- a setting that holds in later units of the project
 abbrev pub with_setting : Setting → Reading → Reading
-with_setting s r = reading r.project r.ipath (r.settings ++ s ∷ []) r.units r.readonly
+with_setting s r = reading r.project r.ipath (r.settings ++ s ∷ []) r.units r.readonly r.standard
 
 -- `define REST`
 abbrev pub with_define : List ℕ → Reading → Option Reading
@@ -68,15 +81,16 @@ with_undefine name r =
 abbrev pub is_bad_path : List ℕ → Bool
 is_bad_path path = bytes_eq path [] || begins_with (λ b. b == less_sign) path || has_bad_ends path
 
--- `file PATH`: a unit of C99 with what is in force
+-- `file PATH`: a unit with what is in force
 abbrev pub with_unit : List ℕ → Reading → Option Reading
 with_unit path r =
-    if is_bad_path path || not (defines_fit C99 r.settings) then None
-    else Some (reading r.project r.ipath r.settings (r.units ++ unit r.project path r.ipath r.settings C99 ∷ []) r.readonly)
+    if is_bad_path path || not (defines_fit r.standard r.settings) then None
+    else Some (reading r.project r.ipath r.settings (r.units ++ unit r.project path r.ipath r.settings r.standard ∷ []) r.readonly r.standard)
 
 -- a line of this word and rest; none where it is bad
 unfoldable pub with_word : LineWord → List ℕ → Reading → Option Reading
 with_word Project rest r = with_project rest r
+with_word Standard rest r = with_standard rest r
 with_word Ipath rest r = with_directory (normal_path_of rest) r
 with_word Readonly rest r = with_prefix rest r
 with_word Define rest r = with_define rest r

@@ -4,7 +4,7 @@ use Rattle.std.specs.List.{list_all}
 use Rattle.std.specs.Str.{is_utf8}
 use Rattle.cs_base.specs.declared.ws_units.Setting.{Setting}
 use Rattle.cs_base.specs.Units.{IsUnit, line_feed, is_blank, begins_with, ends_with, is_project, is_directory, is_setting, setting_line}
-use Rattle.ws_file.specs.Workspace.{is_prefix, IsC99}
+use Rattle.ws_file.specs.Workspace.{is_prefix}
 use Rattle.ws_file.specs.Reading.{Reading}
 
 -- The line was taken, and this is the reading after it; or it is bad.
@@ -18,7 +18,6 @@ pub record IsReading (r : Reading) : Type 0 where
   pub are_directories : IsTrue (list_all is_directory r.ipath)
   pub are_settings : IsTrue (list_all is_setting r.settings)
   pub are_units : All IsUnit r.units
-  pub are_c99 : All IsC99 r.units
   pub are_prefixes : IsTrue (list_all is_prefix r.readonly)
 
 abbrev pub is_no_feed : ℕ → Bool

@@ -1,8 +1,7 @@
 -- A workspace: what contracts see of a `Workspace`, and what is true of each.
-use Rattle.std.specs.Prelude.{◌≡◌, ℕ, Bool, not, ◌&&◌, ◌≤◌, List, [], IsTrue, length, All}
+use Rattle.std.specs.Prelude.{ℕ, Bool, not, ◌&&◌, ◌≤◌, List, [], IsTrue, length, All}
 use Rattle.std.specs.List.{list_all}
 use Rattle.std.specs.Str.{bytes_eq}
-use Rattle.cs_base.specs.declared.ws_units.Standard.TheVariants.{C99}
 use Rattle.cs_base.specs.Units.{UnitValue, IsUnit, is_writable}
 
 -- A workspace: its units in order, numbered from 1, and the prefixes of read-only paths.
@@ -22,13 +21,8 @@ most_units = 1024
 abbrev pub is_prefix : List ℕ → Bool
 is_prefix prefix = is_writable prefix && not (bytes_eq prefix [])
 
--- a unit of C99: no line of a workspace file sets another standard
-abbrev pub IsC99 : UnitValue → Type 0
-IsC99 u = u.standard ≡ C99
-
 -- What is true of every workspace.
 pub record IsWorkspace (ws : WorkspaceValue) : Type 0 where
   pub are_few : length ws.units ≤ most_units
   pub are_units : All IsUnit ws.units
-  pub are_c99 : All IsC99 ws.units
   pub are_prefixes : IsTrue (list_all is_prefix ws.readonly)

@@ -3,11 +3,11 @@ ghost use Rattle.std.specs.Prelude.{◌≡◌, ◌≤◌, ◌++◌, ◌^◌, Ok,
 ghost use Rattle.std.specs.List.{flat_map};
 ghost use Rattle.cs_base.specs.Units.{ended_line};
 ghost use Rattle.ws_file.specs.Reading.{workspace_of};
-ghost use Rattle.ws_file.specs.Printing.{readonly_line, ipath_line, define_line, unit_lines, lines_text, workspace_text};
+ghost use Rattle.ws_file.specs.Printing.{readonly_line, standard_lines, ipath_line, define_line, unit_lines, lines_text, workspace_text};
 
 use crate::text_tests::is_text;
 use crate::workspaces::Workspace;
-use cs_base::{Memory, Setting, Text, Unit};
+use cs_base::{Memory, Setting, Standard, Text, Unit};
 use std::alloc::Global;
 
 /// The text of the workspace, which is read back as the same workspace where it fits into a file.
@@ -43,9 +43,19 @@ fn add_unit(text: &mut Vec<u8>, unit: &Unit) -> Result<(), Memory>
     ensures { OnOk result (text.new.items ≡ text.old.items ++ lines_text (unit_lines unit.now)) }
 {
     add_line(text, b"project ", unit.project().bytes())?;
+    add_standard(text, unit.standard())?;
     add_directories(text, unit.ipath())?;
     add_settings(text, unit.settings())?;
     add_line(text, b"file ", unit.path().bytes())
+}
+
+fn add_standard(text: &mut Vec<u8>, standard: Standard) -> Result<(), Memory>
+    ensures { OnOk result (text.new.items ≡ text.old.items ++ lines_text (standard_lines standard)) }
+{
+    match standard {
+        Standard::C99 => Ok(()),
+        Standard::C11 => add_line(text, b"standard ", b"c11"),
+    }
 }
 
 fn add_directories(text: &mut Vec<u8>, directories: &[Text]) -> Result<(), Memory>

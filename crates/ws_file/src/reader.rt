@@ -23,6 +23,7 @@ pub struct Reader {
     settings: Vec<Setting>,
     units: Vec<Unit>,
     readonly: Vec<Text>,
+    standard: Standard,
 }
 
 impl Model for Reader {
@@ -31,15 +32,15 @@ impl Model for Reader {
 
     ghost Value = { Reading };
 
-    ghost view = { λ r. reading r.project r.ipath.items r.settings.items r.units.items r.readonly.items };
+    ghost view = { λ r. reading r.project r.ipath.items r.settings.items r.units.items r.readonly.items r.standard };
 
-    ghost invariant = { λ r. IsReading (reading r.project r.ipath.items r.settings.items r.units.items r.readonly.items) };
+    ghost invariant = { λ r. IsReading (reading r.project r.ipath.items r.settings.items r.units.items r.readonly.items r.standard) };
 }
 
 impl Reader {
     ghost use Rattle.cs_base.specs.Paths.{normal_path_of};
     ghost use Rattle.ws_file.specs.Workspace.{workspace, most_units};
-    ghost use Rattle.ws_file.specs.Reading.{at_first, with_project, with_directory, with_prefix, with_define, with_undefine, with_unit, with_word, with_text, with_line};
+    ghost use Rattle.ws_file.specs.Reading.{at_first, with_project, with_standard, with_directory, with_prefix, with_define, with_undefine, with_unit, with_word, with_text, with_line};
     ghost use Rattle.ws_file.specs.Taking.{Takes, IsTrimmed, has_no_feed};
 
     /// Before the first line.
@@ -52,6 +53,7 @@ impl Reader {
             settings: Vec::new(alloc),
             units: Vec::new(alloc),
             readonly: Vec::new(alloc),
+            standard: Standard::C99,
         })
     }
 
@@ -73,6 +75,7 @@ impl Reader {
             settings: _,
             units,
             readonly,
+            standard: _,
         } = self;
         Workspace::new(units, readonly)
     }
@@ -89,7 +92,23 @@ impl Reader {
         self.project = Text::new(alloc, name)?;
         self.ipath.clear();
         self.settings.clear();
+        self.standard = Standard::C99;
         Ok(true)
+    }
+
+    // `standard c99` or `standard c11`.
+    fn take_standard(&mut self, name: &[u8]) -> bool
+        ensures { Takes (with_standard name.now self.old) result self.new }
+    {
+        if is_text(name, b"c99") {
+            self.standard = Standard::C99;
+            true
+        } else if is_text(name, b"c11") {
+            self.standard = Standard::C11;
+            true
+        } else {
+            false
+        }
     }
 
     // `ipath DIR`.
@@ -146,14 +165,14 @@ impl Reader {
         ensures { IfOk result (λ taken. Takes (with_unit (normal_path_of path.now) self.old) taken self.new) }
     {
         let path = normal_path(alloc, path)?;
-        if is_bad_path(path.bytes()) || !defines_fit(self.settings.as_slice()) {
+        if is_bad_path(path.bytes()) || !defines_fit(self.standard, self.settings.as_slice()) {
             return Ok(false);
         }
         let project = copied_text(alloc, &self.project)?;
         let ipath = copied_texts(alloc, self.ipath.as_slice())?;
         let settings = copied_settings(alloc, self.settings.as_slice())?;
         self.units
-            .push(Unit::new(project, path, ipath, settings, Standard::C99))?;
+            .push(Unit::new(project, path, ipath, settings, self.standard))?;
         Ok(true)
     }
 
@@ -166,6 +185,7 @@ impl Reader {
     {
         match word {
             LineWord::Project => self.take_project(alloc, rest),
+            LineWord::Standard => Ok(self.take_standard(rest)),
             LineWord::Ipath => self.take_directory(alloc, rest),
             LineWord::Readonly => self.take_prefix(alloc, rest),
             LineWord::Define => self.take_define(alloc, rest),

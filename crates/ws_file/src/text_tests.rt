@@ -4,12 +4,11 @@ ghost use Rattle.std.specs.Option.{SomeIff};
 ghost use Rattle.std.specs.List.{list_all};
 ghost use Rattle.std.specs.Char.{is_ascii_digit};
 ghost use Rattle.std.specs.Str.{bytes_eq, is_utf8};
-ghost use Rattle.cs_base.specs.declared.ws_units.Standard.TheVariants.{C99};
 ghost use Rattle.cs_base.specs.Units.{backslash, less_sign, begins_with, ends_with, has_bad_ends, is_blank, is_nondigit, is_identifier, defines_fit};
 ghost use Rattle.ws_file.specs.Reading.{number_sign, is_bad_path, is_comment};
 ghost use Rattle.ws_file.specs.Taking.{setting_len, fit_into};
 
-use cs_base::Setting;
+use cs_base::{Setting, Standard};
 use std::str;
 
 /// A space, a tab or a carriage return.
@@ -136,9 +135,9 @@ pub fn is_text(text: &[u8], other: &[u8]) -> bool
 // What 2^16 bytes leave to the settings' lines of a pseudo file.
 const ROOM: usize = 65536 - 137;
 
-/// The settings' pseudo file has no more than 2^16 bytes.
-pub fn defines_fit(settings: &[Setting]) -> bool
-    ensures { result ≡ defines_fit C99 settings.now }
+/// The pseudo file of the settings has no more than 2^16 bytes; by each standard it is as long.
+pub fn defines_fit(_standard: Standard, settings: &[Setting]) -> bool
+    ensures { result ≡ defines_fit _standard settings.now }
 {
     let mut room = ROOM;
     for setting in settings {

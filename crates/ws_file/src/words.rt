@@ -8,6 +8,7 @@ use crate::text_tests::is_text;
 #[derive(Clone, Copy, Debug, PartialEq, Eq)]
 pub enum LineWord {
     Project,
+    Standard,
     Ipath,
     Readonly,
     Define,
@@ -23,6 +24,8 @@ pub fn word_of(word: &[u8]) -> LineWord
 {
     if is_text(word, b"project") {
         LineWord::Project
+    } else if is_text(word, b"standard") {
+        LineWord::Standard
     } else if is_text(word, b"ipath") {
         LineWord::Ipath
     } else if is_text(word, b"readonly") {

@@ -18,12 +18,12 @@ returns-in-None c =
     let long : room < setting_len setting = omega (arith, c.in-None.ensures) in
     let next = at_drop_more (fit_into room) settings i setting c.loop-setting-test.true in
     let rest = drop (i + 1) settings in
-    rw defines_fit-is
+    rw (defines_fit-is c.args._standard)
     (rw (← c.loop-setting.invariant)
     (sym (next ∙ ap (λ (s : Setting). fit_into room (s ∷ rest)) (sym c.setting-item.is) ∙ too_long room setting rest long)))
 
 pub returns : goal.returns
 returns c =
-    rw defines_fit-is
+    rw (defines_fit-is c.args._standard)
     (rw (← c.loop-setting.invariant)
     (sym (at_drop_all (fit_into c.loop-setting.room) c.args.settings.now c.loop-setting.setting-index c.loop-setting-test.false)))

@@ -11,5 +11,5 @@ invariant_of-self-2 c =
     let pushed : c.push.new.self.items ≡ r.ipath.items ++ normal_path_of path ∷ [] = search rules in
     let good : has_bad_ends (normal_path_of path) ≡ false = search rules in
     rw pushed
-    (IsReading-directory r.project r.ipath.items r.settings.items r.units.items r.readonly.items (normal_path_of path)
+    (IsReading-directory r.project r.ipath.items r.settings.items r.units.items r.readonly.items r.standard (normal_path_of path)
     c.self.invariant (is_directory-normal path c.requires.writable good))

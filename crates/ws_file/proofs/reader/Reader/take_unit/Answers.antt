@@ -1,5 +1,4 @@
-use Rattle.std.proofs.Common.{◌≡◌, ◌++◌, ◌∷◌, [], true, false, refl, rules}
-use Rattle.cs_base.specs.declared.ws_units.Standard.TheVariants.{C99}
+use Rattle.std.proofs.Common.{◌≡◌, ◌++◌, ◌∷◌, [], true, false, rules}
 use Rattle.cs_base.specs.Paths.{normal_path_of}
 use Rattle.cs_base.specs.Units.{unit, defines_fit}
 use Rattle.ws_file.specs.Reading.{is_bad_path}
@@ -11,11 +10,11 @@ new-requires c =
     let r = c.self.inside in
     let path = c.args.path.now in
     let good : is_bad_path (normal_path_of path) ≡ false = search rules in
-    let fits : defines_fit C99 r.settings.items ≡ true = search rules in
+    let fits : defines_fit r.standard r.settings.items ≡ true = search rules in
     record {
       sound = rw
           (c.in_ok-project.ensures, c.in_ok-path.ensures, c.in_ok-ipath.ensures, c.in_ok-settings.ensures, c.as_slice-2.ensures.value, c.as_slice-3.ensures.value)
-          (IsUnit-reading r.project r.ipath.items r.settings.items r.units.items r.readonly.items (normal_path_of path)
+          (IsUnit-reading r.project r.ipath.items r.settings.items r.units.items r.readonly.items r.standard (normal_path_of path)
           c.self.invariant (is_unit_path-normal path c.requires.writable good) fits);
     }
 
@@ -24,10 +23,10 @@ invariant_of-self-2 c =
     let r = c.self.inside in
     let path = c.args.path.now in
     let good : is_bad_path (normal_path_of path) ≡ false = search rules in
-    let fits : defines_fit C99 r.settings.items ≡ true = search rules in
-    let u = unit r.project (normal_path_of path) r.ipath.items r.settings.items C99 in
+    let fits : defines_fit r.standard r.settings.items ≡ true = search rules in
+    let u = unit r.project (normal_path_of path) r.ipath.items r.settings.items r.standard in
     let pushed : c.push.new.self.items ≡ r.units.items ++ u ∷ [] = search rules in
     rw pushed
-    (IsReading-unit r.project r.ipath.items r.settings.items r.units.items r.readonly.items u c.self.invariant
-    (IsUnit-reading r.project r.ipath.items r.settings.items r.units.items r.readonly.items (normal_path_of path)
-    c.self.invariant (is_unit_path-normal path c.requires.writable good) fits) refl)
+    (IsReading-unit r.project r.ipath.items r.settings.items r.units.items r.readonly.items r.standard u c.self.invariant
+    (IsUnit-reading r.project r.ipath.items r.settings.items r.units.items r.readonly.items r.standard (normal_path_of path)
+    c.self.invariant (is_unit_path-normal path c.requires.writable good) fits))
