@@ -201,7 +201,7 @@ renamed_alike std old new tree bound read e r same loose =
     let names : bound.names ≡ names_of facts = ap (λ (x : Bound). x.names) is in
     let typedefs : bound.typedefs ≡ typedefs_of facts = ap (λ (x : Bound). x.typedefs) is in
     let good : Good new facts = names_good new facts clean (ap (list_all (λ n. alike new n.index n.entity)) (sym names) ∙ r.together) in
-    let start : Kept old (before (length old)).facts = record { covered = λ d w. absurd w; one = λ i d x v w l m. absurd v } in
+    let start : Kept old (before (length old)).facts = record { covered = λ d w. absurd w; linked = λ d w. absurd w; one = λ i d x v w l m. absurd v } in
     let covered : Covered std old new r.apart bound.typedefs (entries_of facts.declared) =
     (λ x w t. subst (λ rs. In (range_of x) rs) (sym typedefs) (reversed_in (range_of x) (ranges facts.declared) (range_in x facts.declared w t))) in
     (agreeing_alike std) old new tree (sym r.as_long) same read

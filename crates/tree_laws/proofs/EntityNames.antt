@@ -17,7 +17,7 @@ use Rattle.tree_laws.proofs.HeldNames.{binding_is, Has, entities_noted}
 use Rattle.tree_laws.proofs.OrderedNames.{hit_itself, facts_once}
 
 -- what is noted is one of the occurrences
-has_in : (o : Occurrence) (os : List Occurrence) → In o os → Has o.index o.entity os
+pub has_in : (o : Occurrence) (os : List Occurrence) → In o os → Has o.index o.entity os
 has_in o [] w = absurd w
 has_in o (x ∷ os) (inl same) = inl (ap (λ (y : Occurrence). y.index) same, ap (λ (y : Occurrence). y.entity) same)
 has_in o (x ∷ os) (inr w) = inr (has_in o os w)
@@ -40,7 +40,7 @@ module _ (facts : Facts) where
       (ne_eqb o.index i (λ same. absurd (omega (arith, once, has_counted i e os w, subst (λ n. 1 ≤ hit i n) (sym same) (omega (arith, hit_itself i))))))
       ∙ found i e os (omega (arith, once)) w
 
-  entity_is : (i e : ℕ) → count_in i facts.occurrences ≤ 1 → Has i e facts.occurrences → entity_at (names_of facts) i ≡ Some e
+  pub entity_is : (i e : ℕ) → count_in i facts.occurrences ≤ 1 → Has i e facts.occurrences → entity_at (names_of facts) i ≡ Some e
   entity_is i e once w =
       ap (λ (ns : List Name). option_map (λ (n : Name). n.entity) (find (λ n. n.index == i) ns)) (reverse-reverse (map (name_of facts) facts.occurrences))
       ∙ found i e facts.occurrences once w

@@ -83,11 +83,20 @@ all_any l k (token i rest) = (λ e. tt, all_any l (k + 1) rest)
 all_any l k (node m first under rest) =
     (some_any (told_name m.production l.production first m under), all_any m 0 under, all_any l (k + 1) rest)
 
+abbrev Alike : List Token → List Occurrence → ℕ → ℕ → Type 0
+Alike toks os i j = alike toks i j ≡ true
+
+alike_goes_on : (toks : List Token) → GoesOn toks any_token (Alike toks)
+alike_goes_on toks = record { itself = λ os i d s. alike_itself toks i; spelled = λ os i j k s. alike_on toks i j k; more = λ o os i j r. r }
+
+-- each occurrence is spelled as its entity
+pub occurrences_alike : (toks : List Token) (tree : Node) (o : Occurrence) → In o (facts_of toks tree.under).occurrences → alike toks o.index o.entity ≡ true
+occurrences_alike toks tree =
+    (facts_held toks any_token (Alike toks) (alike_goes_on toks) tree.under (all_any unit_label 0 tree.under)).occurrences
+
 pub spelled_as_entities : NamesAreSpelledAsTheirEntities
 spelled_as_entities toks tree b e =
-    names_held toks any_token (λ os i j. alike toks i j ≡ true)
-    (record { itself = λ os i d s. alike_itself toks i; spelled = λ os i j k s. alike_on toks i j k; more = λ o os i j r. r })
-    tree b (all_any unit_label 0 tree.under) e
+    names_held toks any_token (Alike toks) (alike_goes_on toks) tree b (all_any unit_label 0 tree.under) e
 
 -- ---- In the text
 

@@ -1,6 +1,7 @@
 -- For the crates of laws above.
 pub mod HeldNames
 pub mod EntityNames
+pub mod LinkedNames
 pub mod Lookups
 pub mod Renaming
 pub mod RenamedNames

@@ -4,7 +4,7 @@ use Rattle.std.specs.Prelude.{IfSome, is_some, filter}
 use Rattle.std.specs.List.{All}
 use Rattle.std.proofs.lemmas.List.Elements.{All-head, All-tail}
 use Rattle.std.specs.Option.{option_map_or}
-use Rattle.std.proofs.lemmas.Bool.{not-false}
+use Rattle.std.proofs.lemmas.Bool.{false_from_ne_true, not-false}
 use Rattle.cs_base.specs.Token.{Token}
 use Rattle.c99_tree.specs.Tree.{Forest}
 use Rattle.scope_bind.specs.Named.{Space, Declaration, Body, Frame, undeclared, no_member, no_label, redeclared, tag_redefined, designator_after_elision, tags, members, labels}
@@ -15,10 +15,10 @@ use Rattle.c_types.specs.Declarations.{Facts, with_fault, with_use, with_declara
 use Rattle.c_types.specs.Tags.{number_in, renumbered, is_same_tag, tag_entity, is_declaring, tag_declaration, tag_named, is_prior_tag, with_tag_after, prior_tag, with_tag, tag_type, is_complete, is_sort, enumeration_used}
 use Rattle.name_chains.specs.Members.{member_declaration, is_found_in, lifted, found_of, unnamed_declaration, with_silent, with_lifted, with_anonymous, is_known, with_member, member_at, member_used_as, member_used}
 use Rattle.scope_bind.specs.Labels.{label_declaration, with_label, jump_to, with_jumps, with_labels}
-use Rattle.tree_laws.proofs.Unnamed.{found_named}
+use Rattle.tree_laws.proofs.Unnamed.{found_named, member_apart}
 use Rattle.tree_laws.proofs.Lookups.{false≢true, In}
 use Rattle.tree_laws.proofs.InLists.{In as AnElement, all_reversed, all_filtered}
-use Rattle.tree_laws.proofs.Renaming.{Good, Kept, occurrence, kept_silent, fault_back, fault_goes, fault_none, occurrence_back, occurrence_good, declaration_back, declaration_good, kept_declaration, kept_occurrence, joins_unlinked, found_again}
+use Rattle.tree_laws.proofs.Renaming.{Good, Kept, occurrence, kept_silent, fault_back, fault_goes, fault_none, occurrence_back, occurrence_good, declaration_back, declaration_good, kept_declaration, kept_occurrence, joins_unlinked, unlinked_ordinary, found_again}
 use Rattle.tree_laws.proofs.RenamedNames.{if_true}
 
 no_some : {X : Type 0} (P : X → Type 0) (r : Option X) → is_some r ≡ false → IfSome r P
@@ -39,7 +39,7 @@ module _ (a b : List Token) (apart : (i j : ℕ) → alike b i j ≡ true → al
   begun_back false e facts h = h
 
   kept_begun : (c : Bool) (e : ℕ) (facts : Facts) → Kept a facts → Kept a (with_begun c e facts)
-  kept_begun true e facts k = record { covered = k.covered; one = k.one }
+  kept_begun true e facts k = record { covered = k.covered; linked = k.linked; one = k.one }
   kept_begun false e facts k = k
 
   module _ (f : Frame) (i : ℕ) (facts : Facts) where
@@ -59,7 +59,7 @@ module _ (a b : List Token) (apart : (i j : ℕ) → alike b i j ≡ true → al
 
     named_kept : (declares : Bool) (e u : ℕ) → Kept a facts
         → Kept a (if declares then with_begun f.has_body e (with_declaration (tag_new e) facts) else with_use i u facts)
-    named_kept true e u k = kept_begun f.has_body e _ (kept_declaration a (tag_new e) facts k (joins_unlinked a (tag_new e) facts refl))
+    named_kept true e u k = kept_begun f.has_body e _ (kept_declaration a (tag_new e) facts k (unlinked_ordinary (tag_new e) refl) (joins_unlinked a (tag_new e) facts refl))
     named_kept false e u k = kept_occurrence a i u false facts k
 
     same_either : (c : Bool) (x y : ℕ) → x ≡ y → (if c then x else y) ≡ y
@@ -164,7 +164,7 @@ module _ (a b : List Token) (apart : (i j : ℕ) → alike b i j ≡ true → al
         → Kept a (with_declaration d (with_fault twice redeclared i facts))
     once_kept e k h =
         subst (λ x. Kept a (with_declaration d x)) (sym (fault_none twice redeclared i facts (once_none h)))
-        (kept_declaration a d facts k (joins_unlinked a d facts (ap has_linkage e)))
+        (kept_declaration a d facts k (unlinked_ordinary d (ap has_linkage e)) (joins_unlinked a d facts (ap has_linkage e)))
 
     pub once_same : Kept a facts → Good b (with_declaration d (with_fault twice redeclared i facts))
         → with_declaration d (with_fault (is_some (anywhere b space i facts)) redeclared i facts) ≡ with_declaration d (with_fault twice redeclared i facts)
@@ -237,9 +237,9 @@ module _ (a b : List Token) (apart : (i j : ℕ) → alike b i j ≡ true → al
 
   -- ---- Anonymous members
 
-  -- these are names of what is declared already
+  -- these are names of what is declared already, and have no linkage
   abbrev Covered : Facts → Declaration → Type 0
-  Covered facts d = In (occurrence d.name_at d.entity true) facts.occurrences
+  Covered facts d = In (occurrence d.name_at d.entity true) facts.occurrences × (has_linkage d.linkage ≡ false)
 
   module _ (owner : ℕ) where
     abbrev again : Declaration → Facts → Bool
@@ -271,7 +271,7 @@ module _ (a b : List Token) (apart : (i j : ℕ) → alike b i j ≡ true → al
         → Kept a (next d facts)
     next_kept d later facts w k h =
         subst (λ x. Kept a (with_silent (lifted owner d) x)) (sym (fault_none (again d facts) redeclared d.name_at facts (once d later facts h)))
-        (kept_silent a (lifted owner d) facts k (λ u. w) (λ i e v l m. absurd (false≢true l)))
+        (kept_silent a (lifted owner d) facts k (λ u. w.0) (unlinked_ordinary (lifted owner d) w.1) (λ i e v l m. absurd (false≢true l)))
 
     lifted_kept : (ds : List Declaration) (facts : Facts) → All (Covered facts) ds → Kept a facts → Good b (with_lifted a owner ds facts)
         → Kept a (with_lifted a owner ds facts)
@@ -291,11 +291,19 @@ module _ (a b : List Token) (apart : (i j : ℕ) → alike b i j ≡ true → al
         ∙ lifted_same later (next d facts) (covered_still (again d facts) d later facts (All-tail (Covered facts) d later all))
         (next_kept d later facts (All-head (Covered facts) d later all) k h) h
 
+  member_unlinked : (number : ℕ) (facts : Facts) (d : Declaration) → Kept a facts → In d facts.declared → is_found_in number d ≡ true
+      → has_linkage d.linkage ≡ false
+  member_unlinked number facts d k w p =
+      false_from_ne_true (has_linkage d.linkage) (λ links. false≢true (sym (member_apart d.space number p) ∙ k.linked d w links))
+
   found_covered : (number : ℕ) (facts : Facts) → Kept a facts → All (Covered facts) (found_of number facts)
   found_covered number facts k =
       all_reversed (Covered facts) (filter (is_found_in number) facts.declared)
       (all_filtered (Covered facts) (is_found_in number) facts.declared
-      (λ d w p. k.covered d (turned d facts.declared w) (found_named d.space (members number) p)))
+      (λ d w p. (
+        k.covered d (turned d facts.declared w) (found_named d.space (members number) p),
+        member_unlinked number facts d k (turned d facts.declared w) p,
+      )))
 
   module _ (f : Frame) (i : ℕ) (facts : Facts) where
     abbrev all : List Declaration
@@ -310,7 +318,7 @@ module _ (a b : List Token) (apart : (i j : ℕ) → alike b i j ≡ true → al
     anonymous_case_kept true k h =
         kept_silent a (unnamed_declaration f i) (with_lifted a f.owner all facts)
         (lifted_kept f.owner all facts (found_covered (number_in f.base) facts k) k (record { clean = h.clean; good = h.good }))
-        (λ u. absurd (false≢true (sym u))) (λ j e v l m. absurd (false≢true l))
+        (λ u. absurd (false≢true (sym u))) (unlinked_ordinary (unnamed_declaration f i) refl) (λ j e v l m. absurd (false≢true l))
     anonymous_case_kept false k h = k
 
     anonymous_case_same : (c : Bool) → Kept a facts → Good b (if c then with_silent (unnamed_declaration f i) (with_lifted a f.owner all facts) else facts)

@@ -145,7 +145,7 @@ module _ (a b : List Token) (apart : (i j : ℕ) → alike b i j ≡ true → al
     pub declared_kept : Kept a facts → Good b (declared a scope n facts) → Kept a (declared a scope n facts)
     declared_kept k h =
         let c : IsClear a b n prior facts = declared_clear h in
-        subst (λ x. Kept a (with_declaration new_one x)) (sym (clear_is c)) (kept_declaration a new_one facts k (joins_new k c))
+        subst (λ x. Kept a (with_declaration new_one x)) (sym (clear_is c)) (kept_declaration a new_one facts k (λ e. refl) (joins_new k c))
 
     prior_same : Kept a facts → Good b (declared a scope n facts) → in_scope b ordinary scope.depth n.name_at n.last facts ≡ prior
     prior_same k h =

@@ -119,7 +119,7 @@ module _ (a b : List Token) (apart : (i j : ℕ) → alike b i j ≡ true → al
       (λ k h. member_used_kept a b apart (target_of f.given) i facts k h)
       (λ k h. designated_kept a b apart f.given i facts (is_unknown f.given) k h)
       (λ k h. with_label_kept a b apart f.body i facts k h)
-      (λ k h. record { covered = k.covered; one = k.one })
+      (λ k h. record { covered = k.covered; linked = k.linked; one = k.one })
       r
 
   designated_at : (c : Bool) (t : CType) (i : ℕ) (facts : Facts) → member_at b t i facts ≡ member_at a t i facts
@@ -258,8 +258,8 @@ module _ (a b : List Token) (apart : (i j : ℕ) → alike b i j ≡ true → al
     facts_after_kept Enumerator k h =
         declared_kept a b apart f.scope (plain_name a first (last_token under first) Constant arithmetic false) facts k h
     facts_after_kept MemRest k h = closed_kept a b apart f first facts (l.alternative == 1) k h
-    facts_after_kept Members k h = record { covered = k.covered; one = k.one }
-    facts_after_kept Enumerators k h = record { covered = k.covered; one = k.one }
+    facts_after_kept Members k h = record { covered = k.covered; linked = k.linked; one = k.one }
+    facts_after_kept Enumerators k h = record { covered = k.covered; linked = k.linked; one = k.one }
     facts_after_kept FunBody k h = with_labels_kept a b apart body facts k h
     facts_after_kept _ k h = k
 

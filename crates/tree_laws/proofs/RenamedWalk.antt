@@ -107,7 +107,7 @@ renamed_bind_alike old new tree b e r =
     let names : b.names ≡ names_of facts = ap (λ (x : Bound). x.names) (bound_is tree.under facts facts.fault b e) in
     let good : Good new facts =
     names_good new facts clean (ap (list_all (λ n. alike new n.index n.entity)) (sym names) ∙ r.together) in
-    let start : Kept old (at_first (length old)).facts = record { covered = λ d w u. absurd w; one = λ i d x v w l m. absurd v } in
+    let start : Kept old (at_first (length old)).facts = record { covered = λ d w u. absurd w; linked = λ d w. absurd w; one = λ i d x v w l m. absurd v } in
     let follows : Follows old new r.apart r.words (walked old tree.under (at_first (length old))) (walked new tree.under (at_first (length old))) =
     walked_same old new r.apart r.words tree.under (at_first (length old)) start good in
     ap (λ n. bound_after tree.under (walked new tree.under (at_first n)).facts) r.as_long

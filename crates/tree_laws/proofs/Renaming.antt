@@ -22,9 +22,18 @@ pub record Good (b : List Token) (facts : Facts) : Type 0 where
 abbrev pub IsLinked : List Token → ℕ → Declaration → Type 0
 IsLinked a i d = (is_named a ordinary i d && has_linkage d.linkage) ≡ true
 
--- each declaration that has a name is an occurrence, and declarations of one spelling that have linkage are one entity
+-- a declaration that has linkage is one of an ordinary identifier (6.2.2 paragraph 6, 6.2.3)
+abbrev pub IsOrdinary : Declaration → Type 0
+IsOrdinary d = has_linkage d.linkage ≡ true → is_space d.space ordinary ≡ true
+
+pub unlinked_ordinary : (d : Declaration) → has_linkage d.linkage ≡ false → IsOrdinary d
+unlinked_ordinary d e h = absurd (false≢true (sym e ∙ h))
+
+-- each declaration that has a name is an occurrence, one that has linkage is one of an ordinary identifier, and those of
+-- one spelling that have linkage are one entity
 pub record Kept (a : List Token) (facts : Facts) : Type 0 where
   pub covered : (d : Declaration) → In d facts.declared → is_unnamed d.space ≡ false → In (occurrence d.name_at d.entity true) facts.occurrences
+  pub linked : (d : Declaration) → In d facts.declared → IsOrdinary d
   pub one : (i : ℕ) (d e : Declaration) → In d facts.declared → In e facts.declared → IsLinked a i d → IsLinked a i e → d.entity ≡ e.entity
 
 -- ---- Faults
@@ -65,12 +74,16 @@ fault_none false cause i facts e = refl
 
 module _ (a : List Token) where
   pub kept_occurrence : (i e : ℕ) (d : Bool) (facts : Facts) → Kept a facts → Kept a (with_occurrence i e d facts)
-  kept_occurrence i e d facts k = record { covered = λ x within u. inr (k.covered x within u); one = k.one }
+  kept_occurrence i e d facts k = record { covered = λ x within u. inr (k.covered x within u); linked = k.linked; one = k.one }
 
   covered_step : (d x : Declaration) (facts : Facts) → Kept a facts → In x (d ∷ facts.declared) → is_unnamed x.space ≡ false
       → In (occurrence x.name_at x.entity true) (occurrence d.name_at d.entity true ∷ facts.occurrences)
   covered_step d x facts k (inl same) u = inl (ap (λ y. occurrence y.name_at y.entity true) same)
   covered_step d x facts k (inr within) u = inr (k.covered x within u)
+
+  linked_step : (d x : Declaration) (facts : Facts) → Kept a facts → IsOrdinary d → In x (d ∷ facts.declared) → IsOrdinary x
+  linked_step d x facts k is (inl same) = subst IsOrdinary same is
+  linked_step d x facts k is (inr within) = k.linked x within
 
   -- the new declaration is of the entity of each one of its spelling that has linkage
   abbrev pub Joins : Declaration → Facts → Type 0
@@ -85,9 +98,10 @@ module _ (a : List Token) where
       sym (joins i d u (subst (λ z. IsLinked a i z) (sym t) y) x) ∙ ap (λ z. z.entity) t
   one_step n facts k joins i d e (inr u) (inr v) x y = k.one i d e u v x y
 
-  pub kept_declaration : (d : Declaration) (facts : Facts) → Kept a facts → Joins d facts → Kept a (with_declaration d facts)
-  kept_declaration d facts k joins = record {
+  pub kept_declaration : (d : Declaration) (facts : Facts) → Kept a facts → IsOrdinary d → Joins d facts → Kept a (with_declaration d facts)
+  kept_declaration d facts k is joins = record {
     covered = λ x within u. covered_step d x facts k within u;
+    linked = λ x within. linked_step d x facts k is within;
     one = one_step d facts k joins;
   }
 
@@ -99,9 +113,10 @@ module _ (a : List Token) where
 
   -- one that no token of its own declares
   pub kept_silent : (d : Declaration) (facts : Facts) → Kept a facts → (is_unnamed d.space ≡ false → In (occurrence d.name_at d.entity true) facts.occurrences)
-      → Joins d facts → Kept a (with_silent d facts)
-  kept_silent d facts k h joins = record {
+      → IsOrdinary d → Joins d facts → Kept a (with_silent d facts)
+  kept_silent d facts k h is joins = record {
     covered = λ x within u. silent_step d x facts k h within u;
+    linked = λ x within. linked_step d x facts k is within;
     one = one_step d facts k joins;
   }
 

@@ -54,12 +54,18 @@ module _ (a : List Token) where
   abbrev LinkedKey : ℕ → Key → Type 0
   LinkedKey i k = ((is_space k.space ordinary && alike a i k.name_at) && has_linkage k.linkage) ≡ true
 
+  abbrev OrdinaryKey : Key → Type 0
+  OrdinaryKey k = has_linkage k.linkage ≡ true → is_space k.space ordinary ≡ true
+
   kept_copies : (list depth from to : ℕ) (facts : Facts) → Kept a facts → Kept a (with_kept (Some list) depth from to facts)
   kept_copies list depth from to facts k = record {
     covered = λ x w u.
         let f : From x facts.declared = from_all list depth from to x facts.declared w in
         subst (λ (q : Key). In (occurrence q.name_at q.entity true) facts.occurrences) f.1.1
         (k.covered f.0 f.1.0 (subst (λ (q : Key). is_unnamed q.space ≡ false) (sym f.1.1) u));
+    linked = λ x w.
+        let f : From x facts.declared = from_all list depth from to x facts.declared w in
+        subst OrdinaryKey f.1.1 (k.linked f.0 f.1.0);
     one = λ i x y v w l m.
         let f : From x facts.declared = from_all list depth from to x facts.declared v in
         let g : From y facts.declared = from_all list depth from to y facts.declared w in
@@ -69,8 +75,8 @@ module _ (a : List Token) where
   }
 
   pub kept_with : (list : Option ℕ) (depth from to : ℕ) (facts : Facts) → Kept a facts → Kept a (with_kept list depth from to (record facts { jumps = [] }))
-  kept_with None depth from to facts k = record { covered = k.covered; one = k.one }
-  kept_with (Some list) depth from to facts k = kept_copies list depth from to (record facts { jumps = [] }) (record { covered = k.covered; one = k.one })
+  kept_with None depth from to facts k = record { covered = k.covered; linked = k.linked; one = k.one }
+  kept_with (Some list) depth from to facts k = kept_copies list depth from to (record facts { jumps = [] }) (record { covered = k.covered; linked = k.linked; one = k.one })
 
 pub good_with : (b : List Token) (list : Option ℕ) (depth from to : ℕ) (facts : Facts) → Good b (with_kept list depth from to (record facts { jumps = [] })) → Good b facts
 good_with b None depth from to facts h = record { clean = h.clean; good = h.good }

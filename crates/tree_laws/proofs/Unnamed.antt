@@ -16,3 +16,12 @@ found_named (Members n) t e = refl
 found_named (Inner n) t e = refl
 found_named (Unnamed n) t e = cc
 found_named (Labels n) t e = refl
+
+-- .. and where members are asked for, it is no ordinary identifier
+pub member_apart : (s : Space) (number : ℕ) → is_space s (Members number) ≡ true → is_space s Ordinary ≡ false
+member_apart Ordinary number e = cc
+member_apart Tags number e = refl
+member_apart (Members n) number e = refl
+member_apart (Inner n) number e = refl
+member_apart (Unnamed n) number e = refl
+member_apart (Labels n) number e = refl

@@ -6,10 +6,10 @@ use Rattle.scope_bind.specs.declared.bound.Name.{Name}
 use Rattle.c_types.specs.declared.lists.List.{List as NameList}
 use Rattle.c_types.specs.declared.lists.Range.{Range}
 use Rattle.scope_bind.specs.Causes.{index_of}
-use Rattle.c_types.specs.Declarations.{alike}
+use Rattle.c_types.specs.Declarations.{alike, has_linkage}
 use Rattle.name_chains.specs.Frames.{outermost}
 use Rattle.scope_bind.specs.Bound.{Bound, binding_of}
-use Rattle.scope_bind.specs.Names.{entity_at}
+use Rattle.scope_bind.specs.Names.{entity_at, linkage_at}
 use Rattle.tree_laws.specs.TreesOfTexts.{names_pass, IsTreeOf}
 
 -- the text binds so
@@ -43,6 +43,13 @@ abbrev pub EntitiesAreNames : Type 0
 EntitiesAreNames =
     (toks : List Token) (tree : Node) (b : Bound) → IsTreeOf (length toks) tree → Binds toks tree b
     → All (λ (n : Name). (entity_at b.names n.index ≡ Some n.entity) × (entity_at b.names n.entity ≡ Some n.entity)) b.names
+
+-- In one unit an identifier that has linkage denotes one entity (6.2.2 paragraph 2): two tokens of one spelling, each of
+-- which names an entity that has linkage, are one token.
+abbrev pub OneLinkedName : Type 0
+OneLinkedName =
+    (toks : List Token) (tree : Node) (b : Bound) → IsTreeOf (length toks) tree → Binds toks tree b → (j k : ℕ)
+    → has_linkage (linkage_at b.names j) ≡ true → has_linkage (linkage_at b.names k) ≡ true → alike toks j k ≡ true → j ≡ k
 
 -- what is true of each token that stands in the tree where names do is true of each name, and of the token that names
 -- its entity

@@ -11,7 +11,8 @@ use Rattle.c_types.specs.declared.lists.List.{List as NameList}
 use Rattle.c_types.specs.declared.lists.Range.{Range}
 use Rattle.scope_bind.specs.Causes.{index_of}
 use Rattle.scope_bind.specs.Bound.{Bound, binding_of}
-use Rattle.scope_bind.specs.Names.{entity_at}
+use Rattle.c_types.specs.Declarations.{alike, has_linkage}
+use Rattle.scope_bind.specs.Names.{entity_at, linkage_at}
 use Rattle.tree_laws.specs.TreesOfTexts.{AreFrom, token_count, IsTreeOf}
 use Rattle.tree_laws.specs.BoundNames.{Binds, IsBody}
 use Rattle.tree_laws.specs.Shapes.{reads_all}
@@ -71,6 +72,10 @@ ReadNamesAreIdentifiers =
 abbrev pub ReadEntitiesAreNames : Type 0
 ReadEntitiesAreNames =
     OfEachBinding (λ s toks b. All (λ (n : Name). (entity_at b.names n.index ≡ Some n.entity) × (entity_at b.names n.entity ≡ Some n.entity)) b.names)
+
+-- an identifier that has linkage denotes one entity in the text (6.2.2 paragraph 2)
+abbrev pub OneReadLinkedName : Type 0
+OneReadLinkedName = OfEachBinding (λ s toks b. (j k : ℕ) → has_linkage (linkage_at b.names j) ≡ true → has_linkage (linkage_at b.names k) ≡ true → alike toks j k ≡ true → j ≡ k)
 
 -- the parameter lists stand in order of the declared names, each of which has one at most (6.7.5.3)
 abbrev pub ReadParameterListsAreInOrder : Type 0

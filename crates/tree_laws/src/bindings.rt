@@ -1,9 +1,9 @@
 // What is true of each text that is read and bound: laws that no caller runs, and that callers' proofs cite.
-ghost use Rattle.tree_laws.specs.ReadTexts.{ReadNamesStandInTheText, ReadFaultsStandInTheText, EachReadTokenIsOneName, ReadNamesAreIdentifiers, ReadEntitiesAreNames, ReadParameterListsAreInOrder, ReadArgumentListsAreInOrder, ReadBodiesStandInTheText, ReadBodiesAreApart};
+ghost use Rattle.tree_laws.specs.ReadTexts.{ReadNamesStandInTheText, ReadFaultsStandInTheText, EachReadTokenIsOneName, ReadNamesAreIdentifiers, ReadEntitiesAreNames, OneReadLinkedName, ReadParameterListsAreInOrder, ReadArgumentListsAreInOrder, ReadBodiesStandInTheText, ReadBodiesAreApart};
 
 use crate::bound::{
     bodies_stand_apart, bound_names_pass, each_token_is_one_name, entities_are_names,
-    lists_stand_in_order, names_stand_in_the_text,
+    lists_stand_in_order, names_stand_in_the_text, one_name_has_linkage,
 };
 use crate::trees::trees_are_of_their_texts;
 
@@ -38,6 +38,14 @@ pub fn read_entities_are_names()
 {
     trees_are_of_their_texts();
     entities_are_names();
+}
+
+/// Two tokens of one spelling, each of which names an entity that has linkage, are one token.
+pub fn one_read_name_has_linkage()
+    ensures { OneReadLinkedName }
+{
+    trees_are_of_their_texts();
+    one_name_has_linkage();
 }
 
 /// Parameter lists and argument lists stand in order of their names, and each name has one at most.

@@ -1,5 +1,5 @@
 // What is true of the binding of every text: laws that no caller runs, and that callers' proofs cite.
-ghost use Rattle.tree_laws.specs.BoundNames.{NamesAreSpelledAsTheirEntities, NamesStandInTheText, FaultsStandInTheText, EachTokenIsOneName, EntitiesAreNames, BoundNamesPass, ParameterListsAreInOrder, ArgumentListsAreInOrder, BodiesStandInTheText, BodiesAreApart};
+ghost use Rattle.tree_laws.specs.BoundNames.{NamesAreSpelledAsTheirEntities, NamesStandInTheText, FaultsStandInTheText, EachTokenIsOneName, EntitiesAreNames, OneLinkedName, BoundNamesPass, ParameterListsAreInOrder, ArgumentListsAreInOrder, BodiesStandInTheText, BodiesAreApart};
 ghost use Rattle.tree_laws.specs.RenamedNames.{RenamedBindAlike};
 
 /// Each name is spelled as the token that names its entity.
@@ -21,6 +21,11 @@ pub fn each_token_is_one_name()
 /// The token that names an entity is a name of it.
 pub fn entities_are_names()
     ensures { EntitiesAreNames }
+{}
+
+/// Two tokens of one spelling, each of which names an entity that has linkage, are one token.
+pub fn one_name_has_linkage()
+    ensures { OneLinkedName }
 {}
 
 /// What is true of each token that stands in the tree where names do is true of each name, and of the token that names

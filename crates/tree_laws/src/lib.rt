@@ -5,11 +5,12 @@
 //! of the crate `scope_bind`. A name is spelled as the token that names its entity, and a text that is renamed,
 //! `NamesAreRenamed` of `specs/RenamedNames.antt`, binds name for name as before: that is so for each list of tokens and
 //! each tree. The other laws there ask that the tree is one of these tokens, `IsTreeOf` of `specs/TreesOfTexts.antt`.
-//! Then names, entities and faults stand in the text, no token is two names, the token that names an entity is a name
-//! of it, what is true of tokens where names stand is true of names, lists stand in order of their names, and bodies
-//! stand apart. `trees.rt` speaks of `read_of` of the crate `c99_read`: the tokens of a tree stand in the order of
-//! the text, whatever the grammar, and a tree of C is one of its text. So `bindings.rt` has the laws of `bound.rt`
-//! for each text that is read and bound, with no premise on its tree. Reading is proved by one induction
+//! Then names, entities and faults stand in the text, no token is two names, one spelling with linkage is one entity,
+//! the token that names an entity is a name of it, what is true of tokens where names stand is true of names, lists
+//! stand in order of their names, and bodies stand apart. `trees.rt` speaks of `read_of` of the crate `c99_read`: the
+//! tokens of a tree stand in the order of the text, whatever the grammar, and a tree of C is one of its text. So
+//! `bindings.rt` has the laws of `bound.rt` for each text that is read and bound, with no premise on its tree.
+//! Reading is proved by one induction
 //! (`proofs/Walked.antt`); what is special to C is `specs/Shapes.antt`, held against the table.
 //!
 //! They are given to `typedef_laws`, `renamed_tree_laws` and `kept_meaning_laws`. Their proofs cite the modules of
@@ -22,12 +23,13 @@ mod bound;
 mod trees;
 
 pub use bindings::{
-    each_read_token_is_one_name, read_bodies_stand_apart, read_entities_are_names,
-    read_lists_stand_in_order, read_names_are_identifiers, read_names_stand_in_the_text,
+    each_read_token_is_one_name, one_read_name_has_linkage, read_bodies_stand_apart,
+    read_entities_are_names, read_lists_stand_in_order, read_names_are_identifiers,
+    read_names_stand_in_the_text,
 };
 pub use bound::{
     bodies_stand_apart, bound_names_pass, each_token_is_one_name, entities_are_names,
     lists_stand_in_order, names_are_spelled_as_their_entities, names_stand_in_the_text,
-    renamed_names_bind_alike,
+    one_name_has_linkage, renamed_names_bind_alike,
 };
 pub use trees::{reading_stops_in_the_text, tokens_stand_in_order, trees_are_of_their_texts};
