@@ -24,7 +24,7 @@ use Rattle.kept_meaning_laws.proofs.FoundLemmas.{analysis_finds}
 use Rattle.kept_meaning_laws.specs.EditedSource.{AreRespelled}
 use Rattle.kept_meaning_laws.specs.RenamedSource.{IsAccepted}
 use Rattle.kept_meaning_laws.specs.Below.renamed.Renamed.{AnalysisIsRenamed}
-use Rattle.kept_meaning_laws.proofs.TextLemmas.{respelled_files_have_renamed_texts, respelled_files_have_renamed_analysis}
+use Rattle.kept_meaning_laws.proofs.TextLemmas.{respelled_files_have_renamed_texts, respelled_files_have_renamed_analysis, respelled_files_keep_external_names}
 use Rattle.batch_run.specs.Renamed.{Renamed, IsRenamed}
 use Rattle.batch_run.proofs.MemberLemmas.{edit_for, held_before, edit_there, edit_apart}
 
@@ -114,5 +114,6 @@ module _ (ws : WorkspaceValue) (q : LineValue) (a : AnalysisValue) (new : List E
       others = respelled.others;
       texts = respelled_files_have_renamed_texts (source_of before) (source_of now) ws a p.classes c.part c.members q.name q.path q.line q.column is_accepted c.named respelled;
       meaning = renamed_analysis_there;
+      shared = respelled_files_keep_external_names (source_of before) (source_of now) ws a p.classes c.part c.members q.name q.path q.line q.column is_accepted c.named respelled;
     },
   )

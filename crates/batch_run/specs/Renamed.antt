@@ -16,7 +16,7 @@ use Rattle.kept_meaning_laws.specs.Below.analysis_laws.Tables.{IsOpened}
 use Rattle.kept_meaning_laws.specs.Below.rename_rules.First.{IsFirst, offences_of}
 use Rattle.kept_meaning_laws.specs.Below.rename_rules.Runs.{new_bytes}
 use Rattle.kept_meaning_laws.specs.EditedSource.{HoldsMembers}
-use Rattle.kept_meaning_laws.specs.Below.renamed.Renamed.{TextsAreRenamed, AnalysisIsRenamed}
+use Rattle.kept_meaning_laws.specs.Below.renamed.Renamed.{TextsAreRenamed, AnalysisIsRenamed, ExternalNamesAreKept}
 use Rattle.batch_run.specs.Batch.{Plan, after}
 
 -- What a class is renamed in: the analysis of the workspace, the part at the place, and the members of its class.
@@ -47,6 +47,8 @@ pub record IsRenamed (ws : WorkspaceValue) (q : LineValue) (before now : FileMap
   pub texts : TextsAreRenamed (source_of now) ws r.analysis r.members q.name
   -- and these are read to the tree that it had, and bound name for name as before
   pub meaning : AnalysisIsRenamed (source_of now) ws r.analysis r.members q.name
+  -- and two identifiers of external linkage, of whatever units, denote one entity exactly where they did
+  pub shared : ExternalNamesAreKept (source_of now) ws r.analysis
 
 -- what a line keeps: an accepted one renames, between the files as it finds them and as it leaves them
 abbrev pub KeepsLine : WorkspaceValue → LineValue → FileMap → FileMap → Plan → Type 0

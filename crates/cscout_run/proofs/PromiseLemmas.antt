@@ -28,7 +28,7 @@ use Rattle.kept_meaning_laws.specs.Below.rename_rules.Renaming.{IsNamedRenamed, 
 use Rattle.kept_meaning_laws.specs.Below.rename_rules.Runs.{edit_of, edits_of, file_of, new_bytes, runs, with_member}
 use Rattle.kept_meaning_laws.specs.EditedSource.{AreRespelled}
 use Rattle.kept_meaning_laws.specs.RenamedSource.{IsAccepted}
-use Rattle.kept_meaning_laws.proofs.TextLemmas.{respelled_files_have_renamed_texts, respelled_files_have_renamed_analysis}
+use Rattle.kept_meaning_laws.proofs.TextLemmas.{respelled_files_have_renamed_texts, respelled_files_have_renamed_analysis, respelled_files_keep_external_names}
 use Rattle.command_words.specs.Request.{RequestValue, RenameValue, asked, help_asked, version_asked, renaming_asked, tokens_asked, skipped_asked, class_asked, unused_asked, includes_asked, calls_asked, find_asked, generated_asked}
 use Rattle.cscout_run.specs.Promise.{Renamed, IsRenamed, KeepsPromise}
 use Rattle.cscout_run.specs.Steps.{Planned, IsPlannedFor}
@@ -300,6 +300,8 @@ kept q before edits p =
         texts = respelled_files_have_renamed_texts (source_of before) (source_of (with_edits edits before)) p.ws p.analysis p.classes c.part c.members q.name q.path q.line q.column
             accepted c.named files;
         meaning = respelled_files_have_renamed_analysis (source_of before) (source_of (with_edits edits before)) p.ws p.analysis p.classes c.part c.members q.name q.path q.line q.column
+            accepted c.named files;
+        shared = respelled_files_keep_external_names (source_of before) (source_of (with_edits edits before)) p.ws p.analysis p.classes c.part c.members q.name q.path q.line q.column
             accepted c.named files;
       },
     )

@@ -14,7 +14,7 @@ use Rattle.kept_meaning_laws.specs.Below.rename_rules.First.{IsAmong, IsFirst, o
 use Rattle.kept_meaning_laws.specs.Below.rename_rules.Runs.{runs, file_of, new_bytes}
 use Rattle.command_words.specs.Request.{RequestValue, renaming_asked, RenameValue}
 use Rattle.cscout_run.specs.Answer.{workspace_at}
-use Rattle.renamed.specs.Renamed.{TextsAreRenamed, AnalysisIsRenamed}
+use Rattle.renamed.specs.Renamed.{TextsAreRenamed, AnalysisIsRenamed, ExternalNamesAreKept}
 
 -- What a class is renamed in: the workspace of the workspace file, its analysis, the part at the place, and the
 -- members of its class.
@@ -52,6 +52,8 @@ pub record IsRenamed (q : RenameValue) (before now : FileMap) (r : Renamed) : Ty
   pub texts : TextsAreRenamed (source_of now) r.ws r.analysis r.members q.name
   -- and these are read to the tree that it had, and bound name for name as before
   pub meaning : AnalysisIsRenamed (source_of now) r.ws r.analysis r.members q.name
+  -- and two identifiers of external linkage, of whatever units, denote one entity exactly where they did
+  pub shared : ExternalNamesAreKept (source_of now) r.ws r.analysis
 
 -- the promise to these words: where they ask for a rename, the files are renamed
 abbrev pub KeepsPromise : Option RequestValue → FileMap → FileMap → Type 0

@@ -90,7 +90,7 @@ module _ (a : Analysed) (members : List Part) (name : List ℕ) (r : Renaming) (
       named_first : (x y : Token) → ◌≡◌ {A = Option Token} (Some x) (Some y) → is_name x ≡ true → is_name y ≡ true
       named_first x y e' n = let s : x ≡ y = cc in ap is_name (sym s) ∙ n
 
-  name_together : (n : Name) → In n names → alike (map (renamed r) toks) n.index n.entity ≡ true
+  pub name_together : (n : Name) → In n names → alike (map (renamed r) toks) n.index n.entity ≡ true
   name_together n j =
       let is = is_read in
       let b = name_bound n j in

@@ -11,6 +11,7 @@ pub mod UnitTokenLemmas
 pub mod ReadUnitLemmas
 pub mod NamedLemmas
 pub mod BoundUnitLemmas
+pub mod LinksKeptLemmas
 pub mod ReadLemmas
 pub mod SourceLemmas
 pub mod TextLemmas
@@ -18,6 +19,10 @@ pub mod TextLemmas
 mod IdentifierLemmas
 mod SpelledLemmas
 mod LinkedNameLemmas
+mod ExternalNameLemmas
+mod DenotingLemmas
+mod MoveLemmas
+mod SameElementLemmas
 mod ReadNameLemmas
 mod ClassLemmas
 mod BareLemmas

@@ -60,10 +60,10 @@ bound_name names k e at = by (find (λ (n : Name). n.index == k) (reverse names)
         let r = found (λ (m : Name). m.index == k) (reverse names) n is in
         (n, in_reverse n names r.0, eqb-true n.index k r.1, same_Some n.entity e f)
 
-bound_to : (names : List Name) (e k : ℕ) → entity_at names k ≡ Some e → is_bound_to names e k ≡ true
+pub bound_to : (names : List Name) (e k : ℕ) → entity_at names k ≡ Some e → is_bound_to names e k ≡ true
 bound_to names e k at = ap (λ (o : Option ℕ). option_map_or (λ (x : ℕ). x == e) o false) at ∙ eq-eqb e e refl
 
-entity_of : (names : List Name) (e k : ℕ) → is_bound_to names e k ≡ true → entity_at names k ≡ Some e
+pub entity_of : (names : List Name) (e k : ℕ) → is_bound_to names e k ≡ true → entity_at names k ≡ Some e
 entity_of names e k bound = by (entity_at names k) bound
   where
     by : (o : Option ℕ) → option_map_or (λ (x : ℕ). x == e) o false ≡ true → o ≡ Some e

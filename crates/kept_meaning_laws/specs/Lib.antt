@@ -3,6 +3,7 @@ pub mod Limits
 pub mod KeptUnits
 pub mod KeptFileTokens
 pub mod BoundUnits
+pub mod KeptLinks
 pub mod ReadUnits
 pub mod EditedSource
 pub mod RenamedSource

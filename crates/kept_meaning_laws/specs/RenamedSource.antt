@@ -13,7 +13,7 @@ use Rattle.no_offence_laws.specs.Below.ws_core.Classes.{AreItsClasses}
 use Rattle.no_offence_laws.specs.Below.ws_core.Naming.{Names}
 use Rattle.no_offence_laws.specs.Below.ws_core.Parts.{AreMembers}
 use Rattle.kept_meaning_laws.specs.EditedSource.{AreRespelled}
-use Rattle.no_offence_laws.specs.Below.renamed.Renamed.{TextsAreRenamed, AnalysisIsRenamed}
+use Rattle.no_offence_laws.specs.Below.renamed.Renamed.{TextsAreRenamed, AnalysisIsRenamed, ExternalNamesAreKept}
 
 -- A renaming against which nothing stands: of the class of the part that a place names, in a workspace that is accepted.
 pub record IsAccepted (source : Source) (ws : WorkspaceValue) (a : AnalysisValue) (table : classes.Table) (part : Part) (members : List Part) (name : List ℕ) : Type 0 where
@@ -36,3 +36,9 @@ abbrev pub RespelledFilesHaveRenamedAnalysis : Type 0
 RespelledFilesHaveRenamedAnalysis = (source now : Source) (ws : WorkspaceValue) (a : AnalysisValue) (table : classes.Table) (part : Part) (members : List Part) (name path : List ℕ) (line column : ℕ)
     → IsAccepted source ws a table part members name → Names a path line column (Some part) → AreRespelled a members name source now
     → AnalysisIsRenamed now ws a members name
+
+-- The law: and identifiers of external linkage denote one entity exactly where they did.
+abbrev pub RespelledFilesKeepExternalNames : Type 0
+RespelledFilesKeepExternalNames = (source now : Source) (ws : WorkspaceValue) (a : AnalysisValue) (table : classes.Table) (part : Part) (members : List Part) (name path : List ℕ) (line column : ℕ)
+    → IsAccepted source ws a table part members name → Names a path line column (Some part) → AreRespelled a members name source now
+    → ExternalNamesAreKept now ws a

@@ -1,7 +1,7 @@
 // What files hold behind a renaming, what units preprocess to over them, and what analysis the workspace has: laws that no
 // caller runs, and that callers' proofs cite.
 ghost use Rattle.kept_meaning_laws.specs.EditedSource.{RespelledFilesHoldEdited};
-ghost use Rattle.kept_meaning_laws.specs.RenamedSource.{RespelledFilesHaveRenamedAnalysis, RespelledFilesHaveRenamedTexts};
+ghost use Rattle.kept_meaning_laws.specs.RenamedSource.{RespelledFilesHaveRenamedAnalysis, RespelledFilesHaveRenamedTexts, RespelledFilesKeepExternalNames};
 
 /// Files in which the members of a class are respelled, and that are left alone else, hold for each path of the analysis
 /// the edited bytes.
@@ -19,4 +19,10 @@ pub fn respelled_files_have_renamed_texts()
 /// for name as before.
 pub fn respelled_files_have_renamed_analysis()
     ensures { RespelledFilesHaveRenamedAnalysis }
+{}
+
+/// And two identifiers of external linkage, of two units of one project or of one unit, denote one entity exactly where they
+/// did.
+pub fn respelled_files_keep_external_names()
+    ensures { RespelledFilesKeepExternalNames }
 {}

@@ -24,6 +24,7 @@ use Rattle.rename_rules.specs.Below.part_respell.Respelled.{spelled}
 use Rattle.rename_rules.specs.Below.ws_core.Analysis.{UnitAnalysis, AnalysisValue}
 use Rattle.rename_rules.specs.Below.ws_core.Links.{is_bound_to, first_occurrence, occurrence_link, occurrence_links, is_external_name, external_names_from, names_of_units, are_alike, unit_links, links_of}
 use Rattle.rename_rules.proofs.Below.ws_core.NamingLemmas.{filter_in}
+use Rattle.edited_unit_laws.specs.Links.{all_links}
 use Rattle.no_offence_laws.specs.Spellings.{LinkedStayAlike}
 use Rattle.no_offence_laws.proofs.ListLemmas.{In, AllOf, all_of, all_at, found}
 use Rattle.no_offence_laws.proofs.AlikeLemmas.{linked_alike}
@@ -113,22 +114,28 @@ module _ (P : Token → Type 0) where
       all_both (Both P) (links_in earlier u) (links_after (earlier ++ u ∷ []) units) (links_in_have earlier u h k.0)
       (links_after_have (earlier ++ u ∷ []) units (all_both NamesHave earlier (u ∷ []) h (k.0, tt)) k.1)
 
-  -- all links of an analysis, where tokens and links of units have it
-  pub links_have : (a : AnalysisValue) → ((u : UnitAnalysis) → In u a.units → AllOf P u.text.toks × AllOf (Both P) u.text.links) → (l : Link) → In l (links_of a)
-      → Both P l × (are_alike l ≡ true)
-  unfolding links_of
-  links_have a h l i =
+  -- each unit has it of its tokens and its own links
+  abbrev pub UnitsHave : AnalysisValue → Type 0
+  UnitsHave a = (u : UnitAnalysis) → In u a.units → AllOf P u.text.toks × AllOf (Both P) u.text.links
+
+  -- so the links in units have it, and those of external names
+  pub all_links_have : (a : AnalysisValue) → UnitsHave a → AllOf (Both P) (all_links a)
+  all_links_have a h =
       let own : List Link = flat_map unit_links a.units in
       let outside : List Link = external_links (names_of_units a.workspace.units a.units) in
-      let f = filter_in are_alike l (own ++ outside) i in
       let toks : AllOf (λ (u : UnitAnalysis). AllOf P u.text.toks) a.units = all_of (λ (u : UnitAnalysis). AllOf P u.text.toks) a.units (λ u j. (h u j).0) in
-      let all : AllOf (Both P) (own ++ outside) =
       all_both (Both P) own outside
       (all_flat (Both P) unit_links a.units (λ u j.
       let k = h u j in
       all_both (Both P) u.text.links (occurrence_links u.bound.names u.text.toks 0 u.text.toks) k.1 (occurrences_have u.bound.names u.text.toks 0 u.text.toks k.0 k.0)))
-      (links_after_have [] (names_of_units a.workspace.units a.units) tt (units_have a.workspace.units a.units toks)) in
-      (all_at (Both P) (own ++ outside) all l f.0, f.1)
+      (links_after_have [] (names_of_units a.workspace.units a.units) tt (units_have a.workspace.units a.units toks))
+
+  -- and the links of the analysis, which are of alike identifiers
+  pub links_have : (a : AnalysisValue) → UnitsHave a → (l : Link) → In l (links_of a) → Both P l × (are_alike l ≡ true)
+  unfolding links_of
+  links_have a h l i =
+      let f = filter_in are_alike l (all_links a) i in
+      (all_at (Both P) (all_links a) (all_links_have a h) l f.0, f.1)
 
 -- ---- what is true of the tokens of units
 

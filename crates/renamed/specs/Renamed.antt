@@ -1,11 +1,16 @@
 -- What a rename keeps of a workspace, on one page (this project's, over ISO/IEC 9899:1999, 5.1.1.2 phases 1 to 7): what a
 -- token, a text, a table of files and an analysis are behind it. Nothing else has to be read to see what "renamed" means.
-use Rattle.std.specs.Prelude.{ℕ, ◌≡◌, suc, Option, Some, None, List, [], ◌∷◌, ◌++◌, length, map, Ok}
-use Rattle.std.specs.Option.{option_map, option_map_or}
+use Rattle.std.specs.Prelude.{ℕ, ◌≡◌, suc, Bool, false, ◌&&◌, if◌then◌else◌, Option, Some, None, List, [], ◌∷◌, ◌++◌, length, map, Ok, slice_get}
+use Rattle.std.specs.Option.{option_map, option_map_or, option_and_then}
+use Rattle.std.specs.Str.{bytes_eq}
 use Rattle.ws_core.specs.Below.cs_base.declared.positions.Part.{Part}
 use Rattle.ws_core.specs.Below.cs_base.declared.positions.Pos.{Pos}
 use Rattle.ws_core.specs.Below.cs_base.declared.tokens.Link.{Link}
 use Rattle.ws_core.specs.Below.cs_base.Token.{Token, token}
+use Rattle.ws_core.specs.Below.cs_base.Units.{UnitValue}
+use Rattle.ws_core.specs.Below.c_types.declared.entity.Linkage.TheVariants.{External}
+use Rattle.ws_core.specs.Below.c_types.Declarations.{is_linkage, spelling_at}
+use Rattle.ws_core.specs.Below.scope_bind.Names.{entity_at, linkage_at}
 use Rattle.ws_core.specs.Below.part_lexer.Logical.{logical_of, spelling}
 use Rattle.ws_core.specs.Below.part_lexer.Places.{pos, origins_from}
 use Rattle.ws_core.specs.Below.part_lexer.Respelling.{moved}
@@ -134,6 +139,36 @@ renaming_of a members name = record {
   move = move_to a members name;
 }
 
+-- ---- names across units
+
+-- an identifier of external linkage: the project of its unit, and its spelling
+pub record ExternalName : Type 0 where
+  pub project : List ℕ
+  pub text : List ℕ
+
+abbrev pub external_name : List ℕ → List ℕ → ExternalName
+external_name project text = record { project = project; text = text }
+
+-- token k of the unit, which is bound to this entity, if that has external linkage
+abbrev pub external_if : UnitValue → UnitAnalysis → ℕ → ℕ → Option ExternalName
+external_if unit u k entity =
+    if is_linkage (linkage_at u.bound.names entity) External then Some (external_name unit.project (spelling_at u.text.toks k)) else None
+
+-- token k of unit n, both counted from 0, if it is an identifier of external linkage
+abbrev pub external_at : AnalysisValue → ℕ → ℕ → Option ExternalName
+external_at a n k =
+    option_and_then (λ unit. option_and_then (λ u. option_and_then (external_if unit u k) (entity_at u.bound.names k)) (slice_get a.units n))
+    (slice_get a.workspace.units n)
+
+-- in one program each of one spelling denotes the same entity (6.2.2 paragraph 2)
+abbrev pub is_one_entity : Option ExternalName → Option ExternalName → Bool
+is_one_entity (Some x) (Some y) = bytes_eq x.project y.project && bytes_eq x.text y.text
+is_one_entity _ _ = false
+
+-- Token j of unit m and token k of unit n are identifiers of external linkage that denote one entity.
+abbrev pub denote_one : AnalysisValue → ℕ → ℕ → ℕ → ℕ → Bool
+denote_one a m j n k = is_one_entity (external_at a m j) (external_at a n k)
+
 -- ---- what a rename keeps, over the files behind it
 
 -- Each unit has the text that it had, with the members of the class respelled: the same tokens but for these, from the same
@@ -147,3 +182,8 @@ TextsAreRenamed now ws a members name =
 abbrev pub AnalysisIsRenamed : Source → WorkspaceValue → AnalysisValue → List Part → List ℕ → Type 0
 AnalysisIsRenamed now ws a members name =
     analysis_of now ws ≡ Ok (renamed_analysis (renaming_of a members name) (respelled members name) a)
+
+-- Two identifiers of external linkage, of two units of one project or of one unit, denote one entity exactly where they did.
+abbrev pub ExternalNamesAreKept : Source → WorkspaceValue → AnalysisValue → Type 0
+ExternalNamesAreKept now ws a =
+    (b : AnalysisValue) → analysis_of now ws ≡ Ok b → (m j n k : ℕ) → denote_one b m j n k ≡ denote_one a m j n k
