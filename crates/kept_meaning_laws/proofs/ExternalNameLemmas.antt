@@ -173,10 +173,11 @@ module _ (r : Renaming) where
         → AllOf (NamesHave N) earlier → AllOf (NamesHave N) units → KeepsNamesAfter r earlier units
     names_kept earlier [] h own links named more = tt
     names_kept earlier (u ∷ units) h own links named more =
-        let parts = links_here earlier u units links in
-        (each_of (λ (t : Token). Each (SpelledAsBefore r t) (names_of u.project earlier)) u.names (λ t i. each_of (SpelledAsBefore r t) (names_of u.project earlier) (λ w j.
-        alike_both (spelled r t) (spelled r w) t.text w.text
-        (apart t w (all_at N u.names more.0 t i) (name_has N u.project earlier named w j))
-        (linked_anew earlier u h parts.0 t w i j))),
-        names_kept (earlier ++ u ∷ []) units (one_more earlier u h parts.0 own.0) own.1 parts.1
-        (all_both (NamesHave N) earlier (u ∷ []) named (more.0, tt)) more.1)
+        let parts = links_here earlier u units links in (
+          each_of (λ (t : Token). Each (SpelledAsBefore r t) (names_of u.project earlier)) u.names (λ t i. each_of (SpelledAsBefore r t) (names_of u.project earlier) (λ w j.
+              alike_both (spelled r t) (spelled r w) t.text w.text
+              (apart t w (all_at N u.names more.0 t i) (name_has N u.project earlier named w j))
+              (linked_anew earlier u h parts.0 t w i j))),
+          names_kept (earlier ++ u ∷ []) units (one_more earlier u h parts.0 own.0) own.1 parts.1
+              (all_both (NamesHave N) earlier (u ∷ []) named (more.0, tt)) more.1,
+        )

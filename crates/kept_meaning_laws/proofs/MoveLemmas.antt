@@ -21,17 +21,20 @@ use Rattle.kept_meaning_laws.proofs.SameElementLemmas.{Once, total, same_totals}
 
 -- ---- how many members hold a character, and how many begin with it
 
-one_if : Bool → ℕ
+abbrev pub one_if : Bool → ℕ
 one_if b = cond b 1 0
 
-begins_with : Pos → Part → Bool
+zero_more : (k : ℕ) → 0 + k ≡ k
+zero_more k = omega arith
+
+abbrev pub begins_with : Pos → Part → Bool
 begins_with p m = holds m p && nat_eq m.start.at p.at
 
-held_by : List Part → Pos → ℕ
+abbrev pub held_by : List Part → Pos → ℕ
 held_by [] p = 0
 held_by (m ∷ ms) p = one_if (holds m p) + held_by ms p
 
-begun_by : List Part → Pos → ℕ
+abbrev pub begun_by : List Part → Pos → ℕ
 begun_by [] p = 0
 begun_by (m ∷ ms) p = one_if (begins_with p m) + begun_by ms p
 
@@ -49,7 +52,7 @@ begun_le (m ∷ ms) p =
     omega (arith, first, rest)
 
 module _ (name : List ℕ) (p : Pos) (c : ℕ) where
-  put_size : Option Part → ℕ
+  abbrev put_size : Option Part → ℕ
   put_size o = length (option_map_or (put_in name p) o (c ∷ []))
 
   name_size : (b : Bool) → length (if b then name else []) ≡ one_if b * length name
@@ -59,7 +62,10 @@ module _ (name : List ℕ) (p : Pos) (c : ℕ) where
   put_step : (m : Part) (b : Bool) (o : Option Part) (held begun : ℕ) → one_if b + held ≤ 1 → begun ≤ held
       → (held ≤ 1 → put_size o + held ≡ 1 + begun * length name)
       → put_size (cond b (Some m) o) + (one_if b + held) ≡ 1 + (one_if (b && nat_eq m.start.at p.at) + begun) * length name
-  put_step m false o held begun le less rest = rest le
+  put_step m false o held begun le less rest = grown (put_size o) held begun (rest (omega (arith, le)))
+    where
+      grown : (l h b : ℕ) → l + h ≡ 1 + b * length name → l + (0 + h) ≡ 1 + (0 + b) * length name
+      grown l h b r = ap (λ (k : ℕ). l + k) (zero_more h) ∙ (r ∙ ap (λ (k : ℕ). 1 + k * length name) (sym (zero_more b)))
   put_step m true o held begun le less rest =
       let none : begun ≡ 0 = omega (arith, le, less) in
       let size = name_size (nat_eq m.start.at p.at) in
@@ -76,7 +82,7 @@ module _ (name : List ℕ) (p : Pos) (c : ℕ) where
 
   -- what stands for a character, where one member at most holds it
   put_length : (ms : List Part) → held_by ms p ≤ 1 → length (put_at ms name p c) + held_by ms p ≡ 1 + begun_by ms p * length name
-  put_length [] le = refl
+  put_length [] le = omega arith
   put_length (m ∷ ms) le =
       put_step m (holds m p) (find (λ q. holds q p) ms) (held_by ms p) (begun_by ms p) le (begun_le ms p) (put_length ms)
 
@@ -84,11 +90,11 @@ module _ (name : List ℕ) (p : Pos) (c : ℕ) where
 
 module _ (ms : List Part) (name : List ℕ) (file : ℕ) (one : (p : Pos) → held_by ms p ≤ 1) where
   -- of the n characters from this one on
-  held_to : ℕ → ℕ → ℕ
+  abbrev held_to : ℕ → ℕ → ℕ
   held_to at zero = 0
   held_to at (suc n) = held_by ms (pos file at) + held_to (at + 1) n
 
-  begun_to : ℕ → ℕ → ℕ
+  abbrev begun_to : ℕ → ℕ → ℕ
   begun_to at zero = 0
   begun_to at (suc n) = begun_by ms (pos file at) + begun_to (at + 1) n
 
@@ -97,8 +103,8 @@ module _ (ms : List Part) (name : List ℕ) (file : ℕ) (one : (p : Pos) → he
   text_moves cs at zero less = none cs
     where
       none : (ds : List ℕ) → length (respell (put_of ms name file) at (take zero ds)) + 0 ≡ 0 + 0 * length name
-      none [] = refl
-      none (d ∷ ds) = refl
+      none [] = omega arith
+      none (d ∷ ds) = omega arith
   text_moves [] at (suc n) less = absurd (omega (arith, less))
   text_moves (c ∷ cs) at (suc n) less =
       let p : Pos = pos file at in
@@ -116,11 +122,11 @@ module _ (ms : List Part) (name : List ℕ) (file : ℕ) (one : (p : Pos) → he
 -- ---- the characters of one member
 
 module _ (m : Part) (file : ℕ) where
-  own_held : ℕ → ℕ → ℕ
+  abbrev own_held : ℕ → ℕ → ℕ
   own_held at zero = 0
   own_held at (suc n) = one_if (holds m (pos file at)) + own_held (at + 1) n
 
-  own_begun : ℕ → ℕ → ℕ
+  abbrev own_begun : ℕ → ℕ → ℕ
   own_begun at zero = 0
   own_begun at (suc n) = one_if (begins_with (pos file at) m) + own_begun (at + 1) n
 
@@ -133,7 +139,7 @@ module _ (m : Part) (file : ℕ) where
   other_held apart at (suc n) =
       let here = free_here at (λ h. apart h.file) in
       let rest = other_held apart (at + 1) n in
-      (ap (λ (b : Bool). one_if b + own_held (at + 1) n) here ∙ rest.0, ap (λ (b : Bool). one_if (b && nat_eq m.start.at at) + own_begun (at + 1) n) here ∙ rest.1)
+      (ap (λ (b : Bool). one_if b + own_held (at + 1) n) here ∙ (zero_more (own_held (at + 1) n) ∙ rest.0), ap (λ (b : Bool). one_if (b && nat_eq m.start.at at) + own_begun (at + 1) n) here ∙ (zero_more (own_begun (at + 1) n) ∙ rest.1))
 
   -- characters before it
   before_held : (at n : ℕ) → at + n ≤ m.start.at → (own_held at n ≡ 0) × (own_begun at n ≡ 0)
@@ -141,7 +147,7 @@ module _ (m : Part) (file : ℕ) where
   before_held at (suc n) le =
       let here = free_here at (λ h. (let from = h.from in omega (arith, from, le))) in
       let rest = before_held (at + 1) n (omega (arith, le)) in
-      (ap (λ (b : Bool). one_if b + own_held (at + 1) n) here ∙ rest.0, ap (λ (b : Bool). one_if (b && nat_eq m.start.at at) + own_begun (at + 1) n) here ∙ rest.1)
+      (ap (λ (b : Bool). one_if b + own_held (at + 1) n) here ∙ (zero_more (own_held (at + 1) n) ∙ rest.0), ap (λ (b : Bool). one_if (b && nat_eq m.start.at at) + own_begun (at + 1) n) here ∙ (zero_more (own_begun (at + 1) n) ∙ rest.1))
 
   -- .. behind its first one: it begins with none of these
   behind_begun : (at n : ℕ) → m.start.at < at → own_begun at n ≡ 0
@@ -149,7 +155,7 @@ module _ (m : Part) (file : ℕ) where
   behind_begun at (suc n) less =
       let other : nat_eq m.start.at at ≡ false = false_from_ne_true (nat_eq m.start.at at) (λ e. (let same = eqb-true m.start.at at e in omega (arith, same, less))) in
       let none : begins_with (pos file at) m ≡ false = ap (λ (b : Bool). holds m (pos file at) && b) other ∙ and_none (holds m (pos file at)) in
-      ap (λ (b : Bool). one_if b + own_begun (at + 1) n) none ∙ behind_begun (at + 1) n (omega (arith, less))
+      ap (λ (b : Bool). one_if b + own_begun (at + 1) n) none ∙ (zero_more (own_begun (at + 1) n) ∙ behind_begun (at + 1) n (omega (arith, less)))
     where
       and_none : (b : Bool) → (b && false) ≡ false
       and_none true = refl
@@ -176,7 +182,7 @@ module _ (m : Part) (file : ℕ) where
         behind_held k zero le = refl
         behind_held k (suc n) le =
             let here = free_here k (λ h. (let from = h.from in let less = h.less in omega (arith, from, less, le))) in
-            ap (λ (b : Bool). one_if b + own_held (k + 1) n) here ∙ behind_held (k + 1) n (omega (arith, le))
+            ap (λ (b : Bool). one_if b + own_held (k + 1) n) here ∙ (zero_more (own_held (k + 1) n) ∙ behind_held (k + 1) n (omega (arith, le)))
 
         join : (x y k end : ℕ) → x ≡ 1 → y + (k + 1) ≡ end → (x + y) + k ≡ end
         join x y k end here rest = omega (arith, here, rest)
@@ -187,7 +193,8 @@ module _ (m : Part) (file : ℕ) where
     across_held at (suc n) from ends = elim (cases_lt at m.start.at) [
       | inl less ↦
           let here = free_here at (λ h. (let begun = h.from in omega (arith, begun, less))) in
-          ap (λ (b : Bool). one_if b + own_held (at + 1) n) here ∙ across_held (at + 1) n (omega (arith, less)) (omega (arith, ends))
+          ap (λ (b : Bool). one_if b + own_held (at + 1) n) here
+          ∙ (zero_more (own_held (at + 1) n) ∙ across_held (at + 1) n (omega (arith, less)) (omega (arith, ends)))
       | inr more ↦ let all = inside_held at (suc n) (omega (arith, more)) (omega (arith, from)) ends in omega (arith, all, from, more)
     ]
 
@@ -197,7 +204,8 @@ module _ (m : Part) (file : ℕ) where
     across_begun at (suc n) some from less = elim (cases_lt at m.start.at) [
       | inl later ↦
           let here = free_here at (λ h. (let begun = h.from in omega (arith, begun, later))) in
-          ap (λ (b : Bool). one_if (b && nat_eq m.start.at at) + own_begun (at + 1) n) here ∙ across_begun (at + 1) n some (omega (arith, later)) (omega (arith, less))
+          ap (λ (b : Bool). one_if (b && nat_eq m.start.at at) + own_begun (at + 1) n) here
+          ∙ (zero_more (own_begun (at + 1) n) ∙ across_begun (at + 1) n some (omega (arith, later)) (omega (arith, less)))
       | inr more ↦
           let same : m.start.at ≡ at = omega (arith, from, more) in
           let held = held_here at (omega (arith, same)) (omega (arith, same, some)) in
@@ -214,7 +222,7 @@ abbrev pub IsWholeAt : ℕ → ℕ → Part → Type 0
 IsWholeAt file n m = m.start.file ≡ file → (n ≤ m.start.at) ⊎ (m.start.at + m.len ≤ n)
 
 -- how many members begin before it
-pub before_count : List Part → Pos → ℕ
+abbrev pub before_count : List Part → Pos → ℕ
 before_count [] p = 0
 before_count (m ∷ ms) p = one_if (begins_before p m) + before_count ms p
 
@@ -258,7 +266,7 @@ module _ (file n len : ℕ) where
   ]
     where
       zero_times : 0 ≡ 0 * len
-      zero_times = refl
+      zero_times = omega arith
 
       one_times : len ≡ 1 * len
       one_times = omega arith
@@ -284,24 +292,28 @@ module _ (name : List ℕ) (file : ℕ) where
 
   whole_counted : (ms : List Part) (one : (p : Pos) → held_by ms p ≤ 1) (n len : ℕ) → AreWhole file n len ms
       → (held_to ms name file one 0 n ≡ before_count ms (pos file n) * len) × (begun_to ms name file one 0 n ≡ before_count ms (pos file n))
-  whole_counted [] one n len whole = (no_held 0 n, no_begun 0 n)
+  whole_counted [] one n len whole = (no_held 0 n ∙ none len, no_begun 0 n)
     where
+      none : (k : ℕ) → 0 ≡ 0 * k
+      none k = omega arith
+
       no_held : (at k : ℕ) → held_to [] name file one at k ≡ 0
       no_held at zero = refl
-      no_held at (suc k) = no_held (at + 1) k
+      no_held at (suc k) = zero_more (held_to [] name file one (at + 1) k) ∙ no_held (at + 1) k
 
       no_begun : (at k : ℕ) → begun_to [] name file one at k ≡ 0
       no_begun at zero = refl
-      no_begun at (suc k) = no_begun (at + 1) k
+      no_begun at (suc k) = zero_more (begun_to [] name file one (at + 1) k) ∙ no_begun (at + 1) k
   whole_counted (m ∷ ms) one n len whole =
       let facts = whole.0 in
       let first = counted file n len m facts.0 facts.1 facts.2 in
       let rest = whole_counted ms (less_one m ms one) n len whole.1 in
       let more = held_more m ms one (less_one m ms one) 0 n in
-      let here : ℕ = one_if (begins_before (pos file n) m) in
-      (more.0 ∙ (ap (λ (k : ℕ). k + held_to ms name file (less_one m ms one) 0 n) first.chars
-      ∙ (ap (λ (k : ℕ). here * len + k) rest.0 ∙ sym (add-mul here (before_count ms (pos file n)) len))),
-      more.1 ∙ (ap (λ (k : ℕ). k + begun_to ms name file (less_one m ms one) 0 n) first.starts ∙ ap (λ (k : ℕ). here + k) rest.1))
+      let here : ℕ = one_if (begins_before (pos file n) m) in (
+        more.0 ∙ (ap (λ (k : ℕ). k + held_to ms name file (less_one m ms one) 0 n) first.chars
+            ∙ (ap (λ (k : ℕ). here * len + k) rest.0 ∙ sym (add-mul here (before_count ms (pos file n)) len))),
+        more.1 ∙ (ap (λ (k : ℕ). k + begun_to ms name file (less_one m ms one) 0 n) first.starts ∙ ap (λ (k : ℕ). here + k) rest.1),
+      )
 
   -- a character at which no member is cut moves by the growth of the members before it
   pub one_move : (ms : List Part) (text : List ℕ) (n len : ℕ) → ((p : Pos) → held_by ms p ≤ 1) → AreWhole file n len ms → n ≤ length text
@@ -319,7 +331,7 @@ before_total (m ∷ ms) p = ap (λ (k : ℕ). one_if (begins_before p m) + k) (b
 
 count_step : (b : Bool) (k : ℕ) → one_if b + k ≡ cond b (1 + k) k
 count_step true k = refl
-count_step false k = refl
+count_step false k = zero_more k
 
 counted_total : (test : Part → Bool) (ms : List Part) → total (λ (m : Part). one_if (test m)) ms ≡ count_by test ms
 counted_total test ms =

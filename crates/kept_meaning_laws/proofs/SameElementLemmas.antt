@@ -17,12 +17,12 @@ once_from (x ∷ xs) one = (
   once_from xs (λ y j k at also. (let same : suc j ≡ suc k = one y (suc j) (suc k) at also in omega (arith, same))),
 )
 
-pub total : {X : Type 0} → (X → ℕ) → List X → ℕ
+abbrev pub total : {X : Type 0} → (X → ℕ) → List X → ℕ
 total f [] = 0
 total f (x ∷ xs) = f x + total f xs
 
 -- the list without the element at a place
-without : {X : Type 0} → ℕ → List X → List X
+abbrev without : {X : Type 0} → ℕ → List X → List X
 without k [] = []
 without zero (x ∷ xs) = xs
 without (suc k) (x ∷ xs) = x ∷ without k xs
