@@ -32,7 +32,7 @@ counted_by : (earlier : ℕ) (o : Outcome (List Token)) (p : Preprocessed) → e
 counted_by earlier (Ok d) p few less e = ok_holds {E = Fault} (λ q. Counts earlier q) _ p e (refl, omega arith)
 counted_by earlier (Err fault) p few less e = absurd cc
 
-few_done : (o : Outcome (List Token)) (P Q : List Token → State → Type 0) → ((toks : List Token) (t : State) → P toks t → Q toks t)
+pub few_done : (o : Outcome (List Token)) (P Q : List Token → State → Type 0) → ((toks : List Token) (t : State) → P toks t → Q toks t)
     → IfDone P o → IfDone Q o
 few_done (Ok d) P Q next h = next d.value d.state h
 few_done (Err fault) P Q next h = tt

@@ -2,3 +2,4 @@
 pub mod MadeLemmas
 pub mod CountLemmas
 pub mod ReadLemmas
+pub mod OnceLemmas

@@ -3,6 +3,7 @@ use Rattle.std.specs.Prelude.{ℕ, ◌≡◌, true, List, [], ◌∷◌, Some, O
 use Rattle.ws_core.specs.Below.cs_base.Units.{UnitValue}
 use Rattle.ws_core.specs.Below.ws_file.Workspace.{WorkspaceValue, IsWorkspace}
 use Rattle.ws_core.specs.Below.source_files.Files.{Source, Found, Opened, Made, Table, found_at}
+use Rattle.ws_core.specs.Below.source_files.Tables.{HasEachOnce}
 use Rattle.ws_core.specs.Below.include_tree.PseudoFiles.{is_pseudo}
 use Rattle.ws_core.specs.Analysis.{AnalysisValue, analysis_of}
 
@@ -27,3 +28,7 @@ IsOpened path table = (bytes : List ℕ) × (found_at path table ≡ Some (Opene
 abbrev pub UnitFilesAreOpened : Type 0
 UnitFilesAreOpened = (source : Source) (ws : WorkspaceValue) (a : AnalysisValue) → IsWorkspace ws → analysis_of source ws ≡ Ok a
     → All (λ (unit : UnitValue). IsOpened unit.path a.table) ws.units
+
+-- Each path has one number in the table of each analysis.
+abbrev pub PathsStandOnce : Type 0
+PathsStandOnce = (source : Source) (ws : WorkspaceValue) (a : AnalysisValue) → IsWorkspace ws → analysis_of source ws ≡ Ok a → HasEachOnce a.table

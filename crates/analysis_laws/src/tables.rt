@@ -1,6 +1,6 @@
 // What is true of the table of every analysis: a law that no caller runs, and that callers' proofs cite.
 ghost use Rattle.analysis_laws.specs.Counts.{TokensAreFew};
-ghost use Rattle.analysis_laws.specs.Tables.{MadeFilesArePseudo, UnitFilesAreOpened};
+ghost use Rattle.analysis_laws.specs.Tables.{MadeFilesArePseudo, PathsStandOnce, UnitFilesAreOpened};
 
 /// In the table of an analysis only pseudo files have texts that the program made.
 pub fn made_files_are_pseudo()
@@ -15,4 +15,9 @@ pub fn tokens_are_few()
 /// The file of each unit of a workspace is among those that its analysis opened.
 pub fn unit_files_are_opened()
     ensures { UnitFilesAreOpened }
+{}
+
+/// In the table of an analysis each path has one number.
+pub fn paths_stand_once()
+    ensures { PathsStandOnce }
 {}

@@ -15,6 +15,8 @@ pub mod LinksKeptLemmas
 pub mod ReadLemmas
 pub mod SourceLemmas
 pub mod TextLemmas
+pub mod EditLemmas
+pub mod PlanLemmas
 -- What the proofs of this crate rest on.
 mod IdentifierLemmas
 mod SpelledLemmas

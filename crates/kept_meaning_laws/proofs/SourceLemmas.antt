@@ -74,7 +74,7 @@ head_by (suc len) (x ∷ ms) less (suc k) m run at =
     let i = in_drop m _ ms (head_by len (rest_of x ms) (omega (arith, less, rest)) k m run later) in
     (suc i.0, i.1)
 
-head_in : (ms : List Part) (m : Part) (run : List Part) → IsAmong (runs ms) (m ∷ run) → In m ms
+pub head_in : (ms : List Part) (m : Part) (run : List Part) → IsAmong (runs ms) (m ∷ run) → In m ms
 head_in ms m run among = head_by (length ms) ms (omega arith) among.0 m run among.1
 
 -- the run of a file in which a member stands: the file is respelled by it as by all

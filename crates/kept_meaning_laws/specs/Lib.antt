@@ -7,5 +7,6 @@ pub mod KeptLinks
 pub mod ReadUnits
 pub mod EditedSource
 pub mod RenamedSource
+pub mod Plans
 -- Words of the crates below, passed on.
 pub mod Below

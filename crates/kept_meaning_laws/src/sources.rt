@@ -1,6 +1,7 @@
 // What files hold behind a renaming, what units preprocess to over them, and what analysis the workspace has: laws that no
 // caller runs, and that callers' proofs cite.
 ghost use Rattle.kept_meaning_laws.specs.EditedSource.{RespelledFilesHoldEdited};
+ghost use Rattle.kept_meaning_laws.specs.Plans.{PlansKeepMeaning};
 ghost use Rattle.kept_meaning_laws.specs.RenamedSource.{RespelledFilesHaveRenamedAnalysis, RespelledFilesHaveRenamedTexts, RespelledFilesKeepExternalNames};
 
 /// Files in which the members of a class are respelled, and that are left alone else, hold for each path of the analysis
@@ -25,4 +26,10 @@ pub fn respelled_files_have_renamed_analysis()
 /// did.
 pub fn respelled_files_keep_external_names()
     ensures { RespelledFilesKeepExternalNames }
+{}
+
+/// The edits that a plan of a renaming gives rename the class of the part which the place names: over each source that has the
+/// analysis, once they are made, the members are respelled and nothing else is, and the workspace means what it meant.
+pub fn plans_keep_meaning()
+    ensures { PlansKeepMeaning }
 {}
