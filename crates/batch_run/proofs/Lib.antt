@@ -2,8 +2,6 @@ pub mod SettledTables
 pub mod SettledWalk
 pub mod SettledAnalyses
 pub mod KeepingLemmas
-pub mod PieceLemmas
-pub mod MemberLemmas
 pub mod RenamedLemmas
 pub mod StepLemmas
 pub mod RunLemmas

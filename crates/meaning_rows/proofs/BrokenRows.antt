@@ -50,8 +50,8 @@ two_objects_offence a h =
     let holder : In x (holders a (member 4)) =
     offences.holder_of_file two_objects a h (member 4) (codes "y") x (subst (In x) (sym two_objects_lexed) (1, refl)) refl refl in
     let any = any_at (λ (t : Token). bytes_eq (spelled (member 4) (codes "y") t) (codes "y")) (holders a (member 4)) holder.0 x holder.1 refl in
-    offences.occurs_stands two_objects a h (member 4) (codes "y") (pos 2 10)
-    (offences.occurs_at two_objects a h (member 4) (codes "y") y (pos 2 10)
+    offences.occurs_stands a (member 4) (codes "y") (pos 2 10)
+    (offences.occurs_at a (member 4) (codes "y") y (pos 2 10)
     (offences.of_file two_objects a h (member 4) (codes "y") y (subst (In y) (sym two_objects_lexed) (4, refl))) any (0, refl))
 
 pub two_objects_broken : BreaksMeaning two_objects 4 (codes "y")
@@ -70,8 +70,8 @@ pasted_names_offence a h =
     let other = offences.holder_pasted pasted_names a h (member 32) (codes "y") second (1, refl) refl in
     let any = any_at (λ (t : Token). bytes_eq (spelled (member 32) (codes "y") t) (spelled (member 32) (codes "y") first) && not (bytes_eq t.text first.text))
     (holders a (member 32)) other.0 second other.1 refl in
-    offences.clash_stands pasted_names a h (member 32) (codes "y") (pos 2 32)
-    (offences.clashes_at pasted_names a h (member 32) (codes "y") first (pos 2 32) holder any (0, refl))
+    offences.clash_stands a (member 32) (codes "y") (pos 2 32)
+    (offences.clashes_at a (member 32) (codes "y") first (pos 2 32) holder any (0, refl))
 
 pub pasted_names_broken : BreaksMeaning pasted_names 32 (codes "y")
 unfolding read_within whole take_one at_end enter spelled_class base_class class_at acted opened closed binding_of walked spell_from
@@ -88,7 +88,7 @@ hidden_typedef_offence a h =
     let holder : In variable (holders a (member 31)) =
     offences.holder_of_file hidden_typedef a h (member 31) (codes "U") variable (subst (In variable) (sym hidden_typedef_lexed) (11, refl)) refl refl in
     let any = any_at (λ (t : Token). bytes_eq t.text (codes "T")) (holders a (member 31)) holder.0 variable holder.1 refl in
-    offences.shadow_stands hidden_typedef a h (member 31) (codes "U") (pos 2 39)
+    offences.shadow_stands a (member 31) (codes "U") (pos 2 39)
     (offences.shadowed_at hidden_typedef a h (member 31) (codes "U") (bound_of hidden_typedef.toks)
     (its_bound hidden_typedef (tree_of hidden_typedef.toks) (bound_of hidden_typedef.toks) hidden_typedef_read a h)
     16 bare (pos 2 39) (0, refl) refl refl any (0, refl))

@@ -3,4 +3,5 @@ pub mod OffenceLemmas
 pub mod RowLemmas
 pub mod RowTokens
 pub mod BrokenRows
+pub mod SharedRows
 pub mod PreprocessedRows

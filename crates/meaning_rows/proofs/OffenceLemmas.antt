@@ -23,29 +23,7 @@ use Rattle.kept_meaning_laws.proofs.Below.no_offence_laws.ListLemmas.{In, in_fla
 use Rattle.kept_meaning_laws.proofs.Below.no_offence_laws.MemberLemmas.{file_token, any_file_token}
 use Rattle.meaning_rows.specs.Rows.{Row, IsOf}
 
-module _ (r : Row) (a : AnalysisValue) (h : IsOf r a) (members : List Part) (name : List ℕ) where
-  -- ---- tokens
-
-  file_kept : kept_at a.table 2 ≡ Some (kept 2 h.path r.bytes)
-  file_kept = ap (λ (o : Option Entry). option_and_then (kept_in 2) o) h.file
-
-  pub of_file : (t : Token) → In t (tokens_of 2 r.bytes) → In t (all_file_tokens a ++ pasted_tokens a)
-  of_file t i = in_left t (all_file_tokens a) (pasted_tokens a) (any_file_token a 2 (kept 2 h.path r.bytes) t file_kept i)
-
-  pub holder_of_file : (t : Token) → In t (tokens_of 2 r.bytes) → has_origins t.kind ≡ true → holds_member members t ≡ true → In t (holders a members)
-  unfolding holders
-  holder_of_file t i parted held =
-      in_filter (holds_member members) t (file_tokens a ++ pasted_tokens a) held
-      (in_left t (file_tokens a) (pasted_tokens a) (file_token a 2 (kept 2 h.path r.bytes) t file_kept i parted))
-
-  pub holder_pasted : (t : Token) → In t r.pasted → holds_member members t ≡ true → In t (holders a members)
-  unfolding holders pasted_tokens
-  holder_pasted t i held =
-      let own : In t h.unit.text.pasted = subst (In t) (sym h.pasted) i in
-      let all : In t (flat_map (λ (u : UnitAnalysis). u.text.pasted) a.units) =
-      in_flat (λ (u : UnitAnalysis). u.text.pasted) a.units h.unit t (subst (In h.unit) (sym h.only) (0, refl)) own in
-      in_filter (holds_member members) t (file_tokens a ++ pasted_tokens a) held (in_right t (file_tokens a) (pasted_tokens a) all)
-
+module _ (a : AnalysisValue) (members : List Part) (name : List ℕ) where
   -- ---- places
 
   passed : (b : Bool) (ps : List Pos) (p : Pos) → b ≡ true → In p ps → In p (if b then ps else [])
@@ -64,24 +42,6 @@ module _ (r : Row) (a : AnalysisValue) (h : IsOf r a) (members : List Part) (nam
   clashes_at t p i clash here =
       in_flat (clashing_place members name (holders a members)) (holders a members) t p i
       (passed (clashes members name (holders a members) t) (starts_in members t) p clash here)
-
-  pub shadowed_at : (bound : Bound) → h.unit.bound ≡ bound → (k : ℕ) (t : Token) (p : Pos) → In k bound.bare → slice_get r.toks k ≡ Some t
-      → list_any (is_shadow r.toks t.text k) bound.typedefs ≡ true → is_old_spelling (holders a members) t.text ≡ true
-      → In p (first_place t) → In p (shadowed_places a members)
-  unfolding shadowed_places
-  shadowed_at bound bound_is k t p i is hides old here =
-      let u : UnitAnalysis = h.unit in
-      let bare : In k u.bound.bare = subst (λ (b : Bound). In k b.bare) (sym bound_is) i in
-      let ranges : list_any (is_shadow r.toks t.text k) u.bound.typedefs ≡ true =
-      subst (λ (b : Bound). list_any (is_shadow r.toks t.text k) b.typedefs ≡ true) (sym bound_is) hides in
-      let hidden : list_any (is_shadow u.text.toks t.text k) u.bound.typedefs ≡ true =
-      subst (λ (toks : List Token). list_any (is_shadow toks t.text k) u.bound.typedefs ≡ true) (sym h.toks) ranges in
-      let both : (list_any (is_shadow u.text.toks t.text k) u.bound.typedefs && is_old_spelling (holders a members) t.text) ≡ true = rw (hidden, old) refl in
-      let place : In p (bare_place a members u k t) = passed _ (first_place t) p both here in
-      let at : slice_get u.text.toks k ≡ Some t = subst (λ (toks : List Token). slice_get toks k ≡ Some t) (sym h.toks) is in
-      let there : In p (bare_places a members u k) = subst (λ (o : Option Token). In p (option_map_or (bare_place a members u k) o [])) (sym at) place in
-      in_flat (λ (v : UnitAnalysis). flat_map (bare_places a members v) v.bound.bare) a.units u p (subst (In u) (sym h.only) (0, refl))
-      (in_flat (bare_places a members u) u.bound.bare k p bare there)
 
   -- ---- offences
 
@@ -122,3 +82,44 @@ module _ (r : Row) (a : AnalysisValue) (h : IsOf r a) (members : List Part) (nam
   shadow_stands p i =
       let o : Offence = offence ShadowedTypedef p in
       of_spellings o (in_right o (occurring ++ clashing ++ sized) shadowing (stands ShadowedTypedef (shadowed_places a members) p i))
+
+module _ (r : Row) (a : AnalysisValue) (h : IsOf r a) (members : List Part) (name : List ℕ) where
+  -- ---- tokens
+
+  file_kept : kept_at a.table 2 ≡ Some (kept 2 h.path r.bytes)
+  file_kept = ap (λ (o : Option Entry). option_and_then (kept_in 2) o) h.file
+
+  pub of_file : (t : Token) → In t (tokens_of 2 r.bytes) → In t (all_file_tokens a ++ pasted_tokens a)
+  of_file t i = in_left t (all_file_tokens a) (pasted_tokens a) (any_file_token a 2 (kept 2 h.path r.bytes) t file_kept i)
+
+  pub holder_of_file : (t : Token) → In t (tokens_of 2 r.bytes) → has_origins t.kind ≡ true → holds_member members t ≡ true → In t (holders a members)
+  unfolding holders
+  holder_of_file t i parted held =
+      in_filter (holds_member members) t (file_tokens a ++ pasted_tokens a) held
+      (in_left t (file_tokens a) (pasted_tokens a) (file_token a 2 (kept 2 h.path r.bytes) t file_kept i parted))
+
+  pub holder_pasted : (t : Token) → In t r.pasted → holds_member members t ≡ true → In t (holders a members)
+  unfolding holders pasted_tokens
+  holder_pasted t i held =
+      let own : In t h.unit.text.pasted = subst (In t) (sym h.pasted) i in
+      let all : In t (flat_map (λ (u : UnitAnalysis). u.text.pasted) a.units) =
+      in_flat (λ (u : UnitAnalysis). u.text.pasted) a.units h.unit t (subst (In h.unit) (sym h.only) (0, refl)) own in
+      in_filter (holds_member members) t (file_tokens a ++ pasted_tokens a) held (in_right t (file_tokens a) (pasted_tokens a) all)
+
+  pub shadowed_at : (bound : Bound) → h.unit.bound ≡ bound → (k : ℕ) (t : Token) (p : Pos) → In k bound.bare → slice_get r.toks k ≡ Some t
+      → list_any (is_shadow r.toks t.text k) bound.typedefs ≡ true → is_old_spelling (holders a members) t.text ≡ true
+      → In p (first_place t) → In p (shadowed_places a members)
+  unfolding shadowed_places
+  shadowed_at bound bound_is k t p i is hides old here =
+      let u : UnitAnalysis = h.unit in
+      let bare : In k u.bound.bare = subst (λ (b : Bound). In k b.bare) (sym bound_is) i in
+      let ranges : list_any (is_shadow r.toks t.text k) u.bound.typedefs ≡ true =
+      subst (λ (b : Bound). list_any (is_shadow r.toks t.text k) b.typedefs ≡ true) (sym bound_is) hides in
+      let hidden : list_any (is_shadow u.text.toks t.text k) u.bound.typedefs ≡ true =
+      subst (λ (toks : List Token). list_any (is_shadow toks t.text k) u.bound.typedefs ≡ true) (sym h.toks) ranges in
+      let both : (list_any (is_shadow u.text.toks t.text k) u.bound.typedefs && is_old_spelling (holders a members) t.text) ≡ true = rw (hidden, old) refl in
+      let place : In p (bare_place a members u k t) = passed a members name _ (first_place t) p both here in
+      let at : slice_get u.text.toks k ≡ Some t = subst (λ (toks : List Token). slice_get toks k ≡ Some t) (sym h.toks) is in
+      let there : In p (bare_places a members u k) = subst (λ (o : Option Token). In p (option_map_or (bare_place a members u k) o [])) (sym at) place in
+      in_flat (λ (v : UnitAnalysis). flat_map (bare_places a members v) v.bound.bare) a.units u p (subst (In u) (sym h.only) (0, refl))
+      (in_flat (bare_places a members u) u.bound.bare k p bare there)

@@ -1,3 +1,4 @@
 -- What the public contracts rest on.
 pub mod Clause
 pub mod Rows
+pub mod Shared

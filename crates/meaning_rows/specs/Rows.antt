@@ -51,7 +51,7 @@ member at = record { start = pos 2 at; len = 1 } ∷ []
 -- ---- the row of a file
 
 -- limits within which the file of a row is preprocessed by computation: those that hold, but that macros may do little work
-abbrev row_limits : Limits
+abbrev pub row_limits : Limits
 row_limits = record the_limits { work = 100 }
 
 -- the unit of the row, preprocessed within them

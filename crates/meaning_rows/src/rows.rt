@@ -1,6 +1,7 @@
 // Renamings that keep how units are read and bound, each beside one that breaks it.
 ghost use Rattle.std.specs.Prelude.{[], codes, ◌∷◌};
 ghost use Rattle.meaning_rows.specs.Rows.{KeepsReading, hidden_typedef, pasted_names, two_objects};
+ghost use Rattle.meaning_rows.specs.Shared.{KeepsDeclared, two_names};
 
 /// A new name for the first object of `int x;int y;`, which occurs nowhere.
 pub fn name_that_is_new() -> u8
@@ -21,4 +22,11 @@ pub fn place_that_hides_nothing() -> u32
     ensures { KeepsReading hidden_typedef result (codes "U") }
 {
     37
+}
+
+/// A new name for the argument of `N(x)`, with which the names that two units paste of it stay two.
+pub fn name_shared_by_no_unit() -> u8
+    ensures { KeepsDeclared two_names 72 (result ∷ []) }
+{
+    b'v'
 }
