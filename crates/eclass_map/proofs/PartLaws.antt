@@ -195,6 +195,11 @@ has_parts t kept = record {
   parts = λ p part e. part_cases t kept p part (label t p) refl e;
   told = λ part c e. told_part t kept part c (class_in_is t part c e);
   each = λ part is. each_part t kept part is;
+  spots = λ part c o e less.
+      let g = class_in_is t part c e in
+      let n = numbered t part.start (spot c 0) g.at in
+      let len = g.len in
+      part_label t kept part.start n.number c n.at n.spot_at o (omega arith);
   one_class = λ a b c e f.
       let g = class_in_is t a c e in
       let h = class_in_is t b c f in

@@ -162,6 +162,8 @@ pub record HasParts (t : Table) : Type 0 where
   -- a class number is told of parts alone, and of each
   pub told : (part : Part) (c : ℕ) → class_in t part ≡ Some c → IsPart t part
   pub each : (part : Part) → IsPart t part → (c : ℕ) × (class_in t part ≡ Some c)
+  -- each character of a part is labelled with its class number, and with how many of its characters stand before it
+  pub spots : (part : Part) (c o : ℕ) → class_in t part ≡ Some c → o < part.len → label t (along part.start o) ≡ Some (spot c o)
   -- parts have one number exactly where their starts are the same
   pub one_class : (a b : Part) (c : ℕ) → class_in t a ≡ Some c → class_in t b ≡ Some c → Same t a.start b.start
   pub one_number : (a b : Part) (c d : ℕ) → class_in t a ≡ Some c → class_in t b ≡ Some d → Same t a.start b.start → c ≡ d
