@@ -90,6 +90,23 @@ needs_model() {
   export PYTHONPATH PYTHONDONTWRITEBYTECODE=1
 }
 
+# These crates into a folder, a checkout of their own: copy_crates FOLDER NAME.. What `rt check` built of them goes with them, so
+# that nothing is proved again that stands. Their lines of crates.txt are written there, too.
+copy_crates() {
+  local to=$1 name
+  mkdir -p "$to/crates"
+  cp HANDLES "$to"
+  for name in "${@:2}"; do
+    mkdir "$to/crates/$name"
+    cp -r "crates/$name/src" "crates/$name/specs" "crates/$name/proofs" "$to/crates/$name"
+    if [ -d "crates/$name/out/rlib" ]; then
+      mkdir "$to/crates/$name/out"
+      cp -r "crates/$name/out/rlib" "$to/crates/$name/out"
+    fi
+    grep "^$name:" crates.txt >> "$to/crates.txt"
+  done
+}
+
 needs_tool() {
   command -v "$1" >/dev/null || give_up "needs $1"
 }
