@@ -1,5 +1,5 @@
 -- The file of each unit is opened, and stays so.
-use Rattle.std.proofs.Common.{◌≡◌, ◌∙◌, ◌+◌, ◌-◌, ℕ, Bool, true, false, not, ◌&&◌, cond, is_some, List, [], ◌∷◌, Option, None, Some, Result, Ok, Err, refl, ap, sym, subst, inl, inr, arith}
+use Rattle.std.proofs.Common.{◌≡◌, ◌∙◌, ◌+◌, ◌-◌, ℕ, Bool, true, false, cond, is_some, List, [], ◌∷◌, Option, None, Some, Result, Ok, Err, refl, ap, sym, subst, inl, inr}
 use Rattle.std.specs.Prelude.{All, nat_le}
 use Rattle.std.specs.Str.{bytes_eq}
 use Rattle.std.proofs.lemmas.Bool.{cases_Bool}
@@ -29,6 +29,7 @@ use Rattle.ws_core.proofs.Below.include_tree.StayLemmas.{IsStable, Stays, open_f
 use Rattle.ws_core.proofs.Below.include_tree.StayingWalk.{files_stay}
 use Rattle.ws_core.specs.Texts.{UnitFault, unit_fault, unit_with}
 use Rattle.ws_core.specs.Analysis.{UnitsValue, AnalysisValue, analysis_and, with_unit, unit_read, analysed_from}
+use Rattle.ws_core.proofs.CarryLemmas.{unit_real}
 use Rattle.analysis_laws.specs.Tables.{IsPseudoIfMade, MadeArePseudo, IsOpened, UnitFilesAreOpened}
 use Rattle.analysis_laws.proofs.MadeLemmas.{ok_holds, done_first, unmapped, asked_made, made-push, outer_made, made_after}
 
@@ -200,13 +201,6 @@ opened_after path source number unit before p h e =
     opened_by path before.toks (unit_outcome the_limits file_text source number unit before) p (unit_keeps path the_limits file_text source number unit before h) e
 
 -- ---- units in order
-
-not_pseudo : (a b : Bool) → (a && not b) ≡ true → b ≡ false
-not_pseudo a b h = grind (arith, h)
-
--- the file of a unit is no pseudo file
-unit_real : (u : UnitValue) → IsUnit u → is_pseudo u.path ≡ false
-unit_real u h = not_pseudo _ (is_pseudo u.path) h.is_placed
 
 -- the file of a unit is opened in a table
 abbrev IsUnitOpened : Table → UnitValue → Type 0

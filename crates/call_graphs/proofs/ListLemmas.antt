@@ -37,7 +37,7 @@ contains-cases x y xs h = at h.0 h.1 h.2
 pub contains-none : (y : ℕ) → Contains [] y → ⊥
 contains-none y h = absurd (omega (arith, h.1))
 
-range-more : (a n : ℕ) → range_with_len a (suc n) ≡ range_with_len a n ++ (a + n) ∷ []
+pub range-more : (a n : ℕ) → range_with_len a (suc n) ≡ range_with_len a n ++ (a + n) ∷ []
 range-more a zero = let e : a ≡ a + 0 = omega arith in ap (λ (k : ℕ). k ∷ []) e
 range-more a (suc n) =
     let e : a + 1 + n ≡ a + suc n = omega arith in

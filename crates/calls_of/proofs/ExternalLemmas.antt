@@ -1,7 +1,7 @@
 -- The table of the first tokens of external names: one token more, one unit more.
 use Rattle.std.proofs.Common.{ℕ, ◌+◌, ◌-◌, ◌<◌, ◌≤◌, ◌≡◌, Bool, ◌&&◌, cond, List, [], ◌∷◌, ◌++◌, length, min, get_or, drop, filter, Option, None, Some, slice_get, refl, sym, ap, subst, ◌∙◌, inl, inr, if◌then◌else◌, arith}
 use Rattle.std.specs.List.{flat_map}
-use Rattle.std.specs.Option.{option_map, option_or}
+use Rattle.std.specs.Option.{option_or}
 use Rattle.std.specs.Str.{bytes_eq}
 use Rattle.std.specs.Cmp.Lexicographic.{bytes_decides, nat_list_eq_equiv}
 use Rattle.std.proofs.lemmas.Bool.{cases_Bool, cases_lt}
@@ -12,38 +12,31 @@ use Rattle.std.proofs.lemmas.List.Folds.{find-append}
 use Rattle.std.proofs.lemmas.Option.{slice_get_within, get_or_from_slice_get}
 use Rattle.cs_base.specs.Token.{Token}
 use Rattle.cs_base.specs.Units.{UnitValue}
-use Rattle.include_tree.specs.Below.unit_steps.Texts.{UnitTextValue}
 use Rattle.scope_bind.specs.declared.bound.Name.{Name}
-use Rattle.scope_bind.specs.Bound.{Bound}
 use Rattle.ws_core.specs.Below.linkage_join.Linkage.{UnitValue as ExternalNames, first_spelled, names_of}
 use Rattle.ws_core.specs.Below.linkage_join.Firsts.{Table, with_names}
 use Rattle.ws_core.specs.Analysis.{UnitAnalysis}
 use Rattle.ws_core.specs.Links.{is_external_name, external_names_from, names_of_unit, names_of_units}
+use Rattle.ws_core.proofs.Below.linkage_join.FirstsLemmas.{option_or-None}
+use Rattle.ws_core.proofs.ExternalLemmas.{none_left}
 use Rattle.calls_of.specs.Externals.{own_name, Adds, AddsUnits}
-
-or-none : {X : Type 0} (a : Option X) → option_or a None ≡ a
-or-none None = refl
-or-none (Some x) = refl
-
-or-assoc : {X : Type 0} (a b c : Option X) → option_or (option_or a b) c ≡ option_or a (option_or b c)
-or-assoc None b c = refl
-or-assoc (Some x) b c = refl
+use Rattle.calls_of.proofs.OwnerLemmas.{option_or-assoc}
 
 -- ---- tokens of a project
 
 pub adds-none : (own : List ℕ) (old : Table) → Adds own [] old old
 adds-none own old project text = elim (cases_Bool (bytes_eq project own)) [
-  | inl same ↦ rw same (sym (or-none (old project text)))
-  | inr other ↦ rw other (sym (or-none (old project text)))
+  | inl same ↦ rw same (sym (option_or-None (old project text)))
+  | inr other ↦ rw other (sym (option_or-None (old project text)))
 ]
 
 pub adds-both : (own : List ℕ) (xs ys : List Token) (old mid new : Table) → Adds own xs old mid → Adds own ys mid new → Adds own (xs ++ ys) old new
 adds-both own xs ys old mid new first later project text =
     later project text ∙ ap (λ (o : Option Token). option_or o (if bytes_eq project own then first_spelled text ys else None)) (first project text)
     ∙ elim (cases_Bool (bytes_eq project own)) [
-      | inl same ↦ rw same (or-assoc (old project text) (first_spelled text xs) (first_spelled text ys)
+      | inl same ↦ rw same (option_or-assoc (old project text) (first_spelled text xs) (first_spelled text ys)
           ∙ ap (option_or (old project text)) (sym (find-append (λ (v : Token). bytes_eq text v.text) xs ys)))
-      | inr other ↦ rw other (or-none (option_or (old project text) None))
+      | inr other ↦ rw other (option_or-None (option_or (old project text) None))
     ]
 
 module _ (old new : Table) (own spelling : List ℕ) (t : Token) (spelled_so : spelling ≡ t.text) (absent : old own t.text ≡ None)
@@ -64,9 +57,9 @@ module _ (old new : Table) (own spelling : List ℕ) (t : Token) (spelled_so : s
   adds-put project text = elim (cases_Bool (bytes_eq own project)) [
     | inl same ↦ elim (cases_Bool (bytes_eq t.text text)) [
       | inl spelled ↦ at_key project text ((bytes_decides own project).0 same) ((bytes_decides t.text text).0 spelled)
-      | inr apart ↦ put_text project text ∙ rw (nat_list_eq_equiv.symm project own, nat_list_eq_equiv.symm text t.text, same, apart) (sym (or-none (old project text)))
+      | inr apart ↦ put_text project text ∙ rw (nat_list_eq_equiv.symm project own, nat_list_eq_equiv.symm text t.text, same, apart) (sym (option_or-None (old project text)))
     ]
-    | inr other ↦ put_text project text ∙ rw (nat_list_eq_equiv.symm project own, other) (sym (or-none (old project text)))
+    | inr other ↦ put_text project text ∙ rw (nat_list_eq_equiv.symm project own, other) (sym (option_or-None (old project text)))
   ]
 
 -- ---- tokens of a unit: those that are left come still
@@ -115,7 +108,7 @@ adds-unit u old new added project text =
     added project text ∙ ap (option_or (old project text)) (sym (first-in-one project text u))
 
 units-none : (old : Table) → AddsUnits [] old old
-units-none old project text = sym (or-none (old project text))
+units-none old project text = sym (option_or-None (old project text))
 
 units-both : (us vs : List ExternalNames) (old mid new : Table) → AddsUnits us old mid → AddsUnits vs mid new → AddsUnits (us ++ vs) old new
 units-both us vs old mid new first later project text =
@@ -124,7 +117,7 @@ units-both us vs old mid new first later project text =
     ap (flat_map (λ (v : ExternalNames). v.names)) (filter-append test us vs)
     ∙ flat_map-append (λ (v : ExternalNames). v.names) (filter test us) (filter test vs) in
     later project text ∙ ap (λ (o : Option Token). option_or o (first_spelled text (names_of project vs))) (first project text)
-    ∙ or-assoc (old project text) (first_spelled text (names_of project us)) (first_spelled text (names_of project vs))
+    ∙ option_or-assoc (old project text) (first_spelled text (names_of project us)) (first_spelled text (names_of project vs))
     ∙ ap (option_or (old project text)) (sym (ap (first_spelled text) all ∙ find-append (λ (v : Token). bytes_eq text v.text) (names_of project us) (names_of project vs)))
 
 -- those that are left come still
@@ -146,40 +139,11 @@ units-next units us i unit u all old mid new within is at so_far here last later
     ∙ ap (names_of_units (unit ∷ drop (i + 1) units)) (drop_more us i u also ∙ ap (λ (v : UnitAnalysis). v ∷ drop (i + 1) us) same) in
     so_far last (rw more (units-both (one ∷ []) rest mid new last (adds-unit one mid new here) later))
 
-none-left : (units : List UnitValue) → names_of_units units [] ≡ []
-none-left [] = refl
-none-left (u ∷ units) = refl
-
 pub units-all : (units : List UnitValue) (us : List UnitAnalysis) (i : ℕ) (all : List ExternalNames) (old now : Table) → min (length units) (length us) ≤ i
     → UnitsTo (names_of_units (drop i units) (drop i us)) all old now → AddsUnits all old now
 units-all units us i all old now past so_far =
     let none : names_of_units (drop i units) (drop i us) ≡ [] = elim (cases_lt i (length units)) [
-      | inl l ↦ ap (λ v. names_of_units (drop i units) v) (drop_all i us (omega arith)) ∙ none-left (drop i units)
+      | inl l ↦ ap (λ v. names_of_units (drop i units) v) (drop_all i us (omega arith)) ∙ none_left (drop i units)
       | inr m ↦ ap (λ v. names_of_units v (drop i us)) (drop_all i units m)
     ] in
     so_far now (rw none (units-none now))
-
--- ---- the unit whose text and binding are told
-
-text-in : (r : Option UnitAnalysis) (text : UnitTextValue) → option_map (λ (u : UnitAnalysis). u.text) r ≡ Some text
-    → (u : UnitAnalysis) × (r ≡ Some u) × (u.text ≡ text)
-text-in None text e = absurd (cc)
-text-in (Some u) text e = (u, refl, cc)
-
-pub unit-of-text : (units : List UnitAnalysis) (k : ℕ) (text : UnitTextValue) → option_map (λ (u : UnitAnalysis). u.text) (slice_get units (k + 1 - 1)) ≡ Some text
-    → (u : UnitAnalysis) × (slice_get units k ≡ Some u) × (u.text ≡ text)
-unit-of-text units k text e =
-    let same : k + 1 - 1 ≡ k = omega arith in
-    let f : option_map (λ (u : UnitAnalysis). u.text) (slice_get units k) ≡ Some text = rw same at e in
-    text-in (slice_get units k) text f
-
-bound-in : (r : Option UnitAnalysis) (u : UnitAnalysis) (bound : Bound) → r ≡ Some u → option_map (λ (u : UnitAnalysis). u.bound) r ≡ Some bound → u.bound ≡ bound
-bound-in None u bound is e = absurd (cc)
-bound-in (Some v) u bound is e = cc
-
-pub bound-of-unit : (units : List UnitAnalysis) (k : ℕ) (u : UnitAnalysis) (bound : Bound) → slice_get units k ≡ Some u
-    → option_map (λ (u : UnitAnalysis). u.bound) (slice_get units (k + 1 - 1)) ≡ Some bound → u.bound ≡ bound
-bound-of-unit units k u bound is e =
-    let same : k + 1 - 1 ≡ k = omega arith in
-    let f : option_map (λ (u : UnitAnalysis). u.bound) (slice_get units k) ≡ Some bound = rw same at e in
-    bound-in (slice_get units k) u bound is f

@@ -1,6 +1,5 @@
 pub mod CallLemmas
 pub mod ExternalLemmas
-pub mod FileLemmas
 pub mod ListLemmas
 pub mod NodeLemmas
 pub mod OpenLemmas

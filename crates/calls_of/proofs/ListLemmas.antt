@@ -1,8 +1,9 @@
 -- Lists that loops make.
-use Rattle.std.proofs.Common.{◌≡◌, ℕ, zero, suc, ◌+◌, List, [], ◌∷◌, ◌++◌, ap, sym, ◌∙◌, append_assoc, add-one, arith}
+use Rattle.std.proofs.Common.{◌≡◌, ℕ, ◌+◌, List, [], ◌∷◌, ◌++◌, ap, sym, ◌∙◌, append_assoc, add-one, arith}
 use Rattle.std.specs.List.{flat_map, range_with_len}
 use Rattle.std.proofs.lemmas.Grind.{flat_map-append}
 use Rattle.std.proofs.lemmas.List.{append-nil}
+use Rattle.call_graphs.proofs.ListLemmas.{range-more}
 
 -- one element more
 pub flat-more : {X Y : Type 0} (f : X → List Y) (xs ys : List X) (x : X) (old now new here : List Y) → ys ≡ xs ++ x ∷ []
@@ -12,12 +13,6 @@ flat-more {X} {Y} f xs ys x old now new here more so_far added is =
     ap (flat_map f) more ∙ flat_map-append f xs (x ∷ []) ∙ ap (λ (zs : List Y). flat_map f xs ++ zs) (append-nil (f x)) in
     added ∙ ap (λ (zs : List Y). zs ++ here) so_far ∙ ap (λ (zs : List Y). (old ++ flat_map f xs) ++ zs) is
     ∙ append_assoc old (flat_map f xs) (f x) ∙ ap (λ (zs : List Y). old ++ zs) (sym both)
-
-range-more : (a n : ℕ) → range_with_len a (suc n) ≡ range_with_len a n ++ (a + n) ∷ []
-range-more a zero = let e : a ≡ a + 0 = omega arith in ap (λ (k : ℕ). k ∷ []) e
-range-more a (suc n) =
-    let e : a + 1 + n ≡ a + suc n = omega arith in
-    ap (λ (ks : List ℕ). a ∷ ks) (range-more (a + 1) n ∙ ap (λ (k : ℕ). range_with_len (a + 1) n ++ k ∷ []) e)
 
 pub numbers-more : (n : ℕ) → range_with_len 0 (n + 1) ≡ range_with_len 0 n ++ n ∷ []
 numbers-more n =

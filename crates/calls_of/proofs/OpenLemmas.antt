@@ -7,16 +7,10 @@ use Rattle.std.proofs.lemmas.List.{get_or-set_same, get_or-set_other, get_or-rep
 use Rattle.std.proofs.lemmas.List.Elements.{All-push}
 use Rattle.std.proofs.lemmas.List.Folds.{find-append}
 use Rattle.ws_core.specs.Below.c_types.declared.lists.Range.{Range}
+use Rattle.ws_core.proofs.Below.linkage_join.FirstsLemmas.{option_or-None}
 use Rattle.calls_of.specs.Calls.{is_open_behind}
 use Rattle.calls_of.specs.OpenBodies.{open_among, body_at, AreOpenIn, is_between, Opened}
-
-or-none : {X : Type 0} (a : Option X) → option_or a None ≡ a
-or-none None = refl
-or-none (Some x) = refl
-
-map-or : {X Y : Type 0} (f : X → Y) (a b : Option X) → option_map f (option_or a b) ≡ option_or (option_map f a) (option_map f b)
-map-or f None b = refl
-map-or f (Some x) b = refl
+use Rattle.calls_of.proofs.OwnerLemmas.{option_map-or}
 
 -- ---- numbers between others
 
@@ -41,7 +35,7 @@ between_past from end before less = rw (le-ltb before end (omega arith), le-ltb 
 -- ---- one body
 
 pub opened-none : (name from : ℕ) (old : List (Option ℕ)) → Opened name from (from + 1) old old
-opened-none name from old before = rw (none_between from (from + 1) before (omega arith)) (sym (or-none (body_at old before)))
+opened-none name from old before = rw (none_between from (from + 1) before (omega arith)) (sym (option_or-None (body_at old before)))
 
 -- the numbers up to the last one, if there are any
 pub opened-end : (name from to before : ℕ) (old new : List (Option ℕ)) → to + 1 ≤ before → before ≤ from + 1 + (to - from)
@@ -117,7 +111,7 @@ open-more table new functions body told opened before =
     opened before
     ∙ ap (λ (o : Option ℕ). option_or o (if is_between body.from (body.to + 1) before then Some body.name else None)) (told before)
     ∙ ap (option_or (open_among functions before)) (sym (named-if body before))
-    ∙ sym (map-or (λ (r : Range). r.name) (find (is_open_behind before) functions) (find (is_open_behind before) (body ∷ [])))
+    ∙ sym (option_map-or (λ (r : Range). r.name) (find (is_open_behind before) functions) (find (is_open_behind before) (body ∷ [])))
     ∙ ap (option_map (λ (r : Range). r.name)) (sym (find-append (is_open_behind before) functions (body ∷ [])))
 
 -- ---- how many numbers there are

@@ -1,7 +1,7 @@
 -- The table of the replacement lists of macros, as tokens come into it.
-use Rattle.std.proofs.Common.{ℕ, ◌+◌, ◌<◌, ◌≤◌, ◌≡◌, Bor, Bool, true, false, cond, List, [], ◌∷◌, ◌++◌, length, take, drop, Option, None, Some, refl, sym, ap, ◌∙◌, inl, inr}
+use Rattle.std.proofs.Common.{ℕ, ◌+◌, ◌<◌, ◌≤◌, ◌≡◌, true, cond, List, [], ◌∷◌, ◌++◌, length, take, drop, Option, None, Some, refl, sym, ap, ◌∙◌, inl, inr}
 use Rattle.std.specs.Prelude.{find, map, ◌==◌}
-use Rattle.std.specs.Option.{option_copied, option_map, option_map_or, option_or}
+use Rattle.std.specs.Option.{option_map, option_map_or, option_or}
 use Rattle.std.proofs.lemmas.Bool.{cases_Bool, eqb-true, and_parts}
 use Rattle.std.proofs.lemmas.List.{at_drop_more, at_drop_all, map-append, append-nil}
 use Rattle.std.specs.List.{flat_map}
@@ -13,18 +13,15 @@ use Rattle.cs_base.specs.Token.{Token, origin_at}
 use Rattle.ws_core.specs.Below.part_lexer.Places.{pos}
 use Rattle.include_tree.specs.Below.source_files.Files.{Table, Entry, Absent, entry}
 use Rattle.include_tree.specs.Below.source_files.KeptFiles.{kept_at}
+use Rattle.ws_core.proofs.Below.linkage_join.FirstsLemmas.{option_or-None}
 use Rattle.calls_of.specs.Bodies.{Owned, owned, is_pos, begins_at, owner_among, owned_in_file, owned_from}
 use Rattle.calls_of.specs.Owners.{Owners, owner_with, Grew}
 
-option_or-none : {X : Type 0} (a : Option X) → option_or a None ≡ a
-option_or-none None = refl
-option_or-none (Some x) = refl
-
-option_or-assoc : {X : Type 0} (a b c : Option X) → option_or (option_or a b) c ≡ option_or a (option_or b c)
+pub option_or-assoc : {X : Type 0} (a b c : Option X) → option_or (option_or a b) c ≡ option_or a (option_or b c)
 option_or-assoc None b c = refl
 option_or-assoc (Some x) b c = refl
 
-option_map-or : {X Y : Type 0} (f : X → Y) (a b : Option X) → option_map f (option_or a b) ≡ option_or (option_map f a) (option_map f b)
+pub option_map-or : {X Y : Type 0} (f : X → Y) (a b : Option X) → option_map f (option_or a b) ≡ option_or (option_map f a) (option_map f b)
 option_map-or f None b = refl
 option_map-or f (Some x) b = refl
 
@@ -43,7 +40,7 @@ owner_among-append p xs ys =
 
 -- nothing comes
 pub grew-none : (old : Owners) → Grew [] old old
-grew-none old p = sym (option_or-none (old p))
+grew-none old p = sym (option_or-None (old p))
 
 -- what comes first, and what comes then
 pub grew-both : (xs ys : List Owned) (old mid new : Owners) → Grew xs old mid → Grew ys mid new → Grew (xs ++ ys) old new
@@ -63,7 +60,7 @@ grew-at name tok q old new at put p =
     ]
 
 pub grew-nowhere : (name tok : Token) (old : Owners) → origin_at tok 0 ≡ None → Grew (owned name tok ∷ []) old old
-grew-nowhere name tok old at p = rw at (sym (option_or-none (old p)))
+grew-nowhere name tok old at p = rw at (sym (option_or-None (old p)))
 
 -- ---- lists
 
@@ -122,10 +119,5 @@ owner_with-put old new name q absent put p = elim (cases_Bool (is_pos q p)) [
       let same : p ≡ q = sym (is_pos-same q p here) in
       let gone : old p ≡ None = ap old same ∙ absent in
       put p ∙ rw (here, gone) refl
-  | inr apart ↦ put p ∙ rw apart (sym (option_or-none (old p)))
+  | inr apart ↦ put p ∙ rw apart (sym (option_or-None (old p)))
 ]
-
-pub option_copied-cond : {X : Type 0} (test : Bool) (x : Bor X) (o : Option (Bor X))
-    → option_copied (cond test (Some x) o) ≡ cond test (Some x.now) (option_copied o)
-option_copied-cond true x o = refl
-option_copied-cond false x o = refl

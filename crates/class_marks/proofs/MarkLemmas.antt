@@ -3,7 +3,7 @@ use Rattle.std.proofs.Common.{◌≡◌, ℕ, zero, suc, ◌+◌, ◌<◌, ◌�
 use Rattle.std.specs.Prelude.{◌==◌, if◌then◌else◌, replicate, slice_index_or}
 use Rattle.std.specs.List.{fold, flat_map, list_any}
 use Rattle.std.specs.Option.{option_map_or, option_and_then}
-use Rattle.std.proofs.Math.Bool.{or_assoc}
+use Rattle.std.proofs.Math.Bool.{or_assoc, or-false, or-true}
 use Rattle.std.proofs.lemmas.Bool.{cases_eq, eq-eqb, ne_eqb}
 use Rattle.std.proofs.lemmas.Grind.{fold-append, flat_map-append}
 use Rattle.std.proofs.lemmas.List.{append-nil, at_drop_more, at_drop_all, length-set, get_or-set_same, get_or-set_other, take_more}
@@ -17,21 +17,13 @@ use Rattle.class_marks.specs.declared.roles.Role.{Role}
 use Rattle.class_marks.specs.Marks.{class_at, mark_class, with_character, with_token, with_tokens, is_class, touches, AreMarked}
 use Rattle.class_marks.specs.Roles.{token_has, tokens_with}
 
-or-false : (b : Bool) → b ≡ (b || false)
-or-false true = refl
-or-false false = refl
-
-or-true : (b : Bool) → true ≡ (b || true)
-or-true true = refl
-or-true false = refl
-
 -- ---- one class
 
 class-marked : (marks : List Bool) (d c : ℕ) → c < length marks → get_or (mark_class marks d) c false ≡ (get_or marks c false || (d == c))
 class-marked marks d c within =
     ⊎_elim
-    (λ (e : d ≡ c). rw (e, get_or-set_same marks c true false within, eq-eqb c c refl) (or-true (get_or marks c false)))
-    (λ (ne : d ≡ c → ⊥). rw (get_or-set_other marks d c true false (λ q. ne (sym q)), ne_eqb d c ne) (or-false (get_or marks c false)))
+    (λ (e : d ≡ c). rw (e, get_or-set_same marks c true false within, eq-eqb c c refl) (sym (or-true (get_or marks c false))))
+    (λ (ne : d ≡ c → ⊥). rw (get_or-set_other marks d c true false (λ q. ne (sym q)), ne_eqb d c ne) (sym (or-false (get_or marks c false))))
     (cases_eq d c)
 
 module _ (classes : Table) where
@@ -39,7 +31,7 @@ module _ (classes : Table) where
 
   found-marked : (marks : List Bool) (found : Option ℕ) (c : ℕ) → c < length marks
       → get_or (option_map_or (mark_class marks) found marks) c false ≡ (get_or marks c false || is_class c found)
-  found-marked marks None c within = or-false (get_or marks c false)
+  found-marked marks None c within = sym (or-false (get_or marks c false))
   found-marked marks (Some d) c within = class-marked marks d c within
 
   found-long : (marks : List Bool) (found : Option ℕ) → length (option_map_or (mark_class marks) found marks) ≡ length marks
@@ -54,7 +46,7 @@ module _ (classes : Table) where
 
   characters-marked : (os : List (Option Pos)) (marks : List Bool) (c : ℕ) → c < length marks
       → get_or (fold (with_character classes) marks os) c false ≡ (get_or marks c false || list_any (λ o. is_class c (class_at classes o)) os)
-  characters-marked [] marks c within = or-false (get_or marks c false)
+  characters-marked [] marks c within = sym (or-false (get_or marks c false))
   characters-marked (o ∷ os) marks c within =
       let within' : c < length (with_character classes marks o) = rw (found-long marks (class_at classes o)) within in
       characters-marked os (with_character classes marks o) c within'
@@ -69,7 +61,7 @@ module _ (classes : Table) where
 
   tokens-marked : (toks : List Token) (marks : List Bool) (c : ℕ) → c < length marks
       → get_or (with_tokens classes marks toks) c false ≡ (get_or marks c false || list_any (touches classes c) toks)
-  tokens-marked [] marks c within = or-false (get_or marks c false)
+  tokens-marked [] marks c within = sym (or-false (get_or marks c false))
   tokens-marked (t ∷ toks) marks c within =
       let within' : c < length (with_token classes marks t) = rw (characters-long t.origins marks) within in
       tokens-marked toks (with_token classes marks t) c within'

@@ -1,10 +1,10 @@
 -- What marks on classes tell of names.
-use Rattle.std.proofs.Common.{◌≡◌, ℕ, zero, suc, ◌<◌, Bool, true, false, List, [], ◌∷◌, Option, Some, None, length, slice_get, inl, inr, refl, sym, ap, ◌∙◌, subst}
+use Rattle.std.proofs.Common.{◌≡◌, ℕ, zero, suc, ◌<◌, Bool, true, false, List, [], ◌∷◌, Option, Some, None, length, slice_get, inl, inr, refl, sym, ap, ◌∙◌}
 use Rattle.std.specs.Prelude.{slice_index_or}
 use Rattle.std.specs.List.{list_any}
 use Rattle.std.specs.Option.{option_and_then}
 use Rattle.std.proofs.lemmas.Bool.{cases_Bool, eq-eqb, eqb-true}
-use Rattle.std.proofs.lemmas.Option.{none-some, same_Some}
+use Rattle.std.proofs.lemmas.Option.{none-some}
 use Rattle.cs_base.specs.declared.positions.Part.{Part}
 use Rattle.cs_base.specs.declared.positions.Pos.{Pos}
 use Rattle.cs_base.specs.Token.{Token}
@@ -15,22 +15,13 @@ use Rattle.ws_core.specs.Analysed.{Analysed}
 use Rattle.ws_core.specs.Classes.{AreItsClasses}
 use Rattle.ws_core.specs.Parts.{Holds, IsPart}
 use Rattle.ws_core.proofs.ClassLemmas.{held_by, member_walked, walked_member}
+use Rattle.ws_core.proofs.PlaceNameLemmas.{any_from}
 use Rattle.class_marks.specs.declared.roles.Role.{Role}
 use Rattle.class_marks.specs.Marks.{class_at, is_class, touches, AreMarked}
 use Rattle.class_marks.specs.Roles.{names_with}
 use Rattle.class_marks.specs.Touching.{HasRole, Touches}
 
 -- ---- tests of lists
-
-pub any_at : {X : Type 0} (p : X → Bool) (xs : List X) (k : ℕ) (x : X) → slice_get xs k ≡ Some x → p x ≡ true → list_any p xs ≡ true
-any_at p [] k x at passed = absurd (cc)
-any_at {X = X} p (y ∷ xs) zero x at passed =
-    let first : p y ≡ true = subst (λ (z : X). p z ≡ true) (sym (same_Some y x at)) passed in
-    rw first refl
-any_at p (y ∷ xs) (suc k) x at passed = elim (cases_Bool (p y)) [
-  | inl first ↦ rw first refl
-  | inr other ↦ rw other (any_at p xs k x at passed)
-]
 
 -- some element passes the test
 pub record Passes {X : Type 0} (p : X → Bool) (xs : List X) : Type 0 where
@@ -96,7 +87,7 @@ module _ (a : Analysed) (own : AreItsClasses a.value a.classes) (part : Part) (c
       let walked = member_walked a.value a.classes own part x.member c is x.is_member in
       let numbered : class_in a.classes x.member ≡ Some c = own.parts.walked x.member c walked.0 walked.1 in
       let class : class_at a.classes (Some x.at) ≡ Some c = ap (option_and_then (class_in a.classes)) over ∙ numbered in
-      any_at (λ (o : Option Pos). is_class c (class_at a.classes o)) t.origins x.character (Some x.at) at (is_of_class c (class_at a.classes (Some x.at)) class)
+      any_from (λ (o : Option Pos). is_class c (class_at a.classes o)) t.origins x.character (Some x.at) at (is_of_class c (class_at a.classes (Some x.at)) class)
 
   touches_it : (t : Token) → touches a.classes c t ≡ true → Touches a.value part t
   touches_it t passed =
@@ -123,4 +114,4 @@ module _ (a : Analysed) (own : AreItsClasses a.value a.classes) (part : Part) (c
   pub role_marked : (role : Role) (marks : List Bool) → AreMarked a.classes (names_with role a.value) marks → c < length marks
       → HasRole a.value role part → slice_index_or marks c false ≡ true
   role_marked role marks told within x =
-      told.each c within ∙ any_at (touches a.classes c) (names_with role a.value) x.number x.name x.listed (touched x.name x.touches)
+      told.each c within ∙ any_from (touches a.classes c) (names_with role a.value) x.number x.name x.listed (touched x.name x.touches)

@@ -3,14 +3,10 @@ use Rattle.std.proofs.Common.{◌≡◌, ℕ, zero, suc, ◌<◌, ◌&&◌, ◌|
 use Rattle.std.specs.List.{list_all}
 use Rattle.std.proofs.lemmas.Bool.{cases_Bool, and_parts, and_from}
 use Rattle.std.proofs.lemmas.Bool.Decides.{nat_tests}
-use Rattle.part_lexer.specs.Characters.{slash, is_white, is_nondigit, is_word, is_quote}
+use Rattle.part_lexer.specs.Characters.{slash, is_white, is_word, is_quote}
 use Rattle.part_lexer.specs.Spelling.{may_follow, all_follow, begins_number, is_punctuator_text, punctuators_of_one, punctuators_of_two, punctuators_of_three, punctuators_of_four}
 use Rattle.part_lexer.proofs.TableLemmas.{punctuator-lacks}
 use Rattle.expansion_laws.proofs.FrontLemmas.{begins_token, is_dark}
-
-pub or_true : (b : Bool) → (b || true) ≡ true
-or_true true = refl
-or_true false = refl
 
 -- ---- characters
 
@@ -20,15 +16,6 @@ quote_dark c h = grind (arith, nat_tests)
 pub quote_slash : (c : ℕ) → is_quote c ≡ true → (c == slash) ≡ false
 quote_slash c h = grind (arith, nat_tests)
 
-pub quote_word : (c : ℕ) → is_quote c ≡ true → is_word c ≡ false
-quote_word c h = grind (arith, nat_tests)
-
-pub quote_nondigit : (c : ℕ) → is_quote c ≡ true → is_nondigit c ≡ false
-quote_nondigit c h = grind (arith, nat_tests)
-
-pub quote_begins : (c : ℕ) (cs : List ℕ) → is_quote c ≡ true → begins_number c cs ≡ false
-quote_begins c cs h = grind (arith, nat_tests)
-
 pub quote_follow : (last c : ℕ) → is_quote c ≡ true → may_follow last c ≡ false
 quote_follow last c h = grind (arith, nat_tests)
 
@@ -37,9 +24,6 @@ word_dark c h = grind (arith, nat_tests)
 
 pub word_slash : (c : ℕ) → is_word c ≡ true → (c == slash) ≡ false
 word_slash c h = grind (arith, nat_tests)
-
-pub nondigit_word : (c : ℕ) → is_nondigit c ≡ true → is_word c ≡ true
-nondigit_word c h = grind (arith, nat_tests)
 
 follow_dark : (last c : ℕ) → may_follow last c ≡ true → is_white c ≡ false
 follow_dark last c h = grind (arith, nat_tests)

@@ -29,7 +29,7 @@ GoodFull P N v = AllLists P v.lists × AllNotes N v.notes
 unfoldable Keeps : (Token → Type 0) → (Note → Type 0) → (Note → Type 0) → Next → Type 0
 Keeps P M N f = (depth before : ℕ) (ts : List Hidden) (work : ℕ) (e : Expanded) → AllHidden P ts → f depth before ts work ≡ Ok e → AllNotes M e.notes → Good P N e
 
-found_macro : (table : Table) (t : Hidden) (m : Definition) → macro_of table t ≡ Some m → (is_name t.tok ≡ true) × (table t.tok.text ≡ Some m)
+pub found_macro : (table : Table) (t : Hidden) (m : Definition) → macro_of table t ≡ Some m → (is_name t.tok ≡ true) × (table t.tok.text ≡ Some m)
 found_macro table t m e = by (is_name t.tok) refl e
   where
     by : (b : Bool) → is_name t.tok ≡ b → cond (b && not (hides_name t.hides t.tok.text)) (table t.tok.text) None ≡ Some m → (is_name t.tok ≡ true) × (table t.tok.text ≡ Some m)

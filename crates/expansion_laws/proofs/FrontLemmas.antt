@@ -12,6 +12,7 @@ use Rattle.part_lexer.specs.Logical.{Character, new_line_length, gone_length, lo
 use Rattle.part_lexer.specs.Tokens.{longest, front_length, kind_or_other, token_piece, piece_of, expects_header, with_token, is_line_start, Found, FoundToken, file_token, found_from, found_of}
 use Rattle.part_lexer.specs.OneToken.{free_kind, only_token, one_token_of}
 use Rattle.part_lexer.proofs.LogicalLemmas.{logical_from-stays}
+use Rattle.part_lexer.proofs.KindLemmas.{kind_in-plain}
 
 -- a text begins a token: neither white space stands first, nor a comment
 abbrev pub begins_token : List ℕ → Bool
@@ -69,10 +70,6 @@ spelled_is : (o : Option Kind) (k : Kind) → free_kind (unwrap_or o Other) ≡ 
 spelled_is None k e = absurd (cc)
 spelled_is (Some kind) k e = ap (λ (x : Kind). Some x) (free_is kind k e)
 
-plain_kind : (text : List ℕ) → kind_in false text ≡ kind_of text
-unfolding kind_in
-plain_kind text = refl
-
 longest_some : (n : ℕ) (text : List ℕ) → 1 ≤ longest false n text
 longest_some zero text = omega arith
 longest_some (suc n) text = elim (cases_Bool (is_some (kind_in false (take (suc n) text)))) [
@@ -87,7 +84,7 @@ longest_most (suc n) text j some within is = elim (cases_Bool (is_some (kind_in 
   | inr not_here ↦ elim (cases_eq j (suc n)) [
     | inl same ↦
         let there : is_some (kind_in false (take (suc n) text)) ≡ true =
-        ap is_some (plain_kind (take (suc n) text)) ∙ ap (λ (m : ℕ). is_some (kind_of (take m text))) (sym same) ∙ is in
+        ap is_some (kind_in-plain (take (suc n) text)) ∙ ap (λ (m : ℕ). is_some (kind_of (take m text))) (sym same) ∙ is in
         let both : false ≡ true = sym not_here ∙ there in
         absurd (cc)
     | inr apart ↦ rw not_here (longest_most n text j some (omega arith) is)
@@ -120,7 +117,7 @@ front_found bytes front c cs k no_header h e =
     record {
       len = n;
       some = some;
-      kind = sym (plain_kind (take n text)) ∙ spelled_is (kind_in false (take n text)) k parts.1;
+      kind = sym (kind_in-plain (take n text)) ∙ spelled_is (kind_in false (take n text)) k parts.1;
       rest = (elim (cases_Bool (begins_token (drop n text))) [
         | inl begins ↦
             let later : begins_token (drop (n - 1) (spelling cs)) ≡ true = ap begins_token (sym (drop_later n c.byte (spelling cs) some)) ∙ begins in

@@ -59,7 +59,7 @@ param_or_plain-renamed : (r : Renaming) (t : Token) (p : Option ℕ) → param_o
 param_or_plain-renamed r t (Some i) = refl
 param_or_plain-renamed r t None = refl
 
-cond_map : {A B : Type 0} (f : A → B) (b : Bool) (x y : A) → cond b (f x) (f y) ≡ f (cond b x y)
+pub cond_map : {A B : Type 0} (f : A → B) (b : Bool) (x y : A) → cond b (f x) (f y) ≡ f (cond b x y)
 cond_map f true x y = refl
 cond_map f false x y = refl
 

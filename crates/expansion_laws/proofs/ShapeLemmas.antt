@@ -8,9 +8,11 @@ use Rattle.macro_expand.specs.Below.cs_base.declared.tokens.Kind.TheVariants.{Id
 use Rattle.macro_expand.specs.Below.cs_base.Token.{has_origins}
 use Rattle.part_lexer.specs.Characters.{less_than, slash, star, double_quote, capital_l, is_white, is_nondigit, is_digit, is_word, is_quote, begins}
 use Rattle.part_lexer.specs.Spelling.{is_identifier_text, all_follow, begins_number, is_number_text, is_punctuator_text, kind_of}
+use Rattle.part_lexer.proofs.LocalLemmas.{nondigit-word}
+use Rattle.part_lexer.proofs.KindLemmas.{quote-word}
 use Rattle.expansion_laws.specs.Spelled.{quote_first, begins_quoted, is_lone, fits}
 use Rattle.expansion_laws.proofs.FrontLemmas.{begins_token}
-use Rattle.expansion_laws.proofs.BeginLemmas.{quote_word, word_dark, word_slash, nondigit_word, begins_dark, begins_slash, token_begins, begins_each, words_begin, follow_begins, clash, punctuator_has, signs_begin}
+use Rattle.expansion_laws.proofs.BeginLemmas.{word_dark, word_slash, begins_dark, begins_slash, token_begins, begins_each, words_begin, follow_begins, clash, punctuator_has, signs_begin}
 use Rattle.expansion_laws.proofs.TextKindLemmas.{double_is, kind_exact, identifier_kind, number_kind, sign_kind, some_kind, exact_slash, exact_star, alone}
 
 -- ---- shapes
@@ -49,7 +51,7 @@ identifier_shape : (text : List ℕ) → is_identifier_text text ≡ true → Sh
 identifier_shape [] h = absurd (cc)
 identifier_shape (c ∷ cs) h =
     let both = and_parts (is_nondigit c) (list_all is_word cs) h in
-    let word = nondigit_word c both.0 in
+    let word = nondigit-word c both.0 in
     Solid (record {
       each = and_from (begins_token (c ∷ cs)) (begins_each cs) (token_begins c cs (word_dark c word) (word_slash c word)) (words_begin cs both.1);
       some = omega arith;
@@ -136,13 +138,13 @@ lone_word c h = elim (cases_Bool (is_nondigit c)) [
 quoted_word : (text : List ℕ) → begins_quoted text ≡ true → list_all is_word text ≡ true → ⊥
 quoted_word [] h k = absurd (cc)
 quoted_word (c ∷ cs) h k = elim (cases_Bool (is_quote c)) [
-  | inl quote ↦ clash (is_word c) (and_parts (is_word c) (list_all is_word cs) k).0 (quote_word c quote)
+  | inl quote ↦ clash (is_word c) (and_parts (is_word c) (list_all is_word cs) k).0 (quote-word c quote)
   | inr other ↦ by cs (and_parts (c == capital_l) (quote_first cs) (rw other at h)).1 (and_parts (is_word c) (list_all is_word cs) k).1
 ]
   where
     by : (ds : List ℕ) → quote_first ds ≡ true → list_all is_word ds ≡ true → ⊥
     by [] a b = absurd (cc)
-    by (d ∷ ds) a b = clash (is_word d) (and_parts (is_word d) (list_all is_word ds) b).0 (quote_word d a)
+    by (d ∷ ds) a b = clash (is_word d) (and_parts (is_word d) (list_all is_word ds) b).0 (quote-word d a)
 
 sign_word : (text : List ℕ) → is_punctuator_text text ≡ true → list_all is_word text ≡ true → ⊥
 unfolding is_punctuator_text
@@ -180,4 +182,4 @@ pub names_are_words : (text : List ℕ) → fits Ident text ≡ true → list_al
 names_are_words [] h = absurd (cc)
 names_are_words (c ∷ cs) h =
     let both = and_parts (is_nondigit c) (list_all is_word cs) h in
-    rw (nondigit_word c both.0, both.1) refl
+    rw (nondigit-word c both.0, both.1) refl

@@ -13,7 +13,7 @@ use Rattle.part_lexer.specs.OneToken.{one_token_of}
 use Rattle.part_lexer.proofs.LogicalLemmas.{logical_from-stays}
 use Rattle.expansion_laws.specs.Spelled.{fits}
 use Rattle.expansion_laws.proofs.FrontLemmas.{begins_token, OneFront, is_dark, stays, logical_behind, logical_plain, one_front}
-use Rattle.expansion_laws.proofs.BeginLemmas.{quote_token, begins_each, each_begins, begins_each-dark, clash}
+use Rattle.expansion_laws.proofs.BeginLemmas.{quote_token, begins_each, each_begins, begins_each-dark, clash, quote_slash}
 use Rattle.expansion_laws.proofs.TextKindLemmas.{quote_fits, wide_fits, less_fits, inner_fits, inner_less_fits, kind_fits}
 use Rattle.expansion_laws.proofs.ShapeLemmas.{IsSolid, Shape, Solid, Quoted, Wide, Less, shape_of, slash_token, star_token}
 
@@ -151,9 +151,6 @@ plain_slash c d ds h no_slash no_star = elim (cases_Bool (is_white c)) [
 solid_begins : (c : ℕ) (cs : List ℕ) (d : ℕ) (ds : List ℕ) → IsSolid (c ∷ cs) → (d == slash) ≡ false → (d == star) ≡ false → begins_token (c ∷ cs ++ d ∷ ds) ≡ true
 solid_begins c [] d ds h no_slash no_star = plain_slash c d ds (and_parts (begins_token (c ∷ [])) true h.each).0 no_slash no_star
 solid_begins c (e ∷ cs) d ds h no_slash no_star = (and_parts (begins_token (c ∷ e ∷ cs)) (begins_each (e ∷ cs)) h.each).0
-
-quote_slash : (q : ℕ) → is_quote q ≡ true → (q == slash) ≡ false
-quote_slash q h = grind (arith, nat_tests)
 
 quote_star : (q : ℕ) → is_quote q ≡ true → (q == star) ≡ false
 quote_star q h = grind (arith, nat_tests)

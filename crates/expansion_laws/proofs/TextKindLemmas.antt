@@ -4,14 +4,16 @@ use Rattle.std.specs.Prelude.{codes}
 use Rattle.std.specs.List.{list_all, list_any}
 use Rattle.std.specs.Str.{bytes_eq}
 use Rattle.std.proofs.lemmas.Bool.{cases_Bool, and_parts}
+use Rattle.std.proofs.Math.Bool.{or-true}
 use Rattle.macro_expand.proofs.Below.cs_base.FileMapLemmas.{bytes_eq-equal}
 use Rattle.macro_expand.specs.Below.cs_base.declared.tokens.Kind.{Kind}
 use Rattle.macro_expand.specs.Below.cs_base.declared.tokens.Kind.TheVariants.{Ident, Number, Char, Str, Punct, Header, Other}
 use Rattle.part_lexer.specs.Characters.{less_than, slash, star, single_quote, double_quote, capital_l, is_nondigit, is_word, is_quote, begins}
 use Rattle.part_lexer.specs.Spelling.{is_identifier_text, may_follow, all_follow, begins_number, is_number_text, is_plain_char_text, is_plain_string_text, without_prefix, is_char_text, is_string_text, is_punctuator_text, kind_of}
 use Rattle.part_lexer.proofs.TableLemmas.{punctuator-lacks, nondigit-punctuator, quote-punctuator}
+use Rattle.part_lexer.proofs.KindLemmas.{quote-word, quote-number, quote-nondigit}
 use Rattle.expansion_laws.specs.Spelled.{quote_first, begins_quoted, fits}
-use Rattle.expansion_laws.proofs.BeginLemmas.{or_true, quote_word, quote_nondigit, quote_begins, quote_follow, clash, punctuator_has}
+use Rattle.expansion_laws.proofs.BeginLemmas.{quote_follow, clash, punctuator_has}
 
 -- ---- kinds of texts
 
@@ -32,7 +34,7 @@ single_is : (c : ℕ) → (c == single_quote) ≡ true → is_quote c ≡ true
 single_is c h = rw h refl
 
 pub double_is : (c : ℕ) → (c == double_quote) ≡ true → is_quote c ≡ true
-double_is c h = rw h (or_true (c == single_quote))
+double_is c h = rw h (or-true (c == single_quote))
 
 char_quote : (text : List ℕ) → is_plain_char_text text ≡ true → quote_first text ≡ true
 char_quote [] h = absurd (cc)
@@ -51,7 +53,7 @@ string_quote (c ∷ cs) h = elim (cases_Bool (c == double_quote)) [
 prefix_quoted : (text : List ℕ) → quote_first (without_prefix text) ≡ true → begins_quoted text ≡ true
 prefix_quoted [] h = absurd (cc)
 prefix_quoted (c ∷ cs) h = elim (cases_Bool (c == capital_l)) [
-  | inl wide ↦ let quote : quote_first cs ≡ true = rw wide at h in rw (wide, quote) (or_true (is_quote c))
+  | inl wide ↦ let quote : quote_first cs ≡ true = rw wide at h in rw (wide, quote) (or-true (is_quote c))
   | inr narrow ↦ let quote : is_quote c ≡ true = rw narrow at h in rw quote refl
 ]
 
@@ -116,13 +118,13 @@ follow_in last (x ∷ xs) c ys h = follow_in x xs c ys (and_parts (may_follow la
 
 any_in : (p : ℕ → Bool) (xs : List ℕ) (c : ℕ) (ys : List ℕ) → p c ≡ true → list_any p (xs ++ c ∷ ys) ≡ true
 any_in p [] c ys h = rw h refl
-any_in p (x ∷ xs) c ys h = rw (any_in p xs c ys h) (or_true (p x))
+any_in p (x ∷ xs) c ys h = rw (any_in p xs c ys h) (or-true (p x))
 
 -- ---- texts that begin with a quote, with an `L` and a quote, or with `<`
 
 exact_quote : (k : Kind) (q : ℕ) (ws zs : List ℕ) → is_quote q ≡ true → Exact k (q ∷ ws) → fits k (q ∷ zs) ≡ true
-exact_quote Ident q ws zs quote h = absurd (clash (is_nondigit q) (and_parts (is_nondigit q) (list_all is_word ws) h).0 (quote_nondigit q quote))
-exact_quote Number q ws zs quote h = absurd (clash (begins_number q ws) (and_parts (begins_number q ws) (all_follow q ws) h).0 (quote_begins q ws quote))
+exact_quote Ident q ws zs quote h = absurd (clash (is_nondigit q) (and_parts (is_nondigit q) (list_all is_word ws) h).0 (quote-nondigit q quote))
+exact_quote Number q ws zs quote h = absurd (clash (begins_number q ws) (and_parts (begins_number q ws) (all_follow q ws) h).0 (quote-number q ws quote))
 exact_quote Char q ws zs quote h = quote_or q (q == capital_l && quote_first zs) quote
 exact_quote Str q ws zs quote h = quote_or q (q == capital_l && quote_first zs) quote
 exact_quote Punct q ws zs quote h = absurd (clash (is_punctuator_text (q ∷ ws)) h (quote-punctuator q ws quote))
@@ -133,7 +135,7 @@ pub quote_fits : (k : Kind) (q : ℕ) (ws zs : List ℕ) → is_quote q ≡ true
 quote_fits k q ws zs quote e = exact_quote k q ws zs quote (kind_exact (q ∷ ws) k e)
 
 exact_wide : (k : Kind) (q : ℕ) (ws zs : List ℕ) → is_quote q ≡ true → Exact k (capital_l ∷ q ∷ ws) → fits k (capital_l ∷ q ∷ zs) ≡ true
-exact_wide Ident q ws zs quote h = absurd (clash (is_word q) (and_parts (is_word q) (list_all is_word ws) h).0 (quote_word q quote))
+exact_wide Ident q ws zs quote h = absurd (clash (is_word q) (and_parts (is_word q) (list_all is_word ws) h).0 (quote-word q quote))
 exact_wide Number q ws zs quote h = absurd (cc)
 exact_wide Char q ws zs quote h = quote
 exact_wide Str q ws zs quote h = quote
@@ -149,7 +151,7 @@ exact_less Ident ws zs h = absurd (cc)
 exact_less Number ws zs h = absurd (cc)
 exact_less Char ws zs h = absurd (cc)
 exact_less Str ws zs h = absurd (cc)
-exact_less Punct ws zs h = or_true (is_punctuator_text (less_than ∷ zs))
+exact_less Punct ws zs h = or-true (is_punctuator_text (less_than ∷ zs))
 exact_less Header ws zs h = absurd h
 exact_less Other ws zs h = absurd h
 
@@ -165,7 +167,7 @@ quoted_on x (d ∷ xs) c ys zs h = h
 
 exact_inner : (k : Kind) (x : ℕ) (xs : List ℕ) (q : ℕ) (ys zs : List ℕ) → is_quote q ≡ true → Exact k (x ∷ xs ++ q ∷ ys) → fits k (x ∷ xs ++ q ∷ zs) ≡ true
 exact_inner Ident x xs q ys zs quote h =
-    absurd (clash (is_word q) (all_in is_word xs q ys (and_parts (is_nondigit x) (list_all is_word (xs ++ q ∷ ys)) h).1) (quote_word q quote))
+    absurd (clash (is_word q) (all_in is_word xs q ys (and_parts (is_nondigit x) (list_all is_word (xs ++ q ∷ ys)) h).1) (quote-word q quote))
 exact_inner Number x xs q ys zs quote h =
     let i = follow_in x xs q ys (and_parts (begins_number x (xs ++ q ∷ ys)) (all_follow x (xs ++ q ∷ ys)) h).1 in
     absurd (clash (may_follow i.0 q) i.1 (quote_follow i.0 q quote))
@@ -196,7 +198,7 @@ exact_inner_less Number x xs ys zs h =
 exact_inner_less Char x xs ys zs h = quoted_on x xs less_than ys zs h
 exact_inner_less Str x xs ys zs h = quoted_on x xs less_than ys zs h
 exact_inner_less Punct x xs ys zs h = elim (cases_Bool (x == less_than)) [
-  | inl is ↦ rw is (or_true (is_punctuator_text (x ∷ xs ++ less_than ∷ zs)))
+  | inl is ↦ rw is (or-true (is_punctuator_text (x ∷ xs ++ less_than ∷ zs)))
   | inr other ↦
       let inside : less_inside (x ∷ xs ++ less_than ∷ ys) ≡ true = rw (other, any_in (λ d. d == less_than) xs less_than ys refl) refl in
       absurd (clash (is_punctuator_text (x ∷ xs ++ less_than ∷ ys)) h (punctuator-lacks less_inside (x ∷ xs ++ less_than ∷ ys) inside refl refl refl refl))

@@ -14,7 +14,7 @@ use Rattle.macro_expand.specs.Calls.{Call, call_from, arguments_of}
 use Rattle.macro_expand.specs.Below.macro_body.Substitution.{with_gap, argument_for}
 use Rattle.macro_expand.specs.Expansion.{macro_of}
 use Rattle.macro_expand.specs.Renaming.{Renaming, spelled, renamed_hidden, renamed_macro, Occurring, occurs, Keeps}
-use Rattle.expansion_laws.proofs.RenamedLemmas.{AllOccurHidden}
+use Rattle.expansion_laws.proofs.RenamedLemmas.{AllOccurHidden, cond_map}
 use Rattle.macro_expand.specs.Laws.{AllDefined}
 use Rattle.expansion_laws.proofs.GroundLemmas.{Ground, Good as GoodOn, GoodLists as GoodListsOn, GoodCall as GoodCallOn, Good-occur as on-Good-occur, Good-append as on-Good-append, Good-hide_more as on-Good-hide_more, Good-get_or as on-Good-get_or, Good-with_gap as on-Good-with_gap, Good-argument_for as on-Good-argument_for, good_call as on-good_call, good_arguments as on-good_arguments}
 
@@ -80,10 +80,6 @@ hides_name-renamed w [] x m h xm = refl
 hides_name-renamed w (y ∷ ys) x m h xm =
     ap (λ b. b || hides_name (map w.r.macro_name ys) (w.r.macro_name x)) (same_name w x y m h.0.0 xm h.0.1)
     ∙ ap (λ b. bytes_eq x y || b) (hides_name-renamed w ys x m h.1 xm)
-
-cond_map : {A B : Type 0} (f : A → B) (b : Bool) (x y : A) → cond b (f x) (f y) ≡ f (cond b x y)
-cond_map f true x y = refl
-cond_map f false x y = refl
 
 pub in_both-renamed : (w : World) (xs ys : List (List ℕ)) → AllDefined w.old xs → AllDefined w.old ys
     → in_both (map w.r.macro_name xs) (map w.r.macro_name ys) ≡ map w.r.macro_name (in_both xs ys)

@@ -3,7 +3,7 @@ use Rattle.std.proofs.Common.{◌≡◌, ℕ, zero, suc, ◌+◌, ◌<◌, ◌�
 use Rattle.std.specs.Prelude.{MatchBool, OnOk, filter, map, nat_eq}
 use Rattle.std.specs.List.{flat_map, list_any}
 use Rattle.std.specs.Option.{option_map, option_map_or}
-use Rattle.std.proofs.Math.Bool.{or_assoc}
+use Rattle.std.proofs.Math.Bool.{or_assoc, or-false}
 use Rattle.std.proofs.lemmas.Bool.{eq-eqb, eqb-true, and_parts}
 use Rattle.std.proofs.lemmas.List.{at_drop_more, at_drop_all, take_more, take_all}
 use Rattle.std.proofs.lemmas.List.Elements.{filter-append}
@@ -18,24 +18,16 @@ use Rattle.ws_core.specs.Analysis.{AnalysisValue, UnitAnalysis}
 use Rattle.ws_core.specs.BroughtNumbers.{all_brought}
 use Rattle.ws_core.specs.FileTokens.{IsFileToken, file_tokens, kept_tokens, span_of, table_tokens}
 use Rattle.unused_names.proofs.Below.class_marks.AnswerLemmas.{told}
-use Rattle.unused_names.proofs.Below.class_marks.RoleLemmas.{any_at, some_passes}
+use Rattle.unused_names.proofs.Below.class_marks.RoleLemmas.{some_passes}
+use Rattle.unused_names.proofs.LineLemmas.{or_cond}
+use Rattle.ws_core.proofs.PlaceNameLemmas.{any_from}
 use Rattle.find_names.specs.FileTokens.{is_part, is_span}
 
 -- ---- tests
 
-or_cond : (b c : Bool) → cond b true c ≡ (c || b)
-or_cond true true = refl
-or_cond true false = refl
-or_cond false true = refl
-or_cond false false = refl
-
 -- the set with one part more
 pub put_more : (old new put : Bool) → new ≡ cond put true old → new ≡ (old || put)
 put_more old new put is = is ∙ or_cond put old
-
-pub or-false : (b : Bool) → b ≡ (b || false)
-or-false true = refl
-or-false false = refl
 
 part_of_parts : (p q : Part) → p.start.file ≡ q.start.file → p.start.at ≡ q.start.at → p.len ≡ q.len → p ≡ q
 part_of_parts p q e f g =
@@ -64,7 +56,7 @@ token_more part toks k t old now new within is before here =
     ∙ ap (λ (b : Bool). b || is_span part t) before
     ∙ or_assoc old (list_any (is_span part) (take k toks)) (is_span part t)
     ∙ ap (λ (b : Bool). old || b)
-    (ap (λ (b : Bool). list_any (is_span part) (take k toks) || b) (or-false (is_span part t))
+    (ap (λ (b : Bool). list_any (is_span part) (take k toks) || b) (sym (or-false (is_span part t)))
     ∙ sym (list_any-append (is_span part) (take k toks) (t ∷ [])) ∙ ap (list_any (is_span part)) (sym more))
 
 abbrev pub parted : List Token → List Token
@@ -86,11 +78,11 @@ parted_more part toks k t old now new within is before here =
 
 pub parted_one : (part : Part) (t : Token) (old new : Bool) → has_origins t.kind ≡ true → new ≡ (old || is_span part t)
     → new ≡ (old || list_any (is_span part) (parted (t ∷ [])))
-parted_one part t old new has is = is ∙ ap (λ (b : Bool). old || b) (or-false (is_span part t) ∙ rw has refl)
+parted_one part t old new has is = is ∙ ap (λ (b : Bool). old || b) (sym (or-false (is_span part t)) ∙ rw has refl)
 
 pub parted_none : (part : Part) (t : Token) (old new : Bool) → has_origins t.kind ≡ false → new ≡ old
     → new ≡ (old || list_any (is_span part) (parted (t ∷ [])))
-parted_none part t old new has is = is ∙ or-false old ∙ rw has refl
+parted_none part t old new has is = is ∙ sym (or-false old) ∙ rw has refl
 
 -- ---- files
 
@@ -120,7 +112,7 @@ pub files_all : (part : Part) (table : Table) (k : ℕ) (now whole : Bool) → l
 unfolding table_tokens
 files_all part table k now whole past before =
     let none = at_drop_all (table_tokens k) table k past in
-    or-false now ∙ ap (λ (ts : List Token). now || list_any (is_span part) ts) (sym none) ∙ before
+    sym (or-false now) ∙ ap (λ (ts : List Token). now || list_any (is_span part) ts) (sym none) ∙ before
 
 -- all file tokens
 pub tokens_are : (a : AnalysisValue) (part : Part) (none files all : Bool) → none ≡ false
@@ -148,7 +140,7 @@ token_told a part has is =
     (λ not token.
     let t = mapped_some span_of (slice_get (file_tokens a) token.0) part (sym (slice_get-map span_of (file_tokens a) token.0) ∙ token.1) in
     let passed : is_span part t.0 ≡ true = subst (λ (p : Part). is_part p part ≡ true) (sym t.2) (part_itself part) in
-    let yes = any_at (is_span part) (file_tokens a) token.0 t.0 t.1 passed in
+    let yes = any_from (is_span part) (file_tokens a) token.0 t.0 t.1 passed in
     cc)
 
 -- what follows of what a call promises

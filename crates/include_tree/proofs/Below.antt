@@ -4,3 +4,4 @@ pub use Rattle.unit_steps.proofs.Below.part_lexer as part_lexer
 pub use Rattle.unit_steps.proofs.Below.macro_body as macro_body
 pub use Rattle.unit_steps.proofs.Below.macro_expand as macro_expand
 pub use Rattle.source_files.proofs as source_files
+pub use Rattle.unit_steps.proofs as unit_steps

@@ -145,7 +145,7 @@ holds_stays J file at toks s h = asked_pieces_stays J file at s (pieces_from 0 t
 -- ---- searches
 
 -- a path that can be asked for names no pseudo file
-not_pseudo : (a b : Bool) → (a && not b) ≡ true → b ≡ false
+pub not_pseudo : (a b : Bool) → (a && not b) ≡ true → b ≡ false
 not_pseudo a b h = grind (arith, h)
 
 pub asked_is : (path : List ℕ) → can_be_asked path ≡ true → is_pseudo path ≡ false

@@ -1,5 +1,5 @@
 -- The walk over the items of files, one item at a time.
-use Rattle.std.proofs.Common.{◌≡◌, ℕ, zero, suc, ◌+◌, ◌-◌, ◌<◌, ◌≤◌, List, [], ◌∷◌, ◌++◌, drop, length, Option, Some, None, Result, Ok, Err, refl, sym, ◌∙◌, ap, subst, arith, append_assoc}
+use Rattle.std.proofs.Common.{◌≡◌, ℕ, zero, suc, ◌+◌, ◌-◌, ◌<◌, ◌≤◌, List, [], ◌∷◌, ◌++◌, drop, length, Option, Some, None, Ok, Err, refl, sym, ◌∙◌, ap, subst, arith, append_assoc}
 use Rattle.std.specs.Prelude.{IfSome, slice_get}
 use Rattle.std.proofs.lemmas.List.{append-nil}
 use Rattle.cs_base.specs.Token.{Token}
@@ -8,6 +8,8 @@ use Rattle.source_files.specs.Files.{SourceFile}
 use Rattle.source_files.specs.Faults.{Fault}
 use Rattle.unit_steps.specs.Notes.{Note, Entered, Exited}
 use Rattle.unit_steps.specs.State.{Context, State, Did, did, Outcome, only, noted, onward}
+use Rattle.unit_steps.proofs.GoingLemmas.{done_same, err_same}
+use Rattle.source_files.proofs.SearchedLemmas.{drop-past}
 use Rattle.include_tree.specs.Sections.{Section}
 use Rattle.source_files.specs.Search.{Header}
 use Rattle.include_tree.specs.Including.{Process, Inner, open_header, entered, included}
@@ -26,12 +28,6 @@ drop-some : {X : Type 0} (xs : List X) (k : ℕ) (x : X) → slice_get xs k ≡ 
 drop-some {X} [] k x h = absurd (let none : ◌≡◌ {A = Option X} None (Some x) = h in cc)
 drop-some (y ∷ xs) zero x h = ap (λ z. z ∷ xs) (some_same y x h)
 drop-some (y ∷ xs) (suc k) x h = let n : suc k + 1 ≡ suc (k + 1) = omega arith in rw n (drop-some xs k x h)
-
-drop-past : {X : Type 0} (xs : List X) (k : ℕ) → length xs ≤ k → drop k xs ≡ []
-drop-past [] zero h = refl
-drop-past [] (suc k) h = refl
-drop-past (x ∷ xs) zero h = absurd (omega (arith, h))
-drop-past (x ∷ xs) (suc k) h = drop-past xs k (omega (arith, h))
 
 get-some : {X : Type 0} (xs : List X) (k : ℕ) → k < length xs → (x : X) × (slice_get xs k ≡ Some x)
 get-some [] k h = absurd (omega (arith, h))
@@ -54,14 +50,6 @@ step_then k d (Err f) = refl
 abbrev pub behind : (List Section → State → Outcome (List Token)) → Stepped → State → Outcome (List Token)
 behind next d t = onward (next d.sections t) (λ toks u. only (d.toks ++ toks) u)
 
-value_or : {A : Type 0} → A → Result A Fault → A
-value_or d (Ok a) = a
-value_or d (Err e) = d
-
-done_same : {A : Type 0} (a b : A) → ◌≡◌ {A = Result A Fault} (Ok a) (Ok b) → a ≡ b
-unfolding value_or
-done_same a b e = ap (value_or a) e
-
 step-done : (k k2 : UnitTextValue) (m : Outcome Stepped) (next : List Section → State → Outcome (List Token)) (sections : List Section) (t : State)
     → stepped_after k m ≡ Ok (sections, t, k2) → put_after k (onward m (behind next)) ≡ put_after k2 (next sections t)
 step-done k k2 (Ok d) next sections t h =
@@ -69,9 +57,6 @@ step-done k k2 (Ok d) next sections t h =
     ∙ ap (λ (r : List Section × State × UnitTextValue). put_after r.2 (next r.0 r.1))
     (done_same (d.value.sections, d.state, put_in (noted_in k d.notes) d.value.toks) (sections, t, k2) h)
 step-done k k2 (Err f) next sections t h = absurd (cc)
-
-err_same : {A : Type 0} (f g : Fault) → ◌≡◌ {A = Result A Fault} (Err f) (Err g) → f ≡ g
-err_same f g e = cc
 
 step-fault : (k : UnitTextValue) (m : Outcome Stepped) (next : List Section → State → Outcome (List Token)) (f : Fault)
     → stepped_after k m ≡ Err f → put_after k (onward m (behind next)) ≡ Err f

@@ -27,7 +27,7 @@ use Rattle.unit_steps.specs.Keeping.{noted_in, put_in, kept_after, put_after}
 use Rattle.unit_steps.specs.Moments.{state_in}
 use Rattle.include_tree.specs.Walking.{stepped_after, with_sections, GivesLine, GivesItem}
 use Rattle.unit_steps.proofs.KeepingLemmas.{noted_in-append, noted_in-nil}
-use Rattle.unit_steps.proofs.GoingLemmas.{put-onward}
+use Rattle.unit_steps.proofs.GoingLemmas.{put-onward, done_same, err_same}
 
 -- ---- faults
 
@@ -38,14 +38,6 @@ fault_on None x y h next = tt
 fault_on (Some f) x y h next = next f h
 
 -- ---- a step behind another
-
-value_or : {A : Type 0} → A → Result A Fault → A
-value_or d (Ok a) = a
-value_or d (Err e) = d
-
-done_same : {A : Type 0} (a b : A) → ◌≡◌ {A = Result A Fault} (Ok a) (Ok b) → a ≡ b
-unfolding value_or
-done_same a b e = ap (value_or a) e
 
 put_noted-nil : (k : UnitTextValue) → put_in (noted_in k []) [] ≡ k
 put_noted-nil k = ap (λ (t : UnitTextValue). put_in t []) (noted_in-nil k) ∙ ap (λ (toks : List Token). record k { toks = toks }) (append-nil k.toks)
@@ -67,9 +59,6 @@ stepped-onward {A} k k2 (Ok d) next a t h =
     stepped-noted k d.notes (next d.value d.state)
     ∙ ap (λ (r : A × State × UnitTextValue). stepped_after r.2 (next r.0 r.1)) (done_same (d.value, d.state, noted_in k d.notes) (a, t, k2) h)
 stepped-onward k k2 (Err f) next a t h = absurd (cc)
-
-err_same : {A : Type 0} (f g : Fault) → ◌≡◌ {A = Result A Fault} (Err f) (Err g) → f ≡ g
-err_same f g e = cc
 
 pub stepped-onward_fault : {A : Type 0} (k : UnitTextValue) (m : Outcome A) (next : A → State → Outcome Stepped) (f : Fault)
     → kept_after k m ≡ Err f → stepped_after k (onward m next) ≡ Err f

@@ -5,6 +5,7 @@ use Rattle.std.specs.Str.{bytes_eq}
 use Rattle.std.proofs.lemmas.Bool.{cases_Bool, and_parts, not-true, or_parts}
 use Rattle.std.proofs.lemmas.List.{map-append}
 use Rattle.std.proofs.lemmas.List.Folds.{list_any-append}
+use Rattle.std.proofs.Math.Bool.{or-true}
 use Rattle.cs_base.proofs.FileMapLemmas.{bytes_eq-same, bytes_eq-equal}
 use Rattle.line_shape.specs.MacroLine.{are_distinct}
 
@@ -24,9 +25,6 @@ bytes_eq-apart a b h =
       | inr other ↦ other
     ]
 
-or-same : (a : Bool) → (a || true) ≡ true
-or-same a = grind arith
-
 -- a name that stands among those before it stands twice
 pub are_distinct-twice : (xs : List (List ℕ)) (y : List ℕ) (ys : List (List ℕ)) → list_any (bytes_eq y) xs ≡ true
     → are_distinct (xs ++ y ∷ ys) ≡ false
@@ -35,7 +33,7 @@ are_distinct-twice (x ∷ xs) y ys h =
     elim (cases_Bool (bytes_eq y x)) [
       | inl same ↦
           let again : list_any (bytes_eq x) (xs ++ y ∷ ys) ≡ true =
-          list_any-append (bytes_eq x) xs (y ∷ ys) ∙ rw (bytes_eq-sym y x same) (or-same (list_any (bytes_eq x) xs)) in
+          list_any-append (bytes_eq x) xs (y ∷ ys) ∙ rw (bytes_eq-sym y x same) (or-true (list_any (bytes_eq x) xs)) in
           rw again refl
       | inr other ↦
           let rest : list_any (bytes_eq y) xs ≡ true = rw other at h in

@@ -5,6 +5,7 @@ use Rattle.std.specs.List.{list_any}
 use Rattle.std.specs.Str.{bytes_eq}
 use Rattle.std.proofs.lemmas.Bool.{cases_Bool}
 use Rattle.std.proofs.lemmas.List.{append-nil, append_assoc, drop-drop}
+use Rattle.std.proofs.Math.Bool.{or-true}
 use Rattle.cs_base.specs.Token.{Token}
 use Rattle.cs_base.specs.declared.causes.Cause.{Cause}
 use Rattle.cs_base.specs.declared.causes.Cause.TheVariants.{BadParameters}
@@ -38,9 +39,6 @@ listed : (names : List (List ℕ)) (list body : List Token) (all : List (List �
     → names ++ spellings (params_in list) ≡ all → are_distinct all ≡ true
     → named_cause names list (Some body) ≡ body_cause true all (list_any is_ellipsis list) body
 listed names list body all list_is all_is distinct = rw (all_is, list_is, distinct) refl
-
-or-true : (a : Bool) → (a || true) ≡ true
-or-true a = grind arith
 
 -- the token behind two more
 drop-two : (whole : List Token) (at : ℕ) (t s : Token) (toks : List Token) → drop at whole ≡ t ∷ s ∷ toks → drop (at + 2) whole ≡ toks

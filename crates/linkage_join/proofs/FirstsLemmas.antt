@@ -10,7 +10,7 @@ use Rattle.cs_base.specs.Token.{Token}
 use Rattle.linkage_join.specs.Linkage.{UnitValue, first_spelled, names_of, link_to, unit_links}
 use Rattle.linkage_join.specs.Firsts.{Table, with_names, table_links}
 
-option_or-None : {X : Type 0} (a : Option X) → option_or a None ≡ a
+pub option_or-None : {X : Type 0} (a : Option X) → option_or a None ≡ a
 option_or-None None = refl
 option_or-None (Some x) = refl
 

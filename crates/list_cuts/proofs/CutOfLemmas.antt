@@ -1,10 +1,11 @@
 -- Lists that change places one after the other, the last one first, do what the cut of them all does.
-use Rattle.std.proofs.Common.{ℕ, ◌+◌, ◌-◌, ◌≡◌, ◌<◌, ◌≤◌, true, false, List, [], ◌∷◌, ◌++◌, length, take, drop, map, refl, sym, ap, ◌∙◌, arith, inl, inr, length-take, length-drop, append_assoc, take-add, length-take-le, take-append-drop}
-use Rattle.std.specs.Prelude.{◌==◌, ◌&&◌, ◌||◌, nat_le, Bool}
+use Rattle.std.proofs.Common.{ℕ, ◌+◌, ◌-◌, ◌≡◌, ◌<◌, ◌≤◌, true, List, [], ◌∷◌, ◌++◌, length, take, drop, map, refl, sym, ap, ◌∙◌, arith, inl, inr, length-take, length-drop, append_assoc, take-add, length-take-le, take-append-drop}
+use Rattle.std.specs.Prelude.{◌==◌, ◌&&◌, ◌||◌, nat_le}
 use Rattle.std.specs.List.{list_all}
 use Rattle.std.proofs.lemmas.Bool.{cases_Bool, and_parts, or_cases, leb-true, leb-false, le-leb, eqb-true}
 use Rattle.std.proofs.lemmas.List.{drop-drop, take-append-le, take-take, drop-take, take_at, drop_at}
 use Rattle.std.proofs.Math.Seq.{take-append-add}
+use Rattle.std.proofs.Math.Bool.{or-true}
 use Rattle.list_cuts.specs.declared.spans.Span.{Span}
 use Rattle.list_cuts.specs.Cuts.{Cut, done, keep, list, count_of, span_of, IsOrder, picked, woven, gaps_of, arranged, items_of, AreOf, AreItemsOf}
 use Rattle.list_cuts.specs.Spans.{text_of, between, end_of, stand_in_order, fits, reordered, rearranged, all_rearranged}
@@ -37,16 +38,12 @@ between-none (list is c) = elim (cases_Bool (nat_le (span_of is) 0)) [
   | inr part ↦ rw part refl
 ]
 
-or_true : (b : Bool) → (b || true) ≡ true
-or_true true = refl
-or_true false = refl
-
 free-between : (n : ℕ) (c : Cut) → is_free n c ≡ true → is_between n c ≡ true
 unfolding is_free is_between
 free-between n done h = refl
 free-between n (keep k c) h = elim (or_cases (nat_le n k) (is_free (n - k) c) h) [
   | inl short ↦ rw short refl
-  | inr long ↦ rw (free-between (n - k) c long) (or_true (nat_le n k))
+  | inr long ↦ rw (free-between (n - k) c long) (or-true (nat_le n k))
 ]
 free-between n (list is c) h =
     let none : n ≡ 0 = eqb-true n 0 h in

@@ -35,7 +35,7 @@ replaced_in-append (Stringized toks s ∷ xs) ys = replaced_in-append xs ys
 replaced_in-append (Pasted x y z ∷ xs) ys = replaced_in-append xs ys
 
 -- lists behind another, one after the other
-behind_both : {A : Type 0} (k xs ys zs : List A) → zs ≡ xs ++ ys → k ++ zs ≡ (k ++ xs) ++ ys
+pub behind_both : {A : Type 0} (k xs ys zs : List A) → zs ≡ xs ++ ys → k ++ zs ≡ (k ++ xs) ++ ys
 behind_both {A} k xs ys zs is = ap (λ (r : List A). k ++ r) is ∙ sym (append_assoc k xs ys)
 
 mapped_both : {A B : Type 0} (f : A → B) (xs ys zs : List A) → zs ≡ xs ++ ys → map f zs ≡ map f xs ++ map f ys

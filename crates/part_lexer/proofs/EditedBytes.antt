@@ -3,19 +3,20 @@ use Rattle.std.proofs.Common.{◌≡◌, ℕ, zero, suc, ◌+◌, ◌-◌, Bool,
 use Rattle.std.proofs.lemmas.List.{drop-drop}
 use Rattle.std.specs.List.{list_all}
 use Rattle.std.specs.Option.{option_map}
-use Rattle.std.proofs.lemmas.Bool.{cases_Bool, and_parts, and_from, both_ways, eqb-true, eqb-false, ne_eqb}
+use Rattle.std.proofs.lemmas.Bool.{cases_Bool, and_parts, both_ways, eqb-true, eqb-false, ne_eqb}
 use Rattle.std.proofs.lemmas.Bool.Decides.{nat_tests}
 use Rattle.cs_base.specs.Token.{Token}
 use Rattle.part_lexer.specs.declared.pieces.LineFront.TheVariants.{Nothing}
-use Rattle.part_lexer.specs.Characters.{line_feed, carriage_return, backslash, is_nondigit, is_word, begins, line_after}
+use Rattle.part_lexer.specs.Characters.{line_feed, carriage_return, backslash, is_word, begins, line_after}
 use Rattle.part_lexer.specs.Spelling.{is_identifier_text}
 use Rattle.part_lexer.specs.Logical.{new_line_length, gone_length, logical_from, logical_of, spelling, line_at}
 use Rattle.part_lexer.specs.Tokens.{Found, FoundToken, FoundOpen, found_of, tokens_in, firsts_in, open_in, tokens_of, firsts_of, open_comment_of}
 use Rattle.part_lexer.specs.Respelling.{Put, KeepsPieces, keeps_pieces, edited_from, edited, moved, respelled_token, EditKeepsTokens}
 use Rattle.part_lexer.proofs.ScanLemmas.{line-step}
-use Rattle.part_lexer.proofs.FitLemmas.{FitsAt, kept, named, inner, Fits, identifier-first}
+use Rattle.part_lexer.proofs.FitLemmas.{FitsAt, kept, named, inner, Fits, identifier-first, word-line, word-backslash, identifier-words}
 use Rattle.part_lexer.proofs.KeptLemmas.{keeps-fits}
 use Rattle.part_lexer.proofs.EditedTokens.{Lined, on_line, bytes_in, lined, bytes_in-lined, found_lined, found_from-lined, put_on, respell_lined, respelled_found, found-edited}
+use Rattle.part_lexer.proofs.LocalLemmas.{nondigit-word}
 
 -- the characters of bytes with their lines, of which the first `skip` go
 unfoldable lined_from : ℕ → ℕ → List ℕ → List Lined
@@ -59,17 +60,8 @@ pub gone-other : (c : ℕ) (cs : List ℕ) → (c == backslash) ≡ false → (c
 unfolding gone_length
 gone-other c cs no_backslash no_return = rw (no_backslash, no_return) refl
 
-word-backslash : (c : ℕ) → is_word c ≡ true → (c == backslash) ≡ false
-word-backslash c h = grind (arith, nat_tests)
-
 word-return : (c : ℕ) → is_word c ≡ true → (c == carriage_return) ≡ false
 word-return c h = grind (arith, nat_tests)
-
-word-line : (c : ℕ) → is_word c ≡ true → (c == line_feed) ≡ false
-word-line c h = grind (arith, nat_tests)
-
-nondigit-word : (c : ℕ) → is_nondigit c ≡ true → is_word c ≡ true
-nondigit-word c h = rw h refl
 
 gone-word : (c : ℕ) (cs : List ℕ) → is_word c ≡ true → gone_length c cs ≡ 0
 gone-word c cs word = gone-other c cs (word-backslash c word) (word-return c word)
@@ -269,11 +261,6 @@ lined-words line (w ∷ ws) cs words =
     let parts = and_parts (is_word w) (list_all is_word ws) words in
     lined_from-stays line w (ws ++ cs) (gone-word w (ws ++ cs) parts.0)
     ∙ rw (word-line w parts.0) (ap (λ (zs : List Lined). on_line w line ∷ zs) (lined-words line ws cs parts.1))
-
-identifier-words : (text : List ℕ) → is_identifier_text text ≡ true → list_all is_word text ≡ true
-identifier-words text ident =
-    let w = identifier-first text ident in
-    rw w.2 (and_from (is_word w.0) (list_all is_word w.1) (nondigit-word w.0 w.3) w.4)
 
 -- a character that stays, and what stands for it
 edited-stays : (put : Put) (before : Bool) (at line c : ℕ) (cs : List ℕ) → gone_length c cs ≡ 0 → FitsAt put before at c

@@ -22,7 +22,7 @@ use Rattle.part_lexer.specs.Tokens.{Found, FoundToken, FoundOpen, piece_of, piec
 use Rattle.part_lexer.specs.Respelling.{Put, respell, stays, words_stand, names_stand, keeps_include, keeps_pieces, moved, respelled_token}
 use Rattle.part_lexer.proofs.PieceLemmas.{piece_of-length}
 use Rattle.part_lexer.proofs.LocalLemmas.{first_is, wide_front-word}
-use Rattle.part_lexer.proofs.PieceLocal.{piece_of-local, piece_of-word}
+use Rattle.part_lexer.proofs.PieceLocal.{piece_of-local, piece_of-word, open-left}
 use Rattle.part_lexer.proofs.FitLemmas.{identifier-first, Fits, stays-respell, respell-append, first-fits, alike-fits}
 use Rattle.part_lexer.proofs.KeptLemmas.{IsCut, IsKept, same, word, keeps-cut, keeps-fits, piece-word, words-front}
 
@@ -175,11 +175,6 @@ found_in-moved put file line gap front done c xs ys d us vs (Spelled kind n) now
 
 -- Steps over a piece.
 
-nil-left : (xs ys : List ℕ) → suc (length (xs ++ ys)) ≡ suc (length xs) → ys ≡ []
-nil-left [] [] size = refl
-nil-left [] (y ∷ ys) size = absurd (omega arith)
-nil-left (x ∷ xs) ys size = nil-left xs ys (omega arith)
-
 beq-true : (a b : Bool) → beq a b ≡ true → b ≡ a
 beq-true true true is = refl
 beq-true true false is = absurd cc
@@ -250,7 +245,7 @@ open-size (Blank n) xs ys zs size empty = size
 open-size LineEnd xs ys zs size empty = size
 open-size (Spelled kind n) xs ys zs size empty = size
 open-size OpenComment xs ys zs size empty =
-    let none : ys ≡ [] = nil-left xs ys size in
+    let none : ys ≡ [] = open-left xs ys size in
     rw (empty none, append-nil xs) refl
 
 stands-same : (put : Put) (front : LineFront) (at c : ℕ) (xs ys : List ℕ) → IsCut front c xs ys → Fits put false (at + suc (length xs)) ys

@@ -12,7 +12,9 @@ use Rattle.part_lexer.specs.Spelling.{is_identifier_text, header_close}
 use Rattle.part_lexer.specs.Tokens.{one_more}
 use Rattle.part_lexer.specs.Front.{closing, quoted, quoted_kind, wide_front, header_closing, header_length, begins_with}
 use Rattle.part_lexer.specs.Respelling.{Put, respell, stays}
-use Rattle.part_lexer.proofs.LocalLemmas.{first_is, FirstAlike, Alike}
+use Rattle.part_lexer.proofs.LocalLemmas.{FirstAlike, Alike, nondigit-word}
+use Rattle.part_lexer.proofs.KindLemmas.{quote-word}
+use Rattle.part_lexer.proofs.PieceLocal.{begins-first}
 
 -- What stands for a character: the character; for a nondigit an identifier; for a word character that is
 -- directly behind another, word characters or nothing.
@@ -68,9 +70,6 @@ identifier-first [] ident = absurd (both_ways false refl ident)
 identifier-first (c ∷ ws) ident =
     let parts = and_parts (is_nondigit c) (list_all is_word ws) ident in (c, ws, refl, parts.0, parts.1)
 
-nondigit-word : (c : ℕ) → is_nondigit c ≡ true → is_word c ≡ true
-nondigit-word c h = rw h refl
-
 -- What follows begins alike.
 
 first-at : (put : Put) (at c : ℕ) (cs : List ℕ) → FitsAt put false at c → FirstAlike (c ∷ cs) (respell put at (c ∷ cs))
@@ -86,10 +85,10 @@ first-fits put at (c ∷ cs) fits = first-at put at c cs fits.0
 
 -- What is open stays open.
 
-word-line : (c : ℕ) → is_word c ≡ true → (c == line_feed) ≡ false
+pub word-line : (c : ℕ) → is_word c ≡ true → (c == line_feed) ≡ false
 word-line c h = grind (arith, nat_tests)
 
-word-backslash : (c : ℕ) → is_word c ≡ true → (c == backslash) ≡ false
+pub word-backslash : (c : ℕ) → is_word c ≡ true → (c == backslash) ≡ false
 word-backslash c h = grind (arith, nat_tests)
 
 more-open : (x : Option ℕ) → x ≡ None → one_more x ≡ None
@@ -190,7 +189,7 @@ header-kept close c cs ds none later =
       ]
     ]
 
-identifier-words : (text : List ℕ) → is_identifier_text text ≡ true → list_all is_word text ≡ true
+pub identifier-words : (text : List ℕ) → is_identifier_text text ≡ true → list_all is_word text ≡ true
 identifier-words [] ident = refl
 identifier-words (c ∷ ws) ident =
     let parts = and_parts (is_nondigit c) (list_all is_word ws) ident in
@@ -239,10 +238,6 @@ header-sign c closable =
       ]
     ]
 
-begins-first : (d : ℕ) (cs : List ℕ) → begins d cs ≡ first_is (λ c. c == d) cs
-begins-first d [] = refl
-begins-first d (c ∷ cs) = refl
-
 begins-fits : (put : Put) (at d : ℕ) (cs : List ℕ) → Fits put false at cs → ((c : ℕ) → is_nondigit c ≡ true → (c == d) ≡ false)
     → begins d (respell put at cs) ≡ begins d cs
 begins-fits put at d cs fits apart =
@@ -282,9 +277,6 @@ no_quote-front c q ds other =
 map-open : (q : ℕ) (x : Option ℕ) → option_map {U = Kind × ℕ} (λ n. (quoted_kind q, n + 1)) x ≡ None → x ≡ None
 map-open q None none = refl
 map-open q (Some n) none = absurd cc
-
-quote-word : (c : ℕ) → is_quote c ≡ true → is_word c ≡ false
-quote-word c quote = grind (arith, nat_tests)
 
 wide-at : (put : Put) (c at q : ℕ) (ds : List ℕ) → FitsAt put false at q → Fits put (is_word q) (at + 1) ds
     → wide_front c (q ∷ ds) ≡ None → wide_front c (respell put at (q ∷ ds)) ≡ None

@@ -5,6 +5,7 @@ use Rattle.std.proofs.lemmas.Bool.Decides.{nat_tests}
 use Rattle.std.proofs.lemmas.List.Sums.{prefix_len-le-length}
 use Rattle.std.specs.List.{list_all, prefix_len}
 use Rattle.std.specs.Option.{option_map}
+use Rattle.std.proofs.Math.Bool.{and-false}
 use Rattle.cs_base.specs.declared.tokens.Kind.{Kind}
 use Rattle.cs_base.specs.declared.tokens.Kind.TheVariants.{Ident, Number, Char, Str, Punct, Other, Header}
 use Rattle.part_lexer.specs.Characters.{single_quote, double_quote, capital_l, is_nondigit, is_quote, is_word}
@@ -20,13 +21,13 @@ use Rattle.part_lexer.proofs.FrontLemmas.{is_at, plain_char-at, plain_string-at,
 nondigit-number : (c : ℕ) (cs : List ℕ) → is_nondigit c ≡ true → begins_number c cs ≡ false
 nondigit-number c cs h = grind (arith, nat_tests)
 
-quote-nondigit : (c : ℕ) → is_quote c ≡ true → is_nondigit c ≡ false
+pub quote-nondigit : (c : ℕ) → is_quote c ≡ true → is_nondigit c ≡ false
 quote-nondigit c h = grind (arith, nat_tests)
 
-quote-word : (c : ℕ) → is_quote c ≡ true → is_word c ≡ false
+pub quote-word : (c : ℕ) → is_quote c ≡ true → is_word c ≡ false
 quote-word c h = grind (arith, nat_tests)
 
-quote-number : (c : ℕ) (cs : List ℕ) → is_quote c ≡ true → begins_number c cs ≡ false
+pub quote-number : (c : ℕ) (cs : List ℕ) → is_quote c ≡ true → begins_number c cs ≡ false
 quote-number c cs h = grind (arith, nat_tests)
 
 quote-wide : (c : ℕ) → is_quote c ≡ true → (c == capital_l) ≡ false
@@ -296,10 +297,6 @@ sign_length ones twos threes fours =
 sign_none : (k : ℕ) (b : Bool) (n : ℕ) → (k ≡ n → ⊥) → (k == n && b) ≡ false
 sign_none k b n apart = rw (ne_eqb k n apart) refl
 
-sign_never : (b : Bool) → (b && false) ≡ false
-sign_never true = refl
-sign_never false = refl
-
 sign-longest : (kind_at : ℕ → Option Kind) (m : ℕ) (ones twos threes fours : Bool)
     → (twos ≡ true → 1 ≤ m) → (threes ≡ true → 2 ≤ m) → (fours ≡ true → 3 ≤ m)
     → ((k : ℕ) → k ≤ m → kind_at k ≡ (if sign_at ones twos threes fours (suc k) then Some Punct else None))
@@ -320,7 +317,7 @@ sign-longest kind_at m ones twos true false two three four kinds =
       spelled = rw (kinds 2 within) refl;
       some = λ h. rw (kinds 2 within) refl;
       within = within;
-      longer = λ k h l. rw (kinds k l, sign_none (suc k) ones 1 (λ e. omega arith), sign_none (suc k) twos 2 (λ e. omega arith), sign_none (suc k) true 3 (λ e. omega arith), sign_never (suc k == 4)) refl;
+      longer = λ k h l. rw (kinds k l, sign_none (suc k) ones 1 (λ e. omega arith), sign_none (suc k) twos 2 (λ e. omega arith), sign_none (suc k) true 3 (λ e. omega arith), and-false (suc k == 4)) refl;
     }
 sign-longest kind_at m ones true false false two three four kinds =
     let within = two refl in
@@ -328,19 +325,19 @@ sign-longest kind_at m ones true false false two three four kinds =
       spelled = rw (kinds 1 within) refl;
       some = λ h. rw (kinds 1 within) refl;
       within = within;
-      longer = λ k h l. rw (kinds k l, sign_none (suc k) ones 1 (λ e. omega arith), sign_none (suc k) true 2 (λ e. omega arith), sign_never (suc k == 3), sign_never (suc k == 4)) refl;
+      longer = λ k h l. rw (kinds k l, sign_none (suc k) ones 1 (λ e. omega arith), sign_none (suc k) true 2 (λ e. omega arith), and-false (suc k == 3), and-false (suc k == 4)) refl;
     }
 sign-longest kind_at m true false false false two three four kinds = record {
   spelled = rw (kinds 0 (omega arith)) refl;
   some = λ h. absurd (omega arith);
   within = omega arith;
-  longer = λ k h l. rw (kinds k l, sign_none (suc k) true 1 (λ e. omega arith), sign_never (suc k == 2), sign_never (suc k == 3), sign_never (suc k == 4)) refl;
+  longer = λ k h l. rw (kinds k l, sign_none (suc k) true 1 (λ e. omega arith), and-false (suc k == 2), and-false (suc k == 3), and-false (suc k == 4)) refl;
 }
 sign-longest kind_at m false false false false two three four kinds = record {
   spelled = rw (kinds 0 (omega arith)) refl;
   some = λ h. absurd (omega arith);
   within = omega arith;
-  longer = λ k h l. rw (kinds k l, sign_never (suc k == 1), sign_never (suc k == 2), sign_never (suc k == 3), sign_never (suc k == 4)) refl;
+  longer = λ k h l. rw (kinds k l, and-false (suc k == 1), and-false (suc k == 2), and-false (suc k == 3), and-false (suc k == 4)) refl;
 }
 
 punctuator-longest : (c : ℕ) (cs : List ℕ) → is_nondigit c ≡ false → begins_number c cs ≡ false → is_quote c ≡ false
@@ -396,7 +393,7 @@ kind_in-header : (c : ℕ) (cs : List ℕ) (k : ℕ) → k ≤ length cs
 unfolding kind_in
 kind_in-header c cs k within = rw (header-at c cs k within) refl
 
-kind_in-plain : (text : List ℕ) → kind_in false text ≡ kind_of text
+pub kind_in-plain : (text : List ℕ) → kind_in false text ≡ kind_of text
 unfolding kind_in
 kind_in-plain text = refl
 

@@ -256,7 +256,7 @@ begins_number-local c [] ys zs alike =
     rw same refl
 begins_number-local c (x ∷ xs) ys zs alike = refl
 
-nondigit-word : (c : ℕ) → is_nondigit c ≡ true → is_word c ≡ true
+pub nondigit-word : (c : ℕ) → is_nondigit c ≡ true → is_word c ≡ true
 nondigit-word c h = rw h refl
 
 -- a front that is read in one pass, and ends within xs

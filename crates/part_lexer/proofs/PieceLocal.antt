@@ -34,7 +34,7 @@ nondigit-star c h = grind (arith, nat_tests)
 nondigit-on_line : (c : ℕ) → is_nondigit c ≡ true → is_on_line c ≡ true
 nondigit-on_line c h = grind (arith, nat_tests)
 
-begins-first : (d : ℕ) (cs : List ℕ) → begins d cs ≡ first_is (λ c. c == d) cs
+pub begins-first : (d : ℕ) (cs : List ℕ) → begins d cs ≡ first_is (λ c. c == d) cs
 begins-first d [] = refl
 begins-first d (c ∷ cs) = refl
 
@@ -50,7 +50,7 @@ line_comment-local xs ys zs alike size =
     let same = prefix_len-local is_on_line xs ys zs (alike is_on_line true nondigit-on_line) (omega arith) in
     rw same refl
 
-open-left : (xs ys : List ℕ) → suc (length (xs ++ ys)) ≡ suc (length xs) → ys ≡ []
+pub open-left : (xs ys : List ℕ) → suc (length (xs ++ ys)) ≡ suc (length xs) → ys ≡ []
 open-left [] [] size = refl
 open-left [] (y ∷ ys) size = absurd (omega arith)
 open-left (x ∷ xs) ys size = open-left xs ys (omega arith)

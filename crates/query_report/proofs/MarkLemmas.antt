@@ -2,7 +2,7 @@
 use Rattle.std.proofs.Common.{◌≡◌, ℕ, zero, suc, ◌<◌, ◌≤◌, Bool, true, false, ◌||◌, List, [], ◌∷◌, length, get_or, take, refl, sym, ap, ◌∙◌, ⊎_elim, arith}
 use Rattle.std.specs.Prelude.{◌==◌, slice_set, Some, slice_get}
 use Rattle.std.specs.List.{fold, list_any}
-use Rattle.std.proofs.Math.Bool.{or_assoc}
+use Rattle.std.proofs.Math.Bool.{or_assoc, or-false, or-true}
 use Rattle.std.proofs.lemmas.Bool.{cases_eq, cases_lt, eq-eqb, ne_eqb}
 use Rattle.std.proofs.lemmas.List.{length-set, get_or-set_same, get_or-set_other, get_or-replicate, length-replicate}
 use Rattle.std.proofs.lemmas.Option.{slice_get_past}
@@ -13,20 +13,12 @@ use Rattle.ws_core.specs.Texts.{TextsValue}
 use Rattle.query_report.specs.Skipped.{is_item, reaches, is_reached}
 use Rattle.query_report.specs.Marks.{count_at, is_marked, marked, marked_by, AreBlank, AreMarked}
 
-or-false : (b : Bool) → b ≡ (b || false)
-or-false true = refl
-or-false false = refl
-
-or-true : (b : Bool) → true ≡ (b || true)
-or-true true = refl
-or-true false = refl
-
 -- a row with one mark more
 row-set : (row : List Bool) (i k : ℕ) → k < length row → get_or (slice_set row i true) k false ≡ (get_or row k false || (i == k))
 row-set row i k within =
     ⊎_elim
-    (λ (e : i ≡ k). rw (e, get_or-set_same row k true false within, eq-eqb k k refl) (or-true (get_or row k false)))
-    (λ (ne : i ≡ k → ⊥). rw (get_or-set_other row i k true false (λ q. ne (sym q)), ne_eqb i k ne) (or-false (get_or row k false)))
+    (λ (e : i ≡ k). rw (e, get_or-set_same row k true false within, eq-eqb k k refl) (sym (or-true (get_or row k false))))
+    (λ (ne : i ≡ k → ⊥). rw (get_or-set_other row i k true false (λ q. ne (sym q)), ne_eqb i k ne) (sym (or-false (get_or row k false))))
     (cases_eq i k)
 
 -- the rows with another row of the same length: each row has its length still
@@ -65,7 +57,7 @@ marked-at rows r file item within below =
     (row-set (get_or rows file []) r.item item below))
     (λ (ne : r.file ≡ file → ⊥).
     rw (get_or-set_other rows r.file file (slice_set (get_or rows r.file []) r.item true) [] (λ q. ne (sym q)), ne_eqb r.file file ne)
-    (or-false (is_marked rows file item)))
+    (sym (or-false (is_marked rows file item))))
     (cases_eq r.file file)
 
 unit-alike : (rs : List Reached) (rows : List (List Bool)) → AreAlike rows (fold marked rows rs)
@@ -75,7 +67,7 @@ unit-alike (r ∷ rs) rows = alike-then rows (marked rows r) (fold marked (marke
 -- the marks with those of a unit
 unit-at : (rs : List Reached) (rows : List (List Bool)) (file item : ℕ) → file < length rows → item < length (get_or rows file [])
     → is_marked (fold marked rows rs) file item ≡ (is_marked rows file item || list_any (is_item file item) rs)
-unit-at [] rows file item within below = or-false (is_marked rows file item)
+unit-at [] rows file item within below = sym (or-false (is_marked rows file item))
 unit-at (r ∷ rs) rows file item within below =
     let alike = marked-alike rows r in
     let within' : file < length (marked rows r) = rw alike.files within in
@@ -87,7 +79,7 @@ unit-at (r ∷ rs) rows file item within below =
 -- the marks with those of units
 units-at : (units : List UnitTextValue) (rows : List (List Bool)) (file item : ℕ) → file < length rows → item < length (get_or rows file [])
     → is_marked (fold marked_by rows units) file item ≡ (is_marked rows file item || is_reached units file item)
-units-at [] rows file item within below = or-false (is_marked rows file item)
+units-at [] rows file item within below = sym (or-false (is_marked rows file item))
 units-at (u ∷ units) rows file item within below =
     let alike = unit-alike u.reached rows in
     let within' : file < length (marked_by rows u) = rw alike.files within in

@@ -7,15 +7,12 @@ use Rattle.std.proofs.lemmas.Bool.{cases_Bool, and_parts}
 use Rattle.std.proofs.lemmas.List.{take_more, take_all}
 use Rattle.std.proofs.lemmas.List.Folds.{list_any-append}
 use Rattle.std.proofs.lemmas.Slice.Eq.{bytes_eq-Decides}
+use Rattle.std.proofs.Math.Bool.{or-false}
 use Rattle.cs_base.specs.declared.positions.Part.{Part}
 use Rattle.cs_base.specs.Token.{Token}
 use Rattle.part_respell.specs.Respelled.{spelled}
 use Rattle.rename_rules.specs.Respellings.{RespellingValue, respelling, respelling_of, Adds, AreRespellings, is_old, is_new, is_clash}
 use Rattle.rename_rules.specs.Tokens.{clashes}
-
-or_false : (a : Bool) → (a || false) ≡ a
-or_false true = refl
-or_false false = refl
 
 or_again : (a b : Bool) → ((a || b) || a) ≡ (a || b)
 or_again true b = refl
@@ -48,7 +45,7 @@ adds_known r (x ∷ table) h test =
 
 pub adds_new : (r : RespellingValue) (table : List RespellingValue) → Adds r table (table ++ r ∷ [])
 adds_new r table test =
-    list_any-append test table (r ∷ []) ∙ ap (λ (b : Bool). list_any test table || b) (or_false (test r))
+    list_any-append test table (r ∷ []) ∙ ap (λ (b : Bool). list_any test table || b) (or-false (test r))
 
 -- one token more
 pub respellings_more : (members : List Part) (name : List ℕ) (toks : List Token) (k : ℕ) (t : Token) (old new : List ℕ) (table more : List RespellingValue)
@@ -63,7 +60,7 @@ respellings_more members name toks k t old new table more h is was now so_far ad
     (ap (λ (text : List ℕ). respelling text new) was ∙ ap (λ (text : List ℕ). respelling t.text text) now) in
     added
     ∙ ap (λ (b : Bool). b || f t) (so_far test)
-    ∙ ap (λ (b : Bool). list_any f (take k toks) || b) (sym (or_false (f t)))
+    ∙ ap (λ (b : Bool). list_any f (take k toks) || b) (sym (or-false (f t)))
     ∙ sym (list_any-append f (take k toks) (t ∷ []))
     ∙ ap (list_any f) (sym next)
 

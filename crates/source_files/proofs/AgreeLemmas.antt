@@ -1,8 +1,8 @@
 -- Sources that agree with a table.
-use Rattle.std.proofs.Common.{◌≡◌, ℕ, Bool, true, false, not, ◌&&◌, ◌||◌, List, [], ◌∷◌, Option, None, Some, refl, ◌∙◌, subst, inl, inr, arith}
+use Rattle.std.proofs.Common.{◌≡◌, ℕ, true, false, not, ◌&&◌, ◌||◌, List, [], ◌∷◌, Option, None, Some, refl, ◌∙◌, subst, inl, inr}
 use Rattle.std.specs.List.{list_any}
 use Rattle.std.specs.Str.{bytes_eq}
-use Rattle.std.proofs.lemmas.Bool.{cases_Bool, and_parts}
+use Rattle.std.proofs.lemmas.Bool.{cases_Bool, and_parts, or_right}
 use Rattle.cs_base.proofs.FileMapLemmas.{bytes_eq-same, bytes_eq-equal}
 use Rattle.source_files.specs.Files.{Source, Found, Lines, Absent, Unopened, Opened, Made, Entry, Table, found_at}
 use Rattle.source_files.specs.Tables.{paths_in, IsFound, AreFound, HasEachOnce}
@@ -16,15 +16,12 @@ is_found-along source other path (Unopened bytes) same h = same ∙ h
 is_found-along source other path (Opened bytes) same h = same ∙ h
 is_found-along source other path (Made bytes) same h = tt
 
-or-right : (a b : Bool) → b ≡ true → (a || b) ≡ true
-or-right a b h = grind (arith, h)
-
 found-along : (source other : Source) (table : Table) → ((path : List ℕ) → list_any (bytes_eq path) (paths_in table) ≡ true → other path ≡ source path)
     → AreFound source table → AreFound other table
 found-along source other [] same all = tt
 found-along source other (e ∷ table) same all = (
   is_found-along source other e.path e.found (same e.path (rw (bytes_eq-same e.path) refl)) all.0,
-  found-along source other table (λ path h. same path (or-right (bytes_eq path e.path) (list_any (bytes_eq path) (paths_in table)) h)) all.1,
+  found-along source other table (λ path h. same path (or_right (bytes_eq path e.path) (list_any (bytes_eq path) (paths_in table)) h)) all.1,
 )
 
 -- ---- what a table tells, as a source

@@ -1,5 +1,5 @@
 -- The fields of the table of files, and the table that contracts see.
-use Rattle.std.proofs.Common.{◌≡◌, ◌||◌, ℕ, zero, suc, ◌+◌, ◌-◌, ◌≤◌, ◌<◌, ◌^◌, Bool, false, not, cond, nat_lt, List, [], ◌∷◌, ◌++◌, length, map, position, true, Option, None, Some, refl, sym, ◌∙◌, ap, subst, arith, slice_get, get_or, inl, inr, ltb-true, ltb-false, length-append}
+use Rattle.std.proofs.Common.{◌≡◌, ℕ, zero, suc, ◌+◌, ◌-◌, ◌≤◌, ◌<◌, ◌^◌, Bool, false, not, cond, nat_lt, List, [], ◌∷◌, ◌++◌, length, map, position, true, Option, None, Some, refl, sym, ◌∙◌, ap, subst, arith, slice_get, get_or, inl, inr, ltb-true, ltb-false, length-append}
 use Rattle.std.specs.Option.{option_map, option_and_then}
 use Rattle.std.specs.List.{position_or_len, prefix_len, list_any, list_all}
 use Rattle.std.specs.Str.{bytes_eq, is_utf8, chars}
@@ -280,10 +280,6 @@ none-any path paths slots each h =
       | inl same ↦ absurd (let e : ◌≡◌ {A = Option Found} (Some Lines) None = rw same at k in cc)
       | inr other ↦ any-from path paths slots each (rw other at k)
     ]
-
-pub list_any-map : {K : Type 0} (spelling : K → List ℕ) (p : List ℕ → Bool) (ks : List K) → list_any (λ k. p (spelling k)) ks ≡ list_any p (map spelling ks)
-list_any-map spelling p [] = refl
-list_any-map spelling p (k ∷ ks) = ap (λ (b : Bool). p (spelling k) || b) (list_any-map spelling p ks)
 
 -- what was pushed, by the new fields
 pub table-pushed : (paths paths' : List (List ℕ)) (slots slots' : List Slot) (path : List ℕ) (s : Slot) → IsFileTable paths slots

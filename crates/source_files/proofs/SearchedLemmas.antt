@@ -45,7 +45,7 @@ unfolding search
 search-gone source paths i t u within e gone =
     rw (drop-at paths i [] within) (rw (← e) (on_gone (get_or paths i []) u (search source (drop (i + 1) paths)) (found_at (get_or paths i []) u) gone))
 
-drop-past : {X : Type 0} (xs : List X) (i : ℕ) → length xs ≤ i → drop i xs ≡ []
+pub drop-past : {X : Type 0} (xs : List X) (i : ℕ) → length xs ≤ i → drop i xs ≡ []
 drop-past [] zero h = refl
 drop-past [] (suc i) h = refl
 drop-past (x ∷ xs) zero h = absurd (omega (arith, h))

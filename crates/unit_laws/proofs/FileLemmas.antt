@@ -1,31 +1,29 @@
 -- The tokens of a file are spelled as their kinds say.
 use Rattle.std.proofs.Common.{◌≡◌, ℕ, zero, suc, ◌+◌, ◌-◌, ◌≤◌, ◌^◌, ◌==◌, ◌&&◌, ◌||◌, Bool, true, false, nat_lt, List, [], ◌∷◌, ◌++◌, length, take, drop, Option, Some, None, Ok, is_ok, is_some, unwrap_or, ◌⊎◌, inl, inr, refl, sym, ap, ◌∙◌, arith}
 use Rattle.std.specs.List.{list_all}
-use Rattle.std.proofs.lemmas.Bool.{cases_Bool, lt-ltb, ltb-true, and_parts}
+use Rattle.std.proofs.lemmas.Bool.{cases_Bool, lt-ltb, and_parts}
+use Rattle.std.proofs.Math.Bool.{or-true}
 use Rattle.include_tree.specs.Below.cs_base.declared.tokens.Kind.{Kind}
 use Rattle.include_tree.specs.Below.cs_base.declared.tokens.Kind.TheVariants.{Header, Other}
 use Rattle.include_tree.specs.Below.part_lexer.Characters.{less_than, double_quote, line_feed, slash, star, is_white, begins}
 use Rattle.include_tree.specs.Below.part_lexer.Spelling.{is_header_text, kind_of, kind_in}
-use Rattle.include_tree.specs.Below.part_lexer.Logical.{Character, gone_length, logical_from, logical_of, spelling, line_at}
-use Rattle.include_tree.specs.Below.part_lexer.Tokens.{Found, longest, front_length, kind_or_other, comment_end, comment_or_open, token_piece, piece_of, expects_header, piece_at, piece_length, leaves_gap, line_front_after, found_in, found_from, found_of, tokens_in, tokens_of, open_comment_of}
-use Rattle.include_tree.specs.Below.part_lexer.FileText.{TextValue, most_bytes, text_value, text_or_open, file_text}
-use Rattle.include_tree.proofs.Below.part_lexer.ScanLemmas.{line_at-bound}
+use Rattle.include_tree.specs.Below.part_lexer.Logical.{Character, logical_of, spelling, line_at}
+use Rattle.include_tree.specs.Below.part_lexer.Tokens.{Found, longest, front_length, kind_or_other, comment_end, comment_or_open, token_piece, piece_of, expects_header, piece_at, piece_length, leaves_gap, line_front_after, found_in, found_from, found_of, tokens_in, tokens_of}
+use Rattle.include_tree.specs.Below.part_lexer.FileText.{TextValue, file_text}
 use Rattle.include_tree.proofs.Below.source_files.OpeningLemmas.{readable-small}
 use Rattle.expansion_laws.specs.Spelled.{fits, is_lone, is_spelled}
 use Rattle.expansion_laws.proofs.TextKindLemmas.{kind_fits}
+use Rattle.include_tree.proofs.Below.part_lexer.TextLemmas.{file_text-toks}
+use Rattle.include_tree.proofs.Below.unit_steps.FileToksLemmas.{logical_from-before, line-low}
 
 -- ---- the front of a text
-
-or_true : (b : Bool) → (b || true) ≡ true
-or_true true = refl
-or_true false = refl
 
 header_fits : (text : List ℕ) → is_header_text text ≡ true → fits Header text ≡ true
 header_fits [] h = absurd (cc)
 header_fits (c ∷ cs) h = elim (cases_Bool (c == less_than)) [
   | inl less ↦ rw less refl
   | inr other ↦ elim (cases_Bool (c == double_quote)) [
-    | inl quote ↦ rw quote (or_true (c == less_than))
+    | inl quote ↦ rw quote (or-true (c == less_than))
     | inr neither ↦ let no = rw (other, neither) at h in absurd (cc)
   ]
 ]
@@ -77,18 +75,6 @@ front_fits header c cs dark =
 abbrev stands_before : ℕ → Character → Bool
 stands_before n c = nat_lt c.offset n
 
-logical_from-before : (n skip at : ℕ) (bs : List ℕ) → at + length bs ≤ n → list_all (stands_before n) (logical_from skip at bs) ≡ true
-unfolding logical_from
-logical_from-before n zero at [] h = refl
-logical_from-before n (suc skip) at [] h = refl
-logical_from-before n (suc skip) at (c ∷ cs) h = logical_from-before n skip (at + 1) cs (omega (arith, h))
-logical_from-before n zero at (c ∷ cs) h = elim (cases_Bool (gone_length c cs == 0)) [
-  | inl stays ↦
-      let here : nat_lt at n ≡ true = lt-ltb at n (omega (arith, h)) in
-      rw (stays, here) (logical_from-before n 0 (at + 1) cs (omega (arith, h)))
-  | inr goes ↦ rw goes (logical_from-before n (gone_length c cs - 1) (at + 1) cs (omega (arith, h)))
-]
-
 -- ---- tokens
 
 found-spelled : (file line : ℕ) (gap : Bool) (front : _) (at : ℕ) (header : Bool) (c : ℕ) (cs : List ℕ) (rest : List Found) → line ≤ 2 ^ 22 → is_white c ≡ false
@@ -121,9 +107,6 @@ piece-spelled file line gap front at header c cs rest low h = elim (cases_Bool (
   ]
 ]
 
-line-low : (bytes : List ℕ) (c : Character) → length bytes ≤ 2 ^ 22 → stands_before (length bytes) c ≡ true → line_at bytes c.offset ≤ 2 ^ 22
-line-low bytes c few before = omega (arith, few, ltb-true c.offset (length bytes) before, line_at-bound bytes c.offset)
-
 found_from-spelled : (file : ℕ) (bytes : List ℕ) (skip : ℕ) (gap : Bool) (front : _) (at : ℕ) (cs : List Character) → length bytes ≤ 2 ^ 22
     → list_all (stands_before (length bytes)) cs ≡ true → list_all is_spelled (tokens_in (found_from file bytes skip gap front at cs)) ≡ true
 unfolding found_from
@@ -144,21 +127,7 @@ tokens_of-spelled file bytes few =
 
 -- ---- texts
 
-open-toks : (file : ℕ) (bytes : List ℕ) (o : Option ℕ) (text : TextValue) → text_or_open file bytes o ≡ Ok text → text.toks ≡ tokens_of file bytes
-unfolding text_value
-open-toks file bytes None text h =
-    let same : text_value file bytes ≡ text = cc in
-    sym (ap (λ (t : TextValue). t.toks) same)
-open-toks file bytes (Some at) text h = absurd (cc)
-
-text-toks : (file : ℕ) (bytes : List ℕ) (text : TextValue) → file_text file bytes ≡ Ok text → text.toks ≡ tokens_of file bytes
-unfolding file_text
-text-toks file bytes text h = elim (cases_Bool (nat_lt most_bytes (length bytes))) [
-  | inl large ↦ let wrong = rw large at h in absurd (cc)
-  | inr small ↦ open-toks file bytes (open_comment_of bytes) text (rw small at h)
-]
-
 -- the tokens of a file that has a text
 pub text_spelled : (file : ℕ) (bytes : List ℕ) (text : TextValue) → file_text file bytes ≡ Ok text → list_all is_spelled text.toks ≡ true
 text_spelled file bytes text h =
-    rw (text-toks file bytes text h) (tokens_of-spelled file bytes (readable-small file bytes (ap is_ok h)))
+    rw (file_text-toks file bytes text h) (tokens_of-spelled file bytes (readable-small file bytes (ap is_ok h)))

@@ -1,12 +1,12 @@
 -- Names that an expansion replaces are linked with the names of their macros.
-use Rattle.std.proofs.Common.{◌≡◌, ℕ, zero, suc, ◌+◌, ◌-◌, ◌&&◌, Bool, true, false, not, cond, List, [], ◌∷◌, ◌++◌, length, map, Option, Some, None, Result, Ok, refl, subst, nat_lt}
+use Rattle.std.proofs.Common.{◌≡◌, ℕ, zero, suc, ◌+◌, ◌-◌, Bool, true, false, cond, List, [], ◌∷◌, ◌++◌, length, map, Option, Some, None, Result, Ok, refl, subst, nat_lt}
 use Rattle.std.proofs.lemmas.Option.{none-some}
 use Rattle.include_tree.specs.Below.cs_base.Token.{Token}
 use Rattle.include_tree.specs.Below.line_shape.Signs.{is_name, is_open}
 use Rattle.include_tree.specs.Below.macro_body.declared.definitions.Form.{Form}
 use Rattle.include_tree.specs.Below.macro_body.declared.definitions.Form.TheVariants as form
 use Rattle.include_tree.specs.Below.macro_body.declared.definitions.Definition.{Definition}
-use Rattle.include_tree.specs.Below.macro_body.Hides.{Hidden, hidden, hide_more, hides_name, unhidden}
+use Rattle.include_tree.specs.Below.macro_body.Hides.{Hidden, hidden, hide_more, unhidden}
 use Rattle.include_tree.specs.Below.macro_body.Live.{no_macro}
 use Rattle.include_tree.specs.Below.macro_body.Macro.{Table, is_function}
 use Rattle.include_tree.specs.Below.macro_body.Bodies.{Part, chains_of, occurs_alone}
@@ -18,6 +18,7 @@ use Rattle.include_tree.proofs.Below.macro_body.ResultLemmas.{ok_same, err_ok, o
 use Rattle.expansion_laws.proofs.ListLemmas.{AllHidden, AllLists, AllNotes, notes_split, notes_both}
 use Rattle.expansion_laws.proofs.RuleLemmas.{Rules, HasPutIn, chains_of_have, result_kept}
 use Rattle.expansion_laws.proofs.TellingLemmas.{Any, any_toks}
+use Rattle.expansion_laws.proofs.ClosureLemmas.{found_macro}
 
 -- ---- notes of strings and of pasted tokens
 
@@ -87,17 +88,6 @@ making_agrees map table (Replaced name m before ∷ notes) h = absurd (h.0)
 making_agrees map table (Linked x y ∷ notes) h = (tt, making_agrees map table notes h.1)
 making_agrees map table (Stringized toks s ∷ notes) h = (tt, making_agrees map table notes h.1)
 making_agrees map table (Pasted x y z ∷ notes) h = (tt, making_agrees map table notes h.1)
-
-found_macro : (table : Table) (t : Hidden) (m : Definition) → macro_of table t ≡ Some m → (is_name t.tok ≡ true) × (table t.tok.text ≡ Some m)
-found_macro table t m e = by (is_name t.tok) refl e
-  where
-    by : (b : Bool) → is_name t.tok ≡ b → cond (b && not (hides_name t.hides t.tok.text)) (table t.tok.text) None ≡ Some m → (is_name t.tok ≡ true) × (table t.tok.text ≡ Some m)
-    by false is k = absurd (none-some m k)
-    by true is k = open_ (hides_name t.hides t.tok.text) k
-      where
-        open_ : (h : Bool) → cond (not h) (table t.tok.text) None ≡ Some m → (is_name t.tok ≡ true) × (table t.tok.text ≡ Some m)
-        open_ true l = absurd (none-some m l)
-        open_ false l = (is, l)
 
 -- where links agree, names agree with those of their macros
 abbrev Agrees : (Token → List ℕ) → Table → List Note → Type 0

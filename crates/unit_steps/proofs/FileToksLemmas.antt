@@ -1,17 +1,18 @@
 -- The tokens of a file come from somewhere, at lines that a source file can have.
-use Rattle.std.proofs.Common.{◌≡◌, ℕ, zero, suc, ◌+◌, ◌-◌, ◌≤◌, ◌^◌, ◌==◌, ◌&&◌, Bool, true, false, nat_lt, List, [], ◌∷◌, ◌++◌, length, take, drop, Option, Some, None, Ok, is_ok, is_some, refl, sym, ap, inl, inr, arith}
+use Rattle.std.proofs.Common.{◌≡◌, ℕ, zero, suc, ◌+◌, ◌-◌, ◌≤◌, ◌^◌, ◌==◌, ◌&&◌, Bool, true, false, nat_lt, List, [], ◌∷◌, ◌++◌, length, take, drop, Option, Some, None, Ok, is_ok, is_some, refl, ap, inl, inr, arith}
 use Rattle.std.specs.List.{list_all}
 use Rattle.std.proofs.lemmas.Bool.{cases_Bool, lt-ltb, ltb-true, and_parts}
 use Rattle.cs_base.specs.Token.{Token}
 use Rattle.source_files.specs.Below.part_lexer.Places.{origins_from}
 use Rattle.source_files.specs.Below.part_lexer.Logical.{Character, gone_length, logical_from, logical_of, spelling, line_at}
 use Rattle.source_files.specs.Below.part_lexer.Characters.{line_feed, slash, star, is_white, begins}
-use Rattle.source_files.specs.Below.part_lexer.Tokens.{Found, front_length, comment_end, comment_or_open, token_piece, piece_of, expects_header, piece_at, piece_length, leaves_gap, line_front_after, found_in, found_from, found_of, tokens_in, tokens_of, open_comment_of}
-use Rattle.source_files.specs.Below.part_lexer.FileText.{TextValue, most_bytes, text_value, text_or_open, file_text}
+use Rattle.source_files.specs.Below.part_lexer.Tokens.{Found, front_length, comment_end, comment_or_open, token_piece, piece_of, expects_header, piece_at, piece_length, leaves_gap, line_front_after, found_in, found_from, found_of, tokens_in, tokens_of}
+use Rattle.source_files.specs.Below.part_lexer.FileText.{TextValue, file_text}
 use Rattle.source_files.proofs.Below.part_lexer.OriginLemmas.{origins_from-traced}
 use Rattle.source_files.proofs.Below.part_lexer.ScanLemmas.{line_at-bound}
 use Rattle.macro_expand.specs.Below.macro_body.Sound.{is_traced, is_low}
 use Rattle.source_files.proofs.OpeningLemmas.{readable-small}
+use Rattle.source_files.proofs.Below.part_lexer.TextLemmas.{file_text-toks}
 
 abbrev is_sound : Token → Bool
 is_sound t = is_traced t && is_low t
@@ -22,7 +23,7 @@ abbrev stands_before : ℕ → Character → Bool
 stands_before n c = nat_lt c.offset n
 
 -- the characters of bytes stand before their end
-logical_from-before : (n skip at : ℕ) (bs : List ℕ) → at + length bs ≤ n → list_all (stands_before n) (logical_from skip at bs) ≡ true
+pub logical_from-before : (n skip at : ℕ) (bs : List ℕ) → at + length bs ≤ n → list_all (stands_before n) (logical_from skip at bs) ≡ true
 unfolding logical_from
 logical_from-before n zero at [] h = refl
 logical_from-before n (suc skip) at [] h = refl
@@ -69,7 +70,7 @@ piece-sound file line gap front at header c cs rest low h = elim (cases_Bool (c 
 ]
 
 -- the line of a character is one that the file can have
-line-low : (bytes : List ℕ) (c : Character) → length bytes ≤ 2 ^ 22 → stands_before (length bytes) c ≡ true → line_at bytes c.offset ≤ 2 ^ 22
+pub line-low : (bytes : List ℕ) (c : Character) → length bytes ≤ 2 ^ 22 → stands_before (length bytes) c ≡ true → line_at bytes c.offset ≤ 2 ^ 22
 line-low bytes c few before = omega (arith, few, ltb-true c.offset (length bytes) before, line_at-bound bytes c.offset)
 
 found_from-sound : (file : ℕ) (bytes : List ℕ) (skip : ℕ) (gap : Bool) (front : _) (at : ℕ) (cs : List Character) → length bytes ≤ 2 ^ 22
@@ -94,21 +95,7 @@ tokens_of-sound file bytes few =
 
 -- ---- texts
 
-open-toks : (file : ℕ) (bytes : List ℕ) (o : Option ℕ) (text : TextValue) → text_or_open file bytes o ≡ Ok text → text.toks ≡ tokens_of file bytes
-unfolding text_value
-open-toks file bytes None text h =
-    let same : text_value file bytes ≡ text = cc in
-    sym (ap (λ (t : TextValue). t.toks) same)
-open-toks file bytes (Some at) text h = absurd (cc)
-
-text-toks : (file : ℕ) (bytes : List ℕ) (text : TextValue) → file_text file bytes ≡ Ok text → text.toks ≡ tokens_of file bytes
-unfolding file_text
-text-toks file bytes text h = elim (cases_Bool (nat_lt most_bytes (length bytes))) [
-  | inl large ↦ let wrong = rw large at h in absurd (cc)
-  | inr small ↦ open-toks file bytes (open_comment_of bytes) text (rw small at h)
-]
-
 -- the tokens of a file that has a text
 pub text-sound : (file : ℕ) (bytes : List ℕ) (text : TextValue) → file_text file bytes ≡ Ok text → list_all (λ t. is_traced t && is_low t) text.toks ≡ true
 text-sound file bytes text h =
-    rw (text-toks file bytes text h) (tokens_of-sound file bytes (readable-small file bytes (ap is_ok h)))
+    rw (file_text-toks file bytes text h) (tokens_of-sound file bytes (readable-small file bytes (ap is_ok h)))

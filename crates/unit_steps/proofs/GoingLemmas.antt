@@ -22,7 +22,7 @@ value_or : {A : Type 0} → A → Result A Fault → A
 value_or d (Ok a) = a
 value_or d (Err e) = d
 
-done_same : {A : Type 0} (a b : A) → ◌≡◌ {A = Result A Fault} (Ok a) (Ok b) → a ≡ b
+pub done_same : {A : Type 0} (a b : A) → ◌≡◌ {A = Result A Fault} (Ok a) (Ok b) → a ≡ b
 unfolding value_or
 done_same a b e = ap (value_or a) e
 
@@ -41,7 +41,7 @@ kept-onward {A} {B} k k2 (Ok d) next a t h =
     ∙ ap (λ (r : A × State × UnitTextValue). kept_after r.2 (next r.0 r.1)) (done_same (d.value, d.state, noted_in k d.notes) (a, t, k2) h)
 kept-onward k k2 (Err f) next a t h = absurd (cc)
 
-err_same : {A : Type 0} (f g : Fault) → ◌≡◌ {A = Result A Fault} (Err f) (Err g) → f ≡ g
+pub err_same : {A : Type 0} (f g : Fault) → ◌≡◌ {A = Result A Fault} (Err f) (Err g) → f ≡ g
 err_same f g e = cc
 
 -- the fault of a step is that of the steps behind it

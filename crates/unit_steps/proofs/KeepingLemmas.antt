@@ -7,16 +7,13 @@ use Rattle.cs_base.specs.Token.{Token}
 use Rattle.cs_base.specs.declared.tokens.Link.{Link}
 use Rattle.macro_expand.specs.Below.macro_body.Notes as expansion
 use Rattle.macro_expand.specs.Below.macro_body.Kept.{kept, kept_with, link_of, replacement_of}
+use Rattle.macro_expand.proofs.Below.macro_body.KeptLemmas.{behind_both}
 use Rattle.unit_steps.specs.declared.events.Event.{Event}
 use Rattle.unit_steps.specs.declared.events.Reached.{Reached}
 use Rattle.unit_steps.specs.Notes.{Note, Happened, links_of, pasted_of, stringized_of, header_of, answers_of, events_of, reached_of}
 use Rattle.unit_steps.specs.State.{Outcome, noted}
 use Rattle.unit_steps.specs.Texts.{UnitTextValue, text_of, reached_in}
 use Rattle.unit_steps.specs.Keeping.{noted_in, put_in, replaced_event, expanded_into, kept_after, put_after}
-
--- lists behind another, one after the other
-behind_both : {A : Type 0} (k xs ys zs : List A) → zs ≡ xs ++ ys → k ++ zs ≡ (k ++ xs) ++ ys
-behind_both {A} k xs ys zs is = ap (λ (r : List A). k ++ r) is ∙ sym (append_assoc k xs ys)
 
 reached_in-append : (n : ℕ) (xs ys : List Note) → reached_in n (xs ++ ys) ≡ reached_in n xs ++ reached_in (n + length (flat_map events_of xs)) ys
 unfolding reached_in

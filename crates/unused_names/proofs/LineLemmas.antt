@@ -1,36 +1,20 @@
 -- Include lines as they are met: one event more, and the end of a unit.
-use Rattle.std.proofs.Common.{◌≡◌, ℕ, zero, suc, ◌+◌, ◌<◌, Bool, true, false, ◌||◌, ◌&&◌, not, cond, List, [], ◌∷◌, ◌++◌, Some, length, slice_get, inl, inr, refl, sym, ap, ◌∙◌, subst, arith}
+use Rattle.std.proofs.Common.{◌≡◌, ℕ, ◌+◌, ◌<◌, Bool, true, false, ◌||◌, ◌&&◌, not, cond, List, [], ◌∷◌, ◌++◌, Some, length, slice_get, inl, inr, refl, sym, ap, ◌∙◌, subst, arith}
 use Rattle.std.specs.Prelude.{◌⊎◌, MatchBool, nat_eq}
 use Rattle.std.proofs.lemmas.Bool.{cases_lt, eq-eqb, eqb-true, or_parts, and_parts}
 use Rattle.std.proofs.lemmas.Option.{none-some, same_Some, slice_get_within}
+use Rattle.std.proofs.Math.Bool.{or-false}
 use Rattle.cs_base.specs.declared.positions.Pos.{Pos}
 use Rattle.include_tree.specs.Below.unit_steps.declared.events.Event.{Event}
 use Rattle.include_tree.specs.Below.unit_steps.Texts.{UnitTextValue}
 use Rattle.scope_bind.specs.declared.bound.Name.{Name}
 use Rattle.ws_core.specs.Analysis.{UnitAnalysis}
+use Rattle.ws_core.proofs.PushedLemmas.{pushed_own}
+use Rattle.ws_core.proofs.ListingLemmas.{pushed_kept, pushed_cases}
+use Rattle.ws_core.proofs.Below.eclass_map.PartPlaces.{same_pos}
 use Rattle.unused_names.specs.Inclusions.{is_enter}
 use Rattle.unused_names.specs.Lines.{LinesValue, ComesBefore, Meets, AreLines, MeetsLine, GoOn, is_position, lines_and}
 use Rattle.unused_names.specs.Unneeded.{Includes, IsUnneeded}
-
--- ---- lists
-
-pushed_cases : {X : Type 0} (xs : List X) (y : X) (k : ℕ) (x : X) → slice_get (xs ++ y ∷ []) k ≡ Some x → (slice_get xs k ≡ Some x) ⊎ (y ≡ x)
-pushed_cases [] y zero x at = inr (cc)
-pushed_cases [] y (suc k) x at = absurd (cc)
-pushed_cases (z ∷ xs) y zero x at = inl at
-pushed_cases (z ∷ xs) y (suc k) x at = pushed_cases xs y k x at
-
-pushed_kept : {X : Type 0} (xs : List X) (y : X) (k : ℕ) (x : X) → slice_get xs k ≡ Some x → slice_get (xs ++ y ∷ []) k ≡ Some x
-pushed_kept [] y k x at = absurd (cc)
-pushed_kept (z ∷ xs) y zero x at = at
-pushed_kept (z ∷ xs) y (suc k) x at = pushed_kept xs y k x at
-
-pushed_last : {X : Type 0} (xs : List X) (y : X) → slice_get (xs ++ y ∷ []) (length xs) ≡ Some y
-pushed_last [] y = refl
-pushed_last (z ∷ xs) y = pushed_last xs y
-
-same_pos : (p q : Pos) → p.file ≡ q.file → p.at ≡ q.at → p ≡ q
-same_pos p q e f = ap (λ (n : ℕ). record { file = n; at = p.at }) e ∙ ap (λ (n : ℕ). record { file = q.file; at = n }) f
 
 -- ---- tests
 
@@ -65,20 +49,16 @@ denied false A B h is = h
 
 -- ---- a line for one inclusion
 
-or_none : (b : Bool) → b ≡ (b || false)
-or_none true = refl
-or_none false = refl
-
-or_cond : (same b : Bool) → cond same true b ≡ (b || same)
+pub or_cond : (same b : Bool) → cond same true b ≡ (b || same)
 or_cond true true = refl
 or_cond true false = refl
-or_cond false b = or_none b
+or_cond false b = sym (or-false b)
 
 pub meets_unneeded : (at : Pos) (unneeded : Bool) (all all' : List Pos) (needs : Pos → Bool) → unneeded ≡ true → all' ≡ all ++ at ∷ []
     → MeetsLine at unneeded (lines_and all needs) (lines_and all' needs)
 meets_unneeded at unneeded all all' needs is more = record {
   all = more;
-  needs = λ p. or_none (needs p) ∙ ap (λ (u : Bool). needs p || (not u && is_position at p)) (sym is);
+  needs = λ p. sym (or-false (needs p)) ∙ ap (λ (u : Bool). needs p || (not u && is_position at p)) (sym is);
 }
 
 pub meets_needed : (at : Pos) (unneeded : Bool) (all all' : List Pos) (needs needs' : Pos → Bool) → unneeded ≡ false → all' ≡ all ++ at ∷ []
@@ -176,7 +156,7 @@ module _ (units : List UnitAnalysis) (n k : ℕ) (u : UnitAnalysis) (here : slic
                 let same = own_line p v j x.line now.0 now.1 in (
                   length old.all,
                   subst (λ (ps : List Pos). slice_get ps (length old.all) ≡ Some p) (sym meets.all)
-                      (subst (λ (q : Pos). slice_get (old.all ++ e.at ∷ []) (length old.all) ≡ Some q) same (pushed_last old.all e.at)),
+                      (subst (λ (q : Pos). slice_get (old.all ++ e.at ∷ []) (length old.all) ≡ Some q) same (pushed_own old.all e.at)),
                 )
           ];
       needed = λ p passed.

@@ -1,5 +1,5 @@
 -- What is carried from unit to unit.
-use Rattle.std.proofs.Common.{◌≡◌, ℕ, ◌+◌, ◌<◌, ◌^◌, Bool, true, false, not, ◌&&◌, List, Option, Some, None, Result, Ok, Err, refl, subst, arith}
+use Rattle.std.proofs.Common.{◌≡◌, ℕ, ◌+◌, ◌<◌, ◌^◌, false, List, Option, Some, None, Result, Ok, Err, refl, subst, arith}
 use Rattle.std.specs.Prelude.{IfSome}
 use Rattle.cs_base.specs.Outside.{FileMap}
 use Rattle.cs_base.specs.Units.{UnitValue, IsUnit}
@@ -15,6 +15,7 @@ use Rattle.include_tree.specs.Laws.{IfDone}
 use Rattle.include_tree.specs.Below.source_files.Tables.{AreFound, StaysHeld}
 use Rattle.include_tree.specs.PseudoFiles.{is_pseudo}
 use Rattle.include_tree.proofs.PseudoLemmas.{others_stay}
+use Rattle.include_tree.proofs.StayLemmas.{not_pseudo}
 use Rattle.ws_core.specs.Carrying.{IsFresh, IsOver}
 
 ok_holds : (P : Preprocessed → Type 0) (a b : Preprocessed) → ◌≡◌ {A = Result Preprocessed Fault} (Ok a) (Ok b) → P a → P b
@@ -34,11 +35,8 @@ after_others source number other unit before p real few few2 apart none e =
     table_after (λ t. found_at (defines_path other) t ≡ None) before.toks (unit_outcome the_limits file_text source number unit before) p
     (others_stay the_limits file_text source number other unit before real few few2 apart none) e
 
-not_pseudo : (a b : Bool) → (a && not b) ≡ true → b ≡ false
-not_pseudo a b h = grind (arith, h)
-
 -- the file of a unit is no pseudo file
-unit_real : (u : UnitValue) → IsUnit u → is_pseudo u.path ≡ false
+pub unit_real : (u : UnitValue) → IsUnit u → is_pseudo u.path ≡ false
 unit_real u h = not_pseudo _ (is_pseudo u.path) h.is_placed
 
 -- before the first unit

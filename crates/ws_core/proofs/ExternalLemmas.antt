@@ -57,7 +57,7 @@ of_units_more units parts i u p n all now whole less also is_u is_p is e rest =
     ∙ ap (λ v. names_of_units (u ∷ drop (i + 1) units) v) (drop_more parts i p also ∙ ap (λ v. v ∷ drop (i + 1) parts) (sym is_p)) in
     ap (λ v. v ++ later) e ∙ append_assoc all (n ∷ []) later ∙ ap (λ v. all ++ v) (ap (λ v. v ∷ later) is ∙ sym front) ∙ rest
 
-none_left : (units : List UnitValue) → names_of_units units [] ≡ []
+pub none_left : (units : List UnitValue) → names_of_units units [] ≡ []
 none_left [] = refl
 none_left (u ∷ units) = refl
 

@@ -26,6 +26,7 @@ use Rattle.ws_core.specs.Parts.{IsFirst, AreMembers, AreFirsts, part_cmp}
 use Rattle.ws_core.specs.Places.{path_at, place_cmp}
 use Rattle.ws_core.specs.Listing.{AreOfClass, AreFirstsBelow, AreListed, AreBelow, with_class}
 use Rattle.ws_core.proofs.ClassLemmas.{part_told, part_held, walked_member, member_walked}
+use Rattle.ws_core.proofs.PushedLemmas.{pushed_own}
 
 -- ---- lists
 
@@ -42,20 +43,16 @@ moved xs ys p k x at = at_contained ys x (Contains-permutation xs ys x p (contai
 moved_back : {X : Type 0} (xs ys : List X) → IsPermutation xs ys → (k : ℕ) (x : X) → slice_get ys k ≡ Some x → (j : ℕ) × (slice_get xs j ≡ Some x)
 moved_back xs ys p k x at = moved ys xs (IsPermutation-sym xs ys p) k x at
 
-pushed_cases : {X : Type 0} (xs : List X) (y : X) (k : ℕ) (x : X) → slice_get (xs ++ y ∷ []) k ≡ Some x → (slice_get xs k ≡ Some x) ⊎ (y ≡ x)
+pub pushed_cases : {X : Type 0} (xs : List X) (y : X) (k : ℕ) (x : X) → slice_get (xs ++ y ∷ []) k ≡ Some x → (slice_get xs k ≡ Some x) ⊎ (y ≡ x)
 pushed_cases [] y zero x at = inr (cc)
 pushed_cases [] y (suc k) x at = absurd (cc)
 pushed_cases (z ∷ xs) y zero x at = inl at
 pushed_cases (z ∷ xs) y (suc k) x at = pushed_cases xs y k x at
 
-pushed_kept : {X : Type 0} (xs : List X) (y : X) (k : ℕ) (x : X) → slice_get xs k ≡ Some x → slice_get (xs ++ y ∷ []) k ≡ Some x
+pub pushed_kept : {X : Type 0} (xs : List X) (y : X) (k : ℕ) (x : X) → slice_get xs k ≡ Some x → slice_get (xs ++ y ∷ []) k ≡ Some x
 pushed_kept [] y k x at = absurd (cc)
 pushed_kept (z ∷ xs) y zero x at = at
 pushed_kept (z ∷ xs) y (suc k) x at = pushed_kept xs y k x at
-
-pushed_last : {X : Type 0} (xs : List X) (y : X) → slice_get (xs ++ y ∷ []) (length xs) ≡ Some y
-pushed_last [] y = refl
-pushed_last (z ∷ xs) y = pushed_last xs y
 
 -- a list that is copied from the front, one element after another
 pub copied_more : {X : Type 0} (xs ys ys' : List X) (x : X) → ys ≡ take (length ys) xs → slice_get xs (length ys) ≡ Some x → ys' ≡ ys ++ x ∷ []
@@ -201,7 +198,7 @@ firsts_more a t h n firsts (p ∷ ps) before of = record {
         let same : c ≡ n = omega arith in
         let at = of.all part (is ∙ ap Some same) in
         let one = first_only a t h n p ps of part at.0 at.1 first in
-        (length firsts, pushed_last firsts p ∙ ap Some one)
+        (length firsts, pushed_own firsts p ∙ ap Some one)
   ];
 }
 

@@ -9,7 +9,7 @@ use Rattle.ws_core.specs.Naming.{computed_name}
 
 -- ---- ranges of lists
 
-take_none : {X : Type 0} (n : ℕ) → ◌≡◌ {A = List X} (take n []) []
+pub take_none : {X : Type 0} (n : ℕ) → ◌≡◌ {A = List X} (take n []) []
 take_none zero = refl
 take_none (suc n) = refl
 

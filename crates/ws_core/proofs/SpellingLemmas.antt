@@ -22,6 +22,7 @@ use Rattle.ws_core.specs.TokenSearch.{AreInLine}
 use Rattle.ws_core.proofs.NamingLemmas.{In, split_at, filter_in}
 use Rattle.ws_core.proofs.PlaceNameLemmas.{kept_number}
 use Rattle.ws_core.proofs.TokenPlaceLemmas.{tokens_in_line}
+use Rattle.ws_core.proofs.NameableLemmas.{take_none}
 
 -- ---- slices
 
@@ -42,10 +43,6 @@ dropped_length zero xs = omega arith
 dropped_length (suc n) [] = omega arith
 dropped_length (suc n) (x ∷ xs) = let h = dropped_length n xs in omega arith
 
-take_nothing : {X : Type 0} (n : ℕ) → ◌≡◌ {A = List X} (take n []) []
-take_nothing zero = refl
-take_nothing (suc n) = refl
-
 -- a range that is cut at the end of the list
 pub clipped : {X : Type 0} (xs : List X) (before n from to : ℕ) → from ≡ min before (length xs) → to ≡ min (from + n) (length xs)
     → slice_range xs from to ≡ take n (drop before xs)
@@ -64,7 +61,7 @@ clipped {X = X} xs before n from to begins ends = elim (cases_lt before (length 
       ]
   | inr past ↦
       let none : to - from ≡ 0 = omega arith in
-      let nothing : take n (drop before xs) ≡ [] = ap (take n) (drop_past before xs past) ∙ take_nothing n in
+      let nothing : take n (drop before xs) ≡ [] = ap (take n) (drop_past before xs past) ∙ take_none n in
       ap (λ (m : ℕ). take m (drop from xs)) none ∙ sym nothing
 ]
 

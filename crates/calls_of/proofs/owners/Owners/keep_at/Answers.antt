@@ -1,7 +1,8 @@
 use Rattle.std.proofs.Common.{rules, ◌≡◌, None, ap, ◌∙◌}
 use Rattle.std.specs.Option.{option_copied}
+use Rattle.ws_core.proofs.Below.linkage_join.FirstsLemmas.{option_copied-cond}
 use Rattle.calls_of.specs.Owners.{owner_at}
-use Rattle.calls_of.proofs.OwnerLemmas.{owner_with-put, option_copied-cond}
+use Rattle.calls_of.proofs.OwnerLemmas.{owner_with-put}
 use Rattle.calls_of.proofs.owners.Owners.keep_at.Goals as goal
 
 pub returns-in_ok-insert : goal.returns-in_ok-insert

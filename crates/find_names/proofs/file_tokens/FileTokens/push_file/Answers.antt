@@ -1,14 +1,15 @@
-use Rattle.std.proofs.Common.{◌||◌, List, ap, ◌∙◌}
+use Rattle.std.proofs.Common.{◌||◌, List, ap, ◌∙◌, sym}
 use Rattle.std.specs.List.{list_any}
 use Rattle.std.proofs.lemmas.List.{take_all}
+use Rattle.std.proofs.Math.Bool.{or-false}
 use Rattle.cs_base.specs.Token.{Token}
 use Rattle.find_names.specs.FileTokens.{has_span, is_span}
-use Rattle.find_names.proofs.TokenLemmas.{or-false, parted, parted_more}
+use Rattle.find_names.proofs.TokenLemmas.{parted, parted_more}
 use Rattle.find_names.proofs.file_tokens.FileTokens.push_file.Goals as goal
 
 pub loop-tok-init : goal.loop-tok-init
 loop-tok-init c =
-    λ part. or-false (has_span c.args.self.now.spans part)
+    λ part. sym (or-false (has_span c.args.self.now.spans part))
 
 pub loop-tok-preserved : goal.loop-tok-preserved
 loop-tok-preserved c =

@@ -1,5 +1,6 @@
+use Rattle.std.proofs.Common.{sym}
+use Rattle.std.proofs.Math.Bool.{or-false}
 use Rattle.find_names.specs.FileTokens.{has_span}
-use Rattle.find_names.proofs.TokenLemmas.{or-false}
 use Rattle.find_names.proofs.file_tokens.FileTokens.push_numbered.Goals as goal
 
 pub returns-in-Some : goal.returns-in-Some
@@ -8,4 +9,4 @@ returns-in-Some c =
 
 pub returns-in-None : goal.returns-in-None
 returns-in-None c =
-    rw (← c.in-None.ensures) (λ part. or-false (has_span c.args.self.now.spans part))
+    rw (← c.in-None.ensures) (λ part. sym (or-false (has_span c.args.self.now.spans part)))

@@ -1,11 +1,11 @@
 use Rattle.std.proofs.Common.{◌≡◌, false, [], ◌∷◌, ◌++◌, map, ◌∙◌, ap, length, arith, None}
 use Rattle.std.specs.List.{list_any}
 use Rattle.std.specs.Str.{bytes_eq}
-use Rattle.line_shape.proofs.NameLemmas.{map-push}
+use Rattle.line_shape.proofs.NameLemmas.{map-push, list_any-map}
 use Rattle.source_files.specs.Files.{found_at}
 use Rattle.source_files.specs.Slots.{IsNumbered}
 use Rattle.source_files.specs.FileTableFields.{paths_in, table_in}
-use Rattle.source_files.proofs.FileTableLemmas.{none-any, list_any-map, table-pushed, file_table-pushed}
+use Rattle.source_files.proofs.FileTableLemmas.{none-any, table-pushed, file_table-pushed}
 use Rattle.source_files.proofs.file_table.FileTable.push.Goals as goal
 
 absent : (c : goal.After-unwrap) → list_any (λ k. bytes_eq c.in_ok-key.key.items k.items) c.self.inside.paths.keys ≡ false
