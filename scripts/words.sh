@@ -90,6 +90,14 @@ needs_model() {
   export PYTHONPATH PYTHONDONTWRITEBYTECODE=1
 }
 
+# What `rt check` built of a crate, for a copy of it: take_built FOLDER NAME. Links where they can be: rt writes such a file anew
+# and never into it.
+take_built() {
+  [ -d "crates/$2/out/rlib" ] || return 0
+  mkdir -p "$1/crates/$2/out"
+  cp -rl "crates/$2/out/rlib" "$1/crates/$2/out" 2>/dev/null || cp -r "crates/$2/out/rlib" "$1/crates/$2/out"
+}
+
 # These crates into a folder, a checkout of their own: copy_crates FOLDER NAME.. What `rt check` built of them goes with them, so
 # that nothing is proved again that stands. Their lines of crates.txt are written there, too.
 copy_crates() {
@@ -99,10 +107,7 @@ copy_crates() {
   for name in "${@:2}"; do
     mkdir "$to/crates/$name"
     cp -r "crates/$name/src" "crates/$name/specs" "crates/$name/proofs" "$to/crates/$name"
-    if [ -d "crates/$name/out/rlib" ]; then
-      mkdir "$to/crates/$name/out"
-      cp -r "crates/$name/out/rlib" "$to/crates/$name/out"
-    fi
+    take_built "$to" "$name"
     grep "^$name:" crates.txt >> "$to/crates.txt"
   done
 }
