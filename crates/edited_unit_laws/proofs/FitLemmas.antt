@@ -5,11 +5,11 @@ use Rattle.std.specs.Fmt.{decimal}
 use Rattle.std.specs.List.{list_all}
 use Rattle.std.specs.Option.{is_none}
 use Rattle.std.specs.Str.{bytes_eq}
-use Rattle.std.proofs.lemmas.Bool.{cases_Bool, and_parts, and_from}
+use Rattle.std.proofs.lemmas.Bool.{cases_Bool, and_parts, and_from, both_ways}
 use Rattle.std.proofs.lemmas.Slice.Eq.{bytes_eq-Decides}
 use Rattle.renamed.specs.Below.cs_base.declared.positions.Pos.{Pos}
 use Rattle.renamed.specs.Below.cs_base.declared.tokens.Kind.{Kind}
-use Rattle.renamed.specs.Below.cs_base.declared.tokens.Kind.TheVariants.{Number, Str}
+use Rattle.renamed.specs.Below.cs_base.declared.tokens.Kind.TheVariants.{Ident, Number, Char, Str, Punct, Other, Header}
 use Rattle.renamed.specs.Below.cs_base.Token.{Token}
 use Rattle.renamed.specs.Below.line_shape.Signs.{is_identifier, is_va_args}
 use Rattle.renamed.specs.Below.paste_origin.Strings.{stringize_of}
@@ -25,7 +25,7 @@ use Rattle.expansion_laws.proofs.OriginLemmas.{tokens_come_from_somewhere}
 use Rattle.expansion_laws.specs.Telling.{DidHappen, IsStringized}
 use Rattle.expansion_laws.proofs.TellingLemmas.{string_is, notes_are_true}
 use Rattle.renamed.specs.Below.unit_steps.State.{State}
-use Rattle.edited_unit_laws.specs.Lines.{Each, KeepsToken}
+use Rattle.edited_unit_laws.specs.Lines.{Each, is_fixed, KeepsToken}
 use Rattle.edited_unit_laws.specs.Keeping.{Change, KeepsNames, Fits, GoesWell}
 use Rattle.edited_unit_laws.specs.Steps.{KeepsState}
 
@@ -63,7 +63,7 @@ unfoldable pub keeps_text : Renaming → Occurring
 keeps_text r kind origins text = cond (is_identifier kind)
     (same (bytes_eq (r.spell origins text) (codes "defined")) (bytes_eq text (codes "defined"))
     && same (bytes_eq (r.spell origins text) (codes "__VA_ARGS__")) (bytes_eq text (codes "__VA_ARGS__")))
-    (bytes_eq (r.spell origins text) text)
+    (cond (is_fixed kind) (bytes_eq (r.spell origins text) text) true)
 
 -- the token occurs, and its new spelling does
 unfoldable pub fits : Change → Occurring
@@ -86,6 +86,24 @@ other-keeps : (n name other : Bool) → n ≡ false → cond n name other ≡ tr
 other-keeps true name other is h = absurd (cc)
 other-keeps false name other is h = h
 
+-- what is fixed is no identifier, and stays
+pub fixed-other : (kind : Kind) → is_fixed kind ≡ true → is_identifier kind ≡ false
+fixed-other Ident h = absurd (cc)
+fixed-other Number h = refl
+fixed-other Char h = refl
+fixed-other Str h = absurd (cc)
+fixed-other Punct h = refl
+fixed-other Other h = refl
+fixed-other Header h = refl
+
+fixed-stays : (f stays : Bool) → (f ≡ true → stays ≡ true) → cond f stays true ≡ true
+fixed-stays true stays h = h refl
+fixed-stays false stays h = refl
+
+stays-fixed : (f stays : Bool) → f ≡ true → cond f stays true ≡ true → stays ≡ true
+stays-fixed true stays is h = h
+stays-fixed false stays is h = absurd (cc)
+
 keeps-true : (r : Renaming) (t : Token) → KeepsToken r t → keeps_text r t.kind t.origins t.text ≡ true
 unfolding keeps_text is_va_args
 keeps-true r t h = by (cases_Bool (is_identifier t.kind))
@@ -93,22 +111,24 @@ keeps-true r t h = by (cases_Bool (is_identifier t.kind))
     by : (is_identifier t.kind ≡ true) ⊎ (is_identifier t.kind ≡ false) → keeps_text r t.kind t.origins t.text ≡ true
     by (inl name) =
         keeps-name (is_identifier t.kind) (bytes_eq (spelled r t) (codes "defined")) (bytes_eq t.text (codes "defined")) (bytes_eq (spelled r t) (codes "__VA_ARGS__")) (bytes_eq t.text (codes "__VA_ARGS__"))
-        (bytes_eq (spelled r t) t.text) name
+        (cond (is_fixed t.kind) (bytes_eq (spelled r t) t.text) true) name
         (word-stays (is_identifier t.kind) (bytes_eq (spelled r t) (codes "defined")) (bytes_eq t.text (codes "defined")) name h.asks)
         (word-stays (is_identifier t.kind) (bytes_eq (spelled r t) (codes "__VA_ARGS__")) (bytes_eq t.text (codes "__VA_ARGS__")) name h.rest)
     by (inr other) =
         keeps-other (is_identifier t.kind)
         (same (bytes_eq (spelled r t) (codes "defined")) (bytes_eq t.text (codes "defined")) && same (bytes_eq (spelled r t) (codes "__VA_ARGS__")) (bytes_eq t.text (codes "__VA_ARGS__")))
-        (bytes_eq (spelled r t) t.text) other ((bytes_eq-Decides (spelled r t) t.text).1 (h.others other))
+        (cond (is_fixed t.kind) (bytes_eq (spelled r t) t.text) true) other
+        (fixed-stays (is_fixed t.kind) (bytes_eq (spelled r t) t.text) (λ fixed. (bytes_eq-Decides (spelled r t) t.text).1 (h.others fixed)))
 
 true-keeps : (r : Renaming) (t : Token) → keeps_text r t.kind t.origins t.text ≡ true → KeepsToken r t
 unfolding keeps_text is_va_args
 true-keeps r t h = record {
-  others = λ other.
+  others = λ fixed.
       (bytes_eq-Decides (spelled r t) t.text).0
+      (stays-fixed (is_fixed t.kind) (bytes_eq (spelled r t) t.text) fixed
       (other-keeps (is_identifier t.kind)
       (same (bytes_eq (spelled r t) (codes "defined")) (bytes_eq t.text (codes "defined")) && same (bytes_eq (spelled r t) (codes "__VA_ARGS__")) (bytes_eq t.text (codes "__VA_ARGS__")))
-      (bytes_eq (spelled r t) t.text) other h);
+      (cond (is_fixed t.kind) (bytes_eq (spelled r t) t.text) true) (fixed-other t.kind fixed) h));
   asks = elim (cases_Bool (is_identifier t.kind)) [
     | inl name ↦ word-back (is_identifier t.kind) (bytes_eq (spelled r t) (codes "defined")) (bytes_eq t.text (codes "defined")) (both name).0
     | inr other ↦ word-none (is_identifier t.kind) (bytes_eq (spelled r t) (codes "defined")) (bytes_eq t.text (codes "defined")) other
@@ -122,7 +142,7 @@ true-keeps r t h = record {
     both : is_identifier t.kind ≡ true → (bytes_eq (spelled r t) (codes "defined") ≡ bytes_eq t.text (codes "defined")) × (bytes_eq (spelled r t) (codes "__VA_ARGS__") ≡ bytes_eq t.text (codes "__VA_ARGS__"))
     both name =
         name-keeps (is_identifier t.kind) (bytes_eq (spelled r t) (codes "defined")) (bytes_eq t.text (codes "defined")) (bytes_eq (spelled r t) (codes "__VA_ARGS__")) (bytes_eq t.text (codes "__VA_ARGS__"))
-        (bytes_eq (spelled r t) t.text) name h
+        (cond (is_fixed t.kind) (bytes_eq (spelled r t) t.text) true) name h
 
 pub fits-true : (c : Change) (t : Token) → Fits c t → occurs (fits c) t ≡ true
 unfolding fits
@@ -147,9 +167,16 @@ still-fits c names t kind is other here stays = (
   record { others = λ text. stays; asks = rw (is, other) refl; rest = rw (is, other) refl },
 )
 
+-- a string literal fits, however it is spelled
+quoted-fits : (c : Change) → KeepsNames c → (s : Token) → s.kind ≡ Str → Fits c s
+unfolding is_va_args
+quoted-fits c names s is = (
+  rw is (names.others Str s.origins s.text refl refl),
+  record { others = λ fixed. absurd (both_ways (is_fixed s.kind) (ap is_fixed is) fixed); asks = rw is refl; rest = rw is refl },
+)
+
 string-fits : (c : Change) → KeepsNames c → (toks : List Token) (s : Token) → IsStringized toks s → Fits c s
-string-fits c names toks s h =
-    still-fits c names s Str (string-kind toks s h.made) refl (names.others Str s.origins s.text refl refl) (names.untraced s.origins s.text h.untraced).0
+string-fits c names toks s h = quoted-fits c names s (string-kind toks s h.made)
 
 pub line-fits : (c : Change) → KeepsNames c → (name : Token) → Fits c (line_number name)
 line-fits c names name =

@@ -10,7 +10,7 @@ use Rattle.renamed.specs.Below.cs_base.declared.tokens.Kind.{Kind}
 use Rattle.renamed.specs.Below.cs_base.declared.tokens.Kind.TheVariants.{Ident, Number, Char, Str, Punct, Other, Header as HeaderName}
 use Rattle.renamed.specs.Below.cs_base.Token.{Token}
 use Rattle.renamed.specs.Below.part_lexer.FileText.{TextValue}
-use Rattle.renamed.specs.Below.line_shape.Signs.{is_identifier, is_punctuator, is_sign}
+use Rattle.renamed.specs.Below.line_shape.Signs.{is_punctuator, is_sign}
 use Rattle.renamed.specs.Below.macro_body.Macro.{Table as Macros}
 use Rattle.renamed.specs.Below.macro_expand.Renaming.{Renaming, spelled as respelled, renamed}
 use Rattle.renamed.specs.Below.source_files.Files.{Source, SourceFile}
@@ -23,7 +23,7 @@ use Rattle.renamed.specs.Below.include_tree.Including.{open_header, Process, Inn
 use Rattle.renamed.specs.Below.unit_steps.IncludeNames.{header_or, computed_header, header_named}
 use Rattle.renamed.specs.Below.source_files.HeaderNames.{is_header, header_in, is_less, is_greater, before_greater, gap_text, spaced, spelled, header_of_signs, header_of_toks}
 use Rattle.renamed.proofs.Below.source_files.TableLemmas.{grown_refl}
-use Rattle.edited_unit_laws.specs.Lines.{Each}
+use Rattle.edited_unit_laws.specs.Lines.{Each, is_fixed}
 use Rattle.edited_unit_laws.specs.Keeping.{Change, KeepsNames, KeepsFile, KeepsFiles, Fits}
 use Rattle.edited_unit_laws.specs.Steps.{moved, GoesAlike, AreRenamed, IsPutOutRenamed, IsSame, with_text, OpensAlike, ProcessAlike, InnerAlike, Grows, ProcessGrows, InnerGrows}
 use Rattle.edited_unit_laws.proofs.FollowLemmas.{noted-grows, onward-grows, alike-noted, alike-onward, alike-only, alike-did}
@@ -98,14 +98,14 @@ header-same r [] h = refl
 header-same r (t ∷ []) h = rw h.0 refl
 header-same r (t ∷ u ∷ toks) h = signs-same r (t ∷ u ∷ toks) h
 
-header-no_name : (k : Kind) → is_header k ≡ true → is_identifier k ≡ false
-header-no_name Ident h = absurd (cc)
-header-no_name Number h = refl
-header-no_name Char h = refl
-header-no_name Str h = refl
-header-no_name Punct h = refl
-header-no_name Other h = refl
-header-no_name HeaderName h = refl
+header-fixed : (k : Kind) → is_header k ≡ true → is_fixed k ≡ true
+header-fixed Ident h = absurd (cc)
+header-fixed Number h = refl
+header-fixed Char h = refl
+header-fixed Str h = absurd (cc)
+header-fixed Punct h = refl
+header-fixed Other h = refl
+header-fixed HeaderName h = refl
 
 module _ (c : Change) (names : KeepsNames c) where
   header_or-alike : (file new : SourceFile) (at at2 : Pos) (toks : List Token) (macros : Macros) (s : State) (o : Option Header) → header_of_toks toks ≡ o
@@ -138,7 +138,7 @@ module _ (c : Change) (names : KeepsNames c) where
   named-alike file text at at2 [] macros s h = tt
   named-alike file text at at2 (t ∷ toks) macros s h = elim (cases_Bool (is_header t.kind)) [
     | inl is ↦
-        rw is (alike-only c (IsSame {A = Header}) macros s (header_in t.text) (header_in (respelled c.renaming t)) (ap header_in (h.0.1.others (header-no_name t.kind is))))
+        rw is (alike-only c (IsSame {A = Header}) macros s (header_in t.text) (header_in (respelled c.renaming t)) (ap header_in (h.0.1.others (header-fixed t.kind is))))
     | inr other ↦ rw other (computed-alike file text at at2 (t ∷ toks) macros s h)
   ]
 

@@ -16,7 +16,7 @@ mod ValueLemmas
 mod BadLinesLemmas
 mod ItemLemmas
 mod FollowLemmas
-mod FitLemmas
+pub mod FitLemmas
 mod TextLemmas
 mod NameLemmas
 mod MacroLemmas

@@ -7,11 +7,11 @@ use Rattle.std.proofs.lemmas.Bool.{cases_Bool}
 use Rattle.renamed.specs.Below.cs_base.declared.tokens.Kind.{Kind}
 use Rattle.renamed.specs.Below.cs_base.declared.tokens.Kind.TheVariants.{Ident, Number, Char, Str, Punct, Other, Header}
 use Rattle.renamed.specs.Below.cs_base.Token.{Token}
-use Rattle.renamed.specs.Below.line_shape.Signs.{is_identifier, is_punctuator, is_name, is_sign, is_hash, is_paste, is_open, is_close, is_comma, is_ellipsis}
+use Rattle.renamed.specs.Below.line_shape.Signs.{is_punctuator, is_name, is_sign, is_hash, is_paste, is_open, is_close, is_comma, is_ellipsis}
 use Rattle.renamed.specs.Below.line_shape.MacroLine.{MacroParts, macro, spellings, is_function_like, before_close, behind_close, is_parameter, is_identifier_list, params_in, are_distinct, is_parameter_list, function_macro, macro_of}
 use Rattle.renamed.specs.Below.macro_expand.Renaming.{Renaming, spelled, renamed, renamed_macro}
 use Rattle.renamed.specs.Below.macro_body.Defining.{definition_of}
-use Rattle.edited_unit_laws.specs.Lines.{Each, KeepsToken, NamesAsBefore, KeepsParameters, DefinitionsAreRenamed}
+use Rattle.edited_unit_laws.specs.Lines.{Each, is_fixed, KeepsToken, NamesAsBefore, KeepsParameters, DefinitionsAreRenamed}
 
 -- the parts of a definition, renamed
 abbrev pub renamed_parts : Renaming → MacroParts → MacroParts
@@ -19,7 +19,7 @@ renamed_parts r m = macro m.function (map (renamed r) m.params) m.variadic (map 
 
 -- ---- signs
 
-sign-text : (kind : Kind) (x y spelling : List ℕ) → (is_identifier kind ≡ false → x ≡ y)
+sign-text : (kind : Kind) (x y spelling : List ℕ) → (is_fixed kind ≡ true → x ≡ y)
     → (is_punctuator kind && bytes_eq x spelling) ≡ (is_punctuator kind && bytes_eq y spelling)
 sign-text Ident x y spelling same = refl
 sign-text Number x y spelling same = refl

@@ -1,9 +1,8 @@
 -- Conditions whose tokens count alike.
-use Rattle.std.proofs.Common.{◌≡◌, ℕ, zero, suc, ◌+◌, false, cond, if◌then◌else◌, Option, Some, None, Result, Ok, Err, List, [], ◌∷◌, length, codes, refl, ap}
+use Rattle.std.proofs.Common.{◌≡◌, ℕ, zero, suc, ◌+◌, true, cond, if◌then◌else◌, Option, Some, None, Result, Ok, Err, List, [], ◌∷◌, length, codes, refl, ap}
 use Rattle.renamed.specs.Below.cs_base.declared.tokens.Kind.{Kind}
 use Rattle.renamed.specs.Below.cs_base.declared.tokens.Kind.TheVariants.{Ident, Number, Char, Str, Punct, Other, Header}
 use Rattle.renamed.specs.Below.cs_base.Token.{Token}
-use Rattle.renamed.specs.Below.line_shape.Signs.{is_identifier}
 use Rattle.renamed.specs.Below.cond_eval.declared.faults.CondFault.{CondFault}
 use Rattle.renamed.specs.Below.cond_eval.declared.faults.CondFault.TheVariants.{Syntax}
 use Rattle.renamed.specs.Below.cond_eval.declared.operators.Operator.{Operator}
@@ -12,10 +11,11 @@ use Rattle.renamed.specs.Below.cond_eval.declared.places.Beginning.TheVariants.{
 use Rattle.renamed.specs.Below.cond_eval.Reading.{Choice, Read, read, Rule, Expression, Operand, Inner, is_punctuator, punctuator_at, is_punct, beginning_of, beginning_at, operator_at, and_then, with_operator, closed, operand_from, operand, joined, chain, binary, branches, conditional, by_rule, enclosed, tree_of}
 use Rattle.renamed.specs.Below.cond_eval.Evaluation.{condition}
 use Rattle.edited_unit_laws.specs.Conditions.{AllCountAlike, ConditionsCountAlike}
+use Rattle.edited_unit_laws.specs.Lines.{is_fixed}
 
 -- ---- single tokens
 
-sign-alike : (kind : Kind) (x y : List ℕ) → (is_identifier kind ≡ false → x ≡ y)
+sign-alike : (kind : Kind) (x y : List ℕ) → (is_fixed kind ≡ true → x ≡ y)
     → cond (is_punctuator kind) (Some x) None ≡ cond (is_punctuator kind) (Some y) None
 sign-alike Ident x y same = refl
 sign-alike Number x y same = refl
@@ -25,7 +25,7 @@ sign-alike Punct x y same = ap (λ (text : List ℕ). Some text) (same refl)
 sign-alike Other x y same = refl
 sign-alike Header x y same = refl
 
-beginning-alike : (kind : Kind) (x y : List ℕ) → (is_identifier kind ≡ false → x ≡ y) → beginning_of kind x ≡ beginning_of kind y
+beginning-alike : (kind : Kind) (x y : List ℕ) → (is_fixed kind ≡ true → x ≡ y) → beginning_of kind x ≡ beginning_of kind y
 beginning-alike Ident x y same = refl
 beginning-alike Number x y same = ap (beginning_of Number) (same refl)
 beginning-alike Char x y same = ap (beginning_of Char) (same refl)

@@ -2,6 +2,8 @@
 use Rattle.std.specs.Prelude.{◌≡◌, Bool, true, false, if◌then◌else◌, List, [], ◌∷◌, drop, map, codes}
 use Rattle.std.specs.Option.{option_map, option_map_or}
 use Rattle.std.specs.Str.{bytes_eq}
+use Rattle.renamed.specs.Below.cs_base.declared.tokens.Kind.{Kind}
+use Rattle.renamed.specs.Below.cs_base.declared.tokens.Kind.TheVariants.{Ident, Str}
 use Rattle.renamed.specs.Below.cs_base.Token.{Token}
 use Rattle.renamed.specs.Below.line_shape.declared.items.Item.{Item}
 use Rattle.renamed.specs.Below.line_shape.declared.items.ItemKind.{ItemKind}
@@ -18,10 +20,17 @@ abbrev pub Each : {X : Type 0} → (X → Type 0) → List X → Type 0
 Each P [] = Unit {0}
 Each P (x ∷ xs) = P x × Each P xs
 
--- What a renaming keeps of each token: a token that is no identifier stays, and so do the words `defined` and
--- `__VA_ARGS__` (6.10.1 paragraph 1, 6.10.3 paragraph 5), which no other token becomes.
+-- Neither an identifier nor a string literal. Where directives are read, the spelling of such a token counts; a string counts
+-- by its kind, and an identifier by its kind and what is kept below.
+abbrev pub is_fixed : Kind → Bool
+is_fixed Ident = false
+is_fixed Str = false
+is_fixed _ = true
+
+-- What a renaming keeps of each token: a token that is neither an identifier nor a string literal stays, and so do the words
+-- `defined` and `__VA_ARGS__` (6.10.1 paragraph 1, 6.10.3 paragraph 5), which no other token becomes.
 pub record KeepsToken (r : Renaming) (t : Token) : Type 0 where
-  pub others : is_name t ≡ false → spelled r t ≡ t.text
+  pub others : is_fixed t.kind ≡ true → spelled r t ≡ t.text
   pub asks : is_word (codes "defined") (renamed r t) ≡ is_word (codes "defined") t
   pub rest : is_va_args (renamed r t) ≡ is_va_args t
 

@@ -11,7 +11,8 @@ pub fn edited_files_keep_tokens()
 {}
 
 /// Renamed tokens have the items of the old ones, moved, where the words of directives, `defined`, `__VA_ARGS__`
-/// and all that is no identifier stay, and parameters stay those names of a definition that they were.
+/// and all that is neither an identifier nor a string literal stay, and parameters stay those names of a definition that
+/// they were.
 pub fn items_are_renamed()
     ensures { ItemsAreRenamed }
 {}
@@ -22,7 +23,7 @@ pub fn definitions_are_renamed()
 {}
 
 /// A controlling expression has the value, or the fault, of each other one whose tokens are of the same kinds,
-/// and are spelled as before where they are no identifiers.
+/// and are spelled as before where they are neither identifiers nor string literals.
 pub fn conditions_count_alike()
     ensures { ConditionsCountAlike }
 {}

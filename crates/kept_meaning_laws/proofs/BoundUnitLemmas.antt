@@ -11,7 +11,7 @@ use Rattle.tree_laws.specs.Below.c99_read.State.{base_at, is_identifier}
 use Rattle.tree_laws.specs.Below.scope_bind.declared.bound.Name.{Name}
 use Rattle.tree_laws.specs.Below.c_types.Declarations.{spelling_at, alike}
 use Rattle.tree_laws.specs.Below.scope_bind.Names.{entity_at}
-use Rattle.tree_laws.specs.RenamedNames.{NamesAreRenamed}
+use Rattle.tree_laws.specs.RenamedNames.{StaysApart, NamesAreRenamed}
 use Rattle.tree_laws.proofs.HeldNames.{spelled_as_entities}
 use Rattle.tree_laws.proofs.RenamedWalk.{renamed_bind_alike}
 use Rattle.no_offence_laws.specs.Below.part_respell.Respelled.{spelled}
@@ -25,7 +25,7 @@ use Rattle.no_offence_laws.proofs.ListLemmas.{In, all_of, all_at}
 use Rattle.no_offence_laws.proofs.RenamingLemmas.{renamings_spell}
 use Rattle.no_offence_laws.proofs.UneditedLemmas.{renamings_keep_unedited}
 use Rattle.kept_meaning_laws.specs.BoundUnits.{NamesBindAsBefore, UnitsAreRenamedWhole, UnitsBindAsBefore}
-use Rattle.kept_meaning_laws.proofs.LinkedNameLemmas.{all_listed, all_pass, bound_name, IsFirst, first_bound, first_entity, joined, names_linked, named_token}
+use Rattle.kept_meaning_laws.proofs.LinkedNameLemmas.{all_listed, all_said, all_pass, bound_name, IsFirst, first_bound, first_entity, joined, names_linked, named_token}
 use Rattle.kept_meaning_laws.proofs.NamedLemmas.{alike_from, each_spelled, old_at, new_at, words_kept, apart_kept, as_long}
 use Rattle.kept_meaning_laws.proofs.ReadNameLemmas.{entities_named, names_identify}
 use Rattle.kept_meaning_laws.proofs.ReadUnitLemmas.{IsReadSo, unit_read_so}
@@ -105,7 +105,9 @@ module _ (a : Analysed) (members : List Part) (name : List ℕ) (r : Renaming) (
   unit_renamed = record {
     as_long = as_long a members name r h spells keeps u i;
     words = λ word k own. words_kept a members name r h spells keeps u i word k own;
-    apart = λ j k same. apart_kept a members name r h spells keeps u i j k same;
+    apart = all_said (λ (n : Name). StaysApart toks (map (renamed r) toks) n.index) names (λ n j.
+        let b = name_bound n j in
+        apart_kept a members name r h spells keeps u i n.index (record { token = b.token; there = b.there; named = b.named }));
     together = all_pass (λ (n : Name). alike (map (renamed r) toks) n.index n.entity) names
         (all_of (λ (n : Name). alike (map (renamed r) toks) n.index n.entity ≡ true) names name_together);
   }

@@ -34,7 +34,7 @@ use Rattle.no_offence_laws.proofs.Below.unit_laws.PartLemmas.{from_files}
 use Rattle.no_offence_laws.proofs.Below.unit_laws.TextLemmas.{IsText, text_is, unit_text_has}
 use Rattle.no_offence_laws.specs.Below.unit_laws.ToldNames.{IsTold}
 use Rattle.no_offence_laws.specs.Below.part_respell.Respelled.{respelled}
-use Rattle.no_offence_laws.specs.Below.edited_unit_laws.Lines.{Each, KeepsToken}
+use Rattle.no_offence_laws.specs.Below.edited_unit_laws.Lines.{Each}
 use Rattle.no_offence_laws.proofs.Below.edited_unit_laws.EditedTokenLemmas.{edited_files_keep_tokens}
 use Rattle.no_offence_laws.specs.Below.edited_unit_laws.FileTokens.{EntryIsRenamed, NamesLineAsBefore}
 use Rattle.no_offence_laws.proofs.Below.edited_unit_laws.FileTokensLemmas.{file_tokens_are_renamed}
@@ -46,9 +46,9 @@ use Rattle.no_offence_laws.specs.KeptTokens.{Spells}
 use Rattle.no_offence_laws.specs.Occurring.{KeepsOccurring, occurring_in}
 use Rattle.no_offence_laws.specs.Renamings.{KeepsUnedited, name_for}
 use Rattle.no_offence_laws.specs.Spellings.{IsPasted}
-use Rattle.no_offence_laws.proofs.KeptLineLemmas.{from_each}
-use Rattle.no_offence_laws.proofs.KeptTokenLemmas.{each_of, tokens_are_kept, pasted_tokens_are_kept}
-use Rattle.no_offence_laws.proofs.ListLemmas.{In, all_at}
+use Rattle.no_offence_laws.proofs.ApartLemmas.{parted_of, file_told, pasted_parted}
+use Rattle.no_offence_laws.proofs.KeptTokenLemmas.{each_of, other_same}
+use Rattle.no_offence_laws.proofs.ListLemmas.{In}
 use Rattle.no_offence_laws.proofs.OccurringLemmas.{occurring_are_kept}
 use Rattle.no_offence_laws.proofs.ProcessedLemmas.{words_are_free_where_named}
 use Rattle.no_offence_laws.proofs.RenamingLemmas.{spell-same, edited_files_are_renamed}
@@ -110,17 +110,16 @@ module _ (a : Analysed) (members : List Part) (name : List ℕ) (h : IsAllowed a
     kept_stay number file is =
         let s = source_of_kept a.value.table number file (source-grown table a.value.table number file grown is) in
         let f : KeptValue = s.kept in
-        let all = from_each (KeepsToken r) (tokens_of f.number f.bytes) (tokens_are_kept a members name r h spells number f s.is_kept) in
         each_tok (Stays r) file.text.toks (λ t k at.
         let there : In t (tokens_of f.number f.bytes) = (k, ap (λ (ts : List Token). slice_get ts k) (sym s.toks) ∙ at) in
-        (all_at (KeepsToken r) (tokens_of f.number f.bytes) all t there).others)
+        other_same a members name r h spells t (parted_of a.value members t (file_told a members name h number f s.is_kept t there)))
 
     pasted_stays : (run : Bool) (before : ℕ) (x y z : Token) → IsIn notes (Happened run before (expansion.Pasted x y z)) → Stays r z
     pasted_stays run before x y z told =
         let there : IsIn (flat_map pasted_of notes) z = flat_in pasted_of notes (Happened run before (expansion.Pasted x y z)) z told.0 told.1 (0, refl) in
         let own : IsIn u.text.pasted z = subst (λ (v : UnitTextValue). IsIn v.pasted z) is_text there in
         let pasted : IsPasted a.value z = record { unit = u; there = i; pasted = own } in
-        (pasted_tokens_are_kept a members name r h spells z pasted).others
+        other_same a members name r h spells z (pasted_parted a members name h z pasted)
 
     rules_stay : UnitRules (Stays r) (IsIn notes) table
     rules_stay = record {

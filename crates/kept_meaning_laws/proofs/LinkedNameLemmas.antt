@@ -6,7 +6,7 @@ use Rattle.std.specs.List.{flat_map, list_all, All}
 use Rattle.std.specs.Option.{option_map_or}
 use Rattle.std.specs.Str.{bytes_eq}
 use Rattle.std.proofs.lemmas.Bool.{cases_Bool, both_ways, and_parts, and_from, eqb-true, eq-eqb}
-use Rattle.std.proofs.lemmas.List.Elements.{All-head, All-tail}
+use Rattle.std.proofs.lemmas.List.Elements.{All-nil, All-cons, All-head, All-tail}
 use Rattle.std.proofs.lemmas.Option.{same_Some}
 use Rattle.tree_laws.specs.Below.cs_base.declared.ws_units.Standard.{Standard}
 use Rattle.tree_laws.specs.Below.cs_base.declared.tokens.Kind.{Kind}
@@ -32,6 +32,10 @@ use Rattle.no_offence_laws.proofs.ListLemmas.{In, AllOf, found, in_flat}
 pub all_listed : {X : Type 0} (P : X → Type 0) (xs : List X) → All P xs → AllOf P xs
 all_listed P [] all = tt
 all_listed P (x ∷ xs) all = (All-head P x xs all, all_listed P xs (All-tail P x xs all))
+
+pub all_said : {X : Type 0} (P : X → Type 0) (xs : List X) → ((x : X) → In x xs → P x) → All P xs
+all_said P [] each = All-nil P
+all_said P (x ∷ xs) each = All-cons P x xs (each x (0, refl)) (all_said P xs (λ y j. each y (suc j.0, j.1)))
 
 pub all_pass : {X : Type 0} (test : X → Bool) (xs : List X) → AllOf (λ x. test x ≡ true) xs → list_all test xs ≡ true
 all_pass test [] all = refl

@@ -16,7 +16,7 @@ use Rattle.no_offence_laws.specs.Below.line_shape.Signs.{is_name}
 use Rattle.no_offence_laws.specs.Below.macro_expand.Renaming.{Renaming, renamed}
 use Rattle.no_offence_laws.specs.Below.macro_expand.Renaming as macros
 use Rattle.tree_laws.specs.Below.c_types.Declarations.{spelling_at, alike}
-use Rattle.tree_laws.specs.RenamedNames.{is_own_word}
+use Rattle.tree_laws.specs.RenamedNames.{is_own_word, StaysApart}
 use Rattle.no_offence_laws.specs.Below.part_respell.Respelled.{spelled}
 use Rattle.no_offence_laws.specs.Below.rename_rules.Tokens.{holds_member}
 use Rattle.no_offence_laws.specs.Below.ws_core.Analysed.{Analysed}
@@ -171,26 +171,21 @@ module _ (a : Analysed) (members : List Part) (name : List ℕ) (r : Renaming) (
       both_ways (is_identifier_text (spelling_at old k)) s.plain
       (ap is_identifier_text (sym s.same ∙ sym e ∙ new_at j n.token n.there) ∙ new_identifier n.token (j, n.there) n.named)
 
-  same_before : (j k : ℕ) → spelling_at new j ≡ spelling_at new k → spelling_at old j ≡ spelling_at old k
-  same_before j k e = elim (look j) [
-    | inl n ↦ elim (look k) [
-      | inl m ↦
-          let first = tokens_kept a members name r h spells keeps u i n.token (j, n.there) in
-          let second = tokens_kept a members name r h spells keeps u i m.token (k, m.there) in
-          let kept = occurring_are_kept a members name r h spells in
-          old_at j n.token n.there
-          ∙ kept.apart n.token m.token first.occurring second.occurring n.named m.named (sym (new_at j n.token n.there) ∙ e ∙ new_at k m.token m.there)
-          ∙ sym (old_at k m.token m.there)
-      | inr s ↦ absurd (never j k n s e)
-    ]
-    | inr s ↦ elim (look k) [
-      | inl m ↦ absurd (never k j m s (sym e))
-      | inr z ↦ sym s.same ∙ e ∙ z.same
-    ]
+  same_before : (j k : ℕ) → NameAt k → spelling_at new j ≡ spelling_at new k → spelling_at old j ≡ spelling_at old k
+  same_before j k m e = elim (look j) [
+    | inl n ↦
+        let first = tokens_kept a members name r h spells keeps u i n.token (j, n.there) in
+        let second = tokens_kept a members name r h spells keeps u i m.token (k, m.there) in
+        let kept = occurring_are_kept a members name r h spells in
+        old_at j n.token n.there
+        ∙ kept.apart n.token m.token first.occurring second.occurring n.named m.named (sym (new_at j n.token n.there) ∙ e ∙ new_at k m.token m.there)
+        ∙ sym (old_at k m.token m.there)
+    | inr s ↦ absurd (never k j m s (sym e))
   ]
 
-  pub apart_kept : (j k : ℕ) → alike new j k ≡ true → alike old j k ≡ true
-  apart_kept j k same = alike_from (spelling_at old j) (spelling_at old k) (same_before j k (bytes_eq-equal (spelling_at new j) (spelling_at new k) same))
+  -- no token gets the spelling of an identifier that it had not
+  pub apart_kept : (k : ℕ) → NameAt k → StaysApart old new k
+  apart_kept k m = λ j same. alike_from (spelling_at old j) (spelling_at old k) (same_before j k m (bytes_eq-equal (spelling_at new j) (spelling_at new k) same))
 
   pub as_long : length new ≡ length old
   as_long = length-map old (renamed r)

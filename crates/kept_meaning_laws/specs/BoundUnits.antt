@@ -22,8 +22,8 @@ abbrev pub UnitsBindAsBefore : Type 0
 UnitsBindAsBefore = (a : Analysed) (members : List Part) (name : List ℕ) → IsAllowed a members name → (u : UnitAnalysis) → IsIn a.value.units u
     → binding_of (map (renamed (renaming a.value members name u.text)) u.text.toks) u.tree ≡ Ok u.bound
 
--- The law: and they are a renaming of the text of the unit: the words that binding asks for stay, tokens that are spelled
--- apart stay apart, and all names of an entity go together.
+-- The law: and they are a renaming of the text of the unit: the words that binding asks for stay, no token gets the spelling
+-- of a name that it had not, and all names of an entity go together.
 abbrev pub UnitsAreRenamedWhole : Type 0
 UnitsAreRenamedWhole = (a : Analysed) (members : List Part) (name : List ℕ) (r : Renaming) → IsAllowed a members name → Spells members name r → KeepsUnedited r
     → (u : UnitAnalysis) → IsIn a.value.units u → NamesAreRenamed u.text.toks (map (renamed r) u.text.toks) u.bound.names

@@ -14,6 +14,7 @@ use Rattle.rename_rules.specs.Below.part_respell.Respelled.{spelled}
 use Rattle.rename_rules.specs.Below.ws_core.Analysed.{Analysed}
 use Rattle.rename_rules.specs.Tokens.{holds_member}
 use Rattle.edited_unit_laws.specs.Lines.{Each, KeepsToken}
+use Rattle.edited_unit_laws.proofs.FitLemmas.{fixed-other}
 use Rattle.no_offence_laws.specs.Allowed.{IsAllowed}
 use Rattle.no_offence_laws.specs.KeptTokens.{Spells, TokensAreKept, PastedTokensAreKept}
 use Rattle.no_offence_laws.proofs.ListLemmas.{In}
@@ -69,7 +70,7 @@ module _ (a : Analysed) (members : List Part) (name : List ℕ) (r : Renaming) (
   pub told_kept : (t : Token) → IsParted a.value members t → KeepsToken r t
   unfolding is_va_args
   told_kept t told = record {
-    others = other_same t told;
+    others = λ fixed. other_same t told (fixed-other t.kind fixed);
     asks = word_same (is_identifier t.kind) (bytes_eq (macros.spelled r t) (codes "defined")) (bytes_eq t.text (codes "defined")) (reserved_kept (codes "defined") t defined_reserved told);
     rest = word_same (is_identifier t.kind) (bytes_eq (macros.spelled r t) (codes "__VA_ARGS__")) (bytes_eq t.text (codes "__VA_ARGS__")) (reserved_kept (codes "__VA_ARGS__") t va_args_reserved told);
   }

@@ -15,8 +15,8 @@ use Rattle.no_offence_laws.specs.Spellings.{IsPasted}
 abbrev pub Spells : List Part → List ℕ → macros.Renaming → Type 0
 Spells members name r = (t : Token) → length t.origins ≡ length t.text → macros.spelled r t ≡ spelled members name t
 
--- The law: it keeps each token of each kept file: what is no identifier stays, and so do `defined` and `__VA_ARGS__`,
--- which no other token becomes.
+-- The law: it keeps each token of each kept file: what is neither an identifier nor a string literal stays, and so do
+-- `defined` and `__VA_ARGS__`, which no other token becomes.
 abbrev pub TokensAreKept : Type 0
 TokensAreKept = (a : Analysed) (members : List Part) (name : List ℕ) (r : macros.Renaming) → IsAllowed a members name → Spells members name r
     → (n : ℕ) (f : KeptValue) → kept_at a.value.table n ≡ Some f → Each (KeepsToken r) (tokens_of f.number f.bytes)

@@ -40,8 +40,8 @@ pub fn occurring_are_kept()
     ensures pasted { PastedTokensOccur }
 {}
 
-/// Each token of a kept file is kept, and each pasted one: what is no identifier stays, and so do `defined` and
-/// `__VA_ARGS__`.
+/// Each token of a kept file is kept, and each pasted one: what is neither an identifier nor a string literal stays, and so do
+/// `defined` and `__VA_ARGS__`.
 pub fn tokens_are_kept()
     ensures files { TokensAreKept }
     ensures pasted { PastedTokensAreKept }

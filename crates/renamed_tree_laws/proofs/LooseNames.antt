@@ -14,6 +14,7 @@ use Rattle.tree_laws.specs.Below.c_types.declared.lists.Range.{Range}
 use Rattle.tree_laws.specs.Below.c_types.Trees.{last_token, name_below}
 use Rattle.tree_laws.specs.Below.c_types.Declarations.{alike}
 use Rattle.tree_laws.proofs.Lookups.{false≢true, In, find_same, found_passes, found_in, any_none}
+use Rattle.tree_laws.specs.RenamedNames.{StaysApart}
 use Rattle.typedef_laws.proofs.Outline.{Entry, Outline, is_listing, stepped, copies, kept_entries, entries_in, begun, named_entries, in_declaration, in_parameter, entries_after, ended, outlined, is_open, typedef_among}
 use Rattle.renamed_tree_laws.specs.Loose.{is_hidden, StaysWhole}
 
@@ -76,20 +77,24 @@ module _ (std : Standard) where
 
   -- ---- A name that is asked for by itself
 
-  module _ (a b : List Token) (apart : (i j : ℕ) → alike b i j ≡ true → alike a i j ≡ true) (typedefs : List Range) where
-    -- each typedef name among the declarations has its range
-    abbrev pub Covered : List Entry → Type 0
-    Covered es = (e : Entry) → In e es → e.typedef ≡ true → In (range_of e) typedefs
+  module _ (a b : List Token) (typedefs : List Range) where
+    -- each typedef name among the declarations has its range, and no other token gets the spelling of a declared name
+    pub record IsCovered (e : Entry) : Type 0 where
+      pub ranged : e.typedef ≡ true → In (range_of e) typedefs
+      pub apart : StaysApart a b e.name_at
 
-    module _ (i : ℕ) (es : List Entry) where
+    abbrev pub Covered : List Entry → Type 0
+    Covered es = (e : Entry) → In e es → IsCovered e
+
+    module _ (i : ℕ) (es : List Entry) (covered : Covered es) where
       abbrev of_a : Entry → Bool
       of_a e = alike a i e.name_at && is_open i e
 
       abbrev of_b : Entry → Bool
       of_b e = alike b i e.name_at && is_open i e
 
-      stronger : (e : Entry) → of_b e ≡ true → of_a e ≡ true
-      stronger e h = and_from (alike a i e.name_at) (is_open i e) (apart i e.name_at ((and_parts (alike b i e.name_at) (is_open i e) h).0)) ((and_parts (alike b i e.name_at) (is_open i e) h).1)
+      stronger : (e : Entry) → In e es → of_b e ≡ true → of_a e ≡ true
+      stronger e w h = and_from (alike a i e.name_at) (is_open i e) ((covered e w).apart i ((and_parts (alike b i e.name_at) (is_open i e) h).0)) ((and_parts (alike b i e.name_at) (is_open i e) h).1)
 
       found_too : ((j : ℕ) → alike a i j ≡ true → alike b i j ≡ true) → (r : Option Entry) → find of_a es ≡ r → IfSome r (λ e. of_b e ≡ true)
       found_too stays None h = tt
@@ -102,11 +107,11 @@ module _ (std : Standard) where
       whole_same stays =
           ap (λ r. option_map_or (λ (e : Entry). e.typedef) r false) (find_same of_b of_a es (find of_a es) stronger refl (found_too stays (find of_a es) refl))
 
-      pub none_still : Covered es → StaysWhole a b typedefs i → not (typedef_among std a i es) ≡ true → not (typedef_among std b i es) ≡ true
-      none_still covered stays h = by (find of_b es) refl
+      pub none_still : StaysWhole a b typedefs i → not (typedef_among std a i es) ≡ true → not (typedef_among std b i es) ≡ true
+      none_still stays h = by (find of_b es) refl
         where
           hidden : (e : Entry) → find of_b es ≡ Some e → e.typedef ≡ true → list_any (is_hidden a i) typedefs ≡ true
-          hidden e f t = any_in (is_hidden a i) typedefs (range_of e) (covered e (found_in of_b es e f) t) (stronger e (found_passes of_b es e f))
+          hidden e f t = any_in (is_hidden a i) typedefs (range_of e) ((covered e (found_in of_b es e f)).ranged t) (stronger e (found_in of_b es e f) (found_passes of_b es e f))
 
           found : (e : Entry) (c : Bool) → find of_b es ≡ Some e → e.typedef ≡ c → not e.typedef ≡ true
           found e false f t = ap not t

@@ -13,7 +13,7 @@ pub mod NamesRead
 -- What the proofs of this crate rest on.
 mod InLists
 mod Noted
-mod Unnamed
+pub mod Unnamed
 mod Holding
 mod HeldTags
 mod HeldSteps

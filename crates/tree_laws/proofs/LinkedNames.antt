@@ -95,13 +95,14 @@ unfolding binding_of
 all_kept toks tree b e =
     let facts : Facts = facts_of toks tree.under in
     let clean : facts.fault ≡ None = no_fault tree.under facts facts.fault b e in
-    let good : Good toks facts = record {
+    let good : Good toks toks facts = record {
       clean = clean;
       good = λ o w. occurrences_alike toks tree o (among_in o facts.occurrences w);
+      apart = λ o w i same. same;
     } in
     let start : Kept toks (at_first (length toks)).facts = record { covered = λ d w u. absurd w; linked = λ d w. absurd w; one = λ i d x v w l m. absurd v } in
-    let follows : Follows toks toks (λ i j h. h) (λ word k h. refl) (walked toks tree.under (at_first (length toks))) (walked toks tree.under (at_first (length toks))) =
-    walked_same toks toks (λ i j h. h) (λ word k h. refl) tree.under (at_first (length toks)) start good in
+    let follows : Follows toks toks (λ word k h. refl) (walked toks tree.under (at_first (length toks))) (walked toks tree.under (at_first (length toks))) =
+    walked_same toks toks (λ word k h. refl) tree.under (at_first (length toks)) start good in
     follows.kept
 
 module _ (toks : List Token) (tree : Node) (t : IsTreeOf (length toks) tree) (kept : Kept toks (facts_of toks tree.under)) where

@@ -7,6 +7,8 @@ use Rattle.std.proofs.lemmas.Bool.{and_parts, and_from, or_parts, or_from}
 use Rattle.cs_base.specs.Token.{Token}
 use Rattle.scope_bind.specs.Named.{Space, Declaration}
 use Rattle.c_types.specs.Declarations.{is_space, Facts, spelling_at, alike, is_named, looked_up}
+use Rattle.tree_laws.specs.RenamedNames.{StaysApart}
+use Rattle.tree_laws.proofs.Unnamed.{is_unnamed, found_named}
 
 -- ---- Tests
 
@@ -32,13 +34,13 @@ find_step false true x fq fp r sub e hit rest = absurd (false≢true (hit (sym e
 find_step false false x fq fp r sub e hit rest = rest e
 
 -- a stronger test finds the same where what is found passes it
-pub find_same : {X : Type 0} (q p : X → Bool) (xs : List X) (r : Option X) → ((x : X) → q x ≡ true → p x ≡ true) → find p xs ≡ r
+pub find_same : {X : Type 0} (q p : X → Bool) (xs : List X) (r : Option X) → ((x : X) → In x xs → q x ≡ true → p x ≡ true) → find p xs ≡ r
     → IfSome r (λ x. q x ≡ true) → find q xs ≡ r
 find_same q p [] r sub e passes = e
 find_same {X} q p (x ∷ xs) r sub e passes =
-    find_step (q x) (p x) x (find q xs) (find p xs) r (sub x) e
+    find_step (q x) (p x) x (find q xs) (find p xs) r (sub x (inl refl)) e
     (λ f. let P : Option X → Type 0 = λ o. IfSome o (λ y. q y ≡ true) in subst P f passes)
-    (λ f. find_same q p xs r sub f passes)
+    (λ f. find_same q p xs r (λ y w. sub y (inr w)) f passes)
 
 found_step : {X : Type 0} (p : X → Bool) (b : Bool) (x y : X) (fp : Option X) → p x ≡ b → cond b (Some x) fp ≡ Some y
     → (fp ≡ Some y → p y ≡ true) → p y ≡ true
@@ -71,11 +73,11 @@ none_passes p [] y f within = absurd within
 none_passes p (x ∷ xs) y f within = none_step p (p x) x y (find p xs) xs refl f (none_passes p xs y) within
 
 -- a stronger test holds of none where a weaker one does
-pub any_same : {X : Type 0} (q p : X → Bool) (xs : List X) → ((x : X) → q x ≡ true → p x ≡ true) → list_any p xs ≡ false → list_any q xs ≡ false
+pub any_same : {X : Type 0} (q p : X → Bool) (xs : List X) → ((x : X) → In x xs → q x ≡ true → p x ≡ true) → list_any p xs ≡ false → list_any q xs ≡ false
 any_same q p [] sub e = e
 any_same q p (x ∷ xs) sub e =
-    or_from (q x) (list_any q xs) (not_true (q x) (p x) (sub x) ((or_parts (p x) (list_any p xs) e).0))
-    (any_same q p xs sub ((or_parts (p x) (list_any p xs) e).1))
+    or_from (q x) (list_any q xs) (not_true (q x) (p x) (sub x (inl refl)) ((or_parts (p x) (list_any p xs) e).0))
+    (any_same q p xs (λ y w. sub y (inr w)) ((or_parts (p x) (list_any p xs) e).1))
 
 any_in_step : {X : Type 0} (p : X → Bool) (x y : X) (xs : List X) → p x ≡ false → (In y xs → p y ≡ false) → In y (x ∷ xs) → p y ≡ false
 any_in_step p x y xs e rest (inl s) = subst (λ z. p z ≡ false) s e
@@ -109,11 +111,17 @@ and3_with true true y t h e = and_from y t e h
 and3_with true false y t h e = absurd (false≢true h)
 and3_with false x y t h e = h
 
-module _ (a b : List Token) (apart : (i j : ℕ) → alike b i j ≡ true → alike a i j ≡ true) where
-  pub named_apart : (space : Space) (i : ℕ) (test : Declaration → Bool) (d : Declaration)
+module _ (a b : List Token) where
+  -- each of these declarations that has a name stays apart
+  abbrev pub StandApart : List Declaration → Type 0
+  StandApart ds = (d : Declaration) → In d ds → is_unnamed d.space ≡ false → StaysApart a b d.name_at
+
+  pub named_apart : (ds : List Declaration) → StandApart ds → (space : Space) (i : ℕ) (test : Declaration → Bool) (d : Declaration) → In d ds
       → (is_named b space i d && test d) ≡ true → (is_named a space i d && test d) ≡ true
-  named_apart space i test d h =
-      and3_mono (is_space d.space space) (alike a i d.name_at) (alike b i d.name_at) (test d) (apart i d.name_at) h
+  named_apart ds apart space i test d within h =
+      let named : is_named b space i d ≡ true = (and_parts (is_named b space i d) (test d) h).0 in
+      let has : is_unnamed d.space ≡ false = found_named d.space space ((and_parts (is_space d.space space) (alike b i d.name_at) named).0) in
+      and3_mono (is_space d.space space) (alike a i d.name_at) (alike b i d.name_at) (test d) (apart d within has i) h
 
   passes_too : (space : Space) (i : ℕ) (test : Declaration → Bool) (facts : Facts) (r : Option Declaration) → looked_up a space i test facts ≡ r
       → IfSome r (λ d. alike b i d.name_at ≡ true) → IfSome r (λ d. (is_named b space i d && test d) ≡ true)
@@ -123,8 +131,8 @@ module _ (a b : List Token) (apart : (i j : ℕ) → alike b i j ≡ true → al
       (found_passes (λ d. is_named a space i d && test d) facts.declared d e) h
 
   -- a look-up finds the same where the name that it finds is still spelled alike
-  pub looked_up_same : (space : Space) (i : ℕ) (test : Declaration → Bool) (facts : Facts) (r : Option Declaration) → looked_up a space i test facts ≡ r
+  pub looked_up_same : (space : Space) (i : ℕ) (test : Declaration → Bool) (facts : Facts) (r : Option Declaration) → StandApart facts.declared → looked_up a space i test facts ≡ r
       → IfSome r (λ d. alike b i d.name_at ≡ true) → looked_up b space i test facts ≡ r
-  looked_up_same space i test facts r e h =
+  looked_up_same space i test facts r apart e h =
       find_same (λ d. is_named b space i d && test d) (λ d. is_named a space i d && test d) facts.declared r
-      (named_apart space i test) e (passes_too space i test facts r e h)
+      (named_apart facts.declared apart space i test) e (passes_too space i test facts r e h)

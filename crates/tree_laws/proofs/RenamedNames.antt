@@ -8,8 +8,8 @@ use Rattle.c_types.specs.declared.entity.Linkage.{Linkage}
 use Rattle.scope_bind.specs.Named.{Declaration, Declared, Scope, undeclared, redeclared, mixed_linkage, ordinary}
 use Rattle.c_types.specs.Declarations.{is_space, Facts, has_linkage, is_linkage, is_live, with_fault, with_declaration, alike, is_named, looked_up, visible, in_scope, linked, is_mixed}
 use Rattle.scope_bind.specs.Ordinary.{is_again, linked_entity, entity_of, is_listed, declaration_of, declared_faults, declared_after, declared, used_as, used}
-use Rattle.tree_laws.proofs.Lookups.{false≢true, In, found_passes, found_in, none_passes, any_same, alike_same, alike_turned, named_apart}
-use Rattle.tree_laws.proofs.Renaming.{Good, Kept, IsLinked, Joins, fault_back, fault_goes, fault_none, occurrence_back, occurrence_good, declaration_back, declaration_good, kept_declaration, kept_occurrence, found_again}
+use Rattle.tree_laws.proofs.Lookups.{StandApart, false≢true, In, found_passes, found_in, none_passes, any_same, alike_same, alike_turned, named_apart}
+use Rattle.tree_laws.proofs.Renaming.{Good, Kept, IsLinked, Joins, fault_back, fault_goes, fault_none, occurrence_back, occurrence_good, declaration_back, declaration_good, kept_declaration, kept_occurrence, stand_apart, found_again}
 
 pub if_true : {A : Type 0} (c : Bool) (x y : A) → c ≡ true → (if c then x else y) ≡ x
 if_true true x y e = refl
@@ -79,32 +79,32 @@ module _ (a : List Token) (n : Declared) (facts : Facts) (k : Kept a facts) wher
 
 -- nothing stands against the declaration
 pub record IsClear (a b : List Token) (n : Declared) (r : Option Declaration) (facts : Facts) : Type 0 where
-  pub before : Good b facts
+  pub before : Good a b facts
   pub listed : (n.listing && not (is_listed n r)) ≡ false
   pub again : option_map_or (λ d. not (is_again n d)) r false ≡ false
   pub unmixed : (has_linkage n.linkage && is_mixed a n.linkage n.name_at facts) ≡ false
 
-module _ (a b : List Token) (apart : (i j : ℕ) → alike b i j ≡ true → alike a i j ≡ true) where
-  pub cleared : (n : Declared) (r : Option Declaration) (facts : Facts) → Good b (declared_faults a n r facts) → IsClear a b n r facts
+module _ (a b : List Token) where
+  pub cleared : (n : Declared) (r : Option Declaration) (facts : Facts) → Good a b (declared_faults a n r facts) → IsClear a b n r facts
   cleared n r facts h =
       let mixed : Bool = has_linkage n.linkage && is_mixed a n.linkage n.name_at facts in
       let third : Facts = with_fault mixed mixed_linkage n.name_at facts in
       let again : Bool = option_map_or (λ d. not (is_again n d)) r false in
       let second : Facts = with_fault again redeclared n.name_at third in
       let listed : Bool = n.listing && not (is_listed n r) in
-      let h2 : Good b second = fault_goes b listed undeclared n.name_at second h in
-      let h3 : Good b third = fault_goes b again redeclared n.name_at third h2 in
+      let h2 : Good a b second = fault_goes a b listed undeclared n.name_at second h in
+      let h3 : Good a b third = fault_goes a b again redeclared n.name_at third h2 in
       record {
-        before = fault_goes b mixed mixed_linkage n.name_at facts h3;
-        listed = fault_back b listed undeclared n.name_at second h;
-        again = fault_back b again redeclared n.name_at third h2;
-        unmixed = fault_back b mixed mixed_linkage n.name_at facts h3;
+        before = fault_goes a b mixed mixed_linkage n.name_at facts h3;
+        listed = fault_back a b listed undeclared n.name_at second h;
+        again = fault_back a b again redeclared n.name_at third h2;
+        unmixed = fault_back a b mixed mixed_linkage n.name_at facts h3;
       }
 
-  unmixed_at : (c : Bool) (linkage : Linkage) (i : ℕ) (facts : Facts) → (c && is_mixed a linkage i facts) ≡ false → (c && is_mixed b linkage i facts) ≡ false
-  unmixed_at true linkage i facts e =
-      any_same _ _ facts.declared (named_apart a b apart ordinary i (λ d. has_linkage d.linkage && not (is_linkage d.linkage linkage))) e
-  unmixed_at false linkage i facts e = e
+  unmixed_at : (c : Bool) (linkage : Linkage) (i : ℕ) (facts : Facts) → StandApart a b facts.declared → (c && is_mixed a linkage i facts) ≡ false → (c && is_mixed b linkage i facts) ≡ false
+  unmixed_at true linkage i facts apart e =
+      any_same _ _ facts.declared (named_apart a b facts.declared apart ordinary i (λ d. has_linkage d.linkage && not (is_linkage d.linkage linkage))) e
+  unmixed_at false linkage i facts apart e = e
 
   faults_none : (toks : List Token) (n : Declared) (r : Option Declaration) (facts : Facts) → (n.listing && not (is_listed n r)) ≡ false
       → option_map_or (λ d. not (is_again n d)) r false ≡ false → (has_linkage n.linkage && is_mixed toks n.linkage n.name_at facts) ≡ false
@@ -124,13 +124,13 @@ module _ (a b : List Token) (apart : (i j : ℕ) → alike b i j ≡ true → al
     abbrev new_one : Declaration
     new_one = declaration_of scope n (entity_of n prior link) (n.listed || is_listed n prior)
 
-    pub declared_clear : Good b (declared a scope n facts) → IsClear a b n prior facts
-    declared_clear h = cleared n prior facts (declaration_back b new_one (declared_faults a n prior facts) h)
+    pub declared_clear : Good a b (declared a scope n facts) → IsClear a b n prior facts
+    declared_clear h = cleared n prior facts (declaration_back a b new_one (declared_faults a n prior facts) h)
 
-    entity_good : Good b (declared a scope n facts) → alike b n.name_at (entity_of n prior link) ≡ true
-    entity_good h = declaration_good b new_one (declared_faults a n prior facts) h
+    entity_good : Good a b (declared a scope n facts) → alike b n.name_at (entity_of n prior link) ≡ true
+    entity_good h = declaration_good a b new_one (declared_faults a n prior facts) h
 
-    pub declared_back : Good b (declared a scope n facts) → Good b facts
+    pub declared_back : Good a b (declared a scope n facts) → Good a b facts
     declared_back h = (declared_clear h).before
 
     clear_is : IsClear a b n prior facts → declared_faults a n prior facts ≡ facts
@@ -142,30 +142,30 @@ module _ (a b : List Token) (apart : (i j : ℕ) → alike b i j ≡ true → al
         joined a n facts k prior link (λ d. is_live n.last d && (d.depth == scope.depth)) refl refl c.again
         ((and_parts (alike a i n.name_at) (has_linkage n.linkage) l).1) e within (relinked a i n.name_at e named m)
 
-    pub declared_kept : Kept a facts → Good b (declared a scope n facts) → Kept a (declared a scope n facts)
+    pub declared_kept : Kept a facts → Good a b (declared a scope n facts) → Kept a (declared a scope n facts)
     declared_kept k h =
         let c : IsClear a b n prior facts = declared_clear h in
         subst (λ x. Kept a (with_declaration new_one x)) (sym (clear_is c)) (kept_declaration a new_one facts k (λ e. refl) (joins_new k c))
 
-    prior_same : Kept a facts → Good b (declared a scope n facts) → in_scope b ordinary scope.depth n.name_at n.last facts ≡ prior
+    prior_same : Kept a facts → Good a b (declared a scope n facts) → in_scope b ordinary scope.depth n.name_at n.last facts ≡ prior
     prior_same k h =
-        found_again a b apart facts k (declared_back h) ordinary n.name_at (λ d. is_live n.last d && (d.depth == scope.depth))
+        found_again a b facts k (declared_back h) ordinary n.name_at (λ d. is_live n.last d && (d.depth == scope.depth))
         (again_entity b n prior link (declared_clear h).again (entity_good h))
 
-    link_same : Kept a facts → Good b (declared a scope n facts) → (prior ≡ None) → linked_entity n (linked b n.name_at facts) ≡ linked_entity n link
+    link_same : Kept a facts → Good a b (declared a scope n facts) → (prior ≡ None) → linked_entity n (linked b n.name_at facts) ≡ linked_entity n link
     link_same k h none = elim (cases_Bool (has_linkage n.linkage)) [
       | inl yes' ↦
           ap (linked_entity n)
-          (found_again a b apart facts k (declared_back h) ordinary n.name_at (λ d. has_linkage d.linkage)
+          (found_again a b facts k (declared_back h) ordinary n.name_at (λ d. has_linkage d.linkage)
           (linked_entity_alike b n link yes' (subst (λ r. alike b n.name_at (entity_of n r link) ≡ true) none (entity_good h))))
       | inr no' ↦ unlinked_entity n (linked b n.name_at facts) no' ∙ sym (unlinked_entity n link no')
     ]
 
-    pub declared_same : Kept a facts → Good b (declared a scope n facts) → declared b scope n facts ≡ declared a scope n facts
+    pub declared_same : Kept a facts → Good a b (declared a scope n facts) → declared b scope n facts ≡ declared a scope n facts
     declared_same k h =
         let c : IsClear a b n prior facts = declared_clear h in
         let faults : declared_faults b n prior facts ≡ declared_faults a n prior facts =
-        faults_none b n prior facts c.listed c.again (unmixed_at (has_linkage n.linkage) n.linkage n.name_at facts c.unmixed) ∙ sym (clear_is c) in
+        faults_none b n prior facts c.listed c.again (unmixed_at (has_linkage n.linkage) n.linkage n.name_at facts (stand_apart a b facts k (declared_back h)) c.unmixed) ∙ sym (clear_is c) in
         ap (λ r. declared_after b scope n r facts) (prior_same k h)
         ∙ (ap (λ e. with_declaration (declaration_of scope n e (n.listed || is_listed n prior)) (declared_faults b n prior facts))
         (entity_same n prior (linked b n.name_at facts) link c.again (link_same k h))
@@ -173,19 +173,19 @@ module _ (a b : List Token) (apart : (i j : ℕ) → alike b i j ≡ true → al
 
   -- ---- Uses
 
-  pub used_back : (i : ℕ) (r : Option Declaration) (facts : Facts) → Good b (used_as a i r facts) → Good b facts
-  used_back i None facts h = fault_goes b true undeclared i facts h
-  used_back i (Some d) facts h = occurrence_back b i d.entity false facts h
+  pub used_back : (i : ℕ) (r : Option Declaration) (facts : Facts) → Good a b (used_as a i r facts) → Good a b facts
+  used_back i None facts h = fault_goes a b true undeclared i facts h
+  used_back i (Some d) facts h = occurrence_back a b i d.entity false facts h
 
-  used_entity : (i : ℕ) (r : Option Declaration) (facts : Facts) → Good b (used_as a i r facts) → IfSome r (λ d. alike b i d.entity ≡ true)
+  used_entity : (i : ℕ) (r : Option Declaration) (facts : Facts) → Good a b (used_as a i r facts) → IfSome r (λ d. alike b i d.entity ≡ true)
   used_entity i None facts h = tt
-  used_entity i (Some d) facts h = occurrence_good b i d.entity false facts h
+  used_entity i (Some d) facts h = occurrence_good a b i d.entity false facts h
 
-  pub used_kept : (i : ℕ) (r : Option Declaration) (facts : Facts) → Kept a facts → Good b (used_as a i r facts) → Kept a (used_as a i r facts)
-  used_kept i None facts k h = absurd (false≢true (sym (fault_back b true undeclared i facts h)))
+  pub used_kept : (i : ℕ) (r : Option Declaration) (facts : Facts) → Kept a facts → Good a b (used_as a i r facts) → Kept a (used_as a i r facts)
+  used_kept i None facts k h = absurd (false≢true (sym (fault_back a b true undeclared i facts h)))
   used_kept i (Some d) facts k h = kept_occurrence a i d.entity false facts k
 
-  pub used_visible : (i : ℕ) (facts : Facts) → Kept a facts → Good b (used a i facts) → visible b ordinary i i facts ≡ visible a ordinary i i facts
+  pub used_visible : (i : ℕ) (facts : Facts) → Kept a facts → Good a b (used a i facts) → visible b ordinary i i facts ≡ visible a ordinary i i facts
   used_visible i facts k h =
-      found_again a b apart facts k (used_back i (visible a ordinary i i facts) facts h) ordinary i (is_live i)
+      found_again a b facts k (used_back i (visible a ordinary i i facts) facts h) ordinary i (is_live i)
       (used_entity i (visible a ordinary i i facts) facts h)

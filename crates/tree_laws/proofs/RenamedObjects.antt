@@ -12,8 +12,8 @@ use Rattle.scope_bind.specs.Named.{Declaration, Declared, Frame, ordinary}
 use Rattle.c_types.specs.Declarations.{Facts, has_linkage, is_linkage, is_live, alike, is_named, visible, in_scope, linked, is_mixed}
 use Rattle.scope_bind.specs.Linkage.{prior_linkage, follows_prior, own_linkage}
 use Rattle.scope_bind.specs.Ordinary.{entity_of, declared, declaration_of, is_listed, declared_faults, new_linkage, new_object, with_object, new_parameter, with_parameter}
-use Rattle.tree_laws.proofs.Lookups.{false≢true, In, found_passes, found_in, any_none, named_apart}
-use Rattle.tree_laws.proofs.Renaming.{Good, Kept, IsLinked, declaration_good, found_again}
+use Rattle.tree_laws.proofs.Lookups.{StandApart, false≢true, In, found_passes, found_in, any_none, named_apart}
+use Rattle.tree_laws.proofs.Renaming.{Good, Kept, IsLinked, declaration_good, stand_apart, found_again}
 use Rattle.tree_laws.proofs.RenamedNames.{if_true, joined, IsClear, declared_clear, declared_back, declared_kept, declared_same}
 
 pub if_false : {A : Type 0} (c : Bool) (x y : A) → c ≡ false → (if c then x else y) ≡ y
@@ -38,15 +38,16 @@ not_both true true false e f g = absurd (false≢true (sym e))
 not_both true false r e f g = absurd (false≢true g)
 not_both false q r e f g = absurd (false≢true f)
 
-module _ (a b : List Token) (apart : (i j : ℕ) → alike b i j ≡ true → alike a i j ≡ true) where
+module _ (a b : List Token) where
   -- where no declaration of the spelling has the other linkage, what the new text finds is external too
-  external_at : (i last : ℕ) (facts : Facts) (r : Option Declaration) → visible b ordinary i last facts ≡ r → is_mixed a External i facts ≡ false
+  external_at : (i last : ℕ) (facts : Facts) → StandApart a b facts.declared → (r : Option Declaration) → visible b ordinary i last facts ≡ r → is_mixed a External i facts ≡ false
       → prior_linkage r ≡ External
-  external_at i last facts None e unmixed = refl
-  external_at i last facts (Some q) e unmixed = elim (cases_Bool (has_linkage q.linkage)) [
+  external_at i last facts apart None e unmixed = refl
+  external_at i last facts apart (Some q) e unmixed = elim (cases_Bool (has_linkage q.linkage)) [
     | inl h ↦
         let found : (is_named a ordinary i q && is_live last q) ≡ true =
-        named_apart a b apart ordinary i (is_live last) q (found_passes (λ d. is_named b ordinary i d && is_live last d) facts.declared q e) in
+        named_apart a b facts.declared apart ordinary i (is_live last) q (found_in (λ d. is_named b ordinary i d && is_live last d) facts.declared q e)
+        (found_passes (λ d. is_named b ordinary i d && is_live last d) facts.declared q e) in
         if_true (has_linkage q.linkage) q.linkage External h
         ∙ external_is q.linkage (not_both (is_named a ordinary i q) (has_linkage q.linkage) (is_linkage q.linkage External)
         (any_none (λ d. is_named a ordinary i d && (has_linkage d.linkage && not (is_linkage d.linkage External))) facts.declared q unmixed
@@ -58,10 +59,10 @@ module _ (a b : List Token) (apart : (i j : ℕ) → alike b i j ≡ true → al
   abbrev EntitiesAlike : ℕ → Facts → Type 0
   EntitiesAlike i facts = (e : Declaration) → In e facts.declared → IsLinked a i e → alike b i e.entity ≡ true
 
-  prior_same : (i last : ℕ) (facts : Facts) → Kept a facts → Good b facts → EntitiesAlike i facts → (r : Option Declaration)
+  prior_same : (i last : ℕ) (facts : Facts) → Kept a facts → Good a b facts → EntitiesAlike i facts → (r : Option Declaration)
       → visible a ordinary i last facts ≡ r → is_mixed a (prior_linkage r) i facts ≡ false
       → prior_linkage (visible b ordinary i last facts) ≡ prior_linkage r
-  prior_same i last facts k g alike_all None e unmixed = external_at i last facts (visible b ordinary i last facts) refl unmixed
+  prior_same i last facts k g alike_all None e unmixed = external_at i last facts (stand_apart a b facts k g) (visible b ordinary i last facts) refl unmixed
   prior_same i last facts k g alike_all (Some p) e unmixed = elim (cases_Bool (has_linkage p.linkage)) [
     | inl h ↦
         let named : is_named a ordinary i p ≡ true =
@@ -70,39 +71,39 @@ module _ (a b : List Token) (apart : (i j : ℕ) → alike b i j ≡ true → al
         alike_all p (found_in (λ d. is_named a ordinary i d && is_live last d) facts.declared p e)
         (and_from (is_named a ordinary i p) (has_linkage p.linkage) named h) in
         let P : Option Declaration → Type 0 = λ o. IfSome o (λ d. alike b i d.entity ≡ true) in
-        ap prior_linkage (found_again a b apart facts k g ordinary i (is_live last) (subst P (sym e) entity) ∙ e)
+        ap prior_linkage (found_again a b facts k g ordinary i (is_live last) (subst P (sym e) entity) ∙ e)
     | inr h ↦
         let other : prior_linkage (Some p) ≡ External = if_false (has_linkage p.linkage) p.linkage External h in
-        external_at i last facts (visible b ordinary i last facts) refl (ap (λ l. is_mixed a l i facts) (sym other) ∙ unmixed) ∙ sym other
+        external_at i last facts (stand_apart a b facts k g) (visible b ordinary i last facts) refl (ap (λ l. is_mixed a l i facts) (sym other) ∙ unmixed) ∙ sym other
   ]
 
   module _ (f : Frame) (i last : ℕ) (t : CType) (facts : Facts) where
     abbrev n : Declared
     n = new_object a f i last t facts
 
-    entities : Kept a facts → Good b (declared a f.scope n facts) → has_linkage n.linkage ≡ true → EntitiesAlike i facts
+    entities : Kept a facts → Good a b (declared a f.scope n facts) → has_linkage n.linkage ≡ true → EntitiesAlike i facts
     entities k h hl e within link =
-        let c : IsClear a b n (in_scope a ordinary f.scope.depth i last facts) facts = declared_clear a b apart f.scope n facts h in
+        let c : IsClear a b n (in_scope a ordinary f.scope.depth i last facts) facts = declared_clear a b f.scope n facts h in
         subst (λ x. alike b i x ≡ true)
         (joined a n facts k (in_scope a ordinary f.scope.depth i last facts) (linked a i facts)
         (λ d. is_live last d && (d.depth == f.scope.depth)) refl refl c.again hl e within link)
-        (declaration_good b
+        (declaration_good a b
         (declaration_of f.scope n (entity_of n (in_scope a ordinary f.scope.depth i last facts) (linked a i facts))
         (n.listed || is_listed n (in_scope a ordinary f.scope.depth i last facts)))
         (declared_faults a n (in_scope a ordinary f.scope.depth i last facts) facts) h)
 
-    unmixed_prior : Good b (declared a f.scope n facts) → n.linkage ≡ prior_linkage (visible a ordinary i last facts)
+    unmixed_prior : Good a b (declared a f.scope n facts) → n.linkage ≡ prior_linkage (visible a ordinary i last facts)
         → is_mixed a (prior_linkage (visible a ordinary i last facts)) i facts ≡ false
     unmixed_prior h e =
-        let c : IsClear a b n (in_scope a ordinary f.scope.depth i last facts) facts = declared_clear a b apart f.scope n facts h in
+        let c : IsClear a b n (in_scope a ordinary f.scope.depth i last facts) facts = declared_clear a b f.scope n facts h in
         let both : (has_linkage (prior_linkage (visible a ordinary i last facts)) && is_mixed a (prior_linkage (visible a ordinary i last facts)) i facts) ≡ false =
         ap (λ l. has_linkage l && is_mixed a l i facts) (sym e) ∙ c.unmixed in
         sym (ap (λ p. p && is_mixed a (prior_linkage (visible a ordinary i last facts)) i facts) (prior_has (visible a ordinary i last facts))) ∙ both
 
-    followed : Kept a facts → Good b (declared a f.scope n facts) → n.linkage ≡ prior_linkage (visible a ordinary i last facts)
+    followed : Kept a facts → Good a b (declared a f.scope n facts) → n.linkage ≡ prior_linkage (visible a ordinary i last facts)
         → prior_linkage (visible b ordinary i last facts) ≡ prior_linkage (visible a ordinary i last facts)
     followed k h e =
-        prior_same i last facts k (declared_back a b apart f.scope n facts h)
+        prior_same i last facts k (declared_back a b f.scope n facts h)
         (entities k h (ap has_linkage e ∙ prior_has (visible a ordinary i last facts)))
         (visible a ordinary i last facts) refl (unmixed_prior h e)
 
@@ -115,48 +116,48 @@ module _ (a b : List Token) (apart : (i j : ℕ) → alike b i j ≡ true → al
     linkage_at false true own h e = h e
     linkage_at false false own h e = refl
 
-    linkage_same : Kept a facts → Good b (declared a f.scope n facts) → new_linkage b f i last t facts ≡ new_linkage a f i last t facts
+    linkage_same : Kept a facts → Good a b (declared a f.scope n facts) → new_linkage b f i last t facts ≡ new_linkage a f i last t facts
     linkage_same k h =
         linkage_at (f.words.has_typedef || f.listing) (follows_prior f.scope.depth (is_function t) f.words) (own_linkage f.scope.depth f.words)
         (followed k h) refl
 
-    pub object_same : Kept a facts → Good b (declared a f.scope n facts)
+    pub object_same : Kept a facts → Good a b (declared a f.scope n facts)
         → declared b f.scope (new_object b f i last t facts) facts ≡ declared a f.scope n facts
     object_same k h =
         ap (λ l. declared b f.scope (record n { linkage = l }) facts) (linkage_same k h)
-        ∙ declared_same a b apart f.scope n facts k h
+        ∙ declared_same a b f.scope n facts k h
 
   -- ---- Declarators
 
-  pub with_object_back : (f : Frame) (under : Forest) (name : Option ℕ) (facts : Facts) → Good b (with_object a f under name facts) → Good b facts
+  pub with_object_back : (f : Frame) (under : Forest) (name : Option ℕ) (facts : Facts) → Good a b (with_object a f under name facts) → Good a b facts
   with_object_back f under None facts h = h
   with_object_back f under (Some i) facts h =
-      declared_back a b apart f.scope (n f i (last_token under i) (declarator_type f.base under) facts) facts h
+      declared_back a b f.scope (n f i (last_token under i) (declarator_type f.base under) facts) facts h
 
-  pub with_object_kept : (f : Frame) (under : Forest) (name : Option ℕ) (facts : Facts) → Kept a facts → Good b (with_object a f under name facts)
+  pub with_object_kept : (f : Frame) (under : Forest) (name : Option ℕ) (facts : Facts) → Kept a facts → Good a b (with_object a f under name facts)
       → Kept a (with_object a f under name facts)
   with_object_kept f under None facts k h = k
   with_object_kept f under (Some i) facts k h =
-      declared_kept a b apart f.scope (n f i (last_token under i) (declarator_type f.base under) facts) facts k h
+      declared_kept a b f.scope (n f i (last_token under i) (declarator_type f.base under) facts) facts k h
 
-  pub with_object_same : (f : Frame) (under : Forest) (name : Option ℕ) (facts : Facts) → Kept a facts → Good b (with_object a f under name facts)
+  pub with_object_same : (f : Frame) (under : Forest) (name : Option ℕ) (facts : Facts) → Kept a facts → Good a b (with_object a f under name facts)
       → with_object b f under name facts ≡ with_object a f under name facts
   with_object_same f under None facts k h = refl
   with_object_same f under (Some i) facts k h = object_same f i (last_token under i) (declarator_type f.base under) facts k h
 
-  pub with_parameter_back : (f : Frame) (under : Forest) (name : Option ℕ) (facts : Facts) → Good b (with_parameter a f under name facts) → Good b facts
+  pub with_parameter_back : (f : Frame) (under : Forest) (name : Option ℕ) (facts : Facts) → Good a b (with_parameter a f under name facts) → Good a b facts
   with_parameter_back f under None facts h = h
   with_parameter_back f under (Some i) facts h =
-      declared_back a b apart f.scope (new_parameter a f i (last_token under i) (declarator_type f.base under)) facts h
+      declared_back a b f.scope (new_parameter a f i (last_token under i) (declarator_type f.base under)) facts h
 
-  pub with_parameter_kept : (f : Frame) (under : Forest) (name : Option ℕ) (facts : Facts) → Kept a facts → Good b (with_parameter a f under name facts)
+  pub with_parameter_kept : (f : Frame) (under : Forest) (name : Option ℕ) (facts : Facts) → Kept a facts → Good a b (with_parameter a f under name facts)
       → Kept a (with_parameter a f under name facts)
   with_parameter_kept f under None facts k h = k
   with_parameter_kept f under (Some i) facts k h =
-      declared_kept a b apart f.scope (new_parameter a f i (last_token under i) (declarator_type f.base under)) facts k h
+      declared_kept a b f.scope (new_parameter a f i (last_token under i) (declarator_type f.base under)) facts k h
 
-  pub with_parameter_same : (f : Frame) (under : Forest) (name : Option ℕ) (facts : Facts) → Kept a facts → Good b (with_parameter a f under name facts)
+  pub with_parameter_same : (f : Frame) (under : Forest) (name : Option ℕ) (facts : Facts) → Kept a facts → Good a b (with_parameter a f under name facts)
       → with_parameter b f under name facts ≡ with_parameter a f under name facts
   with_parameter_same f under None facts k h = refl
   with_parameter_same f under (Some i) facts k h =
-      declared_same a b apart f.scope (new_parameter a f i (last_token under i) (declarator_type f.base under)) facts k h
+      declared_same a b f.scope (new_parameter a f i (last_token under i) (declarator_type f.base under)) facts k h

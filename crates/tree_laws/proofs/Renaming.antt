@@ -8,15 +8,17 @@ use Rattle.c_types.specs.Faults.{first_fault, comes_first}
 use Rattle.c_types.specs.Declarations.{Facts, has_linkage, with_fault, with_occurrence, with_declaration, is_space, alike, is_named, looked_up}
 use Rattle.name_chains.specs.Members.{with_silent}
 use Rattle.tree_laws.proofs.Unnamed.{is_unnamed, found_named}
-use Rattle.tree_laws.proofs.Lookups.{false≢true, In, found_passes, found_in, alike_same, looked_up_same}
+use Rattle.tree_laws.specs.RenamedNames.{StaysApart}
+use Rattle.tree_laws.proofs.Lookups.{StandApart, false≢true, In, found_passes, found_in, alike_same, looked_up_same}
 
 abbrev pub occurrence : ℕ → ℕ → Bool → Occurrence
 occurrence index entity declares = record { index = index; entity = entity; declares = declares }
 
--- nothing is wrong, and each name is spelled as its entity in the new text
-pub record Good (b : List Token) (facts : Facts) : Type 0 where
+-- nothing is wrong, each name is spelled as its entity in the new text, and no other token gets its spelling
+pub record Good (a b : List Token) (facts : Facts) : Type 0 where
   pub clean : facts.fault ≡ None
   pub good : (o : Occurrence) → In o facts.occurrences → alike b o.index o.entity ≡ true
+  pub apart : (o : Occurrence) → In o facts.occurrences → StaysApart a b o.index
 
 -- a declaration that has linkage, named as token i
 abbrev pub IsLinked : List Token → ℕ → Declaration → Type 0
@@ -45,25 +47,25 @@ fault_some (Some g) f e = elim (cases_Bool (comes_first f g)) [
   | inr h ↦ let s : Some g ≡ None = rw h at e in cc
 ]
 
-module _ (b : List Token) where
-  pub fault_back : (c : Bool) (cause : Cause) (i : ℕ) (facts : Facts) → Good b (with_fault c cause i facts) → c ≡ false
+module _ (a b : List Token) where
+  pub fault_back : (c : Bool) (cause : Cause) (i : ℕ) (facts : Facts) → Good a b (with_fault c cause i facts) → c ≡ false
   fault_back true cause i facts h = absurd (fault_some facts.fault _ h.clean)
   fault_back false cause i facts h = refl
 
-  pub fault_goes : (c : Bool) (cause : Cause) (i : ℕ) (facts : Facts) → Good b (with_fault c cause i facts) → Good b facts
+  pub fault_goes : (c : Bool) (cause : Cause) (i : ℕ) (facts : Facts) → Good a b (with_fault c cause i facts) → Good a b facts
   fault_goes true cause i facts h = absurd (fault_some facts.fault _ h.clean)
   fault_goes false cause i facts h = h
 
-  pub occurrence_back : (i e : ℕ) (d : Bool) (facts : Facts) → Good b (with_occurrence i e d facts) → Good b facts
-  occurrence_back i e d facts h = record { clean = h.clean; good = λ o within. h.good o (inr within) }
+  pub occurrence_back : (i e : ℕ) (d : Bool) (facts : Facts) → Good a b (with_occurrence i e d facts) → Good a b facts
+  occurrence_back i e d facts h = record { clean = h.clean; good = λ o within. h.good o (inr within); apart = λ o within. h.apart o (inr within) }
 
-  pub occurrence_good : (i e : ℕ) (d : Bool) (facts : Facts) → Good b (with_occurrence i e d facts) → alike b i e ≡ true
+  pub occurrence_good : (i e : ℕ) (d : Bool) (facts : Facts) → Good a b (with_occurrence i e d facts) → alike b i e ≡ true
   occurrence_good i e d facts h = h.good (occurrence i e d) (inl refl)
 
-  pub declaration_back : (d : Declaration) (facts : Facts) → Good b (with_declaration d facts) → Good b facts
-  declaration_back d facts h = record { clean = h.clean; good = λ o within. h.good o (inr within) }
+  pub declaration_back : (d : Declaration) (facts : Facts) → Good a b (with_declaration d facts) → Good a b facts
+  declaration_back d facts h = record { clean = h.clean; good = λ o within. h.good o (inr within); apart = λ o within. h.apart o (inr within) }
 
-  pub declaration_good : (d : Declaration) (facts : Facts) → Good b (with_declaration d facts) → alike b d.name_at d.entity ≡ true
+  pub declaration_good : (d : Declaration) (facts : Facts) → Good a b (with_declaration d facts) → alike b d.name_at d.entity ≡ true
   declaration_good d facts h = h.good (occurrence d.name_at d.entity true) (inl refl)
 
 pub fault_none : (c : Bool) (cause : Cause) (i : ℕ) (facts : Facts) → c ≡ false → with_fault c cause i facts ≡ facts
@@ -127,13 +129,17 @@ module _ (a : List Token) where
 
 -- ---- Look-ups
 
-module _ (a b : List Token) (apart : (i j : ℕ) → alike b i j ≡ true → alike a i j ≡ true) where
-  name_alike : (facts : Facts) → Kept a facts → Good b facts → (i : ℕ) (d : Declaration) → In d facts.declared → is_unnamed d.space ≡ false → alike b i d.entity ≡ true
+module _ (a b : List Token) where
+  -- no token gets the spelling of a declared name that it had not
+  pub stand_apart : (facts : Facts) → Kept a facts → Good a b facts → StandApart a b facts.declared
+  stand_apart facts k g = λ d within named. g.apart (occurrence d.name_at d.entity true) (k.covered d within named)
+
+  name_alike : (facts : Facts) → Kept a facts → Good a b facts → (i : ℕ) (d : Declaration) → In d facts.declared → is_unnamed d.space ≡ false → alike b i d.entity ≡ true
       → alike b i d.name_at ≡ true
   name_alike facts k g i d within u e =
       alike_same b i d.name_at d.entity e (g.good (occurrence d.name_at d.entity true) (k.covered d within u))
 
-  names_alike : (facts : Facts) → Kept a facts → Good b facts → (space : Space) (i : ℕ) (test : Declaration → Bool) (r : Option Declaration)
+  names_alike : (facts : Facts) → Kept a facts → Good a b facts → (space : Space) (i : ℕ) (test : Declaration → Bool) (r : Option Declaration)
       → looked_up a space i test facts ≡ r → IfSome r (λ d. alike b i d.entity ≡ true) → IfSome r (λ d. alike b i d.name_at ≡ true)
   names_alike facts k g space i test None e h = tt
   names_alike facts k g space i test (Some d) e h =
@@ -142,8 +148,8 @@ module _ (a b : List Token) (apart : (i j : ℕ) → alike b i j ≡ true → al
       (found_named d.space space ((and_parts (is_space d.space space) (alike a i d.name_at) ((and_parts (is_named a space i d) (test d) passes).0)).0)) h
 
   -- a name is found again where its entity is spelled as it
-  pub found_again : (facts : Facts) → Kept a facts → Good b facts → (space : Space) (i : ℕ) (test : Declaration → Bool)
+  pub found_again : (facts : Facts) → Kept a facts → Good a b facts → (space : Space) (i : ℕ) (test : Declaration → Bool)
       → IfSome (looked_up a space i test facts) (λ d. alike b i d.entity ≡ true) → looked_up b space i test facts ≡ looked_up a space i test facts
   found_again facts k g space i test h =
-      looked_up_same a b apart space i test facts (looked_up a space i test facts) refl
+      looked_up_same a b space i test facts (looked_up a space i test facts) (stand_apart facts k g) refl
       (names_alike facts k g space i test (looked_up a space i test facts) refl h)

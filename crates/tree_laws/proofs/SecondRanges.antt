@@ -78,6 +78,6 @@ module _ (a : List Token) where
   kept_with None depth from to facts k = record { covered = k.covered; linked = k.linked; one = k.one }
   kept_with (Some list) depth from to facts k = kept_copies list depth from to (record facts { jumps = [] }) (record { covered = k.covered; linked = k.linked; one = k.one })
 
-pub good_with : (b : List Token) (list : Option ℕ) (depth from to : ℕ) (facts : Facts) → Good b (with_kept list depth from to (record facts { jumps = [] })) → Good b facts
-good_with b None depth from to facts h = record { clean = h.clean; good = h.good }
-good_with b (Some list) depth from to facts h = record { clean = h.clean; good = h.good }
+pub good_with : (a b : List Token) (list : Option ℕ) (depth from to : ℕ) (facts : Facts) → Good a b (with_kept list depth from to (record facts { jumps = [] })) → Good a b facts
+good_with a b None depth from to facts h = record { clean = h.clean; good = h.good; apart = h.apart }
+good_with a b (Some list) depth from to facts h = record { clean = h.clean; good = h.good; apart = h.apart }

@@ -46,8 +46,8 @@ pub fn bodies_stand_apart()
     ensures apart { BodiesAreApart }
 {}
 
-/// A text that is renamed, with all names of an entity together and different spellings kept apart,
-/// and that is read to the same tree, binds name for name as before.
+/// A text that is renamed, with all names of an entity together, in which no token gets the spelling of a name that it
+/// had not, and that is read to the same tree, binds name for name as before.
 pub fn renamed_names_bind_alike()
     ensures { RenamedBindAlike }
 {}
