@@ -4,6 +4,7 @@ pub mod RuleLemmas
 pub mod ClosureLemmas
 pub mod PiecesLemmas
 pub mod TellingLemmas
+pub mod StringLemmas
 mod PassingLemmas
 mod FrontLemmas
 mod BeginLemmas

@@ -1,12 +1,8 @@
 -- What the notes of an expansion tell did happen.
-use Rattle.std.proofs.Common.{◌≡◌, ℕ, zero, suc, ◌-◌, Bool, true, false, cond, List, length, Option, None, Result, Ok, Err, refl, sym, ap, ◌∙◌}
-use Rattle.std.specs.Prelude.{replicate}
-use Rattle.std.specs.List.{list_all}
-use Rattle.std.specs.Option.{is_none}
-use Rattle.macro_expand.specs.Below.cs_base.declared.positions.Pos.{Pos}
+use Rattle.std.proofs.Common.{◌≡◌, ℕ, Bool, true, false, cond, List, Result, Ok, Err, refl, sym, ap}
 use Rattle.macro_expand.specs.Below.cs_base.Token.{Token}
 use Rattle.part_lexer.specs.OneToken.{one_token_of}
-use Rattle.macro_expand.specs.Below.paste_origin.Strings.{StringFault, NotAString, stringize_of, is_string, string_text, string_token}
+use Rattle.macro_expand.specs.Below.paste_origin.Strings.{StringFault, NotAString, stringize_of, is_string, string_text, string_origins, string_token}
 use Rattle.macro_expand.specs.Below.macro_body.Notes.{Note, Linked}
 use Rattle.macro_expand.specs.Expansion.{Setting}
 use Rattle.expansion_laws.specs.Telling.{StandUnderNames, AreAlike, LinksAreAlike, DidHappen, NotesAreTrue}
@@ -14,25 +10,17 @@ use Rattle.expansion_laws.proofs.ListLemmas.{AllToks, each_tok, notes_at, all_no
 use Rattle.expansion_laws.proofs.RuleLemmas.{Rules}
 use Rattle.expansion_laws.proofs.ClosureLemmas.{expansion_keeps}
 
--- no character has an origin
-abbrev no_origins : ℕ → List (Option Pos)
-no_origins n = replicate n None
-
-none_traced : (n : ℕ) → list_all is_none (no_origins n) ≡ true
-none_traced zero = refl
-none_traced (suc n) = none_traced n
-
 cond_made : (b : Bool) (a s : Token) → ◌≡◌ {A = Result Token StringFault} (cond b (Ok a) (Err NotAString)) (Ok s) → a ≡ s
 cond_made true a s e = cc
 cond_made false a s e = absurd (cc)
 
 -- the string that tokens make
-pub string_is : (toks : List Token) (s : Token) → stringize_of toks ≡ Ok s → s ≡ string_token (string_text toks)
+pub string_is : (toks : List Token) (s : Token) → stringize_of toks ≡ Ok s → s ≡ string_token (string_text toks) (string_origins toks)
 unfolding stringize_of
-string_is toks s e = sym (cond_made (is_string (one_token_of (string_text toks))) (string_token (string_text toks)) s e)
+string_is toks s e = sym (cond_made (is_string (one_token_of (string_text toks))) (string_token (string_text toks) (string_origins toks)) s e)
 
-string_untraced : (toks : List Token) (s : Token) → stringize_of toks ≡ Ok s → list_all is_none s.origins ≡ true
-string_untraced toks s e = ap (λ (t : Token). list_all is_none t.origins) (string_is toks s e) ∙ none_traced (length (string_text toks) - 0)
+string_keeps : (toks : List Token) (s : Token) → stringize_of toks ≡ Ok s → s.origins ≡ string_origins toks
+string_keeps toks s e = ap (λ (t : Token). t.origins) (string_is toks s e)
 
 -- nothing is asked of tokens or notes
 abbrev pub Any : {A : Type 0} → A → Type 0
@@ -52,7 +40,7 @@ rules_true set = record {
   pastes = λ name x y z here px py made told. tt;
   replaced = λ name m before here is found. record { identifier = is; definition = m; defined = found; same = refl };
   linked = λ name m here is found links. record { identifier = is; definition = m; defined = found; same = refl };
-  stringized = λ toks s all made. record { made = made; untraced = string_untraced toks s made };
+  stringized = λ toks s all made. record { made = made; origins = string_keeps toks s made };
   pasted = λ name x y z px py pz made. record { token = z; made = made; same = record { kind = refl; text = refl; origins = refl } };
 }
 

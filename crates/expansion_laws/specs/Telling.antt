@@ -1,11 +1,9 @@
 -- What the notes of an expansion tell (ISO/IEC 9899:1999, 6.10.3).
 use Rattle.std.specs.Prelude.{◌≡◌, ℕ, true, List, Ok, Some, slice_get}
-use Rattle.std.specs.List.{list_all}
-use Rattle.std.specs.Option.{is_none}
 use Rattle.macro_expand.specs.Below.cs_base.Token.{Token}
 use Rattle.macro_expand.specs.Below.line_shape.Signs.{is_name}
 use Rattle.macro_expand.specs.Below.paste_origin.Pasting.{glue_of}
-use Rattle.macro_expand.specs.Below.paste_origin.Strings.{stringize_of}
+use Rattle.macro_expand.specs.Below.paste_origin.Strings.{stringize_of, string_origins}
 use Rattle.macro_expand.specs.Below.macro_body.declared.definitions.Definition.{Definition}
 use Rattle.macro_expand.specs.Below.macro_body.Macro.{Table}
 use Rattle.macro_expand.specs.Below.macro_body.Notes.{Note, Replaced, Linked, Stringized, Pasted, Expanded}
@@ -56,10 +54,10 @@ pub record IsPasted (x y z : Token) : Type 0 where
   pub made : glue_of x y ≡ Ok token
   pub same : IsRelabelled token z
 
--- a string was made of tokens by `#` (6.10.3.2); none of its characters has an origin
+-- a string was made of tokens by `#` (6.10.3.2): their characters keep their origins, and all others have none
 pub record IsStringized (toks : List Token) (s : Token) : Type 0 where
   pub made : stringize_of toks ≡ Ok s
-  pub untraced : list_all is_none s.origins ≡ true
+  pub origins : s.origins ≡ string_origins toks
 
 -- what a note tells did happen
 abbrev pub DidHappen : Table → Note → Type 0

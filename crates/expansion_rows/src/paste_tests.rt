@@ -58,19 +58,28 @@ const NO_TOKEN: [(&[u8], &[u8]); 14] = [
     (b"<", b"a"),
 ];
 
-// The tokens of an argument, each with white space before it where its row says so, and the string
-// that they make.
-type Made = (&'static [(bool, &'static [u8])], &'static [u8]);
+// The tokens of an argument, each with white space before it where its row says so, the string that they
+// make, and for each of its characters the number of the token that it comes from, or `-`.
+type Made = (
+    &'static [(bool, &'static [u8])],
+    &'static [u8],
+    &'static [u8],
+);
 
 const STRINGS: [Made; 16] = [
-    (&[], b"\"\""),
-    (&[(false, b"hello")], b"\"hello\""),
-    (&[(true, b"hello")], b"\"hello\""),
-    (&[(true, b"a"), (true, b"b")], b"\"a b\""),
-    (&[(false, b"a"), (false, b"+"), (true, b"1")], b"\"a+ 1\""),
+    (&[], b"\"\"", b"--"),
+    (&[(false, b"hello")], b"\"hello\"", b"-00000-"),
+    (&[(true, b"hello")], b"\"hello\"", b"-00000-"),
+    (&[(true, b"a"), (true, b"b")], b"\"a b\"", b"-0-1-"),
+    (
+        &[(false, b"a"), (false, b"+"), (true, b"1")],
+        b"\"a+ 1\"",
+        b"-01-2-",
+    ),
     (
         &[(false, b"\"a\\n\""), (true, b"'x'")],
         b"\"\\\"a\\\\n\\\" 'x'\"",
+        b"--00-00-0-111-",
     ),
     (
         &[
@@ -82,22 +91,29 @@ const STRINGS: [Made; 16] = [
             (false, b")"),
         ],
         b"\"strncmp(\\\"abc\\\\0d\\\", '\\\\4')\"",
+        b"-00000001-2222-222-23-4-4445-",
     ),
     (
         &[(true, b":"), (true, b"@"), (false, b"\\"), (false, b"n")],
         b"\": @\\n\"",
+        b"-0-123-",
     ),
     (
         &[(false, b"vers2"), (false, b"."), (false, b"h")],
         b"\"vers2.h\"",
+        b"-0000012-",
     ),
-    (&[(false, b"'\"'")], b"\"'\\\"'\""),
-    (&[(false, b"'\\''")], b"\"'\\\\''\""),
-    (&[(false, b"L\"x\"")], b"\"L\\\"x\\\"\""),
-    (&[(false, b"\"\"")], b"\"\\\"\\\"\""),
-    (&[(false, b"'")], b"\"'\""),
-    (&[(false, b"%:"), (true, b"%:%:")], b"\"%: %:%:\""),
-    (&[(false, b"\\"), (false, b"\\")], b"\"\\\\\""),
+    (&[(false, b"'\"'")], b"\"'\\\"'\"", b"-0-00-"),
+    (&[(false, b"'\\''")], b"\"'\\\\''\"", b"-0-000-"),
+    (&[(false, b"L\"x\"")], b"\"L\\\"x\\\"\"", b"-0-00-0-"),
+    (&[(false, b"\"\"")], b"\"\\\"\\\"\"", b"--0-0-"),
+    (&[(false, b"'")], b"\"'\"", b"-0-"),
+    (
+        &[(false, b"%:"), (true, b"%:%:")],
+        b"\"%: %:%:\"",
+        b"-00-1111-",
+    ),
+    (&[(false, b"\\"), (false, b"\\")], b"\"\\\\\"", b"-01-"),
 ];
 
 // Tokens that make no string.
@@ -153,8 +169,16 @@ fn two_tokens_are_pasted_by_their_spellings(rt: HostRuntime) -> Result<(), Fail>
 
 fn string(alloc: Global, spelled: &[(bool, &[u8])]) -> Result<Tok, StrRefusal> {
     let mut toks = Vec::new(alloc);
-    for (gap, text) in spelled {
-        match toks.push(tok(alloc, *gap, text, Pos { file: 1, at: 0 })?) {
+    for (k, (gap, text)) in spelled.iter().enumerate() {
+        match toks.push(tok(
+            alloc,
+            *gap,
+            text,
+            Pos {
+                file: 1,
+                at: (k % 10) as u32,
+            },
+        )?) {
             Ok(()) => {}
             Err(_) => return Err(StrRefusal::Memory),
         }
@@ -165,14 +189,26 @@ fn string(alloc: Global, spelled: &[(bool, &[u8])]) -> Result<Tok, StrRefusal> {
     stringize(alloc, &toks)
 }
 
+// For each character the token that it comes from, by its place.
+fn shown_origins(alloc: Global, made: &Tok) -> Result<Vec<u8>, Memory> {
+    let mut shown = Vec::new(alloc);
+    for k in 0..made.text().len() {
+        shown.push(match made.origins(k as u32) {
+            Some(pos) => b'0' + (pos.at % 10) as u8,
+            None => b'-',
+        })?;
+    }
+    Ok(shown)
+}
+
 #[test]
 fn an_argument_becomes_a_string(rt: HostRuntime) -> Result<(), Fail> {
-    for (spelled, text) in STRINGS {
+    for (spelled, text, origins) in STRINGS {
         match string(rt.alloc(), spelled) {
             Ok(made) => {
                 assert!(rt; made.kind() == Kind::Str && made.text() == text);
                 assert!(rt; !made.gap() && made.line() == 0 && !made.direct());
-                assert!(rt; made.origins(1).is_none());
+                assert!(rt; shown_origins(rt.alloc(), &made)?.as_slice() == origins);
             }
             Err(_) => panic!(rt; "refused"),
         }

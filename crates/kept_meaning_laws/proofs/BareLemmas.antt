@@ -29,7 +29,10 @@ use Rattle.no_offence_laws.proofs.ListLemmas.{In, cons_nil, flat_nil, any_at}
 use Rattle.no_offence_laws.proofs.NoneLemmas.{NoneStand, none_stand, holder}
 use Rattle.no_offence_laws.proofs.OccurringLemmas.{name_like, parted_one, like_spelled}
 use Rattle.no_offence_laws.proofs.TracedLemmas.{AreChained}
-use Rattle.kept_meaning_laws.proofs.NamedLemmas.{NameAt, StillAt, alike_from, whole, old_identifier, old_at, new_at, look}
+use Rattle.tree_laws.specs.Below.c99_grammar.Standard.{grammar}
+use Rattle.tree_laws.specs.Below.c99_read.State.{base_at, is_identifier}
+use Rattle.kept_meaning_laws.proofs.LinkedNameLemmas.{named_token}
+use Rattle.kept_meaning_laws.proofs.NamedLemmas.{NameAt, OtherAt, alike_from, whole, old_identifier, old_at, new_at, look}
 use Rattle.kept_meaning_laws.proofs.UnitTokenLemmas.{tokens_kept}
 
 -- ---- ranges, as the tree's law and the offence speak of them
@@ -134,8 +137,8 @@ module _ (a : Analysed) (members : List Part) (name : List ℕ) (r : Renaming) (
   abbrev Named : ℕ → Type 0
   Named k = NameAt a members name r h spells keeps u i k
 
-  abbrev Still : ℕ → Type 0
-  Still k = StillAt a members name r h spells keeps u i k
+  abbrev Other : ℕ → Type 0
+  Other k = OtherAt a members name r h spells keeps u i k
 
   -- an identifier, spelled as no token that holds a member
   name_stays : (k : ℕ) (n : Named k) (text : List ℕ) → spelling_at old k ≡ text → is_old text ≡ false → spelling_at new k ≡ text
@@ -150,8 +153,8 @@ module _ (a : Analysed) (members : List Part) (name : List ℕ) (r : Renaming) (
       ∙ old_identifier a members name r h spells keeps u i n.token (k, n.there) n.named
 
   -- what is spelled as an identifier is one
-  never : (k j : ℕ) → Named k → Still j → spelling_at old k ≡ spelling_at old j → ⊥
-  never k j n s same = both_ways (is_identifier_text (spelling_at old j)) s.plain (sym (ap is_identifier_text same) ∙ name_plain k n)
+  never : (k j : ℕ) → Named k → Other j → spelling_at old k ≡ spelling_at old j → ⊥
+  never k j n s same = both_ways (is_identifier_text (spelling_at old j)) s.was (sym (ap is_identifier_text same) ∙ name_plain k n)
 
   whole_name : (k j : ℕ) (n : Named k) → In k u.bound.bare → list_any (is_hidden old k) u.bound.typedefs ≡ true → spelling_at old k ≡ spelling_at old j
       → spelling_at new k ≡ spelling_at new j
@@ -164,17 +167,9 @@ module _ (a : Analysed) (members : List Part) (name : List ℕ) (r : Renaming) (
       ] in
       name_stays k n n.token.text own free ∙ sym there
 
-  whole_still : (k j : ℕ) (s : Still k) → spelling_at old k ≡ spelling_at old j → spelling_at new k ≡ spelling_at new j
-  whole_still k j s same = elim (look a members name r h spells keeps u i j) [
-    | inl n ↦ absurd (never j k n s (sym same))
-    | inr z ↦ s.same ∙ same ∙ sym z.same
-  ]
-
   -- a bare name stays with all tokens of its spelling, where a typedef name of this spelling is hidden
-  pub bare_stays : (k : ℕ) → In k u.bound.bare → StaysWhole old new u.bound.typedefs k
-  bare_stays k bare = λ hidden j both.
+  pub bare_stays : (k : ℕ) → In k u.bound.bare → is_identifier (base_at (grammar u.standard) old k) ≡ true → StaysWhole old new u.bound.typedefs k
+  bare_stays k bare named = λ hidden j both.
+      let t = named_token u.standard old k named in
       let same : spelling_at old k ≡ spelling_at old j = bytes_eq-equal (spelling_at old k) (spelling_at old j) both in
-      alike_from (spelling_at new k) (spelling_at new j) (elim (look a members name r h spells keeps u i k) [
-        | inl n ↦ whole_name k j n bare hidden same
-        | inr s ↦ whole_still k j s same
-      ])
+      alike_from (spelling_at new k) (spelling_at new j) (whole_name k j (record { token = t.0; there = t.1; named = t.2 }) bare hidden same)

@@ -1,10 +1,10 @@
 -- The renamed tokens of a unit are of the classes that they had.
-use Rattle.std.proofs.Common.{◌≡◌, ℕ, ◌==◌, if◌then◌else◌, Bool, true, false, List, [], ◌∷◌, length, map, Option, None, Some, refl, sym, ap, ◌∙◌}
+use Rattle.std.proofs.Common.{◌≡◌, ℕ, ◌==◌, if◌then◌else◌, Bool, true, false, List, [], ◌∷◌, length, map, Option, None, Some, inl, inr, refl, sym, ap, ◌∙◌}
 use Rattle.std.specs.Prelude.{slice_get, option_map}
 use Rattle.std.specs.List.{list_all}
 use Rattle.std.specs.Option.{option_map_or}
 use Rattle.std.specs.Str.{bytes_eq}
-use Rattle.std.proofs.lemmas.Bool.{and_parts}
+use Rattle.std.proofs.lemmas.Bool.{cases_Bool, both_ways, and_parts}
 use Rattle.std.proofs.lemmas.Option.{slice_get-map}
 use Rattle.tree_laws.specs.Below.cs_base.declared.ws_units.Standard.{Standard}
 use Rattle.tree_laws.specs.Below.cs_base.declared.ws_units.Standard.TheVariants.{C99, C11}
@@ -70,8 +70,18 @@ module _ (a : Analysed) (members : List Part) (name : List ℕ) (r : Renaming) (
   unfolding base_class
   class_kept t j =
       let kept = tokens_kept a members name r h spells keeps u i t j in
-      kind_alike u.standard t.kind t.text (macros.spelled r t)
-      (λ named word reserved. sym (reserved_same a members name r h spells keeps u i t j named word reserved)) (λ other. sym (kept.stays other))
+      elim (cases_Bool (signs.is_name t)) [
+        | inl named ↦
+            kind_alike u.standard t.kind t.text (macros.spelled r t)
+            (λ is word reserved. sym (reserved_same a members name r h spells keeps u i t j named word reserved)) (λ other. absurd (both_ways (signs.is_name t) other named))
+        | inr other ↦ elim (kept.stays other) [
+          | inl same ↦ ap (class_of_kind (grammar u.standard) t.kind) (sym same)
+          | inr q ↦
+              let kind = q.kind in
+              ap (λ (k : Kind). class_of_kind (grammar u.standard) k t.text) kind
+              ∙ ap (λ (k : Kind). class_of_kind (grammar u.standard) k (macros.spelled r t)) (sym kind)
+        ]
+      ]
 
   abbrev behind : ℕ → ℕ → Class
   behind k n = if k == n then end_class else no_class

@@ -1,37 +1,21 @@
 -- A renaming against which nothing stands keeps the file tokens of an analysis.
-use Rattle.std.proofs.Common.{◌≡◌, ℕ, zero, suc, ◌*◌, ◌-◌, Bool, true, false, cond, codes, List, [], ◌∷◌, length, map, replicate, Option, Some, None, inl, inr, refl, sym, ap, subst, ◌∙◌}
+use Rattle.std.proofs.Common.{◌≡◌, ℕ, ◌==◌, Bool, true, false, cond, codes, List, [], ◌∷◌, map, Some, inl, inr, refl, sym, ap, subst, ◌∙◌}
 use Rattle.std.specs.Prelude.{filter, slice_get}
-use Rattle.std.specs.Fmt.{decimal}
-use Rattle.std.specs.List.{flat_map, list_all}
-use Rattle.std.specs.Option.{is_none, option_and_then}
+use Rattle.std.specs.Option.{option_and_then}
 use Rattle.std.specs.Str.{bytes_eq}
-use Rattle.std.proofs.lemmas.Bool.{cases_Bool}
+use Rattle.std.proofs.lemmas.Bool.{cases_Bool, both_ways}
 use Rattle.tree_laws.proofs.Below.cs_base.FileMapLemmas.{bytes_eq-equal, bytes_eq-same}
 use Rattle.tree_laws.specs.Below.cs_base.declared.positions.Part.{Part}
 use Rattle.tree_laws.specs.Below.cs_base.declared.positions.Pos.{Pos}
 use Rattle.tree_laws.specs.Below.cs_base.Token.{Token, has_origins}
 use Rattle.no_offence_laws.specs.Below.part_lexer.Tokens.{tokens_of}
-use Rattle.no_offence_laws.specs.Below.paste_origin.Strings.{string_text, string_token}
+use Rattle.no_offence_laws.specs.Below.part_lexer.Characters.{double_quote}
 use Rattle.no_offence_laws.specs.Below.line_shape.Signs.{is_name}
-use Rattle.no_offence_laws.specs.Below.macro_body.Notes as expansion
 use Rattle.no_offence_laws.specs.Below.macro_expand.Renaming.{Renaming, renamed}
 use Rattle.no_offence_laws.specs.Below.macro_expand.Renaming as macros
-use Rattle.no_offence_laws.specs.Below.macro_body.Substitution.{put_in, path_text, path_string}
-use Rattle.no_offence_laws.specs.Below.unit_steps.Conditions.{digit_of, digit_place}
-use Rattle.no_offence_laws.specs.Below.source_files.Files.{SourceFile, Found, Lines, Absent, Unopened, Opened, Made, entry, Table}
+use Rattle.no_offence_laws.specs.Below.source_files.Files.{Found, Lines, Absent, Unopened, Opened, Made, entry, Table}
 use Rattle.no_offence_laws.specs.Below.source_files.KeptFiles.{KeptValue, kept, kept_in, kept_at}
-use Rattle.no_offence_laws.specs.Below.source_files.Tables.{IsGrown}
-use Rattle.no_offence_laws.specs.Below.unit_steps.Notes.{Note, Happened, pasted_of}
-use Rattle.no_offence_laws.specs.Below.source_files.Sources.{source_at}
-use Rattle.no_offence_laws.specs.Below.unit_steps.Texts.{UnitTextValue, unit_text}
-use Rattle.no_offence_laws.proofs.Below.include_tree.StayingLemmas.{source-grown}
-use Rattle.no_offence_laws.proofs.Below.expansion_laws.ListLemmas.{AllToks, each_tok}
-use Rattle.no_offence_laws.proofs.Below.expansion_laws.TellingLemmas.{string_is}
-use Rattle.no_offence_laws.specs.Below.unit_laws.UnitLinks.{IsIn}
-use Rattle.no_offence_laws.proofs.Below.unit_laws.DoneLemmas.{UnitRules}
-use Rattle.no_offence_laws.proofs.Below.unit_laws.NoteLemmas.{TextHas, EventHas, flat_in, in_at}
-use Rattle.no_offence_laws.proofs.Below.unit_laws.PartLemmas.{from_files}
-use Rattle.no_offence_laws.proofs.Below.unit_laws.TextLemmas.{IsText, text_is, unit_text_has}
+use Rattle.no_offence_laws.specs.Below.unit_steps.Texts.{UnitTextValue}
 use Rattle.no_offence_laws.specs.Below.unit_laws.ToldNames.{IsTold}
 use Rattle.no_offence_laws.specs.Below.part_respell.Respelled.{respelled}
 use Rattle.no_offence_laws.specs.Below.edited_unit_laws.Lines.{Each}
@@ -45,14 +29,11 @@ use Rattle.no_offence_laws.specs.KeptFiles.{WordsAreFree}
 use Rattle.no_offence_laws.specs.KeptTokens.{Spells}
 use Rattle.no_offence_laws.specs.Occurring.{KeepsOccurring, occurring_in}
 use Rattle.no_offence_laws.specs.Renamings.{KeepsUnedited, name_for}
-use Rattle.no_offence_laws.specs.Spellings.{IsPasted}
-use Rattle.no_offence_laws.proofs.ApartLemmas.{parted_of, file_told, pasted_parted}
-use Rattle.no_offence_laws.proofs.KeptTokenLemmas.{each_of, other_same}
+use Rattle.no_offence_laws.proofs.KeptTokenLemmas.{each_of}
 use Rattle.no_offence_laws.proofs.ListLemmas.{In}
 use Rattle.no_offence_laws.proofs.OccurringLemmas.{occurring_are_kept}
 use Rattle.no_offence_laws.proofs.ProcessedLemmas.{words_are_free_where_named}
 use Rattle.no_offence_laws.proofs.RenamingLemmas.{spell-same, edited_files_are_renamed}
-use Rattle.no_offence_laws.proofs.TracedLemmas.{source_of_kept}
 use Rattle.no_offence_laws.proofs.UneditedLemmas.{renamings_keep_unedited}
 use Rattle.no_offence_laws.proofs.UnitsLemmas.{IsUnit, unit_is}
 use Rattle.no_offence_laws.proofs.KeptNameLemmas.{line_reserved, told_traced, told_names_are_kept}
@@ -60,6 +41,7 @@ use Rattle.no_offence_laws.proofs.OccurLemmas.{units_occur}
 use Rattle.kept_meaning_laws.specs.KeptFileTokens.{FileTokensAreKept, FileTokensAreRenamedWhereNamed}
 use Rattle.kept_meaning_laws.specs.KeptUnits.{change}
 use Rattle.kept_meaning_laws.proofs.KeptFileLemmas.{no_text, made_stays}
+use Rattle.kept_meaning_laws.proofs.UnitTokenLemmas.{told_kept}
 
 -- ---- lists and tests
 
@@ -82,14 +64,15 @@ same_test v w x on back = by (bytes_eq v x) (bytes_eq w x) on back
     by false true on back = back refl
     by false false on back = refl
 
-nones : (n : ℕ) → list_all is_none (replicate {A = Option Pos} n None) ≡ true
-nones zero = refl
-nones (suc n) = nones n
+-- ---- names of which a unit tells
 
--- ---- what is no identifier stays
+begins_quoted : List ℕ → Bool
+begins_quoted [] = false
+begins_quoted (c ∷ cs) = c == double_quote
 
-abbrev Stays : Renaming → Token → Type 0
-Stays r t = is_name t ≡ false → macros.spelled r t ≡ t.text
+no_quote : (cs : List ℕ) → double_quote ∷ cs ≡ codes "__LINE__" → ⊥
+unfolding begins_quoted
+no_quote cs same = both_ways (begins_quoted (codes "__LINE__")) refl (sym (ap begins_quoted same))
 
 module _ (a : Analysed) (members : List Part) (name : List ℕ) (h : IsAllowed a members name) where
   abbrev r : Renaming
@@ -104,54 +87,7 @@ module _ (a : Analysed) (members : List Part) (name : List ℕ) (h : IsAllowed a
   occurring : KeepsOccurring (occurring_in a.value) r
   occurring = occurring_are_kept a members name r h spells
 
-  module _ (u : UnitAnalysis) (i : In u a.value.units) (notes : List Note) (toks : List Token) (table : Table) (is_text : unit_text toks notes ≡ u.text)
-      (grown : IsGrown table a.value.table) where
-    kept_stay : (number : ℕ) (file : SourceFile) → source_at table number ≡ Some file → AllToks (Stays r) file.text.toks
-    kept_stay number file is =
-        let s = source_of_kept a.value.table number file (source-grown table a.value.table number file grown is) in
-        let f : KeptValue = s.kept in
-        each_tok (Stays r) file.text.toks (λ t k at.
-        let there : In t (tokens_of f.number f.bytes) = (k, ap (λ (ts : List Token). slice_get ts k) (sym s.toks) ∙ at) in
-        other_same a members name r h spells t (parted_of a.value members t (file_told a members name h number f s.is_kept t there)))
-
-    pasted_stays : (run : Bool) (before : ℕ) (x y z : Token) → IsIn notes (Happened run before (expansion.Pasted x y z)) → Stays r z
-    pasted_stays run before x y z told =
-        let there : IsIn (flat_map pasted_of notes) z = flat_in pasted_of notes (Happened run before (expansion.Pasted x y z)) z told.0 told.1 (0, refl) in
-        let own : IsIn u.text.pasted z = subst (λ (v : UnitTextValue). IsIn v.pasted z) is_text there in
-        let pasted : IsPasted a.value z = record { unit = u; there = i; pasted = own } in
-        other_same a members name r h spells z (pasted_parted a members name h z pasted)
-
-    rules_stay : UnitRules (Stays r) (IsIn notes) table
-    rules_stay = record {
-      spaced = λ t gap is. is;
-      moved = λ t is. is;
-      placed = λ name2 t gap here is. is;
-      items = λ number k evaluated before file item is at told. from_files (Stays r) table kept_stay number k evaluated file item is at;
-      lines = λ name2 run before more here spelled told no. (unedited.numbers (8 * name2.line) (length (decimal name2.line)) (decimal name2.line)).0;
-      answers = λ word b here told no. (unedited.numbers (digit_place b) 1 (digit_of b)).0;
-      paths = λ path name2 here no. (unedited.untraced (path_string path name2).origins (path_string path name2).text (nones (length (path_text path)))).0;
-      strings = λ name2 gap ts s here all is.
-          let made = string_is ts s is in
-          let w : List ℕ = string_text ts in
-          let own : Stays r (string_token w) = λ no. (unedited.untraced (string_token w).origins (string_token w).text (nones (length w - 0))).0 in
-          let P : Token → Type 0 = λ t. Stays r t in
-          subst P (sym made) own;
-      pastes = λ name2 x y z run before here px py is told. pasted_stays run before x y (put_in name2 x.gap z) told;
-    }
-
   module _ (u : UnitAnalysis) (i : In u a.value.units) where
-    is_unit : IsUnit a.value.table u
-    is_unit = unit_is h.source h.workspace a.value h.accepted u i
-
-    unit_stays : TextHas (Stays r) u.text
-    unit_stays =
-        let o = is_unit in
-        let is_done : IsText o.source o.number o.unit o.before o.text = text_is o.source o.number o.unit o.before o.text o.is_text in
-        let P : UnitTextValue → Type 0 = TextHas (Stays r) in
-        let R : Table → Type 0 = λ table. UnitRules (Stays r) (IsIn is_done.did.notes) table in
-        let rules = rules_stay u i is_done.did.notes is_done.did.value o.text.after.table (is_done.text ∙ o.own) o.grown in
-        subst P o.own (unit_text_has (Stays r) o.source o.number o.unit o.before o.text is_done (subst R (sym is_done.table) rules))
-
     -- a name of which the unit tells is `__LINE__` anew exactly where it was
     line_on : (t : Token) → IsTold u.text t → bytes_eq t.text (codes "__LINE__") ≡ true → bytes_eq (macros.spelled r t) (codes "__LINE__") ≡ true
     line_on t told is =
@@ -165,11 +101,13 @@ module _ (a : Analysed) (members : List Part) (name : List ℕ) (h : IsAllowed a
     line_back : (t : Token) → IsTold u.text t → bytes_eq (macros.spelled r t) (codes "__LINE__") ≡ true → bytes_eq t.text (codes "__LINE__") ≡ true
     line_back t told is =
         let new : macros.spelled r t ≡ codes "__LINE__" = bytes_eq-equal (macros.spelled r t) (codes "__LINE__") is in
-        let among = told.among in
-        let stays : Stays r t = (in_at (EventHas (Stays r)) u.text.events unit_stays.events told.event among.0 among.1).name t told.named in
+        let kept = told_kept a members name r h spells unedited u i t told in
         let text : t.text ≡ codes "__LINE__" = elim (cases_Bool (is_name t)) [
           | inl named ↦ occurring.alone t (codes "__LINE__") line_reserved ((units_occur a members name h u i).told t told) named new
-          | inr other ↦ sym (stays other) ∙ new
+          | inr other ↦ elim (kept.stays other) [
+            | inl same ↦ sym same ∙ new
+            | inr q ↦ absurd (no_quote q.behind (sym q.is ∙ new))
+          ]
         ] in
         ap (λ (w : List ℕ). bytes_eq w (codes "__LINE__")) text ∙ bytes_eq-same (codes "__LINE__")
 

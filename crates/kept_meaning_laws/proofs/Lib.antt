@@ -28,5 +28,6 @@ mod SameElementLemmas
 mod ReadNameLemmas
 mod ClassLemmas
 mod BareLemmas
+mod LooseLemmas
 -- Words of the crates below, passed on.
 pub mod Below

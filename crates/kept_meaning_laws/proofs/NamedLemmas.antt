@@ -1,5 +1,5 @@
 -- New and old spellings of the tokens of a unit, by their places.
-use Rattle.std.proofs.Common.{◌≡◌, ℕ, true, false, List, [], length, map, Option, None, Some, ◌⊎◌, inl, inr, refl, sym, ap, ◌∙◌}
+use Rattle.std.proofs.Common.{◌≡◌, ℕ, true, false, List, [], ◌∷◌, length, map, Option, None, Some, ◌⊎◌, inl, inr, refl, sym, ap, ◌∙◌}
 use Rattle.std.specs.Prelude.{slice_get, option_map}
 use Rattle.std.specs.Option.{option_map_or}
 use Rattle.std.specs.Str.{bytes_eq}
@@ -11,6 +11,7 @@ use Rattle.tree_laws.specs.Below.cs_base.declared.positions.Part.{Part}
 use Rattle.tree_laws.specs.Below.cs_base.declared.positions.Pos.{Pos}
 use Rattle.tree_laws.specs.Below.cs_base.Reserved.{is_reserved_text}
 use Rattle.tree_laws.specs.Below.cs_base.Token.{Token}
+use Rattle.no_offence_laws.specs.Below.part_lexer.Characters.{double_quote}
 use Rattle.no_offence_laws.specs.Below.part_lexer.Spelling.{is_identifier_text}
 use Rattle.no_offence_laws.specs.Below.line_shape.Signs.{is_name}
 use Rattle.no_offence_laws.specs.Below.macro_expand.Renaming.{Renaming, renamed}
@@ -33,7 +34,7 @@ use Rattle.no_offence_laws.proofs.OccurringLemmas.{occurring_are_kept, name_like
 use Rattle.no_offence_laws.proofs.TracedLemmas.{spelled_fits}
 use Rattle.no_offence_laws.proofs.UnitsLemmas.{unit_is}
 use Rattle.kept_meaning_laws.proofs.IdentifierLemmas.{identifier_from, fits_name}
-use Rattle.kept_meaning_laws.proofs.SpelledLemmas.{kind_plain, plain_apart, own_word_fixed, fixed_plain}
+use Rattle.kept_meaning_laws.proofs.SpelledLemmas.{kind_plain, plain_apart, own_word_fixed, fixed_plain, unquoted_word}
 use Rattle.kept_meaning_laws.proofs.UnitTokenLemmas.{tokens_kept}
 
 pub alike_from : (x y : List ℕ) → x ≡ y → bytes_eq x y ≡ true
@@ -84,10 +85,11 @@ module _ (a : Analysed) (members : List Part) (name : List ℕ) (r : Renaming) (
     pub there : slice_get old k ≡ Some token
     pub named : is_name token ≡ true
 
-  -- nothing that changes
-  pub record StillAt (k : ℕ) : Type 0 where
-    pub same : spelling_at new k ≡ spelling_at old k
-    pub plain : is_identifier_text (spelling_at old k) ≡ false
+  -- what is no identifier, before and anew, and none of the words that binding asks for, unless it was that word
+  pub record OtherAt (k : ℕ) : Type 0 where
+    pub was : is_identifier_text (spelling_at old k) ≡ false
+    pub is : is_identifier_text (spelling_at new k) ≡ false
+    pub words : (word : List ℕ) → is_own_word word ≡ true → bytes_eq (spelling_at new k) word ≡ bytes_eq (spelling_at old k) word
 
   abbrev text_of : Option Token → List ℕ
   text_of o = option_map_or (λ (t : Token). t.text) o []
@@ -101,19 +103,37 @@ module _ (a : Analysed) (members : List Part) (name : List ℕ) (r : Renaming) (
   new_none : (k : ℕ) → slice_get old k ≡ None → spelling_at new k ≡ []
   new_none k e = ap text_of (slice_get-map (renamed r) old k ∙ ap (λ (o : Option Token). option_map (renamed r) o) e)
 
-  other_at : (k : ℕ) (t : Token) → slice_get old k ≡ Some t → is_name t ≡ false → StillAt k
+  -- where it stays
+  still_at : (k : ℕ) → is_identifier_text (spelling_at old k) ≡ false → spelling_at new k ≡ spelling_at old k → OtherAt k
+  still_at k was same = record {
+    was = was;
+    is = ap is_identifier_text same ∙ was;
+    words = λ word own. ap (λ (w : List ℕ). bytes_eq w word) same;
+  }
+
+  -- where it is a string
+  quoted_at : (k : ℕ) (before behind : List ℕ) → spelling_at old k ≡ double_quote ∷ before → spelling_at new k ≡ double_quote ∷ behind → OtherAt k
+  quoted_at k before behind was is = record {
+    was = ap is_identifier_text was;
+    is = ap is_identifier_text is;
+    words = λ word own.
+        ap (λ (w : List ℕ). bytes_eq w word) is ∙ unquoted_word behind word own ∙ sym (unquoted_word before word own)
+        ∙ sym (ap (λ (w : List ℕ). bytes_eq w word) was);
+  }
+
+  other_at : (k : ℕ) (t : Token) → slice_get old k ≡ Some t → is_name t ≡ false → OtherAt k
   other_at k t e other =
       let kept = tokens_kept a members name r h spells keeps u i t (k, e) in
-      record {
-        same = new_at k t e ∙ kept.stays other ∙ sym (old_at k t e);
-        plain = ap is_identifier_text (old_at k t e) ∙ other_plain t (k, e) other;
-      }
+      elim (kept.stays other) [
+        | inl same ↦ still_at k (ap is_identifier_text (old_at k t e) ∙ other_plain t (k, e) other) (new_at k t e ∙ same ∙ sym (old_at k t e))
+        | inr q ↦ quoted_at k q.before q.behind (old_at k t e ∙ q.was) (new_at k t e ∙ q.is)
+      ]
 
-  pub look : (k : ℕ) → NameAt k ⊎ StillAt k
+  pub look : (k : ℕ) → NameAt k ⊎ OtherAt k
   look k = by (slice_get old k) refl
     where
-      by : (o : Option Token) → slice_get old k ≡ o → NameAt k ⊎ StillAt k
-      by None e = inr (record { same = new_none k e ∙ sym (ap text_of e); plain = ap is_identifier_text (ap text_of e) })
+      by : (o : Option Token) → slice_get old k ≡ o → NameAt k ⊎ OtherAt k
+      by None e = inr (still_at k (ap is_identifier_text (ap text_of e)) (new_none k e ∙ sym (ap text_of e)))
       by (Some t) e = elim (cases_Bool (is_name t)) [
         | inl named ↦ inl (record { token = t; there = e; named = named })
         | inr other ↦ inr (other_at k t e other)
@@ -160,16 +180,16 @@ module _ (a : Analysed) (members : List Part) (name : List ℕ) (r : Renaming) (
         ap (λ (w : List ℕ). bytes_eq w word) (new_at k n.token n.there)
         ∙ word_same n.token (k, n.there) n.named word own
         ∙ sym (ap (λ (w : List ℕ). bytes_eq w word) (old_at k n.token n.there))
-    | inr s ↦ ap (λ (w : List ℕ). bytes_eq w word) s.same
+    | inr s ↦ s.words word own
   ]
 
   -- ---- what is apart
 
   -- an identifier is not spelled as what is none
-  never : (j k : ℕ) → NameAt j → StillAt k → spelling_at new j ≡ spelling_at new k → ⊥
+  never : (j k : ℕ) → NameAt j → OtherAt k → spelling_at new j ≡ spelling_at new k → ⊥
   never j k n s e =
-      both_ways (is_identifier_text (spelling_at old k)) s.plain
-      (ap is_identifier_text (sym s.same ∙ sym e ∙ new_at j n.token n.there) ∙ new_identifier n.token (j, n.there) n.named)
+      both_ways (is_identifier_text (spelling_at new k)) s.is
+      (ap is_identifier_text (sym e ∙ new_at j n.token n.there) ∙ new_identifier n.token (j, n.there) n.named)
 
   same_before : (j k : ℕ) → NameAt k → spelling_at new j ≡ spelling_at new k → spelling_at old j ≡ spelling_at old k
   same_before j k m e = elim (look j) [

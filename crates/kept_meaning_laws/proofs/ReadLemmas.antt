@@ -1,8 +1,12 @@
 -- The renamed tokens of each unit are read and bound as before.
-use Rattle.std.proofs.Common.{ℕ, List, map}
+use Rattle.std.proofs.Common.{◌≡◌, ℕ, true, List, map}
 use Rattle.tree_laws.specs.Below.cs_base.declared.positions.Part.{Part}
 use Rattle.tree_laws.specs.Below.cs_base.Token.{Token}
 use Rattle.no_offence_laws.specs.Below.macro_expand.Renaming.{Renaming, renamed}
+use Rattle.tree_laws.specs.Below.c99_grammar.Standard.{grammar}
+use Rattle.tree_laws.specs.Below.c99_read.State.{base_at, is_identifier}
+use Rattle.tree_laws.specs.Below.name_chains.Frames.{outermost}
+use Rattle.tree_laws.proofs.NamesRead.{names_are_read}
 use Rattle.renamed_tree_laws.specs.Loose.{StaysWhole}
 use Rattle.renamed_tree_laws.proofs.ReadBareNames.{bare_names_are_loose}
 use Rattle.renamed_tree_laws.proofs.RenamedTrees.{renamed_alike}
@@ -23,6 +27,7 @@ use Rattle.kept_meaning_laws.proofs.KeptUnitLemmas.{analysis_is_renamed_where_na
 use Rattle.kept_meaning_laws.specs.ReadUnits.{UnitsReadAsBefore, EditedFilesHaveRenamedAnalysis}
 use Rattle.kept_meaning_laws.proofs.BareLemmas.{bare_stays}
 use Rattle.kept_meaning_laws.proofs.ClassLemmas.{bases_kept}
+use Rattle.kept_meaning_laws.proofs.LooseLemmas.{loose_named, loose_all}
 
 module _ (a : Analysed) (members : List Part) (name : List ℕ) (r : Renaming) (h : IsAllowed a members name) (spells : Spells members name r)
     (keeps : KeepsUnedited r) where
@@ -31,8 +36,11 @@ module _ (a : Analysed) (members : List Part) (name : List ℕ) (r : Renaming) (
       let is = unit_read_so h.source h.workspace a.value h.accepted u i in
       let old : List Token = u.text.toks in
       let new : List Token = map (renamed r) u.text.toks in
-      let loose = bare_names_are_loose u.standard old u.tree u.bound is.reads is.binds (StaysWhole old new u.bound.typedefs)
+      let Named : ℕ → Type 0 = λ k. is_identifier (base_at (grammar u.standard) old k) ≡ true in
+      let named = loose_named u.standard old (outermost 0).label 0 u.tree.under (names_are_read u.standard old u.tree is.reads) in
+      let whole = bare_names_are_loose u.standard old u.tree u.bound is.reads is.binds (λ x. Named x → StaysWhole old new u.bound.typedefs x)
       (λ k x at. bare_stays a members name r h spells keeps u i x (k, at)) in
+      let loose = loose_all u.standard old Named (StaysWhole old new u.bound.typedefs) (outermost 0).label 0 u.tree.under named whole in
       record {
         reads = renamed_alike u.standard old new u.tree u.bound is.reads is.binds (units_are_renamed_whole a members name r h spells keeps u i)
             (bases_kept a members name r h spells keeps u i) loose;

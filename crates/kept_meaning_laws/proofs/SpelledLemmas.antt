@@ -9,7 +9,7 @@ use Rattle.tree_laws.specs.Below.cs_base.declared.tokens.Kind.{Kind}
 use Rattle.tree_laws.specs.Below.cs_base.declared.tokens.Kind.TheVariants.{Ident, Number}
 use Rattle.tree_laws.specs.Below.cs_base.Reserved.{is_reserved_text}
 use Rattle.tree_laws.specs.Below.cs_base.Token.{has_origins}
-use Rattle.no_offence_laws.specs.Below.part_lexer.Characters.{full_stop, is_nondigit, is_digit, is_word}
+use Rattle.no_offence_laws.specs.Below.part_lexer.Characters.{double_quote, full_stop, is_nondigit, is_digit, is_word}
 use Rattle.no_offence_laws.specs.Below.part_lexer.Spelling.{is_identifier_text, begins_with_digit, begins_number, all_follow, is_number_text}
 use Rattle.no_offence_laws.specs.Below.line_shape.Signs.{is_identifier}
 use Rattle.no_offence_laws.specs.Below.expansion_laws.Spelled.{fits}
@@ -84,3 +84,25 @@ fixed_plain word fixed free = elim (or_cases (is_reserved_text word) (not (is_id
     not_true : (b : Bool) → not b ≡ true → b ≡ false
     not_true true h = absurd (cc)
     not_true false h = refl
+
+-- none of them begins with a quote
+abbrev is_unquoted : List ℕ → Bool
+is_unquoted [] = true
+is_unquoted (c ∷ cs) = not (c == double_quote)
+
+own_unquoted : list_all is_unquoted own_words ≡ true
+own_unquoted = refl
+
+any_unquoted : (words : List (List ℕ)) (word : List ℕ) → list_all is_unquoted words ≡ true → list_any (λ w. bytes_eq w word) words ≡ true → is_unquoted word ≡ true
+any_unquoted [] word all any = absurd (cc)
+any_unquoted (w ∷ words) word all any =
+    let both = and_parts (is_unquoted w) (list_all is_unquoted words) all in
+    elim (or_cases (bytes_eq w word) (list_any (λ v. bytes_eq v word) words) any) [
+      | inl here ↦ ap is_unquoted (sym (bytes_eq-equal w word here)) ∙ both.0
+      | inr later ↦ any_unquoted words word both.1 later
+    ]
+
+pub unquoted_word : (cs word : List ℕ) → is_own_word word ≡ true → bytes_eq (double_quote ∷ cs) word ≡ false
+unquoted_word cs word own =
+    false_from_ne_true (bytes_eq (double_quote ∷ cs) word) (λ same.
+    both_ways (is_unquoted word) (ap is_unquoted (sym (bytes_eq-equal (double_quote ∷ cs) word same))) (any_unquoted own_words word own_unquoted own))

@@ -1,17 +1,19 @@
 -- Tokens of units under a renaming: identifiers and punctuators are those of files or pasted ones, and what is no identifier
--- keeps its spelling.
-use Rattle.std.proofs.Common.{◌≡◌, ℕ, zero, suc, ◌*◌, Bool, true, false, List, length, replicate, None, Some, refl, sym, ap, subst, ◌∙◌}
-use Rattle.std.specs.Prelude.{Option, slice_get, ◌-◌}
+-- keeps its spelling, unless `#` made it: then it begins with a quote as before.
+use Rattle.std.proofs.Common.{◌≡◌, ℕ, zero, suc, ◌*◌, Bool, true, false, List, [], ◌∷◌, ◌++◌, length, replicate, None, Some, inl, inr, refl, sym, ap, subst, ◌∙◌}
+use Rattle.std.specs.Prelude.{◌⊎◌, Option, slice_get}
 use Rattle.std.specs.Fmt.{decimal}
 use Rattle.std.specs.List.{flat_map, list_all}
 use Rattle.std.specs.Option.{is_none}
+use Rattle.std.proofs.lemmas.List.{length-replicate}
 use Rattle.tree_laws.specs.Below.cs_base.declared.positions.Part.{Part}
 use Rattle.tree_laws.specs.Below.cs_base.declared.positions.Pos.{Pos}
 use Rattle.tree_laws.specs.Below.cs_base.declared.tokens.Kind.{Kind}
 use Rattle.tree_laws.specs.Below.cs_base.declared.tokens.Kind.TheVariants.{Number, Str}
 use Rattle.tree_laws.specs.Below.cs_base.Token.{Token}
 use Rattle.no_offence_laws.specs.Below.part_lexer.Tokens.{tokens_of}
-use Rattle.no_offence_laws.specs.Below.paste_origin.Strings.{string_text, string_token}
+use Rattle.no_offence_laws.specs.Below.part_lexer.Characters.{double_quote}
+use Rattle.no_offence_laws.specs.Below.paste_origin.Strings.{spellings_of, all_origins, string_text, string_origins, string_token}
 use Rattle.no_offence_laws.specs.Below.line_shape.Signs.{is_identifier, is_punctuator, is_name}
 use Rattle.no_offence_laws.specs.Below.macro_body.Notes as expansion
 use Rattle.no_offence_laws.specs.Below.macro_expand.Renaming.{Renaming, occurs, spelled}
@@ -23,13 +25,16 @@ use Rattle.no_offence_laws.specs.Below.unit_steps.Notes.{Note, Happened, pasted_
 use Rattle.no_offence_laws.specs.Below.source_files.Sources.{source_at}
 use Rattle.no_offence_laws.specs.Below.unit_steps.Texts.{UnitTextValue, unit_text}
 use Rattle.no_offence_laws.proofs.Below.include_tree.StayingLemmas.{source-grown}
-use Rattle.no_offence_laws.proofs.Below.expansion_laws.ListLemmas.{AllToks, each_tok, toks_at}
+use Rattle.no_offence_laws.proofs.Below.expansion_laws.ListLemmas.{AllToks, each_tok, toks_at, toks_more}
+use Rattle.no_offence_laws.proofs.Below.expansion_laws.StringLemmas.{IsEach, string_long}
 use Rattle.no_offence_laws.proofs.Below.expansion_laws.TellingLemmas.{string_is}
 use Rattle.no_offence_laws.specs.Below.unit_laws.UnitLinks.{IsIn as IsInList}
 use Rattle.no_offence_laws.proofs.Below.unit_laws.DoneLemmas.{UnitRules}
-use Rattle.no_offence_laws.proofs.Below.unit_laws.NoteLemmas.{TextHas, flat_in}
+use Rattle.no_offence_laws.proofs.Below.unit_laws.NoteLemmas.{TextHas, EventHas, flat_in, in_at}
 use Rattle.no_offence_laws.proofs.Below.unit_laws.PartLemmas.{from_files}
 use Rattle.no_offence_laws.proofs.Below.unit_laws.TextLemmas.{IsText, text_is, unit_text_has}
+use Rattle.no_offence_laws.specs.Below.unit_laws.ToldNames.{IsTold}
+use Rattle.no_offence_laws.specs.Below.part_respell.Respelled.{spelled_from}
 use Rattle.no_offence_laws.specs.Below.ws_core.Analysed.{Analysed}
 use Rattle.no_offence_laws.specs.Below.ws_core.Analysis.{UnitAnalysis, AnalysisValue}
 use Rattle.no_offence_laws.specs.Allowed.{IsAllowed}
@@ -40,13 +45,22 @@ use Rattle.no_offence_laws.proofs.ApartLemmas.{parted_of, file_told, pasted_part
 use Rattle.no_offence_laws.proofs.KeptTokenLemmas.{other_same}
 use Rattle.no_offence_laws.proofs.ListLemmas.{In}
 use Rattle.no_offence_laws.proofs.OccurringLemmas.{file_tokens_occur, pasted_tokens_occur}
-use Rattle.no_offence_laws.proofs.TracedLemmas.{source_of_kept}
+use Rattle.no_offence_laws.proofs.TracedLemmas.{source_of_kept, digits_length}
 use Rattle.no_offence_laws.proofs.UnitsLemmas.{IsUnit, unit_is}
 
--- The token occurs, and keeps its spelling if it is no identifier.
+-- A string that begins with a quote, before and anew.
+pub record IsQuoted (r : Renaming) (t : Token) : Type 0 where
+  pub kind : t.kind ≡ Str
+  pub before : List ℕ
+  pub behind : List ℕ
+  pub was : t.text ≡ double_quote ∷ before
+  pub is : spelled r t ≡ double_quote ∷ behind
+
+-- The token occurs, and keeps its spelling if it is no identifier and no such string.
 pub record IsKept (a : AnalysisValue) (r : Renaming) (t : Token) : Type 0 where
+  pub each : length t.origins ≡ length t.text
   pub occurring : occurs (occurring_in a) t ≡ true
-  pub stays : is_name t ≡ false → spelled r t ≡ t.text
+  pub stays : is_name t ≡ false → (spelled r t ≡ t.text) ⊎ IsQuoted r t
 
 other_occurs : (a : AnalysisValue) (k : Kind) (origins : List (Option Pos)) (text : List ℕ) → is_identifier k ≡ false → is_punctuator k ≡ false
     → occurring_in a k origins text ≡ true
@@ -62,12 +76,36 @@ module _ (a : Analysed) (members : List Part) (name : List ℕ) (r : Renaming) (
   abbrev Kept : Token → Type 0
   Kept t = IsKept a.value r t
 
+  answer_each : (word : Token) (b : Bool) → length (answer_for word b).origins ≡ length (answer_for word b).text
+  answer_each word true = refl
+  answer_each word false = refl
+
   answer_stays : (word : Token) (b : Bool) → spelled r (answer_for word b) ≡ (answer_for word b).text
   answer_stays word true = (keeps.numbers 8 1 (answer_for word true).text).0
   answer_stays word false = (keeps.numbers 0 1 (answer_for word false).text).0
 
-  string_stays : (text : List ℕ) → spelled r (string_token text) ≡ text
-  string_stays text = (keeps.untraced (string_token text).origins text (none_traced (length text - 0))).0
+  string_quoted : (ts : List Token) → length (string_origins ts) ≡ length (string_text ts) → IsQuoted r (string_token (string_text ts) (string_origins ts))
+  unfolding spelled_from
+  string_quoted ts each = record {
+    kind = refl;
+    before = spellings_of ts ++ double_quote ∷ [];
+    behind = spelled_from members name (all_origins ts ++ None ∷ []) (spellings_of ts ++ double_quote ∷ []);
+    was = refl;
+    is = spells (string_token (string_text ts) (string_origins ts)) each;
+  }
+
+  quoted_as : (s t : Token) → t.kind ≡ s.kind → t.text ≡ s.text → t.origins ≡ s.origins → IsQuoted r s → IsQuoted r t
+  quoted_as s t kind text origins q = record {
+    kind = kind ∙ q.kind;
+    before = q.before;
+    behind = q.behind;
+    was = text ∙ q.was;
+    is = ap (λ (os : List (Option Pos)). r.spell os t.text) origins ∙ ap (λ (w : List ℕ). r.spell s.origins w) text ∙ q.is;
+  }
+
+  moved_on : (s t : Token) → t.kind ≡ s.kind → t.text ≡ s.text → t.origins ≡ s.origins → (spelled r s ≡ s.text) ⊎ IsQuoted r s → (spelled r t ≡ t.text) ⊎ IsQuoted r t
+  moved_on s t kind text origins (inl same) = inl (ap (λ (os : List (Option Pos)). r.spell os t.text) origins ∙ ap (λ (w : List ℕ). r.spell s.origins w) text ∙ same ∙ sym text)
+  moved_on s t kind text origins (inr q) = inr (quoted_as s t kind text origins q)
 
   module _ (u : UnitAnalysis) (i : In u a.value.units) where
     module _ (notes : List Note) (toks : List Token) (table : Table) (is_text : unit_text toks notes ≡ u.text) (grown : IsGrown table a.value.table) where
@@ -76,46 +114,55 @@ module _ (a : Analysed) (members : List Part) (name : List ℕ) (r : Renaming) (
           let s = source_of_kept a.value.table number file (source-grown table a.value.table number file grown is) in
           each_tok Kept file.text.toks (λ t k at.
           let there : In t (tokens_of s.kept.number s.kept.bytes) = (k, ap (λ (ts : List Token). slice_get ts k) (sym s.toks) ∙ at) in
+          let told = file_told a members name h number s.kept s.is_kept t there in
           record {
+            each = told.each;
             occurring = file_tokens_occur a.value t (record { number = number; file = s.kept; is_kept = s.is_kept; there = there });
-            stays = other_same a members name r h spells t (parted_of a.value members t (file_told a members name h number s.kept s.is_kept t there));
+            stays = λ other. inl (other_same a members name r h spells t (parted_of a.value members t told) other);
           })
 
       pasted_kept : (run : Bool) (before : ℕ) (x y z : Token) → IsInList notes (Happened run before (expansion.Pasted x y z)) → Kept z
       pasted_kept run before x y z told =
           let there : IsInList (flat_map pasted_of notes) z = flat_in pasted_of notes (Happened run before (expansion.Pasted x y z)) z told.0 told.1 (0, refl) in
           let own : IsInList u.text.pasted z = subst (λ (v : UnitTextValue). IsInList v.pasted z) is_text there in
+          let parted = pasted_parted a members name h z (record { unit = u; there = i; pasted = own }) in
           record {
+            each = parted.each;
             occurring = pasted_tokens_occur a.value z (record { unit = u; there = i; pasted = own });
-            stays = other_same a members name r h spells z (pasted_parted a members name h z (record { unit = u; there = i; pasted = own }));
+            stays = λ other. inl (other_same a members name r h spells z parted other);
           }
 
       rules_kept : UnitRules Kept (IsInList notes) table
       rules_kept = record {
-        spaced = λ t gap k. record { occurring = k.occurring; stays = k.stays };
-        moved = λ t k. record { occurring = k.occurring; stays = k.stays };
-        placed = λ from t gap here k. record { occurring = k.occurring; stays = k.stays };
+        spaced = λ t gap k. record { each = k.each; occurring = k.occurring; stays = λ other. moved_on t (record t { gap = gap }) refl refl refl (k.stays other) };
+        moved = λ t k. record { each = k.each; occurring = k.occurring; stays = λ other. moved_on t (record t { direct = false }) refl refl refl (k.stays other) };
+        placed = λ from t gap here k. record { each = k.each; occurring = k.occurring; stays = λ other. moved_on t (put_in from gap t) refl refl refl (k.stays other) };
         items = λ number k evaluated before file item is at told. from_files Kept table files_kept number k evaluated file item is at;
         lines = λ from run before more here word told. record {
+          each = digits_length (8 * from.line) (length (decimal from.line));
           occurring = other_occurs a.value Number (line_number from).origins (line_number from).text refl refl;
-          stays = λ other. (keeps.numbers (8 * from.line) (length (decimal from.line)) (line_number from).text).0;
+          stays = λ other. inl (keeps.numbers (8 * from.line) (length (decimal from.line)) (line_number from).text).0;
         };
         answers = λ word b here told. record {
+          each = answer_each word b;
           occurring = other_occurs a.value Number (answer_for word b).origins (answer_for word b).text refl refl;
-          stays = λ other. answer_stays word b;
+          stays = λ other. inl (answer_stays word b);
         };
         paths = λ path from here. record {
+          each = length-replicate (length (path_text path)) None;
           occurring = other_occurs a.value Str (path_string path from).origins (path_string path from).text refl refl;
-          stays = λ other. (keeps.untraced (path_string path from).origins (path_string path from).text (none_traced (length (path_text path)))).0;
+          stays = λ other. inl (keeps.untraced (path_string path from).origins (path_string path from).text (none_traced (length (path_text path)))).0;
         };
         strings = λ from gap ts s here all is.
             let made = string_is ts s is in
-            let own : Kept (string_token (string_text ts)) = record {
-              occurring = other_occurs a.value Str (string_token (string_text ts)).origins (string_token (string_text ts)).text refl refl;
-              stays = λ other. string_stays (string_text ts);
+            let each = string_long ts (toks_more Kept IsEach ts all (λ t k. k.each)) in
+            let own : Kept (string_token (string_text ts) (string_origins ts)) = record {
+              each = each;
+              occurring = other_occurs a.value Str (string_origins ts) (string_text ts) refl refl;
+              stays = λ other. inr (string_quoted ts each);
             } in
             let k : Kept s = subst Kept (sym made) own in
-            record { occurring = k.occurring; stays = k.stays };
+            record { each = k.each; occurring = k.occurring; stays = λ other. moved_on s (put_in from gap s) refl refl refl (k.stays other) };
         pastes = λ from x y z run before here px py is told. pasted_kept run before x y (put_in from x.gap z) told;
       }
 
@@ -139,3 +186,10 @@ module _ (a : Analysed) (members : List Part) (name : List ℕ) (r : Renaming) (
     tokens_kept t j =
         let has = unit_kept in
         toks_at Kept u.text.toks has.toks t j.0 j.1
+
+    -- and with each name of which it tells
+    pub told_kept : (t : Token) → IsTold u.text t → IsKept a.value r t
+    told_kept t told =
+        let has = unit_kept in
+        let among = told.among in
+        (in_at (EventHas Kept) u.text.events has.events told.event among.0 among.1).name t told.named

@@ -10,7 +10,7 @@ use Rattle.part_lexer.specs.Characters.{double_quote}
 use Rattle.part_lexer.specs.OneToken.{one_token_of}
 use Rattle.paste_origin.specs.Pasting.{PasteFault, joined, pasted_as, glue_of}
 use Rattle.paste_origin.specs.Strings.{NotAString as NotAString_of}
-use Rattle.paste_origin.specs.Strings.{StringFault, is_string, string_text, string_token, stringize_of}
+use Rattle.paste_origin.specs.Strings.{StringFault, is_string, string_text, string_origins, string_token, stringize_of}
 use Rattle.macro_body.specs.Hides.{Hidden, hidden, in_both, toks_of}
 use Rattle.macro_body.specs.Bodies.{Part, Plain, Param, Quote, Paste}
 use Rattle.macro_body.specs.Notes.{Fault, NotOneToken, NotAString, Stringized, Pasted, onward}
@@ -71,8 +71,8 @@ string-traced toks s e = by (is_string (one_token_of (string_text toks))) e
     value_or (Ok t) = t
     value_or (Err fault) = s
 
-    by : (is : Bool) → cond is (Ok (string_token (string_text toks))) (Err NotAString_of) ≡ Ok s → is_traced s ≡ true
-    by true k = ap is_traced (sym (ap value_or k)) ∙ or_right (list_all is_some (string_token (string_text toks)).origins) true refl
+    by : (is : Bool) → cond is (Ok (string_token (string_text toks) (string_origins toks))) (Err NotAString_of) ≡ Ok s → is_traced s ≡ true
+    by true k = ap is_traced (sym (ap value_or k)) ∙ or_right (list_all is_some (string_token (string_text toks) (string_origins toks)).origins) true refl
     by false k = absurd (cc)
 
 -- a token that is pasted of two that come from somewhere

@@ -3,6 +3,7 @@ pub mod ListLemmas
 pub mod FileLemmas
 pub mod PutLemmas
 pub mod SpellLemmas
+pub mod StringLemmas
 pub mod WordLemmas
 pub mod NoneLemmas
 pub mod MemberLemmas

@@ -8,8 +8,7 @@ use Rattle.std.proofs.lemmas.List.Folds.{list_all-append}
 use Rattle.rename_rules.specs.Below.cs_base.declared.positions.Part.{Part}
 use Rattle.rename_rules.specs.Below.cs_base.declared.positions.Pos.{Pos}
 use Rattle.rename_rules.specs.Below.cs_base.declared.tokens.Kind.{Kind}
-use Rattle.rename_rules.specs.Below.cs_base.declared.tokens.Kind.TheVariants.{Ident}
-use Rattle.rename_rules.specs.Below.cs_base.Padding.{padded}
+use Rattle.rename_rules.specs.Below.cs_base.declared.tokens.Kind.TheVariants.{Ident, Str}
 use Rattle.rename_rules.specs.Below.cs_base.Token.{Token, token}
 use Rattle.rename_rules.specs.Below.part_lexer.Characters.{double_quote, is_nondigit, is_word}
 use Rattle.rename_rules.specs.Below.part_lexer.OneToken.{one_token_of}
@@ -17,7 +16,7 @@ use Rattle.rename_rules.specs.Below.part_lexer.Places.{pos}
 use Rattle.rename_rules.specs.Below.part_lexer.Spelling.{is_identifier_text}
 use Rattle.rename_rules.specs.Below.line_shape.Signs.{is_identifier}
 use Rattle.rename_rules.specs.Below.paste_origin.Pasting.{pasted_as, joined, glue_of}
-use Rattle.rename_rules.specs.Below.paste_origin.Strings.{space, NotAString, escaped, spelling_of, later_spelling, spellings_of, string_text, string_token, is_string, stringize_of}
+use Rattle.rename_rules.specs.Below.paste_origin.Strings.{space, NotAString, escaped, spelling_of, later_spelling, spellings_of, string_text, string_origins, string_token, is_string, stringize_of}
 use Rattle.rename_rules.specs.Below.macro_body.Notes as expansion
 use Rattle.rename_rules.specs.Below.macro_expand.Renaming.{Renaming, renamed, labelled_as}
 use Rattle.rename_rules.specs.Below.source_files.KeptFiles.{KeptValue, kept_at}
@@ -28,6 +27,7 @@ use Rattle.edited_unit_laws.specs.Below.expansion_laws.Spelled.{fits}
 use Rattle.edited_unit_laws.specs.Below.expansion_laws.Telling.{IsPasted}
 use Rattle.edited_unit_laws.proofs.Below.expansion_laws.ListLemmas.{AllToks, toks_at}
 use Rattle.edited_unit_laws.proofs.Below.expansion_laws.PiecesLemmas.{glue_is}
+use Rattle.edited_unit_laws.proofs.Below.expansion_laws.TellingLemmas.{string_is}
 use Rattle.unit_laws.specs.UnitLinks.{IsIn as IsInList}
 use Rattle.unit_laws.proofs.DoneLemmas.{HappenedSo, NotedSo}
 use Rattle.unit_laws.proofs.NoteLemmas.{in_at, each_in, flat_in}
@@ -51,6 +51,7 @@ use Rattle.no_offence_laws.proofs.OneTokenLemmas.{one_identifier}
 use Rattle.no_offence_laws.proofs.PutLemmas.{identifier_words, put_words}
 use Rattle.no_offence_laws.proofs.RenamingLemmas.{spell-same}
 use Rattle.no_offence_laws.proofs.SpellLemmas.{spelled-kept}
+use Rattle.no_offence_laws.proofs.StringLemmas.{IsStringed, fine_free, spell_append, trace_append, string_spelled, string_traced}
 use Rattle.no_offence_laws.proofs.TracedLemmas.{AreChained, Traced, spelled_fits, rules_traced}
 use Rattle.no_offence_laws.proofs.UnitsLemmas.{IsUnit, unit_is, unit_traced, no_lines, brought_in}
 use Rattle.edited_unit_laws.specs.Below.renamed.Renamed.{spell_from, moved_in, move_to, origins_for, trace_from}
@@ -117,45 +118,18 @@ string_same r (t ∷ toks) same =
     ap (λ (w : List ℕ). w ++ flat_map later_spelling (map (renamed r) toks)) first ∙ ap (λ (w : List ℕ). spelling_of t ++ w) rest in
     ap (λ (w : List ℕ). double_quote ∷ w ++ double_quote ∷ []) both
 
-strings_same : (r : Renaming) (toks : List Token) → Unchanged r toks → stringize_of (map (renamed r) toks) ≡ stringize_of toks
+-- the string that tokens make, if their text is one
+string_if : (b : Bool) (x s : Token) → cond b (Ok x) (Err NotAString) ≡ Ok s → b ≡ true
+string_if true x s e = refl
+string_if false x s e = absurd (cc)
+
+is_one_string : (toks : List Token) (s : Token) → stringize_of toks ≡ Ok s → is_string (one_token_of (string_text toks)) ≡ true
 unfolding stringize_of
-strings_same r toks same = ap (λ (w : List ℕ). cond (is_string (one_token_of w)) (Ok (string_token w)) (Err NotAString)) (string_same r toks same)
+is_one_string toks s e = string_if (is_string (one_token_of (string_text toks))) (string_token (string_text toks) (string_origins toks)) s e
 
--- what comes from no file stays
-spell_untraced : (members : List Part) (name : List ℕ) (n : ℕ) (text : List ℕ) → length text ≡ n → spell_from members name (replicate n None) text ≡ text
-unfolding spell_from
-spell_untraced members name zero text size = refl
-spell_untraced members name (suc n) [] size = refl
-spell_untraced members name (suc n) (c ∷ text) size = ap (λ (w : List ℕ). c ∷ w) (spell_untraced members name n text (omega (arith, size)))
-
-pub trace_untraced : (a : AnalysisValue) (members : List Part) (name : List ℕ) (n : ℕ) (text : List ℕ) → length text ≡ n → trace_from a members name (replicate n None) text ≡ replicate n None
-unfolding trace_from
-trace_untraced a members name zero text size = refl
-trace_untraced a members name (suc n) [] size = refl
-trace_untraced a members name (suc n) (c ∷ text) size = ap (λ (os : List (Option Pos)). None ∷ os) (trace_untraced a members name n text (omega (arith, size)))
-
-string_is : (b : Bool) (text : List ℕ) (s : Token) → cond b (Ok (string_token text)) (Err NotAString) ≡ Ok s → string_token text ≡ s
-string_is true text s e = cc
-string_is false text s e = absurd (cc)
-
-made_string : (toks : List Token) (s : Token) → stringize_of toks ≡ Ok s → string_token (string_text toks) ≡ s
+makes_string : (toks : List Token) → is_string (one_token_of (string_text toks)) ≡ true → stringize_of toks ≡ Ok (string_token (string_text toks) (string_origins toks))
 unfolding stringize_of
-made_string toks s e = string_is (is_string (one_token_of (string_text toks))) (string_text toks) s e
-
--- a string stays as it is
-string_stays : (a : AnalysisValue) (members : List Part) (name : List ℕ) (text : UnitTextValue) (w : List ℕ) → kept_at a.table 0 ≡ None
-    → renamed (renaming a members name text) (string_token w) ≡ string_token w
-string_stays a members name text w none =
-    let size : length w - 0 ≡ length w = omega arith in
-    let origins : padded (length w) [] ≡ replicate (length w) None = ap (λ (n : ℕ). replicate n None) size in
-    let spell : spell_from members name (padded (length w) []) w ≡ w = ap (λ (os : List (Option Pos)). spell_from members name os w) origins ∙ spell_untraced members name (length w) w refl in
-    let trace : trace_from a members name (padded (length w) []) w ≡ padded (length w) [] =
-    ap (λ (os : List (Option Pos)). trace_from a members name os w) origins ∙ trace_untraced a members name (length w) w refl ∙ sym origins in
-    let move : move_to a members name (pos 0 0) ≡ pos 0 0 = ap (λ (o : Option KeptValue). option_map_or (moved_in members name (pos 0 0)) o (pos 0 0)) none in
-    let s : Token = string_token w in
-    ap (λ (x : List ℕ). token s.kind x (trace_from a members name (padded (length w) []) w) false (move_to a members name (pos 0 0)) 0 false) spell
-    ∙ ap (λ (os : List (Option Pos)). token s.kind w os false (move_to a members name (pos 0 0)) 0 false) trace
-    ∙ ap (λ (p : Pos). token s.kind w (padded (length w) []) false p 0 false) move
+makes_string toks one = ap (λ (b : Bool). cond b (Ok (string_token (string_text toks) (string_origins toks))) (Err NotAString)) one
 
 -- ---- pasted tokens
 
@@ -209,27 +183,6 @@ module _ (a : AnalysisValue) (members : List Part) (part : Part) (listed : AreMe
       identifier_on (put_at members name p c) (spelled_from members name os text)
       (first_put name p c (member_over members p) is both.0 (begins_at p chained.0))
       (words_from members name os text (identifier_words name is) both.1)
-
--- the characters of one token and of one behind it
-trace_append : (a : AnalysisValue) (members : List Part) (name : List ℕ) (os ps : List (Option Pos)) (xs ys : List ℕ) → length os ≡ length xs
-    → trace_from a members name (os ++ ps) (xs ++ ys) ≡ trace_from a members name os xs ++ trace_from a members name ps ys
-unfolding trace_from
-trace_append a members name [] ps [] ys size = refl
-trace_append a members name [] ps (c ∷ xs) ys size = absurd (omega (arith, size))
-trace_append a members name (o ∷ os) ps [] ys size = absurd (omega (arith, size))
-trace_append a members name (o ∷ os) ps (c ∷ xs) ys size =
-    ap (λ (qs : List (Option Pos)). origins_for a members name o c ++ qs) (trace_append a members name os ps xs ys (omega (arith, size)))
-    ∙ sym (append_assoc (origins_for a members name o c) (trace_from a members name os xs) (trace_from a members name ps ys))
-
-spell_append : (members : List Part) (name : List ℕ) (os ps : List (Option Pos)) (xs ys : List ℕ) → length os ≡ length xs
-    → spell_from members name (os ++ ps) (xs ++ ys) ≡ spell_from members name os xs ++ spell_from members name ps ys
-unfolding spell_from
-spell_append members name [] ps [] ys size = refl
-spell_append members name [] ps (c ∷ xs) ys size = absurd (omega (arith, size))
-spell_append members name (o ∷ os) ps [] ys size = absurd (omega (arith, size))
-spell_append members name (o ∷ os) ps (c ∷ xs) ys size =
-    ap (λ (w : List ℕ). put_for members name o c ++ w) (spell_append members name os ps xs ys (omega (arith, size)))
-    ∙ sym (append_assoc (put_for members name o c) (spell_from members name os xs) (spell_from members name ps ys))
 
 kind_name : (k : Kind) → is_identifier k ≡ true → k ≡ Ident
 kind_name Ident h = refl
@@ -298,14 +251,34 @@ module _ (a : Analysed) (members : List Part) (name : List ℕ) (h : IsAllowed a
     unchanged toks (λ v j. told v (suc j.0, j.1)) traced.1,
   )
 
+  -- no character of theirs comes from a member
+  all_stringed : (toks : List Token) → ((t : Token) → In t toks → In t u.text.stringized) → AllToks (Traced a.value) toks → AllToks (IsStringed a.value members name (identifier_words name h.identifier)) toks
+  all_stringed [] told traced = tt
+  all_stringed (t ∷ toks) told traced = (
+    (let one = traced.0 in
+        record { each = one.each; fine = fine_free members t.origins t.text (stringized_free a members name h u i t (told t (0, refl))) }),
+    all_stringed toks (λ v j. told v (suc j.0, j.1)) traced.1,
+  )
+
   string_anew : (toks : List Token) (s : Token) → ((t : Token) → In t toks → In t u.text.stringized) → AllToks (Traced a.value) toks → stringize_of toks ≡ Ok s
       → stringize_of (map (renamed (renaming a.value members name u.text)) toks) ≡ Ok (renamed (renaming a.value members name u.text) s)
   string_anew toks s told traced made =
       let q : Renaming = renaming a.value members name u.text in
-      let is = made_string toks s made in
-      let stays : renamed q s ≡ s =
-      ap (renamed q) (sym is) ∙ string_stays a.value members name u.text (string_text toks) (no_lines h.source h.workspace a.value h.accepted) ∙ is in
-      strings_same q toks (unchanged toks told traced) ∙ made ∙ ap (λ (v : Token). Ok v) (sym stays)
+      let new : List Token = map (renamed q) toks in
+      let words = identifier_words name h.identifier in
+      let stringed = all_stringed toks told traced in
+      let is = string_is toks s made in
+      let one : is_string (one_token_of (string_text new)) ≡ true =
+      ap (λ (w : List ℕ). is_string (one_token_of w)) (string_same q toks (unchanged toks told traced)) ∙ is_one_string toks s made in
+      let still : move_to a.value members name (pos 0 0) ≡ pos 0 0 =
+      ap (λ (o : Option KeptValue). option_map_or (moved_in members name (pos 0 0)) o (pos 0 0)) (no_lines h.source h.workspace a.value h.accepted) in
+      let text = string_spelled a.value members name words u.text toks stringed in
+      let origins = string_traced a.value members name words u.text toks stringed in
+      makes_string new one
+      ∙ ap (λ (w : List ℕ). Ok (string_token w (string_origins new))) text
+      ∙ ap (λ (os : List (Option Pos)). Ok (string_token (spell_from members name (string_origins toks) (string_text toks)) os)) origins
+      ∙ ap (λ (p : Pos). Ok (token Str (spell_from members name (string_origins toks) (string_text toks)) (trace_from a.value members name (string_origins toks) (string_text toks)) false p 0 false)) (sym still)
+      ∙ ap (λ (v : Token). Ok (renamed q v)) (sym is)
 
   note_anew : (d : Did (List Token)) → IsOutcome a.value u d → (run : Bool) (before : ℕ) (note : expansion.Note) → In (Happened run before note) d.notes
       → HappenedSo (Traced a.value) note → IsMadeAnew (renaming a.value members name u.text) note

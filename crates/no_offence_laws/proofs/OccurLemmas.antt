@@ -6,7 +6,7 @@ use Rattle.rename_rules.specs.Below.cs_base.declared.positions.Pos.{Pos}
 use Rattle.rename_rules.specs.Below.cs_base.declared.tokens.Kind.{Kind}
 use Rattle.rename_rules.specs.Below.cs_base.declared.tokens.Kind.TheVariants.{Number, Str}
 use Rattle.rename_rules.specs.Below.cs_base.Token.{Token}
-use Rattle.rename_rules.specs.Below.paste_origin.Strings.{string_text, string_token}
+use Rattle.rename_rules.specs.Below.paste_origin.Strings.{string_text, string_origins, string_token}
 use Rattle.rename_rules.specs.Below.line_shape.Signs.{is_identifier, is_punctuator}
 use Rattle.rename_rules.specs.Below.macro_body.Notes as expansion
 use Rattle.rename_rules.specs.Below.macro_expand.Renaming.{occurs}
@@ -69,7 +69,7 @@ module _ (a : AnalysisValue) (u : UnitAnalysis) (i : In u a.units) (notes : List
     paths = λ path name here. other_occurs a Str (path_string path name).origins (path_string path name).text refl refl;
     strings = λ name gap ts s here all is.
         let made = string_is ts s is in
-        let own : Occurs a (string_token (string_text ts)) = other_occurs a Str (string_token (string_text ts)).origins (string_token (string_text ts)).text refl refl in
+        let own : Occurs a (string_token (string_text ts) (string_origins ts)) = other_occurs a Str (string_origins ts) (string_text ts) refl refl in
         let P : Token → Type 0 = λ t. Occurs a t in
         subst P (sym made) own;
     pastes = λ name x y z run before here px py is told. pasted_occurs run before x y (put_in name x.gap z) told;

@@ -18,7 +18,7 @@ put_kept : (name : List ℕ) (p : Pos) (c : ℕ) (o : Option Part) → is_some o
 put_kept name p c None none = refl
 put_kept name p c (Some m) none = absurd (cc)
 
-for_kept : (members : List Part) (name : List ℕ) (origin : Option Pos) (c : ℕ) → is_from members origin ≡ false → put_for members name origin c ≡ c ∷ []
+pub for_kept : (members : List Part) (name : List ℕ) (origin : Option Pos) (c : ℕ) → is_from members origin ≡ false → put_for members name origin c ≡ c ∷ []
 for_kept members name None c none = refl
 for_kept members name (Some p) c none = put_kept name p c (member_over members p) none
 

@@ -16,8 +16,7 @@ use Rattle.rename_rules.specs.Below.part_lexer.FileText.{TextValue, file_text}
 use Rattle.rename_rules.specs.Below.part_lexer.Places.{pos, origins_from}
 use Rattle.rename_rules.specs.Below.part_lexer.Tokens.{tokens_of, firsts_of}
 use Rattle.rename_rules.proofs.Below.part_lexer.OriginLemmas.{length-origins}
-use Rattle.rename_rules.specs.Below.paste_origin.Strings.{NotAString, stringize_of, string_text, string_token, is_string}
-use Rattle.rename_rules.specs.Below.part_lexer.OneToken.{one_token_of}
+use Rattle.rename_rules.specs.Below.paste_origin.Strings.{string_text}
 use Rattle.rename_rules.specs.Below.macro_body.Substitution.{put_in, line_number, digit_origins, path_text}
 use Rattle.rename_rules.specs.Below.unit_steps.Conditions.{answer_for}
 use Rattle.rename_rules.specs.Below.source_files.Files.{Table, SourceFile, source_file}
@@ -30,8 +29,10 @@ use Rattle.rename_rules.specs.Below.source_files.Tables.{IsGrown}
 use Rattle.rename_rules.specs.Below.unit_steps.Texts.{UnitTextValue, unit_text}
 use Rattle.rename_rules.proofs.Below.include_tree.StayingLemmas.{source-grown}
 use Rattle.edited_unit_laws.specs.Below.expansion_laws.Spelled.{fits, is_spelled}
-use Rattle.edited_unit_laws.proofs.Below.expansion_laws.ListLemmas.{AllToks, each_tok, toks_at, toks_pass}
+use Rattle.edited_unit_laws.proofs.Below.expansion_laws.ListLemmas.{AllToks, each_tok, toks_at, toks_more, toks_pass}
 use Rattle.edited_unit_laws.proofs.Below.expansion_laws.ShapeLemmas.{words_are_names}
+use Rattle.edited_unit_laws.proofs.Below.expansion_laws.StringLemmas.{IsEach, string_long}
+use Rattle.edited_unit_laws.proofs.Below.expansion_laws.TellingLemmas.{string_is}
 use Rattle.unit_laws.specs.UnitLinks.{IsIn}
 use Rattle.unit_laws.specs.UnitTokens.{BringsLine}
 use Rattle.unit_laws.proofs.PartLemmas.{from_files}
@@ -144,20 +145,9 @@ quote_no_word = refl
 quoted : (text : List ℕ) (rest : List ℕ) → text ≡ double_quote ∷ rest → list_all is_word text ≡ true → ⊥
 quoted text rest e words = quoted_fails is_word text rest quote_no_word e words
 
-digits_length : (at n : ℕ) → length (digit_origins at n) ≡ n
+pub digits_length : (at n : ℕ) → length (digit_origins at n) ≡ n
 digits_length at zero = refl
 digits_length at (suc n) = ap suc (digits_length (at + 1) n)
-
-string_traced : (text : List ℕ) → length (string_token text).origins ≡ length text
-string_traced text = length-replicate (length text - 0) None ∙ omega arith
-
-string_is : (b : Bool) (text : List ℕ) (s : Token) → cond b (Ok (string_token text)) (Err NotAString) ≡ Ok s → string_token text ≡ s
-string_is true text s e = cc
-string_is false text s e = absurd (cc)
-
-made_string : (toks : List Token) (s : Token) → stringize_of toks ≡ Ok s → string_token (string_text toks) ≡ s
-unfolding stringize_of
-made_string toks s e = string_is (is_string (one_token_of (string_text toks))) (string_text toks) s e
 
 -- ---- what begins a file token
 
@@ -247,9 +237,10 @@ module _ (a : AnalysisValue) (text : UnitTextValue) (notes : List Note) (toks : 
       chained = λ words. absurd (quoted (path_text path) _ refl words);
     };
     strings = λ name gap ts s here all is.
-        let made = made_string ts s is in
+        let made = string_is ts s is in
+        let each = toks_more (Traced a) IsEach ts all (λ t h. h.each) in
         traced_as a s (put_in name gap s) refl refl
-        (subst (Traced a) made (record { each = string_traced (string_text ts); chained = λ words. absurd (quoted (string_text ts) _ refl words) }));
+        (subst (Traced a) (sym made) (record { each = string_long ts each; chained = λ words. absurd (quoted (string_text ts) _ refl words) }));
     pastes = λ name x y z run before here px py is told.
         let g = glue_is x y z is in
         let both : Traced a (record x { text = x.text ++ y.text; origins = x.origins ++ y.origins }) = record {

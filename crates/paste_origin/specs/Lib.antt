@@ -2,3 +2,5 @@
 pub mod Pasting
 pub mod Strings
 pub mod Refusals
+-- What inner functions promise each other.
+pub mod Told

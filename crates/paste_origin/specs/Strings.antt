@@ -1,9 +1,10 @@
--- The operator # (ISO/IEC 9899:1999, 6.10.3.2): the spelling of an argument becomes a string literal.
-use Rattle.std.specs.Prelude.{ℕ, Bool, true, false, ◌&&◌, ◌||◌, ◌==◌, if◌then◌else◌, List, [], ◌∷◌, ◌++◌, length, Option, Some, Result, Ok, Err}
+-- The operator # (ISO/IEC 9899:1999, 6.10.3.2): the spelling of an argument becomes a string literal. Which characters of
+-- files its characters come from is this project's.
+use Rattle.std.specs.Prelude.{ℕ, Bool, true, false, ◌&&◌, ◌||◌, ◌==◌, if◌then◌else◌, List, [], ◌∷◌, ◌++◌, Option, Some, None, Result, Ok, Err}
 use Rattle.std.specs.List.{flat_map}
+use Rattle.cs_base.specs.declared.positions.Pos.{Pos}
 use Rattle.cs_base.specs.declared.tokens.Kind.{Kind}
 use Rattle.cs_base.specs.declared.tokens.Kind.TheVariants.{Char, Str}
-use Rattle.cs_base.specs.Padding.{padded}
 use Rattle.cs_base.specs.Token.{Token, token}
 use Rattle.part_lexer.specs.Characters.{backslash, double_quote}
 use Rattle.part_lexer.specs.Places.{pos}
@@ -48,16 +49,47 @@ spellings_of (t ∷ ts) = spelling_of t ++ flat_map later_spelling ts
 abbrev pub string_text : List Token → List ℕ
 string_text ts = double_quote ∷ spellings_of ts ++ double_quote ∷ []
 
--- a string literal of this text; none of its characters has an origin, and its labels are blank
-abbrev pub string_token : List ℕ → Token
-string_token text = token Str text (padded (length text) []) false (pos 0 0) 0 false
+-- ---- origins
+
+-- the origins of a character of a token, as it stands in the string: its own, and none for a backslash that goes before it
+abbrev pub escaped_origins : Kind → ℕ → Option Pos → List (Option Pos)
+escaped_origins kind c origin = if needs_backslash kind c then None ∷ origin ∷ [] else origin ∷ []
+
+-- those of characters of a token that have these origins
+unfoldable pub origins_along : Kind → List ℕ → List (Option Pos) → List (Option Pos)
+origins_along kind [] origins = []
+origins_along kind (c ∷ cs) [] = []
+origins_along kind (c ∷ cs) (origin ∷ origins) = escaped_origins kind c origin ++ origins_along kind cs origins
+
+-- those of the spelling of a token
+abbrev pub origins_of : Token → List (Option Pos)
+origins_of t = origins_along t.kind t.text t.origins
+
+-- those of the spelling of a token behind another one: the space has none
+abbrev pub later_origins : Token → List (Option Pos)
+later_origins t = (if t.gap then None ∷ [] else []) ++ origins_of t
+
+-- those of the spelling of the tokens
+abbrev pub all_origins : List Token → List (Option Pos)
+all_origins [] = []
+all_origins (t ∷ ts) = origins_of t ++ flat_map later_origins ts
+
+-- those of the string: the quotes around it have none
+abbrev pub string_origins : List Token → List (Option Pos)
+string_origins ts = None ∷ all_origins ts ++ None ∷ []
+
+-- ---- the token
+
+-- a string literal of this text, with these origins; its labels are blank
+abbrev pub string_token : List ℕ → List (Option Pos) → Token
+string_token text origins = token Str text origins false (pos 0 0) 0 false
 
 -- a text of this kind is a string literal
 abbrev pub is_string : Option Kind → Bool
 is_string (Some Str) = true
 is_string _ = false
 
--- the string that tokens make (6.10.3.2 paragraph 2), or the fault
+-- the string that tokens make (6.10.3.2 paragraph 2), or the fault: each character of theirs keeps its origin
 unfoldable pub stringize_of : List Token → Result Token StringFault
 stringize_of ts =
-    if is_string (one_token_of (string_text ts)) then Ok (string_token (string_text ts)) else Err NotAString
+    if is_string (one_token_of (string_text ts)) then Ok (string_token (string_text ts) (string_origins ts)) else Err NotAString

@@ -27,6 +27,9 @@ const OWN: &str = "a.c:int foo;\n#define foo (4 + foo)\nint y = foo;\n";
 const SHOWN: &str =
     "a.c:#define SHOW(v) put(#v, v)\nint put(char *s, int n);\nint count;\nint r(void) { return SHOW(count); }\n";
 
+const WIDE: &str =
+    "a.c:void *q = L\"m\";\n#define W(x) (x, L ## #x)\nint n;\nint z = sizeof W(n);\n";
+
 const COMPUTED: &str =
     "inc/sys.h:extern int q;\n@a.c:#define NAME(x) <x.h>\n#include NAME(sys)\nint q;\n";
 
@@ -56,7 +59,7 @@ const GENERIC: &str = "a.c:int _Generic;\n";
 const BOTH: &str =
     "a.c:#if __STDC_VERSION__ >= 201112L\n_Static_assert(sizeof(int) > 0, \"s\");\nstruct s { struct { int n; }; };\nint f(struct s *p) { return p->n; }\n#endif\nint n;\nint g(void) { return n; }\n";
 
-const ROWS: [Row; 23] = [
+const ROWS: [Row; 25] = [
     Row {
         ws: "file a.c\nfile b.c\n",
         files: EXTERNAL,
@@ -101,6 +104,24 @@ const ROWS: [Row; 23] = [
         column: 5,
         name: "total",
         want: "a.c:4:27: stringized",
+    },
+    Row {
+        ws: "file a.c\n",
+        files: WIDE,
+        path: "a.c",
+        line: 3,
+        column: 5,
+        name: "m",
+        want: "a.c:1:11: occurs",
+    },
+    Row {
+        ws: "file a.c\n",
+        files: WIDE,
+        path: "a.c",
+        line: 3,
+        column: 5,
+        name: "k",
+        want: "a.c:4:18: stringized",
     },
     Row {
         ws: "ipath inc\nfile a.c\n",
