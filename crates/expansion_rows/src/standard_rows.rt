@@ -64,7 +64,7 @@ puts(\"The first, second, and third items.\"); \
 ];
 
 /// Object-like macros, and function-like ones without `#` and `##`.
-pub const REPLACED: [Row; 47] = [
+pub const REPLACED: [Row; 52] = [
     // 6.10.3 paragraph 9
     (b"#define n 1\n+n + n n", b"+1 + 1 1"),
     (b"#define if while\nif (x)", b"while (x)"),
@@ -153,6 +153,28 @@ pub const REPLACED: [Row; 47] = [
     (
         b"#define attr_n A((n))\n#define in(a) attr_##a\n#define out(a) in a\n#define use out((n))\nuse",
         b"A((n))",
+    ),
+    // results of results: a call may begin in one, go through those below it and end behind them all, and the names
+    // of each are not available to any of its tokens
+    (
+        b"#define f(x) <x>\n#define b f( 1\n#define a b 2\na 3)",
+        b"<1 2 3>",
+    ),
+    (
+        b"#define f(x) <x>\n#define a f\n#define b a (7\nb 1)",
+        b"<7 1>",
+    ),
+    (
+        b"#define f(x) <x>\n#define a f\n#define b a 7\nb (1)",
+        b"f 7 (1)",
+    ),
+    (
+        b"#define a b\n#define b c\n#define c d\n#define d a\na b c d",
+        b"a b c d",
+    ),
+    (
+        b"#define f(x) x p q\n#define p q p 1\n#define q 2\nf(p) p",
+        b"2 p 1 2 p 1 2 2 p 1",
     ),
     // 6.10.3.4 paragraph 2: a name stays in its own replacement
     (b"#define z z[0]\nz", b"z[0]"),

@@ -10,5 +10,6 @@ pub mod MakingLemmas
 pub mod PastingLemmas
 pub mod SoundLemmas
 pub mod ReplacementLemmas
+mod PlainBodyLemmas
 -- Words of the crates below, passed on.
 pub mod Below

@@ -10,6 +10,8 @@ pub mod Kept
 pub mod Faults
 pub mod Sound
 pub mod BodyParts
+pub mod ChainParts
+pub mod PlainBodies
 pub mod Costs
 pub mod Pastable
 -- Words of the crates below, passed on.

@@ -4,6 +4,7 @@ ghost use Rattle.std.specs.List.{list_all};
 ghost use Rattle.macro_body.specs.Bodies.{Part, is_operator as operator_part, lone_part, quote_or, parts_from, chains_in, chains_of, is_lone as lone_parameter, occurs_alone};
 ghost use Rattle.macro_body.specs.Substitution.{is_alone as alone_chain};
 ghost use Rattle.macro_body.specs.BodyParts.{part_as, onto_last, behind_operand, with_parts};
+ghost use Rattle.macro_body.specs.ChainParts.{parts_in};
 ghost use Rattle.macro_body.specs.Sound.{is_traced, chains_traced};
 
 use crate::definitions::Definition;
@@ -13,6 +14,7 @@ use cs_base::{Memory, Tok};
 use line_shape::is_paste;
 use std::alloc::Global;
 use std::marker::Model;
+use std::slice;
 
 /// What a token of a replacement list is: a token that stays, a parameter with its number, a `#` with
 /// the number of the parameter behind it, or a `##`.
@@ -40,33 +42,44 @@ impl Model for BodyPart {
     ghost view = { λ p. part_as p.tok p.role };
 }
 
+/// The parts of a chain: most have one, which then takes no memory of its own.
+#[derive(Drop)]
+enum Parts {
+    Lone(BodyPart),
+    Joined(Vec<BodyPart>),
+}
+
 /// Operands with `##` between them, or one alone.
 #[derive(Drop)]
 pub struct Chain {
-    parts: Vec<BodyPart>,
+    parts: Parts,
 }
 
 impl Model for Chain {
     ghost use Rattle.std.specs.Prelude.{List};
     ghost use Rattle.macro_body.specs.Bodies.{Part};
+    ghost use Rattle.macro_body.specs.ChainParts.{parts_in};
 
     ghost Value = { List Part };
 
-    ghost view = { λ c. c.parts.items };
+    ghost view = { λ c. parts_in c.parts };
 }
 
 impl Chain {
     pub fn parts(&self) -> &[BodyPart]
         ensures { result.now ≡ self.now }
     {
-        self.parts.as_slice()
+        match &self.parts {
+            Parts::Lone(part) => slice::from_ref(part),
+            Parts::Joined(parts) => parts.as_slice(),
+        }
     }
 
     /// Whether the chain has one operand.
     pub fn is_alone(&self) -> bool
         ensures { result ≡ alone_chain self.now }
     {
-        is_alone(self.parts.as_slice())
+        is_alone(self.parts())
     }
 }
 
@@ -84,12 +97,12 @@ pub fn chains_of(alloc: Global, m: &Definition) -> Result<Vec<Chain>, Memory>
     ensures answer { IfOk result (λ chains. chains.items ≡ chains_of m.now) }
     ensures traced { IfOk result (λ chains. IsTrue (list_all is_traced m.now.body) → IsTrue (chains_traced chains.items)) }
 {
+    let body = m.body.as_slice();
     let mut reading = Reading {
-        chains: Vec::new(alloc),
+        chains: Vec::with_capacity(alloc, body.len())?,
         taken: false,
         operand: true,
     };
-    let body = m.body.as_slice();
     for k in 0..body.len() {
         reading.read(alloc, m, &body[k], &body[k + 1..])?;
     }
@@ -174,7 +187,7 @@ fn add_part(
     if is_operator(&part) {
         return Ok(true);
     }
-    begin_chain(alloc, chains, part)?;
+    begin_chain(chains, part)?;
     Ok(false)
 }
 
@@ -183,33 +196,50 @@ fn add_operand(alloc: Global, chains: &mut Vec<Chain>, part: BodyPart) -> Result
     ensures { IfOk result (λ _. (ps : List Part) → behind_operand chains.new.items ps ≡ onto_last chains.old.items (chains_in (part ∷ ps))) }
 {
     match chains.pop() {
-        None => begin_chain(alloc, chains, part),
+        None => begin_chain(chains, part),
         Some(last) => {
-            chains.push(last.with(part)?)?;
+            chains.push(last.with(alloc, part)?)?;
             Ok(())
         }
     }
 }
 
 // Begins a chain with an operand.
-fn begin_chain(alloc: Global, chains: &mut Vec<Chain>, part: BodyPart) -> Result<(), Memory>
+fn begin_chain(chains: &mut Vec<Chain>, part: BodyPart) -> Result<(), Memory>
     ensures { IfOk result (λ _. chains.new.items ≡ chains.old.items ++ (part ∷ []) ∷ []) }
 {
     let chain = Chain {
-        parts: Vec::new(alloc),
+        parts: Parts::Lone(part),
     };
-    chains.push(chain.with(part)?)?;
+    chains.push(chain)?;
     Ok(())
+}
+
+// The parts in a list.
+fn joined(alloc: Global, parts: Parts) -> Result<Vec<BodyPart>, Memory>
+    ensures { IfOk result (λ all. all.items ≡ parts_in parts) }
+{
+    match parts {
+        Parts::Joined(all) => Ok(all),
+        Parts::Lone(part) => {
+            let mut all = Vec::new(alloc);
+            all.push(part)?;
+            Ok(all)
+        }
+    }
 }
 
 impl Chain {
     // The chain with an operand behind it.
-    fn with(self, part: BodyPart) -> Result<Chain, Memory>
+    fn with(self, alloc: Global, part: BodyPart) -> Result<Chain, Memory>
         ensures { IfOk result (λ c. c ≡ self ++ part ∷ []) }
     {
-        let Chain { mut parts } = self;
-        parts.push(part)?;
-        Ok(Chain { parts })
+        let Chain { parts } = self;
+        let mut all = joined(alloc, parts)?;
+        all.push(part)?;
+        Ok(Chain {
+            parts: Parts::Joined(all),
+        })
     }
 }
 

@@ -1,6 +1,6 @@
 // Tokens with their hide sets, and the labels that a replacement gives them (6.10.3.1, 6.10.3.4).
 ghost use Rattle.std.specs.Prelude.{◌≡◌, ◌++◌, ◌∷◌, [], List, map, IfOk, false};
-ghost use Rattle.macro_body.specs.Hides.{hidden, hide_more, unhidden};
+ghost use Rattle.macro_body.specs.Hides.{hidden};
 ghost use Rattle.macro_body.specs.Substitution.{put_in, moved_in, with_gap, argument_for};
 
 use crate::hide_set::HideSet;
@@ -87,15 +87,6 @@ impl HiddenTok {
     {
         self.tok
     }
-
-    /// The same, to which further names are not available.
-    pub fn hide_more(self, names: &HideSet) -> Result<HiddenTok, Memory>
-        ensures { IfOk result (λ h. h ≡ hide_more names.now self) }
-    {
-        let HiddenTok { tok, mut hides } = self;
-        hides.add_all(names)?;
-        Ok(HiddenTok { tok, hides })
-    }
 }
 
 /// A list of tokens with their hide sets, as one value. Contracts see the list.
@@ -144,19 +135,8 @@ pub fn put_in(name: &Tok, gap: bool, tok: &Tok) -> Result<Tok, Memory>
 pub fn only(alloc: Global, h: HiddenTok) -> Result<Vec<HiddenTok>, Memory>
     ensures { IfOk result (λ all. all.items ≡ h ∷ []) }
 {
-    let mut all = Vec::new(alloc);
+    let mut all = Vec::with_capacity(alloc, 1)?;
     all.push(h)?;
-    Ok(all)
-}
-
-/// The tokens of a run, with empty hide sets.
-pub fn unhidden(alloc: Global, run: &[Tok]) -> Result<Vec<HiddenTok>, Memory>
-    ensures { IfOk result (λ all. all.items ≡ unhidden run.now) }
-{
-    let mut all = Vec::new(alloc);
-    for tok in run {
-        all.push(HiddenTok::new(shared(tok)?, HideSet::new(alloc)))?;
-    }
     Ok(all)
 }
 
@@ -169,12 +149,25 @@ pub fn argument_for(
 ) -> Result<Vec<HiddenTok>, Memory>
     ensures { IfOk result (λ all. all.items ≡ argument_for parameter.now argument.now) }
 {
-    let mut all = Vec::new(alloc);
+    let mut all = Vec::with_capacity(alloc, argument.len())?;
+    push_argument(&mut all, alloc, parameter, argument)?;
+    Ok(all)
+}
+
+/// Adds the tokens that stand for a parameter.
+pub fn push_argument(
+    all: &mut Vec<HiddenTok>,
+    alloc: Global,
+    parameter: &Tok,
+    argument: &[HiddenTok],
+) -> Result<(), Memory>
+    ensures { IfOk result (λ _. all.new.items ≡ all.old.items ++ argument_for parameter.now argument.now) }
+{
     if let [first, rest @ ..] = argument {
         all.push(first.moved(alloc, parameter.gap())?)?;
-        push_moved(&mut all, alloc, rest)?;
+        push_moved(all, alloc, rest)?;
     }
-    Ok(all)
+    Ok(())
 }
 
 // Adds the tokens of an argument behind its first.

@@ -1,5 +1,6 @@
 // Hide sets: the names that are not available to a token (6.10.3.4 paragraph 2).
 ghost use Rattle.std.specs.Prelude.{◌≡◌, ◌++◌, ◌∷◌, [], IfOk};
+ghost use Rattle.std.specs.Bool.{OnTrue};
 ghost use Rattle.std.specs.List.{list_any};
 ghost use Rattle.std.specs.Str.{bytes_eq};
 ghost use Rattle.cs_base.specs.Token.{Token};
@@ -80,17 +81,11 @@ impl HideSet {
     pub fn add(&mut self, name: &Tok) -> Result<(), Memory>
         ensures { IfOk result (λ _. self.new ≡ self.old ++ name.now.text ∷ []) }
     {
-        let mut names = all_shared(self.alloc, self.listed())?;
+        let known = self.listed();
+        let mut names = Vec::with_capacity(self.alloc, known.len() + 1)?;
+        push_shared(&mut names, known)?;
         names.push(shared(name)?)?;
         *self = HideSet::of(self.alloc, names)?;
-        Ok(())
-    }
-
-    /// Adds those names of another set that it does not have.
-    pub fn add_all(&mut self, more: &HideSet) -> Result<(), Memory>
-        ensures { IfOk result (λ _. self.new ≡ with_names self.old more.now) }
-    {
-        *self = self.with_names(more)?;
         Ok(())
     }
 
@@ -107,12 +102,40 @@ impl HideSet {
         }
     }
 
+    /// Whether another set is known to have the same names.
+    pub fn is_same(&self, other: &HideSet) -> bool
+        ensures { OnTrue result (self.now ≡ other.now) }
+    {
+        are_alike(self.listed(), other.listed())
+    }
+
     /// The names that are in another set too.
     pub fn common(&self, alloc: Global, other: &HideSet) -> Result<HideSet, Memory>
         ensures { IfOk result (λ h. h ≡ in_both self.now other.now) }
     {
         HideSet::of(alloc, common_names(alloc, self.listed(), other)?)
     }
+}
+
+// Whether tokens are spelled as others, first to first and so on.
+fn are_alike(xs: &[Tok], ys: &[Tok]) -> bool
+    ensures { OnTrue result (spellings xs.now ≡ spellings ys.now) }
+{
+    if xs.len() != ys.len() {
+        return false;
+    }
+    for k in 0..xs.len() {
+        if !is_alike(&xs[k], &ys[k]) {
+            return false;
+        }
+    }
+    true
+}
+
+fn is_alike(x: &Tok, y: &Tok) -> bool
+    ensures { OnTrue result (x.now.text ≡ y.now.text) }
+{
+    x.text() == y.text()
 }
 
 // The set of the names of both lists.

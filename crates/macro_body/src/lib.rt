@@ -10,6 +10,7 @@
 //! `operands.rt` and `substitution.rt`.
 #![tactic(auto)]
 
+mod added_names;
 mod chains;
 mod costs;
 mod define_line;
@@ -21,15 +22,17 @@ mod notes;
 mod operands;
 mod parameters;
 mod pasting;
+mod plain_bodies;
 mod predefined;
 mod shared_tokens;
 mod substitution;
 mod table;
 
+pub use added_names::AddedNames;
 pub use chains::{Chain, chains_of, occurs_alone};
 pub use definitions::{Definition, Form};
 pub use fault::ExpandFault;
-pub use hidden::{HiddenTok, HiddenToks, only, unhidden};
+pub use hidden::{HiddenTok, HiddenToks, only};
 pub use hide_set::HideSet;
 pub use line_shape::{is_close, is_comma, is_name, is_open, is_word};
 pub use notes::{Notes, Replacement, Work};

@@ -80,6 +80,19 @@ impl Notes {
         self.replaced.as_slice()
     }
 
+    /// The lists themselves: links, pasted tokens, tokens that strings were made of, and replacements.
+    pub fn into_lists(self) -> (Vec<Link>, Vec<Tok>, Vec<Tok>, Vec<Replacement>)
+        ensures { self ≡ kept result.0.items result.1.items result.2.items result.3.items }
+    {
+        let Notes {
+            links,
+            pasted,
+            stringized,
+            replaced,
+        } = self;
+        (links, pasted, stringized, replaced)
+    }
+
     // A name is replaced, whose macro has the name `macro_name`.
     pub fn note_replaced(&mut self, name: &Tok, macro_name: &Tok, before: u32) -> Result<(), Memory>
         ensures { IfOk result (λ _. self.new ≡ kept_with self.old (Replaced name.now macro_name.now before ∷ [])) }

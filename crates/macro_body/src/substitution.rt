@@ -14,6 +14,7 @@ use crate::hidden::{HiddenTok, HiddenToks};
 use crate::notes::Notes;
 use crate::operands::chains_made;
 use crate::pasting::chains_pasted;
+use crate::plain_bodies::{are_plain, plain_tokens};
 use cs_base::{Memory, Tok};
 use std::alloc::Global;
 
@@ -34,6 +35,10 @@ pub fn result_of(
     ensures within { IfOk result (λ v. suc (length v.items) ≤ cost_of name.now (record { raw = raw.now; full = full.now }) chains.now) }
     ensures answer { Gives (λ v. (v.items, notes.new)) fault_of result (made_kept notes.old (result_of name.now (record { raw = raw.now; full = full.now }) chains.now)) }
 {
+    if are_plain(chains) {
+        let toks = plain_tokens(alloc, name, full, chains)?;
+        return Ok(with_gap(alloc, name.gap(), toks)?);
+    }
     let made = chains_made(alloc, name, raw, full, chains, notes)?;
     let pasted = chains_pasted(alloc, name, made, notes)?;
     Ok(with_gap(alloc, name.gap(), pasted)?)

@@ -1,5 +1,5 @@
 -- Calls: their arguments are no longer than what stands behind their `(`, and they are read token by token.
-use Rattle.std.proofs.Common.{◌≡◌, ℕ, suc, ◌+◌, ◌-◌, ◌<◌, ◌≤◌, ◌&&◌, ◌==◌, Bool, true, false, cond, List, [], ◌∷◌, ◌++◌, length, Option, Some, None, refl, sym, ap, ◌∙◌, subst, append_assoc, arith}
+use Rattle.std.proofs.Common.{◌≡◌, ℕ, zero, suc, ◌+◌, ◌-◌, ◌<◌, ◌≤◌, ◌&&◌, ◌==◌, Bool, true, false, cond, List, [], ◌∷◌, ◌++◌, length, Option, Some, None, refl, sym, ap, ◌∙◌, subst, append_assoc, arith}
 use Rattle.std.specs.Option.{option_map}
 use Rattle.std.proofs.lemmas.Option.{none-some, same_Some}
 use Rattle.cs_base.specs.Token.{Token}
@@ -7,6 +7,7 @@ use Rattle.macro_body.specs.declared.definitions.Definition.{Definition}
 use Rattle.macro_body.specs.Below.line_shape.Signs.{is_open, is_close}
 use Rattle.macro_body.specs.Hides.{Hidden}
 use Rattle.macro_body.specs.Macro.{arity}
+use Rattle.macro_expand.specs.Following.{IsTaken}
 use Rattle.macro_expand.specs.Calls.{Call, Role, Closes, Separates, Belongs, CallFrom, role_of, level_after, fewer, onto_first, with_token, with_argument, closed, call_step, call_from, is_blank, completed, arguments_of}
 
 -- each list has at most so many tokens
@@ -192,6 +193,21 @@ pub call_missing : (finished : List (List Hidden)) (present all : List Hidden) (
 unfolding call_from
 call_missing finished present [] commas level call before empty = before
 call_missing finished present (t ∷ ts) commas level call before empty = absurd (omega arith)
+
+-- a comma separates where no parenthesis of the arguments is open
+pub level-separates : (commas : Option ℕ) (level : ℕ) (t : Token) → Separates ≡ role_of commas level t → level ≡ 0
+level-separates commas zero t is = refl
+level-separates commas (suc level) t is = cc
+
+-- the token that was taken
+pub taken_is : (o : Option Hidden) (t : Hidden) (old new : List Hidden) → o ≡ Some t → IsTaken o old new → old ≡ t ∷ new
+taken_is None t old new is taken = absurd (none-some t is)
+taken_is (Some u) t old new is taken = taken ∙ ap (λ (h : Hidden). h ∷ new) (same_Some u t is)
+
+-- no token was left
+pub nothing_taken : (o : Option Hidden) (old new : List Hidden) → o ≡ None → IsTaken o old new → old ≡ []
+nothing_taken None old new is taken = taken.0
+nothing_taken (Some t) old new is taken = absurd (none-some t (sym is))
 
 pub level_after-most : (t : Token) (level : ℕ) → level_after t level ≤ level + 1
 level_after-most t level =

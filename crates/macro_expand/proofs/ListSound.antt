@@ -3,10 +3,9 @@ use Rattle.std.proofs.Common.{◌≡◌, ℕ, zero, suc, ◌+◌, ◌<◌, ◌�
 use Rattle.std.specs.List.{list_all}
 use Rattle.std.specs.Option.{IfSome}
 use Rattle.std.proofs.lemmas.Bool.{and_parts, and_from, ltb-true, lt-ltb}
-use Rattle.std.proofs.lemmas.List.{length-map}
 use Rattle.std.proofs.lemmas.List.Folds.{list_all-append, list_all-map}
 use Rattle.cs_base.specs.Token.{Token}
-use Rattle.macro_body.specs.Hides.{Hidden, hidden, hide_more, unhidden, toks_of}
+use Rattle.macro_body.specs.Hides.{Hidden, hidden, hide_more, unhidden}
 use Rattle.macro_expand.specs.Expansion.{one_more}
 use Rattle.macro_body.specs.Sound.{is_traced, is_low, is_sound, all_sound, is_argument, are_fitting}
 use Rattle.macro_expand.specs.Going.{before_behind}
@@ -69,11 +68,3 @@ turn_few stayed work work2 n first ts rest rest2 out out2 pushed split shorter f
     let put : length out2 ≤ length out + 1 = subst (λ (xs : List Hidden). length xs ≤ length out + 1) (sym pushed) (put_out-le out stayed) in
     let len = ap length split in
     omega (arith, put, len)
-
--- tokens without their hide sets are as many
-pub run_few : (run plain : List Token) (rest toks : List Hidden) (work left : ℕ) → rest ≡ unhidden run → plain ≡ toks_of toks → left + length toks ≤ work + length rest
-    → left + length plain ≤ work + length run
-run_few run plain rest toks work left is is2 few =
-    let run_len : length rest ≡ length run = ap length is ∙ length-map run (λ t. hidden t []) in
-    let len : length plain ≡ length toks = ap length is2 ∙ length-map toks (λ h. h.tok) in
-    omega (arith, run_len, len)

@@ -1,23 +1,22 @@
 -- One turn of an expansion: the first token stays, or what replaces it is put before what follows.
 use Rattle.std.proofs.Common.{◌≡◌, ℕ, true, false, List, [], ◌∷◌, ◌++◌, map, Option, Some, None, option_to_list, Result, Ok, Err, sym, ap, ◌∙◌}
 use Rattle.std.proofs.lemmas.Bool.{false≢true}
-use Rattle.std.proofs.lemmas.Option.{none-some}
 use Rattle.cs_base.specs.Token.{Token}
 use Rattle.macro_body.specs.declared.definitions.Definition.{Definition}
 use Rattle.macro_body.specs.declared.fault.ExpandFault.{ExpandFault}
 use Rattle.macro_body.specs.Below.line_shape.Signs.{is_open}
-use Rattle.macro_body.specs.Hides.{Hidden, hide_more, unhidden, toks_of}
-use Rattle.macro_body.specs.Macro.{Table, is_function}
+use Rattle.macro_body.specs.Hides.{Hidden, hide_more}
+use Rattle.macro_body.specs.Macro.{is_function}
 use Rattle.macro_expand.specs.Calls.{call_from, commas_of}
 use Rattle.macro_expand.specs.Following.{IsTaken}
 use Rattle.macro_body.specs.Notes.{Fault, Expanded, onward}
-use Rattle.macro_expand.specs.Expansion.{Setting, one_more, replaced, macro_of, whole, expansion}
+use Rattle.macro_expand.specs.Expansion.{Setting, one_more, replaced, macro_of, whole}
 use Rattle.macro_expand.specs.Laws.{begins_open}
-use Rattle.macro_body.specs.Kept.{Kept, kept_with, finished, expanded_kept}
+use Rattle.macro_body.specs.Kept.{Kept, finished}
 use Rattle.macro_body.specs.Faults.{fault_of}
 use Rattle.macro_expand.specs.Going.{before_behind, brought, read_from}
-use Rattle.macro_body.proofs.ResultLemmas.{ok_same, err_ok}
-use Rattle.macro_expand.proofs.GoingLemmas.{Ending, ok_err, fault_more, finished-stays, finished_turn, finished_fault, finished_end, finished-replaced, replaced_fault, whole-nothing, whole-stays, whole-object, whole-alone, whole-call}
+use Rattle.macro_expand.proofs.CallLemmas.{nothing_taken}
+use Rattle.macro_expand.proofs.GoingLemmas.{Ending, fault_more, finished-stays, finished_turn, finished_fault, finished_end, finished-replaced, replaced_fault, whole-nothing, whole-stays, whole-object, whole-alone, whole-call}
 use Rattle.std.specs.Option.{IfSome}
 
 -- a refusal that another brings
@@ -133,44 +132,8 @@ pub whole-fault : (set : Setting) (depth before : ℕ) (first : Hidden) (ts rest
 whole-fault set depth before first ts rest out work k all split so_far f h =
     sym so_far ∙ ap (λ (xs : List Hidden). finished k out (whole set depth before xs work)) split ∙ finished_fault k out (whole set depth before (first ∷ rest) work) f h
 
-nothing_taken : (o : Option Hidden) (old new : List Hidden) → o ≡ None → IsTaken o old new → old ≡ []
-nothing_taken None old new is taken = taken.0
-nothing_taken (Some t) old new is taken = absurd (none-some t (sym is))
-
 pub whole-end : (set : Setting) (depth before : ℕ) (o : Option Hidden) (ts new out : List Hidden) (work : ℕ) (k : Kept) (all : Ending) → o ≡ None → IsTaken o ts new
     → finished k out (whole set depth before ts work) ≡ all → all ≡ Ok (out, work, k)
 whole-end set depth before o ts new out work k all is taken so_far =
     sym so_far ∙ ap (λ (xs : List Hidden). finished k out (whole set depth before xs work)) (nothing_taken o ts new is taken)
     ∙ ap (λ (r : Result Expanded Fault). finished k out r) (whole-nothing set depth before work) ∙ finished_end k out work
-
--- ---- the public call
-
-kept_fault : (k : Kept) (r : Result Expanded Fault) (f : Fault) → finished k [] r ≡ Err f → expanded_kept k r ≡ Err f
-kept_fault k (Ok e) f h = ok_err _ f h
-kept_fault k (Err g) f h = ap (λ (r : Result (List Hidden × ℕ × Kept) Fault). plain r) h
-  where
-    plain : Result (List Hidden × ℕ × Kept) Fault → Result (List Token × ℕ × Kept) Fault
-    plain (Ok v) = Ok (toks_of v.0, v.1, v.2)
-    plain (Err f) = Err f
-
-kept_ok : (k k2 : Kept) (r : Result Expanded Fault) (toks : List Hidden) (left : ℕ) → finished k [] r ≡ Ok (toks, left, k2) → expanded_kept k r ≡ Ok (toks_of toks, left, k2)
-kept_ok k k2 (Err f) toks left h = err_ok f _ h
-kept_ok k k2 (Ok e) toks left h =
-    let F : List Hidden × ℕ × Kept → Result (List Token × ℕ × Kept) Fault = λ v. Ok (toks_of v.0, v.1, v.2) in
-    ap F (ok_same (e.toks, e.left, kept_with k e.notes) (toks, left, k2) h)
-
-expansion-whole : (table : Table) (path : List ℕ) (run : List Token) (rest : List Hidden) (work : ℕ) → rest ≡ unhidden run
-    → expansion table path run work ≡ whole (record { table = table; path = path }) 0 0 rest work
-unfolding expansion
-expansion-whole table path run rest work is = ap (λ (ts : List Hidden). whole (record { table = table; path = path }) 0 0 ts work) (sym is)
-
-pub expansion-fault : (table : Table) (path : List ℕ) (run : List Token) (rest : List Hidden) (work : ℕ) (k : Kept) → rest ≡ unhidden run
-    → (f : Fault) → finished k [] (whole (record { table = table; path = path }) 0 0 rest work) ≡ Err f → expanded_kept k (expansion table path run work) ≡ Err f
-expansion-fault table path run rest work k is f h =
-    ap (λ (r : Result Expanded Fault). expanded_kept k r) (expansion-whole table path run rest work is) ∙ kept_fault k _ f h
-
-pub expansion-given : (table : Table) (path : List ℕ) (run plain : List Token) (rest toks : List Hidden) (work left : ℕ) (k k2 : Kept) → rest ≡ unhidden run → plain ≡ toks_of toks
-    → finished k [] (whole (record { table = table; path = path }) 0 0 rest work) ≡ Ok (toks, left, k2) → expanded_kept k (expansion table path run work) ≡ Ok (plain, left, k2)
-expansion-given table path run plain rest toks work left k k2 is is2 h =
-    let F : List Token → Result (List Token × ℕ × Kept) Fault = λ v. Ok (v, left, k2) in
-    ap (λ (r : Result Expanded Fault). expanded_kept k r) (expansion-whole table path run rest work is) ∙ kept_ok k k2 _ toks left h ∙ ap F (sym is2)

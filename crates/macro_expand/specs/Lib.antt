@@ -5,5 +5,6 @@ pub mod Renaming
 pub mod Laws
 pub mod Going
 pub mod Following
+pub mod Frames
 -- Words of the crates below, passed on.
 pub mod Below

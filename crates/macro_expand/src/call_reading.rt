@@ -27,7 +27,7 @@ pub fn begins_open(rest: &Rest) -> bool
     ensures { result ≡ begins_open rest.now }
 {
     match rest.first() {
-        Some(t) => is_open(t.tok()),
+        Some(tok) => is_open(tok),
         None => false,
     }
 }

@@ -38,10 +38,7 @@ pub fn take_call(
     let mut finished = Vec::new(alloc);
     let mut present = Vec::new(alloc);
     let mut level = 0;
-    'toks: for _k in 0..rest.len() {
-        let Some(next) = rest.take() else {
-            return Ok(None);
-        };
+    'toks: while let Some(next) = rest.take()? {
         match role_of(commas, level, next.tok()) {
             CallRole::Closes => {
                 finished.push(HiddenToks::new(present))?;

@@ -13,13 +13,11 @@ ghost use Rattle.macro_expand.specs.Laws.{begins_open};
 ghost use Rattle.macro_body.specs.Sound.{is_traced, is_low, is_sound, all_sound, AllTraced};
 ghost use Rattle.macro_expand.specs.Going.{setting_of, whole_in, before_behind, GoesOn};
 
-use crate::call_reading::{begins_open, read_call};
+use crate::call_reading::{CallRead, begins_open, read_call};
 use crate::context::Context;
-use crate::rest::Rest;
+use crate::rest::{Lent, Rest};
 use cs_base::{Memory, Tok};
-use macro_body::{
-    Definition, ExpandFault, HiddenTok, HideSet, Macros, Notes, Work, is_function, unhidden,
-};
+use macro_body::{Definition, ExpandFault, HiddenTok, HideSet, Macros, Notes, Work, is_function};
 use std::alloc::Global;
 
 /// Expands the macros of a run (6.10.3): the first name that can be replaced is replaced, and its result
@@ -58,12 +56,37 @@ pub fn expand(
         path,
         depth: 0,
     };
-    let rest = Rest::new(unhidden(alloc, run)?);
-    let toks = context.whole_list(0, rest, work, notes)?;
-    Ok(toks_of(alloc, toks)?)
+    let rest = Rest::new(alloc, Lent::Run(run));
+    context.whole_run(rest, work, notes)
 }
 
 impl<'a> Context<'a> {
+    // The whole expansion of a run: its tokens keep no hide sets.
+    fn whole_run(
+        &self,
+        mut rest: Rest,
+        work: &mut Work,
+        notes: &mut Notes,
+    ) -> Result<Vec<Tok>, ExpandFault>
+        requires outermost { self.now.depth ≡ 0 }
+        requires sound { IsTrue (all_sound rest) }
+        requires fits { work.old.left + length rest < 2 ^ 32 }
+        ensures falls { OnOk result (work.new.left ≤ work.old.left) }
+        ensures few { IfOk result (λ v.
+            work.new.left + length v.items ≤ work.old.left + length rest.entry) }
+        ensures answer { Gives (λ v. (v.items, work.new.left, notes.new)) fault_of result
+            (expanded_kept notes.old (whole_in self.now 0 rest.entry work.old.left)) }
+    {
+        let mut before = 0;
+        let mut out = Vec::new(self.alloc);
+        'toks: while let Some(first) = rest.take()? {
+            let stayed = self.next_token(before, first, &mut rest, work, notes)?;
+            before = behind(self.depth, before, &stayed);
+            put_out_plain(&mut out, stayed)?;
+        }
+        Ok(out)
+    }
+
     #[cycle(expansion)]
     /// The whole expansion of the tokens that follow, where so many were put out before.
     pub(crate) fn whole_list(
@@ -78,12 +101,12 @@ impl<'a> Context<'a> {
         ensures sound { IfOk result (λ v. IsTrue (all_sound v.items)) }
         ensures falls { OnOk result (work.new.left ≤ work.old.left) }
         ensures few { IfOk result (λ v.
-            work.new.left + length v.items ≤ work.old.left + length rest) }
+            work.new.left + length v.items ≤ work.old.left + length rest.entry) }
         ensures answer { Gives (λ v. (v.items, work.new.left, notes.new)) fault_of result
-            (finished notes.old [] (whole_in self.now before rest work.old.left)) }
+            (finished notes.old [] (whole_in self.now before rest.entry work.old.left)) }
     {
         let mut out = Vec::new(self.alloc);
-        'toks: while let Some(first) = rest.take() {
+        'toks: while let Some(first) = rest.take()? {
             let stayed = self.next_token(before, first, &mut rest, work, notes)?;
             before = behind(self.depth, before, &stayed);
             put_out(&mut out, stayed)?;
@@ -154,7 +177,7 @@ impl<'a> Context<'a> {
     {
         let added = with_name(self.alloc, &first)?;
         let toks = self.replacement(before, first.tok(), m, &[], work, notes)?;
-        rest.put(toks, &added)?;
+        rest.put(toks, added)?;
         Ok(None)
     }
 
@@ -219,10 +242,11 @@ impl<'a> Context<'a> {
             (finished notes.old [] (whole_in self.now before (first.now ∷ rest.old) work.old.left))
             (λ _. finished notes.new [] (whole_in self.now before rest.new work.new.left)) }
     {
-        rest.take();
+        let _sign = rest.take()?;
         let read = read_call(self.alloc, first, m, rest)?;
-        let toks = self.replacement(before, first.tok(), m, &read.raw, work, notes)?;
-        rest.put(toks, &read.added)?;
+        let CallRead { raw, added } = read;
+        let toks = self.replacement(before, first.tok(), m, &raw, work, notes)?;
+        rest.put(toks, added)?;
         Ok(())
     }
 }
@@ -257,13 +281,12 @@ fn with_name(alloc: Global, name: &HiddenTok) -> Result<HideSet, Memory>
     Ok(added)
 }
 
-// The tokens without their hide sets.
-fn toks_of(alloc: Global, all: Vec<HiddenTok>) -> Result<Vec<Tok>, Memory>
-    ensures { IfOk result (λ toks. toks.items ≡ toks_of all.items) }
+// Puts out a token that stays, if one does, without its hide set.
+fn put_out_plain(out: &mut Vec<Tok>, stayed: Option<HiddenTok>) -> Result<(), Memory>
+    ensures { IfOk result (λ _. out.new.items ≡ out.old.items ++ toks_of (option_to_list stayed)) }
 {
-    let mut toks = Vec::new(alloc);
-    for h in all {
-        toks.push(h.into_tok())?;
+    if let Some(tok) = stayed {
+        out.push(tok.into_tok())?;
     }
-    Ok(toks)
+    Ok(())
 }

@@ -7,7 +7,8 @@
 //! with their hide sets (`step`), closed by as many steps as the work and the tokens allow. That these
 //! suffice, and what a renaming rests on, are laws of the crate `expansion_laws`. The run and `Work.left`
 //! together are below 2^32, and at most 200 arguments are expanded inside one another. What follows is a
-//! stack, so a replacement moves no more than it puts in.
+//! stack of results over the run, which is lent (`specs/Frames.antt`): a replacement moves no more than it puts in,
+//! and no token of a run moves before it is taken.
 //!
 //! Macros, their definitions and what their bodies become are those of `macro_body`. Read its `specs/Hides.antt`,
 //! `specs/Bodies.antt` and `specs/Substitution.antt`, then `specs/Calls.antt`, `specs/Expansion.antt` and

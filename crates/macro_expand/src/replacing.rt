@@ -9,7 +9,7 @@ ghost use Rattle.macro_body.specs.Sound.{is_traced, is_low, all_sound, are_fitti
 ghost use Rattle.macro_expand.specs.Going.{setting_of, brought, one_spent, full_of, all_full};
 
 use crate::context::{Context, DEEPEST};
-use crate::rest::Rest;
+use crate::rest::{Lent, Rest};
 use cs_base::{Memory, Tok};
 use macro_body::{
     Chain, Definition, ExpandFault, Form, HiddenTok, HiddenToks, HideSet, Notes, Work, chains_of,
@@ -182,9 +182,9 @@ impl<'a> Context<'a> {
             name.now argument.now work.old.left)) }
     {
         if self.depth < DEEPEST {
-            let toks = all_same(self.alloc, argument.as_slice())?;
             let inside = self.inside();
-            inside.whole_list(before, Rest::new(toks), work, notes)
+            let rest = Rest::new(self.alloc, Lent::Argument(argument.as_slice()));
+            inside.whole_list(before, rest, work, notes)
         } else {
             Err(ExpandFault::TooDeep { at: name.at() })
         }
@@ -235,15 +235,4 @@ fn push_argument(full: &mut Vec<HiddenToks>, toks: HiddenToks) -> Result<(), Mem
 {
     full.push(toks)?;
     Ok(())
-}
-
-// The same tokens, so that an argument can be expanded and still stands as it is.
-fn all_same(alloc: Global, argument: &[HiddenTok]) -> Result<Vec<HiddenTok>, Memory>
-    ensures { IfOk result (λ all. all.items ≡ argument.now) }
-{
-    let mut all = Vec::new(alloc);
-    for h in argument {
-        all.push(h.copy(alloc)?)?;
-    }
-    Ok(all)
 }

@@ -1,78 +1,177 @@
 // What follows in an expansion.
-ghost use Rattle.std.specs.Prelude.{◌≡◌, ◌++◌, length, map, reverse, option_copied, IfOk};
-ghost use Rattle.macro_body.specs.Hides.{hide_more};
+ghost use Rattle.std.specs.Prelude.{◌≡◌, ◌++◌, [], List, map, reverse, option_copied, option_map, IfOk};
+ghost use Rattle.macro_body.specs.Hides.{Hidden, hidden, hide_more};
+ghost use Rattle.macro_expand.specs.Frames.{AreFilled, rest_of, rests_above, lent_toks, IsRaised};
+ghost use Rattle.macro_expand.specs.Following.{first_of, IsTaken};
 
-use cs_base::Memory;
-use macro_body::{HiddenTok, HideSet};
+use cs_base::{Memory, Tok};
+use macro_body::{AddedNames, HiddenTok, HideSet, shared};
+use std::alloc::Global;
 use std::marker::Model;
+use std::mem;
 
-/// The tokens that follow in an expansion. The next one is kept at the end, so that a replacement costs
-/// no more than what it puts in. Contracts see the list, the next one first.
-#[derive(Drop)]
-pub struct Rest {
-    toks: Vec<HiddenTok>,
+/// Tokens that are lent, and that nothing was put before yet: a run, whose tokens have empty hide sets, or
+/// an argument.
+#[derive(Clone, Copy)]
+pub enum Lent<'a> {
+    Run(&'a [Tok]),
+    Argument(&'a [HiddenTok]),
 }
 
-impl Model for Rest {
-    ghost use Rattle.std.specs.Prelude.{List, reverse};
+impl<'a> Lent<'a> {
+    fn first(&self) -> Option<&Tok>
+        ensures { option_copied result ≡ option_map (λ h. h.tok) (first_of (lent_toks self.now)) }
+    {
+        match self {
+            Lent::Run(toks) => toks.first(),
+            Lent::Argument([first, ..]) => Some(first.tok()),
+            Lent::Argument([]) => None,
+        }
+    }
+
+    // The next token, which is taken away here and stays where it is lent from.
+    fn take(&mut self, alloc: Global) -> Result<Option<HiddenTok>, Memory>
+        ensures { IfOk result (λ taken. IsTaken taken (lent_toks self.old) (lent_toks self.new)) }
+    {
+        match *self {
+            Lent::Run([first, rest @ ..]) => {
+                *self = Lent::Run(rest);
+                Ok(Some(unhidden_tok(alloc, first)?))
+            }
+            Lent::Argument([first, rest @ ..]) => {
+                *self = Lent::Argument(rest);
+                Ok(Some(first.copy(alloc)?))
+            }
+            Lent::Run([]) => Ok(None),
+            Lent::Argument([]) => Ok(None),
+        }
+    }
+}
+
+/// What is left of a result that was put before what followed: the next token is kept at the end. The
+/// names are not available to any of them.
+#[derive(Drop)]
+pub struct Frame {
+    toks: Vec<HiddenTok>,
+    names: AddedNames,
+}
+
+/// The tokens that follow in an expansion: what is left of each result that was put before others, and what
+/// was lent below them all. No token of what was lent moves before it is taken, and none of a result gets the
+/// names of its frame before. Contracts see the list, the next one first.
+#[derive(Drop)]
+pub struct Rest<'a> {
+    alloc: Global,
+    toks: Vec<HiddenTok>,
+    names: AddedNames,
+    below: Vec<Frame>,
+    lent: Lent<'a>,
+}
+
+impl<'a> Model for Rest<'a> {
+    ghost use Rattle.std.specs.Prelude.{List, ◌++◌};
     ghost use Rattle.macro_body.specs.Hides.{Hidden};
+    ghost use Rattle.macro_expand.specs.Frames.{AreFilled, rest_of, rests_above, lent_toks};
 
     ghost Value = { List Hidden };
 
-    ghost view = { λ r. reverse r.toks.items };
+    ghost view = { λ r. rest_of r.names r.toks.items ++ rests_above r.below.items (lent_toks r.lent) };
+
+    ghost invariant = { λ r. AreFilled r.below.items };
 }
 
-impl Rest {
-    ghost use Rattle.std.specs.Prelude.{List};
-    ghost use Rattle.macro_body.specs.Hides.{Hidden};
-    ghost use Rattle.macro_expand.specs.Following.{first_of, IsTaken};
-
-    pub fn new(toks: Vec<HiddenTok>) -> Rest
-        ensures { result ≡ toks.items }
+impl<'a> Rest<'a> {
+    pub fn new(alloc: Global, lent: Lent<'a>) -> Rest<'a>
+        ensures { result ≡ lent_toks lent.entry }
     {
-        let mut toks = toks;
-        toks.reverse();
-        Rest { toks }
-    }
-
-    pub fn len(&self) -> usize
-        ensures { result ≡ length self.now }
-    {
-        self.toks.len()
+        Rest {
+            alloc,
+            toks: Vec::new(alloc),
+            names: AddedNames::none(alloc),
+            below: Vec::new(alloc),
+            lent,
+        }
     }
 
     /// The next token, if there is one.
-    pub fn first(&self) -> Option<&HiddenTok>
-        ensures { option_copied result ≡ first_of self.now }
+    pub fn first(&self) -> Option<&Tok>
+        ensures { option_copied result ≡ option_map (λ h. h.tok) (first_of self.now) }
     {
-        self.toks.last()
+        match self.toks.last() {
+            Some(tok) => Some(tok.tok()),
+            None => match self.below.last() {
+                Some(frame) => last_tok(&frame.toks),
+                None => self.lent.first(),
+            },
+        }
     }
 
     /// The next token, taken away, if there is one.
-    pub fn take(&mut self) -> Option<HiddenTok>
-        ensures { IsTaken result self.old self.new }
+    pub fn take(&mut self) -> Result<Option<HiddenTok>, Memory>
+        ensures { IfOk result (λ taken. IsTaken taken self.old self.new) }
     {
-        self.toks.pop()
+        raise(&mut self.toks, &mut self.names, &mut self.below);
+        match self.toks.pop() {
+            Some(tok) => Ok(Some(self.names.added_to(tok)?)),
+            None => self.lent.take(self.alloc),
+        }
     }
 
     /// Puts tokens before all others, to which further names are not available.
-    pub fn put(&mut self, toks: Vec<HiddenTok>, names: &HideSet) -> Result<(), Memory>
-        ensures { IfOk result (λ _. self.new ≡ map (hide_more names.now) toks.items ++ self.old) }
+    pub fn put(&mut self, toks: Vec<HiddenTok>, names: HideSet) -> Result<(), Memory>
+        ensures { IfOk result (λ _. self.new ≡ map (hide_more names) toks.items ++ self.old) }
     {
-        push_reversed(&mut self.toks, toks, names)
+        let mut toks = toks;
+        toks.reverse();
+        let names = AddedNames::new(self.alloc, names)?;
+        let toks = mem::replace(&mut self.toks, toks);
+        let names = mem::replace(&mut self.names, names);
+        push_frame(&mut self.below, toks, names)
     }
 }
 
-// Adds tokens from the last to the first, to which further names are not available.
-fn push_reversed(
-    all: &mut Vec<HiddenTok>,
-    mut toks: Vec<HiddenTok>,
-    names: &HideSet,
-) -> Result<(), Memory>
-    ensures { IfOk result (λ _. reverse all.new.items ≡ map (hide_more names.now) toks.items ++ reverse all.old.items) }
+// Where a frame has no token left, the one below it takes its place.
+fn raise(toks: &mut Vec<HiddenTok>, names: &mut AddedNames, below: &mut Vec<Frame>)
+    requires filled { AreFilled below.old.items }
+    ensures filled { AreFilled below.new.items }
+    ensures same { (low : List Hidden) → rest_of names.new toks.new.items ++ rests_above below.new.items low
+        ≡ rest_of names.old toks.old.items ++ rests_above below.old.items low }
+    ensures raised { IsRaised toks.new.items below.new.items }
 {
-    while let Some(tok) = toks.pop() {
-        all.push(tok.hide_more(names)?)?;
+    if toks.is_empty() {
+        if let Some(frame) = below.pop() {
+            *toks = frame.toks;
+            *names = frame.names;
+        }
+    }
+}
+
+// Puts what is left of a result above the frames, if anything is.
+fn push_frame(below: &mut Vec<Frame>, toks: Vec<HiddenTok>, names: AddedNames) -> Result<(), Memory>
+    requires filled { AreFilled below.old.items }
+    ensures filled { AreFilled below.new.items }
+    ensures answer { IfOk result (λ _. (low : List Hidden) → rests_above below.new.items low
+        ≡ rest_of names toks.items ++ rests_above below.old.items low) }
+{
+    if !toks.is_empty() {
+        below.push(Frame { toks, names })?;
     }
     Ok(())
+}
+
+// The token that is kept at the end.
+fn last_tok(toks: &[HiddenTok]) -> Option<&Tok>
+    ensures { option_copied result ≡ option_map (λ h. h.tok) (first_of (reverse toks.now)) }
+{
+    match toks.last() {
+        Some(tok) => Some(tok.tok()),
+        None => None,
+    }
+}
+
+// A token of a run with an empty hide set.
+fn unhidden_tok(alloc: Global, tok: &Tok) -> Result<HiddenTok, Memory>
+    ensures { IfOk result (λ h. h ≡ hidden tok.now []) }
+{
+    Ok(HiddenTok::new(shared(tok)?, HideSet::new(alloc)))
 }

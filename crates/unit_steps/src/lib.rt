@@ -16,7 +16,6 @@ mod events;
 mod first_names;
 mod include_names;
 mod progress;
-mod shared_links;
 mod source_text;
 mod unit_text;
 mod visits;

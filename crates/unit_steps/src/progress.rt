@@ -105,7 +105,7 @@ impl Progress {
             &mut notes,
         ) {
             Ok(out) => {
-                self.text.note_expanded(run, before, &notes)?;
+                self.text.note_expanded(run, before, notes)?;
                 Ok(out)
             }
             Err(refused) => Err(file.expansion_fault(self.alloc, refused)),

@@ -5,7 +5,6 @@ ghost use Rattle.unit_steps.specs.Keeping.{no_text, noted_in, put_in, replaced_e
 
 use super::UnitText;
 use crate::events::{Event, EventKind, Reached};
-use crate::shared_links::push_links;
 use cs_base::{Link, Memory, Pos, Tok};
 use macro_expand::{Notes, Replacement, push_shared, shared};
 use std::alloc::Global;
@@ -55,7 +54,7 @@ impl UnitText {
     pub(crate) fn put(&mut self, toks: Vec<Tok>) -> Result<(), Memory>
         ensures { IfOk result (λ _. self.new ≡ put_in self.old toks.items) }
     {
-        push_all(&mut self.toks, toks)
+        append(&mut self.toks, toks)
     }
 
     /// Two names are linked.
@@ -154,23 +153,24 @@ impl UnitText {
         &mut self,
         run: bool,
         before: u32,
-        notes: &Notes,
+        notes: Notes,
     ) -> Result<(), Memory>
-        ensures { IfOk result (λ _. self.new ≡ expanded_into self.old run before notes.now) }
+        ensures { IfOk result (λ _. self.new ≡ expanded_into self.old run before notes) }
     {
-        push_links(&mut self.links, notes.links())?;
-        push_shared(&mut self.pasted, notes.pasted())?;
-        push_shared(&mut self.stringized, notes.stringized())?;
-        push_replaced(&mut self.events, run, before, notes.replaced())
+        let (links, pasted, stringized, replaced) = notes.into_lists();
+        append(&mut self.links, links)?;
+        append(&mut self.pasted, pasted)?;
+        append(&mut self.stringized, stringized)?;
+        push_replaced(&mut self.events, run, before, replaced)
     }
 }
 
-fn push_all(all: &mut Vec<Tok>, toks: Vec<Tok>) -> Result<(), Memory>
-    ensures { IfOk result (λ _. all.new.items ≡ all.old.items ++ toks.items) }
+// Moves values behind others.
+fn append<T: Drop>(all: &mut Vec<T>, more: Vec<T>) -> Result<(), Memory>
+    ensures { IfOk result (λ _. all.new.items ≡ all.old.items ++ more.items) }
 {
-    for tok in toks {
-        all.push(tok)?;
-    }
+    let mut more = more;
+    all.append(&mut more)?;
     Ok(())
 }
 
@@ -179,9 +179,9 @@ fn push_replaced(
     events: &mut Vec<Event>,
     run: bool,
     before: u32,
-    replaced: &[Replacement],
+    replaced: Vec<Replacement>,
 ) -> Result<(), Memory>
-    ensures { IfOk result (λ _. events.new.items ≡ events.old.items ++ map (replaced_event run before) replaced.now) }
+    ensures { IfOk result (λ _. events.new.items ≡ events.old.items ++ map (replaced_event run before) replaced.items) }
 {
     for r in replaced {
         events.push(replaced_event(run, before, r)?)?;
@@ -190,16 +190,22 @@ fn push_replaced(
 }
 
 // The event of a replacement. More than 2^32 tokens before it are answered by `Memory`.
-fn replaced_event(run: bool, before: u32, r: &Replacement) -> Result<Event, Memory>
-    ensures { IfOk result (λ e. e ≡ replaced_event run before r.now) }
+fn replaced_event(run: bool, before: u32, r: Replacement) -> Result<Event, Memory>
+    ensures { IfOk result (λ e. e ≡ replaced_event run before r) }
 {
+    let Replacement {
+        name,
+        def,
+        before: more,
+    } = r;
+    let at = name.at();
     Ok(Event {
         kind: EventKind::Replaced,
-        name: Some(shared(&r.name)?),
-        at: r.name.at(),
-        def: r.def,
+        name: Some(name),
+        at,
+        def,
         file: None,
-        before: before_in(run, before, r.before)?,
+        before: before_in(run, before, more)?,
     })
 }
 

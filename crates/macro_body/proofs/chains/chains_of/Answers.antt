@@ -9,7 +9,7 @@ pub loop-k-init : goal.loop-k-init
 loop-k-init c =
     let m = c.args.m.now in
     record {
-      chains = ap (λ v. onto_last v (chains_in (parts_from m false m.body))) c.new.ensures.items ∙ read-none m;
+      chains = ap (λ v. onto_last v (chains_in (parts_from m false m.body))) c.in_ok-with_capacity.ensures.items ∙ read-none m;
       end = ap length c.as_slice-body.ensures;
     }
 

@@ -5,8 +5,9 @@ use Rattle.macro_expand.specs.Calls.{call_from, commas_of}
 use Rattle.macro_expand.specs.Expansion.{full_from, whole}
 use Rattle.macro_body.specs.Kept.{finished}
 use Rattle.macro_expand.specs.Going.{setting_of, brought, full_of, all_full, read_from}
+use Rattle.macro_expand.proofs.CallLemmas.{taken_is}
 use Rattle.macro_expand.proofs.ListSound.{put_sound, out_sound, lists_sound, fitting_arguments, turn_fits, turn_few}
-use Rattle.macro_expand.proofs.TurnLemmas.{refused_more, stays-goes, alone-goes, object-goes, object-faults, Calling, call-unread, call-goes, call-faults, whole-turn, whole-end}
+use Rattle.macro_expand.proofs.TurnLemmas.{refused_more, stays-goes, alone-goes, object-goes, object-faults, Calling, call-unread, call-goes, call-faults, whole-turn, whole-fault, whole-end}
 use Rattle.macro_expand.proofs.FullLemmas.{full-turn, full-fault, substituted-given}
 use Rattle.macro_expand.proofs.context.Context.+expansion.Goals as goal
 
@@ -16,13 +17,13 @@ pub call-returns-in_err-read-clause-answer : goal.call-returns-in_err-read-claus
 call-returns-in_err-read-clause-answer t c =
     let set = setting_of c.args.self.now in
     let depth = c.args.self.now.depth in
-    let p = err_from_is_err_and c.from_residual.result c.from_residual.ensures.1 in
-    let calling : Calling set c.args.first.now c.args.m.now c.take.result c.args.rest.now c.take.new.self =
-    record { named = c.requires.named; function = c.requires.function; opens = c.requires.opens; taken = c.take.ensures } in
+    let p = err_from_is_err_and c.from_residual-in_err-read.result c.from_residual-in_err-read.ensures.1 in
+    let calling : Calling set c.args.first.now c.args.m.now c.in_ok-_sign._sign c.args.rest.now c.take.new.self =
+    record { named = c.requires.named; function = c.requires.function; opens = c.requires.opens; taken = c.in_ok-_sign.ensures } in
     rw (p.1, p.2)
     (refused_more c.in_err-read.field-0.0 (read_from c.args.first.now c.args.m.now (call_from c.take.new.self (commas_of c.args.m.now) 0))
     (finished c.args.notes.now [] (whole set depth c.args.before (c.args.first.now ∷ c.args.rest.now) c.args.work.now.left))
-    (call-unread set depth c.args.before c.args.first.now c.args.m.now c.take.result c.args.rest.now c.take.new.self c.args.work.now.left c.args.notes.now calling)
+    (call-unread set depth c.args.before c.args.first.now c.args.m.now c.in_ok-_sign._sign c.args.rest.now c.take.new.self c.args.work.now.left c.args.notes.now calling)
     c.in_err-read.ensures.answer)
 
 pub call-returns-in_err-toks-clause-answer : goal.call-returns-in_err-toks-clause-answer
@@ -30,13 +31,13 @@ call-returns-in_err-toks-clause-answer t c =
     let set = setting_of c.args.self.now in
     let depth = c.args.self.now.depth in
     let p = err_from_is_err_and c.from_residual-in_err-toks.result c.from_residual-in_err-toks.ensures.1 in
-    let calling : Calling set c.args.first.now c.args.m.now c.take.result c.args.rest.now c.take.new.self =
-    record { named = c.requires.named; function = c.requires.function; opens = c.requires.opens; taken = c.take.ensures } in
+    let calling : Calling set c.args.first.now c.args.m.now c.in_ok-_sign._sign c.args.rest.now c.take.new.self =
+    record { named = c.requires.named; function = c.requires.function; opens = c.requires.opens; taken = c.in_ok-_sign.ensures } in
     rw (p.1, p.2)
     (refused_more c.in_err-toks.field-0.0
     (finished c.args.notes.now [] (brought set (whole set) depth c.args.before c.tok.result.now c.args.m.now c.deref.result.now c.args.work.now.left))
     (finished c.args.notes.now [] (whole set depth c.args.before (c.args.first.now ∷ c.args.rest.now) c.args.work.now.left))
-    (call-faults set depth c.args.before c.args.first.now c.tok.result.now c.args.m.now c.take.result c.args.rest.now c.take.new.self c.read_call.new.rest
+    (call-faults set depth c.args.before c.args.first.now c.tok.result.now c.args.m.now c.in_ok-_sign._sign c.args.rest.now c.take.new.self c.read_call.new.rest
     c.in_ok-read.read.raw.items c.deref.result.now c.in_ok-read.read.added c.args.work.now.left c.args.notes.now calling c.in_ok-read.ensures.answer c.tok.ensures c.deref.ensures.value)
     c.in_err-toks.ensures.answer)
 
@@ -47,9 +48,9 @@ call-returns-clause-sound t c =
 pub call-returns-clause-answer : goal.call-returns-clause-answer
 call-returns-clause-answer t c =
     let set = setting_of c.args.self.now in
-    let calling : Calling set c.args.first.now c.args.m.now c.take.result c.args.rest.now c.take.new.self =
-    record { named = c.requires.named; function = c.requires.function; opens = c.requires.opens; taken = c.take.ensures } in
-    call-goes set c.args.self.now.depth c.args.before c.args.first.now c.tok.result.now c.args.m.now c.take.result c.args.rest.now c.take.new.self c.read_call.new.rest
+    let calling : Calling set c.args.first.now c.args.m.now c.in_ok-_sign._sign c.args.rest.now c.take.new.self =
+    record { named = c.requires.named; function = c.requires.function; opens = c.requires.opens; taken = c.in_ok-_sign.ensures } in
+    call-goes set c.args.self.now.depth c.args.before c.args.first.now c.tok.result.now c.args.m.now c.in_ok-_sign._sign c.args.rest.now c.take.new.self c.read_call.new.rest
     c.put.new.self c.in_ok-toks.toks.items c.in_ok-read.read.raw.items c.deref.result.now c.in_ok-read.read.added c.args.work.now.left c.replacement.new.work.left
     c.args.notes.now c.replacement.new.notes calling c.in_ok-read.ensures.answer c.tok.ensures c.deref.ensures.value c.in_ok-toks.ensures.answer c.in_ok-put.ensures
 
@@ -134,25 +135,38 @@ object_like-returns-clause-answer t c =
 pub whole_list-toks-preserved : goal.whole_list-toks-preserved
 whole_list-toks-preserved t c =
     let kept = c.toks.invariant in
+    let taken = taken_is c.in_ok-first.field-0 c.in-Some.first c.toks.rest c.take.new.self c.in-Some.is c.in_ok-first.ensures in
     let shorter = c.in_ok-stayed.ensures.shorter in
     let less = c.in_ok-stayed.ensures.falls in
     record {
       same =
           whole-turn (setting_of c.args.self.now) c.args.self.now.depth c.toks.before c.behind-before.result c.in-Some.first c.in_ok-stayed.stayed c.toks.rest c.take.new.self c.next_token.new.rest
           c.toks.out.items c.put_out.new.out.items c.toks.work.left c.next_token.new.work.left c.toks.notes c.next_token.new.notes _
-          c.in-Some.ensures c.in_ok-stayed.ensures.answer c.behind-before.ensures c.in_ok-put_out.ensures kept.same;
+          taken c.in_ok-stayed.ensures.answer c.behind-before.ensures c.in_ok-put_out.ensures kept.same;
       fits =
           turn_fits c.in_ok-stayed.stayed c.args.self.now.depth c.toks.before c.behind-before.result c.toks.work.left c.next_token.new.work.left c.in-Some.first c.toks.rest
-          c.take.new.self c.next_token.new.rest c.behind-before.ensures c.in-Some.ensures shorter kept.fits;
+          c.take.new.self c.next_token.new.rest c.behind-before.ensures taken shorter kept.fits;
       falls = omega (arith, less);
       few =
           turn_few c.in_ok-stayed.stayed c.toks.work.left c.next_token.new.work.left _ c.in-Some.first c.toks.rest c.take.new.self c.next_token.new.rest
-          c.toks.out.items c.put_out.new.out.items c.in_ok-put_out.ensures c.in-Some.ensures shorter kept.few;
+          c.toks.out.items c.put_out.new.out.items c.in_ok-put_out.ensures taken shorter kept.few;
       sound = c.in_ok-stayed.ensures.sound;
       out_sound = out_sound c.toks.out.items c.put_out.new.out.items c.in_ok-stayed.stayed c.in_ok-put_out.ensures kept.out_sound c.in_ok-stayed.ensures.stayed_sound;
     }
 
+pub whole_list-returns-in_err-stayed-clause-answer : goal.whole_list-returns-in_err-stayed-clause-answer
+whole_list-returns-in_err-stayed-clause-answer t c =
+    let set = setting_of c.args.self.now in
+    let depth = c.args.self.now.depth in
+    let p = err_from_is_err_and c.from_residual-in_err-stayed.result c.from_residual-in_err-stayed.ensures.1 in
+    let taken = taken_is c.in_ok-first.field-0 c.in-Some.first c.toks.rest c.take.new.self c.in-Some.is c.in_ok-first.ensures in
+    rw (p.1, p.2)
+    (refused_more c.in_err-stayed.field-0.0
+    (finished c.toks.notes [] (whole set depth c.toks.before (c.in-Some.first ∷ c.take.new.self) c.toks.work.left)) _
+    (whole-fault set depth c.toks.before c.in-Some.first c.toks.rest c.take.new.self c.toks.out.items c.toks.work.left c.toks.notes _ taken c.toks.invariant.same)
+    c.in_err-stayed.ensures.answer)
+
 pub whole_list-returns-clause-answer : goal.whole_list-returns-clause-answer
 whole_list-returns-clause-answer t c =
-    whole-end (setting_of c.args.self.now) c.args.self.now.depth c.toks.before c.take.result c.toks.rest c.take.new.self c.toks.out.items c.toks.work.left c.toks.notes _
-    c.in_default.is c.take.ensures c.toks.invariant.same
+    whole-end (setting_of c.args.self.now) c.args.self.now.depth c.toks.before c.in_ok-first.field-0 c.toks.rest c.take.new.self c.toks.out.items c.toks.work.left c.toks.notes _
+    c.in_default.is c.in_ok-first.ensures c.toks.invariant.same
