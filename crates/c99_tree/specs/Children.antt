@@ -1,5 +1,5 @@
 -- What a tree's private children show.
-use Rattle.std.specs.Prelude.{List, [], ◌∷◌, Bool, true, false}
+use Rattle.std.specs.Prelude.{ℕ, ◌+◌, List, [], ◌∷◌, Bool, true, false}
 use Rattle.c99_tree.specs.Tree.{Forest, none, token, node, Part, leaf, inner}
 use Rattle.c99_tree.specs.declared.tree.Branch.{Branch}
 use Rattle.c99_tree.specs.declared.tree.Branch.TheVariants.{Token, Inner}
@@ -16,6 +16,16 @@ abbrev pub forest_of : List Branch → Forest
 forest_of [] = none
 forest_of (Token i ∷ more) = token i (forest_of more)
 forest_of (Inner t ∷ more) = node t.label t.first t.under (forest_of more)
+
+-- the children, where a token may lead them
+abbrev pub led : Bool → ℕ → Forest → Forest
+led true i f = token i f
+led false i f = f
+
+-- how many they are, where n follow
+abbrev pub led_count : Bool → ℕ → ℕ
+led_count true n = n + 1
+led_count false n = n
 
 -- a child that is handed out, as a part
 abbrev pub shown : Child → Part

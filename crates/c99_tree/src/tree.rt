@@ -2,7 +2,7 @@
 ghost use Rattle.std.specs.Prelude.{◌≡◌, ◌<◌, ◌^◌, ◌++◌, ◌∷◌, [], OnOk, OnErr};
 ghost use Rattle.std.specs.Option.{option_map};
 ghost use Rattle.c99_tree.specs.Tree.{node_of, none, leaf, inner, put, count_of, part_at, collapsed};
-ghost use Rattle.c99_tree.specs.Children.{shown, part_of, is_lone};
+ghost use Rattle.c99_tree.specs.Children.{shown, part_of, forest_of, is_lone};
 
 use crate::production::Label;
 use cs_base::Memory;
@@ -17,10 +17,14 @@ enum Branch {
 }
 
 /// A node. Contracts see its label, its first token and the forest below it.
+///
+/// Where `leads` is set, the first token is the first child, and `children` are the others: so a node of one
+/// token wants no memory.
 #[cycle(tree)]
 #[derive(Drop)]
 pub struct Tree {
     label: Label,
+    leads: bool,
     first: u32,
     children: Vec<Branch>,
 }
@@ -34,17 +38,17 @@ impl Model for Tree {
 
     ghost coded = { node_code };
 
-    ghost use Rattle.c99_tree.specs.Children.{forest_of};
+    ghost use Rattle.c99_tree.specs.Children.{forest_of, led, led_count};
 
-    ghost view = { λ t. node_of t.label t.first (forest_of t.children.items) };
+    ghost view = { λ t. node_of t.label t.first (led t.leads t.first (forest_of t.children.items)) };
 
-    ghost invariant = { λ t. length t.children.items < 2 ^ 32 };
+    ghost invariant = { λ t. led_count t.leads (length t.children.items) < 2 ^ 32 };
 
     ghost size = { λ n. size_of n.under };
 
-    ghost use Rattle.c99_tree.specs.TreeFalls.{deepest_le-size_of};
+    ghost use Rattle.c99_tree.specs.TreeFalls.{deepest_le-led};
 
-    ghost size_decreases = { λ a h. deepest_le-size_of a.children.items };
+    ghost size_decreases = { λ a h. deepest_le-led a.leads a.first a.children.items };
 }
 
 /// A child of a node: a token, by its index, or a node.
@@ -75,6 +79,17 @@ fn is_lone(children: &[Branch]) -> bool
     }
 }
 
+// Child number `k` from 0 of these, if there are so many.
+fn child_of(children: &[Branch], k: u32) -> Option<Child<'_>>
+    ensures { option_map shown result ≡ part_at (forest_of children.now) k }
+{
+    match children.get(k as usize) {
+        Some(Branch::Token(index)) => Some(Child::Token(*index)),
+        Some(Branch::Inner(tree)) => Some(Child::Node(tree)),
+        None => None,
+    }
+}
+
 impl Tree {
     /// A node with no children.
     pub fn new(alloc: Global, label: Label, first: u32) -> Tree
@@ -82,6 +97,7 @@ impl Tree {
     {
         Tree {
             label,
+            leads: false,
             first,
             children: Vec::new(alloc),
         }
@@ -104,17 +120,21 @@ impl Tree {
     pub fn len(&self) -> u32
         ensures { result ≡ count_of self.now.under }
     {
-        self.children.len() as u32
+        let others = self.children.len() as u32;
+        if self.leads { others + 1 } else { others }
     }
 
     /// Child number `k` from 0, if there are so many.
     pub fn child(&self, k: u32) -> Option<Child<'_>>
         ensures { option_map shown result ≡ part_at self.now.under k }
     {
-        match self.children.get(k as usize) {
-            Some(Branch::Token(index)) => Some(Child::Token(*index)),
-            Some(Branch::Inner(tree)) => Some(Child::Node(tree)),
-            None => None,
+        if !self.leads {
+            return child_of(self.children.as_slice(), k);
+        }
+        if k == 0 {
+            Some(Child::Token(self.first))
+        } else {
+            child_of(self.children.as_slice(), k - 1)
         }
     }
 
@@ -123,6 +143,10 @@ impl Tree {
         ensures ok { OnOk result (self.new ≡ record self.old { under = put self.old.under (leaf index) }) }
         ensures unchanged { OnErr result (self.new ≡ self.old) }
     {
+        if index == self.first && !self.leads && self.children.is_empty() {
+            self.leads = true;
+            return Ok(());
+        }
         self.push(Branch::Token(index))
     }
 
@@ -138,7 +162,7 @@ impl Tree {
     pub fn collapsed(mut self) -> Tree
         ensures { result ≡ collapsed self }
     {
-        if !is_lone(self.children.as_slice()) {
+        if self.leads || !is_lone(self.children.as_slice()) {
             return self;
         }
         match self.children.pop() {
@@ -151,7 +175,7 @@ impl Tree {
         ensures ok { OnOk result (self.new ≡ record self.old { under = put self.old.under (part_of branch) }) }
         ensures unchanged { OnErr result (self.new ≡ self.old) }
     {
-        if self.children.len() >= u32::MAX as usize {
+        if self.children.len() >= u32::MAX as usize - 1 {
             return Err(Memory);
         }
         push(&mut self.children, branch)?;
