@@ -9,4 +9,6 @@ pub mod OpenNodeLemmas
 pub mod StateLemmas
 pub mod TurnLemmas
 pub mod RowLemmas
+pub mod LedLemmas
+pub mod OperatorLemmas
 pub mod ReadRows

@@ -88,7 +88,7 @@ level-small ForInit = lit< tt
 abbrev AreReady : Production → Standard → Type 0
 AreReady p std = list_all (λ a. is_ready p a.body) (table p std) ≡ true
 
-ready-at : (p : Production) (std : Standard) → AreReady p std
+pub ready-at : (p : Production) (std : Standard) → AreReady p std
 ready-at TranslationUnit std = refl
 ready-at External std = both (AreReady External) refl refl std
 ready-at ExtRest std = refl
@@ -184,7 +184,7 @@ pub record IsReady (p : Production) (body : Item) : Type 0 where
   pub short : size body < 100
   pub met : Met body
 
-ready-parts : (p : Production) (body : Item) → is_ready p body ≡ true → IsReady p body
+pub ready-parts : (p : Production) (body : Item) → is_ready p body ≡ true → IsReady p body
 ready-parts p body ready =
     let both = and_parts (is_low 64 body) _ ready in
     let sizes = and_parts (nat_lt (height body) (level_of p + 1)) _ both.1 in

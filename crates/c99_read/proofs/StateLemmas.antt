@@ -1,24 +1,18 @@
 -- States that reading steps through.
-use Rattle.std.proofs.Common.{ℕ, ◌+◌, ◌<◌, ◌≡◌, Bool, List, [], ◌∷◌, length, take, reverse, get_or, Some, refl, sym, ap, ◌∙◌, add-one, arith}
+use Rattle.std.proofs.Common.{ℕ, ◌+◌, ◌<◌, ◌≡◌, List, [], ◌∷◌, length, take, reverse, get_or, Some, refl, sym, ap, ◌∙◌, add-one, arith}
 use Rattle.std.proofs.lemmas.List.{reverse-append, reverse-reverse, length-reverse}
 use Rattle.std.proofs.Math.Seq.{take-suc, take-length}
-use Rattle.c99_tree.specs.Tree.{Node, node_of, none, inner, put}
+use Rattle.c99_tree.specs.Tree.{Node, node_of, none}
 use Rattle.c99_tree.specs.declared.production.Production.{Production}
 use Rattle.c99_read.specs.declared.names.Declaration.{Declaration}
 use Rattle.c99_read.specs.Again.{again_at}
-use Rattle.c99_read.specs.State.{State, Names, opened, closed, names_opened, names_closed, nearest, finished, with_declared}
+use Rattle.c99_read.specs.State.{State, Names, opened, names_opened, with_declared}
 
--- the parts of a state with a node opened, and closed
+-- the parts of a state with a node opened
 pub opened-parts : (p : Production) (n : ℕ) (s : State) (names : Names) (built : Node) → names ≡ names_opened p s.names
     → built ≡ node_of (record { production = p; alternative = n }) s.at none → record s { names = names; built = built } ≡ opened p n s
 unfolding opened
 opened-parts p n s names built at_names at_built = rw (at_names, at_built) refl
-
-pub closed-parts : (p : Production) (outer s : State) (names : Names) (near : Bool) (built : Node) → names ≡ names_closed p s.names
-    → near ≡ nearest p s.built outer.near → built ≡ record outer.built { under = put outer.built.under (inner (finished p s.built)) }
-    → closed p outer s ≡ record s { names = names; near = near; built = built }
-unfolding closed
-closed-parts p outer s names near built at_names at_near at_built = rw (at_names, at_near, at_built) refl
 
 -- one kept name more
 pub again_at-more : (s : State) (k : ℕ) (d : Declaration) → k < length s.names.kept → d ≡ get_or (reverse s.names.kept) k d

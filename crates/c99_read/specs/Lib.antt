@@ -10,6 +10,8 @@ pub mod OpenNode
 pub mod Choosing
 pub mod Sound
 pub mod Levels
+pub mod Leading
+pub mod Operators
 pub mod Answer
 -- Words of the crates below, passed on.
 pub mod Below

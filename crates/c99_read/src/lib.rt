@@ -6,9 +6,10 @@
 //! `c99_grammar` has for the standard. A token counts by its class alone, and whether a name
 //! is a typedef name where it stands (6.7.7) the reader keeps for itself while it reads. Types, tags,
 //! members, labels and what is declared twice belong to the crates above. A few procedures read any item of
-//! the table; nesting is bounded, so a text of any length needs little stack. Trees, classes and names want
-//! memory. Read `specs/Grammar.antt` of `c99_grammar` beside the standard's annex, `specs/Reading.antt`,
-//! `specs/State.antt`, then `reading.rt` and `reader.rt`.
+//! the table; nesting is bounded, so a text of any length needs little stack. The first operand of an expression is
+//! read before the nodes over it are opened, since most of these have no operator and are left out of the tree.
+//! Trees, classes and names want memory. Read `specs/Grammar.antt` of `c99_grammar` beside the standard's annex,
+//! `specs/Reading.antt`, `specs/State.antt`, then `reading.rt` and `reader.rt`.
 #![tactic(auto)]
 
 ghost use Rattle.std.specs.Prelude.{◌<◌, ◌^◌, length};
@@ -24,6 +25,7 @@ mod identifiers;
 mod laws;
 mod names;
 mod open_node;
+mod operators;
 mod parts;
 mod reader;
 mod reading;

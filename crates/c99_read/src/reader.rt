@@ -2,11 +2,12 @@
 ghost use Rattle.std.specs.Prelude.{◌≡◌, ◌<◌, ◌+◌, ◌^◌, length, map, IfOk, [], ◌∷◌, Some, None, Err, Ok, OnOk, OnErr, IsErr};
 ghost use Rattle.c99_tree.specs.Names.{outermost};
 ghost use Rattle.c99_tree.specs.Tree.{collapsed};
-ghost use Rattle.c99_read.specs.Answer.{Reads, Opens, IsAround, Starts};
+ghost use Rattle.c99_read.specs.Answer.{Reads, Opens, Wraps, Closes, Starts, with_built, behind};
+ghost use Rattle.c99_read.specs.declared.faults.ReadRefusal.TheVariants.{Syntax};
 ghost use Rattle.c99_grammar.specs.Classes.{among};
 ghost use Rattle.c99_grammar.specs.Items.{scope, end, declare, name, keep, again};
 ghost use Rattle.c99_read.specs.Reading.{take_one, at_end, enter, syntax};
-ghost use Rattle.c99_read.specs.State.{State, class_at, acted, closed, is_declarator, is_specs, names_opened, names_closed, nearest, finished, spelled_scopes, with_scope_ended, with_declared, last_identifier, no_names};
+ghost use Rattle.c99_read.specs.State.{class_at, acted, is_declarator, is_specs, names_opened, names_closed, nearest, finished, spelled_scopes, with_scope_ended, with_declared, last_identifier, no_names};
 ghost use Rattle.c99_grammar.specs.TokenClasses.{base_class};
 ghost use Rattle.c99_grammar.specs.Standard.{grammar};
 ghost use Rattle.c99_read.specs.Kept.{Reading};
@@ -62,6 +63,13 @@ impl<'a> Model for Reader<'a> {
 #[derive(Drop)]
 pub(crate) struct Outer {
     built: OpenNode,
+    near: bool,
+}
+
+/// Where a node begins: at which token, and whether the nearest specifiers had the word `typedef` there.
+#[derive(Clone, Copy)]
+pub(crate) struct Begun {
+    at: u32,
     near: bool,
 }
 
@@ -154,6 +162,15 @@ impl<'a> Reader<'a> {
         })
     }
 
+    /// The same, in the place of a node.
+    pub(crate) fn no_node(&self) -> Result<Tree, ReadRefusal>
+        ensures { result ≡ Err (Syntax self.now.state.at) }
+    {
+        Err(ReadRefusal::Syntax {
+            index: self.at as u32,
+        })
+    }
+
     #[tactic(auto, unfolding(crate::specs::Reading::take_one))]
     /// A token of one of the classes becomes a child of the open node.
     pub(crate) fn take(&mut self, classes: &[Class], standard: Standard) -> Read
@@ -221,6 +238,7 @@ impl<'a> Reader<'a> {
     }
 
     /// A node is opened. What was open before is handed out, for `close`.
+    #[inline(never)]
     pub(crate) fn open(
         &mut self,
         production: Production,
@@ -243,16 +261,76 @@ impl<'a> Reader<'a> {
         })
     }
 
-    /// The open node is closed, and becomes a child of what was open before.
-    pub(crate) fn close(&mut self, outer: Outer, production: Production, standard: Standard) -> Read
+    /// What a node that begins here begins with.
+    pub(crate) fn begun(&self) -> Begun
+        ensures at { result.at ≡ self.now.state.at }
+        ensures near { result.near ≡ self.now.state.near }
+    {
+        Begun {
+            at: self.at as u32,
+            near: self.near,
+        }
+    }
+
+    /// A node ends that began there, and the nearest specifiers are again those of before.
+    pub(crate) fn end(&mut self, begun: Begun, standard: Standard)
         requires by { self.old.standard ≡ standard }
         ensures by { self.new.standard ≡ standard }
-        ensures answer { (s : State) → IsAround outer s → Reads result self.new.state (Ok (closed production s self.old.state)) }
+        ensures answer { self.new.state ≡ record self.old.state { near = begun.near } }
+    {
+        self.near = begun.near;
+    }
+
+    /// A node that began there is opened, with its first child. What was open before is handed out, for `close`.
+    pub(crate) fn wrap(
+        &mut self,
+        production: Production,
+        alternative: u8,
+        begun: Begun,
+        first: Tree,
+        standard: Standard,
+    ) -> Result<Outer, ReadRefusal>
+        requires by { self.old.standard ≡ standard }
+        ensures by { self.new.standard ≡ standard }
+        ensures answer { Wraps result self.old.state self.new.state (record { production = production; alternative = alternative }) begun first }
+    {
+        let label = Label {
+            production,
+            alternative,
+        };
+        let mut node = OpenNode::new(self.alloc, label, begun.at);
+        node.push_node(first)?;
+        Ok(Outer {
+            built: mem::replace(&mut self.built, node),
+            near: begun.near,
+        })
+    }
+
+    /// The open node is closed and given, and what was open before is open again.
+    pub(crate) fn close(
+        &mut self,
+        outer: Outer,
+        production: Production,
+        standard: Standard,
+    ) -> Result<Tree, ReadRefusal>
+        requires by { self.old.standard ≡ standard }
+        ensures by { self.new.standard ≡ standard }
+        ensures answer { Closes result self.old.state self.new.state production outer }
     {
         close_names(&mut self.names, production);
         self.near = nearest(production, &self.built, outer.near);
         let node = mem::replace(&mut self.built, outer.built);
         let node = finished(production, node)?;
+        Ok(node)
+    }
+
+    /// A node becomes a child of the open node.
+    #[inline(never)]
+    pub(crate) fn push(&mut self, node: Tree, standard: Standard) -> Read
+        requires by { self.old.standard ≡ standard }
+        ensures by { self.new.standard ≡ standard }
+        ensures answer { Reads result self.new.state (Ok (with_built self.old.state (behind self.old.state.built node))) }
+    {
         self.built.push_node(node)?;
         Ok(())
     }

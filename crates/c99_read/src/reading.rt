@@ -1,21 +1,25 @@
 // Reading by the table: a production, the items of an alternative, and repetitions.
-ghost use Rattle.std.specs.Prelude.{◌≡◌, ◌≤◌, ◌<◌, ◌+◌, max, true, Ok};
+ghost use Rattle.std.specs.Prelude.{◌≡◌, ◌≤◌, ◌<◌, ◌+◌, true, Ok};
 ghost use Rattle.std.specs.Option.{option_map};
-ghost use Rattle.c99_read.specs.Answer.{Reads};
+ghost use Rattle.c99_read.specs.Answer.{IsBegun, Reads, ReadsNode};
 ghost use Rattle.c99_grammar.specs.Grammar.{table};
 ghost use Rattle.c99_grammar.specs.Items.{choice, deep, many, maybe, own, part, ◌·◌};
 ghost use Rattle.c99_grammar.specs.ItemsOf.{action_of, item_of, test_of};
 ghost use Rattle.c99_read.specs.Choosing.{choice_of, chosen};
 ghost use Rattle.c99_read.specs.Levels.{height, level_of, size, Met};
+ghost use Rattle.c99_read.specs.Operators.{is_binary, operand_of, rest_of};
 ghost use Rattle.c99_read.specs.Reading.{may, step, alternative, whole, produce, repeat};
 ghost use Rattle.c99_read.specs.Sound.{is_met};
 ghost use Rattle.c99_grammar.specs.Standard.{grammar};
-ghost use Rattle.c99_read.specs.State.{acted};
+ghost use Rattle.c99_read.specs.State.{State, acted};
+ghost use Rattle.c99_tree.specs.declared.production.Production.TheVariants.{Cast};
 
 use crate::chosen::Chosen;
-use crate::reader::{Read, Reader};
+use crate::faults::ReadRefusal;
+use crate::operators::{is_assign, is_binary, is_sign, operand_of, rest_of};
+use crate::reader::{Begun, Read, Reader};
 use c99_grammar::{Action, Item, Test, alternatives, holds, production_starts, starts};
-use c99_tree::Production;
+use c99_tree::{Production, Tree};
 use cs_base::Standard;
 
 impl<'a> Reader<'a> {
@@ -32,9 +36,116 @@ impl<'a> Reader<'a> {
         ensures by { self.new.standard ≡ standard }
         ensures answer { Reads result self.new.state (whole (grammar standard) depth (produce production) self.old.state) }
     {
+        let node = self.node(depth, production, standard)?;
+        self.push(node, standard)
+    }
+
+    #[cycle(reading)]
+    #[inline(never)]
+    // The node of a production, which does not depend on the open node.
+    fn node(
+        &mut self,
+        depth: usize,
+        production: Production,
+        standard: Standard,
+    ) -> Result<Tree, ReadRefusal>
+        requires by { self.old.standard ≡ standard }
+        requires deep { depth ≤ 256 }
+        ensures by { self.new.standard ≡ standard }
+        ensures answer { ReadsNode result self.old.state self.new.state (whole (grammar standard) depth (produce production)) }
+    {
+        if is_binary(production) {
+            if self.begins(Production::Cast, standard) {
+                return self.binary(depth, production, standard);
+            }
+            return self.no_node();
+        }
         match self.chosen(production, standard) {
-            Some(chosen) => self.node(depth, production, chosen.number, chosen.body, standard),
-            None => self.syntax(),
+            Some(chosen) => self.opened(depth, production, chosen.number, chosen.body, standard),
+            None => self.no_node(),
+        }
+    }
+
+    #[cycle(reading)]
+    // The node of an operand and of what operators join to it. Most have no operator, and are their operand.
+    fn binary(
+        &mut self,
+        depth: usize,
+        production: Production,
+        standard: Standard,
+    ) -> Result<Tree, ReadRefusal>
+        requires by { self.old.standard ≡ standard }
+        requires deep { depth ≤ 256 }
+        requires binary { is_binary production ≡ true }
+        requires starts { may (grammar standard) own (part Cast) self.old.state ≡ true }
+        ensures by { self.new.standard ≡ standard }
+        ensures answer { ReadsNode result self.old.state self.new.state (whole (grammar standard) depth (produce production)) }
+    {
+        let begun = self.begun();
+        let first = self.operand(depth, operand_of(production), standard)?;
+        if self.goes_on(production, standard) {
+            self.joined(depth, production, begun, first, standard)
+        } else {
+            self.end(begun, standard);
+            Ok(first)
+        }
+    }
+
+    #[cycle(reading)]
+    // An operand of a binary production.
+    fn operand(
+        &mut self,
+        depth: usize,
+        production: Production,
+        standard: Standard,
+    ) -> Result<Tree, ReadRefusal>
+        requires by { self.old.standard ≡ standard }
+        requires deep { depth ≤ 256 }
+        requires starts { may (grammar standard) own (part Cast) self.old.state ≡ true }
+        ensures by { self.new.standard ≡ standard }
+        ensures answer { ReadsNode result self.old.state self.new.state (whole (grammar standard) depth (produce production)) }
+    {
+        if is_binary(production) {
+            self.binary(depth, production, standard)
+        } else {
+            self.node(depth, production, standard)
+        }
+    }
+
+    #[cycle(reading)]
+    #[inline(never)]
+    // A node is opened for the operand that was read first, and what follows is read.
+    fn joined(
+        &mut self,
+        depth: usize,
+        production: Production,
+        begun: Begun,
+        first: Tree,
+        standard: Standard,
+    ) -> Result<Tree, ReadRefusal>
+        requires by { self.old.standard ≡ standard }
+        requires deep { depth ≤ 256 }
+        requires binary { is_binary production ≡ true }
+        ensures by { self.new.standard ≡ standard }
+        ensures answer { (s : State) → IsBegun begun s
+            → ReadsNode (Ok first) s self.old.state (whole (grammar standard) depth (produce (operand_of production)))
+            → ReadsNode result s self.new.state (alternative (grammar standard) (whole (grammar standard)) depth production 1 (part (operand_of production) · rest_of production)) }
+    {
+        let outer = self.wrap(production, 1, begun, first, standard)?;
+        self.item(depth, rest_of(production, standard), standard)?;
+        self.close(outer, production, standard)
+    }
+
+    // An operator of the production is next.
+    fn goes_on(&self, production: Production, standard: Standard) -> bool
+        requires by { self.now.standard ≡ standard }
+        requires binary { is_binary production ≡ true }
+        ensures { result ≡ may (grammar standard) own (rest_of production) self.now.state }
+    {
+        if is_assign(production) {
+            self.begins(Production::Asgop, standard)
+        } else {
+            is_sign(production, self.class_here(standard))
         }
     }
 
@@ -98,93 +209,26 @@ impl<'a> Reader<'a> {
     }
 
     #[cycle(reading)]
-    // A node with what its alternative reads.
-    fn node(
+    // A node is opened, its items are read, and it is closed.
+    fn opened(
         &mut self,
         depth: usize,
         production: Production,
         number: u8,
         body: &Item,
         standard: Standard,
-    ) -> Read
+    ) -> Result<Tree, ReadRefusal>
         requires by { self.old.standard ≡ standard }
         requires deep { depth ≤ 256 }
         requires low { height (item_of body.now) ≤ level_of production }
         requires short { size (item_of body.now) < 100 }
         requires met { Met (item_of body.now) }
         ensures by { self.new.standard ≡ standard }
-        ensures answer { Reads result self.new.state (alternative (grammar standard) (whole (grammar standard)) depth production number (item_of body.now) self.old.state) }
-    {
-        match body {
-            Item::Then(first, second) => {
-                self.node_of_two(depth, production, number, first, second, standard)
-            }
-            _ => self.node_of_one(depth, production, number, body, standard),
-        }
-    }
-
-    #[cycle(reading)]
-    // A node with one item.
-    fn node_of_one(
-        &mut self,
-        depth: usize,
-        production: Production,
-        number: u8,
-        body: &Item,
-        standard: Standard,
-    ) -> Read
-        requires by { self.old.standard ≡ standard }
-        requires deep { depth ≤ 256 }
-        requires low { height (item_of body.now) ≤ level_of production }
-        requires short { size (item_of body.now) < 100 }
-        requires met { Met (item_of body.now) }
-        ensures by { self.new.standard ≡ standard }
-        ensures answer { Reads result self.new.state (alternative (grammar standard) (whole (grammar standard)) depth production number (item_of body.now) self.old.state) }
+        ensures answer { ReadsNode result self.old.state self.new.state (alternative (grammar standard) (whole (grammar standard)) depth production number (item_of body.now)) }
     {
         let outer = self.open(production, number, standard)?;
         self.item(depth, body, standard)?;
         self.close(outer, production, standard)
-    }
-
-    #[cycle(reading)]
-    // A node with one item after another. Most are so, and each such node has a call less on the stack.
-    fn node_of_two(
-        &mut self,
-        depth: usize,
-        production: Production,
-        number: u8,
-        first: &Item,
-        second: &Item,
-        standard: Standard,
-    ) -> Read
-        requires by { self.old.standard ≡ standard }
-        requires deep { depth ≤ 256 }
-        requires low { max (height (item_of first.now)) (height (item_of second.now)) ≤ level_of production }
-        requires short { size (item_of first.now) + size (item_of second.now) < 99 }
-        requires first { Met (item_of first.now) }
-        requires second { Met (item_of second.now) }
-        ensures by { self.new.standard ≡ standard }
-        ensures answer { Reads result self.new.state (alternative (grammar standard) (whole (grammar standard)) depth production number (item_of first.now · item_of second.now) self.old.state) }
-    {
-        let outer = self.open(production, number, standard)?;
-        self.part_or_item(depth, first, standard)?;
-        self.item(depth, second, standard)?;
-        self.close(outer, production, standard)
-    }
-
-    #[cycle(reading)]
-    // An item, which mostly is a production.
-    fn part_or_item(&mut self, depth: usize, item: &Item, standard: Standard) -> Read
-        requires by { self.old.standard ≡ standard }
-        requires deep { depth ≤ 256 }
-        requires met { Met (item_of item.now) }
-        ensures by { self.new.standard ≡ standard }
-        ensures answer { Reads result self.new.state (step (grammar standard) (whole (grammar standard)) depth (item_of item.now) self.old.state) }
-    {
-        match item {
-            Item::Part(production) => self.produce(depth, *production, standard),
-            _ => self.item(depth, item, standard),
-        }
     }
 
     #[cycle(reading)]

@@ -7,19 +7,22 @@ use Rattle.c99_grammar.specs.Standard.{grammar}
 use Rattle.c99_read.proofs.reader.Reader.+reading.Given as goal
 
 abbrev pub decreases-produce : goal.decreases-produce
-decreases-produce l = 100000 * (257 - l.depth) + 1000 * level_of l.production + 900
+decreases-produce l = 100000 * (257 - l.depth) + 1000 * level_of l.production + 950
 
 abbrev pub decreases-node : goal.decreases-node
-decreases-node l = 100000 * (257 - l.depth) + 1000 * level_of l.production + 800
+decreases-node l = 100000 * (257 - l.depth) + 1000 * level_of l.production + 900
 
-abbrev pub decreases-node_of_one : goal.decreases-node_of_one
-decreases-node_of_one l = 100000 * (257 - l.depth) + 1000 * level_of l.production + 700
+abbrev pub decreases-binary : goal.decreases-binary
+decreases-binary l = 100000 * (257 - l.depth) + 1000 * level_of l.production + 890
 
-abbrev pub decreases-node_of_two : goal.decreases-node_of_two
-decreases-node_of_two l = 100000 * (257 - l.depth) + 1000 * level_of l.production + 700
+abbrev pub decreases-operand : goal.decreases-operand
+decreases-operand l = 100000 * (257 - l.depth) + 1000 * level_of l.production + 910
 
-abbrev pub decreases-part_or_item : goal.decreases-part_or_item
-decreases-part_or_item l = 100000 * (257 - l.depth) + 1000 * height (item_of l.item.now) + 4 * size (item_of l.item.now) + 2
+abbrev pub decreases-joined : goal.decreases-joined
+decreases-joined l = 100000 * (257 - l.depth) + 1000 * level_of l.production + 880
+
+abbrev pub decreases-opened : goal.decreases-opened
+decreases-opened l = 100000 * (257 - l.depth) + 1000 * level_of l.production + 800
 
 abbrev pub decreases-item : goal.decreases-item
 decreases-item l = 100000 * (257 - l.depth) + 1000 * height (item_of l.item.now) + 4 * size (item_of l.item.now) + 1

@@ -1,0 +1,65 @@
+-- The productions of expressions that are an operand and what an operator joins to it (ISO/IEC 9899:1999, 6.5.5 to 6.5.17).
+use Rattle.std.specs.Prelude.{Bool, true, false, List, [], ◌∷◌}
+use Rattle.c99_tree.specs.declared.production.Production.{Production}
+use Rattle.c99_tree.specs.declared.production.Production.TheVariants.{Expr, Assign, Asgop, Cond, Lor, Land, Bor, Bxor, Band, Equal, Relate, Shift, Add, Mul, Cast}
+use Rattle.c99_grammar.specs.declared.classes.Class.{Class}
+use Rattle.c99_grammar.specs.declared.classes.Class.TheVariants.{Comma, Question, Colon, BarBar, AmpAmp, Bar, Caret, Amp, EqEq, BangEq, Less, Greater, LessEq, GreaterEq, ShiftLeft, ShiftRight, Plus, Minus, Star, Slash, Percent}
+use Rattle.c99_grammar.specs.Items.{Item, one, part, maybe, many, deep, own, tok, ◌·◌}
+
+abbrev pub is_binary : Production → Bool
+is_binary Expr = true
+is_binary Assign = true
+is_binary Cond = true
+is_binary Lor = true
+is_binary Land = true
+is_binary Bor = true
+is_binary Bxor = true
+is_binary Band = true
+is_binary Equal = true
+is_binary Relate = true
+is_binary Shift = true
+is_binary Add = true
+is_binary Mul = true
+is_binary _ = false
+
+-- what the first operand is
+abbrev pub operand_of : Production → Production
+operand_of Expr = Assign
+operand_of Assign = Cond
+operand_of Cond = Lor
+operand_of Lor = Land
+operand_of Land = Bor
+operand_of Bor = Bxor
+operand_of Bxor = Band
+operand_of Band = Equal
+operand_of Equal = Relate
+operand_of Relate = Shift
+operand_of Shift = Add
+operand_of Add = Mul
+operand_of _ = Cast
+
+-- the operators, but those of an assignment
+abbrev pub signs : Production → List Class
+signs Expr = Comma ∷ []
+signs Cond = Question ∷ []
+signs Lor = BarBar ∷ []
+signs Land = AmpAmp ∷ []
+signs Bor = Bar ∷ []
+signs Bxor = Caret ∷ []
+signs Band = Amp ∷ []
+signs Equal = EqEq ∷ BangEq ∷ []
+signs Relate = Less ∷ Greater ∷ LessEq ∷ GreaterEq ∷ []
+signs Shift = ShiftLeft ∷ ShiftRight ∷ []
+signs Add = Plus ∷ Minus ∷ []
+signs Mul = Star ∷ Slash ∷ Percent ∷ []
+signs _ = []
+
+abbrev pub is_assign : Production → Bool
+is_assign Assign = true
+is_assign _ = false
+
+-- what may follow the first operand
+abbrev pub rest_of : Production → Item
+rest_of Assign = maybe (part Asgop · deep (part Assign))
+rest_of Cond = maybe (tok Question · deep (part Expr) · tok Colon · deep (part Cond))
+rest_of p = many own (one (signs p) · part (operand_of p))

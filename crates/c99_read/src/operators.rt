@@ -1,0 +1,166 @@
+// The productions of expressions that are an operand and what an operator joins to it.
+ghost use Rattle.std.specs.Prelude.{◌≡◌, true};
+ghost use Rattle.c99_grammar.specs.Classes.{among};
+ghost use Rattle.c99_grammar.specs.ItemsOf.{item_of};
+ghost use Rattle.c99_read.specs.Operators.{is_assign, is_binary, operand_of, rest_of, signs};
+ghost use Rattle.c99_tree.specs.declared.production.Production.TheVariants.{Expr, Cond, Lor, Land, Bor, Bxor, Band, Equal, Relate, Shift, Add, Mul};
+
+use c99_grammar::{Class, Item, alternatives};
+use c99_tree::Production;
+use cs_base::Standard;
+
+pub(crate) fn is_binary(production: Production) -> bool
+    ensures { result ≡ is_binary production }
+{
+    matches!(
+        production,
+        Production::Expr
+            | Production::Assign
+            | Production::Cond
+            | Production::Lor
+            | Production::Land
+            | Production::Bor
+            | Production::Bxor
+            | Production::Band
+            | Production::Equal
+            | Production::Relate
+            | Production::Shift
+            | Production::Add
+            | Production::Mul
+    )
+}
+
+/// What the first operand is.
+pub(crate) fn operand_of(production: Production) -> Production
+    ensures { result ≡ operand_of production }
+{
+    match production {
+        Production::Expr => Production::Assign,
+        Production::Assign => Production::Cond,
+        Production::Cond => Production::Lor,
+        Production::Lor => Production::Land,
+        Production::Land => Production::Bor,
+        Production::Bor => Production::Bxor,
+        Production::Bxor => Production::Band,
+        Production::Band => Production::Equal,
+        Production::Equal => Production::Relate,
+        Production::Relate => Production::Shift,
+        Production::Shift => Production::Add,
+        Production::Add => Production::Mul,
+        _ => Production::Cast,
+    }
+}
+
+fn is_equality(class: Class) -> bool
+    ensures { result ≡ among (signs Equal) class }
+{
+    matches!(class, Class::EqEq | Class::BangEq)
+}
+
+fn is_relation(class: Class) -> bool
+    ensures { result ≡ among (signs Relate) class }
+{
+    matches!(
+        class,
+        Class::Less | Class::Greater | Class::LessEq | Class::GreaterEq
+    )
+}
+
+fn is_shift(class: Class) -> bool
+    ensures { result ≡ among (signs Shift) class }
+{
+    matches!(class, Class::ShiftLeft | Class::ShiftRight)
+}
+
+fn is_sum(class: Class) -> bool
+    ensures { result ≡ among (signs Add) class }
+{
+    matches!(class, Class::Plus | Class::Minus)
+}
+
+fn is_product(class: Class) -> bool
+    ensures { result ≡ among (signs Mul) class }
+{
+    matches!(class, Class::Star | Class::Slash | Class::Percent)
+}
+
+fn is_comma(class: Class) -> bool
+    ensures { result ≡ among (signs Expr) class }
+{
+    matches!(class, Class::Comma)
+}
+
+fn is_question(class: Class) -> bool
+    ensures { result ≡ among (signs Cond) class }
+{
+    matches!(class, Class::Question)
+}
+
+fn is_or(class: Class) -> bool
+    ensures { result ≡ among (signs Lor) class }
+{
+    matches!(class, Class::BarBar)
+}
+
+fn is_and(class: Class) -> bool
+    ensures { result ≡ among (signs Land) class }
+{
+    matches!(class, Class::AmpAmp)
+}
+
+fn is_bit_or(class: Class) -> bool
+    ensures { result ≡ among (signs Bor) class }
+{
+    matches!(class, Class::Bar)
+}
+
+fn is_bit_xor(class: Class) -> bool
+    ensures { result ≡ among (signs Bxor) class }
+{
+    matches!(class, Class::Caret)
+}
+
+fn is_bit_and(class: Class) -> bool
+    ensures { result ≡ among (signs Band) class }
+{
+    matches!(class, Class::Amp)
+}
+
+/// The class is one of the operators of the production, but those of an assignment.
+pub(crate) fn is_sign(production: Production, class: Class) -> bool
+    ensures { result ≡ among (signs production) class }
+{
+    match production {
+        Production::Expr => is_comma(class),
+        Production::Cond => is_question(class),
+        Production::Lor => is_or(class),
+        Production::Land => is_and(class),
+        Production::Bor => is_bit_or(class),
+        Production::Bxor => is_bit_xor(class),
+        Production::Band => is_bit_and(class),
+        Production::Equal => is_equality(class),
+        Production::Relate => is_relation(class),
+        Production::Shift => is_shift(class),
+        Production::Add => is_sum(class),
+        Production::Mul => is_product(class),
+        _ => false,
+    }
+}
+
+pub(crate) fn is_assign(production: Production) -> bool
+    ensures { result ≡ is_assign production }
+{
+    matches!(production, Production::Assign)
+}
+
+/// What may follow the first operand, as the table has it.
+pub(crate) fn rest_of(production: Production, standard: Standard) -> &'static Item
+    requires { is_binary production ≡ true }
+    ensures { item_of result.now ≡ rest_of production }
+{
+    let rows = alternatives(production, standard);
+    match &rows[0].body {
+        Item::Then(_, rest) => *rest,
+        _ => unreachable!(),
+    }
+}
