@@ -1,0 +1,6 @@
+mod Classes
+mod Trees
+mod Steps
+mod Lines
+mod Rows
+mod Back

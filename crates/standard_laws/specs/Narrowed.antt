@@ -1,0 +1,80 @@
+-- What C99 says in place of a tree of C11 (ISO/IEC 9899:1999 and 9899:2011, Annex A.2).
+use Rattle.std.specs.Prelude.{ℕ, ◌==◌, ◌≡◌, Bool, true, false, ◌&&◌, ◌||◌, not, if◌then◌else◌, List}
+use Rattle.std.specs.List.{list_all, list_any}
+use Rattle.std.specs.Str.{bytes_eq}
+use Rattle.tree_laws.specs.Below.cs_base.Token.{Token}
+use Rattle.tree_laws.specs.Below.cs_base.declared.ws_units.Standard.TheVariants.{C99, C11}
+use Rattle.tree_laws.specs.Below.c99_tree.Tree.{Forest, none, token, node, Node, node_of}
+use Rattle.tree_laws.specs.Below.c99_tree.declared.production.Label.{Label}
+use Rattle.tree_laws.specs.Below.c99_tree.declared.production.Production.{Production}
+use Rattle.tree_laws.specs.Below.c99_tree.declared.production.Production.TheVariants.{External, Declaration, Member, MemRest, Mod}
+use Rattle.tree_laws.specs.Below.c99_grammar.Spellings.{keywords_added}
+use Rattle.tree_laws.specs.Below.c99_grammar.Standard.{grammar}
+use Rattle.tree_laws.specs.ReadTexts.{Reads}
+
+-- the number by C99 of an alternative that both standards have
+abbrev pub number : Production → ℕ → ℕ
+number External n = if n == 3 then 2 else n
+number Declaration n = if n == 2 then 1 else n
+number Member n = if n == 3 then 2 else n
+number Mod n = if n == 8 then 7 else n
+number _ n = n
+
+abbrev pub renumbered : Label → Label
+renumbered l = record l { alternative = number l.production l.alternative }
+
+abbrev pub is_member : Production → Bool
+is_member Member = true
+is_member _ = false
+
+-- members behind one list of specifiers (C11 6.7.2.1)
+abbrev pub is_line : Label → Bool
+is_line l = is_member l.production && (l.alternative == 3)
+
+-- what stands behind the specifiers stands beside them by C99, and not in a node of its own
+abbrev pub spread : Forest → Forest
+spread (node l first under (node m second below none)) = node l first under below
+spread f = f
+
+abbrev pub spread_if : Bool → Forest → Forest
+spread_if line f = if line then spread f else f
+
+abbrev pub narrowed : Forest → Forest
+narrowed none = none
+narrowed (token i rest) = token i (narrowed rest)
+narrowed (node l first under rest) = node (renumbered l) first (spread_if (is_line l) (narrowed under)) (narrowed rest)
+
+abbrev pub narrowed_node : Node → Node
+narrowed_node n = node_of (renumbered n.label) n.first (spread_if (is_line n.label) (narrowed n.under))
+
+abbrev pub is_rest : Production → Bool
+is_rest MemRest = true
+is_rest _ = false
+
+-- a semicolon alone behind the specifiers of members, as C11 has it (6.7.2.1)
+abbrev pub is_lone : Label → Bool
+is_lone l = is_rest l.production && (l.alternative == 1)
+
+abbrev pub has_lone : Forest → Bool
+has_lone none = false
+has_lone (token i rest) = has_lone rest
+has_lone (node l first under rest) = is_lone l || (has_lone under || has_lone rest)
+
+abbrev pub has_lone_below : Node → Bool
+has_lone_below n = is_lone n.label || has_lone n.under
+
+-- no token is a word that C11 adds (6.4.1)
+abbrev pub has_no_added_word : List Token → Bool
+has_no_added_word toks = list_all (λ t. not (list_any (λ w. bytes_eq t.text w.0) keywords_added)) toks
+
+-- what C99 reads of a text without these, C11 reads
+abbrev pub TextsOfC99AreReadByC11 : Type 0
+TextsOfC99AreReadByC11 =
+    (toks : List Token) (tree : Node) → has_no_added_word toks ≡ true → Reads (grammar C99) toks tree
+    → (wider : Node) × (Reads (grammar C11) toks wider × (tree ≡ narrowed_node wider))
+
+-- what C11 reads of it, C99 reads, if no semicolon stands alone there
+abbrev pub TextsOfC11AreReadByC99 : Type 0
+TextsOfC11AreReadByC99 =
+    (toks : List Token) (tree : Node) → has_no_added_word toks ≡ true → Reads (grammar C11) toks tree → has_lone_below tree ≡ false
+    → Reads (grammar C99) toks (narrowed_node tree)

@@ -1,0 +1,14 @@
+//! What is true of a text that is read by C99 and by C11 (ISO/IEC 9899:1999 and 9899:2011, Annex A.2).
+//!
+//! The grammar of C11 gives some alternatives other numbers, and puts what stands behind the specifiers of members
+//! into a node of its own. `narrowed` of `specs/Narrowed.antt` makes of a tree of C11 what C99 says in its place. The
+//! law speaks of a text without a word that C11 adds. What C99 reads of it, C11 reads too; what C11 reads of it, C99
+//! reads, where no semicolon stands alone behind specifiers of members; and the tree by C99 is the narrowed one by
+//! C11. No program stands here: the law is the `ensures` of a function without a body. It is proved in step, by the
+//! tables of both standards (`proofs/Steps.antt`, `proofs/Rows.antt`, and the other way `proofs/Back.antt`). Read
+//! `specs/Narrowed.antt`.
+#![tactic(auto)]
+
+mod laws;
+
+pub use laws::texts_are_read_by_both_standards;
