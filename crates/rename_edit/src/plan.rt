@@ -1,5 +1,6 @@
 // The edits of a renaming, or its first refusal.
 ghost use Rattle.std.specs.Prelude.{◌≡◌, None, IfOk};
+ghost use Rattle.kept_meaning_laws.specs.Plans.{RenamesOver};
 ghost use Rattle.rename_rules.specs.Class.{IsClass};
 ghost use Rattle.rename_rules.specs.First.{member_offences, offences_of, spelling_offences, FirstThen, IsFirst};
 ghost use Rattle.rename_rules.specs.Renaming.{GivesOne, IsClassRenamed, IsRenamed, IsRenaming};
@@ -22,6 +23,26 @@ use ws_core::Analysis;
 /// The edits that rename the class of the part which a place names, or the first refusal. Lines and columns count
 /// from 1.
 pub fn plan_rename(
+    alloc: Global,
+    a: &Analysis,
+    path: &str,
+    line: u32,
+    column: u32,
+    name: &[u8],
+) -> Result<Edits, RenameRefusal>
+    ensures answer { GivesOne (λ edits. edits) refusal_of result (IsRenaming a.now.value path.now line column name.now) }
+    // Over each source with this analysis, once the edits are made, the workspace means what it meant.
+    ensures meaning { IfOk result (λ edits. RenamesOver a.now.value.workspace a.now.value path.now line column name.now edits) }
+{
+    // The classes are those of the links, and the workspace is one that lines make.
+    let _classes = a.classes();
+    let ws = a.workspace();
+    let _units = ws.units();
+    plan_named(alloc, a, path, line, column, name)
+}
+
+// The same, by what is looked at: the name, the place, the offences.
+fn plan_named(
     alloc: Global,
     a: &Analysis,
     path: &str,

@@ -1,19 +1,9 @@
-use Rattle.std.proofs.Common.{◌≡◌, true, None, Some, Err, refl, rules}
-use Rattle.part_lexer.specs.Spelling.{is_identifier_text}
-use Rattle.rename_rules.specs.Renaming.{IsClassRenamed, IsRenaming, no_name}
-use Rattle.rename_edit.specs.Refusals.{refusal_of}
-use Rattle.rename_edit.proofs.PlanLemmas.{gives_also, named_part}
+use Rattle.std.proofs.Common.{sym, subst}
+use Rattle.ws_core.specs.Below.ws_file.Workspace.{WorkspaceValue, IsWorkspace}
+use Rattle.rename_edit.proofs.MeaningLemmas.{plan_meaning}
 use Rattle.rename_edit.proofs.plan.plan_rename.Goals as goal
 
-pub returns-in-Some : goal.returns-in-Some
-returns-in-Some c =
-    let id : is_identifier_text c.args.name.now ≡ true = search rules in
-    gives_also (λ edits. edits) refusal_of (IsClassRenamed c.args.a.now.value c.in-Some.part c.args.name.now)
-    (IsRenaming c.args.a.now.value c.args.path.now c.args.line c.args.column c.args.name.now)
-    (λ r h. named_part c.args.a.now.value c.args.path.now c.args.line c.args.column c.args.name.now (Some c.in-Some.part) r id c.in-Some.ensures h)
-    c.plan_part.result c.plan_part.ensures
-
-pub returns-in-None : goal.returns-in-None
-returns-in-None c =
-    let id : is_identifier_text c.args.name.now ≡ true = search rules in
-    named_part c.args.a.now.value c.args.path.now c.args.line c.args.column c.args.name.now None (Err no_name) id c.in-None.ensures refl
+pub returns-clause-meaning : goal.returns-clause-meaning
+returns-clause-meaning c =
+    plan_meaning c.args.a.now c.args.path.now c.args.line c.args.column c.args.name.now c.plan_named.result
+    (subst (λ (w : WorkspaceValue). IsWorkspace w) c.workspace-ws.ensures c.units-units.ensures.sound) c.classes-classes.ensures.own c.plan_named.ensures

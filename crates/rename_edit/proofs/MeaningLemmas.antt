@@ -1,0 +1,18 @@
+-- The edits of a plan keep meaning.
+use Rattle.std.proofs.Common.{ℕ, List, Ok, Err, Result}
+use Rattle.std.specs.Prelude.{IfOk}
+use Rattle.cs_base.specs.Edit.{Edit}
+use Rattle.ws_core.specs.Analysed.{Analysed}
+use Rattle.ws_core.specs.Below.ws_file.Workspace.{IsWorkspace}
+use Rattle.ws_core.specs.Classes.{AreItsClasses}
+use Rattle.rename_rules.specs.Renaming.{GivesOne, IsRenaming}
+use Rattle.kept_meaning_laws.specs.Plans.{RenamesOver}
+use Rattle.kept_meaning_laws.proofs.PlanLemmas.{plans_keep_meaning}
+use Rattle.rename_edit.specs.Refusals.{refusal_of}
+use Rattle.rename_edit.specs.declared.refusals.RenameRefusal.{RenameRefusal}
+
+pub plan_meaning : (a : Analysed) (path : List ℕ) (line column : ℕ) (name : List ℕ) (r : Result (List Edit) RenameRefusal) → IsWorkspace a.value.workspace
+    → AreItsClasses a.value a.classes → GivesOne (λ edits. edits) refusal_of r (IsRenaming a.value path line column name)
+    → IfOk r (λ edits. RenamesOver a.value.workspace a.value path line column name edits)
+plan_meaning a path line column name (Ok edits) is own renaming = plans_keep_meaning a.value.workspace a.value a.classes path line column name edits is own renaming
+plan_meaning a path line column name (Err refusal) is own renaming = tt
