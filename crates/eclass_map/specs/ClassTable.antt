@@ -8,9 +8,9 @@ use Rattle.cs_base.specs.Token.{Token, origin_at}
 use Rattle.eclass_map.specs.declared.token_list.Added.{Added}
 pub use Rattle.class_labels.specs.declared.spots.Spot.{Spot}
 use Rattle.class_labels.specs.Chain.{Chain}
-use Rattle.class_labels.specs.Labels.{Labels, spot, walk_at, length_at, added}
+use Rattle.class_labels.specs.Labels.{Labels, spot, walk_at, length_at, added, joined, joined_parts}
 use Rattle.class_labels.specs.Weight.{relabelled, weight, part_count}
-use Rattle.eclass_map.specs.Positions.{along, holds, index_at, begins_by}
+use Rattle.eclass_map.specs.Positions.{along, holds, index_at, numbers, begins_by}
 
 -- The added tokens in the order of their places, the position of each of their characters in the order of adding,
 -- and the labels of these.
@@ -183,3 +183,15 @@ weight_in t = weight t.labels
 -- how many parts there are
 abbrev pub parts_in : Table → ℕ
 parts_in t = part_count t.labels
+
+-- the table once two tokens are joined: tokens and positions stay
+abbrev pub joined_in : Token → Token → Table → Table
+joined_in x y t = record {
+  tokens = t.tokens;
+  places = t.places;
+  labels = joined 0 (numbers t.tokens x.origins) (numbers t.tokens y.origins) t.labels;
+}
+
+-- how many parts that gives another number
+abbrev pub parts_joined : Token → Token → Table → ℕ
+parts_joined x y t = joined_parts 0 (numbers t.tokens x.origins) (numbers t.tokens y.origins) t.labels

@@ -7,6 +7,7 @@ pub mod ClassTable
 pub mod Kept
 pub mod Resized
 pub mod History
+pub mod Joined
 -- What inner functions promise each other.
 pub mod Settled
 pub mod Wholeness

@@ -1,6 +1,7 @@
 // The table of classes: added tokens by their places, and the partition of their characters by number.
-ghost use Rattle.std.specs.Prelude.{ℕ, ◌≡◌, ◌+◌, ◌-◌, ◌*◌, ◌^◌, ◌<◌, ◌≤◌, List, [], ◌∷◌, ◌++◌, length, Some, IsSome, slice_get, OnOk, OnErr, vec_len, vec_capacity, MatchBool};
-ghost use Rattle.eclass_map.specs.ClassTable.{Table, part_of, class_in, members_of, part_with, added_tokens, part_of_file, AddsToken, fresh_places, with_token, IsFree, AreWhole, SameOrLinked, HasParts, AreLinks, IsAdded, relabelled_in, weight_in, parts_in, character_count, label};
+ghost use Rattle.std.specs.Prelude.{ℕ, ◌≡◌, ◌+◌, ◌-◌, ◌*◌, ◌^◌, ◌<◌, ◌≤◌, List, [], ◌∷◌, ◌++◌, length, Some, IsSome, slice_get, OnOk, OnErr, vec_len, vec_capacity, IsTrue, MatchBool, ◌⊎◌};
+ghost use Rattle.eclass_map.specs.ClassTable.{Table, part_of, class_in, members_of, part_with, added_tokens, part_of_file, AddsToken, fresh_places, with_token, IsFree, AreWhole, SameOrLinked, HasParts, AreLinks, IsAdded, relabelled_in, weight_in, parts_in, character_count, label, joined_in, parts_joined};
+ghost use Rattle.eclass_map.specs.Joined.{AreJoined};
 ghost use Rattle.eclass_map.specs.History.{History};
 ghost use Rattle.eclass_map.specs.Resized.{moved_to, count_after, Resizes};
 ghost use Rattle.class_labels.specs.Labels.{no_labels, joined, joined_parts};
@@ -15,7 +16,7 @@ ghost use Rattle.cs_base.specs.declared.positions.Part.{Part};
 mod class_numbers;
 
 use crate::file_hints::{add_hints, missing_hints};
-use crate::token_list::{Added, count_begun, find, number, place_tokens, settle};
+use crate::token_list::{Added, count_begun, find, near, number, place_tokens, settle};
 use crate::wholeness::are_whole;
 use class_labels::Partition;
 use cs_base::{Memory, Part, Pos, Steps, Tok};
@@ -220,7 +221,19 @@ impl Classes {
     pub fn is_whole(&self, tok: &Tok) -> bool
         ensures { MatchBool result (AreWhole self.now tok.now.origins) (AreWhole self.now tok.now.origins → ⊥) }
     {
-        are_whole(&self.tokens, &self.files, tok)
+        self.whole_near(tok, self.near(tok))
+    }
+
+    // The same; the added token with this place is tried first.
+    fn whole_near(&self, tok: &Tok, guess: usize) -> bool
+        ensures { MatchBool result (AreWhole self.now tok.now.origins) (AreWhole self.now tok.now.origins → ⊥) }
+    {
+        are_whole(&self.tokens, &self.files, tok, guess)
+    }
+
+    // The place of the added token that holds a token's first character. A guess: no contract rests on it.
+    fn near(&self, tok: &Tok) -> usize {
+        near(&self.tokens, &self.files, tok.origins(0))
     }
 
     /// The characters of two tokens of equal spelling are the same from now on, first to first and so on. The
@@ -242,6 +255,48 @@ impl Classes {
         // What all joins so far relabelled, and their ticks, in sum: no more than `joins_relabel_little` says.
         ensures history { (r n : ℕ) → History self.old r n → History self.new (r + relabelled_in self.old self.new) (n + (steps.new - steps.old)) }
         ensures most { weight_in self.new ≤ parts_in self.new * digits (parts_in self.new) }
+        // Tokens and positions stay, and there is one tick for each part that got another number.
+        ensures exact { self.new ≡ joined_in x.now y.now self.old }
+        ensures ticks { steps.new ≡ steps.old + parts_joined x.now y.now self.old }
+    {
+        let first = self.near(x);
+        let second = self.near(y);
+        self.join_near(x, y, first, second, steps);
+    }
+
+    /// Joins two tokens of equal spelling, if the origins of both are whole added tokens, one after another, and
+    /// says whether they are. Each token is sought once.
+    pub fn join_whole<L: Ledger>(&mut self, x: &Tok, y: &Tok, steps: &mut Steps<L>) -> bool
+        requires equal { x.now.text ≡ y.now.text }
+        ensures joined { IsTrue result → AreJoined x.now y.now self.old self.new steps.old steps.new }
+        ensures whole { MatchBool result (AreWhole self.old x.now.origins × AreWhole self.old y.now.origins) (AreWhole self.old x.now.origins → AreWhole self.old y.now.origins → ⊥) }
+        ensures unchanged { IsTrue result ⊎ ((self.new ≡ self.old) × (steps.new ≡ steps.old)) }
+    {
+        let first = self.near(x);
+        if !self.whole_near(x, first) {
+            return false;
+        }
+        let second = self.near(y);
+        if !self.whole_near(y, second) {
+            return false;
+        }
+        self.join_near(x, y, first, second, steps);
+        true
+    }
+
+    // The same as `join`; the added tokens with these places are tried first.
+    fn join_near<L: Ledger>(
+        &mut self,
+        x: &Tok,
+        y: &Tok,
+        first: usize,
+        second: usize,
+        steps: &mut Steps<L>,
+    )
+        requires equal { x.now.text ≡ y.now.text }
+        requires whole_x { AreWhole self.old x.now.origins }
+        requires whole_y { AreWhole self.old y.now.origins }
+        ensures { AreJoined x.now y.now self.old self.new steps.old steps.new }
     {
         let len = text_length(x);
         let also = text_length(y);
@@ -252,6 +307,8 @@ impl Classes {
             &mut self.labels,
             x,
             y,
+            first,
+            second,
             len,
             steps,
         );
@@ -273,6 +330,8 @@ fn join_characters<L: Ledger>(
     labels: &mut Partition,
     x: &Tok,
     y: &Tok,
+    first_near: usize,
+    second_near: usize,
     len: u32,
     steps: &mut Steps<L>,
 )
@@ -284,8 +343,8 @@ fn join_characters<L: Ledger>(
 {
     let mut at = 0;
     while at < len {
-        let first = number(tokens, files, x.origins(at));
-        let second = number(tokens, files, y.origins(at));
+        let first = number(tokens, files, x.origins(at), first_near);
+        let second = number(tokens, files, y.origins(at), second_near);
         let part_len = labels.step(first, second, steps);
         at += part_len;
     }

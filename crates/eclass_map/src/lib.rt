@@ -9,7 +9,7 @@
 //! they spell. A character is found by halving the tokens of its file. `join` and the readers take no
 //! memory: `add_token` takes the room for every part that its token can be cut into. Of two classes the one
 //! with fewer parts gets the other's number, a tick of `Steps` for each. `is_whole` tells before a link is
-//! joined whether the origins of its tokens are whole added tokens. `resize` gives the parts of a class
+//! joined whether the origins of its tokens are whole added tokens, and `join_whole` joins it if so. `resize` gives the parts of a class
 //! another length, and moves what stands behind them in their files. The parts by number are those of
 //! `class_labels`. Read `specs/Chain.antt` there, `specs/ClassTable.antt` and `specs/Resized.antt`, then
 //! `class_table.rt`.

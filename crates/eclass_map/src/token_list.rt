@@ -31,15 +31,29 @@ pub fn find(tokens: &[Added], files: &[usize], pos: Pos) -> Option<u32>
     }
 }
 
-/// The number of the origin of a character, 0 where it has none.
-pub fn number(tokens: &[Added], files: &[usize], origin: Option<Pos>) -> u32
+/// The number of the origin of a character, 0 where it has none; the token with the index is tried first.
+pub fn number(tokens: &[Added], files: &[usize], origin: Option<Pos>, guess: usize) -> u32
     requires { AreTokens tokens.now }
     ensures { result ≡ number_of tokens.now origin }
 {
     match origin {
-        Some(pos) => find(tokens, files, pos).unwrap_or(0),
+        Some(pos) => find_near(tokens, files, pos, guess).unwrap_or(0),
         None => 0,
     }
+}
+
+/// The same, where the token with the index is tried first.
+pub fn find_near(tokens: &[Added], files: &[usize], pos: Pos, guess: usize) -> Option<u32>
+    requires { AreTokens tokens.now }
+    ensures { result ≡ index_at tokens.now pos }
+{
+    if guess < tokens.len() {
+        let token = tokens[guess];
+        if part_holds(token.place, pos) {
+            return Some(token.first + (pos.at - token.place.start.at));
+        }
+    }
+    find(tokens, files, pos)
 }
 
 /// How many tokens begin at the character or before it. Only those of its file are halved, if the hints are right.
@@ -62,12 +76,17 @@ pub fn count_begun(tokens: &[Added], files: &[usize], pos: Pos) -> usize
     low
 }
 
-// Where halving begins: where the file's tokens are thought to begin, if those in front have begun.
+// Where halving begins: behind all, if the last has begun, else where the file's tokens are thought to begin, if those
+// in front have begun.
 fn first_to_halve(tokens: &[Added], files: &[usize], pos: Pos) -> usize
     requires { AreTokens tokens.now }
     ensures within { result ≤ length tokens.now }
     ensures before { (k : ℕ) (r : Added) → k < result → slice_get tokens.now k ≡ Some r → begins_by r pos ≡ true }
 {
+    let count = tokens.len();
+    if 0 < count && has_begun(tokens[count - 1], pos) {
+        return count;
+    }
     let low = hint(files, pos.file as usize, tokens.len());
     if 0 < low && low <= tokens.len() && has_begun(tokens[low - 1], pos) {
         low
@@ -194,5 +213,15 @@ fn write_places(places: &mut [Pos], token: Added)
             file: start.file,
             at: start.at + offset,
         };
+    }
+}
+
+/// Which token holds the origin of a character, by a search: any number where none does.
+pub fn near(tokens: &[Added], files: &[usize], origin: Option<Pos>) -> usize
+    requires { AreTokens tokens.now }
+{
+    match origin {
+        Some(pos) => count_begun(tokens, files, pos).saturating_sub(1),
+        None => 0,
     }
 }

@@ -8,8 +8,9 @@ ghost use Rattle.eclass_map.specs.Wholeness.{of_tokens, LiesAt, TellsBeginning, 
 use crate::token_list::{Added, count_begun};
 use cs_base::{Part, Pos, Tok};
 
-/// Whether the origins of a token are whole tokens of the list, one after another.
-pub fn are_whole(tokens: &[Added], files: &[usize], tok: &Tok) -> bool
+/// Whether the origins of a token are whole tokens of the list, one after another. The token with the index is
+/// tried first wherever one is sought.
+pub fn are_whole(tokens: &[Added], files: &[usize], tok: &Tok, guess: usize) -> bool
     requires tokens { AreTokens tokens.now }
     requires fits { Fits tokens.now }
     ensures { MatchBool result (AreWhole (of_tokens tokens.now) tok.now.origins) (AreWhole (of_tokens tokens.now) tok.now.origins → ⊥) }
@@ -17,7 +18,7 @@ pub fn are_whole(tokens: &[Added], files: &[usize], tok: &Tok) -> bool
     let count = tok.text().len() as u32;
     let mut at = 0;
     while at < count {
-        match token_at(tokens, files, tok, at) {
+        match token_at(tokens, files, tok, at, guess) {
             Some(token) => at += token.len,
             None => return false,
         }
@@ -26,7 +27,7 @@ pub fn are_whole(tokens: &[Added], files: &[usize], tok: &Tok) -> bool
 }
 
 // The token of the list whose characters the origins from number `at` on are.
-fn token_at(tokens: &[Added], files: &[usize], tok: &Tok, at: u32) -> Option<Part>
+fn token_at(tokens: &[Added], files: &[usize], tok: &Tok, at: u32, guess: usize) -> Option<Part>
     requires tokens { AreTokens tokens.now }
     requires fits { Fits tokens.now }
     requires within { at < length tok.now.origins }
@@ -34,20 +35,27 @@ fn token_at(tokens: &[Added], files: &[usize], tok: &Tok, at: u32) -> Option<Par
     ensures { TellsToken tokens.now tok.now.origins at result }
 {
     match tok.origins(at) {
-        Some(start) => token_from(tokens, files, tok, at, start),
+        Some(start) => token_from(tokens, files, tok, at, start, guess),
         None => None,
     }
 }
 
 // The same, where the first of these origins is the character `start`.
-fn token_from(tokens: &[Added], files: &[usize], tok: &Tok, at: u32, start: Pos) -> Option<Part>
+fn token_from(
+    tokens: &[Added],
+    files: &[usize],
+    tok: &Tok,
+    at: u32,
+    start: Pos,
+    guess: usize,
+) -> Option<Part>
     requires tokens { AreTokens tokens.now }
     requires fits { Fits tokens.now }
     requires short { length tok.now.origins < 2 ^ 32 }
     requires start { slice_get tok.now.origins at ≡ Some (Some start) }
     ensures { TellsToken tokens.now tok.now.origins at result }
 {
-    match beginning_at(tokens, files, start) {
+    match beginning_near(tokens, files, start, guess) {
         Some(token) => {
             if goes_on(tok, at, token) {
                 Some(token)
@@ -57,6 +65,20 @@ fn token_from(tokens: &[Added], files: &[usize], tok: &Tok, at: u32, start: Pos)
         }
         None => None,
     }
+}
+
+// The same as `beginning_at`, where the token with the index is tried first.
+fn beginning_near(tokens: &[Added], files: &[usize], pos: Pos, guess: usize) -> Option<Part>
+    requires { AreTokens tokens.now }
+    ensures { TellsBeginning tokens.now pos result }
+{
+    if guess < tokens.len() {
+        let token = tokens[guess].place;
+        if is_same(token.start, pos) {
+            return Some(token);
+        }
+    }
+    beginning_at(tokens, files, pos)
 }
 
 // The token of the list that begins at the character.

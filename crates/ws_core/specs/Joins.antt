@@ -2,7 +2,7 @@
 use Rattle.std.specs.Prelude.{◌≡◌, List, [], ◌∷◌, ◌++◌, filter, map}
 use Rattle.cs_base.specs.declared.tokens.Link.{Link}
 use Rattle.cs_base.specs.Token.{Token}
-use Rattle.eclass_map.specs.ClassTable.{Table, AreLinks, AreWhole, HasParts, added_tokens}
+use Rattle.eclass_map.specs.ClassTable.{Table, AreLinks, HasParts, added_tokens}
 use Rattle.ws_core.specs.Links.{are_alike, pair_of}
 
 abbrev pub link_of : Token → Token → Link
@@ -11,12 +11,6 @@ link_of x y = record { x = x; y = y }
 -- the tokens of those that link two identifiers of equal spelling
 abbrev pub alike_pairs : List Link → List (Token × Token)
 alike_pairs links = map pair_of (filter are_alike links)
-
--- Two tokens can be joined: they are spelled alike, and their characters are those of whole tokens of the table.
-pub record CanBeJoined (t : Table) (x y : Token) : Type 0 where
-  pub equal : x.text ≡ y.text
-  pub whole_x : AreWhole t x.origins
-  pub whole_y : AreWhole t y.origins
 
 -- Two tokens were joined.
 pub record JoinsPair (x y : Token) (old new : Table) : Type 0 where

@@ -1,6 +1,6 @@
 // One link, joined.
-ghost use Rattle.std.specs.Prelude.{◌≡◌, ◌<◌, ◌∷◌, [], OnOk};
-ghost use Rattle.ws_core.specs.Joins.{CanBeJoined, Joins, JoinsPair, link_of};
+ghost use Rattle.std.specs.Prelude.{◌≡◌, ◌<◌, ◌∷◌, [], IsTrue, OnOk};
+ghost use Rattle.ws_core.specs.Joins.{Joins, JoinsPair, link_of};
 ghost use Rattle.ws_core.specs.Links.{are_alike};
 
 use cs_base::{Memory, Steps, Tok};
@@ -17,11 +17,11 @@ pub(crate) fn join(x: &Tok, y: &Tok, classes: &mut Classes) -> Result<(), Memory
     if !are_alike(x, y) {
         return Ok(());
     }
-    if !classes.is_whole(x) || !classes.is_whole(y) {
-        return Err(Memory);
+    if join_whole::<Brand>(x, y, classes, Blank::new(1)) {
+        Ok(())
+    } else {
+        Err(Memory)
     }
-    join_whole::<Brand>(x, y, classes, Blank::new(1));
-    Ok(())
 }
 
 fn are_alike(x: &Tok, y: &Tok) -> bool
@@ -30,14 +30,15 @@ fn are_alike(x: &Tok, y: &Tok) -> bool
     is_name(x) && is_name(y) && x.text() == y.text()
 }
 
-// The tokens are joined; the blank is for a count of steps that nobody reads.
-fn join_whole<L: Ledger>(x: &Tok, y: &Tok, classes: &mut Classes, blank: Blank)
+// The tokens are joined, if their characters are those of whole tokens of the table; the blank is for a count of
+// steps that nobody reads.
+fn join_whole<L: Ledger>(x: &Tok, y: &Tok, classes: &mut Classes, blank: Blank) -> bool
     requires name { blank.name ≡ L.name }
     requires parts { blank.parts ≡ L.parts }
     requires some { 0 < blank.parts }
-    requires can { CanBeJoined classes.old x.now y.now }
-    ensures { JoinsPair x.now y.now classes.old classes.new }
+    requires equal { x.now.text ≡ y.now.text }
+    ensures { IsTrue result → JoinsPair x.now y.now classes.old classes.new }
 {
     let mut steps = Steps::<L>::new(blank);
-    classes.join(x, y, &mut steps);
+    classes.join_whole(x, y, &mut steps)
 }
