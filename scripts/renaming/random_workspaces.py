@@ -173,4 +173,5 @@ def main():
     return 1 if totals.differ or not totals.renames else 0
 
 
-sys.exit(with_deep_stack(main))
+if __name__ == "__main__":
+    sys.exit(with_deep_stack(main))

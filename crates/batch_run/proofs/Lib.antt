@@ -7,3 +7,5 @@ pub mod StepLemmas
 pub mod RunLemmas
 pub mod ReplyLemmas
 pub mod EndLemmas
+-- Words of the crates below, passed on.
+pub mod Below

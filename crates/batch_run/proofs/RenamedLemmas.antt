@@ -1,8 +1,10 @@
 -- An accepted line keeps what a rename keeps: from its plan to the files once its edits are put.
-use Rattle.std.proofs.Common.{◌≡◌, List, Ok, get_or}
-use Rattle.std.proofs.lemmas.Option.{slice_get-get_or}
-use Rattle.cs_base.specs.Edit.{Edit}
-use Rattle.cs_base.specs.Outside.{FileMap}
+use Rattle.std.proofs.Common.{◌≡◌, ◌<◌, ℕ, zero, suc, List, [], ◌∷◌, Some, Ok, length, get_or, subst, arith}
+use Rattle.std.specs.Prelude.{slice_get}
+use Rattle.std.proofs.lemmas.Option.{none-some, same_Some, slice_get-get_or}
+use Rattle.cs_base.specs.Edit.{Edit, IsKept, with_edits}
+use Rattle.cs_base.specs.Outside.{FileMap, bytes_at}
+use Rattle.cs_base.proofs.FileMapLemmas.{bytes_at-with_edits, bytes_at-with_edits_other}
 use Rattle.batch_file.specs.Line.{LineValue}
 use Rattle.edited_files.specs.Edited.{ArePut}
 use Rattle.ws_core.specs.Below.eclass_map.ClassTable as classes
@@ -70,3 +72,24 @@ module _ (ws : WorkspaceValue) (q : LineValue) (a : AnalysisValue) (new : List E
       shared = respelled_files_keep_external_names (source_of before) (source_of now) ws a p.classes c.part c.members q.name q.path q.line q.column is_accepted c.named respelled;
     },
   )
+
+-- ---- a rename alone
+
+at_is : {X : Type 0} (xs : List X) (k : ℕ) (x : X) → slice_get xs k ≡ Some x → (k < length xs) × (get_or xs k x ≡ x)
+at_is [] k x at = absurd (none-some x at)
+at_is (y ∷ ys) zero x at = (omega arith, same_Some y x at)
+at_is (y ∷ ys) (suc k) x at = let later = at_is ys k x at in (omega (arith, later.0), later.1)
+
+-- edits are put where each is: its path holds its bytes
+edits_are_put : (edits : List Edit) (before : FileMap) → IsKept edits → ArePut edits before (with_edits edits before)
+edits_are_put edits before sound = record {
+  each = λ k e at.
+      let is = at_is edits k e at in
+      subst (λ (d : Edit). bytes_at d.path (with_edits edits before) ≡ Some d.bytes) is.1 (bytes_at-with_edits edits before k e sound.sorted is.0);
+  others = λ path apart. bytes_at-with_edits_other edits path before apart;
+}
+
+pub rename_is_kept : (ws : WorkspaceValue) (q : LineValue) (a : AnalysisValue) (new : List Edit) → IsPlanned ws a → IsRenaming a q.path q.line q.column q.name (Ok new)
+    → IsKept new → (before : FileMap) → analysis_of (source_of before) ws ≡ Ok a → (r : Renamed) × IsRenamed ws q before (with_edits new before) r
+rename_is_kept ws q a new p renaming sound before analysed =
+    line_is_kept ws q a new p (accepted q a new renaming) before (with_edits new before) analysed (edits_are_put new before sound)

@@ -5,3 +5,5 @@ pub mod Running
 -- What inner functions promise each other.
 pub mod Keeping
 pub mod Stepping
+-- Words of the crates below, passed on.
+pub mod Below

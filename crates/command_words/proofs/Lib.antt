@@ -1,3 +1,4 @@
+pub mod MessageLemmas
 mod NumberLemmas
 mod TellingLemmas
 mod EditedLemmas

@@ -2,13 +2,14 @@
 use Rattle.std.specs.Prelude.{List, ℕ, []}
 use Rattle.cs_base.specs.Paths.{normal_path_of}
 use Rattle.generated.specs.Generated.{workspace_path}
+use Rattle.command_words.specs.declared.requests.BatchFile.{BatchFile}
 use Rattle.command_words.specs.declared.requests.Finding.{Finding}
 use Rattle.command_words.specs.declared.requests.NamedClass.{NamedClass}
 use Rattle.command_words.specs.declared.requests.Rename.{Rename}
 use Rattle.command_words.specs.declared.requests.Request.{Request}
-use Rattle.command_words.specs.declared.requests.Request.TheVariants.{Help, Version, Renaming, Tokens, Skipped, Class, Unused, Includes, Calls, Find, Generated}
+use Rattle.command_words.specs.declared.requests.Request.TheVariants.{Help, Version, Renaming, Tokens, Skipped, Class, Unused, Includes, Calls, Batch, Find, Generated}
 use Rattle.command_words.specs.declared.requests.UnitTokens.{UnitTokens}
-use Rattle.command_words.specs.Request.{RenameValue, rename, TokensValue, tokens_of_unit, ClassValue, class_at, FindValue, finding, RequestValue, help_asked, version_asked, renaming_asked, tokens_asked, skipped_asked, class_asked, unused_asked, includes_asked, calls_asked, find_asked, generated_asked}
+use Rattle.command_words.specs.Request.{RenameValue, rename, TokensValue, tokens_of_unit, ClassValue, class_at, BatchValue, batch_in, FindValue, finding, RequestValue, help_asked, version_asked, renaming_asked, tokens_asked, skipped_asked, class_asked, unused_asked, includes_asked, calls_asked, batch_asked, find_asked, generated_asked}
 
 -- a rename in words, its path in its normal form
 abbrev pub rename_value : Rename → RenameValue
@@ -26,6 +27,10 @@ class_value q = class_at q.ws.now (normal_path_of q.path.now) q.line q.column
 abbrev pub find_value : Finding → FindValue
 find_value q = finding q.ws.now q.query.now
 
+-- a batch, in words
+abbrev pub batch_value : BatchFile → BatchValue
+batch_value b = batch_in b.ws.now b.file.now
+
 -- the request that words make
 abbrev pub request_value : Request → RequestValue
 request_value Help = help_asked
@@ -38,6 +43,7 @@ request_value (Unused ws) = unused_asked ws.now
 request_value (Includes ws) = includes_asked ws.now
 request_value (Calls ws) = calls_asked ws.now
 request_value (Find q) = find_asked (find_value q)
+request_value (Batch b) = batch_asked (batch_value b)
 request_value (Generated n) = generated_asked n
 
 -- the workspace file of a request, or nothing where it has none
@@ -52,4 +58,5 @@ workspace_file (Unused ws) = ws.now
 workspace_file (Includes ws) = ws.now
 workspace_file (Calls ws) = ws.now
 workspace_file (Find q) = q.ws.now
+workspace_file (Batch b) = b.ws.now
 workspace_file (Generated n) = workspace_path

@@ -52,6 +52,10 @@ refused_line words = message (refused_pieces (words ∷ []))
 abbrev pub query_line : List ℕ → ℕ → List ℕ
 query_line words at = message (refused_pieces (words ∷ codes " at " ∷ decimal at ∷ []))
 
+-- a batch file that has a bad line of this number, from 1, or is not there: then it is 0
+abbrev pub batch_line : ℕ → List ℕ
+batch_line line = message (refused_pieces (codes "bad batch line " ∷ decimal line ∷ []))
+
 -- a refusal with a place
 abbrev pub offence_line : Place → Cause → List ℕ
 offence_line place cause = message (refused_pieces (fault_pieces place cause))

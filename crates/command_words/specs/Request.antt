@@ -46,6 +46,15 @@ pub record FindValue : Type 0 where
 abbrev pub finding : List ℕ → List ℕ → FindValue
 finding ws query = record { ws = ws; query = query }
 
+-- A batch: the workspace file, and the file of its lines.
+pub record BatchValue : Type 0 where
+  pub ws : List ℕ
+  pub file : List ℕ
+
+-- such a batch of these parts
+abbrev pub batch_in : List ℕ → List ℕ → BatchValue
+batch_in ws file = record { ws = ws; file = file }
+
 -- What the program can be asked for. Reports on skipped groups, on unused names, on unneeded include lines and on calls
 -- have a workspace file alone.
 pub data RequestValue : Type 0 where
@@ -59,6 +68,7 @@ pub data RequestValue : Type 0 where
   includes_asked : List ℕ → RequestValue
   calls_asked : List ℕ → RequestValue
   find_asked : FindValue → RequestValue
+  batch_asked : BatchValue → RequestValue
   generated_asked : ℕ → RequestValue
 
 -- the number that decimal digits spell
@@ -119,9 +129,10 @@ workspace_command_of ws command =
 -- the workspace file, a command, and a query, which is any word
 abbrev pub query_command_of : List ℕ → List ℕ → List ℕ → Option RequestValue
 query_command_of ws command query =
-    if bytes_eq command (codes "find") then Some (find_asked (finding ws query)) else None
+    if bytes_eq command (codes "find") then Some (find_asked (finding ws query))
+    else (if bytes_eq command (codes "batch") then Some (batch_asked (batch_in ws query)) else None)
 
--- three words: the workspace file, a command, and the number of a unit, or a query
+-- three words: the workspace file, a command, and the number of a unit, a query, or a batch file
 abbrev pub unit_command_of : List ℕ → List ℕ → List ℕ → Option RequestValue
 unit_command_of ws command unit =
     if bytes_eq command (codes "tokens") && is_number unit

@@ -16,7 +16,8 @@ mod requests;
 
 pub use help_texts::{help, version};
 pub use lines::{edited_text, size_text};
-pub use messages::{tell, tell_line, tell_offence, tell_query, tell_unit};
+pub use messages::{tell, tell_batch, tell_line, tell_offence, tell_query, tell_unit};
 pub use requests::{
-    Finding, NamedClass, Rename, Request, UnitTokens, asked, is_number, number, workspace_file,
+    BatchFile, Finding, NamedClass, Rename, Request, UnitTokens, asked, is_number, number,
+    workspace_file,
 };

@@ -1,7 +1,7 @@
 // Messages, told in pieces: they want no memory.
 ghost use Rattle.std.specs.Prelude.{◌≡◌, map, flat_map};
 ghost use Rattle.cs_base.specs.Outside.{Writes, Faults, write_failed};
-ghost use Rattle.command_words.specs.Message.{message, place_pieces, unit_pieces, refused_pieces, ws_line, unit_line, offence_line, query_line};
+ghost use Rattle.command_words.specs.Message.{message, place_pieces, unit_pieces, refused_pieces, ws_line, unit_line, offence_line, query_line, batch_line};
 ghost use Rattle.command_words.specs.Telling.{Told};
 
 use cs_base::{Cause, Place, Sink, Wrote};
@@ -94,6 +94,22 @@ pub fn tell_query<E: Sink>(err: &mut E, words: &[u8], at: u32)
     tell(
         err,
         &[b"refused: ", words, b" at ", digits.format(at).as_bytes()],
+    );
+}
+
+/// A batch file that has a bad line of this number, or is not there: then it is 0.
+pub fn tell_batch<E: Sink>(err: &mut E, line: u32)
+    ensures { Told (batch_line line)
+        (E.bytes err.old) (E.bytes err.new) (E.failed_writes err.old) (E.failed_writes err.new) }
+{
+    let mut digits = Buffer::new();
+    tell(
+        err,
+        &[
+            b"refused: ",
+            b"bad batch line ",
+            digits.format(line).as_bytes(),
+        ],
     );
 }
 

@@ -37,6 +37,13 @@ pub struct Finding<'a> {
     pub query: &'a str,
 }
 
+/// A batch, in words.
+#[derive(Drop)]
+pub struct BatchFile<'a> {
+    pub ws: &'a str,
+    pub file: &'a str,
+}
+
 /// What the program is asked for. `Skipped`, `Unused`, `Includes` and `Calls` have the workspace file, `Generated` the
 /// number of units.
 #[derive(Drop)]
@@ -51,6 +58,7 @@ pub enum Request<'a> {
     Includes(&'a str),
     Calls(&'a str),
     Find(Finding<'a>),
+    Batch(BatchFile<'a>),
     Generated(u32),
 }
 
@@ -145,6 +153,8 @@ fn asked_query<'a>(ws: &'a str, command: &str, query: &'a str) -> Option<Request
 {
     if command == "find" {
         Some(Request::Find(Finding { ws, query }))
+    } else if command == "batch" {
+        Some(Request::Batch(BatchFile { ws, file: query }))
     } else {
         None
     }
@@ -281,6 +291,7 @@ pub fn workspace_file<'a>(request: &Request<'a>) -> &'a str
         Request::Includes(ws) => ws,
         Request::Calls(ws) => ws,
         Request::Find(query) => query.ws,
+        Request::Batch(batch) => batch.ws,
         Request::Generated(_) => "w.cs",
         _ => "",
     }

@@ -18,8 +18,8 @@ use Rattle.ws_core.specs.Analysis.{AnalysisValue}
 use Rattle.ws_core.specs.Naming.{Names}
 use Rattle.ws_core.specs.Parts.{AreMembers, part_cmp}
 use Rattle.ws_core.proofs.ListingLemmas.{part_cmp-total}
-use Rattle.kept_meaning_laws.specs.Below.rename_rules.First.{IsAmong, offences_of}
-use Rattle.kept_meaning_laws.specs.Below.rename_rules.Renaming.{Refusal, IsRenamed, IsClassRenamed, IsNamedRenamed, IsRenaming, bad_name, no_name}
+use Rattle.batch_run.specs.Below.rename_rules.First.{IsAmong, offences_of}
+use Rattle.batch_run.specs.Below.rename_rules.Renaming.{Refusal, IsRenamed, IsClassRenamed, IsNamedRenamed, IsRenaming, bad_name, no_name}
 use Rattle.ws_core.proofs.PartLemmas.{part_once}
 use Rattle.query_report.specs.Below.unused_names.Order.{position_cmp}
 use Rattle.query_report.specs.Below.unused_names.Unneeded.{AreUnneeded}

@@ -1,6 +1,7 @@
 pub mod RunLemmas
 pub mod EndLemmas
-pub mod PathLemmas
+pub mod LineLemmas
+pub mod BatchLemmas
 pub mod PromiseLemmas
 pub mod ReportLemmas
 pub mod AlikeLemmas

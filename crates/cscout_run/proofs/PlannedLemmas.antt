@@ -1,50 +1,46 @@
 -- What stands ready for a rename is planned over what the files hold.
-use Rattle.std.proofs.Common.{◌≡◌, Option, None, Some, Result, Ok, Err, sym, subst}
+use Rattle.std.proofs.Common.{◌≡◌, Option, None, Some, Result, Ok, Err}
 use Rattle.std.specs.Prelude.{IfOk, IfSome}
 use Rattle.cs_base.specs.Edit.{IsKept}
 use Rattle.cs_base.specs.Outside.{FileMap}
 use Rattle.ws_file.specs.Workspace.{WorkspaceValue, IsWorkspace}
 use Rattle.ws_core.specs.Below.eclass_map.ClassTable as classes
-use Rattle.ws_core.specs.Below.source_files.Files.{Source, Table, source_of}
-use Rattle.ws_core.specs.Below.source_files.Tables.{AreFound, HasEachOnce}
+use Rattle.ws_core.specs.Below.source_files.Files.{source_of}
+use Rattle.ws_core.specs.Below.source_files.Tables.{HasEachOnce}
 use Rattle.ws_core.specs.Analysis.{AnalysisValue, analysis_of}
-use Rattle.ws_core.specs.Carrying.{IsOver}
 use Rattle.ws_core.specs.Classes.{AreItsClasses}
-use Rattle.kept_meaning_laws.specs.Below.rename_rules.Renaming.{IsRenaming}
+use Rattle.batch_run.specs.Below.rename_rules.Renaming.{IsRenaming}
 use Rattle.command_words.specs.Request.{RenameValue}
 use Rattle.cscout_run.specs.Steps.{IsPlanned, ReadsWorkspace}
 use Rattle.cscout_run.specs.declared.preparing.Ready.{Ready}
 use Rattle.cscout_run.specs.declared.stops.Stop.{Stop}
 
 -- what is planned over the files that are told
-planned_over : (fs : FileMap) (q : RenameValue) (w : WorkspaceValue) (a : AnalysisValue) (table : Table) (Answers : Source → Type 0) (result : Result Ready Stop)
+planned_over : (fs : FileMap) (q : RenameValue) (w : WorkspaceValue) (a : AnalysisValue) (result : Result Ready Stop)
     → IsWorkspace w → ReadsWorkspace q.ws fs (Ok w) → analysis_of (source_of fs) w ≡ Ok a → (t : classes.Table) → AreItsClasses a t → HasEachOnce a.table
-    → a.table ≡ table → IsOver (Some fs) table Answers
     → IfOk result (λ ready. IsRenaming a q.path q.line q.column q.name (Ok ready.edits)) → IfOk result (λ ready. IsKept ready.edits)
     → IsPlanned q fs result
-planned_over fs q w a table Answers (Ok ready) is_ws read analysed t own once is over renaming sound = record {
+planned_over fs q w a (Ok ready) is_ws read analysed t own once renaming sound = record {
   ws = w;
   analysis = a;
   workspace = read;
   is = is_ws;
   analysed = analysed;
-  found = subst (λ (t : Table). AreFound (source_of fs) t) (sym is) over.found;
   classes = t;
   own = own;
   once = once;
   renaming = renaming;
   sound = sound;
 }
-planned_over fs q w a table Answers (Err stop) is_ws read analysed t own once is over renaming sound = tt
+planned_over fs q w a (Err stop) is_ws read analysed t own once renaming sound = tt
 
 -- the same where they may be told
-pub planned_told : (o o' : Option FileMap) (q : RenameValue) (w : WorkspaceValue) (a : AnalysisValue) (Answers : Source → Type 0) (result : Result Ready Stop)
+pub planned_told : (o o' : Option FileMap) (q : RenameValue) (w : WorkspaceValue) (a : AnalysisValue) (result : Result Ready Stop)
     → IsWorkspace w → o' ≡ o → IfSome o (λ fs. ReadsWorkspace q.ws fs (Ok w)) → IfSome o' (λ fs. analysis_of (source_of fs) w ≡ Ok a)
-    → (t : classes.Table) → AreItsClasses a t → HasEachOnce a.table → (table : Table) × (a.table ≡ table) × IsOver o' table Answers
+    → (t : classes.Table) → AreItsClasses a t → HasEachOnce a.table
     → IfOk result (λ ready. IsRenaming a q.path q.line q.column q.name (Ok ready.edits)) → IfOk result (λ ready. IsKept ready.edits)
     → IfSome o (λ fs. IsPlanned q fs result)
-planned_told None o' q w a Answers result is_ws same read analysed t own once over renaming sound = tt
-planned_told (Some fs) o' q w a Answers result is_ws same read analysed t own once over renaming sound =
+planned_told None o' q w a result is_ws same read analysed t own once renaming sound = tt
+planned_told (Some fs) o' q w a result is_ws same read analysed t own once renaming sound =
     let analysed' : analysis_of (source_of fs) w ≡ Ok a = rw same at analysed in
-    let over' : IsOver (Some fs) over.0 Answers = rw same at over.2 in
-    planned_over fs q w a over.0 Answers result is_ws read analysed' t own once over.1 over' renaming sound
+    planned_over fs q w a result is_ws read analysed' t own once renaming sound

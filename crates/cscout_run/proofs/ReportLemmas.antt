@@ -140,7 +140,7 @@ analysed-prepared o ws w value IsNext result analysed p =
 abbrev pub TellsFaults : (Result AnalysisValue UnitFault → Answer → Type 0) → Type 0
 TellsFaults IsNext = (fault : UnitFault) → IsNext (Err fault) (stopped Workspace (text_fault_line fault))
 
-analysed-stops : (ws : List ℕ) (IsNext : Result AnalysisValue UnitFault → Answer → Type 0) (f : AnalyseFault) (expected : Result AnalysisValue UnitFault)
+pub analysed-stops : (ws : List ℕ) (IsNext : Result AnalysisValue UnitFault → Answer → Type 0) (f : AnalyseFault) (expected : Result AnalysisValue UnitFault)
     → TellsFaults IsNext → IfSome (fault_of f) (λ e. expected ≡ Err e) → Stops ws (IsNext expected) (stop_of f)
 analysed-stops ws IsNext (fault.WorkspaceFault unit place cause) expected tells same =
     let a : Answer = stopped Workspace (line_of ws (UnitStop unit place cause)) in

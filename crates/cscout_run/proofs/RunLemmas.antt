@@ -1,7 +1,9 @@
 -- What each end of a run says of the answer and of the outside.
-use Rattle.std.proofs.Common.{◌≡◌, ℕ, ◌<◌, zero, suc, List, [], ◌∷◌, Option, None, Some, Result, Ok, Err, refl, ap, sym, subst, ◌∙◌, codes, inl, ⊎_elim, length, arith}
+use Rattle.std.proofs.Common.{◌≡◌, ℕ, ◌<◌, zero, suc, Bool, true, false, List, [], ◌∷◌, ◌++◌, Option, None, Some, Result, Ok, Err, refl, ap, sym, subst, ◌∙◌, codes, inl, inr, ⊎_elim, length, arith}
 use Rattle.std.specs.Prelude.{IfSome, slice_get}
-use Rattle.cs_base.specs.Edit.{Edit}
+use Rattle.std.specs.Option.{option_map}
+use Rattle.std.proofs.lemmas.List.{append-nil}
+use Rattle.cs_base.specs.Edit.{Edit, with_edits}
 use Rattle.cs_base.specs.Outside.{FileMap, FilesTold, TellsReads, Rose}
 use Rattle.ws_file.specs.Workspace.{WorkspaceValue}
 use Rattle.ws_file.specs.Reading.{WsFault}
@@ -11,7 +13,7 @@ use Rattle.ws_core.specs.ClassReport.{IsClassReport, PrintsClass, part_lines}
 use Rattle.ws_core.specs.Parts.{AreMembers}
 use Rattle.cs_base.specs.declared.positions.Part.{Part}
 use Rattle.std.proofs.lemmas.Option.{same_Some}
-use Rattle.kept_meaning_laws.specs.Below.rename_rules.Renaming.{Refusal}
+use Rattle.batch_run.specs.Below.rename_rules.Renaming.{Refusal}
 use Rattle.query_words.specs.Queries.{Query as FoundQuery}
 use Rattle.query_words.specs.Reading.{parsed}
 use Rattle.query_words.specs.declared.faults.QueryFault.{QueryFault}
@@ -24,10 +26,10 @@ use Rattle.cscout_run.specs.declared.status.Status.{Status}
 use Rattle.cscout_run.specs.declared.status.Status.TheVariants.{Done, Refused, Usage, Workspace, ReadFault, WriteFault, Memory}
 use Rattle.cscout_run.specs.declared.stops.Stop.{Stop}
 use Rattle.cscout_run.specs.declared.stops.Stop.TheVariants as stop
-use Rattle.command_words.specs.Request.{RequestValue, RenameValue, ClassValue, FindValue, help_asked, version_asked, renaming_asked, tokens_asked, skipped_asked, class_asked, unused_asked, includes_asked, calls_asked, find_asked, asked, generated_asked}
-use Rattle.cscout_run.specs.Answer.{Answer, IsAnswer, IsAnswerTo, IsRequestAnswer, IsClassAnswer, IsListAnswer, IsCallsAnswer, IsFindAnswer, IsFindReport, IsRenameAnswer, IsOverWorkspace, answer_of, class_answer, renaming_answer, shown, stopped, workspace_at, IsSizeAnswer, size_answer}
+use Rattle.command_words.specs.Request.{RequestValue, RenameValue, ClassValue, FindValue, help_asked, version_asked, renaming_asked, tokens_asked, skipped_asked, class_asked, unused_asked, includes_asked, calls_asked, find_asked, batch_asked, asked, generated_asked}
+use Rattle.cscout_run.specs.Answer.{Answer, IsAnswer, IsAnswerTo, IsRequestAnswer, IsClassAnswer, IsListAnswer, IsCallsAnswer, IsFindAnswer, IsFindReport, IsRenameAnswer, IsOverWorkspace, IsBatchAnswer, answer_of, batch_at, class_answer, ready_status, renaming_answer, shown, stopped, workspace_at, IsSizeAnswer, size_answer}
 use Rattle.command_words.specs.Message.{usage_line}
-use Rattle.cscout_run.specs.Outcome.{World, told_in, StatusIs, HasCauses, IsComplete, ShowsAnswer, Tells, FailedPut, Unmoved}
+use Rattle.cscout_run.specs.Outcome.{World, told_in, GoesOn, StatusIs, HasCauses, IsComplete, IsDone, NoneRose, ShowsAnswer, Tells, FailedPut, Unmoved}
 use Rattle.cscout_run.specs.Steps.{Prepares}
 use Rattle.cscout_run.specs.declared.preparing.Ready.{Ready}
 use Rattle.edit_put.specs.Applying.{Applies}
@@ -37,6 +39,7 @@ use Rattle.calls_of.specs.Graphs.{calls_text}
 use Rattle.cscout_run.proofs.CallsLemmas.{one_graph}
 use Rattle.cscout_run.specs.Stopping.{Stops, stop_reads, status_of, line_of}
 use Rattle.cscout_run.proofs.AlikeLemmas.{ArePlansAlike, one_found, one_list, one_named, one_unneeded, one_unused, renamings_alike}
+use Rattle.cscout_run.proofs.LineLemmas.{batch-alike, same-answer}
 
 -- what holds of every value holds of one that is told
 pub if_told : {A : Type 0} (o : Option A) (P : A → Type 0) → ((x : A) → P x) → IfSome o P
@@ -60,9 +63,6 @@ unfolding IsAnswer
 answer-request words files request a some is = rw some is
 
 -- ---- answers to the same words are alike
-
-same-answer : (x a b : Answer) → x ≡ a → x ≡ b → AreAlike a b
-same-answer x a b p q = record { status = ap (λ (c : Answer). c.status) (sym p ∙ q); same = λ other. sym p ∙ q }
 
 -- two lists of the members of the class that one place names are told alike
 one_text : (q : ClassValue) (value : AnalysisValue) (text text' : List ℕ) → PrintsClass value q.path q.line q.column text
@@ -195,6 +195,9 @@ request-alike files (Some (calls_asked ws)) a b p p' =
 request-alike files (Some (find_asked q)) a b p p' =
     over-alike q.ws (λ w. IsFindAnswer q (analysis_of (source_of files) w)) (workspace_at q.ws files) a b
     (λ w. find-alike q (analysis_of (source_of files) w) a b) p p'
+request-alike files (Some (batch_asked q)) a b p p' =
+    over-alike q.ws (λ w. IsBatchAnswer files w (batch_at q.file files)) (workspace_at q.ws files) a b
+    (λ w. batch-alike files w (batch_at q.file files) a b) p p'
 request-alike files (Some (generated_asked n)) a b p p' =
     over-alike workspace_path (λ w. IsSizeAnswer n (analysis_of (source_of (generated_files n)) w)) (workspace_at workspace_path (generated_files n)) a b
     (λ w. size-alike n (analysis_of (source_of (generated_files n)) w) a b) p p'
@@ -217,6 +220,7 @@ stops-map ws P Q (stop.TooManyUnits line) follows p = follows _ p
 stops-map ws P Q stop.UnreadWorkspace follows p = tt
 stops-map ws P Q (stop.UnitFault unit place cause) follows p = follows _ p
 stops-map ws P Q (stop.UnreadFile path) follows p = tt
+stops-map ws P Q (stop.BadBatch line) follows p = follows _ p
 stops-map ws P Q stop.NoUnit follows p = follows _ p
 stops-map ws P Q stop.BadName follows p = follows _ p
 stops-map ws P Q stop.NoName follows p = follows _ p
@@ -234,6 +238,7 @@ stop-status ws IsOne (stop.TooManyUnits line) a alike p q = alike a _ q p
 stop-status ws IsOne stop.UnreadWorkspace a alike p q = tt
 stop-status ws IsOne (stop.UnitFault unit place cause) a alike p q = alike a _ q p
 stop-status ws IsOne (stop.UnreadFile path) a alike p q = tt
+stop-status ws IsOne (stop.BadBatch line) a alike p q = alike a _ q p
 stop-status ws IsOne stop.NoUnit a alike p q = alike a _ q p
 stop-status ws IsOne stop.BadName a alike p q = alike a _ q p
 stop-status ws IsOne stop.NoName a alike p q = alike a _ q p
@@ -241,6 +246,18 @@ stop-status ws IsOne (stop.BadQuery at) a alike p q = alike a _ q p
 stop-status ws IsOne (stop.DeepQuery at) a alike p q = alike a _ q p
 stop-status ws IsOne (stop.Offence place cause) a alike p q = alike a _ q p
 stop-status ws IsOne stop.Memory a alike p q = tt
+
+-- files and output stay as they were where there is nothing to put and to write
+put_none : (held : Option FileMap) → held ≡ option_map (with_edits []) held
+put_none None = refl
+put_none (Some fs) = refl
+
+pub written_none : (out : Option (List ℕ)) → out ≡ option_map (λ bytes. bytes ++ []) out
+written_none None = refl
+written_none (Some bytes) = ap (λ (bs : List ℕ). Some bs) (sym (append-nil bytes))
+
+nothing_done : (before now : World) → Unmoved before now → IsDone [] [] before now
+nothing_done before now unmoved = record { held = unmoved.held ∙ put_none before.held; out = unmoved.out ∙ written_none before.out }
 
 -- the early end shows its answer
 pub stop-shows : (ws : List ℕ) (IsOne : Answer → Type 0) (end : Stop) (before now : World) → Stops ws IsOne end → Unmoved before now
@@ -252,29 +269,57 @@ stop-shows ws IsOne (stop.TooManyUnits line) before now p unmoved told reads = (
 stop-shows ws IsOne stop.UnreadWorkspace before now p unmoved told reads = λ a. record { status = tt; leaves = unmoved; says = (ws, told, reads.1) }
 stop-shows ws IsOne (stop.UnitFault unit place cause) before now p unmoved told reads = (_, p, record { status = refl; leaves = unmoved; says = told })
 stop-shows ws IsOne (stop.UnreadFile path) before now p unmoved told reads = λ a. record { status = tt; leaves = unmoved; says = (path, told, reads.1) }
-stop-shows ws IsOne stop.NoUnit before now p unmoved told reads = (_, p, record { status = refl; leaves = unmoved; says = told })
-stop-shows ws IsOne stop.BadName before now p unmoved told reads = (_, p, record { status = refl; leaves = unmoved; says = told })
-stop-shows ws IsOne stop.NoName before now p unmoved told reads = (_, p, record { status = refl; leaves = unmoved; says = told })
-stop-shows ws IsOne (stop.BadQuery at) before now p unmoved told reads = (_, p, record { status = refl; leaves = unmoved; says = told })
-stop-shows ws IsOne (stop.DeepQuery at) before now p unmoved told reads = (_, p, record { status = refl; leaves = unmoved; says = told })
-stop-shows ws IsOne (stop.Offence place cause) before now p unmoved told reads = (_, p, record { status = refl; leaves = unmoved; says = told })
+stop-shows ws IsOne (stop.BadBatch line) before now p unmoved told reads = (_, p, record { status = refl; leaves = nothing_done before now unmoved; says = told })
+stop-shows ws IsOne stop.NoUnit before now p unmoved told reads = (_, p, record { status = refl; leaves = nothing_done before now unmoved; says = told })
+stop-shows ws IsOne stop.BadName before now p unmoved told reads = (_, p, record { status = refl; leaves = nothing_done before now unmoved; says = told })
+stop-shows ws IsOne stop.NoName before now p unmoved told reads = (_, p, record { status = refl; leaves = nothing_done before now unmoved; says = told })
+stop-shows ws IsOne (stop.BadQuery at) before now p unmoved told reads = (_, p, record { status = refl; leaves = nothing_done before now unmoved; says = told })
+stop-shows ws IsOne (stop.DeepQuery at) before now p unmoved told reads = (_, p, record { status = refl; leaves = nothing_done before now unmoved; says = told })
+stop-shows ws IsOne (stop.Offence place cause) before now p unmoved told reads = (_, p, record { status = refl; leaves = nothing_done before now unmoved; says = told })
 stop-shows ws IsOne stop.Memory before now p unmoved told reads = λ a. record { status = tt; leaves = unmoved; says = told }
 
--- nothing stands against a run whose answer is done, unless a count rose
+-- an answer has one status
+apart : (s t : Status) (a : Answer) → a.status ≡ s → a.status ≡ t → (s ≡ t → ⊥) → ⊥
+apart s t a is is' differ = differ (sym is ∙ is')
+
+-- a write that failed made a count rise
+write-rose : (before now : World) → HasCauses before now WriteFault → NoneRose before now → ⊥
+write-rose before now causes none = ⊎_elim (λ p. none.puts p) (λ p. none.outs p) (causes.write refl)
+
+pub write-complete : (a : Answer) (before now : World) → HasCauses before now WriteFault → IsComplete a before now WriteFault
+write-complete a before now causes = record {
+  done = λ is none. absurd (write-rose before now causes none);
+  refused = λ is none. absurd (write-rose before now causes none);
+}
+
+-- the status of a run is that of its answer, unless a count rose or memory ran out
 pub complete : (a : Answer) (before now : World) (status : Status) → StatusIs a status → HasCauses before now status
     → IsComplete a before now status
-complete a before now Done s causes = λ done read put out. tt
-complete a before now Memory s causes = λ done read put out. tt
-complete a before now Usage s causes = λ done read put out. cc
-complete a before now Refused s causes = λ done read put out. cc
-complete a before now Workspace s causes = λ done read put out. cc
-complete a before now ReadFault s causes = λ done read put out. absurd (read (causes.read refl))
-complete a before now WriteFault s causes = λ done read put out. ⊎_elim (λ p. absurd (put p)) (λ p. absurd (out p)) (causes.write refl)
+complete a before now Done s causes = record { done = λ is none. tt; refused = λ is none. absurd (apart Done Refused a s is (λ e. cc)) }
+complete a before now Refused s causes = record { done = λ is none. absurd (apart Refused Done a s is (λ e. cc)); refused = λ is none. tt }
+complete a before now Memory s causes = record { done = λ is none. tt; refused = λ is none. tt }
+complete a before now Usage s causes =
+    record { done = λ is none. absurd (apart Usage Done a s is (λ e. cc)); refused = λ is none. absurd (apart Usage Refused a s is (λ e. cc)) }
+complete a before now Workspace s causes =
+    record { done = λ is none. absurd (apart Workspace Done a s is (λ e. cc)); refused = λ is none. absurd (apart Workspace Refused a s is (λ e. cc)) }
+complete a before now ReadFault s causes =
+    record { done = λ is none. absurd (none.reads (causes.read refl)); refused = λ is none. absurd (none.reads (causes.read refl)) }
+complete a before now WriteFault s causes = write-complete a before now causes
+
+-- the status of an answer that stands ready is that of its run
+pub ready_is : (refused : Bool) (a : Answer) → a.status ≡ ready_status refused → StatusIs a (ready_status refused)
+ready_is false a is = is
+ready_is true a is = is
+
+-- nothing stops it
+pub goes_on : (refused : Bool) (text : List ℕ) (edits : List Edit) → GoesOn (answer_of (ready_status refused) text [] edits)
+goes_on false text edits = inl refl
+goes_on true text edits = inr (refl, refl)
 
 -- what stands ready is an answer to the words
 pub ready-answer : (o : Option FileMap) (words : List (List ℕ)) (request : RequestValue) (ws : List ℕ) (ready : Ready)
     → asked words ≡ Some request → IfSome o (λ fs. Prepares ws (IsRequestAnswer fs request) (Ok ready))
-    → IfSome o (λ fs. IsAnswer words fs (answer_of Done ready.text.items [] ready.edits))
+    → IfSome o (λ fs. IsAnswer words fs (answer_of (ready_status ready.refused) ready.text.items [] ready.edits))
 ready-answer o words request ws ready some p = if_told-map o _ _ p (λ fs is. answer-request words fs request _ some is)
 
 -- the message of the early end is an answer to the words
@@ -328,6 +373,7 @@ stop-causes ws (stop.TooManyUnits line) before now reads puts outs = quiet-cause
 stop-causes ws stop.UnreadWorkspace before now reads puts outs = read-causes before now reads.0 puts outs
 stop-causes ws (stop.UnitFault unit place cause) before now reads puts outs = quiet-causes before now Workspace (reads_stay before now reads) puts outs (λ e. cc) (λ e. cc)
 stop-causes ws (stop.UnreadFile path) before now reads puts outs = read-causes before now reads.0 puts outs
+stop-causes ws (stop.BadBatch line) before now reads puts outs = quiet-causes before now Refused (reads_stay before now reads) puts outs (λ e. cc) (λ e. cc)
 stop-causes ws stop.NoUnit before now reads puts outs = quiet-causes before now Refused (reads_stay before now reads) puts outs (λ e. cc) (λ e. cc)
 stop-causes ws stop.BadName before now reads puts outs = quiet-causes before now Refused (reads_stay before now reads) puts outs (λ e. cc) (λ e. cc)
 stop-causes ws stop.NoName before now reads puts outs = quiet-causes before now Refused (reads_stay before now reads) puts outs (λ e. cc) (λ e. cc)
@@ -387,6 +433,7 @@ stop-not_done (stop.TooManyUnits line) e = cc
 stop-not_done stop.UnreadWorkspace e = cc
 stop-not_done (stop.UnitFault unit place cause) e = cc
 stop-not_done (stop.UnreadFile path) e = cc
+stop-not_done (stop.BadBatch line) e = cc
 stop-not_done stop.NoUnit e = cc
 stop-not_done stop.BadName e = cc
 stop-not_done stop.NoName e = cc

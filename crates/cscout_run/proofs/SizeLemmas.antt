@@ -7,7 +7,7 @@ use Rattle.cs_base.specs.Edit.{Edit}
 use Rattle.cs_base.specs.Token.{Token}
 use Rattle.ws_core.specs.Below.unit_steps.Texts.{UnitTextValue}
 use Rattle.ws_core.specs.Analysis.{UnitAnalysis}
-use Rattle.kept_meaning_laws.specs.Below.analysis_laws.Counts.{tokens_in}
+use Rattle.batch_run.specs.Below.analysis_laws.Counts.{tokens_in}
 use Rattle.cscout_run.specs.Answer.{places_in}
 use Rattle.cscout_run.specs.declared.stops.Stop.{Stop}
 use Rattle.cscout_run.specs.declared.stops.Stop.TheVariants as stop
@@ -60,6 +60,7 @@ plan-quiet (stop.TooManyUnits line) p = absurd p
 plan-quiet stop.UnreadWorkspace p = absurd p
 plan-quiet (stop.UnitFault unit place cause) p = absurd p
 plan-quiet (stop.UnreadFile path) p = absurd p
+plan-quiet (stop.BadBatch line) p = absurd p
 plan-quiet stop.NoUnit p = absurd p
 
 pub plans-quiet : {X : Type 0} (r : Result X Stop) → IfErr r IsPlanStop → IfErr r IsQuiet

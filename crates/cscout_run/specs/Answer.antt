@@ -1,5 +1,6 @@
 -- The answer of the program to its words over the files held: status, output, messages and edits.
-use Rattle.std.specs.Prelude.{ℕ, ◌≡◌, ◌+◌, List, [], ◌∷◌, Option, None, Some, Result, Ok, Err, codes}
+use Rattle.std.specs.Prelude.{ℕ, ◌≡◌, ◌+◌, Bool, true, false, List, [], ◌∷◌, Option, None, Some, Result, Ok, Err, codes, flat_map}
+use Rattle.std.specs.List.{list_any}
 use Rattle.std.specs.Option.{option_map, option_map_or}
 use Rattle.cs_base.specs.Edit.{Edit}
 use Rattle.cs_base.specs.Outside.{FileMap, bytes_at}
@@ -10,7 +11,7 @@ use Rattle.ws_core.specs.Below.unit_steps.Texts.{UnitTextValue}
 use Rattle.ws_core.specs.Analysis.{AnalysisValue, analysis_of}
 use Rattle.ws_core.specs.ClassReport.{IsClassReport}
 use Rattle.ws_core.specs.Texts as units
-use Rattle.kept_meaning_laws.specs.Below.analysis_laws.Counts.{tokens_in}
+use Rattle.batch_run.specs.Below.analysis_laws.Counts.{tokens_in}
 use Rattle.query_report.specs.TokensText.{tokens_text}
 use Rattle.query_report.specs.Skipped.{skipped_text}
 use Rattle.query_report.specs.Queries.{IsReport}
@@ -23,12 +24,15 @@ use Rattle.query_words.specs.Reading.{parsed}
 use Rattle.query_words.specs.declared.faults.QueryFault.{QueryFault}
 use Rattle.query_words.specs.declared.faults.QueryFault.TheVariants.{Bad, Deep}
 use Rattle.find_names.specs.Found.{PrintsFound}
-use Rattle.kept_meaning_laws.specs.Below.rename_rules.Renaming.{Refusal, bad_name, no_name, refused, IsRenaming}
+use Rattle.batch_run.specs.Below.rename_rules.Renaming.{Refusal, bad_name, no_name, refused, IsRenaming}
+use Rattle.batch_file.specs.Line.{LineValue}
+use Rattle.batch_file.specs.Reading.{batch_of}
+use Rattle.batch_run.specs.Batch.{Plan, IsBatch, after_each, plan_text, is_refused}
 use Rattle.generated.specs.Generated.{header_path, workspace_path, generated_files}
 use Rattle.cscout_run.specs.declared.status.Status.{Status}
 use Rattle.cscout_run.specs.declared.status.Status.TheVariants.{Done, Refused, Usage, Workspace}
-use Rattle.command_words.specs.Request.{RequestValue, help_asked, version_asked, renaming_asked, tokens_asked, skipped_asked, class_asked, unused_asked, includes_asked, calls_asked, find_asked, RenameValue, TokensValue, ClassValue, FindValue, asked, generated_asked}
-use Rattle.command_words.specs.Message.{usage_line, absent_line, ws_line, unit_line, refused_line, offence_line, query_line, edited_lines, size_line}
+use Rattle.command_words.specs.Request.{RequestValue, help_asked, version_asked, renaming_asked, tokens_asked, skipped_asked, class_asked, unused_asked, includes_asked, calls_asked, find_asked, batch_asked, RenameValue, TokensValue, ClassValue, FindValue, BatchValue, asked, generated_asked}
+use Rattle.command_words.specs.Message.{usage_line, absent_line, ws_line, unit_line, refused_line, batch_line, offence_line, query_line, edited_lines, size_line}
 use Rattle.command_words.specs.Help.{help_text, version_text}
 
 -- What a run does: its status, the text for `out`, the text for `err`, and the edits that it puts.
@@ -166,6 +170,32 @@ IsRenameAnswer q (Ok value) a =
     (planned : Result (List Edit) Refusal) × IsRenaming value q.path q.line q.column q.name planned × (renaming_answer planned ≡ a)
 IsRenameAnswer q (Err fault) a = stopped Workspace (text_fault_line fault) ≡ a
 
+-- ---- `batch`
+
+-- the lines of the batch file, or the number of the first bad one, if it is there
+abbrev pub batch_at : List ℕ → FileMap → Option (Result (List LineValue) ℕ)
+batch_at file files = option_map batch_of (bytes_at file files)
+
+-- the status of a run that stops at nothing: a batch goes on behind a refused line
+abbrev pub ready_status : Bool → Status
+ready_status false = Done
+ready_status true = Refused
+
+-- what these answers to the lines of a batch make together: each file that they edit is put once
+abbrev pub lines_answer : List Plan → Answer
+lines_answer plans = answer_of (ready_status (list_any is_refused plans)) (flat_map plan_text plans) [] (after_each plans [])
+
+-- The answers to lines over a workspace, once it is analysed: each line is answered over the files as those before left them.
+abbrev pub IsLinesAnswer : FileMap → WorkspaceValue → List LineValue → Result AnalysisValue units.UnitFault → Answer → Type 0
+IsLinesAnswer files w lines (Ok value) a = (plans : List Plan) × IsBatch w files [] lines plans × (lines_answer plans ≡ a)
+IsLinesAnswer files w lines (Err fault) a = stopped Workspace (text_fault_line fault) ≡ a
+
+-- The answers over a batch file. No unit is read where it has a bad line.
+abbrev pub IsBatchAnswer : FileMap → WorkspaceValue → Option (Result (List LineValue) ℕ) → Answer → Type 0
+IsBatchAnswer files w None a = stopped Refused (batch_line 0) ≡ a
+IsBatchAnswer files w (Some (Ok lines)) a = IsLinesAnswer files w lines (analysis_of (source_of files) w) a
+IsBatchAnswer files w (Some (Err line)) a = stopped Refused (batch_line line) ≡ a
+
 -- ---- `generate`
 
 -- the places that all edits change together
@@ -222,6 +252,7 @@ IsRequestAnswer files (includes_asked ws) a = IsListRequest files ws Includes a
 IsRequestAnswer files (calls_asked ws) a = IsCallsRequest files ws a
 IsRequestAnswer files (find_asked q) a =
     IsOverWorkspace q.ws (λ w. IsFindAnswer q (analysis_of (source_of files) w)) (workspace_at q.ws files) a
+IsRequestAnswer files (batch_asked q) a = IsOverWorkspace q.ws (λ w. IsBatchAnswer files w (batch_at q.file files)) (workspace_at q.ws files) a
 IsRequestAnswer files (generated_asked n) a = IsGenerated n a
 
 -- the same to words, which may be of no form
@@ -229,7 +260,7 @@ abbrev pub IsAnswerTo : FileMap → Option RequestValue → Answer → Type 0
 IsAnswerTo files None a = stopped Usage usage_line ≡ a
 IsAnswerTo files (Some request) a = IsRequestAnswer files request a
 
--- The answer to the words over the files: a command line of no form first, then the workspace file, then
--- the units, then the refusals of the command.
+-- The answer to the words over the files: a command line of no form first, then the workspace file, then the batch file,
+-- then the units, then the refusals of the command.
 unfoldable pub IsAnswer : List (List ℕ) → FileMap → Answer → Type 0
 IsAnswer words files a = IsAnswerTo files (asked words) a

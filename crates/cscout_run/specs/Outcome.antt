@@ -1,6 +1,6 @@
 -- How a run ends: what its status says of the answer, of the files held, of the output, of the messages
 -- and of the counts of what failed.
-use Rattle.std.specs.Prelude.{ℕ, ◌≡◌, ◌⊎◌, ◌+◌, ◌<◌, Bool, true, false, List, ◌++◌, Option, IfSome, length, take, slice_get}
+use Rattle.std.specs.Prelude.{ℕ, ◌≡◌, ◌⊎◌, ◌+◌, ◌<◌, Bool, true, false, List, [], ◌++◌, Option, IfSome, length, take, slice_get}
 use Rattle.std.specs.Option.{option_map}
 use Rattle.cs_base.specs.Edit.{Edit, with_edits}
 use Rattle.cs_base.specs.Outside.{FileMap, FilesTold, files_told, Rose, IsFront}
@@ -39,12 +39,16 @@ world files out outs err errs = record {
 abbrev pub told_in : World → FilesTold
 told_in w = files_told w.held w.reads w.puts w.last
 
+-- nothing stops the run: it would be done, or refused without a message, as a batch behind a refused line
+abbrev pub GoesOn : Answer → Type 0
+GoesOn a = (a.status ≡ Done) ⊎ ((a.status ≡ Refused) × (a.err ≡ []))
+
 -- The status is that of the answer. Want of memory and a failed read may take its place, and a failed
--- put or write that of a run that would be done.
+-- put or write that of a run that nothing stops.
 abbrev pub StatusIs : Answer → Status → Type 0
 StatusIs a ReadFault = Unit {0}
 StatusIs a Memory = Unit {0}
-StatusIs a WriteFault = a.status ≡ Done
+StatusIs a WriteFault = GoesOn a
 StatusIs a Done = a.status ≡ Done
 StatusIs a Refused = a.status ≡ Refused
 StatusIs a Usage = a.status ≡ Usage
@@ -70,8 +74,8 @@ pub record FailedWrite (edits : List Edit) (text : List ℕ) (before now : World
   pub puts : now.puts ≡ before.puts
   pub rose : Rose before.outs now.outs
 
--- The files and the output: all edits and the whole text where the run is done; as the failed put or
--- write left them; and else as they were.
+-- The files and the output: all edits and the whole text where the run is done or refused, and what is refused with a
+-- message has none of them; as the failed put or write left them; and else as they were.
 pub record Unmoved (before now : World) : Type 0 where
   pub held : now.held ≡ before.held
   pub out : now.out ≡ before.out
@@ -82,6 +86,7 @@ pub record IsDone (edits : List Edit) (text : List ℕ) (before now : World) : T
 
 abbrev pub Leaves : Answer → World → World → Status → Type 0
 Leaves a before now Done = IsDone a.edits a.out before now
+Leaves a before now Refused = IsDone a.edits a.out before now
 Leaves a before now WriteFault =
     ((n : ℕ) × FailedPut a.edits n before now) ⊎ FailedWrite a.edits a.out before now
 Leaves a before now _ = Unmoved before now
@@ -101,7 +106,7 @@ TellsWrite before now =
     ((path : List ℕ) × Tells (unwritten_line path) before now × IfSome now.last (λ last. last ≡ path) × Rose before.puts now.puts)
     ⊎ (Tells no_output_line before now × Rose before.outs now.outs)
 
--- The messages: nothing where the run is done, and else the line of the status.
+-- The messages: nothing where the run is done, and else the line of the status; a batch with a refused line has none.
 abbrev pub Says : Answer → World → World → Status → Type 0
 Says a before now Done = now.err ≡ before.err
 Says a before now Refused = Tells a.err before now
@@ -136,11 +141,22 @@ IsDoneOrMemory Done = Unit {0}
 IsDoneOrMemory Memory = Unit {0}
 IsDoneOrMemory _ = ⊥
 
--- Nothing stands against the run and no count rose: it is done, unless memory ran out.
-abbrev pub IsComplete : Answer → World → World → Status → Type 0
-IsComplete a before now status =
-    a.status ≡ Done → ¬ (Rose before.reads now.reads) → ¬ (Rose before.puts now.puts)
-    → ¬ (Rose before.outs now.outs) → IsDoneOrMemory status
+-- refused, or out of memory
+abbrev pub IsRefusedOrMemory : Status → Type 0
+IsRefusedOrMemory Refused = Unit {0}
+IsRefusedOrMemory Memory = Unit {0}
+IsRefusedOrMemory _ = ⊥
+
+-- No count rose.
+pub record NoneRose (before now : World) : Type 0 where
+  pub reads : ¬ (Rose before.reads now.reads)
+  pub puts : ¬ (Rose before.puts now.puts)
+  pub outs : ¬ (Rose before.outs now.outs)
+
+-- Where no count rose, the run is done if nothing stands against it, and refused if it is to be, unless memory ran out.
+pub record IsComplete (a : Answer) (before now : World) (status : Status) : Type 0 where
+  pub done : a.status ≡ Done → NoneRose before now → IsDoneOrMemory status
+  pub refused : a.status ≡ Refused → NoneRose before now → IsRefusedOrMemory status
 
 -- The end is one of this answer: its status, the files and the output, and the messages.
 pub record IsEndOf (a : Answer) (before now : World) (ended : Status) : Type 0 where

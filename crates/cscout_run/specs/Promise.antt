@@ -1,6 +1,8 @@
--- The promise of a rename that is done: exactly the named class changes, and meaning is kept.
-use Rattle.std.specs.Prelude.{ℕ, ◌≡◌, ◌≢◌, List, Option, Some, None, Ok, All}
+-- The promise of a rename that is done, and of each accepted line of a batch: exactly the named class changes, and meaning
+-- is kept.
+use Rattle.std.specs.Prelude.{ℕ, ◌≡◌, ◌≢◌, List, [], Option, Some, None, Ok, All}
 use Rattle.cs_base.specs.declared.positions.Part.{Part}
+use Rattle.cs_base.specs.Edit.{with_edits}
 use Rattle.cs_base.specs.Outside.{FileMap, bytes_at}
 use Rattle.cs_base.specs.Units.{UnitValue}
 use Rattle.ws_file.specs.Workspace.{WorkspaceValue}
@@ -9,12 +11,15 @@ use Rattle.ws_core.specs.Below.source_files.KeptFiles.{KeptValue}
 use Rattle.ws_core.specs.Analysis.{AnalysisValue, analysis_of}
 use Rattle.ws_core.specs.Naming.{Names}
 use Rattle.ws_core.specs.Parts.{AreMembers}
-use Rattle.kept_meaning_laws.specs.Below.analysis_laws.Tables.{IsOpened}
-use Rattle.kept_meaning_laws.specs.Below.rename_rules.First.{IsAmong, IsFirst, offences_of}
-use Rattle.kept_meaning_laws.specs.Below.rename_rules.Runs.{runs, file_of, new_bytes}
-use Rattle.command_words.specs.Request.{RequestValue, renaming_asked, RenameValue}
-use Rattle.cscout_run.specs.Answer.{workspace_at}
-use Rattle.renamed.specs.Renamed.{TextsAreRenamed, AnalysisIsRenamed, ExternalNamesAreKept}
+use Rattle.batch_run.specs.Below.analysis_laws.Tables.{IsOpened}
+use Rattle.batch_run.specs.Below.rename_rules.First.{IsAmong, IsFirst, offences_of}
+use Rattle.batch_run.specs.Below.rename_rules.Runs.{runs, file_of, new_bytes}
+use Rattle.batch_file.specs.Line.{LineValue}
+use Rattle.batch_run.specs.Batch.{Plan, IsBatch, after_each}
+use Rattle.batch_run.specs.Renamed.{KeepsLines}
+use Rattle.batch_run.specs.Below.renamed.Renamed.{TextsAreRenamed, AnalysisIsRenamed, ExternalNamesAreKept}
+use Rattle.command_words.specs.Request.{RequestValue, renaming_asked, batch_asked, RenameValue, BatchValue}
+use Rattle.cscout_run.specs.Answer.{batch_at, workspace_at}
 
 -- What a class is renamed in: the workspace of the workspace file, its analysis, the part at the place, and the
 -- members of its class.
@@ -55,7 +60,30 @@ pub record IsRenamed (q : RenameValue) (before now : FileMap) (r : Renamed) : Ty
   -- and two identifiers of external linkage, of whatever units, denote one entity exactly where they did
   pub shared : ExternalNamesAreKept (source_of now) r.ws r.analysis
 
--- the promise to these words: where they ask for a rename, the files are renamed
+-- The files before and after a batch whose lines were run.
+pub record HasRun (q : BatchValue) (before now : FileMap) : Type 0 where
+  -- the workspace file is there and accepted
+  pub ws : WorkspaceValue
+  pub workspace : workspace_at q.ws before ≡ Some (Ok ws)
+  -- so is the batch file
+  pub lines : List LineValue
+  pub batch : batch_at q.file before ≡ Some (Ok lines)
+  -- each line has an answer, over the files as the lines before left them
+  pub plans : List Plan
+  pub answers : IsBatch ws before [] lines plans
+  -- each accepted line is a rename between the files as the lines before left them and as it leaves them
+  pub keeps : KeepsLines ws before [] lines plans
+  -- the files are as the last line leaves them
+  pub left : now ≡ with_edits (after_each plans []) before
+
+-- the promise to these words where the run is done: if they ask for a rename, the files are renamed, and if for a batch, its
+-- lines were run
 abbrev pub KeepsPromise : Option RequestValue → FileMap → FileMap → Type 0
 KeepsPromise (Some (renaming_asked q)) before now = (r : Renamed) × IsRenamed q before now r
+KeepsPromise (Some (batch_asked q)) before now = HasRun q before now
 KeepsPromise _ before now = Unit {0}
+
+-- the promise to these words where the run is refused: the lines of a batch were run too, if none of them is bad
+abbrev pub KeepsRefused : Option RequestValue → FileMap → FileMap → Type 0
+KeepsRefused (Some (batch_asked q)) before now = (lines : List LineValue) → batch_at q.file before ≡ Some (Ok lines) → HasRun q before now
+KeepsRefused _ before now = Unit {0}

@@ -6,7 +6,7 @@ use Rattle.ws_file.specs.Workspace.{WorkspaceValue, IsWorkspace}
 use Rattle.ws_file.specs.Reading.{WsFault}
 use Rattle.ws_core.specs.Below.eclass_map.ClassTable as classes
 use Rattle.ws_core.specs.Below.source_files.Files.{source_of}
-use Rattle.ws_core.specs.Below.source_files.Tables.{AreFound, HasEachOnce}
+use Rattle.ws_core.specs.Below.source_files.Tables.{HasEachOnce}
 use Rattle.ws_core.specs.Analysis.{AnalysisValue, analysis_of}
 use Rattle.ws_core.specs.Classes.{AreItsClasses}
 use Rattle.ws_core.specs.declared.analyse_fault.AnalyseFault.{AnalyseFault}
@@ -15,19 +15,22 @@ use Rattle.cscout_run.specs.declared.status.Status.TheVariants as status
 use Rattle.cscout_run.specs.declared.stops.Stop.{Stop}
 use Rattle.cscout_run.specs.declared.stops.Stop.TheVariants.{UnreadWorkspace, UnitFault, UnreadFile, BadName, NoName, BadQuery, DeepQuery, Offence, Memory}
 use Rattle.cscout_run.specs.declared.preparing.Ready.{Ready}
-use Rattle.kept_meaning_laws.specs.Below.rename_rules.Renaming.{IsRenaming}
-use Rattle.rename_edit.specs.declared.refusals.RenameRefusal.{RenameRefusal}
-use Rattle.rename_edit.specs.declared.refusals.RenameRefusal.TheVariants as refusal
+use Rattle.batch_run.specs.Below.rename_rules.Renaming.{IsRenaming}
+use Rattle.batch_file.specs.Line.{LineValue}
+use Rattle.batch_run.specs.Batch.{Plan, IsBatch, after_each}
+use Rattle.batch_run.specs.Below.rename_edit.declared.refusals.RenameRefusal.{RenameRefusal}
+use Rattle.batch_run.specs.Below.rename_edit.declared.refusals.RenameRefusal.TheVariants as refusal
+use Rattle.batch_run.specs.Renamed.{KeepsLines}
 use Rattle.find_names.specs.declared.refusal.FindRefusal.{FindRefusal}
 use Rattle.find_names.specs.declared.refusal.FindRefusal.TheVariants as found
-use Rattle.command_words.specs.Request.{RequestValue, RenameValue, renaming_asked}
-use Rattle.cscout_run.specs.Answer.{Answer, answer_of, stopped, workspace_at, ws_fault_line}
-use Rattle.command_words.specs.Message.{absent_line}
+use Rattle.command_words.specs.Request.{RequestValue, RenameValue, BatchValue, renaming_asked, batch_asked}
+use Rattle.cscout_run.specs.Answer.{Answer, answer_of, batch_at, ready_status, stopped, workspace_at, ws_fault_line}
+use Rattle.command_words.specs.Message.{absent_line, batch_line}
 use Rattle.cscout_run.specs.Stopping.{Stops, stop_reads}
 
 -- what stands ready to be put and written is an answer, or the message of the early end is
 abbrev pub Prepares : List ℕ → (Answer → Type 0) → Result Ready Stop → Type 0
-Prepares ws IsAnswer (Ok ready) = IsAnswer (answer_of status.Done ready.text.items [] ready.edits)
+Prepares ws IsAnswer (Ok ready) = IsAnswer (answer_of (ready_status ready.refused) ready.text.items [] ready.edits)
 Prepares ws IsAnswer (Err stop) = Stops ws IsAnswer stop
 
 -- what every command answers where the workspace file has no workspace
@@ -40,6 +43,17 @@ no_workspace ws (Some (Err fault)) = Some (stopped status.Workspace (ws_fault_li
 abbrev pub ReadsWorkspace : List ℕ → FileMap → Result WorkspaceValue Stop → Type 0
 ReadsWorkspace ws files (Ok w) = workspace_at ws files ≡ Some (Ok w)
 ReadsWorkspace ws files (Err stop) = Stops ws (λ a. no_workspace ws (workspace_at ws files) ≡ Some a) stop
+
+-- what a batch answers where the batch file has no lines to run
+abbrev pub no_lines : Option (Result (List LineValue) ℕ) → Option Answer
+no_lines None = Some (stopped status.Refused (batch_line 0))
+no_lines (Some (Ok lines)) = None
+no_lines (Some (Err line)) = Some (stopped status.Refused (batch_line line))
+
+-- the batch file holds these lines, or has none to run, and the message of the early end says so
+abbrev pub ReadsLines : {X : Type 0} → (X → List LineValue) → List ℕ → List ℕ → FileMap → Result X Stop → Type 0
+ReadsLines view ws file files (Ok lines) = batch_at file files ≡ Some (Ok (view lines))
+ReadsLines view ws file files (Err stop) = Stops ws (λ a. no_lines (batch_at file files) ≡ Some a) stop
 
 -- why a workspace has no texts, as an early end
 abbrev pub stop_of : AnalyseFault → Stop
@@ -65,15 +79,14 @@ abbrev pub reads_of : {X : Type 0} → List ℕ → Result X Stop → ReadEnd
 reads_of ws (Ok x) = NoneFailed
 reads_of ws (Err stop) = stop_reads ws stop
 
--- An accepted renaming, as it stands before the first put: it is planned over the analysis of the workspace, whose
--- files are what the files hold, with its classes; each path has one number; and paths of edits are in order.
+-- An accepted renaming, as it stands before the first put: it is planned over the analysis of the workspace, with its
+-- classes; each path has one number; and paths of edits are in order.
 pub record Planned (q : RenameValue) (files : FileMap) (edits : List Edit) : Type 0 where
   pub ws : WorkspaceValue
   pub analysis : AnalysisValue
   pub workspace : workspace_at q.ws files ≡ Some (Ok ws)
   pub is : IsWorkspace ws
   pub analysed : analysis_of (source_of files) ws ≡ Ok analysis
-  pub found : AreFound (source_of files) analysis.table
   pub classes : classes.Table
   pub own : AreItsClasses analysis classes
   pub once : HasEachOnce analysis.table
@@ -85,9 +98,26 @@ abbrev pub IsPlanned : RenameValue → FileMap → Result Ready Stop → Type 0
 IsPlanned q files (Ok ready) = Planned q files ready.edits
 IsPlanned q files (Err stop) = Unit {0}
 
--- the same for what is asked for, where that is a rename
+-- A batch whose lines were run, as it stands before the first put.
+pub record LinesRun (q : BatchValue) (files : FileMap) (edits : List Edit) : Type 0 where
+  pub ws : WorkspaceValue
+  pub lines : List LineValue
+  pub plans : List Plan
+  pub workspace : workspace_at q.ws files ≡ Some (Ok ws)
+  pub batch : batch_at q.file files ≡ Some (Ok lines)
+  pub answers : IsBatch ws files [] lines plans
+  pub keeps : KeepsLines ws files [] lines plans
+  pub edits_are : edits ≡ after_each plans []
+
+-- what stands ready for a batch was run
+abbrev pub AreRun : BatchValue → FileMap → Result Ready Stop → Type 0
+AreRun q files (Ok ready) = LinesRun q files ready.edits
+AreRun q files (Err stop) = Unit {0}
+
+-- the same for what is asked for, where that is a rename or a batch
 abbrev pub IsPlannedFor : RequestValue → FileMap → Result Ready Stop → Type 0
 IsPlannedFor (renaming_asked q) files result = IsPlanned q files result
+IsPlannedFor (batch_asked q) files result = AreRun q files result
 IsPlannedFor _ files result = Unit {0}
 
 -- an early end without a read that failed

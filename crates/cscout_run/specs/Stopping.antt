@@ -4,9 +4,9 @@ use Rattle.cs_base.specs.Outside.{ReadEnd, NoneFailed, FailedAt, MayHaveFailed}
 use Rattle.cscout_run.specs.declared.status.Status.{Status}
 use Rattle.cscout_run.specs.declared.status.Status.TheVariants as status
 use Rattle.cscout_run.specs.declared.stops.Stop.{Stop}
-use Rattle.cscout_run.specs.declared.stops.Stop.TheVariants.{NoWorkspace, BadLine, TooManyUnits, UnreadWorkspace, UnitFault, UnreadFile, NoUnit, BadName, NoName, BadQuery, DeepQuery, Offence, Memory}
+use Rattle.cscout_run.specs.declared.stops.Stop.TheVariants.{NoWorkspace, BadLine, TooManyUnits, UnreadWorkspace, UnitFault, UnreadFile, BadBatch, NoUnit, BadName, NoName, BadQuery, DeepQuery, Offence, Memory}
 use Rattle.cscout_run.specs.Answer.{Answer, stopped}
-use Rattle.command_words.specs.Message.{absent_line, ws_line, unit_line, refused_line, offence_line, query_line, unread_line, memory_line}
+use Rattle.command_words.specs.Message.{absent_line, ws_line, unit_line, refused_line, batch_line, offence_line, query_line, unread_line, memory_line}
 
 -- the status of an early end
 abbrev pub status_of : Stop → Status
@@ -16,6 +16,7 @@ status_of (TooManyUnits line) = status.Workspace
 status_of UnreadWorkspace = status.ReadFault
 status_of (UnitFault unit place cause) = status.Workspace
 status_of (UnreadFile path) = status.ReadFault
+status_of (BadBatch line) = status.Refused
 status_of NoUnit = status.Refused
 status_of BadName = status.Refused
 status_of NoName = status.Refused
@@ -32,6 +33,7 @@ line_of ws (TooManyUnits line) = ws_line ws line (codes "too many units")
 line_of ws UnreadWorkspace = unread_line ws
 line_of ws (UnitFault unit place cause) = unit_line unit place cause
 line_of ws (UnreadFile path) = unread_line path
+line_of ws (BadBatch line) = batch_line line
 line_of ws NoUnit = refused_line (codes "no unit")
 line_of ws BadName = refused_line (codes "bad name")
 line_of ws NoName = refused_line (codes "no name")

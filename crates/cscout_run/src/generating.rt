@@ -1,6 +1,6 @@
 // The generated workspace: made, analysed and renamed in memory, and counted. It touches no file.
 ghost use Rattle.std.specs.Prelude.{◌≡◌, ◌≤◌, ◌^◌, IfErr, Ok};
-ghost use Rattle.kept_meaning_laws.specs.Below.analysis_laws.Counts.{tokens_in};
+ghost use Rattle.batch_run.specs.Below.analysis_laws.Counts.{tokens_in};
 ghost use Rattle.generated.specs.Generated.{workspace_path};
 ghost use Rattle.cscout_run.specs.Answer.{IsGenerated, IsSizeAnswer, places_in};
 ghost use Rattle.cscout_run.specs.Steps.{IsPlanStop, IsQuiet, Prepares};
@@ -9,10 +9,10 @@ use crate::preparing::{Ready, stop_for};
 use crate::reporting::stop_of;
 use crate::stops::Stop;
 use crate::workspace_files::read_workspace;
+use batch_run::plan_rename;
 use command_words::size_text;
 use cs_base::Edits;
 use generated::{Unfailing, generate};
-use rename_edit::plan_rename;
 use std::alloc::Global;
 use ws_core::{Analysis, analyse};
 
@@ -41,6 +41,7 @@ fn size_of(alloc: Global, a: &Analysis, n: u32) -> Result<Ready, Stop>
             Ok(Ready {
                 edits: Edits::new(alloc),
                 text,
+                refused: false,
             })
         }
         Err(refusal) => Err(stop_for(refusal)),

@@ -5,10 +5,11 @@
 //! messages. It answers as `specs/Answer.antt` says over the files held, and `specs/Outcome.antt` says what stands
 //! where the outside fails. `HostFiles` and `HostSink` are the real files and streams, which the program `cscout_cli`
 //! hands it. What words ask for, the help and the lines of messages stand in the crate `command_words`. All that may
-//! want memory is done in `preparing.rt`, `reporting.rt`, `listing.rt` and `calls.rt`, before the first put; messages
-//! are told in pieces and want none. Read `specs/Answer.antt`, `specs/Outcome.antt`, then `top.rt`.
+//! want memory is done in `preparing.rt`, `batches.rt`, `reporting.rt`, `listing.rt` and `calls.rt`, before the first
+//! put; messages are told in pieces and want none. Read `specs/Answer.antt`, `specs/Outcome.antt`, then `top.rt`.
 #![tactic(auto)]
 
+mod batches;
 mod calls;
 mod finding;
 mod generating;

@@ -1,13 +1,14 @@
 // All of a run that may want memory: it puts nothing.
-ghost use Rattle.std.specs.Prelude.{◌≡◌, IfSome, IfOk, IfErr, IsUtf8, Ok, []};
+ghost use Rattle.std.specs.Prelude.{◌≡◌, false, IfSome, IfOk, IfErr, IsUtf8, Ok, []};
 ghost use Rattle.cs_base.specs.Outside.{ReadsOnly};
 ghost use Rattle.cs_base.specs.Edit.{IsKept};
-ghost use Rattle.kept_meaning_laws.specs.Below.rename_rules.Renaming.{IsRenaming};
+ghost use Rattle.batch_run.specs.Below.rename_rules.Renaming.{IsRenaming};
 ghost use Rattle.cscout_run.specs.Answer.{IsRenameAnswer, IsRequestAnswer};
 ghost use Rattle.command_words.specs.Asking.{request_value, rename_value, workspace_file};
 ghost use Rattle.command_words.specs.Request.{renaming_asked};
 ghost use Rattle.cscout_run.specs.Steps.{IsPlanStop, IsPlanned, IsPlannedFor, Prepares, reads_of, stop_for};
 
+use crate::batches::prepare_batch;
 use crate::calls::prepare_calls;
 use crate::finding::prepare_find;
 use crate::generating::prepare_generated;
@@ -15,19 +16,21 @@ use crate::listing::prepare_list;
 use crate::reporting::{prepare_class, prepare_skipped, prepare_tokens, stop_of};
 use crate::stops::Stop;
 use crate::workspace_files::read_workspace;
+use batch_run::{RenameRefusal, plan_rename};
 use command_words::{Rename, Request, edited_text, help, version};
 use cs_base::{Edits, Files, Memory, Text, normal_path};
 use query_report::Query;
-use rename_edit::{RenameRefusal, plan_rename};
 use std::alloc::Global;
 use std::str;
 use ws_core::{Analysis, analyse};
 
-/// What is left to do once nothing can want memory: the edits to put and the text to write.
+/// What is left to do once nothing can want memory: the edits to put, the text to write, and whether the run is refused then,
+/// as a batch with a refused line.
 #[derive(Drop)]
 pub struct Ready {
     pub edits: Edits,
     pub text: Vec<u8>,
+    pub refused: bool,
 }
 
 /// All of the answer to a request but its puts and its output.
@@ -48,6 +51,7 @@ pub fn prepare<F: Files>(alloc: Global, request: &Request<'_>, files: &mut F) ->
         Request::Includes(ws) => prepare_list(alloc, ws, &Query::Includes, files),
         Request::Calls(ws) => prepare_calls(alloc, ws, files),
         Request::Find(query) => prepare_find(alloc, query, files),
+        Request::Batch(batch) => prepare_batch(alloc, batch, files),
         Request::Generated(n) => prepare_generated(alloc, *n),
     }
 }
@@ -56,10 +60,12 @@ pub fn prepare<F: Files>(alloc: Global, request: &Request<'_>, files: &mut F) ->
 fn shown(alloc: Global, text: &[u8]) -> Result<Ready, Memory>
     ensures edits { IfOk result (λ ready. ready.edits ≡ []) }
     ensures text { IfOk result (λ ready. ready.text.items ≡ text.now) }
+    ensures refused { IfOk result (λ ready. ready.refused ≡ false) }
 {
     Ok(Ready {
         edits: Edits::new(alloc),
         text: Vec::from_slice(alloc, text)?,
+        refused: false,
     })
 }
 
@@ -104,7 +110,11 @@ fn planned(alloc: Global, a: &Analysis, rename: &Rename<'_>) -> Result<Ready, St
     ) {
         Ok(edits) => {
             let text = edited_text(alloc, &edits)?;
-            Ok(Ready { edits, text })
+            Ok(Ready {
+                edits,
+                text,
+                refused: false,
+            })
         }
         Err(refusal) => Err(stop_for(refusal)),
     }

@@ -1,5 +1,5 @@
 // The reports `tokens`, `skipped` and `class`: they put nothing.
-ghost use Rattle.std.specs.Prelude.{◌≡◌, ◌≤◌, MatchBool, None, Ok, IfErr, IfSome, [], length};
+ghost use Rattle.std.specs.Prelude.{◌≡◌, ◌≤◌, MatchBool, false, None, Ok, IfErr, IfSome, [], length};
 ghost use Rattle.ws_core.specs.Texts.{unit_at};
 ghost use Rattle.cs_base.specs.Outside.{ReadsOnly};
 ghost use Rattle.cscout_run.specs.Answer.{IsClassAnswer, IsRequestAnswer};
@@ -92,10 +92,12 @@ fn class_of_name(alloc: Global, a: &Analysis, q: &NamedClass<'_>) -> Result<Read
 pub(crate) fn to_show(alloc: Global, text: Vec<u8>) -> Ready
     ensures edits { result.edits ≡ [] }
     ensures text { result.text ≡ text }
+    ensures refused { result.refused ≡ false }
 {
     Ready {
         edits: Edits::new(alloc),
         text,
+        refused: false,
     }
 }
 

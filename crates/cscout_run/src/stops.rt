@@ -22,9 +22,13 @@ pub enum Stop {
         place: Place,
         cause: Cause,
     },
-    /// A file of a unit could not be read.
+    /// A file of a unit, or the batch file, could not be read.
     UnreadFile {
         path: Text,
+    },
+    /// The batch file has a bad line of this number, or is not there: then it is 0.
+    BadBatch {
+        line: u32,
     },
     /// There is no unit with the number.
     NoUnit,

@@ -5,7 +5,7 @@ ghost use Rattle.command_words.specs.Telling.{Told};
 
 use crate::status::Status;
 use crate::stops::Stop;
-use command_words::{tell, tell_line, tell_offence, tell_query, tell_unit};
+use command_words::{tell, tell_batch, tell_line, tell_offence, tell_query, tell_unit};
 use cs_base::Sink;
 
 /// Tells the line of an early end, and gives its status. `ws` is the workspace file.
@@ -38,6 +38,10 @@ pub fn tell_stop<E: Sink>(err: &mut E, ws: &str, stop: &Stop) -> Status
         Stop::UnreadFile { path } => {
             tell(err, &[b"cannot read ", path.bytes()]);
             Status::ReadFault
+        }
+        Stop::BadBatch { line } => {
+            tell_batch(err, *line);
+            Status::Refused
         }
         Stop::NoUnit => {
             tell(err, &[b"refused: ", b"no unit"]);

@@ -2,9 +2,9 @@
 ghost use Rattle.std.specs.Prelude.{◌≡◌, ◌↔◌, IfSome, map, string_bytes, None};
 ghost use Rattle.cs_base.specs.Outside.{Writes, Faults, write_failed};
 ghost use Rattle.command_words.specs.Request.{asked};
-ghost use Rattle.cscout_run.specs.Answer.{IsAnswer};
+ghost use Rattle.cscout_run.specs.Answer.{IsAnswer, ready_status};
 ghost use Rattle.cscout_run.specs.Outcome.{world, Ends};
-ghost use Rattle.cscout_run.specs.Promise.{KeepsPromise};
+ghost use Rattle.cscout_run.specs.Promise.{KeepsPromise, KeepsRefused};
 
 use crate::preparing::prepare;
 use crate::status::Status;
@@ -29,9 +29,12 @@ pub fn run<F: Files, O: Sink, E: Sink>(
         (world (F.told files.old) (O.bytes out.old) (O.failed_writes out.old) (E.bytes err.old) (E.failed_writes err.old))
         (world (F.told files.new) (O.bytes out.new) (O.failed_writes out.new) (E.bytes err.new) (E.failed_writes err.new))
         result }
-    // A rename that is done has changed the named class, and nothing else.
+    // A rename that is done has changed the named class, and nothing else; a batch that is done has run its lines.
     ensures promise { result ≡ Status.Done → IfSome (F.told files.old).held (λ before.
         IfSome (F.told files.new).held (KeepsPromise (asked (map string_bytes words.now)) before)) }
+    // So has a batch some of whose lines were refused.
+    ensures refused { result ≡ Status.Refused → IfSome (F.told files.old).held (λ before.
+        IfSome (F.told files.new).held (KeepsRefused (asked (map string_bytes words.now)) before)) }
 {
     let Some(request) = asked(words) else {
         tell(err, &[b"bad command line"]);
@@ -49,7 +52,18 @@ pub fn run<F: Files, O: Sink, E: Sink>(
         tell(err, &[b"cannot write output"]);
         return Status::WriteFault;
     }
-    Status::Done
+    ready_status(ready.refused)
+}
+
+// How a run ends that nothing stopped.
+fn ready_status(refused: bool) -> Status
+    ensures { result ≡ ready_status refused }
+{
+    if refused {
+        Status::Refused
+    } else {
+        Status::Done
+    }
 }
 
 // Writes the text in one call, and makes none where it is empty.

@@ -1,4 +1,5 @@
 // Whole runs over files and sinks in memory, and the adapters over one real file.
+use crate::batches::{BATCHES, Ended, FOUR_ENDED, FOUR_FILES, FOUR_REFUSED, FOUR_REFUSED_ENDED};
 use crate::classes::{CLASSES, FAILING_CLASSES};
 use crate::lists::{FAILING_LISTS, LISTS};
 use crate::reports::{FAILING_REPORTS, GENERATED, REFUSED_REPORTS, REPORTS};
@@ -159,6 +160,42 @@ fn classes_are_told_as_worked_by_hand(rt: HostRuntime) -> Result<(), Memory> {
     Ok(())
 }
 
+#[test]
+fn batches_answer_as_worked_by_hand(rt: HostRuntime) -> Result<(), Memory> {
+    for row in &BATCHES {
+        check(&rt, row, 0, 0, 0)?;
+    }
+    Ok(())
+}
+
+// Runs the batch over these files, and asserts what it leaves.
+fn check_batch<R: Abort + AllocGlobal>(
+    rt: &R,
+    files: &'static str,
+    ended: &Ended,
+) -> Result<(), Memory> {
+    let row = Row {
+        files,
+        words: "w.cs batch s",
+        after: ended.after,
+        out: ended.out,
+        err: ended.err,
+        status: ended.status,
+    };
+    check(rt, &row, ended.call, ended.out_call, 0)
+}
+
+#[test]
+fn a_batch_ends_where_a_call_fails(rt: HostRuntime) -> Result<(), Memory> {
+    for ended in &FOUR_ENDED {
+        check_batch(&rt, FOUR_FILES, ended)?;
+    }
+    for ended in &FOUR_REFUSED_ENDED {
+        check_batch(&rt, FOUR_REFUSED, ended)?;
+    }
+    Ok(())
+}
+
 // Two texts, with so many copies of a piece behind each.
 fn repeated(
     alloc: Global,
@@ -260,24 +297,38 @@ impl Files for Forgetful {
     }
 }
 
+// Runs these words over these files, the read of this number without memory, and asserts that nothing is left and told but that.
+fn check_forgetful<R: Abort + AllocGlobal>(
+    rt: &R,
+    texts: &str,
+    words: &str,
+    forgets: u32,
+) -> Result<(), Memory> {
+    let mut files = held(rt.alloc(), texts)?;
+    files.reserve(2_000)?;
+    let mut files = Forgetful {
+        files,
+        reads: 0,
+        forgets,
+    };
+    let mut out = sink(rt.alloc(), 0)?;
+    let mut err = sink(rt.alloc(), 0)?;
+    let words = words_of(rt.alloc(), words)?;
+    let status = run(rt.alloc(), words.as_slice(), &mut files, &mut out, &mut err);
+    assert_eq!(rt; status, Status::Memory);
+    assert!(rt; out.bytes().is_empty());
+    assert!(rt; err.bytes() == "cscout: out of memory\n".as_bytes());
+    assert!(rt; holds(&files.files, texts));
+    Ok(())
+}
+
 #[test]
 fn a_read_without_memory_leaves_all_files(rt: HostRuntime) -> Result<(), Memory> {
     for forgets in 1..4 {
-        let mut files = held(rt.alloc(), TWO_FILES)?;
-        files.reserve(2_000)?;
-        let mut files = Forgetful {
-            files,
-            reads: 0,
-            forgets,
-        };
-        let mut out = sink(rt.alloc(), 0)?;
-        let mut err = sink(rt.alloc(), 0)?;
-        let words = words_of(rt.alloc(), "w.cs rename a.c 1 5 count")?;
-        let status = run(rt.alloc(), words.as_slice(), &mut files, &mut out, &mut err);
-        assert_eq!(rt; status, Status::Memory);
-        assert!(rt; out.bytes().is_empty());
-        assert!(rt; err.bytes() == "cscout: out of memory\n".as_bytes());
-        assert!(rt; holds(&files.files, TWO_FILES));
+        check_forgetful(&rt, TWO_FILES, "w.cs rename a.c 1 5 count", forgets)?;
+    }
+    for forgets in 1..7 {
+        check_forgetful(&rt, FOUR_FILES, "w.cs batch s", forgets)?;
     }
     Ok(())
 }

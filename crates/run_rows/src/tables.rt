@@ -2,6 +2,7 @@
 use cscout_run::Status;
 
 // A run over these files, each as `PATH:TEXT`, with `@` between them: what it must leave and tell.
+#[derive(Drop)]
 pub struct Row {
     pub files: &'static str,
     pub words: &'static str,

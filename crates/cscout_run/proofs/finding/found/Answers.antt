@@ -7,7 +7,7 @@ use Rattle.cscout_run.proofs.finding.found.Goals as goal
 pub returns-in-Ok-clause-answer : goal.returns-in-Ok-clause-answer
 returns-in-Ok-clause-answer c =
     let found = rw c.as_bytes.ensures.value at c.in-Ok.ensures.answer in
-    found_text c.args.a.now.value (parsed c.args.q.now.query.now) found.0 c.in-Ok.text.items _ found.1 found.2 (rw (c.to_show.ensures.text, c.to_show.ensures.edits) refl)
+    found_text c.args.a.now.value (parsed c.args.q.now.query.now) found.0 c.in-Ok.text.items _ found.1 found.2 (rw (c.to_show.ensures.text, c.to_show.ensures.edits, c.to_show.ensures.refused) refl)
 
 pub returns-in-Err-clause-answer : goal.returns-in-Err-clause-answer
 returns-in-Err-clause-answer c =

@@ -4,7 +4,7 @@ use Rattle.cs_base.specs.World.{World}
 use Rattle.ws_file.specs.Workspace.{WorkspaceValue, IsWorkspace}
 use Rattle.ws_core.specs.Below.source_files.Files.{source_of}
 use Rattle.ws_core.specs.Analysis.{analysis_of}
-use Rattle.kept_meaning_laws.proofs.Below.analysis_laws.CountLemmas.{tokens_are_few}
+use Rattle.batch_run.proofs.Below.analysis_laws.CountLemmas.{tokens_are_few}
 use Rattle.generated.specs.Generated.{generated_files, workspace_path}
 use Rattle.cscout_run.specs.Answer.{Answer, IsOverWorkspace, IsSizeAnswer, workspace_at}
 use Rattle.cscout_run.specs.Steps.{Prepares}

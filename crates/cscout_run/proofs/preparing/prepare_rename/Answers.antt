@@ -42,5 +42,5 @@ returns-clause-answer g c =
 
 pub returns-in-Ok-clause-planned : goal.returns-in-Ok-clause-planned
 returns-in-Ok-clause-planned g c =
-    planned_told (g.F.Files.told c.args.files.now).held (g.F.Files.told c.read_workspace.new.files).held (rename_value c.args.rename.now) c.in_ok-ws.ws c.in-Ok.analysis.value _
-    c.planned.result (subst (λ (w : WorkspaceValue). IsWorkspace w) c.ws.view_is c.ws.invariant) c.read_workspace.ensures.faults.held c.in_ok-ws.ensures.answer c.in-Ok.ensures.answer c.in-Ok.analysis.classes c.in-Ok.ensures.whole.1 c.files-files.ensures.once c.in-Ok.ensures.over c.planned.ensures.renaming c.planned.ensures.sound
+    planned_told (g.F.Files.told c.args.files.now).held (g.F.Files.told c.read_workspace.new.files).held (rename_value c.args.rename.now) c.in_ok-ws.ws c.in-Ok.analysis.value
+    c.planned.result (subst (λ (w : WorkspaceValue). IsWorkspace w) c.ws.view_is c.ws.invariant) c.read_workspace.ensures.faults.held c.in_ok-ws.ensures.answer c.in-Ok.ensures.answer c.in-Ok.analysis.classes c.in-Ok.ensures.whole.1 c.files-files.ensures.once c.planned.ensures.renaming c.planned.ensures.sound

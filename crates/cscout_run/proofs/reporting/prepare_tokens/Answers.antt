@@ -1,10 +1,9 @@
 use Rattle.std.proofs.Common.{◌≡◌, ◌∙◌, ℕ, List, [], Option, refl, sym, subst}
 use Rattle.cs_base.specs.Outside.{FileMap}
 use Rattle.query_report.specs.TokensText.{tokens_text}
-use Rattle.cscout_run.specs.declared.status.Status.TheVariants.{Done}
 use Rattle.cscout_run.specs.declared.stops.Stop.{Stop}
 use Rattle.command_words.specs.Request.{tokens_asked}
-use Rattle.cscout_run.specs.Answer.{Answer, IsRequestAnswer, answer_of, shown, unit_answer}
+use Rattle.cscout_run.specs.Answer.{Answer, IsRequestAnswer, answer_of, ready_status, shown, unit_answer}
 use Rattle.command_words.specs.Asking.{tokens_value}
 use Rattle.cscout_run.specs.Stopping.{Stops}
 use Rattle.cscout_run.proofs.ReportLemmas.{handed_on, over_workspace, reading-stops, tokens-ok, tokens-stop}
@@ -24,10 +23,10 @@ returns-in-Ok-clause-answer g c =
     let bounds = c.if-not-has_unit.ensures in
     let found = tokens-ok told c.args.q.now.unit c.in_ok-ws.ws c.in-Ok.text bounds.0 bounds.1 c.in-Ok.ensures.answer in
     let text : c.to_show.result.text.items ≡ tokens_text c.in-Ok.text = rw c.to_show.ensures.text c.in_ok-print_tokens-in-Ok.ensures in
-    let ready : answer_of Done c.to_show.result.text.items [] c.to_show.result.edits ≡ shown (tokens_text c.in-Ok.text) =
-    rw (text, c.to_show.ensures.edits) refl in
+    let ready : answer_of (ready_status c.to_show.result.refused) c.to_show.result.text.items [] c.to_show.result.edits ≡ shown (tokens_text c.in-Ok.text) =
+    rw (text, c.to_show.ensures.edits, c.to_show.ensures.refused) refl in
     over_workspace (g.F.Files.told c.args.files.now).held told ws c.in_ok-ws.ws (λ fs. unit_answer c.args.q.now.unit fs)
-    (λ a. a ≡ answer_of Done c.to_show.result.text.items [] c.to_show.result.edits) c.read_workspace.ensures.faults.held c.in_ok-ws.ensures.answer
+    (λ a. a ≡ answer_of (ready_status c.to_show.result.refused) c.to_show.result.text.items [] c.to_show.result.edits) c.read_workspace.ensures.faults.held c.in_ok-ws.ensures.answer
     (if_told-map told _ _ found (λ fs e. e ∙ sym ready))
 
 pub returns-clause-answer : goal.returns-clause-answer

@@ -29,3 +29,6 @@ returns-in-BadQuery-clause-told g c = rw c.in-BadQuery.is c.tell_query.ensures
 
 pub returns-in-DeepQuery-clause-told : goal.returns-in-DeepQuery-clause-told
 returns-in-DeepQuery-clause-told g c = rw c.in-DeepQuery.is c.tell_query-in-DeepQuery.ensures
+
+pub returns-in-BadBatch-clause-told : goal.returns-in-BadBatch-clause-told
+returns-in-BadBatch-clause-told g c = rw c.in-BadBatch.is c.tell_batch.ensures

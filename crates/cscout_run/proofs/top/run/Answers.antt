@@ -12,7 +12,7 @@ use Rattle.cscout_run.specs.Stopping.{line_of}
 use Rattle.cscout_run.specs.Outcome.{World, world, Tells, Unmoved, FailedWrite, Ends}
 use Rattle.cscout_run.proofs.RunLemmas.{ready-answer, stop-answer, failed_put, stop-not_done}
 use Rattle.cscout_run.proofs.EndLemmas.{usage-ends, stop-ends, put-ends, write-ends, done-ends}
-use Rattle.cscout_run.proofs.PromiseLemmas.{promise-told}
+use Rattle.cscout_run.proofs.PromiseLemmas.{promise-told, refused-stopped, refused-told}
 use Rattle.cscout_run.proofs.top.run.Goals as goal
 
 pub returns-in_default-clause-outcome : goal.returns-in_default-clause-outcome
@@ -60,7 +60,7 @@ returns-in-Failed-clause-outcome g c =
     let failed = c.in-Failed.ensures.faults.failed c.in-Failed.written refl in
     let put = failed_put edits c.in-Failed.written before now (g.F.Files.told c.prepare.new.files).held (g.F.Files.told c.prepare.new.files).puts c.prepare.ensures.faults.held c.prepare.ensures.faults.apart c.in-Failed.ensures.held failed.0 failed.1 refl refl in
     let reads : now.reads ≡ before.reads = c.in-Failed.ensures.faults.reads_stay ∙ ap (λ (o : FilesTold). o.reads) c.in-Ok.ensures.faults.told in
-    put-ends words text edits c.in-Failed.written c.path.result.now before now ready put reads c.path.ensures.answer c.tell-in-Failed.ensures
+    put-ends words c.in-Ok.ready.refused text edits c.in-Failed.written c.path.result.now before now ready put reads c.path.ensures.answer c.tell-in-Failed.ensures
 
 pub returns-in-Failed-write_text-clause-outcome : goal.returns-in-Failed-write_text-clause-outcome
 returns-in-Failed-write_text-clause-outcome g c =
@@ -81,7 +81,7 @@ returns-in-Failed-write_text-clause-outcome g c =
     let puts : now.puts ≡ before.puts = counts.0 ∙ c.prepare.ensures.faults.apart in
     let out : Writes text before.out now.out wrote.Failed = rw (← c.as_slice.ensures.value) c.in-Failed-write_text.ensures.bytes in
     let failed : FailedWrite edits text before now = record { held = held; out = out; puts = puts; rose = c.in-Failed-write_text.ensures.faults.rises refl } in
-    write-ends words text edits before now ready failed reads c.tell-in-Failed-write_text.ensures
+    write-ends words c.in-Ok.ready.refused text edits before now ready failed reads c.tell-in-Failed-write_text.ensures
 
 pub returns-clause-outcome : goal.returns-clause-outcome
 returns-clause-outcome g c =
@@ -102,7 +102,9 @@ returns-clause-outcome g c =
     let puts : now.puts ≡ before.puts = counts.0 ∙ c.prepare.ensures.faults.apart in
     let out : Writes text before.out now.out wrote.Done = rw (← c.as_slice.ensures.value) c.in_default-write_text.ensures.bytes in
     let outs : now.outs ≡ before.outs = c.in_default-write_text.ensures.faults.stays refl in
-    done-ends words text edits before now ready record { held = held; out = out } reads puts outs refl
+    let P : Status → Type 0 = λ s. Ends (IsAnswer words) before now s in
+    subst P (sym c.ready_status.ensures)
+    (done-ends words c.in-Ok.ready.refused text edits before now ready record { held = held; out = out } reads puts outs refl)
 
 pub returns-in_default-clause-promise : goal.returns-in_default-clause-promise
 returns-in_default-clause-promise g c = λ done. absurd cc
@@ -123,3 +125,27 @@ returns-clause-promise g c =
     let some : asked words ≡ Some (request_value c.in-Some.request) = sym c.in-Some.ensures in
     let held : (g.F.Files.told c.apply.new.files).held ≡ option_map (with_edits c.in-Ok.ready.edits) told = rw (← c.prepare.ensures.faults.held) c.in_default-apply.ensures.held in
     λ done. promise-told told (g.F.Files.told c.apply.new.files).held (request_value c.in-Some.request) words c.in-Ok.ready some c.in-Ok.ensures.planned held
+
+pub returns-in_default-clause-refused : goal.returns-in_default-clause-refused
+returns-in_default-clause-refused g c = λ is. absurd cc
+
+pub returns-in-Err-clause-refused : goal.returns-in-Err-clause-refused
+returns-in-Err-clause-refused g c =
+    let words : List (List ℕ) = map string_bytes c.args.words.now in
+    let some : asked words ≡ Some (request_value c.in-Some.request) = sym c.in-Some.ensures in
+    λ is. refused-stopped (g.F.Files.told c.args.files.now).held (g.F.Files.told c.prepare.new.files).held (request_value c.in-Some.request) words
+    (workspace_file c.in-Some.request) c.in-Err.stop some c.in-Err.ensures.answer (sym c.tell_stop.ensures.status ∙ is)
+
+pub returns-in-Failed-clause-refused : goal.returns-in-Failed-clause-refused
+returns-in-Failed-clause-refused g c = λ is. absurd cc
+
+pub returns-in-Failed-write_text-clause-refused : goal.returns-in-Failed-write_text-clause-refused
+returns-in-Failed-write_text-clause-refused g c = λ is. absurd cc
+
+pub returns-clause-refused : goal.returns-clause-refused
+returns-clause-refused g c =
+    let words : List (List ℕ) = map string_bytes c.args.words.now in
+    let told = (g.F.Files.told c.args.files.now).held in
+    let some : asked words ≡ Some (request_value c.in-Some.request) = sym c.in-Some.ensures in
+    let held : (g.F.Files.told c.apply.new.files).held ≡ option_map (with_edits c.in-Ok.ready.edits) told = rw (← c.prepare.ensures.faults.held) c.in_default-apply.ensures.held in
+    λ is. refused-told told (g.F.Files.told c.apply.new.files).held (request_value c.in-Some.request) words c.in-Ok.ready some c.in-Ok.ensures.planned held
