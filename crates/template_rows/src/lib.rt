@@ -6,4 +6,4 @@
 #[cfg(test)]
 mod list_tests;
 #[cfg(test)]
-mod offence_tests;
+mod template_tests;

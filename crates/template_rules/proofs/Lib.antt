@@ -3,3 +3,8 @@ pub mod FindLemmas
 pub mod FunctionLemmas
 pub mod CountLemmas
 pub mod UnitLemmas
+pub mod MarkLemmas
+pub mod NumberLemmas
+pub mod OddLemmas
+pub mod ListLemmas
+pub mod PlanLemmas

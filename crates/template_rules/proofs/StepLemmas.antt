@@ -5,7 +5,7 @@ use Rattle.std.specs.Option.{option_map}
 use Rattle.std.proofs.lemmas.Grind.{flat_map-append}
 use Rattle.std.proofs.lemmas.List.{get_or_default, take_more, take_all}
 use Rattle.std.proofs.lemmas.Option.{slice_get_within, get_or_from_slice_get}
-use Rattle.ws_core.specs.Below.c99_tree.Tree.{Node}
+use Rattle.c99_tree.specs.Tree.{Node}
 use Rattle.include_tree.specs.Below.source_files.Files.{Table}
 use Rattle.ws_core.specs.Analysis.{UnitAnalysis}
 use Rattle.rename_rules.specs.declared.offences.Offence.{Offence}

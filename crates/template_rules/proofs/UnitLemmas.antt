@@ -1,17 +1,19 @@
 -- What is told of a unit of an analysis, and what stands against a new order in it.
-use Rattle.std.proofs.Common.{◌≡◌, ℕ, ◌+◌, ◌-◌, ◌++◌, List, [], Option, Some, None, slice_get, refl, sym, ap, ◌∙◌, arith}
+use Rattle.std.proofs.Common.{◌≡◌, ℕ, ◌+◌, ◌-◌, ◌++◌, Bool, true, false, List, [], take, Option, Some, None, slice_get, refl, sym, ap, ◌∙◌, arith}
 use Rattle.std.specs.Prelude.{slice_index_or}
-use Rattle.std.specs.List.{flat_map}
+use Rattle.std.specs.List.{flat_map, list_all}
+use Rattle.std.proofs.lemmas.Option.{slice_get_within, get_or_from_slice_get}
 use Rattle.std.specs.Option.{option_map}
 use Rattle.cs_base.specs.declared.positions.Part.{Part}
+use Rattle.cs_base.specs.declared.positions.Pos.{Pos}
 use Rattle.cs_base.specs.Token.{Token}
 use Rattle.cs_base.specs.declared.causes.Cause.TheVariants as cause
 use Rattle.include_tree.specs.Below.unit_steps.declared.events.Event.{Event}
 use Rattle.include_tree.specs.Below.unit_steps.Texts.{UnitTextValue}
-use Rattle.ws_core.specs.Below.c99_tree.Tree.{Node}
-use Rattle.ws_core.specs.Below.c_types.declared.lists.List.{List as NameList}
-use Rattle.ws_core.specs.Below.c_types.declared.parameters.ParameterList.{ParameterList}
-use Rattle.ws_core.specs.Below.c_types.Parameters.{parameters_in}
+use Rattle.c99_tree.specs.Tree.{Node}
+use Rattle.c_types.specs.declared.lists.List.{List as NameList}
+use Rattle.c_types.specs.declared.parameters.ParameterList.{ParameterList}
+use Rattle.c_types.specs.Parameters.{parameters_in}
 use Rattle.scope_bind.specs.declared.bound.Name.{Name}
 use Rattle.scope_bind.specs.Bound.{Bound}
 use Rattle.ws_core.specs.Analysis.{UnitAnalysis, AnalysisValue}
@@ -23,6 +25,9 @@ use Rattle.template_rules.specs.Marks.{declarator_marks, call_marks, unit_marks}
 use Rattle.rename_rules.specs.First.{standing}
 use Rattle.template_rules.specs.Insides.{list_insides, unit_insides, unit_macro_names}
 use Rattle.template_rules.specs.MacroOffences.{replaced_place, pasted_place}
+use Rattle.template_rules.specs.Offences.{declarator_offences, call_offences, unit_lists}
+use Rattle.template_rules.specs.ScopeOffences.{body_lists_in}
+use Rattle.template_rules.proofs.NumberLemmas.{all_here, all_still}
 use Rattle.template_rules.proofs.StepLemmas.{tree_of_unit}
 
 -- The unit whose text, binding and tree are told.
@@ -84,3 +89,20 @@ pub macro_names_told : (members : List Part) (u : UnitAnalysis) (events : List E
     → standing cause.InMacro (flat_map (replaced_place members) events) ++ standing cause.InMacro (flat_map (pasted_place members) pasted)
     ≡ unit_macro_names members u
 macro_names_told members u events pasted same_events same_pasted = rw (same_events, same_pasted) refl
+
+pub lists_told : (members : List Part) (a : AnalysisValue) (odds one other : List Pos) (u : UnitAnalysis) (text : UnitTextValue) (bound : Bound) (lists : List ParameterList) (ends : List ℕ) (declarators calls : List NameList)
+    → one ≡ odds → other ≡ odds → u.text ≡ text → u.bound ≡ bound → lists ≡ parameters_in u.tree.under → ends ≡ body_lists_in u.tree.under
+    → declarators ≡ bound.declarators → calls ≡ bound.calls
+    → flat_map (declarator_offences members a one text bound lists) declarators ++ flat_map (call_offences members a other text bound ends) calls
+    ≡ unit_lists members a odds u
+lists_told members a odds one other u text bound lists ends declarators calls same_one same_other same_text same_bound same_lists same_ends same_declarators same_calls =
+    rw (same_one, same_other, same_declarators, same_calls, same_lists, same_ends, ← same_text, ← same_bound) refl
+
+-- ---- tests of all units
+
+pub all_unit : (p : UnitAnalysis → Bool) (units : List UnitAnalysis) (k : ℕ) (u : UnitAnalysis) → slice_get units k ≡ Some u → p u ≡ false → list_all p units ≡ false
+all_unit p units k u at here = all_here p units k u (slice_get_within units k u at) (sym (get_or_from_slice_get units k u u at)) here
+
+pub all_unit_next : (p : UnitAnalysis → Bool) (units : List UnitAnalysis) (k : ℕ) (u : UnitAnalysis) → slice_get units k ≡ Some u → p u ≡ true
+    → list_all p (take k units) ≡ true → list_all p (take (k + 1) units) ≡ true
+all_unit_next p units k u at here before = all_still p units k u (slice_get_within units k u at) (sym (get_or_from_slice_get units k u u at)) here before

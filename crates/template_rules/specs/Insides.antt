@@ -6,7 +6,7 @@ use Rattle.cs_base.specs.declared.causes.Cause.TheVariants as cause
 use Rattle.cs_base.specs.declared.positions.Part.{Part}
 use Rattle.cs_base.specs.Token.{Token}
 use Rattle.include_tree.specs.Below.unit_steps.declared.events.Event.{Event}
-use Rattle.ws_core.specs.Below.c_types.declared.lists.List.{List as NameList}
+use Rattle.c_types.specs.declared.lists.List.{List as NameList}
 use Rattle.scope_bind.specs.declared.bound.Name.{Name}
 use Rattle.ws_core.specs.Analysis.{UnitAnalysis, AnalysisValue}
 use Rattle.rename_rules.specs.declared.offences.Offence.{Offence}

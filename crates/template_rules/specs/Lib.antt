@@ -6,8 +6,9 @@ pub mod NameOffences
 pub mod MacroOffences
 pub mod ScopeOffences
 pub mod Insides
--- What stands against a new order besides: of these there are definitions alone.
 pub mod LineOffences
 pub mod Offences
--- Words of the crates below, passed on.
-pub mod Below
+pub mod FileLists
+pub mod Template
+-- What contracts see of answers.
+pub mod Refusals

@@ -1,18 +1,18 @@
 -- Parameter lists and argument lists (this project's, over ISO/IEC 9899:1999, 6.5.2.2 and 6.7.5.3): how many items they
 -- have, and the tokens that mark them.
-use Rattle.std.specs.Prelude.{ℕ, ◌+◌, ◌==◌, if◌then◌else◌, Bool, true, false, Option, Some, None, List, [], ◌∷◌, ◌++◌, find, length, map}
-use Rattle.std.specs.List.{flat_map}
+use Rattle.std.specs.Prelude.{ℕ, ◌+◌, ◌==◌, ◌&&◌, ◌||◌, if◌then◌else◌, Bool, true, false, Option, Some, None, List, [], ◌∷◌, ◌++◌, find, length, map}
+use Rattle.std.specs.List.{flat_map, list_any, list_all}
 use Rattle.std.specs.Option.{option_map_or}
 use Rattle.std.specs.declared.cmp.Ordering.{Ordering}
 use Rattle.std.specs.declared.cmp.Ordering.TheVariants.{Less}
 use Rattle.cs_base.specs.declared.positions.Part.{Part}
 use Rattle.cs_base.specs.declared.positions.Pos.{Pos}
 use Rattle.cs_base.specs.Token.{Token}
-use Rattle.ws_core.specs.Below.c_types.declared.lists.List.{List as NameList}
-use Rattle.ws_core.specs.Below.c_types.declared.parameters.ParameterForm.{ParameterForm}
-use Rattle.ws_core.specs.Below.c_types.declared.parameters.ParameterForm.TheVariants.{Empty as empty, Identifiers as identifiers, Types as types, Ellipsis as ellipsis}
-use Rattle.ws_core.specs.Below.c_types.declared.parameters.ParameterList.{ParameterList}
-use Rattle.ws_core.specs.Below.c_types.Parameters.{parameters_in}
+use Rattle.c_types.specs.declared.lists.List.{List as NameList}
+use Rattle.c_types.specs.declared.parameters.ParameterForm.{ParameterForm}
+use Rattle.c_types.specs.declared.parameters.ParameterForm.TheVariants.{Empty as empty, Identifiers as identifiers, Types as types, Ellipsis as ellipsis}
+use Rattle.c_types.specs.declared.parameters.ParameterList.{ParameterList}
+use Rattle.c_types.specs.Parameters.{parameters_in}
 use Rattle.scope_bind.specs.declared.bound.Name.{Name}
 use Rattle.include_tree.specs.Below.source_files.Files.{Table}
 use Rattle.ws_core.specs.Analysis.{UnitAnalysis, AnalysisValue}
@@ -51,9 +51,13 @@ arguments_of l = if l.close == l.begin + 1 then 0 else length l.commas + 1
 abbrev pub separators : NameList → List ℕ
 separators l = l.begin ∷ (l.commas ++ l.close ∷ [])
 
--- its name and these
-abbrev pub marks : NameList → List ℕ
-marks l = l.name ∷ separators l
+-- the token passes a test at its name, its parentheses and each comma
+abbrev pub each_mark : (ℕ → Bool) → NameList → Bool
+each_mark test l = test l.name && (test l.begin && (list_all test l.commas && test l.close))
+
+-- it does so at one of them
+abbrev pub some_mark : (ℕ → Bool) → NameList → Bool
+some_mark test l = test l.name || (test l.begin || (list_any test l.commas || test l.close))
 
 -- ---- the number of parameters
 

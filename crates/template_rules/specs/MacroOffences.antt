@@ -1,28 +1,26 @@
 -- What macros say against a new order of items (this project's, over ISO/IEC 9899:1999, 6.10.3 and 6.10.8): a list that
 -- comes from one, or that some processing of its text takes for something else; and numbers of lines inside a list.
-use Rattle.std.specs.Prelude.{ℕ, ◌+◌, ◌==◌, ◌&&◌, ◌||◌, not, nat_le, if◌then◌else◌, Bool, true, false, Option, Some, None, List, [], ◌∷◌, codes, count_by, map, slice_get}
+use Rattle.std.specs.Prelude.{ℕ, ◌+◌, ◌-◌, ◌==◌, ◌&&◌, ◌||◌, not, nat_le, if◌then◌else◌, Bool, true, false, Option, Some, None, List, [], ◌∷◌, codes, count_by, length, slice_get}
 use Rattle.std.specs.List.{flat_map, list_any, list_all}
-use Rattle.std.specs.Option.{option_map_or, option_and_then}
+use Rattle.std.specs.Option.{option_map_or}
 use Rattle.std.specs.Str.{bytes_eq}
 use Rattle.cs_base.specs.declared.positions.Part.{Part}
 use Rattle.cs_base.specs.declared.positions.Pos.{Pos}
 use Rattle.cs_base.specs.Token.{Token}
 use Rattle.include_tree.specs.Below.line_shape.Signs.{is_name}
-use Rattle.rename_rules.specs.Below.eclass_map.Positions.{holds}
 use Rattle.include_tree.specs.Below.unit_steps.declared.events.Event.{Event}
 use Rattle.include_tree.specs.Below.unit_steps.declared.events.EventKind.{EventKind}
 use Rattle.include_tree.specs.Below.unit_steps.declared.events.EventKind.TheVariants as kind
 use Rattle.include_tree.specs.Below.unit_steps.declared.events.Reached.{Reached}
-use Rattle.include_tree.specs.Below.source_files.Files.{Table}
-use Rattle.include_tree.specs.Below.source_files.KeptFiles.{kept_at}
-use Rattle.include_tree.specs.Walk.{ItemText}
-use Rattle.ws_core.specs.Below.c_types.declared.lists.List.{List as NameList}
+use Rattle.c_types.specs.declared.lists.List.{List as NameList}
+use Rattle.include_tree.specs.Below.unit_steps.Texts.{UnitTextValue}
+use Rattle.scope_bind.specs.declared.bound.Name.{Name}
+use Rattle.scope_bind.specs.Bound.{Bound}
 use Rattle.ws_core.specs.Analysis.{UnitAnalysis, AnalysisValue}
-use Rattle.ws_core.specs.FileTokens.{span_of}
-use Rattle.ws_core.specs.Naming.{item_at}
 use Rattle.rename_rules.specs.Tokens.{holds_member, first_place}
+use Rattle.list_cuts.specs.Cuts.{numbers}
 use Rattle.template_rules.specs.Functions.{origin_of, place_of, names_function}
-use Rattle.template_rules.specs.Lists.{marks}
+use Rattle.template_rules.specs.Lists.{each_mark, some_mark}
 use Rattle.template_rules.specs.Marks.{is_between}
 
 -- ---- InMacro, of lists
@@ -32,71 +30,78 @@ is_direct_at toks k = option_map_or (λ (t : Token). t.direct) (slice_get toks k
 
 -- no mark of the list comes from a macro
 abbrev pub is_direct : List Token → NameList → Bool
-is_direct toks l = list_all (is_direct_at toks) (marks l)
-
--- where the marks of a list stand
-abbrev pub positions_of : List Token → NameList → List (Option Pos)
-positions_of toks l = map (origin_of toks) (marks l)
+is_direct toks l = each_mark (is_direct_at toks) l
 
 abbrev pub is_pos : Pos → Pos → Bool
 is_pos p q = p.file == q.file && p.at == q.at
 
+-- both are positions, and the same one
 abbrev pub is_same : Option Pos → Option Pos → Bool
 is_same (Some p) (Some q) = is_pos p q
 is_same _ _ = false
 
--- two lists stand at the same positions
-abbrev pub are_same : List (Option Pos) → List (Option Pos) → Bool
-are_same [] [] = true
-are_same (p ∷ ps) (q ∷ qs) = is_same p q && are_same ps qs
-are_same _ _ = false
+-- tokens of one unit stand at the same positions as these of another
+abbrev pub are_same : List Token → List Token → List ℕ → List ℕ → Bool
+are_same toks others [] [] = true
+are_same toks others (j ∷ js) (k ∷ ks) = is_same (origin_of toks j) (origin_of others k) && are_same toks others js ks
+are_same toks others _ _ = false
 
--- a token of the item holds the position
-abbrev pub is_over : Pos → ItemText → Bool
-is_over p i = list_any (λ t. holds (span_of t) p) i.toks
-
--- a token of the item that was reached does
-abbrev pub reaches : Table → Pos → Reached → Bool
-reaches table p r =
-    r.file == p.file && option_map_or (is_over p) (option_and_then (item_at r.item) (kept_at table r.file)) false
+-- the name, the parentheses and the commas of a list stand at the same positions as those of another
+abbrev pub is_same_list : List Token → List Token → NameList → NameList → Bool
+is_same_list toks others l m =
+    is_same (origin_of toks l.name) (origin_of others m.name)
+    && (is_same (origin_of toks l.begin) (origin_of others m.begin)
+    && (is_same (origin_of toks l.close) (origin_of others m.close) && are_same toks others l.commas m.commas))
 
 -- how many items were reached before token k was put out: the last of them is the run that it was put out for
 abbrev pub run_of : List Reached → ℕ → ℕ
 run_of reached k = count_by (λ (r : Reached). nat_le r.before k) reached
 
--- a mark of the list stands at the position, and was put out for this reached item, counted from 1
-abbrev pub has_mark : UnitAnalysis → NameList → Pos → ℕ → Bool
-has_mark u l p number = list_any (λ k. is_same (origin_of u.text.toks k) (Some p) && run_of u.text.reached k == number) (marks l)
+-- that run
+abbrev pub item_of : List Reached → ℕ → Option Reached
+item_of reached k = slice_get reached (run_of reached k - 1)
 
--- the list is one of the functions, at these positions, and has such a mark
-abbrev pub is_list_at : List Part → UnitAnalysis → List (Option Pos) → Pos → ℕ → NameList → Bool
-is_list_at members u positions p number l =
-    names_function members u.text.toks u.bound.names l.name && (are_same (positions_of u.text.toks l) positions && has_mark u l p number)
+-- the same item of the same file
+abbrev pub is_item : Reached → Reached → Bool
+is_item r s = r.file == s.file && r.item == s.item
 
-abbrev pub is_list_in : List Part → UnitAnalysis → List (Option Pos) → Pos → ℕ → Bool
-is_list_in members u positions p number =
-    list_any (is_list_at members u positions p number) u.bound.declarators || list_any (is_list_at members u positions p number) u.bound.calls
+-- the mark stands at the position, and was put out for this reached item, counted from 1
+abbrev pub is_mark_in : List Token → List Reached → Option Pos → ℕ → ℕ → Bool
+is_mark_in toks reached p number k = is_same (origin_of toks k) p && run_of reached k == number
 
--- for each of these reached items that holds the position, counted from this number on, there is such a list
-unfoldable pub is_list_for : List Part → Table → UnitAnalysis → List (Option Pos) → Pos → ℕ → List Reached → Bool
-is_list_for members table u positions p number [] = true
-is_list_for members table u positions p number (r ∷ reached) =
-    (not (reaches table p r) || is_list_in members u positions p number) && is_list_for members table u positions p (number + 1) reached
+-- a list of one of the functions stands at the same positions, with such a mark
+abbrev pub is_list_at : List Part → List Token → NameList → ℕ → UnitTextValue → List Name → ℕ → NameList → Bool
+is_list_at members toks l k text names number m =
+    is_same_list toks text.toks l m && (names_function members text.toks names m.name
+    && some_mark (is_mark_in text.toks text.reached (origin_of toks k) number) m)
 
--- in each processing of a run of the unit that holds the position
-abbrev pub is_list_through : List Part → Table → List (Option Pos) → Pos → UnitAnalysis → Bool
-is_list_through members table positions p u = is_list_for members table u positions p 1 u.text.reached
+abbrev pub is_list_in : List Part → List Token → NameList → ℕ → UnitTextValue → Bound → ℕ → Bool
+is_list_in members toks l k text bound number =
+    list_any (is_list_at members toks l k text bound.names number) bound.declarators
+    || list_any (is_list_at members toks l k text bound.names number) bound.calls
 
--- The positions are those of a list in each processing of a run that holds one of them, in whatever unit: a run that one
--- unit processes twice is asked twice.
-abbrev pub is_list_everywhere : List Part → AnalysisValue → List (Option Pos) → Bool
-is_list_everywhere members a positions =
-    list_all (λ (o : Option Pos). option_map_or (λ p. list_all (is_list_through members a.table positions p) a.units) o false) positions
+-- if reached item number j, from 0, is the same item of its file
+abbrev pub is_list_as : List Part → List Token → NameList → ℕ → Reached → UnitTextValue → Bound → ℕ → Bool
+is_list_as members toks l k r text bound j =
+    not (option_map_or (is_item r) (slice_get text.reached j) false) || is_list_in members toks l k text bound (j + 1)
+
+-- in each processing of the item in a unit
+abbrev pub is_list_through : List Part → List Token → NameList → ℕ → Reached → UnitTextValue → Bound → Bool
+is_list_through members toks l k r text bound = list_all (is_list_as members toks l k r text bound) (numbers 0 (length text.reached))
+
+-- in whatever unit
+abbrev pub is_list_for : List Part → AnalysisValue → List Token → NameList → ℕ → Reached → Bool
+is_list_for members a toks l k r = list_all (λ (u : UnitAnalysis). is_list_through members toks l k r u.text u.bound) a.units
+
+-- In each processing of the run for which mark k was put out, in whatever unit, a list of the functions stands at the
+-- positions of this one: a run that one unit processes twice is asked twice.
+abbrev pub is_mark_everywhere : List Part → AnalysisValue → List Token → List Reached → NameList → ℕ → Bool
+is_mark_everywhere members a toks reached l k = option_map_or (is_list_for members a toks l k) (item_of reached k) false
 
 -- the name of a list that comes from a macro, or that is none in some processing of its runs
-abbrev pub macro_place : List Part → AnalysisValue → List Token → NameList → List Pos
-macro_place members a toks l =
-    if is_direct toks l && is_list_everywhere members a (positions_of toks l) then [] else place_of toks l.name
+abbrev pub macro_place : List Part → AnalysisValue → List Token → List Reached → NameList → List Pos
+macro_place members a toks reached l =
+    if is_direct toks l && each_mark (is_mark_everywhere members a toks reached l) l then [] else place_of toks l.name
 
 -- ---- InMacro, of names
 

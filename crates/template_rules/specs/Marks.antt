@@ -8,9 +8,9 @@ use Rattle.cs_base.specs.declared.positions.Part.{Part}
 use Rattle.cs_base.specs.declared.positions.Pos.{Pos}
 use Rattle.cs_base.specs.Token.{Token}
 use Rattle.include_tree.specs.Below.unit_steps.declared.events.Reached.{Reached}
-use Rattle.ws_core.specs.Below.c_types.declared.lists.List.{List as NameList}
-use Rattle.ws_core.specs.Below.c_types.declared.parameters.ParameterList.{ParameterList}
-use Rattle.ws_core.specs.Below.c_types.Parameters.{parameters_in}
+use Rattle.c_types.specs.declared.lists.List.{List as NameList}
+use Rattle.c_types.specs.declared.parameters.ParameterList.{ParameterList}
+use Rattle.c_types.specs.Parameters.{parameters_in}
 use Rattle.scope_bind.specs.declared.bound.Name.{Name}
 use Rattle.ws_core.specs.Analysis.{UnitAnalysis, AnalysisValue}
 use Rattle.ws_core.specs.Places.{is_read_only}

@@ -6,11 +6,11 @@ use Rattle.cs_base.specs.declared.causes.Cause.TheVariants as cause
 use Rattle.cs_base.specs.declared.positions.Part.{Part}
 use Rattle.cs_base.specs.declared.positions.Pos.{Pos}
 use Rattle.cs_base.specs.Token.{Token}
-use Rattle.ws_core.specs.Below.c_types.declared.lists.List.{List as NameList}
-use Rattle.ws_core.specs.Below.c_types.declared.parameters.ParameterForm.{ParameterForm}
-use Rattle.ws_core.specs.Below.c_types.declared.parameters.ParameterForm.TheVariants.{Types as types}
-use Rattle.ws_core.specs.Below.c_types.declared.parameters.ParameterList.{ParameterList}
-use Rattle.ws_core.specs.Below.c_types.Parameters.{parameters_in}
+use Rattle.c_types.specs.declared.lists.List.{List as NameList}
+use Rattle.c_types.specs.declared.parameters.ParameterForm.{ParameterForm}
+use Rattle.c_types.specs.declared.parameters.ParameterForm.TheVariants.{Types as types}
+use Rattle.c_types.specs.declared.parameters.ParameterList.{ParameterList}
+use Rattle.c_types.specs.Parameters.{parameters_in}
 use Rattle.scope_bind.specs.declared.bound.Name.{Name}
 use Rattle.ws_core.specs.Analysis.{UnitAnalysis, AnalysisValue}
 use Rattle.rename_rules.specs.declared.offences.Offence.{Offence}

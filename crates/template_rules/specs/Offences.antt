@@ -4,8 +4,12 @@ use Rattle.std.specs.Prelude.{ℕ, if◌then◌else◌, List, [], ◌++◌}
 use Rattle.std.specs.List.{flat_map}
 use Rattle.cs_base.specs.declared.causes.Cause.TheVariants as cause
 use Rattle.cs_base.specs.declared.positions.Part.{Part}
-use Rattle.ws_core.specs.Below.c_types.declared.lists.List.{List as NameList}
-use Rattle.ws_core.specs.Below.c_types.Parameters.{parameters_in}
+use Rattle.cs_base.specs.declared.positions.Pos.{Pos}
+use Rattle.c_types.specs.declared.lists.List.{List as NameList}
+use Rattle.c_types.specs.declared.parameters.ParameterList.{ParameterList}
+use Rattle.c_types.specs.Parameters.{parameters_in}
+use Rattle.scope_bind.specs.Bound.{Bound}
+use Rattle.include_tree.specs.Below.unit_steps.Texts.{UnitTextValue}
 use Rattle.ws_core.specs.Analysis.{UnitAnalysis, AnalysisValue}
 use Rattle.rename_rules.specs.declared.offences.Offence.{Offence}
 use Rattle.rename_rules.specs.First.{standing}
@@ -15,34 +19,39 @@ use Rattle.template_rules.specs.NameOffences.{all_names}
 use Rattle.template_rules.specs.Insides.{all_insides, all_macro_names}
 use Rattle.template_rules.specs.MacroOffences.{macro_place}
 use Rattle.template_rules.specs.ScopeOffences.{body_lists_in, body_place, dependence_places}
-use Rattle.template_rules.specs.LineOffences.{odd_from}
+use Rattle.template_rules.specs.LineOffences.{odd_positions, odd_places}
 
 -- what stands at a list beside what its marks say and what happens inside it
-abbrev pub list_offences : List Part → AnalysisValue → UnitAnalysis → NameList → List Offence
-list_offences members a u l =
-    standing cause.InMacro (macro_place members a u.text.toks l) ++ standing cause.OddToken (odd_from u.text l 0 a.table)
+abbrev pub list_offences : List Part → AnalysisValue → List Pos → UnitTextValue → NameList → List Offence
+list_offences members a odds text l =
+    standing cause.InMacro (macro_place members a text.toks text.reached l) ++ standing cause.OddToken (odd_places a.table odds text l)
 
 -- the same at the parameter list of a declarator, if it is one of a function that the class names
-abbrev pub declarator_offences : List Part → AnalysisValue → UnitAnalysis → NameList → List Offence
-declarator_offences members a u l =
-    if names_function members u.text.toks u.bound.names l.name
-    then list_offences members a u l
-    ++ standing cause.ParameterDependence (dependence_places u.text.toks u.bound.names u.bound.bare (parameters_in u.tree.under) l)
+abbrev pub declarator_offences : List Part → AnalysisValue → List Pos → UnitTextValue → Bound → List ParameterList → NameList → List Offence
+declarator_offences members a odds text bound lists l =
+    if names_function members text.toks bound.names l.name
+    then list_offences members a odds text l
+    ++ standing cause.ParameterDependence (dependence_places text.toks bound.names bound.bare lists l)
     else []
 
 -- and at the argument list of a call of one
-abbrev pub call_offences : List Part → AnalysisValue → UnitAnalysis → NameList → List Offence
-call_offences members a u l =
-    if names_function members u.text.toks u.bound.names l.name
-    then list_offences members a u l ++ standing cause.DeclarationInArgument (body_place u.text.toks (body_lists_in u.tree.under) l)
+abbrev pub call_offences : List Part → AnalysisValue → List Pos → UnitTextValue → Bound → List ℕ → NameList → List Offence
+call_offences members a odds text bound ends l =
+    if names_function members text.toks bound.names l.name
+    then list_offences members a odds text l ++ standing cause.DeclarationInArgument (body_place text.toks ends l)
     else []
 
-abbrev pub unit_offences : List Part → AnalysisValue → UnitAnalysis → List Offence
-unit_offences members a u =
-    flat_map (declarator_offences members a u) u.bound.declarators ++ flat_map (call_offences members a u) u.bound.calls
+abbrev pub unit_lists : List Part → AnalysisValue → List Pos → UnitAnalysis → List Offence
+unit_lists members a odds u =
+    flat_map (declarator_offences members a odds u.text u.bound (parameters_in u.tree.under)) u.bound.declarators
+    ++ flat_map (call_offences members a odds u.text u.bound (body_lists_in u.tree.under)) u.bound.calls
+
+-- Those at all lists of the functions.
+abbrev pub all_lists : List Part → AnalysisValue → List Offence
+all_lists members a = flat_map (unit_lists members a (odd_positions a.table)) a.units
 
 -- All offences against a new order of so many items, in no order.
 abbrev pub offences_of : AnalysisValue → List Part → ℕ → List Offence
 offences_of a members count =
     all_names members a
-    ++ (all_marks members a count ++ (all_macro_names members a ++ (all_insides members a ++ flat_map (unit_offences members a) a.units)))
+    ++ (all_marks members a count ++ (all_macro_names members a ++ (all_insides members a ++ all_lists members a)))

@@ -1,19 +1,19 @@
 -- What scopes say against a new order of items (this project's, over ISO/IEC 9899:1999, 6.2.1, 6.7.5.3 and 6.9.1): names
 -- that an item declares for what stands behind it, and uses of one parameter's name in another parameter.
-use Rattle.std.specs.Prelude.{ℕ, ◌+◌, ◌-◌, ◌==◌, ◌&&◌, ◌||◌, not, nat_lt, if◌then◌else◌, Bool, true, false, Option, List, [], ◌∷◌, ◌++◌, remove}
-use Rattle.std.specs.List.{flat_map, list_any}
+use Rattle.std.specs.Prelude.{ℕ, ◌+◌, ◌-◌, ◌==◌, ◌&&◌, ◌||◌, not, nat_lt, if◌then◌else◌, Bool, true, false, Option, List, [], ◌∷◌, ◌++◌, length, slice_index_or}
+use Rattle.std.specs.List.{flat_map, list_any, remove}
 use Rattle.std.specs.Option.{option_map_or}
 use Rattle.std.specs.Str.{bytes_eq}
 use Rattle.cs_base.specs.declared.positions.Pos.{Pos}
 use Rattle.cs_base.specs.Token.{Token}
-use Rattle.ws_core.specs.Below.c99_tree.Tree.{Forest, none, token, node}
-use Rattle.ws_core.specs.Below.c99_tree.declared.production.Production.TheVariants.{ExtRest, FunBody}
-use Rattle.ws_core.specs.Below.c_types.declared.entity.EntityKind.{EntityKind}
-use Rattle.ws_core.specs.Below.c_types.declared.entity.EntityKind.TheVariants as entity
-use Rattle.ws_core.specs.Below.c_types.declared.lists.List.{List as NameList}
-use Rattle.ws_core.specs.Below.c_types.declared.parameters.ParameterList.{ParameterList}
-use Rattle.ws_core.specs.Below.c_types.Declarations.{spelling_at, is_in}
-use Rattle.ws_core.specs.Below.c_types.Trees.{is_node, first_list}
+use Rattle.c99_tree.specs.Tree.{Forest, none, token, node}
+use Rattle.c99_tree.specs.declared.production.Production.TheVariants.{ExtRest, FunBody}
+use Rattle.c_types.specs.declared.entity.EntityKind.{EntityKind}
+use Rattle.c_types.specs.declared.entity.EntityKind.TheVariants as entity
+use Rattle.c_types.specs.declared.lists.List.{List as NameList}
+use Rattle.c_types.specs.declared.parameters.ParameterList.{ParameterList}
+use Rattle.c_types.specs.Declarations.{spelling_at, is_in}
+use Rattle.c_types.specs.Trees.{is_node, first_list}
 use Rattle.scope_bind.specs.declared.bound.Name.{Name}
 use Rattle.list_cuts.specs.Cuts.{numbers}
 use Rattle.template_rules.specs.Functions.{place_of}
@@ -72,9 +72,13 @@ is_ordinary _ = true
 abbrev pub uses_ordinary : Name → Bool
 uses_ordinary n = not n.declares && is_ordinary n.kind
 
+-- it is token k
+abbrev pub is_used_at : ℕ → Name → Bool
+is_used_at k n = n.index == k && uses_ordinary n
+
 -- token k is such a name, or a bare one (6.7.5.3 paragraph 11)
 abbrev pub is_use : List Name → List ℕ → ℕ → Bool
-is_use names bare k = list_any (λ (n : Name). n.index == k && uses_ordinary n) names || is_in bare k
+is_use names bare k = list_any (is_used_at k) names || is_in bare k
 
 -- the token is spelled as the name of a parameter
 abbrev pub is_spelled_as : List Token → ℕ → Option ℕ → Bool
@@ -83,19 +87,20 @@ is_spelled_as toks k name = option_map_or (λ j. bytes_eq (spelling_at toks j) (
 -- token k, where it uses the name of one of these parameters
 abbrev pub dependence_place : List Token → List Name → List ℕ → List (Option ℕ) → ℕ → List Pos
 dependence_place toks names bare others k =
-    if is_use names bare k && list_any (is_spelled_as toks k) others then place_of toks k else []
+    if list_any (is_spelled_as toks k) others && is_use names bare k then place_of toks k else []
 
--- in the tokens of an item, between two separators, where these are the names of the other parameters
+-- in the tokens of an item, behind a separator and before the next, where these are the names of the other parameters
 abbrev pub dependence_between : List Token → List Name → List ℕ → List (Option ℕ) → ℕ → ℕ → List Pos
 dependence_between toks names bare others begin close =
     flat_map (dependence_place toks names bare others) (numbers (begin + 1) (close - (begin + 1)))
 
--- in the items of a list from number k on, given the names of all its parameters and the separators that are left
-abbrev pub dependence_from : List Token → List Name → List ℕ → List (Option ℕ) → ℕ → List ℕ → List Pos
-dependence_from toks names bare all k (begin ∷ close ∷ more) =
-    dependence_between toks names bare (remove all k) begin close ++ dependence_from toks names bare all (k + 1) (close ∷ more)
-dependence_from toks names bare all k _ = []
+-- in item number k of a list, given the names of all its parameters and its separators
+abbrev pub dependence_in : List Token → List Name → List ℕ → List (Option ℕ) → List ℕ → ℕ → List Pos
+dependence_in toks names bare all marks k =
+    dependence_between toks names bare (remove all k) (slice_index_or marks k 0) (slice_index_or marks (k + 1) 0)
 
+-- in all its items
 abbrev pub dependence_places : List Token → List Name → List ℕ → List ParameterList → NameList → List Pos
 dependence_places toks names bare lists l =
-    option_map_or (λ (p : ParameterList). dependence_from toks names bare p.names 0 (separators l)) (parameters_at lists l.name) []
+    option_map_or (λ (p : ParameterList). flat_map (dependence_in toks names bare p.names (separators l)) (numbers 0 (length l.commas + 1)))
+    (parameters_at lists l.name) []

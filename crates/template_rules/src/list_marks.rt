@@ -33,7 +33,7 @@ fn read_only_at(a: &Analysis, toks: &[Tok], list: &List, first: Option<Offence>)
     }
 }
 
-fn is_across(reached: &[Reached], list: &List) -> bool
+pub(crate) fn is_across(reached: &[Reached], list: &List) -> bool
     ensures { result ≡ is_across reached.now list.now }
 {
     reached.iter().any(|item| list.name < item.before && item.before <= list.close)

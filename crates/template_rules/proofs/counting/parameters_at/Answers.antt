@@ -1,7 +1,7 @@
 use Rattle.std.proofs.Common.{◌≡◌, true, sym}
 use Rattle.std.specs.Prelude.{◌==◌}
 use Rattle.std.proofs.lemmas.Bool.{eq-eqb, ne_eqb}
-use Rattle.ws_core.specs.Below.c_types.declared.parameters.ParameterList.{ParameterList}
+use Rattle.c_types.specs.declared.parameters.ParameterList.{ParameterList}
 use Rattle.template_rules.proofs.FindLemmas.{found_at, found_later, found_none}
 use Rattle.template_rules.proofs.counting.parameters_at.Goals as goal
 

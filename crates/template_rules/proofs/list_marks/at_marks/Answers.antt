@@ -1,8 +1,8 @@
 use Rattle.std.proofs.Common.{◌≡◌, ap, sym, ◌∙◌, arith}
 use Rattle.std.specs.List.{flat_map}
 use Rattle.include_tree.specs.Below.unit_steps.Texts.{UnitTextValue}
-use Rattle.ws_core.specs.Below.c99_tree.Tree.{Node}
-use Rattle.ws_core.specs.Below.c_types.Parameters.{parameters_in}
+use Rattle.c99_tree.specs.Tree.{Node}
+use Rattle.c_types.specs.Parameters.{parameters_in}
 use Rattle.scope_bind.specs.Bound.{Bound}
 use Rattle.rename_rules.proofs.FirstLemmas.{then_none, then_both}
 use Rattle.template_rules.specs.Marks.{declarator_marks, call_marks, unit_marks}

@@ -1,0 +1,138 @@
+-- The lists in a file, one after another, and the edits of files.
+use Rattle.std.proofs.Common.{◌≡◌, ℕ, zero, suc, ◌+◌, ◌-◌, ◌<◌, ◌≤◌, Bool, true, false, List, [], ◌∷◌, ◌++◌, length, get_or, take, drop, Option, Some, None, Result, Ok, Err, slice_get, refl, sym, ap, ◌∙◌, append_assoc, append-nil, arith}
+use Rattle.std.specs.Prelude.{◌==◌, if◌then◌else◌, OnOk}
+use Rattle.std.specs.List.{flat_map}
+use Rattle.std.specs.Option.{option_map_or}
+use Rattle.std.proofs.lemmas.Bool.{eq-eqb}
+use Rattle.std.proofs.lemmas.List.{at_drop_more, at_drop_all, take_all}
+use Rattle.std.proofs.lemmas.Option.{slice_get-get_or}
+use Rattle.cs_base.specs.declared.positions.Part.{Part}
+use Rattle.cs_base.specs.Edit.{Edit, edit}
+use Rattle.cs_base.specs.Token.{Token}
+use Rattle.edited_files.specs.Edited.{with_edit, with_each}
+use Rattle.list_cuts.specs.declared.spans.Span.{Span}
+use Rattle.include_tree.specs.Below.source_files.Files.{Table, Entry, Absent, entry}
+use Rattle.include_tree.specs.Below.source_files.KeptFiles.{KeptValue, kept_at}
+use Rattle.include_tree.specs.Below.unit_steps.Texts.{UnitTextValue}
+use Rattle.scope_bind.specs.Bound.{Bound}
+use Rattle.ws_core.specs.Analysis.{UnitAnalysis, AnalysisValue}
+use Rattle.template_rules.specs.declared.file_lists.FoundList.{FoundList}
+use Rattle.template_rules.specs.FileLists.{all_found, function_list, unit_found, marks_in, with_list, with_lists, item_between, items_of, new_bytes, edit_for, edit_in, edits_from, edits_of}
+use Rattle.template_rules.proofs.PlanLemmas.{edit_for-some}
+use Rattle.template_rules.proofs.StepLemmas.{flat_map-more}
+
+-- ---- lists of a file
+
+pub with_lists-append : (xs ys lists : List (List ℕ)) → with_lists (xs ++ ys) lists ≡ with_lists ys (with_lists xs lists)
+unfolding with_lists
+with_lists-append [] ys lists = refl
+with_lists-append (l ∷ xs) ys lists = with_lists-append xs ys (with_list l lists)
+
+pub with_one : (l : List ℕ) (lists : List (List ℕ)) → with_lists (l ∷ []) lists ≡ with_list l lists
+unfolding with_lists
+with_one l lists = refl
+
+pub with_none : (lists : List (List ℕ)) → with_lists [] lists ≡ lists
+unfolding with_lists
+with_none lists = refl
+
+-- a list that stands in the file is put
+pub put_told : {X E : Type 0} (file : ℕ) (f : FoundList) (before now : List (List ℕ)) (l : List ℕ) (r : Result X E) → f.file ≡ file → l ≡ f.marks
+    → OnOk r (now ≡ with_list l before) → OnOk r (now ≡ with_lists (marks_in file f) before)
+put_told file f before now l (Ok x) same is put =
+    let here : (f.file == file) ≡ true = eq-eqb f.file file same in
+    put ∙ ap (λ (m : List ℕ). with_list m before) is ∙ sym (with_one f.marks before)
+    ∙ ap (λ (b : Bool). with_lists (if b then f.marks ∷ [] else []) before) (sym here)
+put_told file f before now l (Err e) same is put = tt
+
+-- one element more
+pub lists_next : {X : Type 0} (f : X → List (List ℕ)) (xs : List X) (k : ℕ) (x : X) (first before now : List (List ℕ)) → k < length xs → x ≡ get_or xs k x
+    → before ≡ with_lists (flat_map f (take k xs)) first → now ≡ with_lists (f x) before → now ≡ with_lists (flat_map f (take (k + 1) xs)) first
+lists_next f xs k x first before now h is so_far here =
+    rw (flat_map-more f xs k x h is, with_lists-append (flat_map f (take k xs)) (f x) first, ← so_far) here
+
+pub lists_all : {X : Type 0} (f : X → List (List ℕ)) (xs : List X) (k : ℕ) (first now : List (List ℕ)) → length xs ≤ k
+    → now ≡ with_lists (flat_map f (take k xs)) first → now ≡ with_lists (flat_map f xs) first
+lists_all f xs k first now past is = rw (← take_all k xs past) is
+
+pub lists_both : (xs ys first between now : List (List ℕ)) → between ≡ with_lists xs first → now ≡ with_lists ys between → now ≡ with_lists (xs ++ ys) first
+lists_both xs ys first between now so_far here = rw (with_lists-append xs ys first, ← so_far) here
+
+-- the lists of a unit, by its tokens and names as they are told
+pub found_told : (members : List Part) (u : UnitAnalysis) (text : UnitTextValue) (bound : Bound) (before now : List FoundList) → u.text ≡ text → u.bound ≡ bound
+    → now ≡ before ++ (flat_map (function_list members text.toks bound.names) bound.declarators ++ flat_map (function_list members text.toks bound.names) bound.calls)
+    → now ≡ before ++ unit_found members u
+found_told members u text bound before now same_text same_bound is = rw (same_text, same_bound) is
+
+-- ---- items
+
+module _ (bytes : List ℕ) (toks : List Token) where
+  pub items_next : (list : List ℕ) (k : ℕ) (d e : ℕ) → k + 1 < length list
+      → items_of bytes toks (drop k list) ≡ item_between bytes toks (get_or list k d) (get_or list (k + 1) e) ∷ items_of bytes toks (drop (k + 1) list)
+  items_next [] k d e lt = absurd (omega (arith, lt))
+  items_next (x ∷ []) k d e lt = absurd (omega (arith, lt))
+  items_next (x ∷ y ∷ list) zero d e lt = refl
+  items_next (x ∷ y ∷ list) (suc k) d e lt =
+      let on : suc k + 1 ≡ suc (k + 1) = omega arith in
+      rw on (items_next (y ∷ list) k d e (omega (arith, lt)))
+
+  pub items_end : (list : List ℕ) (k : ℕ) → length list ≤ k + 1 → items_of bytes toks (drop k list) ≡ []
+  items_end [] zero past = refl
+  items_end [] (suc k) past = refl
+  items_end (x ∷ []) zero past = refl
+  items_end (x ∷ y ∷ list) zero past = absurd (omega (arith, past))
+  items_end (x ∷ list) (suc k) past = items_end list k (omega (arith, past))
+
+-- ---- edits
+
+pub with_each-append : (xs ys edits : List Edit) → with_each (xs ++ ys) edits ≡ with_each ys (with_each xs edits)
+unfolding with_each
+with_each-append [] ys edits = refl
+with_each-append (e ∷ xs) ys edits = with_each-append xs ys (with_edit e edits)
+
+pub with_each-one : (e : Edit) (edits : List Edit) → with_each (e ∷ []) edits ≡ with_edit e edits
+unfolding with_each
+with_each-one e edits = refl
+
+pub with_each-none : (edits : List Edit) → with_each [] edits ≡ edits
+unfolding with_each
+with_each-none edits = refl
+
+module _ (found : List FoundList) (order : List ℕ) where
+  edits-more : (table : Table) (k : ℕ) → k < length table
+      → edits_from found order k (drop k table)
+      ≡ option_map_or (edit_in found order) (kept_at table k) [] ++ edits_from found order (k + 1) (drop (k + 1) table)
+  unfolding edits_from
+  edits-more table k within =
+      let d : Entry = entry [] Absent in
+      let there = slice_get-get_or table k d within in
+      at_drop_more (edits_from found order k) table k d within ∙ rw there refl
+
+  pub edits_next : (table : Table) (k : ℕ) (before now whole : List Edit) → k < length table
+      → with_each (edits_from found order k (drop k table)) before ≡ whole
+      → now ≡ with_each (option_map_or (edit_in found order) (kept_at table k) []) before
+      → with_each (edits_from found order (k + 1) (drop (k + 1) table)) now ≡ whole
+  edits_next table k before now whole within so_far here =
+      let one = option_map_or (edit_in found order) (kept_at table k) [] in
+      let rest = edits_from found order (k + 1) (drop (k + 1) table) in
+      ap (with_each rest) here ∙ sym (with_each-append one rest before)
+      ∙ ap (λ (es : List Edit). with_each es before) (sym (edits-more table k within)) ∙ so_far
+
+  pub edits_all : (table : Table) (k : ℕ) (now whole : List Edit) → length table ≤ k
+      → with_each (edits_from found order k (drop k table)) now ≡ whole → now ≡ whole
+  unfolding edits_from with_each
+  edits_all table k now whole past so_far =
+      let none : edits_from found order k (drop k table) ≡ [] = at_drop_all (edits_from found order k) table k past in
+      rw none at so_far
+
+pub edits_first : (members : List Part) (a : AnalysisValue) (order : List ℕ) (found : List FoundList) (edits : List Edit) → found ≡ all_found members a
+    → edits ≡ [] → with_each (edits_from found order 0 (drop 0 a.table)) edits ≡ edits_of members a order
+unfolding edits_of
+edits_first members a order found edits told none = rw (told, none) refl
+
+-- the edit of a file that has lists is put
+pub edit_told : {X E : Type 0} (order : List ℕ) (f : KeptValue) (lists : List (List ℕ)) (before now : List Edit) (r : Result X E) → (lists ≡ [] → ⊥)
+    → OnOk r (now ≡ with_edit (edit f.path (new_bytes order lists f) (length lists)) before) → OnOk r (now ≡ with_each (edit_for order f lists) before)
+edit_told order f lists before now (Ok x) some put =
+    put ∙ sym (with_each-one (edit f.path (new_bytes order lists f) (length lists)) before) ∙ ap (λ (es : List Edit). with_each es before) (sym (edit_for-some order f lists some))
+edit_told order f lists before now (Err e) some put = tt

@@ -1,0 +1,8 @@
+use Rattle.std.proofs.Common.{◌≡◌, ◌++◌, take}
+use Rattle.std.specs.List.{flat_map}
+use Rattle.template_rules.specs.FileLists.{function_list}
+use Rattle.template_rules.proofs.file_lists.push_lists.Given as goal
+
+abbrev pub invariant-loop-list : goal.invariant-loop-list
+invariant-loop-list l =
+    l.out.items ≡ l.initial.out.items ++ flat_map (function_list l.members l.text.toks l.bound.names) (take l.list-index l.all)

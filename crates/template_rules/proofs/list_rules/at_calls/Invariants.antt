@@ -1,0 +1,8 @@
+use Rattle.std.proofs.Common.{take}
+use Rattle.std.specs.List.{flat_map}
+use Rattle.rename_rules.specs.First.{FirstThen}
+use Rattle.template_rules.specs.Offences.{call_offences}
+use Rattle.template_rules.proofs.list_rules.at_calls.Given as goal
+
+abbrev pub invariant-loop-list : goal.invariant-loop-list
+invariant-loop-list l = FirstThen l.a.value.table (flat_map (call_offences l.members l.a.value l.odds l.text l.bound l.ends) (take l.list-index l.all)) l.initial.now l.now

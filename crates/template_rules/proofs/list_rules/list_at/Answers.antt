@@ -1,0 +1,15 @@
+use Rattle.cs_base.specs.declared.causes.Cause.TheVariants as cause
+use Rattle.rename_rules.specs.First.{standing}
+use Rattle.rename_rules.proofs.FirstLemmas.{then_both}
+use Rattle.template_rules.specs.LineOffences.{odd_places}
+use Rattle.template_rules.specs.MacroOffences.{macro_place}
+use Rattle.template_rules.proofs.list_rules.list_at.Goals as goal
+
+pub returns : goal.returns
+returns c =
+    let a = c.args.a.now.value in
+    let text = c.args.text.now in
+    then_both a.table
+    (standing cause.InMacro (macro_place c.args.members.now a text.toks text.reached c.args.list.now))
+    (standing cause.OddToken (odd_places a.table c.args.odds.now text c.args.list.now))
+    c.args.first c.macro_at-named.result c.odds_at.result (rw (c.toks.ensures, c.reached.ensures) at c.macro_at-named.ensures) c.odds_at.ensures

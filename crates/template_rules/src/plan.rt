@@ -1,0 +1,127 @@
+// The edits of a new order, or its first refusal.
+ghost use Rattle.std.specs.Prelude.{◌≡◌, None, length, true, IfOk};
+ghost use Rattle.list_cuts.specs.Cuts.{IsOrder};
+ghost use Rattle.rename_rules.specs.Class.{IsClass};
+ghost use Rattle.rename_rules.specs.First.{IsFirst};
+ghost use Rattle.rename_rules.specs.Renaming.{GivesOne};
+ghost use Rattle.ws_core.specs.Parts.{IsPart};
+ghost use Rattle.template_rules.specs.Functions.{AreFunctions, has_function};
+ghost use Rattle.template_rules.specs.Lists.{count_of};
+ghost use Rattle.template_rules.specs.Offences.{offences_of};
+ghost use Rattle.template_rules.specs.Refusals.{refusal_of};
+ghost use Rattle.template_rules.specs.Template.{IsClassOrdered, IsOrdered, IsReordered, IsTemplate};
+
+use crate::counting::parameter_count;
+use crate::file_edits::edit_files;
+use crate::functions::{Functions, has_functions, named_functions};
+use crate::list_insides::at_insides;
+use crate::list_marks::at_marks;
+use crate::list_rules::at_lists;
+use crate::macro_names::at_macro_names;
+use crate::names::at_names;
+use crate::refusals::{TemplateRefusal, refused};
+use cs_base::{Edits, Memory, Part};
+use list_cuts::is_order;
+use rename_rules::Offence;
+use std::alloc::Global;
+use ws_core::Analysis;
+
+/// The edits that put the parameters of the functions which a place names into a new order, with the arguments of their
+/// calls, or the first refusal. Place k takes item `order[k]`; items count from 1, as lines and columns do.
+pub fn plan_template(
+    alloc: Global,
+    a: &Analysis,
+    path: &str,
+    line: u32,
+    column: u32,
+    order: &[usize],
+) -> Result<Edits, TemplateRefusal>
+    ensures { GivesOne (λ edits. edits) refusal_of result (IsTemplate a.now.value path.now line column order.now) }
+{
+    match a.part_at(path, line, column) {
+        Some(part) => plan_part(alloc, a, part, order),
+        None => Err(TemplateRefusal::NoName),
+    }
+}
+
+// The same for the class of a part.
+fn plan_part(
+    alloc: Global,
+    a: &Analysis,
+    part: Part,
+    order: &[usize],
+) -> Result<Edits, TemplateRefusal>
+    requires { IsPart a.now.value part }
+    ensures { GivesOne (λ edits. edits) refusal_of result (IsClassOrdered a.now.value part order.now) }
+{
+    match a.classes().class_of(part) {
+        Some(number) => plan_class(alloc, a, a.members(part), number, order),
+        // Each part has a class.
+        None => Err(TemplateRefusal::Memory),
+    }
+}
+
+// The same for the class with these members and this number.
+fn plan_class(
+    alloc: Global,
+    a: &Analysis,
+    members: &[Part],
+    number: u32,
+    order: &[usize],
+) -> Result<Edits, TemplateRefusal>
+    requires { IsClass a.now members.now number }
+    ensures { GivesOne (λ edits. edits) refusal_of result (IsOrdered a.now.value members.now order.now) }
+{
+    let functions = named_functions(alloc, a, members, number)?;
+    if !has_functions(a, members, &functions) {
+        return Err(TemplateRefusal::NotAFunction);
+    }
+    let count = parameter_count(alloc, a, members, &functions)?;
+    if !is_order(alloc, count, order)? {
+        return Err(TemplateRefusal::BadOrder);
+    }
+    plan_functions(alloc, a, members, number, &functions, count, order)
+}
+
+// The same for these functions, and an order of their parameters.
+fn plan_functions(
+    alloc: Global,
+    a: &Analysis,
+    members: &[Part],
+    number: u32,
+    functions: &Functions,
+    count: usize,
+    order: &[usize],
+) -> Result<Edits, TemplateRefusal>
+    requires class { IsClass a.now members.now number }
+    requires functions { AreFunctions members.now a.now.value functions.now }
+    requires count { count ≡ count_of a.now.value members.now }
+    requires order { IsOrder (length order.now) order.now }
+    ensures { GivesOne (λ edits. edits) refusal_of result (IsReordered a.now.value members.now order.now) }
+{
+    match first_offence(alloc, a, members, number, functions, count)? {
+        Some(offence) => Err(refused(alloc, a, offence)),
+        None => Ok(edit_files(alloc, a, members, functions, order)?),
+    }
+}
+
+// The first offence, if one stands.
+fn first_offence(
+    alloc: Global,
+    a: &Analysis,
+    members: &[Part],
+    number: u32,
+    functions: &Functions,
+    count: usize,
+) -> Result<Option<Offence>, Memory>
+    requires class { IsClass a.now members.now number }
+    requires functions { AreFunctions members.now a.now.value functions.now }
+    requires count { count ≡ count_of a.now.value members.now }
+    ensures { IfOk result (IsFirst a.now.value.table (offences_of a.now.value members.now (count_of a.now.value members.now))) }
+{
+    let named = at_names(alloc, a, members, number, functions, None)?;
+    let marked = at_marks(alloc, a, members, functions, count, named)?;
+    let replaced = at_macro_names(a, members, number, marked);
+    let inside = at_insides(a, members, functions, replaced);
+    at_lists(alloc, a, members, functions, inside)
+}
