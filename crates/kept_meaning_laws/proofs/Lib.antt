@@ -25,6 +25,7 @@ mod ExternalNameLemmas
 mod DenotingLemmas
 mod MoveLemmas
 mod SameElementLemmas
+pub mod OneMoveLemmas
 mod ReadNameLemmas
 mod ClassLemmas
 mod BareLemmas

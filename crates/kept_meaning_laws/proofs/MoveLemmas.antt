@@ -333,7 +333,7 @@ count_step : (b : Bool) (k : ℕ) → one_if b + k ≡ cond b (1 + k) k
 count_step true k = refl
 count_step false k = zero_more k
 
-counted_total : (test : Part → Bool) (ms : List Part) → total (λ (m : Part). one_if (test m)) ms ≡ count_by test ms
+pub counted_total : (test : Part → Bool) (ms : List Part) → total (λ (m : Part). one_if (test m)) ms ≡ count_by test ms
 counted_total test ms =
     is_count_by (total (λ (m : Part). one_if (test m))) test refl (λ m rest. count_step (test m) (total (λ (x : Part). one_if (test x)) rest)) ms
 

@@ -1,5 +1,5 @@
 -- Lists of the same elements, each once, give the same sums.
-use Rattle.std.proofs.Common.{◌≡◌, ℕ, zero, suc, ◌+◌, List, [], ◌∷◌, Some, refl, sym, ap, subst, ◌∙◌, arith}
+use Rattle.std.proofs.Common.{◌≡◌, ℕ, zero, suc, ◌+◌, List, [], ◌∷◌, map, Some, refl, sym, ap, subst, ◌∙◌, arith}
 use Rattle.std.specs.Prelude.{slice_get}
 use Rattle.std.proofs.lemmas.Option.{none-some, same_Some}
 use Rattle.no_offence_laws.proofs.ListLemmas.{In}
@@ -77,3 +77,9 @@ same_totals {X = X} f (x ∷ xs) ys once also there back =
     (λ same. absurd (gone ys k.0 i.0 x also k.1 (subst (λ (w : X). slice_get (without k.0 ys) i.0 ≡ Some w) (sym same) i.1)))
     (λ later. later))) in
     ap (λ (n : ℕ). f x + n) rest ∙ sym (total_without f ys k.0 x k.1)
+
+-- an element of a list that is made of another
+pub mapped_at : {X Y : Type 0} (f : X → Y) (xs : List X) (k : ℕ) (y : Y) → slice_get (map f xs) k ≡ Some y → (x : X) × (y ≡ f x) × (slice_get xs k ≡ Some x)
+mapped_at f [] k y e = absurd (none-some y e)
+mapped_at f (x ∷ xs) zero y e = (x, sym (same_Some (f x) y e), refl)
+mapped_at f (x ∷ xs) (suc k) y e = mapped_at f xs k y e

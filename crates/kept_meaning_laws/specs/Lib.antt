@@ -4,6 +4,7 @@ pub mod KeptUnits
 pub mod KeptFileTokens
 pub mod BoundUnits
 pub mod KeptLinks
+pub mod OneMove
 pub mod ReadUnits
 pub mod EditedSource
 pub mod RenamedSource

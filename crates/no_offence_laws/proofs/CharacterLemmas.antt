@@ -25,7 +25,7 @@ use Rattle.no_offence_laws.proofs.UnitsLemmas.{unit_is, number_origin}
 
 module _ (a : AnalysisValue) (source : Source) (ws : WorkspaceValue) (accepted : analysis_of source ws ≡ Ok a) where
   -- a number that a unit brought stands in the pseudo file of lines
-  number_file : (t : Token) → (u : UnitAnalysis) → In u a.units → In t (numbers_brought u.text) → (span_of t).start.file ≡ 0
+  pub number_file : (t : Token) → (u : UnitAnalysis) → In u a.units → In t (numbers_brought u.text) → (span_of t).start.file ≡ 0
   number_file t u i j = by (slice_get t.origins 0) refl
     where
       by : (o : Option (Option Pos)) → slice_get t.origins 0 ≡ o → (unwrap_or (option_and_then (λ (x : Option Pos). x) o) (pos 0 0)).file ≡ 0
@@ -33,7 +33,7 @@ module _ (a : AnalysisValue) (source : Source) (ws : WorkspaceValue) (accepted :
       by (Some None) e = refl
       by (Some (Some p)) e = number_origin a u i (unit_is source ws a accepted u i) t j 0 p e
 
-  unit_of : (units : List UnitAnalysis) (t : Token) → In t (flat_map (λ (u : UnitAnalysis). numbers_brought u.text) units)
+  pub unit_of : (units : List UnitAnalysis) (t : Token) → In t (flat_map (λ (u : UnitAnalysis). numbers_brought u.text) units)
       → (u : UnitAnalysis) × In u units × In t (numbers_brought u.text)
   unit_of [] t i = absurd (let e = i.1 in cc)
   unit_of (u ∷ units) t i =
