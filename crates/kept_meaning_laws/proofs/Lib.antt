@@ -26,6 +26,9 @@ mod DenotingLemmas
 mod MoveLemmas
 mod SameElementLemmas
 pub mod OneMoveLemmas
+mod MovedLabelLemmas
+pub mod FollowTokenLemmas
+pub mod FollowLinkLemmas
 mod ReadNameLemmas
 mod ClassLemmas
 mod BareLemmas

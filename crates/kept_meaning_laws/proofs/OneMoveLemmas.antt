@@ -40,10 +40,7 @@ use Rattle.no_offence_laws.proofs.NoneLemmas.{none_stand, no_line}
 use Rattle.no_offence_laws.proofs.UnitsLemmas.{no_lines}
 use Rattle.kept_meaning_laws.specs.OneMove.{PartsMoveAlike, TokensMoveAlike}
 use Rattle.kept_meaning_laws.proofs.MoveLemmas.{one_if, held_by, before_count, AreWhole, same_before, length_of, moves_alike}
-use Rattle.kept_meaning_laws.proofs.SameElementLemmas.{Once, once_from, mapped_at}
-
-pub pos_is : (p q : Pos) → p.file ≡ q.file → p.at ≡ q.at → p ≡ q
-pos_is p q f e = λ i. record { file = f i; at = e i }
+use Rattle.kept_meaning_laws.proofs.SameElementLemmas.{Once, once_from, mapped_at, pos_is}
 
 -- ---- members over one character
 
@@ -182,7 +179,7 @@ module _ (a : Analysed) (members : List Part) (name : List ℕ) (h : IsAllowed a
       (stays p.at (length name) (length_of a.classes h.number) (members_before h.number a.classes p) zero_before)
 
   -- a character of a file token stands in the text of its file
-  record InText (p : Pos) : Type 0 where
+  pub record InText (p : Pos) : Type 0 where
     pub file : KeptValue
     pub is_kept : kept_at a.value.table p.file ≡ Some file
     pub within : p.at < length (spelling (logical_of file.bytes))
@@ -190,7 +187,7 @@ module _ (a : Analysed) (members : List Part) (name : List ℕ) (h : IsAllowed a
   spelling_length : (bytes : List ℕ) → length (spelling (logical_of bytes)) ≡ length (logical_of bytes)
   spelling_length bytes = length-map (logical_of bytes) (λ c. c.byte)
 
-  in_text : (p : Pos) → IsCharacter a.value p → (p.file ≡ 0 → ⊥) → InText p
+  pub in_text : (p : Pos) → IsCharacter a.value p → (p.file ≡ 0 → ⊥) → InText p
   in_text p c apart =
       let f = character_file a.value h.source h.workspace h.accepted p c apart in
       let in_file = f.1 in
@@ -206,7 +203,7 @@ module _ (a : Analysed) (members : List Part) (name : List ℕ) (h : IsAllowed a
       let long = spelling_length file.bytes in
       record { file = file; is_kept = in_file.is_kept; within = omega (arith, start, len, ends, from, less, long) }
 
-  part_moves : (part : Part) → IsPart a.value part → By part.start
+  pub part_moves : (part : Part) → IsPart a.value part → By part.start
   part_moves part is = elim (cases_eq part.start.file 0) [
     | inl line ↦ line_moves part.start line
     | inr apart ↦

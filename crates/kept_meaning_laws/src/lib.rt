@@ -30,7 +30,7 @@ mod units;
 pub use bindings::names_bind_as_before;
 pub use links::links_are_kept;
 pub use meaning::units_read_as_before;
-pub use moves::positions_move_alike;
+pub use moves::{classes_follow, positions_move_alike};
 pub use sources::{
     plans_keep_meaning, respelled_files_have_renamed_analysis, respelled_files_have_renamed_texts,
     respelled_files_hold_edited, respelled_files_keep_external_names,

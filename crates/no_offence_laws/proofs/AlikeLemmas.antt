@@ -228,7 +228,7 @@ module _ (a : Analysed) (own : AreItsClasses a.value a.classes) (members : List 
       let next = step p q r s b on.0 also.0 (h.each 0 r s refl refl) in
       walk r s os ps next on.1 also.1 (behind os ps (Some r) (Some s) h) k o e c at there
 
-  chained_alike : (os ps : List (Option Pos)) → AreChained a.value os → AreChained a.value ps → AreSameAt os ps → PutAlike members name os ps
+  pub chained_alike : (os ps : List (Option Pos)) → AreChained a.value os → AreChained a.value ps → AreSameAt os ps → PutAlike members name os ps
   chained_alike [] ps on also h = record { each = λ k o p c at there. absurd (cc) }
   chained_alike (None ∷ os) ps on also h = absurd on
   chained_alike (Some p ∷ os) [] on also h = record { each = λ k o e c at there. absurd (cc) }
@@ -245,7 +245,7 @@ module _ (a : Analysed) (own : AreItsClasses a.value a.classes) (members : List 
           ap (λ (x : Option Pos). put_for members name x c) (sym first) ∙ beside_put p q b c ∙ ap (λ (x : Option Pos). put_for members name x c) second
       first_or p q os ps b on also h (suc k) o e c at there = walk p q os ps b on also h k o e c at there
 
-  origin_is : (t : Token) (k : ℕ) (p : Pos) → slice_get t.origins k ≡ Some (Some p) → origin_at t k ≡ Some p
+  pub origin_is : (t : Token) (k : ℕ) (p : Pos) → slice_get t.origins k ≡ Some (Some p) → origin_at t k ≡ Some p
   origin_is t k p at = ap (λ (o : Option (Option Pos)). option_and_then (λ (x : Option Pos). x) o) at
 
   -- tokens that are linked, each made of whole tokens
