@@ -1,4 +1,4 @@
-"""Random workspaces of C, whose names pass through macros, headers, units and projects."""
+"""Random workspaces of C, whose names pass through macros, headers, units of both standards and projects."""
 
 G = ["ga", "gb", "gc", "gd"]
 F = ["fa", "fb", "fc"]
@@ -9,6 +9,7 @@ class Maker:
 
     def __init__(self, r):
         self.r = r
+        self.has_members = False
 
     def files(self):
         r = self.r
@@ -39,6 +40,8 @@ class Maker:
         k = r.random()
         if depth > 2 or k < .3:
             return r.choice(names)
+        if k < .36 and self.has_members and r.random() < .7:
+            return r.choice(["dv.%s", "dp->%s", "AN(dp, %s)"]) % r.choice(["ma", "mz", "md", "mc"])
         if k < .36:
             return str(r.randrange(9))
         if k < .42:
@@ -87,7 +90,19 @@ class Maker:
             out.append("#define VA(...) ADD(__VA_ARGS__)\nenum { ev = VA(1, 2) };")
         if r.random() < .15:
             out.append("#if defined OBJ && ID(1)\nextern int more;\n#elif J(OB, J) || zq\nextern int less;\n#endif")
-        return out + ["#endif"]
+        return out + self.members() + ["#endif"]
+
+    def members(self):
+        """A structure with members without names in units of C11, and one with the same names in others."""
+        r = self.r
+        self.has_members = r.random() < .6
+        if not self.has_members:
+            return []
+        inner = r.choice(["union { int ma; struct { int mz; int md; }; };", "const struct { int ma, mz; union { int md; }; };"])
+        return ["#if __STDC_VERSION__ >= 201112L", "_Static_assert(sizeof(int) > %s, \"s\");" % r.choice(["0", "ID(0)"]),
+                "struct sd { int mc; %s };" % inner, "_Noreturn void nr(int q);", "#else", "struct sd { int mc, ma, mz, md; };", "#endif",
+                "extern struct sd dv, *dp;", "#define AN(p, m) (p)->m",
+                r.choice(["", "static struct sd ds = { .mz = 1, .mc = 2 };", "enum { es = sizeof dv.%s };" % r.choice(["ma", "md"])])]
 
     def second_header(self):
         r = self.r
@@ -186,9 +201,15 @@ class Maker:
             out.append("define FLAG " + r.choice(["", "1", "0", "ga"]))
         if r.random() < .1:
             out.append("define gq ga")
+        if r.random() < .4:
+            out.append("standard " + r.choice(["c11", "c11", "c99"]))
         out.append("file a.c")
         if r.random() < .3:
+            out.append("standard " + r.choice(["c11", "c99"]))
+        if r.random() < .3:
             out += ["project two", "ipath .", "ipath d"]
+        if r.random() < .3:
+            out.append("standard c11")
         if r.random() < .8:
             out.append("file b.c")
         if r.random() < .2:
