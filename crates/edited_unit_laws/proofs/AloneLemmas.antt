@@ -18,7 +18,7 @@ use Rattle.renamed.specs.Below.ws_core.Texts.{unit_fault, alone}
 use Rattle.edited_unit_laws.proofs.SeenLemmas.{unit_texts_are_renamed}
 use Rattle.edited_unit_laws.specs.Alone.{UnitAloneIsRenamed, OneTextIsRenamed}
 
-ok-same : {A E : Type 0} (a b : A) → ◌≡◌ {A = Result A E} (Ok a) (Ok b) → a ≡ b
+pub ok-same : {A E : Type 0} (a b : A) → ◌≡◌ {A = Result A E} (Ok a) (Ok b) → a ≡ b
 ok-same a b h = cc
 
 -- what a unit without a fault did, and the files that it has in the end

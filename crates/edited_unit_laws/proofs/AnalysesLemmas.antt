@@ -19,17 +19,10 @@ use Rattle.renamed.specs.Below.ws_core.Analysis.{UnitAnalysis, unit_analysis, Un
 use Rattle.edited_unit_laws.specs.Lines.{Each}
 use Rattle.edited_unit_laws.specs.Edited.{edited_carried}
 use Rattle.edited_unit_laws.specs.UnitTexts.{renamed_text}
-use Rattle.edited_unit_laws.proofs.WorkspaceLemmas.{workspaces_are_renamed}
+use Rattle.edited_unit_laws.proofs.WorkspaceLemmas.{workspaces_are_renamed, then-ok}
 use Rattle.edited_unit_laws.specs.Analyses.{IsRead, AreOfStandards, AnalysesHaveTexts, TextsHaveAnalyses, renamed_unit_analysis, renamed_units, renamed_analysis, ReadsAlike, UnitAnalysesAreRenamed, WorkspaceAnalysisIsRenamed}
 use Rattle.renamed.specs.Renamed.{texts_in}
-
-ok-same : {A E : Type 0} (a b : A) → ◌≡◌ {A = Result A E} (Ok a) (Ok b) → a ≡ b
-ok-same a b h = cc
-
--- the value of a step that is done, and that of the step behind it
-then-ok : {A B E : Type 0} (k : A → Result B E) (m : Result A E) (b : B) → result_then k m ≡ Ok b → (a : A) × (m ≡ Ok a) × (k a ≡ Ok b)
-then-ok k (Ok a) b h = (a, refl, h)
-then-ok k (Err e) b h = absurd (cc)
+use Rattle.edited_unit_laws.proofs.AloneLemmas.{ok-same}
 
 unmapped : {X E F : Type 0} (change : E → F) (r : Result X E) (x : X) → result_map_err change r ≡ Ok x → r ≡ Ok x
 unmapped change (Ok y) x e = let same : y ≡ x = cc in rw same refl

@@ -65,7 +65,7 @@ tokens_traced file bytes = found_traced file bytes 0 true _ 0 (logical_of bytes)
 -- ---- new spellings
 
 -- what stands for the characters of a text, by their places and by their origins
-respell-spelled : (members : List Part) (name : List ℕ) (file at : ℕ) (text : List ℕ)
+pub respell-spelled : (members : List Part) (name : List ℕ) (file at : ℕ) (text : List ℕ)
     → respell (put_of members name file) at text ≡ spelled_from members name (origins_from file at (length text)) text
 unfolding spelled_from
 respell-spelled members name file at [] = refl

@@ -51,7 +51,7 @@ word-stays : (n x y : Bool) → n ≡ true → (n && x) ≡ (n && y) → x ≡ y
 word-stays true x y is h = h
 word-stays false x y is h = absurd (cc)
 
-word-back : (n x y : Bool) → x ≡ y → (n && x) ≡ (n && y)
+pub word-back : (n x y : Bool) → x ≡ y → (n && x) ≡ (n && y)
 word-back n x y h = ap (λ b. n && b) h
 
 word-none : (n x y : Bool) → n ≡ false → (n && x) ≡ (n && y)

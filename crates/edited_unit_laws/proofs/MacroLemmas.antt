@@ -10,11 +10,9 @@ use Rattle.renamed.specs.Below.macro_body.declared.definitions.Definition.{Defin
 use Rattle.renamed.specs.Below.macro_body.Live.{with_macro, without_macro}
 use Rattle.renamed.specs.Below.macro_body.Macro.{Table as Macros}
 use Rattle.renamed.specs.Below.macro_expand.Renaming.{spelled, renamed_macro, occurs, KeepsBody, Keeps}
+use Rattle.renamed.proofs.Below.cs_base.FileMapLemmas.{bytes_eq-equal}
 use Rattle.edited_unit_laws.specs.Keeping.{Change, KeepsNames}
 use Rattle.edited_unit_laws.specs.Steps.{IsTaken}
-
-equal : (a b : List ℕ) → bytes_eq a b ≡ true → a ≡ b
-equal a b h = (bytes_eq-Decides a b).0 h
 
 alike : (a b : List ℕ) → a ≡ b → bytes_eq a b ≡ true
 alike a b h = (bytes_eq-Decides a b).1 h
@@ -22,7 +20,7 @@ alike a b h = (bytes_eq-Decides a b).1 h
 -- two texts are no one text where that is absurd
 unlike : (a b : List ℕ) → (a ≡ b → ⊥) → bytes_eq a b ≡ false
 unlike a b differ = elim (cases_Bool (bytes_eq a b)) [
-  | inl same ↦ absurd (differ (equal a b same))
+  | inl same ↦ absurd (differ (bytes_eq-equal a b same))
   | inr other ↦ other
 ]
 
@@ -40,7 +38,7 @@ module _ (c : Change) (names : KeepsNames c) (old new : Macros) (keeps : Keeps c
       | inl same ↦
           let is : m ≡ d = same_Some m d (rw same at e) in
           let anew : bytes_eq (c.renaming.macro_name name) (spelled c.renaming m.name) ≡ true =
-          alike (c.renaming.macro_name name) (spelled c.renaming m.name) (ap c.renaming.macro_name (equal name m.name.text same) ∙ sym taken.keeps) in
+          alike (c.renaming.macro_name name) (spelled c.renaming m.name) (ap c.renaming.macro_name (bytes_eq-equal name m.name.text same) ∙ sym taken.keeps) in
           rw anew (ap (λ (x : Definition). Some (renamed_macro c.renaming x)) is)
       | inr other ↦
           let at : old name ≡ Some d = rw other at e in
@@ -59,7 +57,7 @@ module _ (c : Change) (names : KeepsNames c) (old new : Macros) (keeps : Keeps c
     no_other-defined : (name : List ℕ) (d : Definition) → with_macro (renamed_macro c.renaming m) new name ≡ Some d
         → (before : List ℕ) × (e : Definition) × (with_macro m old before ≡ Some e) × (name ≡ c.renaming.macro_name before)
     no_other-defined name d e = elim (cases_Bool (bytes_eq name (spelled c.renaming m.name))) [
-      | inl same ↦ (m.name.text, m, rw (alike m.name.text m.name.text refl) refl, equal name (spelled c.renaming m.name) same ∙ taken.keeps)
+      | inl same ↦ (m.name.text, m, rw (alike m.name.text m.name.text refl) refl, bytes_eq-equal name (spelled c.renaming m.name) same ∙ taken.keeps)
       | inr other ↦
           let k = keeps.no_other name d (rw other at e) in
           let there = defined-before k.0 k.1 k.2 in
@@ -69,15 +67,15 @@ module _ (c : Change) (names : KeepsNames c) (old new : Macros) (keeps : Keeps c
     apart-defined : (x y : List ℕ) (a b : Definition) → with_macro m old x ≡ Some a → with_macro m old y ≡ Some b → c.renaming.macro_name x ≡ c.renaming.macro_name y → x ≡ y
     apart-defined x y a b ex ey e = elim (cases_Bool (bytes_eq x m.name.text)) [
       | inl xm ↦ elim (cases_Bool (bytes_eq y m.name.text)) [
-        | inl ym ↦ equal x m.name.text xm ∙ sym (equal y m.name.text ym)
+        | inl ym ↦ bytes_eq-equal x m.name.text xm ∙ sym (bytes_eq-equal y m.name.text ym)
         | inr yo ↦
-            equal x m.name.text xm
-            ∙ apart-from m.name taken y b (rw yo at ey) (taken.keeps ∙ ap c.renaming.macro_name (sym (equal x m.name.text xm)) ∙ e)
+            bytes_eq-equal x m.name.text xm
+            ∙ apart-from m.name taken y b (rw yo at ey) (taken.keeps ∙ ap c.renaming.macro_name (sym (bytes_eq-equal x m.name.text xm)) ∙ e)
       ]
       | inr xo ↦ elim (cases_Bool (bytes_eq y m.name.text)) [
         | inl ym ↦
-            sym (apart-from m.name taken x a (rw xo at ex) (taken.keeps ∙ ap c.renaming.macro_name (sym (equal y m.name.text ym)) ∙ sym e))
-            ∙ sym (equal y m.name.text ym)
+            sym (apart-from m.name taken x a (rw xo at ex) (taken.keeps ∙ ap c.renaming.macro_name (sym (bytes_eq-equal y m.name.text ym)) ∙ sym e))
+            ∙ sym (bytes_eq-equal y m.name.text ym)
         | inr yo ↦ keeps.apart x y a b (rw xo at ex) (rw yo at ey) e
       ]
     ]
@@ -86,8 +84,8 @@ module _ (c : Change) (names : KeepsNames c) (old new : Macros) (keeps : Keeps c
         → spelled c.renaming t ≡ c.renaming.macro_name name → t.text ≡ name
     like-defined t name d here named e k = elim (cases_Bool (bytes_eq name m.name.text)) [
       | inl same ↦
-          names.apart t m.name here taken.occurs named taken.named (k ∙ ap c.renaming.macro_name (equal name m.name.text same) ∙ sym taken.keeps)
-          ∙ sym (equal name m.name.text same)
+          names.apart t m.name here taken.occurs named taken.named (k ∙ ap c.renaming.macro_name (bytes_eq-equal name m.name.text same) ∙ sym taken.keeps)
+          ∙ sym (bytes_eq-equal name m.name.text same)
       | inr other ↦ keeps.spelled_like t name d here named (rw other at e) k
     ]
 

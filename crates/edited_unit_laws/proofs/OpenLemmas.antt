@@ -2,17 +2,14 @@
 use Rattle.std.proofs.Common.{◌≡◌, ℕ, zero, suc, ◌+◌, ◌≤◌, nat_le, nat_lt, ◌&&◌, Bool, true, false, not, cond, if◌then◌else◌, List, [], ◌∷◌, length, Option, Some, None, Result, Ok, Err, refl, ap, sym, subst, ◌∙◌, inl, inr, arith}
 use Rattle.std.specs.Prelude.{slice_get}
 use Rattle.std.specs.Option.{option_map, option_and_then}
-use Rattle.std.specs.Str.{bytes_eq}
-use Rattle.std.proofs.lemmas.Bool.{cases_Bool, le-ltb}
-use Rattle.std.proofs.lemmas.Option.{same_Some}
-use Rattle.renamed.proofs.Below.cs_base.FileMapLemmas.{bytes_eq-equal}
+use Rattle.std.proofs.lemmas.Bool.{le-ltb}
 use Rattle.renamed.specs.Below.cs_base.declared.causes.Cause.TheVariants.{TooManyFiles, TooManyBytes}
 use Rattle.renamed.specs.Below.cs_base.declared.positions.Place.{Place}
 use Rattle.renamed.specs.Below.cs_base.declared.positions.Pos.{Pos}
 use Rattle.renamed.specs.Below.part_lexer.FileText.{TextValue, LexFault, FileTooLarge, OpenComment, file_text}
 use Rattle.renamed.specs.Below.macro_body.Macro.{Table as Macros}
 use Rattle.renamed.specs.Below.source_files.Faults.{Fault, fault, place_in}
-use Rattle.renamed.specs.Below.source_files.Files.{Source, Found, Lines, Absent, Unopened, Opened, Made, Entry, entry, Table, SourceFile, source_file, number_of, found_at, asked, opened, files_opened, bytes_opened}
+use Rattle.renamed.specs.Below.source_files.Files.{Source, Found, Lines, Absent, Unopened, Opened, Made, Entry, Table, SourceFile, source_file, number_of, found_at, asked, opened, files_opened, bytes_opened}
 use Rattle.renamed.specs.Below.source_files.KeptFiles.{KeptValue, kept, kept_bytes, kept_in, kept_at}
 use Rattle.renamed.specs.Below.source_files.Tables.{Becomes, IsGrown, AreFound}
 use Rattle.renamed.specs.Below.source_files.Limits.{the_limits}
@@ -28,6 +25,7 @@ use Rattle.renamed.proofs.Below.source_files.OpeningLemmas.{bytes-opened}
 use Rattle.renamed.proofs.Below.include_tree.SearchLemmas.{search_wide}
 use Rattle.renamed.proofs.Below.source_files.SourcesLemmas.{found-opened, opening-as}
 use Rattle.renamed.proofs.Below.include_tree.StayingLemmas.{source-grown}
+use Rattle.renamed.proofs.Below.source_files.SourcesLemmas.{entry-at}
 use Rattle.edited_unit_laws.specs.Keeping.{Change, edited_files, KeepsFile, KeepsFiles}
 use Rattle.edited_unit_laws.specs.Steps.{KeepsState, moved, GoesAlike, with_text, OpensAlike, Grows}
 use Rattle.edited_unit_laws.proofs.FollowLemmas.{later-grows, alike-reach}
@@ -72,20 +70,6 @@ search-edited old new edit (path ∷ paths) t files g h =
 
 -- ---- kept files
 
-entry-at : (path : List ℕ) (f : Found) (t : Table) → found_at path t ≡ Some f → slice_get t (number_of path t) ≡ Some (entry path f)
-unfolding found_at
-entry-at path f [] h = absurd (cc)
-entry-at path f (e ∷ t) h =
-    let k : cond (bytes_eq path e.path) (Some e.found) (found_at path t) ≡ Some f = h in
-    elim (cases_Bool (bytes_eq path e.path)) [
-      | inl same ↦
-          rw same (ap (λ (p : List ℕ). Some (entry p e.found)) (sym (bytes_eq-equal path e.path same))
-          ∙ ap (λ (g : Found). Some (entry path g)) (same_Some e.found f (rw same at k)))
-      | inr other ↦
-          let n : 1 + number_of path t ≡ suc (number_of path t) = omega arith in
-          rw other (rw n (entry-at path f t (rw other at k)))
-    ]
-
 -- the kept file of a path that stands for one
 kept-at : (path bytes : List ℕ) (f : Found) (t : Table) → found_at path t ≡ Some f → kept_bytes f ≡ Some bytes
     → kept_at t (number_of path t) ≡ Some (kept (number_of path t) path bytes)
@@ -110,7 +94,7 @@ kept-grown (e ∷ old) [] n m k g h = absurd g
 kept-grown (e ∷ old) (f ∷ new) n zero k g h = kept-entry n e f k g.0 g.1 h
 kept-grown (e ∷ old) (f ∷ new) n (suc m) k g h = kept-grown old new n m k g.2 h
 
-file-same : (a b : SourceFile) → ◌≡◌ {A = Option SourceFile} (Some a) (Some b) → a ≡ b
+pub file-same : (a b : SourceFile) → ◌≡◌ {A = Option SourceFile} (Some a) (Some b) → a ≡ b
 file-same a b h = cc
 
 read-ok : (n m : ℕ) (path path2 : List ℕ) (r : Result TextValue LexFault) (text : TextValue) → read_as n path r ≡ Some (source_file m path2 text) → r ≡ Ok text

@@ -14,9 +14,7 @@ use Rattle.edited_unit_laws.specs.Lines.{Each}
 use Rattle.edited_unit_laws.proofs.EditedTokenLemmas.{edited_files_keep_tokens}
 use Rattle.edited_unit_laws.specs.EditedFiles.{EditedFilesAreKept, RespelledFilesAreKept}
 use Rattle.renamed.specs.Renamed.{moved_to}
-
-file-same : (a b : SourceFile) → ◌≡◌ {A = Option SourceFile} (Some a) (Some b) → a ≡ b
-file-same a b h = cc
+use Rattle.edited_unit_laws.proofs.OpenLemmas.{file-same}
 
 text-same : (a b : TextValue) → ◌≡◌ {A = Result TextValue LexFault} (Ok a) (Ok b) → a ≡ b
 text-same a b h = cc

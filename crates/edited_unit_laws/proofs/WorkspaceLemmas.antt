@@ -18,11 +18,9 @@ use Rattle.edited_unit_laws.specs.UnitTexts.{renamed_text}
 use Rattle.edited_unit_laws.proofs.UnitLemmas.{unit-grows}
 use Rattle.edited_unit_laws.proofs.SeenLemmas.{unit_texts_are_renamed}
 use Rattle.edited_unit_laws.specs.WorkspaceTexts.{change_in, KeepsUnits, renamed_texts, WorkspacesAreRenamed, WorkspaceIsRenamed}
+use Rattle.edited_unit_laws.proofs.AloneLemmas.{ok-same}
 
-ok-same : {A E : Type 0} (a b : A) → ◌≡◌ {A = Result A E} (Ok a) (Ok b) → a ≡ b
-ok-same a b h = cc
-
-then-ok : {A B E : Type 0} (k : A → Result B E) (m : Result A E) (b : B) → result_then k m ≡ Ok b → (a : A) × (m ≡ Ok a) × (k a ≡ Ok b)
+pub then-ok : {A B E : Type 0} (k : A → Result B E) (m : Result A E) (b : B) → result_then k m ≡ Ok b → (a : A) × (m ≡ Ok a) × (k a ≡ Ok b)
 then-ok k (Ok a) b h = (a, refl, h)
 then-ok k (Err e) b h = absurd (cc)
 

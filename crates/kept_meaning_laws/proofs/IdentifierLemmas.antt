@@ -16,8 +16,9 @@ use Rattle.no_offence_laws.specs.Below.part_respell.Respelled.{member_over, put_
 use Rattle.no_offence_laws.specs.Below.ws_core.Analysis.{AnalysisValue}
 use Rattle.no_offence_laws.specs.Below.ws_core.Parts.{AreMembers, Begins}
 use Rattle.no_offence_laws.proofs.MemberLemmas.{over_begins}
-use Rattle.no_offence_laws.proofs.PutLemmas.{identifier_words, put_words}
+use Rattle.no_offence_laws.proofs.PutLemmas.{put_words}
 use Rattle.no_offence_laws.proofs.TracedLemmas.{AreChained}
+use Rattle.no_offence_laws.proofs.Below.part_lexer.FitLemmas.{identifier-words}
 
 -- letters, digits and `_` stand for such characters
 words_from : (members : List Part) (name : List ℕ) (os : List (Option Pos)) (text : List ℕ) → list_all is_word name ≡ true → list_all is_word text ≡ true
@@ -68,7 +69,7 @@ module _ (a : AnalysisValue) (members : List Part) (part : Part) (listed : AreMe
       let both = and_parts (is_nondigit c) (list_all is_word text) identifier in
       identifier_on (put_at members name p c) (spelled_from members name os text)
       (first_put name p c (member_over members p) is both.0 (begins_at p chained.0))
-      (words_from members name os text (identifier_words name is) both.1)
+      (words_from members name os text (identifier-words name is) both.1)
 
 pub fits_name : (k : Kind) (text : List ℕ) → is_identifier k ≡ true → fits k text ≡ true → is_identifier_text text ≡ true
 fits_name Ident text h fit = fit

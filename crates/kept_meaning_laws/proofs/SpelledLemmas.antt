@@ -15,7 +15,7 @@ use Rattle.no_offence_laws.specs.Below.line_shape.Signs.{is_identifier}
 use Rattle.no_offence_laws.specs.Below.expansion_laws.Spelled.{fits}
 use Rattle.no_offence_laws.proofs.Below.expansion_laws.ShapeLemmas.{words_are_names}
 use Rattle.tree_laws.specs.RenamedNames.{own_words, is_own_word}
-use Rattle.no_offence_laws.proofs.PutLemmas.{identifier_words}
+use Rattle.no_offence_laws.proofs.Below.part_lexer.FitLemmas.{identifier-words}
 
 -- ---- kinds
 
@@ -43,7 +43,7 @@ other_plain _ text other fit parted = absurd (cc)
 -- what is spelled as a kind other than identifiers is none
 pub kind_plain : (k : Kind) (text : List ℕ) → is_identifier k ≡ false → fits k text ≡ true → is_identifier_text text ≡ false
 kind_plain k text other fit = elim (cases_Bool (is_identifier_text text)) [
-  | inl is ↦ absurd (both_ways (is_identifier_text text) (other_plain k text other fit (words_are_names k text fit (identifier_words text is))) is)
+  | inl is ↦ absurd (both_ways (is_identifier_text text) (other_plain k text other fit (words_are_names k text fit (identifier-words text is))) is)
   | inr none ↦ none
 ]
 

@@ -1,4 +1,5 @@
 -- Lemmas of the crates below, passed on in the same way.
+pub use Rattle.rename_rules.proofs.Below.part_lexer as part_lexer
 pub use Rattle.edited_unit_laws.proofs.Below.expansion_laws as expansion_laws
 pub use Rattle.rename_rules.proofs.Below.source_files as source_files
 pub use Rattle.rename_rules.proofs.Below.include_tree as include_tree

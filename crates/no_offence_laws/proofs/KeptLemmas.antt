@@ -33,12 +33,13 @@ use Rattle.rename_rules.proofs.Below.ws_core.TokenPlaceLemmas.{token_placed, tok
 use Rattle.rename_rules.proofs.Below.ws_core.TokenSearchLemmas.{over_once}
 use Rattle.rename_rules.specs.Tokens.{holders, holds_member, pasted_tokens}
 use Rattle.edited_unit_laws.specs.Lines.{Each}
+use Rattle.edited_unit_laws.proofs.EditedTokenLemmas.{respell-spelled}
 use Rattle.no_offence_laws.specs.Allowed.{IsAllowed}
 use Rattle.no_offence_laws.specs.KeptFiles.{WordIsFree, FilesKeepPieces}
 use Rattle.no_offence_laws.proofs.ListLemmas.{In, AllOf, all_of, any_at}
 use Rattle.no_offence_laws.proofs.FileLemmas.{token_stands, name_spelled, hash_spelled}
 use Rattle.no_offence_laws.proofs.PutLemmas.{BeginsAt, HoldsNone, put-stays, none-stays, names-stand}
-use Rattle.no_offence_laws.proofs.SpellLemmas.{is_from, respell-spelled, none_from, from_member}
+use Rattle.no_offence_laws.proofs.SpellLemmas.{is_from, none_from, from_member}
 use Rattle.no_offence_laws.proofs.WordLemmas.{WordIs, StaysIn, KeptIn, lines_all, tokens-kept}
 use Rattle.no_offence_laws.proofs.NoneLemmas.{NoneStand, none_stand, no_line, holder, holder_name, holder_free}
 use Rattle.no_offence_laws.proofs.MemberLemmas.{file_token, span_is, over_in, over_character, over_begins}

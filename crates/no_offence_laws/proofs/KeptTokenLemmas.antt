@@ -1,5 +1,5 @@
 -- Each token of a kept file is kept.
-use Rattle.std.proofs.Common.{◌≡◌, ℕ, suc, ◌&&◌, Bool, true, false, codes, List, [], ◌∷◌, inl, inr, refl, sym, ap, ◌∙◌}
+use Rattle.std.proofs.Common.{◌≡◌, ℕ, suc, true, false, codes, List, [], ◌∷◌, inl, inr, refl, sym, ap, ◌∙◌}
 use Rattle.std.specs.Str.{bytes_eq}
 use Rattle.std.proofs.lemmas.Bool.{cases_Bool, both_ways, false_from_ne_true}
 use Rattle.rename_rules.proofs.Below.cs_base.FileMapLemmas.{bytes_eq-equal}
@@ -14,7 +14,7 @@ use Rattle.rename_rules.specs.Below.part_respell.Respelled.{spelled}
 use Rattle.rename_rules.specs.Below.ws_core.Analysed.{Analysed}
 use Rattle.rename_rules.specs.Tokens.{holds_member}
 use Rattle.edited_unit_laws.specs.Lines.{Each, KeepsToken}
-use Rattle.edited_unit_laws.proofs.FitLemmas.{fixed-other}
+use Rattle.edited_unit_laws.proofs.FitLemmas.{fixed-other, word-back}
 use Rattle.no_offence_laws.specs.Allowed.{IsAllowed}
 use Rattle.no_offence_laws.specs.KeptTokens.{Spells, TokensAreKept, PastedTokensAreKept}
 use Rattle.no_offence_laws.proofs.ListLemmas.{In}
@@ -34,9 +34,6 @@ pub other_word : (word text : List ℕ) → is_reserved_text word ≡ true → i
 other_word word text reserved free =
     false_from_ne_true (bytes_eq text word) (λ same.
     both_ways (is_reserved_text text) free (ap is_reserved_text (bytes_eq-equal text word same) ∙ reserved))
-
-word_same : (kind same other : Bool) → same ≡ other → (kind && same) ≡ (kind && other)
-word_same kind same other e = ap (λ (b : Bool). kind && b) e
 
 module _ (a : Analysed) (members : List Part) (name : List ℕ) (r : Renaming) (h : IsAllowed a members name) (spells : Spells members name r) where
   none : NoneStand a.value members name
@@ -71,8 +68,8 @@ module _ (a : Analysed) (members : List Part) (name : List ℕ) (r : Renaming) (
   unfolding is_va_args
   told_kept t told = record {
     others = λ fixed. other_same t told (fixed-other t.kind fixed);
-    asks = word_same (is_identifier t.kind) (bytes_eq (macros.spelled r t) (codes "defined")) (bytes_eq t.text (codes "defined")) (reserved_kept (codes "defined") t defined_reserved told);
-    rest = word_same (is_identifier t.kind) (bytes_eq (macros.spelled r t) (codes "__VA_ARGS__")) (bytes_eq t.text (codes "__VA_ARGS__")) (reserved_kept (codes "__VA_ARGS__") t va_args_reserved told);
+    asks = word-back (is_identifier t.kind) (bytes_eq (macros.spelled r t) (codes "defined")) (bytes_eq t.text (codes "defined")) (reserved_kept (codes "defined") t defined_reserved told);
+    rest = word-back (is_identifier t.kind) (bytes_eq (macros.spelled r t) (codes "__VA_ARGS__")) (bytes_eq t.text (codes "__VA_ARGS__")) (reserved_kept (codes "__VA_ARGS__") t va_args_reserved told);
   }
 
 -- a fact of each element, in the words of laws of texts

@@ -6,25 +6,22 @@ use Rattle.std.specs.Str.{bytes_eq}
 use Rattle.std.proofs.lemmas.Bool.{cases_Bool, and_parts}
 use Rattle.std.proofs.lemmas.Option.{same_Some}
 use Rattle.rename_rules.proofs.Below.cs_base.FileMapLemmas.{bytes_eq-equal}
-use Rattle.rename_rules.specs.Below.cs_base.declared.tokens.Kind.{Kind}
-use Rattle.rename_rules.specs.Below.cs_base.declared.tokens.Kind.TheVariants.{Ident}
 use Rattle.rename_rules.specs.Below.cs_base.declared.tokens.Link.{Link}
 use Rattle.rename_rules.specs.Below.cs_base.Token.{Token}
 use Rattle.rename_rules.specs.Below.cs_base.Units.{UnitValue as Unit_}
-use Rattle.rename_rules.specs.Below.part_lexer.Characters.{is_word}
-use Rattle.rename_rules.specs.Below.line_shape.Signs.{is_identifier, is_name}
+use Rattle.rename_rules.specs.Below.line_shape.Signs.{is_name}
 use Rattle.rename_rules.specs.Below.linkage_join.Linkage.{UnitValue, link_to, first_spelled, names_of, unit_links as links_in, links_after, links_of as external_links}
 use Rattle.rename_rules.specs.Below.scope_bind.declared.bound.Name.{Name}
 use Rattle.rename_rules.specs.Below.scope_bind.Names.{entity_at}
-use Rattle.edited_unit_laws.specs.Below.expansion_laws.Spelled.{fits, is_spelled}
+use Rattle.edited_unit_laws.specs.Below.expansion_laws.Spelled.{is_spelled}
 use Rattle.edited_unit_laws.proofs.Below.expansion_laws.ListLemmas.{AllToks, toks_at, toks_pass}
-use Rattle.edited_unit_laws.proofs.Below.expansion_laws.ShapeLemmas.{names_are_words}
 use Rattle.unit_laws.proofs.NoteLemmas.{LinkHas, in_at}
 use Rattle.rename_rules.specs.Below.part_respell.Respelled.{spelled}
 use Rattle.rename_rules.specs.Below.ws_core.Analysis.{UnitAnalysis, AnalysisValue}
 use Rattle.rename_rules.specs.Below.ws_core.Links.{is_bound_to, first_occurrence, occurrence_link, occurrence_links, is_external_name, external_names_from, names_of_units, are_alike, unit_links, links_of}
 use Rattle.rename_rules.proofs.Below.ws_core.NamingLemmas.{filter_in}
 use Rattle.edited_unit_laws.specs.Links.{all_links}
+use Rattle.unit_laws.proofs.NameLemmas.{kind_words}
 use Rattle.no_offence_laws.specs.Spellings.{LinkedStayAlike}
 use Rattle.no_offence_laws.proofs.ListLemmas.{In, AllOf, all_of, all_at, found}
 use Rattle.no_offence_laws.proofs.AlikeLemmas.{linked_alike}
@@ -144,15 +141,11 @@ pub record IsWhole (a : AnalysisValue) (t : Token) : Type 0 where
   pub traced : Traced a t
   pub spelled : is_spelled t ≡ true
 
-name_words : (k : Kind) (text : List ℕ) → is_identifier k ≡ true → fits k text ≡ true → list_all is_word text ≡ true
-name_words Ident text h fit = names_are_words text fit
-name_words _ text h fit = absurd (cc)
-
 pub whole_chained : (a : AnalysisValue) (t : Token) → IsWhole a t → is_name t ≡ true → AreChained a t.origins
 whole_chained a t h named =
     let fit = spelled_fits t h.spelled in
     let traced = h.traced in
-    traced.chained (name_words t.kind t.text named fit)
+    traced.chained (kind_words t.kind t.text named fit)
 
 module _ (a : AnalysisValue) (u : UnitAnalysis) (i : In u a.units) (is : IsUnit a.table u) where
   whole_toks : (toks : List Token) → AllToks (Traced a) toks → list_all is_spelled toks ≡ true → AllOf (IsWhole a) toks

@@ -40,6 +40,7 @@ use Rattle.rename_rules.specs.Below.ws_core.Parts.{AreMembers, Begins}
 use Rattle.rename_rules.proofs.Below.ws_core.NamingLemmas.{in_right}
 use Rattle.rename_rules.specs.Offences.{stringized_places, header_places}
 use Rattle.rename_rules.specs.Tokens.{holders, holds_member, pasted_tokens, starts_in}
+use Rattle.rename_rules.proofs.Below.part_lexer.FitLemmas.{identifier-words}
 use Rattle.no_offence_laws.specs.Allowed.{IsAllowed}
 use Rattle.no_offence_laws.specs.MadeTokens.{IsOutcome, IsMadeAnew, TokensAreMadeAnew, StringsAndHeadersStay}
 use Rattle.no_offence_laws.specs.Renamings.{renaming}
@@ -48,7 +49,7 @@ use Rattle.no_offence_laws.proofs.LinkLemmas.{IsWhole, pasted_whole, whole_chain
 use Rattle.no_offence_laws.proofs.MemberLemmas.{over_begins}
 use Rattle.no_offence_laws.proofs.NoneLemmas.{NoneStand, none_stand, some_start, holder, holder_name}
 use Rattle.no_offence_laws.proofs.OneTokenLemmas.{one_identifier}
-use Rattle.no_offence_laws.proofs.PutLemmas.{identifier_words, put_words}
+use Rattle.no_offence_laws.proofs.PutLemmas.{put_words}
 use Rattle.no_offence_laws.proofs.RenamingLemmas.{spell-same}
 use Rattle.no_offence_laws.proofs.SpellLemmas.{spelled-kept}
 use Rattle.no_offence_laws.proofs.StringLemmas.{IsStringed, fine_free, spell_append, trace_append, string_spelled, string_traced}
@@ -182,7 +183,7 @@ module _ (a : AnalysisValue) (members : List Part) (part : Part) (listed : AreMe
       let both = and_parts (is_nondigit c) (list_all is_word text) identifier in
       identifier_on (put_at members name p c) (spelled_from members name os text)
       (first_put name p c (member_over members p) is both.0 (begins_at p chained.0))
-      (words_from members name os text (identifier_words name is) both.1)
+      (words_from members name os text (identifier-words name is) both.1)
 
 kind_name : (k : Kind) → is_identifier k ≡ true → k ≡ Ident
 kind_name Ident h = refl
@@ -252,7 +253,7 @@ module _ (a : Analysed) (members : List Part) (name : List ℕ) (h : IsAllowed a
   )
 
   -- no character of theirs comes from a member
-  all_stringed : (toks : List Token) → ((t : Token) → In t toks → In t u.text.stringized) → AllToks (Traced a.value) toks → AllToks (IsStringed a.value members name (identifier_words name h.identifier)) toks
+  all_stringed : (toks : List Token) → ((t : Token) → In t toks → In t u.text.stringized) → AllToks (Traced a.value) toks → AllToks (IsStringed a.value members name (identifier-words name h.identifier)) toks
   all_stringed [] told traced = tt
   all_stringed (t ∷ toks) told traced = (
     (let one = traced.0 in
@@ -265,7 +266,7 @@ module _ (a : Analysed) (members : List Part) (name : List ℕ) (h : IsAllowed a
   string_anew toks s told traced made =
       let q : Renaming = renaming a.value members name u.text in
       let new : List Token = map (renamed q) toks in
-      let words = identifier_words name h.identifier in
+      let words = identifier-words name h.identifier in
       let stringed = all_stringed toks told traced in
       let is = string_is toks s made in
       let one : is_string (one_token_of (string_text new)) ≡ true =

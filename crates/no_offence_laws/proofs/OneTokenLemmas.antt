@@ -1,7 +1,7 @@
 -- An identifier is one token.
 use Rattle.std.proofs.Common.{◌≡◌, ℕ, zero, suc, ◌+◌, ◌-◌, ◌==◌, Bool, true, false, List, [], ◌∷◌, length, take, Option, Some, is_some, unwrap_or, refl, sym, ap, ◌∙◌, arith}
 use Rattle.std.specs.List.{list_all}
-use Rattle.std.proofs.lemmas.Bool.{both_ways, and_parts, and_from, false_from_ne_true, eqb-true}
+use Rattle.std.proofs.lemmas.Bool.{both_ways, and_parts, false_from_ne_true, eqb-true}
 use Rattle.std.proofs.lemmas.Bool.Decides.{nat_tests}
 use Rattle.std.proofs.Math.Seq.{take-length}
 use Rattle.rename_rules.specs.Below.cs_base.declared.tokens.Kind.{Kind}
@@ -11,6 +11,7 @@ use Rattle.rename_rules.specs.Below.part_lexer.Logical.{Character, gone_length, 
 use Rattle.rename_rules.specs.Below.part_lexer.OneToken.{free_kind, only_token, one_token_of}
 use Rattle.rename_rules.specs.Below.part_lexer.Spelling.{is_identifier_text, kind_of, kind_in}
 use Rattle.rename_rules.specs.Below.part_lexer.Tokens.{front_length, kind_or_other, token_piece, piece_of, expects_header, with_token, found_from, found_of}
+use Rattle.rename_rules.proofs.Below.part_lexer.FitLemmas.{identifier-words}
 
 -- a letter, a digit or `_` is none of some other characters
 pub word_apart : (c d : ℕ) → is_word d ≡ false → is_word c ≡ true → (c == d) ≡ false
@@ -85,13 +86,6 @@ one_listed : (bytes text : List ℕ) (front : _) (cs : List Character) → expec
 one_listed bytes text front [] plain is h = let none : is_identifier_text [] ≡ true = ap is_identifier_text is ∙ h in absurd (cc)
 one_listed bytes text front (c ∷ cs) plain is h = one_at bytes front c cs plain (ap is_identifier_text is ∙ h)
 
-identifier_words : (text : List ℕ) → is_identifier_text text ≡ true → list_all is_word text ≡ true
-identifier_words [] h = absurd (cc)
-identifier_words (c ∷ cs) h =
-    let both = and_parts (is_nondigit c) (list_all is_word cs) h in
-    let word : is_word c ≡ true = rw both.0 refl in
-    and_from (is_word c) (list_all is_word cs) word both.1
-
 pub one_identifier : (text : List ℕ) → is_identifier_text text ≡ true → one_token_of text ≡ Some Ident
 unfolding one_token_of found_of logical_of
-one_identifier text h = one_listed text text _ (logical_from 0 0 text) refl (words_logical 0 text (identifier_words text h)) h
+one_identifier text h = one_listed text text _ (logical_from 0 0 text) refl (words_logical 0 text (identifier-words text h)) h

@@ -1,15 +1,13 @@
 -- Members of a class that a place names lie in what units take from the items of their files.
 use Rattle.std.proofs.Common.{◌≡◌, ℕ, zero, suc, ◌+◌, ◌-◌, ◌<◌, ◌&&◌, Bool, true, false, List, [], ◌∷◌, ◌++◌, length, map, drop, Option, Some, None, inl, inr, refl, sym, ap, subst, ◌∙◌, arith, append-nil}
 use Rattle.std.specs.Prelude.{slice_get}
-use Rattle.std.specs.List.{flat_map, list_any, list_all}
+use Rattle.std.specs.List.{flat_map, list_any}
 use Rattle.std.specs.Option.{option_map_or, option_and_then}
 use Rattle.std.specs.Str.{bytes_eq}
 use Rattle.std.proofs.lemmas.Bool.{cases_Bool, cases_lt, and_parts, false_from_ne_true}
-use Rattle.std.proofs.lemmas.Option.{same_Some, none-some, slice_get_within}
+use Rattle.std.proofs.lemmas.Option.{same_Some, slice_get_within}
 use Rattle.rename_rules.specs.Below.cs_base.declared.positions.Part.{Part}
 use Rattle.rename_rules.specs.Below.cs_base.declared.positions.Pos.{Pos}
-use Rattle.rename_rules.specs.Below.cs_base.declared.tokens.Kind.{Kind}
-use Rattle.rename_rules.specs.Below.cs_base.declared.tokens.Kind.TheVariants.{Ident}
 use Rattle.rename_rules.specs.Below.cs_base.declared.tokens.Link.{Link}
 use Rattle.rename_rules.specs.Below.cs_base.Token.{Token, origin_at}
 use Rattle.rename_rules.specs.Below.part_lexer.Characters.{is_word}
@@ -19,7 +17,7 @@ use Rattle.rename_rules.proofs.Below.part_lexer.OriginLemmas.{length-origins}
 use Rattle.rename_rules.specs.Below.line_shape.declared.items.ItemKind.{ItemKind}
 use Rattle.rename_rules.specs.Below.line_shape.declared.items.ItemKind.TheVariants as kind
 use Rattle.rename_rules.specs.Below.line_shape.Items.{lines_of}
-use Rattle.rename_rules.specs.Below.line_shape.Signs.{is_identifier, is_name}
+use Rattle.rename_rules.specs.Below.line_shape.Signs.{is_name}
 use Rattle.rename_rules.specs.Below.unit_steps.declared.events.Reached.{Reached}
 use Rattle.rename_rules.specs.Below.source_files.Files.{Table}
 use Rattle.rename_rules.specs.Below.source_files.KeptFiles.{KeptValue, kept_at}
@@ -30,9 +28,8 @@ use Rattle.rename_rules.specs.Below.eclass_map.ClassTable.{LinkedBy, part_of_fil
 use Rattle.rename_rules.specs.Below.eclass_map.Positions.{along, holds}
 use Rattle.rename_rules.proofs.Below.eclass_map.TokenFacts.{holding, holds_from}
 use Rattle.edited_unit_laws.specs.Below.expansion_laws.Pieces.{IsOneOf, IsMadeOf, IsWhole}
-use Rattle.edited_unit_laws.specs.Below.expansion_laws.Spelled.{fits, is_spelled}
+use Rattle.edited_unit_laws.specs.Below.expansion_laws.Spelled.{is_spelled}
 use Rattle.edited_unit_laws.proofs.Below.expansion_laws.ListLemmas.{toks_at, toks_pass}
-use Rattle.edited_unit_laws.proofs.Below.expansion_laws.ShapeLemmas.{names_are_words}
 use Rattle.unit_laws.specs.UnitItems.{expanded_name, taken, ReachedAreWhole}
 use Rattle.unit_laws.specs.UnitTokens.{UnitIsWhole}
 use Rattle.rename_rules.specs.Below.ws_core.Analysed.{Analysed}
@@ -48,6 +45,7 @@ use Rattle.rename_rules.proofs.Below.ws_core.TokenPlaceLemmas.{token_placed}
 use Rattle.rename_rules.proofs.Below.eclass_map.PartPlaces.{same_pos}
 use Rattle.rename_rules.specs.Tokens.{holds_member}
 use Rattle.edited_unit_laws.specs.Lines.{Each}
+use Rattle.unit_laws.proofs.NameLemmas.{kind_words, only_one}
 use Rattle.no_offence_laws.specs.Allowed.{IsAllowed}
 use Rattle.no_offence_laws.specs.KeptFiles.{WordIsFree}
 use Rattle.no_offence_laws.specs.NamedClasses.{WordsAreFreeWhereNamed}
@@ -75,11 +73,6 @@ taken_by a u = flat_map (taken_reached a.table) u.text.reached
 -- those that are taken in some unit, and the numbers that units brought
 abbrev pub all_taken : AnalysisValue → List Token
 all_taken a = flat_map (taken_by a) a.units ++ all_brought a.units
-
--- a token of the list is made of it
-only_one : (t piece : Token) (k : ℕ) → slice_get (t ∷ []) k ≡ Some piece → t ≡ piece
-only_one t piece zero e = same_Some t piece e
-only_one t piece (suc k) e = absurd (none-some piece e)
 
 one_made : (files : List Token) (t : Token) → IsOneOf files t → IsMadeOf files t
 one_made files t at = record {
@@ -150,14 +143,10 @@ pub record IsReady (a : AnalysisValue) (t : Token) : Type 0 where
   pub whole : IsWhole is_word (all_taken a) t
   pub spelled : is_spelled t ≡ true
 
-name_words : (k : Kind) (text : List ℕ) → is_identifier k ≡ true → fits k text ≡ true → list_all is_word text ≡ true
-name_words Ident text h fit = names_are_words text fit
-name_words _ text h fit = absurd (cc)
-
 ready_made : (a : AnalysisValue) (t : Token) → IsReady a t → is_name t ≡ true → IsMadeOf (all_taken a) t
 ready_made a t h named =
     let whole = h.whole in
-    whole (name_words t.kind t.text named (spelled_fits t h.spelled))
+    whole (kind_words t.kind t.text named (spelled_fits t h.spelled))
 
 origin_there : (t : Token) (k : ℕ) (p : Pos) → origin_at t k ≡ Some p → slice_get t.origins k ≡ Some (Some p)
 origin_there t k p e = by (slice_get t.origins k) e

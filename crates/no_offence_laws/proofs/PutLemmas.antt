@@ -13,17 +13,7 @@ use Rattle.rename_rules.specs.Below.part_lexer.Spelling.{is_identifier_text}
 use Rattle.rename_rules.specs.Below.part_lexer.Places.{pos}
 use Rattle.rename_rules.specs.Below.part_lexer.Respelling.{Put, stays, words_stand, names_stand}
 use Rattle.rename_rules.specs.Below.part_respell.Respelled.{member_over, put_in, put_at, put_of}
-
--- ---- identifiers
-
-nondigit_word : (c : ℕ) → is_nondigit c ≡ true → is_word c ≡ true
-nondigit_word c h = rw h refl
-
-pub identifier_words : (text : List ℕ) → is_identifier_text text ≡ true → list_all is_word text ≡ true
-identifier_words [] h = absurd (cc)
-identifier_words (c ∷ cs) h =
-    let both = and_parts (is_nondigit c) (list_all is_word cs) h in
-    and_from (is_word c) (list_all is_word cs) (nondigit_word c both.0) both.1
+use Rattle.rename_rules.proofs.Below.part_lexer.FitLemmas.{identifier-words}
 
 -- ---- characters
 
@@ -90,4 +80,4 @@ module _ (members : List Part) (name : List ℕ) (file : ℕ) where
       let both = and_parts (is_nondigit c) (list_all is_word cs) identifier in
       and_from (bytes_eq (put at c) (c ∷ []) || is_identifier_text (put at c)) (words_stand put (at + 1) cs)
       (put_name name (pos file at) c (member_over members (pos file at)) is begins)
-      (words-stand (at + 1) cs (identifier_words name is) both.1)
+      (words-stand (at + 1) cs (identifier-words name is) both.1)

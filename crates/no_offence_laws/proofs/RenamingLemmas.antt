@@ -1,5 +1,5 @@
 -- The renaming of tokens that an edit of files makes.
-use Rattle.std.proofs.Common.{◌≡◌, ℕ, zero, suc, ◌+◌, ◌<◌, ◌≤◌, List, [], ◌∷◌, ◌++◌, length, take, map, get_or, Option, None, Some, refl, sym, ap, subst, ◌∙◌, append_assoc, append-nil, arith, length-append}
+use Rattle.std.proofs.Common.{◌≡◌, ℕ, zero, suc, ◌+◌, ◌<◌, ◌≤◌, List, [], ◌∷◌, ◌++◌, length, take, map, get_or, Option, None, Some, refl, sym, ap, subst, ◌∙◌, append-nil, arith, length-append}
 use Rattle.std.specs.Option.{option_map_or}
 use Rattle.std.proofs.lemmas.List.{take_more, length-take-le}
 use Rattle.rename_rules.specs.Below.cs_base.declared.positions.Part.{Part}
@@ -18,6 +18,7 @@ use Rattle.edited_unit_laws.specs.EditedTokens.{edited_token, EditedFilesKeepTok
 use Rattle.rename_rules.specs.Below.ws_core.Analysis.{AnalysisValue}
 use Rattle.rename_rules.proofs.Below.ws_core.PlaceNameLemmas.{kept_number}
 use Rattle.rename_rules.proofs.Below.ws_core.TokenPlaceLemmas.{token_placed}
+use Rattle.rename_rules.proofs.Below.part_lexer.FitLemmas.{respell-append}
 use Rattle.no_offence_laws.specs.Renamings.{renaming, RenamingsSpell, EditedFilesAreRenamed}
 use Rattle.no_offence_laws.proofs.ListLemmas.{In}
 use Rattle.no_offence_laws.proofs.FileLemmas.{StandsIn, token_stands}
@@ -38,13 +39,6 @@ pub renamings_spell : RenamingsSpell
 renamings_spell = λ a members name text t same. spell-same members name t.origins t.text same
 
 -- ---- places
-
-respell-append : (put : Put) (at : ℕ) (xs ys : List ℕ) → respell put at (xs ++ ys) ≡ respell put at xs ++ respell put (at + length xs) ys
-respell-append put at [] ys = let same : at + 0 ≡ at = omega arith in rw same refl
-respell-append put at (c ∷ xs) ys =
-    let on : at + 1 + length xs ≡ at + suc (length xs) = omega arith in
-    ap (λ (w : List ℕ). put at c ++ w) (respell-append put (at + 1) xs ys ∙ ap (λ (k : ℕ). respell put (at + 1) xs ++ respell put k ys) on)
-    ∙ sym (append_assoc (put at c) (respell put (at + 1) xs) (respell put (at + suc (length xs)) ys))
 
 in-length : (name : List ℕ) (p : Pos) (c d : ℕ) (o : Option Part) → length (option_map_or (put_in name p) o (c ∷ [])) ≡ length (option_map_or (put_in name p) o (d ∷ []))
 in-length name p c d None = refl

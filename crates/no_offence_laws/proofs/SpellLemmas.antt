@@ -7,8 +7,7 @@ use Rattle.std.proofs.lemmas.Bool.{or_parts}
 use Rattle.rename_rules.specs.Below.cs_base.declared.positions.Part.{Part}
 use Rattle.rename_rules.specs.Below.cs_base.declared.positions.Pos.{Pos}
 use Rattle.rename_rules.specs.Below.part_lexer.Places.{pos, origins_from}
-use Rattle.rename_rules.specs.Below.part_lexer.Respelling.{respell}
-use Rattle.rename_rules.specs.Below.part_respell.Respelled.{member_over, put_in, put_of, put_for, spelled_from}
+use Rattle.rename_rules.specs.Below.part_respell.Respelled.{member_over, put_in, put_for, spelled_from}
 
 -- the character comes from a member
 abbrev pub is_from : List Part → Option Pos → Bool
@@ -61,13 +60,6 @@ spelled-alike members name (o ∷ os) (p ∷ ps) [] e f alike = refl
 spelled-alike members name (o ∷ os) (p ∷ ps) (c ∷ text) e f alike =
     let rest = spelled-alike members name os ps text (omega (arith, e)) (omega (arith, f)) (record { each = λ k x y d at also. alike.each (suc k) x y d at also }) in
     rw (alike.each 0 o p c refl refl, rest) refl
-
--- the characters of a file, by their places and by their origins
-pub respell-spelled : (members : List Part) (name : List ℕ) (file at : ℕ) (text : List ℕ)
-    → respell (put_of members name file) at text ≡ spelled_from members name (origins_from file at (length text)) text
-unfolding spelled_from
-respell-spelled members name file at [] = refl
-respell-spelled members name file at (c ∷ text) = rw (respell-spelled members name file (at + 1) text) refl
 
 -- an origin of a file
 pub origin_in : (file at n k : ℕ) → k < n → slice_get (origins_from file at n) k ≡ Some (Some (pos file (at + k)))

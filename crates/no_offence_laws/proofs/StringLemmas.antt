@@ -3,6 +3,7 @@ use Rattle.std.proofs.Common.{◌≡◌, ℕ, ◌+◌, ◌&&◌, ◌||◌, Bool,
 use Rattle.std.specs.List.{flat_map, list_all, list_any}
 use Rattle.std.proofs.lemmas.Bool.{cases_Bool, and_parts, or_parts, both_ways}
 use Rattle.std.proofs.lemmas.Grind.{flat_map-append}
+use Rattle.std.proofs.Math.Bool.{and-false}
 use Rattle.rename_rules.specs.Below.cs_base.declared.positions.Part.{Part}
 use Rattle.rename_rules.specs.Below.cs_base.declared.positions.Pos.{Pos}
 use Rattle.rename_rules.specs.Below.cs_base.declared.tokens.Kind.{Kind}
@@ -57,12 +58,8 @@ along_append kind (c ∷ xs) ys (o ∷ os) ps size =
 
 -- ---- characters that get no backslash
 
-and_none : (b : Bool) → (b && false) ≡ false
-and_none true = refl
-and_none false = refl
-
 no_backslash : (kind : Kind) (c : ℕ) → is_word c ≡ true → needs_backslash kind c ≡ false
-no_backslash kind c word = rw (word_apart c double_quote refl word, word_apart c backslash refl word) (and_none (is_quoted kind))
+no_backslash kind c word = rw (word_apart c double_quote refl word, word_apart c backslash refl word) (and-false (is_quoted kind))
 
 word_plain : (kind : Kind) (c : ℕ) → is_word c ≡ true → escaped kind c ≡ c ∷ []
 word_plain kind c word = ap (λ (b : Bool). if b then backslash ∷ c ∷ [] else c ∷ []) (no_backslash kind c word)

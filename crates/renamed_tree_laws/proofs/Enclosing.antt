@@ -17,6 +17,8 @@ use Rattle.tree_laws.specs.Below.c_types.Trees.{is_at}
 use Rattle.tree_laws.proofs.Lookups.{false≢true}
 use Rattle.tree_laws.proofs.Walked.{After, IsKept, fit_from, each_part, kept_within}
 use Rattle.typedef_laws.proofs.Rules.{labelled}
+use Rattle.tree_laws.proofs.NameClasses.{implied}
+use Rattle.tree_laws.proofs.Forms.{after_is}
 use Rattle.renamed_tree_laws.specs.Loose.{is_enclosed}
 use Rattle.renamed_tree_laws.proofs.BareNames.{Encloses}
 use Rattle.renamed_tree_laws.proofs.EnclosedNames.{is_parenthesized, enclosed_step}
@@ -41,13 +43,6 @@ second_is p n e =
     let production = direct_is p ((and_parts (ghosts.eq p Pdirect) (n == 2) e).0) in
     let alternative : n ≡ 2 = eqb-true n 2 ((and_parts (ghosts.eq p Pdirect) (n == 2) e).1) in
     ap (λ q. labelled q n) production ∙ ap (λ k. labelled Pdirect k) alternative
-
-implied : (c d : Bool) → (not c || d) ≡ true → c ≡ true → d ≡ true
-implied true d h e = h
-implied false d h e = absurd (false≢true e)
-
-after_is : (P : State → Type 0) (r : Step) (s : State) → r ≡ Ok s → After P r → P s
-after_is P r s e m = subst (After P) e m
 
 module _ (std : Standard) where
   table_fits : (p : Production) → fit_from (fits p) 1 ((grammar std).table p) ≡ true

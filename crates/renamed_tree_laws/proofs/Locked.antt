@@ -13,10 +13,11 @@ use Rattle.tree_laws.specs.Below.c99_read.State.{State, base_at, is_identifier, 
 use Rattle.tree_laws.specs.Below.c99_read.Reading.{Goal, produce, repeat, Step, and_then, syntax, too_deep, take_one, at_end, enter, may, step, pick, read_within}
 use Rattle.tree_laws.specs.Below.c99_grammar.Starting.{asks}
 use Rattle.tree_laws.proofs.Below.c99_read.Alike.{swapped}
+use Rattle.tree_laws.proofs.NameClasses.{implied}
 use Rattle.renamed_tree_laws.specs.Along.{along_rest, along_item, along_first, along_within}
 use Rattle.renamed_tree_laws.proofs.Private.{Class, identifier, typedef_name, colons, parens, covers}
 use Rattle.renamed_tree_laws.proofs.Bases.{base_so}
-use Rattle.renamed_tree_laws.proofs.Twins.{agree, implied, blind, class_so, among_names, plain_class, same_class, Same}
+use Rattle.renamed_tree_laws.proofs.Twins.{agree, blind, class_so, among_names, plain_class, same_class, Same}
 use Rattle.renamed_tree_laws.proofs.Moods.{Mood, any, label, calm, solid, taken, start_mood, end_mood, is_second, mood, asks_same, decides, fits, placed, is_paren, decides_second, raised, decided, are_known, is_known, is_production_known}
 use Rattle.renamed_tree_laws.proofs.Knowing.{Known, no_name, known_less, colon_is}
 use Rattle.renamed_tree_laws.proofs.Deciding.{asks_are, decided_same, blind_first}

@@ -12,7 +12,7 @@ use Rattle.tree_laws.specs.Below.name_chains.Frames.{outermost}
 use Rattle.tree_laws.specs.Below.c_types.Lists.{bare_in}
 use Rattle.tree_laws.specs.Below.scope_bind.Bound.{Bound, facts_of, binding_of}
 use Rattle.tree_laws.proofs.Lookups.{false≢true}
-use Rattle.tree_laws.proofs.RenamedWalk.{bound_is}
+use Rattle.tree_laws.proofs.HeldNames.{bound_is}
 use Rattle.renamed_tree_laws.specs.Loose.{AllLoose}
 use Rattle.renamed_tree_laws.specs.TreesAlike.{LooseNamesAreBare}
 use Rattle.renamed_tree_laws.proofs.BareNames.{Each, loose_of_bare}

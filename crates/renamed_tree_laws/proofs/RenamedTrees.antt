@@ -31,12 +31,13 @@ use Rattle.tree_laws.proofs.Renaming.{Good, Kept, stand_apart}
 use Rattle.tree_laws.proofs.RenamedNames.{used_visible}
 use Rattle.tree_laws.proofs.RenamedSteps.{entered_kept, entered_same, passed_kept, passed_same, left_back, left_kept, left_same}
 use Rattle.tree_laws.proofs.Unnamed.{found_named}
-use Rattle.tree_laws.proofs.RenamedWalk.{walked_back, walked_same, names_good, no_fault, bound_is}
+use Rattle.tree_laws.proofs.RenamedWalk.{walked_back, walked_same, names_good, no_fault}
 use Rattle.typedef_laws.specs.Agreeing.{denotes_typedef, is_read_so, is_named_so, agrees}
 use Rattle.typedef_laws.proofs.Outline.{Entry, Outline}
 use Rattle.typedef_laws.proofs.Outlines.{entry_of, entries_of, outline, denotes_among, left_same as left_outline, walked_same as walked_outline}
 use Rattle.typedef_laws.proofs.Rules.{labelled}
 use Rattle.typedef_laws.proofs.Texts.{units_agree}
+use Rattle.tree_laws.proofs.HeldNames.{bound_is}
 use Rattle.renamed_tree_laws.specs.TreesAlike.{RenamedTextsReadAlike}
 use Rattle.renamed_tree_laws.specs.Loose.{is_listed, AllLoose, StaysWhole}
 use Rattle.renamed_tree_laws.proofs.LooseNames.{range_of, more_in, after_in, outlined_in, Covered, none_still}

@@ -12,11 +12,12 @@ use Rattle.tree_laws.specs.Below.c99_grammar.Standard.{grammar}
 use Rattle.tree_laws.specs.Below.c99_read.State.{State, base_at, is_identifier, is_typedef_at, class_at}
 use Rattle.tree_laws.specs.Below.c99_read.Reading.{Goal, produce, Step, steps_for, read_within, whole, at_first, tree_of, read_of}
 use Rattle.tree_laws.proofs.Below.c99_read.Alike.{swapped}
+use Rattle.tree_laws.proofs.NameClasses.{implied}
 use Rattle.renamed_tree_laws.specs.Along.{all_along}
 use Rattle.renamed_tree_laws.specs.Respelled.{is_bare_so, is_kind_so, is_named_so, is_token_so, is_node_so, IsRespelled}
 use Rattle.renamed_tree_laws.specs.ReadAlike.{RespelledTextsReadAlike, TextsOfOneKindReadAlike}
 use Rattle.renamed_tree_laws.proofs.Private.{Class, identifier, typedef_name}
-use Rattle.renamed_tree_laws.proofs.Twins.{implied, not_typedef, some_typedef, Same}
+use Rattle.renamed_tree_laws.proofs.Twins.{not_typedef, some_typedef, Same}
 use Rattle.renamed_tree_laws.proofs.Moods.{is_told, is_asked}
 use Rattle.renamed_tree_laws.proofs.Table.{production_known}
 use Rattle.renamed_tree_laws.proofs.Keeping.{labelled, Fine}

@@ -19,16 +19,13 @@ use Rattle.typedef_laws.proofs.Private.{Class}
 use Rattle.typedef_laws.proofs.Outline.{Outline, begun}
 use Rattle.typedef_laws.proofs.Matching.{Bounds, IsOpen, SameOuter, bounds_within, bounds_inner, within_sooner}
 use Rattle.typedef_laws.proofs.Places.{EndsAt, ends_none}
-use Rattle.typedef_laws.proofs.Rules.{labelled, is_quiet, fine}
+use Rattle.typedef_laws.proofs.Rules.{labelled, is_quiet, fine, all_three}
 use Rattle.typedef_laws.proofs.Goes.{After, with_token, IsIn, Goes, goes_still, goes_further}
 use Rattle.typedef_laws.proofs.Steps.{Reads, taken, quiet_fits, goes_step, opened_in, opened_fits, opened_scopes}
 use Rattle.typedef_laws.proofs.ScopeNodes.{ended_scopes, renamed_to, scope_fits, scoped_scopes, scoped_in, IsScope}
 use Rattle.typedef_laws.proofs.Scoping.{is_whole, ends_fine, whole_fine, block_scope, list_scope, whole_scope, with_token_in}
 use Rattle.renamed_tree_laws.specs.Along.{along_rest}
 use Rattle.renamed_tree_laws.proofs.Asking.{before_leaf, of_token, of_node, Asks, asks_still, asks_further, quiet_so, plain_asked, told_after, along, Asked, asks_step, BodyAsks}
-
-all_so : (u t v : Bool) → u ≡ true → t ≡ true → v ≡ true → (u && (t && v)) ≡ true
-all_so u t v h k m = and_from u (t && v) h (and_from t v k m)
 
 module _ (std : Standard) where
   module _ (a b : List Token) where
@@ -73,7 +70,7 @@ module _ (std : Standard) where
           onward v (Ok s') g k =
               (told_after std) a b p n (v && along std a b below along_below depth rest s') (of_node std a b p n s && (of_token std a b (opened p n s) && (v && along std a b below along_below depth rest s'))) s
               (step (grammar std) below depth rest s')
-              (all_so (of_node std a b p n s) (of_token std a b (opened p n s)) (v && along std a b below along_below depth rest s') (plain_asked std a b p n s named)
+              (all_three (of_node std a b p n s) (of_token std a b (opened p n s)) (v && along std a b below along_below depth rest s') (plain_asked std a b p n s named)
               (quiet_so std a b (labelled p n) s.at (opened p n s) quiet (opened_in std a p n s)))
               (last v s' g k)
 

@@ -13,9 +13,10 @@ use Rattle.tree_laws.specs.Below.c99_read.State.{State, base_at, is_identifier, 
 use Rattle.tree_laws.specs.Below.c99_grammar.TokenClasses.{base_class}
 use Rattle.tree_laws.specs.Below.c99_read.Reading.{Goal, produce, repeat, Step, enter, may, step, pick, run, read_within}
 use Rattle.tree_laws.specs.Below.c99_grammar.Starting.{asks}
+use Rattle.tree_laws.proofs.NameClasses.{implied}
 use Rattle.renamed_tree_laws.specs.Along.{along_rest, along_item, along_first, along_goal, along_within}
 use Rattle.renamed_tree_laws.proofs.Private.{Class, identifier, typedef_name, end_class, no_class, colons, parens, covers}
-use Rattle.renamed_tree_laws.proofs.Twins.{implied, plain_is, plain_class, class_so, Same}
+use Rattle.renamed_tree_laws.proofs.Twins.{plain_is, plain_class, class_so, Same}
 use Rattle.renamed_tree_laws.proofs.Moods.{Mood, any, label, calm, solid, taken, start_mood, is_second, is_asked, is_told, takes_colon, before_colon, labelled_mood, mood, is_calm_behind, second_known, told_where, named_where, placed, is_bare_test, second_where, is_known, are_known, is_production_known, decided}
 use Rattle.renamed_tree_laws.proofs.Knowing.{Known, known_less, known_first, known_second, known_both}
 use Rattle.renamed_tree_laws.proofs.Steps.{stopped, ok_is, between, branch, Takes, takes, ends, enters, opened_scopes, opened_at, opened_class}

@@ -7,6 +7,7 @@ use Rattle.tree_laws.specs.Below.c99_grammar.Classes.{among}
 use Rattle.tree_laws.specs.Below.c99_grammar.Standard.{grammar}
 use Rattle.tree_laws.specs.Below.c99_read.State.{State, base_at, is_identifier, is_typedef_at, class_at}
 use Rattle.tree_laws.proofs.Below.c99_read.Alike.{swapped}
+use Rattle.tree_laws.proofs.NameClasses.{implied}
 use Rattle.renamed_tree_laws.specs.Respelled.{Declaration}
 use Rattle.renamed_tree_laws.proofs.Private.{Class, identifier, typedef_name, covers}
 use Rattle.renamed_tree_laws.proofs.Bases.{base_so, base_is}
@@ -20,10 +21,6 @@ agree_is true true h = refl
 agree_is true false h = absurd (false≢true h)
 agree_is false true h = absurd (false≢true h)
 agree_is false false h = refl
-
-pub implied : (c d : Bool) → (not c || d) ≡ true → c ≡ true → d ≡ true
-implied true d h e = h
-implied false d h e = absurd (false≢true e)
 
 -- the classes do not tell a typedef name from another
 abbrev pub blind : List Class → Bool

@@ -16,12 +16,9 @@ use Rattle.tree_laws.specs.Shapes.{parts_all, begins, takes, has_no_body, has_no
 use Rattle.tree_laws.proofs.Walked.{After, each_part}
 use Rattle.tree_laws.proofs.Growing.{begins_step, takes_step}
 use Rattle.tree_laws.proofs.Each.{each, AreGood, Keeps, keeps_within, keeps_step}
+use Rattle.tree_laws.proofs.NameClasses.{implied}
 
 -- ---- What the parts of a rule say
-
-passed_on : (c x : Bool) → (not c || x) ≡ true → c ≡ true → x ≡ true
-passed_on true x h e = h
-passed_on false x h e = absurd (false≢true e)
 
 -- the three parts of the rule
 body_part : (p : Production) (a : Alternative) → is_formed p a ≡ true → passes_on has_no_body p a.body ≡ true
@@ -63,21 +60,21 @@ no_declaring (node l first under rest) w =
 
 -- ---- Each production
 
-after_is : (P : State → Type 0) (r : Step) (s : State) → r ≡ Ok s → After P r → P s
+pub after_is : (P : State → Type 0) (r : Step) (s : State) → r ≡ Ok s → After P r → P s
 after_is P r s e m = subst (After P) e m
 
 module _ (g : Grammar) (formed : IsFormed g) where
   bodiless : AreGood (λ p under. has_no_body p) g has_no_body is_formed
   bodiless = record {
     fit = formed.formed;
-    inside = λ p a fit of_ok. passed_on (has_no_body p) _ (body_part p a fit) of_ok;
+    inside = λ p a fit of_ok. implied (has_no_body p) _ (body_part p a fit) of_ok;
     made = λ fuel depth p n a s s' of_ok fit is_read. of_ok;
   }
 
   undeclaring : AreGood (λ p under. has_no_declaring p) g has_no_declaring is_formed
   undeclaring = record {
     fit = formed.formed;
-    inside = λ p a fit of_ok. passed_on (has_no_declaring p) _ (declaring_part p a fit) of_ok;
+    inside = λ p a fit of_ok. implied (has_no_declaring p) _ (declaring_part p a fit) of_ok;
     made = λ fuel depth p n a s s' of_ok fit is_read. of_ok;
   }
 

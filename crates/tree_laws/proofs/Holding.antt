@@ -11,7 +11,8 @@ use Rattle.c_types.specs.Declarations.{Facts, is_space, alike, is_named, looked_
 use Rattle.name_chains.specs.Entering.{is_member, kept_here, with_kept}
 use Rattle.name_chains.specs.Members.{with_silent}
 use Rattle.tree_laws.proofs.Unnamed.{is_unnamed, found_named}
-use Rattle.tree_laws.proofs.InLists.{In, found_passes, found_in}
+use Rattle.tree_laws.proofs.InLists.{In, found_in}
+use Rattle.tree_laws.proofs.Lookups.{found_passes}
 
 -- the token is noted as a name of the entity
 abbrev pub name_noted : ℕ → ℕ → Bool → Occurrence

@@ -1,5 +1,5 @@
 -- Elements of lists, and what is found among them.
-use Rattle.std.proofs.Common.{◌≡◌, Bool, true, false, ◌&&◌, cond, List, [], ◌∷◌, ◌++◌, map, reverse, Option, Some, ◌⊎◌, inl, inr, refl, subst}
+use Rattle.std.proofs.Common.{◌≡◌, Bool, true, false, ◌&&◌, cond, List, [], ◌∷◌, ◌++◌, map, reverse, Option, Some, ◌⊎◌, inl, inr, refl}
 use mathlib.Core.List.{reverse-cons}
 use Rattle.std.specs.Prelude.{find, filter}
 use Rattle.std.specs.List.{All}
@@ -11,16 +11,6 @@ false≢true e = cc
 abbrev pub In : {X : Type 0} → X → List X → Type 0
 In x [] = ⊥
 In x (y ∷ ys) = (y ≡ x) ⊎ In x ys
-
-found_step : {X : Type 0} (p : X → Bool) (b : Bool) (x y : X) (fp : Option X) → p x ≡ b → cond b (Some x) fp ≡ Some y
-    → (fp ≡ Some y → p y ≡ true) → p y ≡ true
-found_step p true x y fp e f rest = let s : x ≡ y = cc in subst (λ z. p z ≡ true) s e
-found_step p false x y fp e f rest = rest f
-
--- what is found passes
-pub found_passes : {X : Type 0} (p : X → Bool) (xs : List X) (y : X) → find p xs ≡ Some y → p y ≡ true
-found_passes p [] y f = cc
-found_passes p (x ∷ xs) y f = found_step p (p x) x y (find p xs) refl f (found_passes p xs y)
 
 in_step : {X : Type 0} (b : Bool) (x y : X) (fp : Option X) (xs : List X) → cond b (Some x) fp ≡ Some y → (fp ≡ Some y → In y xs) → In y (x ∷ xs)
 in_step true x y fp xs f rest = inl cc

@@ -30,8 +30,8 @@ mod Stopping
 mod Each
 mod Growing
 mod Formed
-mod Forms
-mod NameClasses
+pub mod Forms
+pub mod NameClasses
 mod NamePlaces
 mod NameTable
 -- Words of the crates below, passed on.

@@ -42,7 +42,7 @@ find_same {X} q p (x ∷ xs) r sub e passes =
     (λ f. let P : Option X → Type 0 = λ o. IfSome o (λ y. q y ≡ true) in subst P f passes)
     (λ f. find_same q p xs r (λ y w. sub y (inr w)) f passes)
 
-found_step : {X : Type 0} (p : X → Bool) (b : Bool) (x y : X) (fp : Option X) → p x ≡ b → cond b (Some x) fp ≡ Some y
+pub found_step : {X : Type 0} (p : X → Bool) (b : Bool) (x y : X) (fp : Option X) → p x ≡ b → cond b (Some x) fp ≡ Some y
     → (fp ≡ Some y → p y ≡ true) → p y ≡ true
 found_step p true x y fp e f rest = let s : x ≡ y = cc in subst (λ z. p z ≡ true) s e
 found_step p false x y fp e f rest = rest f

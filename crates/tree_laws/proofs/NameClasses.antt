@@ -4,6 +4,7 @@ use Rattle.std.specs.List.{list_all}
 use Rattle.std.specs.Option.{option_map_or}
 use Rattle.std.specs.Str.{bytes_eq}
 use Rattle.std.proofs.lemmas.Bool.{false≢true, and_parts}
+use Rattle.std.proofs.Math.Bool.{or-true}
 use Rattle.cs_base.specs.declared.ws_units.Standard.{Standard}
 use Rattle.cs_base.specs.Token.{Token}
 use Rattle.cs_base.specs.declared.tokens.Kind.{Kind}
@@ -37,11 +38,7 @@ only_names classes =
     && (is_fine classes (class_of_kind c99 kind.Str [])
     && (is_fine classes (base_at c99 [] 0) && is_fine classes (base_at c99 [] 1))))))
 
-or_true : (x : Bool) → (x || true) ≡ true
-or_true true = refl
-or_true false = refl
-
-implied : (c d : Bool) → (not c || d) ≡ true → c ≡ true → d ≡ true
+pub implied : (c d : Bool) → (not c || d) ≡ true → c ≡ true → d ≡ true
 implied true d h e = h
 implied false d h e = absurd (false≢true e)
 
@@ -86,7 +83,7 @@ module _ (std : Standard) where
         record { words = a.0; signs = b.0; number = c.0; char = d.0; string = e.0; last = f.0; none = f.1 }
 
     kind_fine : (k : Kind) (text : List ℕ) → is_fine classes (class_of_kind (grammar std) k text) ≡ true
-    kind_fine kind.Ident text = spelled_fine (keywords_of std) text _ (keywords_fit (is_fine classes) fine_parts.words std) (or_true _)
+    kind_fine kind.Ident text = spelled_fine (keywords_of std) text _ (keywords_fit (is_fine classes) fine_parts.words std) (or-true _)
     kind_fine kind.Punct text = spelled_fine punctuators text _ fine_parts.signs fine_parts.none
     kind_fine kind.Number text = fine_parts.number
     kind_fine kind.Char text = fine_parts.char

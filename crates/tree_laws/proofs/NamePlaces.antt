@@ -1,6 +1,6 @@
 -- Where names stand, a production reads identifiers.
 use Rattle.std.proofs.Common.{ℕ, zero, suc, ◌+◌, ◌%◌, ◌≡◌, Bool, true, false, ◌&&◌, ◌||◌, not, if◌then◌else◌, ◌==◌, List, length, Ok, Err, nat_lt, inl, inr, refl, sym, ap, subst, ◌∙◌, arith}
-use Rattle.std.proofs.lemmas.Bool.{false≢true, and_parts, cases_eq, eq-eqb, ne_eqb, and_from}
+use Rattle.std.proofs.lemmas.Bool.{and_parts, cases_eq, eq-eqb, ne_eqb, and_from, or_left, or_right}
 use Rattle.cs_base.specs.declared.ws_units.Standard.{Standard}
 use Rattle.cs_base.specs.Token.{Token}
 use Rattle.c99_tree.specs.Tree.{Forest, none, token, node, Node, leaf, inner, put, count_of}
@@ -17,7 +17,7 @@ use Rattle.scope_bind.specs.Roles.{role_of}
 use Rattle.c_types.specs.Trees.{is_node, has_name}
 use Rattle.tree_laws.specs.TreesOfTexts.{is_name_place, names_pass}
 use Rattle.tree_laws.proofs.Walked.{After, with_token, after_if}
-use Rattle.tree_laws.proofs.NameClasses.{only_names, name_is}
+use Rattle.tree_laws.proofs.NameClasses.{only_names, name_is, implied}
 
 -- ---- Places among children
 
@@ -193,23 +193,11 @@ fits l (many t a) X =
     fits l a (behind (many t a) X) && (is_within (behind a (behind (many t a) X)) (behind (many t a) X) && is_within X (behind (many t a) X))
 fits l (deep a) X = fits l a X
 
-implied : (c d : Bool) → (not c || d) ≡ true → c ≡ true → d ≡ true
-implied true d h e = h
-implied false d h e = absurd (false≢true e)
-
-either_left : (c d : Bool) → c ≡ true → (c || d) ≡ true
-either_left true d e = refl
-either_left false d e = absurd (false≢true e)
-
-either_right : (c d : Bool) → d ≡ true → (c || d) ≡ true
-either_right true d e = refl
-either_right false d e = e
-
 pub shifted_next : (X : Place → Bool) (c : Place) → X c ≡ true → shifted X (next c) ≡ true
 shifted_next X first h = h
-shifted_next X second h = either_left (X second) (X odd) h
+shifted_next X second h = or_left (X second) (X odd) h
 shifted_next X even h = h
-shifted_next X odd h = either_right (X second) (X odd) h
+shifted_next X odd h = or_right (X second) (X odd) h
 
 -- ---- Children that are tokens
 
@@ -352,13 +340,13 @@ module _ (std : Standard) where
       own_step (choice a b) depth s X fit h =
           let both = and_parts (fits l a X) (fits l b X) fit in
           after_if (Stands (joined (behind a X) (behind b X))) (may (grammar std) own a s) _ _
-          (wider (behind a X) (joined (behind a X) (behind b X)) (λ c e. either_left _ _ e) (step (grammar std) below depth a s) (own_step a depth s X both.0 h))
+          (wider (behind a X) (joined (behind a X) (behind b X)) (λ c e. or_left _ _ e) (step (grammar std) below depth a s) (own_step a depth s X both.0 h))
           (after_if (Stands (joined (behind a X) (behind b X))) (may (grammar std) own b s) _ _
-          (wider (behind b X) (joined (behind a X) (behind b X)) (λ c e. either_right _ _ e) (step (grammar std) below depth b s) (own_step b depth s X both.1 h)) tt)
+          (wider (behind b X) (joined (behind a X) (behind b X)) (λ c e. or_right _ _ e) (step (grammar std) below depth b s) (own_step b depth s X both.1 h)) tt)
       own_step (maybe a) depth s X fit h =
           after_if (Stands (joined X (behind a X))) (may (grammar std) own a s) _ _
-          (wider (behind a X) (joined X (behind a X)) (λ c e. either_right _ _ e) (step (grammar std) below depth a s) (own_step a depth s X fit h))
-          (wider X (joined X (behind a X)) (λ c e. either_left _ _ e) (Ok s) h)
+          (wider (behind a X) (joined X (behind a X)) (λ c e. or_right _ _ e) (step (grammar std) below depth a s) (own_step a depth s X fit h))
+          (wider X (joined X (behind a X)) (λ c e. or_left _ _ e) (Ok s) h)
       own_step (many t a) depth s X fit h =
           let Y : Place → Bool = behind (many t a) X in
           let three = and_parts (fits l a Y) (is_within (behind a Y) Y && is_within X Y) fit in

@@ -15,13 +15,14 @@ use Rattle.name_chains.specs.Frames.{State, at_first}
 use Rattle.name_chains.specs.Entering.{entered}
 use Rattle.scope_bind.specs.Roles.{role_of}
 use Rattle.scope_bind.specs.Walk.{passed, left, walked}
-use Rattle.scope_bind.specs.Bound.{Bound, name_of, names_of, bound_of, bound_unless, bound_after, facts_of, binding_of}
+use Rattle.scope_bind.specs.Bound.{Bound, name_of, names_of, bound_unless, bound_after, facts_of, binding_of}
 use Rattle.scope_bind.specs.declared.bound.Name.{Name}
 use Rattle.tree_laws.specs.RenamedNames.{is_own_word, StaysApart, RenamedBindAlike}
 use Rattle.tree_laws.proofs.InLists.{all_reversed}
 use Rattle.tree_laws.proofs.Lookups.{In}
 use Rattle.tree_laws.proofs.Renaming.{Good, Kept}
 use Rattle.tree_laws.proofs.RenamedSteps.{entered_back, entered_kept, entered_same, passed_back, passed_kept, passed_same, left_back, left_kept, left_same}
+use Rattle.tree_laws.proofs.HeldNames.{bound_is}
 
 module _ (a b : List Token)
     (words : (word : List ℕ) (k : ℕ) → is_own_word word ≡ true → bytes_eq (spelling_at b k) word ≡ bytes_eq (spelling_at a k) word) where
@@ -108,10 +109,6 @@ names_good a b facts clean e apart = record {
 pub no_fault : (f : Forest) (facts : Facts) (o : Option Fault) (b : Bound) → bound_unless f facts o ≡ Ok b → o ≡ None
 no_fault f facts None b e = refl
 no_fault f facts (Some x) b e = cc
-
-pub bound_is : (f : Forest) (facts : Facts) (o : Option Fault) (b : Bound) → bound_unless f facts o ≡ Ok b → b ≡ bound_of f facts
-bound_is f facts None b e = cc
-bound_is f facts (Some x) b e = cc
 
 pub renamed_bind_alike : RenamedBindAlike
 unfolding binding_of

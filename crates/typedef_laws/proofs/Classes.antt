@@ -17,6 +17,7 @@ use Rattle.tree_laws.specs.Below.c99_grammar.Standard.{c99, grammar}
 use Rattle.tree_laws.proofs.Below.c99_grammar.StandardLemmas.{keywords_fit}
 use Rattle.tree_laws.specs.Below.c99_read.State.{State, base_at, is_identifier, is_typedef_at, class_at}
 use Rattle.tree_laws.specs.Below.c99_grammar.TokenClasses.{spelled_class, class_of_kind, base_class}
+use Rattle.tree_laws.proofs.NameClasses.{implied}
 use Rattle.typedef_laws.proofs.Private.{Class}
 use Rattle.typedef_laws.proofs.Parts.{first_body, rest_of, front_of, inside_of, classes_of, second_test, asked_second}
 
@@ -59,10 +60,6 @@ spelled_base (w ∷ words) text other all last =
     by : (c : Bool) → is_base w.1 ≡ true → is_base (spelled_class words text other) ≡ true → is_base (if c then w.1 else spelled_class words text other) ≡ true
     by true h k = h
     by false h k = k
-
-implied : (c d : Bool) → (not c || d) ≡ true → c ≡ true → d ≡ true
-implied true d h e = h
-implied false d h e = absurd (false≢true e)
 
 module _ (std : Standard) where
   kind_base : (k : Kind) (text : List ℕ) → is_base (class_of_kind (grammar std) k text) ≡ true

@@ -28,6 +28,7 @@ use Rattle.typedef_laws.proofs.ScopeNodes.{scoped_in}
 use Rattle.typedef_laws.proofs.Table.{Bodies, moves_within, reads_within, bodies_within}
 use Rattle.typedef_laws.proofs.Twins.{IsPlain}
 use Rattle.typedef_laws.proofs.Handing.{Hands, HandsOn, hands_still, hands_further, hands_token, hands_named, closed_on, list_on}
+use Rattle.typedef_laws.proofs.Steady.{declared_heads}
 
 -- no declaration and no statement may stand in one of the production
 abbrev pub is_reached : Production → Bool
@@ -82,10 +83,6 @@ plain_at _ l under h k = (λ c. refl, λ first kept depth es. refl)
 suffix_or_none : (p : Production) → (p ≡ Suffix) ⊎ (ghosts.eq p Suffix ≡ false)
 suffix_or_none Suffix = inl refl
 suffix_or_none _ = inr refl
-
-declared_heads : (n : Names) (i : Option ℕ) (t : Bool) → (with_declared n i t).heads ≡ n.heads
-declared_heads n None t = refl
-declared_heads n (Some i) t = refl
 
 innermost_length : (x : List (List Declared)) (d : Declared) → length (in_innermost x d) ≡ length x
 innermost_length [] d = refl

@@ -52,7 +52,7 @@ reach none = 1
 reach (token i rest) = (i + 1) + reach rest
 reach (node l first under rest) = first + (reach under + reach rest)
 
-below_more : (b b' : ℕ) (f : Forest) → b ≤ b' → Below b f → Below b' f
+pub below_more : (b b' : ℕ) (f : Forest) → b ≤ b' → Below b f → Below b' f
 below_more b b' none h w = tt
 below_more b b' (token i rest) h w = (let x = w.0 in omega arith, below_more b b' rest h w.1)
 below_more b b' (node l first under rest) h w = (let x = w.0 in omega arith, below_more b b' under h w.1, below_more b b' rest h w.2)

@@ -84,7 +84,7 @@ all_hold p none = true
 all_hold p (token i rest) = all_hold p rest
 all_hold p (node l first under rest) = stands p l.production && (is_main_apart l under && all_hold p rest)
 
-all_three : (a b c : Bool) → a ≡ true → b ≡ true → c ≡ true → (a && (b && c)) ≡ true
+pub all_three : (a b c : Bool) → a ≡ true → b ≡ true → c ≡ true → (a && (b && c)) ≡ true
 all_three true true c h k m = m
 all_three true false c h k m = k
 all_three false b c h k m = h

@@ -19,11 +19,7 @@ use Rattle.typedef_laws.proofs.Goes.{After}
 use Rattle.typedef_laws.proofs.Owned.{is_of, Closed, outlined_deaf, inside_deaf, Below}
 use Rattle.typedef_laws.proofs.Twins.{IsPlain, IsInner, scope_kind}
 use Rattle.typedef_laws.proofs.Handing.{listed}
-
-pub below_more : (b b' : ℕ) (f : Forest) → b ≤ b' → Below b f → Below b' f
-below_more b b' none h w = tt
-below_more b b' (token i rest) h w = (let x = w.0 in omega arith, below_more b b' rest h w.1)
-below_more b b' (node l first under rest) h w = (let x = w.0 in omega arith, below_more b b' under h w.1, below_more b b' rest h w.2)
+use Rattle.typedef_laws.proofs.Listed.{below_more}
 
 below_leaf : (b : ℕ) (f : Forest) (i : ℕ) → Below b f → i < b → Below b (put f (leaf i))
 below_leaf b none i w h = (h, tt)
@@ -70,7 +66,7 @@ given_length count names (h ∷ heads) = by (h.scopes_open == count) (given_leng
     by true e = refl
     by false e = omega (arith, e)
 
-declared_heads : (n : Names) (i : Option ℕ) (t : Bool) → (with_declared n i t).heads ≡ n.heads
+pub declared_heads : (n : Names) (i : Option ℕ) (t : Bool) → (with_declared n i t).heads ≡ n.heads
 declared_heads n None t = refl
 declared_heads n (Some i) t = refl
 

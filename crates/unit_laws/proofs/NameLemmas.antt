@@ -26,7 +26,7 @@ spelled_fits t h = (and_parts (fits t.kind t.text) (nat_lt t.line (2 ^ 64)) h).0
 
 -- ---- a token of the list
 
-only_one : (t piece : Token) (k : ℕ) → slice_get (t ∷ []) k ≡ Some piece → t ≡ piece
+pub only_one : (t piece : Token) (k : ℕ) → slice_get (t ∷ []) k ≡ Some piece → t ≡ piece
 only_one t piece zero e = same_Some t piece e
 only_one t piece (suc k) e = absurd (none-some piece e)
 
@@ -54,7 +54,7 @@ numbers_whole files table text has = record {
 
 -- ---- identifiers
 
-kind_words : (k : Kind) (text : List ℕ) → is_identifier k ≡ true → fits k text ≡ true → list_all is_word text ≡ true
+pub kind_words : (k : Kind) (text : List ℕ) → is_identifier k ≡ true → fits k text ≡ true → list_all is_word text ≡ true
 kind_words Ident text h fit = names_are_words text fit
 kind_words Number text h fit = absurd (cc)
 kind_words Char text h fit = absurd (cc)
