@@ -13,14 +13,14 @@ use Rattle.ws_core.specs.Below.source_files.Files.{source_of}
 use Rattle.ws_core.specs.Below.source_files.Tables.{HasEachOnce}
 use Rattle.ws_core.specs.Analysis.{AnalysisValue, analysis_of}
 use Rattle.ws_core.specs.Classes.{AreItsClasses}
-use Rattle.kept_meaning_laws.proofs.Below.analysis_laws.ReadLemmas.{unit_files_opened}
-use Rattle.kept_meaning_laws.specs.Below.rename_rules.Renaming.{IsRenaming}
-use Rattle.kept_meaning_laws.specs.EditedSource.{AreRespelled}
-use Rattle.kept_meaning_laws.specs.Plans.{AreMade}
-use Rattle.kept_meaning_laws.specs.RenamedSource.{IsAccepted}
-use Rattle.kept_meaning_laws.specs.Below.renamed.Renamed.{AnalysisIsRenamed}
-use Rattle.kept_meaning_laws.proofs.PlanLemmas.{IsPlan, is_plan, plan_respells, plan_accepted}
-use Rattle.kept_meaning_laws.proofs.TextLemmas.{respelled_files_have_renamed_texts, respelled_files_have_renamed_analysis, respelled_files_keep_external_names}
+use Rattle.rename_edit.proofs.Below.analysis_laws.ReadLemmas.{unit_files_opened}
+use Rattle.rename_edit.specs.Below.rename_rules.Renaming.{IsRenaming}
+use Rattle.rename_edit.specs.Below.kept_meaning_laws.EditedSource.{AreRespelled}
+use Rattle.rename_edit.specs.Below.kept_meaning_laws.Plans.{AreMade}
+use Rattle.rename_edit.specs.Below.kept_meaning_laws.RenamedSource.{IsAccepted}
+use Rattle.rename_edit.specs.Below.renamed.Renamed.{AnalysisIsRenamed}
+use Rattle.rename_edit.proofs.Below.kept_meaning_laws.PlanLemmas.{IsPlan, is_plan, plan_respells, plan_accepted}
+use Rattle.rename_edit.proofs.Below.kept_meaning_laws.TextLemmas.{respelled_files_have_renamed_texts, respelled_files_have_renamed_analysis, respelled_files_keep_external_names}
 use Rattle.batch_run.specs.Renamed.{Renamed, IsRenamed}
 
 -- the class that is renamed

@@ -21,7 +21,7 @@ use Rattle.ws_core.specs.Below.include_tree.Unit.{unit_outcome}
 use Rattle.ws_core.proofs.Below.include_tree.StayLemmas.{Stays}
 use Rattle.ws_core.specs.Analysis.{UnitsValue, AnalysisValue, analysis_and, with_unit, unit_read, analysed_from, analysis_of}
 use Rattle.ws_core.specs.Texts.{UnitFault, unit_fault, unit_with}
-use Rattle.kept_meaning_laws.proofs.Below.analysis_laws.MadeLemmas.{ok_holds, done_first, unmapped}
+use Rattle.rename_edit.proofs.Below.analysis_laws.MadeLemmas.{ok_holds, done_first, unmapped}
 use Rattle.batch_run.specs.Keeping.{file_of, kept_files}
 use Rattle.batch_run.proofs.SettledTables.{IsSettled, AreSettled}
 use Rattle.batch_run.proofs.SettledWalk.{unit_settles}

@@ -11,9 +11,9 @@ use Rattle.ws_file.specs.Workspace.{WorkspaceValue}
 use Rattle.ws_core.specs.Below.source_files.Files.{source_of}
 use Rattle.ws_core.specs.Analysis.{AnalysisValue, analysis_of}
 use Rattle.ws_core.specs.Texts.{UnitFault}
-use Rattle.kept_meaning_laws.specs.Below.renamed.Renamed.{renamed_analysis, renaming_of}
-use Rattle.kept_meaning_laws.specs.Below.part_respell.Respelled.{respelled}
-use Rattle.kept_meaning_laws.specs.Below.rename_rules.Renaming.{Refusal, bad_name, no_name, refused, IsRenaming}
+use Rattle.rename_edit.specs.Below.renamed.Renamed.{renamed_analysis, renaming_of}
+use Rattle.rename_edit.specs.Below.part_respell.Respelled.{respelled}
+use Rattle.rename_edit.specs.Below.rename_rules.Renaming.{Refusal, bad_name, no_name, refused, IsRenaming}
 use Rattle.rename_edit.specs.Refusals.{refusal_of}
 use Rattle.rename_edit.specs.declared.refusals.RenameRefusal.{RenameRefusal}
 use Rattle.rename_edit.specs.declared.refusals.RenameRefusal.TheVariants.{BadName, NoName, Offence, Memory}

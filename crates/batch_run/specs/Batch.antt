@@ -8,7 +8,7 @@ use Rattle.edited_files.specs.Edited.{with_each}
 use Rattle.ws_file.specs.Workspace.{WorkspaceValue}
 use Rattle.ws_core.specs.Below.source_files.Files.{source_of}
 use Rattle.ws_core.specs.Analysis.{AnalysisValue, analysis_of}
-use Rattle.kept_meaning_laws.specs.Below.rename_rules.Renaming.{Refusal, bad_name, no_name, refused, IsRenaming}
+use Rattle.rename_edit.specs.Below.rename_rules.Renaming.{Refusal, bad_name, no_name, refused, IsRenaming}
 
 -- the answer to a line: the edits of its renaming, or why it is refused
 abbrev pub Plan : Type 0

@@ -12,11 +12,11 @@ use Rattle.ws_core.specs.Below.source_files.KeptFiles.{KeptValue}
 use Rattle.ws_core.specs.Analysis.{AnalysisValue, analysis_of}
 use Rattle.ws_core.specs.Naming.{Names}
 use Rattle.ws_core.specs.Parts.{AreMembers}
-use Rattle.kept_meaning_laws.specs.Below.analysis_laws.Tables.{IsOpened}
-use Rattle.kept_meaning_laws.specs.Below.rename_rules.First.{IsFirst, offences_of}
-use Rattle.kept_meaning_laws.specs.Below.rename_rules.Runs.{new_bytes}
-use Rattle.kept_meaning_laws.specs.EditedSource.{HoldsMembers}
-use Rattle.kept_meaning_laws.specs.Below.renamed.Renamed.{TextsAreRenamed, AnalysisIsRenamed, ExternalNamesAreKept}
+use Rattle.rename_edit.specs.Below.analysis_laws.Tables.{IsOpened}
+use Rattle.rename_edit.specs.Below.rename_rules.First.{IsFirst, offences_of}
+use Rattle.rename_edit.specs.Below.rename_rules.Runs.{new_bytes}
+use Rattle.rename_edit.specs.Below.kept_meaning_laws.EditedSource.{HoldsMembers}
+use Rattle.rename_edit.specs.Below.renamed.Renamed.{TextsAreRenamed, AnalysisIsRenamed, ExternalNamesAreKept}
 use Rattle.batch_run.specs.Batch.{Plan, after}
 
 -- What a class is renamed in: the analysis of the workspace, the part at the place, and the members of its class.

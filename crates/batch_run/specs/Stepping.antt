@@ -9,7 +9,7 @@ use Rattle.ws_core.specs.Below.source_files.Files.{source_of}
 use Rattle.ws_core.specs.Analysis.{AnalysisValue, analysis_of}
 use Rattle.rename_edit.specs.declared.refusals.RenameRefusal.{RenameRefusal}
 use Rattle.rename_edit.specs.declared.refusals.RenameRefusal.TheVariants.{BadName, NoName, Offence, Memory}
-use Rattle.kept_meaning_laws.specs.Below.rename_rules.Renaming.{bad_name, no_name, refused}
+use Rattle.rename_edit.specs.Below.rename_rules.Renaming.{bad_name, no_name, refused}
 use Rattle.batch_run.specs.declared.stepping.Batching.{Batching}
 use Rattle.batch_run.specs.Batch.{Plan, IsLine, IsBatch, after, after_each, plan_text, is_refused}
 use Rattle.batch_run.specs.Renamed.{KeepsLine, KeepsLines}

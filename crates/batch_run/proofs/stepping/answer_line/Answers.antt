@@ -1,6 +1,6 @@
 use Rattle.std.proofs.Common.{true, Some, None, Ok, Err, refl}
 use Rattle.ws_core.specs.Analysis.{AnalysisValue}
-use Rattle.kept_meaning_laws.specs.Below.rename_rules.Renaming.{IsRenaming}
+use Rattle.rename_edit.specs.Below.rename_rules.Renaming.{IsRenaming}
 use Rattle.rename_edit.specs.Refusals.{refusal_of}
 use Rattle.batch_run.specs.declared.stepping.Batching.{Batching}
 use Rattle.batch_run.proofs.RenamedLemmas.{IsPlanned}
