@@ -7,13 +7,18 @@ use Rattle.command_words.specs.declared.requests.Finding.{Finding}
 use Rattle.command_words.specs.declared.requests.NamedClass.{NamedClass}
 use Rattle.command_words.specs.declared.requests.Rename.{Rename}
 use Rattle.command_words.specs.declared.requests.Request.{Request}
-use Rattle.command_words.specs.declared.requests.Request.TheVariants.{Help, Version, Renaming, Tokens, Skipped, Class, Unused, Includes, Calls, Batch, Find, Generated}
+use Rattle.command_words.specs.declared.requests.Reordering.{Reordering}
+use Rattle.command_words.specs.declared.requests.Request.TheVariants.{Help, Version, Renaming, Template, Tokens, Skipped, Class, Unused, Includes, Calls, Batch, Find, Generated}
 use Rattle.command_words.specs.declared.requests.UnitTokens.{UnitTokens}
-use Rattle.command_words.specs.Request.{RenameValue, rename, TokensValue, tokens_of_unit, ClassValue, class_at, BatchValue, batch_in, FindValue, finding, RequestValue, help_asked, version_asked, renaming_asked, tokens_asked, skipped_asked, class_asked, unused_asked, includes_asked, calls_asked, batch_asked, find_asked, generated_asked}
+use Rattle.command_words.specs.Request.{RenameValue, rename, TemplateValue, template_at, order_of, TokensValue, tokens_of_unit, ClassValue, class_at, BatchValue, batch_in, FindValue, finding, RequestValue, help_asked, version_asked, renaming_asked, template_asked, tokens_asked, skipped_asked, class_asked, unused_asked, includes_asked, calls_asked, batch_asked, find_asked, generated_asked}
 
 -- a rename in words, its path in its normal form
 abbrev pub rename_value : Rename → RenameValue
 rename_value r = rename r.ws.now (normal_path_of r.path.now) r.line r.column r.name.now
+
+-- a new order of parameters in words, its path in its normal form
+abbrev pub template_value : Reordering → TemplateValue
+template_value t = template_at t.ws.now (normal_path_of t.path.now) t.line t.column (order_of t.order.now)
 
 -- a report on the tokens of a unit, in words
 abbrev pub tokens_value : UnitTokens → TokensValue
@@ -36,6 +41,7 @@ abbrev pub request_value : Request → RequestValue
 request_value Help = help_asked
 request_value Version = version_asked
 request_value (Renaming r) = renaming_asked (rename_value r)
+request_value (Template t) = template_asked (template_value t)
 request_value (Tokens q) = tokens_asked (tokens_value q)
 request_value (Skipped ws) = skipped_asked ws.now
 request_value (Class q) = class_asked (class_value q)
@@ -51,6 +57,7 @@ abbrev pub workspace_file : Request → List ℕ
 workspace_file Help = []
 workspace_file Version = []
 workspace_file (Renaming r) = r.ws.now
+workspace_file (Template t) = t.ws.now
 workspace_file (Tokens q) = q.ws.now
 workspace_file (Skipped ws) = ws.now
 workspace_file (Class q) = q.ws.now

@@ -1,7 +1,7 @@
 -- What the words after the program's name ask for.
-use Rattle.std.specs.Prelude.{ℕ, ◌+◌, ◌-◌, ◌*◌, Bool, false, ◌&&◌, ◌==◌, not, List, [], ◌∷◌, Option, None, Some, codes, fold, length, bytes_eq, nat_le, nat_lt, if◌then◌else◌}
+use Rattle.std.specs.Prelude.{ℕ, ◌+◌, ◌-◌, ◌*◌, Bool, false, ◌&&◌, ◌==◌, not, List, [], ◌∷◌, Option, None, Some, codes, fold, length, map, bytes_eq, nat_le, nat_lt, if◌then◌else◌}
 use Rattle.std.specs.Char.{is_ascii_digit}
-use Rattle.std.specs.List.{list_all}
+use Rattle.std.specs.List.{list_all, slice_split}
 use Rattle.std.specs.Str.{byte}
 use Rattle.cs_base.specs.Paths.{normal_path_of}
 
@@ -55,12 +55,25 @@ pub record BatchValue : Type 0 where
 abbrev pub batch_in : List ℕ → List ℕ → BatchValue
 batch_in ws file = record { ws = ws; file = file }
 
+-- A new order of parameters: the workspace file, the place, and the order.
+pub record TemplateValue : Type 0 where
+  pub ws : List ℕ
+  pub path : List ℕ
+  pub line : ℕ
+  pub column : ℕ
+  pub order : List ℕ
+
+-- such an order of these parts
+abbrev pub template_at : List ℕ → List ℕ → ℕ → ℕ → List ℕ → TemplateValue
+template_at ws path line column order = record { ws = ws; path = path; line = line; column = column; order = order }
+
 -- What the program can be asked for. Reports on skipped groups, on unused names, on unneeded include lines and on calls
 -- have a workspace file alone.
 pub data RequestValue : Type 0 where
   help_asked : RequestValue
   version_asked : RequestValue
   renaming_asked : RenameValue → RequestValue
+  template_asked : TemplateValue → RequestValue
   tokens_asked : TokensValue → RequestValue
   skipped_asked : List ℕ → RequestValue
   class_asked : ClassValue → RequestValue
@@ -89,11 +102,26 @@ abbrev pub is_number : List ℕ → Bool
 is_number word =
     are_digits word && not (begins_with_zero word) && nat_lt 0 (length word) && nat_le (length word) 9
 
+-- the number that a word is, and 0 for another word
+abbrev pub number_or_zero : List ℕ → ℕ
+number_or_zero word = if is_number word then number_of word else 0
+
+-- an order in words: numbers joined by commas. What is no number counts as 0, which stands in no order.
+abbrev pub order_of : List ℕ → List ℕ
+order_of word = map number_or_zero (slice_split (λ b. b == byte ",") word)
+
 -- a rename's words: its two numbers are numbers, and the path is taken in its normal form
 abbrev pub rename_of : List ℕ → List ℕ → List ℕ → List ℕ → List ℕ → Option RequestValue
 rename_of ws path line column name =
     if is_number line && is_number column
     then Some (renaming_asked (rename ws (normal_path_of path) (number_of line) (number_of column) name))
+    else None
+
+-- the words of a new order of parameters: as those of a rename, and an order
+abbrev pub template_of : List ℕ → List ℕ → List ℕ → List ℕ → List ℕ → Option RequestValue
+template_of ws path line column order =
+    if is_number line && is_number column
+    then Some (template_asked (template_at ws (normal_path_of path) (number_of line) (number_of column) (order_of order)))
     else None
 
 -- the words of a report on a class: as those of a rename
@@ -147,7 +175,8 @@ place_command_of ws command path line column =
 -- six words: the workspace file and a command
 abbrev pub command_of : List ℕ → List ℕ → List ℕ → List ℕ → List ℕ → List ℕ → Option RequestValue
 command_of ws command path line column name =
-    if bytes_eq command (codes "rename") then rename_of ws path line column name else None
+    if bytes_eq command (codes "rename") then rename_of ws path line column name
+    else (if bytes_eq command (codes "template") then template_of ws path line column name else None)
 
 -- the request of these words, or none where they are of no form
 abbrev pub asked : List (List ℕ) → Option RequestValue

@@ -7,6 +7,10 @@ const HELP: &[u8] = b"cscout renames identifiers in C programs, and preprocesses
 cscout WS rename PATH LINE COL NAME
     renames the name at line LINE and column COL of the file PATH, in all files of the
     workspace file WS, to NAME. Prints `edited PATH COUNT` for each file that changes.
+cscout WS template PATH LINE COL ORDER
+    puts the parameters of the function at that place into another order, in all its declarators,
+    and the arguments of its calls. ORDER is numbers joined by commas: place k takes the item of
+    the k-th number. Prints `edited PATH LISTS` for each file that changes.
 cscout WS tokens UNIT
     prints the preprocessing tokens of unit UNIT of the workspace file, one a line
 cscout WS skipped

@@ -12,12 +12,14 @@
 mod help_texts;
 mod lines;
 mod messages;
+mod orders;
 mod requests;
 
 pub use help_texts::{help, version};
 pub use lines::{edited_text, size_text};
 pub use messages::{tell, tell_batch, tell_line, tell_offence, tell_query, tell_unit};
+pub use orders::order_of;
 pub use requests::{
-    BatchFile, Finding, NamedClass, Rename, Request, UnitTokens, asked, is_number, number,
-    workspace_file,
+    BatchFile, Finding, NamedClass, Rename, Reordering, Request, UnitTokens, asked, is_number,
+    number, workspace_file,
 };

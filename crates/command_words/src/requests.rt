@@ -1,7 +1,7 @@
 // What the words after the program's name ask for.
 ghost use Rattle.std.specs.Prelude.{◌≡◌, ◌≤◌, length, map, string_bytes, IsTrue};
 ghost use Rattle.std.specs.Option.{option_map};
-ghost use Rattle.command_words.specs.Request.{asked, alone_of, workspace_command_of, unit_command_of, query_command_of, place_command_of, class_report_of, command_of, rename_of, generated_of, is_number, is_size, are_digits, begins_with_zero, number_of};
+ghost use Rattle.command_words.specs.Request.{asked, alone_of, workspace_command_of, unit_command_of, query_command_of, place_command_of, class_report_of, command_of, rename_of, template_of, generated_of, is_number, is_size, are_digits, begins_with_zero, number_of};
 ghost use Rattle.command_words.specs.Asking.{request_value, workspace_file};
 
 /// A rename in words: the path is as written.
@@ -12,6 +12,16 @@ pub struct Rename<'a> {
     pub line: u32,
     pub column: u32,
     pub name: &'a str,
+}
+
+/// A new order of parameters in words: the path and the order are as written.
+#[derive(Drop)]
+pub struct Reordering<'a> {
+    pub ws: &'a str,
+    pub path: &'a str,
+    pub line: u32,
+    pub column: u32,
+    pub order: &'a str,
 }
 
 /// A report on the tokens of a unit, in words.
@@ -51,6 +61,7 @@ pub enum Request<'a> {
     Help,
     Version,
     Renaming(Rename<'a>),
+    Template(Reordering<'a>),
     Tokens(UnitTokens<'a>),
     Skipped(&'a str),
     Class(NamedClass<'a>),
@@ -204,6 +215,31 @@ fn asked_command<'a>(
 {
     if command == "rename" {
         asked_rename(ws, path, line, column, name)
+    } else if command == "template" {
+        asked_template(ws, path, line, column, name)
+    } else {
+        None
+    }
+}
+
+fn asked_template<'a>(
+    ws: &'a str,
+    path: &'a str,
+    line: &str,
+    column: &str,
+    order: &'a str,
+) -> Option<Request<'a>>
+    ensures { option_map request_value result
+        ≡ template_of ws.now path.now line.now column.now order.now }
+{
+    if is_number(line.as_bytes()) && is_number(column.as_bytes()) {
+        Some(Request::Template(Reordering {
+            ws,
+            path,
+            line: number(line.as_bytes()),
+            column: number(column.as_bytes()),
+            order,
+        }))
     } else {
         None
     }
@@ -284,6 +320,7 @@ pub fn workspace_file<'a>(request: &Request<'a>) -> &'a str
 {
     match request {
         Request::Renaming(rename) => rename.ws,
+        Request::Template(template) => template.ws,
         Request::Tokens(tokens) => tokens.ws,
         Request::Skipped(ws) => ws,
         Request::Class(class) => class.ws,

@@ -18,8 +18,8 @@ use Rattle.ws_core.specs.Analysis.{AnalysisValue}
 use Rattle.ws_core.specs.Naming.{Names}
 use Rattle.ws_core.specs.Parts.{AreMembers, part_cmp}
 use Rattle.ws_core.proofs.ListingLemmas.{part_cmp-total}
-use Rattle.batch_run.specs.Below.rename_rules.First.{IsAmong, offences_of}
-use Rattle.batch_run.specs.Below.rename_rules.Renaming.{Refusal, IsRenamed, IsClassRenamed, IsNamedRenamed, IsRenaming, bad_name, no_name}
+use Rattle.template_rules.specs.Below.rename_rules.First.{IsAmong, offences_of}
+use Rattle.template_rules.specs.Below.rename_rules.Renaming.{Refusal, IsRenamed, IsClassRenamed, IsNamedRenamed, IsRenaming, bad_name, no_name}
 use Rattle.ws_core.proofs.PartLemmas.{part_once}
 use Rattle.query_report.specs.Below.unused_names.Order.{position_cmp}
 use Rattle.query_report.specs.Below.unused_names.Unneeded.{AreUnneeded}
@@ -177,7 +177,7 @@ ArePlansAlike (Ok es) (Ok fs) = es ≡ fs
 ArePlansAlike (Err r) (Err s) = Unit {0}
 ArePlansAlike _ _ = ⊥
 
-none_stands : {X : Type 0} (xs : List X) (x : X) → xs ≡ [] → IsAmong xs x → ⊥
+pub none_stands : {X : Type 0} (xs : List X) (x : X) → xs ≡ [] → IsAmong xs x → ⊥
 none_stands xs x none at = none-some x (subst (λ ys. slice_get ys at.0 ≡ Some x) none at.1)
 
 renamed_alike : (a : AnalysisValue) (members : List Part) (name : List ℕ) (r s : Result (List Edit) Refusal) → IsRenamed a members name r

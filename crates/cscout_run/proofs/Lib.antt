@@ -9,3 +9,4 @@ pub mod CallsLemmas
 pub mod PlannedLemmas
 pub mod SizeLemmas
 pub mod FindLemmas
+pub mod TemplateLemmas

@@ -9,7 +9,7 @@ use Rattle.ws_core.specs.Below.source_files.Files.{source_of}
 use Rattle.ws_core.specs.Below.source_files.Tables.{HasEachOnce}
 use Rattle.ws_core.specs.Analysis.{AnalysisValue, analysis_of}
 use Rattle.ws_core.specs.Classes.{AreItsClasses}
-use Rattle.batch_run.specs.Below.rename_rules.Renaming.{IsRenaming}
+use Rattle.template_rules.specs.Below.rename_rules.Renaming.{IsRenaming}
 use Rattle.command_words.specs.Request.{RenameValue}
 use Rattle.cscout_run.specs.Steps.{IsPlanned, ReadsWorkspace}
 use Rattle.cscout_run.specs.declared.preparing.Ready.{Ready}

@@ -7,7 +7,7 @@ use Rattle.cs_base.specs.Outside.{FileMap}
 use Rattle.batch_file.specs.Line.{LineValue, line_value}
 use Rattle.batch_run.proofs.RenamedLemmas.{IsPlanned, rename_is_kept}
 use Rattle.command_words.proofs.MessageLemmas.{message_there}
-use Rattle.command_words.specs.Request.{RequestValue, RenameValue, BatchValue, asked, help_asked, version_asked, renaming_asked, tokens_asked, skipped_asked, class_asked, unused_asked, includes_asked, calls_asked, find_asked, batch_asked, generated_asked}
+use Rattle.command_words.specs.Request.{RequestValue, RenameValue, BatchValue, asked, help_asked, version_asked, renaming_asked, template_asked, tokens_asked, skipped_asked, class_asked, unused_asked, includes_asked, calls_asked, find_asked, batch_asked, generated_asked}
 use Rattle.ws_file.specs.Workspace.{WorkspaceValue}
 use Rattle.ws_file.specs.Reading.{WsFault}
 use Rattle.ws_core.specs.Below.source_files.Files.{source_of}
@@ -76,6 +76,7 @@ promise_at (find_asked q) before ready p = tt
 promise_at (batch_asked q) before ready p = has_run q before ready.edits p
 promise_at (generated_asked n) before ready p = tt
 promise_at (renaming_asked q) before ready p = kept q before ready.edits p
+promise_at (template_asked q) before ready p = tt
 
 -- the promise where a run is done is one where it is refused
 refused_at : (request : RequestValue) (before now : FileMap) → KeepsPromise (Some request) before now → KeepsRefused (Some request) before now
@@ -91,6 +92,7 @@ refused_at (find_asked q) before now p = tt
 refused_at (batch_asked q) before now p = λ lines read. p
 refused_at (generated_asked n) before now p = tt
 refused_at (renaming_asked q) before now p = tt
+refused_at (template_asked q) before now p = tt
 
 -- where the files held are told, the promise is kept
 pub promise-told : (o now : Option FileMap) (request : RequestValue) (words : List (List ℕ)) (ready : Ready) → asked words ≡ Some request
@@ -146,6 +148,8 @@ line_there ws (stop.BadBatch line) e = message_there _ e
 line_there ws stop.NoUnit e = message_there _ e
 line_there ws stop.BadName e = message_there _ e
 line_there ws stop.NoName e = message_there _ e
+line_there ws stop.NotAFunction e = message_there _ e
+line_there ws stop.BadOrder e = message_there _ e
 line_there ws (stop.BadQuery at) e = message_there _ e
 line_there ws (stop.DeepQuery at) e = message_there _ e
 line_there ws (stop.Offence place cause) e = message_there _ e
@@ -168,6 +172,10 @@ refused-stop fs q ws lines stop.BadName batch is p =
     line_there ws stop.BadName (refused-ws fs q lines (line_of ws stop.BadName) (workspace_at q.ws fs) batch p)
 refused-stop fs q ws lines stop.NoName batch is p =
     line_there ws stop.NoName (refused-ws fs q lines (line_of ws stop.NoName) (workspace_at q.ws fs) batch p)
+refused-stop fs q ws lines stop.NotAFunction batch is p =
+    line_there ws stop.NotAFunction (refused-ws fs q lines (line_of ws stop.NotAFunction) (workspace_at q.ws fs) batch p)
+refused-stop fs q ws lines stop.BadOrder batch is p =
+    line_there ws stop.BadOrder (refused-ws fs q lines (line_of ws stop.BadOrder) (workspace_at q.ws fs) batch p)
 refused-stop fs q ws lines (stop.BadQuery at) batch is p =
     line_there ws (stop.BadQuery at) (refused-ws fs q lines (line_of ws (stop.BadQuery at)) (workspace_at q.ws fs) batch p)
 refused-stop fs q ws lines (stop.DeepQuery at) batch is p =
@@ -181,6 +189,7 @@ stopped_at : (request : RequestValue) (ws : List ℕ) (before now : FileMap) (en
 stopped_at help_asked ws before now end stops is = tt
 stopped_at version_asked ws before now end stops is = tt
 stopped_at (renaming_asked q) ws before now end stops is = tt
+stopped_at (template_asked q) ws before now end stops is = tt
 stopped_at (tokens_asked q) ws before now end stops is = tt
 stopped_at (skipped_asked ws') ws before now end stops is = tt
 stopped_at (class_asked q) ws before now end stops is = tt

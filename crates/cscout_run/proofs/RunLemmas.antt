@@ -13,7 +13,7 @@ use Rattle.ws_core.specs.ClassReport.{IsClassReport, PrintsClass, part_lines}
 use Rattle.ws_core.specs.Parts.{AreMembers}
 use Rattle.cs_base.specs.declared.positions.Part.{Part}
 use Rattle.std.proofs.lemmas.Option.{same_Some}
-use Rattle.batch_run.specs.Below.rename_rules.Renaming.{Refusal}
+use Rattle.template_rules.specs.Below.rename_rules.Renaming.{Refusal}
 use Rattle.query_words.specs.Queries.{Query as FoundQuery}
 use Rattle.query_words.specs.Reading.{parsed}
 use Rattle.query_words.specs.declared.faults.QueryFault.{QueryFault}
@@ -26,8 +26,10 @@ use Rattle.cscout_run.specs.declared.status.Status.{Status}
 use Rattle.cscout_run.specs.declared.status.Status.TheVariants.{Done, Refused, Usage, Workspace, ReadFault, WriteFault, Memory}
 use Rattle.cscout_run.specs.declared.stops.Stop.{Stop}
 use Rattle.cscout_run.specs.declared.stops.Stop.TheVariants as stop
-use Rattle.command_words.specs.Request.{RequestValue, RenameValue, ClassValue, FindValue, help_asked, version_asked, renaming_asked, tokens_asked, skipped_asked, class_asked, unused_asked, includes_asked, calls_asked, find_asked, batch_asked, asked, generated_asked}
-use Rattle.cscout_run.specs.Answer.{Answer, IsAnswer, IsAnswerTo, IsRequestAnswer, IsClassAnswer, IsListAnswer, IsCallsAnswer, IsFindAnswer, IsFindReport, IsRenameAnswer, IsOverWorkspace, IsBatchAnswer, answer_of, batch_at, class_answer, ready_status, renaming_answer, shown, stopped, workspace_at, IsSizeAnswer, size_answer}
+use Rattle.command_words.specs.Request.{RequestValue, RenameValue, TemplateValue, ClassValue, FindValue, help_asked, version_asked, renaming_asked, template_asked, tokens_asked, skipped_asked, class_asked, unused_asked, includes_asked, calls_asked, find_asked, batch_asked, asked, generated_asked}
+use Rattle.cscout_run.specs.Answer.{Answer, IsAnswer, IsAnswerTo, IsRequestAnswer, IsClassAnswer, IsListAnswer, IsCallsAnswer, IsFindAnswer, IsFindReport, IsRenameAnswer, IsTemplateAnswer, IsOverWorkspace, IsBatchAnswer, answer_of, batch_at, class_answer, ready_status, renaming_answer, shown, stopped, workspace_at, IsSizeAnswer, size_answer, template_answer}
+use Rattle.template_rules.specs.Template.{Refusal as TemplateRefused}
+use Rattle.cscout_run.proofs.TemplateLemmas.{AreOrdersAlike, templates_alike}
 use Rattle.command_words.specs.Message.{usage_line}
 use Rattle.cscout_run.specs.Outcome.{World, told_in, GoesOn, StatusIs, HasCauses, IsComplete, IsDone, NoneRose, ShowsAnswer, Tells, FailedPut, Unmoved}
 use Rattle.cscout_run.specs.Steps.{Prepares}
@@ -147,6 +149,22 @@ rename-alike q (Ok value) a b p p' =
     planned-alike p.0 p'.0 a b (renamings_alike value q.path q.line q.column q.name p.0 p'.0 p.1 p'.1) p.2 p'.2
 rename-alike q (Err fault) a b p p' = same-answer _ a b p p'
 
+ordered-alike : (r s : Result (List Edit) TemplateRefused) (a b : Answer) → AreOrdersAlike r s → template_answer r ≡ a → template_answer s ≡ b → AreAlike a b
+ordered-alike (Ok es) (Ok fs) a b alike is is' =
+    same-answer (template_answer (Ok es)) a b is (ap (λ (edits : List Edit). template_answer (Ok edits)) alike ∙ is')
+ordered-alike (Err r) (Err s) a b alike is is' = record {
+  status = sym (ap (λ (c : Answer). c.status) is) ∙ ap (λ (c : Answer). c.status) is';
+  same = λ other. absurd (other (sym (ap (λ (c : Answer). c.status) is)));
+}
+ordered-alike (Ok es) (Err s) a b alike is is' = absurd alike
+ordered-alike (Err r) (Ok fs) a b alike is is' = absurd alike
+
+template-alike : (q : TemplateValue) (analysed : Result AnalysisValue UnitFault) (a b : Answer) → IsTemplateAnswer q analysed a
+    → IsTemplateAnswer q analysed b → AreAlike a b
+template-alike q (Ok value) a b p p' =
+    ordered-alike p.0 p'.0 a b (templates_alike value q.path q.line q.column q.order p.0 p'.0 p.1 p'.1) p.2 p'.2
+template-alike q (Err fault) a b p p' = same-answer _ a b p p'
+
 over-alike : (ws : List ℕ) (IsNext : WorkspaceValue → Answer → Type 0) (read : Option (Result WorkspaceValue WsFault)) (a b : Answer)
     → ((w : WorkspaceValue) → IsNext w a → IsNext w b → AreAlike a b) → IsOverWorkspace ws IsNext read a
     → IsOverWorkspace ws IsNext read b → AreAlike a b
@@ -178,6 +196,9 @@ request-alike files (Some version_asked) a b p p' = same-answer _ a b p p'
 request-alike files (Some (renaming_asked q)) a b p p' =
     over-alike q.ws (λ w. IsRenameAnswer q (analysis_of (source_of files) w)) (workspace_at q.ws files) a b
     (λ w. rename-alike q (analysis_of (source_of files) w) a b) p p'
+request-alike files (Some (template_asked q)) a b p p' =
+    over-alike q.ws (λ w. IsTemplateAnswer q (analysis_of (source_of files) w)) (workspace_at q.ws files) a b
+    (λ w. template-alike q (analysis_of (source_of files) w) a b) p p'
 request-alike files (Some (tokens_asked q)) a b p p' = same-answer _ a b p p'
 request-alike files (Some (skipped_asked ws)) a b p p' = same-answer _ a b p p'
 request-alike files (Some (class_asked q)) a b p p' =
@@ -224,6 +245,8 @@ stops-map ws P Q (stop.BadBatch line) follows p = follows _ p
 stops-map ws P Q stop.NoUnit follows p = follows _ p
 stops-map ws P Q stop.BadName follows p = follows _ p
 stops-map ws P Q stop.NoName follows p = follows _ p
+stops-map ws P Q stop.NotAFunction follows p = follows _ p
+stops-map ws P Q stop.BadOrder follows p = follows _ p
 stops-map ws P Q (stop.BadQuery at) follows p = follows _ p
 stops-map ws P Q (stop.DeepQuery at) follows p = follows _ p
 stops-map ws P Q (stop.Offence place cause) follows p = follows _ p
@@ -242,6 +265,8 @@ stop-status ws IsOne (stop.BadBatch line) a alike p q = alike a _ q p
 stop-status ws IsOne stop.NoUnit a alike p q = alike a _ q p
 stop-status ws IsOne stop.BadName a alike p q = alike a _ q p
 stop-status ws IsOne stop.NoName a alike p q = alike a _ q p
+stop-status ws IsOne stop.NotAFunction a alike p q = alike a _ q p
+stop-status ws IsOne stop.BadOrder a alike p q = alike a _ q p
 stop-status ws IsOne (stop.BadQuery at) a alike p q = alike a _ q p
 stop-status ws IsOne (stop.DeepQuery at) a alike p q = alike a _ q p
 stop-status ws IsOne (stop.Offence place cause) a alike p q = alike a _ q p
@@ -273,6 +298,8 @@ stop-shows ws IsOne (stop.BadBatch line) before now p unmoved told reads = (_, p
 stop-shows ws IsOne stop.NoUnit before now p unmoved told reads = (_, p, record { status = refl; leaves = nothing_done before now unmoved; says = told })
 stop-shows ws IsOne stop.BadName before now p unmoved told reads = (_, p, record { status = refl; leaves = nothing_done before now unmoved; says = told })
 stop-shows ws IsOne stop.NoName before now p unmoved told reads = (_, p, record { status = refl; leaves = nothing_done before now unmoved; says = told })
+stop-shows ws IsOne stop.NotAFunction before now p unmoved told reads = (_, p, record { status = refl; leaves = nothing_done before now unmoved; says = told })
+stop-shows ws IsOne stop.BadOrder before now p unmoved told reads = (_, p, record { status = refl; leaves = nothing_done before now unmoved; says = told })
 stop-shows ws IsOne (stop.BadQuery at) before now p unmoved told reads = (_, p, record { status = refl; leaves = nothing_done before now unmoved; says = told })
 stop-shows ws IsOne (stop.DeepQuery at) before now p unmoved told reads = (_, p, record { status = refl; leaves = nothing_done before now unmoved; says = told })
 stop-shows ws IsOne (stop.Offence place cause) before now p unmoved told reads = (_, p, record { status = refl; leaves = nothing_done before now unmoved; says = told })
@@ -377,6 +404,8 @@ stop-causes ws (stop.BadBatch line) before now reads puts outs = quiet-causes be
 stop-causes ws stop.NoUnit before now reads puts outs = quiet-causes before now Refused (reads_stay before now reads) puts outs (λ e. cc) (λ e. cc)
 stop-causes ws stop.BadName before now reads puts outs = quiet-causes before now Refused (reads_stay before now reads) puts outs (λ e. cc) (λ e. cc)
 stop-causes ws stop.NoName before now reads puts outs = quiet-causes before now Refused (reads_stay before now reads) puts outs (λ e. cc) (λ e. cc)
+stop-causes ws stop.NotAFunction before now reads puts outs = quiet-causes before now Refused (reads_stay before now reads) puts outs (λ e. cc) (λ e. cc)
+stop-causes ws stop.BadOrder before now reads puts outs = quiet-causes before now Refused (reads_stay before now reads) puts outs (λ e. cc) (λ e. cc)
 stop-causes ws (stop.BadQuery at) before now reads puts outs = quiet-causes before now Refused (reads_stay before now reads) puts outs (λ e. cc) (λ e. cc)
 stop-causes ws (stop.DeepQuery at) before now reads puts outs = quiet-causes before now Refused (reads_stay before now reads) puts outs (λ e. cc) (λ e. cc)
 stop-causes ws (stop.Offence place cause) before now reads puts outs = quiet-causes before now Refused (reads_stay before now reads) puts outs (λ e. cc) (λ e. cc)
@@ -437,6 +466,8 @@ stop-not_done (stop.BadBatch line) e = cc
 stop-not_done stop.NoUnit e = cc
 stop-not_done stop.BadName e = cc
 stop-not_done stop.NoName e = cc
+stop-not_done stop.NotAFunction e = cc
+stop-not_done stop.BadOrder e = cc
 stop-not_done (stop.BadQuery at) e = cc
 stop-not_done (stop.DeepQuery at) e = cc
 stop-not_done (stop.Offence place cause) e = cc

@@ -50,6 +50,8 @@ places_in-drop edits k count below n = rw add-one (places_in-suc edits k count b
 pub plan-quiet : (end : Stop) → IsPlanStop end → IsQuiet end
 plan-quiet stop.BadName p = tt
 plan-quiet stop.NoName p = tt
+plan-quiet stop.NotAFunction p = tt
+plan-quiet stop.BadOrder p = tt
 plan-quiet (stop.BadQuery at) p = tt
 plan-quiet (stop.DeepQuery at) p = tt
 plan-quiet (stop.Offence place cause) p = tt

@@ -24,14 +24,16 @@ use Rattle.query_words.specs.Reading.{parsed}
 use Rattle.query_words.specs.declared.faults.QueryFault.{QueryFault}
 use Rattle.query_words.specs.declared.faults.QueryFault.TheVariants.{Bad, Deep}
 use Rattle.find_names.specs.Found.{PrintsFound}
-use Rattle.batch_run.specs.Below.rename_rules.Renaming.{Refusal, bad_name, no_name, refused, IsRenaming}
+use Rattle.template_rules.specs.Below.rename_rules.Renaming.{Refusal, bad_name, no_name, refused, IsRenaming}
 use Rattle.batch_file.specs.Line.{LineValue}
 use Rattle.batch_file.specs.Reading.{batch_of}
 use Rattle.batch_run.specs.Batch.{Plan, IsBatch, after_each, plan_text, is_refused}
+use Rattle.template_rules.specs.Template.{IsTemplate, Refusal as TemplateRefused}
+use Rattle.template_rules.specs.Template as template
 use Rattle.generated.specs.Generated.{header_path, workspace_path, generated_files}
 use Rattle.cscout_run.specs.declared.status.Status.{Status}
 use Rattle.cscout_run.specs.declared.status.Status.TheVariants.{Done, Refused, Usage, Workspace}
-use Rattle.command_words.specs.Request.{RequestValue, help_asked, version_asked, renaming_asked, tokens_asked, skipped_asked, class_asked, unused_asked, includes_asked, calls_asked, find_asked, batch_asked, RenameValue, TokensValue, ClassValue, FindValue, BatchValue, asked, generated_asked}
+use Rattle.command_words.specs.Request.{RequestValue, help_asked, version_asked, renaming_asked, template_asked, tokens_asked, skipped_asked, class_asked, unused_asked, includes_asked, calls_asked, find_asked, batch_asked, RenameValue, TemplateValue, TokensValue, ClassValue, FindValue, BatchValue, asked, generated_asked}
 use Rattle.command_words.specs.Message.{usage_line, absent_line, ws_line, unit_line, refused_line, batch_line, offence_line, query_line, edited_lines, size_line}
 use Rattle.command_words.specs.Help.{help_text, version_text}
 
@@ -196,6 +198,26 @@ IsBatchAnswer files w None a = stopped Refused (batch_line 0) ≡ a
 IsBatchAnswer files w (Some (Ok lines)) a = IsLinesAnswer files w lines (analysis_of (source_of files) w) a
 IsBatchAnswer files w (Some (Err line)) a = stopped Refused (batch_line line) ≡ a
 
+-- ---- `template`
+
+-- a refused order
+abbrev pub template_line : TemplateRefused → List ℕ
+template_line template.no_name = refused_line (codes "no name")
+template_line template.not_a_function = refused_line (codes "not a function")
+template_line template.bad_order = refused_line (codes "bad order")
+template_line (template.refused place cause) = offence_line place cause
+
+-- an order that is planned
+abbrev pub template_answer : Result (List Edit) TemplateRefused → Answer
+template_answer (Ok edits) = answer_of Done (edited_lines edits) [] edits
+template_answer (Err refusal) = stopped Refused (template_line refusal)
+
+-- The same for a new order of the parameters of the functions that a place names.
+abbrev pub IsTemplateAnswer : TemplateValue → Result AnalysisValue units.UnitFault → Answer → Type 0
+IsTemplateAnswer q (Ok value) a =
+    (planned : Result (List Edit) TemplateRefused) × IsTemplate value q.path q.line q.column q.order planned × (template_answer planned ≡ a)
+IsTemplateAnswer q (Err fault) a = stopped Workspace (text_fault_line fault) ≡ a
+
 -- ---- `generate`
 
 -- the places that all edits change together
@@ -243,6 +265,8 @@ IsRequestAnswer files help_asked a = shown help_text ≡ a
 IsRequestAnswer files version_asked a = shown version_text ≡ a
 IsRequestAnswer files (renaming_asked q) a =
     IsOverWorkspace q.ws (λ w. IsRenameAnswer q (analysis_of (source_of files) w)) (workspace_at q.ws files) a
+IsRequestAnswer files (template_asked q) a =
+    IsOverWorkspace q.ws (λ w. IsTemplateAnswer q (analysis_of (source_of files) w)) (workspace_at q.ws files) a
 IsRequestAnswer files (tokens_asked q) a = tokens_answer q files ≡ a
 IsRequestAnswer files (skipped_asked ws) a = skipped_answer ws files ≡ a
 IsRequestAnswer files (class_asked q) a =

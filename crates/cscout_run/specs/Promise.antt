@@ -12,8 +12,8 @@ use Rattle.ws_core.specs.Analysis.{AnalysisValue, analysis_of}
 use Rattle.ws_core.specs.Naming.{Names}
 use Rattle.ws_core.specs.Parts.{AreMembers}
 use Rattle.batch_run.specs.Below.analysis_laws.Tables.{IsOpened}
-use Rattle.batch_run.specs.Below.rename_rules.First.{IsAmong, IsFirst, offences_of}
-use Rattle.batch_run.specs.Below.rename_rules.Runs.{runs, file_of, new_bytes}
+use Rattle.template_rules.specs.Below.rename_rules.First.{IsAmong, IsFirst, offences_of}
+use Rattle.template_rules.specs.Below.rename_rules.Runs.{runs, file_of, new_bytes}
 use Rattle.batch_file.specs.Line.{LineValue}
 use Rattle.batch_run.specs.Batch.{Plan, IsBatch, after_each}
 use Rattle.batch_run.specs.Renamed.{KeepsLines}

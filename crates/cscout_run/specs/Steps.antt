@@ -13,14 +13,16 @@ use Rattle.ws_core.specs.declared.analyse_fault.AnalyseFault.{AnalyseFault}
 use Rattle.ws_core.specs.declared.analyse_fault.AnalyseFault.TheVariants as fault
 use Rattle.cscout_run.specs.declared.status.Status.TheVariants as status
 use Rattle.cscout_run.specs.declared.stops.Stop.{Stop}
-use Rattle.cscout_run.specs.declared.stops.Stop.TheVariants.{UnreadWorkspace, UnitFault, UnreadFile, BadName, NoName, BadQuery, DeepQuery, Offence, Memory}
+use Rattle.cscout_run.specs.declared.stops.Stop.TheVariants.{UnreadWorkspace, UnitFault, UnreadFile, BadName, NoName, NotAFunction, BadOrder, BadQuery, DeepQuery, Offence, Memory}
 use Rattle.cscout_run.specs.declared.preparing.Ready.{Ready}
-use Rattle.batch_run.specs.Below.rename_rules.Renaming.{IsRenaming}
+use Rattle.template_rules.specs.Below.rename_rules.Renaming.{IsRenaming}
 use Rattle.batch_file.specs.Line.{LineValue}
 use Rattle.batch_run.specs.Batch.{Plan, IsBatch, after_each}
 use Rattle.batch_run.specs.Below.rename_edit.declared.refusals.RenameRefusal.{RenameRefusal}
 use Rattle.batch_run.specs.Below.rename_edit.declared.refusals.RenameRefusal.TheVariants as refusal
 use Rattle.batch_run.specs.Renamed.{KeepsLines}
+use Rattle.template_rules.specs.declared.refusals.TemplateRefusal.{TemplateRefusal}
+use Rattle.template_rules.specs.declared.refusals.TemplateRefusal.TheVariants as template
 use Rattle.find_names.specs.declared.refusal.FindRefusal.{FindRefusal}
 use Rattle.find_names.specs.declared.refusal.FindRefusal.TheVariants as found
 use Rattle.command_words.specs.Request.{RequestValue, RenameValue, BatchValue, renaming_asked, batch_asked}
@@ -73,6 +75,14 @@ abbrev pub find_stop : FindRefusal → Stop
 find_stop (found.BadQuery at) = BadQuery at
 find_stop (found.TooDeep at) = DeepQuery at
 find_stop found.Memory = Memory
+
+-- why an order is refused, as an early end
+abbrev pub template_stop : TemplateRefusal → Stop
+template_stop template.NoName = NoName
+template_stop template.NotAFunction = NotAFunction
+template_stop template.BadOrder = BadOrder
+template_stop (template.Offence place cause) = Offence place cause
+template_stop template.Memory = Memory
 
 -- what a step says of reads: where it goes on, none failed
 abbrev pub reads_of : {X : Type 0} → List ℕ → Result X Stop → ReadEnd
@@ -130,6 +140,8 @@ IsQuiet _ = Unit {0}
 abbrev pub IsPlanStop : Stop → Type 0
 IsPlanStop BadName = Unit {0}
 IsPlanStop NoName = Unit {0}
+IsPlanStop NotAFunction = Unit {0}
+IsPlanStop BadOrder = Unit {0}
 IsPlanStop (BadQuery at) = Unit {0}
 IsPlanStop (DeepQuery at) = Unit {0}
 IsPlanStop (Offence place cause) = Unit {0}

@@ -4,7 +4,7 @@ use Rattle.cs_base.specs.Outside.{ReadEnd, NoneFailed, FailedAt, MayHaveFailed}
 use Rattle.cscout_run.specs.declared.status.Status.{Status}
 use Rattle.cscout_run.specs.declared.status.Status.TheVariants as status
 use Rattle.cscout_run.specs.declared.stops.Stop.{Stop}
-use Rattle.cscout_run.specs.declared.stops.Stop.TheVariants.{NoWorkspace, BadLine, TooManyUnits, UnreadWorkspace, UnitFault, UnreadFile, BadBatch, NoUnit, BadName, NoName, BadQuery, DeepQuery, Offence, Memory}
+use Rattle.cscout_run.specs.declared.stops.Stop.TheVariants.{NoWorkspace, BadLine, TooManyUnits, UnreadWorkspace, UnitFault, UnreadFile, BadBatch, NoUnit, BadName, NoName, NotAFunction, BadOrder, BadQuery, DeepQuery, Offence, Memory}
 use Rattle.cscout_run.specs.Answer.{Answer, stopped}
 use Rattle.command_words.specs.Message.{absent_line, ws_line, unit_line, refused_line, batch_line, offence_line, query_line, unread_line, memory_line}
 
@@ -20,6 +20,8 @@ status_of (BadBatch line) = status.Refused
 status_of NoUnit = status.Refused
 status_of BadName = status.Refused
 status_of NoName = status.Refused
+status_of NotAFunction = status.Refused
+status_of BadOrder = status.Refused
 status_of (BadQuery at) = status.Refused
 status_of (DeepQuery at) = status.Refused
 status_of (Offence place cause) = status.Refused
@@ -37,6 +39,8 @@ line_of ws (BadBatch line) = batch_line line
 line_of ws NoUnit = refused_line (codes "no unit")
 line_of ws BadName = refused_line (codes "bad name")
 line_of ws NoName = refused_line (codes "no name")
+line_of ws NotAFunction = refused_line (codes "not a function")
+line_of ws BadOrder = refused_line (codes "bad order")
 line_of ws (BadQuery at) = query_line (codes "bad query") at
 line_of ws (DeepQuery at) = query_line (codes "query too deep") at
 line_of ws (Offence place cause) = offence_line place cause

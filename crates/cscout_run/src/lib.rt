@@ -5,7 +5,7 @@
 //! messages. It answers as `specs/Answer.antt` says over the files held, and `specs/Outcome.antt` says what stands
 //! where the outside fails. `HostFiles` and `HostSink` are the real files and streams, which the program `cscout_cli`
 //! hands it. What words ask for, the help and the lines of messages stand in the crate `command_words`. All that may
-//! want memory is done in `preparing.rt`, `batches.rt`, `reporting.rt`, `listing.rt` and `calls.rt`, before the first
+//! want memory is done in `preparing.rt`, `batches.rt`, `templates.rt`, `reporting.rt`, `listing.rt` and `calls.rt`, before the first
 //! put; messages are told in pieces and want none. Read `specs/Answer.antt`, `specs/Outcome.antt`, then `top.rt`.
 #![tactic(auto)]
 
@@ -21,6 +21,7 @@ mod reporting;
 mod status;
 mod stops;
 mod telling;
+mod templates;
 mod top;
 mod workspace_files;
 

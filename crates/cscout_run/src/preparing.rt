@@ -2,7 +2,7 @@
 ghost use Rattle.std.specs.Prelude.{◌≡◌, false, IfSome, IfOk, IfErr, IsUtf8, Ok, []};
 ghost use Rattle.cs_base.specs.Outside.{ReadsOnly};
 ghost use Rattle.cs_base.specs.Edit.{IsKept};
-ghost use Rattle.batch_run.specs.Below.rename_rules.Renaming.{IsRenaming};
+ghost use Rattle.template_rules.specs.Below.rename_rules.Renaming.{IsRenaming};
 ghost use Rattle.cscout_run.specs.Answer.{IsRenameAnswer, IsRequestAnswer};
 ghost use Rattle.command_words.specs.Asking.{request_value, rename_value, workspace_file};
 ghost use Rattle.command_words.specs.Request.{renaming_asked};
@@ -15,6 +15,7 @@ use crate::generating::prepare_generated;
 use crate::listing::prepare_list;
 use crate::reporting::{prepare_class, prepare_skipped, prepare_tokens, stop_of};
 use crate::stops::Stop;
+use crate::templates::prepare_template;
 use crate::workspace_files::read_workspace;
 use batch_run::{RenameRefusal, plan_rename};
 use command_words::{Rename, Request, edited_text, help, version};
@@ -44,6 +45,7 @@ pub fn prepare<F: Files>(alloc: Global, request: &Request<'_>, files: &mut F) ->
         Request::Help => Ok(shown(alloc, help())?),
         Request::Version => Ok(shown(alloc, version())?),
         Request::Renaming(rename) => prepare_rename(alloc, rename, files),
+        Request::Template(order) => prepare_template(alloc, order, files),
         Request::Tokens(tokens) => prepare_tokens(alloc, tokens, files),
         Request::Skipped(ws) => prepare_skipped(alloc, ws, files),
         Request::Class(class) => prepare_class(alloc, class, files),
@@ -133,7 +135,7 @@ pub(crate) fn stop_for(refusal: RenameRefusal) -> Stop
 }
 
 // The path as text.
-fn path_text(path: &Text) -> &str
+pub(crate) fn path_text(path: &Text) -> &str
     requires { IsUtf8 path.now }
     ensures { result.now ≡ path.now }
 {

@@ -36,6 +36,10 @@ pub enum Stop {
     BadName,
     /// The place names nothing.
     NoName,
+    /// The name at the place is that of no function.
+    NotAFunction,
+    /// The numbers are no order of the parameters.
+    BadOrder,
     /// The word is no query: that byte is the first with which none goes on.
     BadQuery {
         at: u32,
@@ -44,7 +48,7 @@ pub enum Stop {
     DeepQuery {
         at: u32,
     },
-    /// Something stands against the renaming.
+    /// Something stands against the edit.
     Offence {
         place: Place,
         cause: Cause,

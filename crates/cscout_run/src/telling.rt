@@ -55,6 +55,14 @@ pub fn tell_stop<E: Sink>(err: &mut E, ws: &str, stop: &Stop) -> Status
             tell(err, &[b"refused: ", b"no name"]);
             Status::Refused
         }
+        Stop::NotAFunction => {
+            tell(err, &[b"refused: ", b"not a function"]);
+            Status::Refused
+        }
+        Stop::BadOrder => {
+            tell(err, &[b"refused: ", b"bad order"]);
+            Status::Refused
+        }
         Stop::BadQuery { at } => {
             tell_query(err, b"bad query", *at);
             Status::Refused

@@ -1,7 +1,7 @@
 //! Worked runs of the whole program over files in memory: what each must leave and tell, and its status.
 //!
 //! It has tests alone: the rows stand in `tables` (renames, faulty words and failing calls), `reports`, `classes`,
-//! `lists` and `batches`, and `run_tests` runs them, and the adapters over a real file. What each must leave is worked outside.
+//! `lists`, `templates` and `batches`, and `run_tests` runs them, and the adapters over a real file. What each must leave is worked outside.
 #![tactic(auto)]
 
 #[cfg(test)]
@@ -16,3 +16,5 @@ mod reports;
 mod run_tests;
 #[cfg(test)]
 mod tables;
+#[cfg(test)]
+mod templates;

@@ -4,6 +4,7 @@ use crate::classes::{CLASSES, FAILING_CLASSES};
 use crate::lists::{FAILING_LISTS, LISTS};
 use crate::reports::{FAILING_REPORTS, GENERATED, REFUSED_REPORTS, REPORTS};
 use crate::tables::{FAILING, ROWS, Row, TWO_FILES};
+use crate::templates::TEMPLATES;
 use cs_base::{Files, Got, MemFiles, MemSink, Memory, Put};
 use cscout_run::{HostFiles, Status, run};
 use row_tools::held;
@@ -121,6 +122,14 @@ fn reports_answer_as_worked_by_hand(rt: HostRuntime) -> Result<(), Memory> {
 #[test]
 fn generated_workspaces_are_told_by_their_sizes(rt: HostRuntime) -> Result<(), Memory> {
     for row in &GENERATED {
+        check(&rt, row, 0, 0, 0)?;
+    }
+    Ok(())
+}
+
+#[test]
+fn orders_are_run_as_worked_by_hand(rt: HostRuntime) -> Result<(), Memory> {
+    for row in &TEMPLATES {
         check(&rt, row, 0, 0, 0)?;
     }
     Ok(())

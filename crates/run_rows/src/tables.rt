@@ -328,7 +328,7 @@ pub const ROWS: [Row; 44] = [
     // Six words of another command.
     Row {
         files: TWO_FILES,
-        words: "w.cs template a.c 1 5 z",
+        words: "w.cs macro a.c 1 5 z",
         after: TWO_FILES,
         out: "",
         err: "cscout: bad command line\n",

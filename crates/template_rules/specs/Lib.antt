@@ -12,3 +12,5 @@ pub mod FileLists
 pub mod Template
 -- What contracts see of answers.
 pub mod Refusals
+-- Words of the crates below, passed on.
+pub mod Below

@@ -32,3 +32,9 @@ returns-in-DeepQuery-clause-told g c = rw c.in-DeepQuery.is c.tell_query-in-Deep
 
 pub returns-in-BadBatch-clause-told : goal.returns-in-BadBatch-clause-told
 returns-in-BadBatch-clause-told g c = rw c.in-BadBatch.is c.tell_batch.ensures
+
+pub returns-in-NotAFunction-clause-told : goal.returns-in-NotAFunction-clause-told
+returns-in-NotAFunction-clause-told g c = rw c.in-NotAFunction.is c.tell-in-NotAFunction.ensures
+
+pub returns-in-BadOrder-clause-told : goal.returns-in-BadOrder-clause-told
+returns-in-BadOrder-clause-told g c = rw c.in-BadOrder.is c.tell-in-BadOrder.ensures

@@ -1,0 +1,67 @@
+// New orders of parameters: all but their puts and their output.
+ghost use Rattle.std.specs.Prelude.{◌≡◌, Ok, IfErr, IfSome};
+ghost use Rattle.cs_base.specs.Outside.{ReadsOnly};
+ghost use Rattle.command_words.specs.Asking.{template_value};
+ghost use Rattle.command_words.specs.Request.{template_asked};
+ghost use Rattle.cscout_run.specs.Answer.{IsRequestAnswer, IsTemplateAnswer};
+ghost use Rattle.cscout_run.specs.Steps.{IsPlanStop, Prepares, reads_of, template_stop};
+
+use crate::preparing::{Ready, path_text};
+use crate::reporting::stop_of;
+use crate::stops::Stop;
+use crate::workspace_files::read_workspace;
+use command_words::{Reordering, edited_text, order_of};
+use cs_base::{Files, normal_path};
+use std::alloc::Global;
+use template_rules::{TemplateRefusal, plan_template};
+use ws_core::{Analysis, analyse};
+
+/// All of the answer to a new order of parameters but its puts and its output.
+pub(crate) fn prepare_template<F: Files>(
+    alloc: Global,
+    q: &Reordering<'_>,
+    files: &mut F,
+) -> Result<Ready, Stop>
+    ensures answer { IfSome (F.told files.old).held (λ fs.
+        Prepares q.now.ws.now (IsRequestAnswer fs (template_asked (template_value q.now))) result) }
+    ensures faults { ReadsOnly (F.told files.old) (F.told files.new) (reads_of q.now.ws.now result) }
+{
+    let ws = read_workspace(alloc, q.ws, files)?;
+    match analyse(alloc, &ws, files) {
+        Ok(analysis) => reordered(alloc, &analysis, q),
+        Err(fault) => Err(stop_of(fault)),
+    }
+}
+
+// The edits and the text that tells them, once the workspace is analysed.
+fn reordered(alloc: Global, a: &Analysis, q: &Reordering<'_>) -> Result<Ready, Stop>
+    ensures answer { Prepares q.now.ws.now (IsTemplateAnswer (template_value q.now) (Ok a.now.value)) result }
+    ensures stops { IfErr result IsPlanStop }
+{
+    let path = normal_path(alloc, q.path.as_bytes())?;
+    let order = order_of(alloc, q.order.as_bytes())?;
+    match plan_template(alloc, a, path_text(&path), q.line, q.column, &order) {
+        Ok(edits) => {
+            let text = edited_text(alloc, &edits)?;
+            Ok(Ready {
+                edits,
+                text,
+                refused: false,
+            })
+        }
+        Err(refusal) => Err(template_stop(refusal)),
+    }
+}
+
+// Why an order is refused, as an early end of the run.
+fn template_stop(refusal: TemplateRefusal) -> Stop
+    ensures { result ≡ template_stop refusal }
+{
+    match refusal {
+        TemplateRefusal::NoName => Stop::NoName,
+        TemplateRefusal::NotAFunction => Stop::NotAFunction,
+        TemplateRefusal::BadOrder => Stop::BadOrder,
+        TemplateRefusal::Offence { place, cause } => Stop::Offence { place, cause },
+        TemplateRefusal::Memory => Stop::Memory,
+    }
+}
