@@ -17,6 +17,7 @@ pub mod SourceLemmas
 pub mod TextLemmas
 pub mod EditLemmas
 pub mod PlanLemmas
+pub mod RefusalLemmas
 -- What the proofs of this crate rest on.
 mod IdentifierLemmas
 mod SpelledLemmas

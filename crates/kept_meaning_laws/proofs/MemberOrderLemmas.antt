@@ -71,7 +71,7 @@ first_decides Less other h apart = refl
 first_decides Equal other h apart = absurd (apart refl)
 first_decides Greater other h apart = absurd (cc)
 
-tied : (xs ys : List ℕ) → slice_cmp nat_cmp xs ys ≡ Equal → xs ≡ ys
+pub tied : (xs ys : List ℕ) → slice_cmp nat_cmp xs ys ≡ Equal → xs ≡ ys
 tied xs ys e = bytes_eq-equal xs ys (sym (is_eq-slice_cmp xs ys) ∙ ap is_eq e)
 
 -- a member's file is kept

@@ -49,7 +49,7 @@ entry_by : (n : ℕ) (o : Option Entry) (f : KeptValue) → option_and_then (kep
 entry_by n None f h = absurd (none-some f h)
 entry_by n (Some e) f h = (e, refl, h)
 
-kept_there : (table : Table) (n : ℕ) (f : KeptValue) → kept_at table n ≡ Some f → slice_get (paths_in table) n ≡ Some f.path
+pub kept_there : (table : Table) (n : ℕ) (f : KeptValue) → kept_at table n ≡ Some f → slice_get (paths_in table) n ≡ Some f.path
 kept_there table n f h =
     let r = entry_by n (slice_get table n) f h in
     let of = kept_of n r.0 f r.2 in

@@ -11,13 +11,14 @@
 //! token keeps its class, and a bare name in the range of a typedef name of its spelling keeps this, so by
 //! `renamed_tree_laws` the renamed tokens are read to the tree that they had, and the analysis of the edited files is
 //! the old one, renamed (`meaning.rt`). A rename speaks of files whose members are respelled, one file by one edit:
-//! these hold each path of the analysis edited (`sources.rt`).
+//! these hold each path of the analysis edited, and so the edits of a plan keep meaning (`sources.rt`). Positions
+//! move by the growth of the members before them, so the table of classes goes on with the files (`moves.rt`).
 //!
 //! They are given to the program (`cscout_run`), whose promise stands on `sources.rt`, and to `meaning_rows`. Their
 //! proofs cite the modules of `proofs/Lib.antt` that are public; a lemma there keeps its name, and all else may
-//! change. Read `specs/RenamedSource.antt`, `specs/EditedSource.antt`, then `specs/KeptUnits.antt`,
-//! `specs/BoundUnits.antt`, `specs/KeptLinks.antt`, `specs/ReadUnits.antt`, `specs/Limits.antt`,
-//! `specs/KeptFileTokens.antt`.
+//! change. Read `specs/RenamedSource.antt`, `specs/EditedSource.antt`, `specs/Plans.antt`, then
+//! `specs/KeptUnits.antt`, `specs/BoundUnits.antt`, `specs/KeptLinks.antt`, `specs/OneMove.antt`,
+//! `specs/ReadUnits.antt`, `specs/Limits.antt`, `specs/KeptFileTokens.antt`.
 #![tactic(auto)]
 
 mod bindings;
@@ -32,8 +33,9 @@ pub use links::links_are_kept;
 pub use meaning::units_read_as_before;
 pub use moves::{classes_follow, positions_move_alike};
 pub use sources::{
-    plans_keep_meaning, respelled_files_have_renamed_analysis, respelled_files_have_renamed_texts,
-    respelled_files_hold_edited, respelled_files_keep_external_names,
+    plans_keep_meaning, refusals_are_one, respelled_files_have_renamed_analysis,
+    respelled_files_have_renamed_texts, respelled_files_hold_edited,
+    respelled_files_keep_external_names,
 };
 pub use units::{
     edited_files_are_within_limits, file_tokens_are_kept, file_tokens_are_renamed_where_named,

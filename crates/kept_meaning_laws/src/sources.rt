@@ -1,7 +1,7 @@
 // What files hold behind a renaming, what units preprocess to over them, and what analysis the workspace has: laws that no
 // caller runs, and that callers' proofs cite.
 ghost use Rattle.kept_meaning_laws.specs.EditedSource.{RespelledFilesHoldEdited};
-ghost use Rattle.kept_meaning_laws.specs.Plans.{PlansKeepMeaning};
+ghost use Rattle.kept_meaning_laws.specs.Plans.{PlansKeepMeaning, RefusalsAreOne};
 ghost use Rattle.kept_meaning_laws.specs.RenamedSource.{RespelledFilesHaveRenamedAnalysis, RespelledFilesHaveRenamedTexts, RespelledFilesKeepExternalNames};
 
 /// Files in which the members of a class are respelled, and that are left alone else, hold for each path of the analysis
@@ -32,4 +32,9 @@ pub fn respelled_files_keep_external_names()
 /// analysis, once they are made, the members are respelled and nothing else is, and the workspace means what it meant.
 pub fn plans_keep_meaning()
     ensures { PlansKeepMeaning }
+{}
+
+/// A renaming of a class is refused in one way: what is named first is one place and one cause.
+pub fn refusals_are_one()
+    ensures { RefusalsAreOne }
 {}

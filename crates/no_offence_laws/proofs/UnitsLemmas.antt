@@ -31,7 +31,7 @@ use Rattle.rename_rules.proofs.Below.include_tree.OutcomeLemmas.{onward_done}
 use Rattle.rename_rules.proofs.Below.include_tree.StayLemmas.{IsStable, Stays, open_file_stays}
 use Rattle.rename_rules.proofs.Below.include_tree.StayingWalk.{files_stay}
 use Rattle.rename_rules.specs.Below.include_tree.Laws.{IfDone}
-use Rattle.rename_rules.specs.Below.source_files.Tables.{IsGrown}
+use Rattle.rename_rules.specs.Below.source_files.Tables.{IsGrown, paths_in}
 use Rattle.rename_rules.specs.Below.unit_steps.Notes.{Note}
 use Rattle.rename_rules.specs.Below.unit_steps.Texts.{UnitTextValue, unit_text}
 use Rattle.rename_rules.specs.Below.include_tree.Preprocessed.{Preprocessed, preprocessed, preprocessed_by}
@@ -202,6 +202,18 @@ first_none old (e ∷ new) h = elim h.1 [
   | inl same ↦ rw same refl
   | inr opened ↦ absurd (let no = opened.1 in cc)
 ]
+
+-- .. and has its path
+first_path : (old new : Table) → IsGrown (entry lines_path Lines ∷ old) new → slice_get (paths_in new) 0 ≡ Some lines_path
+first_path old [] h = absurd h
+first_path old (e ∷ new) h = ap (λ (p : List ℕ). Some p) h.0
+
+pub lines_first : (source : Source) (ws : WorkspaceValue) (a : AnalysisValue) → analysis_of source ws ≡ Ok a → slice_get (paths_in a.table) 0 ≡ Some lines_path
+lines_first source ws a e =
+    let all = done_first (analysed_from source 1 ws.units nothing_carried) _ a e in
+    let same = ok_same {E = UnitFault} (analysis_and ws all.0.units all.0.table) a all.2 in
+    let P : AnalysisValue → Type 0 = λ b. slice_get (paths_in b.table) 0 ≡ Some lines_path in
+    subst P same (first_path [] all.0.table (units_are source 1 ws.units nothing_carried all.0 all.1).0)
 
 pub no_lines : (source : Source) (ws : WorkspaceValue) (a : AnalysisValue) → analysis_of source ws ≡ Ok a → kept_at a.table 0 ≡ None
 no_lines source ws a e =

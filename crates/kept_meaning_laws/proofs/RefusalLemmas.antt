@@ -1,0 +1,164 @@
+-- A renaming is refused in one way: the first offence, its place and its cause, is one.
+use Rattle.std.proofs.Common.{◌≡◌, ℕ, zero, suc, ◌+◌, Bool, List, [], ◌∷◌, ◌++◌, Option, None, Some, inl, inr, refl, sym, ap, subst, ◌∙◌}
+use Rattle.std.specs.Prelude.{◌==◌, nat_lt, slice_get}
+use Rattle.std.specs.Cmp.{IsTotalOrder}
+use Rattle.std.specs.Cmp.Lexicographic.{slice_cmp}
+use Rattle.std.specs.Option.{option_map_or}
+use Rattle.std.specs.Ordering.{nat_cmp, ordering_then, ordering_reverse}
+use Rattle.std.specs.declared.cmp.Ordering.{Ordering}
+use Rattle.std.specs.declared.cmp.Ordering.TheVariants.{Less, Equal, Greater}
+use Rattle.std.proofs.lemmas.Bool.{cases_Bool, eqb-true}
+use Rattle.std.proofs.lemmas.Cmp.{then_total, on_total, nat_list_cmp_total, nat_cmp_total}
+use Rattle.std.proofs.lemmas.Option.{none-some, same_Some}
+use Rattle.tree_laws.specs.Below.cs_base.declared.causes.Cause.{Cause}
+use Rattle.tree_laws.specs.Below.cs_base.declared.causes.Cause.TheVariants as cause
+use Rattle.tree_laws.specs.Below.cs_base.declared.positions.Part.{Part}
+use Rattle.tree_laws.specs.Below.cs_base.declared.positions.Place.{Place}
+use Rattle.tree_laws.specs.Below.cs_base.declared.positions.Pos.{Pos}
+use Rattle.no_offence_laws.specs.Below.ws_file.Workspace.{WorkspaceValue, IsWorkspace}
+use Rattle.no_offence_laws.specs.Below.source_files.Files.{Source, Table, lines_path}
+use Rattle.no_offence_laws.specs.Below.source_files.KeptFiles.{KeptValue, kept_at}
+use Rattle.no_offence_laws.specs.Below.source_files.Tables.{paths_in, HasEachOnce}
+use Rattle.no_offence_laws.specs.Below.ws_core.Analysis.{AnalysisValue, analysis_of}
+use Rattle.no_offence_laws.specs.Below.ws_core.Places.{place_at, place_in_file, place_in_lines}
+use Rattle.no_offence_laws.specs.Below.rename_rules.declared.offences.Offence.{Offence}
+use Rattle.no_offence_laws.specs.Below.rename_rules.First.{number_of, offence, offence_cmp, path_of, position_cmp, standing, member_offences, spelling_offences, offences_of, IsAmong, IsFirst}
+use Rattle.no_offence_laws.specs.Below.rename_rules.Offences.{read_only_places, reserved_places, stringized_places, header_places, no_identifier_places, occurring_places, clashing_places, too_large_places, shadowed_places}
+use Rattle.no_offence_laws.specs.Below.rename_rules.Renaming.{Refusal, refused}
+use Rattle.no_offence_laws.proofs.LinkLemmas.{all_both}
+use Rattle.no_offence_laws.proofs.ListLemmas.{AllOf, all_at}
+use Rattle.no_offence_laws.proofs.UnitsLemmas.{no_lines, lines_first}
+use Rattle.analysis_laws.proofs.OnceLemmas.{paths_once}
+use Rattle.kept_meaning_laws.specs.Plans.{RefusalsAreOne}
+use Rattle.kept_meaning_laws.proofs.MemberOrderLemmas.{one_place, tied}
+use Rattle.kept_meaning_laws.proofs.SourceLemmas.{kept_there}
+
+-- ---- orders
+
+then_equal : (o p : Ordering) → ordering_then o p ≡ Equal → (o ≡ Equal) × (p ≡ Equal)
+then_equal Less p e = cc
+then_equal Equal p e = (refl, e)
+then_equal Greater p e = cc
+
+number_equal : (m n : ℕ) → nat_cmp m n ≡ Equal → m ≡ n
+number_equal m n e = elim (cases_Bool (nat_lt m n)) [
+  | inl less ↦ (let wrong : Less ≡ Equal = rw less at e in absurd (cc))
+  | inr not_less ↦ elim (cases_Bool (m == n)) [
+    | inl same ↦ eqb-true m n same
+    | inr apart ↦ (let wrong : Greater ≡ Equal = rw (not_less, apart) at e in absurd (cc))
+  ]
+]
+
+offences_total : (table : Table) → IsTotalOrder (offence_cmp table)
+offences_total table =
+    then_total
+    (then_total (on_total (λ (o : Offence). path_of table o.at.file) nat_list_cmp_total) (on_total (λ (o : Offence). o.at.at) nat_cmp_total))
+    (on_total (λ (o : Offence). number_of o.cause) nat_cmp_total)
+
+neither_first : (table : Table) (o p : Offence) → (offence_cmp table o p ≡ Less → ⊥) → (offence_cmp table p o ≡ Less → ⊥) → offence_cmp table o p ≡ Equal
+neither_first table o p before behind = by (offence_cmp table o p) refl
+  where
+    by : (c : Ordering) → offence_cmp table o p ≡ c → offence_cmp table o p ≡ Equal
+    by Less e = absurd (before e)
+    by Equal e = e
+    by Greater e = absurd (behind (let total = offences_total table in total.antisymm p o ∙ ap ordering_reverse e))
+
+-- ---- places
+
+-- the number of the table that a path has
+module _ (table : Table) (once : HasEachOnce table) (lines : kept_at table 0 ≡ None) (first : slice_get (paths_in table) 0 ≡ Some lines_path) where
+  -- no kept file has the path of the pseudo file of lines
+  not_lines : (n : ℕ) (f : KeptValue) → kept_at table n ≡ Some f → f.path ≡ lines_path → ⊥
+  not_lines n f is same =
+      let zero_is : n ≡ 0 = one_place (paths_in table) n 0 lines_path once (kept_there table n f is ∙ ap (λ (p : List ℕ). Some p) same) first in
+      none-some f (sym lines ∙ (ap (kept_at table) (sym zero_is) ∙ is))
+
+  one_file : (n k : ℕ) (f g : KeptValue) → kept_at table n ≡ Some f → kept_at table k ≡ Some g → f.path ≡ g.path → f ≡ g
+  one_file n k f g is also same =
+      let number : n ≡ k = one_place (paths_in table) n k g.path once (kept_there table n f is ∙ ap (λ (p : List ℕ). Some p) same) (kept_there table k g also) in
+      same_Some f g (sym is ∙ (ap (kept_at table) number ∙ also))
+
+  -- one path and one character are one place
+  one_place_at : (p q : Pos) → path_of table p.file ≡ path_of table q.file → p.at ≡ q.at → place_at table p ≡ place_at table q
+  one_place_at p q path at = by (kept_at table p.file) (kept_at table q.file) refl refl
+    where
+      told : (x y : Option KeptValue) → kept_at table p.file ≡ x → kept_at table q.file ≡ y
+          → option_map_or (λ (f : KeptValue). f.path) x lines_path ≡ option_map_or (λ (f : KeptValue). f.path) y lines_path
+      told x y e f = sym (ap (λ (o : Option KeptValue). option_map_or (λ (g : KeptValue). g.path) o lines_path) e)
+          ∙ (path ∙ ap (λ (o : Option KeptValue). option_map_or (λ (g : KeptValue). g.path) o lines_path) f)
+
+      place_by : (r : Pos) (x : Option KeptValue) → kept_at table r.file ≡ x → place_at table r ≡ option_map_or (place_in_file r) x (place_in_lines r)
+      place_by r x e = ap (λ (o : Option KeptValue). option_map_or (place_in_file r) o (place_in_lines r)) e
+
+      in_lines : (m n : ℕ) → m ≡ n → place_in_lines (record { file = p.file; at = m }) ≡ place_in_lines (record { file = q.file; at = n })
+      in_lines m n e = ap (λ (k : ℕ). place_in_lines (record { file = p.file; at = k })) e
+
+      in_file : (f g : KeptValue) → f ≡ g → place_in_file p f ≡ place_in_file q g
+      in_file f g e =
+          ap (λ (h : KeptValue). place_in_file p h) e ∙ ap (λ (k : ℕ). place_in_file (record { file = p.file; at = k }) g) at
+
+      by : (x y : Option KeptValue) → kept_at table p.file ≡ x → kept_at table q.file ≡ y → place_at table p ≡ place_at table q
+      by None None e f = place_by p None e ∙ (in_lines p.at q.at at ∙ sym (place_by q None f))
+      by (Some f) None e g = absurd (not_lines p.file f e (told (Some f) None e g))
+      by None (Some g) e f = absurd (not_lines q.file g f (sym (told None (Some g) e f)))
+      by (Some f) (Some g) e k =
+          place_by p (Some f) e ∙ (in_file f g (one_file p.file q.file f g e k (told (Some f) (Some g) e k)) ∙ sym (place_by q (Some g) k))
+
+-- ---- causes
+
+-- the causes of offences, by their numbers
+causes : List Cause
+causes =
+    cause.ReadOnly ∷ cause.ReadOnly ∷ cause.Reserved ∷ cause.Stringized ∷ cause.HeaderName ∷ cause.NotIdentifier ∷ cause.Occurs ∷ cause.Clash
+    ∷ cause.TooLarge ∷ cause.ShadowedTypedef ∷ []
+
+IsListed : Offence → Type 0
+IsListed o = slice_get causes (number_of o.cause) ≡ Some o.cause
+
+all_standing : (c : Cause) → slice_get causes (number_of c) ≡ Some c → (places : List Pos) → AllOf IsListed (standing c places)
+unfolding IsListed
+all_standing c e [] = tt
+all_standing c e (p ∷ places) = (e, all_standing c e places)
+
+all_listed : (a : AnalysisValue) (members : List Part) (name : List ℕ) → AllOf IsListed (offences_of a members name)
+unfolding member_offences spelling_offences causes
+all_listed a members name =
+    let s1 = standing cause.ReadOnly (read_only_places a members) in
+    let s2 = standing cause.Reserved (reserved_places a members name) in
+    let s3 = standing cause.Stringized (stringized_places a members) in
+    let s4 = standing cause.HeaderName (header_places a members) in
+    let s5 = standing cause.NotIdentifier (no_identifier_places a members) in
+    let s6 = standing cause.Occurs (occurring_places a members name) in
+    let s7 = standing cause.Clash (clashing_places a members name) in
+    let s8 = standing cause.TooLarge (too_large_places a members name) in
+    let s9 = standing cause.ShadowedTypedef (shadowed_places a members) in
+    all_both IsListed (s1 ++ s2 ++ s3 ++ s4 ++ s5) (s6 ++ s7 ++ s8 ++ s9)
+    (all_both IsListed (s1 ++ s2 ++ s3 ++ s4) s5
+    (all_both IsListed (s1 ++ s2 ++ s3) s4
+    (all_both IsListed (s1 ++ s2) s3 (all_both IsListed s1 s2 (all_standing cause.ReadOnly refl (read_only_places a members))
+    (all_standing cause.Reserved refl (reserved_places a members name))) (all_standing cause.Stringized refl (stringized_places a members)))
+    (all_standing cause.HeaderName refl (header_places a members)))
+    (all_standing cause.NotIdentifier refl (no_identifier_places a members)))
+    (all_both IsListed (s6 ++ s7 ++ s8) s9
+    (all_both IsListed (s6 ++ s7) s8 (all_both IsListed s6 s7 (all_standing cause.Occurs refl (occurring_places a members name))
+    (all_standing cause.Clash refl (clashing_places a members name))) (all_standing cause.TooLarge refl (too_large_places a members name)))
+    (all_standing cause.ShadowedTypedef refl (shadowed_places a members)))
+
+one_cause : (o p : Offence) → IsListed o → IsListed p → number_of o.cause ≡ number_of p.cause → o.cause ≡ p.cause
+unfolding IsListed
+one_cause o p e f same = same_Some o.cause p.cause (sym e ∙ (ap (slice_get causes) same ∙ f))
+
+pub refusals_are_one : RefusalsAreOne
+refusals_are_one = λ source ws a members name x y is analysed p q.
+    let o : Offence = p.0 in
+    let u : Offence = q.0 in
+    let equal = neither_first a.table o u (λ e. q.1.1 o p.1.0 e) (λ e. p.1.1 u q.1.0 e) in
+    let outer = then_equal (position_cmp a.table o.at u.at) (nat_cmp (number_of o.cause) (number_of u.cause)) equal in
+    let inner = then_equal (slice_cmp nat_cmp (path_of a.table o.at.file) (path_of a.table u.at.file)) (nat_cmp o.at.at u.at.at) outer.0 in
+    let place : place_at a.table o.at ≡ place_at a.table u.at =
+    one_place_at a.table (paths_once source ws a is analysed) (no_lines source ws a analysed) (lines_first source ws a analysed) o.at u.at
+    (tied (path_of a.table o.at.file) (path_of a.table u.at.file) inner.0) (number_equal o.at.at u.at.at inner.1) in
+    let cause_is : o.cause ≡ u.cause =
+    one_cause o u (all_at IsListed (offences_of a members name) (all_listed a members name) o p.1.0) (all_at IsListed (offences_of a members name) (all_listed a members name) u q.1.0)
+    (number_equal (number_of o.cause) (number_of u.cause) outer.1) in
+    p.2 ∙ (ap (λ (z : Place). refused z o.cause) place ∙ (ap (λ (c : Cause). refused (place_at a.table u.at) c) cause_is ∙ sym q.2))
