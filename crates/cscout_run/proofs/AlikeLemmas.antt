@@ -180,36 +180,36 @@ ArePlansAlike _ _ = ⊥
 pub none_stands : {X : Type 0} (xs : List X) (x : X) → xs ≡ [] → IsAmong xs x → ⊥
 none_stands xs x none at = none-some x (subst (λ ys. slice_get ys at.0 ≡ Some x) none at.1)
 
-renamed_alike : (a : AnalysisValue) (members : List Part) (name : List ℕ) (r s : Result (List Edit) Refusal) → IsRenamed a members name r
-    → IsRenamed a members name s → ArePlansAlike r s
-renamed_alike a members name (Ok es) (Ok fs) p q = p.1 ∙ sym q.1
-renamed_alike a members name (Ok es) (Err s) p q = absurd (none_stands (offences_of a members name) q.0 p.0 q.1.0)
-renamed_alike a members name (Err r) (Ok fs) p q = absurd (none_stands (offences_of a members name) p.0 q.0 p.1.0)
-renamed_alike a members name (Err r) (Err s) p q = tt
+renamed_alike : (a : AnalysisValue) (members : List Part) (name : List ℕ) (strings : Bool) (r s : Result (List Edit) Refusal) → IsRenamed a members name strings r
+    → IsRenamed a members name strings s → ArePlansAlike r s
+renamed_alike a members name strings (Ok es) (Ok fs) p q = p.1 ∙ sym q.1
+renamed_alike a members name strings (Ok es) (Err s) p q = absurd (none_stands (offences_of a members name strings) q.0 p.0 q.1.0)
+renamed_alike a members name strings (Err r) (Ok fs) p q = absurd (none_stands (offences_of a members name strings) p.0 q.0 p.1.0)
+renamed_alike a members name strings (Err r) (Err s) p q = tt
 
-class_alike : (a : AnalysisValue) (part : Part) (name : List ℕ) (r s : Result (List Edit) Refusal) → IsClassRenamed a part name r
-    → IsClassRenamed a part name s → ArePlansAlike r s
-class_alike a part name r s p q =
-    renamed_alike a p.members name r s p.renamed
-    (subst (λ (ms : List Part). IsRenamed a ms name s) (one_list a part q.members p.members q.are_members p.are_members) q.renamed)
+class_alike : (a : AnalysisValue) (part : Part) (name : List ℕ) (strings : Bool) (r s : Result (List Edit) Refusal) → IsClassRenamed a part name strings r
+    → IsClassRenamed a part name strings s → ArePlansAlike r s
+class_alike a part name strings r s p q =
+    renamed_alike a p.members name strings r s p.renamed
+    (subst (λ (ms : List Part). IsRenamed a ms name strings s) (one_list a part q.members p.members q.are_members p.are_members) q.renamed)
 
 both_refused : (r s : Result (List Edit) Refusal) (e f : Refusal) → r ≡ Err e → s ≡ Err f → ArePlansAlike r s
 both_refused r s e f p q = rw (p, q) tt
 
-named_alike : (a : AnalysisValue) (name : List ℕ) (r s : Result (List Edit) Refusal) (part : Option Part) → IsNamedRenamed a name r part
-    → IsNamedRenamed a name s part → ArePlansAlike r s
-named_alike a name r s None p q = both_refused r s no_name no_name p q
-named_alike a name r s (Some part) p q = class_alike a part name r s p q
+named_alike : (a : AnalysisValue) (name : List ℕ) (strings : Bool) (r s : Result (List Edit) Refusal) (part : Option Part) → IsNamedRenamed a name strings r part
+    → IsNamedRenamed a name strings s part → ArePlansAlike r s
+named_alike a name strings r s None p q = both_refused r s no_name no_name p q
+named_alike a name strings r s (Some part) p q = class_alike a part name strings r s p q
 
-places_alike : (a : AnalysisValue) (path : List ℕ) (line column : ℕ) (name : List ℕ) (r s : Result (List Edit) Refusal) (good : Bool)
-    → is_identifier_text name ≡ good → IsRenaming a path line column name r → IsRenaming a path line column name s → ArePlansAlike r s
-places_alike a path line column name r s false is p q = both_refused r s bad_name bad_name (p.bad_name is) (q.bad_name is)
-places_alike a path line column name r s true is p q =
+places_alike : (a : AnalysisValue) (path : List ℕ) (line column : ℕ) (name : List ℕ) (strings : Bool) (r s : Result (List Edit) Refusal) (good : Bool)
+    → is_identifier_text name ≡ good → IsRenaming a path line column name strings r → IsRenaming a path line column name strings s → ArePlansAlike r s
+places_alike a path line column name strings r s false is p q = both_refused r s bad_name bad_name (p.bad_name is) (q.bad_name is)
+places_alike a path line column name strings r s true is p q =
     let m = p.named is in
     let n = q.named is in
-    named_alike a name r s m.0 m.2 (subst (λ (o : Option Part). IsNamedRenamed a name s o) (one_named a path line column m.0 n.0 m.1 n.1) n.2)
+    named_alike a name strings r s m.0 m.2 (subst (λ (o : Option Part). IsNamedRenamed a name strings s o) (one_named a path line column m.0 n.0 m.1 n.1) n.2)
 
 -- all answers to a renaming are alike
-pub renamings_alike : (a : AnalysisValue) (path : List ℕ) (line column : ℕ) (name : List ℕ) (r s : Result (List Edit) Refusal)
-    → IsRenaming a path line column name r → IsRenaming a path line column name s → ArePlansAlike r s
-renamings_alike a path line column name r s p q = places_alike a path line column name r s (is_identifier_text name) refl p q
+pub renamings_alike : (a : AnalysisValue) (path : List ℕ) (line column : ℕ) (name : List ℕ) (strings : Bool) (r s : Result (List Edit) Refusal)
+    → IsRenaming a path line column name strings r → IsRenaming a path line column name strings s → ArePlansAlike r s
+renamings_alike a path line column name strings r s p q = places_alike a path line column name strings r s (is_identifier_text name) refl p q

@@ -169,7 +169,7 @@ IsFindAnswer q (Err fault) a = stopped Workspace (text_fault_line fault) ≡ a
 -- The same for a renaming of the class that a place names: the answer is that of what is planned.
 abbrev pub IsRenameAnswer : RenameValue → Result AnalysisValue units.UnitFault → Answer → Type 0
 IsRenameAnswer q (Ok value) a =
-    (planned : Result (List Edit) Refusal) × IsRenaming value q.path q.line q.column q.name planned × (renaming_answer planned ≡ a)
+    (planned : Result (List Edit) Refusal) × IsRenaming value q.path q.line q.column q.name false planned × (renaming_answer planned ≡ a)
 IsRenameAnswer q (Err fault) a = stopped Workspace (text_fault_line fault) ≡ a
 
 -- ---- `batch`
@@ -233,7 +233,7 @@ size_answer n value (Err refusal) = stopped Refused (refusal_line refusal)
 -- The same once it is analysed: the `total` that its header declares is renamed to `sum`.
 abbrev pub IsSizeAnswer : ℕ → Result AnalysisValue units.UnitFault → Answer → Type 0
 IsSizeAnswer n (Ok value) a =
-    (planned : Result (List Edit) Refusal) × IsRenaming value header_path 1 12 (codes "sum") planned × (size_answer n value planned ≡ a)
+    (planned : Result (List Edit) Refusal) × IsRenaming value header_path 1 12 (codes "sum") false planned × (size_answer n value planned ≡ a)
 IsSizeAnswer n (Err fault) a = stopped Workspace (text_fault_line fault) ≡ a
 
 -- ---- the whole

@@ -35,7 +35,7 @@ fn size_of(alloc: Global, a: &Analysis, n: u32) -> Result<Ready, Stop>
     ensures answer { Prepares workspace_path (IsSizeAnswer n (Ok a.now.value)) result }
     ensures stops { IfErr result IsPlanStop }
 {
-    match plan_rename(alloc, a, "h.h", 1, 12, b"sum") {
+    match plan_rename(alloc, a, "h.h", 1, 12, b"sum", false) {
         Ok(edits) => {
             let text = size_text(alloc, n, tokens(a), places(&edits))?;
             Ok(Ready {

@@ -1,8 +1,8 @@
 -- What a replacement puts in, under a renaming: the renamed tokens, and renamed notes.
 use Rattle.std.proofs.Common.{◌≡◌, Bool, true, false, cond, List, [], ◌∷◌, ◌++◌, map, get_or, Result, Ok, Err, refl, ap, subst, ◌∙◌}
 use Rattle.macro_expand.specs.Below.cs_base.Token.{Token}
-use Rattle.macro_expand.specs.Below.paste_origin.Strings.{StringFault, NotAString as NoString, stringize_of, string_text, string_origins, string_token, is_string}
-use Rattle.part_lexer.specs.OneToken.{one_token_of}
+use Rattle.macro_expand.specs.Below.paste_origin.Strings.{StringFault, NotAString as NoString, stringize_of, string_text, string_origins, string_token}
+use Rattle.part_lexer.specs.Spelling.{is_plain_string_text}
 use Rattle.macro_expand.specs.Below.macro_body.declared.definitions.Definition.{Definition}
 use Rattle.macro_expand.specs.Below.macro_body.Hides.{Hidden, hidden, toks_of}
 use Rattle.macro_expand.specs.Below.macro_body.Bodies.{Part, Plain, Param, Quote, Paste, chains_of}
@@ -81,7 +81,7 @@ string_kind false x s e = absurd (subst IsErr e tt)
 stringize-occurs : (w : World) (toks : List Token) (s : Token) → stringize_of toks ≡ Ok s → occurs w.o s ≡ true
 unfolding stringize_of
 stringize-occurs w toks s e =
-    subst (λ t. occurs w.o t ≡ true) (string_kind (is_string (one_token_of (string_text toks))) (string_token (string_text toks) (string_origins toks)) s e)
+    subst (λ t. occurs w.o t ≡ true) (string_kind (is_plain_string_text (string_text toks)) (string_token (string_text toks) (string_origins toks)) s e)
     (w.keeps.others _ _ _ refl refl)
 
 string-renamed : (w : World) (name sign : Token) (toks : List Token) (res : Result Token StringFault) → stringize_of toks ≡ res

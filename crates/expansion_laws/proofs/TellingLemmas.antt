@@ -1,8 +1,8 @@
 -- What the notes of an expansion tell did happen.
 use Rattle.std.proofs.Common.{◌≡◌, ℕ, Bool, true, false, cond, List, Result, Ok, Err, refl, sym, ap}
 use Rattle.macro_expand.specs.Below.cs_base.Token.{Token}
-use Rattle.part_lexer.specs.OneToken.{one_token_of}
-use Rattle.macro_expand.specs.Below.paste_origin.Strings.{StringFault, NotAString, stringize_of, is_string, string_text, string_origins, string_token}
+use Rattle.part_lexer.specs.Spelling.{is_plain_string_text}
+use Rattle.macro_expand.specs.Below.paste_origin.Strings.{StringFault, NotAString, stringize_of, string_text, string_origins, string_token}
 use Rattle.macro_expand.specs.Below.macro_body.Notes.{Note, Linked}
 use Rattle.macro_expand.specs.Expansion.{Setting}
 use Rattle.expansion_laws.specs.Telling.{StandUnderNames, AreAlike, LinksAreAlike, DidHappen, NotesAreTrue}
@@ -17,7 +17,7 @@ cond_made false a s e = absurd (cc)
 -- the string that tokens make
 pub string_is : (toks : List Token) (s : Token) → stringize_of toks ≡ Ok s → s ≡ string_token (string_text toks) (string_origins toks)
 unfolding stringize_of
-string_is toks s e = sym (cond_made (is_string (one_token_of (string_text toks))) (string_token (string_text toks) (string_origins toks)) s e)
+string_is toks s e = sym (cond_made (is_plain_string_text (string_text toks)) (string_token (string_text toks) (string_origins toks)) s e)
 
 string_keeps : (toks : List Token) (s : Token) → stringize_of toks ≡ Ok s → s.origins ≡ string_origins toks
 string_keeps toks s e = ap (λ (t : Token). t.origins) (string_is toks s e)

@@ -30,7 +30,7 @@ edit_for name run f = edit f.path (new_bytes name run f) (length run)
 -- ---- files that hold members
 
 -- where no reason stands, a file that holds a member is no pseudo file
-real_file : (a : AnalysisValue) (members : List Part) (name : List ℕ) (m : Part) (f : KeptValue) → offences_of a members name ≡ []
+real_file : (a : AnalysisValue) (members : List Part) (name : List ℕ) (m : Part) (f : KeptValue) → offences_of a members name true ≡ []
     → In m members → kept_at a.table m.start.file ≡ Some f → is_pseudo f.path ≡ false
 real_file a members name m f clear i here =
     let stays = writable a members name (none_stand a members name clear) m i in
@@ -58,7 +58,7 @@ number_held source (e ∷ t) zero number f found made real at = entry_held sourc
 number_held source (e ∷ t) (suc k) number f found made real at = number_held source t k number f found.1 made.1 real at
 
 -- a file that holds members holds the bytes that were read
-pub held_before : (source : Source) (a : AnalysisValue) (members run : List Part) (name : List ℕ) (f : KeptValue) → offences_of a members name ≡ []
+pub held_before : (source : Source) (a : AnalysisValue) (members run : List Part) (name : List ℕ) (f : KeptValue) → offences_of a members name true ≡ []
     → AreFound source a.table → MadeArePseudo a.table → HoldsMembers a members run f → source f.path ≡ Some f.bytes
 held_before source a members [] name f clear found made holds = absurd (none-some f holds.1)
 held_before source a members (m ∷ run) name f clear found made holds =

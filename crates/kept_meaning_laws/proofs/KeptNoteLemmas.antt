@@ -45,7 +45,8 @@ use Rattle.no_offence_laws.specs.Spellings.{IsPasted}
 use Rattle.no_offence_laws.proofs.ListLemmas.{In, all_at}
 use Rattle.no_offence_laws.proofs.KeptTokenLemmas.{each_of, pasted_tokens_are_kept}
 use Rattle.no_offence_laws.proofs.LinkLemmas.{IsWhole, links_whole, whole_chained, Both}
-use Rattle.no_offence_laws.proofs.MadeLemmas.{begins_at, strings_and_headers_stay, tokens_are_made_anew}
+use Rattle.no_offence_laws.proofs.MadeLemmas.{headers_stay, tokens_are_made_anew}
+use Rattle.no_offence_laws.proofs.PieceLemmas.{begins_there}
 use Rattle.no_offence_laws.proofs.OccurringLemmas.{occurring_are_kept, origin_is, origin_same, pasted_tokens_occur}
 use Rattle.no_offence_laws.proofs.RenamingLemmas.{spell-same}
 use Rattle.no_offence_laws.proofs.TracedLemmas.{AreChained, Traced}
@@ -178,7 +179,7 @@ module _ (a : Analysed) (members : List Part) (name : List ℕ) (h : IsAllowed a
       let there : In t u.text.header = subst (λ (v : UnitTextValue). In t v.header) o.text all in
       let is = unit_is h.source h.workspace a.value h.accepted u i in
       let traced = toks_at (Traced a.value) u.text.header (unit_traced a.value u i is).header t there.0 there.1 in
-      spells t traced.each ∙ (strings_and_headers_stay a members name h u i).header t there)
+      spells t traced.each ∙ headers_stay a members name h u i t there)
 
   note_kept : (note : Note) → In note d.notes → KeepsNote c note
   note_kept (Happened run before note) at = happened_kept run before note at
@@ -214,7 +215,7 @@ module _ (a : Analysed) (members : List Part) (name : List ℕ) (h : IsAllowed a
   whole_moves t whole named =
       let traced = whole.traced in
       same_itself (origin_at (renamed c.renaming t) 0) (option_map c.renaming.move (origin_at t 0))
-      (chained_first a.value members name h.identifier t.origins t.text traced.each (begins_at a.value members h.class.part h.class.listed name h.identifier)
+      (chained_first a.value members name h.identifier t.origins t.text traced.each (begins_there a.value members h.class.part h.class.listed)
       (whole_chained a.value t whole named))
 
   links_move : LinksAgree (λ t. mark (moves t)) u.text

@@ -17,6 +17,7 @@ use Rattle.analysis_laws.proofs.MadeLemmas.{made_files_pseudo}
 use Rattle.analysis_laws.proofs.OnceLemmas.{paths_once}
 use Rattle.kept_meaning_laws.specs.EditedSource.{AreRespelled}
 use Rattle.kept_meaning_laws.specs.Plans.{AreMade, PlansKeepMeaning}
+use Rattle.no_offence_laws.proofs.NoneLemmas.{cleared}
 use Rattle.kept_meaning_laws.specs.RenamedSource.{IsAccepted}
 use Rattle.kept_meaning_laws.proofs.EditLemmas.{edit_for, held_before, edit_there, edit_apart}
 use Rattle.kept_meaning_laws.proofs.FoundLemmas.{analysis_finds}
@@ -24,18 +25,18 @@ use Rattle.kept_meaning_laws.proofs.TextLemmas.{respelled_files_have_renamed_tex
 
 -- What a plan with edits says: the place names a part, nothing stands against renaming its class, and the edits are those of
 -- its members.
-pub record IsPlan (a : AnalysisValue) (path : List ℕ) (line column : ℕ) (name : List ℕ) (edits : List Edit) : Type 0 where
+pub record IsPlan (a : AnalysisValue) (path : List ℕ) (line column : ℕ) (name : List ℕ) (strings : Bool) (edits : List Edit) : Type 0 where
   pub part : Part
   pub named : Names a path line column (Some part)
   pub members : List Part
   pub class : AreMembers a part members
   pub identifier : is_identifier_text name ≡ true
-  pub clear : offences_of a members name ≡ []
+  pub clear : offences_of a members name strings ≡ []
   pub edits_are : edits ≡ edits_of a members name
 
-module _ (a : AnalysisValue) (path : List ℕ) (line column : ℕ) (name : List ℕ) (edits : List Edit) where
-  planned_class : (part : Option Part) → is_identifier_text name ≡ true → Names a path line column part → IsNamedRenamed a name (Ok edits) part
-      → IsPlan a path line column name edits
+module _ (a : AnalysisValue) (path : List ℕ) (line column : ℕ) (name : List ℕ) (strings : Bool) (edits : List Edit) where
+  planned_class : (part : Option Part) → is_identifier_text name ≡ true → Names a path line column part → IsNamedRenamed a name strings (Ok edits) part
+      → IsPlan a path line column name strings edits
   planned_class None good names is = cc
   planned_class (Some part) good names is = record {
     part = part;
@@ -47,14 +48,14 @@ module _ (a : AnalysisValue) (path : List ℕ) (line column : ℕ) (name : List 
     edits_are = is.renamed.1;
   }
 
-  planned_name : (good : Bool) → is_identifier_text name ≡ good → IsRenaming a path line column name (Ok edits) → IsPlan a path line column name edits
+  planned_name : (good : Bool) → is_identifier_text name ≡ good → IsRenaming a path line column name strings (Ok edits) → IsPlan a path line column name strings edits
   planned_name false is r = let e = r.bad_name is in cc
   planned_name true is r = let n = r.named is in planned_class n.0 is n.1 n.2
 
-  pub is_plan : IsRenaming a path line column name (Ok edits) → IsPlan a path line column name edits
+  pub is_plan : IsRenaming a path line column name strings (Ok edits) → IsPlan a path line column name strings edits
   is_plan r = planned_name (is_identifier_text name) refl r
 
-  module _ (p : IsPlan a path line column name edits) (ws : WorkspaceValue) (before now : Source) (analysed : analysis_of before ws ≡ Ok a)
+  module _ (p : IsPlan a path line column name strings edits) (ws : WorkspaceValue) (before now : Source) (analysed : analysis_of before ws ≡ Ok a)
       (made : AreMade edits before now) where
     -- the files once the edits are made: those that hold members have these respelled
     pub plan_respells : AreRespelled a p.members name before now
@@ -63,7 +64,7 @@ module _ (a : AnalysisValue) (path : List ℕ) (line column : ℕ) (name : List 
         let pseudo = made_files_pseudo before ws a analysed in
         record {
           edited = λ run f holds. (
-            held_before before a p.members run name f p.clear found pseudo holds,
+            held_before before a p.members run name f (cleared a p.members name strings p.clear) found pseudo holds,
             made.each (edit_for name run f) (subst (λ (es : List Edit). IsAmong es (edit_for name run f)) (sym p.edits_are) (edit_there a name p.members run f holds)),
           );
           others = λ other apart. made.others other (λ e among.
@@ -78,20 +79,20 @@ module _ (a : AnalysisValue) (path : List ℕ) (line column : ℕ) (name : List 
       once = paths_once before ws a is analysed;
       class = p.class;
       identifier = p.identifier;
-      clear = p.clear;
+      clear = cleared a p.members name strings p.clear;
     }
 
 pub plans_keep_meaning : PlansKeepMeaning
-plans_keep_meaning = λ ws a table path line column name edits is own renaming.
-    let p = is_plan a path line column name edits renaming in
+plans_keep_meaning = λ ws a table path line column name strings edits is own renaming.
+    let p = is_plan a path line column name strings edits renaming in
     record {
       part = p.part;
       named = p.named;
       members = p.members;
       class = p.class;
       kept = λ before now analysed made.
-          let files = plan_respells a path line column name edits p ws before now analysed made in
-          let accepted = plan_accepted a path line column name edits p ws before now analysed made table is own in
+          let files = plan_respells a path line column name strings edits p ws before now analysed made in
+          let accepted = plan_accepted a path line column name strings edits p ws before now analysed made table is own in
           record {
             files = files;
             texts = respelled_files_have_renamed_texts before now ws a table p.part p.members name path line column accepted p.named files;

@@ -23,7 +23,7 @@ use Rattle.no_offence_laws.specs.Below.ws_core.Analysis.{AnalysisValue, analysis
 use Rattle.no_offence_laws.specs.Below.ws_core.Places.{place_at, place_in_file, place_in_lines}
 use Rattle.no_offence_laws.specs.Below.rename_rules.declared.offences.Offence.{Offence}
 use Rattle.no_offence_laws.specs.Below.rename_rules.First.{number_of, offence, offence_cmp, path_of, position_cmp, standing, member_offences, spelling_offences, offences_of, IsAmong, IsFirst}
-use Rattle.no_offence_laws.specs.Below.rename_rules.Offences.{read_only_places, reserved_places, stringized_places, header_places, no_identifier_places, occurring_places, clashing_places, too_large_places, shadowed_places}
+use Rattle.no_offence_laws.specs.Below.rename_rules.Offences.{read_only_places, reserved_places, kept_string_places, header_places, no_identifier_places, occurring_places, clashing_places, too_large_places, shadowed_places}
 use Rattle.no_offence_laws.specs.Below.rename_rules.Renaming.{Refusal, refused}
 use Rattle.no_offence_laws.proofs.LinkLemmas.{all_both}
 use Rattle.no_offence_laws.proofs.ListLemmas.{AllOf, all_at}
@@ -120,12 +120,12 @@ unfolding IsListed
 all_standing c e [] = tt
 all_standing c e (p ∷ places) = (e, all_standing c e places)
 
-all_listed : (a : AnalysisValue) (members : List Part) (name : List ℕ) → AllOf IsListed (offences_of a members name)
+all_listed : (a : AnalysisValue) (members : List Part) (name : List ℕ) (strings : Bool) → AllOf IsListed (offences_of a members name strings)
 unfolding member_offences spelling_offences causes
-all_listed a members name =
+all_listed a members name strings =
     let s1 = standing cause.ReadOnly (read_only_places a members) in
     let s2 = standing cause.Reserved (reserved_places a members name) in
-    let s3 = standing cause.Stringized (stringized_places a members) in
+    let s3 = standing cause.Stringized (kept_string_places a members strings) in
     let s4 = standing cause.HeaderName (header_places a members) in
     let s5 = standing cause.NotIdentifier (no_identifier_places a members) in
     let s6 = standing cause.Occurs (occurring_places a members name) in
@@ -136,7 +136,7 @@ all_listed a members name =
     (all_both IsListed (s1 ++ s2 ++ s3 ++ s4) s5
     (all_both IsListed (s1 ++ s2 ++ s3) s4
     (all_both IsListed (s1 ++ s2) s3 (all_both IsListed s1 s2 (all_standing cause.ReadOnly refl (read_only_places a members))
-    (all_standing cause.Reserved refl (reserved_places a members name))) (all_standing cause.Stringized refl (stringized_places a members)))
+    (all_standing cause.Reserved refl (reserved_places a members name))) (all_standing cause.Stringized refl (kept_string_places a members strings)))
     (all_standing cause.HeaderName refl (header_places a members)))
     (all_standing cause.NotIdentifier refl (no_identifier_places a members)))
     (all_both IsListed (s6 ++ s7 ++ s8) s9
@@ -149,7 +149,7 @@ unfolding IsListed
 one_cause o p e f same = same_Some o.cause p.cause (sym e ∙ (ap (slice_get causes) same ∙ f))
 
 pub refusals_are_one : RefusalsAreOne
-refusals_are_one = λ source ws a members name x y is analysed p q.
+refusals_are_one = λ source ws a members name strings x y is analysed p q.
     let o : Offence = p.0 in
     let u : Offence = q.0 in
     let equal = neither_first a.table o u (λ e. q.1.1 o p.1.0 e) (λ e. p.1.1 u q.1.0 e) in
@@ -159,6 +159,6 @@ refusals_are_one = λ source ws a members name x y is analysed p q.
     one_place_at a.table (paths_once source ws a is analysed) (no_lines source ws a analysed) (lines_first source ws a analysed) o.at u.at
     (tied (path_of a.table o.at.file) (path_of a.table u.at.file) inner.0) (number_equal o.at.at u.at.at inner.1) in
     let cause_is : o.cause ≡ u.cause =
-    one_cause o u (all_at IsListed (offences_of a members name) (all_listed a members name) o p.1.0) (all_at IsListed (offences_of a members name) (all_listed a members name) u q.1.0)
+    one_cause o u (all_at IsListed (offences_of a members name strings) (all_listed a members name strings) o p.1.0) (all_at IsListed (offences_of a members name strings) (all_listed a members name strings) u q.1.0)
     (number_equal (number_of o.cause) (number_of u.cause) outer.1) in
     p.2 ∙ (ap (λ (z : Place). refused z o.cause) place ∙ (ap (λ (c : Cause). refused (place_at a.table u.at) c) cause_is ∙ sym q.2))

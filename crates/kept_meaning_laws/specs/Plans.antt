@@ -1,6 +1,6 @@
 -- What the plan of a renaming keeps, over whatever source has the analysis (this project's, over ISO/IEC 9899:1999, 5.1.1.2
 -- phases 1 to 7): its edits respell the members of the named class, and the workspace means what it meant.
-use Rattle.std.specs.Prelude.{◌≡◌, false, ℕ, List, Some, Ok, Err}
+use Rattle.std.specs.Prelude.{◌≡◌, false, ℕ, Bool, List, Some, Ok, Err}
 use Rattle.std.specs.Str.{bytes_eq}
 use Rattle.tree_laws.specs.Below.cs_base.declared.positions.Part.{Part}
 use Rattle.tree_laws.specs.Below.cs_base.Edit.{Edit}
@@ -36,12 +36,12 @@ pub record RenamesOver (ws : WorkspaceValue) (a : AnalysisValue) (path : List �
   pub class : AreMembers a part members
   pub kept : (before now : Source) → analysis_of before ws ≡ Ok a → AreMade edits before now → KeepsMeaning ws a members name before now
 
--- The law: the edits that a plan gives do.
+-- The law: the edits that a plan gives do, whether strings which `#` makes may follow the renaming or not.
 abbrev pub PlansKeepMeaning : Type 0
-PlansKeepMeaning = (ws : WorkspaceValue) (a : AnalysisValue) (table : classes.Table) (path : List ℕ) (line column : ℕ) (name : List ℕ) (edits : List Edit)
-    → IsWorkspace ws → AreItsClasses a table → IsRenaming a path line column name (Ok edits) → RenamesOver ws a path line column name edits
+PlansKeepMeaning = (ws : WorkspaceValue) (a : AnalysisValue) (table : classes.Table) (path : List ℕ) (line column : ℕ) (name : List ℕ) (strings : Bool) (edits : List Edit)
+    → IsWorkspace ws → AreItsClasses a table → IsRenaming a path line column name strings (Ok edits) → RenamesOver ws a path line column name edits
 
 -- The law: a renaming of a class is refused in one way: two refusals of it name one place and one cause.
 abbrev pub RefusalsAreOne : Type 0
-RefusalsAreOne = (source : Source) (ws : WorkspaceValue) (a : AnalysisValue) (members : List Part) (name : List ℕ) (x y : Refusal)
-    → IsWorkspace ws → analysis_of source ws ≡ Ok a → IsRenamed a members name (Err x) → IsRenamed a members name (Err y) → x ≡ y
+RefusalsAreOne = (source : Source) (ws : WorkspaceValue) (a : AnalysisValue) (members : List Part) (name : List ℕ) (strings : Bool) (x y : Refusal)
+    → IsWorkspace ws → analysis_of source ws ≡ Ok a → IsRenamed a members name strings (Err x) → IsRenamed a members name strings (Err y) → x ≡ y

@@ -15,7 +15,7 @@ use Rattle.no_offence_laws.specs.Below.ws_core.Parts.{AreMembers}
 use Rattle.kept_meaning_laws.specs.EditedSource.{AreRespelled}
 use Rattle.no_offence_laws.specs.Below.renamed.Renamed.{TextsAreRenamed, AnalysisIsRenamed, ExternalNamesAreKept}
 
--- A renaming against which nothing stands: of the class of the part that a place names, in a workspace that is accepted.
+-- A renaming against which nothing stands, if strings that `#` makes may follow it: of the class of the part that a place names, in a workspace that is accepted.
 pub record IsAccepted (source : Source) (ws : WorkspaceValue) (a : AnalysisValue) (table : classes.Table) (part : Part) (members : List Part) (name : List ℕ) : Type 0 where
   pub workspace : IsWorkspace ws
   pub analysed : analysis_of source ws ≡ Ok a
@@ -23,7 +23,7 @@ pub record IsAccepted (source : Source) (ws : WorkspaceValue) (a : AnalysisValue
   pub once : HasEachOnce a.table
   pub class : AreMembers a part members
   pub identifier : is_identifier_text name ≡ true
-  pub clear : IsFirst a.table (offences_of a members name) None
+  pub clear : IsFirst a.table (offences_of a members name true) None
 
 -- The law: over files that hold the members respelled, and are the same else, so it is with each unit.
 abbrev pub RespelledFilesHaveRenamedTexts : Type 0

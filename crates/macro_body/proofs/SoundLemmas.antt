@@ -8,9 +8,10 @@ use Rattle.cs_base.specs.declared.tokens.Kind.{Kind}
 use Rattle.cs_base.specs.Token.{Token}
 use Rattle.part_lexer.specs.Characters.{double_quote}
 use Rattle.part_lexer.specs.OneToken.{one_token_of}
+use Rattle.part_lexer.specs.Spelling.{is_plain_string_text}
 use Rattle.paste_origin.specs.Pasting.{PasteFault, joined, pasted_as, glue_of}
 use Rattle.paste_origin.specs.Strings.{NotAString as NotAString_of}
-use Rattle.paste_origin.specs.Strings.{StringFault, is_string, string_text, string_origins, string_token, stringize_of}
+use Rattle.paste_origin.specs.Strings.{StringFault, string_text, string_origins, string_token, stringize_of}
 use Rattle.macro_body.specs.Hides.{Hidden, hidden, in_both, toks_of}
 use Rattle.macro_body.specs.Bodies.{Part, Plain, Param, Quote, Paste}
 use Rattle.macro_body.specs.Notes.{Fault, NotOneToken, NotAString, Stringized, Pasted, onward}
@@ -65,7 +66,7 @@ only-sound h here = ap (λ b. b && true) here
 -- a string has a quote
 string-traced : (toks : List Token) (s : Token) → stringize_of toks ≡ Ok s → is_traced s ≡ true
 unfolding stringize_of
-string-traced toks s e = by (is_string (one_token_of (string_text toks))) e
+string-traced toks s e = by (is_plain_string_text (string_text toks)) e
   where
     value_or : Result Token StringFault → Token
     value_or (Ok t) = t

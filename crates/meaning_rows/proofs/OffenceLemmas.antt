@@ -1,5 +1,5 @@
 -- Tokens of an analysis of a row, and offences that stand against the renaming of a class in it.
-use Rattle.std.proofs.Common.{◌≡◌, ℕ, Bool, true, List, [], ◌++◌, Option, Some, refl, sym, ap, subst}
+use Rattle.std.proofs.Common.{◌≡◌, ℕ, Bool, true, List, [], ◌++◌, Option, Some, refl, sym, ap, subst, false}
 use Rattle.std.specs.Prelude.{◌&&◌, if◌then◌else◌, slice_get}
 use Rattle.std.specs.List.{flat_map, list_any}
 use Rattle.std.specs.Option.{option_map_or, option_and_then}
@@ -60,24 +60,24 @@ module _ (a : AnalysisValue) (members : List Part) (name : List ℕ) where
   abbrev shadowing : List Offence
   shadowing = standing ShadowedTypedef (shadowed_places a members)
 
-  of_spellings : (o : Offence) → In o (spelling_offences a members name) → In o (offences_of a members name)
-  of_spellings o i = in_right o (member_offences a members name) (spelling_offences a members name) i
+  of_spellings : (o : Offence) → In o (spelling_offences a members name) → In o (offences_of a members name false)
+  of_spellings o i = in_right o (member_offences a members name false) (spelling_offences a members name) i
 
-  pub occurs_stands : (p : Pos) → In p (occurring_places a members name) → In (offence Occurs p) (offences_of a members name)
+  pub occurs_stands : (p : Pos) → In p (occurring_places a members name) → In (offence Occurs p) (offences_of a members name false)
   unfolding spelling_offences
   occurs_stands p i =
       let o : Offence = offence Occurs p in
       of_spellings o (in_left o (occurring ++ clashing ++ sized) shadowing (in_left o (occurring ++ clashing) sized
       (in_left o occurring clashing (stands Occurs (occurring_places a members name) p i))))
 
-  pub clash_stands : (p : Pos) → In p (clashing_places a members name) → In (offence Clash p) (offences_of a members name)
+  pub clash_stands : (p : Pos) → In p (clashing_places a members name) → In (offence Clash p) (offences_of a members name false)
   unfolding spelling_offences
   clash_stands p i =
       let o : Offence = offence Clash p in
       of_spellings o (in_left o (occurring ++ clashing ++ sized) shadowing (in_left o (occurring ++ clashing) sized
       (in_right o occurring clashing (stands Clash (clashing_places a members name) p i))))
 
-  pub shadow_stands : (p : Pos) → In p (shadowed_places a members) → In (offence ShadowedTypedef p) (offences_of a members name)
+  pub shadow_stands : (p : Pos) → In p (shadowed_places a members) → In (offence ShadowedTypedef p) (offences_of a members name false)
   unfolding spelling_offences
   shadow_stands p i =
       let o : Offence = offence ShadowedTypedef p in

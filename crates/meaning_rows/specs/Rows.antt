@@ -76,7 +76,7 @@ BreaksMeaning r at name = (a : AnalysisValue) → IsOf r a → (now : Source) (w
 
 -- an offence of this cause stands against it, at this place
 abbrev pub IsOffence : Row → ℕ → List ℕ → Cause → ℕ → Type 0
-IsOffence r at name cause place = (a : AnalysisValue) → IsOf r a → IsAmong (offences_of a (member at) name) (offence cause (pos 2 place))
+IsOffence r at name cause place = (a : AnalysisValue) → IsOf r a → IsAmong (offences_of a (member at) name false) (offence cause (pos 2 place))
 
 -- ---- rows
 

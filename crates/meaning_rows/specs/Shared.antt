@@ -86,7 +86,7 @@ pub record ArePreprocessed (r : TwoUnits) : Type 0 where
 
 -- an offence of this cause stands against it, at this place
 abbrev pub StandsAgainst : TwoUnits → ℕ → List ℕ → Cause → ℕ → Type 0
-StandsAgainst r at name cause place = (a : AnalysisValue) → AreOf r a → IsAmong (offences_of a (member at) name) (offence cause (pos 2 place))
+StandsAgainst r at name cause place = (a : AnalysisValue) → AreOf r a → IsAmong (offences_of a (member at) name false) (offence cause (pos 2 place))
 
 -- each unit is read and bound as before
 abbrev pub KeepsEachReading : TwoUnits → ℕ → List ℕ → Type 0

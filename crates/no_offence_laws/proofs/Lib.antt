@@ -4,6 +4,7 @@ pub mod FileLemmas
 pub mod PutLemmas
 pub mod SpellLemmas
 pub mod StringLemmas
+pub mod PieceLemmas
 pub mod WordLemmas
 pub mod NoneLemmas
 pub mod MemberLemmas

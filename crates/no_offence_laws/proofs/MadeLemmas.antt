@@ -1,9 +1,9 @@
 -- Strings and pasted tokens of a unit, made anew of renamed tokens.
-use Rattle.std.proofs.Common.{◌≡◌, ℕ, zero, suc, ◌+◌, ◌-◌, ◌==◌, Bool, true, false, List, [], ◌∷◌, ◌++◌, length, map, replicate, Option, Some, None, Ok, Err, inl, inr, refl, sym, ap, subst, ◌∙◌, append_assoc, arith}
-use Rattle.std.specs.Prelude.{cond}
-use Rattle.std.specs.List.{flat_map, list_all}
+use Rattle.std.proofs.Common.{◌≡◌, ℕ, zero, suc, ◌+◌, ◌-◌, ◌==◌, Bool, true, false, List, ◌∷◌, ◌++◌, length, map, replicate, Option, Some, None, Ok, Err, inl, inr, refl, sym, ap, subst, ◌∙◌, arith, ◌*◌, length-append, []}
+use Rattle.std.specs.Prelude.{cond, slice_get}
+use Rattle.std.specs.List.{flat_map, list_all, list_any}
 use Rattle.std.specs.Option.{option_map_or}
-use Rattle.std.proofs.lemmas.Bool.{cases_Bool, and_parts, and_from, eq-eqb, false_from_ne_true}
+use Rattle.std.proofs.lemmas.Bool.{cases_Bool, and_parts, and_from, eq-eqb, false_from_ne_true, both_ways}
 use Rattle.std.proofs.lemmas.List.Folds.{list_all-append}
 use Rattle.rename_rules.specs.Below.cs_base.declared.positions.Part.{Part}
 use Rattle.rename_rules.specs.Below.cs_base.declared.positions.Pos.{Pos}
@@ -13,49 +13,64 @@ use Rattle.rename_rules.specs.Below.cs_base.Token.{Token, token}
 use Rattle.rename_rules.specs.Below.part_lexer.Characters.{double_quote, is_nondigit, is_word}
 use Rattle.rename_rules.specs.Below.part_lexer.OneToken.{one_token_of}
 use Rattle.rename_rules.specs.Below.part_lexer.Places.{pos}
-use Rattle.rename_rules.specs.Below.part_lexer.Spelling.{is_identifier_text}
-use Rattle.rename_rules.specs.Below.line_shape.Signs.{is_identifier}
+use Rattle.rename_rules.specs.Below.part_lexer.Spelling.{is_identifier_text, closes, is_plain_string_text}
+use Rattle.rename_rules.specs.Below.line_shape.Signs.{is_identifier, is_name}
 use Rattle.rename_rules.specs.Below.paste_origin.Pasting.{pasted_as, joined, glue_of}
-use Rattle.rename_rules.specs.Below.paste_origin.Strings.{space, NotAString, escaped, spelling_of, later_spelling, spellings_of, string_text, string_origins, string_token, is_string, stringize_of}
+use Rattle.rename_rules.specs.Below.paste_origin.Strings.{NotAString, spellings_of, string_text, string_origins, string_token, stringize_of, all_origins}
 use Rattle.rename_rules.specs.Below.macro_body.Notes as expansion
 use Rattle.rename_rules.specs.Below.macro_expand.Renaming.{Renaming, renamed, labelled_as}
-use Rattle.rename_rules.specs.Below.source_files.KeptFiles.{KeptValue, kept_at}
-use Rattle.rename_rules.specs.Below.unit_steps.Notes.{Happened, pasted_of, stringized_of}
+use Rattle.rename_rules.specs.Below.source_files.KeptFiles.{KeptValue}
+use Rattle.rename_rules.specs.Below.unit_steps.Notes.{Happened, pasted_of, Note}
 use Rattle.rename_rules.specs.Below.unit_steps.State.{Did}
-use Rattle.rename_rules.specs.Below.unit_steps.Texts.{UnitTextValue}
-use Rattle.edited_unit_laws.specs.Below.expansion_laws.Spelled.{fits}
+use Rattle.rename_rules.specs.Below.unit_steps.Texts.{UnitTextValue, unit_text}
+use Rattle.edited_unit_laws.specs.Below.expansion_laws.Spelled.{fits, is_spelled}
 use Rattle.edited_unit_laws.specs.Below.expansion_laws.Telling.{IsPasted}
-use Rattle.edited_unit_laws.proofs.Below.expansion_laws.ListLemmas.{AllToks, toks_at}
+use Rattle.edited_unit_laws.proofs.Below.expansion_laws.ListLemmas.{AllToks, toks_at, each_tok, toks_more, toks_pass}
 use Rattle.edited_unit_laws.proofs.Below.expansion_laws.PiecesLemmas.{glue_is}
 use Rattle.edited_unit_laws.proofs.Below.expansion_laws.TellingLemmas.{string_is}
-use Rattle.unit_laws.specs.UnitLinks.{IsIn as IsInList}
-use Rattle.unit_laws.proofs.DoneLemmas.{HappenedSo, NotedSo}
+use Rattle.unit_laws.proofs.DoneLemmas.{HappenedSo, NotedSo, UnitRules}
 use Rattle.unit_laws.proofs.NoteLemmas.{in_at, each_in, flat_in}
 use Rattle.unit_laws.proofs.UnitLemmas.{unit_has}
 use Rattle.rename_rules.specs.Below.part_respell.Respelled.{member_over, put_in, put_at, put_for, spelled, spelled_from}
 use Rattle.rename_rules.specs.Below.ws_core.Analysed.{Analysed}
 use Rattle.rename_rules.specs.Below.ws_core.Analysis.{UnitAnalysis, AnalysisValue}
-use Rattle.rename_rules.specs.Below.ws_core.FileTokens.{file_tokens}
-use Rattle.rename_rules.specs.Below.ws_core.Parts.{AreMembers, Begins}
-use Rattle.rename_rules.proofs.Below.ws_core.NamingLemmas.{in_right}
-use Rattle.rename_rules.specs.Offences.{stringized_places, header_places}
+use Rattle.rename_rules.specs.Below.ws_core.FileTokens.{file_tokens, numbers_brought}
+use Rattle.rename_rules.specs.Below.ws_core.Parts.{AreMembers}
+use Rattle.rename_rules.proofs.Below.ws_core.NamingLemmas.{in_right, in_left}
+use Rattle.rename_rules.specs.Offences.{header_places}
 use Rattle.rename_rules.specs.Tokens.{holders, holds_member, pasted_tokens, starts_in}
 use Rattle.rename_rules.proofs.Below.part_lexer.FitLemmas.{identifier-words}
 use Rattle.no_offence_laws.specs.Allowed.{IsAllowed}
-use Rattle.no_offence_laws.specs.MadeTokens.{IsOutcome, IsMadeAnew, TokensAreMadeAnew, StringsAndHeadersStay}
+use Rattle.no_offence_laws.specs.MadeTokens.{IsOutcome, IsMadeAnew, TokensAreMadeAnew, HeadersStay}
 use Rattle.no_offence_laws.specs.Renamings.{renaming}
 use Rattle.no_offence_laws.proofs.ListLemmas.{In, all_at, flat_nil, in_flat}
 use Rattle.no_offence_laws.proofs.LinkLemmas.{IsWhole, pasted_whole, whole_chained}
-use Rattle.no_offence_laws.proofs.MemberLemmas.{over_begins}
+use Rattle.unit_laws.proofs.NameLemmas.{kind_words}
 use Rattle.no_offence_laws.proofs.NoneLemmas.{NoneStand, none_stand, some_start, holder, holder_name}
 use Rattle.no_offence_laws.proofs.OneTokenLemmas.{one_identifier}
 use Rattle.no_offence_laws.proofs.PutLemmas.{put_words}
 use Rattle.no_offence_laws.proofs.RenamingLemmas.{spell-same}
-use Rattle.no_offence_laws.proofs.SpellLemmas.{spelled-kept}
-use Rattle.no_offence_laws.proofs.StringLemmas.{IsStringed, fine_free, spell_append, trace_append, string_spelled, string_traced}
-use Rattle.no_offence_laws.proofs.TracedLemmas.{AreChained, Traced, spelled_fits, rules_traced}
+use Rattle.no_offence_laws.proofs.SpellLemmas.{spelled-kept, is_from}
+use Rattle.no_offence_laws.proofs.StringLemmas.{IsStringed, spell_append, trace_append, string_spelled, string_traced}
+use Rattle.no_offence_laws.proofs.TracedLemmas.{AreChained, Traced, spelled_fits, rules_traced, source_of_kept, digits_length, line_in, answer_in, kept_traced}
 use Rattle.no_offence_laws.proofs.UnitsLemmas.{IsUnit, unit_is, unit_traced, no_lines, brought_in}
-use Rattle.edited_unit_laws.specs.Below.renamed.Renamed.{spell_from, moved_in, move_to, origins_for, trace_from}
+use Rattle.edited_unit_laws.specs.Below.renamed.Renamed.{spell_from, moved_in, move_to, trace_from}
+use Rattle.std.specs.Fmt.{decimal}
+use Rattle.std.proofs.lemmas.List.{length-replicate}
+use Rattle.rename_rules.specs.Below.part_lexer.Tokens.{tokens_of}
+use Rattle.rename_rules.specs.Below.macro_body.Substitution.{line_number, path_string, path_text}
+use Rattle.rename_rules.specs.Below.source_files.Files.{Table, SourceFile}
+use Rattle.rename_rules.specs.Below.source_files.Sources.{source_at}
+use Rattle.rename_rules.specs.Below.source_files.Tables.{IsGrown}
+use Rattle.rename_rules.specs.Below.unit_steps.Conditions.{answer_for}
+use Rattle.rename_rules.proofs.Below.include_tree.StayingLemmas.{source-grown}
+use Rattle.edited_unit_laws.proofs.Below.expansion_laws.StringLemmas.{string_long}
+use Rattle.unit_laws.proofs.PartLemmas.{from_files}
+use Rattle.unit_laws.proofs.SpellingLemmas.{files_are_spelled}
+use Rattle.unit_laws.proofs.TextLemmas.{line_event, answer_among}
+use Rattle.no_offence_laws.proofs.ApartLemmas.{file_told}
+use Rattle.no_offence_laws.proofs.PieceLemmas.{IsBuilt, fine_whole, whole_free, whole_both, whole_words, behind_whole, string_whole, each_built, closes_on, begins_there}
+use Rattle.unit_laws.specs.UnitLinks.{IsIn as IsInList}
 
 -- ---- tokens that stay
 
@@ -69,12 +84,6 @@ module _ (a : Analysed) (members : List Part) (name : List ℕ) (h : IsAllowed a
   free_by : (t : Token) → starts_in members t ≡ [] → holds_member members t ≡ false
   free_by t nothing = false_from_ne_true (holds_member members t) (λ held. some_start members t held nothing)
 
-  -- no token of which a string was made holds a member
-  stringized_free : (t : Token) → In t u.text.stringized → holds_member members t ≡ false
-  unfolding stringized_places
-  stringized_free t j =
-      free_by t (flat_nil (starts_in members) u.text.stringized t (flat_nil (λ (v : UnitAnalysis). flat_map (starts_in members) v.text.stringized) a.value.units u none.stringized i) j)
-
   header_free : (t : Token) → In t u.text.header → holds_member members t ≡ false
   unfolding header_places
   header_free t j =
@@ -83,52 +92,23 @@ module _ (a : Analysed) (members : List Part) (name : List ℕ) (h : IsAllowed a
   free_stays : (t : Token) → Traced a.value t → holds_member members t ≡ false → spelled members name t ≡ t.text
   free_stays t traced free = spelled-kept members name t.origins t.text traced.each free
 
-pub strings_and_headers_stay : StringsAndHeadersStay
-strings_and_headers_stay = λ a members name h u i.
+pub headers_stay : HeadersStay
+headers_stay = λ a members name h u i t j.
     let is = unit_is h.source h.workspace a.value h.accepted u i in
-    let traced = unit_traced a.value u i is in
-    record {
-      stringized = λ t j. free_stays a members name h u i t (toks_at (Traced a.value) u.text.stringized traced.stringized t j.0 j.1) (stringized_free a members name h u i t j);
-      header = λ t j. free_stays a members name h u i t (toks_at (Traced a.value) u.text.header traced.header t j.0 j.1) (header_free a members name h u i t j);
-    }
+    free_stays a members name h u i t (toks_at (Traced a.value) u.text.header (unit_traced a.value u i is).header t j.0 j.1) (header_free a members name h u i t j)
 
 -- ---- strings
-
-spelling_same : (r : Renaming) (t : Token) → r.spell t.origins t.text ≡ t.text → spelling_of (renamed r t) ≡ spelling_of t
-spelling_same r t same = ap (λ (w : List ℕ). flat_map (escaped t.kind) w) same
-
-later_same : (r : Renaming) (t : Token) → r.spell t.origins t.text ≡ t.text → later_spelling (renamed r t) ≡ later_spelling t
-later_same r t same = ap (λ (w : List ℕ). cond t.gap (space ∷ []) [] ++ w) (spelling_same r t same)
-
--- each token is spelled as it was
-abbrev Unchanged : Renaming → List Token → Type 0
-Unchanged r toks = AllToks (λ t. r.spell t.origins t.text ≡ t.text) toks
-
-laters_same : (r : Renaming) (toks : List Token) → Unchanged r toks → flat_map later_spelling (map (renamed r) toks) ≡ flat_map later_spelling toks
-laters_same r [] same = refl
-laters_same r (t ∷ toks) same =
-    ap (λ (w : List ℕ). w ++ flat_map later_spelling (map (renamed r) toks)) (later_same r t same.0)
-    ∙ ap (λ (w : List ℕ). later_spelling t ++ w) (laters_same r toks same.1)
-
-string_same : (r : Renaming) (toks : List Token) → Unchanged r toks → string_text (map (renamed r) toks) ≡ string_text toks
-string_same r [] same = refl
-string_same r (t ∷ toks) same =
-    let first = spelling_same r t same.0 in
-    let rest = laters_same r toks same.1 in
-    let both : spellings_of (map (renamed r) (t ∷ toks)) ≡ spellings_of (t ∷ toks) =
-    ap (λ (w : List ℕ). w ++ flat_map later_spelling (map (renamed r) toks)) first ∙ ap (λ (w : List ℕ). spelling_of t ++ w) rest in
-    ap (λ (w : List ℕ). double_quote ∷ w ++ double_quote ∷ []) both
 
 -- the string that tokens make, if their text is one
 string_if : (b : Bool) (x s : Token) → cond b (Ok x) (Err NotAString) ≡ Ok s → b ≡ true
 string_if true x s e = refl
 string_if false x s e = absurd (cc)
 
-is_one_string : (toks : List Token) (s : Token) → stringize_of toks ≡ Ok s → is_string (one_token_of (string_text toks)) ≡ true
+is_one_string : (toks : List Token) (s : Token) → stringize_of toks ≡ Ok s → is_plain_string_text (string_text toks) ≡ true
 unfolding stringize_of
-is_one_string toks s e = string_if (is_string (one_token_of (string_text toks))) (string_token (string_text toks) (string_origins toks)) s e
+is_one_string toks s e = string_if (is_plain_string_text (string_text toks)) (string_token (string_text toks) (string_origins toks)) s e
 
-makes_string : (toks : List Token) → is_string (one_token_of (string_text toks)) ≡ true → stringize_of toks ≡ Ok (string_token (string_text toks) (string_origins toks))
+makes_string : (toks : List Token) → is_plain_string_text (string_text toks) ≡ true → stringize_of toks ≡ Ok (string_token (string_text toks) (string_origins toks))
 unfolding stringize_of
 makes_string toks one = ap (λ (b : Bool). cond b (Ok (string_token (string_text toks) (string_origins toks))) (Err NotAString)) one
 
@@ -167,10 +147,6 @@ first_put name p c (Some m) is letter begins =
     rw here is
 
 module _ (a : AnalysisValue) (members : List Part) (part : Part) (listed : AreMembers a part members) (name : List ℕ) (is : is_identifier_text name ≡ true) where
-  pub begins_at : (p : Pos) → Begins a p → (m : Part) → member_over members p ≡ Some m → m.start.at ≡ p.at
-  begins_at p b m over =
-      over_begins a members part listed b.0 m b.1 (ap (member_over members) b.2 ∙ over) ∙ ap (λ (q : Pos). q.at) b.2
-
   -- the new spelling of an identifier is one
   identifier_from : (os : List (Option Pos)) (text : List ℕ) → AreChained a os → length os ≡ length text → is_identifier_text text ≡ true
       → is_identifier_text (spelled_from members name os text) ≡ true
@@ -182,7 +158,7 @@ module _ (a : AnalysisValue) (members : List Part) (part : Part) (listed : AreMe
   identifier_from (Some p ∷ os) (c ∷ text) chained size identifier =
       let both = and_parts (is_nondigit c) (list_all is_word text) identifier in
       identifier_on (put_at members name p c) (spelled_from members name os text)
-      (first_put name p c (member_over members p) is both.0 (begins_at p chained.0))
+      (first_put name p c (member_over members p) is both.0 (begins_there a members part listed p chained.0))
       (words_from members name os text (identifier-words name is) both.1)
 
 kind_name : (k : Kind) → is_identifier k ≡ true → k ≡ Ident
@@ -244,37 +220,106 @@ module _ (a : Analysed) (members : List Part) (name : List ℕ) (h : IsAllowed a
       (ap (λ (w : List ℕ). label w (trace_from a.value members name x.origins x.text ++ trace_from a.value members name y.origins y.text)) (sym spell)
       ∙ ap (λ (os : List (Option Pos)). label (spell_from members name z.origins z.text) os) (sym trace))
 
-  unchanged : (toks : List Token) → ((t : Token) → In t toks → In t u.text.stringized) → AllToks (Traced a.value) toks → Unchanged (renaming a.value members name u.text) toks
-  unchanged [] told traced = tt
-  unchanged (t ∷ toks) told traced = (
-    (let one = traced.0 in
-        spell-same members name t.origins t.text one.each ∙ free_stays a members name h u i t traced.0 (stringized_free a members name h u i t (told t (0, refl)))),
-    unchanged toks (λ v j. told v (suc j.0, j.1)) traced.1,
-  )
+  -- ---- members stand whole in the tokens of the unit
 
-  -- no character of theirs comes from a member
-  all_stringed : (toks : List Token) → ((t : Token) → In t toks → In t u.text.stringized) → AllToks (Traced a.value) toks → AllToks (IsStringed a.value members name (identifier-words name h.identifier)) toks
-  all_stringed [] told traced = tt
-  all_stringed (t ∷ toks) told traced = (
-    (let one = traced.0 in
-        record { each = one.each; fine = fine_free members t.origins t.text (stringized_free a members name h u i t (told t (0, refl))) }),
-    all_stringed toks (λ v j. told v (suc j.0, j.1)) traced.1,
-  )
+  nothing_from : (n : ℕ) → list_any (is_from members) (replicate {A = Option Pos} n None) ≡ false
+  nothing_from zero = refl
+  nothing_from (suc n) = nothing_from n
 
-  string_anew : (toks : List Token) (s : Token) → ((t : Token) → In t toks → In t u.text.stringized) → AllToks (Traced a.value) toks → stringize_of toks ≡ Ok s
+  free_built : (t : Token) → length t.origins ≡ length t.text → holds_member members t ≡ false → IsBuilt members t
+  free_built t each free = record { each = each; whole = whole_free members None t.origins t.text free }
+
+  -- a number that the unit brought holds none
+  number_built : (t : Token) → In t (file_tokens a.value) → length t.origins ≡ length t.text → is_name t ≡ false → IsBuilt members t
+  number_built t j each other = free_built t each (false_from_ne_true (holds_member members t) (λ held.
+      let no = none a members name h u i in
+      both_ways (is_name t) other (holder_name a.value members name no t
+      (holder a.value members name no t (in_left t (file_tokens a.value) (pasted_tokens a.value) j) held) held)))
+
+  name_built : (t : Token) → IsWhole a.value t → is_name t ≡ true → IsBuilt members t
+  name_built t w named =
+      let traced = w.traced in
+      record {
+        each = traced.each;
+        whole = whole_words a.value members h.class.part h.class.listed t.origins t.text (whole_chained a.value t w named)
+            (kind_words t.kind t.text named (spelled_fits t w.spelled));
+      }
+
+  answer_built : (word : Token) (b : Bool) → In (answer_for word b) (file_tokens a.value) → IsBuilt members (answer_for word b)
+  answer_built word true j = number_built (answer_for word true) j refl refl
+  answer_built word false j = number_built (answer_for word false) j refl refl
+
+  module _ (notes : List Note) (toks : List Token) (table : Table) (is_text : unit_text toks notes ≡ u.text) (grown : IsGrown table a.value.table) where
+    brought : (t : Token) → In t (numbers_brought u.text) → In t (file_tokens a.value)
+    brought = λ t k. brought_in a.value u i t k
+
+    files_built : (number : ℕ) (file : SourceFile) → source_at table number ≡ Some file → AllToks (IsBuilt members) file.text.toks
+    files_built number file is =
+        let s = source_of_kept a.value.table number file (source-grown table a.value.table number file grown is) in
+        let traced = kept_traced a.value u.text notes toks table is_text grown brought number file is in
+        let spelled = toks_pass is_spelled file.text.toks (files_are_spelled table number file is) in
+        each_tok (IsBuilt members) file.text.toks (λ t k at.
+        let there : In t (tokens_of s.kept.number s.kept.bytes) = (k, ap (λ (ts : List Token). slice_get ts k) (sym s.toks) ∙ at) in
+        let told = file_told a members name h number s.kept s.is_kept t there in
+        elim (cases_Bool (holds_member members t)) [
+          | inr free ↦ free_built t told.each free
+          | inl held ↦
+              let no = none a members name h u i in
+              name_built t (record {
+                traced = toks_at (Traced a.value) file.text.toks traced t k at;
+                spelled = toks_at (λ v. is_spelled v ≡ true) file.text.toks spelled t k at;
+              }) (holder_name a.value members name no t (holder a.value members name no t (told.parted held) held) held)
+        ])
+
+    rules_built : UnitRules (IsBuilt members) (IsInList notes) table
+    rules_built = record {
+      spaced = λ t gap k. record { each = k.each; whole = k.whole };
+      moved = λ t k. record { each = k.each; whole = k.whole };
+      placed = λ name2 t gap here k. record { each = k.each; whole = k.whole };
+      items = λ number k evaluated before file item is at told. from_files (IsBuilt members) table files_built number k evaluated file item is at;
+      lines = λ name2 run before more here word told.
+          let e = line_event u.text notes toks name2 run before more is_text word told in
+          number_built (line_number name2) (line_in a.value u.text notes toks table is_text grown brought e.0 name2 e.1.0 e.1.1)
+          (digits_length (8 * name2.line) (length (decimal name2.line))) refl;
+      answers = λ word b here told. answer_built word b (answer_in a.value u.text notes toks table is_text grown brought (answer_for word b) (answer_among u.text notes toks (answer_for word b) is_text told));
+      paths = λ path name2 here. free_built (path_string path name2) (length-replicate (length (path_text path)) None) (nothing_from (length (path_text path)));
+      strings = λ name2 gap ts s here all is.
+          let made = string_is ts s is in
+          let own : IsBuilt members (string_token (string_text ts) (string_origins ts)) = record { each = string_long ts (each_built members ts all); whole = string_whole members ts all } in
+          let k : IsBuilt members s = subst (IsBuilt members) (sym made) own in
+          record { each = k.each; whole = k.whole };
+      pastes = λ name2 x y z run before here px py is told.
+          let g = glue_is x y z is in
+          let both : IsBuilt members (joined x y g.0) = record {
+            each = length-append x.origins y.origins ∙ ap (λ (n : ℕ). n + length y.origins) px.each ∙ ap (λ (n : ℕ). length x.text + n) py.each ∙ sym (length-append x.text y.text);
+            whole = whole_both members None x.origins y.origins x.text y.text px.each px.whole py.whole;
+          } in
+          let k : IsBuilt members z = subst (IsBuilt members) g.2 both in
+          record { each = k.each; whole = k.whole };
+    }
+
+  -- ---- strings
+
+  string_anew : (toks : List Token) (s : Token) → AllToks (IsBuilt members) toks → stringize_of toks ≡ Ok s
       → stringize_of (map (renamed (renaming a.value members name u.text)) toks) ≡ Ok (renamed (renaming a.value members name u.text) s)
-  string_anew toks s told traced made =
+  unfolding spell_from
+  string_anew toks s built made =
       let q : Renaming = renaming a.value members name u.text in
       let new : List Token = map (renamed q) toks in
       let words = identifier-words name h.identifier in
-      let stringed = all_stringed toks told traced in
+      let stringed : AllToks (IsStringed a.value members name words) toks =
+      toks_more (IsBuilt members) (IsStringed a.value members name words) toks built (λ t k. record { each = k.each; fine = fine_whole members None t.origins t.text k.whole }) in
       let is = string_is toks s made in
-      let one : is_string (one_token_of (string_text new)) ≡ true =
-      ap (λ (w : List ℕ). is_string (one_token_of w)) (string_same q toks (unchanged toks told traced)) ∙ is_one_string toks s made in
-      let still : move_to a.value members name (pos 0 0) ≡ pos 0 0 =
-      ap (λ (o : Option KeptValue). option_map_or (moved_in members name (pos 0 0)) o (pos 0 0)) (no_lines h.source h.workspace a.value h.accepted) in
       let text = string_spelled a.value members name words u.text toks stringed in
       let origins = string_traced a.value members name words u.text toks stringed in
+      let long = string_long toks (each_built members toks built) in
+      let size : length (all_origins toks ++ None ∷ []) ≡ length (spellings_of toks ++ double_quote ∷ []) = omega (arith, long) in
+      let old = (and_parts (double_quote == double_quote) (closes double_quote false (spellings_of toks ++ double_quote ∷ [])) (is_one_string toks s made)).1 in
+      let closed : closes double_quote false (spell_from members name (all_origins toks ++ None ∷ []) (spellings_of toks ++ double_quote ∷ [])) ≡ true =
+      closes_on members name h.identifier None false (all_origins toks ++ None ∷ []) (spellings_of toks ++ double_quote ∷ []) size (behind_whole members toks built) (λ e. absurd (cc)) old in
+      let one : is_plain_string_text (string_text new) ≡ true = ap is_plain_string_text text ∙ closed in
+      let still : move_to a.value members name (pos 0 0) ≡ pos 0 0 =
+      ap (λ (o : Option KeptValue). option_map_or (moved_in members name (pos 0 0)) o (pos 0 0)) (no_lines h.source h.workspace a.value h.accepted) in
       makes_string new one
       ∙ ap (λ (w : List ℕ). Ok (string_token w (string_origins new))) text
       ∙ ap (λ (os : List (Option Pos)). Ok (string_token (spell_from members name (string_origins toks) (string_text toks)) os)) origins
@@ -282,22 +327,22 @@ module _ (a : Analysed) (members : List Part) (name : List ℕ) (h : IsAllowed a
       ∙ ap (λ (v : Token). Ok (renamed q v)) (sym is)
 
   note_anew : (d : Did (List Token)) → IsOutcome a.value u d → (run : Bool) (before : ℕ) (note : expansion.Note) → In (Happened run before note) d.notes
-      → HappenedSo (Traced a.value) note → IsMadeAnew (renaming a.value members name u.text) note
-  note_anew d o run before (expansion.Replaced name2 m more) j so = tt
-  note_anew d o run before (expansion.Linked x y) j so = tt
-  note_anew d o run before (expansion.Stringized toks s) j so =
-      string_anew toks s (λ t k.
-      let there : IsInList (flat_map stringized_of d.notes) t = flat_in stringized_of d.notes (Happened run before (expansion.Stringized toks s)) t j.0 j.1 k in
-      let P : UnitTextValue → Type 0 = λ x. In t x.stringized in
-      subst P o.text there) so.0 so.1
-  note_anew d o run before (expansion.Pasted x y z) j so =
+      → HappenedSo (Traced a.value) note → HappenedSo (IsBuilt members) note → IsMadeAnew (renaming a.value members name u.text) note
+  note_anew d o run before (expansion.Replaced name2 m more) j so built = tt
+  note_anew d o run before (expansion.Linked x y) j so built = tt
+  note_anew d o run before (expansion.Stringized toks s) j so built = string_anew toks s built.0 so.1
+  note_anew d o run before (expansion.Pasted x y z) j so built =
       let there : IsInList (flat_map pasted_of d.notes) z = flat_in pasted_of d.notes (Happened run before (expansion.Pasted x y z)) z j.0 j.1 (0, refl) in
       let P : UnitTextValue → Type 0 = λ v. In z v.pasted in
       pasted_anew x y z (subst P o.text there) so.0 so.1 so.2 so.3
 
 pub tokens_are_made_anew : TokensAreMadeAnew
 tokens_are_made_anew = λ a members name h u d i o run before note j.
+    let each = each_in (IsInList d.notes) d.notes (λ n k at. (k, at)) in
     let rules = rules_traced a.value u.text d.notes d.value d.state.table o.text o.grown (λ t k. brought_in a.value u i t k) in
-    let has = unit_has (Traced a.value) (IsInList d.notes) o.source o.number o.unit o.before d o.outcome rules (each_in (IsInList d.notes) d.notes (λ n k at. (k, at))) in
+    let has = unit_has (Traced a.value) (IsInList d.notes) o.source o.number o.unit o.before d o.outcome rules each in
     let so : NotedSo (Traced a.value) (Happened run before note) = in_at (NotedSo (Traced a.value)) d.notes has.1 (Happened run before note) j.0 j.1 in
-    note_anew a members name h u i d o run before note j so
+    let whole = rules_built a members name h u i d.notes d.value d.state.table o.text o.grown in
+    let built = unit_has (IsBuilt members) (IsInList d.notes) o.source o.number o.unit o.before d o.outcome whole each in
+    let stands : NotedSo (IsBuilt members) (Happened run before note) = in_at (NotedSo (IsBuilt members)) d.notes built.1 (Happened run before note) j.0 j.1 in
+    note_anew a members name h u i d o run before note j so stands

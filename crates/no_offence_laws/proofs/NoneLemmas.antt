@@ -19,7 +19,7 @@ use Rattle.rename_rules.specs.Below.ws_core.FileTokens.{file_tokens}
 use Rattle.rename_rules.specs.Below.ws_core.Places.{is_read_only, is_read_only_path}
 use Rattle.rename_rules.proofs.Below.ws_core.NamingLemmas.{in_filter}
 use Rattle.rename_rules.specs.First.{offence, standing, member_offences, spelling_offences, offences_of}
-use Rattle.rename_rules.specs.Offences.{read_only_place, read_only_places, reserved_place, reserved_places, stringized_places, header_places, no_identifier_place, no_identifier_places, occurring_place, occurring_places, clashing_place, clashing_places, too_large_places, shadowed_places}
+use Rattle.rename_rules.specs.Offences.{read_only_place, read_only_places, reserved_place, reserved_places, kept_string_places, header_places, no_identifier_place, no_identifier_places, occurring_place, occurring_places, clashing_place, clashing_places, too_large_places, shadowed_places}
 use Rattle.rename_rules.specs.Tokens.{all_file_tokens, pasted_tokens, member_of, holds_member, start_of, starts_in, holders, is_new_spelling, clashes, first_place}
 use Rattle.no_offence_laws.proofs.ListLemmas.{In, nil_left, nil_right, map_nil, cons_nil, flat_nil, any_at}
 
@@ -28,7 +28,6 @@ use Rattle.no_offence_laws.proofs.ListLemmas.{In, nil_left, nil_right, map_nil, 
 pub record NoneStand (a : AnalysisValue) (members : List Part) (name : List ℕ) : Type 0 where
   pub read_only : read_only_places a members ≡ []
   pub reserved : reserved_places a members name ≡ []
-  pub stringized : stringized_places a members ≡ []
   pub header : header_places a members ≡ []
   pub no_identifier : no_identifier_places a members ≡ []
   pub occurring : occurring_places a members name ≡ []
@@ -37,20 +36,20 @@ pub record NoneStand (a : AnalysisValue) (members : List Part) (name : List ℕ)
   pub shadowed : shadowed_places a members ≡ []
 
 module _ (a : AnalysisValue) (members : List Part) (name : List ℕ) where
-  pub none_stand : offences_of a members name ≡ [] → NoneStand a members name
+  pub none_stand : offences_of a members name true ≡ [] → NoneStand a members name
   unfolding member_offences spelling_offences
   none_stand none =
       let A = standing cause.ReadOnly (read_only_places a members) in
       let B = standing cause.Reserved (reserved_places a members name) in
-      let C = standing cause.Stringized (stringized_places a members) in
+      let C = standing cause.Stringized (kept_string_places a members true) in
       let D = standing cause.HeaderName (header_places a members) in
       let E = standing cause.NotIdentifier (no_identifier_places a members) in
       let F = standing cause.Occurs (occurring_places a members name) in
       let G = standing cause.Clash (clashing_places a members name) in
       let H = standing cause.TooLarge (too_large_places a members name) in
       let I = standing cause.ShadowedTypedef (shadowed_places a members) in
-      let front : (((A ++ B) ++ C) ++ D) ++ E ≡ [] = nil_left (member_offences a members name) (spelling_offences a members name) none in
-      let rest : ((F ++ G) ++ H) ++ I ≡ [] = nil_right (member_offences a members name) (spelling_offences a members name) none in
+      let front : (((A ++ B) ++ C) ++ D) ++ E ≡ [] = nil_left (member_offences a members name true) (spelling_offences a members name) none in
+      let rest : ((F ++ G) ++ H) ++ I ≡ [] = nil_right (member_offences a members name true) (spelling_offences a members name) none in
       let m1 = nil_left (((A ++ B) ++ C) ++ D) E front in
       let m2 = nil_left ((A ++ B) ++ C) D m1 in
       let m3 = nil_left (A ++ B) C m2 in
@@ -59,7 +58,6 @@ module _ (a : AnalysisValue) (members : List Part) (name : List ℕ) where
       record {
         read_only = map_nil (offence cause.ReadOnly) (read_only_places a members) (nil_left A B m3);
         reserved = map_nil (offence cause.Reserved) (reserved_places a members name) (nil_right A B m3);
-        stringized = map_nil (offence cause.Stringized) (stringized_places a members) (nil_right (A ++ B) C m2);
         header = map_nil (offence cause.HeaderName) (header_places a members) (nil_right ((A ++ B) ++ C) D m1);
         no_identifier = map_nil (offence cause.NotIdentifier) (no_identifier_places a members) (nil_right (((A ++ B) ++ C) ++ D) E front);
         occurring = map_nil (offence cause.Occurs) (occurring_places a members name) (nil_left F G s2);
@@ -67,6 +65,28 @@ module _ (a : AnalysisValue) (members : List Part) (name : List ℕ) where
         too_large = map_nil (offence cause.TooLarge) (too_large_places a members name) (nil_right (F ++ G) H s1);
         shadowed = map_nil (offence cause.ShadowedTypedef) (shadowed_places a members) (nil_right ((F ++ G) ++ H) I rest);
       }
+
+-- ---- where strings must stay
+
+all_nil : {X : Type 0} (a b d e s : List X) → a ≡ [] → b ≡ [] → d ≡ [] → e ≡ [] → s ≡ [] → ((((a ++ b) ++ []) ++ d) ++ e) ++ s ≡ []
+all_nil a b d e s ea eb ed ee es = rw (ea, eb, ed, ee, es) refl
+
+-- where nothing stands though strings must stay, nothing does where they may follow
+pub cleared : (a : AnalysisValue) (members : List Part) (name : List ℕ) (strings : Bool) → offences_of a members name strings ≡ [] → offences_of a members name true ≡ []
+unfolding member_offences
+cleared a members name true none = none
+cleared a members name false none =
+    let A = standing cause.ReadOnly (read_only_places a members) in
+    let B = standing cause.Reserved (reserved_places a members name) in
+    let C = standing cause.Stringized (kept_string_places a members false) in
+    let D = standing cause.HeaderName (header_places a members) in
+    let E = standing cause.NotIdentifier (no_identifier_places a members) in
+    let front : (((A ++ B) ++ C) ++ D) ++ E ≡ [] = nil_left (member_offences a members name false) (spelling_offences a members name) none in
+    let rest : spelling_offences a members name ≡ [] = nil_right (member_offences a members name false) (spelling_offences a members name) none in
+    let m1 = nil_left (((A ++ B) ++ C) ++ D) E front in
+    let m2 = nil_left ((A ++ B) ++ C) D m1 in
+    let m3 = nil_left (A ++ B) C m2 in
+    all_nil A B D E (spelling_offences a members name) (nil_left A B m3) (nil_right A B m3) (nil_right ((A ++ B) ++ C) D m1) (nil_right (((A ++ B) ++ C) ++ D) E front) rest
 
 -- ---- starts
 

@@ -58,7 +58,7 @@ along_append kind (c ∷ xs) ys (o ∷ os) ps size =
 
 -- ---- characters that get no backslash
 
-no_backslash : (kind : Kind) (c : ℕ) → is_word c ≡ true → needs_backslash kind c ≡ false
+pub no_backslash : (kind : Kind) (c : ℕ) → is_word c ≡ true → needs_backslash kind c ≡ false
 no_backslash kind c word = rw (word_apart c double_quote refl word, word_apart c backslash refl word) (and-false (is_quoted kind))
 
 word_plain : (kind : Kind) (c : ℕ) → is_word c ≡ true → escaped kind c ≡ c ∷ []

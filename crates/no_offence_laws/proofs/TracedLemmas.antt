@@ -199,7 +199,7 @@ module _ (a : AnalysisValue) (text : UnitTextValue) (notes : List Note) (toks : 
   pub answer_in : (t : Token) → In t text.answers → In t (file_tokens a)
   answer_in t at = brought t (answer_told text t at)
 
-  kept_traced : (number : ℕ) (file : SourceFile) → source_at table number ≡ Some file → AllToks (Traced a) file.text.toks
+  pub kept_traced : (number : ℕ) (file : SourceFile) → source_at table number ≡ Some file → AllToks (Traced a) file.text.toks
   kept_traced number file is =
       let later = source-grown table a.table number file grown is in
       let s = source_of_kept a.table number file later in

@@ -10,7 +10,8 @@ use Rattle.rename_rules.specs.Below.ws_core.Classes.{AreItsClasses}
 use Rattle.rename_rules.specs.Class.{IsClass}
 use Rattle.rename_rules.specs.First.{IsFirst, offences_of}
 
--- The members of a class of an analysis, and an identifier that they may be spelled as: no offence stands against it.
+-- The members of a class of an analysis, and an identifier that they may be spelled as: no offence stands against it, if
+-- strings that `#` makes may follow it.
 pub record IsAllowed (a : Analysed) (members : List Part) (name : List ℕ) : Type 0 where
   pub source : Source
   pub workspace : WorkspaceValue
@@ -19,4 +20,4 @@ pub record IsAllowed (a : Analysed) (members : List Part) (name : List ℕ) : Ty
   pub number : ℕ
   pub class : IsClass a members number
   pub identifier : is_identifier_text name ≡ true
-  pub first : IsFirst a.value.table (offences_of a.value members name) None
+  pub first : IsFirst a.value.table (offences_of a.value members name true) None

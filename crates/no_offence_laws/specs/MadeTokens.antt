@@ -46,11 +46,7 @@ TokensAreMadeAnew = (a : Analysed) (members : List Part) (name : List ℕ) → I
     → (run : Bool) (before : ℕ) (note : expansion.Note) → IsIn d.notes (Happened run before note)
     → IsMadeAnew (renaming a.value members name u.text) note
 
--- The law: the tokens of which strings were made, and those of include lines that were expanded, stay.
-pub record StayInUnit (members : List Part) (name : List ℕ) (u : UnitAnalysis) : Type 0 where
-  pub stringized : (t : Token) → IsIn u.text.stringized t → spelled members name t ≡ t.text
-  pub header : (t : Token) → IsIn u.text.header t → spelled members name t ≡ t.text
-
-abbrev pub StringsAndHeadersStay : Type 0
-StringsAndHeadersStay = (a : Analysed) (members : List Part) (name : List ℕ) → IsAllowed a members name
-    → (u : UnitAnalysis) → IsIn a.value.units u → StayInUnit members name u
+-- The law: the tokens of include lines that were expanded stay.
+abbrev pub HeadersStay : Type 0
+HeadersStay = (a : Analysed) (members : List Part) (name : List ℕ) → IsAllowed a members name
+    → (u : UnitAnalysis) → IsIn a.value.units u → (t : Token) → IsIn u.text.header t → spelled members name t ≡ t.text

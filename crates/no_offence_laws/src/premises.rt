@@ -2,7 +2,7 @@
 ghost use Rattle.no_offence_laws.specs.KeptFiles.{FilesKeepPieces};
 ghost use Rattle.no_offence_laws.specs.KeptLines.{LinesAreKept};
 ghost use Rattle.no_offence_laws.specs.KeptTokens.{PastedTokensAreKept, TokensAreKept};
-ghost use Rattle.no_offence_laws.specs.MadeTokens.{StringsAndHeadersStay, TokensAreMadeAnew};
+ghost use Rattle.no_offence_laws.specs.MadeTokens.{HeadersStay, TokensAreMadeAnew};
 ghost use Rattle.no_offence_laws.specs.NamedClasses.{WordsAreFreeWhereNamed};
 ghost use Rattle.no_offence_laws.specs.Occurring.{FileTokensOccur, OccurringAreKept, PastedTokensOccur};
 ghost use Rattle.no_offence_laws.specs.Renamings.{EditedFilesAreRenamed, RenamingsKeepUnedited, RenamingsSpell};
@@ -68,9 +68,9 @@ pub fn unedited_text_stays()
     ensures { RenamingsKeepUnedited }
 {}
 
-/// The tokens of which strings were made stay, and so do those of expanded include lines; each string and each pasted
-/// token of a unit is what the renamed tokens make.
+/// The tokens of expanded include lines stay; each string and each pasted token of a unit is what the renamed tokens
+/// make.
 pub fn tokens_are_made_anew()
-    ensures stay { StringsAndHeadersStay }
+    ensures stay { HeadersStay }
     ensures made { TokensAreMadeAnew }
 {}

@@ -8,7 +8,7 @@ use Rattle.cs_base.specs.declared.tokens.Kind.TheVariants.{Char, Str}
 use Rattle.cs_base.specs.Token.{Token, token}
 use Rattle.part_lexer.specs.Characters.{backslash, double_quote}
 use Rattle.part_lexer.specs.Places.{pos}
-use Rattle.part_lexer.specs.OneToken.{one_token_of}
+use Rattle.part_lexer.specs.Spelling.{is_plain_string_text}
 
 -- Why tokens make no string: their text is not one string literal.
 pub data StringFault : Type 0 where
@@ -84,12 +84,8 @@ string_origins ts = None ∷ all_origins ts ++ None ∷ []
 abbrev pub string_token : List ℕ → List (Option Pos) → Token
 string_token text origins = token Str text origins false (pos 0 0) 0 false
 
--- a text of this kind is a string literal
-abbrev pub is_string : Option Kind → Bool
-is_string (Some Str) = true
-is_string _ = false
-
--- the string that tokens make (6.10.3.2 paragraph 2), or the fault: each character of theirs keeps its origin
+-- The string that tokens make (6.10.3.2 paragraph 2): each character of theirs keeps its origin; or the fault, where their text is not
+-- one string literal and nothing more (6.4.5), as it is with a comment behind one.
 unfoldable pub stringize_of : List Token → Result Token StringFault
 stringize_of ts =
-    if is_string (one_token_of (string_text ts)) then Ok (string_token (string_text ts) (string_origins ts)) else Err NotAString
+    if is_plain_string_text (string_text ts) then Ok (string_token (string_text ts) (string_origins ts)) else Err NotAString

@@ -2,14 +2,14 @@
 ghost use Rattle.std.specs.Prelude.{◌≡◌, ◌++◌, ◌+◌, ◌<◌, ◌^◌, false, [], ◌∷◌, IfOk, length};
 ghost use Rattle.cs_base.specs.Answer.{Gives};
 ghost use Rattle.cs_base.specs.Spans.{AreSpans, origins_by};
-ghost use Rattle.paste_origin.specs.Strings.{is_quoted as quoted, needs_backslash as backslash_needed, escaped, escaped_origins, spelling_of, origins_of, later_spelling, later_origins, spellings_of, all_origins, string_text, string_origins, is_string, stringize_of};
+ghost use Rattle.paste_origin.specs.Strings.{is_quoted as quoted, needs_backslash as backslash_needed, escaped, escaped_origins, spelling_of, origins_of, later_spelling, later_origins, spellings_of, all_origins, string_text, string_origins, stringize_of};
 ghost use Rattle.paste_origin.specs.Told.{told_so_far};
-ghost use Rattle.part_lexer.specs.OneToken.{one_token_of};
+ghost use Rattle.part_lexer.specs.Characters.{double_quote};
+ghost use Rattle.part_lexer.specs.Spelling.{closes as text_closes, is_plain_string_text};
 ghost use Rattle.paste_origin.specs.Refusals.{string_fault_of};
 
 use crate::string_refusal::StrRefusal;
 use cs_base::{Kind, Memory, Pos, Span, Tok};
-use part_lexer::one_token;
 use std::alloc::Global;
 
 // Whether a token is a character constant or a string literal.
@@ -183,11 +183,32 @@ fn push_string(text: &mut Vec<u8>, spans: &mut Vec<Span>, toks: &[Tok]) -> Resul
     Ok(())
 }
 
+// Whether the characters behind the first quote of a string literal end with its last one.
+fn closes(text: &[u8]) -> bool
+    ensures { result ≡ text_closes double_quote false text.now }
+{
+    let mut escaped = false;
+    for k in 0..text.len() {
+        let c = text[k];
+        if c == b'"' && !escaped {
+            return k + 1 == text.len();
+        }
+        if c == b'\n' {
+            return false;
+        }
+        escaped = !escaped && c == b'\\';
+    }
+    false
+}
+
 // Whether a text is one string literal.
 fn is_one_string(text: &[u8]) -> bool
-    ensures { result ≡ is_string (one_token_of text.now) }
+    ensures { result ≡ is_plain_string_text text.now }
 {
-    matches!(one_token(text), Some(Kind::Str))
+    match text {
+        [first, rest @ ..] => *first == b'"' && closes(rest),
+        _ => false,
+    }
 }
 
 /// The string literal that `#` makes of an argument's tokens (6.10.3.2 paragraph 2): their spelling,
@@ -196,7 +217,7 @@ fn is_one_string(text: &[u8]) -> bool
 /// spaces and the backslashes that are added have none. The labels are blank: no gap, position 0 of file 0,
 /// line 0, not direct.
 ///
-/// Refused: `NotAString` exactly where that text is not one string literal. A text of 2^32 characters
+/// Refused: `NotAString` exactly where that text is not one string literal and nothing more. A text of 2^32 characters
 /// or more is answered by `Memory`. A refused call changes nothing.
 #[tactic(auto, unfolding(crate::specs::Strings::stringize_of))]
 pub fn stringize(alloc: Global, toks: &[Tok]) -> Result<Tok, StrRefusal>

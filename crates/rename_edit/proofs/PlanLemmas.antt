@@ -1,5 +1,5 @@
 -- What is answered for a place, by what is answered for a class.
-use Rattle.std.proofs.Common.{◌≡◌, ℕ, true, false, List, Option, Some, None, Result, Ok, Err, sym, ◌∙◌}
+use Rattle.std.proofs.Common.{◌≡◌, ℕ, Bool, true, false, List, Option, Some, None, Result, Ok, Err, sym, ◌∙◌}
 use Rattle.std.specs.Prelude.{IfSome}
 use Rattle.cs_base.specs.declared.positions.Part.{Part}
 use Rattle.cs_base.specs.Edit.{Edit}
@@ -20,9 +20,9 @@ gives_also view fault_of P Q f (Err e) h = if_some (fault_of e) (λ x. P (Err x)
 not_both : (name : List ℕ) → is_identifier_text name ≡ true → is_identifier_text name ≡ false → ⊥
 not_both name good bad = let e : true ≡ false = sym good ∙ bad in cc
 
-pub named_part : (a : AnalysisValue) (path : List ℕ) (line column : ℕ) (name : List ℕ) (part : Option Part) (r : Result (List Edit) Refusal)
-    → is_identifier_text name ≡ true → Names a path line column part → IsNamedRenamed a name r part → IsRenaming a path line column name r
-named_part a path line column name part r id n h = record {
+pub named_part : (a : AnalysisValue) (path : List ℕ) (line column : ℕ) (name : List ℕ) (strings : Bool) (part : Option Part) (r : Result (List Edit) Refusal)
+    → is_identifier_text name ≡ true → Names a path line column part → IsNamedRenamed a name strings r part → IsRenaming a path line column name strings r
+named_part a path line column name strings part r id n h = record {
   bad_name = λ bad. absurd (not_both name id bad);
   named = λ i. (part, n, h);
 }

@@ -2,7 +2,9 @@
 ghost use Rattle.std.specs.Prelude.{◌≡◌, None, IfOk};
 ghost use Rattle.kept_meaning_laws.specs.Plans.{RenamesOver};
 ghost use Rattle.rename_rules.specs.Class.{IsClass};
-ghost use Rattle.rename_rules.specs.First.{member_offences, offences_of, spelling_offences, FirstThen, IsFirst};
+ghost use Rattle.cs_base.specs.declared.causes.Cause.TheVariants.{Stringized as stringized_cause};
+ghost use Rattle.rename_rules.specs.First.{member_offences, offences_of, spelling_offences, standing, FirstThen, IsFirst};
+ghost use Rattle.rename_rules.specs.Offences.{kept_string_places};
 ghost use Rattle.rename_rules.specs.Renaming.{GivesOne, IsClassRenamed, IsRenamed, IsRenaming};
 ghost use Rattle.rename_rules.specs.Runs.{edits_of};
 ghost use Rattle.rename_rules.specs.Tokens.{holders};
@@ -21,7 +23,7 @@ use std::alloc::Global;
 use ws_core::Analysis;
 
 /// The edits that rename the class of the part which a place names, or the first refusal. Lines and columns count
-/// from 1.
+/// from 1. `strings` says that strings which `#` makes may follow the renaming.
 pub fn plan_rename(
     alloc: Global,
     a: &Analysis,
@@ -29,8 +31,9 @@ pub fn plan_rename(
     line: u32,
     column: u32,
     name: &[u8],
+    strings: bool,
 ) -> Result<Edits, RenameRefusal>
-    ensures answer { GivesOne (λ edits. edits) refusal_of result (IsRenaming a.now.value path.now line column name.now) }
+    ensures answer { GivesOne (λ edits. edits) refusal_of result (IsRenaming a.now.value path.now line column name.now strings) }
     // Over each source with this analysis, once the edits are made, the workspace means what it meant.
     ensures meaning { IfOk result (λ edits. RenamesOver a.now.value.workspace a.now.value path.now line column name.now edits) }
 {
@@ -38,7 +41,7 @@ pub fn plan_rename(
     let _classes = a.classes();
     let ws = a.workspace();
     let _units = ws.units();
-    plan_named(alloc, a, path, line, column, name)
+    plan_named(alloc, a, path, line, column, name, strings)
 }
 
 // The same, by what is looked at: the name, the place, the offences.
@@ -49,25 +52,32 @@ fn plan_named(
     line: u32,
     column: u32,
     name: &[u8],
+    strings: bool,
 ) -> Result<Edits, RenameRefusal>
-    ensures { GivesOne (λ edits. edits) refusal_of result (IsRenaming a.now.value path.now line column name.now) }
+    ensures { GivesOne (λ edits. edits) refusal_of result (IsRenaming a.now.value path.now line column name.now strings) }
 {
     if !is_identifier(name) {
         return Err(RenameRefusal::BadName);
     }
     match a.part_at(path, line, column) {
-        Some(part) => plan_part(alloc, a, part, name),
+        Some(part) => plan_part(alloc, a, part, name, strings),
         None => Err(RenameRefusal::NoName),
     }
 }
 
 // The same for the class of a part.
-fn plan_part(alloc: Global, a: &Analysis, part: Part, name: &[u8]) -> Result<Edits, RenameRefusal>
+fn plan_part(
+    alloc: Global,
+    a: &Analysis,
+    part: Part,
+    name: &[u8],
+    strings: bool,
+) -> Result<Edits, RenameRefusal>
     requires { IsPart a.now.value part }
-    ensures { GivesOne (λ edits. edits) refusal_of result (IsClassRenamed a.now.value part name.now) }
+    ensures { GivesOne (λ edits. edits) refusal_of result (IsClassRenamed a.now.value part name.now strings) }
 {
     match a.classes().class_of(part) {
-        Some(number) => plan_class(alloc, a, a.members(part), number, name),
+        Some(number) => plan_class(alloc, a, a.members(part), number, name, strings),
         // Each part has a class.
         None => Err(RenameRefusal::Memory),
     }
@@ -80,11 +90,12 @@ fn plan_class(
     members: &[Part],
     number: u32,
     name: &[u8],
+    strings: bool,
 ) -> Result<Edits, RenameRefusal>
     requires { IsClass a.now members.now number }
-    ensures { GivesOne (λ edits. edits) refusal_of result (IsRenamed a.now.value members.now name.now) }
+    ensures { GivesOne (λ edits. edits) refusal_of result (IsRenamed a.now.value members.now name.now strings) }
 {
-    match first_offence(alloc, a, members, number, name)? {
+    match first_offence(alloc, a, members, number, name, strings)? {
         Some(offence) => Err(refused(alloc, a, offence)),
         None => Ok(class_edits(alloc, a, members, number, name)?),
     }
@@ -112,12 +123,13 @@ fn first_offence(
     members: &[Part],
     number: u32,
     name: &[u8],
+    strings: bool,
 ) -> Result<Option<Offence>, Memory>
     requires { IsClass a.now members.now number }
-    ensures { IfOk result (λ first. IsFirst a.now.value.table (offences_of a.now.value members.now name.now) first) }
+    ensures { IfOk result (λ first. IsFirst a.now.value.table (offences_of a.now.value members.now name.now strings) first) }
 {
     let toks = holders(alloc, a, members, number)?;
-    let at_members = member_offences(alloc, a, members, number, name, &toks)?;
+    let at_members = member_offences(alloc, a, members, number, name, &toks, strings)?;
     spelling_offences(alloc, a, members, number, name, &toks, at_members)
 }
 
@@ -129,16 +141,35 @@ fn member_offences(
     number: u32,
     name: &[u8],
     toks: &[Tok],
+    strings: bool,
 ) -> Result<Option<Offence>, Memory>
     requires class { IsClass a.now members.now number }
     requires toks { toks.now ≡ holders a.now.value members.now }
-    ensures { IfOk result (λ first. FirstThen a.now.value.table (member_offences a.now.value members.now name.now) None first) }
+    ensures { IfOk result (λ first. FirstThen a.now.value.table (member_offences a.now.value members.now name.now strings) None first) }
 {
     let kept = read_only(a, members, None);
     let words = reserved(alloc, a, members, number, name, toks, kept)?;
-    let strings = stringized(a, members, number, words);
-    let headers = header_names(a, members, number, strings);
+    let made = of_strings(a, members, number, strings, words);
+    let headers = header_names(a, members, number, made);
     Ok(no_identifiers(a, members, number, toks, headers))
+}
+
+// The first of these and of those of strings that must stay.
+fn of_strings(
+    a: &Analysis,
+    members: &[Part],
+    number: u32,
+    strings: bool,
+    first: Option<Offence>,
+) -> Option<Offence>
+    requires { IsClass a.now members.now number }
+    ensures { FirstThen a.now.value.table (standing stringized_cause (kept_string_places a.now.value members.now strings)) first result }
+{
+    if strings {
+        first
+    } else {
+        stringized(a, members, number, first)
+    }
 }
 
 // The first of these and of those of new spellings among all others.

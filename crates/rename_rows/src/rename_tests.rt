@@ -15,6 +15,8 @@ struct Row {
     line: u32,
     column: u32,
     name: &'static str,
+    // whether strings may follow
+    strings: bool,
     want: &'static str,
 }
 
@@ -29,6 +31,11 @@ const SHOWN: &str =
 
 const WIDE: &str =
     "a.c:void *q = L\"m\";\n#define W(x) (x, L ## #x)\nint n;\nint z = sizeof W(n);\n";
+
+const NAMED: &str = "sys.h:extern int q;\n@a.c:#define S(x) #x\n#include S(sys.h)\n";
+
+const LITERAL: &str =
+    "a.c:#define S(x) x, #x\nint n;\nint a[] = { S(n), S(n - '\\n') };\nchar *u = \"m\";\n";
 
 const COMPUTED: &str =
     "inc/sys.h:extern int q;\n@a.c:#define NAME(x) <x.h>\n#include NAME(sys)\nint q;\n";
@@ -59,7 +66,47 @@ const GENERIC: &str = "a.c:int _Generic;\n";
 const BOTH: &str =
     "a.c:#if __STDC_VERSION__ >= 201112L\n_Static_assert(sizeof(int) > 0, \"s\");\nstruct s { struct { int n; }; };\nint f(struct s *p) { return p->n; }\n#endif\nint n;\nint g(void) { return n; }\n";
 
-const ROWS: [Row; 25] = [
+const ROWS: [Row; 29] = [
+    Row {
+        ws: "file a.c\n",
+        files: SHOWN,
+        path: "a.c",
+        line: 3,
+        column: 5,
+        name: "total",
+        strings: true,
+        want: "a.c 2:#define SHOW(v) put(#v, v)\nint put(char *s, int n);\nint total;\nint r(void) { return SHOW(total); }\n@",
+    },
+    Row {
+        ws: "file a.c\n",
+        files: NAMED,
+        path: "a.c",
+        line: 2,
+        column: 12,
+        name: "lib",
+        strings: true,
+        want: "a.c:2:12: header name",
+    },
+    Row {
+        ws: "file a.c\n",
+        files: WIDE,
+        path: "a.c",
+        line: 3,
+        column: 5,
+        name: "k",
+        strings: true,
+        want: "a.c:4:18: not an identifier",
+    },
+    Row {
+        ws: "file a.c\n",
+        files: LITERAL,
+        path: "a.c",
+        line: 2,
+        column: 5,
+        name: "m",
+        strings: true,
+        want: "a.c 3:#define S(x) x, #x\nint m;\nint a[] = { S(m), S(m - '\\n') };\nchar *u = \"m\";\n@",
+    },
     Row {
         ws: "file a.c\nfile b.c\n",
         files: EXTERNAL,
@@ -67,6 +114,7 @@ const ROWS: [Row; 25] = [
         line: 1,
         column: 5,
         name: "count",
+        strings: false,
         want: "a.c 2:int count;\nint y = count;\n@b.c 1:extern int count;\n@",
     },
     Row {
@@ -76,6 +124,7 @@ const ROWS: [Row; 25] = [
         line: 2,
         column: 5,
         name: "c",
+        strings: false,
         want: "a.c 2:#define F(x) x##_f\nint c_f;\nint b = F(c);\n@",
     },
     Row {
@@ -85,6 +134,7 @@ const ROWS: [Row; 25] = [
         line: 1,
         column: 5,
         name: "v",
+        strings: false,
         want: "a.c 2:int v;\n#define foo (4 + v)\nint y = foo;\n@",
     },
     Row {
@@ -94,6 +144,7 @@ const ROWS: [Row; 25] = [
         line: 3,
         column: 9,
         name: "m",
+        strings: false,
         want: "a.c 2:int foo;\n#define m (4 + foo)\nint y = m;\n@",
     },
     Row {
@@ -103,6 +154,7 @@ const ROWS: [Row; 25] = [
         line: 3,
         column: 5,
         name: "total",
+        strings: false,
         want: "a.c:4:27: stringized",
     },
     Row {
@@ -112,6 +164,7 @@ const ROWS: [Row; 25] = [
         line: 3,
         column: 5,
         name: "m",
+        strings: false,
         want: "a.c:1:11: occurs",
     },
     Row {
@@ -121,6 +174,7 @@ const ROWS: [Row; 25] = [
         line: 3,
         column: 5,
         name: "k",
+        strings: false,
         want: "a.c:4:18: stringized",
     },
     Row {
@@ -130,6 +184,7 @@ const ROWS: [Row; 25] = [
         line: 2,
         column: 15,
         name: "lib",
+        strings: false,
         want: "a.c:2:15: header name",
     },
     Row {
@@ -139,6 +194,7 @@ const ROWS: [Row; 25] = [
         line: 2,
         column: 6,
         name: "two",
+        strings: false,
         want: "a.c:3:11: not an identifier",
     },
     Row {
@@ -148,6 +204,7 @@ const ROWS: [Row; 25] = [
         line: 2,
         column: 5,
         name: "z",
+        strings: false,
         want: "a.c 2:#define N(d) z##d\nint z1;\nint w = N(1);\n@",
     },
     Row {
@@ -157,6 +214,7 @@ const ROWS: [Row; 25] = [
         line: 2,
         column: 3,
         name: "aa",
+        strings: false,
         want: "a.c:2:3: clash",
     },
     Row {
@@ -166,6 +224,7 @@ const ROWS: [Row; 25] = [
         line: 1,
         column: 5,
         name: "fresh",
+        strings: false,
         want: "a.c:3:5: occurs",
     },
     Row {
@@ -175,6 +234,7 @@ const ROWS: [Row; 25] = [
         line: 1,
         column: 5,
         name: "v",
+        strings: false,
         want: "a.c 1:int v\\\n;\nint k = __LINE__;\n@",
     },
     Row {
@@ -184,6 +244,7 @@ const ROWS: [Row; 25] = [
         line: 1,
         column: 9,
         name: "GUARD",
+        strings: false,
         want: "h.h 2:#ifndef GUARD\n#define GUARD\nextern int n;\n#endif\n@",
     },
     Row {
@@ -193,6 +254,7 @@ const ROWS: [Row; 25] = [
         line: 1,
         column: 16,
         name: "u",
+        strings: false,
         want: "a.c 4:struct q { int u; };\nstruct r { int x; struct q q; };\nstruct r *p, *f(void), a[2];\nstruct q z = { .u = 1 };\nint g(void) { return p->q.u + (*f()).x + a[1].x + z.u; }\n@",
     },
     Row {
@@ -202,6 +264,7 @@ const ROWS: [Row; 25] = [
         line: 6,
         column: 23,
         name: "take",
+        strings: false,
         want: "a.c 3:#ifdef FAST\n#define take(p) (p)\n#else\nint take(int p);\n#endif\nint h(int k) { return take(k); }\n@",
     },
     Row {
@@ -211,6 +274,7 @@ const ROWS: [Row; 25] = [
         line: 1,
         column: 5,
         name: "while",
+        strings: false,
         want: "a.c:1:5: reserved",
     },
     // A keyword of C11 is no name of a unit of C99 either.
@@ -221,6 +285,7 @@ const ROWS: [Row; 25] = [
         line: 1,
         column: 5,
         name: "_Generic",
+        strings: false,
         want: "a.c:1:5: reserved",
     },
     Row {
@@ -230,6 +295,7 @@ const ROWS: [Row; 25] = [
         line: 1,
         column: 5,
         name: "x",
+        strings: false,
         want: "a.c:1:5: reserved",
     },
     // A file in two units, one of each standard: a member of the one, and a name of both.
@@ -240,6 +306,7 @@ const ROWS: [Row; 25] = [
         line: 3,
         column: 25,
         name: "m",
+        strings: false,
         want: "a.c 2:#if __STDC_VERSION__ >= 201112L\n_Static_assert(sizeof(int) > 0, \"s\");\nstruct s { struct { int m; }; };\nint f(struct s *p) { return p->m; }\n#endif\nint n;\nint g(void) { return n; }\n@",
     },
     Row {
@@ -249,6 +316,7 @@ const ROWS: [Row; 25] = [
         line: 1,
         column: 5,
         name: "2x",
+        strings: false,
         want: "bad name",
     },
     Row {
@@ -258,6 +326,7 @@ const ROWS: [Row; 25] = [
         line: 1,
         column: 5,
         name: "x",
+        strings: false,
         want: "a.c:1:5: occurs",
     },
     Row {
@@ -267,6 +336,7 @@ const ROWS: [Row; 25] = [
         line: 2,
         column: 5,
         name: "m",
+        strings: false,
         want: "inc/h.h:1:12: read-only",
     },
     Row {
@@ -276,6 +346,7 @@ const ROWS: [Row; 25] = [
         line: 2,
         column: 12,
         name: "v",
+        strings: false,
         want: "a.c:2:23: shadowed typedef",
     },
     Row {
@@ -285,6 +356,7 @@ const ROWS: [Row; 25] = [
         line: 1,
         column: 5,
         name: "define",
+        strings: false,
         want: "<defines 1>:1:2: occurs",
     },
 ];
@@ -337,6 +409,7 @@ fn shown(alloc: Global, row: &Row) -> Result<Vec<u8>, Fail> {
         row.line,
         row.column,
         row.name.as_bytes(),
+        row.strings,
     ) {
         Ok(edits) => Ok(show_edits(alloc, &edits)?),
         Err(refusal) => Ok(show_refusal(alloc, &refusal)?),

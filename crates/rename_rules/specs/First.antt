@@ -1,5 +1,5 @@
 -- The first offence against a renaming: that of the least place, and at one place that of the least number.
-use Rattle.std.specs.Prelude.{ℕ, ◌≡◌, Option, Some, None, List, [], ◌++◌, map, slice_get}
+use Rattle.std.specs.Prelude.{ℕ, ◌≡◌, Bool, Option, Some, None, List, [], ◌++◌, map, slice_get}
 use Rattle.std.specs.Cmp.Lexicographic.{slice_cmp}
 use Rattle.std.specs.Option.{option_map_or}
 use Rattle.std.specs.Ordering.{nat_cmp, ordering_then}
@@ -13,7 +13,7 @@ use Rattle.include_tree.specs.Below.source_files.Files.{Table, lines_path}
 use Rattle.include_tree.specs.Below.source_files.KeptFiles.{KeptValue, kept_at}
 use Rattle.ws_core.specs.Analysis.{AnalysisValue}
 use Rattle.rename_rules.specs.declared.offences.Offence.{Offence}
-use Rattle.rename_rules.specs.Offences.{read_only_places, reserved_places, stringized_places, header_places, no_identifier_places, occurring_places, clashing_places, too_large_places, shadowed_places}
+use Rattle.rename_rules.specs.Offences.{read_only_places, reserved_places, kept_string_places, header_places, no_identifier_places, occurring_places, clashing_places, too_large_places, shadowed_places}
 
 -- an offence: a position in a file, and what stands against the renaming there
 abbrev pub offence : Cause → Pos → Offence
@@ -57,12 +57,12 @@ offence_cmp table o p = ordering_then (position_cmp table o.at p.at) (nat_cmp (n
 abbrev pub standing : Cause → List Pos → List Offence
 standing cause places = map (offence cause) places
 
--- those at members and the tokens that hold them
-unfoldable pub member_offences : AnalysisValue → List Part → List ℕ → List Offence
-member_offences a members name =
+-- Those at members and the tokens that hold them. `strings` says that strings which `#` makes may follow the renaming.
+unfoldable pub member_offences : AnalysisValue → List Part → List ℕ → Bool → List Offence
+member_offences a members name strings =
     standing cause.ReadOnly (read_only_places a members)
     ++ standing cause.Reserved (reserved_places a members name)
-    ++ standing cause.Stringized (stringized_places a members)
+    ++ standing cause.Stringized (kept_string_places a members strings)
     ++ standing cause.HeaderName (header_places a members)
     ++ standing cause.NotIdentifier (no_identifier_places a members)
 
@@ -75,8 +75,8 @@ spelling_offences a members name =
     ++ standing cause.ShadowedTypedef (shadowed_places a members)
 
 -- all offences against a renaming, in no order
-abbrev pub offences_of : AnalysisValue → List Part → List ℕ → List Offence
-offences_of a members name = member_offences a members name ++ spelling_offences a members name
+abbrev pub offences_of : AnalysisValue → List Part → List ℕ → Bool → List Offence
+offences_of a members name strings = member_offences a members name strings ++ spelling_offences a members name
 
 -- the list has it
 abbrev pub IsAmong : {X : Type 0} → List X → X → Type 0

@@ -36,6 +36,10 @@ reserved_places a members name = flat_map (reserved_place members name) (holders
 unfoldable pub stringized_places : AnalysisValue → List Part → List Pos
 stringized_places a members = flat_map (λ (u : UnitAnalysis). flat_map (starts_in members) u.text.stringized) a.units
 
+-- the same, where strings must stay: not where they may follow the renaming
+abbrev pub kept_string_places : AnalysisValue → List Part → Bool → List Pos
+kept_string_places a members strings = if strings then [] else stringized_places a members
+
 -- HeaderName: a member in a token of an include line that was expanded (6.10.2 paragraph 4)
 unfoldable pub header_places : AnalysisValue → List Part → List Pos
 header_places a members = flat_map (λ (u : UnitAnalysis). flat_map (starts_in members) u.text.header) a.units

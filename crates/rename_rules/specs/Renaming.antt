@@ -1,5 +1,5 @@
 -- The renaming of the class that a place names (this project's): the edits of the files, or why it is refused.
-use Rattle.std.specs.Prelude.{ℕ, ◌≡◌, true, false, Option, Some, None, List, Result, Ok, Err, IfSome}
+use Rattle.std.specs.Prelude.{ℕ, ◌≡◌, Bool, true, false, Option, Some, None, List, Result, Ok, Err, IfSome}
 use Rattle.cs_base.specs.declared.causes.Cause.{Cause}
 use Rattle.cs_base.specs.declared.positions.Part.{Part}
 use Rattle.cs_base.specs.declared.positions.Place.{Place}
@@ -25,27 +25,28 @@ pub data Refusal : Type 0 where
 abbrev pub refused_for : AnalysisValue → Offence → Refusal
 refused_for a o = refused (place_at a.table o.at) o.cause
 
--- What is answered for a class: its edits where no offence stands, and else the first offence.
-abbrev pub IsRenamed : AnalysisValue → List Part → List ℕ → Result (List Edit) Refusal → Type 0
-IsRenamed a members name (Ok edits) = IsFirst a.table (offences_of a members name) None × (edits ≡ edits_of a members name)
-IsRenamed a members name (Err refusal) =
-    (o : Offence) × IsFirst a.table (offences_of a members name) (Some o) × (refusal ≡ refused_for a o)
+-- What is answered for a class: its edits where no offence stands, and else the first offence. `strings` says that strings which
+-- `#` makes may follow the renaming.
+abbrev pub IsRenamed : AnalysisValue → List Part → List ℕ → Bool → Result (List Edit) Refusal → Type 0
+IsRenamed a members name strings (Ok edits) = IsFirst a.table (offences_of a members name strings) None × (edits ≡ edits_of a members name)
+IsRenamed a members name strings (Err refusal) =
+    (o : Offence) × IsFirst a.table (offences_of a members name strings) (Some o) × (refusal ≡ refused_for a o)
 
 -- the same for the class of a part
-pub record IsClassRenamed (a : AnalysisValue) (part : Part) (name : List ℕ) (answer : Result (List Edit) Refusal) : Type 0 where
+pub record IsClassRenamed (a : AnalysisValue) (part : Part) (name : List ℕ) (strings : Bool) (answer : Result (List Edit) Refusal) : Type 0 where
   pub members : List Part
   pub are_members : AreMembers a part members
-  pub renamed : IsRenamed a members name answer
+  pub renamed : IsRenamed a members name strings answer
 
 -- the same for what a place names: a part, or nothing
-abbrev pub IsNamedRenamed : AnalysisValue → List ℕ → Result (List Edit) Refusal → Option Part → Type 0
-IsNamedRenamed a name answer None = answer ≡ Err no_name
-IsNamedRenamed a name answer (Some part) = IsClassRenamed a part name answer
+abbrev pub IsNamedRenamed : AnalysisValue → List ℕ → Bool → Result (List Edit) Refusal → Option Part → Type 0
+IsNamedRenamed a name strings answer None = answer ≡ Err no_name
+IsNamedRenamed a name strings answer (Some part) = IsClassRenamed a part name strings answer
 
 -- What is answered for a place and a new name, in the order in which it is looked: the name, the place, the offences.
-pub record IsRenaming (a : AnalysisValue) (path : List ℕ) (line column : ℕ) (name : List ℕ) (answer : Result (List Edit) Refusal) : Type 0 where
+pub record IsRenaming (a : AnalysisValue) (path : List ℕ) (line column : ℕ) (name : List ℕ) (strings : Bool) (answer : Result (List Edit) Refusal) : Type 0 where
   pub bad_name : is_identifier_text name ≡ false → answer ≡ Err bad_name
-  pub named : is_identifier_text name ≡ true → (named : Option Part) × Names a path line column named × IsNamedRenamed a name answer named
+  pub named : is_identifier_text name ≡ true → (named : Option Part) × Names a path line column named × IsNamedRenamed a name strings answer named
 
 -- The call returned an answer that is allowed, its value or its refusal, unless memory ran out: `fault_of` is none for
 -- want of memory alone.
