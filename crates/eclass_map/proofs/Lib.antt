@@ -4,6 +4,7 @@ pub mod LinkedFacts
 pub mod PartPlaces
 pub mod PartLaws
 pub mod InsertFacts
+pub mod RunFacts
 pub mod AddTokenFacts
 pub mod AddRelation
 pub mod KeptFacts

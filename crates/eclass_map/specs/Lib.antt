@@ -11,3 +11,4 @@ pub mod Joined
 -- What inner functions promise each other.
 pub mod Settled
 pub mod Wholeness
+pub mod Places

@@ -1,6 +1,6 @@
 // The table of classes: added tokens by their places, and the partition of their characters by number.
-ghost use Rattle.std.specs.Prelude.{ℕ, ◌≡◌, ◌+◌, ◌-◌, ◌*◌, ◌^◌, ◌<◌, ◌≤◌, List, [], ◌∷◌, ◌++◌, length, Some, IsSome, slice_get, OnOk, OnErr, vec_len, vec_capacity, IsTrue, MatchBool, ◌⊎◌};
-ghost use Rattle.eclass_map.specs.ClassTable.{Table, part_of, class_in, members_of, part_with, added_tokens, part_of_file, AddsToken, fresh_places, with_token, IsFree, AreWhole, SameOrLinked, HasParts, AreLinks, IsAdded, relabelled_in, weight_in, parts_in, character_count, label, joined_in, parts_joined};
+ghost use Rattle.std.specs.Prelude.{ℕ, ◌≡◌, ◌+◌, ◌-◌, ◌*◌, ◌^◌, ◌<◌, ◌≤◌, List, [], ◌∷◌, ◌++◌, length, Some, IsSome, slice_get, OnOk, OnErr, IsTrue, MatchBool, ◌⊎◌};
+ghost use Rattle.eclass_map.specs.ClassTable.{Table, part_of, class_in, members_of, part_with, added_tokens, part_of_file, AddsToken, with_token, IsFree, AreWhole, SameOrLinked, HasParts, AreLinks, IsAdded, relabelled_in, weight_in, parts_in, character_count, label, joined_in, parts_joined};
 ghost use Rattle.eclass_map.specs.Joined.{AreJoined};
 ghost use Rattle.eclass_map.specs.History.{History};
 ghost use Rattle.eclass_map.specs.Resized.{moved_to, count_after, Resizes};
@@ -16,7 +16,8 @@ ghost use Rattle.cs_base.specs.declared.positions.Part.{Part};
 mod class_numbers;
 
 use crate::file_hints::{add_hints, missing_hints};
-use crate::token_list::{Added, count_begun, find, near, number, place_tokens, settle};
+use crate::places::{Places, place_runs};
+use crate::token_list::{Added, count_begun, find, near, number, settle};
 use crate::wholeness::are_whole;
 use class_labels::Partition;
 use cs_base::{Memory, Part, Pos, Steps, Tok};
@@ -28,7 +29,7 @@ use std::sync::ledger::Ledger;
 #[derive(Drop)]
 pub struct Classes {
     tokens: Vec<Added>,
-    places: Vec<Pos>,
+    places: Places,
     labels: Partition,
     // For each file number how many tokens stood in front of its first when that was added. A guess: no contract
     // rests on it, and each look-up tests what it takes from it.
@@ -42,9 +43,9 @@ impl Model for Classes {
 
     ghost use Rattle.eclass_map.specs.Kept.{IsKept};
 
-    ghost view = { λ c. record { tokens = c.tokens.items; places = c.places.items; labels = c.labels } };
+    ghost view = { λ c. record { tokens = c.tokens.items; places = c.places.list; labels = c.labels } };
 
-    ghost invariant = { λ c. IsKept (record { tokens = c.tokens.items; places = c.places.items; labels = c.labels }) };
+    ghost invariant = { λ c. IsKept (record { tokens = c.tokens.items; places = c.places.list; labels = c.labels }) };
 }
 
 impl Classes {
@@ -56,7 +57,7 @@ impl Classes {
     {
         Classes {
             tokens: Vec::new(alloc),
-            places: Vec::new(alloc),
+            places: Places::new(alloc),
             labels: Partition::new(alloc),
             files: Vec::new(alloc),
         }
@@ -84,12 +85,12 @@ impl Classes {
         let index = count_begun(&self.tokens, &self.files, start);
         let more = missing_hints(&self.files, file, self.tokens.len());
         self.tokens.reserve(1)?;
-        self.places.reserve(len as usize)?;
+        self.places.reserve()?;
         self.files.reserve(more)?;
         self.labels.add(len)?;
-        let first = self.places.len() as u32;
+        let first = self.places.len();
         self.tokens.insert(index, Added { place, first }).unwrap();
-        add_places(&mut self.places, start, len);
+        self.places.push(start, len);
         add_hints(&mut self.files, more, index);
         Ok(())
     }
@@ -112,7 +113,7 @@ impl Classes {
         let numbers = self.labels.numbers(class, len)?;
         let alloc = *self.tokens.allocator();
         let tokens = settle(alloc, &self.tokens, &numbers)?;
-        let places = place_tokens(alloc, &tokens, numbers[self.places.len()])?;
+        let places = place_runs(alloc, &tokens, numbers[self.places.len() as usize])?;
         self.labels.regrow(class, len, &numbers)?;
         self.tokens = tokens;
         self.places = places;
@@ -212,7 +213,7 @@ impl Classes {
         ensures { result ≡ part_with self.now class x }
     {
         Part {
-            start: self.places[x as usize],
+            start: self.places.at(x),
             len: self.labels.length_of(class),
         }
     }
@@ -347,20 +348,5 @@ fn join_characters<L: Ledger>(
         let second = number(tokens, files, y.origins(at), second_near);
         let part_len = labels.step(first, second, steps);
         at += part_len;
-    }
-}
-
-// The positions of a token's characters; there is room for them.
-fn add_places(places: &mut Vec<Pos>, start: Pos, len: u32)
-    requires room { vec_len places.old + len ≤ vec_capacity places.old }
-    requires within { start.at + len < 2 ^ 32 }
-    ensures { places.new.items ≡ places.old.items ++ fresh_places start len }
-{
-    for offset in 0..len {
-        let position = Pos {
-            file: start.file,
-            at: start.at + offset,
-        };
-        places.push(position).unwrap();
     }
 }

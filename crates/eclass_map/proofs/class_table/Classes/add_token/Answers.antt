@@ -63,7 +63,7 @@ count_new part v t u e is =
 
 pub invariant_of-self-2 : goal.invariant_of-self-2
 invariant_of-self-2 c =
-    let t = table_of c.self.inside.tokens.items c.self.inside.places.items c.self.inside.labels in
+    let t = table_of c.self.inside.tokens.items c.self.inside.places.list c.self.inside.labels in
     let part = part_of_file c.args.file c.args.at c.args.len in
     let h = given part c.args.self.now t c.deref.result.now c.count_begun-index.result (sym c.self.view_is) c.deref.ensures.value c.self.invariant c.requires.some c.requires.within c.requires.short c.requires.free
     c.count_begun-index.ensures.within c.count_begun-index.ensures.before c.count_begun-index.ensures.behind in
@@ -72,13 +72,13 @@ invariant_of-self-2 c =
     let inserted : c.insert.new.self.items ≡ insert t.tokens c.count_begun-index.result (record { place = part; first = c.len-first.result }) = search rules in
     let tokens : c.insert.new.self.items ≡ insert t.tokens (begun_count t.tokens part.start) (entry part t) =
     inserted ∙ ap (λ v. insert t.tokens c.count_begun-index.result (record { place = part; first = v })) first ∙ ap (λ v. insert t.tokens v (entry part t)) (sym index) in
-    let places : c.add_places.new.places.items ≡ t.places ++ fresh_places part.start part.len = search rules in
+    let places : c.push.new.self.list ≡ t.places ++ fresh_places part.start part.len = search rules in
     let labels : c.add.new.self ≡ added part.len t.labels = search rules in
     kept_new part t _ _ _ h tokens places labels
 
 pub returns-clause-exact : goal.returns-clause-exact
 returns-clause-exact c =
-    let t = table_of c.self.inside.tokens.items c.self.inside.places.items c.self.inside.labels in
+    let t = table_of c.self.inside.tokens.items c.self.inside.places.list c.self.inside.labels in
     let part = part_of_file c.args.file c.args.at c.args.len in
     let h = given part c.args.self.now t c.deref.result.now c.count_begun-index.result (sym c.self.view_is) c.deref.ensures.value c.self.invariant c.requires.some c.requires.within c.requires.short c.requires.free
     c.count_begun-index.ensures.within c.count_begun-index.ensures.before c.count_begun-index.ensures.behind in
@@ -87,13 +87,13 @@ returns-clause-exact c =
     let inserted : c.insert.new.self.items ≡ insert t.tokens c.count_begun-index.result (record { place = part; first = c.len-first.result }) = search rules in
     let tokens : c.insert.new.self.items ≡ insert t.tokens (begun_count t.tokens part.start) (entry part t) =
     inserted ∙ ap (λ v. insert t.tokens c.count_begun-index.result (record { place = part; first = v })) first ∙ ap (λ v. insert t.tokens v (entry part t)) (sym index) in
-    let places : c.add_places.new.places.items ≡ t.places ++ fresh_places part.start part.len = search rules in
+    let places : c.push.new.self.list ≡ t.places ++ fresh_places part.start part.len = search rules in
     let labels : c.add.new.self ≡ added part.len t.labels = search rules in
     exact_new part c.args.self.now t _ _ _ (sym c.self.view_is) tokens places labels
 
 pub returns-clause-added : goal.returns-clause-added
 returns-clause-added c =
-    let t = table_of c.self.inside.tokens.items c.self.inside.places.items c.self.inside.labels in
+    let t = table_of c.self.inside.tokens.items c.self.inside.places.list c.self.inside.labels in
     let part = part_of_file c.args.file c.args.at c.args.len in
     let h = given part c.args.self.now t c.deref.result.now c.count_begun-index.result (sym c.self.view_is) c.deref.ensures.value c.self.invariant c.requires.some c.requires.within c.requires.short c.requires.free
     c.count_begun-index.ensures.within c.count_begun-index.ensures.before c.count_begun-index.ensures.behind in
@@ -102,13 +102,13 @@ returns-clause-added c =
     let inserted : c.insert.new.self.items ≡ insert t.tokens c.count_begun-index.result (record { place = part; first = c.len-first.result }) = search rules in
     let tokens : c.insert.new.self.items ≡ insert t.tokens (begun_count t.tokens part.start) (entry part t) =
     inserted ∙ ap (λ v. insert t.tokens c.count_begun-index.result (record { place = part; first = v })) first ∙ ap (λ v. insert t.tokens v (entry part t)) (sym index) in
-    let places : c.add_places.new.places.items ≡ t.places ++ fresh_places part.start part.len = search rules in
+    let places : c.push.new.self.list ≡ t.places ++ fresh_places part.start part.len = search rules in
     let labels : c.add.new.self ≡ added part.len t.labels = search rules in
     adds_new part c.args.self.now t _ (sym c.self.view_is) h (exact_new part c.args.self.now t _ _ _ (sym c.self.view_is) tokens places labels)
 
 pub returns-clause-parts : goal.returns-clause-parts
 returns-clause-parts c =
-    let t = table_of c.self.inside.tokens.items c.self.inside.places.items c.self.inside.labels in
+    let t = table_of c.self.inside.tokens.items c.self.inside.places.list c.self.inside.labels in
     let part = part_of_file c.args.file c.args.at c.args.len in
     let h = given part c.args.self.now t c.deref.result.now c.count_begun-index.result (sym c.self.view_is) c.deref.ensures.value c.self.invariant c.requires.some c.requires.within c.requires.short c.requires.free
     c.count_begun-index.ensures.within c.count_begun-index.ensures.before c.count_begun-index.ensures.behind in
@@ -117,13 +117,13 @@ returns-clause-parts c =
     let inserted : c.insert.new.self.items ≡ insert t.tokens c.count_begun-index.result (record { place = part; first = c.len-first.result }) = search rules in
     let tokens : c.insert.new.self.items ≡ insert t.tokens (begun_count t.tokens part.start) (entry part t) =
     inserted ∙ ap (λ v. insert t.tokens c.count_begun-index.result (record { place = part; first = v })) first ∙ ap (λ v. insert t.tokens v (entry part t)) (sym index) in
-    let places : c.add_places.new.places.items ≡ t.places ++ fresh_places part.start part.len = search rules in
+    let places : c.push.new.self.list ≡ t.places ++ fresh_places part.start part.len = search rules in
     let labels : c.add.new.self ≡ added part.len t.labels = search rules in
     has_parts _ (kept_new part t _ _ _ h tokens places labels)
 
 pub returns-clause-count : goal.returns-clause-count
 returns-clause-count c =
-    let t = table_of c.self.inside.tokens.items c.self.inside.places.items c.self.inside.labels in
+    let t = table_of c.self.inside.tokens.items c.self.inside.places.list c.self.inside.labels in
     let part = part_of_file c.args.file c.args.at c.args.len in
     let h = given part c.args.self.now t c.deref.result.now c.count_begun-index.result (sym c.self.view_is) c.deref.ensures.value c.self.invariant c.requires.some c.requires.within c.requires.short c.requires.free
     c.count_begun-index.ensures.within c.count_begun-index.ensures.before c.count_begun-index.ensures.behind in
@@ -132,7 +132,7 @@ returns-clause-count c =
     let inserted : c.insert.new.self.items ≡ insert t.tokens c.count_begun-index.result (record { place = part; first = c.len-first.result }) = search rules in
     let tokens : c.insert.new.self.items ≡ insert t.tokens (begun_count t.tokens part.start) (entry part t) =
     inserted ∙ ap (λ v. insert t.tokens c.count_begun-index.result (record { place = part; first = v })) first ∙ ap (λ v. insert t.tokens v (entry part t)) (sym index) in
-    let places : c.add_places.new.places.items ≡ t.places ++ fresh_places part.start part.len = search rules in
+    let places : c.push.new.self.list ≡ t.places ++ fresh_places part.start part.len = search rules in
     let labels : c.add.new.self ≡ added part.len t.labels = search rules in
     count_new part c.args.self.now t _ (sym c.self.view_is) (exact_new part c.args.self.now t _ _ _ (sym c.self.view_is) tokens places labels)
 
@@ -143,7 +143,7 @@ links_new part v t u e kept adds links are =
 
 pub returns-clause-links : goal.returns-clause-links
 returns-clause-links c =
-    let t = table_of c.self.inside.tokens.items c.self.inside.places.items c.self.inside.labels in
+    let t = table_of c.self.inside.tokens.items c.self.inside.places.list c.self.inside.labels in
     let part = part_of_file c.args.file c.args.at c.args.len in
     let h = given part c.args.self.now t c.deref.result.now c.count_begun-index.result (sym c.self.view_is) c.deref.ensures.value c.self.invariant c.requires.some c.requires.within c.requires.short c.requires.free
     c.count_begun-index.ensures.within c.count_begun-index.ensures.before c.count_begun-index.ensures.behind in
@@ -152,7 +152,7 @@ returns-clause-links c =
     let inserted : c.insert.new.self.items ≡ insert t.tokens c.count_begun-index.result (record { place = part; first = c.len-first.result }) = search rules in
     let tokens : c.insert.new.self.items ≡ insert t.tokens (begun_count t.tokens part.start) (entry part t) =
     inserted ∙ ap (λ v. insert t.tokens c.count_begun-index.result (record { place = part; first = v })) first ∙ ap (λ v. insert t.tokens v (entry part t)) (sym index) in
-    let places : c.add_places.new.places.items ≡ t.places ++ fresh_places part.start part.len = search rules in
+    let places : c.push.new.self.list ≡ t.places ++ fresh_places part.start part.len = search rules in
     let labels : c.add.new.self ≡ added part.len t.labels = search rules in
     links_new part c.args.self.now t _ (sym c.self.view_is) c.self.invariant (adds_new part c.args.self.now t _ (sym c.self.view_is) h (exact_new part c.args.self.now t _ _ _ (sym c.self.view_is) tokens places labels))
 
@@ -161,7 +161,7 @@ weight_new part v t u e is = ap (λ (w : Table). weight_in w) (is ∙ with_token
 
 pub returns-clause-weight : goal.returns-clause-weight
 returns-clause-weight c =
-    let t = table_of c.self.inside.tokens.items c.self.inside.places.items c.self.inside.labels in
+    let t = table_of c.self.inside.tokens.items c.self.inside.places.list c.self.inside.labels in
     let part = part_of_file c.args.file c.args.at c.args.len in
     let h = given part c.args.self.now t c.deref.result.now c.count_begun-index.result (sym c.self.view_is) c.deref.ensures.value c.self.invariant c.requires.some c.requires.within c.requires.short c.requires.free
     c.count_begun-index.ensures.within c.count_begun-index.ensures.before c.count_begun-index.ensures.behind in
@@ -170,13 +170,13 @@ returns-clause-weight c =
     let inserted : c.insert.new.self.items ≡ insert t.tokens c.count_begun-index.result (record { place = part; first = c.len-first.result }) = search rules in
     let tokens : c.insert.new.self.items ≡ insert t.tokens (begun_count t.tokens part.start) (entry part t) =
     inserted ∙ ap (λ v. insert t.tokens c.count_begun-index.result (record { place = part; first = v })) first ∙ ap (λ v. insert t.tokens v (entry part t)) (sym index) in
-    let places : c.add_places.new.places.items ≡ t.places ++ fresh_places part.start part.len = search rules in
+    let places : c.push.new.self.list ≡ t.places ++ fresh_places part.start part.len = search rules in
     let labels : c.add.new.self ≡ added part.len t.labels = search rules in
     weight_new part c.args.self.now t _ (sym c.self.view_is) (exact_new part c.args.self.now t _ _ _ (sym c.self.view_is) tokens places labels)
 
 pub returns-clause-history : goal.returns-clause-history
 returns-clause-history c =
-    let t = table_of c.self.inside.tokens.items c.self.inside.places.items c.self.inside.labels in
+    let t = table_of c.self.inside.tokens.items c.self.inside.places.list c.self.inside.labels in
     let part = part_of_file c.args.file c.args.at c.args.len in
     let h = given part c.args.self.now t c.deref.result.now c.count_begun-index.result (sym c.self.view_is) c.deref.ensures.value c.self.invariant c.requires.some c.requires.within c.requires.short c.requires.free
     c.count_begun-index.ensures.within c.count_begun-index.ensures.before c.count_begun-index.ensures.behind in
@@ -185,6 +185,6 @@ returns-clause-history c =
     let inserted : c.insert.new.self.items ≡ insert t.tokens c.count_begun-index.result (record { place = part; first = c.len-first.result }) = search rules in
     let tokens : c.insert.new.self.items ≡ insert t.tokens (begun_count t.tokens part.start) (entry part t) =
     inserted ∙ ap (λ v. insert t.tokens c.count_begun-index.result (record { place = part; first = v })) first ∙ ap (λ v. insert t.tokens v (entry part t)) (sym index) in
-    let places : c.add_places.new.places.items ≡ t.places ++ fresh_places part.start part.len = search rules in
+    let places : c.push.new.self.list ≡ t.places ++ fresh_places part.start part.len = search rules in
     let labels : c.add.new.self ≡ added part.len t.labels = search rules in
     λ r n past. keeps past (weight_new part c.args.self.now t _ (sym c.self.view_is) (exact_new part c.args.self.now t _ _ _ (sym c.self.view_is) tokens places labels))

@@ -70,7 +70,7 @@ bound_after v t x y tokens u old new f g h e ticks =
 
 pub join_characters-requires-clause-place : goal.join_characters-requires-clause-place
 join_characters-requires-clause-place g c =
-    let t = table_of c.self.inside.tokens.items c.self.inside.places.items c.self.inside.labels in
+    let t = table_of c.self.inside.tokens.items c.self.inside.places.list c.self.inside.labels in
     let x = c.args.x.now in
     let y = c.args.y.now in
     let even : length x.origins ≡ length y.origins = sym c.text_length-len.ensures.origins ∙ c.text_length-len.ensures.text ∙ ap length c.requires.equal ∙ sym c.text_length-also.ensures.text ∙ c.text_length-also.ensures.origins in
@@ -79,7 +79,7 @@ join_characters-requires-clause-place g c =
 
 pub invariant_of-self : goal.invariant_of-self
 invariant_of-self g c =
-    let t = table_of c.self.inside.tokens.items c.self.inside.places.items c.self.inside.labels in
+    let t = table_of c.self.inside.tokens.items c.self.inside.places.list c.self.inside.labels in
     let x = c.args.x.now in
     let y = c.args.y.now in
     let even : length x.origins ≡ length y.origins = sym c.text_length-len.ensures.origins ∙ c.text_length-len.ensures.text ∙ ap length c.requires.equal ∙ sym c.text_length-also.ensures.text ∙ c.text_length-also.ensures.origins in
@@ -97,7 +97,7 @@ links_after v t x y u f h e links are =
 
 pub returns : goal.returns
 returns g c =
-    let t = table_of c.self.inside.tokens.items c.self.inside.places.items c.self.inside.labels in
+    let t = table_of c.self.inside.tokens.items c.self.inside.places.list c.self.inside.labels in
     let x = c.args.x.now in
     let y = c.args.y.now in
     let even : length x.origins ≡ length y.origins = sym c.text_length-len.ensures.origins ∙ c.text_length-len.ensures.text ∙ ap length c.requires.equal ∙ sym c.text_length-also.ensures.text ∙ c.text_length-also.ensures.origins in
