@@ -1,41 +1,52 @@
 // Hide sets: the names that are not available to a token (6.10.3.4 paragraph 2).
-ghost use Rattle.std.specs.Prelude.{◌≡◌, ◌++◌, ◌∷◌, [], IfOk};
+ghost use Rattle.std.specs.Prelude.{◌≡◌, ◌++◌, ◌∷◌, [], option_map, unwrap_or, IfOk};
 ghost use Rattle.std.specs.Bool.{OnTrue};
-ghost use Rattle.std.specs.List.{list_any};
+ghost use Rattle.std.specs.List.{flat_map, list_any};
+ghost use Rattle.std.specs.Rc.{rc_slice_items};
 ghost use Rattle.std.specs.Str.{bytes_eq};
 ghost use Rattle.cs_base.specs.Token.{Token};
 ghost use Rattle.line_shape.specs.MacroLine.{spellings};
 ghost use Rattle.macro_body.specs.Hides.{hides_name, in_both, lacking, with_names};
 
-use crate::shared_tokens::{all_shared, push_shared, shared};
+use crate::shared_tokens::{push_shared, shared};
 use cs_base::{Memory, Tok};
 use std::alloc::Global;
 use std::marker::Model;
 use std::rc::RcSlice;
 
-/// A hide set, kept as tokens that are spelled as its names, which its copies share; an empty set keeps
-/// none. Contracts see the list of the names.
+// So many names are copied where one is added.
+const MOST_COPIED: usize = 64;
+
+/// A hide set, kept as tokens that are spelled as its names, which its copies share: parts that are full, which
+/// larger sets share too, and the names behind them. An empty set keeps none. Contracts see the list of the names.
 #[derive(Drop)]
 pub struct HideSet {
     alloc: Global,
-    names: Option<RcSlice<Tok>>,
+    full: Option<RcSlice<RcSlice<Tok>>>,
+    last: Option<RcSlice<Tok>>,
 }
 
 impl Model for HideSet {
-    ghost use Rattle.std.specs.Prelude.{List, ℕ, [], option_map, unwrap_or};
+    ghost use Rattle.std.specs.Prelude.{List, ℕ, [], ◌++◌, option_map, unwrap_or};
+    ghost use Rattle.std.specs.List.{flat_map};
     ghost use Rattle.std.specs.Rc.{rc_slice_items};
     ghost use Rattle.line_shape.specs.MacroLine.{spellings};
 
     ghost Value = { List (List ℕ) };
 
-    ghost view = { λ h. spellings (unwrap_or (option_map rc_slice_items h.names) []) };
+    ghost view = { λ h. spellings (flat_map rc_slice_items (unwrap_or (option_map rc_slice_items h.full) [])
+        ++ unwrap_or (option_map rc_slice_items h.last) []) };
 }
 
 impl HideSet {
     pub fn new(alloc: Global) -> HideSet
         ensures { result ≡ [] }
     {
-        HideSet { alloc, names: None }
+        HideSet {
+            alloc,
+            full: None,
+            last: None,
+        }
     }
 
     // The set of these names.
@@ -44,76 +55,96 @@ impl HideSet {
     {
         Ok(HideSet {
             alloc,
-            names: Some(RcSlice::from_vec(names)?),
+            full: None,
+            last: Some(RcSlice::from_vec(names)?),
         })
     }
 
-    // The tokens that are spelled as the names.
-    fn listed(&self) -> &[Tok]
-        ensures { spellings result.now ≡ self.now }
+    // Whether the set is known to have no names.
+    fn is_empty(&self) -> bool
+        ensures { OnTrue result (self.now ≡ []) }
     {
-        match &self.names {
-            Some(names) => names.as_slice(),
-            None => &[],
+        match (&self.full, &self.last) {
+            (None, None) => true,
+            _ => false,
         }
     }
 
     pub fn contains(&self, name: &[u8]) -> bool
         ensures { result ≡ hides_name self.now name.now }
     {
-        is_among(name, self.listed())
+        if is_among(name, names_in(&self.last)) {
+            return true;
+        }
+        is_in_parts(name, parts_in(&self.full))
     }
 
     /// The same names.
     pub fn copy(&self, alloc: Global) -> Result<HideSet, Memory>
         ensures { IfOk result (λ h. h ≡ self.now) }
     {
-        match &self.names {
-            Some(names) => Ok(HideSet {
-                alloc,
-                names: Some(names.clone()?),
-            }),
-            None => Ok(HideSet::new(alloc)),
-        }
+        Ok(HideSet {
+            alloc,
+            full: same_parts(&self.full)?,
+            last: same_names(&self.last)?,
+        })
     }
 
     /// Adds the name of a token.
     pub fn add(&mut self, name: &Tok) -> Result<(), Memory>
         ensures { IfOk result (λ _. self.new ≡ self.old ++ name.now.text ∷ []) }
     {
-        let known = self.listed();
-        let mut names = Vec::with_capacity(self.alloc, known.len() + 1)?;
-        push_shared(&mut names, known)?;
-        names.push(shared(name)?)?;
-        *self = HideSet::of(self.alloc, names)?;
+        let last = names_in(&self.last);
+        if last.len() < MOST_COPIED {
+            let more = with_one(self.alloc, last, name)?;
+            self.last = Some(RcSlice::from_vec(more)?);
+            return Ok(());
+        }
+        let parts = with_part(self.alloc, parts_in(&self.full), &self.last)?;
+        let more = with_one(self.alloc, &[], name)?;
+        self.full = Some(RcSlice::from_vec(parts)?);
+        self.last = Some(RcSlice::from_vec(more)?);
         Ok(())
+    }
+
+    // The tokens that are spelled as the names.
+    fn listed(&self, alloc: Global) -> Result<Vec<Tok>, Memory>
+        ensures { IfOk result (λ all. spellings all.items ≡ self.now) }
+    {
+        let mut all = Vec::new(alloc);
+        push_parts(&mut all, parts_in(&self.full))?;
+        push_shared(&mut all, names_in(&self.last))?;
+        Ok(all)
     }
 
     /// The same names, and those of another set that it does not have.
     pub fn with_names(&self, more: &HideSet) -> Result<HideSet, Memory>
         ensures { IfOk result (λ h. h ≡ with_names self.now more.now) }
     {
-        match self.listed() {
-            [] => more.copy(self.alloc),
-            known => {
-                let lacking = lacking_names(self.alloc, more.listed(), self)?;
-                joined(self.alloc, known, &lacking)
-            }
+        if self.is_empty() {
+            return more.copy(self.alloc);
         }
+        let mut names = self.listed(self.alloc)?;
+        push_lacking(&mut names, &more.listed(self.alloc)?, self)?;
+        HideSet::of(self.alloc, names)
     }
 
     /// Whether another set is known to have the same names.
     pub fn is_same(&self, other: &HideSet) -> bool
         ensures { OnTrue result (self.now ≡ other.now) }
     {
-        are_alike(self.listed(), other.listed())
+        match (&self.full, &other.full) {
+            (None, None) => are_alike(names_in(&self.last), names_in(&other.last)),
+            _ => false,
+        }
     }
 
     /// The names that are in another set too.
     pub fn common(&self, alloc: Global, other: &HideSet) -> Result<HideSet, Memory>
         ensures { IfOk result (λ h. h ≡ in_both self.now other.now) }
     {
-        HideSet::of(alloc, common_names(alloc, self.listed(), other)?)
+        let names = self.listed(alloc)?;
+        HideSet::of(alloc, common_names(alloc, &names, other)?)
     }
 }
 
@@ -138,15 +169,6 @@ fn is_alike(x: &Tok, y: &Tok) -> bool
     x.text() == y.text()
 }
 
-// The set of the names of both lists.
-fn joined(alloc: Global, known: &[Tok], more: &[Tok]) -> Result<HideSet, Memory>
-    ensures { IfOk result (λ h. h ≡ spellings known.now ++ spellings more.now) }
-{
-    let mut names = all_shared(alloc, known)?;
-    push_shared(&mut names, more)?;
-    HideSet::of(alloc, names)
-}
-
 // Whether a token is spelled so.
 fn is_among(name: &[u8], names: &[Tok]) -> bool
     ensures { result ≡ list_any (λ (t : Token). bytes_eq name.now t.text) names.now }
@@ -167,15 +189,105 @@ fn common_names(alloc: Global, names: &[Tok], other: &HideSet) -> Result<Vec<Tok
     Ok(common)
 }
 
-// Those of the tokens that are spelled as no name of the set.
-fn lacking_names(alloc: Global, names: &[Tok], hides: &HideSet) -> Result<Vec<Tok>, Memory>
-    ensures { IfOk result (λ all. spellings all.items ≡ lacking hides.now (spellings names.now)) }
+// Adds those of the tokens that are spelled as no name of the set.
+fn push_lacking(all: &mut Vec<Tok>, names: &[Tok], hides: &HideSet) -> Result<(), Memory>
+    ensures { IfOk result (λ _. spellings all.new.items ≡ spellings all.old.items ++ lacking hides.now (spellings names.now)) }
 {
-    let mut all = Vec::new(alloc);
     for name in names {
         if !hides.contains(name.text()) {
             all.push(shared(name)?)?;
         }
+    }
+    Ok(())
+}
+
+// ---- the parts of a set
+
+fn names_in(last: &Option<RcSlice<Tok>>) -> &[Tok]
+    ensures { result.now ≡ unwrap_or (option_map rc_slice_items last.now) [] }
+{
+    match last {
+        Some(names) => names.as_slice(),
+        None => &[],
+    }
+}
+
+fn parts_in(full: &Option<RcSlice<RcSlice<Tok>>>) -> &[RcSlice<Tok>]
+    ensures { result.now ≡ unwrap_or (option_map rc_slice_items full.now) [] }
+{
+    match full {
+        Some(parts) => parts.as_slice(),
+        None => &[],
+    }
+}
+
+fn same_names(last: &Option<RcSlice<Tok>>) -> Result<Option<RcSlice<Tok>>, Memory>
+    ensures { IfOk result (λ same. unwrap_or (option_map rc_slice_items same) [] ≡ unwrap_or (option_map rc_slice_items last.now) []) }
+{
+    match last {
+        Some(names) => Ok(Some(names.clone()?)),
+        None => Ok(None),
+    }
+}
+
+fn same_parts(full: &Option<RcSlice<RcSlice<Tok>>>) -> Result<Option<RcSlice<RcSlice<Tok>>>, Memory>
+    ensures { IfOk result (λ same. unwrap_or (option_map rc_slice_items same) [] ≡ unwrap_or (option_map rc_slice_items full.now) []) }
+{
+    match full {
+        Some(parts) => Ok(Some(parts.clone()?)),
+        None => Ok(None),
+    }
+}
+
+// Whether a token of a part is spelled so.
+fn is_in_parts(name: &[u8], parts: &[RcSlice<Tok>]) -> bool
+    ensures { result ≡ list_any (λ p. list_any (λ (t : Token). bytes_eq name.now t.text) (rc_slice_items p)) parts.now }
+{
+    parts.iter().any(|part| is_among(name, part.as_slice()))
+}
+
+// Adds the tokens of parts.
+fn push_parts(all: &mut Vec<Tok>, parts: &[RcSlice<Tok>]) -> Result<(), Memory>
+    ensures { IfOk result (λ _. all.new.items ≡ all.old.items ++ flat_map rc_slice_items parts.now) }
+{
+    for part in parts {
+        push_shared(all, part.as_slice())?;
+    }
+    Ok(())
+}
+
+// The tokens, and one more.
+fn with_one(alloc: Global, names: &[Tok], name: &Tok) -> Result<Vec<Tok>, Memory>
+    ensures { IfOk result (λ all. all.items ≡ names.now ++ name.now ∷ []) }
+{
+    let mut all = Vec::with_capacity(alloc, names.len() + 1)?;
+    push_shared(&mut all, names)?;
+    all.push(shared(name)?)?;
+    Ok(all)
+}
+
+// The parts, and the names behind them as one more.
+fn with_part(
+    alloc: Global,
+    parts: &[RcSlice<Tok>],
+    last: &Option<RcSlice<Tok>>,
+) -> Result<Vec<RcSlice<Tok>>, Memory>
+    ensures { IfOk result (λ all. flat_map rc_slice_items all.items
+        ≡ flat_map rc_slice_items parts.now ++ unwrap_or (option_map rc_slice_items last.now) []) }
+{
+    let mut all = same_handles(alloc, parts)?;
+    if let Some(names) = last {
+        all.push(names.clone()?)?;
+    }
+    Ok(all)
+}
+
+fn same_handles(alloc: Global, parts: &[RcSlice<Tok>]) -> Result<Vec<RcSlice<Tok>>, Memory>
+    ensures { IfOk result (λ all. flat_map rc_slice_items all.items ≡ flat_map rc_slice_items parts.now) }
+{
+    let mut all = Vec::with_capacity(alloc, parts.len() + 1)?;
+    for part in parts {
+        all.push(part.clone()?)?;
     }
     Ok(all)
 }

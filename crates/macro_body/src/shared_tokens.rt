@@ -17,7 +17,7 @@ pub fn shared(tok: &Tok) -> Result<Tok, Memory>
 pub fn all_shared(alloc: Global, toks: &[Tok]) -> Result<Vec<Tok>, Memory>
     ensures { IfOk result (λ all. all.items ≡ toks.now) }
 {
-    let mut all = Vec::new(alloc);
+    let mut all = Vec::with_capacity(alloc, toks.len())?;
     push_shared(&mut all, toks)?;
     Ok(all)
 }

@@ -1,5 +1,10 @@
-use Rattle.macro_body.proofs.HideLemmas.{with_names-more}
+use Rattle.std.proofs.Common.{sym, ◌∙◌, ap, List, ℕ}
+use Rattle.std.proofs.lemmas.Result.{IfOk-weaker}
+use Rattle.macro_body.specs.Hides.{with_names}
+use Rattle.macro_body.proofs.HideLemmas.{with_names-none}
 use Rattle.macro_body.proofs.hide_set.HideSet.with_names.Goals as goal
 
-pub returns-in-empty : goal.returns-in-empty
-returns-in-empty c = with_names-more c.copy.result c.args.self.now c.args.more.now c.listed.result.now c.listed.ensures c.in-empty.len_below c.copy.ensures
+pub returns-then-is_empty : goal.returns-then-is_empty
+returns-then-is_empty c =
+    IfOk-weaker c.copy.result _ _
+    (λ h is. is ∙ sym (with_names-none c.args.more.now) ∙ ap (λ (known : List (List ℕ)). with_names known c.args.more.now) (sym c.if-is_empty.ensures)) c.copy.ensures

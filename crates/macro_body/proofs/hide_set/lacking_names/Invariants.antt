@@ -1,7 +1,0 @@
-use Rattle.std.proofs.Common.{◌≡◌, take}
-use Rattle.line_shape.specs.MacroLine.{spellings}
-use Rattle.macro_body.specs.Hides.{lacking}
-use Rattle.macro_body.proofs.hide_set.lacking_names.Given as goal
-
-abbrev pub invariant-loop-name : goal.invariant-loop-name
-invariant-loop-name l = spellings l.all.items ≡ lacking l.hides (spellings (take l.name-index l.names))
