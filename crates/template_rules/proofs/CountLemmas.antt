@@ -1,9 +1,7 @@
 -- The first of some declarators.
-use Rattle.std.proofs.Common.{◌≡◌, ℕ, ◌+◌, ◌<◌, ◌≤◌, List, [], ◌∷◌, ◌++◌, length, take, get_or, Option, Some, None, slice_get, refl, sym, ap, ◌∙◌}
+use Rattle.std.proofs.Common.{◌≡◌, ℕ, ◌+◌, ◌<◌, ◌≤◌, List, [], ◌∷◌, ◌++◌, length, take, get_or, Option, Some, refl, sym, ap, ◌∙◌}
 use Rattle.std.specs.List.{flat_map}
 use Rattle.std.proofs.lemmas.List.{get_or_default, take_all}
-use Rattle.std.proofs.lemmas.Option.{slice_get_within, get_or_from_slice_get}
-use Rattle.ws_core.specs.Analysis.{UnitAnalysis}
 use Rattle.include_tree.specs.Below.source_files.Files.{Table}
 use Rattle.template_rules.specs.declared.counting.Declarator.{Declarator}
 use Rattle.template_rules.specs.Lists.{sooner, soonest}
@@ -40,9 +38,3 @@ module _ (table : Table) where
   pub soonest-all : {X : Type 0} (f : X → List Declarator) (xs : List X) (k : ℕ) (best now : Option Declarator) → length xs ≤ k
       → now ≡ soonest table best (flat_map f (take k xs)) → now ≡ soonest table best (flat_map f xs)
   soonest-all f xs k best now past is = rw (← take_all k xs past) is
-
-  pub soonest-unit : (f : UnitAnalysis → List Declarator) (units : List UnitAnalysis) (k : ℕ) (u : UnitAnalysis) (best now new : Option Declarator)
-      → slice_get units k ≡ Some u → now ≡ soonest table best (flat_map f (take k units)) → new ≡ soonest table now (f u)
-      → new ≡ soonest table best (flat_map f (take (k + 1) units))
-  soonest-unit f units k u best now new at before here =
-      soonest-next f units k u best now new (slice_get_within units k u at) (sym (get_or_from_slice_get units k u u at)) before here

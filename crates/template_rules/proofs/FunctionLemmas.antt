@@ -1,17 +1,20 @@
 -- The functions that a class names, unit by unit.
-use Rattle.std.proofs.Common.{◌≡◌, ℕ, zero, suc, ◌+◌, ◌<◌, ◌≤◌, Bool, true, false, List, [], ◌∷◌, ◌++◌, length, take, get_or, Option, Some, None, slice_get, refl, sym, ap, ◌∙◌, inl, inr, arith}
-use Rattle.std.specs.Prelude.{◌==◌, ◌&&◌, ◌||◌, not, slice_index_or}
+use Rattle.std.proofs.Common.{◌≡◌, ℕ, zero, suc, ◌+◌, ◌<◌, ◌≤◌, Bool, true, false, List, [], ◌∷◌, ◌++◌, length, take, get_or, Option, Some, None, slice_get, refl, sym, ap, subst, ◌∙◌, ◌⊎◌, inl, inr, arith}
+use Rattle.std.specs.Prelude.{◌==◌, ◌&&◌, ◌||◌, not}
 use Rattle.std.specs.List.{list_any}
 use Rattle.std.proofs.Math.Bool.{or-false}
 use Rattle.std.proofs.lemmas.Bool.{cases_Bool, or_parts, or_cases, and_parts, eq-eqb, eqb-true, eqb-false, ne_eqb}
-use Rattle.std.proofs.lemmas.List.{get_or_append_left, get_or_push, length_push, take_all}
+use Rattle.std.proofs.lemmas.List.{length_push, take_all}
 use Rattle.std.proofs.lemmas.List.Folds.{list_any_more, list_any-append}
-use Rattle.std.proofs.lemmas.Option.{slice_get_within}
 use Rattle.cs_base.specs.declared.positions.Part.{Part}
 use Rattle.cs_base.specs.Token.{Token}
 use Rattle.scope_bind.specs.declared.bound.Name.{Name}
-use Rattle.ws_core.specs.Analysis.{UnitAnalysis, AnalysisValue}
-use Rattle.template_rules.specs.Functions.{is_named, is_function, has_function, AreFunctionsOf, AreFunctions}
+use Rattle.ws_core.specs.Analysis.{UnitAnalysis}
+use Rattle.template_rules.specs.declared.unit_functions.UnitFunctions.{UnitFunctions}
+use Rattle.template_rules.specs.ClassValue.{ClassValue}
+use Rattle.template_rules.specs.Functions.{is_named, is_function, has_function, AreFunctionsOf}
+use Rattle.template_rules.specs.Units.{IsUnitAt, AreUnits, has_some}
+use Rattle.template_rules.proofs.UnitLemmas.{units_any}
 
 -- ---- one name more
 
@@ -65,38 +68,45 @@ names_all p names k xs past before e = rw (← take_all k names past) (before e)
 -- ---- units
 
 -- The functions of the units before one.
-pub record AreBefore (members : List Part) (a : AnalysisValue) (functions : List (List ℕ)) (unit : ℕ) : Type 0 where
-  pub many : length functions ≡ unit
-  pub each : (k : ℕ) (u : UnitAnalysis) → k < unit → slice_get a.units k ≡ Some u
-      → AreFunctionsOf members u.text.toks u.bound.names (get_or functions k [])
+pub record AreBefore (class : ClassValue) (fs : List UnitFunctions) (unit : ℕ) : Type 0 where
+  pub many : length fs ≡ unit
+  pub own : (k : ℕ) (f : UnitFunctions) → slice_get fs k ≡ Some f → f.class ≡ class
+  pub each : (k : ℕ) (f : UnitFunctions) → slice_get fs k ≡ Some f → IsUnitAt class.analysis.value.units k f
 
-module _ (members : List Part) (a : AnalysisValue) where
-  pub before_none : AreBefore members a [] 0
-  before_none = record { many = refl; each = λ k u below at. absurd (omega (arith, below)) }
+-- an element once one more is behind the others: it is one of these, or the last
+pushed : {X : Type 0} (xs : List X) (x y : X) (k : ℕ) → slice_get (xs ++ x ∷ []) k ≡ Some y
+    → (slice_get xs k ≡ Some y) ⊎ ((k ≡ length xs) × (x ≡ y))
+pushed [] x y zero at = inr (refl, cc)
+pushed [] x y (suc k) at = absurd cc
+pushed (z ∷ xs) x y zero at = inl at
+pushed (z ∷ xs) x y (suc k) at = elim (pushed xs x y k at) [
+  | inl before ↦ inl before
+  | inr last ↦ inr (ap (λ (n : ℕ). suc n) last.0, last.1)
+]
 
-  pub before_next : (fs gs : List (List ℕ)) (x : List ℕ) (unit : ℕ) (u : UnitAnalysis) → AreBefore members a fs unit → slice_get a.units unit ≡ Some u
-      → AreFunctionsOf members u.text.toks u.bound.names x → gs ≡ fs ++ x ∷ [] → AreBefore members a gs (unit + 1)
-  before_next fs gs x unit u before at here made = record {
+module _ (class : ClassValue) where
+  pub before_none : AreBefore class [] 0
+  before_none = record { many = refl; own = λ k f at. absurd cc; each = λ k f at. absurd cc }
+
+  pub before_next : (fs gs : List UnitFunctions) (x : UnitFunctions) (unit : ℕ) → AreBefore class fs unit → x.class ≡ class
+      → IsUnitAt class.analysis.value.units unit x → gs ≡ fs ++ x ∷ [] → AreBefore class gs (unit + 1)
+  before_next fs gs x unit before mine here made = record {
     many = rw made (length_push fs x ∙ ap (λ (n : ℕ). n + 1) before.many);
-    each = λ k v below there. elim (cases_Bool (k == unit)) [
-      | inl last ↦
-          let is : k ≡ unit = eqb-true k unit last in
-          let same : Some v ≡ Some u = sym there ∙ ap (λ (n : ℕ). slice_get a.units n) is ∙ at in
-          let one : v ≡ u = cc in
-          let found : get_or (fs ++ x ∷ []) k [] ≡ x = get_or_push fs x [] k (before.many ∙ sym is) in
-          rw (made, found, one) here
-      | inr other ↦
-          let less : k < unit = omega (arith, below, eqb-false k unit other) in
-          let found : get_or (fs ++ x ∷ []) k [] ≡ get_or fs k [] = get_or_append_left fs (x ∷ []) [] k (rw before.many less) in
-          rw (made, found) (before.each k v less there)
+    own = λ k f at. elim (pushed fs x f k (rw made at at)) [
+      | inl there ↦ before.own k f there
+      | inr last ↦ ap (λ (g : UnitFunctions). g.class) (sym last.1) ∙ mine
+    ];
+    each = λ k f at. elim (pushed fs x f k (rw made at at)) [
+      | inl there ↦ before.each k f there
+      | inr last ↦
+          let is : unit ≡ k = sym (last.0 ∙ before.many) in
+          subst (λ (n : ℕ). IsUnitAt class.analysis.value.units n f) is
+          (subst (λ (g : UnitFunctions). IsUnitAt class.analysis.value.units unit g) last.1 here)
     ];
   }
 
-  pub before_all : (fs : List (List ℕ)) (unit : ℕ) → AreBefore members a fs unit → unit ≡ length a.units → AreFunctions members a fs
-  before_all fs unit before all = record {
-    many = before.many ∙ all;
-    each = λ k u at. before.each k u (rw all (slice_get_within a.units k u at)) at;
-  }
+  pub before_all : (fs : List UnitFunctions) (unit : ℕ) → AreBefore class fs unit → unit ≡ length class.analysis.value.units → AreUnits class fs
+  before_all fs unit before all = record { many = before.many ∙ all; own = before.own; each = before.each }
 
 -- ---- whether there is a function
 
@@ -129,16 +139,8 @@ some_function members toks names (f ∷ fs) are =
     let there : has (f ∷ fs) f ≡ true = rw first refl in
     rw (more, some_named (is_named members toks) names f (sym (are f) ∙ there)) refl
 
-pub alike_units : (q : List ℕ → Bool) (p : UnitAnalysis → Bool) (units : List UnitAnalysis) (functions : List (List ℕ)) → length functions ≡ length units
-    → ((k : ℕ) (u : UnitAnalysis) → slice_get units k ≡ Some u → q (get_or functions k []) ≡ p u) → list_any q functions ≡ list_any p units
-alike_units q p [] [] many each = refl
-alike_units q p [] (f ∷ functions) many each = absurd (omega (arith, many))
-alike_units q p (u ∷ units) [] many each = absurd (omega (arith, many))
-alike_units q p (u ∷ units) (f ∷ functions) many each =
-    rw (each 0 u refl, alike_units q p units functions (omega (arith, many)) (λ k v at. each (suc k) v at)) refl
-
-pub some_functions : (members : List Part) (a : AnalysisValue) (functions : List (List ℕ)) → AreFunctions members a functions
-    → list_any (λ fs. not (length fs == 0)) functions ≡ has_function members a
-some_functions members a functions are =
-    alike_units (λ fs. not (length fs == 0)) (λ (u : UnitAnalysis). list_any (is_named members u.text.toks) u.bound.names) a.units functions are.many
-    (λ k u at. some_function members u.text.toks u.bound.names (get_or functions k []) (are.each k u at))
+pub some_functions : (class : ClassValue) (fs : List UnitFunctions) → AreUnits class fs
+    → list_any has_some fs ≡ has_function class.members class.analysis.value
+some_functions class fs are =
+    units_any class fs are has_some (λ (u : UnitAnalysis). list_any (is_named class.members u.text.toks) u.bound.names)
+    (λ u f own is. some_function f.class.members f.text.now.toks f.bound.now.names f.entities f.named ∙ rw (own, is.of_text, is.of_bound) refl)

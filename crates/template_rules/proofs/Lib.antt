@@ -3,6 +3,8 @@ pub mod FindLemmas
 pub mod FunctionLemmas
 pub mod CountLemmas
 pub mod UnitLemmas
+pub mod FoundLemmas
+pub mod AskLemmas
 pub mod MarkLemmas
 pub mod NumberLemmas
 pub mod OddLemmas

@@ -58,12 +58,6 @@ lists_all f xs k first now past is = rw (← take_all k xs past) is
 pub lists_both : (xs ys first between now : List (List ℕ)) → between ≡ with_lists xs first → now ≡ with_lists ys between → now ≡ with_lists (xs ++ ys) first
 lists_both xs ys first between now so_far here = rw (with_lists-append xs ys first, ← so_far) here
 
--- the lists of a unit, by its tokens and names as they are told
-pub found_told : (members : List Part) (u : UnitAnalysis) (text : UnitTextValue) (bound : Bound) (before now : List FoundList) → u.text ≡ text → u.bound ≡ bound
-    → now ≡ before ++ (flat_map (function_list members text.toks bound.names) bound.declarators ++ flat_map (function_list members text.toks bound.names) bound.calls)
-    → now ≡ before ++ unit_found members u
-found_told members u text bound before now same_text same_bound is = rw (same_text, same_bound) is
-
 -- ---- items
 
 module _ (bytes : List ℕ) (toks : List Token) where

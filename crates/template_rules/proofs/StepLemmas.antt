@@ -1,13 +1,9 @@
 -- Offences of the elements of a list, one element after another.
-use Rattle.std.proofs.Common.{◌≡◌, ℕ, ◌+◌, ◌-◌, ◌<◌, ◌≤◌, List, [], ◌∷◌, ◌++◌, length, take, get_or, Option, Some, None, slice_get, refl, sym, ap, ◌∙◌, append-nil, arith}
+use Rattle.std.proofs.Common.{◌≡◌, ℕ, ◌+◌, ◌<◌, ◌≤◌, List, [], ◌∷◌, ◌++◌, length, take, get_or, Option, sym, ap, ◌∙◌, append-nil, refl}
 use Rattle.std.specs.List.{flat_map}
-use Rattle.std.specs.Option.{option_map}
 use Rattle.std.proofs.lemmas.Grind.{flat_map-append}
 use Rattle.std.proofs.lemmas.List.{get_or_default, take_more, take_all}
-use Rattle.std.proofs.lemmas.Option.{slice_get_within, get_or_from_slice_get}
-use Rattle.c99_tree.specs.Tree.{Node}
 use Rattle.include_tree.specs.Below.source_files.Files.{Table}
-use Rattle.ws_core.specs.Analysis.{UnitAnalysis}
 use Rattle.rename_rules.specs.declared.offences.Offence.{Offence}
 use Rattle.rename_rules.specs.First.{FirstThen}
 use Rattle.rename_rules.proofs.FirstLemmas.{then_both}
@@ -33,21 +29,3 @@ module _ (table : Table) where
   pub more_all : {X : Type 0} (g : X → List Offence) (xs : List X) (k : ℕ) (a b : Option Offence) → length xs ≤ k
       → FirstThen table (flat_map g (take k xs)) a b → FirstThen table (flat_map g xs) a b
   more_all g xs k a b h is = rw (← take_all k xs h) is
-
-  pub more_unit : (g : UnitAnalysis → List Offence) (units : List UnitAnalysis) (k : ℕ) (u : UnitAnalysis) (a b c : Option Offence)
-      → slice_get units k ≡ Some u → FirstThen table (flat_map g (take k units)) a b → FirstThen table (g u) b c
-      → FirstThen table (flat_map g (take (k + 1) units)) a c
-  more_unit g units k u a b c at before here =
-      more_next g units k u a b c (slice_get_within units k u at) (sym (get_or_from_slice_get units k u u at)) before here
-
--- the tree of a unit
-tree_in : (r : Option UnitAnalysis) (u : UnitAnalysis) (tree : Node) → r ≡ Some u → option_map (λ (u : UnitAnalysis). u.tree) r ≡ Some tree → u.tree ≡ tree
-tree_in None u tree is e = absurd (cc)
-tree_in (Some v) u tree is e = cc
-
-pub tree_of_unit : (units : List UnitAnalysis) (k : ℕ) (u : UnitAnalysis) (tree : Node) → slice_get units k ≡ Some u
-    → option_map (λ (u : UnitAnalysis). u.tree) (slice_get units (k + 1 - 1)) ≡ Some tree → u.tree ≡ tree
-tree_of_unit units k u tree is e =
-    let same : k + 1 - 1 ≡ k = omega arith in
-    let f : option_map (λ (u : UnitAnalysis). u.tree) (slice_get units k) ≡ Some tree = rw same at e in
-    tree_in (slice_get units k) u tree is f

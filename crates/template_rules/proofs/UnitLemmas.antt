@@ -1,108 +1,147 @@
--- What is told of a unit of an analysis, and what stands against a new order in it.
-use Rattle.std.proofs.Common.{◌≡◌, ℕ, ◌+◌, ◌-◌, ◌++◌, Bool, true, false, List, [], take, Option, Some, None, slice_get, refl, sym, ap, ◌∙◌, arith}
-use Rattle.std.specs.Prelude.{slice_index_or}
-use Rattle.std.specs.List.{flat_map, list_all}
-use Rattle.std.proofs.lemmas.Option.{slice_get_within, get_or_from_slice_get}
-use Rattle.std.specs.Option.{option_map}
-use Rattle.cs_base.specs.declared.positions.Part.{Part}
+-- What is asked of the units of an analysis with their functions is asked of its units.
+use Rattle.std.proofs.Common.{◌≡◌, ℕ, zero, suc, ◌+◌, ◌<◌, ◌++◌, Bool, List, [], ◌∷◌, length, get_or, Option, Some, slice_get, refl, sym, ap, ◌∙◌, subst, arith}
+use Rattle.std.specs.List.{flat_map, list_all, list_any}
+use Rattle.std.proofs.lemmas.Option.{slice_get-get_or}
 use Rattle.cs_base.specs.declared.positions.Pos.{Pos}
-use Rattle.cs_base.specs.Token.{Token}
 use Rattle.cs_base.specs.declared.causes.Cause.TheVariants as cause
-use Rattle.include_tree.specs.Below.unit_steps.declared.events.Event.{Event}
-use Rattle.include_tree.specs.Below.unit_steps.Texts.{UnitTextValue}
+use Rattle.include_tree.specs.Below.source_files.Files.{Table}
 use Rattle.c99_tree.specs.Tree.{Node}
-use Rattle.c_types.specs.declared.lists.List.{List as NameList}
 use Rattle.c_types.specs.declared.parameters.ParameterList.{ParameterList}
 use Rattle.c_types.specs.Parameters.{parameters_in}
-use Rattle.scope_bind.specs.declared.bound.Name.{Name}
-use Rattle.scope_bind.specs.Bound.{Bound}
 use Rattle.ws_core.specs.Analysis.{UnitAnalysis, AnalysisValue}
-use Rattle.ws_core.proofs.OneUnitLemmas.{unit_of_text, bound_of_unit}
-use Rattle.template_rules.specs.Functions.{AreFunctionsOf, AreFunctions}
-use Rattle.template_rules.specs.Lists.{declarator_of, declarators_in}
-use Rattle.template_rules.specs.NameOffences.{name_offences, unit_names}
-use Rattle.template_rules.specs.Marks.{declarator_marks, call_marks, unit_marks}
-use Rattle.rename_rules.specs.First.{standing}
+use Rattle.rename_rules.specs.declared.offences.Offence.{Offence}
+use Rattle.rename_rules.specs.First.{standing, FirstThen}
+use Rattle.template_rules.specs.declared.counting.Declarator.{Declarator}
+use Rattle.template_rules.specs.declared.file_lists.FoundList.{FoundList}
+use Rattle.template_rules.specs.declared.unit_functions.UnitFunctions.{UnitFunctions}
+use Rattle.template_rules.specs.ClassValue.{ClassValue}
+use Rattle.template_rules.specs.FileLists.{unit_found}
 use Rattle.template_rules.specs.Insides.{list_insides, unit_insides, unit_macro_names}
+use Rattle.template_rules.specs.Lists.{declarator_of, declarators_in, soonest}
 use Rattle.template_rules.specs.MacroOffences.{replaced_place, pasted_place}
+use Rattle.template_rules.specs.Marks.{declarator_marks, call_marks, unit_marks}
+use Rattle.template_rules.specs.NameOffences.{name_offences, unit_names}
 use Rattle.template_rules.specs.Offences.{declarator_offences, call_offences, unit_lists}
 use Rattle.template_rules.specs.ScopeOffences.{body_lists_in}
-use Rattle.template_rules.proofs.NumberLemmas.{all_here, all_still}
-use Rattle.template_rules.proofs.StepLemmas.{tree_of_unit}
+use Rattle.template_rules.specs.Units.{IsUnit, IsUnitAt, AreUnits, found_of}
 
--- The unit whose text, binding and tree are told.
-pub record IsUnit (units : List UnitAnalysis) (k : ℕ) (text : UnitTextValue) (bound : Bound) (tree : Node) : Type 0 where
-  pub unit : UnitAnalysis
-  pub at : slice_get units k ≡ Some unit
-  pub of_text : unit.text ≡ text
-  pub of_bound : unit.bound ≡ bound
-  pub of_tree : unit.tree ≡ tree
+-- ---- one unit
 
-pub unit_told : (units : List UnitAnalysis) (k : ℕ) (text : UnitTextValue) (bound : Bound) (tree : Node)
-    → option_map (λ (u : UnitAnalysis). u.text) (slice_get units (k + 1 - 1)) ≡ Some text
-    → option_map (λ (u : UnitAnalysis). u.bound) (slice_get units (k + 1 - 1)) ≡ Some bound
-    → option_map (λ (u : UnitAnalysis). u.tree) (slice_get units (k + 1 - 1)) ≡ Some tree
-    → IsUnit units k text bound tree
-unit_told units k text bound tree has_text has_bound has_tree =
-    let u = unit_of_text units k text has_text in
-    record {
-      unit = u.0;
-      at = u.1;
-      of_text = u.2;
-      of_bound = bound_of_unit units k u.0 bound u.1 has_bound;
-      of_tree = tree_of_unit units k u.0 tree u.1 has_tree;
-    }
+-- the parameter lists of its declarators
+lists_told : (u : UnitAnalysis) (f : UnitFunctions) → IsUnit u f → f.lists.items ≡ parameters_in u.tree.under
+lists_told u f is = f.listed ∙ ap (λ (t : Node). parameters_in t.under) is.of_tree
 
--- the functions of the unit, by its tokens and names as they are told
-pub functions_told : (members : List Part) (a : AnalysisValue) (functions : List (List ℕ)) (k : ℕ) (u : UnitAnalysis) (toks : List Token) (names : List Name) (entities : List ℕ)
-    → AreFunctions members a functions → slice_get a.units k ≡ Some u → toks ≡ u.text.toks → names ≡ u.bound.names
-    → entities ≡ slice_index_or functions k [] → AreFunctionsOf members toks names entities
-functions_told members a functions k u toks names entities are at same_toks same_names same = rw (same_toks, same_names, same) (are.each k u at)
+abbrev pub declarators_of : UnitFunctions → List Declarator
+declarators_of f = flat_map (declarator_of f.class.members f.text.now.toks f.bound.now.names f.lists.items) f.bound.now.names
 
-pub declarators_told : (members : List Part) (u : UnitAnalysis) (toks : List Token) (names : List Name) (lists : List ParameterList)
-    → toks ≡ u.text.toks → names ≡ u.bound.names → lists ≡ parameters_in u.tree.under
-    → flat_map (declarator_of members toks names lists) names ≡ declarators_in members u
-declarators_told members u toks names lists same_toks same_names same_lists = rw (same_toks, same_names, same_lists) refl
+abbrev pub names_of : UnitFunctions → List Offence
+names_of f =
+    flat_map (name_offences f.class.members f.text.now.toks f.bound.now.names f.bound.now.calls f.lists.items) f.bound.now.names
 
-pub names_told : (members : List Part) (u : UnitAnalysis) (toks : List Token) (names : List Name) (calls : List NameList) (lists : List ParameterList)
-    → toks ≡ u.text.toks → names ≡ u.bound.names → calls ≡ u.bound.calls → lists ≡ parameters_in u.tree.under
-    → flat_map (name_offences members toks names calls lists) names ≡ unit_names members u
-names_told members u toks names calls lists same_toks same_names same_calls same_lists = rw (same_toks, same_names, same_calls, same_lists) refl
+abbrev pub marks_of : AnalysisValue → ℕ → UnitFunctions → List Offence
+marks_of a count f =
+    flat_map (declarator_marks f.class.members a count f.text.now.toks f.text.now.reached f.bound.now.names f.lists.items) f.bound.now.declarators
+    ++ flat_map (call_marks f.class.members a count f.text.now.toks f.text.now.reached f.bound.now.names) f.bound.now.calls
 
-pub marks_told : (members : List Part) (a : AnalysisValue) (count : ℕ) (u : UnitAnalysis) (text : UnitTextValue) (bound : Bound) (lists : List ParameterList) (declarators calls : List NameList)
-    → u.text ≡ text → u.bound ≡ bound → lists ≡ parameters_in u.tree.under → declarators ≡ bound.declarators → calls ≡ bound.calls
-    → flat_map (declarator_marks members a count text.toks text.reached bound.names lists) declarators
-    ++ flat_map (call_marks members a count text.toks text.reached bound.names) calls
-    ≡ unit_marks members a count u
-marks_told members a count u text bound lists declarators calls same_text same_bound same_lists same_declarators same_calls =
-    rw (same_declarators, same_calls, same_lists, ← same_text, ← same_bound) refl
+abbrev pub macro_names_of : UnitFunctions → List Offence
+macro_names_of f =
+    standing cause.InMacro (flat_map (replaced_place f.class.members) f.text.now.events)
+    ++ standing cause.InMacro (flat_map (pasted_place f.class.members) f.text.now.pasted)
 
-pub insides_told : (members : List Part) (u : UnitAnalysis) (text : UnitTextValue) (bound : Bound) (declarators calls : List NameList)
-    → u.text ≡ text → u.bound ≡ bound → declarators ≡ bound.declarators → calls ≡ bound.calls
-    → flat_map (list_insides members text.toks text.events bound.names) declarators ++ flat_map (list_insides members text.toks text.events bound.names) calls
-    ≡ unit_insides members u
-insides_told members u text bound declarators calls same_text same_bound same_declarators same_calls =
-    rw (same_declarators, same_calls, ← same_text, ← same_bound) refl
+abbrev pub insides_of : UnitFunctions → List Offence
+insides_of f =
+    flat_map (list_insides f.class.members f.text.now.toks f.text.now.events f.bound.now.names) f.bound.now.declarators
+    ++ flat_map (list_insides f.class.members f.text.now.toks f.text.now.events f.bound.now.names) f.bound.now.calls
 
-pub macro_names_told : (members : List Part) (u : UnitAnalysis) (events : List Event) (pasted : List Token)
-    → events ≡ u.text.events → pasted ≡ u.text.pasted
-    → standing cause.InMacro (flat_map (replaced_place members) events) ++ standing cause.InMacro (flat_map (pasted_place members) pasted)
-    ≡ unit_macro_names members u
-macro_names_told members u events pasted same_events same_pasted = rw (same_events, same_pasted) refl
+abbrev pub offences_at : ClassValue → List Pos → UnitFunctions → List Offence
+offences_at class odds f =
+    flat_map (declarator_offences class.members class.analysis.value odds f.text.now f.bound.now f.lists.items) f.bound.now.declarators
+    ++ flat_map (call_offences class.members class.analysis.value odds f.text.now f.bound.now (body_lists_in f.tree.now.under)) f.bound.now.calls
 
-pub lists_told : (members : List Part) (a : AnalysisValue) (odds one other : List Pos) (u : UnitAnalysis) (text : UnitTextValue) (bound : Bound) (lists : List ParameterList) (ends : List ℕ) (declarators calls : List NameList)
-    → one ≡ odds → other ≡ odds → u.text ≡ text → u.bound ≡ bound → lists ≡ parameters_in u.tree.under → ends ≡ body_lists_in u.tree.under
-    → declarators ≡ bound.declarators → calls ≡ bound.calls
-    → flat_map (declarator_offences members a one text bound lists) declarators ++ flat_map (call_offences members a other text bound ends) calls
-    ≡ unit_lists members a odds u
-lists_told members a odds one other u text bound lists ends declarators calls same_one same_other same_text same_bound same_lists same_ends same_declarators same_calls =
-    rw (same_one, same_other, same_declarators, same_calls, same_lists, same_ends, ← same_text, ← same_bound) refl
+module _ (class : ClassValue) (u : UnitAnalysis) (f : UnitFunctions) (own : f.class ≡ class) (is : IsUnit u f) where
+  pub declarators_told : declarators_of f ≡ declarators_in class.members u
+  declarators_told = rw (own, is.of_text, is.of_bound, lists_told u f is) refl
 
--- ---- tests of all units
+  pub names_told : names_of f ≡ unit_names class.members u
+  names_told = rw (own, is.of_text, is.of_bound, lists_told u f is) refl
 
-pub all_unit : (p : UnitAnalysis → Bool) (units : List UnitAnalysis) (k : ℕ) (u : UnitAnalysis) → slice_get units k ≡ Some u → p u ≡ false → list_all p units ≡ false
-all_unit p units k u at here = all_here p units k u (slice_get_within units k u at) (sym (get_or_from_slice_get units k u u at)) here
+  pub marks_told : (a : AnalysisValue) (count : ℕ) → marks_of a count f ≡ unit_marks class.members a count u
+  marks_told a count = rw (own, is.of_text, is.of_bound, lists_told u f is) refl
 
-pub all_unit_next : (p : UnitAnalysis → Bool) (units : List UnitAnalysis) (k : ℕ) (u : UnitAnalysis) → slice_get units k ≡ Some u → p u ≡ true
-    → list_all p (take k units) ≡ true → list_all p (take (k + 1) units) ≡ true
-all_unit_next p units k u at here before = all_still p units k u (slice_get_within units k u at) (sym (get_or_from_slice_get units k u u at)) here before
+  pub macro_names_told : macro_names_of f ≡ unit_macro_names class.members u
+  macro_names_told = rw (own, is.of_text) refl
+
+  pub insides_told : insides_of f ≡ unit_insides class.members u
+  insides_told = rw (own, is.of_text, is.of_bound) refl
+
+  pub offences_told : (odds : List Pos) → offences_at class odds f ≡ unit_lists class.members class.analysis.value odds u
+  offences_told odds = rw (is.of_text, is.of_bound, is.of_tree, lists_told u f is) refl
+
+  pub found_told : found_of f ≡ unit_found class.members u
+  found_told = rw (own, is.of_text, is.of_bound) refl
+
+-- ---- all units
+
+-- a unit with its functions, one of those of this list, and the unit that it is
+abbrev Told : ClassValue → List UnitAnalysis → List UnitFunctions → Type 0
+Told class us fs = (k : ℕ) (u : UnitAnalysis) (f : UnitFunctions) → slice_get us k ≡ Some u → slice_get fs k ≡ Some f
+    → (f.class ≡ class) × IsUnit u f
+
+told : (class : ClassValue) (fs : List UnitFunctions) → AreUnits class fs → Told class class.analysis.value.units fs
+told class fs are k u f at_u at_f = (are.own k f at_f, are.each k f at_f u at_u)
+
+module _ (class : ClassValue) where
+  flat_map_told : {A : Type 0} (h : UnitFunctions → List A) (g : UnitAnalysis → List A)
+      → ((u : UnitAnalysis) (f : UnitFunctions) → f.class ≡ class → IsUnit u f → h f ≡ g u)
+      → (us : List UnitAnalysis) (fs : List UnitFunctions) → length fs ≡ length us → Told class us fs → flat_map h fs ≡ flat_map g us
+  flat_map_told h g same [] [] many all = refl
+  flat_map_told h g same [] (f ∷ fs) many all = absurd (omega (arith, many))
+  flat_map_told h g same (u ∷ us) [] many all = absurd (omega (arith, many))
+  flat_map_told h g same (u ∷ us) (f ∷ fs) many all =
+      let here = all 0 u f refl refl in
+      rw (same u f here.0 here.1, flat_map_told h g same us fs (omega (arith, many)) (λ k v e. all (suc k) v e)) refl
+
+  list_all_told : (h : UnitFunctions → Bool) (g : UnitAnalysis → Bool)
+      → ((u : UnitAnalysis) (f : UnitFunctions) → f.class ≡ class → IsUnit u f → h f ≡ g u)
+      → (us : List UnitAnalysis) (fs : List UnitFunctions) → length fs ≡ length us → Told class us fs → list_all h fs ≡ list_all g us
+  list_all_told h g same [] [] many all = refl
+  list_all_told h g same [] (f ∷ fs) many all = absurd (omega (arith, many))
+  list_all_told h g same (u ∷ us) [] many all = absurd (omega (arith, many))
+  list_all_told h g same (u ∷ us) (f ∷ fs) many all =
+      let here = all 0 u f refl refl in
+      rw (same u f here.0 here.1, list_all_told h g same us fs (omega (arith, many)) (λ k v e. all (suc k) v e)) refl
+
+  list_any_told : (h : UnitFunctions → Bool) (g : UnitAnalysis → Bool)
+      → ((u : UnitAnalysis) (f : UnitFunctions) → f.class ≡ class → IsUnit u f → h f ≡ g u)
+      → (us : List UnitAnalysis) (fs : List UnitFunctions) → length fs ≡ length us → Told class us fs → list_any h fs ≡ list_any g us
+  list_any_told h g same [] [] many all = refl
+  list_any_told h g same [] (f ∷ fs) many all = absurd (omega (arith, many))
+  list_any_told h g same (u ∷ us) [] many all = absurd (omega (arith, many))
+  list_any_told h g same (u ∷ us) (f ∷ fs) many all =
+      let here = all 0 u f refl refl in
+      rw (same u f here.0 here.1, list_any_told h g same us fs (omega (arith, many)) (λ k v e. all (suc k) v e)) refl
+
+  module _ (fs : List UnitFunctions) (are : AreUnits class fs) where
+    pub units_flat_map : {A : Type 0} (h : UnitFunctions → List A) (g : UnitAnalysis → List A)
+        → ((u : UnitAnalysis) (f : UnitFunctions) → f.class ≡ class → IsUnit u f → h f ≡ g u)
+        → flat_map h fs ≡ flat_map g class.analysis.value.units
+    units_flat_map h g same = flat_map_told h g same class.analysis.value.units fs are.many (told class fs are)
+
+    pub units_all : (h : UnitFunctions → Bool) (g : UnitAnalysis → Bool)
+        → ((u : UnitAnalysis) (f : UnitFunctions) → f.class ≡ class → IsUnit u f → h f ≡ g u)
+        → list_all h fs ≡ list_all g class.analysis.value.units
+    units_all h g same = list_all_told h g same class.analysis.value.units fs are.many (told class fs are)
+
+    pub units_any : (h : UnitFunctions → Bool) (g : UnitAnalysis → Bool)
+        → ((u : UnitAnalysis) (f : UnitFunctions) → f.class ≡ class → IsUnit u f → h f ≡ g u)
+        → list_any h fs ≡ list_any g class.analysis.value.units
+    units_any h g same = list_any_told h g same class.analysis.value.units fs are.many (told class fs are)
+
+    -- the first of the offences in all units
+    pub units_first : (h : UnitFunctions → List Offence) (g : UnitAnalysis → List Offence)
+        → ((u : UnitAnalysis) (f : UnitFunctions) → f.class ≡ class → IsUnit u f → h f ≡ g u)
+        → (table : Table) (x y : Option Offence) → FirstThen table (flat_map h fs) x y → FirstThen table (flat_map g class.analysis.value.units) x y
+    units_first h g same table x y is = subst (λ (os : List Offence). FirstThen table os x y) (units_flat_map h g same) is
+
+    pub unit_own : (k : ℕ) (f : UnitFunctions) → k < length fs → f ≡ get_or fs k f → f.class ≡ class
+    unit_own k f lt is = are.own k f (slice_get-get_or fs k f lt ∙ ap (λ (g : UnitFunctions). Some g) (sym is))

@@ -1,11 +1,12 @@
 -- The functions that a class names (this project's, over ISO/IEC 9899:1999, 6.2.1 and 6.9.1): each function of some unit
 -- one of whose names holds a member of the class.
-use Rattle.std.specs.Prelude.{ℕ, ◌≡◌, ◌==◌, ◌&&◌, Bool, false, Option, Some, List, [], ◌∷◌, length, slice_get, slice_index_or}
+use Rattle.std.specs.Prelude.{ℕ, ◌≡◌, ◌==◌, ◌&&◌, Bool, false, Option, List, [], ◌∷◌, slice_get}
 use Rattle.std.specs.List.{list_any}
 use Rattle.std.specs.Option.{option_map_or, option_and_then}
 use Rattle.cs_base.specs.declared.positions.Part.{Part}
 use Rattle.cs_base.specs.declared.positions.Pos.{Pos}
 use Rattle.cs_base.specs.Token.{Token, origin_at}
+use Rattle.c_types.specs.declared.lists.List.{List as NameList}
 use Rattle.scope_bind.specs.declared.bound.Name.{Name}
 use Rattle.scope_bind.specs.Bound.{is_function_name}
 use Rattle.scope_bind.specs.Names.{entity_at}
@@ -54,8 +55,6 @@ has_function members a = list_any (λ (u : UnitAnalysis). list_any (is_named mem
 abbrev pub AreFunctionsOf : List Part → List Token → List Name → List ℕ → Type 0
 AreFunctionsOf members toks names entities = (e : ℕ) → list_any (λ f. f == e) entities ≡ is_function members toks names e
 
--- These are the functions of each unit.
-pub record AreFunctions (members : List Part) (a : AnalysisValue) (functions : List (List ℕ)) : Type 0 where
-  pub each : (k : ℕ) (u : UnitAnalysis) → slice_get a.units k ≡ Some u
-      → AreFunctionsOf members u.text.toks u.bound.names (slice_index_or functions k [])
-  pub many : length functions ≡ length a.units
+-- the list belongs to a name of one of these entities
+abbrev pub is_list_of : List Name → List ℕ → NameList → Bool
+is_list_of names entities l = option_map_or (λ e. list_any (λ f. f == e) entities) (entity_at names l.name) false

@@ -1,5 +1,6 @@
 -- What the public contracts rest on.
 pub mod Functions
+pub mod ClassValue
 pub mod Lists
 pub mod Marks
 pub mod NameOffences
@@ -9,6 +10,8 @@ pub mod Insides
 pub mod LineOffences
 pub mod Offences
 pub mod FileLists
+pub mod Units
+pub mod Asking
 pub mod Template
 -- What contracts see of answers.
 pub mod Refusals

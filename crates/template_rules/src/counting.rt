@@ -1,16 +1,15 @@
 // How many parameters the functions have that a class names.
-ghost use Rattle.std.specs.Prelude.{◌≡◌, ◌+◌, IfOk};
-ghost use Rattle.template_rules.specs.Functions.{AreFunctions, AreFunctionsOf};
-ghost use Rattle.template_rules.specs.Lists.{has_types, declarations_in, parameters_at, parameters_of, arguments_of, declarator_of, sooner, soonest, count_of};
+ghost use Rattle.std.specs.Prelude.{◌≡◌, ◌+◌, None};
+ghost use Rattle.template_rules.specs.Lists.{has_types, declarations_in, parameters_at, parameters_of, arguments_of, declarator_of, declarators_in, sooner, soonest, count_of};
 ghost use Rattle.std.specs.List.{flat_map};
 ghost use Rattle.std.specs.Option.{option_copied};
 
-use crate::functions::{Functions, declares_function};
+use crate::functions::Functions;
 use crate::places::origin_of;
-use cs_base::{Memory, Part, Pos, Tok};
+use crate::unit_functions::{UnitFunctions, declares_function};
+use cs_base::Pos;
 use rename_rules::compare;
-use scope_bind::{List, Name, ParameterForm, ParameterList, parameter_lists};
-use std::alloc::Global;
+use scope_bind::{List, Name, ParameterForm, ParameterList};
 use std::cmp::Ordering;
 use ws_core::Analysis;
 
@@ -89,79 +88,63 @@ fn sooner(a: &Analysis, best: Option<Declarator>, declarator: Declarator) -> Dec
 // The first of some declarators and of that which a name is in, if it declares a function.
 fn with_name(
     a: &Analysis,
-    members: &[Part],
-    toks: &[Tok],
-    names: &[Name],
-    entities: &[u32],
-    lists: &[ParameterList],
+    unit: &UnitFunctions<'_>,
     best: Option<Declarator>,
     name: Name,
 ) -> Option<Declarator>
-    requires { AreFunctionsOf members.now toks.now names.now entities.now }
-    ensures { result ≡ soonest a.now.value.table best (declarator_of members.now toks.now names.now lists.now name) }
+    ensures { result ≡ soonest a.now.value.table best
+        (declarator_of unit.now.class.members unit.now.text.now.toks unit.now.bound.now.names unit.now.lists.items name) }
 {
-    if !declares_function(members, toks, names, entities, name) {
+    if !declares_function(unit, name) {
         return best;
     }
-    match origin_of(toks, name.index) {
+    match origin_of(unit.text.toks(), name.index) {
         Some(at) => {
-            let count = parameters_of(lists, name.index);
+            let count = parameters_of(&unit.lists, name.index);
             Some(sooner(a, best, Declarator { at, count }))
         }
         None => best,
     }
 }
 
-// The same with all names of a unit.
+// The same with all these names.
 fn with_names(
     a: &Analysis,
-    members: &[Part],
-    toks: &[Tok],
+    unit: &UnitFunctions<'_>,
     names: &[Name],
-    entities: &[u32],
-    lists: &[ParameterList],
     best: Option<Declarator>,
 ) -> Option<Declarator>
-    requires { AreFunctionsOf members.now toks.now names.now entities.now }
-    ensures { result ≡ soonest a.now.value.table best (flat_map (declarator_of members.now toks.now names.now lists.now) names.now) }
+    ensures { result ≡ soonest a.now.value.table best (flat_map
+        (declarator_of unit.now.class.members unit.now.text.now.toks unit.now.bound.now.names unit.now.lists.items) names.now) }
 {
     let mut now = best;
     for name in names {
-        now = with_name(a, members, toks, names, entities, lists, now, *name);
+        now = with_name(a, unit, now, *name);
     }
     now
 }
 
+// Of all units the first declarator of a function.
+fn first_declarator(functions: &Functions<'_>) -> Option<Declarator>
+    ensures { result ≡ soonest functions.now.analysis.value.table None
+        (flat_map (declarators_in functions.now.members) functions.now.analysis.value.units) }
+{
+    let a = functions.analysis();
+    let mut best = None;
+    let units = functions.units();
+    for unit in units {
+        best = with_names(a, unit, unit.bound.names(), best);
+    }
+    best
+}
+
 /// How many parameters the first declarator by its place has: the number of items of each list that is to have a new
 /// order.
-pub fn parameter_count(
-    alloc: Global,
-    a: &Analysis,
-    members: &[Part],
-    functions: &Functions,
-) -> Result<usize, Memory>
-    requires { AreFunctions members.now a.now.value functions.now }
-    ensures answer { IfOk result (λ count. count ≡ count_of a.now.value members.now) }
+pub fn parameter_count(functions: &Functions<'_>) -> usize
+    ensures answer { result ≡ count_of functions.now.analysis.value functions.now.members }
 {
-    let mut best = None;
-    for unit in 0..a.units() {
-        let text = a.text(unit + 1);
-        let bound = a.bound(unit + 1);
-        let tree = a.tree(unit + 1);
-        let lists = parameter_lists(alloc, tree)?;
-        let entities = functions.of(unit);
-        best = with_names(
-            a,
-            members,
-            text.toks(),
-            bound.names(),
-            entities,
-            &lists,
-            best,
-        );
-    }
-    match best {
-        Some(declarator) => Ok(declarator.count),
-        None => Ok(0),
+    match first_declarator(functions) {
+        Some(declarator) => declarator.count,
+        None => 0,
     }
 }

@@ -5,12 +5,11 @@ ghost use Rattle.edited_files.specs.Edited.{with_each};
 ghost use Rattle.list_cuts.specs.Cuts.{IsOrder};
 ghost use Rattle.include_tree.specs.Below.source_files.KeptFiles.{kept_at};
 ghost use Rattle.include_tree.specs.Below.source_files.Tables.{AreText};
-ghost use Rattle.template_rules.specs.Functions.{AreFunctions};
 ghost use Rattle.template_rules.specs.FileLists.{new_bytes, edit_for, edit_in, edits_of};
 
 use crate::file_lists::{FoundList, found_lists, lists_in, spans_of};
 use crate::functions::Functions;
-use cs_base::{Edits, Memory, Part};
+use cs_base::{Edits, Memory};
 use edited_files::TextEdits;
 use include_tree::KeptFile;
 use list_cuts::arrange;
@@ -79,16 +78,14 @@ fn put_numbered(
 /// The edits of all files that hold a list.
 pub(crate) fn edit_files(
     alloc: Global,
-    a: &Analysis,
-    members: &[Part],
-    functions: &Functions,
+    functions: &Functions<'_>,
     order: &[usize],
 ) -> Result<Edits, Memory>
-    requires functions { AreFunctions members.now a.now.value functions.now }
-    requires order { IsOrder (length order.now) order.now }
-    ensures { IfOk result (λ edits. edits ≡ edits_of members.now a.now.value order.now) }
+    requires { IsOrder (length order.now) order.now }
+    ensures { IfOk result (λ edits. edits ≡ edits_of functions.now.members functions.now.analysis.value order.now) }
 {
-    let found = found_lists(alloc, a, members, functions)?;
+    let a = functions.analysis();
+    let found = found_lists(alloc, functions)?;
     let mut edits = TextEdits::new(alloc);
     for number in 0..a.files() {
         put_numbered(alloc, &mut edits, a, &found, order, number)?;

@@ -3,18 +3,18 @@ ghost use Rattle.std.specs.Prelude.{◌≡◌, ◌+◌, ◌-◌, ◌<◌, ◌^�
 ghost use Rattle.std.specs.List.{flat_map};
 ghost use Rattle.std.specs.Option.{option_map_or};
 ghost use Rattle.ws_core.specs.Below.part_lexer.Tokens.{tokens_of};
-ghost use Rattle.template_rules.specs.Functions.{AreFunctions, AreFunctionsOf};
 ghost use Rattle.template_rules.specs.FileLists.{characters_of, found_in, function_list, all_found, marks_in, begin_of, place_for, begins_at, with_list, with_lists, lists_in, begun_by, begun_before, byte_in, first_byte, end_byte, item_between, items_of};
 ghost use Rattle.template_rules.specs.Lists.{separators};
+ghost use Rattle.template_rules.specs.Units.{found_of};
 
-use crate::functions::{Functions, names_function};
+use crate::functions::Functions;
 use crate::places::origin_of;
-use cs_base::{Memory, Part, Pos, Tok};
-use include_tree::{KeptFile, UnitText};
+use crate::unit_functions::{UnitFunctions, names_function};
+use cs_base::{Memory, Pos, Tok};
+use include_tree::KeptFile;
 use list_cuts::{ListSpans, Span};
-use scope_bind::{Bound, Indices, List};
+use scope_bind::{Indices, List};
 use std::alloc::Global;
-use ws_core::Analysis;
 
 /// A list of a function: its file, and there the characters of its parentheses and of the commas between its items.
 #[derive(Drop)]
@@ -124,17 +124,14 @@ fn push_found(
 fn push_function_list(
     alloc: Global,
     out: &mut Vec<FoundList>,
-    members: &[Part],
-    text: &UnitText,
-    bound: &Bound,
-    entities: &[u32],
+    unit: &UnitFunctions<'_>,
     list: &List,
 ) -> Result<(), Memory>
-    requires { AreFunctionsOf members.now text.now.toks bound.now.names entities.now }
-    ensures { OnOk result (out.new.items ≡ out.old.items ++ function_list members.now text.now.toks bound.now.names list.now) }
+    ensures { OnOk result (out.new.items ≡ out.old.items
+        ++ function_list unit.now.class.members unit.now.text.now.toks unit.now.bound.now.names list.now) }
 {
-    if names_function(members, text.toks(), bound, entities, list.name) {
-        push_found(alloc, out, text.toks(), list)
+    if names_function(unit, list.name) {
+        push_found(alloc, out, unit.text.toks(), list)
     } else {
         Ok(())
     }
@@ -143,17 +140,14 @@ fn push_function_list(
 fn push_lists(
     alloc: Global,
     out: &mut Vec<FoundList>,
-    members: &[Part],
-    text: &UnitText,
-    bound: &Bound,
-    entities: &[u32],
+    unit: &UnitFunctions<'_>,
     all: &[List],
 ) -> Result<(), Memory>
-    requires { AreFunctionsOf members.now text.now.toks bound.now.names entities.now }
-    ensures { OnOk result (out.new.items ≡ out.old.items ++ flat_map (function_list members.now text.now.toks bound.now.names) all.now) }
+    ensures { OnOk result (out.new.items ≡ out.old.items
+        ++ flat_map (function_list unit.now.class.members unit.now.text.now.toks unit.now.bound.now.names) all.now) }
 {
     for list in all {
-        push_function_list(alloc, out, members, text, bound, entities, list)?;
+        push_function_list(alloc, out, unit, list)?;
     }
     Ok(())
 }
@@ -162,43 +156,25 @@ fn push_lists(
 fn push_unit(
     alloc: Global,
     out: &mut Vec<FoundList>,
-    members: &[Part],
-    text: &UnitText,
-    bound: &Bound,
-    entities: &[u32],
+    unit: &UnitFunctions<'_>,
 ) -> Result<(), Memory>
-    requires { AreFunctionsOf members.now text.now.toks bound.now.names entities.now }
-    ensures { OnOk result (out.new.items ≡ out.old.items ++ (flat_map (function_list members.now text.now.toks bound.now.names) bound.now.declarators
-        ++ flat_map (function_list members.now text.now.toks bound.now.names) bound.now.calls)) }
+    ensures { OnOk result (out.new.items ≡ out.old.items ++ found_of unit.now) }
 {
-    push_lists(
-        alloc,
-        out,
-        members,
-        text,
-        bound,
-        entities,
-        bound.declarators(),
-    )?;
-    push_lists(alloc, out, members, text, bound, entities, bound.calls())
+    push_lists(alloc, out, unit, unit.bound.declarators())?;
+    push_lists(alloc, out, unit, unit.bound.calls())
 }
 
 /// The lists of all functions that a class names, in the order of units.
 pub(crate) fn found_lists(
     alloc: Global,
-    a: &Analysis,
-    members: &[Part],
-    functions: &Functions,
+    functions: &Functions<'_>,
 ) -> Result<Vec<FoundList>, Memory>
-    requires { AreFunctions members.now a.now.value functions.now }
-    ensures { IfOk result (λ found. found.items ≡ all_found members.now a.now.value) }
+    ensures { IfOk result (λ found. found.items ≡ all_found functions.now.members functions.now.analysis.value) }
 {
     let mut out = Vec::new(alloc);
-    for unit in 0..a.units() {
-        let text = a.text(unit + 1);
-        let bound = a.bound(unit + 1);
-        let entities = functions.of(unit);
-        push_unit(alloc, &mut out, members, text, bound, entities)?;
+    let units = functions.units();
+    for unit in units {
+        push_unit(alloc, &mut out, unit)?;
     }
     Ok(out)
 }

@@ -1,52 +1,61 @@
 // The functions that a class names.
-ghost use Rattle.std.specs.Prelude.{◌≡◌, ◌==◌, ◌||◌, ◌&&◌, ◌+◌, ◌<◌, ℕ, Some, false, not, [], IfOk, OnOk, length, slice_get, slice_index_or};
+ghost use Rattle.std.specs.Prelude.{◌≡◌, ◌==◌, ◌||◌, ◌&&◌, ◌-◌, ◌≤◌, ℕ, IfOk, OnOk, length};
 ghost use Rattle.std.specs.List.{list_any};
-ghost use Rattle.std.specs.Option.{option_map_or};
 ghost use Rattle.scope_bind.specs.Bound.{is_function_name};
-ghost use Rattle.scope_bind.specs.Names.{entity_at};
 ghost use Rattle.rename_rules.specs.Class.{IsClass};
-ghost use Rattle.template_rules.specs.Functions.{holds_at, is_named, is_function, has_function, names_function, declares_function, AreFunctionsOf, AreFunctions};
+ghost use Rattle.template_rules.specs.ClassValue.{class_over};
+ghost use Rattle.template_rules.specs.Functions.{is_named, has_function, AreFunctionsOf};
+ghost use Rattle.template_rules.specs.Units.{AreUnits, IsUnitAt, has_some};
 
+use crate::class::Class;
+use crate::unit_functions::{UnitFunctions, has, push_named};
 use cs_base::{Memory, Part, Tok};
-use rename_rules::holds_member;
-use scope_bind::{Bound, EntityKind, Indices, Name};
+use scope_bind::{EntityKind, Indices, Name, parameter_lists};
 use std::alloc::Global;
 use std::marker::Model;
 use ws_core::Analysis;
 
-/// The functions of each unit that a class names, each by the first token that declares it. Contracts see lists.
+/// The functions that a class names, unit by unit, over an analysis. Contracts see the analysis and the members of the
+/// class.
 #[derive(Drop)]
-pub struct Functions {
-    units: Vec<Indices>,
+pub struct Functions<'a> {
+    class: Class<'a>,
+    units: Vec<UnitFunctions<'a>>,
 }
 
-impl Model for Functions {
-    ghost use Rattle.std.specs.Prelude.{ℕ, List};
+impl<'a> Model for Functions<'a> {
+    ghost use Rattle.std.specs.Coded.{codes};
+    ghost use Rattle.c99_tree.specs.TreeCode.{node_code};
+    ghost use Rattle.template_rules.specs.ClassValue.{ClassValue};
+    ghost use Rattle.template_rules.specs.Units.{AreUnits};
 
-    ghost Value = { List (List ℕ) };
+    ghost Value = { ClassValue };
 
-    ghost view = { λ f. f.units.items };
+    ghost coded = { Prim.hlevel (codes, node_code) };
+
+    ghost view = { λ f. f.class };
+
+    ghost invariant = { λ f. AreUnits f.class f.units.items };
 }
 
-impl Functions {
-    /// Those of a unit, which are counted from 0.
-    pub(crate) fn of(&self, unit: u32) -> &[u32]
-        requires { unit < length self.now }
-        ensures { result.now ≡ slice_index_or self.now unit [] }
+impl<'a> Functions<'a> {
+    pub(crate) fn class(&self) -> &Class<'a>
+        ensures { result.now ≡ self.now }
     {
-        self.units[unit as usize].as_slice()
+        &self.class
     }
-}
 
-/// Whether token `k` holds a member.
-pub(crate) fn holds_at(a: &Analysis, members: &[Part], number: u32, toks: &[Tok], k: u32) -> bool
-    requires { IsClass a.now members.now number }
-    ensures { result ≡ holds_at members.now toks.now k }
-{
-    if (k as usize) < toks.len() {
-        holds_member(a, members, number, &toks[k as usize])
-    } else {
-        false
+    pub(crate) fn analysis(&self) -> &'a Analysis
+        ensures { result.now ≡ self.now.analysis }
+    {
+        self.class.analysis()
+    }
+
+    /// Those of each unit.
+    pub(crate) fn units(&self) -> &[UnitFunctions<'a>]
+        ensures { AreUnits self.now result.now }
+    {
+        self.units.as_slice()
     }
 }
 
@@ -60,32 +69,18 @@ fn is_function_name(kind: EntityKind) -> bool
 }
 
 // Whether a name is one of a function, and its token holds a member.
-fn is_named(a: &Analysis, members: &[Part], number: u32, toks: &[Tok], name: Name) -> bool
-    requires { IsClass a.now members.now number }
-    ensures { result ≡ is_named members.now toks.now name }
+fn is_named(class: &Class<'_>, toks: &[Tok], name: Name) -> bool
+    ensures { result ≡ is_named class.now.members toks.now name }
 {
-    is_function_name(name.kind) && holds_at(a, members, number, toks, name.index)
-}
-
-fn has(entities: &[u32], entity: u32) -> bool
-    ensures { result ≡ list_any (λ f. f == entity) entities.now }
-{
-    entities.iter().any(|other| *other == entity)
+    is_function_name(name.kind) && class.holds_at(toks, name.index)
 }
 
 // Adds the entity of a name, if it is a function that the class names and is not there yet.
-fn push(
-    out: &mut Vec<u32>,
-    a: &Analysis,
-    members: &[Part],
-    number: u32,
-    toks: &[Tok],
-    name: Name,
-) -> Result<(), Memory>
-    requires { IsClass a.now members.now number }
-    ensures { OnOk result ((e : ℕ) → list_any (λ f. f == e) out.new.items ≡ (list_any (λ f. f == e) out.old.items || ((name.entity == e) && is_named members.now toks.now name))) }
+fn push(out: &mut Vec<u32>, class: &Class<'_>, toks: &[Tok], name: Name) -> Result<(), Memory>
+    ensures { OnOk result ((e : ℕ) → list_any (λ f. f == e) out.new.items
+        ≡ (list_any (λ f. f == e) out.old.items || ((name.entity == e) && is_named class.now.members toks.now name))) }
 {
-    if !is_named(a, members, number, toks, name) {
+    if !is_named(class, toks, name) {
         return Ok(());
     }
     if has(out, name.entity) {
@@ -98,84 +93,84 @@ fn push(
 // The functions of a unit.
 fn functions_of(
     alloc: Global,
-    a: &Analysis,
-    members: &[Part],
-    number: u32,
+    class: &Class<'_>,
     toks: &[Tok],
     names: &[Name],
 ) -> Result<Indices, Memory>
-    requires { IsClass a.now members.now number }
-    ensures { IfOk result (AreFunctionsOf members.now toks.now names.now) }
+    ensures { IfOk result (AreFunctionsOf class.now.members toks.now names.now) }
 {
     let mut out = Vec::new(alloc);
     for name in names {
-        push(&mut out, a, members, number, toks, *name)?;
+        push(&mut out, class, toks, *name)?;
     }
     Ok(Indices::new(out))
 }
 
-/// The functions that a class names, given by its members and its number.
-pub fn named_functions(
+// A unit with them.
+fn unit_at<'a>(
     alloc: Global,
-    a: &Analysis,
-    members: &[Part],
+    a: &'a Analysis,
+    members: &'a [Part],
     number: u32,
-) -> Result<Functions, Memory>
-    requires { IsClass a.now members.now number }
-    ensures answer { IfOk result (AreFunctions members.now a.now.value) }
+    unit: u32,
+) -> Result<UnitFunctions<'a>, Memory>
+    requires class { IsClass a.now members.now number }
+    requires first { 1 ≤ unit }
+    requires last { unit ≤ length a.now.value.units }
+    ensures class { IfOk result (λ f. f.class ≡ class_over a.now members.now) }
+    ensures unit { IfOk result (IsUnitAt a.now.value.units (unit - 1)) }
 {
+    let class = Class::new(a, members, number);
+    let text = a.text(unit);
+    let bound = a.bound(unit);
+    let tree = a.tree(unit);
+    let entities = functions_of(alloc, &class, text.toks(), bound.names())?;
+    let lists = parameter_lists(alloc, tree)?;
+    let mut found = Vec::new(alloc);
+    push_named(&mut found, bound, entities.as_slice(), bound.declarators())?;
+    push_named(&mut found, bound, entities.as_slice(), bound.calls())?;
+    Ok(UnitFunctions {
+        class,
+        text,
+        bound,
+        tree,
+        entities,
+        lists,
+        found,
+    })
+}
+
+/// The functions that a class names, given by its members and its number.
+pub fn named_functions<'a>(
+    alloc: Global,
+    a: &'a Analysis,
+    members: &'a [Part],
+    number: u32,
+) -> Result<Functions<'a>, Memory>
+    requires { IsClass a.now members.now number }
+    ensures answer { IfOk result (λ f. f ≡ class_over a.now members.now) }
+{
+    let class = Class::new(a, members, number);
     let mut units = Vec::new(alloc);
     for unit in 0..a.units() {
-        let text = a.text(unit + 1);
-        let bound = a.bound(unit + 1);
-        let found = functions_of(alloc, a, members, number, text.toks(), bound.names())?;
+        let found = unit_at(alloc, a, members, number, unit + 1)?;
         units.push(found)?;
     }
-    Ok(Functions { units })
+    Ok(Functions { class, units })
 }
 
 // Whether one of these units has a function.
-fn has_some(units: &[Indices]) -> bool
-    ensures { result ≡ list_any (λ fs. not (length fs == 0)) units.now }
+fn has_some(units: &[UnitFunctions<'_>]) -> bool
+    ensures { result ≡ list_any has_some units.now }
 {
-    units.iter().any(|unit| !unit.as_slice().is_empty())
+    units
+        .iter()
+        .any(|unit| !unit.entities.as_slice().is_empty())
 }
 
 /// Whether there is one.
-pub fn has_functions(a: &Analysis, members: &[Part], functions: &Functions) -> bool
-    requires { AreFunctions members.now a.now.value functions.now }
-    ensures answer { result ≡ has_function members.now a.now.value }
+pub fn has_functions(functions: &Functions<'_>) -> bool
+    ensures answer { result ≡ has_function functions.now.members functions.now.analysis.value }
 {
-    has_some(functions.units.as_slice())
-}
-
-/// Whether token `k` of a unit names one of its functions.
-pub(crate) fn names_function(
-    members: &[Part],
-    toks: &[Tok],
-    bound: &Bound,
-    entities: &[u32],
-    k: u32,
-) -> bool
-    requires { AreFunctionsOf members.now toks.now bound.now.names entities.now }
-    ensures { result ≡ names_function members.now toks.now bound.now.names k }
-{
-    match bound.entity(k) {
-        Some(entity) => has(entities, entity),
-        None => false,
-    }
-}
-
-/// Whether a name is that of a declarator of one of them.
-pub(crate) fn declares_function(
-    members: &[Part],
-    toks: &[Tok],
-    names: &[Name],
-    entities: &[u32],
-    name: Name,
-) -> bool
-    requires { AreFunctionsOf members.now toks.now names.now entities.now }
-    ensures { result ≡ declares_function members.now toks.now names.now name }
-{
-    name.declares && has(entities, name.entity)
+    has_some(functions.units())
 }

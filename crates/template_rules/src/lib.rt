@@ -12,6 +12,7 @@
 #![tactic(auto)]
 
 mod body_lists;
+mod class;
 mod counting;
 mod dependences;
 mod file_edits;
@@ -27,6 +28,7 @@ mod odd_tokens;
 mod places;
 mod plan;
 mod refusals;
+mod unit_functions;
 
 pub use counting::parameter_count;
 pub use functions::{Functions, has_functions, named_functions};

@@ -3,18 +3,18 @@ ghost use Rattle.std.specs.Prelude.{◌≡◌};
 ghost use Rattle.std.specs.List.{flat_map};
 ghost use Rattle.cs_base.specs.declared.causes.Cause.TheVariants as cause;
 ghost use Rattle.rename_rules.specs.First.{standing, FirstThen};
-ghost use Rattle.template_rules.specs.Functions.{AreFunctions, AreFunctionsOf};
 ghost use Rattle.template_rules.specs.Insides.{inside_offences, list_insides, all_insides};
 ghost use Rattle.template_rules.specs.MacroOffences.{is_line_number, line_number_place, line_number_places};
 ghost use Rattle.template_rules.specs.ScopeOffences.{is_tag_or_enumerator, declaration_place, declaration_places};
 
-use crate::functions::{Functions, names_function};
+use crate::functions::Functions;
 use crate::macro_names::is_replacing;
 use crate::places::at_token;
-use cs_base::{Cause, Part, Tok};
-use include_tree::{Event, UnitText};
+use crate::unit_functions::{UnitFunctions, names_function};
+use cs_base::{Cause, Tok};
+use include_tree::Event;
 use rename_rules::{Offence, first_with};
-use scope_bind::{Bound, EntityKind, List, Name};
+use scope_bind::{EntityKind, List, Name};
 use ws_core::Analysis;
 
 // Whether an event replaces `__LINE__` by the number of its line.
@@ -128,18 +128,22 @@ fn insides_at(
 // Both in a list, if it is one of a function that the class names.
 fn at_list(
     a: &Analysis,
-    members: &[Part],
-    text: &UnitText,
-    bound: &Bound,
-    entities: &[u32],
+    unit: &UnitFunctions<'_>,
     list: &List,
     first: Option<Offence>,
 ) -> Option<Offence>
-    requires { AreFunctionsOf members.now text.now.toks bound.now.names entities.now }
-    ensures { FirstThen a.now.value.table (list_insides members.now text.now.toks text.now.events bound.now.names list.now) first result }
+    ensures { FirstThen a.now.value.table (list_insides unit.now.class.members unit.now.text.now.toks
+        unit.now.text.now.events unit.now.bound.now.names list.now) first result }
 {
-    if names_function(members, text.toks(), bound, entities, list.name) {
-        insides_at(a, text.toks(), text.events(), bound.names(), list, first)
+    if names_function(unit, list.name) {
+        insides_at(
+            a,
+            unit.text.toks(),
+            unit.text.events(),
+            unit.bound.names(),
+            list,
+            first,
+        )
     } else {
         first
     }
@@ -147,41 +151,32 @@ fn at_list(
 
 fn at_lists(
     a: &Analysis,
-    members: &[Part],
-    text: &UnitText,
-    bound: &Bound,
-    entities: &[u32],
+    unit: &UnitFunctions<'_>,
     all: &[List],
     first: Option<Offence>,
 ) -> Option<Offence>
-    requires { AreFunctionsOf members.now text.now.toks bound.now.names entities.now }
-    ensures { FirstThen a.now.value.table (flat_map (list_insides members.now text.now.toks text.now.events bound.now.names) all.now) first result }
+    ensures { FirstThen a.now.value.table (flat_map (list_insides unit.now.class.members unit.now.text.now.toks
+        unit.now.text.now.events unit.now.bound.now.names) all.now) first result }
 {
     let mut now = first;
     for list in all {
-        now = at_list(a, members, text, bound, entities, list, now);
+        now = at_list(a, unit, list, now);
     }
     now
 }
 
 /// `LineNumber`, at each `__LINE__` that is replaced by a line's number inside a list; `DeclarationInArgument`, at each
 /// tag or enumerator that is declared inside one.
-pub fn at_insides(
-    a: &Analysis,
-    members: &[Part],
-    functions: &Functions,
-    first: Option<Offence>,
-) -> Option<Offence>
-    requires { AreFunctions members.now a.now.value functions.now }
-    ensures answer { FirstThen a.now.value.table (all_insides members.now a.now.value) first result }
+pub fn at_insides(functions: &Functions<'_>, first: Option<Offence>) -> Option<Offence>
+    ensures answer { FirstThen functions.now.analysis.value.table
+        (all_insides functions.now.members functions.now.analysis.value) first result }
 {
+    let a = functions.analysis();
     let mut now = first;
-    for unit in 0..a.units() {
-        let text = a.text(unit + 1);
-        let bound = a.bound(unit + 1);
-        let entities = functions.of(unit);
-        let declared = at_lists(a, members, text, bound, entities, bound.declarators(), now);
-        now = at_lists(a, members, text, bound, entities, bound.calls(), declared);
+    let units = functions.units();
+    for unit in units {
+        let declared = at_lists(a, unit, unit.bound.declarators(), now);
+        now = at_lists(a, unit, unit.bound.calls(), declared);
     }
     now
 }

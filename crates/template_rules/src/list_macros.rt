@@ -1,21 +1,21 @@
 // Lists that come from macros, or that are none in some processing of their text.
-ghost use Rattle.std.specs.Prelude.{◌≡◌, ◌+◌, ◌<◌, ◌==◌, false, length, slice_get};
+ghost use Rattle.std.specs.Prelude.{◌≡◌, ◌+◌, ◌<◌, ◌-◌, ◌==◌, true, false, length, slice_get};
 ghost use Rattle.std.specs.List.{list_any, list_all};
 ghost use Rattle.std.specs.Option.{option_copied, option_map_or};
 ghost use Rattle.cs_base.specs.declared.causes.Cause.TheVariants as cause;
 ghost use Rattle.list_cuts.specs.Cuts.{numbers};
 ghost use Rattle.rename_rules.specs.First.{standing, FirstThen};
-ghost use Rattle.template_rules.specs.Functions.{AreFunctions, AreFunctionsOf};
 ghost use Rattle.template_rules.specs.Lists.{each_mark, some_mark};
 ghost use Rattle.template_rules.specs.MacroOffences.{is_direct, is_direct_at, is_pos, is_same, are_same, is_same_list, run_of, item_of, is_item, is_mark_in, is_list_at, is_list_in, is_list_as, is_list_through, is_list_for, is_mark_everywhere, macro_place};
+ghost use Rattle.template_rules.specs.Asking.{asks, is_of_run};
 
-use crate::functions::{Functions, names_function};
+use crate::functions::Functions;
 use crate::places::{at_token, origin_of};
-use cs_base::{Cause, Part, Pos, Tok};
-use include_tree::{Reached, UnitText};
+use crate::unit_functions::{UnitFunctions, names_function};
+use cs_base::{Cause, Pos, Tok};
+use include_tree::Reached;
 use rename_rules::Offence;
-use scope_bind::{Bound, List};
-use ws_core::Analysis;
+use scope_bind::List;
 
 fn is_direct_at(toks: &[Tok], k: u32) -> bool
     ensures { result ≡ is_direct_at toks.now k }
@@ -94,17 +94,23 @@ fn run_of(reached: &[Reached], k: u32) -> usize
     count
 }
 
-// The item for which token `k` was put out.
-fn item_of(reached: &[Reached], k: u32) -> Option<Reached>
-    ensures { result ≡ item_of reached.now k }
+// The item that was reached as this one, counted from 1.
+fn item_at(reached: &[Reached], number: usize) -> Option<Reached>
+    ensures { result ≡ slice_get reached.now (number - 1) }
 {
-    let number = run_of(reached, k);
     let place = if number > 0 { number - 1 } else { 0 };
     if place < reached.len() {
         Some(reached[place])
     } else {
         None
     }
+}
+
+// The item for which token `k` was put out.
+fn item_of(reached: &[Reached], k: u32) -> Option<Reached>
+    ensures { result ≡ item_of reached.now k }
+{
+    item_at(reached, run_of(reached, k))
 }
 
 fn is_mark_in(toks: &[Tok], reached: &[Reached], at: Option<Pos>, number: usize, k: u32) -> bool
@@ -139,87 +145,86 @@ fn has_mark(toks: &[Tok], reached: &[Reached], at: Option<Pos>, number: usize, l
 
 // Whether a list of one of the functions stands at the positions of another, with such a mark.
 fn is_list_at(
-    members: &[Part],
+    unit: &UnitFunctions<'_>,
     toks: &[Tok],
     list: &List,
     k: u32,
-    text: &UnitText,
-    bound: &Bound,
-    entities: &[u32],
     number: usize,
     other: &List,
 ) -> bool
-    requires { AreFunctionsOf members.now text.now.toks bound.now.names entities.now }
-    ensures { result ≡ is_list_at members.now toks.now list.now k text.now bound.now.names number other.now }
+    ensures { result ≡ is_list_at unit.now.class.members toks.now list.now k unit.now.text.now unit.now.bound.now.names number other.now }
 {
-    is_same_list(toks, text.toks(), list, other)
-        && (names_function(members, text.toks(), bound, entities, other.name)
+    let others = unit.text.toks();
+    is_same_list(toks, others, list, other)
+        && (names_function(unit, other.name)
             && has_mark(
-                text.toks(),
-                text.reached(),
+                others,
+                unit.text.reached(),
                 origin_of(toks, k),
                 number,
                 other,
             ))
 }
 
-fn is_list_among(
-    members: &[Part],
-    toks: &[Tok],
-    list: &List,
-    k: u32,
-    text: &UnitText,
-    bound: &Bound,
-    entities: &[u32],
-    number: usize,
-    all: &[List],
-) -> bool
-    requires { AreFunctionsOf members.now text.now.toks bound.now.names entities.now }
-    ensures { result ≡ list_any (is_list_at members.now toks.now list.now k text.now bound.now.names number) all.now }
+// Whether a unit has such a list for a reached item.
+fn is_list_in(unit: &UnitFunctions<'_>, toks: &[Tok], list: &List, k: u32, number: usize) -> bool
+    ensures { result ≡ is_list_in unit.now.class.members toks.now list.now k unit.now.text.now unit.now.bound.now number }
 {
-    for other in all {
-        if is_list_at(members, toks, list, k, text, bound, entities, number, other) {
+    let found = unit.found.as_slice();
+    for other in found {
+        if is_list_at(unit, toks, list, k, number, other) {
             return true;
         }
     }
     false
 }
 
-// Whether a unit has such a list for a reached item.
-fn is_list_in(
-    members: &[Part],
+// Which marks of a list are asked for: one, or all.
+#[derive(Clone, Copy, Debug, PartialEq, Eq)]
+pub(crate) enum Asked {
+    Mark(u32),
+    All,
+}
+
+// Whether it has such lists for these marks.
+fn are_lists_for(
+    unit: &UnitFunctions<'_>,
     toks: &[Tok],
     list: &List,
-    k: u32,
-    text: &UnitText,
-    bound: &Bound,
-    entities: &[u32],
+    indices: &[u32],
     number: usize,
 ) -> bool
-    requires { AreFunctionsOf members.now text.now.toks bound.now.names entities.now }
-    ensures { result ≡ is_list_in members.now toks.now list.now k text.now bound.now number }
+    ensures { result ≡ list_all
+        (λ k. is_list_in unit.now.class.members toks.now list.now k unit.now.text.now unit.now.bound.now number) indices.now }
 {
-    is_list_among(
-        members,
-        toks,
-        list,
-        k,
-        text,
-        bound,
-        entities,
-        number,
-        bound.declarators(),
-    ) || is_list_among(
-        members,
-        toks,
-        list,
-        k,
-        text,
-        bound,
-        entities,
-        number,
-        bound.calls(),
-    )
+    for k in indices {
+        if !is_list_in(unit, toks, list, *k, number) {
+            return false;
+        }
+    }
+    true
+}
+
+// Whether it has such lists for the marks that are asked for.
+fn are_lists_in(
+    unit: &UnitFunctions<'_>,
+    toks: &[Tok],
+    list: &List,
+    asked: Asked,
+    number: usize,
+) -> bool
+    ensures { result ≡ asks asked
+        (λ k. is_list_in unit.now.class.members toks.now list.now k unit.now.text.now unit.now.bound.now number) list.now }
+{
+    match asked {
+        Asked::Mark(k) => is_list_in(unit, toks, list, k, number),
+        Asked::All => {
+            is_list_in(unit, toks, list, list.name, number)
+                && (is_list_in(unit, toks, list, list.begin, number)
+                    && (are_lists_for(unit, toks, list, list.commas.as_slice(), number)
+                        && is_list_in(unit, toks, list, list.close, number)))
+        }
+    }
 }
 
 fn is_item_at(item: Reached, reached: &[Reached], place: usize) -> bool
@@ -233,45 +238,39 @@ fn is_item_at(item: Reached, reached: &[Reached], place: usize) -> bool
     }
 }
 
-// Whether it has one for an item, if that is the same as another.
+// Whether it has them for an item, if that is the same as another.
 fn is_list_as(
-    members: &[Part],
+    unit: &UnitFunctions<'_>,
     toks: &[Tok],
     list: &List,
-    k: u32,
+    asked: Asked,
     item: Reached,
-    text: &UnitText,
-    bound: &Bound,
-    entities: &[u32],
     place: usize,
 ) -> bool
-    requires entities { AreFunctionsOf members.now text.now.toks bound.now.names entities.now }
-    requires within { place < length text.now.reached }
-    ensures { result ≡ is_list_as members.now toks.now list.now k item text.now bound.now place }
+    requires { place < length unit.now.text.now.reached }
+    ensures { result ≡ asks asked
+        (λ k. is_list_as unit.now.class.members toks.now list.now k item unit.now.text.now unit.now.bound.now place) list.now }
 {
-    let reached = text.reached();
-    if !is_item_at(item, reached, place) {
+    if !is_item_at(item, unit.text.reached(), place) {
         return true;
     }
-    is_list_in(members, toks, list, k, text, bound, entities, place + 1)
+    are_lists_in(unit, toks, list, asked, place + 1)
 }
 
-// Whether it has one in each processing of an item.
+// Whether it has them in each processing of an item.
 fn is_list_through(
-    members: &[Part],
+    unit: &UnitFunctions<'_>,
     toks: &[Tok],
     list: &List,
-    k: u32,
+    asked: Asked,
     item: Reached,
-    text: &UnitText,
-    bound: &Bound,
-    entities: &[u32],
 ) -> bool
-    requires { AreFunctionsOf members.now text.now.toks bound.now.names entities.now }
-    ensures { result ≡ is_list_through members.now toks.now list.now k item text.now bound.now }
+    ensures { result ≡ asks asked
+        (λ k. is_list_through unit.now.class.members toks.now list.now k item unit.now.text.now unit.now.bound.now) list.now }
 {
-    for place in 0..text.reached().len() {
-        if !is_list_as(members, toks, list, k, item, text, bound, entities, place) {
+    let reached = unit.text.reached();
+    for place in 0..reached.len() {
+        if !is_list_as(unit, toks, list, asked, item, place) {
             return false;
         }
     }
@@ -280,22 +279,18 @@ fn is_list_through(
 
 // Whether each unit has.
 fn is_list_for(
-    a: &Analysis,
-    members: &[Part],
-    functions: &Functions,
+    functions: &Functions<'_>,
     toks: &[Tok],
     list: &List,
-    k: u32,
+    asked: Asked,
     item: Reached,
 ) -> bool
-    requires { AreFunctions members.now a.now.value functions.now }
-    ensures { result ≡ is_list_for members.now a.now.value toks.now list.now k item }
+    ensures { result ≡ asks asked
+        (λ k. is_list_for functions.now.members functions.now.analysis.value toks.now list.now k item) list.now }
 {
-    for unit in 0..a.units() {
-        let text = a.text(unit + 1);
-        let bound = a.bound(unit + 1);
-        let entities = functions.of(unit);
-        if !is_list_through(members, toks, list, k, item, text, bound, entities) {
+    let units = functions.units();
+    for unit in units {
+        if !is_list_through(unit, toks, list, asked, item) {
             return false;
         }
     }
@@ -304,84 +299,115 @@ fn is_list_for(
 
 // The same for the run for which mark `k` was put out.
 fn is_mark_everywhere(
-    a: &Analysis,
-    members: &[Part],
-    functions: &Functions,
+    functions: &Functions<'_>,
     toks: &[Tok],
     reached: &[Reached],
     list: &List,
     k: u32,
 ) -> bool
-    requires { AreFunctions members.now a.now.value functions.now }
-    ensures { result ≡ is_mark_everywhere members.now a.now.value toks.now reached.now list.now k }
+    ensures { result ≡ is_mark_everywhere functions.now.members functions.now.analysis.value toks.now reached.now list.now k }
 {
     match item_of(reached, k) {
-        Some(item) => is_list_for(a, members, functions, toks, list, k, item),
+        Some(item) => is_list_for(functions, toks, list, Asked::Mark(k), item),
         None => false,
     }
 }
 
 fn are_everywhere(
-    a: &Analysis,
-    members: &[Part],
-    functions: &Functions,
+    functions: &Functions<'_>,
     toks: &[Tok],
     reached: &[Reached],
     list: &List,
     indices: &[u32],
 ) -> bool
-    requires { AreFunctions members.now a.now.value functions.now }
-    ensures { result ≡ list_all (is_mark_everywhere members.now a.now.value toks.now reached.now list.now) indices.now }
+    ensures { result ≡ list_all
+        (is_mark_everywhere functions.now.members functions.now.analysis.value toks.now reached.now list.now) indices.now }
 {
     for k in indices {
-        if !is_mark_everywhere(a, members, functions, toks, reached, list, *k) {
+        if !is_mark_everywhere(functions, toks, reached, list, *k) {
             return false;
         }
     }
     true
 }
 
-// The same for all marks of a list.
-fn is_everywhere(
-    a: &Analysis,
-    members: &[Part],
-    functions: &Functions,
+// The same for each mark of a list.
+fn are_marks_everywhere(
+    functions: &Functions<'_>,
     toks: &[Tok],
     reached: &[Reached],
     list: &List,
 ) -> bool
-    requires { AreFunctions members.now a.now.value functions.now }
-    ensures { result ≡ each_mark (is_mark_everywhere members.now a.now.value toks.now reached.now list.now) list.now }
+    ensures { result ≡ each_mark
+        (is_mark_everywhere functions.now.members functions.now.analysis.value toks.now reached.now list.now) list.now }
 {
-    is_mark_everywhere(a, members, functions, toks, reached, list, list.name)
-        && (is_mark_everywhere(a, members, functions, toks, reached, list, list.begin)
-            && (are_everywhere(
-                a,
-                members,
-                functions,
-                toks,
-                reached,
-                list,
-                list.commas.as_slice(),
-            ) && is_mark_everywhere(a, members, functions, toks, reached, list, list.close)))
+    is_mark_everywhere(functions, toks, reached, list, list.name)
+        && (is_mark_everywhere(functions, toks, reached, list, list.begin)
+            && (are_everywhere(functions, toks, reached, list, list.commas.as_slice())
+                && is_mark_everywhere(functions, toks, reached, list, list.close)))
+}
+
+fn are_of_run(reached: &[Reached], number: usize, indices: &[u32]) -> bool
+    ensures { result ≡ list_all (is_of_run reached.now number) indices.now }
+{
+    indices.iter().all(|k| run_of(reached, *k) == number)
+}
+
+// Whether all marks of a list were put out for one run.
+fn is_of_run(reached: &[Reached], number: usize, list: &List) -> bool
+    ensures { result ≡ each_mark (is_of_run reached.now number) list.now }
+{
+    run_of(reached, list.name) == number
+        && (run_of(reached, list.begin) == number
+            && (are_of_run(reached, number, list.commas.as_slice())
+                && run_of(reached, list.close) == number))
+}
+
+// The same for each mark of a list, where all were put out for this run: this asks once for all of them.
+fn is_everywhere_at(
+    functions: &Functions<'_>,
+    toks: &[Tok],
+    reached: &[Reached],
+    list: &List,
+    number: usize,
+) -> bool
+    requires { each_mark (is_of_run reached.now number) list.now ≡ true }
+    ensures { result ≡ each_mark
+        (is_mark_everywhere functions.now.members functions.now.analysis.value toks.now reached.now list.now) list.now }
+{
+    match item_at(reached, number) {
+        Some(item) => is_list_for(functions, toks, list, Asked::All, item),
+        None => false,
+    }
+}
+
+// The same for all marks of a list.
+fn is_everywhere(functions: &Functions<'_>, toks: &[Tok], reached: &[Reached], list: &List) -> bool
+    ensures { result ≡ each_mark
+        (is_mark_everywhere functions.now.members functions.now.analysis.value toks.now reached.now list.now) list.now }
+{
+    let number = run_of(reached, list.name);
+    if is_of_run(reached, number, list) {
+        is_everywhere_at(functions, toks, reached, list, number)
+    } else {
+        are_marks_everywhere(functions, toks, reached, list)
+    }
 }
 
 /// `InMacro` at a list.
 pub(crate) fn macro_at(
-    a: &Analysis,
-    members: &[Part],
-    functions: &Functions,
+    functions: &Functions<'_>,
     toks: &[Tok],
     reached: &[Reached],
     list: &List,
     first: Option<Offence>,
 ) -> Option<Offence>
-    requires { AreFunctions members.now a.now.value functions.now }
-    ensures { FirstThen a.now.value.table (standing cause.InMacro (macro_place members.now a.now.value toks.now reached.now list.now)) first result }
+    ensures { FirstThen functions.now.analysis.value.table (standing cause.InMacro
+        (macro_place functions.now.members functions.now.analysis.value toks.now reached.now list.now)) first result }
 {
-    if is_direct(toks, list) && is_everywhere(a, members, functions, toks, reached, list) {
+    if is_direct(toks, list) && is_everywhere(functions, toks, reached, list) {
         first
     } else {
-        at_token(a, toks, list.name, Cause::InMacro, first)
+        at_token(functions.analysis(), toks, list.name, Cause::InMacro, first)
     }
 }

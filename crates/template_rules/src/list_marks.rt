@@ -1,20 +1,20 @@
 // What the marks of lists say against a new order.
-ghost use Rattle.std.specs.Prelude.{◌≡◌, ◌++◌, IfOk};
+ghost use Rattle.std.specs.Prelude.{◌≡◌};
 ghost use Rattle.std.specs.List.{flat_map};
 ghost use Rattle.cs_base.specs.declared.causes.Cause.TheVariants as cause;
 ghost use Rattle.rename_rules.specs.First.{standing, FirstThen};
-ghost use Rattle.template_rules.specs.Functions.{AreFunctions, AreFunctionsOf, names_function};
+ghost use Rattle.template_rules.specs.Functions.{names_function};
 ghost use Rattle.template_rules.specs.Lists.{arguments_of, parameters_of};
 ghost use Rattle.template_rules.specs.Marks.{read_only_place, is_across, across_place, count_place, mark_offences, declarator_marks, call_marks, all_marks};
 
 use crate::counting::{arguments_of, parameters_of};
-use crate::functions::{Functions, names_function};
+use crate::functions::Functions;
 use crate::places::{at_token, origin_of};
-use cs_base::{Cause, Memory, Part, Tok};
-use include_tree::{Reached, UnitText};
+use crate::unit_functions::{UnitFunctions, names_function};
+use cs_base::{Cause, Tok};
+use include_tree::Reached;
 use rename_rules::{Offence, first_with};
-use scope_bind::{Bound, List, ParameterList, parameter_lists};
-use std::alloc::Global;
+use scope_bind::List;
 use ws_core::Analysis;
 
 // `ReadOnly` at a list.
@@ -94,46 +94,46 @@ fn marks_at(
 // All three at the parameter list of a declarator, if it is one of a function that the class names.
 fn at_declarator(
     a: &Analysis,
-    members: &[Part],
+    unit: &UnitFunctions<'_>,
     count: usize,
-    text: &UnitText,
-    bound: &Bound,
-    entities: &[u32],
-    lists: &[ParameterList],
     list: &List,
     first: Option<Offence>,
 ) -> Option<Offence>
-    requires { AreFunctionsOf members.now text.now.toks bound.now.names entities.now }
-    ensures { FirstThen a.now.value.table (declarator_marks members.now a.now.value count text.now.toks text.now.reached bound.now.names lists.now list.now) first result }
+    ensures { FirstThen a.now.value.table (declarator_marks unit.now.class.members a.now.value count unit.now.text.now.toks
+        unit.now.text.now.reached unit.now.bound.now.names unit.now.lists.items list.now) first result }
 {
-    if names_function(members, text.toks(), bound, entities, list.name) {
-        let length = parameters_of(lists, list.name);
-        marks_at(a, count, text.toks(), text.reached(), length, list, first)
+    if names_function(unit, list.name) {
+        marks_at(
+            a,
+            count,
+            unit.text.toks(),
+            unit.text.reached(),
+            parameters_of(&unit.lists, list.name),
+            list,
+            first,
+        )
     } else {
         first
     }
 }
 
-// All three at the argument list of a call of one.
+// The same at the argument list of a call, if its callee is one.
 fn at_call(
     a: &Analysis,
-    members: &[Part],
+    unit: &UnitFunctions<'_>,
     count: usize,
-    text: &UnitText,
-    bound: &Bound,
-    entities: &[u32],
     list: &List,
     first: Option<Offence>,
 ) -> Option<Offence>
-    requires { AreFunctionsOf members.now text.now.toks bound.now.names entities.now }
-    ensures { FirstThen a.now.value.table (call_marks members.now a.now.value count text.now.toks text.now.reached bound.now.names list.now) first result }
+    ensures { FirstThen a.now.value.table (call_marks unit.now.class.members a.now.value count unit.now.text.now.toks
+        unit.now.text.now.reached unit.now.bound.now.names list.now) first result }
 {
-    if names_function(members, text.toks(), bound, entities, list.name) {
+    if names_function(unit, list.name) {
         marks_at(
             a,
             count,
-            text.toks(),
-            text.reached(),
+            unit.text.toks(),
+            unit.text.reached(),
             arguments_of(list),
             list,
             first,
@@ -146,21 +146,17 @@ fn at_call(
 // The same at all these declarators.
 fn at_declarators(
     a: &Analysis,
-    members: &[Part],
+    unit: &UnitFunctions<'_>,
     count: usize,
-    text: &UnitText,
-    bound: &Bound,
-    entities: &[u32],
-    lists: &[ParameterList],
     all: &[List],
     first: Option<Offence>,
 ) -> Option<Offence>
-    requires { AreFunctionsOf members.now text.now.toks bound.now.names entities.now }
-    ensures { FirstThen a.now.value.table (flat_map (declarator_marks members.now a.now.value count text.now.toks text.now.reached bound.now.names lists.now) all.now) first result }
+    ensures { FirstThen a.now.value.table (flat_map (declarator_marks unit.now.class.members a.now.value count
+        unit.now.text.now.toks unit.now.text.now.reached unit.now.bound.now.names unit.now.lists.items) all.now) first result }
 {
     let mut now = first;
     for list in all {
-        now = at_declarator(a, members, count, text, bound, entities, lists, list, now);
+        now = at_declarator(a, unit, count, list, now);
     }
     now
 }
@@ -168,65 +164,33 @@ fn at_declarators(
 // The same at all these calls.
 fn at_calls(
     a: &Analysis,
-    members: &[Part],
+    unit: &UnitFunctions<'_>,
     count: usize,
-    text: &UnitText,
-    bound: &Bound,
-    entities: &[u32],
     all: &[List],
     first: Option<Offence>,
 ) -> Option<Offence>
-    requires { AreFunctionsOf members.now text.now.toks bound.now.names entities.now }
-    ensures { FirstThen a.now.value.table (flat_map (call_marks members.now a.now.value count text.now.toks text.now.reached bound.now.names) all.now) first result }
+    ensures { FirstThen a.now.value.table (flat_map (call_marks unit.now.class.members a.now.value count
+        unit.now.text.now.toks unit.now.text.now.reached unit.now.bound.now.names) all.now) first result }
 {
     let mut now = first;
     for list in all {
-        now = at_call(a, members, count, text, bound, entities, list, now);
+        now = at_call(a, unit, count, list, now);
     }
     now
 }
 
 /// `ReadOnly`, at the `(` of a list in a file that is not edited; `AcrossDirective`, at the name of a list that goes on
 /// behind a directive; `ArgumentCount`, at the name of a list that has not so many items.
-pub fn at_marks(
-    alloc: Global,
-    a: &Analysis,
-    members: &[Part],
-    functions: &Functions,
-    count: usize,
-    first: Option<Offence>,
-) -> Result<Option<Offence>, Memory>
-    requires { AreFunctions members.now a.now.value functions.now }
-    ensures answer { IfOk result (FirstThen a.now.value.table (all_marks members.now a.now.value count) first) }
+pub fn at_marks(functions: &Functions<'_>, count: usize, first: Option<Offence>) -> Option<Offence>
+    ensures answer { FirstThen functions.now.analysis.value.table
+        (all_marks functions.now.members functions.now.analysis.value count) first result }
 {
+    let a = functions.analysis();
     let mut now = first;
-    for unit in 0..a.units() {
-        let text = a.text(unit + 1);
-        let bound = a.bound(unit + 1);
-        let tree = a.tree(unit + 1);
-        let lists = parameter_lists(alloc, tree)?;
-        let entities = functions.of(unit);
-        let declared = at_declarators(
-            a,
-            members,
-            count,
-            text,
-            bound,
-            entities,
-            &lists,
-            bound.declarators(),
-            now,
-        );
-        now = at_calls(
-            a,
-            members,
-            count,
-            text,
-            bound,
-            entities,
-            bound.calls(),
-            declared,
-        );
+    let units = functions.units();
+    for unit in units {
+        let declared = at_declarators(a, unit, count, unit.bound.declarators(), now);
+        now = at_calls(a, unit, count, unit.bound.calls(), declared);
     }
-    Ok(now)
+    now
 }

@@ -3,15 +3,16 @@ ghost use Rattle.std.specs.Prelude.{◌≡◌};
 ghost use Rattle.std.specs.List.{flat_map};
 ghost use Rattle.cs_base.specs.declared.causes.Cause.TheVariants as cause;
 ghost use Rattle.include_tree.specs.Below.line_shape.Signs.{is_name};
-ghost use Rattle.rename_rules.specs.Class.{IsClass};
 ghost use Rattle.rename_rules.specs.First.{standing, FirstThen};
 ghost use Rattle.rename_rules.specs.Tokens.{first_place};
 ghost use Rattle.template_rules.specs.Insides.{all_macro_names};
 ghost use Rattle.template_rules.specs.MacroOffences.{is_replacing, held_place, replaced_place, pasted_place};
 
-use cs_base::{Cause, Kind, Part, Tok};
+use crate::class::Class;
+use crate::functions::Functions;
+use cs_base::{Cause, Kind, Tok};
 use include_tree::{Event, EventKind};
-use rename_rules::{Offence, first_with, holds_member};
+use rename_rules::{Offence, first_with};
 use ws_core::Analysis;
 
 // A cause that stands where a token begins.
@@ -25,17 +26,10 @@ fn at_first(a: &Analysis, tok: &Tok, cause: Cause, first: Option<Offence>) -> Op
 }
 
 // `InMacro` at a token, if it holds a member.
-fn held_at(
-    a: &Analysis,
-    members: &[Part],
-    number: u32,
-    tok: &Tok,
-    first: Option<Offence>,
-) -> Option<Offence>
-    requires { IsClass a.now members.now number }
-    ensures { FirstThen a.now.value.table (standing cause.InMacro (held_place members.now tok.now)) first result }
+fn held_at(a: &Analysis, class: &Class<'_>, tok: &Tok, first: Option<Offence>) -> Option<Offence>
+    ensures { FirstThen a.now.value.table (standing cause.InMacro (held_place class.now.members tok.now)) first result }
 {
-    if holds_member(a, members, number, tok) {
+    if class.holds(tok) {
         at_first(a, tok, Cause::InMacro, first)
     } else {
         first
@@ -54,19 +48,17 @@ pub(crate) fn is_replacing(kind: EventKind) -> bool
 // The same at the name of an event that replaces it.
 fn replaced_at(
     a: &Analysis,
-    members: &[Part],
-    number: u32,
+    class: &Class<'_>,
     event: &Event,
     first: Option<Offence>,
 ) -> Option<Offence>
-    requires { IsClass a.now members.now number }
-    ensures { FirstThen a.now.value.table (standing cause.InMacro (replaced_place members.now event.now)) first result }
+    ensures { FirstThen a.now.value.table (standing cause.InMacro (replaced_place class.now.members event.now)) first result }
 {
     if !is_replacing(event.kind) {
         return first;
     }
     match &event.name {
-        Some(tok) => held_at(a, members, number, tok, first),
+        Some(tok) => held_at(a, class, tok, first),
         None => first,
     }
 }
@@ -81,18 +73,11 @@ fn is_name(tok: &Tok) -> bool
 }
 
 // The same at a name that was pasted.
-fn pasted_at(
-    a: &Analysis,
-    members: &[Part],
-    number: u32,
-    tok: &Tok,
-    first: Option<Offence>,
-) -> Option<Offence>
-    requires { IsClass a.now members.now number }
-    ensures { FirstThen a.now.value.table (standing cause.InMacro (pasted_place members.now tok.now)) first result }
+fn pasted_at(a: &Analysis, class: &Class<'_>, tok: &Tok, first: Option<Offence>) -> Option<Offence>
+    ensures { FirstThen a.now.value.table (standing cause.InMacro (pasted_place class.now.members tok.now)) first result }
 {
     if is_name(tok) {
-        held_at(a, members, number, tok, first)
+        held_at(a, class, tok, first)
     } else {
         first
     }
@@ -100,53 +85,45 @@ fn pasted_at(
 
 fn at_replaced(
     a: &Analysis,
-    members: &[Part],
-    number: u32,
+    class: &Class<'_>,
     events: &[Event],
     first: Option<Offence>,
 ) -> Option<Offence>
-    requires { IsClass a.now members.now number }
-    ensures { FirstThen a.now.value.table (standing cause.InMacro (flat_map (replaced_place members.now) events.now)) first result }
+    ensures { FirstThen a.now.value.table (standing cause.InMacro (flat_map (replaced_place class.now.members) events.now)) first result }
 {
     let mut now = first;
     for event in events {
-        now = replaced_at(a, members, number, event, now);
+        now = replaced_at(a, class, event, now);
     }
     now
 }
 
 fn at_pasted(
     a: &Analysis,
-    members: &[Part],
-    number: u32,
+    class: &Class<'_>,
     toks: &[Tok],
     first: Option<Offence>,
 ) -> Option<Offence>
-    requires { IsClass a.now members.now number }
-    ensures { FirstThen a.now.value.table (standing cause.InMacro (flat_map (pasted_place members.now) toks.now)) first result }
+    ensures { FirstThen a.now.value.table (standing cause.InMacro (flat_map (pasted_place class.now.members) toks.now)) first result }
 {
     let mut now = first;
     for tok in toks {
-        now = pasted_at(a, members, number, tok, now);
+        now = pasted_at(a, class, tok, now);
     }
     now
 }
 
 /// `InMacro`, at each name of a class that a macro replaces, and at each that was pasted.
-pub fn at_macro_names(
-    a: &Analysis,
-    members: &[Part],
-    number: u32,
-    first: Option<Offence>,
-) -> Option<Offence>
-    requires { IsClass a.now members.now number }
-    ensures answer { FirstThen a.now.value.table (all_macro_names members.now a.now.value) first result }
+pub fn at_macro_names(functions: &Functions<'_>, first: Option<Offence>) -> Option<Offence>
+    ensures answer { FirstThen functions.now.analysis.value.table
+        (all_macro_names functions.now.members functions.now.analysis.value) first result }
 {
+    let a = functions.analysis();
     let mut now = first;
-    for unit in 0..a.units() {
-        let text = a.text(unit + 1);
-        let replaced = at_replaced(a, members, number, text.events(), now);
-        now = at_pasted(a, members, number, text.pasted(), replaced);
+    let units = functions.units();
+    for unit in units {
+        let replaced = at_replaced(a, &unit.class, unit.text.events(), now);
+        now = at_pasted(a, &unit.class, unit.text.pasted(), replaced);
     }
     now
 }

@@ -5,7 +5,6 @@ ghost use Rattle.rename_rules.specs.Class.{IsClass};
 ghost use Rattle.rename_rules.specs.First.{IsFirst};
 ghost use Rattle.rename_rules.specs.Renaming.{GivesOne};
 ghost use Rattle.ws_core.specs.Parts.{IsPart};
-ghost use Rattle.template_rules.specs.Functions.{AreFunctions, has_function};
 ghost use Rattle.template_rules.specs.Lists.{count_of};
 ghost use Rattle.template_rules.specs.Offences.{offences_of};
 ghost use Rattle.template_rules.specs.Refusals.{refusal_of};
@@ -73,55 +72,59 @@ fn plan_class(
     ensures { GivesOne (λ edits. edits) refusal_of result (IsOrdered a.now.value members.now order.now) }
 {
     let functions = named_functions(alloc, a, members, number)?;
-    if !has_functions(a, members, &functions) {
+    plan_named(alloc, &functions, order)
+}
+
+// The same for the functions that it names.
+fn plan_named(
+    alloc: Global,
+    functions: &Functions<'_>,
+    order: &[usize],
+) -> Result<Edits, TemplateRefusal>
+    ensures { GivesOne (λ edits. edits) refusal_of result
+        (IsOrdered functions.now.analysis.value functions.now.members order.now) }
+{
+    if !has_functions(functions) {
         return Err(TemplateRefusal::NotAFunction);
     }
-    let count = parameter_count(alloc, a, members, &functions)?;
+    let count = parameter_count(functions);
     if !is_order(alloc, count, order)? {
         return Err(TemplateRefusal::BadOrder);
     }
-    plan_functions(alloc, a, members, number, &functions, count, order)
+    plan_functions(alloc, functions, count, order)
 }
 
 // The same for these functions, and an order of their parameters.
 fn plan_functions(
     alloc: Global,
-    a: &Analysis,
-    members: &[Part],
-    number: u32,
-    functions: &Functions,
+    functions: &Functions<'_>,
     count: usize,
     order: &[usize],
 ) -> Result<Edits, TemplateRefusal>
-    requires class { IsClass a.now members.now number }
-    requires functions { AreFunctions members.now a.now.value functions.now }
-    requires count { count ≡ count_of a.now.value members.now }
+    requires count { count ≡ count_of functions.now.analysis.value functions.now.members }
     requires order { IsOrder (length order.now) order.now }
-    ensures { GivesOne (λ edits. edits) refusal_of result (IsReordered a.now.value members.now order.now) }
+    ensures { GivesOne (λ edits. edits) refusal_of result
+        (IsReordered functions.now.analysis.value functions.now.members order.now) }
 {
-    match first_offence(alloc, a, members, number, functions, count)? {
-        Some(offence) => Err(refused(alloc, a, offence)),
-        None => Ok(edit_files(alloc, a, members, functions, order)?),
+    match first_offence(alloc, functions, count)? {
+        Some(offence) => Err(refused(alloc, functions.analysis(), offence)),
+        None => Ok(edit_files(alloc, functions, order)?),
     }
 }
 
 // The first offence, if one stands.
 fn first_offence(
     alloc: Global,
-    a: &Analysis,
-    members: &[Part],
-    number: u32,
-    functions: &Functions,
+    functions: &Functions<'_>,
     count: usize,
 ) -> Result<Option<Offence>, Memory>
-    requires class { IsClass a.now members.now number }
-    requires functions { AreFunctions members.now a.now.value functions.now }
-    requires count { count ≡ count_of a.now.value members.now }
-    ensures { IfOk result (IsFirst a.now.value.table (offences_of a.now.value members.now (count_of a.now.value members.now))) }
+    requires { count ≡ count_of functions.now.analysis.value functions.now.members }
+    ensures { IfOk result (IsFirst functions.now.analysis.value.table
+        (offences_of functions.now.analysis.value functions.now.members (count_of functions.now.analysis.value functions.now.members))) }
 {
-    let named = at_names(alloc, a, members, number, functions, None)?;
-    let marked = at_marks(alloc, a, members, functions, count, named)?;
-    let replaced = at_macro_names(a, members, number, marked);
-    let inside = at_insides(a, members, functions, replaced);
-    at_lists(alloc, a, members, functions, inside)
+    let named = at_names(functions, None);
+    let marked = at_marks(functions, count, named);
+    let replaced = at_macro_names(functions, marked);
+    let inside = at_insides(functions, replaced);
+    at_lists(alloc, functions, inside)
 }

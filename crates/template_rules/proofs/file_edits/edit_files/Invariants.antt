@@ -5,4 +5,4 @@ use Rattle.template_rules.proofs.file_edits.edit_files.Given as goal
 
 abbrev pub invariant-loop-number : goal.invariant-loop-number
 invariant-loop-number l =
-    with_each (edits_from l.found.items l.order l.number (drop l.number l.a.value.table)) l.edits ≡ edits_of l.members l.a.value l.order
+    with_each (edits_from l.found.items l.order l.number (drop l.number l.functions.analysis.value.table)) l.edits ≡ edits_of l.functions.members l.functions.analysis.value l.order

@@ -1,17 +1,21 @@
-use Rattle.std.proofs.Common.{◌≡◌, ◌++◌, ap, sym, ◌∙◌}
-use Rattle.ws_core.proofs.OneUnitLemmas.{unit_of_text, bound_of_unit}
-use Rattle.std.proofs.lemmas.Option.{slice_get_within, get_or_from_slice_get}
+use Rattle.std.proofs.Common.{◌≡◌, ◌++◌, List, ap, sym, ◌∙◌, take}
+use Rattle.std.specs.List.{flat_map}
+use Rattle.std.proofs.lemmas.List.{take_all}
+use Rattle.template_rules.specs.declared.unit_functions.UnitFunctions.{UnitFunctions}
 use Rattle.template_rules.specs.FileLists.{unit_found}
-use Rattle.template_rules.proofs.ListLemmas.{found_told}
+use Rattle.template_rules.specs.Units.{found_of}
 use Rattle.template_rules.proofs.StepLemmas.{flat_map-more}
+use Rattle.template_rules.proofs.UnitLemmas.{found_told, units_flat_map}
 use Rattle.template_rules.proofs.file_lists.found_lists.Goals as goal
 
 pub loop-unit-preserved : goal.loop-unit-preserved
 loop-unit-preserved c =
-    let units = c.args.a.now.value.units in
-    let u = unit_of_text units c.loop-unit.unit c.text-text.result.now c.text-text.ensures in
-    let b = bound_of_unit units c.loop-unit.unit u.0 c.bound-bound.result.now u.1 c.bound-bound.ensures in
-    let made = found_told c.args.members.now u.0 c.text-text.result.now c.bound-bound.result.now c.loop-unit.out.items c.push_unit.new.out.items u.2 b c.in_ok-push_unit.ensures in
-    made ∙ ap (λ before. before ++ unit_found c.args.members.now u.0) c.loop-unit.invariant
-    ∙ sym (flat_map-more (unit_found c.args.members.now) units c.loop-unit.unit u.0 (slice_get_within units c.loop-unit.unit u.0 u.1)
-    (sym (get_or_from_slice_get units c.loop-unit.unit u.0 u.0 u.1)))
+    c.in_ok-push_unit.ensures ∙ ap (λ before. before ++ found_of c.unit-item.result) c.loop-unit.invariant
+    ∙ sym (flat_map-more found_of c.units-units.result.now c.loop-unit.unit-index c.unit-item.result c.loop-unit-test.true c.unit-item.is)
+
+pub returns : goal.returns
+returns c =
+    let class = c.args.functions.now in
+    c.loop-unit.invariant
+    ∙ ap (λ (fs : List UnitFunctions). flat_map found_of fs) (take_all c.loop-unit.unit-index c.units-units.result.now c.loop-unit-test.false)
+    ∙ units_flat_map class c.units-units.result.now c.units-units.ensures found_of (unit_found class.members) (found_told class)

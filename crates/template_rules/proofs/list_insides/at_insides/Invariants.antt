@@ -1,8 +1,8 @@
 use Rattle.std.proofs.Common.{take}
 use Rattle.std.specs.List.{flat_map}
 use Rattle.rename_rules.specs.First.{FirstThen}
-use Rattle.template_rules.specs.Insides.{unit_insides}
+use Rattle.template_rules.proofs.UnitLemmas.{insides_of}
 use Rattle.template_rules.proofs.list_insides.at_insides.Given as goal
 
 abbrev pub invariant-loop-unit : goal.invariant-loop-unit
-invariant-loop-unit l = FirstThen l.a.value.table (flat_map (unit_insides l.members) (take l.unit l.a.value.units)) l.initial.now l.now
+invariant-loop-unit l = FirstThen l.a.value.table (flat_map insides_of (take l.unit-index l.units)) l.initial.now l.now

@@ -8,11 +8,11 @@ loop-list-init c = then_none c.args.a.now.value.table c.args.first
 
 pub loop-list-preserved : goal.loop-list-preserved
 loop-list-preserved c =
-    more_next c.args.a.now.value.table (list_insides c.args.members.now c.args.text.now.toks c.args.text.now.events c.args.bound.now.names)
+    more_next c.args.a.now.value.table (list_insides c.args.unit.now.class.members c.args.unit.now.text.now.toks c.args.unit.now.text.now.events c.args.unit.now.bound.now.names)
     c.args.all.now c.loop-list.list-index c.list-item.result c.args.first c.loop-list.now c.at_list-now.result
     c.loop-list-test.true c.list-item.is c.loop-list.invariant c.at_list-now.ensures
 
 pub returns : goal.returns
 returns c =
-    more_all c.args.a.now.value.table (list_insides c.args.members.now c.args.text.now.toks c.args.text.now.events c.args.bound.now.names)
+    more_all c.args.a.now.value.table (list_insides c.args.unit.now.class.members c.args.unit.now.text.now.toks c.args.unit.now.text.now.events c.args.unit.now.bound.now.names)
     c.args.all.now c.loop-list.list-index c.args.first c.loop-list.now c.loop-list-test.false c.loop-list.invariant

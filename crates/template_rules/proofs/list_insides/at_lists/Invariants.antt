@@ -6,4 +6,4 @@ use Rattle.template_rules.proofs.list_insides.at_lists.Given as goal
 
 abbrev pub invariant-loop-list : goal.invariant-loop-list
 invariant-loop-list l =
-    FirstThen l.a.value.table (flat_map (list_insides l.members l.text.toks l.text.events l.bound.names) (take l.list-index l.all)) l.initial.now l.now
+    FirstThen l.a.value.table (flat_map (list_insides l.unit.class.members l.unit.text.now.toks l.unit.text.now.events l.unit.bound.now.names) (take l.list-index l.all)) l.initial.now l.now

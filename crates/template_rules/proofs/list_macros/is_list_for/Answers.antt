@@ -1,22 +1,24 @@
-use Rattle.std.proofs.Common.{◌≡◌, true, false, sym, ◌∙◌, arith}
-use Rattle.ws_core.specs.Analysis.{UnitAnalysis}
-use Rattle.ws_core.proofs.OneUnitLemmas.{unit_of_text, bound_of_unit}
+use Rattle.std.proofs.Common.{◌≡◌, true, false, sym, ◌∙◌}
+use Rattle.std.proofs.lemmas.List.{take_all}
+use Rattle.template_rules.specs.declared.unit_functions.UnitFunctions.{UnitFunctions}
+use Rattle.template_rules.specs.Asking.{asks}
 use Rattle.template_rules.specs.MacroOffences.{is_list_through}
-use Rattle.template_rules.proofs.UnitLemmas.{all_unit, all_unit_next}
+use Rattle.template_rules.proofs.AskLemmas.{lists_for}
+use Rattle.template_rules.proofs.NumberLemmas.{all_here, all_still}
 use Rattle.template_rules.proofs.list_macros.is_list_for.Goals as goal
 
 pub returns-then-not-is_list_through : goal.returns-then-not-is_list_through
 returns-then-not-is_list_through c =
-    let units = c.args.a.now.value.units in
-    let u = unit_of_text units c.loop-unit.unit c.text-text.result.now c.text-text.ensures in
-    let b = bound_of_unit units c.loop-unit.unit u.0 c.bound-bound.result.now u.1 c.bound-bound.ensures in
-    sym (all_unit (λ (u : UnitAnalysis). is_list_through c.args.members.now c.args.toks.now c.args.list.now c.args.k c.args.item u.text u.bound) units c.loop-unit.unit u.0 u.1
-    (rw (u.2, b) (sym c.is_list_through.ensures ∙ c.if-not-is_list_through.true)))
+    sym (sym (lists_for c.args.functions.now c.units-units.result.now c.units-units.ensures c.args.toks.now c.args.list.now c.args.asked c.args.item)
+    ∙ all_here (λ (f : UnitFunctions). asks c.args.asked (λ k. is_list_through f.class.members c.args.toks.now c.args.list.now k c.args.item f.text.now f.bound.now) c.args.list.now) c.units-units.result.now c.loop-unit.unit-index c.unit-item.result c.loop-unit-test.true c.unit-item.is
+    (sym c.is_list_through.ensures ∙ c.if-not-is_list_through.true))
 
 pub loop-unit-preserved : goal.loop-unit-preserved
 loop-unit-preserved c =
-    let units = c.args.a.now.value.units in
-    let u = unit_of_text units c.loop-unit.unit c.text-text.result.now c.text-text.ensures in
-    let b = bound_of_unit units c.loop-unit.unit u.0 c.bound-bound.result.now u.1 c.bound-bound.ensures in
-    all_unit_next (λ (u : UnitAnalysis). is_list_through c.args.members.now c.args.toks.now c.args.list.now c.args.k c.args.item u.text u.bound) units c.loop-unit.unit u.0 u.1
-    (rw (u.2, b) (sym c.is_list_through.ensures ∙ c.if-not-is_list_through.false)) c.loop-unit.invariant
+    all_still (λ (f : UnitFunctions). asks c.args.asked (λ k. is_list_through f.class.members c.args.toks.now c.args.list.now k c.args.item f.text.now f.bound.now) c.args.list.now) c.units-units.result.now c.loop-unit.unit-index c.unit-item.result c.loop-unit-test.true c.unit-item.is
+    (sym c.is_list_through.ensures ∙ c.if-not-is_list_through.false) c.loop-unit.invariant
+
+pub returns : goal.returns
+returns c =
+    let all = rw (take_all c.loop-unit.unit-index c.units-units.result.now c.loop-unit-test.false) at c.loop-unit.invariant in
+    sym (sym (lists_for c.args.functions.now c.units-units.result.now c.units-units.ensures c.args.toks.now c.args.list.now c.args.asked c.args.item) ∙ all)

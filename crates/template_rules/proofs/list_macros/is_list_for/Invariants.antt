@@ -1,9 +1,11 @@
 use Rattle.std.proofs.Common.{◌≡◌, true, take}
 use Rattle.std.specs.List.{list_all}
-use Rattle.ws_core.specs.Analysis.{UnitAnalysis}
+use Rattle.template_rules.specs.declared.unit_functions.UnitFunctions.{UnitFunctions}
+use Rattle.template_rules.specs.Asking.{asks}
 use Rattle.template_rules.specs.MacroOffences.{is_list_through}
 use Rattle.template_rules.proofs.list_macros.is_list_for.Given as goal
 
 abbrev pub invariant-loop-unit : goal.invariant-loop-unit
 invariant-loop-unit l =
-    list_all (λ (u : UnitAnalysis). is_list_through l.members l.toks l.list l.k l.item u.text u.bound) (take l.unit l.a.value.units) ≡ true
+    list_all (λ (f : UnitFunctions). asks l.asked (λ k. is_list_through f.class.members l.toks l.list k l.item f.text.now f.bound.now) l.list)
+    (take l.unit-index l.units) ≡ true

@@ -8,9 +8,9 @@ loop-list-init c = then_none c.args.a.now.value.table c.args.first
 
 pub loop-list-preserved : goal.loop-list-preserved
 loop-list-preserved c =
-    more_next c.args.a.now.value.table (call_marks c.args.members.now c.args.a.now.value c.args.count c.args.text.now.toks c.args.text.now.reached c.args.bound.now.names) c.args.all.now c.loop-list.list-index c.list-item.result c.args.first c.loop-list.now c.at_call-now.result
+    more_next c.args.a.now.value.table (call_marks c.args.unit.now.class.members c.args.a.now.value c.args.count c.args.unit.now.text.now.toks c.args.unit.now.text.now.reached c.args.unit.now.bound.now.names) c.args.all.now c.loop-list.list-index c.list-item.result c.args.first c.loop-list.now c.at_call-now.result
     c.loop-list-test.true c.list-item.is c.loop-list.invariant c.at_call-now.ensures
 
 pub returns : goal.returns
 returns c =
-    more_all c.args.a.now.value.table (call_marks c.args.members.now c.args.a.now.value c.args.count c.args.text.now.toks c.args.text.now.reached c.args.bound.now.names) c.args.all.now c.loop-list.list-index c.args.first c.loop-list.now c.loop-list-test.false c.loop-list.invariant
+    more_all c.args.a.now.value.table (call_marks c.args.unit.now.class.members c.args.a.now.value c.args.count c.args.unit.now.text.now.toks c.args.unit.now.text.now.reached c.args.unit.now.bound.now.names) c.args.all.now c.loop-list.list-index c.args.first c.loop-list.now c.loop-list-test.false c.loop-list.invariant

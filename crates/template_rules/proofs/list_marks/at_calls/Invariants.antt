@@ -5,4 +5,4 @@ use Rattle.template_rules.specs.Marks.{call_marks}
 use Rattle.template_rules.proofs.list_marks.at_calls.Given as goal
 
 abbrev pub invariant-loop-list : goal.invariant-loop-list
-invariant-loop-list l = FirstThen l.a.value.table (flat_map (call_marks l.members l.a.value l.count l.text.toks l.text.reached l.bound.names) (take l.list-index l.all)) l.initial.now l.now
+invariant-loop-list l = FirstThen l.a.value.table (flat_map (call_marks l.unit.class.members l.a.value l.count l.unit.text.now.toks l.unit.text.now.reached l.unit.bound.now.names) (take l.list-index l.all)) l.initial.now l.now

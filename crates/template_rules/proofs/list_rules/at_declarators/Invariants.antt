@@ -5,4 +5,7 @@ use Rattle.template_rules.specs.Offences.{declarator_offences}
 use Rattle.template_rules.proofs.list_rules.at_declarators.Given as goal
 
 abbrev pub invariant-loop-list : goal.invariant-loop-list
-invariant-loop-list l = FirstThen l.a.value.table (flat_map (declarator_offences l.members l.a.value l.odds l.text l.bound l.lists) (take l.list-index l.all)) l.initial.now l.now
+invariant-loop-list l =
+    FirstThen l.functions.analysis.value.table
+    (flat_map (declarator_offences l.functions.members l.functions.analysis.value l.odds l.unit.text.now l.unit.bound.now l.unit.lists.items) (take l.list-index l.all))
+    l.initial.now l.now

@@ -1,49 +1,47 @@
-use Rattle.std.proofs.Common.{◌≡◌, ap, sym, ◌∙◌, arith}
+use Rattle.std.proofs.Common.{◌≡◌, ap, sym, ◌∙◌}
 use Rattle.std.specs.List.{flat_map}
-use Rattle.include_tree.specs.Below.unit_steps.Texts.{UnitTextValue}
-use Rattle.c99_tree.specs.Tree.{Node}
-use Rattle.c_types.specs.Parameters.{parameters_in}
-use Rattle.scope_bind.specs.Bound.{Bound}
+use Rattle.std.proofs.lemmas.Option.{slice_get-get_or}
 use Rattle.rename_rules.proofs.FirstLemmas.{then_none, then_both}
 use Rattle.template_rules.specs.LineOffences.{odd_positions}
 use Rattle.template_rules.specs.Offences.{declarator_offences, call_offences, unit_lists}
 use Rattle.template_rules.specs.ScopeOffences.{body_lists_in}
-use Rattle.template_rules.proofs.StepLemmas.{more_unit, more_all}
-use Rattle.template_rules.proofs.UnitLemmas.{unit_told, functions_told, lists_told}
+use Rattle.template_rules.proofs.StepLemmas.{more_next, more_all}
+use Rattle.template_rules.proofs.UnitLemmas.{offences_at, offences_told, units_first, unit_own}
 use Rattle.template_rules.proofs.list_rules.at_lists.Goals as goal
 
 pub loop-unit-init : goal.loop-unit-init
-loop-unit-init c = then_none c.args.a.now.value.table c.args.first
+loop-unit-init c = then_none c.args.functions.now.analysis.value.table c.args.first
 
-pub of-entities-requires : goal.of-entities-requires
-of-entities-requires c = omega (arith, c.requires.many, c.units-unit-end.ensures, c.loop-unit-test.true)
+pub at_declarators-declared-requires : goal.at_declarators-declared-requires
+at_declarators-declared-requires c =
+    unit_own c.args.functions.now c.units-units.result.now c.units-units.ensures c.loop-unit.unit-index c.unit-item.result c.loop-unit-test.true c.unit-item.is
 
-pub at_declarators-declared-requires-clause-entities : goal.at_declarators-declared-requires-clause-entities
-at_declarators-declared-requires-clause-entities c =
-    let u = unit_told c.args.a.now.value.units c.loop-unit.unit c.text-text.result.now c.bound-bound.result.now c.tree-tree.result.now c.text-text.ensures c.bound-bound.ensures c.tree-tree.ensures in
-    functions_told c.args.members.now c.args.a.now.value c.args.functions.now c.loop-unit.unit u.unit c.text-text.result.now.toks c.bound-bound.result.now.names c.of-entities.result.now
-    c.requires u.at (ap (λ (t : UnitTextValue). t.toks) (sym u.of_text)) (ap (λ (b : Bound). b.names) (sym u.of_bound)) c.of-entities.ensures
+pub at_calls-now-requires : goal.at_calls-now-requires
+at_calls-now-requires c =
+    unit_own c.args.functions.now c.units-units.result.now c.units-units.ensures c.loop-unit.unit-index c.unit-item.result c.loop-unit-test.true c.unit-item.is
 
 pub loop-unit-preserved : goal.loop-unit-preserved
 loop-unit-preserved c =
-    let u = unit_told c.args.a.now.value.units c.loop-unit.unit c.text-text.result.now c.bound-bound.result.now c.tree-tree.result.now c.text-text.ensures c.bound-bound.ensures c.tree-tree.ensures in
-    let text = c.text-text.result.now in
-    let bound = c.bound-bound.result.now in
-    let a = c.args.a.now.value in
-    let same = lists_told c.args.members.now a (odd_positions a.table) c.deref.result.now c.deref-in-loop-unit-2.result.now u.unit text bound c.deref-in-loop-unit.result.now c.deref-in-loop-unit-3.result.now c.declarators.result.now c.calls.result.now
-    (c.deref.ensures.value ∙ c.in_ok-odds.ensures) (c.deref-in-loop-unit-2.ensures.value ∙ c.in_ok-odds.ensures) u.of_text u.of_bound
-    (c.deref-in-loop-unit.ensures.value ∙ c.in_ok-lists.ensures.answer ∙ ap (λ (t : Node). parameters_in t.under) (sym u.of_tree))
-    (c.deref-in-loop-unit-3.ensures.value ∙ c.in_ok-ends.ensures ∙ ap (λ (t : Node). body_lists_in t.under) (sym u.of_tree))
-    c.declarators.ensures c.calls.ensures in
-    let both = then_both a.table
-    (flat_map (declarator_offences c.args.members.now a c.deref.result.now text bound c.deref-in-loop-unit.result.now) c.declarators.result.now)
-    (flat_map (call_offences c.args.members.now a c.deref-in-loop-unit-2.result.now text bound c.deref-in-loop-unit-3.result.now) c.calls.result.now)
-    c.loop-unit.now c.at_declarators-declared.result c.at_calls-now.result c.at_declarators-declared.ensures c.at_calls-now.ensures in
-    more_unit a.table (unit_lists c.args.members.now a (odd_positions a.table)) a.units c.loop-unit.unit u.unit c.args.first c.loop-unit.now c.at_calls-now.result
-    u.at c.loop-unit.invariant (rw same at both)
+    let class = c.args.functions.now in
+    let a = class.analysis.value in
+    let odds = odd_positions a.table in
+    let f = c.unit-item.result in
+    more_next a.table (offences_at class odds) c.units-units.result.now c.loop-unit.unit-index f c.args.first c.loop-unit.now c.at_calls-now.result
+    c.loop-unit-test.true c.unit-item.is c.loop-unit.invariant
+    (then_both a.table
+    (flat_map (declarator_offences class.members a odds f.text.now f.bound.now f.lists.items) f.bound.now.declarators)
+    (flat_map (call_offences class.members a odds f.text.now f.bound.now (body_lists_in f.tree.now.under)) f.bound.now.calls)
+    c.loop-unit.now c.at_declarators-declared.result c.at_calls-now.result
+    (rw (c.declarators.ensures, c.deref.ensures.value, c.in_ok-odds.ensures, c.analysis.ensures) at c.at_declarators-declared.ensures)
+    (rw (c.calls.ensures, c.deref-in-loop-unit.ensures.value, c.in_ok-odds.ensures, c.analysis.ensures, c.deref-in-loop-unit-2.ensures.value, c.in_ok-ends.ensures)
+    at c.at_calls-now.ensures))
 
 pub returns : goal.returns
-returns c = record {
-  answer = more_all c.args.a.now.value.table (unit_lists c.args.members.now c.args.a.now.value (odd_positions c.args.a.now.value.table)) c.args.a.now.value.units c.loop-unit.unit c.args.first c.loop-unit.now
-      (omega (arith, c.units-unit-end.ensures, c.loop-unit-test.false)) c.loop-unit.invariant;
-}
+returns c =
+    let class = c.args.functions.now in
+    let odds = odd_positions class.analysis.value.table in
+    let all = more_all class.analysis.value.table (offences_at class odds) c.units-units.result.now c.loop-unit.unit-index c.args.first c.loop-unit.now c.loop-unit-test.false c.loop-unit.invariant in
+    record {
+      answer = units_first class c.units-units.result.now c.units-units.ensures (offences_at class odds) (unit_lists class.members class.analysis.value odds)
+          (λ u f own is. offences_told class u f own is odds) class.analysis.value.table c.args.first c.loop-unit.now all;
+    }

@@ -7,9 +7,11 @@ use Rattle.template_rules.proofs.list_rules.list_at.Goals as goal
 
 pub returns : goal.returns
 returns c =
-    let a = c.args.a.now.value in
+    let class = c.args.functions.now in
+    let a = class.analysis.value in
     let text = c.args.text.now in
     then_both a.table
-    (standing cause.InMacro (macro_place c.args.members.now a text.toks text.reached c.args.list.now))
+    (standing cause.InMacro (macro_place class.members a text.toks text.reached c.args.list.now))
     (standing cause.OddToken (odd_places a.table c.args.odds.now text c.args.list.now))
-    c.args.first c.macro_at-named.result c.odds_at.result (rw (c.toks.ensures, c.reached.ensures) at c.macro_at-named.ensures) c.odds_at.ensures
+    c.args.first c.macro_at-named.result c.odds_at.result (rw (c.toks.ensures, c.reached.ensures) at c.macro_at-named.ensures)
+    (rw c.analysis.ensures at c.odds_at.ensures)

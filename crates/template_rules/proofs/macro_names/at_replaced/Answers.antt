@@ -8,10 +8,10 @@ loop-event-init c = then_none c.args.a.now.value.table c.args.first
 
 pub loop-event-preserved : goal.loop-event-preserved
 loop-event-preserved c =
-    then_next c.args.a.now.value.table cause.InMacro (replaced_place c.args.members.now) c.args.events.now c.loop-event.event-index c.event-item.result c.args.first c.loop-event.now c.replaced_at-now.result
+    then_next c.args.a.now.value.table cause.InMacro (replaced_place c.args.class.now.members) c.args.events.now c.loop-event.event-index c.event-item.result c.args.first c.loop-event.now c.replaced_at-now.result
     c.loop-event-test.true c.event-item.is c.loop-event.invariant c.replaced_at-now.ensures
 
 pub returns : goal.returns
 returns c =
-    then_all c.args.a.now.value.table cause.InMacro (replaced_place c.args.members.now) c.args.events.now c.loop-event.event-index c.args.first c.loop-event.now
+    then_all c.args.a.now.value.table cause.InMacro (replaced_place c.args.class.now.members) c.args.events.now c.loop-event.event-index c.args.first c.loop-event.now
     c.loop-event-test.false c.loop-event.invariant

@@ -1,8 +1,8 @@
 use Rattle.std.proofs.Common.{take}
 use Rattle.std.specs.List.{flat_map}
 use Rattle.rename_rules.specs.First.{FirstThen}
-use Rattle.template_rules.specs.NameOffences.{unit_names}
+use Rattle.template_rules.proofs.UnitLemmas.{names_of}
 use Rattle.template_rules.proofs.names.at_names.Given as goal
 
 abbrev pub invariant-loop-unit : goal.invariant-loop-unit
-invariant-loop-unit l = FirstThen l.a.value.table (flat_map (unit_names l.members) (take l.unit l.a.value.units)) l.initial.now l.now
+invariant-loop-unit l = FirstThen l.a.value.table (flat_map names_of (take l.unit-index l.units)) l.initial.now l.now

@@ -4,13 +4,13 @@ use Rattle.template_rules.specs.Lists.{count_of}
 use Rattle.template_rules.specs.Refusals.{refusal_of}
 use Rattle.template_rules.specs.Template.{IsOrdered, IsReordered}
 use Rattle.template_rules.proofs.PlanLemmas.{gives_also, no_function, no_order, ordered, order_told}
-use Rattle.template_rules.proofs.plan.plan_class.Goals as goal
+use Rattle.template_rules.proofs.plan.plan_named.Goals as goal
 
 pub returns-then-not-has_functions : goal.returns-then-not-has_functions
 returns-then-not-has_functions c =
-    no_function c.args.a.now.value c.args.members.now c.args.order.now (sym c.if-not-has_functions.ensures.answer)
+    no_function c.args.functions.now.analysis.value c.args.functions.now.members c.args.order.now (sym c.if-not-has_functions.ensures.answer)
 
 pub returns-then-not-branch : goal.returns-then-not-branch
 returns-then-not-branch c =
-    no_order c.args.a.now.value c.args.members.now c.args.order.now (sym c.if-not-has_functions.ensures.answer)
-    (ap (λ n. is_order n c.args.order.now) (sym c.in_ok-count.ensures.answer) ∙ sym c.in_ok-is_order.ensures.answer ∙ c.if-not-branch.true)
+    no_order c.args.functions.now.analysis.value c.args.functions.now.members c.args.order.now (sym c.if-not-has_functions.ensures.answer)
+    (ap (λ n. is_order n c.args.order.now) (sym c.parameter_count-count.ensures.answer) ∙ sym c.in_ok-is_order.ensures.answer ∙ c.if-not-branch.true)
