@@ -1,6 +1,6 @@
 -- The words of a line that is text are text, and so is a path of such a word in its normal form.
 use Rattle.std.proofs.Common.{◌≡◌, ◌≤◌, ◌<◌, ◌+◌, ◌-◌, ◌^◌, ℕ, Bool, true, false, ◌==◌, List, [], ◌∷◌, ◌++◌, length, take, reverse, inl, inr, refl, sym, ap, ◌∙◌, lit<, arith, length-append}
-use Rattle.std.specs.Prelude.{IsUtf8, None, codes, nat_lt, slice_index_or, if◌then◌else◌}
+use Rattle.std.specs.Prelude.{◌&&◌, IsUtf8, None, codes, nat_lt, slice_index_or, if◌then◌else◌}
 use Rattle.std.specs.Borrow.{Bor}
 use Rattle.std.specs.List.{list_all, join_with_byte}
 use Rattle.std.specs.Str.{bytes_eq, is_utf8}
@@ -37,7 +37,7 @@ pub IsUtf8-normal_path_of : (path : List ℕ) → IsUtf8 path → IsUtf8 (normal
 IsUtf8-normal_path_of path text =
     IsUtf8-from_is_utf8 (normal_path_of path) (normal_path_of-keeps is_utf8 utf8_by_parts path (is_utf8-from_IsUtf8 path text))
 
--- ---- five words
+-- ---- five words, or six
 
 abbrev pub word_at : List (Bor (List ℕ)) → ℕ → List ℕ
 word_at words k = (slice_index_or words k (record { ref_ptr = (0, 0); now = [] })).now
@@ -45,7 +45,7 @@ word_at words k = (slice_index_or words k (record { ref_ptr = (0, 0); now = [] }
 -- what five words ask for
 pub asked_by-five : (words : List (Bor (List ℕ))) → length words ≡ 5
     → asked_by (texts_of words)
-    ≡ (if bytes_eq (word_at words 0) (codes "rename") then renaming_of (word_at words 1) (word_at words 2) (word_at words 3) (word_at words 4) else None)
+    ≡ (if bytes_eq (word_at words 0) (codes "rename") then renaming_of (word_at words 1) (word_at words 2) (word_at words 3) (word_at words 4) false else None)
 unfolding asked_by
 asked_by-five [] five = absurd (omega arith)
 asked_by-five (a ∷ []) five = absurd (omega arith)
@@ -55,22 +55,38 @@ asked_by-five (a ∷ b ∷ c ∷ d ∷ []) five = absurd (omega arith)
 asked_by-five (a ∷ b ∷ c ∷ d ∷ e ∷ []) five = refl
 asked_by-five (a ∷ b ∷ c ∷ d ∷ e ∷ f ∷ words) five = absurd (omega arith)
 
--- fewer words ask for nothing, and neither do more
-pub asked_by-other : (words : List (Bor (List ℕ))) → (length words ≡ 5 → ⊥) → asked_by (texts_of words) ≡ None
+-- what six words ask for
+pub asked_by-six : (words : List (Bor (List ℕ))) → length words ≡ 6
+    → asked_by (texts_of words)
+    ≡ (if bytes_eq (word_at words 0) (codes "rename") && bytes_eq (word_at words 5) (codes "strings")
+    then renaming_of (word_at words 1) (word_at words 2) (word_at words 3) (word_at words 4) true else None)
 unfolding asked_by
-asked_by-other [] other = refl
-asked_by-other (a ∷ []) other = refl
-asked_by-other (a ∷ b ∷ []) other = refl
-asked_by-other (a ∷ b ∷ c ∷ []) other = refl
-asked_by-other (a ∷ b ∷ c ∷ d ∷ []) other = refl
-asked_by-other (a ∷ b ∷ c ∷ d ∷ e ∷ []) other = absurd (other refl)
-asked_by-other (a ∷ b ∷ c ∷ d ∷ e ∷ f ∷ words) other = refl
+asked_by-six [] six = absurd (omega arith)
+asked_by-six (a ∷ []) six = absurd (omega arith)
+asked_by-six (a ∷ b ∷ []) six = absurd (omega arith)
+asked_by-six (a ∷ b ∷ c ∷ []) six = absurd (omega arith)
+asked_by-six (a ∷ b ∷ c ∷ d ∷ []) six = absurd (omega arith)
+asked_by-six (a ∷ b ∷ c ∷ d ∷ e ∷ []) six = absurd (omega arith)
+asked_by-six (a ∷ b ∷ c ∷ d ∷ e ∷ f ∷ []) six = refl
+asked_by-six (a ∷ b ∷ c ∷ d ∷ e ∷ f ∷ g ∷ words) six = absurd (omega arith)
 
--- each of five words is text where all are
-pub second_utf8 : (words : List (Bor (List ℕ))) → length words ≡ 5 → list_all is_utf8 (texts_of words) ≡ true → IsUtf8 (word_at words 1)
-second_utf8 [] five h = absurd (omega arith)
-second_utf8 (a ∷ []) five h = absurd (omega arith)
-second_utf8 (a ∷ b ∷ words) five h = IsUtf8-from_is_utf8 b.now ((and_parts _ _ ((and_parts _ _ h).1)).0)
+-- fewer words ask for nothing, and neither do more
+pub asked_by-other : (words : List (Bor (List ℕ))) → (length words ≡ 5 → ⊥) → (length words ≡ 6 → ⊥) → asked_by (texts_of words) ≡ None
+unfolding asked_by
+asked_by-other [] other more = refl
+asked_by-other (a ∷ []) other more = refl
+asked_by-other (a ∷ b ∷ []) other more = refl
+asked_by-other (a ∷ b ∷ c ∷ []) other more = refl
+asked_by-other (a ∷ b ∷ c ∷ d ∷ []) other more = refl
+asked_by-other (a ∷ b ∷ c ∷ d ∷ e ∷ []) other more = absurd (other refl)
+asked_by-other (a ∷ b ∷ c ∷ d ∷ e ∷ f ∷ []) other more = absurd (more refl)
+asked_by-other (a ∷ b ∷ c ∷ d ∷ e ∷ f ∷ g ∷ words) other more = refl
+
+-- the second of words is text where all are
+pub second_utf8 : (words : List (Bor (List ℕ))) → 1 < length words → list_all is_utf8 (texts_of words) ≡ true → IsUtf8 (word_at words 1)
+second_utf8 [] two h = absurd (omega arith)
+second_utf8 (a ∷ []) two h = absurd (omega arith)
+second_utf8 (a ∷ b ∷ words) two h = IsUtf8-from_is_utf8 b.now ((and_parts _ _ ((and_parts _ _ h).1)).0)
 
 -- ---- a line without its carriage return
 

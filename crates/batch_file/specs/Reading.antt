@@ -1,5 +1,5 @@
 -- Reading a batch file, line by line (this project's own).
-use Rattle.std.specs.Prelude.{ℕ, Bool, not, ◌&&◌, ◌||◌, ◌==◌, ◌+◌, ◌-◌, ◌^◌, List, [], ◌∷◌, ◌++◌, Option, None, Some, Result, Ok, Err, length, take, codes, nat_lt, if◌then◌else◌}
+use Rattle.std.specs.Prelude.{ℕ, Bool, true, false, not, ◌&&◌, ◌||◌, ◌==◌, ◌+◌, ◌-◌, ◌^◌, List, [], ◌∷◌, ◌++◌, Option, None, Some, Result, Ok, Err, length, take, codes, nat_lt, if◌then◌else◌}
 use Rattle.std.specs.List.{slice_split}
 use Rattle.std.specs.Str.{bytes_eq, is_utf8}
 use Rattle.cs_base.specs.Paths.{normal_path_of}
@@ -24,16 +24,18 @@ abbrev pub is_some_word : List ℕ → Bool
 is_some_word word = not (bytes_eq word [])
 
 -- the rename of these words: its path and its name are there, and its numbers are numbers
-abbrev pub renaming_of : List ℕ → List ℕ → List ℕ → List ℕ → Option LineValue
-renaming_of path line column name =
+abbrev pub renaming_of : List ℕ → List ℕ → List ℕ → List ℕ → Bool → Option LineValue
+renaming_of path line column name strings =
     if is_some_word path && is_number line && is_number column && is_some_word name
-    then Some (line_value (normal_path_of path) (number_of line) (number_of column) name)
+    then Some (line_value (normal_path_of path) (number_of line) (number_of column) name strings)
     else None
 
--- the rename that the words of a line ask for; none where they are of another form
+-- the rename that the words of a line ask for, the last of six being `strings`; none where they are of another form
 unfoldable pub asked_by : List (List ℕ) → Option LineValue
 asked_by (command ∷ path ∷ line ∷ column ∷ name ∷ []) =
-    if bytes_eq command (codes "rename") then renaming_of path line column name else None
+    if bytes_eq command (codes "rename") then renaming_of path line column name false else None
+asked_by (command ∷ path ∷ line ∷ column ∷ name ∷ word ∷ []) =
+    if bytes_eq command (codes "rename") && bytes_eq word (codes "strings") then renaming_of path line column name true else None
 asked_by words = None
 
 -- a line that a line feed ends lacks the carriage return before that

@@ -5,13 +5,15 @@ use cs_base::Text;
 use std::marker::Model;
 use std::str;
 
-/// A line that asks for a rename. Contracts see the record of its place and of the new name.
+/// A line that asks for a rename. Contracts see the record of its place, of the new name, and of whether strings that `#`
+/// makes may follow.
 #[derive(Drop)]
 pub struct BatchLine {
     path: Text,
     line: u32,
     column: u32,
     name: Text,
+    strings: bool,
 }
 
 impl Model for BatchLine {
@@ -20,7 +22,7 @@ impl Model for BatchLine {
 
     ghost Value = { LineValue };
 
-    ghost view = { λ l. line_value l.path l.line l.column l.name };
+    ghost view = { λ l. line_value l.path l.line l.column l.name l.strings };
 
     ghost invariant = { λ l. IsUtf8 l.path };
 }
@@ -29,15 +31,16 @@ impl BatchLine {
     ghost use Rattle.batch_file.specs.Line.{line_value};
 
     /// A rename of what stands at this place.
-    pub fn new(path: Text, line: u32, column: u32, name: Text) -> BatchLine
+    pub fn new(path: Text, line: u32, column: u32, name: Text, strings: bool) -> BatchLine
         requires { IsUtf8 path }
-        ensures { result ≡ line_value path line column name }
+        ensures { result ≡ line_value path line column name strings }
     {
         BatchLine {
             path,
             line,
             column,
             name,
+            strings,
         }
     }
 
@@ -70,5 +73,12 @@ impl BatchLine {
         ensures { result.now ≡ self.now.name }
     {
         self.name.bytes()
+    }
+
+    /// Whether strings that `#` makes may follow the renaming (6.10.3.2).
+    pub fn strings(&self) -> bool
+        ensures { result ≡ self.now.strings }
+    {
+        self.strings
     }
 }

@@ -88,13 +88,33 @@ fn asked_by(alloc: Global, words: &[&[u8]]) -> Result<Option<BatchLine>, Memory>
     requires { IsTrue (list_all is_utf8 (texts_of words.now)) }
     ensures { IfOk result (λ value. value ≡ asked_by (texts_of words.now)) }
 {
+    if words.len() == 6 {
+        return asked_with_strings(alloc, words);
+    }
     if words.len() != 5 {
         return Ok(None);
     }
     if !is_text(words[0], b"rename") {
         return Ok(None);
     }
-    renaming_of(alloc, words[1], words[2], words[3], words[4])
+    renaming_of(alloc, words[1], words[2], words[3], words[4], false)
+}
+
+// The same of six words.
+fn asked_with_strings(alloc: Global, words: &[&[u8]]) -> Result<Option<BatchLine>, Memory>
+    requires six { length words.now ≡ 6 }
+    requires text { IsTrue (list_all is_utf8 (texts_of words.now)) }
+    ensures { IfOk result (λ value. value ≡ asked_by (texts_of words.now)) }
+{
+    let asks = is_text(words[0], b"rename");
+    let follows = is_text(words[5], b"strings");
+    if !asks {
+        return Ok(None);
+    }
+    if !follows {
+        return Ok(None);
+    }
+    renaming_of(alloc, words[1], words[2], words[3], words[4], true)
 }
 
 // The rename of these words, if its path and its name are there and its numbers are numbers.
@@ -104,16 +124,17 @@ fn renaming_of(
     line: &[u8],
     column: &[u8],
     name: &[u8],
+    strings: bool,
 ) -> Result<Option<BatchLine>, Memory>
     requires { IsUtf8 path.now }
-    ensures { IfOk result (λ value. value ≡ renaming_of path.now line.now column.now name.now) }
+    ensures { IfOk result (λ value. value ≡ renaming_of path.now line.now column.now name.now strings) }
 {
     if path.is_empty() || !is_number(line) || !is_number(column) || name.is_empty() {
         return Ok(None);
     }
     let path = normal_path(alloc, path)?;
     let name = Text::new(alloc, name)?;
-    Ok(Some(BatchLine::new(path, number(line), number(column), name)))
+    Ok(Some(BatchLine::new(path, number(line), number(column), name, strings)))
 }
 
 // UTF-8.

@@ -25,10 +25,10 @@ use Rattle.batch_run.specs.Renamed.{Renamed, IsRenamed}
 
 -- the class that is renamed
 abbrev pub Accepted : LineValue → AnalysisValue → List Edit → Type 0
-Accepted q a edits = IsPlan a q.path q.line q.column q.name false edits
+Accepted q a edits = IsPlan a q.path q.line q.column q.name q.strings edits
 
-pub accepted : (q : LineValue) (a : AnalysisValue) (edits : List Edit) → IsRenaming a q.path q.line q.column q.name false (Ok edits) → Accepted q a edits
-accepted q a edits r = is_plan a q.path q.line q.column q.name false edits r
+pub accepted : (q : LineValue) (a : AnalysisValue) (edits : List Edit) → IsRenaming a q.path q.line q.column q.name q.strings (Ok edits) → Accepted q a edits
+accepted q a edits r = is_plan a q.path q.line q.column q.name q.strings edits r
 
 -- An analysis with its classes, over which a line is planned.
 pub record IsPlanned (ws : WorkspaceValue) (a : AnalysisValue) : Type 0 where
@@ -47,10 +47,10 @@ module _ (ws : WorkspaceValue) (q : LineValue) (a : AnalysisValue) (new : List E
 
   -- the files once the edits are put: those that hold members have these respelled
   respelled : AreRespelled a c.members q.name (source_of before) (source_of now)
-  respelled = plan_respells a q.path q.line q.column q.name false new c ws (source_of before) (source_of now) analysed are_made
+  respelled = plan_respells a q.path q.line q.column q.name q.strings new c ws (source_of before) (source_of now) analysed are_made
 
   is_accepted : IsAccepted (source_of before) ws a p.classes c.part c.members q.name
-  is_accepted = plan_accepted a q.path q.line q.column q.name false new c ws (source_of before) (source_of now) analysed are_made p.classes p.workspace p.own
+  is_accepted = plan_accepted a q.path q.line q.column q.name q.strings new c ws (source_of before) (source_of now) analysed are_made p.classes p.workspace p.own
 
   pub renamed_analysis_there : AnalysisIsRenamed (source_of now) ws a c.members q.name
   renamed_analysis_there =
@@ -89,7 +89,7 @@ edits_are_put edits before sound = record {
   others = λ path apart. bytes_at-with_edits_other edits path before apart;
 }
 
-pub rename_is_kept : (ws : WorkspaceValue) (q : LineValue) (a : AnalysisValue) (new : List Edit) → IsPlanned ws a → IsRenaming a q.path q.line q.column q.name false (Ok new)
+pub rename_is_kept : (ws : WorkspaceValue) (q : LineValue) (a : AnalysisValue) (new : List Edit) → IsPlanned ws a → IsRenaming a q.path q.line q.column q.name q.strings (Ok new)
     → IsKept new → (before : FileMap) → analysis_of (source_of before) ws ≡ Ok a → (r : Renamed) × IsRenamed ws q before (with_edits new before) r
 rename_is_kept ws q a new p renaming sound before analysed =
     line_is_kept ws q a new p (accepted q a new renaming) before (with_edits new before) analysed (edits_are_put new before sound)

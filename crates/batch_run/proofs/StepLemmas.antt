@@ -45,7 +45,7 @@ ready_none ws kept s none = rw none tt
 
 -- an accepted line
 pub accepted_steps : (ws : WorkspaceValue) (kept : FileMap) (q : LineValue) (a : AnalysisValue) (new edits : List Edit) (text : List ℕ) (was : Bool) (s : Batching)
-    → IsPlanned ws a → IsOver ws kept edits a → IsRenaming a q.path q.line q.column q.name false (Ok new) → IsKept new → IsKept edits
+    → IsPlanned ws a → IsOver ws kept edits a → IsRenaming a q.path q.line q.column q.name q.strings (Ok new) → IsKept new → IsKept edits
     → s.analysis ≡ None → s.text.items ≡ text ++ plan_text (Ok new) → s.refused ≡ was → s.edits ≡ with_each new edits
     → Steps ws kept q (Ok new) text was edits s
 accepted_steps ws kept q a new edits text was s planned over renaming sound sound' none text_is refused_is edits_are =
@@ -69,7 +69,7 @@ accepted_steps ws kept q a new edits text was s planned over renaming sound soun
 
 -- a refused line
 pub refused_steps : (ws : WorkspaceValue) (kept : FileMap) (q : LineValue) (a : AnalysisValue) (refusal : Refusal) (edits : List Edit) (text : List ℕ) (was : Bool) (s : Batching)
-    → IsOver ws kept edits a → IsRenaming a q.path q.line q.column q.name false (Err refusal) → IsReady ws kept s
+    → IsOver ws kept edits a → IsRenaming a q.path q.line q.column q.name q.strings (Err refusal) → IsReady ws kept s
     → s.text.items ≡ text ++ plan_text (Err refusal) → s.refused ≡ true → s.edits ≡ edits
     → Steps ws kept q (Err refusal) text was edits s
 refused_steps ws kept q a refusal edits text was s over renaming ready text_is refused_is edits_are = record {

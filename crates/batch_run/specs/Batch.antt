@@ -26,7 +26,7 @@ after_each (plan ∷ plans) edits = after_each plans (after plan edits)
 
 -- A line over these files: their workspace is accepted, and the line is answered as the renaming that it asks for.
 abbrev pub IsLine : WorkspaceValue → FileMap → LineValue → Plan → Type 0
-IsLine ws files q plan = (a : AnalysisValue) × (analysis_of (source_of files) ws ≡ Ok a) × IsRenaming a q.path q.line q.column q.name false plan
+IsLine ws files q plan = (a : AnalysisValue) × (analysis_of (source_of files) ws ≡ Ok a) × IsRenaming a q.path q.line q.column q.name q.strings plan
 
 -- The lines of a batch in order, and the answer to each, where files have the edits of the lines before. The workspace
 -- stays that of the beginning.

@@ -36,7 +36,7 @@ pub record IsRenamed (ws : WorkspaceValue) (q : LineValue) (before now : FileMap
   -- these are all that must be spelled as it is
   pub class : AreMembers r.analysis r.part r.members
   -- no reason stands against the renaming
-  pub clear : IsFirst r.analysis.table (offences_of r.analysis r.members q.name false) None
+  pub clear : IsFirst r.analysis.table (offences_of r.analysis r.members q.name q.strings) None
   -- each file that holds members had the bytes that were read, and has them with its members respelled: no other byte changed
   pub edited : (run : List Part) (f : KeptValue) → HoldsMembers r.analysis r.members run f
       → (bytes_at f.path before ≡ Some f.bytes) × (bytes_at f.path now ≡ Some (new_bytes q.name run f))

@@ -104,7 +104,7 @@ fn answer_line(
         line.line(),
         line.column(),
         line.name(),
-        false,
+        line.strings(),
     ) {
         Ok(new) => {
             // Each path of the analysis has one number, and its classes are those of its links.

@@ -14,7 +14,7 @@ use Rattle.command_words.specs.Request.{RenameValue, rename, TemplateValue, temp
 
 -- a rename in words, its path in its normal form
 abbrev pub rename_value : Rename → RenameValue
-rename_value r = rename r.ws.now (normal_path_of r.path.now) r.line r.column r.name.now
+rename_value r = rename r.ws.now (normal_path_of r.path.now) r.line r.column r.name.now r.strings
 
 -- a new order of parameters in words, its path in its normal form
 abbrev pub template_value : Reordering → TemplateValue

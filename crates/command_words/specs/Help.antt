@@ -10,9 +10,10 @@ unfoldable pub help_text : List ℕ
 help_text =
     codes "cscout renames identifiers in C programs, and preprocesses their units.\n"
     ++ codes "\n"
-    ++ codes "cscout WS rename PATH LINE COL NAME\n"
+    ++ codes "cscout WS rename PATH LINE COL NAME [strings]\n"
     ++ codes "    renames the name at line LINE and column COL of the file PATH, in all files of the\n"
     ++ codes "    workspace file WS, to NAME. Prints `edited PATH COUNT` for each file that changes.\n"
+    ++ codes "    With the word strings, strings that a macro makes of the name by # change with it.\n"
     ++ codes "cscout WS template PATH LINE COL ORDER\n"
     ++ codes "    puts the parameters of the function at that place into another order, in all its declarators,\n"
     ++ codes "    and the arguments of its calls. ORDER is numbers joined by commas: place k takes the item of\n"

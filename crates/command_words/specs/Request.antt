@@ -1,21 +1,22 @@
 -- What the words after the program's name ask for.
-use Rattle.std.specs.Prelude.{ℕ, ◌+◌, ◌-◌, ◌*◌, Bool, false, ◌&&◌, ◌==◌, not, List, [], ◌∷◌, Option, None, Some, codes, fold, length, map, bytes_eq, nat_le, nat_lt, if◌then◌else◌}
+use Rattle.std.specs.Prelude.{ℕ, ◌+◌, ◌-◌, ◌*◌, Bool, true, false, ◌&&◌, ◌==◌, not, List, [], ◌∷◌, Option, None, Some, codes, fold, length, map, bytes_eq, nat_le, nat_lt, if◌then◌else◌}
 use Rattle.std.specs.Char.{is_ascii_digit}
 use Rattle.std.specs.List.{list_all, slice_split}
 use Rattle.std.specs.Str.{byte}
 use Rattle.cs_base.specs.Paths.{normal_path_of}
 
--- A rename: the workspace file, the place, and the new name.
+-- A rename: the workspace file, the place, the new name, and whether strings that `#` makes may follow the renaming.
 pub record RenameValue : Type 0 where
   pub ws : List ℕ
   pub path : List ℕ
   pub line : ℕ
   pub column : ℕ
   pub name : List ℕ
+  pub strings : Bool
 
 -- a rename of these parts
-abbrev pub rename : List ℕ → List ℕ → ℕ → ℕ → List ℕ → RenameValue
-rename ws path line column name = record { ws = ws; path = path; line = line; column = column; name = name }
+abbrev pub rename : List ℕ → List ℕ → ℕ → ℕ → List ℕ → Bool → RenameValue
+rename ws path line column name strings = record { ws = ws; path = path; line = line; column = column; name = name; strings = strings }
 
 -- A report on the tokens of a unit: the workspace file, and the number of the unit.
 pub record TokensValue : Type 0 where
@@ -111,10 +112,10 @@ abbrev pub order_of : List ℕ → List ℕ
 order_of word = map number_or_zero (slice_split (λ b. b == byte ",") word)
 
 -- a rename's words: its two numbers are numbers, and the path is taken in its normal form
-abbrev pub rename_of : List ℕ → List ℕ → List ℕ → List ℕ → List ℕ → Option RequestValue
-rename_of ws path line column name =
+abbrev pub rename_of : List ℕ → List ℕ → List ℕ → List ℕ → List ℕ → Bool → Option RequestValue
+rename_of ws path line column name strings =
     if is_number line && is_number column
-    then Some (renaming_asked (rename ws (normal_path_of path) (number_of line) (number_of column) name))
+    then Some (renaming_asked (rename ws (normal_path_of path) (number_of line) (number_of column) name strings))
     else None
 
 -- the words of a new order of parameters: as those of a rename, and an order
@@ -175,8 +176,13 @@ place_command_of ws command path line column =
 -- six words: the workspace file and a command
 abbrev pub command_of : List ℕ → List ℕ → List ℕ → List ℕ → List ℕ → List ℕ → Option RequestValue
 command_of ws command path line column name =
-    if bytes_eq command (codes "rename") then rename_of ws path line column name
+    if bytes_eq command (codes "rename") then rename_of ws path line column name false
     else (if bytes_eq command (codes "template") then template_of ws path line column name else None)
+
+-- seven words: those of a rename, and the word `strings`
+abbrev pub strings_command_of : List ℕ → List ℕ → List ℕ → List ℕ → List ℕ → List ℕ → List ℕ → Option RequestValue
+strings_command_of ws command path line column name word =
+    if bytes_eq command (codes "rename") && bytes_eq word (codes "strings") then rename_of ws path line column name true else None
 
 -- the request of these words, or none where they are of no form
 abbrev pub asked : List (List ℕ) → Option RequestValue
@@ -186,4 +192,6 @@ asked (ws ∷ command ∷ unit ∷ []) = unit_command_of ws command unit
 asked (ws ∷ command ∷ path ∷ line ∷ column ∷ []) = place_command_of ws command path line column
 asked (ws ∷ command ∷ path ∷ line ∷ column ∷ name ∷ []) =
     command_of ws command path line column name
+asked (ws ∷ command ∷ path ∷ line ∷ column ∷ name ∷ word ∷ []) =
+    strings_command_of ws command path line column name word
 asked words = None

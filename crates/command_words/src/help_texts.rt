@@ -4,9 +4,10 @@ ghost use Rattle.command_words.specs.Help.{help_text, version_text};
 
 const HELP: &[u8] = b"cscout renames identifiers in C programs, and preprocesses their units.
 
-cscout WS rename PATH LINE COL NAME
+cscout WS rename PATH LINE COL NAME [strings]
     renames the name at line LINE and column COL of the file PATH, in all files of the
     workspace file WS, to NAME. Prints `edited PATH COUNT` for each file that changes.
+    With the word strings, strings that a macro makes of the name by # change with it.
 cscout WS template PATH LINE COL ORDER
     puts the parameters of the function at that place into another order, in all its declarators,
     and the arguments of its calls. ORDER is numbers joined by commas: place k takes the item of

@@ -1,10 +1,10 @@
 // What the words after the program's name ask for.
 ghost use Rattle.std.specs.Prelude.{◌≡◌, ◌≤◌, length, map, string_bytes, IsTrue};
 ghost use Rattle.std.specs.Option.{option_map};
-ghost use Rattle.command_words.specs.Request.{asked, alone_of, workspace_command_of, unit_command_of, query_command_of, place_command_of, class_report_of, command_of, rename_of, template_of, generated_of, is_number, is_size, are_digits, begins_with_zero, number_of};
+ghost use Rattle.command_words.specs.Request.{asked, alone_of, workspace_command_of, unit_command_of, query_command_of, place_command_of, class_report_of, command_of, strings_command_of, rename_of, template_of, generated_of, is_number, is_size, are_digits, begins_with_zero, number_of};
 ghost use Rattle.command_words.specs.Asking.{request_value, workspace_file};
 
-/// A rename in words: the path is as written.
+/// A rename in words: the path is as written. `strings` says that strings which `#` makes may follow the renaming.
 #[derive(Drop)]
 pub struct Rename<'a> {
     pub ws: &'a str,
@@ -12,6 +12,7 @@ pub struct Rename<'a> {
     pub line: u32,
     pub column: u32,
     pub name: &'a str,
+    pub strings: bool,
 }
 
 /// A new order of parameters in words: the path and the order are as written.
@@ -95,16 +96,27 @@ pub fn asked(words: &[String]) -> Option<Request<'_>>
             words[4].as_str(),
         );
     }
-    if words.len() != 6 {
+    if words.len() == 6 {
+        return asked_command(
+            words[0].as_str(),
+            words[1].as_str(),
+            words[2].as_str(),
+            words[3].as_str(),
+            words[4].as_str(),
+            words[5].as_str(),
+        );
+    }
+    if words.len() != 7 {
         return None;
     }
-    asked_command(
+    asked_with_strings(
         words[0].as_str(),
         words[1].as_str(),
         words[2].as_str(),
         words[3].as_str(),
         words[4].as_str(),
         words[5].as_str(),
+        words[6].as_str(),
     )
 }
 
@@ -214,9 +226,28 @@ fn asked_command<'a>(
         ≡ command_of ws.now command.now path.now line.now column.now name.now }
 {
     if command == "rename" {
-        asked_rename(ws, path, line, column, name)
+        asked_rename(ws, path, line, column, name, false)
     } else if command == "template" {
         asked_template(ws, path, line, column, name)
+    } else {
+        None
+    }
+}
+
+fn asked_with_strings<'a>(
+    ws: &'a str,
+    command: &str,
+    path: &'a str,
+    line: &str,
+    column: &str,
+    name: &'a str,
+    word: &str,
+) -> Option<Request<'a>>
+    ensures { option_map request_value result
+        ≡ strings_command_of ws.now command.now path.now line.now column.now name.now word.now }
+{
+    if command == "rename" && word == "strings" {
+        asked_rename(ws, path, line, column, name, true)
     } else {
         None
     }
@@ -251,9 +282,10 @@ fn asked_rename<'a>(
     line: &str,
     column: &str,
     name: &'a str,
+    strings: bool,
 ) -> Option<Request<'a>>
     ensures { option_map request_value result
-        ≡ rename_of ws.now path.now line.now column.now name.now }
+        ≡ rename_of ws.now path.now line.now column.now name.now strings }
 {
     if is_number(line.as_bytes()) && is_number(column.as_bytes()) {
         Some(Request::Renaming(Rename {
@@ -262,6 +294,7 @@ fn asked_rename<'a>(
             line: number(line.as_bytes()),
             column: number(column.as_bytes()),
             name,
+            strings,
         }))
     } else {
         None

@@ -28,8 +28,8 @@ line-alike : (ws : WorkspaceValue) (files : FileMap) (q : LineValue) (plan plan'
     → ArePlansAlike plan plan'
 line-alike ws files q plan plan' p p' =
     let same : p'.0 ≡ p.0 = one_analysis p.0 p'.0 (sym p.1 ∙ p'.1) in
-    renamings_alike p.0 q.path q.line q.column q.name plan plan' p.2
-    (subst (λ (a : AnalysisValue). IsRenaming a q.path q.line q.column q.name false plan') same p'.2)
+    renamings_alike p.0 q.path q.line q.column q.name q.strings plan plan' p.2
+    (subst (λ (a : AnalysisValue). IsRenaming a q.path q.line q.column q.name q.strings plan') same p'.2)
 
 after-alike : (plan plan' : Plan) (edits : List Edit) → ArePlansAlike plan plan' → after plan' edits ≡ after plan edits
 after-alike (Ok new) (Ok new') edits alike = ap (λ (es : List Edit). after (Ok es) edits) (sym alike)

@@ -18,7 +18,7 @@ use Rattle.cscout_run.specs.declared.stops.Stop.{Stop}
 -- what is planned over the files that are told
 planned_over : (fs : FileMap) (q : RenameValue) (w : WorkspaceValue) (a : AnalysisValue) (result : Result Ready Stop)
     → IsWorkspace w → ReadsWorkspace q.ws fs (Ok w) → analysis_of (source_of fs) w ≡ Ok a → (t : classes.Table) → AreItsClasses a t → HasEachOnce a.table
-    → IfOk result (λ ready. IsRenaming a q.path q.line q.column q.name false (Ok ready.edits)) → IfOk result (λ ready. IsKept ready.edits)
+    → IfOk result (λ ready. IsRenaming a q.path q.line q.column q.name q.strings (Ok ready.edits)) → IfOk result (λ ready. IsKept ready.edits)
     → IsPlanned q fs result
 planned_over fs q w a (Ok ready) is_ws read analysed t own once renaming sound = record {
   ws = w;
@@ -38,7 +38,7 @@ planned_over fs q w a (Err stop) is_ws read analysed t own once renaming sound =
 pub planned_told : (o o' : Option FileMap) (q : RenameValue) (w : WorkspaceValue) (a : AnalysisValue) (result : Result Ready Stop)
     → IsWorkspace w → o' ≡ o → IfSome o (λ fs. ReadsWorkspace q.ws fs (Ok w)) → IfSome o' (λ fs. analysis_of (source_of fs) w ≡ Ok a)
     → (t : classes.Table) → AreItsClasses a t → HasEachOnce a.table
-    → IfOk result (λ ready. IsRenaming a q.path q.line q.column q.name false (Ok ready.edits)) → IfOk result (λ ready. IsKept ready.edits)
+    → IfOk result (λ ready. IsRenaming a q.path q.line q.column q.name q.strings (Ok ready.edits)) → IfOk result (λ ready. IsKept ready.edits)
     → IfSome o (λ fs. IsPlanned q fs result)
 planned_told None o' q w a result is_ws same read analysed t own once renaming sound = tt
 planned_told (Some fs) o' q w a result is_ws same read analysed t own once renaming sound =

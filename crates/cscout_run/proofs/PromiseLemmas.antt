@@ -28,7 +28,7 @@ use Rattle.cscout_run.proofs.RunLemmas.{if_told, if_told-map}
 -- a rename
 kept : (q : RenameValue) (before : FileMap) (edits : List Edit) → Planned q before edits → (r : Renamed) × IsRenamed q before (with_edits edits before) r
 kept q before edits p =
-    let line : LineValue = line_value q.path q.line q.column q.name in
+    let line : LineValue = line_value q.path q.line q.column q.name q.strings in
     let planned : IsPlanned p.ws p.analysis = record { workspace = p.is; classes = p.classes; own = p.own; once = p.once } in
     let kept' = rename_is_kept p.ws line p.analysis edits planned p.renaming p.sound before p.analysed in
     let is = kept'.1 in

@@ -146,7 +146,7 @@ planned-alike (Err r) (Ok fs) a b alike is is' = absurd alike
 rename-alike : (q : RenameValue) (analysed : Result AnalysisValue UnitFault) (a b : Answer) → IsRenameAnswer q analysed a
     → IsRenameAnswer q analysed b → AreAlike a b
 rename-alike q (Ok value) a b p p' =
-    planned-alike p.0 p'.0 a b (renamings_alike value q.path q.line q.column q.name p.0 p'.0 p.1 p'.1) p.2 p'.2
+    planned-alike p.0 p'.0 a b (renamings_alike value q.path q.line q.column q.name q.strings p.0 p'.0 p.1 p'.1) p.2 p'.2
 rename-alike q (Err fault) a b p p' = same-answer _ a b p p'
 
 ordered-alike : (r s : Result (List Edit) TemplateRefused) (a b : Answer) → AreOrdersAlike r s → template_answer r ≡ a → template_answer s ≡ b → AreAlike a b
@@ -185,7 +185,7 @@ sizes-alike n value (Err r) (Ok fs) a b alike is is' = absurd alike
 
 size-alike : (n : ℕ) (analysed : Result AnalysisValue UnitFault) (a b : Answer) → IsSizeAnswer n analysed a → IsSizeAnswer n analysed b → AreAlike a b
 size-alike n (Ok value) a b p p' =
-    sizes-alike n value p.0 p'.0 a b (renamings_alike value header_path 1 12 (codes "sum") p.0 p'.0 p.1 p'.1) p.2 p'.2
+    sizes-alike n value p.0 p'.0 a b (renamings_alike value header_path 1 12 (codes "sum") false p.0 p'.0 p.1 p'.1) p.2 p'.2
 size-alike n (Err fault) a b p p' = same-answer _ a b p p'
 
 request-alike : (files : FileMap) (request : Option RequestValue) (a b : Answer) → IsAnswerTo files request a → IsAnswerTo files request b

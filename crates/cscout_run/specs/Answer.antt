@@ -169,7 +169,7 @@ IsFindAnswer q (Err fault) a = stopped Workspace (text_fault_line fault) ≡ a
 -- The same for a renaming of the class that a place names: the answer is that of what is planned.
 abbrev pub IsRenameAnswer : RenameValue → Result AnalysisValue units.UnitFault → Answer → Type 0
 IsRenameAnswer q (Ok value) a =
-    (planned : Result (List Edit) Refusal) × IsRenaming value q.path q.line q.column q.name false planned × (renaming_answer planned ≡ a)
+    (planned : Result (List Edit) Refusal) × IsRenaming value q.path q.line q.column q.name q.strings planned × (renaming_answer planned ≡ a)
 IsRenameAnswer q (Err fault) a = stopped Workspace (text_fault_line fault) ≡ a
 
 -- ---- `batch`

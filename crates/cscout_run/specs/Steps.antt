@@ -100,7 +100,7 @@ pub record Planned (q : RenameValue) (files : FileMap) (edits : List Edit) : Typ
   pub classes : classes.Table
   pub own : AreItsClasses analysis classes
   pub once : HasEachOnce analysis.table
-  pub renaming : IsRenaming analysis q.path q.line q.column q.name false (Ok edits)
+  pub renaming : IsRenaming analysis q.path q.line q.column q.name q.strings (Ok edits)
   pub sound : IsKept edits
 
 -- what stands ready for a rename is planned

@@ -97,7 +97,8 @@ fn prepare_rename<F: Files>(
 fn planned(alloc: Global, a: &Analysis, rename: &Rename<'_>) -> Result<Ready, Stop>
     ensures answer { Prepares rename.now.ws.now (IsRenameAnswer (rename_value rename.now) (Ok a.now.value)) result }
     ensures renaming { IfOk result (λ ready.
-        IsRenaming a.now.value (rename_value rename.now).path rename.now.line rename.now.column rename.now.name.now false (Ok ready.edits)) }
+        IsRenaming a.now.value (rename_value rename.now).path rename.now.line rename.now.column rename.now.name.now rename.now.strings
+        (Ok ready.edits)) }
     ensures sound { IfOk result (λ ready. IsKept ready.edits) }
     ensures stops { IfErr result IsPlanStop }
 {
@@ -109,7 +110,7 @@ fn planned(alloc: Global, a: &Analysis, rename: &Rename<'_>) -> Result<Ready, St
         rename.line,
         rename.column,
         rename.name.as_bytes(),
-        false,
+        rename.strings,
     ) {
         Ok(edits) => {
             let text = edited_text(alloc, &edits)?;
