@@ -24,7 +24,10 @@ const SHARED: &str =
 
 const PASTED: &str = "a.c:#define F(x) x##_f\nint a_f;\nint b = F(a);\n@b.c:";
 
-const ROWS: [Row; 9] = [
+const SHOWN: &str =
+    "a.c:#define S(v) put(#v, v)\nint put(char *s, int n);\nint c;\nint r(void) { return S(c); }\n@b.c:";
+
+const ROWS: [Row; 10] = [
     Row {
         files: THREE,
         lines: "rename a.c 1 5 alpha\nrename a.c 1 16 beta\nrename a.c 1 26 delta\n",
@@ -62,6 +65,13 @@ const ROWS: [Row; 9] = [
         lines: "rename a.c 1 5 x\nrename a.c 1 12 a\nrename a.c 1 5 b\n",
         told: "edited a.c 1\nedited a.c 1\nedited a.c 1\n",
         put: "a.c:int b; int a; int d;@",
+    },
+    // A name that a macro makes a string of.
+    Row {
+        files: SHOWN,
+        lines: "rename a.c 3 5 d\nrename a.c 3 5 d strings\n",
+        told: "cscout: refused: a.c:4:24: stringized\nedited a.c 2\nrefused",
+        put: "a.c:#define S(v) put(#v, v)\nint put(char *s, int n);\nint d;\nint r(void) { return S(d); }\n@",
     },
     // Each file is put once, in order of path, as the last line leaves it.
     Row {

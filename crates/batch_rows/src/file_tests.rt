@@ -3,13 +3,13 @@ use batch_file::{BatchLine, BatchRefusal, read_batch};
 use std::alloc::{AllocError, Global};
 use std::test::Fail;
 
-// A batch file, and its lines, each as `PATH:LINE:COL NAME;`, or the number of the bad one.
+// A batch file, and its lines, each as `PATH:LINE:COL NAME;`, with ` strings` where strings may change, or the number of the bad one.
 struct Row {
     file: &'static [u8],
     says: &'static str,
 }
 
-const ROWS: [Row; 19] = [
+const ROWS: [Row; 23] = [
     Row {
         file: b"",
         says: "",
@@ -67,7 +67,23 @@ const ROWS: [Row; 19] = [
         says: "bad 1",
     },
     Row {
-        file: b"rename a.c 1 5 x strings\n",
+        file: b"rename a.c 1 5 x strings\r\nrename a.c 1 5 strings\n",
+        says: "a.c:1:5 x strings;a.c:1:5 strings;",
+    },
+    Row {
+        file: b"rename a.c 1 5 x string\n",
+        says: "bad 1",
+    },
+    Row {
+        file: b"rename a.c 1 5 x strings\r",
+        says: "bad 1",
+    },
+    Row {
+        file: b"rename a.c 1 5  strings\n",
+        says: "bad 1",
+    },
+    Row {
+        file: b"rename a.c 1 5 x strings strings\n",
         says: "bad 1",
     },
     Row {
@@ -93,6 +109,9 @@ fn add_line(text: &mut Vec<u8>, alloc: Global, line: &BatchLine) -> Result<(), A
     let place = format!(in alloc; "{}:{}:{} ", line.path(), line.line(), line.column())?;
     text.extend_from_slice(place.as_bytes())?;
     text.extend_from_slice(line.name())?;
+    if line.strings() {
+        text.extend_from_slice(b" strings")?;
+    }
     text.push(b';')?;
     Ok(())
 }

@@ -41,7 +41,7 @@ use Rattle.rename_rules.specs.Offences.{header_places}
 use Rattle.rename_rules.specs.Tokens.{holders, holds_member, pasted_tokens, starts_in}
 use Rattle.rename_rules.proofs.Below.part_lexer.FitLemmas.{identifier-words}
 use Rattle.no_offence_laws.specs.Allowed.{IsAllowed}
-use Rattle.no_offence_laws.specs.MadeTokens.{IsOutcome, IsMadeAnew, TokensAreMadeAnew, HeadersStay}
+use Rattle.no_offence_laws.specs.MadeTokens.{IsOutcome, IsMadeAnew, TokensAreMadeAnew, StringsAreOfRenamedTokens, HeadersStay}
 use Rattle.no_offence_laws.specs.Renamings.{renaming}
 use Rattle.no_offence_laws.proofs.ListLemmas.{In, all_at, flat_nil, in_flat}
 use Rattle.no_offence_laws.proofs.LinkLemmas.{IsWhole, pasted_whole, whole_chained}
@@ -336,13 +336,37 @@ module _ (a : Analysed) (members : List Part) (name : List ℕ) (h : IsAllowed a
       let P : UnitTextValue → Type 0 = λ v. In z v.pasted in
       pasted_anew x y z (subst P o.text there) so.0 so.1 so.2 so.3
 
+module _ (a : Analysed) (members : List Part) (name : List ℕ) (h : IsAllowed a members name) (u : UnitAnalysis) (d : Did (List Token))
+    (i : In u a.value.units) (o : IsOutcome a.value u d) (run : Bool) (before : ℕ) where
+  -- what is noted is made of tokens in which members stand whole
+  happened_built : (note : expansion.Note) → In (Happened run before note) d.notes → HappenedSo (IsBuilt members) note
+  happened_built note j =
+      let each = each_in (IsInList d.notes) d.notes (λ n k at. (k, at)) in
+      let whole = rules_built a members name h u i d.notes d.value d.state.table o.text o.grown in
+      let built = unit_has (IsBuilt members) (IsInList d.notes) o.source o.number o.unit o.before d o.outcome whole each in
+      in_at (NotedSo (IsBuilt members)) d.notes built.1 (Happened run before note) j.0 j.1
+
+  happened_anew : (note : expansion.Note) → In (Happened run before note) d.notes → IsMadeAnew (renaming a.value members name u.text) note
+  happened_anew note j =
+      let each = each_in (IsInList d.notes) d.notes (λ n k at. (k, at)) in
+      let rules = rules_traced a.value u.text d.notes d.value d.state.table o.text o.grown (λ t k. brought_in a.value u i t k) in
+      let has = unit_has (Traced a.value) (IsInList d.notes) o.source o.number o.unit o.before d o.outcome rules each in
+      let so : NotedSo (Traced a.value) (Happened run before note) = in_at (NotedSo (Traced a.value)) d.notes has.1 (Happened run before note) j.0 j.1 in
+      note_anew a members name h u i d o run before note j so (happened_built note j)
+
+  string_of_renamed : (toks : List Token) (s : Token) → In (Happened run before (expansion.Stringized toks s)) d.notes
+      → spelled members name s ≡ string_text (map (renamed (renaming a.value members name u.text)) toks)
+  string_of_renamed toks s j =
+      let q : Renaming = renaming a.value members name u.text in
+      let new : List Token = map (renamed q) toks in
+      let built = happened_built (expansion.Stringized toks s) j in
+      let each : length s.origins ≡ length s.text =
+      subst (λ (t : Token). length t.origins ≡ length t.text) (sym (string_is toks s built.1)) (string_long toks (each_built members toks built.0)) in
+      let is : renamed q s ≡ string_token (string_text new) (string_origins new) = string_is new (renamed q s) (happened_anew (expansion.Stringized toks s) j) in
+      sym (spell-same members name s.origins s.text each) ∙ ap (λ (t : Token). t.text) is
+
 pub tokens_are_made_anew : TokensAreMadeAnew
-tokens_are_made_anew = λ a members name h u d i o run before note j.
-    let each = each_in (IsInList d.notes) d.notes (λ n k at. (k, at)) in
-    let rules = rules_traced a.value u.text d.notes d.value d.state.table o.text o.grown (λ t k. brought_in a.value u i t k) in
-    let has = unit_has (Traced a.value) (IsInList d.notes) o.source o.number o.unit o.before d o.outcome rules each in
-    let so : NotedSo (Traced a.value) (Happened run before note) = in_at (NotedSo (Traced a.value)) d.notes has.1 (Happened run before note) j.0 j.1 in
-    let whole = rules_built a members name h u i d.notes d.value d.state.table o.text o.grown in
-    let built = unit_has (IsBuilt members) (IsInList d.notes) o.source o.number o.unit o.before d o.outcome whole each in
-    let stands : NotedSo (IsBuilt members) (Happened run before note) = in_at (NotedSo (IsBuilt members)) d.notes built.1 (Happened run before note) j.0 j.1 in
-    note_anew a members name h u i d o run before note j so stands
+tokens_are_made_anew = λ a members name h u d i o run before note j. happened_anew a members name h u d i o run before note j
+
+pub strings_are_made_of_renamed_tokens : StringsAreOfRenamedTokens
+strings_are_made_of_renamed_tokens = λ a members name h u d i o run before toks s j. string_of_renamed a members name h u d i o run before toks s j

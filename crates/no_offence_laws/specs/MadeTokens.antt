@@ -6,7 +6,7 @@ use Rattle.rename_rules.specs.Below.cs_base.Token.{Token}
 use Rattle.rename_rules.specs.Below.cs_base.Units.{UnitValue}
 use Rattle.rename_rules.specs.Below.part_lexer.FileText.{file_text}
 use Rattle.rename_rules.specs.Below.paste_origin.Pasting.{glue_of}
-use Rattle.rename_rules.specs.Below.paste_origin.Strings.{stringize_of}
+use Rattle.rename_rules.specs.Below.paste_origin.Strings.{string_text, stringize_of}
 use Rattle.rename_rules.specs.Below.macro_body.Notes as expansion
 use Rattle.rename_rules.specs.Below.macro_expand.Renaming.{Renaming, renamed, labelled_as}
 use Rattle.rename_rules.specs.Below.source_files.Files.{Source, Carried}
@@ -45,6 +45,14 @@ TokensAreMadeAnew = (a : Analysed) (members : List Part) (name : List ℕ) → I
     → (u : UnitAnalysis) (d : Did (List Token)) → IsIn a.value.units u → IsOutcome a.value u d
     → (run : Bool) (before : ℕ) (note : expansion.Note) → IsIn d.notes (Happened run before note)
     → IsMadeAnew (renaming a.value members name u.text) note
+
+-- The law: where `#` made a string of tokens, the new spelling of the string is the text that it makes of the renamed tokens (6.10.3.2
+-- paragraph 2).
+abbrev pub StringsAreOfRenamedTokens : Type 0
+StringsAreOfRenamedTokens = (a : Analysed) (members : List Part) (name : List ℕ) → IsAllowed a members name
+    → (u : UnitAnalysis) (d : Did (List Token)) → IsIn a.value.units u → IsOutcome a.value u d
+    → (run : Bool) (before : ℕ) (toks : List Token) (s : Token) → IsIn d.notes (Happened run before (expansion.Stringized toks s))
+    → spelled members name s ≡ string_text (map (renamed (renaming a.value members name u.text)) toks)
 
 -- The law: the tokens of include lines that were expanded stay.
 abbrev pub HeadersStay : Type 0

@@ -21,6 +21,6 @@ mod premises;
 pub use keeping::{lines_stay_alike_where_named, told_names_are_kept, units_occur};
 pub use premises::{
     edited_files_are_renamed, files_keep_pieces, lines_are_kept, linked_stay_alike,
-    occurring_are_kept, others_stay_apart, tokens_are_kept, tokens_are_made_anew,
-    unedited_text_stays, words_are_free_where_named,
+    occurring_are_kept, others_stay_apart, strings_are_made_of_renamed_tokens, tokens_are_kept,
+    tokens_are_made_anew, unedited_text_stays, words_are_free_where_named,
 };

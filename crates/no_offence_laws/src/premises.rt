@@ -2,7 +2,7 @@
 ghost use Rattle.no_offence_laws.specs.KeptFiles.{FilesKeepPieces};
 ghost use Rattle.no_offence_laws.specs.KeptLines.{LinesAreKept};
 ghost use Rattle.no_offence_laws.specs.KeptTokens.{PastedTokensAreKept, TokensAreKept};
-ghost use Rattle.no_offence_laws.specs.MadeTokens.{HeadersStay, TokensAreMadeAnew};
+ghost use Rattle.no_offence_laws.specs.MadeTokens.{HeadersStay, StringsAreOfRenamedTokens, TokensAreMadeAnew};
 ghost use Rattle.no_offence_laws.specs.NamedClasses.{WordsAreFreeWhereNamed};
 ghost use Rattle.no_offence_laws.specs.Occurring.{FileTokensOccur, OccurringAreKept, PastedTokensOccur};
 ghost use Rattle.no_offence_laws.specs.Renamings.{EditedFilesAreRenamed, RenamingsKeepUnedited, RenamingsSpell};
@@ -73,4 +73,10 @@ pub fn unedited_text_stays()
 pub fn tokens_are_made_anew()
     ensures stay { HeadersStay }
     ensures made { TokensAreMadeAnew }
+{}
+
+/// A string that `#` made of tokens of a unit (6.10.3.2) has as its new spelling the text of the string that it makes of these
+/// tokens, renamed.
+pub fn strings_are_made_of_renamed_tokens()
+    ensures { StringsAreOfRenamedTokens }
 {}

@@ -26,6 +26,13 @@ pub const TWO_FILES: &str =
 const TWO_RENAMED: &str =
     "w.cs:file a.c\nfile b.c\n@a.c:int count;\nint y = count;\n@b.c:extern int count;\n";
 
+// A name that a macro makes a string of.
+const SHOWN: &str =
+    "w.cs:file a.c\n@a.c:#define SHOW(v) put(#v, v)\nint put(char *s, int n);\nint count;\nint r(void) { return SHOW(count); }\n";
+
+const SHOWN_RENAMED: &str =
+    "w.cs:file a.c\n@a.c:#define SHOW(v) put(#v, v)\nint put(char *s, int n);\nint total;\nint r(void) { return SHOW(total); }\n";
+
 // A class in a header, a macro's list and a unit.
 const HEADER: &str =
     "w.cs:ipath i\nfile a.c\n@i/h.h:#define G t\nextern int t;\n@a.c:#include \"h.h\"\nint t;\nint f(void) { return G; }\n";
@@ -36,13 +43,30 @@ const HEADER_STARTED: &str =
 const HEADER_RENAMED: &str =
     "w.cs:ipath i\nfile a.c\n@i/h.h:#define G sum\nextern int sum;\n@a.c:#include \"h.h\"\nint sum;\nint f(void) { return G; }\n";
 
-pub const ROWS: [Row; 44] = [
+pub const ROWS: [Row; 47] = [
     // The names of two files are one class.
     Row {
         files: TWO_FILES,
         words: "w.cs rename a.c 1 5 count",
         after: TWO_RENAMED,
         out: "edited a.c 2\nedited b.c 1\n",
+        err: "",
+        status: Status::Done,
+    },
+    // A macro makes a string of the name: without the word the rename is refused.
+    Row {
+        files: SHOWN,
+        words: "w.cs rename a.c 3 5 total",
+        after: SHOWN,
+        out: "",
+        err: "cscout: refused: a.c:4:27: stringized\n",
+        status: Status::Refused,
+    },
+    Row {
+        files: SHOWN,
+        words: "w.cs rename a.c 3 5 total strings",
+        after: SHOWN_RENAMED,
+        out: "edited a.c 2\n",
         err: "",
         status: Status::Done,
     },
@@ -320,6 +344,15 @@ pub const ROWS: [Row; 44] = [
     Row {
         files: TWO_FILES,
         words: "w.cs rename a.c 1 5 z z",
+        after: TWO_FILES,
+        out: "",
+        err: "cscout: bad command line\n",
+        status: Status::Usage,
+    },
+    // Seven words of another command.
+    Row {
+        files: TWO_FILES,
+        words: "w.cs template a.c 1 5 z strings",
         after: TWO_FILES,
         out: "",
         err: "cscout: bad command line\n",
