@@ -21,9 +21,12 @@ from cscout_ref.workspace import read_workspace
 from held import Copy, Tokens, outcome_of, told
 
 
-def kinds_of(analysis):
-    """The positions of nameable tokens by what the tokens are."""
+def kinds_of(analysis, strings):
+    """The positions of nameable tokens by what the tokens are; with `strings` those that macros make strings of are a kind."""
     kinds = {}
+    if strings:
+        kinds["shown"] = {tok.origins[0] for unit in analysis.units for tok in unit.text.stringized
+                          if tok.kind == "Ident" and tok.origins[0] in analysis.nameable}
     for unit in analysis.units:
         for event in unit.text.events:
             if event.name is not None and event.kind in ("Defined", "Replaced", "Tested", "Left"):
@@ -46,10 +49,10 @@ def kinds_of(analysis):
     return {kind: sorted(p for p in found if p is not None and p.file != 0) for kind, found in sorted(kinds.items())}
 
 
-def chosen(analysis, rng, count):
+def chosen(analysis, rng, count, strings):
     """Places, in turn of each kind; seven of eight are in files that may be edited, where there are such."""
     pools = {}
-    for kind, found in kinds_of(analysis).items():
+    for kind, found in kinds_of(analysis, strings).items():
         rng.shuffle(found)
         ours = [pos for pos in found if not analysis.read_only(pos.file)]
         pools[kind] = ours, [pos for pos in found if analysis.read_only(pos.file)]
@@ -87,7 +90,7 @@ def expected_outcome(analysis, words):
     arguments = parse([os.fsencode(word) for word in words])[1]
     place = arguments[b"PATH"], arguments[b"LINE"], arguments[b"COL"]
     try:
-        edits = plan_rename(analysis, *place, arguments[b"NAME"], False)
+        edits = plan_rename(analysis, *place, arguments[b"NAME"], arguments[b"strings"])
     except Refusal as refusal:
         return (1, b"", b"cscout: refused: " + refusal.words + b"\n", {}), None
     out = b"".join(b"edited %s %d\n" % (edit.path, edit.count) for edit in edits)
@@ -98,8 +101,8 @@ def expected_outcome(analysis, words):
 class Compared:
     """One workspace, with copies for the workers."""
 
-    def __init__(self, program, name, seed, count, scratch):
-        self.program, self.name, self.seed, self.count = program, name, seed, count
+    def __init__(self, program, name, seed, count, strings, scratch):
+        self.program, self.name, self.seed, self.count, self.strings = program, name, seed, count, strings
         began = time.time()
         self.analysis = analyse(read_workspace(open(f"{name}/w.cs", "rb").read()), HostFiles())
         self.seconds = time.time() - began
@@ -110,12 +113,12 @@ class Compared:
         rng = random.Random(self.seed)
         spellings = sorted({tok.text for file in self.analysis.kept.values() for tok in file.text.toks
                             if tok.kind == "Ident"})
-        for kind, pos in chosen(self.analysis, rng, self.count):
+        for kind, pos in chosen(self.analysis, rng, self.count, self.strings):
             path, line, column = self.analysis.place(pos)
             part = self.analysis.part_named(path, line, column)
             name = new_name(self.analysis, rng, part.text if part else b"x", spellings)
             words = [f"{self.name}/w.cs", "rename", os.fsdecode(path), str(line), str(column), os.fsdecode(name)]
-            yield kind, words
+            yield kind, words + ["strings"] * self.strings
 
     def held(self, words, copy):
         """The outcome of the program over a copy that no other worker has."""
@@ -177,12 +180,13 @@ def tally(counts):
 def main():
     program, corpus = sys.argv[1:3]
     seed, count = map(int, sys.argv[3:5])
+    strings = sys.argv[5] == "strings"
     os.chdir(corpus)
     gc.disable()  # the model makes many small objects and few cycles
     counts = 0, 0, 0, 0
     with tempfile.TemporaryDirectory() as scratch:
-        for name in sys.argv[5:]:
-            now = Compared(program, name, seed, count, scratch).run()
+        for name in sys.argv[6:]:
+            now = Compared(program, name, seed, count, strings, scratch).run()
             if not now[0]:
                 print(f"{name}: no rename to hold")
                 return 1

@@ -151,7 +151,7 @@ def differing(number, new, wanted):
 def odd_pairs(number, old, new, renaming):
     """Where gcc's old tokens are not the model's: each differing pair must be a changed spelling of the class."""
     toks = [part.tok for part in renaming.members]
-    toks += [tok for unit in renaming.analysis.units for tok in unit.text.pasted if renaming.held(tok)]
+    toks += [tok for unit in renaming.analysis.units for tok in unit.text.pasted + unit.text.toks if renaming.held(tok)]
     pairs = {(tok.text, renaming.renamed(tok)) for tok in toks}
     if len(old) != len(new):
         return [f"unit {number}: gcc gives {len(new)} tokens, before {len(old)}"]

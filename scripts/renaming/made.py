@@ -5,10 +5,11 @@ F = ["fa", "fb", "fc"]
 
 
 class Maker:
-    """Makes the files of one workspace out of a random source."""
+    """Makes the files of one workspace out of a random source. With `strings` many macros make strings of names, wide ones and
+    strings of strings among them."""
 
-    def __init__(self, r):
-        self.r = r
+    def __init__(self, r, strings=False):
+        self.r, self.strings = r, strings
         self.has_members = False
 
     def files(self):
@@ -35,8 +36,27 @@ class Maker:
                 text = text[:k] + r.choice(["\\\n", "\\\r\n"]) + text[k:]
         return text
 
+    def shown(self, names, depth):
+        """A value in which a macro makes a string of names."""
+        r = self.r
+        k = r.random()
+        name = r.choice(names)
+        if k < .35:
+            return "SHOW(%s)" % self.value(names, depth + 1)
+        if k < .45:
+            return "ARGS(%s, %s)" % (name, self.value(names, depth + 1))
+        if k < .55:
+            return "PUT(g, %s)" % r.choice("abcd")
+        if k < .62:
+            return "SHOW(%s)" % r.choice(["'\\\"' + %s", "sizeof \"\\n%s\" + (%s)", "\"%s\"[0] + %s"]).replace("%s", name)
+        made = r.choice(["TWICE(%s)", "WIDE(%s)", "WIDE_(QUOTE(%s))", "NAME(%s, )", "QUOTE_(WIDE(%s))", "TWICE(NAME(, %s))", "QUOTE(%s) \"%s\"",
+                         "QUOTE_(QUOTE(%s) QUOTE(ID(%s)))", "QUOTE( %s  + /* %s */ %s )"]).replace("%s", name)
+        return "%s(%s, %s)" % (r.choice(["put", "put", "puts_"]), made, name)
+
     def value(self, names, depth=0):
         r = self.r
+        if self.strings and depth <= 2 and r.random() < .3:
+            return self.shown(names, depth)
         k = r.random()
         if depth > 2 or k < .3:
             return r.choice(names)
@@ -75,6 +95,11 @@ class Maker:
         out = ["#ifndef H_H", "#define H_H", "#define ID(x) x", "#define ADD(a, b) ((a) + (b))", "#define J(a, b) a##b", "#define JJ(a, b) J(a, b)",
                "#define G_(s) g##s", "#define MEM(p, m) (p)->m", "#define STR(s) " + r.choice(["#s", "# s", "#s #s"])]
         out += ["#define AB(s) s##k", "#define BA(s) k##s", "#define AA(s) s##s", "#define BOTH(s) s##k, k##s"]
+        if self.strings:
+            out += ["#define QUOTE(v) #v", "#define QUOTE_(v) QUOTE(v)", "#define SHOW(v) put(#v, v)", "#define TWICE(v) QUOTE_(QUOTE(v))",
+                    "#define WIDE(v) L ## #v", "#define WIDE_(v) L ## v", "#define NAME(a, b) QUOTE_(a ## b)", "#define ARGS(...) put(#__VA_ARGS__, ADD(__VA_ARGS__))",
+                    "#define PUT(a, b) put(NAME(a, b), a ## b)", "#define ROW(n) { #n, sizeof(n) },", "#define LIST(X) " + r.choice(["X(ga) X(gb)", "X(gc)", "X(fa) X(ga)"]),
+                    "int put(const void *s, int n);", "int puts_(const void *s, ...);"]
         out.append("#define OBJ " + r.choice(["ga", "(gb + 1)", "ID(gc)", "sv.ma", "__LINE__", "J(g, b)"]))
         out.append("struct sa { int ma; int mb; };")
         out += ["extern int %s;" % name for name in G + ["x_1"]]
@@ -149,12 +174,17 @@ class Maker:
         r = self.r
         out = [r.choice(['#include "h.h"', '#include "h.h"', '#define INC "h.h"\n#include INC',
                          "#define hh h\n#include <h.h>", "#define H h\n#define B <\n#include B H.h>", "#define H h\n#define I(x) <x.h>\n#include I(H)"])]
+        if self.strings and r.random() < .25:
+            out.append(r.choice(["#define HN(x) #x\n#include HN(d/k.h)", "#define HN(x) HM(x)\n#define HM(x) #x\n#define ga h\n#include HN(ga.h)\n#undef ga",
+                                 "void *wide_%s = L\"%s\";" % (which, r.choice(NAMES)), "char *plain_%s = \"%s\";" % (which, r.choice(NAMES))]))
         if r.random() < .3:
             out.append(r.choice(['#include "h.h"', '#include "d/k.h"', "#include <k.h>"]))
         out.append("static struct sa sv, *sp = &sv;")
         for name in G:
             if r.random() < .5:
                 out.append("int %s%s;" % (name, r.choice(["", " = 1"])))
+        if self.strings and r.random() < .4:
+            out.append("static struct { char *name; int size; } list_%s[] = { LIST(ROW) ROW(%s) };" % (which, r.choice(["struct sa", "ta", "gd"])))
         if r.random() < .3:
             out.append("#ifdef %s\nint extra = ga;\n#else\nint other;\n#endif" % r.choice(["FLAG", "OBJ", "NONE"]))
         if r.random() < .3:

@@ -9,7 +9,7 @@ from cscout_ref.reader import with_deep_stack
 
 from held import outcome_of, told
 from made import Maker, new_name
-from random_workspaces import Runner, analysis_of, places_of, wanted
+from random_workspaces import Runner, analysis_of, places_of, shown_places, wanted
 
 BAD_LINES = ["", "rename a.c 1 1", "rename a.c 0 1 n", "rename  a.c 1 1 n", "rename a.c 1 1 n ", "rename a.c 1 1 n m", "undo"]
 
@@ -17,8 +17,8 @@ BAD_LINES = ["", "rename a.c 1 1", "rename a.c 0 1 n", "rename  a.c 1 1 n", "ren
 class Lines:
     """Makes the lines of a batch, each over the files as the model leaves them behind the lines before."""
 
-    def __init__(self, r, files):
-        self.r, self.files = r, dict(files)
+    def __init__(self, r, files, strings):
+        self.r, self.files, self.strings = r, dict(files), strings
         self.first = self.now = analysis_of(files)
         self.given_up, self.back, self.accepted = [], [], 0
 
@@ -28,6 +28,9 @@ class Lines:
             return "n", ("a.c", 1, 1)
         if self.back and self.r.random() < .2:
             return self.r.choice(self.back)
+        if self.strings and self.r.random() < .5:
+            for place in shown_places(self.now, self.r, 1):
+                return place
         analysis = self.now if self.r.random() < .9 else self.first
         return next(places_of(analysis, self.r, 1), ("n", ("a.c", 1, 1)))
 
@@ -37,6 +40,8 @@ class Lines:
         while not name or " " in name:
             name = new_name(self.r, old)
         words = ["rename", path, str(line), str(column), name]
+        if self.strings and self.r.random() < .7:
+            words.append("strings")
         status, _, _, changed = wanted(["w.cs"] + words, self.files)
         if status == 0:
             self.accepted += 1
@@ -59,9 +64,9 @@ class Totals:
         self.batches = self.lines = self.accepted = self.bad = self.differ = 0
 
 
-def one_batch(runner, r, most, totals):
-    files = Maker(r).files()
-    made = Lines(r, files)
+def one_batch(runner, r, most, strings, totals):
+    files = Maker(r, strings).files()
+    made = Lines(r, files, strings)
     lines = [made.next() for _ in range(r.randint(1, most))]
     if r.random() < .05:
         lines.insert(r.randrange(len(lines) + 1), r.choice(BAD_LINES))
@@ -84,11 +89,12 @@ def one_batch(runner, r, most, totals):
 
 def main():
     program, seed, count, most = sys.argv[1], int(sys.argv[2]), int(sys.argv[3]), int(sys.argv[4])
+    strings = sys.argv[5:] == ["strings"]
     r, totals = random.Random(seed), Totals()
     with tempfile.TemporaryDirectory() as scratch:
         runner = Runner(program, scratch)
         for _ in range(count):
-            one_batch(runner, r, most, totals)
+            one_batch(runner, r, most, strings, totals)
             if totals.differ > 20:
                 print("more than 20 differ: no more are tried")
                 break

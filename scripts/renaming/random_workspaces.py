@@ -92,29 +92,51 @@ def places_of(analysis, r, count):
         yield tok.text.decode(), (os.fsdecode(path), line, column)
 
 
-def rows_of(analysis, r, count):
+def shown_places(analysis, r, count):
+    """Places of names that macros make strings of."""
+    shown = [t for unit in analysis.units for t in unit.text.stringized if t.kind == "Ident" and t.origins[0] in analysis.nameable]
+    for _ in range(count if shown else 0):
+        tok = r.choice(shown)
+        path, line, column = analysis.place(r.choice(tok.origins))
+        yield tok.text.decode(), (os.fsdecode(path), line, column)
+
+
+def shown_rows(analysis, r, count):
+    """Renames of these, half of them to new names."""
+    for old, (path, line, column) in shown_places(analysis, r, count):
+        name = r.choice(["n", "new_name", "z9", "q_q"]) if r.random() < .5 else new_name(r, old)
+        yield ["w.cs", "rename", path, str(line), str(column), name]
+
+
+def rows_of(analysis, r, count, strings=False):
+    """Renames of these places; with `strings` half of them of names that macros make strings of, and seven of eight may change these."""
     if analysis is None:
         return [["w.cs", "rename", "a.c", "1", "1", "n"]]
-    rows = []
-    for old, (path, line, column) in places_of(analysis, r, count):
+    rows = list(shown_rows(analysis, r, count // 2)) if strings else []
+    for old, (path, line, column) in places_of(analysis, r, count - len(rows)):
         if r.random() < .03:
             path, line, column = r.choice([("no.c", line, column), ("./" + path, line, column), (path, line, column + 300),
                                            (path, line + 900, column), (path + "/", line, column)])
         rows.append(["w.cs", "rename", path, str(line), str(column), new_name(r, old)])
-    return rows
+    return [words + ["strings"] if strings and r.random() < .875 else words for words in rows]
 
 
 class Totals:
     def __init__(self):
-        self.renames = self.accepted = self.differ = self.units = 0
+        self.renames = self.accepted = self.differ = self.units = self.strings = 0
         self.answers = {}
 
 
-def one_workspace(runner, r, each, totals):
-    files = Maker(r).files()
+def changed_strings(analysis, renaming):
+    """How many strings that `#` made get another spelling."""
+    return sum(tok.source is not None and tok.kind == "Str" and renaming.renamed(tok) != tok.text for unit in analysis.units for tok in unit.text.toks)
+
+
+def one_workspace(runner, r, each, strings, totals):
+    files = Maker(r, strings).files()
     analysis = analysis_of(files)
     copy = runner.copy(files)
-    for words in rows_of(analysis, r, each):
+    for words in rows_of(analysis, r, each, strings):
         want, got = wanted(words, files), outcome_of(runner.program, words, copy)
         totals.renames += 1
         answer = "accepted" if want[0] == 0 else want[2].decode().split(": ")[-1].strip()
@@ -122,7 +144,7 @@ def one_workspace(runner, r, each, totals):
         wrong = [] if want == got else [f"wanted {told(want)}; got {told(got)}"]
         if want[0] == 0:
             totals.accepted += 1
-            sentences, looked = by_gcc(analysis, words, got, copy)
+            sentences, looked = by_gcc(analysis, words, got, copy, totals)
             totals.units += looked
             wrong += sentences
         if wrong:
@@ -131,7 +153,7 @@ def one_workspace(runner, r, each, totals):
     runner.drop(copy)
 
 
-def by_gcc(analysis, words, got, copy):
+def by_gcc(analysis, words, got, copy, totals):
     """The units of the edited files, by gcc; `./PATH` is the path."""
     part = analysis.part_named(os.fsencode(os.path.normpath(words[2])), int(words[3]), int(words[4]))
     tokens = Tokens(analysis, copy.folder)
@@ -139,8 +161,10 @@ def by_gcc(analysis, words, got, copy):
         tokens.old(unit)
     files = {path: data for path, data in got[3].items() if data is not None}
     copy.put(files)
+    renaming = Renaming(analysis, part.cls, os.fsencode(words[5]))
+    totals.strings += changed_strings(analysis, renaming)
     try:
-        return tokens.respelled(Renaming(analysis, part.cls, os.fsencode(words[5])), files)
+        return tokens.respelled(renaming, files)
     finally:
         copy.take_back()
 
@@ -155,17 +179,18 @@ def report(runner, words, files, by_model, wrong):
 
 def main():
     program = sys.argv[1]
-    seed, count, each = map(int, sys.argv[2:])
+    seed, count, each = map(int, sys.argv[2:5])
+    strings = sys.argv[5:] == ["strings"]
     r, totals = random.Random(seed), Totals()
     with tempfile.TemporaryDirectory() as scratch:
         runner = Runner(program, scratch)
         for _ in range(count):
-            one_workspace(runner, r, each, totals)
+            one_workspace(runner, r, each, strings, totals)
             if totals.differ > 20:
                 print("more than 20 differ: no more are tried")
                 break
     print(", ".join(f"{n} {word}" for word, n in sorted(totals.answers.items(), key=lambda pair: -pair[1])))
-    print(f"{totals.units} edited units held against gcc")
+    print(f"{totals.units} edited units held against gcc" + (f", {totals.strings} strings that changed in them" if strings else ""))
     print(f"{totals.renames} renames, {totals.accepted} accepted, {totals.differ} differ")
     if totals.accepted and not totals.units:
         print("no edited unit was held against gcc")
