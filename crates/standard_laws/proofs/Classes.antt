@@ -25,6 +25,7 @@ use Rattle.tree_laws.specs.Below.c99_tree.Tree.{Node}
 use Rattle.tree_laws.specs.Below.c99_read.Sound.{is_met}
 use Rattle.tree_laws.specs.Below.c99_read.Reading.{repeat, may}
 use Rattle.standard_laws.specs.Narrowed.{is_member, has_no_added_word}
+use Rattle.standard_laws.proofs.Standing.{only}
 
 abbrev pub c99 : Grammar
 c99 = grammar C99
@@ -214,21 +215,22 @@ is_silent declare = false
 is_silent name = false
 is_silent _ = true
 
--- a production of C99, where members may stand or not
-abbrev pub part_fits : Bool → Production → Bool
-part_fits lines p = not (is_new p) && (lines || not (is_member p))
+-- a production of C99, where members may stand or not, in a node of the first
+abbrev pub part_fits : Bool → Production → Production → Bool
+part_fits lines holder p = not (is_new p) && ((lines || not (is_member p)) && only holder p)
 
--- an item of the table of C99; `lines` says whether members may stand in it, `names` whether it may declare
-abbrev pub fits : Bool → Bool → Item → Bool
-fits lines names (one classes) = true
-fits lines names (part p) = part_fits lines p
-fits lines names end_of_text = true
-fits lines names (act a) = names || is_silent a
-fits lines names (a · b) = fits lines names a && fits lines names b
-fits lines names (choice a b) = fits lines names a && fits lines names b
-fits lines names (maybe a) = fits lines names a
-fits lines names (many t a) = is_met (repeat t a) && (test_fits t && fits lines names a)
-fits lines names (deep a) = fits lines names a
+-- an item of the table of C99; `lines` says whether members may stand in it, `names` whether it may declare, and `holder`
+-- in which node it is read
+abbrev pub fits : Bool → Bool → Production → Item → Bool
+fits lines names holder (one classes) = true
+fits lines names holder (part p) = part_fits lines holder p
+fits lines names holder end_of_text = true
+fits lines names holder (act a) = names || is_silent a
+fits lines names holder (a · b) = fits lines names holder a && fits lines names holder b
+fits lines names holder (choice a b) = fits lines names holder a && fits lines names holder b
+fits lines names holder (maybe a) = fits lines names holder a
+fits lines names holder (many t a) = is_met (repeat t a) && (test_fits t && fits lines names holder a)
+fits lines names holder (deep a) = fits lines names holder a
 
 asks_same : (a : Ask) (c : Class) → fine c ≡ true → asks_fits a ≡ true → asks c99 a c ≡ asks c11 a c
 asks_same (is classes) c f h = refl
@@ -250,23 +252,23 @@ module _ (c d : Class) (f : fine c ≡ true) (g : fine d ≡ true) where
   production_same : (p : Production) → is_new p ≡ false → production_starts c99 p c d ≡ production_starts c11 p c d
   production_same p n = ap (λ b. b || (among (c99.labels p) c && among (Colon ∷ []) d)) (first_same c f p n)
 
-  starts_same : (lines names : Bool) (item : Item) → fits lines names item ≡ true → starts c99 item c d ≡ starts c11 item c d
-  starts_same lines names (one classes) h = refl
-  starts_same lines names (part p) h = production_same p (not-true (is_new p) ((and_parts (not (is_new p)) (lines || not (is_member p)) h).0))
-  starts_same lines names end_of_text h = refl
-  starts_same lines names (act a) h = refl
-  starts_same lines names (a · b) h =
-      let parts = and_parts (fits lines names a) (fits lines names b) h in
-      ap (λ x. if is_passed a then x || starts c99 b c d else x) (starts_same lines names a parts.0)
-      ∙ ap (λ y. if is_passed a then starts c11 a c d || y else starts c11 a c d) (starts_same lines names b parts.1)
-  starts_same lines names (choice a b) h =
-      let parts = and_parts (fits lines names a) (fits lines names b) h in
-      ap (λ x. x || starts c99 b c d) (starts_same lines names a parts.0) ∙ ap (λ y. starts c11 a c d || y) (starts_same lines names b parts.1)
-  starts_same lines names (maybe a) h = starts_same lines names a h
-  starts_same lines names (many t a) h =
-      let parts = and_parts (test_fits t) (fits lines names a) ((and_parts (is_met (repeat t a)) (test_fits t && fits lines names a) h).1) in
-      ap (λ b. holds c99 t b c d) (starts_same lines names a parts.1) ∙ holds_same t (starts c11 a c d) parts.0
-  starts_same lines names (deep a) h = starts_same lines names a h
+  starts_same : (lines names : Bool) (holder : Production) (item : Item) → fits lines names holder item ≡ true → starts c99 item c d ≡ starts c11 item c d
+  starts_same lines names holder (one classes) h = refl
+  starts_same lines names holder (part p) h = production_same p (not-true (is_new p) ((and_parts (not (is_new p)) ((lines || not (is_member p)) && only holder p) h).0))
+  starts_same lines names holder end_of_text h = refl
+  starts_same lines names holder (act a) h = refl
+  starts_same lines names holder (a · b) h =
+      let parts = and_parts (fits lines names holder a) (fits lines names holder b) h in
+      ap (λ x. if is_passed a then x || starts c99 b c d else x) (starts_same lines names holder a parts.0)
+      ∙ ap (λ y. if is_passed a then starts c11 a c d || y else starts c11 a c d) (starts_same lines names holder b parts.1)
+  starts_same lines names holder (choice a b) h =
+      let parts = and_parts (fits lines names holder a) (fits lines names holder b) h in
+      ap (λ x. x || starts c99 b c d) (starts_same lines names holder a parts.0) ∙ ap (λ y. starts c11 a c d || y) (starts_same lines names holder b parts.1)
+  starts_same lines names holder (maybe a) h = starts_same lines names holder a h
+  starts_same lines names holder (many t a) h =
+      let parts = and_parts (test_fits t) (fits lines names holder a) ((and_parts (is_met (repeat t a)) (test_fits t && fits lines names holder a) h).1) in
+      ap (λ b. holds c99 t b c d) (starts_same lines names holder a parts.1) ∙ holds_same t (starts c11 a c d) parts.0
+  starts_same lines names holder (deep a) h = starts_same lines names holder a h
 
 -- ---- A state
 
@@ -287,11 +289,11 @@ module _ (s : State) (built : Node) (plain : has_no_added_word s.toks ≡ true) 
       typedef_fine (is_identifier (base_at c11 s.toks k) && is_typedef_at s.toks s.names.scopes k) (base_at c11 s.toks k)
       (ap fine e ∙ base_fine s.toks k (if k == length s.toks then End else NoClass) (end_fine (k == length s.toks)))
 
-  pub may_same : (lines names : Bool) (t : Test) (item : Item) → test_fits t ≡ true → fits lines names item ≡ true → may c99 t item other ≡ may c11 t item s
-  may_same lines names t item of_test of_item =
+  pub may_same : (lines names : Bool) (holder : Production) (t : Test) (item : Item) → test_fits t ≡ true → fits lines names holder item ≡ true → may c99 t item other ≡ may c11 t item s
+  may_same lines names holder t item of_test of_item =
       let c : Class = class_at c11 s s.at in
       let d : Class = class_at c11 s (s.at + 1) in
       ap (λ x. holds c99 t (starts c99 item x (class_at c99 other (s.at + 1))) x (class_at c99 other (s.at + 1))) (class_alike s.at)
       ∙ (ap (λ y. holds c99 t (starts c99 item c y) c y) (class_alike (s.at + 1))
-      ∙ (ap (λ b. holds c99 t b c d) (starts_same c d (class_fine s.at) (class_fine (s.at + 1)) lines names item of_item)
+      ∙ (ap (λ b. holds c99 t b c d) (starts_same c d (class_fine s.at) (class_fine (s.at + 1)) lines names holder item of_item)
       ∙ holds_same c d (class_fine s.at) (class_fine (s.at + 1)) t (starts c11 item c d) of_test))

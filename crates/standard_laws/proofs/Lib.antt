@@ -1,6 +1,12 @@
+mod Standing
 mod Classes
 mod Trees
 mod Steps
 mod Lines
 mod Rows
 mod Back
+mod Narrowing
+mod Asked
+mod Lists
+mod Walk
+mod Binding

@@ -1,6 +1,6 @@
 -- A line of members: by C11 what stands behind the specifiers has a node of its own.
-use Rattle.std.proofs.Common.{ℕ, ◌≡◌, Bool, true, false, ◌&&◌, ◌||◌, if◌then◌else◌, List, [], ◌∷◌, Ok, Err, refl, sym, ap, subst, ◌∙◌}
-use Rattle.std.proofs.lemmas.Bool.{false≢true}
+use Rattle.std.proofs.Common.{ℕ, ◌≡◌, Bool, true, false, ◌&&◌, ◌||◌, not, ◌==◌, if◌then◌else◌, List, [], ◌∷◌, Ok, Err, refl, sym, ap, subst, ◌∙◌}
+use Rattle.std.proofs.lemmas.Bool.{and_parts, and_from, false≢true}
 use Rattle.tree_laws.specs.Below.cs_base.Token.{Token}
 use Rattle.tree_laws.specs.Below.c99_tree.Tree.{Forest, none, node, Node, node_of, inner, put}
 use Rattle.tree_laws.specs.Below.c99_tree.declared.production.Label.{Label}
@@ -12,8 +12,9 @@ use Rattle.tree_laws.specs.Below.c99_grammar.Classes.{among}
 use Rattle.tree_laws.specs.Below.c99_grammar.Items.{Item, part, ◌·◌, many, tok, own}
 use Rattle.tree_laws.specs.Below.c99_read.State.{State, opened, closed}
 use Rattle.tree_laws.specs.Below.c99_read.Reading.{Stop, Step, and_then}
-use Rattle.standard_laws.specs.Narrowed.{spread, narrowed, narrowed_node, has_no_added_word}
-use Rattle.standard_laws.proofs.Classes.{part_fits}
+use Rattle.standard_laws.specs.Narrowed.{is_member, is_rest, spread, narrowed, narrowed_node, has_no_added_word}
+use Rattle.standard_laws.proofs.Standing.{only, within, kids, kids-put, kids_within, is_line_body, is_good, formed, part_formed, formed-put}
+use Rattle.standard_laws.proofs.Classes.{is_new, part_fits}
 use Rattle.standard_laws.proofs.Trees.{joined, joined-none, joined-put, narrowed-put}
 use Rattle.standard_laws.proofs.Steps.{labelled, Context, seen, inside, At, Sim}
 
@@ -159,9 +160,12 @@ behind at y = record {
   names = false;
 }
 
-pub held_lines : (b : Bool) → part_fits b Member ≡ true → b ≡ true
-held_lines true h = refl
-held_lines false h = cc
+pub held_lines : (b : Bool) (holder : Production) → part_fits b holder Member ≡ true → b ≡ true
+held_lines true holder h = refl
+held_lines false holder h = cc
+
+pub stands_of : (b : Bool) (holder p : Production) → part_fits b holder p ≡ true → only holder p ≡ true
+stands_of b holder p h = (and_parts (b || not (is_member p)) (only holder p) ((and_parts (not (is_new p)) ((b || not (is_member p)) && only holder p) h).1)).1
 
 spread-put : (f : Forest) (m : Node) → One f → spread (put (narrowed f) (inner m)) ≡ joined (narrowed f) m.under
 spread-put f m one =
@@ -171,10 +175,31 @@ pub twice : (r : Step) (f : State → State) (g : State → Step) → and_then (
 twice (Ok s) f g = refl
 twice (Err stop) f g = refl
 
-module _ (toks : List Token) (plain : has_no_added_word toks ≡ true) where
-  module _ (c : Context) (s : State) (lines : c.lines ≡ true) (at : At toks plain c s) where
-    pub line_closed : (y z : State) → At toks plain (in_line s.at) y → One y.built.under → At toks plain (behind s.at y) z
-        → Sim toks plain c (Ok (closed Member (seen c s) (seen (behind s.at y) z))) (Ok (closed Member s (closed MemRest y z)))
+module _ (toks : List Token) (plain : has_no_added_word toks ≡ true) (strict : Bool) where
+  -- the one child of a line that is not closed is of specifiers
+  line_body : (f : Forest) (m : Node) → One f → kids (only Member) f ≡ true → is_rest m.label.production ≡ true → is_line_body (put f (inner m)) ≡ true
+  line_body f m one h r =
+      subst (λ g. kids (only Member) g ≡ true → is_line_body (put g (inner m)) ≡ true) (sym one.1.1.1)
+      (λ k. and_from _ _ ((and_parts (only Member one.0.production) true k).0) r) h
+
+  -- what is so of the parts of a line is so of it
+  pub line_sound : (y : State) (z : Node) (at j : ℕ) → At toks plain strict (in_line at) y → One y.built.under → z.label ≡ labelled MemRest j
+      → not ((j == 1) && strict) ≡ true → kids (only MemRest) z.under ≡ true → formed strict z.under ≡ true
+      → part_formed strict (inner (record y.built { under = put y.built.under (inner z) })) ≡ true
+  line_sound y z at j at_y one label no_lone stands sound =
+      let good_rest : is_good strict z.label z.under ≡ true =
+      ap (λ (l : Label). is_good strict l z.under) label ∙ and_from _ _ (kids_within MemRest z.under stands) no_lone in
+      let body : is_line_body (put y.built.under (inner z)) ≡ true =
+      line_body y.built.under z one at_y.stands (ap (λ (l : Label). is_rest l.production) label) in
+      let kept : kids (within Member) (put y.built.under (inner z)) ≡ true =
+      kids-put (within Member) y.built.under (inner z) (kids_within Member y.built.under at_y.stands) (ap (λ (l : Label). not (is_member l.production)) label) in
+      let good : is_good strict y.built.label (put y.built.under (inner z)) ≡ true =
+      ap (λ (b : Node). is_good strict b.label (put y.built.under (inner z))) at_y.built_is ∙ and_from _ _ body (and_from _ _ kept refl) in
+      and_from _ _ good (formed-put strict y.built.under (inner z) at_y.sound (and_from _ _ good_rest sound))
+
+  module _ (c : Context) (s : State) (lines : c.lines ≡ true) (holder : only c.wide.production Member ≡ true) (at : At toks plain strict c s) where
+    pub line_closed : (y z : State) → At toks plain strict (in_line s.at) y → One y.built.under → At toks plain strict (behind s.at y) z
+        → Sim toks plain strict c (Ok (closed Member (seen c s) (seen (behind s.at y) z))) (Ok (closed Member s (closed MemRest y z)))
     unfolding closed
     line_closed y z at_y one at_z =
         let u : Forest = s.built.under in
@@ -201,15 +226,19 @@ module _ (toks : List Token) (plain : has_no_added_word toks ≡ true) where
                 built_is = ap (λ (b : Node). record b { under = put u (inner wide) }) at.built_is;
                 members = λ e. absurd (false≢true (sym e ∙ lines));
                 free = at.free;
+                sound = formed-put strict u (inner wide) at.sound
+                    (line_sound y z.built s.at 2 at_y one (ap (λ (b : Node). b.label) at_z.built_is) refl at_z.stands at_z.sound);
+                stands = kids-put (only c.wide.production) u (inner wide) at.stands
+                    (ap (λ (b : Node). only c.wide.production b.label.production) at_y.built_is ∙ holder);
               },
             ),
           ),
         )
 
-  module _ (s y : State) (at_y : At toks plain (in_line s.at) y) where
-    pub at_behind : At toks plain (behind s.at y) (opened MemRest 2 y)
+  module _ (s y : State) (at_y : At toks plain strict (in_line s.at) y) where
+    pub at_behind : At toks plain strict (behind s.at y) (opened MemRest 2 y)
     unfolding opened
-    at_behind = record { text = at_y.text; built_is = refl; members = λ e. refl; free = λ e. absurd (false≢true e) }
+    at_behind = record { text = at_y.text; built_is = refl; members = λ e. refl; free = λ e. absurd (false≢true e); sound = refl; stands = refl }
 
     pub seen_behind : seen (in_line s.at) y ≡ seen (behind s.at y) (opened MemRest 2 y)
     unfolding opened

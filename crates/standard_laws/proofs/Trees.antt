@@ -8,6 +8,7 @@ use Rattle.tree_laws.specs.Below.c99_tree.declared.production.Production.{Produc
 use Rattle.tree_laws.specs.Below.c99_tree.declared.production.Production.TheVariants.{TranslationUnit, External, ExtRest, ExtTail, FunBody, Declaration, DeclRest, InitDecl, Sassert, Specs, Main, Mod, Qual, Word, StructSpec, SuRest, Members, Member, MemRest, Mdecl, EnumSpec, EnRest, Enumerators, Enumerator, Declarator, Pointer, Direct, Suffix, Bound, Params, Param, Pdecl, Pdirect, TypeName, Adecl, Adirect, Init, InitList, InitItem, Designator, Expr, Assign, Asgop, Cond, Lor, Land, Bor, Bxor, Band, Equal, Relate, Shift, Add, Mul, Cast, CastRest, Unary, SizeRest, SizeLit, Primary, Post, Args, Block, BlockItem, Statement, Sub, ForInit}
 use Rattle.tree_laws.specs.Below.c99_read.State.{base_at, is_identifier, is_declaring, is_direct, has_name, name_below, last_declared, last_identifier, is_mod, is_main, is_typedef_word, is_typedef_part, typedef_word_in, has_typedef, collapses, finished}
 use Rattle.standard_laws.specs.Narrowed.{number, renumbered, is_member, is_line, spread_if, narrowed, narrowed_node}
+use Rattle.standard_laws.proofs.Standing.{is_members, only, wide_open}
 use Rattle.standard_laws.proofs.Classes.{c99, c11}
 
 -- ---- Children behind others
@@ -428,11 +429,7 @@ finished-narrowed p n e = by (collapses p)
     by true = ap (lone (narrowed n.under)) as_is ∙ lone-narrowed n.under n
     by false = as_is
 
-abbrev pub is_members : Production → Bool
-is_members Members = true
-is_members _ = false
-
-collapsing_no_members : (p : Production) → collapses p ≡ true → is_members p ≡ false
+pub collapsing_no_members : (p : Production) → collapses p ≡ true → is_members p ≡ false
 collapsing_no_members TranslationUnit e = refl
 collapsing_no_members External e = refl
 collapsing_no_members ExtRest e = refl
@@ -509,3 +506,18 @@ finished-member p n e h = by (collapses p) refl
     by : (b : Bool) → collapses p ≡ b → is_member (if b then collapsed n else n).label.production ≡ false
     by true c = lone-member n.under n (e (collapsing_no_members p c)) h
     by false c = h
+
+collapsing_no_member : (p : Production) → collapses p ≡ true → is_member p ≡ false
+collapsing_no_member Member e = cc
+collapsing_no_member _ e = refl
+
+-- .. and stands where one of the production may
+pub finished-only : (w p : Production) (n : Node) → n.label.production ≡ p → only w p ≡ true → (is_members p ≡ false → has_member n.under ≡ false)
+    → only w (finished p n).label.production ≡ true
+finished-only w p n e h held = by (collapses p) refl
+  where
+    by : (b : Bool) → collapses p ≡ b → only w (if b then collapsed n else n).label.production ≡ true
+    by true c =
+        wide_open w p (collapsed n).label.production c h
+        (lone-member n.under n (held (collapsing_no_members p c)) (ap is_member e ∙ collapsing_no_member p c))
+    by false c = ap (only w) e ∙ h

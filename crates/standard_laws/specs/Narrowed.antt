@@ -1,5 +1,5 @@
 -- What C99 says in place of a tree of C11 (ISO/IEC 9899:1999 and 9899:2011, Annex A.2).
-use Rattle.std.specs.Prelude.{ℕ, ◌==◌, ◌≡◌, Bool, true, false, ◌&&◌, ◌||◌, not, if◌then◌else◌, List}
+use Rattle.std.specs.Prelude.{ℕ, ◌==◌, ◌≡◌, Bool, true, false, ◌&&◌, ◌||◌, not, if◌then◌else◌, List, Result}
 use Rattle.std.specs.List.{list_all, list_any}
 use Rattle.std.specs.Str.{bytes_eq}
 use Rattle.tree_laws.specs.Below.cs_base.Token.{Token}
@@ -10,6 +10,8 @@ use Rattle.tree_laws.specs.Below.c99_tree.declared.production.Production.{Produc
 use Rattle.tree_laws.specs.Below.c99_tree.declared.production.Production.TheVariants.{External, Declaration, Member, MemRest, Mod}
 use Rattle.tree_laws.specs.Below.c99_grammar.Spellings.{keywords_added}
 use Rattle.tree_laws.specs.Below.c99_grammar.Standard.{grammar}
+use Rattle.tree_laws.specs.Below.c_types.declared.declarations.Fault.{Fault}
+use Rattle.tree_laws.specs.Below.scope_bind.Bound.{Bound, binding_of}
 use Rattle.tree_laws.specs.ReadTexts.{Reads}
 
 -- the number by C99 of an alternative that both standards have
@@ -67,14 +69,37 @@ has_lone_below n = is_lone n.label || has_lone n.under
 abbrev pub has_no_added_word : List Token → Bool
 has_no_added_word toks = list_all (λ t. not (list_any (λ w. bytes_eq t.text w.0) keywords_added)) toks
 
--- what C99 reads of a text without these, C11 reads
+-- ---- Reading
+
+-- what C99 reads of a text without these, C11 reads, and no semicolon stands alone there
 abbrev pub TextsOfC99AreReadByC11 : Type 0
 TextsOfC99AreReadByC11 =
     (toks : List Token) (tree : Node) → has_no_added_word toks ≡ true → Reads (grammar C99) toks tree
-    → (wider : Node) × (Reads (grammar C11) toks wider × (tree ≡ narrowed_node wider))
+    → (wider : Node) × (Reads (grammar C11) toks wider × ((tree ≡ narrowed_node wider) × (has_lone_below wider ≡ false)))
 
 -- what C11 reads of it, C99 reads, if no semicolon stands alone there
 abbrev pub TextsOfC11AreReadByC99 : Type 0
 TextsOfC11AreReadByC99 =
     (toks : List Token) (tree : Node) → has_no_added_word toks ≡ true → Reads (grammar C11) toks tree → has_lone_below tree ≡ false
     → Reads (grammar C99) toks (narrowed_node tree)
+
+-- ---- Binding
+
+-- the tree by C11 of such a text, and the narrowed one, have one binding, or one first fault
+abbrev pub TextsBindAlike : Type 0
+TextsBindAlike =
+    (toks : List Token) (tree : Node) → has_no_added_word toks ≡ true → Reads (grammar C11) toks tree → has_lone_below tree ≡ false
+    → binding_of toks (narrowed_node tree) ≡ binding_of toks tree
+
+-- what C99 reads, and binds or refuses, C11 reads, and binds so or refuses for the same fault
+abbrev pub TextsOfC99AreBoundByC11 : Type 0
+TextsOfC99AreBoundByC11 =
+    (toks : List Token) (tree : Node) (answer : Result Bound Fault) → has_no_added_word toks ≡ true → Reads (grammar C99) toks tree
+    → binding_of toks tree ≡ answer → (wider : Node) × (Reads (grammar C11) toks wider × (binding_of toks wider ≡ answer))
+
+-- .. and the other way, if no semicolon stands alone there
+abbrev pub TextsOfC11AreBoundByC99 : Type 0
+TextsOfC11AreBoundByC99 =
+    (toks : List Token) (tree : Node) (answer : Result Bound Fault) → has_no_added_word toks ≡ true → Reads (grammar C11) toks tree
+    → has_lone_below tree ≡ false → binding_of toks tree ≡ answer
+    → (narrow : Node) × (Reads (grammar C99) toks narrow × (binding_of toks narrow ≡ answer))
