@@ -1,0 +1,4 @@
+pub mod PutLemmas
+pub mod SplitLemmas
+pub mod PlainLemmas
+pub mod AlikeLemmas
