@@ -1,0 +1,9 @@
+pub mod Arranged
+pub mod SameForms
+mod Beside
+mod OwnTypes
+mod BesideNames
+mod BesideMembers
+mod BesideSteps
+mod BesideWalk
+mod Seen

@@ -1,0 +1,6 @@
+-- What the public contracts rest on.
+pub mod Reordered
+pub mod Cuts
+pub mod Laws
+pub mod Beside
+pub mod Seen

@@ -1,0 +1,22 @@
+// What is true of a tree in which the items of lists stand in another order: laws that no caller runs.
+ghost use Rattle.reordered_tree_laws.specs.Beside.{PartsBindAlike};
+ghost use Rattle.reordered_tree_laws.specs.Laws.{TokensAreArranged, ReorderedTreesAreOfTheirTexts};
+ghost use Rattle.reordered_tree_laws.specs.Seen.{NewOrdersAreNotSeen};
+
+/// The tokens of the tree in the new order are the arranged ones, and it is the tree of a text with as many tokens.
+pub fn reordered_trees_are_of_their_texts()
+    ensures arranged { TokensAreArranged }
+    ensures texts { ReorderedTreesAreOfTheirTexts }
+{}
+
+/// A part of a unit binds alike whatever declarations stand beside it that it does not ask for: the items before
+/// it in a list are such.
+pub fn parts_bind_alike()
+    ensures { PartsBindAlike }
+{}
+
+/// Declarations do not see the order of the items of lists: the names and types of declarators, specifiers, and
+/// first and last tokens are the same.
+pub fn new_orders_are_not_seen()
+    ensures { NewOrdersAreNotSeen }
+{}
