@@ -1,0 +1,13 @@
+mod Found
+mod Whole
+mod Stops
+mod Local
+mod Later
+mod Orders
+mod Tables
+mod Starts
+mod Arguments
+mod Parameters
+mod Numbers
+mod Before
+mod Alone

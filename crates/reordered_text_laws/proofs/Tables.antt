@@ -1,0 +1,159 @@
+-- In the table of each standard items of lists end before a comma and before the parenthesis that ends the list alike.
+use Rattle.std.proofs.Common.{◌≡◌, Bool, true, false, refl}
+use Rattle.std.specs.List.{list_all}
+use Rattle.std.proofs.lemmas.Bool.{false≢true}
+use Rattle.tree_laws.specs.Below.cs_base.declared.ws_units.Standard.{Standard}
+use Rattle.tree_laws.specs.Below.c99_tree.declared.production.Production.{Production}
+use Rattle.tree_laws.specs.Below.c99_tree.declared.production.Production.TheVariants.{TranslationUnit, External, ExtRest, ExtTail, FunBody, Declaration, DeclRest, InitDecl, Sassert, Specs, Main, Mod, Qual, Word, StructSpec, SuRest, Members, Member, MemRest, Mdecl, EnumSpec, EnRest, Enumerators, Enumerator, Declarator, Pointer, Direct, Suffix, Bound, Params, Param, Pdecl, Pdirect, TypeName, Adecl, Adirect, Init, InitList, InitItem, Designator, Expr, Assign, Asgop, Cond, Lor, Land, Bor, Bxor, Band, Equal, Relate, Shift, Add, Mul, Cast, CastRest, Unary, SizeRest, SizeLit, Primary, Post, Args, Block, BlockItem, Statement, Sub, ForInit}
+use Rattle.tree_laws.specs.Below.c99_grammar.Standard.{grammar}
+use Rattle.tree_laws.proofs.Below.c99_grammar.StandardLemmas.{both}
+use Rattle.tree_laws.proofs.Below.c99_read.C99Sound.{grammar-sound}
+use Rattle.tree_laws.specs.Below.c99_read.Sound.{never_empty}
+use Rattle.reordered_text_laws.proofs.Stops.{alternative_alike, closes}
+use Rattle.reordered_text_laws.proofs.Local.{Tells}
+
+-- the productions that may end an argument or a parameter
+abbrev pub ending : Production → Bool
+ending Assign = true
+ending Cond = true
+ending Lor = true
+ending Land = true
+ending Bor = true
+ending Bxor = true
+ending Band = true
+ending Equal = true
+ending Relate = true
+ending Shift = true
+ending Add = true
+ending Mul = true
+ending Cast = true
+ending CastRest = true
+ending Unary = true
+ending SizeRest = true
+ending SizeLit = true
+ending Primary = true
+ending Post = true
+ending Param = true
+ending Specs = true
+ending Main = true
+ending Mod = true
+ending Qual = true
+ending Word = true
+ending StructSpec = true
+ending SuRest = true
+ending EnumSpec = true
+ending EnRest = true
+ending Pdecl = true
+ending Pdirect = true
+ending Pointer = true
+ending Suffix = true
+ending _ = false
+
+module _ (std : Standard) where
+  alike : (p : Production) → never_empty p ≡ true → list_all (alternative_alike (grammar std)) ((grammar std).table p) ≡ true
+  alike TranslationUnit e = absurd (false≢true e)
+  alike External e = both (λ s. list_all (alternative_alike (grammar s)) ((grammar s).table External) ≡ true) refl refl std
+  alike ExtRest e = refl
+  alike ExtTail e = refl
+  alike FunBody e = refl
+  alike Declaration e = both (λ s. list_all (alternative_alike (grammar s)) ((grammar s).table Declaration) ≡ true) refl refl std
+  alike DeclRest e = refl
+  alike InitDecl e = refl
+  alike Sassert e = both (λ s. list_all (alternative_alike (grammar s)) ((grammar s).table Sassert) ≡ true) refl refl std
+  alike Specs e = refl
+  alike Main e = refl
+  alike Mod e = both (λ s. list_all (alternative_alike (grammar s)) ((grammar s).table Mod) ≡ true) refl refl std
+  alike Qual e = refl
+  alike Word e = refl
+  alike StructSpec e = refl
+  alike SuRest e = refl
+  alike Members e = refl
+  alike Member e = both (λ s. list_all (alternative_alike (grammar s)) ((grammar s).table Member) ≡ true) refl refl std
+  alike MemRest e = both (λ s. list_all (alternative_alike (grammar s)) ((grammar s).table MemRest) ≡ true) refl refl std
+  alike Mdecl e = refl
+  alike EnumSpec e = refl
+  alike EnRest e = refl
+  alike Enumerators e = refl
+  alike Enumerator e = refl
+  alike Declarator e = refl
+  alike Pointer e = refl
+  alike Direct e = refl
+  alike Suffix e = refl
+  alike Bound e = refl
+  alike Params e = refl
+  alike Param e = refl
+  alike Pdecl e = refl
+  alike Pdirect e = refl
+  alike TypeName e = refl
+  alike Adecl e = refl
+  alike Adirect e = refl
+  alike Init e = refl
+  alike InitList e = refl
+  alike InitItem e = refl
+  alike Designator e = refl
+  alike Expr e = refl
+  alike Assign e = refl
+  alike Asgop e = refl
+  alike Cond e = refl
+  alike Lor e = refl
+  alike Land e = refl
+  alike Bor e = refl
+  alike Bxor e = refl
+  alike Band e = refl
+  alike Equal e = refl
+  alike Relate e = refl
+  alike Shift e = refl
+  alike Add e = refl
+  alike Mul e = refl
+  alike Cast e = both (λ s. list_all (alternative_alike (grammar s)) ((grammar s).table Cast) ≡ true) refl refl std
+  alike CastRest e = refl
+  alike Unary e = refl
+  alike SizeRest e = both (λ s. list_all (alternative_alike (grammar s)) ((grammar s).table SizeRest) ≡ true) refl refl std
+  alike SizeLit e = refl
+  alike Primary e = refl
+  alike Post e = refl
+  alike Args e = refl
+  alike Block e = refl
+  alike BlockItem e = refl
+  alike Statement e = refl
+  alike Sub e = refl
+  alike ForInit e = refl
+
+  closing : (p : Production) → ending p ≡ true → list_all (λ a. closes (grammar std) ending a.body) ((grammar std).table p) ≡ true
+  closing Specs e = both (λ s. list_all (λ a. closes (grammar s) ending a.body) ((grammar s).table Specs) ≡ true) refl refl std
+  closing Main e = both (λ s. list_all (λ a. closes (grammar s) ending a.body) ((grammar s).table Main) ≡ true) refl refl std
+  closing Mod e = both (λ s. list_all (λ a. closes (grammar s) ending a.body) ((grammar s).table Mod) ≡ true) refl refl std
+  closing Qual e = both (λ s. list_all (λ a. closes (grammar s) ending a.body) ((grammar s).table Qual) ≡ true) refl refl std
+  closing Word e = both (λ s. list_all (λ a. closes (grammar s) ending a.body) ((grammar s).table Word) ≡ true) refl refl std
+  closing StructSpec e = both (λ s. list_all (λ a. closes (grammar s) ending a.body) ((grammar s).table StructSpec) ≡ true) refl refl std
+  closing SuRest e = both (λ s. list_all (λ a. closes (grammar s) ending a.body) ((grammar s).table SuRest) ≡ true) refl refl std
+  closing EnumSpec e = both (λ s. list_all (λ a. closes (grammar s) ending a.body) ((grammar s).table EnumSpec) ≡ true) refl refl std
+  closing EnRest e = both (λ s. list_all (λ a. closes (grammar s) ending a.body) ((grammar s).table EnRest) ≡ true) refl refl std
+  closing Pointer e = both (λ s. list_all (λ a. closes (grammar s) ending a.body) ((grammar s).table Pointer) ≡ true) refl refl std
+  closing Suffix e = both (λ s. list_all (λ a. closes (grammar s) ending a.body) ((grammar s).table Suffix) ≡ true) refl refl std
+  closing Param e = both (λ s. list_all (λ a. closes (grammar s) ending a.body) ((grammar s).table Param) ≡ true) refl refl std
+  closing Pdecl e = both (λ s. list_all (λ a. closes (grammar s) ending a.body) ((grammar s).table Pdecl) ≡ true) refl refl std
+  closing Pdirect e = both (λ s. list_all (λ a. closes (grammar s) ending a.body) ((grammar s).table Pdirect) ≡ true) refl refl std
+  closing Assign e = both (λ s. list_all (λ a. closes (grammar s) ending a.body) ((grammar s).table Assign) ≡ true) refl refl std
+  closing Cond e = both (λ s. list_all (λ a. closes (grammar s) ending a.body) ((grammar s).table Cond) ≡ true) refl refl std
+  closing Lor e = both (λ s. list_all (λ a. closes (grammar s) ending a.body) ((grammar s).table Lor) ≡ true) refl refl std
+  closing Land e = both (λ s. list_all (λ a. closes (grammar s) ending a.body) ((grammar s).table Land) ≡ true) refl refl std
+  closing Bor e = both (λ s. list_all (λ a. closes (grammar s) ending a.body) ((grammar s).table Bor) ≡ true) refl refl std
+  closing Bxor e = both (λ s. list_all (λ a. closes (grammar s) ending a.body) ((grammar s).table Bxor) ≡ true) refl refl std
+  closing Band e = both (λ s. list_all (λ a. closes (grammar s) ending a.body) ((grammar s).table Band) ≡ true) refl refl std
+  closing Equal e = both (λ s. list_all (λ a. closes (grammar s) ending a.body) ((grammar s).table Equal) ≡ true) refl refl std
+  closing Relate e = both (λ s. list_all (λ a. closes (grammar s) ending a.body) ((grammar s).table Relate) ≡ true) refl refl std
+  closing Shift e = both (λ s. list_all (λ a. closes (grammar s) ending a.body) ((grammar s).table Shift) ≡ true) refl refl std
+  closing Add e = both (λ s. list_all (λ a. closes (grammar s) ending a.body) ((grammar s).table Add) ≡ true) refl refl std
+  closing Mul e = both (λ s. list_all (λ a. closes (grammar s) ending a.body) ((grammar s).table Mul) ≡ true) refl refl std
+  closing Cast e = both (λ s. list_all (λ a. closes (grammar s) ending a.body) ((grammar s).table Cast) ≡ true) refl refl std
+  closing CastRest e = both (λ s. list_all (λ a. closes (grammar s) ending a.body) ((grammar s).table CastRest) ≡ true) refl refl std
+  closing Unary e = both (λ s. list_all (λ a. closes (grammar s) ending a.body) ((grammar s).table Unary) ≡ true) refl refl std
+  closing SizeRest e = both (λ s. list_all (λ a. closes (grammar s) ending a.body) ((grammar s).table SizeRest) ≡ true) refl refl std
+  closing SizeLit e = both (λ s. list_all (λ a. closes (grammar s) ending a.body) ((grammar s).table SizeLit) ≡ true) refl refl std
+  closing Primary e = both (λ s. list_all (λ a. closes (grammar s) ending a.body) ((grammar s).table Primary) ≡ true) refl refl std
+  closing Post e = both (λ s. list_all (λ a. closes (grammar s) ending a.body) ((grammar s).table Post) ≡ true) refl refl std
+  closing _ e = absurd (false≢true e)
+
+  pub tells : Tells (grammar std) ending
+  tells = record { sound = grammar-sound std; alike = alike; closing = closing }

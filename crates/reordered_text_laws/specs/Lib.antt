@@ -1,0 +1,5 @@
+-- What the public contracts rest on.
+pub mod ByClasses
+pub mod Lists
+pub mod Laws
+pub mod Alone

@@ -1,0 +1,31 @@
+// What is true of items that change places, as to how they are read: laws that no caller runs.
+ghost use Rattle.reordered_text_laws.specs.Alone.{TextsAloneAreReadByClasses};
+ghost use Rattle.reordered_text_laws.specs.Laws.{PartsAreReadAnywhere, ItemsAreReadAnywhere, NumbersDoNotMatter};
+ghost use Rattle.reordered_text_laws.specs.Laws.{ArgumentsAreReadInAnyOrder, ParametersAreReadInAnyOrder};
+
+/// A text in which each identifier is spelled as no other token is read as the classes of its tokens are, by any grammar.
+pub fn texts_alone_are_read_by_classes()
+    ensures texts { TextsAloneAreReadByClasses }
+{}
+
+/// By any grammar tokens are read alike whatever their numbers are.
+pub fn numbers_do_not_matter()
+    ensures numbers { NumbersDoNotMatter }
+{}
+
+/// What is read for a production is read the same before any tokens that begin with the same two classes; an argument or
+/// a parameter that is read before a comma or the end of its list, before any tokens that begin with one of these.
+pub fn items_are_read_anywhere()
+    ensures parts { PartsAreReadAnywhere }
+    ensures items { ItemsAreReadAnywhere }
+{}
+
+/// Arguments of a call that are read are read in any other order too, to the list of these.
+pub fn arguments_are_read_in_any_order()
+    ensures arguments { ArgumentsAreReadInAnyOrder }
+{}
+
+/// Parameters of a list that are read are read in any other order too, to the list of these.
+pub fn parameters_are_read_in_any_order()
+    ensures parameters { ParametersAreReadInAnyOrder }
+{}
