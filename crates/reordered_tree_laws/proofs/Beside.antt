@@ -159,7 +159,7 @@ module _ (foreign : ℕ → Bool) (ds es : List Declaration) (bs cs : List Occur
     first = k.first;
     second = k.second;
     owned = k.owned;
-    begun = λ n. more_in f.begun g.begun e n (k.begun n);
+    begun = λ n own. more_in f.begun g.begun e n (k.begun n own);
     complete = k.complete;
     fault = k.fault;
     own = k.own;

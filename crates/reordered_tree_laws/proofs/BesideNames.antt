@@ -3,7 +3,7 @@ use Rattle.std.proofs.Common.{ℕ, ◌≡◌, Bool, true, false, ◌&&◌, ◌||
 use Rattle.std.specs.Prelude.{IfSome}
 use Rattle.std.specs.List.{list_any}
 use Rattle.std.specs.Option.{option_map_or}
-use Rattle.std.proofs.lemmas.Bool.{and_parts}
+use Rattle.std.proofs.lemmas.Bool.{and_from, and_parts}
 use Rattle.tree_laws.specs.Below.cs_base.Token.{Token}
 use Rattle.tree_laws.specs.Below.c99_tree.Tree.{Forest}
 use Rattle.tree_laws.specs.Below.c_types.declared.entity.EntityKind.{EntityKind}
@@ -15,7 +15,8 @@ use Rattle.tree_laws.specs.Below.c_types.Tags.{number_in, renumbered, is_same_ta
 use Rattle.tree_laws.specs.Below.c_types.Declarations.{Facts, is_space, is_live, is_named, alike, with_fault, with_use, with_declaration, with_begun, visible, in_scope, linked}
 use Rattle.tree_laws.specs.Below.scope_bind.Named.{Space, Declaration, Declared, Occurrence, Frame, Scope, undeclared, redeclared, tag_redefined, ordinary, tags}
 use Rattle.tree_laws.specs.Below.scope_bind.Ordinary.{is_again, linked_entity, entity_of, declaration_of, declared, used_as, used, used_type, plain_name, with_parameter}
-use Rattle.reordered_tree_laws.specs.Beside.{is_beside, is_free_use, is_free_name, IsOwn, IsOwnDeclaration, IsOwnFrame, AreBeside}
+use Rattle.tree_laws.proofs.Lookups.{any_same}
+use Rattle.reordered_tree_laws.specs.Beside.{is_free_tag, is_beside, is_free_use, is_free_name, IsOwn, IsOwnDeclaration, IsOwnFrame, AreBeside}
 use Rattle.reordered_tree_laws.proofs.Beside.{IsUnasked, found_same, found_own, unasked, fault_beside, occurrence_beside, declaration_beside, begun_beside}
 use Rattle.reordered_tree_laws.proofs.OwnTypes.{own_adjusted, own_declarator, own_renumbered}
 
@@ -29,18 +30,6 @@ module _ (toks : List Token) (foreign : ℕ → Bool) (zero_own : foreign 0 ≡ 
 
   abbrev Hidden : (Declaration → Bool) → Type 0
   Hidden q = IsUnasked foreign ds es bs cs q
-
-  -- no tag stands beside
-  no_tag : (i : ℕ) (c : Bool) (d : Declaration) → is_beside foreign d ≡ true → (is_named toks tags i d && c) ≡ false
-  no_tag i c d h = by d.space h
-    where
-      by : (s : Space) → is_beside foreign (record d { space = s }) ≡ true → ((is_space s tags && alike toks i d.name_at) && c) ≡ false
-      by Ordinary e = refl
-      by Tags e = absurd cc
-      by (Members n) e = refl
-      by (Inner n) e = refl
-      by (Unnamed n) e = refl
-      by (Labels n) e = refl
 
   pub type_own : (r : Option Declaration) (other : CType) → IsOwn foreign other → IfSome r (IsOwnDeclaration foreign)
       → IsOwn foreign (option_map_or (λ d. d.ctype) r other)
@@ -154,26 +143,45 @@ module _ (toks : List Token) (foreign : ℕ → Bool) (zero_own : foreign 0 ≡ 
 
     -- ---- Tags
 
-    module _ (fr : Frame) (o : IsOwnFrame foreign fr) (i : ℕ) (mine : foreign i ≡ false) where
-      tag_asked : Hidden (λ d. is_named toks tags i d && is_prior_tag fr i d)
-      tag_asked = unasked foreign ds es bs cs f g k (λ d. is_named toks tags i d && is_prior_tag fr i d) (λ d h. no_tag i (is_prior_tag fr i d) d h)
+    abbrev tag_of : ℕ → Declaration → Bool
+    tag_of i d = is_named toks tags i d && is_live i d
+
+    abbrev prior_of : Frame → ℕ → Declaration → Bool
+    prior_of fr i d = is_named toks tags i d && is_prior_tag fr i d
+
+    pub free_tag : (i : ℕ) → is_free_tag foreign toks ds i ≡ true → is_free_tag foreign toks es i ≡ true → Hidden (tag_of i)
+    free_tag i p q = record { first = not_false (list_any (tag_of i) ds) p; second = not_false (list_any (tag_of i) es) q }
+
+    -- an earlier declaration of a tag is visible
+    prior_live : (fr : Frame) (i : ℕ) (d : Declaration) → prior_of fr i d ≡ true → tag_of i d ≡ true
+    prior_live fr i d e =
+        let p = and_parts (is_named toks tags i d) (is_prior_tag fr i d) e in
+        and_from (is_named toks tags i d) (is_live i d) p.0
+        ((and_parts (is_live i d) (not (fr.has_body || fr.alone) || (d.depth == fr.scope.depth)) p.1).0)
+
+    module _ (fr : Frame) (o : IsOwnFrame foreign fr) (i : ℕ) (mine : foreign i ≡ false) (u : Hidden (tag_of i)) where
+      tag_asked : Hidden (prior_of fr i)
+      tag_asked = record {
+        first = any_same (prior_of fr i) (tag_of i) ds (λ d w. prior_live fr i d) u.first;
+        second = any_same (prior_of fr i) (tag_of i) es (λ d w. prior_live fr i d) u.second;
+      }
 
       prior_same : prior_tag toks fr i g ≡ prior_tag toks fr i f
-      prior_same = found_same foreign ds es bs cs f g k (λ d. is_named toks tags i d && is_prior_tag fr i d) tag_asked
+      prior_same = found_same foreign ds es bs cs f g k (prior_of fr i) tag_asked
 
-      same_tag : (d : Declaration) → is_same_tag fr g d ≡ is_same_tag fr f d
-      same_tag d = ap (λ b. is_sort d.ctype fr.found && not (fr.has_body && b)) (k.begun d.entity)
+      same_tag : (d : Declaration) → IsOwnDeclaration foreign d → is_same_tag fr g d ≡ is_same_tag fr f d
+      same_tag d h = ap (λ b. is_sort d.ctype fr.found && not (fr.has_body && b)) (k.begun d.entity h.entity)
 
-      tag_entity_same : (r : Option Declaration) → tag_entity fr i g r ≡ tag_entity fr i f r
-      tag_entity_same None = refl
-      tag_entity_same (Some d) = ap (λ b. if b then d.entity else i) (same_tag d)
+      tag_entity_same : (r : Option Declaration) → IfSome r (IsOwnDeclaration foreign) → tag_entity fr i g r ≡ tag_entity fr i f r
+      tag_entity_same None h = refl
+      tag_entity_same (Some d) h = ap (λ b. if b then d.entity else i) (same_tag d h)
 
       tag_entity_own : (r : Option Declaration) → IfSome r (IsOwnDeclaration foreign) → foreign (tag_entity fr i f r) ≡ false
       tag_entity_own None h = mine
       tag_entity_own (Some d) h = entity_own (is_same_tag fr f d) d.entity i h.entity mine
 
       prior_own : IfSome (prior_tag toks fr i f) (IsOwnDeclaration foreign)
-      prior_own = found_own foreign ds es bs cs f g k (λ d. is_named toks tags i d && is_prior_tag fr i d) tag_asked
+      prior_own = found_own foreign ds es bs cs f g k (prior_of fr i) tag_asked
 
       named_by : (declares : Bool) (e u : ℕ) → foreign e ≡ false
           → Next (if declares then with_begun fr.has_body e (with_declaration (tag_declaration fr.scope i e (renumbered fr.found e)) f) else with_use i u f)
@@ -181,15 +189,15 @@ module _ (toks : List Token) (foreign : ℕ → Bool) (zero_own : foreign 0 ≡ 
       named_by true e u own =
           let d : Declaration = tag_declaration fr.scope i e (renumbered fr.found e) in
           begun_beside foreign ds es bs cs fr.has_body e (with_declaration d f) (with_declaration d g)
-          (declaration_beside foreign ds es bs cs d f g refl (record { ctype = own_renumbered foreign zero_own fr.found e o.found own; entity = own }) k)
+          (declaration_beside foreign ds es bs cs d f g mine (record { ctype = own_renumbered foreign zero_own fr.found e o.found own; entity = own }) k)
       named_by false e u own = occurrence_beside foreign ds es bs cs i u false f g k
 
       abbrev wrong_tag : Facts → Option Declaration → Bool
       wrong_tag x r = option_map_or (λ d. not (is_same_tag fr x d)) r false
 
-      wrong_same : (r : Option Declaration) → wrong_tag g r ≡ wrong_tag f r
-      wrong_same None = refl
-      wrong_same (Some d) = ap not (same_tag d)
+      wrong_same : (r : Option Declaration) → IfSome r (IsOwnDeclaration foreign) → wrong_tag g r ≡ wrong_tag f r
+      wrong_same None h = refl
+      wrong_same (Some d) h = ap not (same_tag d h)
 
       tag_by : (r : Option Declaration) → IfSome r (IsOwnDeclaration foreign) → Next (with_tag_after fr i r f) (with_tag_after fr i r g)
       tag_by r h =
@@ -199,21 +207,18 @@ module _ (toks : List Token) (foreign : ℕ → Bool) (zero_own : foreign 0 ≡ 
           let here : Next (with_tag_after fr i r f) (with_fault (wrong_tag f r) tag_redefined i (tag_named fr i r e g)) =
           fault_beside foreign ds es bs cs (wrong_tag f r) tag_redefined i (tag_named fr i r e f) (tag_named fr i r e g) inner in
           subst (λ x. Next (with_tag_after fr i r f) x)
-          (ap (λ c. with_fault c tag_redefined i (tag_named fr i r e g)) (sym (wrong_same r))
-          ∙ ap (λ x. with_fault (wrong_tag g r) tag_redefined i (tag_named fr i r x g)) (sym (tag_entity_same r))) here
+          (ap (λ c. with_fault c tag_redefined i (tag_named fr i r e g)) (sym (wrong_same r h))
+          ∙ ap (λ x. with_fault (wrong_tag g r) tag_redefined i (tag_named fr i r x g)) (sym (tag_entity_same r h))) here
 
       pub tag_beside : Next (with_tag toks fr i f) (with_tag toks fr i g)
       tag_beside = subst (λ r. Next (with_tag toks fr i f) (with_tag_after fr i r g)) (sym prior_same) (tag_by (prior_tag toks fr i f) prior_own)
 
       pub tag_type_beside : tag_type toks fr i g ≡ tag_type toks fr i f
       tag_type_beside =
-          ap (λ r. renumbered fr.found (tag_entity fr i g r)) prior_same ∙ ap (renumbered fr.found) (tag_entity_same (prior_tag toks fr i f))
+          ap (λ r. renumbered fr.found (tag_entity fr i g r)) prior_same ∙ ap (renumbered fr.found) (tag_entity_same (prior_tag toks fr i f) prior_own)
 
       pub tag_type_own : IsOwn foreign (tag_type toks fr i f)
       tag_type_own = own_renumbered foreign zero_own fr.found (tag_entity fr i f (prior_tag toks fr i f)) o.found (tag_entity_own (prior_tag toks fr i f) prior_own)
-
-      enumeration_asked : Hidden (λ d. is_named toks tags i d && is_live i d)
-      enumeration_asked = unasked foreign ds es bs cs f g k (λ d. is_named toks tags i d && is_live i d) (λ d h. no_tag i (is_live i d) d h)
 
       enumeration_by : (r : Option Declaration) → IfSome r (IsOwnDeclaration foreign) → Next (enumeration_used fr i r f) (enumeration_used fr i r g)
       enumeration_by None h = fault_beside foreign ds es bs cs true undeclared i f g k
@@ -233,8 +238,8 @@ module _ (toks : List Token) (foreign : ℕ → Bool) (zero_own : foreign 0 ≡ 
       enumeration_beside true = tag_beside
       enumeration_beside false =
           subst (λ r. Next (enumeration_used fr i (visible toks tags i i f) f) (enumeration_used fr i r g))
-          (sym (found_same foreign ds es bs cs f g k (λ d. is_named toks tags i d && is_live i d) enumeration_asked))
-          (enumeration_by (visible toks tags i i f) (found_own foreign ds es bs cs f g k (λ d. is_named toks tags i d && is_live i d) enumeration_asked))
+          (sym (found_same foreign ds es bs cs f g k (tag_of i) u))
+          (enumeration_by (visible toks tags i i f) (found_own foreign ds es bs cs f g k (tag_of i) u))
 
       pub enumeration_type_beside : (c : Bool) → (if c then tag_type toks fr i g else fr.found) ≡ (if c then tag_type toks fr i f else fr.found)
       enumeration_type_beside true = tag_type_beside

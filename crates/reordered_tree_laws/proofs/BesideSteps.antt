@@ -21,10 +21,10 @@ use Rattle.tree_laws.specs.Below.scope_bind.Ordinary.{is_func, used_type}
 use Rattle.tree_laws.specs.Below.scope_bind.Roles.{role_if, role_of}
 use Rattle.tree_laws.specs.Below.scope_bind.Walk.{facts_at, found_at, position_at, passed_as, declared_in, parameter_in, facts_after, frame_after}
 use Rattle.std.specs.Str.{bytes_eq}
-use Rattle.reordered_tree_laws.specs.Beside.{is_free_use, is_free_name, is_free_token, is_free_node, is_free_parameter, is_free_declarator, IsOwn, IsOwnFrame, AreBeside, StandBeside}
+use Rattle.reordered_tree_laws.specs.Beside.{is_free_tag, is_free_use, is_free_name, is_free_token, is_free_node, is_free_parameter, is_free_declarator, IsOwn, IsOwnFrame, AreBeside, StandBeside}
 use Rattle.reordered_tree_laws.proofs.Beside.{complete_beside, jump_beside}
 use Rattle.reordered_tree_laws.proofs.OwnTypes.{own_if, own_target, own_called, own_after}
-use Rattle.reordered_tree_laws.proofs.BesideNames.{free_use, used_beside, type_beside, used_type_own, named_beside, named_type_beside, free_name, declared_beside, parameter_beside, tag_beside, tag_type_beside, tag_type_own, enumeration_beside, enumeration_type_beside}
+use Rattle.reordered_tree_laws.proofs.BesideNames.{free_tag, free_use, used_beside, type_beside, used_type_own, named_beside, named_type_beside, free_name, declared_beside, parameter_beside, tag_beside, tag_type_beside, tag_type_own, enumeration_beside, enumeration_type_beside}
 use Rattle.reordered_tree_laws.proofs.BesideMembers.{label_beside, member_beside, member_used_beside, member_type_same, member_type_own, next_same, next_own, designated_beside, designated_type_same, designated_type_own, designated_position_same, anonymous_beside}
 
 module _ (toks : List Token) (foreign : ℕ → Bool) (zero_own : foreign 0 ≡ false) (ds es : List Declaration) (bs cs : List Occurrence) where
@@ -82,22 +82,24 @@ module _ (toks : List Token) (foreign : ℕ → Bool) (zero_own : foreign 0 ≡ 
           owned = o.found;
         }
 
-    tags_beside : (i : ℕ) → foreign i ≡ false → (c : Bool) → TokenBeside (role_if c (role_of SuRest 1 0)) i
-    tags_beside i mine false = plain_beside i
-    tags_beside i mine true = record {
-      facts = tag_beside toks foreign zero_own ds es bs cs f g k fr o i mine;
-      found = tag_type_beside toks foreign zero_own ds es bs cs f g k fr o i mine;
+    tags_beside : (i : ℕ) → foreign i ≡ false → (c : Bool) → (if c then is_free_tag foreign toks ds i else true) ≡ true
+        → (if c then is_free_tag foreign toks es i else true) ≡ true → TokenBeside (role_if c (role_of SuRest 1 0)) i
+    tags_beside i mine false p q = plain_beside i
+    tags_beside i mine true p q = record {
+      facts = tag_beside toks foreign zero_own ds es bs cs f g k fr o i mine (free_tag toks foreign zero_own ds es bs cs f g k i p q);
+      found = tag_type_beside toks foreign zero_own ds es bs cs f g k fr o i mine (free_tag toks foreign zero_own ds es bs cs f g k i p q);
       position = refl;
-      owned = tag_type_own toks foreign zero_own ds es bs cs f g k fr o i mine;
+      owned = tag_type_own toks foreign zero_own ds es bs cs f g k fr o i mine (free_tag toks foreign zero_own ds es bs cs f g k i p q);
     }
 
-    enumeration_tags_beside : (i : ℕ) → foreign i ≡ false → (c : Bool) → TokenBeside (role_if c (role_of EnRest 1 0)) i
-    enumeration_tags_beside i mine false = plain_beside i
-    enumeration_tags_beside i mine true = record {
-      facts = enumeration_beside toks foreign zero_own ds es bs cs f g k fr o i mine fr.has_body;
-      found = enumeration_type_beside toks foreign zero_own ds es bs cs f g k fr o i mine fr.has_body;
+    enumeration_tags_beside : (i : ℕ) → foreign i ≡ false → (c : Bool) → (if c then is_free_tag foreign toks ds i else true) ≡ true
+        → (if c then is_free_tag foreign toks es i else true) ≡ true → TokenBeside (role_if c (role_of EnRest 1 0)) i
+    enumeration_tags_beside i mine false p q = plain_beside i
+    enumeration_tags_beside i mine true p q = record {
+      facts = enumeration_beside toks foreign zero_own ds es bs cs f g k fr o i mine (free_tag toks foreign zero_own ds es bs cs f g k i p q) fr.has_body;
+      found = enumeration_type_beside toks foreign zero_own ds es bs cs f g k fr o i mine (free_tag toks foreign zero_own ds es bs cs f g k i p q) fr.has_body;
       position = refl;
-      owned = own_if foreign zero_own fr.has_body (tag_type toks fr i f) fr.found (tag_type_own toks foreign zero_own ds es bs cs f g k fr o i mine) o.found;
+      owned = own_if foreign zero_own fr.has_body (tag_type toks fr i f) fr.found (tag_type_own toks foreign zero_own ds es bs cs f g k fr o i mine (free_tag toks foreign zero_own ds es bs cs f g k i p q)) o.found;
     }
 
     pointed_beside : (i : ℕ) (c : Bool) → TokenBeside (role_if c (role_of Post 4 1)) i
@@ -146,8 +148,8 @@ module _ (toks : List Token) (foreign : ℕ → Bool) (zero_own : foreign 0 ≡ 
         → is_free_token foreign toks es p a n fr.scope i ≡ true → TokenBeside (role_of p a n) i
     token_beside i mine Primary a n d e = primary_beside i (a == 1) d e
     token_beside i mine Main a n d e = type_name_beside i ((a == 4) && (n == 0)) d e
-    token_beside i mine SuRest a n d e = tags_beside i mine ((a == 1) && (n == 0))
-    token_beside i mine EnRest a n d e = enumeration_tags_beside i mine ((a == 1) && (n == 0))
+    token_beside i mine SuRest a n d e = tags_beside i mine ((a == 1) && (n == 0)) d e
+    token_beside i mine EnRest a n d e = enumeration_tags_beside i mine ((a == 1) && (n == 0)) d e
     token_beside i mine Params a n d e = listed_beside i ((a == 1) && (n % 2 == 0)) d e
     token_beside i mine Post a n d e = members_beside i ((a == 3) && (n == 1)) ((a == 4) && (n == 1))
     token_beside i mine Designator a n d e = designators_beside i ((a == 1) && (n == 1))

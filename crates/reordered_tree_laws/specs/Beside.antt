@@ -6,7 +6,7 @@ use Rattle.tree_laws.specs.Below.cs_base.Token.{Token}
 use Rattle.tree_laws.specs.Below.c99_tree.Tree.{Forest, none, token, node}
 use Rattle.tree_laws.specs.Below.c99_tree.declared.production.Label.{Label}
 use Rattle.tree_laws.specs.Below.c99_tree.declared.production.Production.{Production}
-use Rattle.tree_laws.specs.Below.c99_tree.declared.production.Production.TheVariants.{ExtRest, FunBody, InitDecl, Main, Enumerator, Declarator, Params, Param, Pdecl, Primary}
+use Rattle.tree_laws.specs.Below.c99_tree.declared.production.Production.TheVariants.{ExtRest, FunBody, InitDecl, Main, Enumerator, Declarator, Params, Param, Pdecl, Primary, SuRest, EnRest}
 use Rattle.tree_laws.specs.Below.c_types.declared.declarations.Space.TheVariants.{Ordinary as ordinary, Tags as tags, Members as members, Inner as inner, Unnamed as unnamed, Labels as labels}
 use Rattle.tree_laws.specs.Below.c_types.Types.{CType}
 use Rattle.tree_laws.specs.Below.c_types.Tags.{number_in}
@@ -20,11 +20,11 @@ use Rattle.tree_laws.specs.Below.scope_bind.Walk.{walked}
 -- ---- What stands beside
 
 module _ (foreign : ℕ → Bool) where
-  -- a name in the name space stands beside, where these tokens do: an ordinary identifier by itself, and a member by its
-  -- structure or union; tags and labels never do
+  -- a name in the name space stands beside, where these tokens do: an ordinary identifier and a tag by itself, and a member
+  -- by its structure or union; labels never do
   abbrev pub beside_in : Space → ℕ → Bool
   beside_in ordinary i = foreign i
-  beside_in tags i = false
+  beside_in tags i = foreign i
   beside_in (members n) i = foreign n
   beside_in (inner n) i = foreign n
   beside_in (unnamed n) i = foreign n
@@ -47,16 +47,22 @@ module _ (foreign : ℕ → Bool) where
     abbrev pub is_free_use : ℕ → Bool
     is_free_use i = not (list_any (λ d. is_named toks ordinary i d && is_live i d) ds)
 
+    -- a tag that is read does not
+    abbrev pub is_free_tag : ℕ → Bool
+    is_free_tag i = not (list_any (λ d. is_named toks tags i d && is_live i d) ds)
+
     -- one that is declared in the scope, to the last token of its declarator, is none of them, and declares none of them anew
     abbrev pub is_free_name : Scope → ℕ → ℕ → Bool
     is_free_name scope i last =
         not (foreign i) && not (list_any (λ d. is_named toks ordinary i d && (is_live last d && (d.depth == scope.depth))) ds)
 
     -- a token of a node of the production and the alternative: identifiers that are used in expressions and as type names,
-    -- and those in an identifier list
+    -- tags, and those in an identifier list
     abbrev pub is_free_token : Production → ℕ → ℕ → Scope → ℕ → Bool
     is_free_token Primary a k scope i = if a == 1 then is_free_use i else true
     is_free_token Main a k scope i = if (a == 4) && (k == 0) then is_free_use i else true
+    is_free_token SuRest a k scope i = if (a == 1) && (k == 0) then is_free_tag i else true
+    is_free_token EnRest a k scope i = if (a == 1) && (k == 0) then is_free_tag i else true
     is_free_token Params a k scope i = if (a == 1) && (k % 2 == 0) then is_free_name scope i i else true
     is_free_token _ a k scope i = true
 
@@ -105,14 +111,13 @@ module _ (foreign : ℕ → Bool) where
     pub owner : foreign f.owner ≡ false
 
   -- Two lists of declarations have the same ones but for those that stand beside, which are these and those; of none that
-  -- does not, type or entity stands beside. The same tags have begun, and what does not stand beside is complete in both or in
-  -- neither; the same is at fault; and the same identifiers have been bound behind what was bound before.
+  -- does not, type or entity stands beside. What does not stand beside has begun in both or in neither, and so it is complete; the same is at fault; and the same identifiers have been bound behind what was bound before.
   pub record AreBeside (ds es : List Declaration) (bs cs : List Occurrence) (f g : Facts) : Type 0 where
     pub seen : seen_of g.declared ≡ seen_of f.declared
     pub first : beside_of f.declared ≡ ds
     pub second : beside_of g.declared ≡ es
     pub owned : All IsOwnDeclaration (seen_of f.declared)
-    pub begun : (n : ℕ) → is_in g.begun n ≡ is_in f.begun n
+    pub begun : (n : ℕ) → foreign n ≡ false → is_in g.begun n ≡ is_in f.begun n
     pub complete : (n : ℕ) → foreign n ≡ false → is_in g.complete n ≡ is_in f.complete n
     pub fault : g.fault ≡ f.fault
     pub own : List Occurrence
