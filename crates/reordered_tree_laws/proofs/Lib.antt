@@ -7,3 +7,7 @@ mod BesideMembers
 mod BesideSteps
 mod BesideWalk
 mod Seen
+mod Adding
+mod Items
+mod Rows
+mod Ranges

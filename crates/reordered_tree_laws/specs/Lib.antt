@@ -4,3 +4,5 @@ pub mod Cuts
 pub mod Laws
 pub mod Beside
 pub mod Seen
+pub mod Adding
+pub mod Ranges

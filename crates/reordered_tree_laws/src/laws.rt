@@ -1,6 +1,8 @@
 // What is true of a tree in which the items of lists stand in another order: laws that no caller runs.
+ghost use Rattle.reordered_tree_laws.specs.Adding.{ItemsBindAlike, PartsAddBeside};
 ghost use Rattle.reordered_tree_laws.specs.Beside.{PartsBindAlike};
 ghost use Rattle.reordered_tree_laws.specs.Laws.{TokensAreArranged, ReorderedTreesAreOfTheirTexts};
+ghost use Rattle.reordered_tree_laws.specs.Ranges.{RangesEndWithScopes};
 ghost use Rattle.reordered_tree_laws.specs.Seen.{NewOrdersAreNotSeen};
 
 /// The tokens of the tree in the new order are the arranged ones, and it is the tree of a text with as many tokens.
@@ -19,4 +21,21 @@ pub fn parts_bind_alike()
 /// first and last tokens are the same.
 pub fn new_orders_are_not_seen()
     ensures { NewOrdersAreNotSeen }
+{}
+
+/// What a part adds to what is known stands beside, where its tokens do: a part with no object, function or body of its
+/// own, and with no list in braces behind a tag.
+pub fn parts_add_beside()
+    ensures { PartsAddBeside }
+{}
+
+/// An item of a list binds behind other items as it does without them.
+pub fn items_bind_alike()
+    ensures { ItemsBindAlike }
+{}
+
+/// A range of an ordinary identifier or a tag that a part behind the first token adds begins in the part, and ends in
+/// it or with the scope around it.
+pub fn ranges_end_with_scopes()
+    ensures { RangesEndWithScopes }
 {}

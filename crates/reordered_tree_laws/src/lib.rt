@@ -4,13 +4,22 @@
 //!
 //! `reordered` of `specs/Reordered.antt` is that tree, and `cut_in` of `specs/Cuts.antt` says where its lists stand
 //! among the tokens, in the words of the crate `list_cuts`. Its tokens are the arranged ones, and it is the tree of a
-//! text with as many tokens. What declarations see of it stays, `AreSeenAlike` of `specs/Seen.antt`. The binder reads the items of a list one after another. `parts_bind_alike` says that
-//! what stands before a part does not matter to it where the part does not ask for it: from two states that differ by
-//! declarations beside the part, `AreBeside` of `specs/Beside.antt`, the walk notes the same in both. It is proved by
-//! one induction over the part, beside the walk (`proofs/BesideWalk.antt`). That a reordered tree binds name for name
-//! as before is not said here. No program stands here: a law is the `ensures` of a function without a body.
+//! text with as many tokens. What declarations see of it stays, `AreSeenAlike` of `specs/Seen.antt`. The binder
+//! reads the items of a list one after another. `parts_bind_alike` says that what stands before a part does not matter
+//! to it where the part does not ask for it: from two states that differ by declarations beside the part, `AreBeside`
+//! of `specs/Beside.antt`, the walk notes the same in both. `parts_add_beside` says that what a part adds stands beside
+//! the parts behind it, `is_adding` of `specs/Adding.antt`; so an item binds behind other items as it does without them,
+//! `items_bind_alike`. A range that a part adds ends in it or with the scope around it, `IsAdded` of
+//! `specs/Ranges.antt`. They are proved by inductions beside the walk (`proofs/BesideWalk.antt`, `proofs/Adding.antt`,
+//! `proofs/Ranges.antt`).
+//! `proofs/Rows.antt` has worked rows of lists in a new order, some of which bind as before and some of which do not.
+//! That a reordered tree binds name for name as before is not said here. No program stands here: a law is the `ensures`
+//! of a function without a body.
 #![tactic(auto)]
 
 mod laws;
 
-pub use laws::{new_orders_are_not_seen, parts_bind_alike, reordered_trees_are_of_their_texts};
+pub use laws::{
+    items_bind_alike, new_orders_are_not_seen, parts_add_beside, parts_bind_alike,
+    ranges_end_with_scopes, reordered_trees_are_of_their_texts,
+};
