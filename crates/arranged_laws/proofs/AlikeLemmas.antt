@@ -38,7 +38,7 @@ strict_canon loose (x ∷ xs) (y ∷ ys) e =
     let behind : map unlined_hidden xs ≡ map unlined_hidden ys = rest_same (unlined_hidden x) (unlined_hidden y) (map unlined_hidden xs) (map unlined_hidden ys) e in
     ap (λ (v : Hidden). label_hidden loose v ∷ map unlined_hidden xs) here ∙ ap (λ (l : List Hidden). label_hidden loose y ∷ l) behind
 
-canon_strict : (xs : List Hidden) → canon false xs ≡ map unlined_hidden xs
+pub canon_strict : (xs : List Hidden) → canon false xs ≡ map unlined_hidden xs
 canon_strict [] = refl
 canon_strict (x ∷ xs) = refl
 

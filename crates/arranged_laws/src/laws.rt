@@ -1,6 +1,10 @@
 // What is true of expansions whose tokens change places: laws that no caller runs, and that callers' proofs cite.
 ghost use Rattle.arranged_laws.specs.Alike.{ExpandsAlike};
+ghost use Rattle.arranged_laws.specs.Portions.{PortionsCompose};
+ghost use Rattle.arranged_laws.specs.Sections.{RunsFall};
 ghost use Rattle.arranged_laws.specs.Splitting.{ExpansionSplits};
+
+use expansion_laws::expansion_goes_part_by_part;
 
 /// An expansion splits at each of its tokens that no macro put in: the tokens of the run before it are expanded by
 /// themselves to those before it, and those behind it to those behind it; and the former are expanded so whatever
@@ -14,4 +18,19 @@ pub fn expansion_splits()
 /// left and no `__LINE__` is replaced.
 pub fn expansion_goes_alike()
     ensures alike { ExpandsAlike }
+{}
+
+/// A run that is made of portions, one behind the other, each of which is expanded somewhere and brings no number of a
+/// line, is expanded to what they are expanded to, one behind the other, in whatever order they stand: tokens and notes
+/// are alike, and it asks for as much work as they do together.
+pub fn portions_compose()
+    ensures portions { PortionsCompose }
+{
+    expansion_goes_part_by_part();
+}
+
+/// A run whose expansion falls into sections, each of which ends in a sign that no macro put in, falls into sections
+/// that are expanded to these by themselves, each with the work that the one before it left, and with its sign too.
+pub fn runs_fall()
+    ensures falls { RunsFall }
 {}

@@ -1,12 +1,15 @@
 //! What expansions of macros keep where other tokens come to stand before or behind them (ISO/IEC 9899:1999, 6.10.3), as
 //! they do where the items of lists change places.
 //!
-//! No program stands here. Each law is the `ensures` of a function without a body. An expansion splits at each token that
-//! no macro put in, which is the converse of `expansion_goes_part_by_part` in `expansion_laws`; and it goes on alike where
-//! tokens differ in their lines and in white space before the first. That a new order of the parameters of a function keeps
-//! what a program means will rest on these laws. Read `specs/Splitting.antt` and `specs/Alike.antt`, then `laws.rt`.
+//! No program stands here. Each law is the `ensures` of a function. An expansion splits at each token that no macro put in,
+//! which is the converse of `expansion_goes_part_by_part` in `expansion_laws`; so a run falls into sections, each of which
+//! ends in such a token, as a parenthesis or a comma. An expansion goes on alike where tokens differ in their lines and in
+//! white space before the first; so portions of a run that change places are expanded as before, and ask for as much work.
+//! That a new order of the parameters of a function keeps what a program means will rest on these laws, along the cuts of
+//! `list_cuts`. Read `specs/Splitting.antt` and `specs/Sections.antt`, `specs/Alike.antt` and `specs/Portions.antt`, then
+//! `laws.rt`.
 #![tactic(auto)]
 
 mod laws;
 
-pub use laws::{expansion_goes_alike, expansion_splits};
+pub use laws::{expansion_goes_alike, expansion_splits, portions_compose, runs_fall};
