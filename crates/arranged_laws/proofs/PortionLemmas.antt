@@ -1,6 +1,8 @@
 -- Portions of a run, one behind the other.
 use Rattle.std.proofs.Common.{◌≡◌, ◌≤◌, ℕ, zero, suc, ◌+◌, ◌-◌, ◌&&◌, Bool, true, false, List, [], ◌∷◌, ◌++◌, length, map, Ok, refl, ap, sym, ◌∙◌, arith}
 use Rattle.std.specs.List.{list_all, flat_map}
+use Rattle.std.specs.Prelude.{sum_by}
+use Rattle.std.proofs.lemmas.List.Sums.{sum_by-cons}
 use Rattle.std.proofs.lemmas.List.{map-append}
 use Rattle.macro_expand.specs.Below.line_shape.Signs.{is_open}
 use Rattle.macro_expand.specs.Below.macro_body.Hides.{Hidden}
@@ -9,8 +11,10 @@ use Rattle.macro_expand.specs.Below.macro_body.Notes.{Note, Expanded, expanded}
 use Rattle.macro_expand.specs.Expansion.{Setting, macro_of, whole}
 use Rattle.macro_expand.specs.Laws.{put_out_after, begins_open, is_callable, ends_callable, ExpandsInParts}
 use Rattle.macro_expand.proofs.WholeLemmas.{whole_is_step, whole_falls}
+use Rattle.list_cuts.specs.Cuts.{arranged}
+use Rattle.list_cuts.proofs.CutLemmas.{sum-arranged}
 use Rattle.arranged_laws.specs.Alike.{unlined_hidden, label_hidden, canon, plain_note, brings_no_line}
-use Rattle.arranged_laws.specs.Portions.{Portion, cost_of, costs_of, IsPortion, ArePortions, AreTheirs, Composes, PortionsCompose}
+use Rattle.arranged_laws.specs.Portions.{Portion, cost_of, costs_of, IsPortion, ArePortions, AreTheirs, Composes, PortionsCompose, PortionsMove}
 use Rattle.arranged_laws.proofs.SplitLemmas.{first_same, rest_same}
 use Rattle.arranged_laws.proofs.AlikeLemmas.{canon_strict, expands_alike}
 
@@ -81,3 +85,15 @@ compose in_parts set depth before work (p ∷ ps) all room =
 
 pub portions_compose : ExpandsInParts → PortionsCompose
 portions_compose in_parts = compose in_parts
+
+-- ---- in a new order
+
+costs-sum : (ps : List Portion) → costs_of ps ≡ sum_by cost_of ps
+unfolding costs_of
+costs-sum [] = refl
+costs-sum (p ∷ ps) = ap (λ (n : ℕ). cost_of p + n) (costs-sum ps) ∙ sym (sum_by-cons cost_of p ps)
+
+pub portions_move : ExpandsInParts → PortionsMove
+portions_move in_parts = λ set depth before work n order c ps is all these room.
+    let same : costs_of (arranged order c ps) ≡ costs_of ps = costs-sum (arranged order c ps) ∙ sum-arranged cost_of n order c ps is all ∙ sym (costs-sum ps) in
+    (compose in_parts set depth before work (arranged order c ps) these (omega (arith, same)), same)

@@ -7,6 +7,7 @@ use Rattle.macro_expand.specs.Below.macro_body.Macro.{Table}
 use Rattle.macro_expand.specs.Below.macro_body.Notes.{Note, Expanded}
 use Rattle.macro_expand.specs.Expansion.{Setting, whole}
 use Rattle.macro_expand.specs.Laws.{begins_open, ends_callable}
+use Rattle.list_cuts.specs.Cuts.{Cut, IsOrder, arranged, AreOf}
 use Rattle.arranged_laws.specs.Alike.{canon, plain_note, brings_no_line}
 
 -- A portion: its tokens, how many were put out before them, the work that was left, and what they were expanded to; and the
@@ -60,3 +61,9 @@ pub record Composes (set : Setting) (depth before work : ℕ) (ps : List Portion
 -- The law.
 abbrev pub PortionsCompose : Type 0
 PortionsCompose = (set : Setting) (depth before work : ℕ) (ps : List Portion) → ArePortions set depth ps → costs_of ps ≤ work → Composes set depth before work ps
+
+-- The law: so it is where lists of portions are in a new order, and they ask for as much as before.
+abbrev pub PortionsMove : Type 0
+PortionsMove = (set : Setting) (depth before work n : ℕ) (order : List ℕ) (c : Cut) (ps : List Portion) → IsOrder n order → AreOf n c
+    → ArePortions set depth (arranged order c ps) → costs_of ps ≤ work
+    → Composes set depth before work (arranged order c ps) × (costs_of (arranged order c ps) ≡ costs_of ps)

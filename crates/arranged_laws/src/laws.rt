@@ -1,6 +1,6 @@
 // What is true of expansions whose tokens change places: laws that no caller runs, and that callers' proofs cite.
 ghost use Rattle.arranged_laws.specs.Alike.{ExpandsAlike};
-ghost use Rattle.arranged_laws.specs.Portions.{PortionsCompose};
+ghost use Rattle.arranged_laws.specs.Portions.{PortionsCompose, PortionsMove};
 ghost use Rattle.arranged_laws.specs.Sections.{RunsFall};
 ghost use Rattle.arranged_laws.specs.Splitting.{ExpansionSplits};
 
@@ -22,9 +22,11 @@ pub fn expansion_goes_alike()
 
 /// A run that is made of portions, one behind the other, each of which is expanded somewhere and brings no number of a
 /// line, is expanded to what they are expanded to, one behind the other, in whatever order they stand: tokens and notes
-/// are alike, and it asks for as much work as they do together.
+/// are alike, and it asks for as much work as they do together. So it is where lists of portions are in a new order,
+/// and that asks for as much as before.
 pub fn portions_compose()
     ensures portions { PortionsCompose }
+    ensures moves { PortionsMove }
 {
     expansion_goes_part_by_part();
 }
