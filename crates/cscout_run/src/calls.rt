@@ -11,6 +11,7 @@ use crate::workspace_files::read_workspace;
 use calls_of::{graph, print_calls};
 use cs_base::Files;
 use std::alloc::Global;
+use std::mem;
 use ws_core::{Analysis, analyse};
 
 /// All of the answer to a report on calls but its output.
@@ -20,7 +21,11 @@ pub(crate) fn prepare_calls<F: Files>(alloc: Global, ws: &str, files: &mut F) ->
 {
     let workspace = read_workspace(alloc, ws, files)?;
     match analyse(alloc, &workspace, files) {
-        Ok(analysis) => calls_of_all(alloc, &analysis, ws),
+        Ok(analysis) => {
+            let answer = calls_of_all(alloc, &analysis, ws);
+            mem::forget(analysis);
+            answer
+        }
         Err(fault) => Err(stop_of(fault)),
     }
 }

@@ -14,6 +14,7 @@ use command_words::Finding;
 use cs_base::Files;
 use find_names::{FindRefusal, find};
 use std::alloc::Global;
+use std::mem;
 use ws_core::{Analysis, analyse};
 
 /// All of the answer to a query over classes but its output.
@@ -28,7 +29,11 @@ pub(crate) fn prepare_find<F: Files>(
 {
     let ws = read_workspace(alloc, q.ws, files)?;
     match analyse(alloc, &ws, files) {
-        Ok(analysis) => found(alloc, &analysis, q),
+        Ok(analysis) => {
+            let answer = found(alloc, &analysis, q);
+            mem::forget(analysis);
+            answer
+        }
         Err(fault) => Err(stop_of(fault)),
     }
 }

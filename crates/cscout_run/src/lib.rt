@@ -6,7 +6,8 @@
 //! where the outside fails. `HostFiles` and `HostSink` are the real files and streams, which the program `cscout_cli`
 //! hands it. What words ask for, the help and the lines of messages stand in the crate `command_words`. All that may
 //! want memory is done in `preparing.rt`, `batches.rt`, `templates.rt`, `reporting.rt`, `listing.rt` and `calls.rt`, before the first
-//! put; messages are told in pieces and want none. Read `specs/Answer.antt`, `specs/Outcome.antt`, then `top.rt`.
+//! put; messages are told in pieces and want none. What was analysed for a command other than a batch is not taken
+//! apart behind it: its memory goes when the process ends. Read `specs/Answer.antt`, `specs/Outcome.antt`, then `top.rt`.
 #![tactic(auto)]
 
 mod batches;

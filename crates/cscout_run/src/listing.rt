@@ -11,6 +11,7 @@ use crate::workspace_files::read_workspace;
 use cs_base::Files;
 use query_report::{Query, QueryRefusal, report};
 use std::alloc::Global;
+use std::mem;
 use ws_core::{Analysis, analyse};
 
 /// All of the answer to a report on a whole workspace but its output.
@@ -25,7 +26,11 @@ pub(crate) fn prepare_list<F: Files>(
 {
     let workspace = read_workspace(alloc, ws, files)?;
     match analyse(alloc, &workspace, files) {
-        Ok(analysis) => listed(alloc, &analysis, ws, q),
+        Ok(analysis) => {
+            let answer = listed(alloc, &analysis, ws, q);
+            mem::forget(analysis);
+            answer
+        }
         Err(fault) => Err(stop_of(fault)),
     }
 }

@@ -22,7 +22,7 @@ use command_words::{Rename, Request, edited_text, help, version};
 use cs_base::{Edits, Files, Memory, Text, normal_path};
 use query_report::Query;
 use std::alloc::Global;
-use std::str;
+use std::{mem, str};
 use ws_core::{Analysis, analyse};
 
 /// What is left to do once nothing can want memory: the edits to put, the text to write, and whether the run is refused then,
@@ -87,7 +87,9 @@ fn prepare_rename<F: Files>(
         Ok(analysis) => {
             // Each path of the analysis has one number.
             let _files = analysis.files();
-            planned(alloc, &analysis, rename)
+            let answer = planned(alloc, &analysis, rename);
+            mem::forget(analysis);
+            answer
         }
         Err(fault) => Err(stop_of(fault)),
     }

@@ -14,6 +14,7 @@ use command_words::{NamedClass, UnitTokens};
 use cs_base::{Edits, Files, Place, normal_path};
 use query_report::{Query, QueryRefusal, print_skipped, print_tokens, report};
 use std::alloc::Global;
+use std::mem;
 use ws_core::{AnalyseFault, Analysis, analyse, one_text, texts};
 use ws_file::Workspace;
 
@@ -65,7 +66,11 @@ pub(crate) fn prepare_class<F: Files>(
 {
     let ws = read_workspace(alloc, q.ws, files)?;
     match analyse(alloc, &ws, files) {
-        Ok(analysis) => class_of_name(alloc, &analysis, q),
+        Ok(analysis) => {
+            let answer = class_of_name(alloc, &analysis, q);
+            mem::forget(analysis);
+            answer
+        }
         Err(fault) => Err(stop_of(fault)),
     }
 }

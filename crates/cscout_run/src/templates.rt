@@ -13,6 +13,7 @@ use crate::workspace_files::read_workspace;
 use command_words::{Reordering, edited_text, order_of};
 use cs_base::{Files, normal_path};
 use std::alloc::Global;
+use std::mem;
 use template_rules::{TemplateRefusal, plan_template};
 use ws_core::{Analysis, analyse};
 
@@ -28,7 +29,11 @@ pub(crate) fn prepare_template<F: Files>(
 {
     let ws = read_workspace(alloc, q.ws, files)?;
     match analyse(alloc, &ws, files) {
-        Ok(analysis) => reordered(alloc, &analysis, q),
+        Ok(analysis) => {
+            let answer = reordered(alloc, &analysis, q);
+            mem::forget(analysis);
+            answer
+        }
         Err(fault) => Err(stop_of(fault)),
     }
 }

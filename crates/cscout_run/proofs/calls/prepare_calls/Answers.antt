@@ -25,8 +25,8 @@ pub returns-in-Ok-clause-answer : goal.returns-in-Ok-clause-answer
 returns-in-Ok-clause-answer g c =
     let ws : List ℕ = c.args.ws.now in
     let told = (g.F.Files.told c.read_workspace.new.files).held in
-    let found = analysed-prepared told ws c.in_ok-workspace.workspace c.in-Ok.analysis.value IsCallsAnswer c.calls_of_all.result c.in-Ok.ensures.answer c.calls_of_all.ensures.answer in
-    over_told (g.F.Files.told c.args.files.now).held told ws c.in_ok-workspace.workspace IsNext c.calls_of_all.result c.read_workspace.ensures.faults.held c.in_ok-workspace.ensures.answer found
+    let found = analysed-prepared told ws c.in_ok-workspace.workspace c.in-Ok.analysis.value IsCallsAnswer c.calls_of_all-answer.result c.in-Ok.ensures.answer c.calls_of_all-answer.ensures.answer in
+    over_told (g.F.Files.told c.args.files.now).held told ws c.in_ok-workspace.workspace IsNext c.calls_of_all-answer.result c.read_workspace.ensures.faults.held c.in_ok-workspace.ensures.answer found
 
 pub returns-clause-answer : goal.returns-clause-answer
 returns-clause-answer g c =

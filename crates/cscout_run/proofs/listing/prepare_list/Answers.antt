@@ -28,8 +28,8 @@ returns-in-Ok-clause-answer g c =
     let q : Query = c.args.q.now in
     let ws : List ℕ = c.args.ws.now in
     let told = (g.F.Files.told c.read_workspace.new.files).held in
-    let found = analysed-prepared told ws c.in_ok-workspace.workspace c.in-Ok.analysis.value (IsListAnswer q) c.listed.result c.in-Ok.ensures.answer c.listed.ensures.answer in
-    over_told (g.F.Files.told c.args.files.now).held told ws c.in_ok-workspace.workspace (IsNext q) c.listed.result c.read_workspace.ensures.faults.held c.in_ok-workspace.ensures.answer found
+    let found = analysed-prepared told ws c.in_ok-workspace.workspace c.in-Ok.analysis.value (IsListAnswer q) c.listed-answer.result c.in-Ok.ensures.answer c.listed-answer.ensures.answer in
+    over_told (g.F.Files.told c.args.files.now).held told ws c.in_ok-workspace.workspace (IsNext q) c.listed-answer.result c.read_workspace.ensures.faults.held c.in_ok-workspace.ensures.answer found
 
 pub returns-clause-answer : goal.returns-clause-answer
 returns-clause-answer g c =

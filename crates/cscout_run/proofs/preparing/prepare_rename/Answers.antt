@@ -28,8 +28,8 @@ pub returns-in-Ok-clause-answer : goal.returns-in-Ok-clause-answer
 returns-in-Ok-clause-answer g c =
     let q : RenameValue = rename_value c.args.rename.now in
     let told = (g.F.Files.told c.read_workspace.new.files).held in
-    let found = analysed-prepared told q.ws c.in_ok-ws.ws c.in-Ok.analysis.value (IsRenameAnswer q) c.planned.result c.in-Ok.ensures.answer c.planned.ensures.answer in
-    over_told (g.F.Files.told c.args.files.now).held told q.ws c.in_ok-ws.ws (IsNext q) c.planned.result c.read_workspace.ensures.faults.held c.in_ok-ws.ensures.answer found
+    let found = analysed-prepared told q.ws c.in_ok-ws.ws c.in-Ok.analysis.value (IsRenameAnswer q) c.planned-answer.result c.in-Ok.ensures.answer c.planned-answer.ensures.answer in
+    over_told (g.F.Files.told c.args.files.now).held told q.ws c.in_ok-ws.ws (IsNext q) c.planned-answer.result c.read_workspace.ensures.faults.held c.in_ok-ws.ensures.answer found
 
 pub returns-clause-answer : goal.returns-clause-answer
 returns-clause-answer g c =
@@ -43,4 +43,4 @@ returns-clause-answer g c =
 pub returns-in-Ok-clause-planned : goal.returns-in-Ok-clause-planned
 returns-in-Ok-clause-planned g c =
     planned_told (g.F.Files.told c.args.files.now).held (g.F.Files.told c.read_workspace.new.files).held (rename_value c.args.rename.now) c.in_ok-ws.ws c.in-Ok.analysis.value
-    c.planned.result (subst (λ (w : WorkspaceValue). IsWorkspace w) c.ws.view_is c.ws.invariant) c.read_workspace.ensures.faults.held c.in_ok-ws.ensures.answer c.in-Ok.ensures.answer c.in-Ok.analysis.classes c.in-Ok.ensures.whole.1 c.files-files.ensures.once c.planned.ensures.renaming c.planned.ensures.sound
+    c.planned-answer.result (subst (λ (w : WorkspaceValue). IsWorkspace w) c.ws.view_is c.ws.invariant) c.read_workspace.ensures.faults.held c.in_ok-ws.ensures.answer c.in-Ok.ensures.answer c.in-Ok.analysis.classes c.in-Ok.ensures.whole.1 c.files-files.ensures.once c.planned-answer.ensures.renaming c.planned-answer.ensures.sound

@@ -27,8 +27,8 @@ pub returns-in-Ok-clause-answer : goal.returns-in-Ok-clause-answer
 returns-in-Ok-clause-answer g c =
     let q : TemplateValue = template_value c.args.q.now in
     let told = (g.F.Files.told c.read_workspace.new.files).held in
-    let found = analysed-prepared told q.ws c.in_ok-ws.ws c.in-Ok.analysis.value (IsTemplateAnswer q) c.reordered.result c.in-Ok.ensures.answer c.reordered.ensures.answer in
-    over_told (g.F.Files.told c.args.files.now).held told q.ws c.in_ok-ws.ws (IsNext q) c.reordered.result c.read_workspace.ensures.faults.held c.in_ok-ws.ensures.answer found
+    let found = analysed-prepared told q.ws c.in_ok-ws.ws c.in-Ok.analysis.value (IsTemplateAnswer q) c.reordered-answer.result c.in-Ok.ensures.answer c.reordered-answer.ensures.answer in
+    over_told (g.F.Files.told c.args.files.now).held told q.ws c.in_ok-ws.ws (IsNext q) c.reordered-answer.result c.read_workspace.ensures.faults.held c.in_ok-ws.ensures.answer found
 
 pub returns-clause-answer : goal.returns-clause-answer
 returns-clause-answer g c =
