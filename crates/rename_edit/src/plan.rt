@@ -7,17 +7,16 @@ ghost use Rattle.rename_rules.specs.First.{member_offences, offences_of, spellin
 ghost use Rattle.rename_rules.specs.Offences.{kept_string_places};
 ghost use Rattle.rename_rules.specs.Renaming.{GivesOne, IsClassRenamed, IsRenamed, IsRenaming};
 ghost use Rattle.rename_rules.specs.Runs.{edits_of};
-ghost use Rattle.rename_rules.specs.Tokens.{holders};
 ghost use Rattle.ws_core.specs.Parts.{IsPart};
 ghost use Rattle.rename_edit.specs.Refusals.{refusal_of};
 
 use crate::edits::edit_files;
 use crate::refusals::{RenameRefusal, refused};
-use cs_base::{Edits, Memory, Part, Tok};
+use cs_base::{Edits, Memory, Part};
 use part_lexer::is_identifier;
 use rename_rules::{
-    Offence, clashing, header_names, holders, no_identifiers, occurring, read_only, reserved,
-    respellings, shadowed, stringized, too_large,
+    Offence, Renaming, clashing, header_names, no_identifiers, occurring, read_only, reserved,
+    shadowed, stringized, too_large,
 };
 use std::alloc::Global;
 use ws_core::Analysis;
@@ -95,100 +94,87 @@ fn plan_class(
     requires { IsClass a.now members.now number }
     ensures { GivesOne (λ edits. edits) refusal_of result (IsRenamed a.now.value members.now name.now strings) }
 {
-    match first_offence(alloc, a, members, number, name, strings)? {
-        Some(offence) => Err(refused(alloc, a, offence)),
-        None => Ok(class_edits(alloc, a, members, number, name)?),
+    let renaming = Renaming::new(alloc, a, members, number, name)?;
+    plan_renaming(alloc, &renaming, strings)
+}
+
+// The same for the class and its new name.
+fn plan_renaming(
+    alloc: Global,
+    renaming: &Renaming<'_>,
+    strings: bool,
+) -> Result<Edits, RenameRefusal>
+    ensures { GivesOne (λ edits. edits) refusal_of result
+        (IsRenamed renaming.now.class.analysis.value renaming.now.class.members renaming.now.name strings) }
+{
+    match first_offence(alloc, renaming, strings)? {
+        Some(offence) => Err(refused(alloc, renaming.class().analysis(), offence)),
+        None => Ok(class_edits(alloc, renaming)?),
     }
 }
 
 // The edits of a class against which nothing stands.
-fn class_edits(
-    alloc: Global,
-    a: &Analysis,
-    members: &[Part],
-    number: u32,
-    name: &[u8],
-) -> Result<Edits, Memory>
-    requires { IsClass a.now members.now number }
-    ensures { IfOk result (λ e. e ≡ edits_of a.now.value members.now name.now) }
+fn class_edits(alloc: Global, renaming: &Renaming<'_>) -> Result<Edits, Memory>
+    ensures { IfOk result (λ e. e ≡ edits_of renaming.now.class.analysis.value renaming.now.class.members renaming.now.name) }
 {
+    let class = renaming.class();
+    let a = class.analysis();
     let _files = a.files();
-    edit_files(alloc, a, members, name)
+    edit_files(alloc, a, class.members(), renaming.name())
 }
 
 // The first offence, if one stands.
 fn first_offence(
     alloc: Global,
-    a: &Analysis,
-    members: &[Part],
-    number: u32,
-    name: &[u8],
+    renaming: &Renaming<'_>,
     strings: bool,
 ) -> Result<Option<Offence>, Memory>
-    requires { IsClass a.now members.now number }
-    ensures { IfOk result (λ first. IsFirst a.now.value.table (offences_of a.now.value members.now name.now strings) first) }
+    ensures { IfOk result (IsFirst renaming.now.class.analysis.value.table
+        (offences_of renaming.now.class.analysis.value renaming.now.class.members renaming.now.name strings)) }
 {
-    let toks = holders(alloc, a, members, number)?;
-    let at_members = member_offences(alloc, a, members, number, name, &toks, strings)?;
-    spelling_offences(alloc, a, members, number, name, &toks, at_members)
+    let at_members = member_offences(alloc, renaming, strings)?;
+    spelling_offences(alloc, renaming, at_members)
 }
 
 // The first of those at members and the tokens that hold them.
 fn member_offences(
     alloc: Global,
-    a: &Analysis,
-    members: &[Part],
-    number: u32,
-    name: &[u8],
-    toks: &[Tok],
+    renaming: &Renaming<'_>,
     strings: bool,
 ) -> Result<Option<Offence>, Memory>
-    requires class { IsClass a.now members.now number }
-    requires toks { toks.now ≡ holders a.now.value members.now }
-    ensures { IfOk result (λ first. FirstThen a.now.value.table (member_offences a.now.value members.now name.now strings) None first) }
+    ensures { IfOk result (FirstThen renaming.now.class.analysis.value.table
+        (member_offences renaming.now.class.analysis.value renaming.now.class.members renaming.now.name strings) None) }
 {
-    let kept = read_only(a, members, None);
-    let words = reserved(alloc, a, members, number, name, toks, kept)?;
-    let made = of_strings(a, members, number, strings, words);
-    let headers = header_names(a, members, number, made);
-    Ok(no_identifiers(a, members, number, toks, headers))
+    let kept = read_only(renaming, None);
+    let words = reserved(alloc, renaming, kept)?;
+    let made = of_strings(renaming, strings, words);
+    let headers = header_names(renaming, made);
+    Ok(no_identifiers(renaming, headers))
 }
 
 // The first of these and of those of strings that must stay.
-fn of_strings(
-    a: &Analysis,
-    members: &[Part],
-    number: u32,
-    strings: bool,
-    first: Option<Offence>,
-) -> Option<Offence>
-    requires { IsClass a.now members.now number }
-    ensures { FirstThen a.now.value.table (standing stringized_cause (kept_string_places a.now.value members.now strings)) first result }
+fn of_strings(renaming: &Renaming<'_>, strings: bool, first: Option<Offence>) -> Option<Offence>
+    ensures { FirstThen renaming.now.class.analysis.value.table (standing stringized_cause
+        (kept_string_places renaming.now.class.analysis.value renaming.now.class.members strings)) first result }
 {
     if strings {
         first
     } else {
-        stringized(a, members, number, first)
+        stringized(renaming, first)
     }
 }
 
 // The first of these and of those of new spellings among all others.
 fn spelling_offences(
     alloc: Global,
-    a: &Analysis,
-    members: &[Part],
-    number: u32,
-    name: &[u8],
-    toks: &[Tok],
+    renaming: &Renaming<'_>,
     first: Option<Offence>,
 ) -> Result<Option<Offence>, Memory>
-    requires class { IsClass a.now members.now number }
-    requires toks { toks.now ≡ holders a.now.value members.now }
-    ensures { IfOk result (λ now. FirstThen a.now.value.table (spelling_offences a.now.value members.now name.now) first now) }
+    ensures { IfOk result (FirstThen renaming.now.class.analysis.value.table
+        (spelling_offences renaming.now.class.analysis.value renaming.now.class.members renaming.now.name) first) }
 {
-    let table = respellings(alloc, a, members, number, name, toks)?;
-    let words = occurring(a, members, name, toks, &table, first);
-    let pairs = clashing(alloc, a, members, number, name, toks, &table, words)?;
-    let sizes = too_large(alloc, a, members, number, name, pairs)?;
-    Ok(shadowed(a, members, name, toks, &table, sizes))
+    let words = occurring(renaming, first);
+    let pairs = clashing(alloc, renaming, words)?;
+    let sizes = too_large(alloc, renaming, pairs)?;
+    Ok(shadowed(renaming, sizes))
 }

@@ -1,4 +1,4 @@
--- A class of an analysis as inner functions know it.
+-- A class over an analysis, as contracts see it and as inner functions know it.
 use Rattle.std.specs.Prelude.{ℕ, ◌≡◌, true, Some, None, List}
 use Rattle.cs_base.specs.declared.positions.Part.{Part}
 use Rattle.cs_base.specs.declared.positions.Pos.{Pos}
@@ -7,6 +7,14 @@ use Rattle.eclass_map.specs.Positions.{holds}
 use Rattle.part_respell.specs.Respelled.{member_over}
 use Rattle.ws_core.specs.Analysed.{Analysed}
 use Rattle.ws_core.specs.Parts.{AreMembers}
+
+-- The analysis, and the members of the class.
+pub record ClassValue : Type 0 where
+  pub analysis : Analysed
+  pub members : List Part
+
+abbrev pub class_over : Analysed → List Part → ClassValue
+class_over analysis members = record { analysis = analysis; members = members }
 
 -- These are the members of the class with this number, in the order of their places.
 pub record IsClass (a : Analysed) (members : List Part) (number : ℕ) : Type 0 where

@@ -7,5 +7,6 @@ pub mod Renaming
 -- What inner functions promise each other.
 pub mod Class
 pub mod Respellings
+pub mod RenamingValue
 -- Words of the crates below, passed on.
 pub mod Below

@@ -5,13 +5,13 @@ ghost use Rattle.cs_base.specs.declared.causes.Cause.TheVariants as cause;
 ghost use Rattle.ws_core.specs.Below.c_types.Declarations.{spelling_at};
 ghost use Rattle.rename_rules.specs.First.{standing, FirstThen};
 ghost use Rattle.rename_rules.specs.Offences.{is_shadow, shadowed_places};
-ghost use Rattle.rename_rules.specs.Respellings.{bare_place_by, bare_places_by, AreRespellings};
-ghost use Rattle.rename_rules.specs.Tokens.{holders};
+ghost use Rattle.rename_rules.specs.Respellings.{bare_place_by, bare_places_by};
 
 use crate::occurrences::at_first;
 use crate::offences::Offence;
+use crate::renamings::Renaming;
 use crate::respelling_table::{Respelling, is_old_spelling};
-use cs_base::{Cause, Part, Tok};
+use cs_base::{Cause, Tok};
 use scope_bind::Range;
 use ws_core::Analysis;
 
@@ -98,19 +98,13 @@ fn at_indices(
 }
 
 /// `ShadowedTypedef`: at each bare name in the range of a typedef name of its spelling, where this is the old spelling
-/// of a token that holds a member; the table tells these.
-pub fn shadowed(
-    a: &Analysis,
-    members: &[Part],
-    name: &[u8],
-    toks: &[Tok],
-    table: &[Respelling],
-    first: Option<Offence>,
-) -> Option<Offence>
-    requires toks { toks.now ≡ holders a.now.value members.now }
-    requires told { AreRespellings members.now name.now toks.now table.now }
-    ensures { FirstThen a.now.value.table (standing cause.ShadowedTypedef (shadowed_places a.now.value members.now)) first result }
+/// of a token that holds a member.
+pub fn shadowed(renaming: &Renaming<'_>, first: Option<Offence>) -> Option<Offence>
+    ensures { FirstThen renaming.now.class.analysis.value.table (standing cause.ShadowedTypedef
+        (shadowed_places renaming.now.class.analysis.value renaming.now.class.members)) first result }
 {
+    let a = renaming.class().analysis();
+    let table = renaming.table();
     let mut now = first;
     for unit in 0..a.units() {
         let bound = a.bound(unit + 1);

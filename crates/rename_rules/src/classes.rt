@@ -1,16 +1,65 @@
-// Members of a class in the tokens of an analysis.
+// A class over an analysis, and its members in tokens.
 ghost use Rattle.std.specs.Prelude.{◌≡◌, Some, MatchBool, is_some, false, length};
 ghost use Rattle.part_respell.specs.Respelled.{member_over};
 ghost use Rattle.cs_base.specs.Token.{origin_at};
 ghost use Rattle.eclass_map.specs.ClassTable.{class_in};
 ghost use Rattle.cs_base.specs.declared.positions.Pos.{Pos};
 ghost use Rattle.eclass_map.specs.Positions.{holds};
-ghost use Rattle.rename_rules.specs.Class.{IsApart, IsClass};
+ghost use Rattle.rename_rules.specs.Class.{class_over, IsApart, IsClass};
 ghost use Rattle.rename_rules.specs.Tokens.{holds_member, member_of};
+ghost use Rattle.cs_base.specs.declared.positions.Part.{Part as Member};
+ghost use Rattle.ws_core.specs.Parts.{AreMembers};
 
 use cs_base::{Part, Pos, Tok};
 use eclass_map::{Classes, part_holds};
+use std::marker::Model;
 use ws_core::Analysis;
+
+/// A class over an analysis, by its members and its number. Contracts see the analysis and the members.
+#[derive(Drop)]
+pub struct Class<'a> {
+    a: &'a Analysis,
+    members: &'a [Part],
+    number: u32,
+}
+
+impl<'a> Model for Class<'a> {
+    ghost use Rattle.std.specs.Coded.{codes};
+    ghost use Rattle.ws_core.specs.Below.c99_tree.TreeCode.{node_code};
+    ghost use Rattle.rename_rules.specs.Class.{ClassValue, class_over, IsClass};
+
+    ghost Value = { ClassValue };
+
+    ghost coded = { Prim.hlevel (codes, node_code) };
+
+    ghost view = { λ c. class_over c.a.now c.members.now };
+
+    ghost invariant = { λ c. IsClass c.a.now c.members.now c.number };
+}
+
+impl<'a> Class<'a> {
+    /// The class with these members and this number.
+    pub fn new(a: &'a Analysis, members: &'a [Part], number: u32) -> Class<'a>
+        requires { IsClass a.now members.now number }
+        ensures { result ≡ class_over a.now members.now }
+    {
+        Class { a, members, number }
+    }
+
+    pub fn analysis(&self) -> &'a Analysis
+        ensures { result.now ≡ self.now.analysis }
+    {
+        self.a
+    }
+
+    /// The members are those of the class of some part.
+    pub fn members(&self) -> &'a [Part]
+        ensures answer { result.now ≡ self.now.members }
+        ensures of_part { (part : Member) × AreMembers self.now.analysis.value part self.now.members }
+    {
+        self.members
+    }
+}
 
 // Whether a part is one of the class with this number.
 fn has_number(classes: &Classes, part: Part, number: u32) -> bool
@@ -22,16 +71,14 @@ fn has_number(classes: &Classes, part: Part, number: u32) -> bool
     }
 }
 
-/// The member of a class that holds a character, if one does. The class is given by its members and its number.
-/// Takes no memory.
-pub fn member_over(a: &Analysis, members: &[Part], number: u32, pos: Pos) -> Option<Part>
-    requires { IsClass a.now members.now number }
-    ensures { result ≡ member_over members.now pos }
+/// The member of a class that holds a character, if one does. Takes no memory.
+pub fn member_over(class: &Class<'_>, pos: Pos) -> Option<Part>
+    ensures { result ≡ member_over class.now.members pos }
 {
-    let classes = a.classes();
-    match a.part_of(pos) {
+    let classes = class.a.classes();
+    match class.a.part_of(pos) {
         Some(part) => {
-            if has_number(classes, part, number) {
+            if has_number(classes, part, class.number) {
                 Some(part)
             } else {
                 None
@@ -42,12 +89,11 @@ pub fn member_over(a: &Analysis, members: &[Part], number: u32, pos: Pos) -> Opt
 }
 
 /// The member that character `k` of a token comes from.
-pub fn member_at(a: &Analysis, members: &[Part], number: u32, tok: &Tok, k: u32) -> Option<Part>
-    requires { IsClass a.now members.now number }
-    ensures { result ≡ member_of members.now (origin_at tok.now k) }
+pub fn member_at(class: &Class<'_>, tok: &Tok, k: u32) -> Option<Part>
+    ensures { result ≡ member_of class.now.members (origin_at tok.now k) }
 {
     match tok.origins(k) {
-        Some(pos) => member_over(a, members, number, pos),
+        Some(pos) => member_over(class, pos),
         None => None,
     }
 }
@@ -61,19 +107,18 @@ pub(crate) fn length(tok: &Tok) -> u32
 
 // Whether a member holds a character. No member has characters of the part `apart`, which is the part of this one
 // afterwards, if no member holds it: the characters of one part are looked up once.
-fn lies_in_member(a: &Analysis, members: &[Part], number: u32, pos: Pos, apart: &mut Part) -> bool
-    requires class { IsClass a.now members.now number }
-    requires apart { IsApart members.now apart.old }
-    ensures answer { result ≡ is_some (member_over members.now pos) }
-    ensures apart { IsApart members.now apart.new }
+fn lies_in_member(class: &Class<'_>, pos: Pos, apart: &mut Part) -> bool
+    requires { IsApart class.now.members apart.old }
+    ensures answer { result ≡ is_some (member_over class.now.members pos) }
+    ensures apart { IsApart class.now.members apart.new }
 {
     if part_holds(*apart, pos) {
         return false;
     }
-    let classes = a.classes();
-    match a.part_of(pos) {
+    let classes = class.a.classes();
+    match class.a.part_of(pos) {
         Some(part) => {
-            if has_number(classes, part, number) {
+            if has_number(classes, part, class.number) {
                 return true;
             }
             *apart = part;
@@ -84,21 +129,13 @@ fn lies_in_member(a: &Analysis, members: &[Part], number: u32, pos: Pos, apart: 
 }
 
 // Whether character `k` of a token comes from a member.
-fn comes_from(
-    a: &Analysis,
-    members: &[Part],
-    number: u32,
-    tok: &Tok,
-    k: u32,
-    apart: &mut Part,
-) -> bool
-    requires class { IsClass a.now members.now number }
-    requires apart { IsApart members.now apart.old }
-    ensures answer { result ≡ is_some (member_of members.now (origin_at tok.now k)) }
-    ensures apart { IsApart members.now apart.new }
+fn comes_from(class: &Class<'_>, tok: &Tok, k: u32, apart: &mut Part) -> bool
+    requires { IsApart class.now.members apart.old }
+    ensures answer { result ≡ is_some (member_of class.now.members (origin_at tok.now k)) }
+    ensures apart { IsApart class.now.members apart.new }
 {
     match tok.origins(k) {
-        Some(pos) => lies_in_member(a, members, number, pos, apart),
+        Some(pos) => lies_in_member(class, pos, apart),
         None => false,
     }
 }
@@ -114,14 +151,13 @@ fn no_part() -> Part
 }
 
 /// Whether a token holds a member of the class.
-pub fn holds_member(a: &Analysis, members: &[Part], number: u32, tok: &Tok) -> bool
-    requires { IsClass a.now members.now number }
-    ensures { result ≡ holds_member members.now tok.now }
+pub fn holds_member(class: &Class<'_>, tok: &Tok) -> bool
+    ensures { result ≡ holds_member class.now.members tok.now }
 {
     let count = length(tok);
     let mut apart = no_part();
     for k in 0..count {
-        if comes_from(a, members, number, tok, k, &mut apart) {
+        if comes_from(class, tok, k, &mut apart) {
             return true;
         }
     }

@@ -4,45 +4,29 @@ ghost use Rattle.std.specs.Option.{option_map_or};
 ghost use Rattle.cs_base.specs.Token.{has_origins};
 ghost use Rattle.include_tree.specs.Below.source_files.KeptFiles.{kept_at};
 ghost use Rattle.ws_core.specs.FileTokens.{kept_tokens, table_tokens};
-ghost use Rattle.rename_rules.specs.Class.{IsClass};
 ghost use Rattle.rename_rules.specs.Tokens.{holders, holds_member, pasted_tokens};
 
-use crate::classes::holds_member;
-use cs_base::{Kind, Memory, Part, Tok};
+use crate::classes::{Class, holds_member};
+use cs_base::{Kind, Memory, Tok};
 use include_tree::KeptFile;
 use std::alloc::Global;
-use ws_core::Analysis;
 
 // Adds a token, if it holds a member.
-fn push(
-    out: &mut Vec<Tok>,
-    a: &Analysis,
-    members: &[Part],
-    number: u32,
-    tok: &Tok,
-) -> Result<(), Memory>
-    requires { IsClass a.now members.now number }
-    ensures { OnOk result (out.new.items ≡ out.old.items ++ filter (holds_member members.now) (tok.now ∷ [])) }
+fn push(out: &mut Vec<Tok>, class: &Class<'_>, tok: &Tok) -> Result<(), Memory>
+    ensures { OnOk result (out.new.items ≡ out.old.items ++ filter (holds_member class.now.members) (tok.now ∷ [])) }
 {
-    if holds_member(a, members, number, tok) {
+    if holds_member(class, tok) {
         out.push(tok.share(tok.gap(), tok.at(), tok.line(), tok.direct())?)?;
     }
     Ok(())
 }
 
 // Adds those of these tokens that hold one.
-fn push_all(
-    out: &mut Vec<Tok>,
-    a: &Analysis,
-    members: &[Part],
-    number: u32,
-    toks: &[Tok],
-) -> Result<(), Memory>
-    requires { IsClass a.now members.now number }
-    ensures { OnOk result (out.new.items ≡ out.old.items ++ filter (holds_member members.now) toks.now) }
+fn push_all(out: &mut Vec<Tok>, class: &Class<'_>, toks: &[Tok]) -> Result<(), Memory>
+    ensures { OnOk result (out.new.items ≡ out.old.items ++ filter (holds_member class.now.members) toks.now) }
 {
     for tok in toks {
-        push(out, a, members, number, tok)?;
+        push(out, class, tok)?;
     }
     Ok(())
 }
@@ -57,99 +41,67 @@ fn has_origins(kind: Kind) -> bool
 }
 
 // Adds a token of a file, if it has parts and holds a member.
-fn push_file_token(
-    out: &mut Vec<Tok>,
-    a: &Analysis,
-    members: &[Part],
-    number: u32,
-    tok: &Tok,
-) -> Result<(), Memory>
-    requires { IsClass a.now members.now number }
-    ensures { OnOk result (out.new.items ≡ out.old.items ++ filter (holds_member members.now) (filter (λ t. has_origins t.kind) (tok.now ∷ []))) }
+fn push_file_token(out: &mut Vec<Tok>, class: &Class<'_>, tok: &Tok) -> Result<(), Memory>
+    ensures { OnOk result (out.new.items ≡ out.old.items ++ filter (holds_member class.now.members) (filter (λ t. has_origins t.kind) (tok.now ∷ []))) }
 {
     if has_origins(tok.kind()) {
-        push(out, a, members, number, tok)
+        push(out, class, tok)
     } else {
         Ok(())
     }
 }
 
 // Adds those of a file.
-fn push_file(
-    out: &mut Vec<Tok>,
-    a: &Analysis,
-    members: &[Part],
-    number: u32,
-    file: &KeptFile,
-) -> Result<(), Memory>
-    requires { IsClass a.now members.now number }
-    ensures { OnOk result (out.new.items ≡ out.old.items ++ filter (holds_member members.now) (kept_tokens file.now)) }
+fn push_file(out: &mut Vec<Tok>, class: &Class<'_>, file: &KeptFile) -> Result<(), Memory>
+    ensures { OnOk result (out.new.items ≡ out.old.items ++ filter (holds_member class.now.members) (kept_tokens file.now)) }
 {
     let toks = file.text().toks();
     for tok in toks {
-        push_file_token(out, a, members, number, tok)?;
+        push_file_token(out, class, tok)?;
     }
     Ok(())
 }
 
 // Adds those of the kept file with this number, if there is one.
-fn push_numbered(
-    out: &mut Vec<Tok>,
-    a: &Analysis,
-    members: &[Part],
-    number: u32,
-    file: u32,
-) -> Result<(), Memory>
-    requires { IsClass a.now members.now number }
-    ensures { OnOk result (out.new.items ≡ out.old.items ++ filter (holds_member members.now) (option_map_or kept_tokens (kept_at a.now.value.table file) [])) }
+fn push_numbered(out: &mut Vec<Tok>, class: &Class<'_>, file: u32) -> Result<(), Memory>
+    ensures { OnOk result (out.new.items ≡ out.old.items ++ filter (holds_member class.now.members) (option_map_or kept_tokens (kept_at class.now.analysis.value.table file) [])) }
 {
-    match a.file(file) {
-        Some(kept) => push_file(out, a, members, number, kept),
+    match class.analysis().file(file) {
+        Some(kept) => push_file(out, class, kept),
         None => Ok(()),
     }
 }
 
 // Adds those of all kept files.
-fn push_files(out: &mut Vec<Tok>, a: &Analysis, members: &[Part], number: u32) -> Result<(), Memory>
-    requires { IsClass a.now members.now number }
-    ensures { OnOk result (out.new.items ≡ out.old.items ++ filter (holds_member members.now) (table_tokens 0 a.now.value.table)) }
+fn push_files(out: &mut Vec<Tok>, class: &Class<'_>) -> Result<(), Memory>
+    ensures { OnOk result (out.new.items ≡ out.old.items ++ filter (holds_member class.now.members) (table_tokens 0 class.now.analysis.value.table)) }
 {
+    let a = class.analysis();
     for file in 0..a.files() {
-        push_numbered(out, a, members, number, file)?;
+        push_numbered(out, class, file)?;
     }
     Ok(())
 }
 
 // Adds those of the pasted tokens.
-fn push_pasted(
-    out: &mut Vec<Tok>,
-    a: &Analysis,
-    members: &[Part],
-    number: u32,
-) -> Result<(), Memory>
-    requires { IsClass a.now members.now number }
-    ensures { OnOk result (out.new.items ≡ out.old.items ++ filter (holds_member members.now) (pasted_tokens a.now.value)) }
+fn push_pasted(out: &mut Vec<Tok>, class: &Class<'_>) -> Result<(), Memory>
+    ensures { OnOk result (out.new.items ≡ out.old.items ++ filter (holds_member class.now.members) (pasted_tokens class.now.analysis.value)) }
 {
+    let a = class.analysis();
     for unit in 0..a.units() {
         let text = a.text(unit + 1);
-        push_all(out, a, members, number, text.pasted())?;
+        push_all(out, class, text.pasted())?;
     }
     Ok(())
 }
 
 /// The tokens that hold members of a class: those of files, the numbers that units brought, and pasted tokens.
-pub fn holders(
-    alloc: Global,
-    a: &Analysis,
-    members: &[Part],
-    number: u32,
-) -> Result<Vec<Tok>, Memory>
-    requires { IsClass a.now members.now number }
-    ensures { IfOk result (λ toks. toks.items ≡ holders a.now.value members.now) }
+pub fn holders(alloc: Global, class: &Class<'_>) -> Result<Vec<Tok>, Memory>
+    ensures { IfOk result (λ toks. toks.items ≡ holders class.now.analysis.value class.now.members) }
 {
     let mut out = Vec::new(alloc);
-    push_files(&mut out, a, members, number)?;
-    push_all(&mut out, a, members, number, a.numbers_brought())?;
-    push_pasted(&mut out, a, members, number)?;
+    push_files(&mut out, class)?;
+    push_all(&mut out, class, class.analysis().numbers_brought())?;
+    push_pasted(&mut out, class)?;
     Ok(out)
 }

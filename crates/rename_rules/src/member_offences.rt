@@ -3,31 +3,29 @@ ghost use Rattle.std.specs.Prelude.{◌≡◌, ◌≤◌, Some, length, slice_ge
 ghost use Rattle.std.specs.List.{flat_map};
 ghost use Rattle.cs_base.specs.declared.causes.Cause.TheVariants as cause;
 ghost use Rattle.include_tree.specs.Below.line_shape.Signs.{is_name};
-ghost use Rattle.rename_rules.specs.Class.{IsClass};
 ghost use Rattle.rename_rules.specs.First.{standing, FirstThen};
 ghost use Rattle.rename_rules.specs.Offences.{read_only_place, read_only_places, stringized_places, header_places, no_identifier_place, no_identifier_places};
-ghost use Rattle.rename_rules.specs.Tokens.{holders, start_of, starts_in};
+ghost use Rattle.rename_rules.specs.Tokens.{start_of, starts_in};
 ghost use Rattle.cs_base.specs.Token.{origin_at};
 
-use crate::classes::{length, member_at};
+use crate::classes::{Class, length, member_at};
 use crate::offences::{Offence, first_with};
+use crate::renamings::Renaming;
 use cs_base::{Cause, Kind, Part, Tok};
 use ws_core::Analysis;
 
 // A cause that stands at the member which character `k` of a token comes from.
 fn at_character(
     a: &Analysis,
-    members: &[Part],
-    number: u32,
+    class: &Class<'_>,
     tok: &Tok,
     k: u32,
     cause: Cause,
     first: Option<Offence>,
 ) -> Option<Offence>
-    requires { IsClass a.now members.now number }
-    ensures { FirstThen a.now.value.table (standing cause (start_of members.now (origin_at tok.now k))) first result }
+    ensures { FirstThen a.now.value.table (standing cause (start_of class.now.members (origin_at tok.now k))) first result }
 {
-    match member_at(a, members, number, tok, k) {
+    match member_at(class, tok, k) {
         Some(part) => first_with(a, first, part.start, cause),
         None => first,
     }
@@ -36,19 +34,17 @@ fn at_character(
 /// A cause that stands at each member in a token.
 pub(crate) fn in_token(
     a: &Analysis,
-    members: &[Part],
-    number: u32,
+    class: &Class<'_>,
     tok: &Tok,
     cause: Cause,
     first: Option<Offence>,
 ) -> Option<Offence>
-    requires { IsClass a.now members.now number }
-    ensures { FirstThen a.now.value.table (standing cause (starts_in members.now tok.now)) first result }
+    ensures { FirstThen a.now.value.table (standing cause (starts_in class.now.members tok.now)) first result }
 {
     let count = length(tok);
     let mut now = first;
     for k in 0..count {
-        now = at_character(a, members, number, tok, k, cause, now);
+        now = at_character(a, class, tok, k, cause, now);
     }
     now
 }
@@ -56,18 +52,16 @@ pub(crate) fn in_token(
 // The same in each of these tokens.
 fn in_tokens(
     a: &Analysis,
-    members: &[Part],
-    number: u32,
+    class: &Class<'_>,
     toks: &[Tok],
     cause: Cause,
     first: Option<Offence>,
 ) -> Option<Offence>
-    requires { IsClass a.now members.now number }
-    ensures { FirstThen a.now.value.table (standing cause (flat_map (starts_in members.now) toks.now)) first result }
+    ensures { FirstThen a.now.value.table (standing cause (flat_map (starts_in class.now.members) toks.now)) first result }
 {
     let mut now = first;
     for tok in toks {
-        now = in_token(a, members, number, tok, cause, now);
+        now = in_token(a, class, tok, cause, now);
     }
     now
 }
@@ -84,8 +78,8 @@ fn read_only_at(a: &Analysis, part: Part, first: Option<Offence>) -> Option<Offe
 }
 
 #[tactic(auto, unfolding(crate::specs::Offences::read_only_places))]
-/// `ReadOnly`: at each member in a read-only file or a pseudo file.
-pub fn read_only(a: &Analysis, members: &[Part], first: Option<Offence>) -> Option<Offence>
+// The same at each of these members.
+fn read_only_in(a: &Analysis, members: &[Part], first: Option<Offence>) -> Option<Offence>
     ensures { FirstThen a.now.value.table (standing cause.ReadOnly (read_only_places a.now.value members.now)) first result }
 {
     let mut now = first;
@@ -95,45 +89,55 @@ pub fn read_only(a: &Analysis, members: &[Part], first: Option<Offence>) -> Opti
     now
 }
 
+/// `ReadOnly`: at each member in a read-only file or a pseudo file.
+pub fn read_only(renaming: &Renaming<'_>, first: Option<Offence>) -> Option<Offence>
+    ensures { FirstThen renaming.now.class.analysis.value.table (standing cause.ReadOnly
+        (read_only_places renaming.now.class.analysis.value renaming.now.class.members)) first result }
+{
+    let class = renaming.class();
+    read_only_in(class.analysis(), class.members(), first)
+}
+
 /// `Stringized`: at each member in a token that `#` made a string of.
-pub fn stringized(
-    a: &Analysis,
-    members: &[Part],
-    number: u32,
-    first: Option<Offence>,
-) -> Option<Offence>
-    requires { IsClass a.now members.now number }
-    ensures { FirstThen a.now.value.table (standing cause.Stringized (stringized_places a.now.value members.now)) first result }
+pub fn stringized(renaming: &Renaming<'_>, first: Option<Offence>) -> Option<Offence>
+    ensures { FirstThen renaming.now.class.analysis.value.table (standing cause.Stringized
+        (stringized_places renaming.now.class.analysis.value renaming.now.class.members)) first result }
+{
+    let class = renaming.class();
+    stringized_in(class.analysis(), class, first)
+}
+
+// The same for a class.
+fn stringized_in(a: &Analysis, class: &Class<'_>, first: Option<Offence>) -> Option<Offence>
+    ensures { FirstThen a.now.value.table (standing cause.Stringized
+        (stringized_places a.now.value class.now.members)) first result }
 {
     let mut now = first;
     for unit in 0..a.units() {
         let text = a.text(unit + 1);
-        now = in_tokens(
-            a,
-            members,
-            number,
-            text.stringized(),
-            Cause::Stringized,
-            now,
-        );
+        now = in_tokens(a, class, text.stringized(), Cause::Stringized, now);
     }
     now
 }
 
 /// `HeaderName`: at each member in a token of an include line that was expanded.
-pub fn header_names(
-    a: &Analysis,
-    members: &[Part],
-    number: u32,
-    first: Option<Offence>,
-) -> Option<Offence>
-    requires { IsClass a.now members.now number }
-    ensures { FirstThen a.now.value.table (standing cause.HeaderName (header_places a.now.value members.now)) first result }
+pub fn header_names(renaming: &Renaming<'_>, first: Option<Offence>) -> Option<Offence>
+    ensures { FirstThen renaming.now.class.analysis.value.table (standing cause.HeaderName
+        (header_places renaming.now.class.analysis.value renaming.now.class.members)) first result }
+{
+    let class = renaming.class();
+    header_names_in(class.analysis(), class, first)
+}
+
+// The same for a class.
+fn header_names_in(a: &Analysis, class: &Class<'_>, first: Option<Offence>) -> Option<Offence>
+    ensures { FirstThen a.now.value.table (standing cause.HeaderName
+        (header_places a.now.value class.now.members)) first result }
 {
     let mut now = first;
     for unit in 0..a.units() {
         let text = a.text(unit + 1);
-        now = in_tokens(a, members, number, text.header(), Cause::HeaderName, now);
+        now = in_tokens(a, class, text.header(), Cause::HeaderName, now);
     }
     now
 }
@@ -150,36 +154,41 @@ fn is_name(tok: &Tok) -> bool
 // `NotIdentifier` in a token.
 fn no_identifier_in(
     a: &Analysis,
-    members: &[Part],
-    number: u32,
+    class: &Class<'_>,
     tok: &Tok,
     first: Option<Offence>,
 ) -> Option<Offence>
-    requires { IsClass a.now members.now number }
-    ensures { FirstThen a.now.value.table (standing cause.NotIdentifier (no_identifier_place members.now tok.now)) first result }
+    ensures { FirstThen a.now.value.table (standing cause.NotIdentifier (no_identifier_place class.now.members tok.now)) first result }
 {
     if is_name(tok) {
         first
     } else {
-        in_token(a, members, number, tok, Cause::NotIdentifier, first)
+        in_token(a, class, tok, Cause::NotIdentifier, first)
     }
 }
 
-/// `NotIdentifier`: at each member in a token that is no identifier; these are the tokens that hold members.
-pub fn no_identifiers(
+// The same in each of these tokens.
+fn no_identifiers_in(
     a: &Analysis,
-    members: &[Part],
-    number: u32,
+    class: &Class<'_>,
     toks: &[Tok],
     first: Option<Offence>,
 ) -> Option<Offence>
-    requires class { IsClass a.now members.now number }
-    requires toks { toks.now ≡ holders a.now.value members.now }
-    ensures { FirstThen a.now.value.table (standing cause.NotIdentifier (no_identifier_places a.now.value members.now)) first result }
+    ensures { FirstThen a.now.value.table (standing cause.NotIdentifier
+        (flat_map (no_identifier_place class.now.members) toks.now)) first result }
 {
     let mut now = first;
     for tok in toks {
-        now = no_identifier_in(a, members, number, tok, now);
+        now = no_identifier_in(a, class, tok, now);
     }
     now
+}
+
+/// `NotIdentifier`: at each member in a token that is no identifier.
+pub fn no_identifiers(renaming: &Renaming<'_>, first: Option<Offence>) -> Option<Offence>
+    ensures { FirstThen renaming.now.class.analysis.value.table (standing cause.NotIdentifier
+        (no_identifier_places renaming.now.class.analysis.value renaming.now.class.members)) first result }
+{
+    let class = renaming.class();
+    no_identifiers_in(class.analysis(), class, renaming.toks(), first)
 }

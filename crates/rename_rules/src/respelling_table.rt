@@ -2,14 +2,13 @@
 ghost use Rattle.std.specs.Prelude.{◌≡◌, ◌&&◌, IfOk, OnOk};
 ghost use Rattle.std.specs.List.{list_any};
 ghost use Rattle.std.specs.Str.{bytes_eq};
-ghost use Rattle.rename_rules.specs.Class.{IsClass};
 ghost use Rattle.rename_rules.specs.Respellings.{respelling, respelling_of, Adds, AreRespellings, is_old, is_new, is_clash};
 
+use crate::classes::Class;
 use crate::spelling::spelled;
-use cs_base::{Memory, Part, Tok};
+use cs_base::{Memory, Tok};
 use std::alloc::Global;
 use std::marker::Model;
-use ws_core::Analysis;
 
 /// The old and the new spelling of a token.
 #[derive(Drop)]
@@ -95,18 +94,15 @@ fn add(alloc: Global, table: &mut Vec<Respelling>, old: &[u8], new: Vec<u8>) -> 
 /// The spellings of these tokens, each pair once.
 pub fn respellings(
     alloc: Global,
-    a: &Analysis,
-    members: &[Part],
-    number: u32,
+    class: &Class<'_>,
     name: &[u8],
     toks: &[Tok],
 ) -> Result<Vec<Respelling>, Memory>
-    requires { IsClass a.now members.now number }
-    ensures { IfOk result (λ table. AreRespellings members.now name.now toks.now table.items) }
+    ensures { IfOk result (λ table. AreRespellings class.now.members name.now toks.now table.items) }
 {
     let mut table = Vec::new(alloc);
     for tok in toks {
-        let new = spelled(alloc, a, members, number, name, tok)?;
+        let new = spelled(alloc, class, name, tok)?;
         add(alloc, &mut table, tok.text(), new)?;
     }
     Ok(table)

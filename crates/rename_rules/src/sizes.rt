@@ -7,12 +7,12 @@ ghost use Rattle.cs_base.specs.declared.causes.Cause.TheVariants as cause;
 ghost use Rattle.include_tree.specs.Below.source_files.KeptFiles.{kept_at};
 ghost use Rattle.include_tree.specs.PseudoFiles.{is_pseudo};
 ghost use Rattle.part_respell.specs.Order.{AreInOrder};
-ghost use Rattle.rename_rules.specs.Class.{IsClass};
 ghost use Rattle.rename_rules.specs.First.{standing, FirstThen};
 ghost use Rattle.rename_rules.specs.Offences.{full_place, large_place, too_large_places};
 ghost use Rattle.rename_rules.specs.Runs.{is_edited, is_in, kept_size, kept_sizes, most_size, new_bytes, new_size, new_size_of_all, new_sizes, run_length, runs, size_of, AreApart};
 
 use crate::offences::{Offence, first_with};
+use crate::renamings::Renaming;
 use cs_base::{Cause, Memory, Part};
 use include_tree::KeptFile;
 use part_respell::respell;
@@ -242,20 +242,38 @@ fn full_at(a: &Analysis, members: &[Part], total: usize, first: Option<Offence>)
     }
 }
 
-/// `TooLarge`: at the first member of each file that would grow past 2^22 bytes, and at the first of all where the
-/// files together would pass 2^25. Each file is made once, and given up where it is larger than all may be.
-pub fn too_large(
+// The same for these members, each file made once, and given up where it is larger than all may be.
+fn too_large_in(
     alloc: Global,
     a: &Analysis,
     members: &[Part],
-    number: u32,
     name: &[u8],
     first: Option<Offence>,
 ) -> Result<Option<Offence>, Memory>
-    requires { IsClass a.now members.now number }
-    ensures { IfOk result (λ now. FirstThen a.now.value.table (standing cause.TooLarge (too_large_places a.now.value members.now name.now)) first now) }
+    requires { AreApart members.now }
+    ensures { IfOk result (FirstThen a.now.value.table (standing cause.TooLarge (too_large_places a.now.value members.now name.now)) first) }
 {
     let total = kept_sizes(a, members);
     let grown = with_runs(alloc, a, members, name, Grown { first, total })?;
     Ok(full_at(a, members, grown.total, grown.first))
+}
+
+/// `TooLarge`: at the first member of each file that would grow past 2^22 bytes, and at the first of all where the
+/// files together would pass 2^25.
+pub fn too_large(
+    alloc: Global,
+    renaming: &Renaming<'_>,
+    first: Option<Offence>,
+) -> Result<Option<Offence>, Memory>
+    ensures { IfOk result (FirstThen renaming.now.class.analysis.value.table (standing cause.TooLarge
+        (too_large_places renaming.now.class.analysis.value renaming.now.class.members renaming.now.name)) first) }
+{
+    let class = renaming.class();
+    too_large_in(
+        alloc,
+        class.analysis(),
+        class.members(),
+        renaming.name(),
+        first,
+    )
 }

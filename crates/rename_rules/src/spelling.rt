@@ -3,12 +3,10 @@ ghost use Rattle.std.specs.Prelude.{◌≡◌, ◌++◌, ◌∷◌, [], IfOk, On
 ghost use Rattle.std.specs.Option.{option_map_or};
 ghost use Rattle.cs_base.specs.Token.{origin_at};
 ghost use Rattle.part_respell.specs.Respelled.{put_for, put_in, spelled};
-ghost use Rattle.rename_rules.specs.Class.{IsClass};
 
-use crate::classes::member_over;
+use crate::classes::{Class, member_over};
 use cs_base::{Memory, Part, Pos, Tok};
 use std::alloc::Global;
-use ws_core::Analysis;
 
 // Adds what stands for a character at a position, which lies in this member or in none.
 fn push_put(
@@ -36,19 +34,16 @@ fn push_put(
 // Adds what stands for character `k` of a token.
 fn push_character(
     out: &mut Vec<u8>,
-    a: &Analysis,
-    members: &[Part],
-    number: u32,
+    class: &Class<'_>,
     name: &[u8],
     tok: &Tok,
     k: u32,
     byte: u8,
 ) -> Result<(), Memory>
-    requires { IsClass a.now members.now number }
-    ensures { OnOk result (out.new.items ≡ out.old.items ++ put_for members.now name.now (origin_at tok.now k) byte) }
+    ensures { OnOk result (out.new.items ≡ out.old.items ++ put_for class.now.members name.now (origin_at tok.now k) byte) }
 {
     match tok.origins(k) {
-        Some(pos) => push_put(out, member_over(a, members, number, pos), name, pos, byte),
+        Some(pos) => push_put(out, member_over(class, pos), name, pos, byte),
         None => {
             out.push(byte)?;
             Ok(())
@@ -57,21 +52,13 @@ fn push_character(
 }
 
 /// The new spelling of a token: each member of the class in it is replaced by the name.
-pub fn spelled(
-    alloc: Global,
-    a: &Analysis,
-    members: &[Part],
-    number: u32,
-    name: &[u8],
-    tok: &Tok,
-) -> Result<Vec<u8>, Memory>
-    requires { IsClass a.now members.now number }
-    ensures { IfOk result (λ text. text.items ≡ spelled members.now name.now tok.now) }
+pub fn spelled(alloc: Global, class: &Class<'_>, name: &[u8], tok: &Tok) -> Result<Vec<u8>, Memory>
+    ensures { IfOk result (λ text. text.items ≡ spelled class.now.members name.now tok.now) }
 {
     let mut out = Vec::new(alloc);
     let text = tok.text();
     for k in 0..text.len() {
-        push_character(&mut out, a, members, number, name, tok, k as u32, text[k])?;
+        push_character(&mut out, class, name, tok, k as u32, text[k])?;
     }
     Ok(out)
 }

@@ -1,18 +1,19 @@
 // Causes that stand at the tokens which hold members of a class.
 ghost use Rattle.std.specs.Prelude.{◌≡◌, ◌||◌, IfOk};
+ghost use Rattle.std.specs.List.{flat_map};
 ghost use Rattle.cs_base.specs.Reserved.{is_reserved_text};
 ghost use Rattle.cs_base.specs.declared.causes.Cause.TheVariants as cause;
-ghost use Rattle.rename_rules.specs.Class.{IsClass};
 ghost use Rattle.rename_rules.specs.First.{standing, FirstThen};
 ghost use Rattle.rename_rules.specs.Offences.{reserved_place, reserved_places, clashing_place, clashing_places};
-ghost use Rattle.rename_rules.specs.Respellings.{AreRespellings};
-ghost use Rattle.rename_rules.specs.Tokens.{holders};
+ghost use Rattle.rename_rules.specs.RenamingValue.{held};
 
+use crate::classes::Class;
 use crate::member_offences::in_token;
 use crate::offences::Offence;
-use crate::respelling_table::{Respelling, is_clash};
+use crate::renamings::Renaming;
+use crate::respelling_table::is_clash;
 use crate::spelling::spelled;
-use cs_base::{Cause, Memory, Part, Tok, is_reserved};
+use cs_base::{Cause, Memory, Tok, is_reserved};
 use std::alloc::Global;
 use ws_core::Analysis;
 
@@ -27,89 +28,100 @@ fn is_reserved_in(tok: &Tok, new: &[u8]) -> bool
 fn reserved_in(
     alloc: Global,
     a: &Analysis,
-    members: &[Part],
-    number: u32,
+    class: &Class<'_>,
     name: &[u8],
     tok: &Tok,
     first: Option<Offence>,
 ) -> Result<Option<Offence>, Memory>
-    requires { IsClass a.now members.now number }
-    ensures { IfOk result (λ now. FirstThen a.now.value.table (standing cause.Reserved (reserved_place members.now name.now tok.now)) first now) }
+    ensures { IfOk result (FirstThen a.now.value.table (standing cause.Reserved (reserved_place class.now.members name.now tok.now)) first) }
 {
-    let new = spelled(alloc, a, members, number, name, tok)?;
+    let new = spelled(alloc, class, name, tok)?;
     if is_reserved_in(tok, &new) {
-        Ok(in_token(a, members, number, tok, Cause::Reserved, first))
+        Ok(in_token(a, class, tok, Cause::Reserved, first))
     } else {
         Ok(first)
     }
 }
 
-/// `Reserved`: at each member in a token whose old or new spelling is reserved; these are the tokens that hold
-/// members.
-pub fn reserved(
+// The same in each of these tokens.
+fn reserved_in_all(
     alloc: Global,
     a: &Analysis,
-    members: &[Part],
-    number: u32,
+    class: &Class<'_>,
     name: &[u8],
     toks: &[Tok],
     first: Option<Offence>,
 ) -> Result<Option<Offence>, Memory>
-    requires class { IsClass a.now members.now number }
-    requires toks { toks.now ≡ holders a.now.value members.now }
-    ensures { IfOk result (λ now. FirstThen a.now.value.table (standing cause.Reserved (reserved_places a.now.value members.now name.now)) first now) }
+    ensures { IfOk result (FirstThen a.now.value.table (standing cause.Reserved
+        (flat_map (reserved_place class.now.members name.now) toks.now)) first) }
 {
     let mut now = first;
     for tok in toks {
-        now = reserved_in(alloc, a, members, number, name, tok, now)?;
+        now = reserved_in(alloc, a, class, name, tok, now)?;
     }
     Ok(now)
+}
+
+/// `Reserved`: at each member in a token whose old or new spelling is reserved.
+pub fn reserved(
+    alloc: Global,
+    renaming: &Renaming<'_>,
+    first: Option<Offence>,
+) -> Result<Option<Offence>, Memory>
+    ensures { IfOk result (FirstThen renaming.now.class.analysis.value.table (standing cause.Reserved
+        (reserved_places renaming.now.class.analysis.value renaming.now.class.members renaming.now.name)) first) }
+{
+    let class = renaming.class();
+    let a = class.analysis();
+    reserved_in_all(alloc, a, class, renaming.name(), renaming.toks(), first)
 }
 
 // `Clash` in a token.
 fn clashing_in(
     alloc: Global,
     a: &Analysis,
-    members: &[Part],
-    number: u32,
-    name: &[u8],
-    toks: &[Tok],
-    table: &[Respelling],
+    renaming: &Renaming<'_>,
     tok: &Tok,
     first: Option<Offence>,
 ) -> Result<Option<Offence>, Memory>
-    requires class { IsClass a.now members.now number }
-    requires told { AreRespellings members.now name.now toks.now table.now }
-    ensures { IfOk result (λ now. FirstThen a.now.value.table (standing cause.Clash (clashing_place members.now name.now toks.now tok.now)) first now) }
+    ensures { IfOk result (FirstThen a.now.value.table (standing cause.Clash
+        (clashing_place renaming.now.class.members renaming.now.name (held renaming.now.class) tok.now)) first) }
 {
-    let new = spelled(alloc, a, members, number, name, tok)?;
-    if is_clash(table, tok.text(), &new) {
-        Ok(in_token(a, members, number, tok, Cause::Clash, first))
+    let new = spelled(alloc, renaming.class(), renaming.name(), tok)?;
+    if is_clash(renaming.table(), tok.text(), &new) {
+        Ok(in_token(a, renaming.class(), tok, Cause::Clash, first))
     } else {
         Ok(first)
     }
 }
 
-/// `Clash`: at each member in a token whose new spelling a token gets that had another one; these are the tokens
-/// that hold members, with the table of their spellings.
-pub fn clashing(
+// The same in each of these tokens.
+fn clashing_in_all(
     alloc: Global,
     a: &Analysis,
-    members: &[Part],
-    number: u32,
-    name: &[u8],
+    renaming: &Renaming<'_>,
     toks: &[Tok],
-    table: &[Respelling],
     first: Option<Offence>,
 ) -> Result<Option<Offence>, Memory>
-    requires class { IsClass a.now members.now number }
-    requires toks { toks.now ≡ holders a.now.value members.now }
-    requires told { AreRespellings members.now name.now toks.now table.now }
-    ensures { IfOk result (λ now. FirstThen a.now.value.table (standing cause.Clash (clashing_places a.now.value members.now name.now)) first now) }
+    ensures { IfOk result (FirstThen a.now.value.table (standing cause.Clash (flat_map
+        (clashing_place renaming.now.class.members renaming.now.name (held renaming.now.class)) toks.now)) first) }
 {
     let mut now = first;
     for tok in toks {
-        now = clashing_in(alloc, a, members, number, name, toks, table, tok, now)?;
+        now = clashing_in(alloc, a, renaming, tok, now)?;
     }
     Ok(now)
+}
+
+/// `Clash`: at each member in a token whose new spelling a token gets that had another one.
+pub fn clashing(
+    alloc: Global,
+    renaming: &Renaming<'_>,
+    first: Option<Offence>,
+) -> Result<Option<Offence>, Memory>
+    ensures { IfOk result (FirstThen renaming.now.class.analysis.value.table (standing cause.Clash
+        (clashing_places renaming.now.class.analysis.value renaming.now.class.members renaming.now.name)) first) }
+{
+    let a = renaming.class().analysis();
+    clashing_in_all(alloc, a, renaming, renaming.toks(), first)
 }

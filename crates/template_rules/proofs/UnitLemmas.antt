@@ -14,7 +14,7 @@ use Rattle.rename_rules.specs.First.{standing, FirstThen}
 use Rattle.template_rules.specs.declared.counting.Declarator.{Declarator}
 use Rattle.template_rules.specs.declared.file_lists.FoundList.{FoundList}
 use Rattle.template_rules.specs.declared.unit_functions.UnitFunctions.{UnitFunctions}
-use Rattle.template_rules.specs.ClassValue.{ClassValue}
+use Rattle.rename_rules.specs.Class.{ClassValue}
 use Rattle.template_rules.specs.FileLists.{unit_found}
 use Rattle.template_rules.specs.Insides.{list_insides, unit_insides, unit_macro_names}
 use Rattle.template_rules.specs.Lists.{declarator_of, declarators_in, soonest}

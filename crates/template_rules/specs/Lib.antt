@@ -1,6 +1,5 @@
 -- What the public contracts rest on.
 pub mod Functions
-pub mod ClassValue
 pub mod Lists
 pub mod Marks
 pub mod NameOffences

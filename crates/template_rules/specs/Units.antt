@@ -4,7 +4,7 @@ use Rattle.std.specs.List.{flat_map}
 use Rattle.ws_core.specs.Analysis.{UnitAnalysis}
 use Rattle.template_rules.specs.declared.unit_functions.UnitFunctions.{UnitFunctions}
 use Rattle.template_rules.specs.declared.file_lists.FoundList.{FoundList}
-use Rattle.template_rules.specs.ClassValue.{ClassValue}
+use Rattle.rename_rules.specs.Class.{ClassValue}
 use Rattle.template_rules.specs.FileLists.{function_list}
 
 -- The unit with its functions is this unit.

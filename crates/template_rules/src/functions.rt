@@ -2,14 +2,13 @@
 ghost use Rattle.std.specs.Prelude.{◌≡◌, ◌==◌, ◌||◌, ◌&&◌, ◌-◌, ◌≤◌, ℕ, IfOk, OnOk, length};
 ghost use Rattle.std.specs.List.{list_any};
 ghost use Rattle.scope_bind.specs.Bound.{is_function_name};
-ghost use Rattle.rename_rules.specs.Class.{IsClass};
-ghost use Rattle.template_rules.specs.ClassValue.{class_over};
-ghost use Rattle.template_rules.specs.Functions.{is_named, has_function, AreFunctionsOf};
+ghost use Rattle.rename_rules.specs.Class.{class_over, IsClass};
+ghost use Rattle.template_rules.specs.Functions.{holds_at, is_named, has_function, AreFunctionsOf};
 ghost use Rattle.template_rules.specs.Units.{AreUnits, IsUnitAt, has_some};
 
-use crate::class::Class;
 use crate::unit_functions::{UnitFunctions, has, push_named};
 use cs_base::{Memory, Part, Tok};
+use rename_rules::{Class, holds_member};
 use scope_bind::{EntityKind, Indices, Name, parameter_lists};
 use std::alloc::Global;
 use std::marker::Model;
@@ -26,7 +25,7 @@ pub struct Functions<'a> {
 impl<'a> Model for Functions<'a> {
     ghost use Rattle.std.specs.Coded.{codes};
     ghost use Rattle.c99_tree.specs.TreeCode.{node_code};
-    ghost use Rattle.template_rules.specs.ClassValue.{ClassValue};
+    ghost use Rattle.rename_rules.specs.Class.{ClassValue};
     ghost use Rattle.template_rules.specs.Units.{AreUnits};
 
     ghost Value = { ClassValue };
@@ -68,11 +67,22 @@ fn is_function_name(kind: EntityKind) -> bool
     }
 }
 
+/// Whether token `k` holds a member.
+pub(crate) fn holds_at(class: &Class<'_>, toks: &[Tok], k: u32) -> bool
+    ensures { result ≡ holds_at class.now.members toks.now k }
+{
+    if (k as usize) < toks.len() {
+        holds_member(class, &toks[k as usize])
+    } else {
+        false
+    }
+}
+
 // Whether a name is one of a function, and its token holds a member.
 fn is_named(class: &Class<'_>, toks: &[Tok], name: Name) -> bool
     ensures { result ≡ is_named class.now.members toks.now name }
 {
-    is_function_name(name.kind) && class.holds_at(toks, name.index)
+    is_function_name(name.kind) && holds_at(class, toks, name.index)
 }
 
 // Adds the entity of a name, if it is a function that the class names and is not there yet.

@@ -12,7 +12,6 @@
 #![tactic(auto)]
 
 mod body_lists;
-mod class;
 mod counting;
 mod dependences;
 mod file_edits;

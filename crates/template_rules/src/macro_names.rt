@@ -8,11 +8,10 @@ ghost use Rattle.rename_rules.specs.Tokens.{first_place};
 ghost use Rattle.template_rules.specs.Insides.{all_macro_names};
 ghost use Rattle.template_rules.specs.MacroOffences.{is_replacing, held_place, replaced_place, pasted_place};
 
-use crate::class::Class;
 use crate::functions::Functions;
 use cs_base::{Cause, Kind, Tok};
 use include_tree::{Event, EventKind};
-use rename_rules::{Offence, first_with};
+use rename_rules::{Class, Offence, first_with, holds_member};
 use ws_core::Analysis;
 
 // A cause that stands where a token begins.
@@ -29,7 +28,7 @@ fn at_first(a: &Analysis, tok: &Tok, cause: Cause, first: Option<Offence>) -> Op
 fn held_at(a: &Analysis, class: &Class<'_>, tok: &Tok, first: Option<Offence>) -> Option<Offence>
     ensures { FirstThen a.now.value.table (standing cause.InMacro (held_place class.now.members tok.now)) first result }
 {
-    if class.holds(tok) {
+    if holds_member(class, tok) {
         at_first(a, tok, Cause::InMacro, first)
     } else {
         first

@@ -6,7 +6,7 @@ ghost use Rattle.rename_rules.specs.First.{standing, FirstThen};
 ghost use Rattle.template_rules.specs.NameOffences.{has_prototype, is_callee, is_prototype, no_prototype_place, value_place, name_offences, all_names};
 
 use crate::counting::parameters_at;
-use crate::functions::Functions;
+use crate::functions::{Functions, holds_at};
 use crate::places::at_token;
 use crate::unit_functions::{UnitFunctions, declares_function};
 use cs_base::Cause;
@@ -65,7 +65,7 @@ fn value_at(
     ensures { FirstThen a.now.value.table (standing cause.FunctionAsValue
         (value_place unit.now.class.members unit.now.text.now.toks unit.now.bound.now.names unit.now.bound.now.calls name)) first result }
 {
-    if !unit.class.holds_at(unit.text.toks(), name.index) {
+    if !holds_at(&unit.class, unit.text.toks(), name.index) {
         return first;
     }
     if declares_function(unit, name) || is_callee(unit.bound.calls(), name.index) {

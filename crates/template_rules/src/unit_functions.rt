@@ -6,10 +6,10 @@ ghost use Rattle.c_types.specs.Parameters.{parameters_in};
 ghost use Rattle.scope_bind.specs.Names.{entity_at};
 ghost use Rattle.template_rules.specs.Functions.{names_function, declares_function, is_list_of, AreFunctionsOf};
 
-use crate::class::Class;
 use c99_tree::Tree;
 use cs_base::Memory;
 use include_tree::UnitText;
+use rename_rules::Class;
 use scope_bind::{Bound, Indices, List, Name, ParameterList};
 
 /// A unit of an analysis: its text, what its identifiers denote, and its tree; the functions that a class names, each

@@ -3,8 +3,12 @@ use Rattle.rename_edit.proofs.PathLemmas.{members_by_path}
 use Rattle.rename_edit.proofs.plan.class_edits.Goals as goal
 
 pub edit_files-requires-clause-apart : goal.edit_files-requires-clause-apart
-edit_files-requires-clause-apart c = members_apart c.args.a.now.value c.requires.part c.args.members.now c.requires.listed
+edit_files-requires-clause-apart c =
+    let of_part = c.members.ensures.of_part in
+    rw c.members.ensures.answer (members_apart _ of_part.0 _ of_part.1)
 
 pub edit_files-requires-clause-by_path : goal.edit_files-requires-clause-by_path
 edit_files-requires-clause-by_path c =
-    members_by_path c.args.a.now.value c.requires.part c.args.members.now c.files-files.ensures.lines c.files-files.ensures.once c.requires.listed
+    let of_part = rw (← c.analysis-a.ensures) at c.members.ensures.of_part in
+    rw c.members.ensures.answer
+    (members_by_path c.analysis-a.result.now.value of_part.0 _ c.files-files.ensures.lines c.files-files.ensures.once of_part.1)

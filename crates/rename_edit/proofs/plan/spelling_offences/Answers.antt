@@ -8,14 +8,15 @@ use Rattle.rename_edit.proofs.plan.spelling_offences.Goals as goal
 pub returns : goal.returns
 unfolding spelling_offences
 returns c =
-    let a = c.args.a.now.value in
-    let ms = c.args.members.now in
-    let name = c.args.name.now in
+    let class = c.args.renaming.now.class in
+    let a = class.analysis.value in
+    let ms = class.members in
+    let name = c.args.renaming.now.name in
     let s1 = standing cause.Occurs (occurring_places a ms name) in
     let s2 = standing cause.Clash (clashing_places a ms name) in
     let s3 = standing cause.TooLarge (too_large_places a ms name) in
     let s4 = standing cause.ShadowedTypedef (shadowed_places a ms) in
-    let t = c.args.a.now.value.table in
+    let t = a.table in
     then_both t (s1 ++ s2 ++ s3) s4 _ _ _
     (then_both t (s1 ++ s2) s3 _ _ _ (then_both t s1 s2 _ _ _ c.occurring-words.ensures c.in_ok-pairs.ensures) c.in_ok-sizes.ensures)
     c.shadowed.ensures

@@ -8,4 +8,4 @@ use Rattle.rename_rules.proofs.bare_offences.shadowed.Given as goal
 
 abbrev pub invariant-loop-unit : goal.invariant-loop-unit
 invariant-loop-unit l =
-    FirstThen l.a.value.table (standing cause.ShadowedTypedef (flat_map (λ (u : UnitAnalysis). flat_map (bare_places l.a.value l.members u) u.bound.bare) (take l.unit l.a.value.units))) l.initial.now l.now
+    FirstThen l.renaming.class.analysis.value.table (standing cause.ShadowedTypedef (flat_map (λ (u : UnitAnalysis). flat_map (bare_places l.renaming.class.analysis.value l.renaming.class.members u) u.bound.bare) (take l.unit l.renaming.class.analysis.value.units))) l.initial.now l.now

@@ -6,4 +6,4 @@ use Rattle.rename_rules.specs.Tokens.{member_of}
 use Rattle.rename_rules.proofs.classes.holds_member.Given as goal
 
 abbrev pub invariant-loop-k : goal.invariant-loop-k
-invariant-loop-k l = (list_any (λ origin. is_some (member_of l.members origin)) (take l.k l.tok.origins) ≡ false) × IsApart l.members l.apart
+invariant-loop-k l = (list_any (λ origin. is_some (member_of l.class.members origin)) (take l.k l.tok.origins) ≡ false) × IsApart l.class.members l.apart

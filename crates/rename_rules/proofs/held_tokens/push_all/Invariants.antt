@@ -5,4 +5,4 @@ use Rattle.rename_rules.proofs.held_tokens.push_all.Given as goal
 
 abbrev pub invariant-loop-tok : goal.invariant-loop-tok
 invariant-loop-tok l =
-    l.out.items ≡ l.initial.out.items ++ filter (holds_member l.members) (take l.tok-index l.toks)
+    l.out.items ≡ l.initial.out.items ++ filter (holds_member l.class.members) (take l.tok-index l.toks)

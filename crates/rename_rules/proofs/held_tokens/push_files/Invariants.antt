@@ -6,4 +6,4 @@ use Rattle.rename_rules.proofs.held_tokens.push_files.Given as goal
 
 abbrev pub invariant-loop-file : goal.invariant-loop-file
 invariant-loop-file l =
-    l.out.items ++ filter (holds_member l.members) (table_tokens l.file (drop l.file l.a.value.table)) ≡ l.initial.out.items ++ filter (holds_member l.members) (table_tokens 0 l.a.value.table)
+    l.out.items ++ filter (holds_member l.class.members) (table_tokens l.file (drop l.file l.class.analysis.value.table)) ≡ l.initial.out.items ++ filter (holds_member l.class.members) (table_tokens 0 l.class.analysis.value.table)

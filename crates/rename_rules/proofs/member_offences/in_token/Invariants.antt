@@ -6,4 +6,4 @@ use Rattle.rename_rules.proofs.member_offences.in_token.Given as goal
 
 abbrev pub invariant-loop-k : goal.invariant-loop-k
 invariant-loop-k l =
-    FirstThen l.a.value.table (standing l.cause (flat_map (start_of l.members) (take l.k l.tok.origins))) l.initial.now l.now
+    FirstThen l.a.value.table (standing l.cause (flat_map (start_of l.class.members) (take l.k l.tok.origins))) l.initial.now l.now

@@ -7,10 +7,10 @@ loop-tok-init c = then_none c.args.a.now.value.table c.args.first
 
 pub loop-tok-preserved : goal.loop-tok-preserved
 loop-tok-preserved c =
-    then_next c.args.a.now.value.table c.args.cause (starts_in c.args.members.now) c.args.toks.now c.loop-tok.tok-index c.tok-item.result c.args.first c.loop-tok.now c.in_token-now.result
+    then_next c.args.a.now.value.table c.args.cause (starts_in c.args.class.now.members) c.args.toks.now c.loop-tok.tok-index c.tok-item.result c.args.first c.loop-tok.now c.in_token-now.result
     c.loop-tok-test.true c.tok-item.is c.loop-tok.invariant c.in_token-now.ensures
 
 pub returns : goal.returns
 returns c =
-    then_all c.args.a.now.value.table c.args.cause (starts_in c.args.members.now) c.args.toks.now c.loop-tok.tok-index c.args.first c.loop-tok.now
+    then_all c.args.a.now.value.table c.args.cause (starts_in c.args.class.now.members) c.args.toks.now c.loop-tok.tok-index c.args.first c.loop-tok.now
     c.loop-tok-test.false c.loop-tok.invariant

@@ -6,4 +6,4 @@ use Rattle.rename_rules.proofs.member_offences.in_tokens.Given as goal
 
 abbrev pub invariant-loop-tok : goal.invariant-loop-tok
 invariant-loop-tok l =
-    FirstThen l.a.value.table (standing l.cause (flat_map (starts_in l.members) (take l.tok-index l.toks))) l.initial.now l.now
+    FirstThen l.a.value.table (standing l.cause (flat_map (starts_in l.class.members) (take l.tok-index l.toks))) l.initial.now l.now

@@ -1,5 +1,6 @@
 use Rattle.cs_base.specs.declared.causes.Cause.TheVariants as cause
 use Rattle.rename_rules.specs.Offences.{occurring_place}
+use Rattle.rename_rules.specs.RenamingValue.{held}
 use Rattle.rename_rules.proofs.FirstLemmas.{then_none, then_next, then_all}
 use Rattle.rename_rules.proofs.occurrences.occurring_in.Goals as goal
 
@@ -8,9 +9,9 @@ loop-tok-init c = then_none c.args.a.now.value.table c.args.first
 
 pub loop-tok-preserved : goal.loop-tok-preserved
 loop-tok-preserved c =
-    then_next c.args.a.now.value.table cause.Occurs (occurring_place c.args.members.now c.args.name.now c.args.toks.now) c.args.all.now c.loop-tok.tok-index c.tok-item.result c.args.first c.loop-tok.now c.occurring_at-now.result
+    then_next c.args.a.now.value.table cause.Occurs (occurring_place c.args.renaming.now.class.members c.args.renaming.now.name (held c.args.renaming.now.class)) c.args.all.now c.loop-tok.tok-index c.tok-item.result c.args.first c.loop-tok.now c.occurring_at-now.result
     c.loop-tok-test.true c.tok-item.is c.loop-tok.invariant c.occurring_at-now.ensures
 
 pub returns : goal.returns
 returns c =
-    then_all c.args.a.now.value.table cause.Occurs (occurring_place c.args.members.now c.args.name.now c.args.toks.now) c.args.all.now c.loop-tok.tok-index c.args.first c.loop-tok.now c.loop-tok-test.false c.loop-tok.invariant
+    then_all c.args.a.now.value.table cause.Occurs (occurring_place c.args.renaming.now.class.members c.args.renaming.now.name (held c.args.renaming.now.class)) c.args.all.now c.loop-tok.tok-index c.args.first c.loop-tok.now c.loop-tok-test.false c.loop-tok.invariant

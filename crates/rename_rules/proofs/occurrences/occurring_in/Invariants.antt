@@ -3,8 +3,9 @@ use Rattle.std.specs.List.{flat_map}
 use Rattle.cs_base.specs.declared.causes.Cause.TheVariants as cause
 use Rattle.rename_rules.specs.First.{standing, FirstThen}
 use Rattle.rename_rules.specs.Offences.{occurring_place}
+use Rattle.rename_rules.specs.RenamingValue.{held}
 use Rattle.rename_rules.proofs.occurrences.occurring_in.Given as goal
 
 abbrev pub invariant-loop-tok : goal.invariant-loop-tok
 invariant-loop-tok l =
-    FirstThen l.a.value.table (standing cause.Occurs (flat_map (occurring_place l.members l.name l.toks) (take l.tok-index l.all))) l.initial.now l.now
+    FirstThen l.a.value.table (standing cause.Occurs (flat_map (occurring_place l.renaming.class.members l.renaming.name (held l.renaming.class)) (take l.tok-index l.all))) l.initial.now l.now

@@ -6,10 +6,11 @@ use Rattle.std.specs.Prelude.{Option}
 use Rattle.rename_rules.specs.declared.offences.Offence.{Offence}
 use Rattle.rename_rules.specs.Offences.{occurring_place}
 use Rattle.rename_rules.specs.Tokens.{kept_tokens}
+use Rattle.rename_rules.specs.RenamingValue.{held}
 use Rattle.rename_rules.proofs.occurrences.occurring_in_files.Given as goal
 
 abbrev pub invariant-loop-file : goal.invariant-loop-file
 invariant-loop-file l =
     (last : Option Offence)
-    → FirstThen l.a.value.table (standing cause.Occurs (flat_map (occurring_place l.members l.name l.toks) (kept_tokens l.file (drop l.file l.a.value.table)))) l.now last
-    → FirstThen l.a.value.table (standing cause.Occurs (flat_map (occurring_place l.members l.name l.toks) (kept_tokens 0 l.a.value.table))) l.initial.now last
+    → FirstThen l.a.value.table (standing cause.Occurs (flat_map (occurring_place l.renaming.class.members l.renaming.name (held l.renaming.class)) (kept_tokens l.file (drop l.file l.a.value.table)))) l.now last
+    → FirstThen l.a.value.table (standing cause.Occurs (flat_map (occurring_place l.renaming.class.members l.renaming.name (held l.renaming.class)) (kept_tokens 0 l.a.value.table))) l.initial.now last

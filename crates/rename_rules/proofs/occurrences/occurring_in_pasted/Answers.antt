@@ -4,6 +4,7 @@ use Rattle.cs_base.specs.declared.causes.Cause.TheVariants as cause
 use Rattle.ws_core.specs.Analysis.{UnitAnalysis}
 use Rattle.rename_rules.specs.Offences.{occurring_place}
 use Rattle.rename_rules.specs.Tokens.{pasted_tokens}
+use Rattle.rename_rules.specs.RenamingValue.{held}
 use Rattle.rename_rules.proofs.FirstLemmas.{then_none}
 use Rattle.ws_core.proofs.OneUnitLemmas.{unit_of_text}
 use Rattle.rename_rules.proofs.UnitLemmas.{unit_tokens_next}
@@ -15,7 +16,7 @@ loop-unit-init c = then_none c.args.a.now.value.table c.args.first
 pub loop-unit-preserved : goal.loop-unit-preserved
 loop-unit-preserved c =
     let u = unit_of_text c.args.a.now.value.units c.loop-unit.unit c.text-text.result.now c.text-text.ensures in
-    unit_tokens_next c.args.a.now.value.table cause.Occurs (occurring_place c.args.members.now c.args.name.now c.args.toks.now) (λ (u : UnitAnalysis). u.text.pasted) c.args.a.now.value.units c.loop-unit.unit u.0 c.args.first c.loop-unit.now
+    unit_tokens_next c.args.a.now.value.table cause.Occurs (occurring_place c.args.renaming.now.class.members c.args.renaming.now.name (held c.args.renaming.now.class)) (λ (u : UnitAnalysis). u.text.pasted) c.args.a.now.value.units c.loop-unit.unit u.0 c.args.first c.loop-unit.now
     c.occurring_in-now.result u.1 c.loop-unit.invariant (rw (u.2, ← c.pasted.ensures) c.occurring_in-now.ensures)
 
 pub returns : goal.returns

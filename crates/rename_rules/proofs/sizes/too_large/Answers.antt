@@ -1,12 +1,10 @@
 use Rattle.rename_rules.proofs.RunLemmas.{members_apart}
-use Rattle.rename_rules.proofs.SizeLemmas.{all_large, all_sizes}
 use Rattle.rename_rules.proofs.sizes.too_large.Goals as goal
 
-pub with_runs-requires-clause-apart : goal.with_runs-requires-clause-apart
-with_runs-requires-clause-apart c = members_apart c.args.a.now.value c.requires.part c.args.members.now c.requires.listed
+pub too_large_in-requires : goal.too_large_in-requires
+too_large_in-requires c =
+    let of_part = c.members.ensures.of_part in
+    rw c.members.ensures.answer (members_apart _ of_part.0 _ of_part.1)
 
 pub returns : goal.returns
-returns c =
-    all_large c.args.a.now.value c.args.name.now c.args.members.now c.args.first c.in_ok-grown.grown.first c.full_at.result c.in_ok-grown.ensures.first
-    (c.full_at.ensures c.args.name.now
-    (all_sizes c.args.a.now.value c.args.name.now c.args.members.now c.kept_sizes-total.result c.in_ok-grown.grown.total c.kept_sizes-total.ensures c.in_ok-grown.ensures.total))
+returns c = rw (c.members.ensures.answer, c.name.ensures, c.analysis.ensures, c.class-class.ensures) at c.too_large_in.ensures

@@ -7,7 +7,7 @@ use Rattle.rename_rules.proofs.token_offences.reserved_in.Goals as goal
 
 pub returns-then-is_reserved_in : goal.returns-then-is_reserved_in
 returns-then-is_reserved_in c =
-    let reserved : (is_reserved_text c.args.tok.now.text || is_reserved_text (spelled c.args.members.now c.args.name.now c.args.tok.now)) ≡ true =
+    let reserved : (is_reserved_text c.args.tok.now.text || is_reserved_text (spelled c.args.class.now.members c.args.name.now c.args.tok.now)) ≡ true =
     rw (c.deref.ensures.value, c.in_ok-new.ensures) at (sym c.if-is_reserved_in.ensures) in
     rw reserved c.in_token.ensures
 

@@ -1,5 +1,5 @@
 use Rattle.std.proofs.Common.{◌≡◌, ℕ, ◌+◌, ◌-◌, length, arith, subst}
-use Rattle.template_rules.specs.ClassValue.{class_over}
+use Rattle.rename_rules.specs.Class.{class_over}
 use Rattle.template_rules.specs.Units.{IsUnitAt}
 use Rattle.template_rules.proofs.FunctionLemmas.{before_none, before_next, before_all}
 use Rattle.template_rules.proofs.functions.named_functions.Goals as goal

@@ -3,7 +3,7 @@ use Rattle.std.specs.List.{flat_map}
 use Rattle.cs_base.specs.declared.causes.Cause.TheVariants as cause
 use Rattle.rename_rules.specs.First.{standing, FirstThen}
 use Rattle.rename_rules.specs.Offences.{read_only_place}
-use Rattle.rename_rules.proofs.member_offences.read_only.Given as goal
+use Rattle.rename_rules.proofs.member_offences.read_only_in.Given as goal
 
 abbrev pub invariant-loop-part : goal.invariant-loop-part
 invariant-loop-part l =
