@@ -1,5 +1,5 @@
 -- A renaming is refused in one way: the first offence, its place and its cause, is one.
-use Rattle.std.proofs.Common.{◌≡◌, ℕ, zero, suc, ◌+◌, Bool, List, [], ◌∷◌, ◌++◌, Option, None, Some, inl, inr, refl, sym, ap, subst, ◌∙◌}
+use Rattle.std.proofs.Common.{◌≡◌, ℕ, zero, suc, ◌+◌, Bool, List, [], ◌∷◌, ◌++◌, Option, None, Some, inl, inr, refl, sym, ap, subst, ◌∙◌, Ok}
 use Rattle.std.specs.Prelude.{◌==◌, nat_lt, slice_get}
 use Rattle.std.specs.Cmp.{IsTotalOrder}
 use Rattle.std.specs.Cmp.Lexicographic.{slice_cmp}
@@ -148,17 +148,25 @@ one_cause : (o p : Offence) → IsListed o → IsListed p → number_of o.cause 
 unfolding IsListed
 one_cause o p e f same = same_Some o.cause p.cause (sym e ∙ (ap (slice_get causes) same ∙ f))
 
+-- two first offences among some stand at one place, and their causes have one number
+pub firsts_are_tied : (source : Source) (ws : WorkspaceValue) (a : AnalysisValue) (offences : List Offence) (o u : Offence) → IsWorkspace ws
+    → analysis_of source ws ≡ Ok a → IsFirst a.table offences (Some o) → IsFirst a.table offences (Some u)
+    → (place_at a.table o.at ≡ place_at a.table u.at) × (number_of o.cause ≡ number_of u.cause)
+firsts_are_tied source ws a offences o u is analysed p q =
+    let equal = neither_first a.table o u (λ e. q.1 o p.0 e) (λ e. p.1 u q.0 e) in
+    let outer = then_equal (position_cmp a.table o.at u.at) (nat_cmp (number_of o.cause) (number_of u.cause)) equal in
+    let inner = then_equal (slice_cmp nat_cmp (path_of a.table o.at.file) (path_of a.table u.at.file)) (nat_cmp o.at.at u.at.at) outer.0 in (
+      one_place_at a.table (paths_once source ws a is analysed) (no_lines source ws a analysed) (lines_first source ws a analysed) o.at u.at
+          (tied (path_of a.table o.at.file) (path_of a.table u.at.file) inner.0) (number_equal o.at.at u.at.at inner.1),
+      number_equal (number_of o.cause) (number_of u.cause) outer.1,
+    )
+
 pub refusals_are_one : RefusalsAreOne
 refusals_are_one = λ source ws a members name strings x y is analysed p q.
     let o : Offence = p.0 in
     let u : Offence = q.0 in
-    let equal = neither_first a.table o u (λ e. q.1.1 o p.1.0 e) (λ e. p.1.1 u q.1.0 e) in
-    let outer = then_equal (position_cmp a.table o.at u.at) (nat_cmp (number_of o.cause) (number_of u.cause)) equal in
-    let inner = then_equal (slice_cmp nat_cmp (path_of a.table o.at.file) (path_of a.table u.at.file)) (nat_cmp o.at.at u.at.at) outer.0 in
-    let place : place_at a.table o.at ≡ place_at a.table u.at =
-    one_place_at a.table (paths_once source ws a is analysed) (no_lines source ws a analysed) (lines_first source ws a analysed) o.at u.at
-    (tied (path_of a.table o.at.file) (path_of a.table u.at.file) inner.0) (number_equal o.at.at u.at.at inner.1) in
+    let both = firsts_are_tied source ws a (offences_of a members name strings) o u is analysed p.1 q.1 in
     let cause_is : o.cause ≡ u.cause =
-    one_cause o u (all_at IsListed (offences_of a members name strings) (all_listed a members name strings) o p.1.0) (all_at IsListed (offences_of a members name strings) (all_listed a members name strings) u q.1.0)
-    (number_equal (number_of o.cause) (number_of u.cause) outer.1) in
-    p.2 ∙ (ap (λ (z : Place). refused z o.cause) place ∙ (ap (λ (c : Cause). refused (place_at a.table u.at) c) cause_is ∙ sym q.2))
+    one_cause o u (all_at IsListed (offences_of a members name strings) (all_listed a members name strings) o p.1.0)
+    (all_at IsListed (offences_of a members name strings) (all_listed a members name strings) u q.1.0) both.1 in
+    p.2 ∙ (ap (λ (z : Place). refused z o.cause) both.0 ∙ (ap (λ (c : Cause). refused (place_at a.table u.at) c) cause_is ∙ sym q.2))
