@@ -1,5 +1,5 @@
--- Answers to a renaming are alike: a place names one part, the members of its class stand in one list, and a
--- reason stands against the renaming or none does.
+-- The answer to a renaming is one: a place names one part, the members of its class stand in one list, and the first
+-- reason against the renaming is one.
 use Rattle.std.proofs.Common.{◌≡◌, ℕ, zero, suc, Bool, true, false, List, [], ◌∷◌, ◌++◌, length, Option, None, Some, Result, Ok, Err, refl, ap, sym, subst, ◌∙◌}
 use Rattle.std.specs.Prelude.{slice_get}
 use Rattle.std.specs.Cmp.{IsTotalOrder}
@@ -14,13 +14,16 @@ use Rattle.cs_base.specs.declared.positions.Pos.{Pos}
 use Rattle.cs_base.specs.Edit.{Edit}
 use Rattle.ws_core.specs.Below.eclass_map.Positions.{holds}
 use Rattle.ws_core.specs.Below.part_lexer.Spelling.{is_identifier_text}
-use Rattle.ws_core.specs.Analysis.{AnalysisValue}
+use Rattle.ws_file.specs.Workspace.{WorkspaceValue, IsWorkspace}
+use Rattle.ws_core.specs.Below.source_files.Files.{Source}
+use Rattle.ws_core.specs.Analysis.{AnalysisValue, analysis_of}
 use Rattle.ws_core.specs.Naming.{Names}
 use Rattle.ws_core.specs.Parts.{AreMembers, part_cmp}
 use Rattle.ws_core.proofs.ListingLemmas.{part_cmp-total}
 use Rattle.template_rules.specs.Below.rename_rules.First.{IsAmong, offences_of}
-use Rattle.template_rules.specs.Below.rename_rules.Renaming.{Refusal, IsRenamed, IsClassRenamed, IsNamedRenamed, IsRenaming, bad_name, no_name}
+use Rattle.template_rules.specs.Below.rename_rules.Renaming.{Refusal, IsRenamed, IsClassRenamed, IsNamedRenamed, IsRenaming}
 use Rattle.ws_core.proofs.PartLemmas.{part_once}
+use Rattle.batch_run.proofs.Below.kept_meaning_laws.RefusalLemmas.{refusals_are_one}
 use Rattle.query_report.specs.Below.unused_names.Order.{position_cmp}
 use Rattle.query_report.specs.Below.unused_names.Unneeded.{AreUnneeded}
 use Rattle.query_report.specs.Below.unused_names.Unused.{AreUnused}
@@ -171,45 +174,38 @@ one_named a path line column (Some part) (Some other) p q =
 
 -- ---- answers
 
--- two answers: both are edits, or both are refusals
-abbrev pub ArePlansAlike : Result (List Edit) Refusal → Result (List Edit) Refusal → Type 0
-ArePlansAlike (Ok es) (Ok fs) = es ≡ fs
-ArePlansAlike (Err r) (Err s) = Unit {0}
-ArePlansAlike _ _ = ⊥
-
 pub none_stands : {X : Type 0} (xs : List X) (x : X) → xs ≡ [] → IsAmong xs x → ⊥
 none_stands xs x none at = none-some x (subst (λ ys. slice_get ys at.0 ≡ Some x) none at.1)
 
-renamed_alike : (a : AnalysisValue) (members : List Part) (name : List ℕ) (strings : Bool) (r s : Result (List Edit) Refusal) → IsRenamed a members name strings r
-    → IsRenamed a members name strings s → ArePlansAlike r s
-renamed_alike a members name strings (Ok es) (Ok fs) p q = p.1 ∙ sym q.1
-renamed_alike a members name strings (Ok es) (Err s) p q = absurd (none_stands (offences_of a members name strings) q.0 p.0 q.1.0)
-renamed_alike a members name strings (Err r) (Ok fs) p q = absurd (none_stands (offences_of a members name strings) p.0 q.0 p.1.0)
-renamed_alike a members name strings (Err r) (Err s) p q = tt
+-- An analysis of a workspace: each answer to a renaming over it is one.
+module _ (source : Source) (ws : WorkspaceValue) (a : AnalysisValue) (is_ws : IsWorkspace ws) (analysed : analysis_of source ws ≡ Ok a) where
+  renamed_once : (members : List Part) (name : List ℕ) (strings : Bool) (r s : Result (List Edit) Refusal) → IsRenamed a members name strings r
+      → IsRenamed a members name strings s → r ≡ s
+  renamed_once members name strings (Ok es) (Ok fs) p q = ap (λ (edits : List Edit). Ok edits) (p.1 ∙ sym q.1)
+  renamed_once members name strings (Ok es) (Err s) p q = absurd (none_stands (offences_of a members name strings) q.0 p.0 q.1.0)
+  renamed_once members name strings (Err r) (Ok fs) p q = absurd (none_stands (offences_of a members name strings) p.0 q.0 p.1.0)
+  renamed_once members name strings (Err r) (Err s) p q =
+      ap (λ (refusal : Refusal). Err refusal) (refusals_are_one source ws a members name strings r s is_ws analysed p q)
 
-class_alike : (a : AnalysisValue) (part : Part) (name : List ℕ) (strings : Bool) (r s : Result (List Edit) Refusal) → IsClassRenamed a part name strings r
-    → IsClassRenamed a part name strings s → ArePlansAlike r s
-class_alike a part name strings r s p q =
-    renamed_alike a p.members name strings r s p.renamed
-    (subst (λ (ms : List Part). IsRenamed a ms name strings s) (one_list a part q.members p.members q.are_members p.are_members) q.renamed)
+  class_once : (part : Part) (name : List ℕ) (strings : Bool) (r s : Result (List Edit) Refusal) → IsClassRenamed a part name strings r
+      → IsClassRenamed a part name strings s → r ≡ s
+  class_once part name strings r s p q =
+      renamed_once p.members name strings r s p.renamed
+      (subst (λ (ms : List Part). IsRenamed a ms name strings s) (one_list a part q.members p.members q.are_members p.are_members) q.renamed)
 
-both_refused : (r s : Result (List Edit) Refusal) (e f : Refusal) → r ≡ Err e → s ≡ Err f → ArePlansAlike r s
-both_refused r s e f p q = rw (p, q) tt
+  named_once : (name : List ℕ) (strings : Bool) (r s : Result (List Edit) Refusal) (part : Option Part) → IsNamedRenamed a name strings r part
+      → IsNamedRenamed a name strings s part → r ≡ s
+  named_once name strings r s None p q = p ∙ sym q
+  named_once name strings r s (Some part) p q = class_once part name strings r s p q
 
-named_alike : (a : AnalysisValue) (name : List ℕ) (strings : Bool) (r s : Result (List Edit) Refusal) (part : Option Part) → IsNamedRenamed a name strings r part
-    → IsNamedRenamed a name strings s part → ArePlansAlike r s
-named_alike a name strings r s None p q = both_refused r s no_name no_name p q
-named_alike a name strings r s (Some part) p q = class_alike a part name strings r s p q
+  places_once : (path : List ℕ) (line column : ℕ) (name : List ℕ) (strings : Bool) (r s : Result (List Edit) Refusal) (good : Bool)
+      → is_identifier_text name ≡ good → IsRenaming a path line column name strings r → IsRenaming a path line column name strings s → r ≡ s
+  places_once path line column name strings r s false is p q = p.bad_name is ∙ sym (q.bad_name is)
+  places_once path line column name strings r s true is p q =
+      let m = p.named is in
+      let n = q.named is in
+      named_once name strings r s m.0 m.2 (subst (λ (o : Option Part). IsNamedRenamed a name strings s o) (one_named a path line column m.0 n.0 m.1 n.1) n.2)
 
-places_alike : (a : AnalysisValue) (path : List ℕ) (line column : ℕ) (name : List ℕ) (strings : Bool) (r s : Result (List Edit) Refusal) (good : Bool)
-    → is_identifier_text name ≡ good → IsRenaming a path line column name strings r → IsRenaming a path line column name strings s → ArePlansAlike r s
-places_alike a path line column name strings r s false is p q = both_refused r s bad_name bad_name (p.bad_name is) (q.bad_name is)
-places_alike a path line column name strings r s true is p q =
-    let m = p.named is in
-    let n = q.named is in
-    named_alike a name strings r s m.0 m.2 (subst (λ (o : Option Part). IsNamedRenamed a name strings s o) (one_named a path line column m.0 n.0 m.1 n.1) n.2)
-
--- all answers to a renaming are alike
-pub renamings_alike : (a : AnalysisValue) (path : List ℕ) (line column : ℕ) (name : List ℕ) (strings : Bool) (r s : Result (List Edit) Refusal)
-    → IsRenaming a path line column name strings r → IsRenaming a path line column name strings s → ArePlansAlike r s
-renamings_alike a path line column name strings r s p q = places_alike a path line column name strings r s (is_identifier_text name) refl p q
+  pub renamings_once : (path : List ℕ) (line column : ℕ) (name : List ℕ) (strings : Bool) (r s : Result (List Edit) Refusal)
+      → IsRenaming a path line column name strings r → IsRenaming a path line column name strings s → r ≡ s
+  renamings_once path line column name strings r s p q = places_once path line column name strings r s (is_identifier_text name) refl p q

@@ -4,6 +4,7 @@ pub mod LineLemmas
 pub mod BatchLemmas
 pub mod PromiseLemmas
 pub mod ReportLemmas
+pub mod WorkspaceLemmas
 pub mod AlikeLemmas
 pub mod CallsLemmas
 pub mod PlannedLemmas

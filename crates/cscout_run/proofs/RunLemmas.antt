@@ -4,22 +4,20 @@ use Rattle.std.specs.Prelude.{IfSome, slice_get}
 use Rattle.std.specs.Option.{option_map}
 use Rattle.std.proofs.lemmas.List.{append-nil}
 use Rattle.cs_base.specs.Edit.{Edit, with_edits}
-use Rattle.cs_base.specs.Outside.{FileMap, FilesTold, TellsReads, Rose}
-use Rattle.ws_file.specs.Workspace.{WorkspaceValue}
-use Rattle.ws_file.specs.Reading.{WsFault}
+use Rattle.cs_base.specs.Outside.{FileMap, bytes_at, FilesTold, TellsReads, Rose}
+use Rattle.ws_file.specs.Workspace.{WorkspaceValue, IsWorkspace}
+use Rattle.ws_file.specs.Reading.{WsFault, workspace_of}
 use Rattle.ws_core.specs.Below.source_files.Files.{source_of}
 use Rattle.ws_core.specs.Analysis.{AnalysisValue, analysis_of}
 use Rattle.ws_core.specs.ClassReport.{IsClassReport, PrintsClass, part_lines}
 use Rattle.ws_core.specs.Parts.{AreMembers}
 use Rattle.cs_base.specs.declared.positions.Part.{Part}
 use Rattle.std.proofs.lemmas.Option.{same_Some}
-use Rattle.template_rules.specs.Below.rename_rules.Renaming.{Refusal}
 use Rattle.query_words.specs.Queries.{Query as FoundQuery}
 use Rattle.query_words.specs.Reading.{parsed}
 use Rattle.query_words.specs.declared.faults.QueryFault.{QueryFault}
 use Rattle.query_report.specs.Queries.{IsIncludesReport, IsUnusedReport, lines_of}
 use Rattle.query_report.specs.declared.queries.Query.TheVariants.{Unused, Includes}
-use Rattle.cscout_run.specs.Alike.{AreAlike}
 use Rattle.ws_core.specs.Texts.{UnitFault}
 use Rattle.generated.specs.Generated.{header_path, workspace_path, generated_files}
 use Rattle.cscout_run.specs.declared.status.Status.{Status}
@@ -28,8 +26,7 @@ use Rattle.cscout_run.specs.declared.stops.Stop.{Stop}
 use Rattle.cscout_run.specs.declared.stops.Stop.TheVariants as stop
 use Rattle.command_words.specs.Request.{RequestValue, RenameValue, TemplateValue, ClassValue, FindValue, help_asked, version_asked, renaming_asked, template_asked, tokens_asked, skipped_asked, class_asked, unused_asked, includes_asked, calls_asked, find_asked, batch_asked, asked, generated_asked}
 use Rattle.cscout_run.specs.Answer.{Answer, IsAnswer, IsAnswerTo, IsRequestAnswer, IsClassAnswer, IsListAnswer, IsCallsAnswer, IsFindAnswer, IsFindReport, IsRenameAnswer, IsTemplateAnswer, IsOverWorkspace, IsBatchAnswer, answer_of, batch_at, class_answer, ready_status, renaming_answer, shown, stopped, workspace_at, IsSizeAnswer, size_answer, template_answer}
-use Rattle.template_rules.specs.Template.{Refusal as TemplateRefused}
-use Rattle.cscout_run.proofs.TemplateLemmas.{AreOrdersAlike, templates_alike}
+use Rattle.cscout_run.proofs.TemplateLemmas.{templates_once}
 use Rattle.command_words.specs.Message.{usage_line}
 use Rattle.cscout_run.specs.Outcome.{World, told_in, GoesOn, StatusIs, HasCauses, IsComplete, IsDone, NoneRose, ShowsAnswer, Tells, FailedPut, Unmoved}
 use Rattle.cscout_run.specs.Steps.{Prepares}
@@ -40,8 +37,9 @@ use Rattle.calls_of.specs.Below.call_graphs.Graph.{GraphValue}
 use Rattle.calls_of.specs.Graphs.{calls_text}
 use Rattle.cscout_run.proofs.CallsLemmas.{one_graph}
 use Rattle.cscout_run.specs.Stopping.{Stops, stop_reads, status_of, line_of}
-use Rattle.cscout_run.proofs.AlikeLemmas.{ArePlansAlike, one_found, one_list, one_named, one_unneeded, one_unused, renamings_alike}
+use Rattle.cscout_run.proofs.AlikeLemmas.{one_found, one_list, one_named, one_unneeded, one_unused, renamings_once}
 use Rattle.cscout_run.proofs.LineLemmas.{batch-alike, same-answer}
+use Rattle.cscout_run.proofs.WorkspaceLemmas.{read_is_workspace}
 
 -- what holds of every value holds of one that is told
 pub if_told : {A : Type 0} (o : Option A) (P : A → Type 0) → ((x : A) → P x) → IfSome o P
@@ -76,7 +74,7 @@ one_text q value text text' r r' =
 
 told-alike : (q : ClassValue) (value : AnalysisValue) (told told' : Option (List ℕ)) (a b : Answer)
     → IsClassReport value q.path q.line q.column told → IsClassReport value q.path q.line q.column told' → class_answer told ≡ a
-    → class_answer told' ≡ b → AreAlike a b
+    → class_answer told' ≡ b → a ≡ b
 told-alike q value None None a b report report' is is' = same-answer (class_answer None) a b is is'
 told-alike q value (Some text) (Some text') a b report report' is is' =
     same-answer (class_answer (Some text)) a b is (ap (λ (t : List ℕ). class_answer (Some t)) (one_text q value text text' report report') ∙ is')
@@ -86,7 +84,7 @@ told-alike q value (Some text) None a b report report' is is' =
     let other : None ≡ Some report.names.0 = sym report' ∙ report.names.1 in cc
 
 class-alike : (q : ClassValue) (analysed : Result AnalysisValue UnitFault) (a b : Answer) → IsClassAnswer q analysed a
-    → IsClassAnswer q analysed b → AreAlike a b
+    → IsClassAnswer q analysed b → a ≡ b
 class-alike q (Ok value) a b p p' = told-alike q value p.0 p'.0 a b p.1 p'.1 p.2 p'.2
 class-alike q (Err fault) a b p p' = same-answer _ a b p p'
 
@@ -98,7 +96,7 @@ unused-told value (Some text) (Some text') r r' =
     ap (λ (t : List ℕ). Some t)
     (r.lines ∙ ap (part_lines value) (one_unused value r.parts r'.parts r.are_unused r'.are_unused) ∙ sym r'.lines)
 
-unused-alike : (analysed : Result AnalysisValue UnitFault) (a b : Answer) → IsListAnswer Unused analysed a → IsListAnswer Unused analysed b → AreAlike a b
+unused-alike : (analysed : Result AnalysisValue UnitFault) (a b : Answer) → IsListAnswer Unused analysed a → IsListAnswer Unused analysed b → a ≡ b
 unused-alike (Ok value) a b p p' = same-answer (class_answer p.0) a b p.2 (ap class_answer (unused-told value p.0 p'.0 p.1 p'.1) ∙ p'.2)
 unused-alike (Err fault) a b p p' = same-answer _ a b p p'
 
@@ -110,12 +108,12 @@ includes-told value (Some text) (Some text') r r' =
     (r.lines ∙ ap (lines_of value) (one_unneeded value r.places r'.places r.are_unneeded r'.are_unneeded) ∙ sym r'.lines)
 
 includes-alike : (analysed : Result AnalysisValue UnitFault) (a b : Answer) → IsListAnswer Includes analysed a → IsListAnswer Includes analysed b
-    → AreAlike a b
+    → a ≡ b
 includes-alike (Ok value) a b p p' = same-answer (class_answer p.0) a b p.2 (ap class_answer (includes-told value p.0 p'.0 p.1 p'.1) ∙ p'.2)
 includes-alike (Err fault) a b p p' = same-answer _ a b p p'
 
 -- an analysis has one graph of calls
-calls-alike : (analysed : Result AnalysisValue UnitFault) (a b : Answer) → IsCallsAnswer analysed a → IsCallsAnswer analysed b → AreAlike a b
+calls-alike : (analysed : Result AnalysisValue UnitFault) (a b : Answer) → IsCallsAnswer analysed a → IsCallsAnswer analysed b → a ≡ b
 calls-alike (Ok value) a b p p' =
     same-answer (shown (calls_text value.table p.0)) a b p.2
     (ap (λ (g : GraphValue). shown (calls_text value.table g)) (one_graph value p.0 p'.0 p.1 p'.1) ∙ p'.2)
@@ -123,113 +121,93 @@ calls-alike (Err fault) a b p p' = same-answer _ a b p p'
 
 -- what is found is printed in one text
 found-alike : (value : AnalysisValue) (read : Result FoundQuery QueryFault) (a b : Answer) → IsFindReport value read a → IsFindReport value read b
-    → AreAlike a b
+    → a ≡ b
 found-alike value (Ok q) a b p p' =
     same-answer (shown p.0) a b p.2 (ap (λ (text : List ℕ). shown text) (one_found value q p.0 p'.0 p.1 p'.1) ∙ p'.2)
 found-alike value (Err fault) a b p p' = same-answer _ a b p p'
 
 find-alike : (q : FindValue) (analysed : Result AnalysisValue UnitFault) (a b : Answer) → IsFindAnswer q analysed a → IsFindAnswer q analysed b
-    → AreAlike a b
+    → a ≡ b
 find-alike q (Ok value) a b p p' = found-alike value (parsed q.query) a b p p'
 find-alike q (Err fault) a b p p' = same-answer _ a b p p'
 
-planned-alike : (r s : Result (List Edit) Refusal) (a b : Answer) → ArePlansAlike r s → renaming_answer r ≡ a → renaming_answer s ≡ b → AreAlike a b
-planned-alike (Ok es) (Ok fs) a b alike is is' =
-    same-answer (renaming_answer (Ok es)) a b is (ap (λ (edits : List Edit). renaming_answer (Ok edits)) alike ∙ is')
-planned-alike (Err r) (Err s) a b alike is is' = record {
-  status = sym (ap (λ (c : Answer). c.status) is) ∙ ap (λ (c : Answer). c.status) is';
-  same = λ other. absurd (other (sym (ap (λ (c : Answer). c.status) is)));
-}
-planned-alike (Ok es) (Err s) a b alike is is' = absurd alike
-planned-alike (Err r) (Ok fs) a b alike is is' = absurd alike
+-- A workspace that is read: each answer over its analysis is one.
+module _ (files : FileMap) (w : WorkspaceValue) (is_ws : IsWorkspace w) where
+  rename-alike : (q : RenameValue) (analysed : Result AnalysisValue UnitFault) (a b : Answer) → analysis_of (source_of files) w ≡ analysed
+      → IsRenameAnswer q analysed a → IsRenameAnswer q analysed b → a ≡ b
+  rename-alike q (Ok value) a b is p p' =
+      same-answer (renaming_answer p.0) a b p.2
+      (ap renaming_answer (renamings_once (source_of files) w value is_ws is q.path q.line q.column q.name q.strings p.0 p'.0 p.1 p'.1) ∙ p'.2)
+  rename-alike q (Err fault) a b is p p' = same-answer _ a b p p'
 
-rename-alike : (q : RenameValue) (analysed : Result AnalysisValue UnitFault) (a b : Answer) → IsRenameAnswer q analysed a
-    → IsRenameAnswer q analysed b → AreAlike a b
-rename-alike q (Ok value) a b p p' =
-    planned-alike p.0 p'.0 a b (renamings_alike value q.path q.line q.column q.name q.strings p.0 p'.0 p.1 p'.1) p.2 p'.2
-rename-alike q (Err fault) a b p p' = same-answer _ a b p p'
+  template-alike : (q : TemplateValue) (analysed : Result AnalysisValue UnitFault) (a b : Answer) → analysis_of (source_of files) w ≡ analysed
+      → IsTemplateAnswer q analysed a → IsTemplateAnswer q analysed b → a ≡ b
+  template-alike q (Ok value) a b is p p' =
+      same-answer (template_answer p.0) a b p.2
+      (ap template_answer (templates_once (source_of files) w value is_ws is q.path q.line q.column q.order p.0 p'.0 p.1 p'.1) ∙ p'.2)
+  template-alike q (Err fault) a b is p p' = same-answer _ a b p p'
 
-ordered-alike : (r s : Result (List Edit) TemplateRefused) (a b : Answer) → AreOrdersAlike r s → template_answer r ≡ a → template_answer s ≡ b → AreAlike a b
-ordered-alike (Ok es) (Ok fs) a b alike is is' =
-    same-answer (template_answer (Ok es)) a b is (ap (λ (edits : List Edit). template_answer (Ok edits)) alike ∙ is')
-ordered-alike (Err r) (Err s) a b alike is is' = record {
-  status = sym (ap (λ (c : Answer). c.status) is) ∙ ap (λ (c : Answer). c.status) is';
-  same = λ other. absurd (other (sym (ap (λ (c : Answer). c.status) is)));
-}
-ordered-alike (Ok es) (Err s) a b alike is is' = absurd alike
-ordered-alike (Err r) (Ok fs) a b alike is is' = absurd alike
+  size-alike : (n : ℕ) (analysed : Result AnalysisValue UnitFault) (a b : Answer) → analysis_of (source_of files) w ≡ analysed
+      → IsSizeAnswer n analysed a → IsSizeAnswer n analysed b → a ≡ b
+  size-alike n (Ok value) a b is p p' =
+      same-answer (size_answer n value p.0) a b p.2
+      (ap (size_answer n value) (renamings_once (source_of files) w value is_ws is header_path 1 12 (codes "sum") false p.0 p'.0 p.1 p'.1) ∙ p'.2)
+  size-alike n (Err fault) a b is p p' = same-answer _ a b p p'
 
-template-alike : (q : TemplateValue) (analysed : Result AnalysisValue UnitFault) (a b : Answer) → IsTemplateAnswer q analysed a
-    → IsTemplateAnswer q analysed b → AreAlike a b
-template-alike q (Ok value) a b p p' =
-    ordered-alike p.0 p'.0 a b (templates_alike value q.path q.line q.column q.order p.0 p'.0 p.1 p'.1) p.2 p'.2
-template-alike q (Err fault) a b p p' = same-answer _ a b p p'
+-- what the files hold is a workspace
+held_workspace : (o : Option (List ℕ)) (w : WorkspaceValue) → option_map workspace_of o ≡ Some (Ok w) → IsWorkspace w
+held_workspace None w e = cc
+held_workspace (Some bytes) w e = read_is_workspace bytes w (same_Some (workspace_of bytes) (Ok w) e)
 
-over-alike : (ws : List ℕ) (IsNext : WorkspaceValue → Answer → Type 0) (read : Option (Result WorkspaceValue WsFault)) (a b : Answer)
-    → ((w : WorkspaceValue) → IsNext w a → IsNext w b → AreAlike a b) → IsOverWorkspace ws IsNext read a
-    → IsOverWorkspace ws IsNext read b → AreAlike a b
-over-alike ws IsNext None a b next p p' = same-answer _ a b p p'
-over-alike ws IsNext (Some (Ok w)) a b next p p' = next w p p'
-over-alike ws IsNext (Some (Err fault)) a b next p p' = same-answer _ a b p p'
-
-sizes-alike : (n : ℕ) (value : AnalysisValue) (r s : Result (List Edit) Refusal) (a b : Answer) → ArePlansAlike r s → size_answer n value r ≡ a
-    → size_answer n value s ≡ b → AreAlike a b
-sizes-alike n value (Ok es) (Ok fs) a b alike is is' =
-    same-answer (size_answer n value (Ok es)) a b is (ap (λ (edits : List Edit). size_answer n value (Ok edits)) alike ∙ is')
-sizes-alike n value (Err r) (Err s) a b alike is is' = record {
-  status = sym (ap (λ (c : Answer). c.status) is) ∙ ap (λ (c : Answer). c.status) is';
-  same = λ other. absurd (other (sym (ap (λ (c : Answer). c.status) is)));
-}
-sizes-alike n value (Ok es) (Err s) a b alike is is' = absurd alike
-sizes-alike n value (Err r) (Ok fs) a b alike is is' = absurd alike
-
-size-alike : (n : ℕ) (analysed : Result AnalysisValue UnitFault) (a b : Answer) → IsSizeAnswer n analysed a → IsSizeAnswer n analysed b → AreAlike a b
-size-alike n (Ok value) a b p p' =
-    sizes-alike n value p.0 p'.0 a b (renamings_alike value header_path 1 12 (codes "sum") false p.0 p'.0 p.1 p'.1) p.2 p'.2
-size-alike n (Err fault) a b p p' = same-answer _ a b p p'
+over-alike : (ws : List ℕ) (files : FileMap) (IsNext : WorkspaceValue → Answer → Type 0) (read : Option (Result WorkspaceValue WsFault)) (a b : Answer)
+    → workspace_at ws files ≡ read → ((w : WorkspaceValue) → IsWorkspace w → IsNext w a → IsNext w b → a ≡ b) → IsOverWorkspace ws IsNext read a
+    → IsOverWorkspace ws IsNext read b → a ≡ b
+over-alike ws files IsNext None a b is next p p' = same-answer _ a b p p'
+over-alike ws files IsNext (Some (Ok w)) a b is next p p' = next w (held_workspace (bytes_at ws files) w is) p p'
+over-alike ws files IsNext (Some (Err fault)) a b is next p p' = same-answer _ a b p p'
 
 request-alike : (files : FileMap) (request : Option RequestValue) (a b : Answer) → IsAnswerTo files request a → IsAnswerTo files request b
-    → AreAlike a b
+    → a ≡ b
 request-alike files None a b p p' = same-answer _ a b p p'
 request-alike files (Some help_asked) a b p p' = same-answer _ a b p p'
 request-alike files (Some version_asked) a b p p' = same-answer _ a b p p'
 request-alike files (Some (renaming_asked q)) a b p p' =
-    over-alike q.ws (λ w. IsRenameAnswer q (analysis_of (source_of files) w)) (workspace_at q.ws files) a b
-    (λ w. rename-alike q (analysis_of (source_of files) w) a b) p p'
+    over-alike q.ws files (λ w. IsRenameAnswer q (analysis_of (source_of files) w)) (workspace_at q.ws files) a b refl
+    (λ w is. rename-alike files w is q (analysis_of (source_of files) w) a b refl) p p'
 request-alike files (Some (template_asked q)) a b p p' =
-    over-alike q.ws (λ w. IsTemplateAnswer q (analysis_of (source_of files) w)) (workspace_at q.ws files) a b
-    (λ w. template-alike q (analysis_of (source_of files) w) a b) p p'
+    over-alike q.ws files (λ w. IsTemplateAnswer q (analysis_of (source_of files) w)) (workspace_at q.ws files) a b refl
+    (λ w is. template-alike files w is q (analysis_of (source_of files) w) a b refl) p p'
 request-alike files (Some (tokens_asked q)) a b p p' = same-answer _ a b p p'
 request-alike files (Some (skipped_asked ws)) a b p p' = same-answer _ a b p p'
 request-alike files (Some (class_asked q)) a b p p' =
-    over-alike q.ws (λ w. IsClassAnswer q (analysis_of (source_of files) w)) (workspace_at q.ws files) a b
-    (λ w. class-alike q (analysis_of (source_of files) w) a b) p p'
+    over-alike q.ws files (λ w. IsClassAnswer q (analysis_of (source_of files) w)) (workspace_at q.ws files) a b refl
+    (λ w is. class-alike q (analysis_of (source_of files) w) a b) p p'
 request-alike files (Some (unused_asked ws)) a b p p' =
-    over-alike ws (λ w. IsListAnswer Unused (analysis_of (source_of files) w)) (workspace_at ws files) a b
-    (λ w. unused-alike (analysis_of (source_of files) w) a b) p p'
+    over-alike ws files (λ w. IsListAnswer Unused (analysis_of (source_of files) w)) (workspace_at ws files) a b refl
+    (λ w is. unused-alike (analysis_of (source_of files) w) a b) p p'
 request-alike files (Some (includes_asked ws)) a b p p' =
-    over-alike ws (λ w. IsListAnswer Includes (analysis_of (source_of files) w)) (workspace_at ws files) a b
-    (λ w. includes-alike (analysis_of (source_of files) w) a b) p p'
+    over-alike ws files (λ w. IsListAnswer Includes (analysis_of (source_of files) w)) (workspace_at ws files) a b refl
+    (λ w is. includes-alike (analysis_of (source_of files) w) a b) p p'
 request-alike files (Some (calls_asked ws)) a b p p' =
-    over-alike ws (λ w. IsCallsAnswer (analysis_of (source_of files) w)) (workspace_at ws files) a b
-    (λ w. calls-alike (analysis_of (source_of files) w) a b) p p'
+    over-alike ws files (λ w. IsCallsAnswer (analysis_of (source_of files) w)) (workspace_at ws files) a b refl
+    (λ w is. calls-alike (analysis_of (source_of files) w) a b) p p'
 request-alike files (Some (find_asked q)) a b p p' =
-    over-alike q.ws (λ w. IsFindAnswer q (analysis_of (source_of files) w)) (workspace_at q.ws files) a b
-    (λ w. find-alike q (analysis_of (source_of files) w) a b) p p'
+    over-alike q.ws files (λ w. IsFindAnswer q (analysis_of (source_of files) w)) (workspace_at q.ws files) a b refl
+    (λ w is. find-alike q (analysis_of (source_of files) w) a b) p p'
 request-alike files (Some (batch_asked q)) a b p p' =
-    over-alike q.ws (λ w. IsBatchAnswer files w (batch_at q.file files)) (workspace_at q.ws files) a b
-    (λ w. batch-alike files w (batch_at q.file files) a b) p p'
+    over-alike q.ws files (λ w. IsBatchAnswer files w (batch_at q.file files)) (workspace_at q.ws files) a b refl
+    (λ w is. batch-alike w is files (batch_at q.file files) a b) p p'
 request-alike files (Some (generated_asked n)) a b p p' =
-    over-alike workspace_path (λ w. IsSizeAnswer n (analysis_of (source_of (generated_files n)) w)) (workspace_at workspace_path (generated_files n)) a b
-    (λ w. size-alike n (analysis_of (source_of (generated_files n)) w) a b) p p'
+    over-alike workspace_path (generated_files n) (λ w. IsSizeAnswer n (analysis_of (source_of (generated_files n)) w)) (workspace_at workspace_path (generated_files n)) a b refl
+    (λ w is. size-alike (generated_files n) w is n (analysis_of (source_of (generated_files n)) w) a b refl) p p'
 
-pub answers_alike : (words : List (List ℕ)) (files : FileMap) (a b : Answer) → IsAnswer words files a → IsAnswer words files b → AreAlike a b
+pub answers_alike : (words : List (List ℕ)) (files : FileMap) (a b : Answer) → IsAnswer words files a → IsAnswer words files b → a ≡ b
 unfolding IsAnswer
 answers_alike words files a b p p' = request-alike files (asked words) a b p p'
 
 pub answer-alike : (words : List (List ℕ)) (files : FileMap) (a b : Answer) → IsAnswer words files a → IsAnswer words files b
     → a.status ≡ b.status
-answer-alike words files a b p p' = (answers_alike words files a b p p').status
+answer-alike words files a b p p' = ap (λ (c : Answer). c.status) (answers_alike words files a b p p')
 
 -- ---- early ends
 
