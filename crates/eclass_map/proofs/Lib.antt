@@ -20,3 +20,4 @@ pub mod ResizedLaws
 pub mod ResizeCall
 pub mod HistoryFacts
 pub mod WholenessFacts
+pub mod ResizingFacts

@@ -16,7 +16,7 @@ use Rattle.eclass_map.specs.Kept.{IsKept}
 use Rattle.class_labels.proofs.AddFacts.{slice_get-append_left, slice_get-append_right}
 use Rattle.eclass_map.proofs.TokenFacts.{Holding, holding}
 use Rattle.class_labels.proofs.WalkFacts.{then, turned}
-use Rattle.eclass_map.proofs.LinkedFacts.{numbered}
+use Rattle.eclass_map.proofs.LinkedFacts.{numbered, JoinIn, linked_held}
 use Rattle.eclass_map.proofs.KeptFacts.{table_of}
 
 -- an earlier link is one of the longer list
@@ -90,6 +90,19 @@ links_join old new links x y least stays linked are = record {
         record { at = held.0; first = held.1; second = sym (least.holds p q (inr link)) ∙ held.1 }
   ];
   least = λ p q same. chain_of_chains old links x y are p q (least.least p q same.at same.first same.second);
+}
+
+-- a link of a token with itself forces nothing anew
+pub links_own : (t : Table) (x : Token) (links : List (Token × Token)) → JoinIn t x x → AreLinks links t → AreLinks (links ++ (x, x) ∷ []) t
+links_own t x links h are = record {
+  holds = λ p q by. elim (which_link links x x p q by) [
+    | earlier e ↦ are.holds p q e
+    | newest link ↦
+        let held = linked_held t x x h p q link in
+        let same : p ≡ q = same_Some p q (sym link.first ∙ link.second) in
+        record { at = held.0; first = held.1; second = ap (label t) (sym same) ∙ held.1 }
+  ];
+  least = λ p q same. chain_more links x x p q (are.least p q same);
 }
 
 in_part : (part : Part) (p : Pos) → Holding part p → (o : ℕ) × (o < part.len) × (along part.start o ≡ p)

@@ -1,9 +1,10 @@
 -- Where tokens and parts stand once each part of one class has another length.
-use Rattle.std.specs.Prelude.{ℕ, ◌+◌, ◌-◌, ◌*◌, ◌≡◌, Bool, ◌&&◌, cond, nat_eq, nat_lt, length, map, Some}
+use Rattle.std.specs.Prelude.{ℕ, ◌+◌, ◌-◌, ◌*◌, ◌^◌, ◌<◌, ◌≡◌, Bool, ◌&&◌, cond, nat_eq, nat_lt, length, map, Some}
 use Rattle.std.specs.List.{count_by}
 use Rattle.cs_base.specs.declared.positions.Pos.{Pos}
 use Rattle.cs_base.specs.declared.positions.Part.{Part}
 use Rattle.class_labels.specs.Labels.{length_at}
+use Rattle.eclass_map.specs.declared.token_list.Added.{Added}
 use Rattle.eclass_map.specs.Positions.{end_of}
 use Rattle.eclass_map.specs.ClassTable.{Table, class_in, members_of, added_tokens, character_count}
 
@@ -30,6 +31,10 @@ moved_part c m t d part = record { start = moved_to c m t part.start; len = cond
 -- how many characters there are afterwards
 abbrev pub count_after : ℕ → ℕ → Table → ℕ
 count_after c m t = character_count t + length (members_of t c) * m - length (members_of t c) * length_at t.labels c
+
+-- an added token ends so many characters before 2^32
+abbrev pub IsNear : ℕ → Added → Type 0
+IsNear more r = r.place.start.at + r.place.len + more < 2 ^ 32
 
 -- Each part of class c has m characters. Every token and part moves, in its file, by the growth of the members before
 -- it; the classes have their numbers and the walks their order.

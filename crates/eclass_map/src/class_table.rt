@@ -14,10 +14,11 @@ ghost use Rattle.cs_base.specs.Token.{Token};
 ghost use Rattle.cs_base.specs.declared.positions.Part.{Part};
 
 mod class_numbers;
+mod resizing;
 
 use crate::file_hints::{add_hints, missing_hints};
 use crate::places::{Places, place_runs};
-use crate::token_list::{Added, count_begun, find, near, number, settle};
+use crate::token_list::{Added, count_begun, find, near, near_from, number, settle};
 use crate::wholeness::are_whole;
 use class_labels::Partition;
 use cs_base::{Memory, Part, Pos, Steps, Tok};
@@ -232,9 +233,25 @@ impl Classes {
         are_whole(&self.tokens, &self.files, tok, guess)
     }
 
+    /// The same; the added token with this place is tried first. Where they are, a link of the token with itself
+    /// forces nothing that is not so already.
+    pub fn is_whole_near(&self, tok: &Tok, guess: usize) -> bool
+        ensures answer { MatchBool result (AreWhole self.now tok.now.origins) (AreWhole self.now tok.now.origins → ⊥) }
+        ensures own { AreWhole self.now tok.now.origins → (links : List (Token × Token)) → AreLinks links self.now → AreLinks (links ++ (tok.now, tok.now) ∷ []) self.now }
+        ensures parts { HasParts self.now }
+    {
+        are_whole(&self.tokens, &self.files, tok, guess)
+    }
+
     // The place of the added token that holds a token's first character. A guess: no contract rests on it.
     fn near(&self, tok: &Tok) -> usize {
         near(&self.tokens, &self.files, tok.origins(0))
+    }
+
+    /// The place of the added token that holds a token's first character; those at the guess and shortly behind it are
+    /// tried first. A guess too: no contract rests on it.
+    pub fn near_from(&self, tok: &Tok, guess: usize) -> usize {
+        near_from(&self.tokens, &self.files, tok.origins(0), guess)
     }
 
     /// The characters of two tokens of equal spelling are the same from now on, first to first and so on. The
@@ -279,6 +296,29 @@ impl Classes {
         }
         let second = self.near(y);
         if !self.whole_near(y, second) {
+            return false;
+        }
+        self.join_near(x, y, first, second, steps);
+        true
+    }
+
+    /// The same, where the origins of the second token are known to be whole added tokens, one after another; the
+    /// added tokens with these places are tried first.
+    pub fn join_to<L: Ledger>(
+        &mut self,
+        x: &Tok,
+        y: &Tok,
+        first: usize,
+        second: usize,
+        steps: &mut Steps<L>,
+    ) -> bool
+        requires equal { x.now.text ≡ y.now.text }
+        requires whole { AreWhole self.old y.now.origins }
+        ensures joined { IsTrue result → AreJoined x.now y.now self.old self.new steps.old steps.new }
+        ensures whole { MatchBool result (AreWhole self.old x.now.origins) (AreWhole self.old x.now.origins → ⊥) }
+        ensures unchanged { IsTrue result ⊎ ((self.new ≡ self.old) × (steps.new ≡ steps.old)) }
+    {
+        if !self.whole_near(x, first) {
             return false;
         }
         self.join_near(x, y, first, second, steps);

@@ -9,11 +9,11 @@
 //! halving the tokens of its file. `join` and the readers take no memory: `add_token` takes the room for
 //! every part that its token can be cut into. Of two classes the one with fewer parts gets the other's
 //! number, a tick of `Steps` for each. `is_whole` tells before a link is joined whether the origins of its
-//! tokens are whole added tokens, and `join_whole` joins it if so. `resize` gives the parts of a class
-//! another length, and moves what stands behind them in their files. The position of a character is told by
-//! the run of neighbours that it was added with (`places.rt`). The parts by number are those of
-//! `class_labels`. Read `specs/Chain.antt` there, `specs/ClassTable.antt` and `specs/Resized.antt`, then
-//! `class_table.rt`.
+//! tokens are whole added tokens; `join_whole` joins it if so, and `join_to` where that is known of the second.
+//! `resize` gives the parts of a class another length, and moves what stands behind them in their files. The
+//! position of a character is told by the run of neighbours that it was added with (`places.rt`). The parts by
+//! number are those of `class_labels`. Read `specs/Chain.antt` there, `specs/ClassTable.antt` and
+//! `specs/Resized.antt`, then `class_table.rt`.
 #![tactic(auto)]
 
 mod class_table;

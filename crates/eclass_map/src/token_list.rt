@@ -225,3 +225,27 @@ pub fn near(tokens: &[Added], files: &[usize], origin: Option<Pos>) -> usize
         None => 0,
     }
 }
+
+/// The same; so many tokens from the guess on are tried first.
+pub fn near_from(tokens: &[Added], files: &[usize], origin: Option<Pos>, guess: usize) -> usize
+    requires { AreTokens tokens.now }
+{
+    match origin {
+        Some(pos) => match tried(tokens, pos, guess) {
+            Some(index) => index,
+            None => near(tokens, files, origin),
+        },
+        None => 0,
+    }
+}
+
+// The first of eight tokens from the guess on that holds the character.
+fn tried(tokens: &[Added], pos: Pos, guess: usize) -> Option<usize> {
+    for more in 0..8 {
+        let index = guess.saturating_add(more);
+        if index < tokens.len() && part_holds(tokens[index].place, pos) {
+            return Some(index);
+        }
+    }
+    None
+}

@@ -1,4 +1,4 @@
-use Rattle.std.proofs.Common.{◌-◌, length, arith}
+use Rattle.std.proofs.Common.{length, arith}
 use Rattle.eclass_map.proofs.RunFacts.{begins_first, next_end}
 use Rattle.eclass_map.proofs.places.run_of.Goals as goal
 
