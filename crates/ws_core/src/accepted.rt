@@ -13,7 +13,7 @@ use ws_file::Workspace;
 
 /// A unit that is accepted: its standard, its text, its tree, and what its identifiers denote.
 #[derive(Drop)]
-pub(crate) struct UnitParts {
+pub struct UnitParts {
     standard: Standard,
     text: UnitText,
     tree: Tree,
@@ -46,10 +46,29 @@ impl UnitParts {
         }
     }
 
-    pub(crate) fn text(&self) -> &UnitText
+    /// The text of the unit.
+    pub fn text(&self) -> &UnitText
         ensures { result.now ≡ self.now.text }
     {
         &self.text
+    }
+
+    /// The same unit with another text: its standard, its tree, and what its identifiers denote, stay.
+    pub fn with_text(self, text: UnitText) -> UnitParts
+        ensures { result ≡ unit_analysis self.standard text self.tree self.bound }
+    {
+        let UnitParts {
+            standard,
+            tree,
+            bound,
+            ..
+        } = self;
+        UnitParts {
+            standard,
+            text,
+            tree,
+            bound,
+        }
     }
 
     pub(crate) fn tree(&self) -> &Tree
@@ -100,6 +119,19 @@ impl Accepted {
             units,
             cache,
         }
+    }
+
+    /// The workspace, the units and the files, each as it is.
+    pub(crate) fn into_parts(self) -> (Workspace, Vec<UnitParts>, Cache)
+        ensures answer { analysis_and result.0 result.1.items result.2.table ≡ self }
+        ensures few { length result.1.items ≤ 1024 }
+    {
+        let Accepted {
+            workspace,
+            units,
+            cache,
+        } = self;
+        (workspace, units, cache)
     }
 
     pub(crate) fn workspace(&self) -> &Workspace

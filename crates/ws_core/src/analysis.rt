@@ -19,6 +19,8 @@ ghost use Rattle.ws_core.specs.Places.{is_read_only, place_at};
 ghost use Rattle.ws_core.specs.Placing.{byte_at, IsPositionAt};
 ghost use Rattle.ws_core.specs.Spellings.{spelling_of};
 
+mod parting;
+
 use crate::accepted::Accepted;
 use crate::accepting::accept;
 use crate::analyse_fault::AnalyseFault;
@@ -37,6 +39,7 @@ use c99_tree::Tree;
 use cs_base::{Files, Memory, Part, Pos, Tok};
 use eclass_map::Classes;
 use include_tree::{KeptFile, UnitText};
+pub use parting::AnalysisParts;
 use scope_bind::Bound;
 use std::alloc::Global;
 use std::marker::Model;
@@ -103,15 +106,31 @@ fn analysed(alloc: Global, accepted: Accepted) -> Result<Analysis, AnalyseFault>
     }
 }
 
-#[tactic(auto, using(crate::proofs::PositionLemmas::lines_not_kept))]
 fn with_classes(alloc: Global, accepted: Accepted) -> Result<Analysis, Memory>
     ensures { IfOk result (λ a. (a.value ≡ accepted) × AreItsClasses a.value a.classes) }
 {
-    // The first number is that of the pseudo file of lines, which is not kept.
-    let _files = accepted.files();
     let brought = all_brought(alloc, accepted.units())?;
     let numbers = numbers(alloc, &brought)?;
     let classes = joined_classes(alloc, &accepted, &numbers)?;
+    with_lists(alloc, accepted, classes, brought, numbers)
+}
+
+#[tactic(auto, using(crate::proofs::PositionLemmas::lines_not_kept))]
+// The same with its table of classes, and the numbers that its units bring.
+fn with_lists(
+    alloc: Global,
+    accepted: Accepted,
+    classes: Classes,
+    brought: Vec<Tok>,
+    numbers: Vec<Tok>,
+) -> Result<Analysis, Memory>
+    requires own { AreItsClasses accepted classes }
+    requires each { brought.items ≡ all_brought accepted.units }
+    requires numbered { AreNumbers (all_brought accepted.units) numbers.items }
+    ensures { IfOk result (λ a. (a.value ≡ accepted) × (a.classes ≡ classes)) }
+{
+    // The first number is that of the pseudo file of lines, which is not kept.
+    let _files = accepted.files();
     let lists = lists(alloc, &accepted, &classes)?;
     let marks = processed(alloc, &accepted)?;
     Ok(Analysis {

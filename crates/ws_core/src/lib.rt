@@ -42,9 +42,10 @@ mod spelling;
 mod token_search;
 mod unit_reading;
 
+pub use accepted::UnitParts;
 pub use all_texts::Texts;
 pub use analyse_fault::AnalyseFault;
-pub use analysis::{Analysis, analyse};
+pub use analysis::{Analysis, AnalysisParts, analyse};
 pub use external_names::{is_external, is_external_name};
 pub use place_printing::push_place;
 pub use preprocessing::{one_text, texts};
