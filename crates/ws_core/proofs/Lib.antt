@@ -12,6 +12,7 @@ pub mod NameableLemmas
 pub mod MarkLemmas
 pub mod ProcessedLemmas
 pub mod JoinLemmas
+pub mod KnownLemmas
 pub mod FirstLemmas
 pub mod ExternalLemmas
 pub mod PushedLemmas

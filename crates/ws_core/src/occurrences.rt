@@ -1,9 +1,9 @@
 // The identifiers of a unit, joined with the first occurrences of their entities.
-ghost use Rattle.std.specs.Prelude.{◌≡◌, ◌≤◌, ◌<◌, ◌^◌, None, Some, IfOk, OnOk, length, slice_index_or, slice_set, unwrap_or};
+ghost use Rattle.std.specs.Prelude.{◌≡◌, ◌≤◌, ◌<◌, ◌^◌, None, Some, MatchBool, IfOk, OnOk, length, slice_index_or, slice_set, unwrap_or};
 ghost use Rattle.ws_core.specs.Joins.{Joins};
 ghost use Rattle.ws_core.specs.Links.{occurrence_links};
 
-use crate::joining::join;
+use crate::joining::join_first;
 use cs_base::{Memory, Tok};
 use eclass_map::Classes;
 use scope_bind::Bound;
@@ -20,10 +20,23 @@ pub(crate) fn join_occurrences(
 {
     let count = count_of(toks)?;
     let mut firsts = vec![in alloc; None; toks.len()]?;
+    // Where the table has the tokens. Guesses: no contract rests on them.
+    let mut places = vec![in alloc; 0; toks.len()]?;
+    let mut place = 0;
     for k in 0..count {
         if let Some(entity) = bound.entity(k) {
             let first = first_of(&mut firsts, entity, k)?;
-            join(&toks[k as usize], &toks[first as usize], classes)?;
+            place = classes.near_from(&toks[k as usize], place);
+            note_place(&mut places, k, place);
+            let is_own = is_same(first, k);
+            let both = [place, places[first as usize]];
+            join_first(
+                &toks[k as usize],
+                &toks[first as usize],
+                is_own,
+                both,
+                classes,
+            )?;
         }
     }
     Ok(())
@@ -53,4 +66,17 @@ fn first_of(firsts: &mut Vec<Option<u32>>, entity: u32, k: u32) -> Result<u32, M
     let first = firsts[place].unwrap_or(k);
     firsts[place] = Some(first);
     Ok(first)
+}
+
+fn is_same(first: u32, second: u32) -> bool
+    ensures { MatchBool result (first ≡ second) (first ≡ second → ⊥) }
+{
+    first == second
+}
+
+fn note_place(places: &mut Vec<usize>, k: u32, place: usize)
+    requires { k < length places.old.items }
+    ensures { length places.new.items ≡ length places.old.items }
+{
+    places[k as usize] = place;
 }
