@@ -19,3 +19,4 @@ pub use Rattle.no_offence_laws.specs.Below.part_respell as part_respell
 pub use Rattle.no_offence_laws.specs.Below.rename_rules as rename_rules
 pub use Rattle.no_offence_laws.specs.Below.renamed as renamed
 pub use Rattle.no_offence_laws.specs.Below.edited_unit_laws as edited_unit_laws
+pub use Rattle.no_offence_laws.specs as no_offence_laws
