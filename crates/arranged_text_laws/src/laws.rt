@@ -1,0 +1,14 @@
+// What is true of the tokens of texts whose parts change places: laws that no caller runs, and that callers' proofs cite.
+ghost use Rattle.arranged_text_laws.specs.Joining.{FilesBegin, LogicalTextsJoin, TextsJoin};
+ghost use Rattle.arranged_text_laws.specs.Places.{PlacesDoNotMatter};
+
+/// What is found in a text that settles is found there before any text, or before any that begins with white space, a
+/// parenthesis, a comma or a `/`; and behind it what is found in that text. The logical text of bytes is that of the
+/// first ones and that of the last, where no new-line that goes stands across the seam. What is found in a file is found
+/// in its logical text from the first character on.
+pub fn texts_join()
+    ensures texts { TextsJoin }
+    ensures logical { LogicalTextsJoin }
+    ensures files { FilesBegin }
+    ensures places { PlacesDoNotMatter }
+{}

@@ -1,0 +1,12 @@
+//! What the tokens of texts keep where other texts come to stand before or behind them (ISO/IEC 9899:1999, 5.1.1.2 phases
+//! 2 and 3), as they do where the items of lists change places in a file.
+//!
+//! No program stands here. Each law is the `ensures` of a function. A text settles where each of its pieces ends in it and
+//! asks for nothing behind it: a lone quote does, as it might close there, and so do a header name and an open comment. Then
+//! the tokens of it and of what stands behind it are those of both, one behind the other. Read `specs/Settling.antt`,
+//! `specs/Joining.antt` and `specs/Places.antt`, then `laws.rt`.
+#![tactic(auto)]
+
+mod laws;
+
+pub use laws::texts_join;
