@@ -100,7 +100,7 @@ module _ (s : Standard) (class_of : ℕ → Class) where
   list_text first more zs =
       ap (λ ys. ys ++ zs) (tokens_of-joined first (others_of more)) ∙ append_assoc (tokens_of first) (tokens_of (others_of more)) zs
 
-  together : (fuel depth : ℕ) (first : Forest) (more : Others) (zs : List ℕ) → Arg fuel depth first → Arguments fuel depth more → AreCommas class_of more
+  pub together : (fuel depth : ℕ) (first : Forest) (more : Others) (zs : List ℕ) → Arg fuel depth first → Arguments fuel depth more → AreCommas class_of more
       → here (grammar s) class_of zs ≡ RightParen
       → reads (suc (steps_more fuel more)) depth (produce Args) (tokens_of (listed first more) ++ zs) ≡ Some (taken (child_of Args 1 (listed first more)) zs)
   unfolding read_by_classes
@@ -121,7 +121,7 @@ module _ (s : Standard) (class_of : ℕ → Class) where
   Found_so fuel depth t =
       (first : Forest) × ((more : Others) × ((t.read ≡ child_of Args 1 (listed first more)) × (AreCommas class_of more × (Arg fuel depth first × Arguments fuel depth more))))
 
-  found : (fuel depth : ℕ) (xs : List ℕ) (t : Taken) → here (grammar s) class_of t.left ≡ RightParen → reads (suc fuel) depth (produce Args) xs ≡ Some t → Found_so fuel depth t
+  pub found : (fuel depth : ℕ) (xs : List ℕ) (t : Taken) → here (grammar s) class_of t.left ≡ RightParen → reads (suc fuel) depth (produce Args) xs ≡ Some t → Found_so fuel depth t
   unfolding read_by_classes
   found fuel depth xs t end e =
       branch (may_read (grammar s) class_of own body xs) (as_child Args 1 (read_item (grammar s) class_of (reads fuel) depth body xs)) None t

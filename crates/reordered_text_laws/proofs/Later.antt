@@ -1,5 +1,5 @@
 -- What is read in so many steps is read in more of them.
-use Rattle.std.proofs.Common.{ℕ, suc, zero, ◌+◌, ◌≡◌, Bool, true, false, ◌&&◌, if◌then◌else◌, List, [], ◌∷◌, Option, None, Some, nat_lt, refl, sym, subst}
+use Rattle.std.proofs.Common.{ℕ, suc, zero, ◌+◌, ◌-◌, ◌≤◌, ◌≡◌, Bool, true, false, ◌&&◌, if◌then◌else◌, List, [], ◌∷◌, Option, None, Some, nat_lt, refl, sym, subst, arith}
 use Rattle.tree_laws.specs.Below.c99_tree.declared.production.Production.{Production}
 use Rattle.tree_laws.specs.Below.c99_grammar.declared.classes.Class.{Class}
 use Rattle.tree_laws.specs.Below.c99_grammar.Items.{Item, one, part, end_of_text, act, ◌·◌, choice, maybe, many, deep, own, Alternative}
@@ -31,7 +31,7 @@ later_then (Some t) r' f f' m n =
 
 module _ (g : Grammar) (class_of : ℕ → Class) where
   module _ (below below' : ℕ → Goal → List ℕ → Option Taken) (later : (depth : ℕ) (goal : Goal) (xs : List ℕ) → Later (below depth goal xs) (below' depth goal xs)) where
-    later_item : (item : Item) (depth : ℕ) (xs : List ℕ) → Later (read_item g class_of below depth item xs) (read_item g class_of below' depth item xs)
+    pub later_item : (item : Item) (depth : ℕ) (xs : List ℕ) → Later (read_item g class_of below depth item xs) (read_item g class_of below' depth item xs)
     later_item (one classes) depth xs = later_same (read_one g class_of classes xs)
     later_item (part p) depth xs = later depth (produce p) xs
     later_item end_of_text depth xs = later_same (read_end g class_of xs)
@@ -60,10 +60,36 @@ module _ (g : Grammar) (class_of : ℕ → Class) where
   later_reading zero depth goal xs = tt
   later_reading (suc fuel) depth goal xs = later_goal (read_by_classes g class_of fuel) (read_by_classes g class_of (suc fuel)) (later_reading fuel) depth goal xs
 
-  later_is : (r r' : Option Taken) (t : Taken) → Later r r' → r ≡ Some t → r' ≡ Some t
+  pub later_is : (r r' : Option Taken) (t : Taken) → Later r r' → r ≡ Some t → r' ≡ Some t
   later_is r r' t m e = subst (λ x. Later x r') e m
 
   -- one step more
   pub one_more : (fuel depth : ℕ) (goal : Goal) (xs : List ℕ) (t : Taken) → read_by_classes g class_of fuel depth goal xs ≡ Some t
       → read_by_classes g class_of (suc fuel) depth goal xs ≡ Some t
   one_more fuel depth goal xs t e = later_is _ _ t (later_reading fuel depth goal xs) e
+
+  abbrev reads : ℕ → ℕ → Goal → List ℕ → Option Taken
+  reads = read_by_classes g class_of
+
+  abbrev item_read : ℕ → ℕ → Item → List ℕ → Option Taken
+  item_read fuel = read_item g class_of (reads fuel)
+
+  steps_on : (d fuel depth : ℕ) (goal : Goal) (xs : List ℕ) (t : Taken) → reads fuel depth goal xs ≡ Some t → reads (fuel + d) depth goal xs ≡ Some t
+  steps_on zero fuel depth goal xs t e = subst (λ n. reads n depth goal xs ≡ Some t) (let same : fuel ≡ fuel + 0 = omega arith in same) e
+  steps_on (suc d) fuel depth goal xs t e =
+      subst (λ n. reads n depth goal xs ≡ Some t) (let same : suc (fuel + d) ≡ fuel + suc d = omega arith in same)
+      (one_more (fuel + d) depth goal xs t (steps_on d fuel depth goal xs t e))
+
+  -- more steps read the same
+  pub goal_on : (n m depth : ℕ) (goal : Goal) (xs : List ℕ) (t : Taken) → n ≤ m → reads n depth goal xs ≡ Some t → reads m depth goal xs ≡ Some t
+  goal_on n m depth goal xs t le e =
+      subst (λ k. reads k depth goal xs ≡ Some t) (let same : n + (m - n) ≡ m = omega (arith, le) in same) (steps_on (m - n) n depth goal xs t e)
+
+  found_later : (r r' : Option Taken) → ((t : Taken) → r ≡ Some t → r' ≡ Some t) → Later r r'
+  found_later None r' f = tt
+  found_later (Some t) r' f = f t refl
+
+  pub item_on : (n m depth : ℕ) (item : Item) (xs : List ℕ) (t : Taken) → n ≤ m → item_read n depth item xs ≡ Some t → item_read m depth item xs ≡ Some t
+  item_on n m depth item xs t le e =
+      later_is (item_read n depth item xs) (item_read m depth item xs) t
+      (later_item (reads n) (reads m) (λ depth' goal ys. found_later (reads n depth' goal ys) (reads m depth' goal ys) (λ u h. goal_on n m depth' goal ys u le h)) item depth xs) e

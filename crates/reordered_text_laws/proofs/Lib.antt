@@ -11,3 +11,8 @@ mod Parameters
 mod Numbers
 mod Before
 mod Alone
+mod Enclosed
+mod Calls
+mod Free
+mod Around
+mod CallTables

@@ -27,7 +27,7 @@ one_taken : (c : Bool) (i : ℕ) (more : List ℕ) (t : Taken) → (if c then So
 one_taken true i more t e = (refl, ap (λ (u : Taken). u.read) (found_is (taken (token i none) more) t e))
 one_taken false i more t e = absurd (stopped t e)
 
-ends_first : (k c : Bool) (ts : List ℕ) → has_any ts ≡ false → (k ≡ true → has_any ts ≡ true) → (k || c) ≡ true → c ≡ true
+pub ends_first : (k c : Bool) (ts : List ℕ) → has_any ts ≡ false → (k ≡ true → has_any ts ≡ true) → (k || c) ≡ true → c ≡ true
 ends_first true c ts x f e = absurd (false≢true (sym x ∙ f refl))
 ends_first false c ts x f e = e
 

@@ -154,7 +154,7 @@ module _ (s : Standard) (class_of : ℕ → Class) where
       ∙ (append_assoc (tokens_of first) (tokens_of (joined (others_of more) tail)) zs
       ∙ ap (λ ys. tokens_of first ++ ys) (ap (λ ys. ys ++ zs) (tokens_of-joined (others_of more) tail) ∙ append_assoc (tokens_of (others_of more)) (tokens_of tail) zs))
 
-  together : (fuel depth : ℕ) (first : Forest) (more : Others) (tail : Forest) (zs : List ℕ) → Parameter fuel depth first → Parameters fuel depth more → AreCommas class_of more
+  pub together : (fuel depth : ℕ) (first : Forest) (more : Others) (tail : Forest) (zs : List ℕ) → Parameter fuel depth first → Parameters fuel depth more → AreCommas class_of more
       → IsTail class_of tail → here (grammar s) class_of zs ≡ RightParen
       → reads (suc (steps_more fuel more)) depth (produce Params) (tokens_of (listed_with first more tail) ++ zs) ≡ Some (taken (child_of Params 2 (listed_with first more tail)) zs)
   unfolding read_by_classes
@@ -183,7 +183,7 @@ module _ (s : Standard) (class_of : ℕ → Class) where
       (first : Forest) × ((more : Others) × ((tail : Forest) × ((t.read ≡ child_of Params 2 (listed_with first more tail))
       × ((AreCommas class_of more × IsTail class_of tail) × (Parameter fuel depth first × Parameters fuel depth more)))))
 
-  found : (fuel depth : ℕ) (xs : List ℕ) (t : Taken) → here (grammar s) class_of t.left ≡ RightParen → among (Identifier ∷ []) (here (grammar s) class_of xs) ≡ false
+  pub found : (fuel depth : ℕ) (xs : List ℕ) (t : Taken) → here (grammar s) class_of t.left ≡ RightParen → among (Identifier ∷ []) (here (grammar s) class_of xs) ≡ false
       → reads (suc fuel) depth (produce Params) xs ≡ Some t → Found_so fuel depth t
   unfolding read_by_classes
   found fuel depth xs t end plain e =

@@ -1,16 +1,16 @@
 -- What is true of items that change places, as to how they are read.
-use Rattle.std.specs.Prelude.{ℕ, ◌≡◌, true, false, List, [], ◌∷◌, ◌++◌, map, Option, None, Some, IsPermutation}
+use Rattle.std.specs.Prelude.{ℕ, ◌≡◌, ◌⊎◌, true, false, List, [], ◌∷◌, ◌++◌, map, Option, None, Some, IsPermutation}
 use Rattle.tree_laws.specs.Below.cs_base.declared.ws_units.Standard.{Standard}
 use Rattle.tree_laws.specs.Below.c99_tree.Tree.{Forest, none, token, node}
 use Rattle.tree_laws.specs.Below.c99_tree.declared.production.Production.{Production}
-use Rattle.tree_laws.specs.Below.c99_tree.declared.production.Production.TheVariants.{Assign, Param, Args, Params}
+use Rattle.tree_laws.specs.Below.c99_tree.declared.production.Production.TheVariants.{Assign, Param, Args, Params, Post}
 use Rattle.tree_laws.specs.Below.c99_grammar.declared.classes.Class.{Class}
-use Rattle.tree_laws.specs.Below.c99_grammar.declared.classes.Class.TheVariants.{RightParen, Identifier}
+use Rattle.tree_laws.specs.Below.c99_grammar.declared.classes.Class.TheVariants.{LeftParen, RightParen, Identifier}
 use Rattle.tree_laws.specs.Below.c99_grammar.Classes.{among}
 use Rattle.tree_laws.specs.Below.c99_grammar.Standard.{Grammar, grammar}
 use Rattle.tree_laws.specs.Below.c99_read.Reading.{Goal, produce}
 use Rattle.tree_laws.specs.Below.c99_read.Sound.{never_empty}
-use Rattle.reordered_text_laws.specs.ByClasses.{tokens_of, Taken, taken, child_of, here, behind, read_by_classes}
+use Rattle.reordered_text_laws.specs.ByClasses.{joined, tokens_of, Taken, taken, child_of, here, behind, read_by_classes}
 use Rattle.reordered_text_laws.specs.Lists.{Others, listed, listed_with, items_in, AreCommas, IsTail, EndsItem}
 
 -- What is read for a production is read the same before any tokens that begin with the same two classes, wherever it
@@ -55,6 +55,24 @@ ParametersAreReadInAnyOrder =
     → here (grammar s) class_of zs ≡ RightParen
     → (steps : ℕ) × (read_by_classes (grammar s) class_of steps depth (produce Params) (tokens_of (listed_with other others tail) ++ zs)
     ≡ Some (taken (child_of Params 2 (listed_with other others tail)) zs)))))))
+
+-- ---- Lists in their parentheses
+
+-- the children of a list in its parentheses, which are told by their numbers
+abbrev pub enclosed : ℕ → Forest → ℕ → Forest
+enclosed opening list closing = token opening (joined list (token closing none))
+
+-- A call with arguments (6.5.2.2) that is read is read, whatever tokens stand behind it, with its arguments in any other
+-- order too.
+abbrev pub CallsAreReadInAnyOrder : Type 0
+CallsAreReadInAnyOrder =
+    (s : Standard) (class_of : ℕ → Class) (fuel depth : ℕ) (xs : List ℕ) (t : Taken) → read_by_classes (grammar s) class_of fuel depth (produce Post) xs ≡ Some t
+    → here (grammar s) class_of xs ≡ LeftParen
+    → ((opening : ℕ) × ((closing : ℕ) × (t.read ≡ child_of Post 2 (enclosed opening none closing))))
+    ⊎ ((opening : ℕ) × ((closing : ℕ) × ((first : Forest) × ((more : Others) × ((t.read ≡ child_of Post 2 (enclosed opening (child_of Args 1 (listed first more)) closing))
+    × ((other : Forest) (others : Others) (zs : List ℕ) → IsPermutation (items_in first more) (items_in other others) → AreCommas class_of others
+    → (steps : ℕ) × (read_by_classes (grammar s) class_of steps depth (produce Post) (opening ∷ (tokens_of (listed other others) ++ (closing ∷ zs)))
+    ≡ Some (taken (child_of Post 2 (enclosed opening (child_of Args 1 (listed other others)) closing)) zs))))))))
 
 -- ---- Numbers of tokens
 

@@ -1,7 +1,8 @@
 // What is true of items that change places, as to how they are read: laws that no caller runs.
 ghost use Rattle.reordered_text_laws.specs.Alone.{TextsAloneAreReadByClasses};
+ghost use Rattle.reordered_text_laws.specs.Around.{CallsAreReadInTheirTexts};
 ghost use Rattle.reordered_text_laws.specs.Laws.{PartsAreReadAnywhere, ItemsAreReadAnywhere, NumbersDoNotMatter};
-ghost use Rattle.reordered_text_laws.specs.Laws.{ArgumentsAreReadInAnyOrder, ParametersAreReadInAnyOrder};
+ghost use Rattle.reordered_text_laws.specs.Laws.{ArgumentsAreReadInAnyOrder, ParametersAreReadInAnyOrder, CallsAreReadInAnyOrder};
 
 /// A text in which each identifier is spelled as no other token is read as the classes of its tokens are, by any grammar.
 pub fn texts_alone_are_read_by_classes()
@@ -28,4 +29,15 @@ pub fn arguments_are_read_in_any_order()
 /// Parameters of a list that are read are read in any other order too, to the list of these.
 pub fn parameters_are_read_in_any_order()
     ensures parameters { ParametersAreReadInAnyOrder }
+{}
+
+/// A call that is read is read with its arguments in any other order too, whatever tokens stand behind it.
+pub fn calls_are_read_in_any_order()
+    ensures calls { CallsAreReadInAnyOrder }
+{}
+
+/// What is read of a text in which a call stands is read with another call in its place, which ends where it ended: the
+/// same children but for the call.
+pub fn calls_are_read_in_their_texts()
+    ensures texts { CallsAreReadInTheirTexts }
 {}
