@@ -4,3 +4,7 @@ pub mod PlainLemmas
 pub mod AlikeLemmas
 pub mod PortionLemmas
 pub mod SectionLemmas
+pub mod BeforeLemmas
+pub mod MarkLemmas
+pub mod GoingLemmas
+pub mod ArrangeLemmas

@@ -1,25 +1,25 @@
 -- Portions of a run, one behind the other.
-use Rattle.std.proofs.Common.{◌≡◌, ◌≤◌, ℕ, zero, suc, ◌+◌, ◌-◌, ◌&&◌, Bool, true, false, List, [], ◌∷◌, ◌++◌, length, map, Ok, refl, ap, sym, ◌∙◌, arith}
-use Rattle.std.specs.List.{list_all, flat_map}
+use Rattle.std.proofs.Common.{◌≡◌, ◌≤◌, ℕ, ◌+◌, ◌&&◌, Bool, false, List, [], ◌∷◌, ◌++◌, length, map, refl, ap, sym, ◌∙◌, arith}
+use Rattle.std.specs.List.{flat_map}
 use Rattle.std.specs.Prelude.{sum_by}
 use Rattle.std.proofs.lemmas.List.Sums.{sum_by-cons}
 use Rattle.std.proofs.lemmas.List.{map-append}
 use Rattle.macro_expand.specs.Below.line_shape.Signs.{is_open}
 use Rattle.macro_expand.specs.Below.macro_body.Hides.{Hidden}
 use Rattle.macro_expand.specs.Below.macro_body.Macro.{Table}
-use Rattle.macro_expand.specs.Below.macro_body.Notes.{Note, Expanded, expanded}
-use Rattle.macro_expand.specs.Expansion.{Setting, macro_of, whole}
+use Rattle.macro_expand.specs.Below.macro_body.Notes.{Note, expanded}
+use Rattle.macro_expand.specs.Expansion.{Setting, macro_of}
 use Rattle.macro_expand.specs.Laws.{put_out_after, begins_open, is_callable, ends_callable, ExpandsInParts}
 use Rattle.macro_expand.proofs.WholeLemmas.{whole_is_step, whole_falls}
 use Rattle.list_cuts.specs.Cuts.{arranged}
 use Rattle.list_cuts.proofs.CutLemmas.{sum-arranged}
-use Rattle.arranged_laws.specs.Alike.{unlined_hidden, label_hidden, canon, plain_note, brings_no_line}
-use Rattle.arranged_laws.specs.Portions.{Portion, cost_of, costs_of, IsPortion, ArePortions, AreTheirs, Composes, PortionsCompose, PortionsMove}
+use Rattle.arranged_laws.specs.Alike.{unlined_hidden, label_hidden, canon, plain_note}
+use Rattle.arranged_laws.specs.Portions.{Portion, cost_of, costs_of, ArePortions, Composes, PortionsCompose, PortionsMove}
 use Rattle.arranged_laws.proofs.SplitLemmas.{first_same, rest_same}
 use Rattle.arranged_laws.proofs.AlikeLemmas.{canon_strict, expands_alike}
 
 -- the last token is the name of a macro alike
-ends_alike : (loose : Bool) (table : Table) (xs ys : List Hidden) → canon loose xs ≡ canon loose ys → ends_callable table xs ≡ ends_callable table ys
+pub ends_alike : (loose : Bool) (table : Table) (xs ys : List Hidden) → canon loose xs ≡ canon loose ys → ends_callable table xs ≡ ends_callable table ys
 ends_alike loose table [] [] h = refl
 ends_alike loose table [] (y ∷ ys) h = absurd cc
 ends_alike loose table (x ∷ xs) [] h = absurd cc

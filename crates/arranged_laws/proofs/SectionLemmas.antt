@@ -1,15 +1,15 @@
 -- A run falls into sections.
-use Rattle.std.proofs.Common.{◌≡◌, ℕ, suc, true, List, [], ◌∷◌, ◌++◌, length, Option, None, Result, Ok, refl, ap, sym, ◌∙◌, append-nil}
+use Rattle.std.proofs.Common.{◌≡◌, ℕ, suc, List, [], ◌∷◌, ◌++◌, length, None, Result, Ok, refl, ap, ◌∙◌, append-nil}
 use Rattle.macro_expand.specs.Below.macro_body.Hides.{Hidden}
 use Rattle.macro_expand.specs.Below.macro_body.Notes.{Fault, Note, Expanded, expanded, put_out, onward}
 use Rattle.macro_expand.specs.Expansion.{Setting, one_more, act, macro_of, whole}
 use Rattle.macro_expand.specs.Laws.{put_out_after}
 use Rattle.macro_expand.proofs.WholeLemmas.{whole_is_step}
-use Rattle.arranged_laws.specs.Sections.{Section, laid_out, AreSigns, Fallen, IsFallen, FallsInto, RunsFall}
+use Rattle.arranged_laws.specs.Sections.{Section, laid_out, AreSigns, Fallen, FallsInto, RunsFall}
 use Rattle.arranged_laws.proofs.SplitLemmas.{expansion_splits}
 
 -- a token that no macro replaces is expanded to itself
-sign_alone : (set : Setting) (depth before : ℕ) (t : Hidden) (work : ℕ) → macro_of set.table t ≡ None → whole set depth before (t ∷ []) work ≡ Ok (expanded (t ∷ []) [] work)
+pub sign_alone : (set : Setting) (depth before : ℕ) (t : Hidden) (work : ℕ) → macro_of set.table t ≡ None → whole set depth before (t ∷ []) work ≡ Ok (expanded (t ∷ []) [] work)
 sign_alone set depth before t work is =
     whole_is_step set depth before (t ∷ []) work
     ∙ ap (act set (whole set) depth before t [] work) is

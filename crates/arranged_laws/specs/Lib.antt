@@ -3,3 +3,4 @@ pub mod Splitting
 pub mod Alike
 pub mod Portions
 pub mod Sections
+pub mod Arranging

@@ -1,10 +1,9 @@
 -- Portions of a run, one behind the other, each of which is expanded somewhere (ISO/IEC 9899:1999, 6.10.3): so a run whose
 -- portions stand in another order is expanded to theirs in that order.
-use Rattle.std.specs.Prelude.{◌≡◌, ◌≤◌, ℕ, ◌+◌, ◌-◌, ◌&&◌, Bool, true, false, List, [], ◌∷◌, ◌++◌, map, Ok}
+use Rattle.std.specs.Prelude.{◌≡◌, ◌≤◌, ℕ, ◌+◌, ◌-◌, ◌&&◌, Bool, true, false, List, [], ◌∷◌, map, Ok}
 use Rattle.std.specs.List.{list_all, flat_map}
 use Rattle.macro_expand.specs.Below.macro_body.Hides.{Hidden}
-use Rattle.macro_expand.specs.Below.macro_body.Macro.{Table}
-use Rattle.macro_expand.specs.Below.macro_body.Notes.{Note, Expanded}
+use Rattle.macro_expand.specs.Below.macro_body.Notes.{Expanded}
 use Rattle.macro_expand.specs.Expansion.{Setting, whole}
 use Rattle.macro_expand.specs.Laws.{begins_open, ends_callable}
 use Rattle.list_cuts.specs.Cuts.{Cut, IsOrder, arranged, AreOf}

@@ -1,7 +1,6 @@
 -- A run that falls into sections, each of which ends in a sign that no macro put in (ISO/IEC 9899:1999, 6.10.3), as the
 -- parentheses and the commas of a list are.
-use Rattle.std.specs.Prelude.{◌≡◌, ℕ, true, List, [], ◌∷◌, ◌++◌, map, Option, None, Ok}
-use Rattle.std.specs.List.{flat_map}
+use Rattle.std.specs.Prelude.{◌≡◌, ℕ, true, List, [], ◌∷◌, ◌++◌, None, Ok}
 use Rattle.macro_expand.specs.Below.macro_body.Hides.{Hidden}
 use Rattle.macro_expand.specs.Below.macro_body.Macro.{Table}
 use Rattle.macro_expand.specs.Below.macro_body.Notes.{Expanded, expanded}

@@ -1,5 +1,6 @@
 // What is true of expansions whose tokens change places: laws that no caller runs, and that callers' proofs cite.
 ghost use Rattle.arranged_laws.specs.Alike.{ExpandsAlike};
+ghost use Rattle.arranged_laws.specs.Arranging.{RunsAreArranged};
 ghost use Rattle.arranged_laws.specs.Portions.{PortionsCompose, PortionsMove};
 ghost use Rattle.arranged_laws.specs.Sections.{RunsFall};
 ghost use Rattle.arranged_laws.specs.Splitting.{ExpansionSplits};
@@ -36,3 +37,12 @@ pub fn portions_compose()
 pub fn runs_fall()
     ensures falls { RunsFall }
 {}
+
+/// A run in which lists stand whose marks are in what it is expanded to, each put in by no macro, goes along with a new
+/// order of their items: the run in that order is expanded to the tokens in that order, but for lines and white space,
+/// and as much work is left. In a list no `__LINE__` is replaced; outside lists one may be.
+pub fn runs_are_arranged()
+    ensures arranged { RunsAreArranged }
+{
+    expansion_goes_part_by_part();
+}
