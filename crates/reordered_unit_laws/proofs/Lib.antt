@@ -1,0 +1,7 @@
+mod EditedLemmas
+mod StepLemmas
+mod OpenLemmas
+mod LineLemmas
+mod RunLemmas
+mod WalkLemmas
+mod UnitLemmas

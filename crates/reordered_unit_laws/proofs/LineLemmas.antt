@@ -1,0 +1,280 @@
+-- Lines of directives do over the edited files what they did.
+use Rattle.std.proofs.Common.{◌≡◌, ℕ, ◌+◌, Bool, true, false, cond, is_some, List, [], ◌∷◌, ◌++◌, length, map, drop, Option, Some, None, Result, Ok, Err, refl, ap, sym, subst, ◌∙◌}
+use Rattle.std.specs.List.{list_any}
+use Rattle.include_tree.specs.Below.cs_base.declared.causes.Cause.TheVariants as cause
+use Rattle.include_tree.specs.Below.cs_base.declared.positions.Pos.{Pos}
+use Rattle.include_tree.specs.Below.cs_base.Token.{Token}
+use Rattle.include_tree.specs.Below.cond_eval.declared.faults.CondFault.{CondFault}
+use Rattle.include_tree.specs.Below.cond_eval.Evaluation.{condition}
+use Rattle.include_tree.specs.Below.line_shape.Signs.{is_name}
+use Rattle.include_tree.specs.Below.macro_body.declared.definitions.Definition.{Definition}
+use Rattle.include_tree.specs.Below.macro_body.Defining.{defined_by}
+use Rattle.include_tree.specs.Below.macro_body.Hides.{toks_of}
+use Rattle.include_tree.specs.Below.macro_body.Live.{with_macro, without_macro}
+use Rattle.include_tree.specs.Below.macro_body.Notes as expansion
+use Rattle.include_tree.specs.Below.macro_expand.Expansion as expanding
+use Rattle.include_tree.specs.Below.part_lexer.FileText.{TextValue}
+use Rattle.include_tree.specs.Below.source_files.Faults.{fault_at}
+use Rattle.include_tree.specs.Below.source_files.Files.{SourceFile, Table}
+use Rattle.include_tree.specs.Below.source_files.HeaderNames.{is_header, header_in, header_of_toks}
+use Rattle.include_tree.specs.Below.source_files.Search.{Header}
+use Rattle.include_tree.specs.Below.source_files.Tables.{AreFound}
+use Rattle.include_tree.specs.Below.unit_steps.Conditions.{Piece, Plain, Asks, pieces_from, is_macro, test_notes, answer_for, answered, left_name, left_over, valued, judged, asked_pieces, holds, is_defined}
+use Rattle.include_tree.specs.Below.unit_steps.Directives.{operand_in, define_notes, after_define, defined_as, define_of, after_undef, undefined_as, undef_of, asks_name}
+use Rattle.include_tree.specs.Below.unit_steps.Expanding.{expanded_as, expanded_in}
+use Rattle.include_tree.specs.Below.unit_steps.IncludeNames.{header_or, computed_header, header_named}
+use Rattle.include_tree.specs.Below.unit_steps.Names.{spelled_in, name_links, with_name}
+use Rattle.include_tree.specs.Below.unit_steps.Notes.{Note, Happened, Undefined, Left, Answered, Entered, Exited, Named}
+use Rattle.include_tree.specs.Below.unit_steps.State.{State, Did, did, only, onward}
+use Rattle.include_tree.specs.Including.{Process, Inner, entered, included, include_of, open_header}
+use Rattle.include_tree.specs.Walk.{items_in}
+use Rattle.reordered_unit_laws.specs.Edited.{Edit, edited_state}
+use Rattle.reordered_unit_laws.specs.Walking.{AreItemsAlike, text_items, KeepsTexts, with_text, IsEdited}
+use Rattle.reordered_unit_laws.proofs.StepLemmas.{World, Goes, nothing, Same, itself, plus_none, goes_only, goes_noted, still_then, goes_then, goes_cond, goes_test}
+use Rattle.reordered_unit_laws.proofs.OpenLemmas.{FileGoes, ctx, ctx2, header_goes}
+
+-- ---- names
+
+edited_cond : (edit : Edit) (b : Bool) (x y : State) → cond b (edited_state edit x) (edited_state edit y) ≡ edited_state edit (cond b x y)
+edited_cond edit true x y = refl
+edited_cond edit false x y = refl
+
+name_edited : (edit : Edit) (name : Token) (s : State) → with_name name (edited_state edit s) ≡ edited_state edit (with_name name s)
+name_edited edit name s = edited_cond edit (is_some (spelled_in s.names name.text)) s (record s { names = s.names ++ name ∷ [] })
+
+same_cond : {X : Type 0} (f : State → X) (b : Bool) (x y : State) → f x ≡ f y → f (cond b y x) ≡ f y
+same_cond f true x y h = refl
+same_cond f false x y h = h
+
+name_table : (name : Token) (s : State) → (with_name name s).table ≡ s.table
+name_table name s = same_cond (λ (t : State). t.table) (is_some (spelled_in s.names name.text)) (record s { names = s.names ++ name ∷ [] }) s refl
+
+name_before : (name : Token) (s : State) → (with_name name s).before ≡ s.before
+name_before name s = same_cond (λ (t : State). t.before) (is_some (spelled_in s.names name.text)) (record s { names = s.names ++ name ∷ [] }) s refl
+
+-- ---- steps that look at no file
+
+-- It is the same over the edited files, and leaves the table and the tokens.
+record IsSteady {A : Type 0} (edit : Edit) (s : State) (d d2 : Did A) : Type 0 where
+  value : d2.value ≡ d.value
+  notes : d2.notes ≡ d.notes
+  state : d2.state ≡ edited_state edit d.state
+  table : d.state.table ≡ s.table
+  before : d.state.before ≡ s.before
+
+steady_goes : {A : Type 0} (w : World) (s : State) (d d2 : Did A) → IsSteady w.edit s d d2 → Goes w nothing Same s (Ok d) (Ok d2)
+steady_goes w s d d2 k = λ found told stand. record {
+  value = d2.value;
+  notes = d2.notes;
+  is = ap (λ (t : State). Ok (did d2.value d2.notes t)) k.state;
+  goes = k.value;
+  found = subst (λ (t : Table). AreFound w.old t) (sym k.table) found;
+  before = k.before ∙ plus_none s.before;
+}
+
+answered_steady : (edit : Edit) (pieces : List Piece) (s : State) → IsSteady edit s (answered pieces s) (answered pieces (edited_state edit s))
+unfolding answered
+answered_steady edit [] s = record { value = refl; notes = refl; state = refl; table = refl; before = refl }
+answered_steady edit (Plain t ∷ pieces) s =
+    let k = answered_steady edit pieces s in
+    record { value = ap (λ (l : List Token). t ∷ l) k.value; notes = k.notes; state = k.state; table = k.table; before = k.before }
+answered_steady edit (Asks word name ∷ pieces) s =
+    let k = answered_steady edit pieces (with_name name s) in
+    let there : answered pieces (with_name name (edited_state edit s)) ≡ answered pieces (edited_state edit (with_name name s)) = ap (answered pieces) (name_edited edit name s) in
+    record {
+      value = ap (λ (d : Did (List Token)). answer_for word (is_macro name s) ∷ d.value) there ∙ ap (λ (l : List Token). answer_for word (is_macro name s) ∷ l) k.value;
+      notes = ap (λ (d : Did (List Token)). front s ++ d.notes) there ∙ ap (λ (l : List Note). front s ++ l) k.notes;
+      state = ap (λ (d : Did (List Token)). d.state) there ∙ k.state;
+      table = k.table ∙ name_table name s;
+      before = k.before ∙ name_before name s;
+    }
+  where
+    front : State → List Note
+    front s = test_notes name s ++ Answered (answer_for word (is_macro name s)) ∷ []
+
+left_by : (edit : Edit) (t : Token) (toks : List Token) (s : State) → IsSteady edit s (left_over toks s) (left_over toks (edited_state edit s))
+    → IsSteady edit (with_name t s) (left_over toks (with_name t s)) (left_over toks (edited_state edit (with_name t s))) → (b : Bool)
+    → IsSteady edit s (cond b (left_name t s (left_over toks (with_name t s))) (left_over toks s))
+    (cond b (left_name t (edited_state edit s) (left_over toks (with_name t (edited_state edit s)))) (left_over toks (edited_state edit s)))
+left_by edit t toks s h k false = h
+left_by edit t toks s h k true =
+    let there : left_over toks (with_name t (edited_state edit s)) ≡ left_over toks (edited_state edit (with_name t s)) = ap (left_over toks) (name_edited edit t s) in
+    record {
+      value = refl;
+      notes = ap (λ (d : Did (Unit {0})). Left t s.before ∷ name_links t s ++ d.notes) there ∙ ap (λ (l : List Note). Left t s.before ∷ name_links t s ++ l) k.notes;
+      state = ap (λ (d : Did (Unit {0})). d.state) there ∙ k.state;
+      table = k.table ∙ name_table t s;
+      before = k.before ∙ name_before t s;
+    }
+
+left_steady : (edit : Edit) (toks : List Token) (s : State) → IsSteady edit s (left_over toks s) (left_over toks (edited_state edit s))
+unfolding left_over
+left_steady edit [] s = record { value = refl; notes = refl; state = refl; table = refl; before = refl }
+left_steady edit (t ∷ toks) s = left_by edit t toks s (left_steady edit toks s) (left_steady edit toks (with_name t s)) (is_name t)
+
+module _ (w : World) where
+  -- an expansion that is no run's
+  expanded_goes : (file : SourceFile) (text : TextValue) (s : State) (r : Result expansion.Expanded expansion.Fault)
+      → Goes w nothing Same s (expanded_as false file s r) (expanded_as false (with_text file text) (edited_state w.edit s) r)
+  expanded_goes file text s (Err found) = tt
+  expanded_goes file text s (Ok e) = λ found told stand. record {
+    value = toks_of e.toks;
+    notes = map (Happened false s.before) e.notes;
+    is = refl;
+    goes = refl;
+    found = found;
+    before = plus_none s.before;
+  }
+
+  valued_goes : (file : SourceFile) (text : TextValue) (at : Pos) (toks : List Token) (s : State) (r : Result Bool CondFault)
+      → Goes w nothing Same s (valued file at toks s r) (valued (with_text file text) at toks (edited_state w.edit s) r)
+  valued_goes file text at toks s (Err found) = tt
+  valued_goes file text at toks s (Ok b) =
+      let k = left_steady w.edit toks s in
+      let d = left_over toks s in
+      let d2 = left_over toks (edited_state w.edit s) in
+      steady_goes w s (did b d.notes d.state) (did b d2.notes d2.state) (record { value = refl; notes = k.notes; state = k.state; table = k.table; before = k.before })
+
+  pub holds_goes : (file : SourceFile) (text : TextValue) (at : Pos) (toks : List Token) (s : State)
+      → Goes w nothing Same s (holds file at toks s) (holds (with_text file text) at toks (edited_state w.edit s))
+  holds_goes file text at toks s = by (pieces_from 0 toks)
+    where
+      judged_goes : (out : List Token) (t : State) → Goes w nothing Same t (judged file at out t) (judged (with_text file text) at out (edited_state w.edit t))
+      judged_goes out t =
+          goes_test w nothing Same t (list_any is_defined out) (fault_at file at cause.DefinedFromMacro) (fault_at (with_text file text) at cause.DefinedFromMacro)
+          (valued file at out t (condition out)) (valued (with_text file text) at out (edited_state w.edit t) (condition out)) (valued_goes file text at out t (condition out))
+
+      next : (toks out : List Token) (t : State) → out ≡ toks
+          → Goes w nothing Same t (onward (expanded_in false file toks t) (judged file at)) (onward (expanded_in false (with_text file text) out (edited_state w.edit t)) (judged (with_text file text) at))
+      next toks out t same =
+          subst (λ (l : List Token). Goes w nothing Same t (onward (expanded_in false file toks t) (judged file at)) (onward (expanded_in false (with_text file text) l (edited_state w.edit t)) (judged (with_text file text) at))) (sym same)
+          (still_then w Same nothing Same t (expanded_in false file toks t) (expanded_in false (with_text file text) toks (edited_state w.edit t)) (judged file at) (judged (with_text file text) at)
+          (expanded_goes file text t (expanding.expansion t.macros file.path toks t.work))
+          (λ a b u r. subst (λ (l : List Token). Goes w nothing Same u (judged file at a u) (judged (with_text file text) at l (edited_state w.edit u))) (sym r) (judged_goes a u)))
+
+      by : (o : Option (List Piece)) → Goes w nothing Same s (asked_pieces file at s o) (asked_pieces (with_text file text) at (edited_state w.edit s) o)
+      by None = tt
+      by (Some pieces) =
+          still_then w Same nothing Same s (Ok (answered pieces s)) (Ok (answered pieces (edited_state w.edit s)))
+          (λ toks t. onward (expanded_in false file toks t) (judged file at)) (λ toks t. onward (expanded_in false (with_text file text) toks t) (judged (with_text file text) at))
+          (steady_goes w s (answered pieces s) (answered pieces (edited_state w.edit s)) (answered_steady w.edit pieces s))
+          (λ a b t r. next a b t r)
+
+  -- a name that is asked for
+  pub asks_goes : (file new : SourceFile) (at : Pos) (answer : Bool → Bool) (s : State) (o : Option Token)
+      → Goes w nothing Same s (asks_name file at answer s o) (asks_name new at answer (edited_state w.edit s) o)
+  asks_goes file new at answer s None = tt
+  asks_goes file new at answer s (Some name) =
+      steady_goes w s (did (answer (is_macro name s)) (test_notes name s) (with_name name s)) (did (answer (is_macro name s)) (test_notes name s) (with_name name (edited_state w.edit s)))
+      (record { value = refl; notes = refl; state = name_edited w.edit name s; table = name_table name s; before = name_before name s })
+
+  -- ---- lines that put nothing out
+
+  -- no token is put out
+  abbrev pub Put : ℕ → List Token → List Token → Type 0
+  Put before toks toks2 = w.V before toks toks2
+
+  silent_goes : (s : State) (d d2 : Did (List Token)) → IsSteady w.edit s d d2 → d.value ≡ [] → Goes w itself Put s (Ok d) (Ok d2)
+  silent_goes s d d2 k none = λ found told stand. record {
+    value = d2.value;
+    notes = d2.notes;
+    is = ap (λ (t : State). Ok (did d2.value d2.notes t)) k.state;
+    goes = subst (λ (l : List Token). w.V s.before d.value l) (sym (k.value ∙ none)) (subst (λ (l : List Token). w.V s.before l []) (sym none) (w.v_none s.before));
+    found = subst (λ (t : Table). AreFound w.old t) (sym k.table) found;
+    before = k.before ∙ plus_none s.before ∙ ap (λ (l : List Token). s.before + length l) (sym none);
+  }
+
+  pub define_goes : (file new : SourceFile) (at : Pos) (toks : List Token) (s : State)
+      → Goes w itself Put s (define_of file at toks s) (define_of new at toks (edited_state w.edit s))
+  define_goes file new at toks s = by (defined_by toks)
+    where
+      by : (o : Option Definition) → Goes w itself Put s (defined_as file at s o) (defined_as new at (edited_state w.edit s) o)
+      by None = tt
+      by (Some m) =
+          silent_goes s (did [] (define_notes m s) (after_define m s)) (did [] (define_notes m s) (after_define m (edited_state w.edit s)))
+          (record {
+            value = refl;
+            notes = refl;
+            state = ap (λ (t : State). record t { macros = with_macro m s.macros }) (name_edited w.edit m.name s);
+            table = name_table m.name s;
+            before = name_before m.name s;
+          }) refl
+
+  pub undef_goes : (file new : SourceFile) (at : Pos) (toks : List Token) (s : State)
+      → Goes w itself Put s (undef_of file at toks s) (undef_of new at toks (edited_state w.edit s))
+  undef_goes file new at toks s = by (operand_in toks)
+    where
+      by : (o : Option Token) → Goes w itself Put s (undefined_as file at s o) (undefined_as new at (edited_state w.edit s) o)
+      by None = tt
+      by (Some name) =
+          silent_goes s (did [] (Undefined name s.before ∷ name_links name s) (after_undef name s)) (did [] (Undefined name s.before ∷ name_links name s) (after_undef name (edited_state w.edit s)))
+          (record {
+            value = refl;
+            notes = refl;
+            state = ap (λ (t : State). record t { macros = without_macro name.text s.macros }) (name_edited w.edit name s);
+            table = name_table name s;
+            before = name_before name s;
+          }) refl
+
+  -- ---- include lines
+
+  header_or_goes : (file new : SourceFile) (at : Pos) (toks : List Token) (s : State) (o : Option Header)
+      → Goes w nothing Same s (header_or file at toks s o) (header_or new at toks (edited_state w.edit s) o)
+  header_or_goes file new at toks s None = tt
+  header_or_goes file new at toks s (Some h) =
+      steady_goes w s (did h (Named toks ∷ []) s) (did h (Named toks ∷ []) (edited_state w.edit s)) (record { value = refl; notes = refl; state = refl; table = refl; before = refl })
+
+  computed_goes : (file : SourceFile) (text : TextValue) (at : Pos) (toks : List Token) (s : State)
+      → Goes w nothing Same s (computed_header file at toks s) (computed_header (with_text file text) at toks (edited_state w.edit s))
+  computed_goes file text at toks s =
+      still_then w Same nothing Same s (expanded_in false file toks s) (expanded_in false (with_text file text) toks (edited_state w.edit s))
+      (λ out t. header_or file at out t (header_of_toks out)) (λ out t. header_or (with_text file text) at out t (header_of_toks out))
+      (expanded_goes file text s (expanding.expansion s.macros file.path toks s.work))
+      (λ a b t r. subst (λ (l : List Token). Goes w nothing Same t (header_or file at a t (header_of_toks a)) (header_or (with_text file text) at l (edited_state w.edit t) (header_of_toks l))) (sym r)
+      (header_or_goes file (with_text file text) at a t (header_of_toks a)))
+
+  named_goes : (file : SourceFile) (text : TextValue) (at : Pos) (toks : List Token) (s : State)
+      → Goes w nothing Same s (header_named file at toks s) (header_named (with_text file text) at toks (edited_state w.edit s))
+  named_goes file text at [] s = tt
+  named_goes file text at (t ∷ toks) s =
+      goes_cond w nothing Same s (is_header t.kind) (only (header_in t.text) s) (computed_header file at (t ∷ toks) s)
+      (only (header_in t.text) (edited_state w.edit s)) (computed_header (with_text file text) at (t ∷ toks) (edited_state w.edit s))
+      (goes_only w nothing Same s (header_in t.text) (header_in t.text) refl refl) (computed_goes file text at (t ∷ toks) s)
+
+  -- the items of an included file
+  abbrev pub ProcessGoes : Process → Process → Type 0
+  ProcessGoes process process2 = (file : SourceFile) (text : TextValue) → AreItemsAlike (items_in file) (text_items text) → IsEdited w.edit w.old file text → (s : State)
+      → Goes w itself Put s (process file s) (process2 (with_text file text) (edited_state w.edit s))
+
+  abbrev pub InnerGoes : Inner → Inner → Type 0
+  InnerGoes None None = Unit {0}
+  InnerGoes (Some process) (Some process2) = ProcessGoes process process2
+  InnerGoes _ _ = ⊥
+
+  module _ (keeps : KeepsTexts w.edit w.old) (ipath : List (List ℕ)) (earlier : ℕ) where
+    entered_goes : (process process2 : Process) → ProcessGoes process process2 → (at : Pos) (file : SourceFile) (text : TextValue) → AreItemsAlike (items_in file) (text_items text)
+        → IsEdited w.edit w.old file text → (s : State) → Goes w itself Put s (entered process at file s) (entered process2 at (with_text file text) (edited_state w.edit s))
+    entered_goes process process2 goes at file text items edited s =
+        goes_noted w itself Put s (Entered at file.number s.before ∷ []) (onward (process file s) (λ toks t. Ok (did toks (Exited at file.number t.before ∷ []) t)))
+        (onward (process2 (with_text file text) (edited_state w.edit s)) (λ toks t. Ok (did toks (Exited at file.number t.before ∷ []) t)))
+        (λ told. goes_then w itself Put itself Put s (process file s) (process2 (with_text file text) (edited_state w.edit s)) (λ toks. toks) (λ t. Exited at file.number t.before ∷ [])
+        (λ a. refl) (λ b x y v. v) (λ t. refl) (goes file text items edited s))
+
+    included_goes : (inner inner2 : Inner) → InnerGoes inner inner2 → (file : SourceFile) (text : TextValue) (at : Pos) (h : Header) (s : State)
+        → Goes w itself Put s (included (ctx w keeps ipath earlier) inner file at h s) (included (ctx2 w keeps ipath earlier) inner2 (with_text file text) at h (edited_state w.edit s))
+    included_goes None None goes file text at h s = tt
+    included_goes None (Some process2) goes file text at h s = tt
+    included_goes (Some process) None goes file text at h s = absurd goes
+    included_goes (Some process) (Some process2) goes file text at h s =
+        still_then w (FileGoes w) itself Put s (open_header (ctx w keeps ipath earlier) file at h s) (open_header (ctx2 w keeps ipath earlier) (with_text file text) at h (edited_state w.edit s))
+        (entered process at) (entered process2 at) (header_goes w keeps ipath earlier file text at h s)
+        (λ f f2 t r. subst (λ (g : SourceFile). Goes w itself Put t (entered process at f t) (entered process2 at g (edited_state w.edit t))) (sym r.1)
+        (entered_goes process process2 goes at f r.0 r.2 r.3 t))
+
+    pub include_goes : (inner inner2 : Inner) → InnerGoes inner inner2 → (file : SourceFile) (text : TextValue) (at : Pos) (toks : List Token) (s : State)
+        → Goes w itself Put s (include_of (ctx w keeps ipath earlier) inner file at toks s) (include_of (ctx2 w keeps ipath earlier) inner2 (with_text file text) at toks (edited_state w.edit s))
+    include_goes inner inner2 goes file text at toks s =
+        still_then w Same itself Put s (header_named file at (drop 2 toks) s) (header_named (with_text file text) at (drop 2 toks) (edited_state w.edit s))
+        (included (ctx w keeps ipath earlier) inner file at) (included (ctx2 w keeps ipath earlier) inner2 (with_text file text) at) (named_goes file text at (drop 2 toks) s)
+        (λ h h2 t r. subst (λ (x : Header). Goes w itself Put t (included (ctx w keeps ipath earlier) inner file at h t) (included (ctx2 w keeps ipath earlier) inner2 (with_text file text) at x (edited_state w.edit t))) (sym r)
+        (included_goes inner inner2 goes file text at h t))

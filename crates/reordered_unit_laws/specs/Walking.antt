@@ -1,0 +1,113 @@
+-- Units over files as they were and over edited ones, where the lines of directives stay, and the runs of text lines do in
+-- the edited files what they did (ISO/IEC 9899:1999, 5.1.1.2 phase 4, 6.10).
+use Rattle.std.specs.Prelude.{◌≡◌, ℕ, ◌+◌, true, false, ◌⊎◌, List, [], ◌∷◌, ◌++◌, map, length, Some, Ok, slice_get}
+use Rattle.include_tree.specs.Below.cs_base.declared.tokens.Kind.{Kind}
+use Rattle.include_tree.specs.Below.cs_base.Token.{Token}
+use Rattle.include_tree.specs.Below.cs_base.Units.{UnitValue}
+use Rattle.include_tree.specs.Below.part_lexer.FileText.{TextValue, file_text}
+use Rattle.include_tree.specs.Below.line_shape.Directives.{is_run}
+use Rattle.include_tree.specs.Below.line_shape.declared.items.ItemKind.TheVariants.{Run}
+use Rattle.include_tree.specs.Below.macro_body.Hides.{toks_of}
+use Rattle.include_tree.specs.Below.macro_body.Notes as expansion
+use Rattle.include_tree.specs.Below.macro_expand.Expansion as expanding
+use Rattle.include_tree.specs.Below.source_files.Files.{Source, SourceFile, source_file, Carried}
+use Rattle.include_tree.specs.Below.source_files.Limits.{the_limits}
+use Rattle.include_tree.specs.Below.source_files.Tables.{AreFound}
+use Rattle.include_tree.specs.Below.unit_steps.Notes.{Note, Reaches, Happened}
+use Rattle.include_tree.specs.Below.unit_steps.State.{State, Did, did}
+use Rattle.include_tree.specs.Walk.{ItemText, item_texts, items_in}
+use Rattle.include_tree.specs.Unit.{unit_outcome}
+use Rattle.list_cuts.specs.Cuts.{Cut, IsOrder, arranged, AreOf}
+use Rattle.list_cuts.specs.CutOf.{back}
+use Rattle.reordered_unit_laws.specs.Edited.{Edit, edited_source, edited_carried, edited_state}
+
+-- ---- files
+
+-- an item of the edited file is what it was, where it is no run of text lines
+abbrev pub IsItemAlike : ItemText → ItemText → Type 0
+IsItemAlike i j = (j.kind ≡ i.kind) × (is_run i.kind ≡ false → j ≡ i)
+
+-- so are all items of a file, one by one
+abbrev pub AreItemsAlike : List ItemText → List ItemText → Type 0
+AreItemsAlike [] [] = Unit {0}
+AreItemsAlike (i ∷ is) (j ∷ js) = IsItemAlike i j × AreItemsAlike is js
+AreItemsAlike _ _ = ⊥
+
+-- the items of a text
+abbrev pub text_items : TextValue → List ItemText
+text_items text = item_texts text.toks text.firsts
+
+-- An edit keeps how long files are, and their items but for runs.
+pub record KeepsTexts (edit : Edit) (old : Source) : Type 0 where
+  pub sizes : (path bytes : List ℕ) → length (edit path bytes) ≡ length bytes
+  pub items : (number : ℕ) (path bytes : List ℕ) (text : TextValue) → old path ≡ Some bytes → file_text number bytes ≡ Ok text
+      → (text2 : TextValue) × (file_text number (edit path bytes) ≡ Ok text2) × AreItemsAlike (text_items text) (text_items text2)
+
+-- the file with another text
+abbrev pub with_text : SourceFile → TextValue → SourceFile
+with_text file text = source_file file.number file.path text
+
+-- This is the text of the edited file; a file that the program makes is not edited.
+abbrev pub IsEdited : Edit → Source → SourceFile → TextValue → Type 0
+IsEdited edit old file text =
+    ((bytes : List ℕ) × (old file.path ≡ Some bytes) × (file_text file.number bytes ≡ Ok file.text) × (file_text file.number (edit file.path bytes) ≡ Ok text))
+    ⊎ (text ≡ file.text)
+
+-- ---- runs
+
+-- one of these
+abbrev pub IsOf : {X : Type 0} → List X → X → Type 0
+IsOf xs x = (k : ℕ) × (slice_get xs k ≡ Some x)
+
+-- What is known of a run of text lines that a unit with these notes and tokens reaches: its file and the edited one, the
+-- item of both, what it is expanded to, and that this stands among the notes and the tokens of the unit.
+pub record IsReachedRun (edit : Edit) (old : Source) (told : List Note) (all : List Token) (file : SourceFile) (text : TextValue) (k : ℕ) (i j : ItemText) (s : State) (e : expansion.Expanded) : Type 0 where
+  pub edited : IsEdited edit old file text
+  pub item : slice_get (items_in file) k ≡ Some i
+  pub item2 : slice_get (text_items text) k ≡ Some j
+  pub run : i.kind ≡ Run
+  pub reached : IsOf told (Reaches file.number k false s.before)
+  pub expands : expanding.expansion s.macros file.path i.toks s.work ≡ Ok e
+  pub notes : (note : expansion.Note) → IsOf e.notes note → IsOf told (Happened true s.before note)
+  pub toks : (m : ℕ) (t : Token) → slice_get (toks_of e.toks) m ≡ Some t → slice_get all (s.before + m) ≡ Some t
+
+-- a token, as it is read: its kind and its spelling
+abbrev pub plain : Token → Kind × List ℕ
+plain t = (t.kind, t.text)
+
+abbrev pub plains : List Token → List (Kind × List ℕ)
+plains toks = map plain toks
+
+-- Tokens behind so many others come to these in the new order, whatever follows them.
+abbrev pub GoAlong : List ℕ → Cut → ℕ → List Token → List Token → Type 0
+GoAlong order c before xs ys = (rest : List (Kind × List ℕ))
+    → arranged order (back before c) (plains xs ++ rest) ≡ plains ys ++ arranged order (back (before + length xs) c) rest
+
+-- The run of the edited file asks for as much work, and brings as many tokens, to which the old ones come in the new order.
+pub record RunGoes (order : List ℕ) (c : Cut) (file : SourceFile) (j : ItemText) (s : State) (e : expansion.Expanded) : Type 0 where
+  pub e2 : expansion.Expanded
+  pub expands : expanding.expansion s.macros file.path j.toks s.work ≡ Ok e2
+  pub left : e2.left ≡ e.left
+  pub many : length e2.toks ≡ length e.toks
+  pub goes : GoAlong order c s.before (toks_of e.toks) (toks_of e2.toks)
+
+abbrev pub RunsGo : Edit → Source → List ℕ → Cut → List Note → List Token → Type 0
+RunsGo edit old order c told all = (file : SourceFile) (text : TextValue) (k : ℕ) (i j : ItemText) (s : State) (e : expansion.Expanded)
+    → IsReachedRun edit old told all file text k i j s e → RunGoes order c file j s e
+
+-- ---- the law
+
+-- The unit over the edited files brings the tokens in the new order; the state behind it is the same, but for the bytes of
+-- files.
+pub record UnitGoes (edit : Edit) (order : List ℕ) (c : Cut) (old : Source) (number : ℕ) (unit : UnitValue) (before : Carried) (d : Did (List Token)) : Type 0 where
+  pub toks : List Token
+  pub notes : List Note
+  pub is : unit_outcome the_limits file_text (edited_source edit old) number unit (edited_carried edit before) ≡ Ok (did toks notes (edited_state edit d.state))
+  pub goes : plains toks ≡ arranged order c (plains d.value)
+  pub many : length toks ≡ length d.value
+
+-- The law: so it is where each reached run goes so.
+abbrev pub UnitsGoAlike : Type 0
+UnitsGoAlike = (edit : Edit) (n : ℕ) (order : List ℕ) (c : Cut) (old : Source) (number : ℕ) (unit : UnitValue) (before : Carried) (d : Did (List Token))
+    → IsOrder n order → AreOf n c → unit_outcome the_limits file_text old number unit before ≡ Ok d → AreFound old before.table → KeepsTexts edit old
+    → RunsGo edit old order c d.notes d.value → UnitGoes edit order c old number unit before d

@@ -1,0 +1,11 @@
+//! Units over files in which the items of lists change places (ISO/IEC 9899:1999, 5.1.1.2 phase 4, 6.10).
+//!
+//! No program stands here. Each law is the `ensures` of a function. Lists stand in runs of text lines, so the lines of
+//! directives stay, and with them the macros, the files and the conditions of a unit: its states over the edited files are
+//! those over the old ones, but for the bytes of files, and its tokens are those in the new order. Read `specs/Edited.antt`
+//! and `specs/Walking.antt`, then `laws.rt`.
+#![tactic(auto)]
+
+mod laws;
+
+pub use laws::units_go_alike;
