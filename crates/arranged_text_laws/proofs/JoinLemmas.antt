@@ -8,7 +8,7 @@ use Rattle.arranged_text_laws.specs.Settling.{Front, Piece, is_lone, begins_stop
 use Rattle.arranged_text_laws.specs.Joining.{is_seam, TextsJoin, LogicalTextsJoin, FilesBegin}
 use Rattle.arranged_text_laws.proofs.PieceStays.{piece_stays, size_same, found_same, front_same}
 
-take_same : (c : ℕ) (xs ys zs : List ℕ) (n : ℕ) → n ≤ length xs + 1 → take n (c ∷ (xs ++ zs)) ≡ take n (c ∷ (xs ++ ys))
+pub take_same : (c : ℕ) (xs ys zs : List ℕ) (n : ℕ) → n ≤ length xs + 1 → take n (c ∷ (xs ++ zs)) ≡ take n (c ∷ (xs ++ ys))
 take_same c xs ys zs n few =
     let here : n ≤ length (c ∷ xs) = omega arith in
     take-append-le n (c ∷ xs) zs here ∙ sym (take-append-le n (c ∷ xs) ys here)

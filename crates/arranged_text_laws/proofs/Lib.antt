@@ -3,3 +3,13 @@ pub mod PieceStays
 pub mod PlaceLemmas
 pub mod JoinLemmas
 pub mod SettledRows
+pub mod OrderLemmas
+pub mod Flows
+pub mod FlowLemmas
+pub mod FlowLaw
+pub mod MarkLemmas
+pub mod WeighedLemmas
+pub mod SeamLemmas
+pub mod TokenLemmas
+pub mod FileLemmas
+pub mod ArrangedRows

@@ -2,3 +2,9 @@
 pub mod Settling
 pub mod Joining
 pub mod Places
+pub mod Labels
+pub mod Marks
+pub mod Along
+pub mod Weighed
+pub mod Seams
+pub mod Arranging

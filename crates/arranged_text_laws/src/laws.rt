@@ -1,4 +1,5 @@
 // What is true of the tokens of texts whose parts change places: laws that no caller runs, and that callers' proofs cite.
+ghost use Rattle.arranged_text_laws.specs.Arranging.{FilesAreArranged};
 ghost use Rattle.arranged_text_laws.specs.Joining.{FilesBegin, LogicalTextsJoin, TextsJoin};
 ghost use Rattle.arranged_text_laws.specs.Places.{PlacesDoNotMatter};
 
@@ -11,4 +12,12 @@ pub fn texts_join()
     ensures logical { LogicalTextsJoin }
     ensures files { FilesBegin }
     ensures places { PlacesDoNotMatter }
+{}
+
+/// A file whose lists stand so that each part of its text that their cut leaves whole settles, and whose items begin and
+/// end with tokens, has its tokens in the new order, once the items of the lists are: each stands where its characters
+/// went, and is as it was but for its line, and, the first of an item, for white space before it and for whether it is the
+/// first of its line.
+pub fn files_are_arranged()
+    ensures { FilesAreArranged }
 {}
