@@ -1,0 +1,89 @@
+-- What an analysis that goes on with its files asks, and what it gives.
+use Rattle.std.proofs.Common.{◌≡◌, ℕ, ◌<◌, List, [], ◌∷◌, true, length, map, None, Some, sym, ap, subst, ◌∙◌, arith}
+use Rattle.std.specs.Prelude.{IfOk, Result, Ok, Err}
+use Rattle.std.proofs.lemmas.Option.{slice_get_within, same_Some}
+use Rattle.cs_base.specs.declared.positions.Part.{Part}
+use Rattle.eclass_map.specs.ClassTable.{Table, HasParts, class_in, members_of}
+use Rattle.eclass_map.specs.Resized.{Resizes}
+use Rattle.kept_meaning_laws.specs.Below.part_lexer.Spelling.{is_identifier_text}
+use Rattle.kept_meaning_laws.specs.Below.renamed.Renamed.{renamed_analysis, renamed_unit_analysis, renaming_of}
+use Rattle.kept_meaning_laws.specs.Below.source_files.Files.{Table as Files}
+use Rattle.kept_meaning_laws.specs.Below.ws_file.Workspace.{WorkspaceValue}
+use Rattle.ws_core.specs.Analysed.{Analysed, analysed}
+use Rattle.ws_core.specs.Analysis.{AnalysisValue, UnitAnalysis, analysis_and}
+use Rattle.ws_core.specs.Classes.{AreItsClasses}
+use Rattle.ws_core.specs.Parts.{AreMembers, IsPart}
+use Rattle.ws_core.proofs.ClassLemmas.{part_told}
+use Rattle.kept_meaning_laws.specs.Below.no_offence_laws.Allowed.{IsAllowed}
+use Rattle.part_respell.specs.Respelled.{respelled}
+use Rattle.kept_meaning_laws.specs.Below.rename_rules.First.{IsFirst, offences_of}
+use Rattle.kept_meaning_laws.proofs.FollowLinkLemmas.{classes_follow}
+use Rattle.kept_analysis.specs.declared.moves.Moves.{Moves}
+use Rattle.kept_analysis.specs.Following.{IsFollowed, IsRenamedIn, renamed_by}
+use Rattle.kept_analysis.specs.Edits.{edited_front}
+use Rattle.kept_analysis.specs.Moves.{AreMoves, editing_by, renaming_by}
+use Rattle.kept_analysis.proofs.FollowLemmas.{analysis_same}
+use Rattle.kept_analysis.proofs.MemberLemmas.{one_list}
+
+-- what holds of a value that a call gave
+pub if_ok : {X E : Type 0} (r : Result X E) (P Q : X → Type 0) → ((x : X) → P x → Q x) → IfOk r P → IfOk r Q
+if_ok (Ok x) P Q f h = f x h
+if_ok (Err e) P Q f h = tt
+
+pub name_some : (name : List ℕ) → is_identifier_text name ≡ true → 0 < length name
+name_some [] e = absurd (cc)
+name_some (c ∷ cs) e = omega arith
+
+-- what parts of an analysis are renamed has the classes that the renamed analysis has
+pub parts_own : (m : Moves) (a : Analysed) (ws : WorkspaceValue) (us renamed : List UnitAnalysis) (files edited : Files) (old new : Table) (class len : ℕ)
+    → analysed (analysis_and ws us files) old ≡ a → ((t : Table) → Resizes class len a.classes t → HasParts t → AreItsClasses (renamed_by m a.value) t)
+    → Resizes class len old new → HasParts new → renamed ≡ map (renamed_unit_analysis (renaming_by m)) us → edited ≡ edited_front (editing_by m) 0 (length files) files
+    → AreItsClasses (analysis_and ws renamed edited) new
+parts_own m a ws us renamed files edited old new class len parts own resizes has units table =
+    let follows = subst (λ (b : Analysed). (t : Table) → Resizes class len b.classes t → HasParts t → AreItsClasses (renamed_by m b.value) t) (sym parts) own in
+    rw (units, table) (follows new resizes has)
+
+-- and so it is with what is made of them
+pub answered_own : {E : Type 0} (r : Result Analysed E) (v : AnalysisValue) (t : Table) → AreItsClasses v t → IfOk r (λ b. b ≡ analysed v t)
+    → IfOk r (λ b. AreItsClasses b.value b.classes)
+answered_own r v t own is =
+    if_ok r (λ (b : Analysed). b ≡ analysed v t) (λ (b : Analysed). AreItsClasses b.value b.classes)
+    (λ b e. subst (λ (x : Analysed). AreItsClasses x.value x.classes) (sym e) own) is
+
+module _ (a : Analysed) (own : AreItsClasses a.value a.classes) (part : Part) (c : ℕ) (at : class_in a.classes part ≡ Some c) where
+  pub part_is : IsPart a.value part
+  part_is = part_told a.value a.classes own part (own.parts.told part c at)
+
+  pub members_held : 0 < length (members_of a.classes c)
+  members_held =
+      let there = own.parts.member part c at in
+      let within = slice_get_within (members_of a.classes c) there.0 part there.1 in
+      omega (arith, within)
+
+  module _ (name : List ℕ) (f : IsFollowed a.value part name) (ms : List Part) (of : AreMembers a.value part ms) (m : Moves) (are : AreMoves a.value.table ms name m) where
+    allowed : IsAllowed a ms name
+    allowed = record {
+      source = f.source;
+      workspace = a.value.workspace;
+      accepted = f.accepted;
+      own = own;
+      number = c;
+      class = record { part = part; numbered = at; listed = of };
+      identifier = f.identifier;
+      first = subst (λ (xs : List Part). IsFirst a.value.table (offences_of a.value xs name true) None) (one_list a.value part f.members ms f.class of) f.clear;
+    }
+
+    pub own_follows : (t : Table) → Resizes c (length name) a.classes t → HasParts t → AreItsClasses (renamed_by m a.value) t
+    unfolding allowed
+    own_follows t resizes parts =
+        subst (λ (v : AnalysisValue). AreItsClasses v t) (sym (analysis_same a ms name allowed m are))
+        (classes_follow a ms name f.path f.line f.column allowed f.named t resizes parts)
+
+    pub renamed_in : (b : AnalysisValue) → b ≡ renamed_by m a.value → IsRenamedIn a.value part name b
+    renamed_in b is members also =
+        is
+        ∙ (analysis_same a ms name allowed m are
+        ∙ ap (λ (xs : List Part). renamed_analysis (renaming_of a.value xs name) (respelled xs name) a.value) (one_list a.value part ms members of also))
+
+  pub moved_for : (len : ℕ) (t : Table) (d : ℕ) → class_in a.classes part ≡ Some d → Resizes c len a.classes t → Resizes d len a.classes t
+  moved_for len t d also resizes = subst (λ (n : ℕ). Resizes n len a.classes t) (same_Some c d (sym at ∙ also)) resizes

@@ -1,0 +1,11 @@
+-- What the proofs of this crate rest on.
+mod PutLemmas
+mod PlaceLemmas
+mod TokLemmas
+mod ByteLemmas
+mod EditLemmas
+mod FollowLemmas
+mod AdvanceLemmas
+-- For callers.
+pub mod MemberLemmas
+pub mod PlannedLemmas

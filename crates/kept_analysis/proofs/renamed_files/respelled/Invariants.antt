@@ -1,0 +1,7 @@
+use Rattle.kept_meaning_laws.specs.Below.part_lexer.Places.{pos}
+use Rattle.kept_analysis.specs.Edits.{IsMade}
+use Rattle.kept_analysis.specs.Moves.{put_by}
+use Rattle.kept_analysis.proofs.renamed_files.respelled.Given as goal
+
+abbrev pub invariant-loop-offset : goal.invariant-loop-offset
+invariant-loop-offset l = IsMade (λ at c. put_by l.moves (pos l.number at) c) l.bytes l.out.items l.offset l.at

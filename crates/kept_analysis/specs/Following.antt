@@ -1,0 +1,36 @@
+-- An analysis that goes on with the files behind a renaming (this project's, over ISO/IEC 9899:1999, 5.1.1.2 phases 1 to 7).
+use Rattle.std.specs.Prelude.{ℕ, ◌≡◌, true, List, Some, None, Ok, length, map}
+use Rattle.cs_base.specs.declared.positions.Part.{Part}
+use Rattle.kept_meaning_laws.specs.Below.part_lexer.Spelling.{is_identifier_text}
+use Rattle.kept_meaning_laws.specs.Below.source_files.Files.{Source}
+use Rattle.ws_core.specs.Analysis.{AnalysisValue, analysis_and, analysis_of}
+use Rattle.ws_core.specs.Naming.{Names}
+use Rattle.ws_core.specs.Parts.{AreMembers}
+use Rattle.part_respell.specs.Respelled.{respelled}
+use Rattle.kept_meaning_laws.specs.Below.rename_rules.First.{IsFirst, offences_of}
+use Rattle.kept_meaning_laws.specs.Below.renamed.Renamed.{renamed_analysis, renamed_unit_analysis, renaming_of}
+use Rattle.kept_analysis.specs.declared.moves.Moves.{Moves}
+use Rattle.kept_analysis.specs.Edits.{edited_front}
+use Rattle.kept_analysis.specs.Moves.{editing_by, renaming_by}
+
+-- A renaming that an analysis can follow: some source has the analysis, a place names the part, and nothing stands against
+-- this name for its class, if strings that `#` makes may follow the renaming.
+pub record IsFollowed (a : AnalysisValue) (part : Part) (name : List ℕ) : Type 0 where
+  pub source : Source
+  pub accepted : analysis_of source a.workspace ≡ Ok a
+  pub path : List ℕ
+  pub line : ℕ
+  pub column : ℕ
+  pub named : Names a path line column (Some part)
+  pub members : List Part
+  pub class : AreMembers a part members
+  pub identifier : is_identifier_text name ≡ true
+  pub clear : IsFirst a.table (offences_of a members name true) None
+
+-- the analysis in which the members of the class of a part are spelled so
+abbrev pub IsRenamedIn : AnalysisValue → Part → List ℕ → AnalysisValue → Type 0
+IsRenamedIn a part name b = (members : List Part) → AreMembers a part members → b ≡ renamed_analysis (renaming_of a members name) (respelled members name) a
+
+-- what the tables make of an analysis
+abbrev pub renamed_by : Moves → AnalysisValue → AnalysisValue
+renamed_by m a = analysis_and a.workspace (map (renamed_unit_analysis (renaming_by m)) a.units) (edited_front (editing_by m) 0 (length a.table) a.table)

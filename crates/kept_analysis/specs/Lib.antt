@@ -1,0 +1,5 @@
+-- What the public contracts rest on.
+pub mod Following
+-- What inner functions promise each other.
+pub mod Moves
+pub mod Edits

@@ -1,0 +1,109 @@
+// The texts of units as they stand behind a renaming.
+ghost use Rattle.std.specs.Prelude.{◌≡◌, IfOk, map, option_copied};
+ghost use Rattle.std.specs.Option.{option_map};
+ghost use Rattle.kept_meaning_laws.specs.Below.unit_steps.Texts.{text_of};
+ghost use Rattle.kept_meaning_laws.specs.Below.renamed.Renamed.{renamed_event, renamed_text, renamed_token, renamed_unit_analysis};
+ghost use Rattle.kept_analysis.specs.Moves.{move_by, renaming_by};
+
+use crate::moves::Moves;
+use crate::renamed_toks::{renamed_links, renamed_tok, renamed_toks};
+use cs_base::{Link, Memory, Pos, Tok};
+use include_tree::{Event, UnitText};
+use std::alloc::Global;
+use ws_core::UnitParts;
+
+/// Units, each with its text as it stands then; their trees and bindings stay.
+pub(crate) fn renamed_units(
+    alloc: Global,
+    moves: &Moves,
+    units: Vec<UnitParts>,
+) -> Result<Vec<UnitParts>, Memory>
+    ensures { IfOk result (λ us. us.items ≡ map (renamed_unit_analysis (renaming_by moves.now)) units.items) }
+{
+    let mut renamed = Vec::new(alloc);
+    for unit in units {
+        renamed.push(renamed_unit(alloc, moves, unit)?)?;
+    }
+    Ok(renamed)
+}
+
+fn renamed_unit(alloc: Global, moves: &Moves, unit: UnitParts) -> Result<UnitParts, Memory>
+    ensures { IfOk result (λ u. u ≡ renamed_unit_analysis (renaming_by moves.now) unit) }
+{
+    let text = renamed_text(alloc, moves, unit.text())?;
+    Ok(unit.with_text(text))
+}
+
+fn renamed_text(alloc: Global, moves: &Moves, text: &UnitText) -> Result<UnitText, Memory>
+    ensures { IfOk result (λ t. t ≡ renamed_text (renaming_by moves.now) text.now) }
+{
+    let toks = renamed_toks(alloc, moves, text.toks())?;
+    let links = renamed_links(alloc, moves, text.links())?;
+    let pasted = renamed_toks(alloc, moves, text.pasted())?;
+    let stringized = renamed_toks(alloc, moves, text.stringized())?;
+    with_rest(alloc, moves, text, toks, links, pasted, stringized)
+}
+
+// The same with the other lists.
+fn with_rest(
+    alloc: Global,
+    moves: &Moves,
+    text: &UnitText,
+    toks: Vec<Tok>,
+    links: Vec<Link>,
+    pasted: Vec<Tok>,
+    stringized: Vec<Tok>,
+) -> Result<UnitText, Memory>
+    ensures { IfOk result (λ t. t ≡ text_of toks.items links.items pasted.items stringized.items
+        (map (renamed_token (renaming_by moves.now)) text.now.header) (map (renamed_token (renaming_by moves.now)) text.now.answers)
+        text.now.reached (map (renamed_event (renaming_by moves.now)) text.now.events)) }
+{
+    let header = renamed_toks(alloc, moves, text.header())?;
+    let answers = renamed_toks(alloc, moves, text.answers())?;
+    let reached = Vec::from_slice(alloc, text.reached())?;
+    let events = renamed_events(alloc, moves, text.events())?;
+    Ok(UnitText::of(
+        toks, links, pasted, stringized, header, answers, reached, events,
+    ))
+}
+
+fn renamed_events(alloc: Global, moves: &Moves, events: &[Event]) -> Result<Vec<Event>, Memory>
+    ensures { IfOk result (λ r. r.items ≡ map (renamed_event (renaming_by moves.now)) events.now) }
+{
+    let mut renamed = Vec::new(alloc);
+    for event in events {
+        renamed.push(renamed_one(alloc, moves, event)?)?;
+    }
+    Ok(renamed)
+}
+
+fn renamed_one(alloc: Global, moves: &Moves, event: &Event) -> Result<Event, Memory>
+    ensures { IfOk result (λ e. e ≡ renamed_event (renaming_by moves.now) event.now) }
+{
+    Ok(Event {
+        kind: event.kind,
+        name: renamed_name(alloc, moves, &event.name)?,
+        at: moves.moved(event.at),
+        def: moved_def(moves, event.def),
+        file: event.file,
+        before: event.before,
+    })
+}
+
+fn renamed_name(alloc: Global, moves: &Moves, name: &Option<Tok>) -> Result<Option<Tok>, Memory>
+    ensures { IfOk result (λ n. n ≡ option_map (renamed_token (renaming_by moves.now)) name.now) }
+{
+    match name {
+        Some(tok) => Ok(Some(renamed_tok(alloc, moves, tok)?)),
+        None => Ok(None),
+    }
+}
+
+fn moved_def(moves: &Moves, def: Option<Pos>) -> Option<Pos>
+    ensures { result ≡ option_map (move_by moves.now) def }
+{
+    match def {
+        Some(p) => Some(moves.moved(p)),
+        None => None,
+    }
+}
