@@ -2,6 +2,7 @@
 mod PutLemmas
 mod PlaceLemmas
 mod TokLemmas
+mod StillLemmas
 mod ByteLemmas
 mod EditLemmas
 mod FollowLemmas

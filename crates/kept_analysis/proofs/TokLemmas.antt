@@ -60,12 +60,12 @@ module _ (m : Moves) where
   trace_step o os c cs = refl
 
   module _ (t : Token) (is : IsToken t) (k c : ℕ) (o : Option Pos) (less : k < length t.text) (byte : get_or t.text k 0 ≡ c) (origin : o ≡ origin_at t k) where
-    front : drop k t.origins ≡ o ∷ drop (k + 1) t.origins
+    pub front : drop k t.origins ≡ o ∷ drop (k + 1) t.origins
     front =
         let each = is.each in
         drop_more t.origins k None (omega (arith, less, each)) ∙ ap (λ (x : Option Pos). x ∷ drop (k + 1) t.origins) (sym (origin_there t.origins k) ∙ sym origin)
 
-    back : drop k t.text ≡ c ∷ drop (k + 1) t.text
+    pub back : drop k t.text ≡ c ∷ drop (k + 1) t.text
     back = drop_more t.text k 0 less ∙ ap (λ (x : ℕ). x ∷ drop (k + 1) t.text) byte
 
     pub spell_more : (old mid new : List ℕ) → mid ++ spell_by m (drop k t.origins) (drop k t.text) ≡ old ++ spell_by m t.origins t.text → new ≡ mid ++ spell_of m o c

@@ -3,3 +3,4 @@ pub mod Following
 -- What inner functions promise each other.
 pub mod Moves
 pub mod Edits
+pub mod Still

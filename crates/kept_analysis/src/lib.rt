@@ -13,5 +13,6 @@ mod puts;
 mod renamed_files;
 mod renamed_texts;
 mod renamed_toks;
+mod still_toks;
 
 pub use advancing::advance;

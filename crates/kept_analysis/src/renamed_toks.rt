@@ -7,11 +7,22 @@ ghost use Rattle.kept_analysis.specs.Moves.{put_by, renaming_by, spell_by, spell
 
 use crate::moves::Moves;
 use crate::puts::Put;
+use crate::still_toks::are_still;
 use cs_base::{Link, Memory, Pos, Tok};
 use std::alloc::Global;
 
-/// The token, with its new spelling, origins and position.
+/// The token, with its new spelling, origins and position. One whose characters stay shares its text and origins.
 pub(crate) fn renamed_tok(alloc: Global, moves: &Moves, tok: &Tok) -> Result<Tok, Memory>
+    ensures { IfOk result (λ t. t ≡ renamed_token (renaming_by moves.now) tok.now) }
+{
+    if are_still(moves, tok, tok.text()) {
+        return tok.share(tok.gap(), moves.moved(tok.at()), tok.line(), tok.direct());
+    }
+    respelled_tok(alloc, moves, tok)
+}
+
+// The same, of new characters.
+fn respelled_tok(alloc: Global, moves: &Moves, tok: &Tok) -> Result<Tok, Memory>
     ensures { IfOk result (λ t. t ≡ renamed_token (renaming_by moves.now) tok.now) }
 {
     let mut text = Vec::new(alloc);

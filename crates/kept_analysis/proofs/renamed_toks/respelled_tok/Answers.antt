@@ -3,7 +3,7 @@ use Rattle.cs_base.specs.declared.positions.Pos.{Pos}
 use Rattle.cs_base.specs.Token.{IsTraced}
 use Rattle.kept_analysis.specs.Moves.{spell_by, trace_by}
 use Rattle.kept_analysis.proofs.TokLemmas.{as_long, new_traced}
-use Rattle.kept_analysis.proofs.renamed_toks.renamed_tok.Goals as goal
+use Rattle.kept_analysis.proofs.renamed_toks.respelled_tok.Goals as goal
 
 pub tok_of-requires-clause-each : goal.tok_of-requires-clause-each
 tok_of-requires-clause-each c =
