@@ -10,4 +10,5 @@ mod Seen
 mod Adding
 mod Items
 mod Rows
+mod PremiseRows
 mod Ranges

@@ -6,3 +6,4 @@ pub mod Beside
 pub mod Seen
 pub mod Adding
 pub mod Ranges
+pub mod Premises
