@@ -12,3 +12,16 @@ mod Items
 mod Rows
 mod PremiseRows
 mod Ranges
+mod MovedLists
+mod MovedFacts
+mod MovedTypes
+mod MovedNames
+mod MovedMembers
+mod MovedTrees
+mod MovedKept
+mod MovedTokens
+mod MovedEntering
+mod MovedLeaving
+mod MovedWalk
+mod MovedResult
+mod MovedPlaces

@@ -59,5 +59,5 @@ body-form = refl
 tag-item : lists_pass (λ k. (k == 2) || (k == 14)) (list_all is_item) false tag-tree.under ≡ false
 tag-item = refl
 
-typedefs-names : lists_pass (λ k. k == 6) (are_apart typedefs-text) false typedefs-tree.under ≡ false
+pub typedefs-names : lists_pass (λ k. k == 6) (are_apart typedefs-text) false typedefs-tree.under ≡ false
 typedefs-names = refl

@@ -7,3 +7,4 @@ pub mod Seen
 pub mod Adding
 pub mod Ranges
 pub mod Premises
+pub mod Moving

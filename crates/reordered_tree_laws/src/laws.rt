@@ -2,6 +2,7 @@
 ghost use Rattle.reordered_tree_laws.specs.Adding.{ItemsBindAlike, PartsAddBeside};
 ghost use Rattle.reordered_tree_laws.specs.Beside.{PartsBindAlike};
 ghost use Rattle.reordered_tree_laws.specs.Laws.{TokensAreArranged, ReorderedTreesAreOfTheirTexts};
+ghost use Rattle.reordered_tree_laws.specs.Moving.{PartsMoveAlike};
 ghost use Rattle.reordered_tree_laws.specs.Ranges.{RangesEndWithScopes};
 ghost use Rattle.reordered_tree_laws.specs.Seen.{NewOrdersAreNotSeen};
 
@@ -38,4 +39,9 @@ pub fn items_bind_alike()
 /// it or with the scope around it.
 pub fn ranges_end_with_scopes()
     ensures { RangesEndWithScopes }
+{}
+
+/// A part that is moved as a whole binds alike at its new place.
+pub fn parts_move_alike()
+    ensures { PartsMoveAlike }
 {}

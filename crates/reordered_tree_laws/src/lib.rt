@@ -20,6 +20,6 @@
 mod laws;
 
 pub use laws::{
-    items_bind_alike, new_orders_are_not_seen, parts_add_beside, parts_bind_alike,
+    items_bind_alike, new_orders_are_not_seen, parts_add_beside, parts_bind_alike, parts_move_alike,
     ranges_end_with_scopes, reordered_trees_are_of_their_texts,
 };
