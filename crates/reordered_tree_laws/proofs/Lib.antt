@@ -25,3 +25,5 @@ mod MovedLeaving
 mod MovedWalk
 mod MovedResult
 mod MovedPlaces
+mod MovedOrders
+mod MovedUnits

@@ -22,22 +22,22 @@ use Rattle.reordered_tree_laws.proofs.SameForms.{arranged_leaves}
 
 -- ---- How often a number stands in a list
 
-abbrev bit : Bool → ℕ
+abbrev pub bit : Bool → ℕ
 bit true = 1
 bit false = 0
 
-abbrev hit : ℕ → ℕ → ℕ
+abbrev pub hit : ℕ → ℕ → ℕ
 hit x y = bit (y == x)
 
-abbrev hits : ℕ → List ℕ → ℕ
+abbrev pub hits : ℕ → List ℕ → ℕ
 hits x [] = 0
 hits x (y ∷ ys) = hit x y + hits x ys
 
-hits-sum : (x : ℕ) (ys : List ℕ) → hits x ys ≡ sum_by (hit x) ys
+pub hits-sum : (x : ℕ) (ys : List ℕ) → hits x ys ≡ sum_by (hit x) ys
 hits-sum x [] = refl
 hits-sum x (y ∷ ys) = ap (λ (n : ℕ). hit x y + n) (hits-sum x ys) ∙ sym (sum_by-cons (hit x) y ys)
 
-hits-append : (x : ℕ) (ys zs : List ℕ) → hits x (ys ++ zs) ≡ hits x ys + hits x zs
+pub hits-append : (x : ℕ) (ys zs : List ℕ) → hits x (ys ++ zs) ≡ hits x ys + hits x zs
 hits-append x [] zs = omega arith
 hits-append x (y ∷ ys) zs = omega (arith, hits-append x ys zs)
 
@@ -55,7 +55,7 @@ hit-some x y e = by (y == x) e
     by false e = refl
 
 -- a number stands once among those from one on, or not at all
-hits-before : (n from x : ℕ) → x < from → hits x (numbers from n) ≡ 0
+pub hits-before : (n from x : ℕ) → x < from → hits x (numbers from n) ≡ 0
 unfolding numbers
 hits-before zero from x less = refl
 hits-before (suc n) from x less =
@@ -66,7 +66,7 @@ hits-before (suc n) from x less =
     ne true f = absurd (omega (arith, f refl, less))
     ne false f = refl
 
-hits-once : (n from x : ℕ) → from ≤ x → x < from + n → hits x (numbers from n) ≡ 1
+pub hits-once : (n from x : ℕ) → from ≤ x → x < from + n → hits x (numbers from n) ≡ 1
 unfolding numbers
 hits-once zero from x low high = absurd (omega (arith, low, high))
 hits-once (suc n) from x low high = elim (cases_Bool (from == x)) [
@@ -78,7 +78,7 @@ hits-once (suc n) from x low high = elim (cases_Bool (from == x)) [
       omega (arith, ap bit e, hits-once n (from + 1) x (omega (arith, low, apart)) (omega (arith, high)))
 ]
 
-hits-behind : (n from x : ℕ) → from + n ≤ x → hits x (numbers from n) ≡ 0
+pub hits-behind : (n from x : ℕ) → from + n ≤ x → hits x (numbers from n) ≡ 0
 unfolding numbers
 hits-behind zero from x high = refl
 hits-behind (suc n) from x high = elim (cases_Bool (from == x)) [
@@ -232,7 +232,7 @@ module _ (n : ℕ) (order : List ℕ) (c : Cut) (is : IsOrder (length order) ord
   )
 
 -- the leaves of a tree of a text are the numbers of its tokens
-leaves-numbers : (f : Forest) (k : ℕ) (post : List ℕ) (more : ℕ) → AreFrom k f → post ≡ numbers (k + token_count f) more → leaves f ++ post ≡ numbers k (token_count f + more)
+pub leaves-numbers : (f : Forest) (k : ℕ) (post : List ℕ) (more : ℕ) → AreFrom k f → post ≡ numbers (k + token_count f) more → leaves f ++ post ≡ numbers k (token_count f + more)
 unfolding numbers
 leaves-numbers none k post more a e = e ∙ ap (λ (x : ℕ). numbers x more) (omega arith) ∙ ap (numbers k) (omega arith)
 leaves-numbers (token i rest) k post more a e =

@@ -160,7 +160,7 @@ if_same : {A : Type 0} (c : Bool) (x x' y y' : A) → x ≡ x' → y ≡ y' → 
 if_same true x x' y y' f g = f
 if_same false x x' y y' f g = g
 
-typed_same : (t : CType) (f : Forest) (k : ℕ) → declarator_type t (numbered k f) ≡ declarator_type t f
+pub typed_same : (t : CType) (f : Forest) (k : ℕ) → declarator_type t (numbered k f) ≡ declarator_type t f
 typed_same t none k = refl
 typed_same t (token i rest) k = typed_same t rest (k + 1)
 typed_same t (node l first under rest) k =

@@ -28,18 +28,18 @@ use Rattle.reordered_tree_laws.proofs.MovedLeaving.{DeclaresAt, is_declarator, l
 
 -- ---- Numbers
 
-count_numbered : (f : Forest) (k : ℕ) → token_count (numbered k f) ≡ token_count f
+pub count_numbered : (f : Forest) (k : ℕ) → token_count (numbered k f) ≡ token_count f
 count_numbered none k = refl
 count_numbered (token i rest) k = omega (arith, count_numbered rest (k + 1))
 count_numbered (node l first under rest) k = omega (arith, count_numbered under k, count_numbered rest (k + token_count under))
 
-from_numbered : (f : Forest) (k : ℕ) → AreFrom k (numbered k f)
+pub from_numbered : (f : Forest) (k : ℕ) → AreFrom k (numbered k f)
 from_numbered none k = tt
 from_numbered (token i rest) k = (refl, from_numbered rest (k + 1))
 from_numbered (node l first under rest) k =
     (refl, from_numbered under k, subst (λ (n : ℕ). AreFrom (k + n) (numbered (k + token_count under) rest)) (sym (count_numbered under k)) (from_numbered rest (k + token_count under)))
 
-begins_some : (f : Forest) → begins_with_token f ≡ true → 1 ≤ token_count f
+pub begins_some : (f : Forest) → begins_with_token f ≡ true → 1 ≤ token_count f
 begins_some none e = absurd (false≢true e)
 begins_some (token i rest) e = omega arith
 begins_some (node l first under rest) e = absurd (false≢true e)
@@ -48,7 +48,7 @@ either_some : (c : Bool) (q r : Option ℕ) (i n k : ℕ) → (if c then q else 
 either_some true q r i n k e f g = omega (arith, f e)
 either_some false q r i n k e f g = omega (arith, g e)
 
-name_some : (l : Label) (f : Forest) (i : ℕ) → name_below l f ≡ Some i → 1 ≤ token_count f
+pub name_some : (l : Label) (f : Forest) (i : ℕ) → name_below l f ≡ Some i → 1 ≤ token_count f
 name_some l none i e = absurd cc
 name_some l (token j rest) i e = omega arith
 name_some l (node m first under rest) i e =
@@ -134,6 +134,21 @@ fit_child lists l own k scope keeps m under e =
           (or_right declarator named (both_true (is_node l TypeName) (not (is_node m Specs)) (name_sign l.production x) y));
       member = u.0;
     }
+
+pub fit_shape : (lists : ℕ → Bool) (l : Label) (own : Bool) (k : ℕ) (scope : Scope) (keeps : Bool) (m : Label) (under : Forest)
+    → is_fit_child lists l own k scope keeps m under ≡ true → (not (is_among lists m under) || is_bracketed under) ≡ true
+fit_shape lists l own k scope keeps m under e =
+    let shape : Bool = not (is_among lists m under) || is_bracketed under in
+    let member : Bool = not (is_at m MemRest 1) || begins_with_token under in
+    let typed : Bool = not (declares_type l m) || are_parts under in
+    let body : Bool = not (is_node m FunBody) || keeps in
+    let stands : Bool = stands_in m.production scope.depth in
+    let sign : Bool = own || not (asks_sign l k m) in
+    let p = and_parts sign (stands && (body && (typed && (member && shape)))) e in
+    let q = and_parts stands (body && (typed && (member && shape))) p.1 in
+    let r = and_parts body (typed && (member && shape)) q.1 in
+    let t = and_parts typed (member && shape) r.1 in
+    (and_parts member shape t.1).1
 
 -- ---- Places
 

@@ -8,3 +8,4 @@ pub mod Adding
 pub mod Ranges
 pub mod Premises
 pub mod Moving
+pub mod Gathering

@@ -1,6 +1,7 @@
 // What is true of a tree in which the items of lists stand in another order: laws that no caller runs.
 ghost use Rattle.reordered_tree_laws.specs.Adding.{ItemsBindAlike, PartsAddBeside};
 ghost use Rattle.reordered_tree_laws.specs.Beside.{PartsBindAlike};
+ghost use Rattle.reordered_tree_laws.specs.Gathering.{ReorderedBindByLists};
 ghost use Rattle.reordered_tree_laws.specs.Laws.{TokensAreArranged, ReorderedTreesAreOfTheirTexts};
 ghost use Rattle.reordered_tree_laws.specs.Moving.{PartsMoveAlike};
 ghost use Rattle.reordered_tree_laws.specs.Ranges.{RangesEndWithScopes};
@@ -44,4 +45,9 @@ pub fn ranges_end_with_scopes()
 /// A part that is moved as a whole binds alike at its new place.
 pub fn parts_move_alike()
     ensures { PartsMoveAlike }
+{}
+
+/// A text whose lists are in a new order binds name for name as before, where each list by itself goes along.
+pub fn reordered_bind_by_lists()
+    ensures { ReorderedBindByLists }
 {}

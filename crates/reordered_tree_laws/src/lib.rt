@@ -21,5 +21,5 @@ mod laws;
 
 pub use laws::{
     items_bind_alike, new_orders_are_not_seen, parts_add_beside, parts_bind_alike, parts_move_alike,
-    ranges_end_with_scopes, reordered_trees_are_of_their_texts,
+    ranges_end_with_scopes, reordered_bind_by_lists, reordered_trees_are_of_their_texts,
 };

@@ -1,6 +1,4 @@
 use Rattle.reordered_tree_laws.proofs.MovedWalk.{parts_move_alike}
-use Rattle.reordered_tree_laws.proofs.MovedResult.{entity_moved}
-use Rattle.reordered_tree_laws.proofs.MovedPlaces.{texts_moved}
 use Rattle.reordered_tree_laws.proofs.laws.parts_move_alike.Goals as goal
 
 pub returns : goal.returns

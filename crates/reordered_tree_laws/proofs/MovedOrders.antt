@@ -1,0 +1,378 @@
+-- A unit whose lists are in a new order binds alike, where each list does.
+use Rattle.std.proofs.Common.{ℕ, zero, suc, ◌+◌, ◌<◌, ◌≤◌, ◌≡◌, Bool, true, false, ◌&&◌, ◌||◌, not, if◌then◌else◌, ◌==◌, List, [], ◌∷◌, ◌++◌, length, map, Option, None, Some, Ok, inl, inr, refl, sym, ap, subst, ◌∙◌, arith, length-append, append-nil}
+use Rattle.std.specs.Prelude.{nat_lt, is_some, IsPermutation}
+use Rattle.std.specs.Option.{option_map}
+use Rattle.std.proofs.lemmas.Bool.{false≢true, cases_Bool, ltb-true, ltb-false, and_parts}
+use Rattle.std.proofs.lemmas.List.Sorted.{length_permutation, sum_by-IsPermutation}
+use Rattle.tree_laws.specs.Below.cs_base.Token.{Token}
+use Rattle.tree_laws.specs.Below.c99_tree.Tree.{Forest, none, token, node, Node}
+use Rattle.tree_laws.specs.Below.c99_tree.declared.production.Label.{Label}
+use Rattle.tree_laws.specs.Below.c99_tree.declared.production.Production.{Production}
+use Rattle.tree_laws.specs.Below.c99_tree.declared.production.Production.TheVariants.{MemRest, Enumerator, Declarator, Pdecl, Args, Params, Post, Suffix}
+use Rattle.tree_laws.specs.Below.c99_tree.contracts.production.ProductionPartialEq.TheImpl.{ghosts}
+use Rattle.tree_laws.specs.Below.c_types.Types.{CType}
+use Rattle.tree_laws.specs.Below.c_types.Trees.{is_node, is_at, is_list, last_token, first_token, has_node, words_of, is_bare, name_below, declarator_type, first_list, is_text}
+use Rattle.tree_laws.specs.Below.c_types.Parameters.{ends_in_token}
+use Rattle.tree_laws.specs.Below.name_chains.Frames.{State, state}
+use Rattle.tree_laws.specs.Below.name_chains.Entering.{scope_in, entered}
+use Rattle.tree_laws.specs.Below.scope_bind.Named.{Frame}
+use Rattle.tree_laws.specs.Below.scope_bind.Walk.{passed, left, walked}
+use Rattle.tree_laws.specs.TreesOfTexts.{token_count, AreFrom, begins_with_token, has_form, have_forms}
+use Rattle.tree_laws.proofs.Renaming.{Good}
+use Rattle.tree_laws.proofs.RenamedWalk.{walked_back}
+use Rattle.tree_laws.proofs.RenamedSteps.{left_back}
+use Rattle.list_cuts.specs.Cuts.{Cut, done, numbers, arranged, IsOrder, AreOf}
+use Rattle.list_cuts.proofs.CutLemmas.{arranged_permutes}
+use Rattle.reordered_tree_laws.specs.Reordered.{shuffled, is_parenthesised, is_among, permuted, leaves, numbered}
+use Rattle.reordered_tree_laws.specs.Cuts.{cut_then, list_then}
+use Rattle.reordered_tree_laws.specs.Seen.{are_parts, AreSeenAlike}
+use Rattle.reordered_tree_laws.specs.Premises.{is_items, is_spaced, is_bracketed, has_outer_list, is_fit_child, is_fit}
+use Rattle.reordered_tree_laws.specs.Moving.{moved_frame, IsAhead, FramesGo, StatesGo, AreMovedTexts, AreMovedTo}
+use Rattle.reordered_tree_laws.specs.Gathering.{ListGoes, ListsGo}
+use Rattle.reordered_tree_laws.proofs.Arranged.{length-leaves, leaves-cut, rest_all, cut_all}
+use Rattle.reordered_tree_laws.proofs.Seen.{orders_not_seen}
+use Rattle.reordered_tree_laws.proofs.MovedTrees.{AreSeenMoved, AreSpans, seen_numbered, typed_same, last_at, no_last}
+use Rattle.reordered_tree_laws.proofs.MovedFacts.{same_number}
+use Rattle.reordered_tree_laws.proofs.MovedTokens.{token_goes}
+use Rattle.reordered_tree_laws.proofs.MovedEntering.{ArePlaced, entered_moves}
+use Rattle.reordered_tree_laws.proofs.MovedLeaving.{DeclaresAt, left_moves}
+use Rattle.reordered_tree_laws.proofs.MovedPlaces.{bit, hit, hits, hits-sum, hits-append, hits-once, hits-before, hits-behind, leaves-numbers}
+use Rattle.reordered_tree_laws.proofs.MovedWalk.{count_numbered, from_numbered, begins_some, name_some, IsFitNode, fit_child, fit_shape, or_not, frames_further, at_places, forgotten}
+
+-- ---- Children of a node that are in another order
+
+-- all that is asked of the children of a node at their old and their new places
+pub record AreReordered (m : ℕ → ℕ) (outer : Bool) (lo there : ℕ) (under over : Forest) : Type 0 where
+  pub seen : AreSeenMoved m outer under over
+  pub placed : ArePlaced m lo there (token_count under) under over
+  pub begins : begins_with_token under ≡ true → m lo ≡ there
+
+module _ (m : ℕ → ℕ) (old new : List Token) (law : AreMovedTexts m old new) (order : List ℕ) (lists : ℕ → Bool) (is : IsOrder (length order) order) where
+  -- ---- Tokens
+
+  leaves_permute : (b : Bool) (f : Forest) → AreOf (length order) (cut_then lists b f done) → IsPermutation (leaves f) (leaves (permuted order lists b f))
+  unfolding arranged
+  leaves_permute b f each =
+      let c : Cut = cut_then lists b f done in
+      let same : arranged order c (leaves f) ≡ leaves (permuted order lists b f) =
+      ap (λ (xs : List ℕ). arranged order c xs) (sym (append-nil (leaves f))) ∙ (leaves-cut order lists b f done [] each ∙ append-nil (leaves (permuted order lists b f))) in
+      subst (λ (xs : List ℕ). IsPermutation (leaves f) xs) same (arranged_permutes (length order) order c (leaves f) is each)
+
+  pub count_permuted : (b : Bool) (f : Forest) → AreOf (length order) (cut_then lists b f done) → token_count (permuted order lists b f) ≡ token_count f
+  count_permuted b f each =
+      sym (length-leaves (permuted order lists b f)) ∙ (length_permutation (leaves f) (leaves (permuted order lists b f)) (leaves_permute b f each) ∙ length-leaves f)
+
+  -- ---- Places
+
+  split_hits : (x a b from : ℕ) → hits x (numbers from (a + b)) ≡ hits x (numbers from a) + hits x (numbers (from + a) b)
+  unfolding numbers
+  split_hits x zero b from =
+      let more : 0 + b ≡ b = omega arith in
+      let there : from ≡ from + 0 = omega arith in
+      let last : hits x (numbers (from + 0) b) ≡ 0 + hits x (numbers (from + 0) b) = omega arith in
+      ap (λ (n : ℕ). hits x (numbers from n)) more ∙ (ap (λ (n : ℕ). hits x (numbers n b)) there ∙ last)
+  split_hits x (suc a) b from =
+      let same : suc a + b ≡ suc (a + b) = omega arith in
+      let next : hits x (numbers (from + 1 + a) b) ≡ hits x (numbers (from + suc a) b) = ap (λ (n : ℕ). hits x (numbers n b)) (omega arith) in
+      ap (λ (n : ℕ). hits x (numbers from n)) same ∙ omega (arith, split_hits x a b (from + 1), next)
+
+  -- a token below is one of those to whose places they are moved
+  moved_hits : (g : Forest) (there k : ℕ) → AreMovedTo m there g → hits k (leaves g) ≡ hits (m k) (numbers there (token_count g))
+  unfolding numbers
+  moved_hits none there k w = refl
+  moved_hits (token i rest) there k w =
+      let one : token_count rest + 1 ≡ suc (token_count rest) = omega arith in
+      let here : hit k i ≡ hit (m k) there = ap bit (sym (same_number m old new law i k)) ∙ ap (λ (x : ℕ). hit (m k) x) w.0 in
+      ap (λ (x : ℕ). x + hits k (leaves rest)) here
+      ∙ (ap (λ (x : ℕ). hit (m k) there + x) (moved_hits rest (there + 1) k w.1) ∙ ap (λ (n : ℕ). hits (m k) (numbers there n)) (sym one))
+  moved_hits (node l first under rest) there k w =
+      hits-append k (leaves under) (leaves rest)
+      ∙ (ap (λ (x : ℕ). x + hits k (leaves rest)) (moved_hits under there k w.0)
+      ∙ (ap (λ (x : ℕ). hits (m k) (numbers there (token_count under)) + x) (moved_hits rest (there + token_count under) k w.1)
+      ∙ sym (split_hits (m k) (token_count under) (token_count rest) there)))
+
+  below_or : (n from x : ℕ) → hits x (numbers from n) ≡ 1 → (from ≤ x) × (x < from + n)
+  below_or n from x e = elim (cases_Bool (nat_lt x from)) [
+    | inl a ↦ absurd (omega (arith, e, hits-before n from x (ltb-true x from a)))
+    | inr a ↦ elim (cases_Bool (nat_lt x (from + n))) [
+      | inl b ↦ (ltb-false x from a, ltb-true x (from + n) b)
+      | inr b ↦ absurd (omega (arith, e, hits-behind n from x (ltb-false x (from + n) b)))
+    ]
+  ]
+
+  none_left : (x : ℕ) → [] ≡ numbers x 0
+  unfolding numbers
+  none_left x = refl
+
+  pub spans_permuted : (b : Bool) (f : Forest) (lo there : ℕ) → AreOf (length order) (cut_then lists b f done) → AreFrom lo f
+      → AreMovedTo m there (permuted order lists b f) → AreSpans m lo there (token_count f)
+  spans_permuted b f lo there each a w =
+      let g : Forest = permuted order lists b f in
+      let n : ℕ = token_count f in
+      let count : token_count g ≡ n = count_permuted b f each in
+      let numbered_leaves : leaves f ≡ numbers lo n =
+      sym (append-nil (leaves f)) ∙ (leaves-numbers f lo [] 0 a (none_left (lo + n)) ∙ ap (numbers lo) (omega arith)) in
+      let same : (k : ℕ) → hits k (numbers lo n) ≡ hits (m k) (numbers there n) = λ k.
+      ap (hits k) (sym numbered_leaves)
+      ∙ (hits-sum k (leaves f) ∙ (sym (sum_by-IsPermutation (hit k) (leaves f) (leaves g) (leaves_permute b f each)) ∙ (sym (hits-sum k (leaves g))
+      ∙ (moved_hits g there k w ∙ ap (λ (x : ℕ). hits (m k) (numbers there x)) count)))) in
+      record {
+        over = λ k low high. below_or n there (m k) (sym (same k) ∙ hits-once n lo k low high);
+        back = λ k low high. below_or n lo k (same k ∙ hits-once n there (m k) low high);
+      }
+
+  pub placed_permuted : (b : Bool) (f : Forest) (lo there : ℕ) → AreOf (length order) (cut_then lists b f done) → AreFrom lo f
+      → AreMovedTo m there (permuted order lists b f) → ArePlaced m lo there (token_count f) f (numbered there (permuted order lists b f))
+  placed_permuted b f lo there each a w =
+      let g : Forest = permuted order lists b f in
+      let count : token_count (numbered there g) ≡ token_count f = count_numbered g there ∙ count_permuted b f each in
+      record {
+        spans = spans_permuted b f lo there each a w;
+        here = λ x some. last_at f lo x a some;
+        beyond = λ y some. omega (arith, last_at (numbered there g) there y (from_numbered g there) (omega (arith, some, count)), count);
+        empty = λ x void. no_last f x void;
+        void = λ y void. no_last (numbered there g) y (count ∙ void);
+      }
+
+  -- ---- What is seen
+
+  seen_through : (outer : Bool) (b : Bool) (f : Forest) (there : ℕ) → AreSeenAlike (permuted order lists b f) f → AreMovedTo m there (permuted order lists b f)
+      → (outer ≡ true → first_list (permuted order lists b f) ≡ first_list f) → AreSeenMoved m outer f (numbered there (permuted order lists b f))
+  seen_through outer b f there t w heads =
+      let s = seen_numbered m law.first (permuted order lists b f) there w in
+      record {
+        last = λ x y e. s.last x y e ∙ ap m (t.last x);
+        first = λ x y e. s.first x y e ∙ ap m (t.first x);
+        named = λ l. s.named l ∙ ap (option_map m) (t.named l);
+        words = s.words ∙ t.words;
+        bare = s.bare ∙ t.bare;
+        nodes = λ p. s.nodes p ∙ t.nodes p;
+        text = s.text ∙ t.text;
+        typed = λ parts c. typed_same c (permuted order lists b f) there ∙ t.typed c parts;
+        lists = λ e. s.lists refl ∙ ap (option_map m) (heads e);
+      }
+
+  alike_self : (f : Forest) → AreSeenAlike f f
+  alike_self f = record {
+    last = λ k. refl;
+    first = λ k. refl;
+    named = λ l. refl;
+    words = refl;
+    bare = refl;
+    nodes = λ p. refl;
+    text = refl;
+    typed = λ t parts. refl;
+  }
+
+  -- the node in the parentheses of a list
+  alike_list : (p : Production) (a i first j : ℕ) (u v : Forest) → (ghosts.eq p Args || (ghosts.eq p Params && not (a == 1))) ≡ true
+      → AreSeenAlike (token i (node (record { production = p; alternative = a }) first u (token j none))) (token i (node (record { production = p; alternative = a }) first v (token j none)))
+  alike_list Args a i first j u v e = record {
+    last = λ k. refl;
+    first = λ k. refl;
+    named = λ l. refl;
+    words = refl;
+    bare = refl;
+    nodes = λ p. refl;
+    text = refl;
+    typed = λ t parts. absurd (false≢true parts);
+  }
+  alike_list Params a i first j u v e = record {
+    last = λ k. refl;
+    first = λ k. refl;
+    named = λ l. refl;
+    words = refl;
+    bare = refl;
+    nodes = λ p. refl;
+    text = refl;
+    typed = λ t parts. absurd (false≢true parts);
+  }
+  alike_list _ a i first j u v e = absurd (false≢true e)
+
+  bracketed_alike : (f : Forest) → is_bracketed f ≡ true → AreSeenAlike (permuted order lists true f) f
+  bracketed_alike none e = absurd (false≢true e)
+  bracketed_alike (node l first under rest) e = absurd (false≢true e)
+  bracketed_alike (token i none) e = absurd (false≢true e)
+  bracketed_alike (token i (token j none)) e = alike_self (token i (token j none))
+  bracketed_alike (token i (token j (token k rest))) e = absurd (false≢true e)
+  bracketed_alike (token i (token j (node l first under rest))) e = absurd (false≢true e)
+  bracketed_alike (token i (node l first under none)) e = absurd (false≢true e)
+  bracketed_alike (token i (node l first under (node k second below rest))) e = absurd (false≢true e)
+  bracketed_alike (token i (node l first under (token j (token k rest)))) e = absurd (false≢true e)
+  bracketed_alike (token i (node l first under (token j (node k second below rest)))) e = absurd (false≢true e)
+  bracketed_alike (token i (node l first under (token j none))) e =
+      alike_list l.production l.alternative i first j (shuffled order (permuted order lists false under)) under ((and_parts (is_items l) (is_spaced false under) e).0)
+
+  begins_permuted : (b : Bool) (f : Forest) (lo there : ℕ) → AreFrom lo f → AreMovedTo m there (permuted order lists b f) → begins_with_token f ≡ true → m lo ≡ there
+  begins_permuted b none lo there a w e = absurd (false≢true e)
+  begins_permuted b (token i rest) lo there a w e = ap m (sym a.0) ∙ w.0
+  begins_permuted b (node l first under rest) lo there a w e = absurd (false≢true e)
+
+  -- ---- A node
+
+  declares_at : (p : Production) (l : Label) (outer : Bool) (lo there : ℕ) (under over : Forest) → AreReordered m outer lo there under over → has_form p under ≡ true
+      → (not (ghosts.eq p MemRest && (l.alternative == 1)) || begins_with_token under) ≡ true
+      → DeclaresAt m lo there p l under over (lo + token_count under) (there + token_count under)
+  declares_at Enumerator l outer lo there under over r form member =
+      let some : 1 ≤ token_count under = begins_some under form in
+      (r.begins form, r.placed.here lo some, r.placed.beyond there some)
+  declares_at MemRest l outer lo there under over r form member = λ e. r.begins (or_not (l.alternative == 1) (begins_with_token under) member e)
+  declares_at Declarator l outer lo there under over r form member = λ i e.
+      let some : 1 ≤ token_count under = name_some l under i e in
+      (r.placed.here i some, omega (arith, r.placed.beyond (m i) some, r.seen.last i (m i) refl))
+  declares_at Pdecl l outer lo there under over r form member = λ i e.
+      let some : 1 ≤ token_count under = name_some l under i e in
+      (r.placed.here i some, omega (arith, r.placed.beyond (m i) some, r.seen.last i (m i) refl))
+  declares_at _ l outer lo there under over r form member = tt
+
+  node_enters : (own keeps outer : Bool) (lo there : ℕ) (l : Label) (under over : Forest) (s t : State) → AreReordered m outer lo there under over
+      → IsFitNode s.frame.label own s.frame.nth s.frame.scope keeps l under → StatesGo m old new own keeps lo there s t
+      → StatesGo m old new false keeps lo there (entered old l lo under s) (entered new l there over t)
+  node_enters own keeps outer lo there l under over s t r fit k =
+      subst (λ (x : Frame). StatesGo m old new false keeps lo there (entered old l lo under s) (entered new l there over (state t.facts x))) (sym k.frame.same)
+      (entered_moves m old new law lo there (token_count under) outer under over r.seen r.placed own keeps
+      s.frame t.frame.token t.frame.scope.to t.frame.kept (record { ends = k.frame.ends; outer = k.frame.outer }) s.facts t.facts k.facts l fit.stands
+      (λ e. k.frame.token (fit.words e)) (λ e. k.frame.kept (fit.body e)) k.frame.kept)
+
+  node_leaves : (own keeps any outer : Bool) (lo there : ℕ) (l : Label) (under over : Forest) (s t s' t' : State) → AreReordered m outer lo there under over
+      → has_form l.production under ≡ true → IsFitNode s.frame.label own s.frame.nth s.frame.scope keeps l under → StatesGo m old new own keeps lo there s t
+      → StatesGo m old new false false (lo + token_count under) (there + token_count under) s' t'
+      → (any ≡ true → (if is_node l Declarator then outer else keeps) ≡ true)
+      → StatesGo m old new own any (lo + token_count under) (there + token_count under) (left old l lo under s s') (left new l there over t t')
+  node_leaves own keeps any outer lo there l under over s t s' t' r form fit k k' w =
+      left_moves m old new law lo there (lo + token_count under) (there + token_count under) outer under over r.seen own
+      keeps any l s t s' t' (frames_further m old new law own keeps lo there (token_count under) s.frame t.frame k.frame) k' fit.parts
+      (declares_at l.production l outer lo there under over r form fit.member) fit.fronts fit.typed fit.names w
+
+  -- ---- Cuts
+
+  list_front : (f : Forest) (c d : Cut) → AreOf (length order) (list_then lists f c) → AreOf (length order) d → AreOf (length order) (list_then lists f d)
+  list_front none c d all h = h
+  list_front (token i rest) c d all h = list_front rest c d all h
+  list_front (node l first under rest) c d all h = (all.0, all.1, h)
+
+  cut_front : (b : Bool) (f : Forest) (c d : Cut) → AreOf (length order) (cut_then lists b f c) → AreOf (length order) d → AreOf (length order) (cut_then lists b f d)
+  cut_front true none c d all h = h
+  cut_front false none c d all h = h
+  cut_front true (token i rest) c d all h = cut_front true rest c d all h
+  cut_front false (token i rest) c d all h = cut_front false rest c d all h
+  cut_front true (node l first under rest) c d all h =
+      list_front under (cut_then lists true rest c) (cut_then lists true rest d) all
+      (cut_front true rest c d (rest_all order lists under (cut_then lists true rest c) all) h)
+  cut_front false (node l first under rest) c d all h =
+      cut_front (is_among lists l under) under (cut_then lists false rest c) (cut_then lists false rest d) all
+      (cut_front false rest c d (cut_all order lists (is_among lists l under) under (cut_then lists false rest c) all) h)
+
+  -- ---- The walk
+
+  no_declarator : (p : Production) (a : ℕ) → ((ghosts.eq p Post && (a == 2)) || (ghosts.eq p Suffix && (a == 2))) ≡ true → ghosts.eq p Declarator ≡ false
+  no_declarator Post a e = refl
+  no_declarator Suffix a e = refl
+  no_declarator _ a e = absurd (false≢true e)
+
+  if_no : (c a b : Bool) → c ≡ false → (if c then a else b) ≡ b
+  if_no true a b e = absurd (false≢true (sym e))
+  if_no false a b e = refl
+
+  abbrev Clean : State → Type 0
+  Clean s = Good old old s.facts
+
+  -- a node whose children stand as they stood, but for lists in them, and a list
+  record IsStep (keeps : Bool) (lo there : ℕ) (l : Label) (under : Forest) (s : State) (b : Bool) : Type 0 where
+    outer : Bool
+    reordered : AreReordered m outer lo there under (numbered there (permuted order lists b under))
+    behind : (if is_node l Declarator then has_outer_list lists false under else keeps) ≡ true → (if is_node l Declarator then outer else keeps) ≡ true
+
+  step_of : (keeps : Bool) (lo there : ℕ) (l : Label) (under : Forest) (s : State) (b : Bool) → b ≡ is_among lists l under
+      → (not (is_among lists l under) || is_bracketed under) ≡ true
+      → (has_outer_list lists false under ≡ true → first_list (permuted order lists false under) ≡ first_list under)
+      → AreOf (length order) (cut_then lists b under done) → AreFrom lo under → AreMovedTo m there (permuted order lists b under)
+      → IsStep keeps lo there l under s b
+  step_of keeps lo there l under s false e shape heads each a w = record {
+    outer = has_outer_list lists false under;
+    reordered = record {
+      seen = seen_through (has_outer_list lists false under) false under there (orders_not_seen order lists under) w heads;
+      placed = placed_permuted false under lo there each a w;
+      begins = begins_permuted false under lo there a w;
+    };
+    behind = λ h. h;
+  }
+  step_of keeps lo there l under s true e shape heads each a w = record {
+    outer = false;
+    reordered = record {
+      seen = seen_through false true under there (bracketed_alike under (or_not (is_among lists l under) (is_bracketed under) shape (sym e))) w (λ h. absurd (false≢true h));
+      placed = placed_permuted true under lo there each a w;
+      begins = begins_permuted true under lo there a w;
+    };
+    behind = λ h.
+        let none : is_node l Declarator ≡ false =
+        no_declarator l.production l.alternative ((and_parts (is_parenthesised l) (lists (first_token under 0) && ends_in_token false under) (sym e)).0) in
+        if_no (is_node l Declarator) false keeps none ∙ (sym (if_no (is_node l Declarator) (has_outer_list lists false under) keeps none) ∙ h);
+  }
+
+  pub walk_lists : (f : Forest) (own keeps : Bool) (lo there : ℕ) (s t : State) → AreFrom lo f → AreMovedTo m there (permuted order lists false f)
+      → have_forms f ≡ true → is_fit lists s.frame.label own s.frame.nth s.frame.scope keeps f ≡ true → AreOf (length order) (cut_then lists false f done)
+      → ListsGo m old new order lists f → Clean (walked old f s) → StatesGo m old new own keeps lo there s t
+      → StatesGo m old new false false (lo + token_count f) (there + token_count f) (walked old f s) (walked new (numbered there (permuted order lists false f)) t)
+  unfolding walked
+  walk_lists none own keeps lo there s t a w forms e each go clean k =
+      at_places m old new law false false lo there (lo + 0) (there + 0) s t (omega arith) (omega arith) (forgotten m old new law own keeps lo there s t k)
+  walk_lists (token i rest) own keeps lo there s t a w forms e each go clean k =
+      let any : Bool = not (is_items s.frame.label) in
+      at_places m old new law false false (lo + 1 + token_count rest) (there + 1 + token_count rest) (lo + (token_count rest + 1)) (there + (token_count rest + 1))
+      (walked old rest (passed old i s)) (walked new (numbered (there + 1) (permuted order lists false rest)) (passed new there t)) (omega arith) (omega arith)
+      (walk_lists rest any keeps (lo + 1) (there + 1) (passed old i s) (passed new there t) a.1 w.1 forms e each go clean
+      (token_goes m old new law own keeps any lo there i s t a.0 (w.0) k))
+  walk_lists (node l first under rest) own keeps lo there s t a w forms e each go clean k =
+      let n : ℕ = token_count under in
+      let b : Bool = is_among lists l under in
+      let g : Forest = permuted order lists b under in
+      let over : Forest = numbered there g in
+      let any : Bool = if is_node l Declarator then has_outer_list lists false under else keeps in
+      let child : Bool = is_fit_child lists s.frame.label own s.frame.nth s.frame.scope keeps l under in
+      let below : Bool = is_fit lists l false 0 (scope_in l.production l under s.frame.scope) keeps under in
+      let more : Bool = is_fit lists s.frame.label own (s.frame.nth + 1) s.frame.scope any rest in
+      let p = and_parts child (below && more) e in
+      let q = and_parts below more p.1 in
+      let fs = and_parts (has_form l.production under) (have_forms under && have_forms rest) forms in
+      let gs = and_parts (have_forms under) (have_forms rest) fs.1 in
+      let fit : IsFitNode s.frame.label own s.frame.nth s.frame.scope keeps l under = fit_child lists s.frame.label own s.frame.nth s.frame.scope keeps l under p.0 in
+      let here : AreOf (length order) (cut_then lists b under done) = cut_front b under (cut_then lists false rest done) done each tt in
+      let later : AreOf (length order) (cut_then lists false rest done) = cut_all order lists b under (cut_then lists false rest done) each in
+      let step : IsStep keeps lo there l under s b =
+      step_of keeps lo there l under s b refl (fit_shape lists s.frame.label own s.frame.nth s.frame.scope keeps l under p.0) go.2 here a.1 w.0 in
+      let count : token_count g ≡ n = count_permuted b under here in
+      let s1 : State = entered old l lo under s in
+      let t1 : State = entered new l there over t in
+      let s2 : State = left old l lo under s (walked old under s1) in
+      let t2 : State = left new l there over t (walked new over t1) in
+      let clean2 : Clean s2 = walked_back old old (λ word x h. refl) rest s2 (subst (λ (x : ℕ). Clean (walked old rest (left old l x under s (walked old under (entered old l x under s))))) a.0 clean) in
+      let clean1 : Clean (walked old under s1) = left_back old old (λ word x h. refl) l lo under s (walked old under s1) clean2 in
+      let k1 : StatesGo m old new false keeps lo there s1 t1 = node_enters own keeps step.outer lo there l under over s t step.reordered fit k in
+      let inside : StatesGo m old new false false (lo + n) (there + n) (walked old under s1) (walked new over t1) =
+      elim (cases_Bool b) [
+        | inl met ↦
+            let g1 : permuted order lists b under ≡ permuted order lists true under = ap (λ (c : Bool). permuted order lists c under) met in
+            subst (λ (h : Forest). StatesGo m old new false false (lo + n) (there + n) (walked old under s1) (walked new (numbered there h) t1)) (sym g1)
+            (go.0 met keeps lo there s1 t1 refl refl a.1 (subst (λ (h : Forest). AreMovedTo m there h) g1 w.0) clean1.clean k1)
+        | inr unmet ↦
+            let g1 : permuted order lists b under ≡ permuted order lists false under = ap (λ (c : Bool). permuted order lists c under) unmet in
+            subst (λ (h : Forest). StatesGo m old new false false (lo + n) (there + n) (walked old under s1) (walked new (numbered there h) t1)) (sym g1)
+            (walk_lists under false keeps lo there s1 t1 a.1 (subst (λ (h : Forest). AreMovedTo m there h) g1 w.0) gs.0 q.0
+            (subst (λ (c : Bool). AreOf (length order) (cut_then lists c under done)) unmet here) (go.1 unmet) clean1 k1)
+      ] in
+      let w1 : AreMovedTo m (there + n) (permuted order lists false rest) =
+      subst (λ (x : ℕ). AreMovedTo m (there + x) (permuted order lists false rest)) count w.1 in
+      let last : StatesGo m old new false false (lo + n + token_count rest) (there + n + token_count rest) (walked old rest s2)
+          (walked new (numbered (there + n) (permuted order lists false rest)) t2) =
+      walk_lists rest own any (lo + n) (there + n) s2 t2 a.2 w1 gs.1 q.1 later go.3
+      (subst (λ (x : ℕ). Clean (walked old rest (left old l x under s (walked old under (entered old l x under s))))) a.0 clean)
+      (node_leaves own keeps any step.outer lo there l under over s t (walked old under s1) (walked new over t1) step.reordered fs.0 fit k inside step.behind) in
+      let placed : StatesGo m old new false false (lo + (n + token_count rest)) (there + (n + token_count rest)) (walked old rest s2)
+          (walked new (numbered (there + token_count g) (permuted order lists false rest)) t2) =
+      subst (λ (x : ℕ). StatesGo m old new false false (lo + (n + token_count rest)) (there + (n + token_count rest)) (walked old rest s2)
+      (walked new (numbered (there + x) (permuted order lists false rest)) t2)) (sym count)
+      (at_places m old new law false false (lo + n + token_count rest) (there + n + token_count rest) (lo + (n + token_count rest)) (there + (n + token_count rest))
+      (walked old rest s2) (walked new (numbered (there + n) (permuted order lists false rest)) t2) (omega arith) (omega arith) last) in
+      subst (λ (x : ℕ). StatesGo m old new false false (lo + (n + token_count rest)) (there + (n + token_count rest))
+      (walked old rest (left old l x under s (walked old under (entered old l x under s)))) (walked new (numbered (there + token_count g) (permuted order lists false rest)) t2)) (sym a.0) placed

@@ -1,0 +1,120 @@
+-- A text whose lists are in a new order binds alike, where each list does.
+use Rattle.std.proofs.Common.{ℕ, zero, suc, ◌+◌, ◌<◌, ◌≤◌, ◌≡◌, Bool, true, false, ◌&&◌, List, [], ◌∷◌, length, map, Option, None, Some, Ok, inl, inr, refl, sym, ap, subst, ◌∙◌, arith}
+use Rattle.std.specs.Prelude.{nat_lt, is_some}
+use Rattle.std.specs.List.{All, list_all}
+use Rattle.std.specs.Option.{option_map}
+use Rattle.std.proofs.lemmas.Bool.{false≢true, ltb-true, lt-ltb, and_from}
+use Rattle.std.proofs.lemmas.List.{length-map}
+use Rattle.std.proofs.lemmas.List.Elements.{All-nil, All-cons, All-head, All-tail}
+use Rattle.tree_laws.specs.Below.cs_base.Token.{Token}
+use Rattle.tree_laws.specs.Below.c99_tree.Tree.{Forest, Node}
+use Rattle.tree_laws.specs.Below.c_types.Declarations.{Facts, alike}
+use Rattle.tree_laws.specs.Below.name_chains.Frames.{State, outermost, at_first}
+use Rattle.tree_laws.specs.Below.scope_bind.declared.bound.Name.{Name}
+use Rattle.tree_laws.specs.Below.scope_bind.Named.{Fault}
+use Rattle.tree_laws.specs.Below.scope_bind.Bound.{Bound, names_of, bound_of, bound_unless, facts_of, binding_of}
+use Rattle.tree_laws.specs.Below.scope_bind.Names.{entity_at, kind_at, linkage_at}
+use Rattle.tree_laws.specs.Below.scope_bind.Walk.{walked}
+use Rattle.tree_laws.specs.TreesOfTexts.{token_count, IsTreeOf}
+use Rattle.tree_laws.specs.RenamedNames.{StaysApart}
+use Rattle.tree_laws.proofs.HeldNames.{spelled_as_entities, bound_is}
+use Rattle.tree_laws.proofs.Renaming.{Good}
+use Rattle.tree_laws.proofs.RenamedWalk.{names_good, no_fault}
+use Rattle.list_cuts.specs.Cuts.{Cut, IsOrder, AreOf, arranged, moved}
+use Rattle.list_cuts.proofs.CutLemmas.{length-arranged}
+use Rattle.reordered_tree_laws.specs.Reordered.{permuted, numbered, reordered}
+use Rattle.reordered_tree_laws.specs.Cuts.{cut_in}
+use Rattle.reordered_tree_laws.specs.Premises.{is_fit, BindsAlike}
+use Rattle.reordered_tree_laws.specs.Moving.{moved_frame, IsAhead, GoTogether, StatesGo, AreMovedTexts, AreMovedTo}
+use Rattle.reordered_tree_laws.specs.Gathering.{ListsGo, ReorderedBindByLists}
+use Rattle.reordered_tree_laws.proofs.MovedTrees.{AreSpans}
+use Rattle.reordered_tree_laws.proofs.MovedEntering.{both_ways}
+use Rattle.reordered_tree_laws.proofs.MovedPlaces.{tokens_moved, texts_moved}
+use Rattle.reordered_tree_laws.proofs.MovedResult.{entity_moved, kind_moved, linkage_moved}
+use Rattle.reordered_tree_laws.proofs.MovedOrders.{spans_permuted, walk_lists}
+
+all_list : {X : Type 0} (p : X → Bool) (xs : List X) → All (λ x. p x ≡ true) xs → list_all p xs ≡ true
+all_list p [] h = refl
+all_list p (x ∷ xs) h = and_from (p x) (list_all p xs) (All-head (λ y. p y ≡ true) x xs h) (all_list p xs (All-tail (λ y. p y ≡ true) x xs h))
+
+stays_apart : (toks : List Token) (ns : List Name) → All (λ (n : Name). StaysApart toks toks n.index) ns
+stays_apart toks [] = All-nil (λ (n : Name). StaysApart toks toks n.index)
+stays_apart toks (n ∷ ns) = All-cons (λ (x : Name). StaysApart toks toks x.index) n ns (λ i e. e) (stays_apart toks ns)
+
+-- the text binds without a fault
+module _ (toks : List Token) (tree : Node) (b : Bound) (e : binding_of toks tree ≡ Ok b) where
+  abbrev facts : Facts
+  facts = facts_of toks tree.under
+
+  unless_ok : bound_unless tree.under facts facts.fault ≡ Ok b
+  unfolding binding_of
+  unless_ok = e
+
+  pub clean_facts : facts.fault ≡ None
+  clean_facts = no_fault tree.under facts facts.fault b unless_ok
+
+  pub bound_facts : b ≡ bound_of tree.under facts
+  bound_facts = bound_is tree.under facts facts.fault b unless_ok
+
+  pub good_facts : Good toks toks facts
+  good_facts =
+      let names : b.names ≡ names_of facts = ap (λ (x : Bound). x.names) bound_facts in
+      names_good toks toks facts clean_facts
+      (ap (list_all (λ (n : Name). alike toks n.index n.entity)) (sym names)
+      ∙ all_list (λ (n : Name). alike toks n.index n.entity) b.names (spelled_as_entities toks tree b e))
+      (stays_apart toks (names_of facts))
+
+no_some : (o p : Option Fault) → is_some p ≡ is_some o → o ≡ None → p ≡ None
+no_some None None e h = refl
+no_some None (Some x) e h = absurd cc
+no_some (Some x) p e h = absurd cc
+
+module _ (m : ℕ → ℕ) (old new : List Token) (law : AreMovedTexts m old new) (count : ℕ) (spans : AreSpans m 0 0 count) where
+  pub starts_go : StatesGo m old new true true 0 0 (at_first count) (at_first count)
+  starts_go = record {
+    facts = record { asked = λ q w. tt; begun = λ n. refl; complete = λ n. refl; jumps = refl; fault = refl; noted = λ i. refl };
+    frame = record {
+      same = ap (λ (x : ℕ). record (outermost count) { owner = x }) (sym law.first);
+      token = λ e. sym law.first;
+      kept = λ e. refl;
+      ends = λ k a. both_ways (nat_lt (m k) count) (nat_lt k count)
+          (λ e. lt-ltb k count (omega (arith, (spans.back k (omega arith) (omega (arith, ltb-true (m k) count e))).1)))
+          (λ e. lt-ltb (m k) count (omega (arith, (spans.over k (omega arith) (omega (arith, ltb-true k count e))).1)));
+      outer = λ e. absurd (omega (arith, e));
+    };
+  }
+
+told_of : (toks : List Token) (tree : Node) → (facts_of toks tree.under).fault ≡ None → binding_of toks tree ≡ Ok (bound_of tree.under (facts_of toks tree.under))
+unfolding binding_of
+told_of toks tree e = ap (λ (o : Option Fault). bound_unless tree.under (facts_of toks tree.under) o) e
+
+pub reordered_bind_by_lists : ReorderedBindByLists
+reordered_bind_by_lists old new order lists tree b of e is each fit texts stays go =
+    let n : ℕ = length old in
+    let c : Cut = cut_in lists tree in
+    let m : ℕ → ℕ = moved order c n in
+    let f : Forest = tree.under in
+    let law : AreMovedTexts m old new = texts_moved order c old new is each texts stays in
+    let places : AreMovedTo m 0 (permuted order lists false f) = tokens_moved order lists tree n is each of in
+    let spans0 : AreSpans m 0 0 (token_count f) = spans_permuted m old new law order lists is false f 0 0 each of.tokens places in
+    let spans : AreSpans m 0 0 n = subst (λ (x : ℕ). AreSpans m 0 0 x) of.all spans0 in
+    let s : State = at_first n in
+    let after : StatesGo m old new false false (0 + token_count f) (0 + token_count f) (walked old f s) (walked new (numbered 0 (permuted order lists false f)) s) =
+    walk_lists m old new law order lists is f true true 0 0 s s of.tokens places of.forms fit each go (good_facts old tree b e) (starts_go m old new law n spans) in
+    let text : Token → List ℕ = λ (t : Token). t.text in
+    let long : length new ≡ n =
+    sym (length-map new text) ∙ (ap (λ (xs : List (List ℕ)). length xs) texts ∙ (length-arranged (length order) order c (map text old) is each ∙ length-map old text)) in
+    let tree' : Node = reordered order lists tree in
+    let g : Facts = facts_of new tree'.under in
+    let facts : Facts = facts_of old f in
+    let together : GoTogether m old new (0 + token_count f) (0 + token_count f) facts g =
+    subst (λ (x : ℕ). GoTogether m old new (0 + token_count f) (0 + token_count f) facts (walked new (numbered 0 (permuted order lists false f)) (at_first x)).facts) (sym long) after.facts in
+    let names : b.names ≡ names_of facts = ap (λ (x : Bound). x.names) (bound_facts old tree b e) in
+    record {
+      bound = bound_of tree'.under g;
+      told = told_of new tree' (no_some facts.fault g.fault together.fault (clean_facts old tree b e));
+      named = λ i less.
+          entity_moved m old new law (0 + token_count f) (0 + token_count f) facts g together i ∙ ap (λ (ns : List Name). option_map m (entity_at ns i)) (sym names);
+      kinds = λ i less. kind_moved m old new law (0 + token_count f) (0 + token_count f) facts g together i ∙ ap (λ (ns : List Name). kind_at ns i) (sym names);
+      linked = λ i less. linkage_moved m old new law (0 + token_count f) (0 + token_count f) facts g together i ∙ ap (λ (ns : List Name). linkage_at ns i) (sym names);
+    }
