@@ -8,16 +8,15 @@ use Rattle.tree_laws.specs.Below.cs_base.Token.{Token}
 use Rattle.tree_laws.specs.Below.c99_tree.Tree.{Forest}
 use Rattle.tree_laws.specs.Below.c_types.declared.entity.EntityKind.{EntityKind}
 use Rattle.tree_laws.specs.Below.c_types.declared.entity.EntityKind.TheVariants.{Typedef, Parameter}
-use Rattle.tree_laws.specs.Below.c_types.declared.declarations.Space.TheVariants.{Ordinary, Tags, Members, Inner, Unnamed, Labels}
 use Rattle.tree_laws.specs.Below.c_types.Types.{CType, arithmetic, array, adjusted}
 use Rattle.tree_laws.specs.Below.c_types.Trees.{last_token, declarator_type}
 use Rattle.tree_laws.specs.Below.c_types.Tags.{number_in, renumbered, is_same_tag, tag_entity, is_declaring, tag_declaration, tag_named, is_prior_tag, with_tag_after, prior_tag, with_tag, tag_type, is_complete, is_sort, enumeration_used}
-use Rattle.tree_laws.specs.Below.c_types.Declarations.{Facts, is_space, is_live, is_named, alike, with_fault, with_use, with_declaration, with_begun, visible, in_scope, linked}
-use Rattle.tree_laws.specs.Below.scope_bind.Named.{Space, Declaration, Declared, Occurrence, Frame, Scope, undeclared, redeclared, tag_redefined, ordinary, tags}
+use Rattle.tree_laws.specs.Below.c_types.Declarations.{Facts, is_live, is_named, with_fault, with_use, with_declaration, with_begun, visible, in_scope, linked}
+use Rattle.tree_laws.specs.Below.scope_bind.Named.{Declaration, Declared, Occurrence, Frame, Scope, undeclared, redeclared, tag_redefined, ordinary, tags}
 use Rattle.tree_laws.specs.Below.scope_bind.Ordinary.{is_again, linked_entity, entity_of, declaration_of, declared, used_as, used, used_type, plain_name, with_parameter}
 use Rattle.tree_laws.proofs.Lookups.{any_same}
-use Rattle.reordered_tree_laws.specs.Beside.{is_free_tag, is_beside, is_free_use, is_free_name, IsOwn, IsOwnDeclaration, IsOwnFrame, AreBeside}
-use Rattle.reordered_tree_laws.proofs.Beside.{IsUnasked, found_same, found_own, unasked, fault_beside, occurrence_beside, declaration_beside, begun_beside}
+use Rattle.reordered_tree_laws.specs.Beside.{is_free_tag, is_free_use, is_free_name, IsOwn, IsOwnDeclaration, IsOwnFrame, AreBeside}
+use Rattle.reordered_tree_laws.proofs.Beside.{IsUnasked, found_same, found_own, fault_beside, occurrence_beside, declaration_beside, begun_beside}
 use Rattle.reordered_tree_laws.proofs.OwnTypes.{own_adjusted, own_declarator, own_renumbered}
 
 pub not_false : (b : Bool) → not b ≡ true → b ≡ false

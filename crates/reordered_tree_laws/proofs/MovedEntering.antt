@@ -1,5 +1,5 @@
 -- A node is entered in two texts that go together.
-use Rattle.std.proofs.Common.{ℕ, zero, suc, ◌+◌, ◌<◌, ◌≤◌, ◌≡◌, ◌≢◌, Bool, true, false, ◌&&◌, ◌||◌, not, if◌then◌else◌, ◌==◌, List, [], map, Option, None, Some, inl, inr, refl, sym, ap, subst, ◌∙◌, arith}
+use Rattle.std.proofs.Common.{ℕ, ◌+◌, ◌<◌, ◌≤◌, ◌≡◌, ◌≢◌, Bool, true, false, ◌&&◌, ◌||◌, not, if◌then◌else◌, ◌==◌, List, [], Option, Some, inl, inr, refl, sym, ap, subst, ◌∙◌, arith}
 use Rattle.std.specs.Prelude.{nat_lt, codes}
 use Rattle.std.specs.Option.{option_map}
 use Rattle.std.specs.Str.{bytes_eq}
@@ -11,15 +11,14 @@ use Rattle.tree_laws.specs.Below.c99_tree.declared.production.Production.{Produc
 use Rattle.tree_laws.specs.Below.c99_tree.declared.production.Production.TheVariants.{External, ExtTail, FunBody, Declaration as DeclarationNode, Specs, Main, StructSpec, SuRest, Members, EnRest, Enumerators, Suffix, Init, InitList, InitItem, Designator, CastRest, SizeLit, Primary, Post, Block, Statement, Sub}
 use Rattle.tree_laws.specs.Below.c_types.declared.frames.Position.{Position}
 use Rattle.tree_laws.specs.Below.c_types.Types.{CType, arithmetic, array, unknown, inner_of, is_array, is_unknown, called, structure, union, enumeration}
-use Rattle.tree_laws.specs.Below.c_types.Trees.{is_node, is_list, last_token, first_token, has_node, is_bare}
-use Rattle.tree_laws.specs.Below.c_types.Tags.{number_in}
+use Rattle.tree_laws.specs.Below.c_types.Trees.{is_list, last_token, first_token, has_node}
 use Rattle.tree_laws.specs.Below.c_types.Declarations.{Facts, spelling_at}
-use Rattle.tree_laws.specs.Below.name_chains.Frames.{State, state}
+use Rattle.tree_laws.specs.Below.name_chains.Frames.{state}
 use Rattle.tree_laws.specs.Below.name_chains.Initializers.{next_place}
 use Rattle.tree_laws.specs.Below.name_chains.Entering.{inner, is_scoped, scope_in, body_in, listing_in, alone_in, owner_in, given_in, position_in, with_kept, facts_in, found_in, frame_in, entered}
 use Rattle.tree_laws.specs.Below.scope_bind.Named.{Body, Frame, Scope}
 use Rattle.reordered_tree_laws.specs.Premises.{stands_in}
-use Rattle.reordered_tree_laws.specs.Moving.{moved_type, moved_body, moved_frame, IsAhead, GoTogether, FramesGo, StatesGo, AreMovedTexts}
+use Rattle.reordered_tree_laws.specs.Moving.{moved_type, moved_body, moved_frame, IsAhead, GoTogether, StatesGo, AreMovedTexts}
 use Rattle.reordered_tree_laws.proofs.MovedFacts.{same_number, number_moved}
 use Rattle.reordered_tree_laws.proofs.MovedTypes.{type_if, called_moved, unknown_same}
 use Rattle.reordered_tree_laws.proofs.MovedNames.{ScopeGoes}

@@ -1,6 +1,6 @@
 -- What is known goes together in two texts: look-ups, and what is noted.
-use Rattle.std.proofs.Common.{ℕ, ◌+◌, ◌≤◌, ◌≡◌, Bool, true, false, ◌&&◌, ◌||◌, not, cond, if◌then◌else◌, ◌==◌, List, [], ◌∷◌, ◌++◌, map, Option, None, Some, inl, inr, refl, sym, ap, subst, ◌∙◌, arith}
-use Rattle.std.specs.Prelude.{find, filter, is_some, nat_lt}
+use Rattle.std.proofs.Common.{ℕ, ◌+◌, ◌≤◌, ◌≡◌, Bool, true, false, ◌&&◌, ◌||◌, cond, if◌then◌else◌, ◌==◌, List, [], ◌∷◌, ◌++◌, map, Option, None, Some, inl, inr, refl, sym, ap, subst, ◌∙◌, arith}
+use Rattle.std.specs.Prelude.{find, filter, is_some}
 use Rattle.std.specs.List.{list_any}
 use Rattle.std.specs.Str.{bytes_eq}
 use Rattle.std.proofs.lemmas.Bool.{false≢true, cases_Bool, eqb-true, eq-eqb}
@@ -14,7 +14,6 @@ use Rattle.tree_laws.specs.Below.c_types.declared.types.Base.{Base}
 use Rattle.tree_laws.specs.Below.c_types.declared.types.Base.TheVariants.{Arithmetic, Nothing, Structure, Union, Enumeration, Unknown}
 use Rattle.tree_laws.specs.Below.c_types.declared.declarations.Space.TheVariants.{Ordinary, Tags, Members, Inner, Unnamed, Labels}
 use Rattle.tree_laws.specs.Below.c_types.Declarations.{Facts, alike, is_named, is_space, is_live, is_in, has_linkage, spelling_at, with_fault, with_occurrence, with_declaration, with_begun, with_complete}
-use Rattle.tree_laws.specs.Below.name_chains.Entering.{is_member}
 use Rattle.tree_laws.specs.Below.name_chains.Members.{with_silent}
 use Rattle.tree_laws.specs.Below.scope_bind.Labels.{with_jump}
 use Rattle.tree_laws.specs.Below.scope_bind.Named.{Cause, Fault, Space, Declaration, Occurrence, ordinary, tags, members, labels}

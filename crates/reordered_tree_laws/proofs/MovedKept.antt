@@ -1,5 +1,5 @@
 -- The names that a body has from the list that it begins with, in two texts that go together.
-use Rattle.std.proofs.Common.{ℕ, ◌+◌, ◌≡◌, Bool, true, false, ◌&&◌, not, cond, if◌then◌else◌, ◌==◌, List, [], ◌∷◌, ◌++◌, map, Option, None, Some, refl, sym, ap, subst, ◌∙◌}
+use Rattle.std.proofs.Common.{ℕ, ◌≡◌, Bool, true, false, ◌&&◌, not, cond, if◌then◌else◌, ◌==◌, List, [], ◌∷◌, ◌++◌, map, Option, None, Some, refl, sym, ap, subst, ◌∙◌}
 use Rattle.std.specs.Prelude.{filter, filter_map, nat_lt}
 use Rattle.std.specs.List.{cons_option}
 use Rattle.std.specs.Option.{option_map}
@@ -86,8 +86,7 @@ module _ (m : ℕ → ℕ) (old new : List Token) (law : AreMovedTexts m old new
   map_moved : (from to from' to' : ℕ) (xs ys : List Declaration) → AreMoved m xs ys → AreMoved m (map (stretched from to) xs) (map (stretched from' to') ys)
   map_moved from to from' to' [] [] h = tt
   map_moved from to from' to' (x ∷ xs) (y ∷ ys) h =
-      let s : IsMoved m x y = h.0 in
-      (
+      let s : IsMoved m x y = h.0 in (
         record {
           space = s.space;
           name_at = s.name_at;

@@ -1,13 +1,12 @@
 -- A node is left in two texts that go together.
-use Rattle.std.proofs.Common.{ℕ, ◌+◌, ◌<◌, ◌≤◌, ◌≡◌, Bool, true, false, ◌&&◌, ◌||◌, not, if◌then◌else◌, ◌==◌, List, Option, None, Some, refl, sym, ap, subst, ◌∙◌, arith}
+use Rattle.std.proofs.Common.{ℕ, ◌+◌, ◌≡◌, Bool, true, false, ◌&&◌, not, if◌then◌else◌, ◌==◌, List, Option, None, Some, refl, sym, ap, subst, ◌∙◌, arith}
 use Rattle.std.specs.Prelude.{is_some}
 use Rattle.std.specs.Option.{option_map}
-use Rattle.std.proofs.lemmas.Bool.{false≢true}
 use Rattle.tree_laws.specs.Below.cs_base.Token.{Token}
 use Rattle.tree_laws.specs.Below.c99_tree.Tree.{Forest}
 use Rattle.tree_laws.specs.Below.c99_tree.declared.production.Label.{Label}
 use Rattle.tree_laws.specs.Below.c99_tree.declared.production.Production.{Production}
-use Rattle.tree_laws.specs.Below.c99_tree.declared.production.Production.TheVariants.{ExtRest, FunBody, InitDecl, Specs, Members, MemRest, Mdecl, Enumerators, Enumerator, Declarator, Param, Pdecl, InitList, InitItem, Designator, TypeName}
+use Rattle.tree_laws.specs.Below.c99_tree.declared.production.Production.TheVariants.{ExtRest, FunBody, InitDecl, Specs, Members, MemRest, Mdecl, Enumerators, Enumerator, Declarator, Param, Pdecl, InitList, InitItem, Designator}
 use Rattle.tree_laws.specs.Below.c_types.declared.entity.EntityKind.TheVariants.{Enumerator as Constant}
 use Rattle.tree_laws.specs.Below.c_types.declared.entity.Linkage.TheVariants.{Absent}
 use Rattle.tree_laws.specs.Below.c_types.declared.frames.Position.{Position}
@@ -19,20 +18,18 @@ use Rattle.tree_laws.specs.Below.c_types.Trees.{is_node, words_of, name_below, l
 use Rattle.tree_laws.specs.Below.c_types.Declarations.{Facts, anywhere, with_fault, with_declaration, with_complete}
 use Rattle.tree_laws.specs.Below.name_chains.Frames.{State, state}
 use Rattle.tree_laws.specs.Below.name_chains.Members.{member_declaration, with_member, with_anonymous}
-use Rattle.tree_laws.specs.Below.name_chains.Initializers.{is_part, behind, after_item, after_designator, position_after}
+use Rattle.tree_laws.specs.Below.name_chains.Initializers.{is_part, behind, after_designator, position_after}
 use Rattle.tree_laws.specs.Below.scope_bind.Named.{Body, Frame, redeclared, members}
 use Rattle.tree_laws.specs.Below.scope_bind.Ordinary.{declared, new_object, with_object, new_parameter, with_parameter}
 use Rattle.tree_laws.specs.Below.scope_bind.Expressions.{found_after}
 use Rattle.tree_laws.specs.Below.scope_bind.Walk.{declared_in, parameter_in, facts_after, kept_after, frame_after, left}
-use Rattle.tree_laws.specs.TreesOfTexts.{begins_with_token}
 use Rattle.reordered_tree_laws.specs.Seen.{are_parts}
-use Rattle.reordered_tree_laws.specs.Moving.{moved_type, moved_body, moved_frame, IsAhead, GoTogether, FramesGo, StatesGo, AreMovedTexts}
+use Rattle.reordered_tree_laws.specs.Moving.{moved_type, moved_body, moved_frame, GoTogether, FramesGo, StatesGo, AreMovedTexts}
 use Rattle.reordered_tree_laws.proofs.MovedFacts.{number_moved, complete_moves}
 use Rattle.reordered_tree_laws.proofs.MovedTypes.{type_if, declarator_moved, record_same, arithmetic_same, asks_front, is_type_name, after_moved}
 use Rattle.reordered_tree_laws.proofs.MovedNames.{ScopeGoes, declared_moves, parameter_moves, object_moves}
 use Rattle.reordered_tree_laws.proofs.MovedMembers.{member_moves, anonymous_moves, labels_move}
 use Rattle.reordered_tree_laws.proofs.MovedTrees.{AreSeenMoved}
-use Rattle.reordered_tree_laws.proofs.MovedEntering.{ArePlaced}
 
 -- the node declares what its tokens are asked for: the name of a declarator, an enumerator, or a member without a name
 abbrev pub DeclaresAt : (ℕ → ℕ) → ℕ → ℕ → Production → Label → Forest → Forest → ℕ → ℕ → Type 0
@@ -121,7 +118,7 @@ module _ (m : ℕ → ℕ) (old new : List Token) (law : AreMovedTexts m old new
       let last : ℕ = last_token under lo in
       let same : last_token over there ≡ m last = seen.last lo there (sym d.0) in
       let here : Next (facts_after old Enumerator lo fr (record { production = Enumerator; alternative = 1 }) under None f)
-          (declared new gr.scope (record { name_at = m lo; last = m last; kind = Constant; ctype = arithmetic; linkage = Absent; listing = false; listed = false }) g) =
+      (declared new gr.scope (record { name_at = m lo; last = m last; kind = Constant; ctype = arithmetic; linkage = Absent; listing = false; listed = false }) g) =
       declared_moves m old new law hi beyond last d.1 (omega (arith, d.2, same)) f g k fr.scope to sc lo Constant arithmetic Absent false false in
       subst (λ (x : ℕ). Next (facts_after old Enumerator lo fr (record { production = Enumerator; alternative = 1 }) under None f)
       (declared new gr.scope (record { name_at = x; last = last_token over there; kind = Constant; ctype = arithmetic; linkage = Absent; listing = false; listed = false }) g)) d.0

@@ -1,10 +1,9 @@
 -- Members, labels and places in brace lists in two texts that go together.
-use Rattle.std.proofs.Common.{ℕ, zero, suc, ◌+◌, ◌≡◌, Bool, true, false, ◌&&◌, ◌||◌, not, if◌then◌else◌, ◌==◌, List, [], ◌∷◌, ◌++◌, map, reverse, Option, None, Some, refl, sym, ap, subst, ◌∙◌}
+use Rattle.std.proofs.Common.{ℕ, ◌+◌, ◌≡◌, Bool, true, false, ◌&&◌, ◌||◌, not, if◌then◌else◌, ◌==◌, List, [], ◌∷◌, map, Option, None, Some, refl, sym, ap, subst, ◌∙◌}
 use Rattle.std.specs.Prelude.{filter, is_some, slice_get}
 use Rattle.std.specs.Option.{option_map, option_map_or}
 use Rattle.std.proofs.lemmas.Bool.{false≢true}
 use Rattle.tree_laws.specs.Below.cs_base.Token.{Token}
-use Rattle.tree_laws.specs.Below.c99_tree.Tree.{Forest}
 use Rattle.tree_laws.specs.Below.c_types.declared.declarations.Space.TheVariants.{Ordinary, Tags, Members, Inner, Unnamed, Labels}
 use Rattle.tree_laws.specs.Below.c_types.declared.frames.Position.{Position}
 use Rattle.tree_laws.specs.Below.c_types.declared.frames.Position.TheVariants.{Numbered, Lost, Beyond}
@@ -18,11 +17,11 @@ use Rattle.tree_laws.specs.Below.name_chains.Initializers.{member_place, is_unio
 use Rattle.tree_laws.specs.Below.scope_bind.Named.{Space, Declaration, Body, Frame, no_member, no_label, redeclared, designator_after_elision, members, labels}
 use Rattle.tree_laws.specs.Below.scope_bind.Labels.{label_declaration, with_label, jump_to, with_jumps, with_labels}
 use Rattle.reordered_tree_laws.specs.Ranges.{has_range}
-use Rattle.reordered_tree_laws.specs.Moving.{moved_space, moved_type, moved_body, moved_frame, IsMoved, AreMoved, owned, labelled, is_owned, is_of_list, whole, GoTogether, AreMovedTexts}
+use Rattle.reordered_tree_laws.specs.Moving.{moved_space, moved_type, moved_body, moved_frame, IsMoved, AreMoved, owned, labelled, is_owned, whole, GoTogether, AreMovedTexts}
 use Rattle.reordered_tree_laws.proofs.MovedLists.{AreFound, reverse_moved, at_moved}
 use Rattle.reordered_tree_laws.proofs.MovedFacts.{IsTimed, same_number, same_spelling, same_members, named_moved, number_moved, asked_found, asked_filter, fault_moves, occurrence_moves, silent_moves, declaration_moves}
 use Rattle.reordered_tree_laws.proofs.MovedTypes.{type_if, record_same, unknown_same, union_same}
-use Rattle.reordered_tree_laws.proofs.MovedNames.{false_last, type_found}
+use Rattle.reordered_tree_laws.proofs.MovedNames.{false_last}
 
 and_self : (a : Bool) → a ≡ (a && a)
 and_self true = refl

@@ -1,17 +1,16 @@
 -- A unit whose lists are in a new order binds alike, where each list does.
-use Rattle.std.proofs.Common.{ℕ, zero, suc, ◌+◌, ◌<◌, ◌≤◌, ◌≡◌, Bool, true, false, ◌&&◌, ◌||◌, not, if◌then◌else◌, ◌==◌, List, [], ◌∷◌, ◌++◌, length, map, Option, None, Some, Ok, inl, inr, refl, sym, ap, subst, ◌∙◌, arith, length-append, append-nil}
-use Rattle.std.specs.Prelude.{nat_lt, is_some, IsPermutation}
+use Rattle.std.proofs.Common.{ℕ, zero, suc, ◌+◌, ◌<◌, ◌≤◌, ◌≡◌, Bool, true, false, ◌&&◌, ◌||◌, not, if◌then◌else◌, ◌==◌, List, [], length, inl, inr, refl, sym, ap, subst, ◌∙◌, arith, append-nil}
+use Rattle.std.specs.Prelude.{nat_lt, IsPermutation}
 use Rattle.std.specs.Option.{option_map}
 use Rattle.std.proofs.lemmas.Bool.{false≢true, cases_Bool, ltb-true, ltb-false, and_parts}
 use Rattle.std.proofs.lemmas.List.Sorted.{length_permutation, sum_by-IsPermutation}
 use Rattle.tree_laws.specs.Below.cs_base.Token.{Token}
-use Rattle.tree_laws.specs.Below.c99_tree.Tree.{Forest, none, token, node, Node}
+use Rattle.tree_laws.specs.Below.c99_tree.Tree.{Forest, none, token, node}
 use Rattle.tree_laws.specs.Below.c99_tree.declared.production.Label.{Label}
 use Rattle.tree_laws.specs.Below.c99_tree.declared.production.Production.{Production}
 use Rattle.tree_laws.specs.Below.c99_tree.declared.production.Production.TheVariants.{MemRest, Enumerator, Declarator, Pdecl, Args, Params, Post, Suffix}
 use Rattle.tree_laws.specs.Below.c99_tree.contracts.production.ProductionPartialEq.TheImpl.{ghosts}
-use Rattle.tree_laws.specs.Below.c_types.Types.{CType}
-use Rattle.tree_laws.specs.Below.c_types.Trees.{is_node, is_at, is_list, last_token, first_token, has_node, words_of, is_bare, name_below, declarator_type, first_list, is_text}
+use Rattle.tree_laws.specs.Below.c_types.Trees.{is_node, first_token, first_list}
 use Rattle.tree_laws.specs.Below.c_types.Parameters.{ends_in_token}
 use Rattle.tree_laws.specs.Below.name_chains.Frames.{State, state}
 use Rattle.tree_laws.specs.Below.name_chains.Entering.{scope_in, entered}
@@ -25,10 +24,10 @@ use Rattle.list_cuts.specs.Cuts.{Cut, done, numbers, arranged, IsOrder, AreOf}
 use Rattle.list_cuts.proofs.CutLemmas.{arranged_permutes}
 use Rattle.reordered_tree_laws.specs.Reordered.{shuffled, is_parenthesised, is_among, permuted, leaves, numbered}
 use Rattle.reordered_tree_laws.specs.Cuts.{cut_then, list_then}
-use Rattle.reordered_tree_laws.specs.Seen.{are_parts, AreSeenAlike}
+use Rattle.reordered_tree_laws.specs.Seen.{AreSeenAlike}
 use Rattle.reordered_tree_laws.specs.Premises.{is_items, is_spaced, is_bracketed, has_outer_list, is_fit_child, is_fit}
-use Rattle.reordered_tree_laws.specs.Moving.{moved_frame, IsAhead, FramesGo, StatesGo, AreMovedTexts, AreMovedTo}
-use Rattle.reordered_tree_laws.specs.Gathering.{ListGoes, ListsGo}
+use Rattle.reordered_tree_laws.specs.Moving.{StatesGo, AreMovedTexts, AreMovedTo}
+use Rattle.reordered_tree_laws.specs.Gathering.{ListsGo}
 use Rattle.reordered_tree_laws.proofs.Arranged.{length-leaves, leaves-cut, rest_all, cut_all}
 use Rattle.reordered_tree_laws.proofs.Seen.{orders_not_seen}
 use Rattle.reordered_tree_laws.proofs.MovedTrees.{AreSeenMoved, AreSpans, seen_numbered, typed_same, last_at, no_last}
@@ -364,12 +363,12 @@ module _ (m : ℕ → ℕ) (old new : List Token) (law : AreMovedTexts m old new
       let w1 : AreMovedTo m (there + n) (permuted order lists false rest) =
       subst (λ (x : ℕ). AreMovedTo m (there + x) (permuted order lists false rest)) count w.1 in
       let last : StatesGo m old new false false (lo + n + token_count rest) (there + n + token_count rest) (walked old rest s2)
-          (walked new (numbered (there + n) (permuted order lists false rest)) t2) =
+      (walked new (numbered (there + n) (permuted order lists false rest)) t2) =
       walk_lists rest own any (lo + n) (there + n) s2 t2 a.2 w1 gs.1 q.1 later go.3
       (subst (λ (x : ℕ). Clean (walked old rest (left old l x under s (walked old under (entered old l x under s))))) a.0 clean)
       (node_leaves own keeps any step.outer lo there l under over s t (walked old under s1) (walked new over t1) step.reordered fs.0 fit k inside step.behind) in
       let placed : StatesGo m old new false false (lo + (n + token_count rest)) (there + (n + token_count rest)) (walked old rest s2)
-          (walked new (numbered (there + token_count g) (permuted order lists false rest)) t2) =
+      (walked new (numbered (there + token_count g) (permuted order lists false rest)) t2) =
       subst (λ (x : ℕ). StatesGo m old new false false (lo + (n + token_count rest)) (there + (n + token_count rest)) (walked old rest s2)
       (walked new (numbered (there + x) (permuted order lists false rest)) t2)) (sym count)
       (at_places m old new law false false (lo + n + token_count rest) (there + n + token_count rest) (lo + (n + token_count rest)) (there + (n + token_count rest))

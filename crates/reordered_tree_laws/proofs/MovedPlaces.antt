@@ -1,9 +1,8 @@
 -- Where the tokens of a text go whose lists are in a new order: they go apart, and those of the tree one after another.
-use Rattle.std.proofs.Common.{ℕ, zero, suc, ◌+◌, ◌<◌, ◌≤◌, ◌≡◌, Bool, true, false, not, cond, if◌then◌else◌, ◌==◌, List, [], ◌∷◌, ◌++◌, length, map, get_or, Option, Some, None, inl, inr, refl, sym, ap, subst, ◌∙◌, arith, length-append, append_assoc, append-nil}
+use Rattle.std.proofs.Common.{ℕ, zero, suc, ◌+◌, ◌<◌, ◌≤◌, ◌≡◌, Bool, true, false, not, cond, if◌then◌else◌, ◌==◌, List, [], ◌∷◌, ◌++◌, length, map, get_or, Some, None, inl, inr, refl, sym, ap, ◌∙◌, arith, length-append, append_assoc, append-nil}
 use Rattle.std.specs.List.{prefix_len}
-use Rattle.std.specs.Prelude.{sum_by, nat_lt, position, unwrap_or, slice_get, IsPermutation}
-use Rattle.std.specs.Option.{option_map_or}
-use Rattle.std.proofs.lemmas.Bool.{false≢true, cases_Bool, eqb-true, eqb-false, eq-eqb, ltb-true, ltb-false, lt-ltb, le-ltb}
+use Rattle.std.specs.Prelude.{sum_by, nat_lt, position, unwrap_or, IsPermutation}
+use Rattle.std.proofs.lemmas.Bool.{cases_Bool, eqb-true, eqb-false, eq-eqb, ltb-true, ltb-false, lt-ltb, le-ltb}
 use Rattle.std.proofs.lemmas.List.{length-map, get_or-map}
 use Rattle.std.proofs.lemmas.List.Sums.{sum_by-cons}
 use Rattle.std.proofs.lemmas.List.Sorted.{sum_by-IsPermutation, length_permutation}
@@ -213,8 +212,7 @@ module _ (n : ℕ) (order : List ℕ) (c : Cut) (is : IsOrder (length order) ord
       let front : hits i pre ≡ 0 = omega (arith, less, count, hit-self i) in
       let place : place_in i all ≡ length pre = ap (place_in i) e ∙ place-front i pre (leaves rest ++ post) front in
       let size : length all ≡ length pre + (1 + length (leaves rest ++ post)) = ap (λ (xs : List ℕ). length xs) e ∙ length-append pre (i ∷ (leaves rest ++ post)) ∙ omega arith in
-      let here : m i ≡ place_in i all = of-some all i (omega (arith, place, size)) in
-      (
+      let here : m i ≡ place_in i all = of-some all i (omega (arith, place, size)) in (
         omega (arith, here, place, h),
         part-moved rest (pre ++ i ∷ []) post (there + 1) (e ∙ sym (append_assoc pre (i ∷ []) (leaves rest ++ post))) (omega (arith, length-append pre (i ∷ []), h)),
       )
@@ -227,8 +225,8 @@ module _ (n : ℕ) (order : List ℕ) (c : Cut) (is : IsOrder (length order) ord
   part-moved (node l first under rest) pre post there e h = (
     part-moved under pre (leaves rest ++ post) there (e ∙ ap (λ (xs : List ℕ). pre ++ xs) (append_assoc (leaves under) (leaves rest) post)) h,
     part-moved rest (pre ++ leaves under) post (there + token_count under)
-    (e ∙ (ap (λ (xs : List ℕ). pre ++ xs) (append_assoc (leaves under) (leaves rest) post) ∙ sym (append_assoc pre (leaves under) (leaves rest ++ post))))
-    (omega (arith, length-append pre (leaves under), length-leaves under, h)),
+        (e ∙ (ap (λ (xs : List ℕ). pre ++ xs) (append_assoc (leaves under) (leaves rest) post) ∙ sym (append_assoc pre (leaves under) (leaves rest ++ post))))
+        (omega (arith, length-append pre (leaves under), length-leaves under, h)),
   )
 
 -- the leaves of a tree of a text are the numbers of its tokens

@@ -11,7 +11,7 @@ use Rattle.tree_laws.specs.Below.c99_tree.declared.production.Production.TheVari
 use Rattle.tree_laws.specs.Below.c_types.declared.frames.Words.{Words}
 use Rattle.tree_laws.specs.Below.c_types.Types.{CType, pointer, array, function}
 use Rattle.tree_laws.specs.Below.c_types.Trees.{is_node, is_at, is_list, last_token, first_token, has_node, has_mod, has_at, has_untagged, is_anonymous, words_of, is_one, is_lone_main, is_bare, holds_name, has_name, name_below, suffixed, declarator_type, first_list, is_text}
-use Rattle.tree_laws.specs.TreesOfTexts.{token_count, AreFrom, begins_with_token}
+use Rattle.tree_laws.specs.TreesOfTexts.{token_count, AreFrom}
 use Rattle.reordered_tree_laws.specs.Reordered.{numbered}
 use Rattle.reordered_tree_laws.specs.Seen.{are_parts}
 use Rattle.reordered_tree_laws.specs.Moving.{AreMovedTo, AreMovedTexts}

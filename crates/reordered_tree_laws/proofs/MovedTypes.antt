@@ -11,7 +11,7 @@ use Rattle.tree_laws.specs.Below.c99_tree.declared.production.Production.TheVari
 use Rattle.tree_laws.specs.Below.c_types.declared.types.Base.{Base}
 use Rattle.tree_laws.specs.Below.c_types.declared.types.Base.TheVariants.{Arithmetic, Nothing, Structure, Union, Enumeration, Unknown}
 use Rattle.tree_laws.specs.Below.c_types.Types.{CType, arithmetic, nothing, pointer, array, function, inner_of, target_of, adjusted, subscripted, result_of, called, pointed_to, sum_type, chosen, is_pointing, is_array, is_function, begins_pointer, is_record, is_nothing, is_arithmetic, is_unknown, is_plain, is_record_base, is_nothing_base, is_arithmetic_base, is_unknown_base}
-use Rattle.tree_laws.specs.Below.c_types.Tags.{base_number, base_renumbered, renumbered, is_base_sort, is_sort}
+use Rattle.tree_laws.specs.Below.c_types.Tags.{base_renumbered, renumbered, is_base_sort, is_sort}
 use Rattle.tree_laws.specs.Below.c_types.Trees.{is_node, is_at, suffixed, declarator_type}
 use Rattle.tree_laws.specs.Below.c_types.Declarations.{spelling_at}
 use Rattle.tree_laws.specs.Below.name_chains.Initializers.{is_union_base}

@@ -1,9 +1,9 @@
 -- A text whose lists are in a new order binds alike, where each list does.
-use Rattle.std.proofs.Common.{ℕ, zero, suc, ◌+◌, ◌<◌, ◌≤◌, ◌≡◌, Bool, true, false, ◌&&◌, List, [], ◌∷◌, length, map, Option, None, Some, Ok, inl, inr, refl, sym, ap, subst, ◌∙◌, arith}
+use Rattle.std.proofs.Common.{ℕ, ◌+◌, ◌≡◌, Bool, true, false, List, [], ◌∷◌, length, map, Option, None, Some, Ok, refl, sym, ap, subst, ◌∙◌, arith}
 use Rattle.std.specs.Prelude.{nat_lt, is_some}
 use Rattle.std.specs.List.{All, list_all}
 use Rattle.std.specs.Option.{option_map}
-use Rattle.std.proofs.lemmas.Bool.{false≢true, ltb-true, lt-ltb, and_from}
+use Rattle.std.proofs.lemmas.Bool.{ltb-true, lt-ltb, and_from}
 use Rattle.std.proofs.lemmas.List.{length-map}
 use Rattle.std.proofs.lemmas.List.Elements.{All-nil, All-cons, All-head, All-tail}
 use Rattle.tree_laws.specs.Below.cs_base.Token.{Token}
@@ -15,18 +15,17 @@ use Rattle.tree_laws.specs.Below.scope_bind.Named.{Fault}
 use Rattle.tree_laws.specs.Below.scope_bind.Bound.{Bound, names_of, bound_of, bound_unless, facts_of, binding_of}
 use Rattle.tree_laws.specs.Below.scope_bind.Names.{entity_at, kind_at, linkage_at}
 use Rattle.tree_laws.specs.Below.scope_bind.Walk.{walked}
-use Rattle.tree_laws.specs.TreesOfTexts.{token_count, IsTreeOf}
+use Rattle.tree_laws.specs.TreesOfTexts.{token_count}
 use Rattle.tree_laws.specs.RenamedNames.{StaysApart}
 use Rattle.tree_laws.proofs.HeldNames.{spelled_as_entities, bound_is}
 use Rattle.tree_laws.proofs.Renaming.{Good}
 use Rattle.tree_laws.proofs.RenamedWalk.{names_good, no_fault}
-use Rattle.list_cuts.specs.Cuts.{Cut, IsOrder, AreOf, arranged, moved}
+use Rattle.list_cuts.specs.Cuts.{Cut, moved}
 use Rattle.list_cuts.proofs.CutLemmas.{length-arranged}
 use Rattle.reordered_tree_laws.specs.Reordered.{permuted, numbered, reordered}
 use Rattle.reordered_tree_laws.specs.Cuts.{cut_in}
-use Rattle.reordered_tree_laws.specs.Premises.{is_fit, BindsAlike}
-use Rattle.reordered_tree_laws.specs.Moving.{moved_frame, IsAhead, GoTogether, StatesGo, AreMovedTexts, AreMovedTo}
-use Rattle.reordered_tree_laws.specs.Gathering.{ListsGo, ReorderedBindByLists}
+use Rattle.reordered_tree_laws.specs.Moving.{GoTogether, StatesGo, AreMovedTexts, AreMovedTo}
+use Rattle.reordered_tree_laws.specs.Gathering.{ReorderedBindByLists}
 use Rattle.reordered_tree_laws.proofs.MovedTrees.{AreSpans}
 use Rattle.reordered_tree_laws.proofs.MovedEntering.{both_ways}
 use Rattle.reordered_tree_laws.proofs.MovedPlaces.{tokens_moved, texts_moved}

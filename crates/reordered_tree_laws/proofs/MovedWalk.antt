@@ -1,7 +1,6 @@
 -- A part of a unit that is moved as a whole binds alike at its new place.
-use Rattle.std.proofs.Common.{ℕ, ◌+◌, ◌<◌, ◌≤◌, ◌≡◌, Bool, true, false, ◌&&◌, ◌||◌, not, if◌then◌else◌, ◌==◌, List, Option, None, Some, inl, inr, refl, sym, ap, subst, ◌∙◌, arith}
+use Rattle.std.proofs.Common.{ℕ, ◌+◌, ◌≤◌, ◌≡◌, Bool, true, false, ◌&&◌, ◌||◌, not, if◌then◌else◌, ◌==◌, List, Option, Some, inl, inr, refl, sym, ap, subst, ◌∙◌, arith}
 use Rattle.std.specs.Prelude.{nat_lt}
-use Rattle.std.specs.Option.{option_map_or}
 use Rattle.std.proofs.lemmas.Bool.{false≢true, cases_Bool, ltb-true, ltb-false, and_parts, or_left, or_right}
 use Rattle.tree_laws.specs.Below.cs_base.Token.{Token}
 use Rattle.tree_laws.specs.Below.c99_tree.Tree.{Forest, none, token, node}
@@ -9,7 +8,7 @@ use Rattle.tree_laws.specs.Below.c99_tree.declared.production.Label.{Label}
 use Rattle.tree_laws.specs.Below.c99_tree.declared.production.Production.{Production}
 use Rattle.tree_laws.specs.Below.c99_tree.declared.production.Production.TheVariants.{FunBody, Specs, MemRest, Enumerator, Declarator, Pdecl, SuRest, EnRest, TypeName, Unary, Add}
 use Rattle.tree_laws.specs.Below.c99_tree.contracts.production.ProductionPartialEq.TheImpl.{ghosts}
-use Rattle.tree_laws.specs.Below.c_types.Trees.{is_node, is_at, holds_name, name_below, last_token}
+use Rattle.tree_laws.specs.Below.c_types.Trees.{is_node, is_at, holds_name, name_below}
 use Rattle.tree_laws.specs.Below.name_chains.Frames.{State, state}
 use Rattle.tree_laws.specs.Below.name_chains.Entering.{scope_in, entered}
 use Rattle.tree_laws.specs.Below.scope_bind.Named.{Frame, Scope}
@@ -21,7 +20,7 @@ use Rattle.reordered_tree_laws.specs.Premises.{is_items, is_bracketed, asks_sign
 use Rattle.reordered_tree_laws.specs.Moving.{moved_frame, IsAhead, FramesGo, StatesGo, AreMovedTexts, AreMovedTo, PartsMoveAlike}
 use Rattle.reordered_tree_laws.proofs.MovedFacts.{further_ahead}
 use Rattle.reordered_tree_laws.proofs.MovedTypes.{asks_front, is_type_name}
-use Rattle.reordered_tree_laws.proofs.MovedTrees.{AreSeenMoved, seen_numbered, spans_moved, last_at, no_last}
+use Rattle.reordered_tree_laws.proofs.MovedTrees.{seen_numbered, spans_moved, last_at, no_last}
 use Rattle.reordered_tree_laws.proofs.MovedTokens.{token_goes}
 use Rattle.reordered_tree_laws.proofs.MovedEntering.{ArePlaced, asks_word, is_body, entered_moves}
 use Rattle.reordered_tree_laws.proofs.MovedLeaving.{DeclaresAt, is_declarator, left_moves}

@@ -1,9 +1,9 @@
 -- A range that a part of a unit adds begins in it, and ends in it or with the scope around it.
-use Rattle.std.proofs.Common.{ℕ, ◌+◌, ◌≤◌, ◌≡◌, Bool, true, false, ◌&&◌, ◌||◌, not, if◌then◌else◌, ◌==◌, List, [], ◌∷◌, ◌++◌, Option, None, Some, ◌⊎◌, inl, inr, refl, sym, ap, subst, ◌∙◌, arith}
+use Rattle.std.proofs.Common.{ℕ, ◌+◌, ◌≤◌, ◌≡◌, Bool, true, false, ◌&&◌, ◌||◌, not, if◌then◌else◌, ◌==◌, List, [], ◌∷◌, Option, None, Some, ◌⊎◌, inl, inr, refl, ap, ◌∙◌, arith}
 use Rattle.std.specs.Prelude.{◌%◌, filter_map, is_some}
 use Rattle.std.specs.List.{All, cons_option}
 use Rattle.std.specs.Option.{option_map_or}
-use Rattle.std.proofs.lemmas.Bool.{false≢true, cases_Bool, and_parts}
+use Rattle.std.proofs.lemmas.Bool.{false≢true, and_parts}
 use Rattle.std.proofs.lemmas.List.Elements.{All-nil, All-cons, All-weaker, All-append}
 use Rattle.tree_laws.specs.Below.cs_base.Token.{Token}
 use Rattle.tree_laws.specs.Below.c99_tree.Tree.{Forest, none, token, node}
@@ -13,13 +13,13 @@ use Rattle.tree_laws.specs.Below.c99_tree.declared.production.Production.TheVari
 use Rattle.tree_laws.specs.Below.c_types.declared.entity.EntityKind.TheVariants.{Typedef, Parameter, Enumerator as Constant}
 use Rattle.tree_laws.specs.Below.c_types.Types.{CType, arithmetic, adjusted, is_unknown, target_of}
 use Rattle.tree_laws.specs.Below.c_types.Trees.{is_list, name_below, has_name, holds_name, last_token, declarator_type}
-use Rattle.tree_laws.specs.Below.c_types.Tags.{number_in, renumbered, is_same_tag, tag_entity, is_declaring, tag_declaration, tag_named, prior_tag, with_tag_after, with_tag, is_complete, is_sort, enumeration_used}
-use Rattle.tree_laws.specs.Below.c_types.Declarations.{Facts, has_linkage, with_fault, with_use, with_declaration, with_begun, with_complete, visible, in_scope, anywhere, linked, is_mixed}
+use Rattle.tree_laws.specs.Below.c_types.Tags.{number_in, renumbered, is_same_tag, tag_entity, is_declaring, tag_declaration, tag_named, prior_tag, with_tag, is_complete, is_sort, enumeration_used}
+use Rattle.tree_laws.specs.Below.c_types.Declarations.{Facts, has_linkage, with_fault, with_use, with_declaration, with_begun, visible, in_scope, anywhere, linked, is_mixed}
 use Rattle.tree_laws.specs.Below.name_chains.Frames.{State}
 use Rattle.tree_laws.specs.Below.name_chains.Members.{with_silent, member_declaration, unnamed_declaration, lifted, found_of, with_member, with_lifted, with_anonymous, member_at, member_used_as, member_used}
 use Rattle.tree_laws.specs.Below.name_chains.Entering.{inner, is_scoped, is_member, scope_in, kept_here, with_kept, facts_in, entered}
-use Rattle.tree_laws.specs.Below.scope_bind.Named.{Cause, Declaration, Declared, Body, Frame, Scope, undeclared, redeclared, tag_redefined, mixed_linkage, no_member, designator_after_elision, ordinary, tags, members, labels}
-use Rattle.tree_laws.specs.Below.scope_bind.Ordinary.{is_again, entity_of, is_listed, declaration_of, declared, used_as, used, is_func, plain_name, new_parameter, with_parameter, new_object, with_object}
+use Rattle.tree_laws.specs.Below.scope_bind.Named.{Cause, Declaration, Declared, Body, Frame, Scope, undeclared, redeclared, tag_redefined, mixed_linkage, designator_after_elision, ordinary, tags, members, labels}
+use Rattle.tree_laws.specs.Below.scope_bind.Ordinary.{is_again, entity_of, is_listed, declaration_of, declared, used_as, used, is_func, plain_name, with_parameter, new_object, with_object}
 use Rattle.tree_laws.specs.Below.scope_bind.Labels.{label_declaration, with_label, jump_to, with_jumps, with_labels}
 use Rattle.tree_laws.specs.Below.scope_bind.Roles.{role_if, role_of}
 use Rattle.tree_laws.specs.Below.scope_bind.Walk.{facts_at, passed, declared_in, parameter_in, facts_after, left, walked}

@@ -1,5 +1,5 @@
 -- Worked rows: what binds as before at the moved places, and what does not where an offence stands.
-use Rattle.std.proofs.Common.{ℕ, ◌≡◌, ◌+◌, Bool, true, false, ◌&&◌, ◌||◌, ◌==◌, List, [], ◌∷◌, length, Option, None, Some, Ok, Err, refl}
+use Rattle.std.proofs.Common.{ℕ, ◌≡◌, Bool, true, false, ◌||◌, ◌==◌, List, [], ◌∷◌, length, Option, None, Some, Ok, refl}
 use Rattle.std.specs.Prelude.{Result, codes}
 use Rattle.std.specs.List.{list_all}
 use Rattle.tree_laws.specs.Below.cs_base.Token.{Token}
@@ -7,7 +7,7 @@ use Rattle.tree_laws.specs.Below.cs_base.declared.tokens.Kind.{Kind}
 use Rattle.tree_laws.specs.Below.cs_base.declared.tokens.Kind.TheVariants.{Ident, Number, Punct}
 use Rattle.tree_laws.specs.Below.c99_tree.Tree.{Forest, none, token, node, Node, node_of}
 use Rattle.tree_laws.specs.Below.c99_tree.declared.production.Production.{Production}
-use Rattle.tree_laws.specs.Below.c99_tree.declared.production.Production.TheVariants.{TranslationUnit, External, ExtRest, ExtTail, FunBody, Declaration, DeclRest, InitDecl, Specs, Main, Mod, Qual, Word, StructSpec, SuRest, Members, Member as MemberNode, Mdecl, MemRest, EnumSpec, EnRest, Enumerators, Enumerator as EnumeratorNode, Declarator, Pointer, Direct, Suffix, Bound as BoundNode, Params, Param, Pdecl, Pdirect, TypeName, Adecl, Adirect, Init, InitList, InitItem, Designator, Expr, Assign, Asgop, Cond, Lor, Land, Bor, Bxor, Band, Equal, Relate, Shift, Add, Mul, Cast, CastRest, Unary, SizeRest, SizeLit, Primary, Post, Args, Block, BlockItem, Statement, Sub, ForInit}
+use Rattle.tree_laws.specs.Below.c99_tree.declared.production.Production.TheVariants.{TranslationUnit, External, ExtRest, ExtTail, FunBody, Specs, Main, Mod, Word, StructSpec, SuRest, Members, Member as MemberNode, Mdecl, Declarator, Pointer, Direct, Suffix, Bound as BoundNode, Params, Param, Pdecl, Pdirect, TypeName, Adecl, Adirect, Init, Cast, CastRest, Unary, SizeRest, Primary, Post, Args, BlockItem, Statement}
 use Rattle.tree_laws.specs.Below.c_types.declared.declarations.Fault.{Fault}
 use Rattle.tree_laws.specs.Below.scope_bind.Bound.{Bound, binding_of}
 use Rattle.tree_laws.specs.Below.scope_bind.Names.{entity_at}

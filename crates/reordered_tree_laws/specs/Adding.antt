@@ -1,5 +1,5 @@
 -- What a part of a unit adds to what is known: all of it stands beside, where its tokens do (ISO/IEC 9899:1999, 6.2.1).
-use Rattle.std.specs.Prelude.{ℕ, ◌+◌, ◌≡◌, ◌==◌, Bool, true, false, ◌&&◌, ◌||◌, not, List, ◌++◌}
+use Rattle.std.specs.Prelude.{ℕ, ◌≡◌, Bool, true, false, ◌&&◌, ◌||◌, not, List}
 use Rattle.std.specs.List.{All}
 use Rattle.std.specs.Option.{option_map_or}
 use Rattle.tree_laws.specs.Below.cs_base.Token.{Token}

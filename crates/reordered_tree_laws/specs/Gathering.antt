@@ -4,8 +4,7 @@ use Rattle.std.specs.Prelude.{ℕ, ◌+◌, ◌≡◌, Bool, true, false, List, 
 use Rattle.tree_laws.specs.Below.cs_base.Token.{Token}
 use Rattle.tree_laws.specs.Below.c99_tree.Tree.{Forest, none, token, node, Node}
 use Rattle.tree_laws.specs.Below.c99_tree.declared.production.Label.{Label}
-use Rattle.tree_laws.specs.Below.c99_tree.declared.production.Production.TheVariants.{Declarator}
-use Rattle.tree_laws.specs.Below.c_types.Trees.{is_node, first_list}
+use Rattle.tree_laws.specs.Below.c_types.Trees.{first_list}
 use Rattle.tree_laws.specs.Below.name_chains.Frames.{State, outermost}
 use Rattle.tree_laws.specs.Below.scope_bind.Bound.{Bound, binding_of}
 use Rattle.tree_laws.specs.Below.scope_bind.Walk.{walked}

@@ -1,6 +1,6 @@
 -- States of the binder in two texts that go together, where token i of the one is at another place in the other: what is known
 -- is the same, at the moved places (this project's, over ISO/IEC 9899:1999, 6.2.1 to 6.2.3).
-use Rattle.std.specs.Prelude.{ℕ, ◌+◌, ◌≤◌, ◌≡◌, ◌==◌, ◌⊎◌, Bool, true, false, ◌&&◌, not, nat_lt, List, [], ◌∷◌, filter, map, is_some, Option, None, Some}
+use Rattle.std.specs.Prelude.{ℕ, ◌+◌, ◌≤◌, ◌≡◌, ◌==◌, ◌⊎◌, Bool, true, false, ◌&&◌, not, nat_lt, List, [], ◌∷◌, filter, map, is_some, Option}
 use Rattle.std.specs.Option.{option_map}
 use Rattle.tree_laws.specs.Below.cs_base.Token.{Token}
 use Rattle.tree_laws.specs.Below.c_types.declared.types.Base.{Base}

@@ -1,15 +1,15 @@
 -- What must be true of a unit whose lists get a new order of their items, so that names bind as before (this project's, over
 -- ISO/IEC 9899:1999, 6.2.1, 6.5.2.2, 6.7.5.3 and 6.9.1): no item says anything to the items beside it or to what follows.
-use Rattle.std.specs.Prelude.{ℕ, ◌+◌, ◌<◌, ◌≡◌, ◌==◌, Bool, true, false, ◌&&◌, ◌||◌, not, nat_lt, if◌then◌else◌, List, [], ◌∷◌, ◌++◌, length, map, Option, None, Some, Ok}
+use Rattle.std.specs.Prelude.{ℕ, ◌+◌, ◌<◌, ◌≡◌, ◌==◌, Bool, true, false, ◌&&◌, ◌||◌, not, nat_lt, if◌then◌else◌, List, [], ◌∷◌, ◌++◌, length, map, Option, None, Ok}
 use Rattle.std.specs.List.{All, list_all, list_any}
 use Rattle.std.specs.Option.{option_map, option_map_or}
 use Rattle.tree_laws.specs.Below.cs_base.Token.{Token}
 use Rattle.tree_laws.specs.Below.c99_tree.Tree.{Forest, none, token, node, Node}
 use Rattle.tree_laws.specs.Below.c99_tree.declared.production.Label.{Label}
 use Rattle.tree_laws.specs.Below.c99_tree.declared.production.Production.{Production}
-use Rattle.tree_laws.specs.Below.c99_tree.declared.production.Production.TheVariants.{FunBody, Specs, Main, StructSpec, SuRest, EnRest, MemRest, Enumerator, Declarator, Params, Param, Pdecl, TypeName, Add, Unary, Primary, Args, Statement, Sub}
+use Rattle.tree_laws.specs.Below.c99_tree.declared.production.Production.TheVariants.{FunBody, Specs, Main, SuRest, EnRest, MemRest, Enumerator, Declarator, Params, Param, Pdecl, TypeName, Add, Unary, Primary, Args, Statement, Sub}
 use Rattle.tree_laws.specs.Below.c_types.Trees.{is_node, is_at, is_list, name_below, first_list}
-use Rattle.tree_laws.specs.Below.c_types.Declarations.{alike, is_in, spelling_at}
+use Rattle.tree_laws.specs.Below.c_types.Declarations.{alike, is_in}
 use Rattle.tree_laws.specs.Below.name_chains.Entering.{scope_in}
 use Rattle.tree_laws.specs.Below.name_chains.Frames.{outermost}
 use Rattle.tree_laws.specs.Below.scope_bind.Named.{Scope}
@@ -18,7 +18,7 @@ use Rattle.tree_laws.specs.Below.scope_bind.Bound.{Bound, binding_of}
 use Rattle.tree_laws.specs.Below.scope_bind.Names.{entity_at, kind_at, linkage_at}
 use Rattle.tree_laws.specs.TreesOfTexts.{IsTreeOf, begins_with_token}
 use Rattle.list_cuts.specs.Cuts.{IsOrder, AreOf, arranged, moved}
-use Rattle.reordered_tree_laws.specs.Reordered.{nodes_in, is_among, is_parenthesised, reordered}
+use Rattle.reordered_tree_laws.specs.Reordered.{nodes_in, is_among, reordered}
 use Rattle.reordered_tree_laws.specs.Cuts.{cut_in}
 use Rattle.reordered_tree_laws.specs.Seen.{are_parts}
 use Rattle.reordered_tree_laws.specs.Adding.{is_adding}

@@ -3,7 +3,7 @@ use Rattle.std.specs.Prelude.{ℕ, ◌+◌, ◌≤◌, ◌≡◌, Bool, true, fa
 use Rattle.std.specs.List.{All}
 use Rattle.tree_laws.specs.Below.cs_base.Token.{Token}
 use Rattle.tree_laws.specs.Below.c99_tree.Tree.{Forest}
-use Rattle.tree_laws.specs.Below.c_types.declared.declarations.Space.TheVariants.{Ordinary as ordinary, Tags as tags, Members as members, Inner as inner, Unnamed as unnamed, Labels as labels}
+use Rattle.tree_laws.specs.Below.c_types.declared.declarations.Space.TheVariants.{Ordinary as ordinary, Tags as tags}
 use Rattle.tree_laws.specs.Below.name_chains.Frames.{State}
 use Rattle.tree_laws.specs.Below.scope_bind.Named.{Space, Declaration}
 use Rattle.tree_laws.specs.Below.scope_bind.Walk.{walked}

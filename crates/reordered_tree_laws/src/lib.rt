@@ -12,14 +12,20 @@
 //! `items_bind_alike`. A range that a part adds ends in it or with the scope around it, `IsAdded` of
 //! `specs/Ranges.antt`. They are proved by inductions beside the walk (`proofs/BesideWalk.antt`, `proofs/Adding.antt`,
 //! `proofs/Ranges.antt`).
+//! `CanReorder` of `specs/Premises.antt` says what must be true of the lists of a unit, so that names bind as before,
+//! `ReorderedBindAlike`; rows of `proofs/PremiseRows.antt` show where it is so. Two texts are held together by one map of
+//! places: `GoTogether` of `specs/Moving.antt` says that what is asked of the declarations has the same answer in both.
+//! A part that is moved as a whole keeps that, `parts_move_alike` (`proofs/MovedWalk.antt`), and so does a unit whose lists
+//! keep it, `ListsGo` of `specs/Gathering.antt`: then it binds as before, `reordered_bind_by_lists`
+//! (`proofs/MovedOrders.antt`, `proofs/MovedUnits.antt`). That a list keeps it, by `CanReorder`, is not said here.
 //! `proofs/Rows.antt` has worked rows of lists in a new order, some of which bind as before and some of which do not.
-//! That a reordered tree binds name for name as before is not said here. No program stands here: a law is the `ensures`
-//! of a function without a body.
+//! No program stands here: a law is the `ensures` of a function without a body.
 #![tactic(auto)]
 
 mod laws;
 
 pub use laws::{
-    items_bind_alike, new_orders_are_not_seen, parts_add_beside, parts_bind_alike, parts_move_alike,
-    ranges_end_with_scopes, reordered_bind_by_lists, reordered_trees_are_of_their_texts,
+    items_bind_alike, new_orders_are_not_seen, parts_add_beside, parts_bind_alike,
+    parts_move_alike, ranges_end_with_scopes, reordered_bind_by_lists,
+    reordered_trees_are_of_their_texts,
 };
