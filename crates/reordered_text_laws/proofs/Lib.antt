@@ -14,5 +14,14 @@ mod Alone
 mod Enclosed
 mod Calls
 mod Free
-mod Around
-mod CallTables
+mod FreeTables
+mod Shuffled
+mod Permuted
+mod Near
+mod Fronts
+mod Anew
+mod ParameterLists
+mod AnewLists
+mod AnewTables
+mod Units
+mod Numbered

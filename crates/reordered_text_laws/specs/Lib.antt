@@ -3,4 +3,4 @@ pub mod ByClasses
 pub mod Lists
 pub mod Laws
 pub mod Alone
-pub mod Around
+pub mod InOrder

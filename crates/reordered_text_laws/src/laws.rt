@@ -1,6 +1,6 @@
 // What is true of items that change places, as to how they are read: laws that no caller runs.
 ghost use Rattle.reordered_text_laws.specs.Alone.{TextsAloneAreReadByClasses};
-ghost use Rattle.reordered_text_laws.specs.Around.{CallsAreReadInTheirTexts};
+ghost use Rattle.reordered_text_laws.specs.InOrder.{ListsAreReadInAnyOrder, ArrangedTokensAreReadInOrder};
 ghost use Rattle.reordered_text_laws.specs.Laws.{PartsAreReadAnywhere, ItemsAreReadAnywhere, NumbersDoNotMatter};
 ghost use Rattle.reordered_text_laws.specs.Laws.{ArgumentsAreReadInAnyOrder, ParametersAreReadInAnyOrder, CallsAreReadInAnyOrder};
 
@@ -36,8 +36,12 @@ pub fn calls_are_read_in_any_order()
     ensures calls { CallsAreReadInAnyOrder }
 {}
 
-/// What is read of a text in which a call stands is read with another call in its place, which ends where it ended: the
-/// same children but for the call.
-pub fn calls_are_read_in_their_texts()
-    ensures texts { CallsAreReadInTheirTexts }
+/// What is read is read with all its lists, of arguments and of parameters, in a new order, and what is left stays.
+pub fn lists_are_read_in_any_order()
+    ensures lists { ListsAreReadInAnyOrder }
+{}
+
+/// The tokens of a unit in the new order of its lists are read, with the classes that they had, to its tree in that order.
+pub fn arranged_tokens_are_read_in_order()
+    ensures units { ArrangedTokensAreReadInOrder }
 {}

@@ -1,0 +1,79 @@
+-- In the table of each standard the tests of items say the same at a parenthesis, whatever stands behind it.
+use Rattle.std.proofs.Common.{◌≡◌, true, refl}
+use Rattle.std.specs.List.{list_all}
+use Rattle.tree_laws.specs.Below.cs_base.declared.ws_units.Standard.{Standard}
+use Rattle.tree_laws.specs.Below.c99_tree.declared.production.Production.{Production}
+use Rattle.tree_laws.specs.Below.c99_tree.declared.production.Production.TheVariants.{TranslationUnit, External, ExtRest, ExtTail, FunBody, Declaration, DeclRest, InitDecl, Sassert, Specs, Main, Mod, Qual, Word, StructSpec, SuRest, Members, Member, MemRest, Mdecl, EnumSpec, EnRest, Enumerators, Enumerator, Declarator, Pointer, Direct, Suffix, Bound, Params, Param, Pdecl, Pdirect, TypeName, Adecl, Adirect, Init, InitList, InitItem, Designator, Expr, Assign, Asgop, Cond, Lor, Land, Bor, Bxor, Band, Equal, Relate, Shift, Add, Mul, Cast, CastRest, Unary, SizeRest, SizeLit, Primary, Post, Args, Block, BlockItem, Statement, Sub, ForInit}
+use Rattle.tree_laws.specs.Below.c99_grammar.Standard.{grammar}
+use Rattle.tree_laws.proofs.Below.c99_grammar.StandardLemmas.{both}
+use Rattle.reordered_text_laws.proofs.Free.{tests_free}
+
+module _ (std : Standard) where
+  pub tests : (p : Production) → list_all (λ a. tests_free (grammar std) a.body) ((grammar std).table p) ≡ true
+  tests TranslationUnit = refl
+  tests External = both (λ s. list_all (λ a. tests_free (grammar s) a.body) ((grammar s).table External) ≡ true) refl refl std
+  tests ExtRest = refl
+  tests ExtTail = refl
+  tests FunBody = refl
+  tests Declaration = both (λ s. list_all (λ a. tests_free (grammar s) a.body) ((grammar s).table Declaration) ≡ true) refl refl std
+  tests DeclRest = refl
+  tests InitDecl = refl
+  tests Sassert = both (λ s. list_all (λ a. tests_free (grammar s) a.body) ((grammar s).table Sassert) ≡ true) refl refl std
+  tests Specs = refl
+  tests Main = refl
+  tests Mod = both (λ s. list_all (λ a. tests_free (grammar s) a.body) ((grammar s).table Mod) ≡ true) refl refl std
+  tests Qual = refl
+  tests Word = refl
+  tests StructSpec = refl
+  tests SuRest = refl
+  tests Members = refl
+  tests Member = both (λ s. list_all (λ a. tests_free (grammar s) a.body) ((grammar s).table Member) ≡ true) refl refl std
+  tests MemRest = both (λ s. list_all (λ a. tests_free (grammar s) a.body) ((grammar s).table MemRest) ≡ true) refl refl std
+  tests Mdecl = refl
+  tests EnumSpec = refl
+  tests EnRest = refl
+  tests Enumerators = refl
+  tests Enumerator = refl
+  tests Declarator = refl
+  tests Pointer = refl
+  tests Direct = refl
+  tests Suffix = refl
+  tests Bound = refl
+  tests Params = refl
+  tests Param = refl
+  tests Pdecl = refl
+  tests Pdirect = refl
+  tests TypeName = refl
+  tests Adecl = refl
+  tests Adirect = refl
+  tests Init = refl
+  tests InitList = refl
+  tests InitItem = refl
+  tests Designator = refl
+  tests Expr = refl
+  tests Assign = refl
+  tests Asgop = refl
+  tests Cond = refl
+  tests Lor = refl
+  tests Land = refl
+  tests Bor = refl
+  tests Bxor = refl
+  tests Band = refl
+  tests Equal = refl
+  tests Relate = refl
+  tests Shift = refl
+  tests Add = refl
+  tests Mul = refl
+  tests Cast = refl
+  tests CastRest = refl
+  tests Unary = refl
+  tests SizeRest = refl
+  tests SizeLit = refl
+  tests Primary = refl
+  tests Post = refl
+  tests Args = refl
+  tests Block = refl
+  tests BlockItem = refl
+  tests Statement = refl
+  tests Sub = refl
+  tests ForInit = refl

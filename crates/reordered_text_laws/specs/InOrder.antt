@@ -1,0 +1,37 @@
+-- What is read is read with all its lists in a new order (ISO/IEC 9899:1999, 6.5.2.2 and 6.7.5.3).
+use Rattle.std.specs.Prelude.{ℕ, ◌≡◌, Bool, false, List, [], ◌++◌, get_or, Some}
+use Rattle.tree_laws.specs.Below.cs_base.declared.ws_units.Standard.{Standard}
+use Rattle.tree_laws.specs.Below.c99_tree.Tree.{none, node, Node}
+use Rattle.tree_laws.specs.Below.c99_tree.declared.production.Production.{Production}
+use Rattle.tree_laws.specs.Below.c99_tree.declared.production.Production.TheVariants.{TranslationUnit}
+use Rattle.tree_laws.specs.Below.c99_grammar.declared.classes.Class.{Class}
+use Rattle.tree_laws.specs.Below.c99_grammar.Standard.{grammar}
+use Rattle.tree_laws.specs.Below.c99_read.Reading.{produce}
+use Rattle.list_cuts.specs.Cuts.{done, IsOrder, arranged, AreOf}
+use Rattle.reordered_tree_laws.specs.Reordered.{permuted, reordered}
+use Rattle.reordered_tree_laws.specs.Cuts.{cut_then, cut_in}
+use Rattle.reordered_text_laws.specs.ByClasses.{tokens_of, numbers_from, untold, Taken, taken, read_by_classes}
+
+-- What is read for a production by the classes of tokens is read with all lists of it that begin with these tokens in the
+-- new order, the arguments of calls and the parameters of lists, each of which has as many items as the order has numbers:
+-- the children in the new order are read of their tokens, and the same tokens are left.
+abbrev pub ListsAreReadInAnyOrder : Type 0
+ListsAreReadInAnyOrder =
+    (s : Standard) (class_of : ℕ → Class) (n : ℕ) (order : List ℕ) (lists : ℕ → Bool) (fuel depth : ℕ) (p : Production) (xs : List ℕ) (t : Taken)
+    → read_by_classes (grammar s) class_of fuel depth (produce p) xs ≡ Some t → IsOrder n order → AreOf n (cut_then lists false t.read done)
+    → (steps : ℕ) × (read_by_classes (grammar s) class_of steps depth (produce p) (tokens_of (permuted order lists false t.read) ++ t.left)
+    ≡ Some (taken (permuted order lists false t.read) t.left))
+
+-- So many tokens are read, by their classes, to the tree of a unit.
+abbrev pub IsReadAs : Standard → (ℕ → Class) → ℕ → Node → Type 0
+IsReadAs s class_of count tree =
+    (steps : ℕ) × (read_by_classes (grammar s) class_of steps 0 (produce TranslationUnit) (numbers_from 0 count)
+    ≡ Some (taken (untold (node tree.label tree.first tree.under none)) []))
+
+-- Then the same tokens in the new order of the tree's lists, each with the class that it had, are read to the tree in the
+-- new order.
+abbrev pub ArrangedTokensAreReadInOrder : Type 0
+ArrangedTokensAreReadInOrder =
+    (s : Standard) (class_of : ℕ → Class) (n count : ℕ) (order : List ℕ) (lists : ℕ → Bool) (tree : Node)
+    → IsReadAs s class_of count tree → IsOrder n order → AreOf n (cut_in lists tree)
+    → IsReadAs s (λ k. class_of (get_or (arranged order (cut_in lists tree) (numbers_from 0 count)) k k)) count (reordered order lists tree)
