@@ -95,7 +95,7 @@ module _ (g : Grammar) (toks : List Token) (alone : AreAlone g toks) where
     built : Tokens s.at s.built.under
 
   -- so many tokens are left of the text
-  record At (s : State) (xs : List ℕ) : Type 0 where
+  pub record At (s : State) (xs : List ℕ) : Type 0 where
     good : Good s
     many_left : ℕ
     sum : s.at + many_left ≡ length toks
@@ -141,13 +141,14 @@ module _ (g : Grammar) (toks : List Token) (alone : AreAlone g toks) where
   -- ---- Steps
 
   -- what is behind a step is what was read
-  record Went (s s' : State) (t : Taken) : Type 0 where
+  pub record Went (s s' : State) (t : Taken) : Type 0 where
     at : At s' t.left
     later : s.at ≤ s'.at
     label : s'.built.label ≡ s.built.label
+    pub begins : s'.built.first ≡ s.built.first
     read : untold s'.built.under ≡ joined (untold s.built.under) t.read
 
-  abbrev Sim : State → Step → Option Taken → Type 0
+  abbrev pub Sim : State → Step → Option Taken → Type 0
   Sim s (Ok s') (Some t) = Went s s' t
   Sim s (Ok s') None = ⊥
   Sim s (Err stop) (Some t) = ⊥
@@ -162,6 +163,7 @@ module _ (g : Grammar) (toks : List Token) (alone : AreAlone g toks) where
     at = v.at;
     later = (let a : s.at ≤ s'.at = w.later in let b : s'.at ≤ s''.at = v.later in omega (arith, a, b));
     label = v.label ∙ w.label;
+    begins = v.begins ∙ w.begins;
     read = v.read ∙ (ap (λ f. joined f u.read) w.read ∙ joined-joined (untold s.built.under) t.read u.read);
   }
 
@@ -180,7 +182,7 @@ module _ (g : Grammar) (toks : List Token) (alone : AreAlone g toks) where
 
   -- nothing was read
   stayed : (s : State) (xs : List ℕ) → At s xs → Went s s (taken none xs)
-  stayed s xs p = record { at = p; later = omega arith; label = refl; read = sym (joined-none (untold s.built.under)) }
+  stayed s xs p = record { at = p; later = omega arith; label = refl; begins = refl; read = sym (joined-none (untold s.built.under)) }
 
   abbrev with_token : State → State
   with_token s = record s { at = s.at + 1; built = record s.built { under = put s.built.under (leaf s.at) } }
@@ -199,6 +201,7 @@ module _ (g : Grammar) (toks : List Token) (alone : AreAlone g toks) where
     };
     later = omega arith;
     label = refl;
+    begins = refl;
     read = untold-leaf s.built.under s.at;
   }
 
@@ -238,12 +241,13 @@ module _ (g : Grammar) (toks : List Token) (alone : AreAlone g toks) where
     };
     later = omega arith;
     label = refl;
+    begins = refl;
     read = sym (joined-none (untold s.built.under));
   }
 
   -- ---- Nodes
 
-  opened_so : (p : Production) (n : ℕ) (s : State) (xs : List ℕ) → At s xs → At (opened p n s) xs
+  pub opened_so : (p : Production) (n : ℕ) (s : State) (xs : List ℕ) → At s xs → At (opened p n s) xs
   unfolding opened
   opened_so p n s xs q = record {
     good = record { text = q.good.text; names = opened_is s.at p s.names q.good.names; built = tt };
@@ -273,6 +277,7 @@ module _ (g : Grammar) (toks : List Token) (alone : AreAlone g toks) where
         };
         later = w.later;
         label = refl;
+        begins = refl;
         read = untold-inner s.built.under (finished p s'.built)
             ∙ ap (λ x. joined (untold s.built.under) (put none (inner x))) (finished-untold p s'.built ∙ ap (finished p) inside);
       }
@@ -295,7 +300,7 @@ module _ (g : Grammar) (toks : List Token) (alone : AreAlone g toks) where
         by true false = tt
         by false d = tt
 
-    sim_item : (item : Item) (depth : ℕ) (s : State) (xs : List ℕ) → At s xs → Sim s (step g below depth item s) (read_item g class_of below' depth item xs)
+    pub sim_item : (item : Item) (depth : ℕ) (s : State) (xs : List ℕ) → At s xs → Sim s (step g below depth item s) (read_item g class_of below' depth item xs)
     sim_item (one L) depth s xs p = subst (λ ys. Sim s (take_one g L s) (read_one g class_of L ys)) (sym p.left) (taken_so s L p.many_left p.good p.sum)
     sim_item (part q) depth s xs p = sims depth (produce q) s xs p
     sim_item end_of_text depth s xs p = subst (λ ys. Sim s (at_end s) (read_end g class_of ys)) (sym p.left) (ended_so s p.many_left p.good p.sum)
@@ -340,12 +345,12 @@ module _ (g : Grammar) (toks : List Token) (alone : AreAlone g toks) where
     sim_goal depth (produce p) s xs q = sim_first p (g.table p) depth 1 s xs q
     sim_goal depth (repeat t a) s xs q = sim_item (many t a) depth s xs q
 
-  sim_within : (fuel depth : ℕ) (goal : Goal) (s : State) (xs : List ℕ) → At s xs → Sim s (read_within g fuel depth goal s) (read_by_classes g class_of fuel depth goal xs)
+  pub sim_within : (fuel depth : ℕ) (goal : Goal) (s : State) (xs : List ℕ) → At s xs → Sim s (read_within g fuel depth goal s) (read_by_classes g class_of fuel depth goal xs)
   unfolding read_within read_by_classes
   sim_within zero depth goal s xs q = tt
   sim_within (suc fuel) depth goal s xs q = sim_goal (read_within g fuel) (read_by_classes g class_of fuel) (sim_within fuel) depth goal s xs q
 
-  at_begin : At (at_first toks) (numbers_from 0 (length toks))
+  pub at_begin : At (at_first toks) (numbers_from 0 (length toks))
   at_begin = record {
     good = record { text = refl; names = record { scopes = (tt, tt); ended = tt; heads = tt; kept = tt }; built = tt };
     many_left = length toks;

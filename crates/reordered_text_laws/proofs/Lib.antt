@@ -25,3 +25,6 @@ mod AnewLists
 mod AnewTables
 mod Units
 mod Numbered
+mod Keyed
+mod TextsInOrder
+mod Rows

@@ -1,15 +1,19 @@
 -- What is read is read with all its lists in a new order (ISO/IEC 9899:1999, 6.5.2.2 and 6.7.5.3).
-use Rattle.std.specs.Prelude.{ℕ, ◌≡◌, Bool, false, List, [], ◌++◌, get_or, Some}
+use Rattle.std.specs.Prelude.{ℕ, ◌≡◌, Bool, false, List, [], ◌++◌, length, get_or, Some, Ok}
 use Rattle.tree_laws.specs.Below.cs_base.declared.ws_units.Standard.{Standard}
+use Rattle.tree_laws.specs.Below.cs_base.Token.{Token}
 use Rattle.tree_laws.specs.Below.c99_tree.Tree.{none, node, Node}
 use Rattle.tree_laws.specs.Below.c99_tree.declared.production.Production.{Production}
 use Rattle.tree_laws.specs.Below.c99_tree.declared.production.Production.TheVariants.{TranslationUnit}
 use Rattle.tree_laws.specs.Below.c99_grammar.declared.classes.Class.{Class}
-use Rattle.tree_laws.specs.Below.c99_grammar.Standard.{grammar}
-use Rattle.tree_laws.specs.Below.c99_read.Reading.{produce}
+use Rattle.tree_laws.specs.Below.c99_grammar.Spellings.{Spelled}
+use Rattle.tree_laws.specs.Below.c99_grammar.Standard.{Grammar, grammar}
+use Rattle.tree_laws.specs.Below.c99_read.State.{base_at}
+use Rattle.tree_laws.specs.Below.c99_read.Reading.{produce, read_of}
 use Rattle.list_cuts.specs.Cuts.{done, IsOrder, arranged, AreOf}
 use Rattle.reordered_tree_laws.specs.Reordered.{permuted, reordered}
 use Rattle.reordered_tree_laws.specs.Cuts.{cut_then, cut_in}
+use Rattle.reordered_text_laws.specs.Alone.{AreAlone}
 use Rattle.reordered_text_laws.specs.ByClasses.{tokens_of, numbers_from, untold, Taken, taken, read_by_classes}
 
 -- What is read for a production by the classes of tokens is read with all lists of it that begin with these tokens in the
@@ -21,6 +25,12 @@ ListsAreReadInAnyOrder =
     → read_by_classes (grammar s) class_of fuel depth (produce p) xs ≡ Some t → IsOrder n order → AreOf n (cut_then lists false t.read done)
     → (steps : ℕ) × (read_by_classes (grammar s) class_of steps depth (produce p) (tokens_of (permuted order lists false t.read) ++ t.left)
     ≡ Some (taken (permuted order lists false t.read) t.left))
+
+-- ---- Units
+
+-- the grammar with other keywords
+abbrev pub with_words : List Spelled → Grammar → Grammar
+with_words words g = record g { keywords = words }
 
 -- So many tokens are read, by their classes, to the tree of a unit.
 abbrev pub IsReadAs : Standard → (ℕ → Class) → ℕ → Node → Type 0
@@ -35,3 +45,15 @@ ArrangedTokensAreReadInOrder =
     (s : Standard) (class_of : ℕ → Class) (n count : ℕ) (order : List ℕ) (lists : ℕ → Bool) (tree : Node)
     → IsReadAs s class_of count tree → IsOrder n order → AreOf n (cut_in lists tree)
     → IsReadAs s (λ k. class_of (get_or (arranged order (cut_in lists tree) (numbers_from 0 count)) k k)) count (reordered order lists tree)
+
+-- A text in which each identifier is spelled as no other token, by a standard's grammar or the same with other keywords: if
+-- it is read to a tree, then another one whose tokens have the classes of the arranged ones is read to the tree in the new
+-- order.
+abbrev pub TextsAloneAreReadInOrder : Type 0
+TextsAloneAreReadInOrder =
+    (s : Standard) (words : List Spelled) (n : ℕ) (order : List ℕ) (lists : ℕ → Bool) (old new : List Token) (tree : Node)
+    → AreAlone (with_words words (grammar s)) old → AreAlone (with_words words (grammar s)) new → length new ≡ length old
+    → ((k : ℕ) → base_at (with_words words (grammar s)) new k
+    ≡ base_at (with_words words (grammar s)) old (get_or (arranged order (cut_in lists tree) (numbers_from 0 (length old))) k k))
+    → read_of (with_words words (grammar s)) old ≡ Ok tree → IsOrder n order → AreOf n (cut_in lists tree)
+    → read_of (with_words words (grammar s)) new ≡ Ok (reordered order lists tree)

@@ -1,8 +1,10 @@
 // What is true of items that change places, as to how they are read: laws that no caller runs.
 ghost use Rattle.reordered_text_laws.specs.Alone.{TextsAloneAreReadByClasses};
-ghost use Rattle.reordered_text_laws.specs.InOrder.{ListsAreReadInAnyOrder, ArrangedTokensAreReadInOrder};
+ghost use Rattle.reordered_text_laws.specs.InOrder.{ListsAreReadInAnyOrder, ArrangedTokensAreReadInOrder, TextsAloneAreReadInOrder};
 ghost use Rattle.reordered_text_laws.specs.Laws.{PartsAreReadAnywhere, ItemsAreReadAnywhere, NumbersDoNotMatter};
 ghost use Rattle.reordered_text_laws.specs.Laws.{ArgumentsAreReadInAnyOrder, ParametersAreReadInAnyOrder, CallsAreReadInAnyOrder};
+
+use tree_laws::tokens_stand_in_order;
 
 /// A text in which each identifier is spelled as no other token is read as the classes of its tokens are, by any grammar.
 pub fn texts_alone_are_read_by_classes()
@@ -45,3 +47,11 @@ pub fn lists_are_read_in_any_order()
 pub fn arranged_tokens_are_read_in_order()
     ensures units { ArrangedTokensAreReadInOrder }
 {}
+
+/// A text in which each identifier is spelled as no other token, and whose tokens have the classes of those of another
+/// such text in the new order of its lists, is read to the tree of that text in the new order.
+pub fn texts_alone_are_read_in_order()
+    ensures texts { TextsAloneAreReadInOrder }
+{
+    tokens_stand_in_order();
+}
