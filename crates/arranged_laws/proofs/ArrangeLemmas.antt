@@ -153,10 +153,10 @@ unfolding arranged
 begins_like order done done us ts out t lacks stand like = open_labels false us (t ∷ ts) like ∙ lacks
 begins_like order (keep (suc k) (list is c)) (keep (suc m) (list js d)) [] ts out t lacks stand like = absurd (none like.0)
   where
-    none : [] ≡ label false t ∷ map unlined (take k ts) → ⊥
+    none : [] ≡ label true false t ∷ map (unlined true) (take k ts) → ⊥
     none e = cc
 begins_like order (keep (suc k) (list is c)) (keep (suc m) (list js d)) (u ∷ us) ts out t lacks stand like =
-    open_unlined u t (first_token (label false u) (label false t) (map unlined (take k us)) (map unlined (take k ts)) like.0) ∙ lacks
+    open_unlined u t (first_token (label true false u) (label true false t) (map (unlined true) (take k us)) (map (unlined true) (take k ts)) like.0) ∙ lacks
 begins_like order c d us ts out t lacks stand like = absurd stand
 
 begins_same : (order : List ℕ) (c d : Cut) (us ts out : List Token) (t : Token) → is_open t ≡ false → MarksStand c d (t ∷ ts) out → StandFor c us (t ∷ ts)

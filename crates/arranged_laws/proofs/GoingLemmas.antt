@@ -24,40 +24,40 @@ use Rattle.arranged_laws.proofs.MarkLemmas.{no_macro_of}
 
 -- ---- labels
 
-unhidden_unlined : (ts : List Token) → map unlined_hidden (unhidden ts) ≡ unhidden (map unlined ts)
+unhidden_unlined : (ts : List Token) → map (unlined_hidden true) (unhidden ts) ≡ unhidden (map (unlined true) ts)
 unhidden_unlined [] = refl
-unhidden_unlined (t ∷ ts) = ap (λ (l : List Hidden). hidden (unlined t) [] ∷ l) (unhidden_unlined ts)
+unhidden_unlined (t ∷ ts) = ap (λ (l : List Hidden). hidden (unlined true t) [] ∷ l) (unhidden_unlined ts)
 
-canon_labels : (loose : Bool) (ts : List Token) → canon loose (unhidden ts) ≡ unhidden (labels loose ts)
+canon_labels : (loose : Bool) (ts : List Token) → canon true loose (unhidden ts) ≡ unhidden (labels loose ts)
 canon_labels loose [] = refl
-canon_labels loose (t ∷ ts) = ap (λ (l : List Hidden). hidden (label loose t) [] ∷ l) (unhidden_unlined ts)
+canon_labels loose (t ∷ ts) = ap (λ (l : List Hidden). hidden (label true loose t) [] ∷ l) (unhidden_unlined ts)
 
-pub canon_same : (loose : Bool) (us ts : List Token) → labels loose us ≡ labels loose ts → canon loose (unhidden us) ≡ canon loose (unhidden ts)
+pub canon_same : (loose : Bool) (us ts : List Token) → labels loose us ≡ labels loose ts → canon true loose (unhidden us) ≡ canon true loose (unhidden ts)
 canon_same loose us ts e = canon_labels loose us ∙ ap unhidden e ∙ sym (canon_labels loose ts)
 
-bare_unlined : (hs : List Hidden) → map bare (toks_of (map unlined_hidden hs)) ≡ map bare (toks_of hs)
+bare_unlined : (hs : List Hidden) → map bare (toks_of (map (unlined_hidden true) hs)) ≡ map bare (toks_of hs)
 bare_unlined [] = refl
 bare_unlined (h ∷ hs) = ap (λ (l : List Token). bare h.tok ∷ l) (bare_unlined hs)
 
-bare_label : (loose : Bool) (t : Token) → bare (label loose t) ≡ bare t
+bare_label : (loose : Bool) (t : Token) → bare (label true loose t) ≡ bare t
 bare_label true t = refl
 bare_label false t = refl
 
-bare_canon : (loose : Bool) (hs : List Hidden) → map bare (toks_of (canon loose hs)) ≡ map bare (toks_of hs)
+bare_canon : (loose : Bool) (hs : List Hidden) → map bare (toks_of (canon true loose hs)) ≡ map bare (toks_of hs)
 bare_canon loose [] = refl
-bare_canon loose (h ∷ hs) = ap (λ (v : Token). v ∷ map bare (toks_of (map unlined_hidden hs))) (bare_label loose h.tok) ∙ ap (λ (l : List Token). bare h.tok ∷ l) (bare_unlined hs)
+bare_canon loose (h ∷ hs) = ap (λ (v : Token). v ∷ map bare (toks_of (map (unlined_hidden true) hs))) (bare_label loose h.tok) ∙ ap (λ (l : List Token). bare h.tok ∷ l) (bare_unlined hs)
 
-pub same_bare : (loose : Bool) (xs ys : List Hidden) → canon loose xs ≡ canon loose ys → map bare (toks_of xs) ≡ map bare (toks_of ys)
+pub same_bare : (loose : Bool) (xs ys : List Hidden) → canon true loose xs ≡ canon true loose ys → map bare (toks_of xs) ≡ map bare (toks_of ys)
 same_bare loose xs ys e = sym (bare_canon loose xs) ∙ ap (λ (l : List Hidden). map bare (toks_of l)) e ∙ bare_canon loose ys
 
-pub bare_of_unlined : (u t : Token) → unlined u ≡ unlined t → bare u ≡ bare t
+pub bare_of_unlined : (u t : Token) → unlined true u ≡ unlined true t → bare u ≡ bare t
 bare_of_unlined u t e = ap bare e
 
-pub open_unlined : (u t : Token) → unlined u ≡ unlined t → is_open u ≡ is_open t
+pub open_unlined : (u t : Token) → unlined true u ≡ unlined true t → is_open u ≡ is_open t
 unfolding is_open
 open_unlined u t e = ap (λ (v : Token). is_open v) e
 
-pub name_unlined : (u t : Token) → unlined u ≡ unlined t → is_name u ≡ is_name t
+pub name_unlined : (u t : Token) → unlined true u ≡ unlined true t → is_name u ≡ is_name t
 name_unlined u t e = ap (λ (v : Token). is_name v) e
 
 pub open_labels : (loose : Bool) (us ts : List Token) → labels loose us ≡ labels loose ts → begins_open (unhidden us) ≡ begins_open (unhidden ts)
@@ -66,16 +66,16 @@ open_labels loose [] [] e = refl
 open_labels loose [] (t ∷ ts) e = absurd cc
 open_labels loose (u ∷ us) [] e = absurd cc
 open_labels loose (u ∷ us) (t ∷ ts) e =
-    let here : label loose u ≡ label loose t = first_label (label loose u) (label loose t) (map unlined us) (map unlined ts) e in
+    let here : label true loose u ≡ label true loose t = first_label (label true loose u) (label true loose t) (map (unlined true) us) (map (unlined true) ts) e in
     ap (λ (v : Token). is_open v) here
   where
     first_label : (x y : Token) (xs ys : List Token) → x ∷ xs ≡ y ∷ ys → x ≡ y
     first_label x y xs ys same = cc
 
 -- one token that stands for one
-pub one_like : (us : List Token) (t : Token) → labels false us ≡ labels false (t ∷ []) → (u : Token) × (us ≡ u ∷ []) × (unlined u ≡ unlined t)
+pub one_like : (us : List Token) (t : Token) → labels false us ≡ labels false (t ∷ []) → (u : Token) × (us ≡ u ∷ []) × (unlined true u ≡ unlined true t)
 one_like [] t e = absurd cc
-one_like (u ∷ []) t e = (u, refl, first (label false u) (label false t) e)
+one_like (u ∷ []) t e = (u, refl, first (label true false u) (label true false t) e)
   where
     first : (x y : Token) → ◌≡◌ {A = List Token} (x ∷ []) (y ∷ []) → x ≡ y
     first x y same = cc
@@ -116,7 +116,7 @@ goes_none set shut = λ before work room. record {
   ends = λ h. refl;
 }
 
-pub goes_sign : (set : Setting) (u t : Token) → unlined u ≡ unlined t → is_name u ≡ false → Goes set (u ∷ []) (bare t ∷ []) 0 true
+pub goes_sign : (set : Setting) (u t : Token) → unlined true u ≡ unlined true t → is_name u ≡ false → Goes set (u ∷ []) (bare t ∷ []) 0 true
 goes_sign set u t like lacks = λ before work room. record {
   e = expanded (hidden u [] ∷ []) [] work;
   is = sign_alone set 0 before (hidden u []) work (no_macro_of set.table (hidden u []) lacks);
@@ -166,14 +166,14 @@ pub goes_alike : (set : Setting) (loose : Bool) (before : ℕ) (run new : List T
     → Goes set new (map bare (toks_of e.toks)) (work - e.left) shut
 goes_alike set loose before run new work e shut is quiet like ends = λ before2 work2 room.
     let fell = whole_falls set 0 before (unhidden run) work e is in
-    let k = expands_alike loose set 0 before before2 (unhidden run) (unhidden new) work work2 e is (canon_same loose new run like) (omega (arith, fell, room)) quiet in
+    let k = expands_alike true loose set 0 before before2 (unhidden run) (unhidden new) work work2 e is (canon_same loose new run like) (omega (arith, fell, room)) quiet in
     let c = k.2.cost in
     record {
       e = k.0;
       is = k.1;
       toks = same_bare loose k.0.toks e.toks k.2.toks;
       left = omega (arith, c, fell, room);
-      ends = λ h. ends_alike loose set.table k.0.toks e.toks k.2.toks ∙ ends h;
+      ends = λ h. ends_alike true loose set.table k.0.toks e.toks k.2.toks ∙ ends h;
     }
 
 -- ---- parts

@@ -65,18 +65,18 @@ LinesStay table from c notes = (name m : Token) (before : ℕ) → IsAmong notes
 
 -- ---- labels of tokens that change places
 
--- tokens without their lines; white space before the first of them may differ, or not
+-- tokens without their lines and places; white space before the first of them may differ, or not
 abbrev pub labels : Bool → List Token → List Token
 labels loose [] = []
-labels loose (t ∷ ts) = label loose t ∷ map unlined ts
+labels loose (t ∷ ts) = label true loose t ∷ map (unlined true) ts
 
--- a token without its line and without white space before it
+-- a token without its line and its places, and without white space before it
 abbrev pub bare : Token → Token
-bare t = label true t
+bare t = label true true t
 
 abbrev mutual
-  -- Tokens that are to change places are like those for which they stand: lines may differ, and white space before the
-  -- first of each item.
+  -- Tokens that are to change places are like those for which they stand: lines and places may differ, and white space
+  -- before the first of each item.
   pub IsLike : Bool → Cut → List Token → List Token → Type 0
   IsLike loose done new run = labels loose new ≡ labels loose run
   IsLike loose (keep n c) new run = (labels loose (take n new) ≡ labels loose (take n run)) × IsLike false c (drop n new) (drop n run)
@@ -97,7 +97,7 @@ StandFor (list is c) new run = AreLike is new run × StandFor c (drop (span_of i
 
 -- ---- the law
 
--- The tokens of an expansion in the new order, but for lines and white space, for as much work.
+-- The tokens of an expansion in the new order, but for lines, places and white space, for as much work.
 pub record IsArranged (order : List ℕ) (c : Cut) (e e2 : Expanded) : Type 0 where
   pub toks : map bare (toks_of e2.toks) ≡ arranged order c (map bare (toks_of e.toks))
   pub left : e2.left ≡ e.left

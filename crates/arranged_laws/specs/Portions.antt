@@ -31,7 +31,7 @@ costs_of (p ∷ ps) = cost_of p + costs_of ps
 pub record IsPortion (set : Setting) (depth : ℕ) (p : Portion) : Type 0 where
   pub expands : whole set depth p.before p.toks p.work ≡ Ok p.out
   pub lines : list_all (brings_no_line set.table) p.out.notes ≡ true
-  pub alike : canon p.loose p.again ≡ canon p.loose p.toks
+  pub alike : canon false p.loose p.again ≡ canon false p.loose p.toks
 
 -- and with each; none of them ends in a name that the `(` in front of what follows would call
 abbrev pub ArePortions : Setting → ℕ → List Portion → Type 0
@@ -44,7 +44,7 @@ ArePortions set depth (p ∷ ps) =
 -- expansions that are alike to those of the portions, one by one
 abbrev pub AreTheirs : List Portion → List Expanded → Type 0
 AreTheirs [] [] = Unit {0}
-AreTheirs (p ∷ ps) (e ∷ es) = (canon p.loose e.toks ≡ canon p.loose p.out.toks) × AreTheirs ps es
+AreTheirs (p ∷ ps) (e ∷ es) = (canon false p.loose e.toks ≡ canon false p.loose p.out.toks) × AreTheirs ps es
 AreTheirs _ _ = ⊥
 
 -- The run that the other tokens make is expanded to theirs, with the same notes, and asks for as much work.
@@ -54,7 +54,7 @@ pub record Composes (set : Setting) (depth before work : ℕ) (ps : List Portion
   pub expands : whole set depth before (flat_map (λ (p : Portion). p.again) ps) work ≡ Ok out
   pub theirs : AreTheirs ps parts
   pub toks : out.toks ≡ flat_map (λ (e : Expanded). e.toks) parts
-  pub notes : map plain_note out.notes ≡ flat_map (λ (p : Portion). map plain_note p.out.notes) ps
+  pub notes : map (plain_note false) out.notes ≡ flat_map (λ (p : Portion). map (plain_note false) p.out.notes) ps
   pub cost : out.left + costs_of ps ≡ work
 
 -- The law.
