@@ -27,7 +27,13 @@ const PASTED: &str = "a.c:#define F(x) x##_f\nint a_f;\nint b = F(a);\n@b.c:";
 const SHOWN: &str =
     "a.c:#define S(v) put(#v, v)\nint put(char *s, int n);\nint c;\nint r(void) { return S(c); }\n@b.c:";
 
-const ROWS: [Row; 10] = [
+const BOTH: &str =
+    "a.c:#define S(v) put(#v, v)\nint put(char *s, int n);\nint c, k;\nint r(void) { return S(c) + S(k); }\n@b.c:";
+
+const PARTS: &str =
+    "a.c:#include \"h.h\"\nint first_n = 1, last_n = 2;\nint get(void) { return N(first) + N(last); }\n@b.c:#include \"h.h\"\nint sum(void) { return N(first) * N(last); }\n@h.h:#define N(x) x##_n\nextern int first_n, last_n;\n";
+
+const ROWS: [Row; 15] = [
     Row {
         files: THREE,
         lines: "rename a.c 1 5 alpha\nrename a.c 1 16 beta\nrename a.c 1 26 delta\n",
@@ -86,6 +92,41 @@ const ROWS: [Row; 10] = [
         lines: "rename a.c 2 5 count\nrename a.c 3 11 z\n",
         told: "edited a.c 2\nedited a.c 2\n",
         put: "a.c:#define F(x) x##_f\nint z_f;\nint b = F(z);\n@",
+    },
+    // A class that is renamed twice, by places behind its members, and then back.
+    Row {
+        files: "a.c:int a; int f(void) { return a + a; }\n@b.c:",
+        lines: "rename a.c 1 5 longer\nrename a.c 1 34 longest\nrename a.c 1 45 a\n",
+        told: "edited a.c 3\nedited a.c 3\nedited a.c 3\n",
+        put: "a.c:int a; int f(void) { return a + a; }\n@",
+    },
+    // A line that is refused behind a longer name is told by where its reason stands then.
+    Row {
+        files: THREE,
+        lines: "rename a.c 1 5 alphabet\nrename a.c 1 26 b\nrename a.c 1 26 delta\n",
+        told: "edited a.c 1\ncscout: refused: a.c:1:19: occurs\nedited a.c 1\nrefused",
+        put: "a.c:int alphabet; int b; int delta;@",
+    },
+    // Strings follow a longer name, and so do places in arguments of which a string is made.
+    Row {
+        files: BOTH,
+        lines: "rename a.c 3 5 counter strings\nrename a.c 3 14 key\nrename a.c 3 14 key strings\nrename a.c 4 5 result\n",
+        told: "edited a.c 2\ncscout: refused: a.c:4:37: stringized\nedited a.c 2\nedited a.c 1\nrefused",
+        put: "a.c:#define S(v) put(#v, v)\nint put(char *s, int n);\nint counter, key;\nint result(void) { return S(counter) + S(key); }\n@",
+    },
+    // Parts of pasted names, the macro that pastes them, and what stands behind them in each file.
+    Row {
+        files: PARTS,
+        lines: "rename a.c 3 26 beginning\nrename h.h 2 25 end\nrename h.h 1 17 _number\nrename b.c 2 24 PICK\nrename b.c 2 47 s\n",
+        told: "edited a.c 2\nedited b.c 1\nedited h.h 1\nedited a.c 2\nedited b.c 1\nedited h.h 1\nedited a.c 2\nedited h.h 3\nedited a.c 2\nedited b.c 2\nedited h.h 1\nedited a.c 2\nedited b.c 1\nedited h.h 1\n",
+        put: "a.c:#include \"h.h\"\nint beginning_number = 1, s_number = 2;\nint get(void) { return PICK(beginning) + PICK(s); }\n@b.c:#include \"h.h\"\nint sum(void) { return PICK(beginning) * PICK(s); }\n@h.h:#define PICK(x) x##_number\nextern int beginning_number, s_number;\n@",
+    },
+    // A name that is written over two lines: what follows it stands on the second one still.
+    Row {
+        files: "a.c:int al\\\npha; int b;\n@b.c:",
+        lines: "rename a.c 1 5 letters\nrename a.c 2 7 d\n",
+        told: "edited a.c 1\nedited a.c 1\n",
+        put: "a.c:int letters\\\n; int d;\n@",
     },
     Row {
         files: "a.c:int a;\nint f(void) { return c; }\n@b.c:",

@@ -1,7 +1,6 @@
 pub mod SettledTables
 pub mod SettledWalk
 pub mod SettledAnalyses
-pub mod KeepingLemmas
 pub mod RenamedLemmas
 pub mod StepLemmas
 pub mod RunLemmas

@@ -1,7 +1,8 @@
 -- An accepted line keeps what a rename keeps: from its plan to the files once its edits are put.
-use Rattle.std.proofs.Common.{◌≡◌, ◌<◌, ℕ, zero, suc, List, [], ◌∷◌, Some, Ok, length, get_or, subst, arith}
+use Rattle.std.proofs.Common.{◌≡◌, ◌<◌, ℕ, zero, suc, List, [], ◌∷◌, Some, Ok, length, get_or, refl, sym, subst, arith}
 use Rattle.std.specs.Prelude.{slice_get}
 use Rattle.std.proofs.lemmas.Option.{none-some, same_Some, slice_get-get_or}
+use Rattle.cs_base.specs.declared.positions.Part.{Part}
 use Rattle.cs_base.specs.Edit.{Edit, IsKept, with_edits}
 use Rattle.cs_base.specs.Outside.{FileMap, bytes_at}
 use Rattle.cs_base.proofs.FileMapLemmas.{bytes_at-with_edits, bytes_at-with_edits_other}
@@ -9,16 +10,23 @@ use Rattle.batch_file.specs.Line.{LineValue}
 use Rattle.edited_files.specs.Edited.{ArePut}
 use Rattle.ws_core.specs.Below.eclass_map.ClassTable as classes
 use Rattle.ws_file.specs.Workspace.{WorkspaceValue, IsWorkspace}
-use Rattle.ws_core.specs.Below.source_files.Files.{source_of}
+use Rattle.ws_core.specs.Below.source_files.Files.{Source, nothing_carried, source_of}
 use Rattle.ws_core.specs.Below.source_files.Tables.{HasEachOnce}
-use Rattle.ws_core.specs.Analysis.{AnalysisValue, analysis_of}
+use Rattle.ws_core.specs.Analysis.{AnalysisValue, analysed_from, analysis_and, analysis_of}
 use Rattle.ws_core.specs.Classes.{AreItsClasses}
+use Rattle.ws_core.specs.Naming.{Names}
+use Rattle.ws_core.specs.Parts.{AreMembers}
+use Rattle.ws_core.specs.Texts.{UnitFault}
+use Rattle.kept_analysis.specs.Following.{IsFollowed, IsRenamedIn}
+use Rattle.kept_analysis.proofs.PlannedLemmas.{named_once, planned_is_followed}
+use Rattle.rename_edit.proofs.Below.analysis_laws.MadeLemmas.{done_first, ok_holds}
 use Rattle.rename_edit.proofs.Below.analysis_laws.ReadLemmas.{unit_files_opened}
 use Rattle.rename_edit.specs.Below.rename_rules.Renaming.{IsRenaming}
 use Rattle.rename_edit.specs.Below.kept_meaning_laws.EditedSource.{AreRespelled}
 use Rattle.rename_edit.specs.Below.kept_meaning_laws.Plans.{AreMade}
 use Rattle.rename_edit.specs.Below.kept_meaning_laws.RenamedSource.{IsAccepted}
-use Rattle.rename_edit.specs.Below.renamed.Renamed.{AnalysisIsRenamed}
+use Rattle.rename_edit.specs.Below.part_respell.Respelled.{respelled as spelled_anew}
+use Rattle.rename_edit.specs.Below.renamed.Renamed.{AnalysisIsRenamed, renamed_analysis, renaming_of}
 use Rattle.rename_edit.proofs.Below.kept_meaning_laws.PlanLemmas.{IsPlan, is_plan, plan_respells, plan_accepted}
 use Rattle.rename_edit.proofs.Below.kept_meaning_laws.TextLemmas.{respelled_files_have_renamed_texts, respelled_files_have_renamed_analysis, respelled_files_keep_external_names}
 use Rattle.batch_run.specs.Renamed.{Renamed, IsRenamed}
@@ -72,6 +80,26 @@ module _ (ws : WorkspaceValue) (q : LineValue) (a : AnalysisValue) (new : List E
       shared = respelled_files_keep_external_names (source_of before) (source_of now) ws a p.classes c.part c.members q.name q.path q.line q.column is_accepted c.named respelled;
     },
   )
+
+-- ---- the analysis behind it
+
+-- an analysis is one of its workspace
+workspace_is : (source : Source) (ws : WorkspaceValue) (a : AnalysisValue) → analysis_of source ws ≡ Ok a → a.workspace ≡ ws
+workspace_is source ws a e =
+    let all = done_first (analysed_from source 1 ws.units nothing_carried) _ a e in
+    ok_holds {E = UnitFault} (λ (b : AnalysisValue). b.workspace ≡ ws) (analysis_and ws all.0.units all.0.table) a all.2 refl
+
+module _ (ws : WorkspaceValue) (q : LineValue) (a : AnalysisValue) (new : List Edit) (part : Part) (named : Names a q.path q.line q.column (Some part)) where
+  -- it can go on with the files of the line
+  pub line_is_followed : (source : Source) → analysis_of source ws ≡ Ok a → IsRenaming a q.path q.line q.column q.name q.strings (Ok new) → IsFollowed a part q.name
+  line_is_followed source analysed renaming =
+      planned_is_followed source a q.path q.line q.column part q.name q.strings new
+      (subst (λ (w : WorkspaceValue). analysis_of source w ≡ Ok a) (sym (workspace_is source ws a analysed)) analysed) named renaming
+
+  -- and then it is that of the files as the line leaves them
+  pub followed_is : (c : Accepted q a new) (b : AnalysisValue) → IsRenamedIn a part q.name b → b ≡ renamed_analysis (renaming_of a c.members q.name) (spelled_anew c.members q.name) a
+  followed_is c b is =
+      is c.members (subst (λ (p : Part). AreMembers a p c.members) (named_once a q.path q.line q.column part c.part named c.named) c.class)
 
 -- ---- a rename alone
 

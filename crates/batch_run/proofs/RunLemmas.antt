@@ -12,20 +12,19 @@ use Rattle.ws_core.specs.Analysis.{AnalysisValue, analysis_of}
 use Rattle.batch_run.specs.declared.running.Batched.{Batched}
 use Rattle.batch_run.specs.declared.stepping.Batching.{Batching}
 use Rattle.batch_run.specs.Batch.{Plan, IsLine, IsBatch, after, after_each, plan_text, is_refused}
-use Rattle.batch_run.specs.Keeping.{kept_files}
 use Rattle.batch_run.specs.Renamed.{KeepsLine, KeepsLines}
 use Rattle.batch_run.specs.Running.{IsRun}
-use Rattle.batch_run.specs.Stepping.{IsOver, Agrees, IsReady, RunTo, Steps}
-use Rattle.batch_run.proofs.SettledAnalyses.{analysis_settles, kept_agree}
+use Rattle.batch_run.specs.Stepping.{AreOf, IsReady, RunTo, Steps}
+use Rattle.batch_run.proofs.SettledAnalyses.{analysis_settles, kept_agree, kept_files}
 
 -- ---- the last of some lines
 
+append_none : {X : Type 0} (xs : List X) → xs ++ [] ≡ xs
+append_none [] = refl
+append_none {X} (x ∷ xs) = ap (λ (ys : List X). x ∷ ys) (append_none xs)
+
 text_last : (plans : List Plan) (plan : Plan) → flat_map plan_text (plans ++ plan ∷ []) ≡ flat_map plan_text plans ++ plan_text plan
-text_last [] plan = none_behind (plan_text plan)
-  where
-    none_behind : (xs : List ℕ) → xs ++ [] ≡ xs
-    none_behind [] = refl
-    none_behind (x ∷ xs) = ap (λ (ys : List ℕ). x ∷ ys) (none_behind xs)
+text_last [] plan = append_none (plan_text plan)
 text_last (p ∷ plans) plan =
     ap (λ (ys : List ℕ). plan_text p ++ ys) (text_last plans plan) ∙ sym (append_assoc (plan_text p) (flat_map plan_text plans) (plan_text plan))
 
@@ -64,59 +63,74 @@ keeps_last ws files edits (l ∷ lines) [] q plan batch keeps line = absurd batc
 
 -- ---- a batch behind some lines
 
+-- none yet
+pub run_none : (ws : WorkspaceValue) (s : Batching) → RunTo ws s [] s
+run_none ws s = record {
+  plans = [];
+  text = sym (append_none s.text.items);
+  refused = sym (or_false s.refused);
+  edits = refl;
+  over = λ files over. (tt, tt, over);
+}
+
+-- it can go on
+pub run_ready : (ws : WorkspaceValue) (first s : Batching) (lines : List LineValue) → IsReady ws first → RunTo ws first lines s → IsReady ws s
+run_ready ws first s lines ready r = (ready.0, (r.over ready.0 ready.1).2)
+
 -- one line more
-pub run_more : (ws : WorkspaceValue) (kept : FileMap) (lines : List LineValue) (s t : Batching) (q : LineValue) (plan : Plan) → RunTo ws kept lines s
-    → Steps ws kept q plan s.text.items s.refused s.edits t → RunTo ws kept (lines ++ q ∷ []) t
-run_more ws kept lines s t q plan r step = record {
+pub run_more : (ws : WorkspaceValue) (first s t : Batching) (lines : List LineValue) (q : LineValue) (plan : Plan) → RunTo ws first lines s
+    → Steps ws q plan s t → RunTo ws first (lines ++ q ∷ []) t
+run_more ws first s t lines q plan r step = record {
   plans = r.plans ++ plan ∷ [];
-  ready = step.ready;
-  text = step.text_is ∙ ap (λ (xs : List ℕ). xs ++ plan_text plan) r.text ∙ sym (text_last r.plans plan);
-  refused = step.refused_is ∙ ap (λ (b : Bool). b || is_refused plan) r.refused ∙ sym (refused_last r.plans plan);
-  edits = step.edits_are ∙ ap (after plan) r.edits ∙ sym (edits_last r.plans plan []);
-  over = λ files agrees.
-      let behind = r.over files agrees in
-      let line : IsLine ws (with_edits (after_each r.plans []) files) q plan =
+  text = step.text_is ∙ ap (λ (xs : List ℕ). xs ++ plan_text plan) r.text ∙ append_assoc first.text.items (flat_map plan_text r.plans) (plan_text plan)
+      ∙ ap (λ (xs : List ℕ). first.text.items ++ xs) (sym (text_last r.plans plan));
+  refused = step.refused_is ∙ ap (λ (b : Bool). b || is_refused plan) r.refused ∙ sym (or_assoc first.refused (list_any is_refused r.plans) (is_refused plan))
+      ∙ ap (λ (b : Bool). first.refused || b) (sym (refused_last r.plans plan));
+  edits = step.edits_are ∙ ap (after plan) r.edits ∙ sym (edits_last r.plans plan first.edits);
+  over = λ files over.
+      let behind = r.over files over in
+      let line : IsLine ws (with_edits (after_each r.plans first.edits) files) q plan =
       subst (λ (es : List Edit). IsLine ws (with_edits es files) q plan) r.edits (step.line files behind.2) in
-      let kept_so : KeepsLine ws q (with_edits (after_each r.plans []) files) (with_edits (after plan (after_each r.plans [])) files) plan =
+      let kept_so : KeepsLine ws q (with_edits (after_each r.plans first.edits) files) (with_edits (after plan (after_each r.plans first.edits)) files) plan =
       subst (λ (es : List Edit). KeepsLine ws q (with_edits es files) (with_edits (after plan es) files) plan) r.edits
       (subst (λ (es : List Edit). KeepsLine ws q (with_edits s.edits files) (with_edits es files) plan) step.edits_are (step.keeps files behind.2)) in (
-        batch_last ws files [] lines r.plans q plan behind.0 line,
-        keeps_last ws files [] lines r.plans q plan behind.0 behind.1 kept_so,
-        step.agrees files behind.2,
+        batch_last ws files first.edits lines r.plans q plan behind.0 line,
+        keeps_last ws files first.edits lines r.plans q plan behind.0 behind.1 kept_so,
+        step.goes_on files behind.2,
       );
 }
 
 -- ---- its beginning and its end
 
 -- the kept files have the analysis
-pub kept_over : (ws : WorkspaceValue) (a : AnalysisValue) (kept : FileMap) → HasEachOnce a.table → ((source : Source) → AreFound source a.table → analysis_of source ws ≡ Ok a)
-    → kept ≡ kept_files a.table → IsOver ws kept [] a
-kept_over ws a kept once over same =
+pub kept_over : (ws : WorkspaceValue) (a : AnalysisValue) → HasEachOnce a.table → ((source : Source) → AreFound source a.table → analysis_of source ws ≡ Ok a)
+    → analysis_of (source_of (kept_files a.table)) ws ≡ Ok a
+kept_over ws a once over =
     let some = some_source a.table once in
-    let settled = analysis_settles some.0 ws a (over some.0 some.1) in
-    subst (λ (fs : FileMap). IsOver ws fs [] a) (sym same) (over (source_of (kept_files a.table)) (kept_agree a.table once settled))
+    over (source_of (kept_files a.table)) (kept_agree a.table once (analysis_settles some.0 ws a (over some.0 some.1)))
 
-pub run_first : (ws : WorkspaceValue) (kept : FileMap) (s : Batching) → IsReady ws kept s → s.text.items ≡ [] → s.refused ≡ false → s.edits ≡ [] → RunTo ws kept [] s
-run_first ws kept s ready text refused edits = record {
-  plans = [];
-  ready = ready;
-  text = text;
-  refused = refused;
-  edits = edits;
-  over = λ files agrees. (tt, tt, subst (λ (es : List Edit). Agrees ws kept es files) (sym edits) agrees);
-}
+-- so a batch without edits can begin
+pub run_first : (ws : WorkspaceValue) (s : Batching) → HasEachOnce s.analysis.value.table
+    → ((source : Source) → AreFound source s.analysis.value.table → analysis_of source ws ≡ Ok s.analysis.value) → s.edits ≡ [] → IsReady ws s
+run_first ws s once over none = (
+  kept_files s.analysis.value.table,
+  subst (λ (es : List Edit). analysis_of (source_of (with_edits es (kept_files s.analysis.value.table))) ws ≡ Ok s.analysis.value) (sym none)
+      (kept_over ws s.analysis.value once over),
+)
 
-pub run_all : (ws : WorkspaceValue) (kept files : FileMap) (lines : List LineValue) (a : AnalysisValue) (s : Batching) (b : Batched) (r : RunTo ws kept lines s)
-    → IsOver ws kept [] a → analysis_of (source_of files) ws ≡ Ok a → b.text.items ≡ s.text.items → b.refused ≡ s.refused → b.edits ≡ s.edits → IsKept s.edits
-    → IsRun ws files lines b r.plans
-run_all ws kept files lines a s b r over there text refused edits sound =
-    let behind = r.over files (a, over, there) in
+pub run_all : (ws : WorkspaceValue) (files : FileMap) (lines : List LineValue) (first s : Batching) (b : Batched) (r : RunTo ws first lines s)
+    → analysis_of (source_of files) ws ≡ Ok first.analysis.value → first.text.items ≡ [] → first.refused ≡ false → first.edits ≡ []
+    → b.text.items ≡ s.text.items → b.refused ≡ s.refused → b.edits ≡ s.edits → IsKept s.edits → IsRun ws files lines b r.plans
+run_all ws files lines first s b r there no_text no_refusal no_edits text refused edits sound =
+    let over : AreOf ws first files =
+    subst (λ (es : List Edit). analysis_of (source_of (with_edits es files)) ws ≡ Ok first.analysis.value) (sym no_edits) there in
+    let behind = r.over files over in
     record {
-      analysed = (a, there);
-      answers = behind.0;
-      keeps = behind.1;
-      text = text ∙ r.text;
-      refused = refused ∙ r.refused;
-      edits = edits ∙ r.edits;
+      analysed = (first.analysis.value, there);
+      answers = subst (λ (es : List Edit). IsBatch ws files es lines r.plans) no_edits behind.0;
+      keeps = subst (λ (es : List Edit). KeepsLines ws files es lines r.plans) no_edits behind.1;
+      text = text ∙ r.text ∙ ap (λ (xs : List ℕ). xs ++ flat_map plan_text r.plans) no_text;
+      refused = refused ∙ r.refused ∙ ap (λ (x : Bool). x || list_any is_refused r.plans) no_refusal;
+      edits = edits ∙ r.edits ∙ ap (λ (es : List Edit). after_each r.plans es) no_edits;
       sound = subst IsKept (sym edits) sound;
     }

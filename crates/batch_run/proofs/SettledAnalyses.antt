@@ -1,5 +1,5 @@
 -- No file that was found stays unopened where a workspace is analysed: so the files that an analysis keeps are all that it found.
-use Rattle.std.proofs.Common.{◌≡◌, ℕ, ◌+◌, Bool, true, false, ◌&&◌, ◌||◌, not, List, [], ◌∷◌, ◌++◌, Option, None, Some, Ok, Err, refl, sym, subst, ◌∙◌, inl, inr, arith}
+use Rattle.std.proofs.Common.{◌≡◌, ℕ, ◌+◌, Bool, true, false, ◌||◌, List, [], ◌∷◌, ◌++◌, Option, None, Some, Ok, Err, refl, sym, subst, ◌∙◌, inl, inr, arith}
 use Rattle.std.specs.List.{list_any}
 use Rattle.std.specs.Str.{bytes_eq}
 use Rattle.std.proofs.lemmas.Bool.{cases_Bool, or_parts, and_parts, not-true}
@@ -22,7 +22,6 @@ use Rattle.ws_core.proofs.Below.include_tree.StayLemmas.{Stays}
 use Rattle.ws_core.specs.Analysis.{UnitsValue, AnalysisValue, analysis_and, with_unit, unit_read, analysed_from, analysis_of}
 use Rattle.ws_core.specs.Texts.{UnitFault, unit_fault, unit_with}
 use Rattle.rename_edit.proofs.Below.analysis_laws.MadeLemmas.{ok_holds, done_first, unmapped}
-use Rattle.batch_run.specs.Keeping.{file_of, kept_files}
 use Rattle.batch_run.proofs.SettledTables.{IsSettled, AreSettled}
 use Rattle.batch_run.proofs.SettledWalk.{unit_settles}
 
@@ -58,6 +57,16 @@ analysis_settles source ws a e =
     (units_settle source 1 ws.units nothing_carried all.0 (tt, tt) all.1)
 
 -- ---- the files that are kept
+
+-- the file of a path with these bytes, if it has some
+abbrev pub file_of : List ℕ → Option (List ℕ) → FileMap
+file_of path None = []
+file_of path (Some bytes) = (path, bytes) ∷ []
+
+-- the kept files of a table
+abbrev pub kept_files : Table → FileMap
+kept_files [] = []
+kept_files (e ∷ table) = file_of e.path (kept_bytes e.found) ++ kept_files table
 
 turned : (p q : List ℕ) → bytes_eq p q ≡ false → bytes_eq q p ≡ false
 turned p q apart = elim (cases_Bool (bytes_eq q p)) [

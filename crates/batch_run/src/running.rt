@@ -1,5 +1,5 @@
 // A batch, line by line.
-ghost use Rattle.std.specs.Prelude.{◌≡◌, [], List, Ok, IfErr, IfOk, IfSome};
+ghost use Rattle.std.specs.Prelude.{◌≡◌, List, Ok, IfErr, IfOk, IfSome};
 ghost use Rattle.cs_base.specs.Outside.{FileMap, ReadsOnly};
 ghost use Rattle.ws_core.specs.Below.source_files.Files.{Source, source_of};
 ghost use Rattle.ws_core.specs.Below.source_files.Tables.{AreFound};
@@ -8,14 +8,14 @@ ghost use Rattle.ws_core.specs.Answers.{reads_of};
 ghost use Rattle.ws_core.specs.declared.analyse_fault.AnalyseFault.TheVariants.{Memory as no_memory};
 ghost use Rattle.batch_run.specs.Batch.{Plan};
 ghost use Rattle.batch_run.specs.Running.{IsRun, Runs};
-ghost use Rattle.batch_run.specs.Stepping.{RunTo};
+ghost use Rattle.batch_run.specs.Stepping.{IsReady, RunTo};
 
-use crate::keeping::kept_texts;
 use crate::stepping::{Batching, run_line};
 use batch_file::BatchLine;
 use cs_base::{Edits, Files, Memory};
-use edited_files::{KeptTexts, TextEdits};
+use edited_files::TextEdits;
 use std::alloc::Global;
+use std::mem;
 use ws_core::{AnalyseFault, Analysis, analyse};
 use ws_file::Workspace;
 
@@ -71,36 +71,44 @@ fn run_lines(
     requires { (source : Source) → AreFound source analysis.value.table → analysis_of source ws.now ≡ Ok analysis.value }
     ensures { IfOk result (λ b. (plans : List Plan) × ((files : FileMap) → analysis_of (source_of files) ws.now ≡ Ok analysis.value → IsRun ws.now files lines.now b plans)) }
 {
-    let kept = kept_texts(alloc, &analysis)?;
+    // Each path of the analysis has one number.
+    let _files = analysis.files();
     let state = Batching {
-        analysis: Some(analysis),
+        analysis,
         edits: TextEdits::new(alloc),
         text: Vec::new(alloc),
         refused: false,
     };
-    let state = each_line(alloc, ws, &kept, lines, state)?;
-    let edits = state.edits.edits(alloc)?;
+    let state = each_line(alloc, ws, lines, state)?;
+    let Batching {
+        analysis,
+        edits,
+        text,
+        refused,
+    } = state;
+    // To free an analysis piece by piece takes time, and no more is asked of it.
+    mem::forget(analysis);
+    let edits = edits.edits(alloc)?;
     Ok(Batched {
         edits,
-        text: state.text,
-        refused: state.refused,
+        text,
+        refused,
     })
 }
 
-// Each line, over the files that were read at the beginning.
+// Each line, from this beginning.
 fn each_line(
     alloc: Global,
     ws: &Workspace,
-    kept: &KeptTexts,
     lines: &[BatchLine],
     state: Batching,
 ) -> Result<Batching, Memory>
-    requires { RunTo ws.now kept.now [] state }
-    ensures { IfOk result (λ behind. RunTo ws.now kept.now lines.now behind) }
+    requires { IsReady ws.now state }
+    ensures { IfOk result (λ behind. RunTo ws.now state lines.now behind) }
 {
     let mut state = state;
     for line in lines {
-        state = run_line(alloc, ws, kept, line, state)?;
+        state = run_line(alloc, ws, line, state)?;
     }
     Ok(state)
 }

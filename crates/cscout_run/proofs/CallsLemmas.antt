@@ -21,7 +21,7 @@ use Rattle.calls_of.specs.Calls.{Call, call, calls_of}
 use Rattle.calls_of.specs.Graphs.{IsCallIn, IsGraphOf, node_cmp, nodes_of}
 use Rattle.calls_of.specs.Numbers.{edge_cmp}
 use Rattle.calls_of.proofs.NodeLemmas.{node_cmp-strict, edge_cmp-strict, before-less}
-use Rattle.cscout_run.proofs.AlikeLemmas.{AreIn, same_lists}
+use Rattle.batch_run.proofs.Below.kept_analysis.MemberLemmas.{AreIn, same_lists}
 
 -- ---- elements
 

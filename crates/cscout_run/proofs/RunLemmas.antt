@@ -37,7 +37,8 @@ use Rattle.calls_of.specs.Below.call_graphs.Graph.{GraphValue}
 use Rattle.calls_of.specs.Graphs.{calls_text}
 use Rattle.cscout_run.proofs.CallsLemmas.{one_graph}
 use Rattle.cscout_run.specs.Stopping.{Stops, stop_reads, status_of, line_of}
-use Rattle.cscout_run.proofs.AlikeLemmas.{one_found, one_list, one_named, one_unneeded, one_unused, renamings_once}
+use Rattle.batch_run.proofs.Below.kept_analysis.MemberLemmas.{one_list}
+use Rattle.cscout_run.proofs.AlikeLemmas.{one_found, one_named, one_unneeded, one_unused, renamings_once}
 use Rattle.cscout_run.proofs.LineLemmas.{batch-alike, same-answer}
 use Rattle.cscout_run.proofs.WorkspaceLemmas.{read_is_workspace}
 

@@ -37,10 +37,11 @@ use Rattle.cscout_run.specs.Answer.{Answer, IsTemplateAnswer, stopped, template_
 use Rattle.cscout_run.specs.declared.status.Status.TheVariants.{Refused}
 use Rattle.cscout_run.specs.Steps.{template_stop}
 use Rattle.cscout_run.specs.Stopping.{Stops}
+use Rattle.batch_run.proofs.Below.kept_analysis.MemberLemmas.{one_list}
 use Rattle.batch_run.proofs.Below.kept_meaning_laws.Below.no_offence_laws.LinkLemmas.{all_both, all_flat}
 use Rattle.batch_run.proofs.Below.kept_meaning_laws.Below.no_offence_laws.ListLemmas.{AllOf, all_at}
 use Rattle.batch_run.proofs.Below.kept_meaning_laws.RefusalLemmas.{firsts_are_tied}
-use Rattle.cscout_run.proofs.AlikeLemmas.{one_list, one_named, none_stands}
+use Rattle.cscout_run.proofs.AlikeLemmas.{one_named, none_stands}
 
 -- a refusal stops with its line
 pub template_stops : (ws : List ℕ) (q : TemplateValue) (value : AnalysisValue) (refusal : TemplateRefusal)

@@ -18,7 +18,11 @@ const BAD_UNIT: &str = "w.cs:file a.c\n@s:rename a.c 1 5 z\n@a.c:int if;\n";
 
 const NO_LINE: &str = "w.cs:file a.c\n@s:@a.c:int x;\n";
 
-pub const BATCHES: [Row; 11] = [
+// Two names of which a macro makes strings.
+const STRINGS: &str =
+    "w.cs:file a.c\n@s:rename a.c 3 5 counter strings\nrename a.c 3 14 key strings\n@a.c:#define S(v) put(#v, v)\nint put(char *s, int n);\nint c, k;\nint r(void) { return S(c) + S(k); }\n";
+
+pub const BATCHES: [Row; 12] = [
     // Each line is run on the files as the lines before left them.
     Row {
         files: ALPHA,
@@ -36,6 +40,15 @@ pub const BATCHES: [Row; 11] = [
         out: "edited a.c 1\ncscout: refused: a.c:1:5: occurs\ncscout: refused: no name\n",
         err: "",
         status: Status::Refused,
+    },
+    // The second place stands behind the longer name, and so do the strings that are made of both.
+    Row {
+        files: STRINGS,
+        words: "w.cs batch s",
+        after: "a.c:#define S(v) put(#v, v)\nint put(char *s, int n);\nint counter, key;\nint r(void) { return S(counter) + S(key); }\n",
+        out: "edited a.c 2\nedited a.c 2\n",
+        err: "",
+        status: Status::Done,
     },
     // A bad line comes before a unit's fault.
     Row {
