@@ -1,18 +1,15 @@
--- Where an edit stands among those of other paths, and what a path has.
-use Rattle.std.proofs.Common.{◌≡◌, ◌≤◌, ◌<◌, ◌+◌, ◌^◌, ℕ, zero, suc, Bool, true, false, List, [], ◌∷◌, length, get_or, set, insert, inl, inr, refl, sym, ap, subst, ◌∙◌, ltb, arith}
-use Rattle.std.specs.Prelude.{Some, None, IsUtf8, slice_get}
-use Rattle.std.specs.List.{position, position_or_len, prefix_len}
+-- Where an edit stands among those of other paths.
+use Rattle.std.proofs.Common.{◌≡◌, ◌≤◌, ◌<◌, ◌+◌, ◌^◌, ℕ, suc, Bool, true, false, List, [], ◌∷◌, length, set, insert, inl, inr, refl, sym, ap, subst, ◌∙◌, arith}
+use Rattle.std.specs.Prelude.{IsUtf8, slice_get}
+use Rattle.std.specs.List.{prefix_len}
 use Rattle.std.specs.Option.{option_map_or}
 use Rattle.std.specs.Str.{bytes_eq}
-use Rattle.std.proofs.lemmas.Bool.{cases_Bool, ltb-false}
+use Rattle.std.proofs.lemmas.Bool.{cases_Bool}
 use Rattle.std.proofs.lemmas.List.{length-map, length-set}
-use Rattle.std.proofs.lemmas.List.Quantifiers.{position-Some}
 use Rattle.cs_base.specs.Edit.{Edit, edit, comes_before, IsKept}
-use Rattle.cs_base.specs.Outside.{bytes_at}
-use Rattle.edited_files.specs.declared.kept_texts.KeptText.{KeptText}
 use Rattle.edited_files.specs.declared.text_edits.TextEdit.{TextEdit}
-use Rattle.edited_files.specs.Edited.{edit_at, with_edit}
-use Rattle.edited_files.specs.Fields.{edit_in, edits_in, files_in}
+use Rattle.edited_files.specs.Edited.{with_edit}
+use Rattle.edited_files.specs.Fields.{edit_in, edits_in}
 use Rattle.edited_files.proofs.OrderLemmas.{kept_with, len_with}
 
 -- ---- the place of an edit
@@ -106,69 +103,3 @@ kept_insert es seen x n path bytes same of with place there kept text few =
     let more = len_with (edit path bytes x.count) (edits_in es) in
     let few' : length (with_edit (edit path bytes x.count) (edits_in es)) < 2 ^ 32 = omega (arith, more, len_in es, few) in
     subst IsKept (sym is) (kept_with (edit path bytes x.count) (edits_in es) kept text few')
-
--- ---- what a path has
-
-abbrev pub of_path : List ℕ → TextEdit → Bool
-of_path path e = bytes_eq e.path path
-
-no_edit : (path : List ℕ) (es : List TextEdit) → length es ≤ position_or_len (of_path path) es → edit_at path (edits_in es) ≡ None
-unfolding edit_at
-no_edit path [] past = refl
-no_edit path (e ∷ es) past = elim (cases_Bool (bytes_eq e.path path)) [
-  | inl here ↦ let past' = rw here at past in absurd (omega arith)
-  | inr other ↦ let past' = rw other at past in rw other (no_edit path es (omega arith))
-]
-
-pub edit_at-None : (path : List ℕ) (es : List TextEdit) → position (of_path path) es ≡ None → edit_at path (edits_in es) ≡ None
-edit_at-None path es h = elim (cases_Bool (ltb (position_or_len (of_path path) es) (length es))) [
-  | inl within ↦ let h' = rw within at h in cc
-  | inr past ↦ no_edit path es (ltb-false (position_or_len (of_path path) es) (length es) past)
-]
-
-first_edit : (path : List ℕ) (es : List TextEdit) (k : ℕ) (d : TextEdit) → k < length es → of_path path (get_or es k d) ≡ true
-    → ((j : ℕ) → j < k → of_path path (get_or es j d) ≡ false) → edit_at path (edits_in es) ≡ Some (get_or es k d).bytes.items
-unfolding edit_at
-first_edit path [] k d within here before = absurd (omega arith)
-first_edit path (e ∷ es) zero d within here before = rw here refl
-first_edit path (e ∷ es) (suc k) d within here before =
-    let no : bytes_eq e.path path ≡ false = before 0 (omega arith) in
-    rw no (first_edit path es k d (omega arith) here (λ j below. before (suc j) (omega arith)))
-
-pub edit_at-Some : (path : List ℕ) (es : List TextEdit) (k : ℕ) (d : TextEdit) → position (of_path path) es ≡ Some k
-    → edit_at path (edits_in es) ≡ Some (get_or es k d).bytes.items
-edit_at-Some path es k d h =
-    let found = position-Some (of_path path) es k d h in
-    first_edit path es k d found.0 found.1 found.2
-
--- ---- what a path held
-
-abbrev pub holds_path : List ℕ → KeptText → Bool
-holds_path path f = bytes_eq f.path path
-
-no_file : (path : List ℕ) (fs : List KeptText) → length fs ≤ position_or_len (holds_path path) fs → bytes_at path (files_in fs) ≡ None
-no_file path [] past = refl
-no_file path (f ∷ fs) past = elim (cases_Bool (bytes_eq f.path path)) [
-  | inl here ↦ let past' = rw here at past in absurd (omega arith)
-  | inr other ↦ let past' = rw other at past in rw other (no_file path fs (omega arith))
-]
-
-pub bytes_at-None : (path : List ℕ) (fs : List KeptText) → position (holds_path path) fs ≡ None → bytes_at path (files_in fs) ≡ None
-bytes_at-None path fs h = elim (cases_Bool (ltb (position_or_len (holds_path path) fs) (length fs))) [
-  | inl within ↦ let h' = rw within at h in cc
-  | inr past ↦ no_file path fs (ltb-false (position_or_len (holds_path path) fs) (length fs) past)
-]
-
-first_file : (path : List ℕ) (fs : List KeptText) (k : ℕ) (d : KeptText) → k < length fs → holds_path path (get_or fs k d) ≡ true
-    → ((j : ℕ) → j < k → holds_path path (get_or fs j d) ≡ false) → bytes_at path (files_in fs) ≡ Some (get_or fs k d).bytes.items
-first_file path [] k d within here before = absurd (omega arith)
-first_file path (f ∷ fs) zero d within here before = rw here refl
-first_file path (f ∷ fs) (suc k) d within here before =
-    let no : bytes_eq f.path path ≡ false = before 0 (omega arith) in
-    rw no (first_file path fs k d (omega arith) here (λ j below. before (suc j) (omega arith)))
-
-pub bytes_at-Some : (path : List ℕ) (fs : List KeptText) (k : ℕ) (d : KeptText) → position (holds_path path) fs ≡ Some k
-    → bytes_at path (files_in fs) ≡ Some (get_or fs k d).bytes.items
-bytes_at-Some path fs k d h =
-    let found = position-Some (holds_path path) fs k d h in
-    first_file path fs k d found.0 found.1 found.2

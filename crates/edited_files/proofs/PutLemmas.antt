@@ -1,5 +1,5 @@
 -- What paths hold once edits are put: these and those before them.
-use Rattle.std.proofs.Common.{◌≡◌, ◌≤◌, ◌<◌, ◌+◌, ℕ, zero, suc, false, List, [], ◌∷◌, IsTrue, length, drop, get_or, inl, inr, refl, sym, subst, ◌∙◌, add-one, arith}
+use Rattle.std.proofs.Common.{◌≡◌, ◌≤◌, ◌<◌, ◌+◌, ℕ, zero, suc, false, if◌then◌else◌, List, [], ◌∷◌, IsTrue, length, drop, get_or, inl, inr, refl, sym, subst, ◌∙◌, add-one, arith}
 use Rattle.std.specs.Prelude.{Option, Some, None, All, IfSome, slice_get}
 use Rattle.std.specs.Str.{bytes_eq}
 use Rattle.std.proofs.lemmas.Bool.{cases_Bool}
@@ -9,13 +9,18 @@ use Rattle.std.proofs.lemmas.Option.{none-some, same_Some}
 use Rattle.cs_base.specs.Edit.{Edit, edit, comes_before, are_in_order, with_edits}
 use Rattle.cs_base.specs.Outside.{FileMap, bytes_at, with_file}
 use Rattle.cs_base.proofs.FileMapLemmas.{bytes_eq-same, bytes_eq-equal, bytes_at-with_file_other, bytes_at-with_edits, comes_before-apart, comes_before-are_in_order}
-use Rattle.edited_files.specs.Edited.{ArePut, edit_at, with_edit, with_each}
+use Rattle.edited_files.specs.Edited.{ArePut, with_edit, with_each}
 use Rattle.edited_files.proofs.OrderLemmas.{are_in_order-tail, before-apart, order_with}
 
 -- ---- what a path holds once edits are put
 
+-- the new bytes of a path, if an edit has it
+unfoldable edit_at : List ℕ → List Edit → Option (List ℕ)
+edit_at path [] = None
+edit_at path (e ∷ edits) = if bytes_eq e.path path then Some e.bytes else edit_at path edits
+
 -- its new bytes where an edit has it
-pub edit_there : (path bytes : List ℕ) (es : List Edit) (fs : FileMap) → IsTrue (are_in_order es) → edit_at path es ≡ Some bytes
+edit_there : (path bytes : List ℕ) (es : List Edit) (fs : FileMap) → IsTrue (are_in_order es) → edit_at path es ≡ Some bytes
     → bytes_at path (with_edits es fs) ≡ Some bytes
 unfolding edit_at
 edit_there path bytes [] fs sorted at = absurd (none-some bytes at)
@@ -28,7 +33,7 @@ edit_there path bytes (e ∷ es) fs sorted at = elim (cases_Bool (bytes_eq e.pat
 ]
 
 -- what it held where none has it
-pub edit_nowhere : (path : List ℕ) (es : List Edit) (fs : FileMap) → edit_at path es ≡ None → bytes_at path (with_edits es fs) ≡ bytes_at path fs
+edit_nowhere : (path : List ℕ) (es : List Edit) (fs : FileMap) → edit_at path es ≡ None → bytes_at path (with_edits es fs) ≡ bytes_at path fs
 unfolding edit_at
 edit_nowhere path [] fs at = refl
 edit_nowhere path (e ∷ es) fs at = elim (cases_Bool (bytes_eq e.path path)) [

@@ -1,8 +1,8 @@
 -- Edits by path, one for each, and the files that they leave (this project's own).
-use Rattle.std.specs.Prelude.{ℕ, ◌≡◌, false, List, [], ◌∷◌, Option, None, Some, All, slice_get, if◌then◌else◌}
+use Rattle.std.specs.Prelude.{ℕ, ◌≡◌, false, List, [], ◌∷◌, Some, All, slice_get, if◌then◌else◌}
 use Rattle.std.specs.Str.{bytes_eq}
-use Rattle.cs_base.specs.Edit.{Edit, comes_before, with_edits}
-use Rattle.cs_base.specs.Outside.{FileMap, FilesTold, files_told, bytes_at}
+use Rattle.cs_base.specs.Edit.{Edit, comes_before}
+use Rattle.cs_base.specs.Outside.{FileMap, bytes_at}
 
 -- the edits, in order of path, once this one is among them: an edit of its path goes
 unfoldable pub with_edit : Edit → List Edit → List Edit
@@ -16,16 +16,7 @@ unfoldable pub with_each : List Edit → List Edit → List Edit
 with_each [] edits = edits
 with_each (e ∷ es) edits = with_each es (with_edit e edits)
 
--- the new bytes of a path, if an edit has it
-unfoldable pub edit_at : List ℕ → List Edit → Option (List ℕ)
-edit_at path [] = None
-edit_at path (e ∷ edits) = if bytes_eq e.path path then Some e.bytes else edit_at path edits
-
 -- Between two moments these edits were put: each path of them holds its new bytes, and every other one what it held.
 pub record ArePut (edits : List Edit) (before now : FileMap) : Type 0 where
   pub each : (k : ℕ) (e : Edit) → slice_get edits k ≡ Some e → bytes_at e.path now ≡ Some e.bytes
   pub others : (path : List ℕ) → All (λ e. bytes_eq e.path path ≡ false) edits → bytes_at path now ≡ bytes_at path before
-
--- what files tell that edits change: none of their reads fails, and each put does
-abbrev pub edited_told : List Edit → FileMap → ℕ → FilesTold
-edited_told edits files puts = files_told (Some (with_edits edits files)) 0 puts None

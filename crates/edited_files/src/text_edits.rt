@@ -1,10 +1,10 @@
 // Edits by path, one for each.
-ghost use Rattle.std.specs.Prelude.{◌≡◌, ◌<◌, ◌^◌, [], false, IfOk, IsUtf8, OnOk, OnErr, length, slice_get, option_copied};
-ghost use Rattle.std.specs.List.{position, prefix_len};
+ghost use Rattle.std.specs.Prelude.{◌≡◌, ◌<◌, ◌^◌, [], false, IfOk, IsUtf8, OnOk, OnErr, length, slice_get};
+ghost use Rattle.std.specs.List.{prefix_len};
 ghost use Rattle.std.specs.Option.{option_map_or};
 ghost use Rattle.std.specs.Str.{bytes_eq};
 ghost use Rattle.cs_base.specs.Edit.{edit, comes_before, IsKept};
-ghost use Rattle.edited_files.specs.Edited.{edit_at, with_edit, with_each};
+ghost use Rattle.edited_files.specs.Edited.{with_edit, with_each};
 ghost use Rattle.edited_files.specs.Fields.{edits_in};
 
 use cs_base::{Edits, Memory, Text};
@@ -88,18 +88,6 @@ impl TextEdits {
         Ok(())
     }
 
-    /// The new bytes of the path: none exactly where no edit has it. Takes no memory.
-    pub fn bytes(&self, path: &[u8]) -> Option<&[u8]>
-        ensures answer { option_copied result ≡ edit_at path.now self.now }
-        ensures sound { IsKept self.now }
-    {
-        let edits = self.edits.as_slice();
-        match place_of(edits, path) {
-            Some(k) => Some(edits[k].bytes.as_slice()),
-            None => None,
-        }
-    }
-
     /// The edits, to be put.
     pub fn edits(&self, alloc: Global) -> Result<Edits, Memory>
         ensures answer { IfOk result (λ edits. edits ≡ self.now) }
@@ -141,13 +129,6 @@ fn has_path(edits: &[TextEdit], k: usize, path: &[u8]) -> bool
         Some(e) => e.path.bytes() == path,
         None => false,
     }
-}
-
-// The number of the edit of the path.
-fn place_of(edits: &[TextEdit], path: &[u8]) -> Option<usize>
-    ensures { result ≡ position (λ e. bytes_eq e.path path.now) edits.now }
-{
-    edits.iter().position(|e| e.path.bytes() == path)
 }
 
 // A path comes before another in the order of their bytes.
