@@ -1,15 +1,12 @@
 -- What is found in a file whose items are in a new order.
-use Rattle.std.proofs.Common.{◌≡◌, ℕ, zero, suc, ◌+◌, ◌-◌, ◌<◌, Bool, true, false, ◌&&◌, ◌==◌, nat_lt, cond, List, [], ◌∷◌, ◌++◌, length, take, drop, map, get_or, Some, None, inl, inr, refl, sym, ap, subst, ◌∙◌, arith, take-append-drop, length-take-le}
+use Rattle.std.proofs.Common.{◌≡◌, ℕ, zero, suc, ◌+◌, ◌-◌, ◌<◌, ◌≤◌, Bool, true, false, ◌==◌, nat_lt, cond, List, [], ◌∷◌, ◌++◌, length, take, drop, map, get_or, Some, None, refl, sym, ap, subst, ◌∙◌, arith, take-append-drop, length-take-le}
 use Rattle.std.specs.Prelude.{unwrap_or}
 use Rattle.std.specs.List.{position_or_len}
-use Rattle.std.proofs.lemmas.Bool.{cases_Bool, eq-eqb, lt-ltb}
+use Rattle.std.proofs.lemmas.Bool.{eq-eqb, lt-ltb}
 use Rattle.std.proofs.lemmas.List.{map-append, length-map, take-map, drop-map, get_or-map, get_or_default, same_lists}
 use Rattle.std.proofs.lemmas.List.Sums.{position_or_len_is}
-use Rattle.part_lexer.specs.Characters.{line_feed, slash, star, is_white, begins}
 use Rattle.part_lexer.specs.Logical.{Character, logical_of, spelling, line_at}
-use Rattle.part_lexer.specs.Tokens.{Found, FoundToken, FoundOpen, comment_end, piece_of, piece_length, leaves_gap, line_front_after, expects_header, found_in, found_from, found_of}
-use Rattle.part_lexer.proofs.LocalLemmas.{option-cases}
-use Rattle.part_lexer.proofs.PieceLocal.{token_piece-is}
+use Rattle.part_lexer.specs.Tokens.{Found, FoundToken, FoundOpen, piece_of, piece_length, leaves_gap, line_front_after, expects_header, found_in, found_from, found_of}
 use Rattle.list_cuts.specs.Cuts.{Cut, done, keep, list, Items, ended, item, count_of, span_of, extent_of, numbers, IsOrder, arranged, moved, AreOf, AreItemsOf}
 use Rattle.list_cuts.proofs.OrderLemmas.{length-numbers, get_or-numbers}
 use Rattle.list_cuts.proofs.CutLemmas.{arranged-map, length-arranged, arranged_permutes}
@@ -18,14 +15,17 @@ use Rattle.arranged_text_laws.specs.Settling.{Front}
 use Rattle.arranged_text_laws.specs.Marks.{file_front, line_start, before, Mark, mark, text, marks_from, marks_of, brought, with_labels}
 use Rattle.arranged_text_laws.specs.Seams.{kept}
 use Rattle.arranged_text_laws.specs.Weighed.{together, weighed, weighed_items}
+use Rattle.arranged_text_laws.specs.Outside.{SameOutside}
 use Rattle.arranged_text_laws.specs.Arranging.{character_cut, token_cut, moved_found, place_in, line_in, MayMove, FilesAreArranged}
 use Rattle.arranged_text_laws.proofs.OrderLemmas.{are_apart, apart_permuted, apart_at}
-use Rattle.arranged_text_laws.proofs.SeamLemmas.{spelled_arranged}
+use Rattle.arranged_text_laws.proofs.ElsewhereLemmas.{elsewhere, one_elsewhere}
+use Rattle.arranged_text_laws.proofs.OutsideLemmas.{lines, rows, length-lines, widths_rows, marks_lines, arranged_outside, lines_outside, beside_rows, beside_together, Known, marks_outside, brought_outside}
+use Rattle.arranged_text_laws.proofs.SeamLemmas.{length-kept, kept_arranged, spelled_arranged}
 use Rattle.arranged_text_laws.proofs.TokenLemmas.{TokensArranged, tokens_arranged}
 
 -- ---- the characters of a file
 
-text_marks : (bytes : List ℕ) (at : ℕ) (cs : List Character) → text (marks_from bytes at cs) ≡ spelling cs
+pub text_marks : (bytes : List ℕ) (at : ℕ) (cs : List Character) → text (marks_from bytes at cs) ≡ spelling cs
 unfolding marks_from
 text_marks bytes at [] = refl
 text_marks bytes at (c ∷ cs) = ap (λ (l : List ℕ). c.byte ∷ l) (text_marks bytes (at + 1) cs)
@@ -60,40 +60,14 @@ brought_found file bytes zero gap front at (c ∷ cs) =
     ∙ ap (λ (l : List Found). found_in file (line_at bytes c.offset) gap front at (c.byte ∷ spelling cs) P ++ l)
     (brought_found file bytes (piece_length (suc (length cs)) P - 1) (leaves_gap P) (line_front_after (c.byte ∷ spelling cs) front P) (at + 1) cs)
 
-file_found : (file : ℕ) (bytes : List ℕ) → together (brought file 0 true line_start (marks_of bytes)) ≡ found_of file bytes
+pub file_found : (file : ℕ) (bytes : List ℕ) → together (brought file 0 true line_start (marks_of bytes)) ≡ found_of file bytes
 file_found file bytes = brought_found file bytes 0 true line_start 0 (logical_of bytes) ∙ sym (file_front.1 file bytes)
 
 -- ---- characters elsewhere
 
--- a character with another number and another line
-abbrev elsewhere : (ℕ → ℕ) → (ℕ → ℕ) → Mark → Mark
-elsewhere place line m = mark m.byte (place m.at) (line m.at)
-
 text_elsewhere : (place line : ℕ → ℕ) (ms : List Mark) → text (map (elsewhere place line) ms) ≡ text ms
 text_elsewhere place line [] = refl
 text_elsewhere place line (m ∷ ms) = ap (λ (l : List ℕ). m.byte ∷ l) (text_elsewhere place line ms)
-
-one_elsewhere : (place line : ℕ → ℕ) (file was : ℕ) (gap : Bool) (front : Front) (at : ℕ) (chars : List ℕ) (header : Bool) (c : ℕ) (cs : List ℕ)
-    → found_in file (line at) gap front (place at) chars (piece_of header c cs)
-    ≡ map (moved_found place line) (found_in file was gap front at chars (piece_of header c cs))
-unfolding piece_of
-one_elsewhere place line file was gap front at chars header c cs =
-    elim (cases_Bool (c == line_feed)) [
-      | inl ends_here ↦ rw ends_here refl
-      | inr on ↦ elim (cases_Bool (is_white c)) [
-        | inl white ↦ rw (on, white) refl
-        | inr dark ↦ elim (cases_Bool (c == slash && begins slash cs)) [
-          | inl comment ↦ rw (on, dark, comment) refl
-          | inr no_line ↦ elim (cases_Bool (c == slash && begins star cs)) [
-            | inl block ↦ elim (option-cases (comment_end (drop 1 cs))) [
-              | inl open_still ↦ rw (on, dark, no_line, block, open_still) refl
-              | inr closed ↦ rw (on, dark, no_line, block, closed.1) refl
-            ]
-            | inr no_block ↦ rw (on, dark, no_line, no_block, token_piece-is header c cs) refl
-          ]
-        ]
-      ]
-    ]
 
 brought_elsewhere : (place line : ℕ → ℕ) (file skip : ℕ) (gap : Bool) (front : Front) (ms : List Mark)
     → brought file skip gap front (map (elsewhere place line) ms) ≡ map (map (moved_found place line)) (brought file skip gap front ms)
@@ -208,7 +182,7 @@ count_weighed (item n c gap more) ws = let rest = count_weighed more (drop (n + 
 mutual
   unfolding weighed weighed_items
 
-  of_weighed : (m : ℕ) (c : Cut) (ws : List ℕ) → AreOf m c → AreOf m (weighed c ws)
+  pub of_weighed : (m : ℕ) (c : Cut) (ws : List ℕ) → AreOf m c → AreOf m (weighed c ws)
   of_weighed m done ws all = tt
   of_weighed m (keep n c) ws all = of_weighed m c (drop n ws) all
   of_weighed m (list is c) ws all = (count_weighed is ws ∙ all.0, items_of_weighed m is ws all.1, of_weighed m c (drop (span_of is) ws) all.2)
@@ -221,7 +195,7 @@ labels_stay : (place line : ℕ → ℕ) (f : Found) → with_labels false false
 labels_stay place line (FoundToken t first) = refl
 labels_stay place line (FoundOpen at) = refl
 
-texts_arranged : (m : ℕ) (order : List ℕ) (c : Cut) (bytes : List ℕ) → IsOrder m order → AreOf m c → MayMove c bytes
+pub texts_arranged : (m : ℕ) (order : List ℕ) (c : Cut) (bytes : List ℕ) → IsOrder m order → AreOf m c → MayMove c bytes
     → text (marks_of (arranged order c bytes)) ≡ arranged order (character_cut c bytes) (text (marks_of bytes))
 texts_arranged m order c bytes is all may =
     let n = extent_of c in
@@ -244,6 +218,78 @@ tokens_of_file m order c file bytes is all may =
     (take-append-drop n (marks_of bytes))
     (tokens_arranged m order is file (before true true) cc (take n (marks_of bytes)) (drop n (marks_of bytes)) may.end all (rw long (omega arith)) may.settles may.stop)
 
+-- ---- outside of lists
+
+kept_of_file : (m : ℕ) (order : List ℕ) (c : Cut) (bytes : List ℕ) → IsOrder m order → AreOf m c → MayMove c bytes
+    → kept 0 (arranged order c bytes) ≡ arranged order c (kept 0 bytes)
+kept_of_file m order c bytes is all may =
+    let n = extent_of c in
+    let long : length (take n bytes) ≡ n = length-take-le n bytes may.within in
+    subst (λ (b : List ℕ). kept 0 (arranged order c b) ≡ arranged order c (kept 0 b)) (take-append-drop n bytes)
+    (kept_arranged m order is c (take n bytes) (drop n bytes) all (rw long (omega arith)) may.seams may.more)
+
+lines_of_marks : (bytes : List ℕ) → map (λ (x : Mark). x.line) (marks_of bytes) ≡ together (rows (kept 0 bytes) (lines 1 bytes))
+unfolding logical_of
+lines_of_marks bytes = marks_lines bytes 0 0 0 bytes refl
+
+lines_of_file : (m : ℕ) (order : List ℕ) (c : Cut) (bytes : List ℕ) → IsOrder m order → AreOf m c → MayMove c bytes
+    → SameOutside (character_cut c bytes) (map (λ (x : Mark). x.line) (marks_of (arranged order c bytes))) (map (λ (x : Mark). x.line) (marks_of bytes))
+lines_of_file m order c bytes is all may =
+    let news = arranged order c bytes in
+    let K = kept 0 bytes in
+    let size : length (lines 1 bytes) ≡ length K = length-lines 1 bytes ∙ sym (length-kept 0 bytes) in
+    let size2 : length (lines 1 news) ≡ length K = length-lines 1 news ∙ length-arranged m order c bytes is all ∙ sym (length-kept 0 bytes) in
+    let near = beside_rows m order c K (lines 1 bytes) (lines 1 news) is all (rw (length-kept 0 bytes) may.within) size size2 (lines_outside m order c 1 bytes is all may.within) in
+    let same = beside_together c (rows (arranged order c K) (lines 1 news)) (rows K (lines 1 bytes)) near in
+    let cut : weighed c (map length (rows K (lines 1 bytes))) ≡ character_cut c bytes = ap (weighed c) (widths_rows K (lines 1 bytes) size) in
+    rw (lines_of_marks news, lines_of_marks bytes, kept_of_file m order c bytes is all may, ← cut) same
+
+-- what is known of the places and lines of a file
+known_file : (m : ℕ) (order : List ℕ) (c : Cut) (bytes : List ℕ) → IsOrder m order → AreOf m (character_cut c bytes)
+    → length (marks_of (arranged order c bytes)) ≡ length (marks_of bytes)
+    → Known (place_in order c bytes) (line_in order c bytes) 0 (marks_of bytes) (arranged order (character_cut c bytes) (numbers 0 (length (marks_of bytes))))
+    (map (λ (x : Mark). x.line) (marks_of (arranged order c bytes)))
+known_file m order c bytes is all long =
+    let cc = character_cut c bytes in
+    let n = length (marks_of bytes) in
+    let news = marks_of (arranged order c bytes) in
+    record {
+      many_numbers = length-arranged m order cc (numbers 0 n) is all ∙ length-numbers n 0;
+      many_lines = length-map news (λ (x : Mark). x.line) ∙ long;
+      places = λ j lt. moved_back n m order cc j is all lt ∙ omega arith;
+      lined = λ j x lt there.
+          let at : place_in order c bytes x ≡ j = there ∙ omega arith in
+          ap (λ (k : ℕ). (get_or news k (mark 0 0 0)).line) at ∙ sym (get_or-map (λ (y : Mark). y.line) news j (mark 0 0 0) 0 (rw long lt));
+      own = λ j d lt.
+          sym (get_or-map (λ (y : Mark). y.at) (marks_of bytes) j d 0 lt) ∙ ap (λ (l : List ℕ). get_or l j 0) (numbers_marks bytes 0 (logical_of bytes))
+          ∙ get_or-numbers n 0 j 0 lt;
+    }
+
+-- what is found outside of lists stays
+found_outside : (m : ℕ) (order : List ℕ) (c : Cut) (file : ℕ) (bytes : List ℕ) → IsOrder m order → AreOf m c → AreOf m (character_cut c bytes) → MayMove c bytes
+    → SameOutside (token_cut file (character_cut c bytes) bytes) (map (moved_found (place_in order c bytes) (line_in order c bytes)) (found_of file bytes)) (found_of file bytes)
+found_outside m order c file bytes is all allc may =
+    let cc = character_cut c bytes in
+    let place = place_in order c bytes in
+    let line = line_in order c bytes in
+    let ms = marks_of bytes in
+    let g = moved_found place line in
+    let B = brought file 0 true line_start ms in
+    let texts = texts_arranged m order c bytes is all may in
+    let long : length (marks_of (arranged order c bytes)) ≡ length ms =
+    sym (length-map (marks_of (arranged order c bytes)) (λ (x : Mark). x.byte)) ∙ ap length texts ∙ length-arranged m order cc (text ms) is allc ∙ length-map ms (λ (x : Mark). x.byte) in
+    let size : length (numbers 0 (length ms)) ≡ length ms = length-numbers (length ms) 0 in
+    let inside : extent_of cc ≤ length (numbers 0 (length ms)) = rw size may.inside in
+    let ats : SameOutside cc (arranged order cc (numbers 0 (length ms))) (map (λ (x : Mark). x.at) ms) =
+    rw (numbers_marks bytes 0 (logical_of bytes)) (arranged_outside m order cc (numbers 0 (length ms)) is allc inside) in
+    let same = marks_outside place line cc 0 ms (arranged order cc (numbers 0 (length ms))) (map (λ (x : Mark). x.line) (marks_of (arranged order c bytes)))
+    may.inside (known_file m order c bytes is allc long) ats (lines_of_file m order c bytes is all may) in
+    let near = beside_together cc (map (map g) B) B (brought_outside place line file cc 0 true line_start ms same) in
+    let found = file_found file bytes in
+    let moved : together (map (map g) B) ≡ map g (found_of file bytes) = together-map g B ∙ ap (map g) found in
+    subst (λ (l : List Found). SameOutside (token_cut file cc bytes) l (found_of file bytes)) moved
+    (subst (λ (l : List Found). SameOutside (token_cut file cc bytes) (together (map (map g) B)) l) found near)
+
 pub files_are_arranged : FilesAreArranged
 files_are_arranged = λ m order c file bytes is all may.
     let cc = character_cut c bytes in
@@ -265,4 +311,5 @@ files_are_arranged = λ m order c file bytes is all may.
           masked-map h g (labels_stay (place_in order c bytes) (line_in order c bytes)) tc T.found ∙ ap (map g) T.alike
           ∙ sym (masked-map h g (labels_stay (place_in order c bytes) (line_in order c bytes)) tc (together olds))
           ∙ ap (λ (fs : List Found). masked h tc (map g fs)) (file_found file bytes);
+      outside = found_outside m order c file bytes is all allc may;
     }

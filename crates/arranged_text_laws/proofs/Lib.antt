@@ -11,5 +11,11 @@ pub mod MarkLemmas
 pub mod WeighedLemmas
 pub mod SeamLemmas
 pub mod TokenLemmas
+pub mod ElsewhereLemmas
+pub mod OutsideLemmas
 pub mod FileLemmas
 pub mod ArrangedRows
+pub mod ViewLemmas
+pub mod CalmLemmas
+pub mod LeadLemmas
+pub mod TokenLaw

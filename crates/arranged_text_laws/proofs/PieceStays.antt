@@ -124,11 +124,11 @@ quote-point c h = grind (arith, nat_tests)
 l-nondigit : (c : ℕ) → (c == capital_l) ≡ true → is_nondigit c ≡ true
 l-nondigit c h = grind (arith, nat_tests)
 
-plain-quote : (c : ℕ) (cs : List ℕ) → is_quote c ≡ true → plain_front c cs ≡ unwrap_or {T = Kind × ℕ} (quoted_front c cs) (Other, 0)
+pub plain-quote : (c : ℕ) (cs : List ℕ) → is_quote c ≡ true → plain_front c cs ≡ unwrap_or {T = Kind × ℕ} (quoted_front c cs) (Other, 0)
 unfolding plain_front
 plain-quote c cs h = rw (quote-nondigit c h, quote-digit c h, quote-point c h, h) refl
 
-plain-wide : (c q : ℕ) (ds : List ℕ) → (c == capital_l && is_quote q) ≡ true
+pub plain-wide : (c q : ℕ) (ds : List ℕ) → (c == capital_l && is_quote q) ≡ true
     → plain_front c (q ∷ ds) ≡ unwrap_or {T = Kind × ℕ} (option_map (λ n. (quoted_kind q, n + 1)) (quoted q ds)) (Ident, prefix_len is_word (q ∷ ds))
 unfolding plain_front
 plain-wide c q ds wide =

@@ -187,7 +187,7 @@ mutual
 mutual
   unfolding masked masked_items span_of
 
-  masked_same : {Y : Type 0} (c : Cut) (ys : List Y) → masked (λ y. y) c ys ≡ ys
+  pub masked_same : {Y : Type 0} (c : Cut) (ys : List Y) → masked (λ y. y) c ys ≡ ys
   masked_same done ys = refl
   masked_same (keep n c) ys = ap (λ (l : List _). take n ys ++ l) (masked_same c (drop n ys)) ∙ take-append-drop n ys
   masked_same (list is c) ys =

@@ -184,7 +184,7 @@ header_length_line c (x ∷ xs) ys zs h = rw (header_line (header_close c) (x �
 
 -- ---- what closes in a text closes there, whatever follows
 
-one_more-some : (x : Option ℕ) (j : ℕ) → one_more x ≡ Some j → (i : ℕ) × (x ≡ Some i) × (j ≡ i + 1)
+pub one_more-some : (x : Option ℕ) (j : ℕ) → one_more x ≡ Some j → (i : ℕ) × (x ≡ Some i) × (j ≡ i + 1)
 one_more-some None j is = absurd cc
 one_more-some (Some i) j is = (i, refl, cc)
 

@@ -24,7 +24,7 @@ total-append [] ys = omega arith
 total-append (x ∷ xs) ys = let rest = total-append xs ys in omega (arith, rest)
 
 -- the first elements bring the first of what is brought
-cut_together : {X : Type 0} (n : ℕ) (xss : List (List X))
+pub cut_together : {X : Type 0} (n : ℕ) (xss : List (List X))
     → (take (total (take n (widths xss))) (together xss) ≡ together (take n xss)) × (drop (total (take n (widths xss))) (together xss) ≡ together (drop n xss))
 cut_together n xss =
     let A = together (take n xss) in
@@ -52,7 +52,7 @@ picked_together (k ∷ order) items =
 total_both : (n m : ℕ) (ws : List ℕ) → total (take (n + m) ws) ≡ total (take n ws) + total (take m (drop n ws))
 total_both n m ws = ap total (take-add n m ws) ∙ total-append (take n ws) (take m (drop n ws))
 
-span_weighed : (is : Items) (ws : List ℕ) → span_of (weighed_items is ws) ≡ total (take (span_of is) ws)
+pub span_weighed : (is : Items) (ws : List ℕ) → span_of (weighed_items is ws) ≡ total (take (span_of is) ws)
 unfolding weighed_items span_of
 span_weighed ended ws = refl
 span_weighed (item n c gap more) ws =

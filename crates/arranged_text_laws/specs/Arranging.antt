@@ -7,6 +7,7 @@ use Rattle.part_lexer.specs.Tokens.{Found, FoundToken, FoundOpen, found_of}
 use Rattle.list_cuts.specs.Cuts.{Cut, extent_of, IsOrder, arranged, moved, AreOf}
 use Rattle.arranged_text_laws.specs.Labels.{starts, masked}
 use Rattle.arranged_text_laws.specs.Settling.{begins_stop}
+use Rattle.arranged_text_laws.specs.Outside.{SameOutside}
 use Rattle.arranged_text_laws.specs.Marks.{line_start, Before, before, mark, text, marks_of, brought, with_labels}
 use Rattle.arranged_text_laws.specs.Along.{SettlesAlong}
 use Rattle.arranged_text_laws.specs.Seams.{kept, is_some_byte, SeamsAlong}
@@ -47,13 +48,15 @@ pub record MayMove (c : Cut) (bytes : List ℕ) : Type 0 where
   pub stop : begins_stop (text (drop (extent_of (character_cut c bytes)) (marks_of bytes))) ≡ true
 
 -- What is found in the file with its items in the new order: it stands where it went, and else is as it was, but that white
--- space may stand before the first of an item, and that it may be the first of its line.
+-- space may stand before the first of an item, and that it may be the first of its line. Outside of lists all stays.
 pub record FileArranged (order : List ℕ) (c : Cut) (file : ℕ) (bytes : List ℕ) : Type 0 where
   pub new : List Found
   pub found : found_of file (arranged order c bytes) ≡ arranged order (token_cut file (character_cut c bytes) bytes) new
   pub alike : masked (with_labels false false) (token_cut file (character_cut c bytes) bytes) new
       ≡ masked (with_labels false false) (token_cut file (character_cut c bytes) bytes)
       (map (moved_found (place_in order c bytes) (line_in order c bytes)) (found_of file bytes))
+  pub outside : SameOutside (token_cut file (character_cut c bytes) bytes)
+      (map (moved_found (place_in order c bytes) (line_in order c bytes)) (found_of file bytes)) (found_of file bytes)
 
 -- The law.
 abbrev pub FilesAreArranged : Type 0

@@ -7,4 +7,7 @@ pub mod Marks
 pub mod Along
 pub mod Weighed
 pub mod Seams
+pub mod Outside
 pub mod Arranging
+pub mod Calm
+pub mod Tokens
