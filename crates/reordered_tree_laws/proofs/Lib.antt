@@ -25,5 +25,7 @@ mod MovedLeaving
 mod MovedWalk
 mod MovedResult
 mod MovedPlaces
+mod MovedHeads
 mod MovedOrders
 mod MovedUnits
+mod OnlyAdding

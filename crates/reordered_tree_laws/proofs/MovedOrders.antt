@@ -1,9 +1,9 @@
 -- A unit whose lists are in a new order binds alike, where each list does.
 use Rattle.std.proofs.Common.{ℕ, zero, suc, ◌+◌, ◌<◌, ◌≤◌, ◌≡◌, Bool, true, false, ◌&&◌, ◌||◌, not, if◌then◌else◌, ◌==◌, List, [], length, inl, inr, refl, sym, ap, subst, ◌∙◌, arith, append-nil}
-use Rattle.std.specs.Prelude.{nat_lt, IsPermutation}
+use Rattle.std.specs.Prelude.{nat_lt}
 use Rattle.std.specs.Option.{option_map}
 use Rattle.std.proofs.lemmas.Bool.{false≢true, cases_Bool, ltb-true, ltb-false, and_parts}
-use Rattle.std.proofs.lemmas.List.Sorted.{length_permutation, sum_by-IsPermutation}
+use Rattle.std.proofs.lemmas.List.Sorted.{sum_by-IsPermutation}
 use Rattle.tree_laws.specs.Below.cs_base.Token.{Token}
 use Rattle.tree_laws.specs.Below.c99_tree.Tree.{Forest, none, token, node}
 use Rattle.tree_laws.specs.Below.c99_tree.declared.production.Label.{Label}
@@ -20,21 +20,21 @@ use Rattle.tree_laws.specs.TreesOfTexts.{token_count, AreFrom, begins_with_token
 use Rattle.tree_laws.proofs.Renaming.{Good}
 use Rattle.tree_laws.proofs.RenamedWalk.{walked_back}
 use Rattle.tree_laws.proofs.RenamedSteps.{left_back}
-use Rattle.list_cuts.specs.Cuts.{Cut, done, numbers, arranged, IsOrder, AreOf}
-use Rattle.list_cuts.proofs.CutLemmas.{arranged_permutes}
+use Rattle.list_cuts.specs.Cuts.{done, numbers, IsOrder, AreOf}
 use Rattle.reordered_tree_laws.specs.Reordered.{shuffled, is_parenthesised, is_among, permuted, leaves, numbered}
-use Rattle.reordered_tree_laws.specs.Cuts.{cut_then, list_then}
+use Rattle.reordered_tree_laws.specs.Cuts.{cut_then}
 use Rattle.reordered_tree_laws.specs.Seen.{AreSeenAlike}
 use Rattle.reordered_tree_laws.specs.Premises.{is_items, is_spaced, is_bracketed, has_outer_list, is_fit_child, is_fit}
 use Rattle.reordered_tree_laws.specs.Moving.{StatesGo, AreMovedTexts, AreMovedTo}
 use Rattle.reordered_tree_laws.specs.Gathering.{ListsGo}
-use Rattle.reordered_tree_laws.proofs.Arranged.{length-leaves, leaves-cut, rest_all, cut_all}
+use Rattle.reordered_tree_laws.proofs.Arranged.{cut_all}
 use Rattle.reordered_tree_laws.proofs.Seen.{orders_not_seen}
 use Rattle.reordered_tree_laws.proofs.MovedTrees.{AreSeenMoved, AreSpans, seen_numbered, typed_same, last_at, no_last}
 use Rattle.reordered_tree_laws.proofs.MovedFacts.{same_number}
 use Rattle.reordered_tree_laws.proofs.MovedTokens.{token_goes}
 use Rattle.reordered_tree_laws.proofs.MovedEntering.{ArePlaced, entered_moves}
 use Rattle.reordered_tree_laws.proofs.MovedLeaving.{DeclaresAt, left_moves}
+use Rattle.reordered_tree_laws.proofs.MovedHeads.{cut_front, leaves_permute, count_permuted, heads_stay}
 use Rattle.reordered_tree_laws.proofs.MovedPlaces.{bit, hit, hits, hits-sum, hits-append, hits-once, hits-before, hits-behind, leaves-numbers}
 use Rattle.reordered_tree_laws.proofs.MovedWalk.{count_numbered, from_numbered, begins_some, name_some, IsFitNode, fit_child, fit_shape, or_not, frames_further, at_places, forgotten}
 
@@ -47,20 +47,6 @@ pub record AreReordered (m : ℕ → ℕ) (outer : Bool) (lo there : ℕ) (under
   pub begins : begins_with_token under ≡ true → m lo ≡ there
 
 module _ (m : ℕ → ℕ) (old new : List Token) (law : AreMovedTexts m old new) (order : List ℕ) (lists : ℕ → Bool) (is : IsOrder (length order) order) where
-  -- ---- Tokens
-
-  leaves_permute : (b : Bool) (f : Forest) → AreOf (length order) (cut_then lists b f done) → IsPermutation (leaves f) (leaves (permuted order lists b f))
-  unfolding arranged
-  leaves_permute b f each =
-      let c : Cut = cut_then lists b f done in
-      let same : arranged order c (leaves f) ≡ leaves (permuted order lists b f) =
-      ap (λ (xs : List ℕ). arranged order c xs) (sym (append-nil (leaves f))) ∙ (leaves-cut order lists b f done [] each ∙ append-nil (leaves (permuted order lists b f))) in
-      subst (λ (xs : List ℕ). IsPermutation (leaves f) xs) same (arranged_permutes (length order) order c (leaves f) is each)
-
-  pub count_permuted : (b : Bool) (f : Forest) → AreOf (length order) (cut_then lists b f done) → token_count (permuted order lists b f) ≡ token_count f
-  count_permuted b f each =
-      sym (length-leaves (permuted order lists b f)) ∙ (length_permutation (leaves f) (leaves (permuted order lists b f)) (leaves_permute b f each) ∙ length-leaves f)
-
   -- ---- Places
 
   split_hits : (x a b from : ℕ) → hits x (numbers from (a + b)) ≡ hits x (numbers from a) + hits x (numbers (from + a) b)
@@ -108,12 +94,12 @@ module _ (m : ℕ → ℕ) (old new : List Token) (law : AreMovedTexts m old new
   spans_permuted b f lo there each a w =
       let g : Forest = permuted order lists b f in
       let n : ℕ = token_count f in
-      let count : token_count g ≡ n = count_permuted b f each in
+      let count : token_count g ≡ n = count_permuted order lists is b f each in
       let numbered_leaves : leaves f ≡ numbers lo n =
       sym (append-nil (leaves f)) ∙ (leaves-numbers f lo [] 0 a (none_left (lo + n)) ∙ ap (numbers lo) (omega arith)) in
       let same : (k : ℕ) → hits k (numbers lo n) ≡ hits (m k) (numbers there n) = λ k.
       ap (hits k) (sym numbered_leaves)
-      ∙ (hits-sum k (leaves f) ∙ (sym (sum_by-IsPermutation (hit k) (leaves f) (leaves g) (leaves_permute b f each)) ∙ (sym (hits-sum k (leaves g))
+      ∙ (hits-sum k (leaves f) ∙ (sym (sum_by-IsPermutation (hit k) (leaves f) (leaves g) (leaves_permute order lists is b f each)) ∙ (sym (hits-sum k (leaves g))
       ∙ (moved_hits g there k w ∙ ap (λ (x : ℕ). hits (m k) (numbers there x)) count)))) in
       record {
         over = λ k low high. below_or n there (m k) (sym (same k) ∙ hits-once n lo k low high);
@@ -124,7 +110,7 @@ module _ (m : ℕ → ℕ) (old new : List Token) (law : AreMovedTexts m old new
       → AreMovedTo m there (permuted order lists b f) → ArePlaced m lo there (token_count f) f (numbered there (permuted order lists b f))
   placed_permuted b f lo there each a w =
       let g : Forest = permuted order lists b f in
-      let count : token_count (numbered there g) ≡ token_count f = count_numbered g there ∙ count_permuted b f each in
+      let count : token_count (numbered there g) ≡ token_count f = count_numbered g there ∙ count_permuted order lists is b f each in
       record {
         spans = spans_permuted b f lo there each a w;
         here = λ x some. last_at f lo x a some;
@@ -243,25 +229,6 @@ module _ (m : ℕ → ℕ) (old new : List Token) (law : AreMovedTexts m old new
       keeps any l s t s' t' (frames_further m old new law own keeps lo there (token_count under) s.frame t.frame k.frame) k' fit.parts
       (declares_at l.production l outer lo there under over r form fit.member) fit.fronts fit.typed fit.names w
 
-  -- ---- Cuts
-
-  list_front : (f : Forest) (c d : Cut) → AreOf (length order) (list_then lists f c) → AreOf (length order) d → AreOf (length order) (list_then lists f d)
-  list_front none c d all h = h
-  list_front (token i rest) c d all h = list_front rest c d all h
-  list_front (node l first under rest) c d all h = (all.0, all.1, h)
-
-  cut_front : (b : Bool) (f : Forest) (c d : Cut) → AreOf (length order) (cut_then lists b f c) → AreOf (length order) d → AreOf (length order) (cut_then lists b f d)
-  cut_front true none c d all h = h
-  cut_front false none c d all h = h
-  cut_front true (token i rest) c d all h = cut_front true rest c d all h
-  cut_front false (token i rest) c d all h = cut_front false rest c d all h
-  cut_front true (node l first under rest) c d all h =
-      list_front under (cut_then lists true rest c) (cut_then lists true rest d) all
-      (cut_front true rest c d (rest_all order lists under (cut_then lists true rest c) all) h)
-  cut_front false (node l first under rest) c d all h =
-      cut_front (is_among lists l under) under (cut_then lists false rest c) (cut_then lists false rest d) all
-      (cut_front false rest c d (cut_all order lists (is_among lists l under) under (cut_then lists false rest c) all) h)
-
   -- ---- The walk
 
   no_declarator : (p : Production) (a : ℕ) → ((ghosts.eq p Post && (a == 2)) || (ghosts.eq p Suffix && (a == 2))) ≡ true → ghosts.eq p Declarator ≡ false
@@ -336,11 +303,11 @@ module _ (m : ℕ → ℕ) (old new : List Token) (law : AreMovedTexts m old new
       let fs = and_parts (has_form l.production under) (have_forms under && have_forms rest) forms in
       let gs = and_parts (have_forms under) (have_forms rest) fs.1 in
       let fit : IsFitNode s.frame.label own s.frame.nth s.frame.scope keeps l under = fit_child lists s.frame.label own s.frame.nth s.frame.scope keeps l under p.0 in
-      let here : AreOf (length order) (cut_then lists b under done) = cut_front b under (cut_then lists false rest done) done each tt in
+      let here : AreOf (length order) (cut_then lists b under done) = cut_front order lists b under (cut_then lists false rest done) done each tt in
       let later : AreOf (length order) (cut_then lists false rest done) = cut_all order lists b under (cut_then lists false rest done) each in
       let step : IsStep keeps lo there l under s b =
-      step_of keeps lo there l under s b refl (fit_shape lists s.frame.label own s.frame.nth s.frame.scope keeps l under p.0) go.2 here a.1 w.0 in
-      let count : token_count g ≡ n = count_permuted b under here in
+      step_of keeps lo there l under s b refl (fit_shape lists s.frame.label own s.frame.nth s.frame.scope keeps l under p.0) (heads_stay order lists under l false 0 (scope_in l.production l under s.frame.scope) keeps q.0) here a.1 w.0 in
+      let count : token_count g ≡ n = count_permuted order lists is b under here in
       let s1 : State = entered old l lo under s in
       let t1 : State = entered new l there over t in
       let s2 : State = left old l lo under s (walked old under s1) in
@@ -364,7 +331,7 @@ module _ (m : ℕ → ℕ) (old new : List Token) (law : AreMovedTexts m old new
       subst (λ (x : ℕ). AreMovedTo m (there + x) (permuted order lists false rest)) count w.1 in
       let last : StatesGo m old new false false (lo + n + token_count rest) (there + n + token_count rest) (walked old rest s2)
       (walked new (numbered (there + n) (permuted order lists false rest)) t2) =
-      walk_lists rest own any (lo + n) (there + n) s2 t2 a.2 w1 gs.1 q.1 later go.3
+      walk_lists rest own any (lo + n) (there + n) s2 t2 a.2 w1 gs.1 q.1 later go.2
       (subst (λ (x : ℕ). Clean (walked old rest (left old l x under s (walked old under (entered old l x under s))))) a.0 clean)
       (node_leaves own keeps any step.outer lo there l under over s t (walked old under s1) (walked new over t1) step.reordered fs.0 fit k inside step.behind) in
       let placed : StatesGo m old new false false (lo + (n + token_count rest)) (there + (n + token_count rest)) (walked old rest s2)

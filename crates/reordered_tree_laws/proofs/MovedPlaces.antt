@@ -185,7 +185,7 @@ module _ (n : ℕ) (order : List ℕ) (c : Cut) (is : IsOrder (length order) ord
       let e : m x ≡ place_in x all = of-some all x w.within in
       (omega (arith, e, w.within, long), ap (λ (k : ℕ). get_or all k 0) e ∙ w.there)
 
-  moved-beyond : (x : ℕ) → n ≤ x → m x ≡ x
+  pub moved-beyond : (x : ℕ) → n ≤ x → m x ≡ x
   moved-beyond x more = of-none all x (hits-all x ∙ hits-behind n 0 x (omega (arith, more)))
 
   moved-apart : (i j : ℕ) → m i ≡ m j → i ≡ j

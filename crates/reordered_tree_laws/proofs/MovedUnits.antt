@@ -1,9 +1,9 @@
 -- A text whose lists are in a new order binds alike, where each list does.
-use Rattle.std.proofs.Common.{ℕ, ◌+◌, ◌≡◌, Bool, true, false, List, [], ◌∷◌, length, map, Option, None, Some, Ok, refl, sym, ap, subst, ◌∙◌, arith}
+use Rattle.std.proofs.Common.{ℕ, ◌+◌, ◌≡◌, Bool, true, false, List, [], ◌∷◌, length, map, Option, None, Some, Ok, inl, inr, refl, sym, ap, subst, ◌∙◌, arith}
 use Rattle.std.specs.Prelude.{nat_lt, is_some}
 use Rattle.std.specs.List.{All, list_all}
 use Rattle.std.specs.Option.{option_map}
-use Rattle.std.proofs.lemmas.Bool.{ltb-true, lt-ltb, and_from}
+use Rattle.std.proofs.lemmas.Bool.{cases_Bool, ltb-false, ltb-true, lt-ltb, and_from}
 use Rattle.std.proofs.lemmas.List.{length-map}
 use Rattle.std.proofs.lemmas.List.Elements.{All-nil, All-cons, All-head, All-tail}
 use Rattle.tree_laws.specs.Below.cs_base.Token.{Token}
@@ -28,7 +28,8 @@ use Rattle.reordered_tree_laws.specs.Moving.{GoTogether, StatesGo, AreMovedTexts
 use Rattle.reordered_tree_laws.specs.Gathering.{ReorderedBindByLists}
 use Rattle.reordered_tree_laws.proofs.MovedTrees.{AreSpans}
 use Rattle.reordered_tree_laws.proofs.MovedEntering.{both_ways}
-use Rattle.reordered_tree_laws.proofs.MovedPlaces.{tokens_moved, texts_moved}
+use Rattle.reordered_tree_laws.proofs.MovedHeads.{lowest_stays}
+use Rattle.reordered_tree_laws.proofs.MovedPlaces.{moved-beyond, tokens_moved, texts_moved}
 use Rattle.reordered_tree_laws.proofs.MovedResult.{entity_moved, kind_moved, linkage_moved}
 use Rattle.reordered_tree_laws.proofs.MovedOrders.{spans_permuted, walk_lists}
 
@@ -88,13 +89,18 @@ unfolding binding_of
 told_of toks tree e = ap (λ (o : Option Fault). bound_unless tree.under (facts_of toks tree.under) o) e
 
 pub reordered_bind_by_lists : ReorderedBindByLists
-reordered_bind_by_lists old new order lists tree b of e is each fit texts stays go =
+reordered_bind_by_lists old new order lists tree b of e is each fit texts go =
     let n : ℕ = length old in
     let c : Cut = cut_in lists tree in
     let m : ℕ → ℕ = moved order c n in
     let f : Forest = tree.under in
-    let law : AreMovedTexts m old new = texts_moved order c old new is each texts stays in
     let places : AreMovedTo m 0 (permuted order lists false f) = tokens_moved order lists tree n is each of in
+    let stays : m 0 ≡ 0 = elim (cases_Bool (nat_lt 0 n)) [
+      | inl full ↦
+          lowest_stays order lists is m f 0 0 (outermost n).label true 0 (outermost n).scope true of.tokens places fit each (omega (arith, of.all, ltb-true 0 n full))
+      | inr empty ↦ moved-beyond n order c is each 0 (ltb-false 0 n empty)
+    ] in
+    let law : AreMovedTexts m old new = texts_moved order c old new is each texts stays in
     let spans0 : AreSpans m 0 0 (token_count f) = spans_permuted m old new law order lists is false f 0 0 each of.tokens places in
     let spans : AreSpans m 0 0 n = subst (λ (x : ℕ). AreSpans m 0 0 x) of.all spans0 in
     let s : State = at_first n in

@@ -1,5 +1,5 @@
 -- What a part of a unit adds to what is known: all of it stands beside, where its tokens do (ISO/IEC 9899:1999, 6.2.1).
-use Rattle.std.specs.Prelude.{ℕ, ◌≡◌, Bool, true, false, ◌&&◌, ◌||◌, not, List}
+use Rattle.std.specs.Prelude.{ℕ, ◌≡◌, Bool, true, false, ◌&&◌, ◌||◌, not, List, ◌+◌, ◌<◌, ◌≤◌, ◌++◌, is_some}
 use Rattle.std.specs.List.{All}
 use Rattle.std.specs.Option.{option_map_or}
 use Rattle.tree_laws.specs.Below.cs_base.Token.{Token}
@@ -9,9 +9,12 @@ use Rattle.tree_laws.specs.Below.c99_tree.declared.production.Production.{Produc
 use Rattle.tree_laws.specs.Below.c99_tree.declared.production.Production.TheVariants.{ExtRest, InitDecl, FunBody, SuRest, EnRest, Members, MemRest, Mdecl, Enumerators, Declarator, Param, Pdecl, Statement}
 use Rattle.tree_laws.specs.Below.c_types.Trees.{is_at, has_node, name_below}
 use Rattle.tree_laws.specs.Below.c_types.Tags.{number_in}
+use Rattle.tree_laws.specs.Below.c_types.Declarations.{Facts, has_linkage}
+use Rattle.tree_laws.specs.Below.name_chains.Entering.{is_member}
 use Rattle.tree_laws.specs.Below.name_chains.Frames.{State, state}
-use Rattle.tree_laws.specs.Below.scope_bind.Named.{Frame}
+use Rattle.tree_laws.specs.Below.scope_bind.Named.{Declaration, Occurrence, Frame}
 use Rattle.tree_laws.specs.Below.scope_bind.Walk.{walked}
+use Rattle.tree_laws.specs.TreesOfTexts.{token_count, AreFrom, have_forms}
 use Rattle.reordered_tree_laws.specs.Beside.{beside_of, seen_of, is_apart, IsOwnDeclaration, IsOwnFrame, AreBeside, StandBeside}
 
 -- a structure, union or enumeration without a tag, and one with a tag
@@ -96,3 +99,27 @@ ItemsBindAlike =
     → is_apart foreign toks (beside_of foreign t.facts.declared) t.frame.label t.frame.nth t.frame.scope item ≡ true
     → StandBeside foreign (beside_of foreign s.facts.declared) (beside_of foreign t.facts.declared) s.facts.occurrences t.facts.occurrences
     (walked toks item (state s.facts t.frame)) (walked toks item t)
+
+-- ---- What a part only adds
+
+-- the token of a name that is no member is one of those from one on and before another, and it has no linkage
+abbrev pub IsNamedIn : ℕ → ℕ → Declaration → Type 0
+IsNamedIn lo hi d = is_member d.space ≡ false → ((lo ≤ d.name_at) × (d.name_at < hi)) × (has_linkage d.linkage ≡ false)
+
+-- What is known has been added in front to what was known: names of these tokens, and identifiers that are these tokens; a
+-- fault stays.
+pub record IsAddedIn (lo hi : ℕ) (f g : Facts) : Type 0 where
+  pub declared : List Declaration
+  pub front : g.declared ≡ declared ++ f.declared
+  pub names : All (IsNamedIn lo hi) declared
+  pub occurrences : List Occurrence
+  pub noted : g.occurrences ≡ occurrences ++ f.occurrences
+  pub indices : All (λ (o : Occurrence). (lo ≤ o.index) × (o.index < hi)) occurrences
+  pub jumps : g.jumps ≡ f.jumps
+  pub fault : is_some f.fault ≡ true → is_some g.fault ≡ true
+
+-- A part of a unit with no object, function, statement or body of its own only adds names of its own to what is known.
+abbrev pub PartsOnlyAdd : Type 0
+PartsOnlyAdd =
+    (toks : List Token) (f : Forest) (within : Bool) (lo : ℕ) (s : State) → AreFrom lo f → have_forms f ≡ true
+    → is_adding (λ i. true) within s.frame.label f ≡ true → IsAddedIn lo (lo + token_count f) s.facts (walked toks f s).facts

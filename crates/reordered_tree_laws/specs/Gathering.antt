@@ -4,7 +4,6 @@ use Rattle.std.specs.Prelude.{ℕ, ◌+◌, ◌≡◌, Bool, true, false, List, 
 use Rattle.tree_laws.specs.Below.cs_base.Token.{Token}
 use Rattle.tree_laws.specs.Below.c99_tree.Tree.{Forest, none, token, node, Node}
 use Rattle.tree_laws.specs.Below.c99_tree.declared.production.Label.{Label}
-use Rattle.tree_laws.specs.Below.c_types.Trees.{first_list}
 use Rattle.tree_laws.specs.Below.name_chains.Frames.{State, outermost}
 use Rattle.tree_laws.specs.Below.scope_bind.Bound.{Bound, binding_of}
 use Rattle.tree_laws.specs.Below.scope_bind.Walk.{walked}
@@ -12,7 +11,7 @@ use Rattle.tree_laws.specs.TreesOfTexts.{token_count, AreFrom, IsTreeOf}
 use Rattle.list_cuts.specs.Cuts.{IsOrder, AreOf, arranged, moved}
 use Rattle.reordered_tree_laws.specs.Reordered.{is_among, permuted, numbered, reordered}
 use Rattle.reordered_tree_laws.specs.Cuts.{cut_in}
-use Rattle.reordered_tree_laws.specs.Premises.{has_outer_list, is_fit, BindsAlike}
+use Rattle.reordered_tree_laws.specs.Premises.{is_fit, BindsAlike}
 use Rattle.reordered_tree_laws.specs.Moving.{AreMovedTo, StatesGo}
 
 module _ (m : ℕ → ℕ) (old new : List Token) (order : List ℕ) (lists : ℕ → Bool) where
@@ -25,22 +24,19 @@ module _ (m : ℕ → ℕ) (old new : List Token) (order : List ℕ) (lists : �
       → StatesGo m old new false false (lo + token_count under) (there + token_count under) (walked old under s)
       (walked new (numbered there (permuted order lists true under)) t)
 
-  -- so does each list below some children that stands in no other one, and the first list of each declarator, where it is no
-  -- part of an item, is the first one in the new order too
+  -- so does each list below some children that stands in no other one
   abbrev pub ListsGo : Forest → Type 0
   ListsGo none = Unit {0}
   ListsGo (token i rest) = ListsGo rest
   ListsGo (node l first under rest) =
-      (is_among lists l under ≡ true → ListGoes l under) × (is_among lists l under ≡ false → ListsGo under)
-      × (has_outer_list lists false under ≡ true → first_list (permuted order lists false under) ≡ first_list under) × ListsGo rest
+      (is_among lists l under ≡ true → ListGoes l under) × (is_among lists l under ≡ false → ListsGo under) × ListsGo rest
 
--- A text whose lists are in a new order binds name for name as before where each list by itself goes along, and the first
--- token stays.
+-- A text whose lists are in a new order binds name for name as before where each list by itself goes along.
 abbrev pub ReorderedBindByLists : Type 0
 ReorderedBindByLists =
     (old new : List Token) (order : List ℕ) (lists : ℕ → Bool) (tree : Node) (b : Bound) → IsTreeOf (length old) tree → binding_of old tree ≡ Ok b
     → IsOrder (length order) order → AreOf (length order) (cut_in lists tree)
     → is_fit lists (outermost (length old)).label true 0 (outermost (length old)).scope true tree.under ≡ true
     → map (λ (t : Token). t.text) new ≡ arranged order (cut_in lists tree) (map (λ (t : Token). t.text) old)
-    → moved order (cut_in lists tree) (length old) 0 ≡ 0 → ListsGo (moved order (cut_in lists tree) (length old)) old new order lists tree.under
+    → ListsGo (moved order (cut_in lists tree) (length old)) old new order lists tree.under
     → BindsAlike (moved order (cut_in lists tree) (length old)) (length old) b new (reordered order lists tree)

@@ -7,7 +7,7 @@ use Rattle.tree_laws.specs.Below.cs_base.Token.{Token}
 use Rattle.tree_laws.specs.Below.c99_tree.Tree.{Forest, none, token, node, Node}
 use Rattle.tree_laws.specs.Below.c99_tree.declared.production.Label.{Label}
 use Rattle.tree_laws.specs.Below.c99_tree.declared.production.Production.{Production}
-use Rattle.tree_laws.specs.Below.c99_tree.declared.production.Production.TheVariants.{FunBody, Specs, Main, SuRest, EnRest, MemRest, Enumerator, Declarator, Params, Param, Pdecl, TypeName, Add, Unary, Primary, Args, Statement, Sub}
+use Rattle.tree_laws.specs.Below.c99_tree.declared.production.Production.TheVariants.{FunBody, Specs, Main, SuRest, EnRest, MemRest, Enumerator, Declarator, Params, Param, Pdecl, TypeName, Add, Unary, Primary, Args, Statement, Sub, Assign, Cond, Lor, Land, Bor, Bxor, Band, Equal, Relate, Shift, Mul, Cast}
 use Rattle.tree_laws.specs.Below.c_types.Trees.{is_node, is_at, is_list, name_below, first_list}
 use Rattle.tree_laws.specs.Below.c_types.Declarations.{alike, is_in}
 use Rattle.tree_laws.specs.Below.name_chains.Entering.{scope_in}
@@ -101,10 +101,6 @@ module _ (lists : ℕ → Bool) where
       (if inside && is_node m Enumerator then first ∷ [] else [])
       ++ (tags_in (not listed && is_among lists m under) (inside || listed) m 0 under ++ tags_in listed inside l (k + 1) rest)
 
--- An item declares nothing but parameters of its own lists and members of structures without a tag, and perhaps one name.
-abbrev pub is_item : Node → Bool
-is_item n = is_adding (λ i. true) false n.label n.under
-
 -- the name that a parameter declares
 abbrev pub parameter_name : Forest → Option ℕ
 parameter_name none = None
@@ -113,6 +109,44 @@ parameter_name (node l first under rest) = if is_node l Pdecl then name_below l 
 
 abbrev pub declared_name : Node → Option ℕ
 declared_name n = if is_node n.label Param then parameter_name n.under else None
+
+-- an expression that is an argument (6.5.2, 6.5.16), or a parameter declaration (6.7.5)
+abbrev pub is_item_production : Production → Bool
+is_item_production Assign = true
+is_item_production Cond = true
+is_item_production Lor = true
+is_item_production Land = true
+is_item_production Bor = true
+is_item_production Bxor = true
+is_item_production Band = true
+is_item_production Equal = true
+is_item_production Relate = true
+is_item_production Shift = true
+is_item_production Add = true
+is_item_production Mul = true
+is_item_production Cast = true
+is_item_production Unary = true
+is_item_production Primary = true
+is_item_production Param = true
+is_item_production _ = false
+
+-- Of the ordinary identifiers that some children declare, only these last behind them: the names of parameters stand in
+-- parameter lists, with whose parentheses they end, or are these, and no enumerator is declared (6.2.1 paragraph 4).
+module _ (lasting : ℕ → Bool) where
+  abbrev pub is_quiet_child : Label → Label → Forest → Bool
+  is_quiet_child l m under =
+      not (is_node m Enumerator) && (not (is_node l Param && is_node m Pdecl) || option_map_or lasting (name_below m under) true)
+
+  abbrev pub is_quiet : Label → Forest → Bool
+  is_quiet l none = true
+  is_quiet l (token i rest) = not (is_node l Params) && is_quiet l rest
+  is_quiet l (node m first under rest) = is_quiet_child l m under && ((is_list m || is_quiet m under) && is_quiet l rest)
+
+-- An item declares nothing but parameters of lists in it and members of structures without a tag, and perhaps one name.
+abbrev pub is_item : Node → Bool
+is_item n =
+    is_item_production n.label.production
+    && (is_adding (λ i. true) false n.label n.under && is_quiet (λ i. option_map_or (λ j. j == i) (declared_name n) false) n.label n.under)
 
 -- the ordinary identifiers below some children that are used: in expressions and as type names (6.5.1, 6.7.2)
 abbrev pub used_in : Label → ℕ → Forest → List ℕ
@@ -136,10 +170,11 @@ module _ (toks : List Token) where
   are_apart [] = true
   are_apart (n ∷ ns) = list_all (are_two_apart n) ns && are_apart ns
 
--- The lists that begin with these tokens can get the new order: each has so many items, all nodes have their forms, no item
--- holds the list that a body begins with, none declares a tag, an enumerator or what has linkage, and none asks for the name
--- of another one.
+-- The lists that begin with these tokens, none of them the first one, can get the new order: each has so many items, all
+-- nodes have their forms, no item holds the list that a body begins with, none declares a tag, an enumerator or what has
+-- linkage, and none asks for the name of another one.
 pub record CanReorder (order : List ℕ) (lists : ℕ → Bool) (toks : List Token) (tree : Node) (b : Bound) : Type 0 where
+  pub first : lists 0 ≡ false
   pub many : IsOrder (length order) order
   pub each : AreOf (length order) (cut_in lists tree)
   pub formed : is_fit lists (outermost (length toks)).label true 0 (outermost (length toks)).scope true tree.under ≡ true
