@@ -1,0 +1,11 @@
+-- What the proofs of this crate rest on.
+mod InnerTable
+mod Children
+mod Forms
+mod Parens
+mod Counted
+mod Bare
+mod Units
+mod Clear
+mod UnitLists
+mod UnitCut

@@ -1,0 +1,18 @@
+// What is so where nothing stands against a new order of the parameters of a function: laws that no caller runs.
+ghost use Rattle.template_meaning_laws.specs.Clear.{UnitsAreClear};
+ghost use Rattle.template_meaning_laws.specs.Lists.{UnitsAreCut};
+
+use tree_laws::read_lists_stand_in_order;
+
+/// Each list of the functions is clear, and so is each of their names: its marks come from no macro and were put out for one
+/// run, a list stands there in each processing of that run, and so on with each offence.
+pub fn units_are_clear()
+    ensures { UnitsAreClear }
+{}
+
+/// Each list of the functions has as many items as the order has numbers, those in items of others too.
+pub fn units_are_cut()
+    ensures { UnitsAreCut }
+{
+    read_lists_stand_in_order();
+}

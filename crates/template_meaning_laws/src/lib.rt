@@ -1,0 +1,20 @@
+//! What a new order of the parameters of a function keeps of a workspace, and what is so where nothing stands against it (this
+//! project's, over ISO/IEC 9899:1999, 5.1.1.2, 6.2.1, 6.5.2.2, 6.7.5.3 and 6.10.3).
+//!
+//! `specs/Reordered.antt` says on one page what the workspace is behind the edit: its files, and each unit's tokens, tree and
+//! names. That an accepted order makes it so is not proved here. It rests on laws of the crates `arranged_laws`,
+//! `reordered_tree_laws` and `reordered_text_laws`, which ask that no list comes from a macro, that items have no say in each
+//! other, and so on; this crate proves that it is so where none of the offences of `template_rules` stands. No program stands
+//! here: a law is the `ensures` of a function.
+//!
+//! `IsAccepted` of `specs/Accepted.antt` is an order against which nothing stands. Then each list and each name is clear,
+//! `UnitIsClear` of `specs/Clear.antt`, which says of each offence what follows where it does not stand; and each list has as
+//! many items as the order has numbers, `IsCut` of `specs/Lists.antt`. For that the trees that are read have to be known:
+//! each node has the children of one alternative of its production, `IsOfAlternative` of `specs/Children.antt`.
+#![tactic(auto)]
+
+mod laws;
+mod trees;
+
+pub use laws::{units_are_clear, units_are_cut};
+pub use trees::children_are_of_alternatives;

@@ -1,0 +1,8 @@
+// What is true of the tree of every text that is read, as far as lists rest on it: a law that no caller runs.
+ghost use Rattle.template_meaning_laws.specs.Children.{ChildrenAreOfAlternatives};
+
+/// The children of each node of a tree that is read are those of one alternative of its production; and below a node that is
+/// no function, no statement and no declaration but that of parameters or members there is none of these.
+pub fn children_are_of_alternatives()
+    ensures { ChildrenAreOfAlternatives }
+{}
