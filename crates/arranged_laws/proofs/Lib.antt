@@ -8,3 +8,4 @@ pub mod BeforeLemmas
 pub mod MarkLemmas
 pub mod GoingLemmas
 pub mod ArrangeLemmas
+pub mod CutLemmas

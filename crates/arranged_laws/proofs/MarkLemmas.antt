@@ -42,19 +42,19 @@ take_at [] k x is = absurd (none-some x is)
 take_at (y ∷ ys) zero x is = ap (λ (v : _). v ∷ []) (same_Some y x is)
 take_at (y ∷ ys) (suc k) x is = ap (λ (l : List _). y ∷ l) (take_at ys k x is)
 
-at_seam : {X : Type 0} (xs ys : List X) (x : X) → slice_get (xs ++ x ∷ ys) (length xs) ≡ Some x
+pub at_seam : {X : Type 0} (xs ys : List X) (x : X) → slice_get (xs ++ x ∷ ys) (length xs) ≡ Some x
 at_seam [] ys x = refl
 at_seam (y ∷ xs) ys x = at_seam xs ys x
 
-take_seam : {X : Type 0} (xs ys : List X) → take (length xs) (xs ++ ys) ≡ xs
+pub take_seam : {X : Type 0} (xs ys : List X) → take (length xs) (xs ++ ys) ≡ xs
 take_seam [] ys = refl
 take_seam (x ∷ xs) ys = ap (λ (l : List _). x ∷ l) (take_seam xs ys)
 
-drop_seam : {X : Type 0} (xs ys : List X) → drop (length xs) (xs ++ ys) ≡ ys
+pub drop_seam : {X : Type 0} (xs ys : List X) → drop (length xs) (xs ++ ys) ≡ ys
 drop_seam [] ys = refl
 drop_seam (x ∷ xs) ys = drop_seam xs ys
 
-drop_past : {X : Type 0} (xs ys : List X) (x : X) → drop (suc (length xs)) (xs ++ x ∷ ys) ≡ ys
+pub drop_past : {X : Type 0} (xs ys : List X) (x : X) → drop (suc (length xs)) (xs ++ x ∷ ys) ≡ ys
 drop_past [] ys x = refl
 drop_past (y ∷ xs) ys x = drop_past xs ys x
 
@@ -88,7 +88,7 @@ toks_unhidden [] = refl
 toks_unhidden (t ∷ ts) = ap (λ (l : List Token). t ∷ l) (toks_unhidden ts)
 
 -- a token of some is one of them with its hide set
-hidden_at : (hs : List Hidden) (k : ℕ) (t : Token) → slice_get (toks_of hs) k ≡ Some t → (h : Hidden) × (slice_get hs k ≡ Some h) × (h.tok ≡ t)
+pub hidden_at : (hs : List Hidden) (k : ℕ) (t : Token) → slice_get (toks_of hs) k ≡ Some t → (h : Hidden) × (slice_get hs k ≡ Some h) × (h.tok ≡ t)
 hidden_at [] k t is = absurd (none-some t is)
 hidden_at (h ∷ hs) zero t is = (h, refl, same_Some h.tok t is)
 hidden_at (h ∷ hs) (suc k) t is = hidden_at hs k t is

@@ -108,3 +108,34 @@ RunsAreArranged = (table : Table) (path : List ℕ) (n : ℕ) (order : List ℕ)
     → IsOrder n order → AreOf n d → expansion table path run work ≡ Ok e → AreDistinct run → MarksStand c d run (toks_of e.toks)
     → LinesStay table 0 d e.notes → StandFor c new run
     → (e2 : Expanded) × (expansion table path (arranged order c new) work ≡ Ok e2) × IsArranged order d e e2
+
+-- ---- the cut of a run, by that of what it is expanded to
+
+-- A sign stands at place m of an expansion, and no macro put it in.
+pub record IsSign (sign : Token → Bool) (out : List Token) (m : ℕ) : Type 0 where
+  pub mark : Token
+  pub has : slice_get out m ≡ Some mark
+  pub direct : mark.direct ≡ true
+  pub is_sign : sign mark ≡ true
+
+-- what stands behind an item of an expansion
+abbrev pub IsSigned : Items → ℕ → List Token → ℕ → Type 0
+IsSigned ended gap out m = (gap ≡ 0) × IsSign is_close out m
+IsSigned (item n c between more) gap out m = (gap ≡ 1) × IsSign is_comma out m
+
+abbrev mutual
+  -- the lists of a cut of an expansion have their marks
+  pub SignsStand : Cut → List Token → Type 0
+  SignsStand done out = Unit {0}
+  SignsStand (keep (suc m) (list js d)) out =
+      IsSign is_open out m × (0 < count_of js) × ItemsSigned js (drop (suc m) out) × SignsStand d (drop (span_of js) (drop (suc m) out))
+  SignsStand _ out = ⊥
+
+  pub ItemsSigned : Items → List Token → Type 0
+  ItemsSigned ended out = Unit {0}
+  ItemsSigned (item m d gap more) out = SignsStand d (take m out) × IsSigned more gap out m × ItemsSigned more (drop (m + gap) out)
+
+-- The law: then the run has the same lists.
+abbrev pub RunsHaveCuts : Type 0
+RunsHaveCuts = (table : Table) (path : List ℕ) (d : Cut) (run : List Token) (work : ℕ) (e : Expanded) → expansion table path run work ≡ Ok e → SignsStand d (toks_of e.toks)
+    → (c : Cut) × MarksStand c d run (toks_of e.toks) × ((n : ℕ) → AreOf n d → AreOf n c)

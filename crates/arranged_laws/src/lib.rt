@@ -14,4 +14,5 @@ mod laws;
 
 pub use laws::{
     expansion_goes_alike, expansion_splits, portions_compose, runs_are_arranged, runs_fall,
+    runs_have_cuts,
 };

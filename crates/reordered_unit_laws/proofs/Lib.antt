@@ -5,3 +5,5 @@ mod LineLemmas
 mod RunLemmas
 mod WalkLemmas
 mod UnitLemmas
+mod PartLemmas
+mod ReorderedLemmas

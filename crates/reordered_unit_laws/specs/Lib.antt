@@ -1,3 +1,4 @@
 -- What the public contracts rest on.
 pub mod Edited
 pub mod Walking
+pub mod Reordered

@@ -1,5 +1,8 @@
 // What is true of units over files in which lists are in a new order: laws that no caller runs, and that callers' proofs cite.
+ghost use Rattle.reordered_unit_laws.specs.Reordered.{UnitsAreReordered};
 ghost use Rattle.reordered_unit_laws.specs.Walking.{UnitsGoAlike};
+
+use arranged_laws::runs_are_arranged;
 
 /// Over edited files whose items are the old ones but for runs of text lines, where each run that the unit reaches brings
 /// the tokens in the new order, and as many, for as much work, the unit brings its tokens in the new order, and the state
@@ -7,3 +10,13 @@ ghost use Rattle.reordered_unit_laws.specs.Walking.{UnitsGoAlike};
 pub fn units_go_alike()
     ensures alike { UnitsGoAlike }
 {}
+
+/// Over files in which the items of lists change places, where the lists of a unit stand in the runs that it reaches, each
+/// in one run, by marks that no macro put in, and no `__LINE__` is replaced in a list, the unit brings its tokens in the
+/// new order, by their kinds and spellings, and the state behind it is the same but for the bytes of files.
+pub fn units_are_reordered()
+    ensures reordered { UnitsAreReordered }
+{
+    runs_are_arranged();
+    units_go_alike();
+}
