@@ -1,8 +1,7 @@
 -- The cut of a run, by that of what it is expanded to.
-use Rattle.std.proofs.Common.{◌≡◌, ℕ, zero, suc, ◌+◌, ◌-◌, ◌<◌, ◌≤◌, Bool, true, false, List, [], ◌∷◌, ◌++◌, length, take, drop, map, Option, Some, None, Ok, refl, ap, sym, subst, ◌∙◌, arith}
+use Rattle.std.proofs.Common.{◌≡◌, ℕ, suc, ◌+◌, ◌<◌, Bool, List, ◌∷◌, ◌++◌, length, take, drop, Some, Ok, refl, ap, sym, subst, ◌∙◌, arith}
 use Rattle.std.specs.Prelude.{slice_get}
 use Rattle.std.proofs.lemmas.List.{length-map, map-append, take-map, drop-map, drop-drop}
-use Rattle.std.proofs.lemmas.Option.{none-some, same_Some}
 use Rattle.macro_expand.specs.Below.cs_base.Token.{Token}
 use Rattle.macro_expand.specs.Below.line_shape.Signs.{is_open, is_close, is_comma}
 use Rattle.macro_expand.specs.Below.macro_body.Hides.{Hidden, toks_of, unhidden}
@@ -10,7 +9,7 @@ use Rattle.macro_expand.specs.Below.macro_body.Notes.{Expanded, put_out}
 use Rattle.macro_expand.specs.Expansion.{Setting, whole, expansion}
 use Rattle.list_cuts.specs.Cuts.{Cut, done, keep, list, Items, ended, item, count_of, span_of, AreOf, AreItemsOf}
 use Rattle.arranged_laws.specs.Arranging.{IsSign, SignsStand, ItemsSigned, IsMark, MarksStand, ItemsStand, RunsHaveCuts}
-use Rattle.arranged_laws.proofs.MarkLemmas.{parts_at, length_at, drop_at, toks_unhidden, hidden_at, at_seam, take_seam, drop_seam, drop_past}
+use Rattle.arranged_laws.proofs.MarkLemmas.{parts_at, drop_at, toks_unhidden, hidden_at, at_seam, take_seam, drop_seam, drop_past}
 use Rattle.arranged_laws.proofs.SplitLemmas.{expansion_splits}
 
 -- A run falls at a sign of what it is expanded to.

@@ -6,4 +6,5 @@ mod RunLemmas
 mod WalkLemmas
 mod UnitLemmas
 mod PartLemmas
+mod SignLemmas
 mod ReorderedLemmas

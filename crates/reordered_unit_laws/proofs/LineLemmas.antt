@@ -1,6 +1,9 @@
 -- Lines of directives do over the edited files what they did.
-use Rattle.std.proofs.Common.{◌≡◌, ℕ, ◌+◌, Bool, true, false, cond, is_some, List, [], ◌∷◌, ◌++◌, length, map, drop, Option, Some, None, Result, Ok, Err, refl, ap, sym, subst, ◌∙◌}
+use Rattle.std.proofs.Common.{◌≡◌, ℕ, ◌+◌, Bool, true, false, cond, is_some, List, [], ◌∷◌, ◌++◌, length, map, drop, codes, Option, Some, None, Result, Ok, Err, refl, ap, sym, subst, ◌∙◌}
 use Rattle.std.specs.List.{list_any}
+use Rattle.std.specs.Option.{option_map}
+use Rattle.std.specs.Str.{bytes_eq}
+use Rattle.std.proofs.lemmas.Option.{none-some, same_Some}
 use Rattle.include_tree.specs.Below.cs_base.declared.causes.Cause.TheVariants as cause
 use Rattle.include_tree.specs.Below.cs_base.declared.positions.Pos.{Pos}
 use Rattle.include_tree.specs.Below.cs_base.Token.{Token}
@@ -8,7 +11,9 @@ use Rattle.include_tree.specs.Below.cond_eval.declared.faults.CondFault.{CondFau
 use Rattle.include_tree.specs.Below.cond_eval.Evaluation.{condition}
 use Rattle.include_tree.specs.Below.line_shape.Signs.{is_name}
 use Rattle.include_tree.specs.Below.macro_body.declared.definitions.Definition.{Definition}
-use Rattle.include_tree.specs.Below.macro_body.Defining.{defined_by}
+use Rattle.include_tree.specs.Below.line_shape.MacroLine.{MacroParts, macro_of}
+use Rattle.include_tree.specs.Below.macro_body.Defining.{form_of, definition_of, defined_by, line_macro}
+use Rattle.include_tree.specs.Below.macro_body.declared.definitions.Form.TheVariants as form
 use Rattle.include_tree.specs.Below.macro_body.Hides.{toks_of}
 use Rattle.include_tree.specs.Below.macro_body.Live.{with_macro, without_macro}
 use Rattle.include_tree.specs.Below.macro_body.Notes as expansion
@@ -30,7 +35,7 @@ use Rattle.include_tree.specs.Including.{Process, Inner, entered, included, incl
 use Rattle.include_tree.specs.Walk.{items_in}
 use Rattle.reordered_unit_laws.specs.Edited.{Edit, edited_state}
 use Rattle.reordered_unit_laws.specs.Walking.{AreItemsAlike, text_items, KeepsTexts, with_text, IsEdited}
-use Rattle.reordered_unit_laws.proofs.StepLemmas.{World, Goes, nothing, Same, itself, plus_none, goes_only, goes_noted, still_then, goes_then, goes_cond, goes_test}
+use Rattle.reordered_unit_laws.proofs.StepLemmas.{World, LineMacros, Fits, Still, Goes, Same, itself, plus_none, none_begins, still_only, goes_noted, then_still, still_then, goes_then, still_cond, still_test}
 use Rattle.reordered_unit_laws.proofs.OpenLemmas.{FileGoes, ctx, ctx2, header_goes}
 
 -- ---- names
@@ -52,6 +57,41 @@ name_table name s = same_cond (λ (t : State). t.table) (is_some (spelled_in s.n
 name_before : (name : Token) (s : State) → (with_name name s).before ≡ s.before
 name_before name s = same_cond (λ (t : State). t.before) (is_some (spelled_in s.names name.text)) (record s { names = s.names ++ name ∷ [] }) s refl
 
+name_macros : (name : Token) (s : State) → (with_name name s).macros ≡ s.macros
+name_macros name s = same_cond (λ (t : State). t.macros) (is_some (spelled_in s.names name.text)) (record s { names = s.names ++ name ∷ [] }) s refl
+
+name_lines : (name : Token) (s : State) → LineMacros s.macros → LineMacros (with_name name s).macros
+name_lines name s h = subst LineMacros (sym (name_macros name s)) h
+
+-- ---- definitions
+
+no_line : (b : Bool) → form_of b ≡ form.Line → ⊥
+no_line true e = absurd cc
+no_line false e = absurd cc
+
+parts_no_line : (name : Token) (o : Option MacroParts) (m : Definition) → option_map (definition_of name) o ≡ Some m → m.form ≡ form.Line → ⊥
+parts_no_line name None m e h = absurd (none-some m e)
+parts_no_line name (Some parts) m e h = no_line parts.function (ap (λ (d : Definition). d.form) (same_Some (definition_of name parts) m e) ∙ h)
+
+-- no line defines a macro that stands for the number of a line
+defined_no_line : (toks : List Token) (m : Definition) → defined_by toks ≡ Some m → m.form ≡ form.Line → ⊥
+defined_no_line [] m e h = absurd (none-some m e)
+defined_no_line (hash ∷ []) m e h = absurd (none-some m e)
+defined_no_line (hash ∷ word ∷ []) m e h = absurd (none-some m e)
+defined_no_line (hash ∷ word ∷ name ∷ toks) m e h = parts_no_line name (macro_of toks) m e h
+
+-- so it is under a name
+abbrev LineAt : List ℕ → Definition → Type 0
+LineAt name m = m.form ≡ form.Line → (m.name ≡ line_macro.name) × (name ≡ codes "__LINE__")
+
+with_line : (m d : Definition) (name : List ℕ) (old : Option Definition) (b : Bool) → (m.form ≡ form.Line → ⊥) → (old ≡ Some d → LineAt name d) → cond b (Some m) old ≡ Some d → LineAt name d
+with_line m d name old true lacks there e = λ h. absurd (lacks (ap (λ (x : Definition). x.form) (same_Some m d e) ∙ h))
+with_line m d name old false lacks there e = there e
+
+without_line : (d : Definition) (name : List ℕ) (old : Option Definition) (b : Bool) → (old ≡ Some d → LineAt name d) → cond b None old ≡ Some d → LineAt name d
+without_line d name old true there e = absurd (none-some d e)
+without_line d name old false there e = there e
+
 -- ---- steps that look at no file
 
 -- It is the same over the edited files, and leaves the table and the tokens.
@@ -61,23 +101,24 @@ record IsSteady {A : Type 0} (edit : Edit) (s : State) (d d2 : Did A) : Type 0 w
   state : d2.state ≡ edited_state edit d.state
   table : d.state.table ≡ s.table
   before : d.state.before ≡ s.before
+  lines : LineMacros s.macros → LineMacros d.state.macros
 
-steady_goes : {A : Type 0} (w : World) (s : State) (d d2 : Did A) → IsSteady w.edit s d d2 → Goes w nothing Same s (Ok d) (Ok d2)
-steady_goes w s d d2 k = λ found told stand. record {
-  value = d2.value;
-  notes = d2.notes;
-  is = ap (λ (t : State). Ok (did d2.value d2.notes t)) k.state;
-  goes = k.value;
-  found = subst (λ (t : Table). AreFound w.old t) (sym k.table) found;
-  before = k.before ∙ plus_none s.before;
+steady_fits : {A : Type 0} (w : World) (s : State) (d d2 : Did A) → IsSteady w.edit s d d2 → Fits w s → Fits w d.state
+steady_fits w s d d2 k fits = (subst (λ (t : Table). AreFound w.old t) (sym k.table) fits.0, k.lines fits.1)
+
+steady_goes : {A : Type 0} (w : World) (s : State) (d d2 : Did A) → IsSteady w.edit s d d2 → Still w Same s (Ok d) (Ok d2)
+steady_goes w s d d2 k = λ told fits. record {
+  too = record { value = d2.value; notes = d2.notes; is = ap (λ (t : State). Ok (did d2.value d2.notes t)) k.state; goes = k.value };
+  fits = steady_fits w s d d2 k fits;
+  before = k.before;
 }
 
 answered_steady : (edit : Edit) (pieces : List Piece) (s : State) → IsSteady edit s (answered pieces s) (answered pieces (edited_state edit s))
 unfolding answered
-answered_steady edit [] s = record { value = refl; notes = refl; state = refl; table = refl; before = refl }
+answered_steady edit [] s = record { value = refl; notes = refl; state = refl; table = refl; before = refl; lines = λ h. h }
 answered_steady edit (Plain t ∷ pieces) s =
     let k = answered_steady edit pieces s in
-    record { value = ap (λ (l : List Token). t ∷ l) k.value; notes = k.notes; state = k.state; table = k.table; before = k.before }
+    record { value = ap (λ (l : List Token). t ∷ l) k.value; notes = k.notes; state = k.state; table = k.table; before = k.before; lines = k.lines }
 answered_steady edit (Asks word name ∷ pieces) s =
     let k = answered_steady edit pieces (with_name name s) in
     let there : answered pieces (with_name name (edited_state edit s)) ≡ answered pieces (edited_state edit (with_name name s)) = ap (answered pieces) (name_edited edit name s) in
@@ -87,6 +128,7 @@ answered_steady edit (Asks word name ∷ pieces) s =
       state = ap (λ (d : Did (List Token)). d.state) there ∙ k.state;
       table = k.table ∙ name_table name s;
       before = k.before ∙ name_before name s;
+      lines = λ h. k.lines (name_lines name s h);
     }
   where
     front : State → List Note
@@ -105,68 +147,66 @@ left_by edit t toks s h k true =
       state = ap (λ (d : Did (Unit {0})). d.state) there ∙ k.state;
       table = k.table ∙ name_table t s;
       before = k.before ∙ name_before t s;
+      lines = λ h. k.lines (name_lines t s h);
     }
 
 left_steady : (edit : Edit) (toks : List Token) (s : State) → IsSteady edit s (left_over toks s) (left_over toks (edited_state edit s))
 unfolding left_over
-left_steady edit [] s = record { value = refl; notes = refl; state = refl; table = refl; before = refl }
+left_steady edit [] s = record { value = refl; notes = refl; state = refl; table = refl; before = refl; lines = λ h. h }
 left_steady edit (t ∷ toks) s = left_by edit t toks s (left_steady edit toks s) (left_steady edit toks (with_name t s)) (is_name t)
 
 module _ (w : World) where
   -- an expansion that is no run's
   expanded_goes : (file : SourceFile) (text : TextValue) (s : State) (r : Result expansion.Expanded expansion.Fault)
-      → Goes w nothing Same s (expanded_as false file s r) (expanded_as false (with_text file text) (edited_state w.edit s) r)
+      → Still w Same s (expanded_as false file s r) (expanded_as false (with_text file text) (edited_state w.edit s) r)
   expanded_goes file text s (Err found) = tt
-  expanded_goes file text s (Ok e) = λ found told stand. record {
-    value = toks_of e.toks;
-    notes = map (Happened false s.before) e.notes;
-    is = refl;
-    goes = refl;
-    found = found;
-    before = plus_none s.before;
+  expanded_goes file text s (Ok e) = λ told fits. record {
+    too = record { value = toks_of e.toks; notes = map (Happened false s.before) e.notes; is = refl; goes = refl };
+    fits = fits;
+    before = refl;
   }
 
   valued_goes : (file : SourceFile) (text : TextValue) (at : Pos) (toks : List Token) (s : State) (r : Result Bool CondFault)
-      → Goes w nothing Same s (valued file at toks s r) (valued (with_text file text) at toks (edited_state w.edit s) r)
+      → Still w Same s (valued file at toks s r) (valued (with_text file text) at toks (edited_state w.edit s) r)
   valued_goes file text at toks s (Err found) = tt
   valued_goes file text at toks s (Ok b) =
       let k = left_steady w.edit toks s in
       let d = left_over toks s in
       let d2 = left_over toks (edited_state w.edit s) in
-      steady_goes w s (did b d.notes d.state) (did b d2.notes d2.state) (record { value = refl; notes = k.notes; state = k.state; table = k.table; before = k.before })
+      steady_goes w s (did b d.notes d.state) (did b d2.notes d2.state) (record { value = refl; notes = k.notes; state = k.state; table = k.table; before = k.before; lines = k.lines })
 
   pub holds_goes : (file : SourceFile) (text : TextValue) (at : Pos) (toks : List Token) (s : State)
-      → Goes w nothing Same s (holds file at toks s) (holds (with_text file text) at toks (edited_state w.edit s))
+      → Still w Same s (holds file at toks s) (holds (with_text file text) at toks (edited_state w.edit s))
   holds_goes file text at toks s = by (pieces_from 0 toks)
     where
-      judged_goes : (out : List Token) (t : State) → Goes w nothing Same t (judged file at out t) (judged (with_text file text) at out (edited_state w.edit t))
+      judged_goes : (out : List Token) (t : State) → Still w Same t (judged file at out t) (judged (with_text file text) at out (edited_state w.edit t))
       judged_goes out t =
-          goes_test w nothing Same t (list_any is_defined out) (fault_at file at cause.DefinedFromMacro) (fault_at (with_text file text) at cause.DefinedFromMacro)
+          still_test w Same t (list_any is_defined out) (fault_at file at cause.DefinedFromMacro) (fault_at (with_text file text) at cause.DefinedFromMacro)
           (valued file at out t (condition out)) (valued (with_text file text) at out (edited_state w.edit t) (condition out)) (valued_goes file text at out t (condition out))
 
       next : (toks out : List Token) (t : State) → out ≡ toks
-          → Goes w nothing Same t (onward (expanded_in false file toks t) (judged file at)) (onward (expanded_in false (with_text file text) out (edited_state w.edit t)) (judged (with_text file text) at))
+          → Still w Same t (onward (expanded_in false file toks t) (judged file at)) (onward (expanded_in false (with_text file text) out (edited_state w.edit t)) (judged (with_text file text) at))
       next toks out t same =
-          subst (λ (l : List Token). Goes w nothing Same t (onward (expanded_in false file toks t) (judged file at)) (onward (expanded_in false (with_text file text) l (edited_state w.edit t)) (judged (with_text file text) at))) (sym same)
-          (still_then w Same nothing Same t (expanded_in false file toks t) (expanded_in false (with_text file text) toks (edited_state w.edit t)) (judged file at) (judged (with_text file text) at)
+          subst (λ (l : List Token). Still w Same t (onward (expanded_in false file toks t) (judged file at)) (onward (expanded_in false (with_text file text) l (edited_state w.edit t)) (judged (with_text file text) at))) (sym same)
+          (then_still w Same Same t (expanded_in false file toks t) (expanded_in false (with_text file text) toks (edited_state w.edit t)) (judged file at) (judged (with_text file text) at)
           (expanded_goes file text t (expanding.expansion t.macros file.path toks t.work))
-          (λ a b u r. subst (λ (l : List Token). Goes w nothing Same u (judged file at a u) (judged (with_text file text) at l (edited_state w.edit u))) (sym r) (judged_goes a u)))
+          (λ a b u r. subst (λ (l : List Token). Still w Same u (judged file at a u) (judged (with_text file text) at l (edited_state w.edit u))) (sym r) (judged_goes a u)))
 
-      by : (o : Option (List Piece)) → Goes w nothing Same s (asked_pieces file at s o) (asked_pieces (with_text file text) at (edited_state w.edit s) o)
+      by : (o : Option (List Piece)) → Still w Same s (asked_pieces file at s o) (asked_pieces (with_text file text) at (edited_state w.edit s) o)
       by None = tt
       by (Some pieces) =
-          still_then w Same nothing Same s (Ok (answered pieces s)) (Ok (answered pieces (edited_state w.edit s)))
+          then_still w Same Same s (Ok (answered pieces s)) (Ok (answered pieces (edited_state w.edit s)))
           (λ toks t. onward (expanded_in false file toks t) (judged file at)) (λ toks t. onward (expanded_in false (with_text file text) toks t) (judged (with_text file text) at))
           (steady_goes w s (answered pieces s) (answered pieces (edited_state w.edit s)) (answered_steady w.edit pieces s))
           (λ a b t r. next a b t r)
 
   -- a name that is asked for
   pub asks_goes : (file new : SourceFile) (at : Pos) (answer : Bool → Bool) (s : State) (o : Option Token)
-      → Goes w nothing Same s (asks_name file at answer s o) (asks_name new at answer (edited_state w.edit s) o)
+      → Still w Same s (asks_name file at answer s o) (asks_name new at answer (edited_state w.edit s) o)
   asks_goes file new at answer s None = tt
   asks_goes file new at answer s (Some name) =
       steady_goes w s (did (answer (is_macro name s)) (test_notes name s) (with_name name s)) (did (answer (is_macro name s)) (test_notes name s) (with_name name (edited_state w.edit s)))
-      (record { value = refl; notes = refl; state = name_edited w.edit name s; table = name_table name s; before = name_before name s })
+      (record { value = refl; notes = refl; state = name_edited w.edit name s; table = name_table name s; before = name_before name s; lines = name_lines name s })
 
   -- ---- lines that put nothing out
 
@@ -175,22 +215,25 @@ module _ (w : World) where
   Put before toks toks2 = w.V before toks toks2
 
   silent_goes : (s : State) (d d2 : Did (List Token)) → IsSteady w.edit s d d2 → d.value ≡ [] → Goes w itself Put s (Ok d) (Ok d2)
-  silent_goes s d d2 k none = λ found told stand. record {
-    value = d2.value;
-    notes = d2.notes;
-    is = ap (λ (t : State). Ok (did d2.value d2.notes t)) k.state;
-    goes = subst (λ (l : List Token). w.V s.before d.value l) (sym (k.value ∙ none)) (subst (λ (l : List Token). w.V s.before l []) (sym none) (w.v_none s.before));
-    found = subst (λ (t : Table). AreFound w.old t) (sym k.table) found;
-    before = k.before ∙ plus_none s.before ∙ ap (λ (l : List Token). s.before + length l) (sym none);
+  silent_goes s d d2 k none = λ told fits stand. record {
+    fits = steady_fits w s d d2 k fits;
+    counted = k.before ∙ plus_none s.before ∙ ap (λ (l : List Token). s.before + length l) (sym none);
+    begins = none_begins d.value (w.Starts s.before) none;
+    too = λ ends. record {
+      value = d2.value;
+      notes = d2.notes;
+      is = ap (λ (t : State). Ok (did d2.value d2.notes t)) k.state;
+      goes = subst (λ (l : List Token). w.V s.before d.value l) (sym (k.value ∙ none)) (subst (λ (l : List Token). w.V s.before l []) (sym none) (w.v_none s.before));
+    };
   }
 
   pub define_goes : (file new : SourceFile) (at : Pos) (toks : List Token) (s : State)
       → Goes w itself Put s (define_of file at toks s) (define_of new at toks (edited_state w.edit s))
-  define_goes file new at toks s = by (defined_by toks)
+  define_goes file new at toks s = by (defined_by toks) refl
     where
-      by : (o : Option Definition) → Goes w itself Put s (defined_as file at s o) (defined_as new at (edited_state w.edit s) o)
-      by None = tt
-      by (Some m) =
+      by : (o : Option Definition) → defined_by toks ≡ o → Goes w itself Put s (defined_as file at s o) (defined_as new at (edited_state w.edit s) o)
+      by None is = tt
+      by (Some m) is =
           silent_goes s (did [] (define_notes m s) (after_define m s)) (did [] (define_notes m s) (after_define m (edited_state w.edit s)))
           (record {
             value = refl;
@@ -198,6 +241,7 @@ module _ (w : World) where
             state = ap (λ (t : State). record t { macros = with_macro m s.macros }) (name_edited w.edit m.name s);
             table = name_table m.name s;
             before = name_before m.name s;
+            lines = λ h name d e. with_line m d name (s.macros name) (bytes_eq name m.name.text) (defined_no_line toks m is) (h name d) e;
           }) refl
 
   pub undef_goes : (file new : SourceFile) (at : Pos) (toks : List Token) (s : State)
@@ -214,32 +258,33 @@ module _ (w : World) where
             state = ap (λ (t : State). record t { macros = without_macro name.text s.macros }) (name_edited w.edit name s);
             table = name_table name s;
             before = name_before name s;
+            lines = λ h n d e. without_line d n (s.macros n) (bytes_eq n name.text) (h n d) e;
           }) refl
 
   -- ---- include lines
 
   header_or_goes : (file new : SourceFile) (at : Pos) (toks : List Token) (s : State) (o : Option Header)
-      → Goes w nothing Same s (header_or file at toks s o) (header_or new at toks (edited_state w.edit s) o)
+      → Still w Same s (header_or file at toks s o) (header_or new at toks (edited_state w.edit s) o)
   header_or_goes file new at toks s None = tt
   header_or_goes file new at toks s (Some h) =
-      steady_goes w s (did h (Named toks ∷ []) s) (did h (Named toks ∷ []) (edited_state w.edit s)) (record { value = refl; notes = refl; state = refl; table = refl; before = refl })
+      steady_goes w s (did h (Named toks ∷ []) s) (did h (Named toks ∷ []) (edited_state w.edit s)) (record { value = refl; notes = refl; state = refl; table = refl; before = refl; lines = λ h. h })
 
   computed_goes : (file : SourceFile) (text : TextValue) (at : Pos) (toks : List Token) (s : State)
-      → Goes w nothing Same s (computed_header file at toks s) (computed_header (with_text file text) at toks (edited_state w.edit s))
+      → Still w Same s (computed_header file at toks s) (computed_header (with_text file text) at toks (edited_state w.edit s))
   computed_goes file text at toks s =
-      still_then w Same nothing Same s (expanded_in false file toks s) (expanded_in false (with_text file text) toks (edited_state w.edit s))
+      then_still w Same Same s (expanded_in false file toks s) (expanded_in false (with_text file text) toks (edited_state w.edit s))
       (λ out t. header_or file at out t (header_of_toks out)) (λ out t. header_or (with_text file text) at out t (header_of_toks out))
       (expanded_goes file text s (expanding.expansion s.macros file.path toks s.work))
-      (λ a b t r. subst (λ (l : List Token). Goes w nothing Same t (header_or file at a t (header_of_toks a)) (header_or (with_text file text) at l (edited_state w.edit t) (header_of_toks l))) (sym r)
+      (λ a b t r. subst (λ (l : List Token). Still w Same t (header_or file at a t (header_of_toks a)) (header_or (with_text file text) at l (edited_state w.edit t) (header_of_toks l))) (sym r)
       (header_or_goes file (with_text file text) at a t (header_of_toks a)))
 
   named_goes : (file : SourceFile) (text : TextValue) (at : Pos) (toks : List Token) (s : State)
-      → Goes w nothing Same s (header_named file at toks s) (header_named (with_text file text) at toks (edited_state w.edit s))
+      → Still w Same s (header_named file at toks s) (header_named (with_text file text) at toks (edited_state w.edit s))
   named_goes file text at [] s = tt
   named_goes file text at (t ∷ toks) s =
-      goes_cond w nothing Same s (is_header t.kind) (only (header_in t.text) s) (computed_header file at (t ∷ toks) s)
+      still_cond w Same s (is_header t.kind) (only (header_in t.text) s) (computed_header file at (t ∷ toks) s)
       (only (header_in t.text) (edited_state w.edit s)) (computed_header (with_text file text) at (t ∷ toks) (edited_state w.edit s))
-      (goes_only w nothing Same s (header_in t.text) (header_in t.text) refl refl) (computed_goes file text at (t ∷ toks) s)
+      (still_only w Same s (header_in t.text) (header_in t.text) refl) (computed_goes file text at (t ∷ toks) s)
 
   -- the items of an included file
   abbrev pub ProcessGoes : Process → Process → Type 0

@@ -21,7 +21,7 @@ use Rattle.include_tree.specs.Walk.{ItemText, items_in}
 use Rattle.reordered_unit_laws.specs.Edited.{edited_found, edited_files, edited_source, edited_state}
 use Rattle.reordered_unit_laws.specs.Walking.{AreItemsAlike, text_items, KeepsTexts, with_text, IsEdited}
 use Rattle.reordered_unit_laws.proofs.EditedLemmas.{number_edited, found_edited, opened_edited, number_opened, files_edited, bytes_edited, search_edited, found_is}
-use Rattle.reordered_unit_laws.proofs.StepLemmas.{World, Goes, nothing, plus_none}
+use Rattle.reordered_unit_laws.proofs.StepLemmas.{World, Still}
 
 -- ---- files that go with others
 
@@ -160,17 +160,14 @@ abbrev pub FileGoes : World → ℕ → SourceFile → SourceFile → Type 0
 FileGoes w before file new = IsOther w file new
 
 opened_goes : (w : World) (place : Place) (path : List ℕ) (s : State) (o new : Opening) → opening the_limits file_text place path s.table ≡ o → (AreFound w.old s.table → OpensToo w o new)
-    → Goes w nothing (FileGoes w) s (with_opened s o) (with_opened (edited_state w.edit s) new)
+    → Still w (FileGoes w) s (with_opened s o) (with_opened (edited_state w.edit s) new)
 opened_goes w place path s (Err found) new is h = tt
-opened_goes w place path s (Ok r) new is h = λ found told stand.
-    let k = h found in
+opened_goes w place path s (Ok r) new is h = λ told fits.
+    let k = h fits.0 in
     record {
-      value = k.0;
-      notes = [];
-      is = ap (with_opened (edited_state w.edit s)) k.1;
-      goes = k.2;
-      found = ((opening-as s.table r.1 place path r.0 is).widens w.old).found found;
-      before = plus_none s.before;
+      too = record { value = k.0; notes = []; is = ap (with_opened (edited_state w.edit s)) k.1; goes = k.2 };
+      fits = (((opening-as s.table r.1 place path r.0 is).widens w.old).found fits.0, fits.1);
+      before = refl;
     }
 
 module _ (w : World) (keeps : KeepsTexts w.edit w.old) (ipath : List (List ℕ)) (earlier : ℕ) where
@@ -180,31 +177,31 @@ module _ (w : World) (keeps : KeepsTexts w.edit w.old) (ipath : List (List ℕ))
   abbrev pub ctx2 : Context
   ctx2 = unit_context (edited_source w.edit w.old) ipath earlier
 
-  pub open_goes : (place place2 : Place) (path : List ℕ) (s : State) → Goes w nothing (FileGoes w) s (open_file ctx place path s) (open_file ctx2 place2 path (edited_state w.edit s))
+  pub open_goes : (place place2 : Place) (path : List ℕ) (s : State) → Still w (FileGoes w) s (open_file ctx place path s) (open_file ctx2 place2 path (edited_state w.edit s))
   open_goes place place2 path s =
       opened_goes w place path s (opening the_limits file_text place path s.table) (opening the_limits file_text place2 path (edited_files w.edit s.table)) refl
       (λ found. opening_too w keeps place place2 path s.table found)
 
   -- a step from a table that holds what the source does
   pub from_table : {A : Type 0} (W : ℕ → A → A → Type 0) (s : State) (t : Table) (m new : Outcome A) → (AreFound w.old s.table → AreFound w.old t)
-      → Goes w nothing W (record s { table = t }) m new → Goes w nothing W s m new
+      → Still w W (record s { table = t }) m new → Still w W s m new
   from_table W s t (Err fault) new more h = tt
-  from_table W s t (Ok d) new more h = λ found told stand.
-      let k = h (more found) told stand in
-      record { value = k.value; notes = k.notes; is = k.is; goes = k.goes; found = k.found; before = k.before }
+  from_table W s t (Ok d) new more h = λ told fits.
+      let k = h told (more fits.0, fits.1) in
+      record { too = record { value = k.too.value; notes = k.too.notes; is = k.too.is; goes = k.too.goes }; fits = k.fits; before = k.before }
 
   searched_goes : (file : SourceFile) (text : TextValue) (at : Pos) (s : State) (u : Table) (o : Option (List ℕ))
-      → Goes w nothing (FileGoes w) (record s { table = u }) (open_searched ctx file at s (searched o u) o)
+      → Still w (FileGoes w) (record s { table = u }) (open_searched ctx file at s (searched o u) o)
       (open_searched ctx2 (with_text file text) at (edited_state w.edit s) (searched o (edited_files w.edit u)) o)
   searched_goes file text at s u None = tt
   searched_goes file text at s u (Some path) = open_goes (place_in file at) (place_in (with_text file text) at) path (record s { table = u })
 
   pub header_goes : (file : SourceFile) (text : TextValue) (at : Pos) (h : Header) (s : State)
-      → Goes w nothing (FileGoes w) s (open_header ctx file at h s) (open_header ctx2 (with_text file text) at h (edited_state w.edit s))
+      → Still w (FileGoes w) s (open_header ctx file at h s) (open_header ctx2 (with_text file text) at h (edited_state w.edit s))
   header_goes file text at h s =
       let paths : List (List ℕ) = candidates_of h file.path ipath in
       let d : Searched = search w.old paths s.table in
-      subst (λ (x : Searched). Goes w nothing (FileGoes w) s (open_searched ctx file at s d d.path) (open_searched ctx2 (with_text file text) at (edited_state w.edit s) x x.path))
+      subst (λ (x : Searched). Still w (FileGoes w) s (open_searched ctx file at s d d.path) (open_searched ctx2 (with_text file text) at (edited_state w.edit s) x x.path))
       (sym (search_edited w.edit w.old paths s.table))
       (from_table (FileGoes w) s d.table (open_searched ctx file at s d d.path) (open_searched ctx2 (with_text file text) at (edited_state w.edit s) (searched d.path (edited_files w.edit d.table)) d.path)
       (search_wide w.old paths s.table).found

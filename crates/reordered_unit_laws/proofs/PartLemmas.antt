@@ -1,11 +1,12 @@
 -- A cut falls into parts where no list goes on from one to the other.
 use Rattle.std.proofs.Common.{◌≡◌, ℕ, ◌+◌, ◌-◌, ◌<◌, ◌≤◌, Bool, true, false, cond, List, [], ◌++◌, length, take, drop, refl, ap, sym, ◌∙◌, arith, append_assoc, length-drop}
-use Rattle.std.specs.Prelude.{nat_le, ◌==◌, ◌||◌}
+use Rattle.std.specs.Prelude.{nat_le, ◌==◌, ◌&&◌, ◌||◌}
 use Rattle.std.proofs.lemmas.Bool.{le-leb, lt-leb, leb-true, leb-false, eqb-true}
 use Rattle.std.proofs.lemmas.List.{nil_from_length, take-append-le, drop-append-le}
 use Rattle.std.proofs.Math.Seq.{take-append-add, drop-append-add}
 use Rattle.list_cuts.specs.Cuts.{Cut, done, keep, list, Items, span_of, picked, woven, gaps_of, arranged, items_of, AreOf}
 use Rattle.list_cuts.specs.CutOf.{front, back, is_between}
+use Rattle.arranged_laws.specs.Arranging.{in_lists}
 use Rattle.list_cuts.proofs.CutLemmas.{gaps_of-append, items_of-append}
 
 or_right : (b c : Bool) → c ≡ true → (b || c) ≡ true
@@ -15,6 +16,14 @@ or_right false c h = h
 or_false : (b c : Bool) → b ≡ false → (b || c) ≡ true → c ≡ true
 or_false true c h k = absurd cc
 or_false false c h k = k
+
+pub or_none : (b c : Bool) → (b || c) ≡ false → (b ≡ false) × (c ≡ false)
+or_none true c h = absurd cc
+or_none false c h = (refl, h)
+
+pub and_rest : (b c : Bool) → b ≡ true → (b && c) ≡ false → c ≡ false
+and_rest true c h k = k
+and_rest false c h k = absurd cc
 
 pub of_front : (n m : ℕ) (c : Cut) → AreOf n c → AreOf n (front m c)
 unfolding front
@@ -144,3 +153,131 @@ falls order n (keep k c) xs rest long h =
     keep_falls order n k c xs rest long (falls order (n - k) c (drop k xs) rest (short k n xs long)) h (nat_le n k) refl
 falls order n (list is c) xs rest long h =
     list_falls order n is c xs rest long (falls order (n - span_of is) c (drop (span_of is) xs) rest (short (span_of is) n xs long)) (nat_le (span_of is) n) refl h
+
+-- ---- places in lists
+
+-- what is in no list is between lists
+keep_between : (from b k : ℕ) (c : Cut) → in_lists (from + k) c (from + b) ≡ false → (in_lists (from + k) c (from + k + (b - k)) ≡ false → is_between (b - k) c ≡ true) → (x : Bool) → nat_le b k ≡ x
+    → (x || is_between (b - k) c) ≡ true
+keep_between from b k c h later true e = refl
+keep_between from b k c h later false e =
+    let lt : k < b = leb-false b k e in
+    let same : from + b ≡ from + k + (b - k) = omega (arith, lt) in
+    later (ap (λ (i : ℕ). in_lists (from + k) c i) (sym same) ∙ h)
+
+list_between : (from b : ℕ) (is : Items) (c : Cut) → ((nat_le from (from + b) && nat_le (from + b) (from + span_of is)) || in_lists (from + span_of is) c (from + b)) ≡ false
+    → (in_lists (from + span_of is) c (from + span_of is + (b - span_of is)) ≡ false → is_between (b - span_of is) c ≡ true) → (x : Bool) → nat_le (span_of is) b ≡ x
+    → cond x (is_between (b - span_of is) c) (b == 0) ≡ true
+list_between from b is c h later true e =
+    let le : span_of is ≤ b = leb-true (span_of is) b e in
+    let same : from + b ≡ from + span_of is + (b - span_of is) = omega (arith, le) in
+    let parts = or_none (nat_le from (from + b) && nat_le (from + b) (from + span_of is)) (in_lists (from + span_of is) c (from + b)) h in
+    later (ap (λ (i : ℕ). in_lists (from + span_of is) c i) (sym same) ∙ parts.1)
+list_between from b is c h later false e =
+    let parts = or_none (nat_le from (from + b) && nat_le (from + b) (from + span_of is)) (in_lists (from + span_of is) c (from + b)) h in
+    let far = leb-false (from + b) (from + span_of is) (and_rest (nat_le from (from + b)) (nat_le (from + b) (from + span_of is)) (le-leb from (from + b) (omega arith)) parts.0) in
+    let near = leb-false (span_of is) b e in
+    absurd (omega (arith, near, far))
+
+pub no_list_between : (from b : ℕ) (c : Cut) → in_lists from c (from + b) ≡ false → is_between b c ≡ true
+unfolding in_lists is_between
+no_list_between from b done h = refl
+no_list_between from b (keep k c) h = keep_between from b k c h (no_list_between (from + k) (b - k) c) (nat_le b k) refl
+no_list_between from b (list is c) h = list_between from b is c h (no_list_between (from + span_of is) (b - span_of is) c) (nat_le (span_of is) b) refl
+
+-- ---- lists in a part
+
+-- what is in a list of a part is in one of the whole
+in_front : (from n : ℕ) (c : Cut) (at : ℕ) → in_lists from (front n c) at ≡ true → in_lists from c at ≡ true
+unfolding in_lists front
+in_front from n done at h = h
+in_front from n (keep k c) at h = by (nat_le n k) (in_front (from + k) (n - k) c at) h
+  where
+    by : (x : Bool) → (in_lists (from + k) (front (n - k) c) at ≡ true → in_lists (from + k) c at ≡ true) → in_lists from (cond x done (keep k (front (n - k) c))) at ≡ true
+        → in_lists (from + k) c at ≡ true
+    by true later e = absurd cc
+    by false later e = later e
+in_front from n (list is c) at h = by (nat_le (span_of is) n) (in_front (from + span_of is) (n - span_of is) c at) h
+  where
+    here : Bool
+    here = nat_le from at && nat_le at (from + span_of is)
+
+    either : (x : Bool) (y z : Bool) → (y ≡ true → z ≡ true) → (x || y) ≡ true → (x || z) ≡ true
+    either true y z more e = refl
+    either false y z more e = more e
+
+    by : (x : Bool) → (in_lists (from + span_of is) (front (n - span_of is) c) at ≡ true → in_lists (from + span_of is) c at ≡ true)
+        → in_lists from (cond x (list is (front (n - span_of is) c)) done) at ≡ true
+        → ((nat_le from at && nat_le at (from + span_of is)) || in_lists (from + span_of is) c at) ≡ true
+    by true later e =
+        either (nat_le from at && nat_le at (from + span_of is)) (in_lists (from + span_of is) (front (n - span_of is) c) at) (in_lists (from + span_of is) c at) later e
+    by false later e = absurd cc
+
+keep_in : (from b m : ℕ) (c : Cut) (at : ℕ) → (is_between (b - m) c ≡ true → in_lists (from + m + (b - m)) (back (b - m) c) at ≡ true → in_lists (from + m) c at ≡ true)
+    → (nat_le b m || is_between (b - m) c) ≡ true → (x : Bool) → nat_le b m ≡ x → in_lists (from + b) (cond x (keep (m - b) c) (back (b - m) c)) at ≡ true → in_lists (from + m) c at ≡ true
+unfolding in_lists
+keep_in from b m c at later h true e l =
+    let same : from + b + (m - b) ≡ from + m = omega (arith, leb-true b m e) in
+    ap (λ (i : ℕ). in_lists i c at) (sym same) ∙ l
+keep_in from b m c at later h false e l =
+    let lt : m < b = leb-false b m e in
+    let same : from + b ≡ from + m + (b - m) = omega (arith, lt) in
+    later (or_false (nat_le b m) (is_between (b - m) c) e h) (ap (λ (i : ℕ). in_lists i (back (b - m) c) at) (sym same) ∙ l)
+
+list_in : (from b : ℕ) (is : Items) (c : Cut) (at : ℕ) → (is_between (b - span_of is) c ≡ true → in_lists (from + span_of is + (b - span_of is)) (back (b - span_of is) c) at ≡ true → in_lists (from + span_of is) c at ≡ true)
+    → (x : Bool) → nat_le (span_of is) b ≡ x → cond x (is_between (b - span_of is) c) (b == 0) ≡ true → in_lists (from + b) (cond x (back (b - span_of is) c) (list is c)) at ≡ true
+    → in_lists from (list is c) at ≡ true
+unfolding in_lists
+list_in from b is c at later true e bet l =
+    let le : span_of is ≤ b = leb-true (span_of is) b e in
+    let same : from + b ≡ from + span_of is + (b - span_of is) = omega (arith, le) in
+    or_right (nat_le from at && nat_le at (from + span_of is)) (in_lists (from + span_of is) c at)
+    (later bet (ap (λ (i : ℕ). in_lists i (back (b - span_of is) c) at) (sym same) ∙ l))
+list_in from b is c at later false e bet l =
+    let none : from + b ≡ from = omega (arith, eqb-true b 0 bet) in
+    ap (λ (i : ℕ). in_lists i (list is c) at) (sym none) ∙ l
+
+in_back : (from b : ℕ) (c : Cut) (at : ℕ) → is_between b c ≡ true → in_lists (from + b) (back b c) at ≡ true → in_lists from c at ≡ true
+unfolding in_lists back is_between
+in_back from b done at h k = k
+in_back from b (keep m c) at h k = keep_in from b m c at (in_back (from + m) (b - m) c at) h (nat_le b m) refl k
+in_back from b (list is c) at h k = list_in from b is c at (in_back (from + span_of is) (b - span_of is) c at) (nat_le (span_of is) b) refl h k
+
+-- numbers go along
+le_moved : (b x y : ℕ) → nat_le x y ≡ nat_le (b + x) (b + y)
+le_moved b x y = by (nat_le x y) refl
+  where
+    by : (z : Bool) → nat_le x y ≡ z → z ≡ nat_le (b + x) (b + y)
+    by true e = sym (le-leb (b + x) (b + y) (omega (arith, leb-true x y e)))
+    by false e = sym (lt-leb (b + x) (b + y) (omega (arith, leb-false x y e)))
+
+in_moved : (b from : ℕ) (c : Cut) (at : ℕ) → in_lists from c at ≡ in_lists (b + from) c (b + at)
+unfolding in_lists
+in_moved b from done at = refl
+in_moved b from (keep k c) at =
+    let same : b + (from + k) ≡ b + from + k = omega arith in
+    in_moved b (from + k) c at ∙ ap (λ (i : ℕ). in_lists i c (b + at)) same
+in_moved b from (list is c) at =
+    let same : b + (from + span_of is) ≡ b + from + span_of is = omega arith in
+    ap (λ (x : Bool). (x && nat_le at (from + span_of is)) || in_lists (from + span_of is) c at) (le_moved b from at)
+    ∙ ap (λ (x : Bool). (nat_le (b + from) (b + at) && x) || in_lists (from + span_of is) c at) (le_moved b at (from + span_of is))
+    ∙ ap (λ (x : Bool). (nat_le (b + from) (b + at) && nat_le (b + at) (b + (from + span_of is))) || x) (in_moved b (from + span_of is) c at)
+    ∙ ap (λ (i : ℕ). (nat_le (b + from) (b + at) && nat_le (b + at) i) || in_lists i c (b + at)) same
+
+-- what is in a list of a part
+pub in_part : (b n : ℕ) (c : Cut) (at : ℕ) → is_between b c ≡ true → in_lists 0 (front n (back b c)) at ≡ true → in_lists 0 c (b + at) ≡ true
+in_part b n c at h k =
+    let one : in_lists 0 (back b c) at ≡ true = in_front 0 n (back b c) at k in
+    let same : b + 0 ≡ 0 + b = omega arith in
+    in_back 0 b c (b + at) h (ap (λ (i : ℕ). in_lists i (back b c) (b + at)) (sym same) ∙ sym (in_moved b 0 (back b c) at) ∙ one)
+
+-- what is in no list of the whole is in none of what is behind
+pub not_in_back : (b : ℕ) (c : Cut) (at : ℕ) → is_between b c ≡ true → in_lists 0 c at ≡ false → in_lists b (back b c) at ≡ false
+not_in_back b c at h k = by (in_lists b (back b c) at) refl
+  where
+    by : (x : Bool) → in_lists b (back b c) at ≡ x → x ≡ false
+    by false e = refl
+    by true e =
+        let same : 0 + b ≡ b = omega arith in
+        let inside : in_lists 0 c at ≡ true = in_back 0 b c at h (ap (λ (i : ℕ). in_lists i (back b c) at) same ∙ e) in
+        sym inside ∙ k

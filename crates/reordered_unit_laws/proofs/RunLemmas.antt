@@ -1,5 +1,5 @@
 -- Runs of text lines over the edited files.
-use Rattle.std.proofs.Common.{◌≡◌, ℕ, ◌+◌, ◌-◌, Bool, true, false, cond, List, [], ◌++◌, length, map, drop, Some, Result, Ok, Err, refl, ap, sym, ◌∙◌, nat_lt}
+use Rattle.std.proofs.Common.{◌≡◌, ℕ, ◌+◌, ◌-◌, Bool, true, false, cond, List, [], ◌++◌, length, map, drop, Some, Result, Ok, Err, refl, ap, sym, subst, ◌∙◌, nat_lt}
 use Rattle.std.specs.Prelude.{slice_get}
 use Rattle.std.specs.Option.{option_map}
 use Rattle.std.proofs.lemmas.List.{length-map}
@@ -30,7 +30,7 @@ pub record RunToo (w : World) (file : SourceFile) (j : ItemText) (s : State) (e 
 
 abbrev pub RunsToo : World → Type 0
 RunsToo w = (file : SourceFile) (text : TextValue) (k : ℕ) (i j : ItemText) (s : State) (e : expansion.Expanded)
-    → IsReachedRun w.edit w.old w.told w.all file text k i j s e → RunToo w file j s e
+    → IsReachedRun w.edit w.old w.told w.all file text k i j s e → w.Starts (s.before + length e.toks) → RunToo w file j s e
 
 noted_at : (w : World) (before : ℕ) (notes : List expansion.Note) → AreAmong w.told (map (Happened true before) notes)
     → (note : expansion.Note) → IsOf notes note → IsOf w.told (Happened true before note)
@@ -59,35 +59,38 @@ module _ (w : World) (runs : RunsToo w) (ipath : List (List ℕ)) (earlier : ℕ
           (noted (map (Happened true s.before) e.notes) (cond b (Err (past_limit file (drop (most_toks one - s.before) (toks_of e.toks)))) (only (toks_of e.toks) (record s { work = e.left; before = s.before + length (toks_of e.toks) }))))
           new
       put e e_is true few = tt
-      put e e_is false few = λ found told stand.
-          let happened = (of_split w.told (map (Happened true s.before) e.notes) [] told).0 in
-          let g = runs file text k i j s e (record {
-            edited = edited;
-            item = at;
-            item2 = at2;
-            run = is_run;
-            reached = reached;
-            expands = e_is;
-            notes = noted_at w s.before e.notes happened;
-            toks = stand;
-          }) in
-          let many : length (toks_of g.e2.toks) ≡ length (toks_of e.toks) = length-map g.e2.toks (λ h. h.tok) ∙ g.many ∙ sym (length-map e.toks (λ h. h.tok)) in
-          let notes2 : List Note = map (Happened true s.before) g.e2.notes in
-          let next : State → Outcome (List Token) = λ t. put_out two (with_text file text) (toks_of g.e2.toks) t in
-          record {
-            value = toks_of g.e2.toks;
-            notes = notes2 ++ [];
-            is =
-                ap (λ r. onward (expanded_as true (with_text file text) (edited_state w.edit s) r) (put_out two (with_text file text))) g.expands
-                ∙ ap (λ (b : Bool). noted notes2 (cond b (Err (past_limit (with_text file text) (drop (most_toks two - s.before) (toks_of g.e2.toks))))
-                (only (toks_of g.e2.toks) (record (edited_state w.edit s) { work = g.e2.left; before = s.before + length (toks_of g.e2.toks) }))))
-                (ap (λ (n : ℕ). nat_lt (most_toks one) (s.before + n)) many ∙ few)
-                ∙ ap (λ (n : ℕ). Ok (did (toks_of g.e2.toks) (notes2 ++ []) (record (edited_state w.edit s) { work = g.e2.left; before = s.before + n }))) many
-                ∙ ap (λ (n : ℕ). Ok (did (toks_of g.e2.toks) (notes2 ++ []) (record (edited_state w.edit s) { work = n; before = s.before + length (toks_of e.toks) }))) g.left;
-            goes = g.goes;
-            found = found;
-            before = refl;
-          }
+      put e e_is false few = λ told fits stand. record {
+        fits = fits;
+        counted = refl;
+        begins = λ some. w.starts file.number k false s.before reached;
+        too = λ ends.
+            let happened = (of_split w.told (map (Happened true s.before) e.notes) [] told).0 in
+            let g = runs file text k i j s e (record {
+              edited = edited;
+              item = at;
+              item2 = at2;
+              run = is_run;
+              reached = reached;
+              expands = e_is;
+              lines = fits.1;
+              notes = noted_at w s.before e.notes happened;
+              toks = stand;
+            }) (subst w.Starts (ap (λ (n : ℕ). s.before + n) (length-map e.toks (λ h. h.tok))) ends) in
+            let many : length (toks_of g.e2.toks) ≡ length (toks_of e.toks) = length-map g.e2.toks (λ h. h.tok) ∙ g.many ∙ sym (length-map e.toks (λ h. h.tok)) in
+            let notes2 : List Note = map (Happened true s.before) g.e2.notes in
+            record {
+              value = toks_of g.e2.toks;
+              notes = notes2 ++ [];
+              is =
+                  ap (λ r. onward (expanded_as true (with_text file text) (edited_state w.edit s) r) (put_out two (with_text file text))) g.expands
+                  ∙ ap (λ (b : Bool). noted notes2 (cond b (Err (past_limit (with_text file text) (drop (most_toks two - s.before) (toks_of g.e2.toks))))
+                  (only (toks_of g.e2.toks) (record (edited_state w.edit s) { work = g.e2.left; before = s.before + length (toks_of g.e2.toks) }))))
+                  (ap (λ (n : ℕ). nat_lt (most_toks one) (s.before + n)) many ∙ few)
+                  ∙ ap (λ (n : ℕ). Ok (did (toks_of g.e2.toks) (notes2 ++ []) (record (edited_state w.edit s) { work = g.e2.left; before = s.before + n }))) many
+                  ∙ ap (λ (n : ℕ). Ok (did (toks_of g.e2.toks) (notes2 ++ []) (record (edited_state w.edit s) { work = n; before = s.before + length (toks_of e.toks) }))) g.left;
+              goes = g.goes;
+            };
+      }
 
       by : (r : Result expansion.Expanded expansion.Fault) → expanding.expansion s.macros file.path i.toks s.work ≡ r
           → Goes w itself w.V s (onward (expanded_as true file s r) (put_out one file)) new

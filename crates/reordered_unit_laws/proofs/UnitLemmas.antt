@@ -1,10 +1,16 @@
 -- Units over the edited files.
-use Rattle.std.proofs.Common.{◌≡◌, ℕ, ◌+◌, ◌-◌, Bool, true, false, cond, List, [], ◌∷◌, ◌++◌, length, take, drop, Ok, Err, refl, ap, sym, subst, ◌∙◌, arith, length-append, append_assoc, append-nil}
+use Rattle.std.proofs.Common.{◌≡◌, ℕ, ◌+◌, ◌-◌, Bool, true, false, cond, List, [], ◌∷◌, ◌++◌, length, take, drop, codes, Some, None, Ok, Err, refl, ap, sym, subst, ◌∙◌, arith, length-append, append_assoc, append-nil}
 use Rattle.std.specs.Prelude.{nat_le}
+use Rattle.std.specs.Str.{bytes_eq}
 use Rattle.std.proofs.lemmas.Bool.{leb-true, le-leb}
+use Rattle.std.proofs.lemmas.Option.{none-some, same_Some}
+use Rattle.std.proofs.lemmas.Slice.Eq.{bytes_eq-Decides}
 use Rattle.std.proofs.lemmas.List.{map-append, nil_from_length, length-map}
 use Rattle.include_tree.specs.Below.cs_base.Token.{Token}
 use Rattle.include_tree.specs.Below.cs_base.Units.{UnitValue, defines_text}
+use Rattle.include_tree.specs.Below.macro_body.declared.definitions.Form.TheVariants as form
+use Rattle.include_tree.specs.Below.macro_body.declared.definitions.Definition.{Definition}
+use Rattle.include_tree.specs.Below.macro_body.Defining.{line_macro, file_macro, first_macros}
 use Rattle.include_tree.specs.Below.part_lexer.FileText.{file_text}
 use Rattle.include_tree.specs.Below.source_files.Faults.{first_place}
 use Rattle.include_tree.specs.Below.source_files.Files.{Made, SourceFile, Table, Carried, defines_path, asked}
@@ -22,7 +28,7 @@ use Rattle.list_cuts.proofs.CutLemmas.{length-arranged, gaps_of-append, items_of
 use Rattle.reordered_unit_laws.specs.Edited.{Edit, edited_files, edited_source, edited_carried, edited_state}
 use Rattle.reordered_unit_laws.specs.Walking.{KeepsTexts, plain, plains, GoAlong, UnitsGoAlike}
 use Rattle.reordered_unit_laws.proofs.EditedLemmas.{numbered_edited, asked_edited, found_more}
-use Rattle.reordered_unit_laws.proofs.StepLemmas.{World, GoesToo, Goes, itself, AreAmong, of_itself, StandAt, still_then}
+use Rattle.reordered_unit_laws.proofs.StepLemmas.{World, LineMacros, PutsToo, Goes, itself, AreAmong, of_itself, StandAt, still_then}
 use Rattle.reordered_unit_laws.proofs.OpenLemmas.{FileGoes, ctx, ctx2, open_goes}
 use Rattle.reordered_unit_laws.proofs.RunLemmas.{RunsToo}
 use Rattle.reordered_unit_laws.proofs.WalkLemmas.{goes_more, goes_map, files_go}
@@ -45,9 +51,14 @@ module _ (w : World) (runs : RunsToo w) (keeps : KeepsTexts w.edit w.old) (ipath
   -- a step from another table
   table_goes : (s : State) (t : Table) (m new : Outcome (List Token)) → (AreFound w.old s.table → AreFound w.old t) → Goes w itself w.V (record s { table = t }) m new → Goes w itself w.V s m new
   table_goes s t (Err fault) new more h = tt
-  table_goes s t (Ok d) new more h = λ found told stand.
-      let k = h (more found) told stand in
-      record { value = k.value; notes = k.notes; is = k.is; goes = k.goes; found = k.found; before = k.before }
+  table_goes s t (Ok d) new more h = λ told fits stand.
+      let k = h told (more fits.0, fits.1) stand in
+      record {
+        fits = k.fits;
+        counted = k.counted;
+        begins = k.begins;
+        too = λ ends. let x = k.too ends in record { value = x.value; notes = x.notes; is = x.is; goes = x.goes };
+      }
 
   main_goes : (path : List ℕ) (s : State) → Goes w itself w.V s (main_file (ctx w keeps ipath earlier) path s) (main_file (ctx2 w keeps ipath earlier) path (edited_state w.edit s))
   main_goes path s =
@@ -58,7 +69,7 @@ module _ (w : World) (runs : RunsToo w) (keeps : KeepsTexts w.edit w.old) (ipath
 
   files_of_goes : (defines path : List ℕ) (s : State) → Goes w itself w.V s (both_files (ctx w keeps ipath earlier) defines path s) (both_files (ctx2 w keeps ipath earlier) defines path (edited_state w.edit s))
   files_of_goes defines path s =
-      goes_more w itself (λ x y. Unit {0}) s (outer_file (ctx w keeps ipath earlier) defines s) (outer_file (ctx2 w keeps ipath earlier) defines (edited_state w.edit s))
+      goes_more w itself (λ x y. Unit {0}) (λ x. tt) s (outer_file (ctx w keeps ipath earlier) defines s) (outer_file (ctx2 w keeps ipath earlier) defines (edited_state w.edit s))
       (λ toks t. main_file (ctx w keeps ipath earlier) path t) (λ toks t. main_file (ctx2 w keeps ipath earlier) path t)
       (goes_map w itself w.V (λ b x y. Unit {0} × w.V b x y) s (outer_file (ctx w keeps ipath earlier) defines s) (outer_file (ctx2 w keeps ipath earlier) defines (edited_state w.edit s))
       (λ b x y v. (tt, v)) (outer_goes defines s))
@@ -70,6 +81,18 @@ first_edited : (edit : Edit) (number : ℕ) (unit : UnitValue) (t : Table) → f
 first_edited edit number unit t =
     ap (λ (u : Table). record (first_state the_limits number unit t) { table = u }) (sym (numbered_edited edit (defines_path number) (Made (defines_text unit.standard unit.settings)) t))
 
+-- `__LINE__` alone stands for the number of a line at first
+first_by : (name : List ℕ) (m : Definition) (a b : Bool) → bytes_eq name (codes "__LINE__") ≡ b → cond a (Some file_macro) (cond b (Some line_macro) None) ≡ Some m → m.form ≡ form.Line
+    → (m.name ≡ line_macro.name) × (name ≡ codes "__LINE__")
+first_by name m true b is e h =
+    let other : form.File ≡ form.Line = ap (λ (d : Definition). d.form) (same_Some file_macro m e) ∙ h in
+    absurd cc
+first_by name m false true is e h = (ap (λ (d : Definition). d.name) (sym (same_Some line_macro m e)), (bytes_eq-Decides name (codes "__LINE__")).0 is)
+first_by name m false false is e h = absurd (none-some m e)
+
+first_lines : LineMacros first_macros
+first_lines = λ name m e h. first_by name m (bytes_eq name (codes "__FILE__")) (bytes_eq name (codes "__LINE__")) refl e h
+
 pub record UnitToo (w : World) (number : ℕ) (unit : UnitValue) (before : Carried) (d : Did (List Token)) : Type 0 where
   pub toks : List Token
   pub notes : List Note
@@ -77,31 +100,34 @@ pub record UnitToo (w : World) (number : ℕ) (unit : UnitValue) (before : Carri
   pub goes : w.V 0 d.value toks
 
 pub unit_goes : (w : World) → RunsToo w → KeepsTexts w.edit w.old → (number : ℕ) (unit : UnitValue) (before : Carried) (d : Did (List Token))
-    → unit_outcome the_limits file_text w.old number unit before ≡ Ok d → AreFound w.old before.table → d.notes ≡ w.told → d.value ≡ w.all → UnitToo w number unit before d
-unit_goes w runs keeps number unit before d is found told all =
+    → unit_outcome the_limits file_text w.old number unit before ≡ Ok d → AreFound w.old before.table → d.notes ≡ w.told → d.value ≡ w.all → w.Starts (length d.value) → UnitToo w number unit before d
+unit_goes w runs keeps number unit before d is found told all ends =
     let s : State = first_state the_limits number unit before.table in
     let goes = files_of_goes w runs keeps unit.ipath before.toks (defines_path number) unit.path s in
     let new : Outcome (List Token) = both_files (ctx2 w keeps unit.ipath before.toks) (defines_path number) unit.path (edited_state w.edit s) in
     let done : Goes w itself w.V s (Ok d) new = subst (λ (m : Outcome (List Token)). Goes w itself w.V s m new) is goes in
-    let k : GoesToo w itself w.V s d new =
-    done (found_more w.old (defines_path number) (defines_text unit.standard unit.settings) before.table found)
-    (subst (λ (l : List Note). AreAmong w.told l) (sym told) (of_itself w.told))
+    let k : PutsToo w itself w.V s d new =
+    done (subst (λ (l : List Note). AreAmong w.told l) (sym told) (of_itself w.told))
+    (found_more w.old (defines_path number) (defines_text unit.standard unit.settings) before.table found, first_lines)
     (subst (λ (l : List Token). StandAt w.all 0 l) (sym all) (λ m t at. let same : 0 + m ≡ m = omega arith in rw same at)) in
+    let count = k.counted in
+    let last : length d.value ≡ d.state.before = omega (arith, count) in
+    let x = k.too (subst w.Starts last ends) in
     record {
-      toks = k.value;
-      notes = k.notes;
-      is = ap (both_files (ctx2 w keeps unit.ipath before.toks) (defines_path number) unit.path) (first_edited w.edit number unit before.table) ∙ k.is;
-      goes = k.goes;
+      toks = x.value;
+      notes = x.notes;
+      is = ap (both_files (ctx2 w keeps unit.ipath before.toks) (defines_path number) unit.path) (first_edited w.edit number unit before.table) ∙ x.is;
+      goes = x.goes;
     }
 
 -- ---- along the cut
 
-along_none : (order : List ℕ) (c : Cut) (before : ℕ) → GoAlong order c before [] []
+pub along_none : (order : List ℕ) (c : Cut) (before : ℕ) → GoAlong order c before [] []
 along_none order c before = λ rest.
     let same : before ≡ before + 0 = omega arith in
     ap (λ (b : ℕ). arranged order (back b c) rest) same
 
-along_both : (order : List ℕ) (c : Cut) (before : ℕ) (xs xs2 ys ys2 : List Token) → GoAlong order c before xs xs2 → GoAlong order c (before + length xs) ys ys2
+pub along_both : (order : List ℕ) (c : Cut) (before : ℕ) (xs xs2 ys ys2 : List Token) → GoAlong order c before xs xs2 → GoAlong order c (before + length xs) ys ys2
     → GoAlong order c before (xs ++ ys) (xs2 ++ ys2)
 along_both order c before xs xs2 ys ys2 h k = λ rest.
     let far : before + length xs + length ys ≡ before + length (xs ++ ys) = omega (arith, length-append xs ys) in
@@ -161,6 +187,14 @@ back_none n order (list js c) xs is of = empty (nat_le (span_of js) 0) refl (bac
         ∙ ap (λ (l : List _). l ++ arranged order c (drop (span_of js) xs)) first
         ∙ ap (λ (m : ℕ). arranged order c (drop m xs)) none)
 
+-- the whole of the tokens
+pub along_all : (n : ℕ) (order : List ℕ) (c : Cut) → IsOrder n order → AreOf n c → (xs ys : List Token) → GoAlong order c 0 xs ys → plains ys ≡ arranged order c (plains xs)
+along_all n order c is_order of xs ys goes =
+    let all : arranged order (back 0 c) (plains xs ++ []) ≡ plains ys ++ arranged order (back (0 + length xs) c) [] = goes [] in
+    let ends : arranged order (back (0 + length xs) c) [] ≡ [] = arranged_none n order (back (0 + length xs) c) is_order (of_back n (0 + length xs) c of) in
+    sym (append-nil (plains ys)) ∙ sym (ap (λ (l : List _). plains ys ++ l) ends) ∙ sym all
+    ∙ ap (arranged order (back 0 c)) (append-nil (plains xs)) ∙ back_none n order c (plains xs) is_order of
+
 pub units_go_alike : UnitsGoAlike
 units_go_alike = λ edit n order c old number unit before d is_order of is found keeps runs.
     let w : World = record {
@@ -171,16 +205,14 @@ units_go_alike = λ edit n order c old number unit before d is_order of is found
       V = GoAlong order c;
       v_none = along_none order c;
       v_both = along_both order c;
+      Starts = λ b. Unit {0};
+      starts = λ number k evaluated b at. tt;
     } in
-    let too : RunsToo w = λ file text k i j s e at.
+    let too : RunsToo w = λ file text k i j s e at ends.
     let g = runs file text k i j s e at in
     record { e2 = g.e2; expands = g.expands; left = g.left; many = g.many; goes = g.goes } in
-    let k = unit_goes w too keeps number unit before d is found refl refl in
-    let all : arranged order (back 0 c) (plains d.value ++ []) ≡ plains k.toks ++ arranged order (back (0 + length d.value) c) [] = k.goes [] in
-    let ends : arranged order (back (0 + length d.value) c) [] ≡ [] = arranged_none n order (back (0 + length d.value) c) is_order (of_back n (0 + length d.value) c of) in
-    let goes : plains k.toks ≡ arranged order c (plains d.value) =
-    sym (append-nil (plains k.toks)) ∙ sym (ap (λ (l : List _). plains k.toks ++ l) ends) ∙ sym all
-    ∙ ap (arranged order (back 0 c)) (append-nil (plains d.value)) ∙ back_none n order c (plains d.value) is_order of in
+    let k = unit_goes w too keeps number unit before d is found refl refl tt in
+    let goes : plains k.toks ≡ arranged order c (plains d.value) = along_all n order c is_order of d.value k.toks k.goes in
     let long = ap length goes ∙ length-arranged n order c (plains d.value) is_order of in
     record {
       toks = k.toks;

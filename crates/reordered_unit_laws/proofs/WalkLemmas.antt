@@ -1,5 +1,5 @@
 -- The items of files over the edited files.
-use Rattle.std.proofs.Common.{◌≡◌, ℕ, zero, suc, ◌+◌, Bool, true, false, not, cond, List, [], ◌∷◌, ◌++◌, drop, Some, None, Ok, Err, refl, ap, sym, subst, ◌∙◌, inl, inr, arith, length-append}
+use Rattle.std.proofs.Common.{◌≡◌, ℕ, zero, suc, ◌+◌, ◌<◌, Bool, true, false, not, cond, List, [], ◌∷◌, ◌++◌, length, drop, Some, None, Ok, Err, refl, ap, sym, subst, ◌∙◌, inl, inr, arith, length-append}
 use Rattle.std.specs.Prelude.{slice_get}
 use Rattle.std.proofs.lemmas.Bool.{cases_Bool}
 use Rattle.include_tree.specs.Below.cs_base.declared.causes.Cause.TheVariants as cause
@@ -20,51 +20,74 @@ use Rattle.include_tree.specs.Sections.{Group, Processed, Awaited, Over, Skipped
 use Rattle.include_tree.specs.Walk.{ItemText, items_in, processed, Stepped, stepped, reaching, reaching_alive, go_on, opens, goes_on, in_section, turned, item_step, file_end, walk, file_items}
 use Rattle.reordered_unit_laws.specs.Edited.{edited_state}
 use Rattle.reordered_unit_laws.specs.Walking.{IsItemAlike, AreItemsAlike, text_items, KeepsTexts, with_text, IsEdited, IsOf}
-use Rattle.reordered_unit_laws.proofs.StepLemmas.{World, Goes, nothing, Same, itself, of_split, StandAt, stand_front, stand_behind, goes_only, goes_noted, still_then, goes_then, goes_cond, goes_test}
+use Rattle.reordered_unit_laws.proofs.StepLemmas.{World, Still, Goes, Same, itself, of_split, StandAt, stand_front, stand_behind, goes_only, goes_noted, still_then, goes_then, goes_cond, goes_test}
 use Rattle.reordered_unit_laws.proofs.OpenLemmas.{ctx, ctx2}
 use Rattle.reordered_unit_laws.proofs.LineLemmas.{holds_goes, asks_goes, define_goes, undef_goes, ProcessGoes, InnerGoes, include_goes}
 use Rattle.reordered_unit_laws.proofs.RunLemmas.{RunsToo, run_goes}
 
 -- ---- a step that puts tokens out, and what follows it
 
+-- an item may be reached between what is put out and what is put out behind it
+seam : (w : World) (t u n : ℕ) → u ≡ t + n → (0 < n → w.Starts t) → w.Starts u → w.Starts t
+seam w t u zero e begins ends = let same : u ≡ t = omega (arith, e) in subst w.Starts same ends
+seam w t u (suc n) e begins ends = begins (omega arith)
+
 -- tokens behind others
-behind_more : {A : Type 0} (w : World) (out : A → List Token) (R : A → A → Type 0) (s : State) (d : Did A) (m : Outcome (List Token)) (new : Outcome A) (rest2 : A → State → Outcome (List Token))
+behind_more : {A : Type 0} (w : World) (out : A → List Token) (R : A → A → Type 0) → ((a : A) → R a a) → (s : State) (d : Did A) (m : Outcome (List Token)) (new : Outcome A) (rest2 : A → State → Outcome (List Token))
     → Goes w out (λ b x y. R x y × w.V b (out x) (out y)) s (Ok d) new
     → ((b : A) → R d.value b → Goes w itself w.V d.state m (rest2 b (edited_state w.edit d.state)))
     → Goes w itself w.V s (noted d.notes (onward m (λ toks u. only (out d.value ++ toks) u))) (onward new (λ a t. onward (rest2 a t) (λ toks u. only (out a ++ toks) u)))
-behind_more w out R s d (Err found) new rest2 h k = tt
-behind_more w out R s d (Ok e) new rest2 h k = λ found told stand.
+behind_more w out R itself_is s d (Err found) new rest2 h k = tt
+behind_more w out R itself_is s d (Ok e) new rest2 h k = λ told fits stand.
     let both = of_split w.told d.notes (e.notes ++ []) told in
     let told2 = (of_split w.told e.notes [] both.1).0 in
-    let f = h found both.0 (stand_front w.all s.before (out d.value) e.value stand) in
-    let g = k f.value f.goes.0 f.found told2 (subst (λ (b : ℕ). StandAt w.all b e.value) (sym f.before) (stand_behind w.all s.before (out d.value) e.value stand)) in
-    let here = f.before in
-    let there = g.before in
+    let f = h both.0 fits (stand_front w.all s.before (out d.value) e.value stand) in
+    let stand2 = subst (λ (b : ℕ). StandAt w.all b e.value) (sym f.counted) (stand_behind w.all s.before (out d.value) e.value stand) in
+    let g0 = k d.value (itself_is d.value) told2 f.fits stand2 in
+    let here = f.counted in
+    let there = g0.counted in
     let many = length-append (out d.value) e.value in
     record {
-      value = out f.value ++ g.value;
-      notes = f.notes ++ (g.notes ++ []);
-      is =
-          ap (λ o. onward o (λ a t. onward (rest2 a t) (λ toks u. only (out a ++ toks) u))) f.is
-          ∙ ap (λ o. noted f.notes (onward o (λ toks u. only (out f.value ++ toks) u))) g.is;
-      goes = w.v_both s.before (out d.value) (out f.value) e.value g.value f.goes.1 (subst (λ (b : ℕ). w.V b e.value g.value) here g.goes);
-      found = g.found;
-      before = omega (arith, here, there, many);
+      fits = g0.fits;
+      counted = omega (arith, here, there, many);
+      begins = λ some. begins_by (out d.value) e.value f.begins (λ none. g0.begins) here some;
+      too = λ ends.
+          let a = f.too (seam w d.state.before e.state.before (length e.value) there g0.begins ends) in
+          let g = k a.value a.goes.0 told2 f.fits stand2 in
+          let b = g.too ends in
+          record {
+            value = out a.value ++ b.value;
+            notes = a.notes ++ (b.notes ++ []);
+            is =
+                ap (λ o. onward o (λ a t. onward (rest2 a t) (λ toks u. only (out a ++ toks) u))) a.is
+                ∙ ap (λ o. noted a.notes (onward o (λ toks u. only (out a.value ++ toks) u))) b.is;
+            goes = w.v_both s.before (out d.value) (out a.value) e.value b.value a.goes.1 (subst (λ (n : ℕ). w.V n e.value b.value) here b.goes);
+          };
     }
+  where
+    begins_by : (xs ys : List Token) → (0 < length xs → w.Starts s.before) → (length xs ≡ 0 → 0 < length ys → w.Starts d.state.before) → d.state.before ≡ s.before + length xs
+        → 0 < length (xs ++ ys) → w.Starts s.before
+    begins_by [] ys one two e some = let same : d.state.before ≡ s.before = omega (arith, e) in subst w.Starts same (two refl some)
+    begins_by (x ∷ xs) ys one two e some = one (omega arith)
 
-pub goes_more : {A : Type 0} (w : World) (out : A → List Token) (R : A → A → Type 0) (s : State) (m new : Outcome A) (rest rest2 : A → State → Outcome (List Token))
+pub goes_more : {A : Type 0} (w : World) (out : A → List Token) (R : A → A → Type 0) → ((a : A) → R a a) → (s : State) (m new : Outcome A) (rest rest2 : A → State → Outcome (List Token))
     → Goes w out (λ b x y. R x y × w.V b (out x) (out y)) s m new
     → ((a b : A) (t : State) → R a b → Goes w itself w.V t (rest a t) (rest2 b (edited_state w.edit t)))
     → Goes w itself w.V s (onward m (λ a t. onward (rest a t) (λ toks u. only (out a ++ toks) u))) (onward new (λ a t. onward (rest2 a t) (λ toks u. only (out a ++ toks) u)))
-goes_more w out R s (Err found) new rest rest2 h k = tt
-goes_more w out R s (Ok d) new rest rest2 h k = behind_more w out R s d (rest d.value d.state) new rest2 h (λ b r. k d.value b d.state r)
+goes_more w out R itself_is s (Err found) new rest rest2 h k = tt
+goes_more w out R itself_is s (Ok d) new rest rest2 h k = behind_more w out R itself_is s d (rest d.value d.state) new rest2 h (λ b r. k d.value b d.state r)
 
 pub goes_map : {A : Type 0} (w : World) (out : A → List Token) (W W2 : ℕ → A → A → Type 0) (s : State) (m new : Outcome A) → ((b : ℕ) (x y : A) → W b x y → W2 b x y)
     → Goes w out W s m new → Goes w out W2 s m new
 goes_map w out W W2 s (Err found) new more h = tt
-goes_map w out W W2 s (Ok d) new more h = λ found told stand.
-    let k = h found told stand in
-    record { value = k.value; notes = k.notes; is = k.is; goes = more s.before d.value k.value k.goes; found = k.found; before = k.before }
+goes_map w out W W2 s (Ok d) new more h = λ told fits stand.
+    let k = h told fits stand in
+    record {
+      fits = k.fits;
+      counted = k.counted;
+      begins = k.begins;
+      too = λ ends. let t = k.too ends in record { value = t.value; notes = t.notes; is = t.is; goes = more s.before d.value t.value t.goes };
+    }
 
 run_is : (k : ItemKind) → is_run k ≡ true → k ≡ kind.Run
 run_is kind.Run h = refl
@@ -126,7 +149,7 @@ module _ (w : World) (runs : RunsToo w) (keeps : KeepsTexts w.edit w.old) (ipath
   processed_same inner inner2 goes file text kind.Empty at toks s other = nothing_goes s
 
   opens_with_goes : (file : SourceFile) (text : TextValue) (k : ItemKind) (at : Pos) (toks : List Token) (s : State)
-      → Goes w nothing Same s (opens_with k file at toks s) (opens_with k (with_text file text) at toks (edited_state w.edit s))
+      → Still w Same s (opens_with k file at toks s) (opens_with k (with_text file text) at toks (edited_state w.edit s))
   opens_with_goes file text kind.If at toks s = holds_goes w file text at (drop 2 toks) s
   opens_with_goes file text kind.Ifdef at toks s = asks_goes w file (with_text file text) at (λ b. b) s (operand_in toks)
   opens_with_goes file text kind.Ifndef at toks s = asks_goes w file (with_text file text) at not s (operand_in toks)
@@ -153,7 +176,7 @@ module _ (w : World) (runs : RunsToo w) (keeps : KeepsTexts w.edit w.old) (ipath
   reaching_goes file text k evaluated s m new h = goes_noted w step_toks StepGoes s (Reaches file.number k evaluated s.before ∷ []) m new (λ told. h told.0)
 
   -- what follows a truth value
-  value_then : (s : State) (m new : Outcome Bool) (next : Bool → List Section) → Goes w nothing Same s m new
+  value_then : (s : State) (m new : Outcome Bool) (next : Bool → List Section) → Still w Same s m new
       → Goes w step_toks StepGoes s (onward m (λ b t. only (stepped [] (next b)) t)) (onward new (λ b t. only (stepped [] (next b)) t))
   value_then s m new next h =
       still_then w Same step_toks StepGoes s m new (λ b t. only (stepped [] (next b)) t) (λ b t. only (stepped [] (next b)) t) h
@@ -277,7 +300,7 @@ module _ (w : World) (runs : RunsToo w) (keeps : KeepsTexts w.edit w.old) (ipath
   walk_goes inner inner2 goes file text edited k [] (j ∷ js) alike at at2 sections s = absurd alike
   walk_goes inner inner2 goes file text edited k (i ∷ is) [] alike at at2 sections s = absurd alike
   walk_goes inner inner2 goes file text edited k (i ∷ is) (j ∷ js) alike at at2 sections s =
-      goes_more w step_toks (λ d e. e.sections ≡ d.sections) s (item_step (ctx w keeps ipath earlier) inner file k i sections s)
+      goes_more w step_toks (λ d e. e.sections ≡ d.sections) (λ d. refl) s (item_step (ctx w keeps ipath earlier) inner file k i sections s)
       (item_step (ctx2 w keeps ipath earlier) inner2 (with_text file text) k j sections (edited_state w.edit s))
       (λ d t. walk (ctx w keeps ipath earlier) inner file (k + 1) is d.sections t) (λ d t. walk (ctx2 w keeps ipath earlier) inner2 (with_text file text) (k + 1) js d.sections t)
       (item_goes inner inner2 goes file text edited k i j alike.0 (items_here (items_in file) k i is at) (items_here (text_items text) k j js at2) sections s)

@@ -1,48 +1,83 @@
 -- Units over files in which the items of lists change places (ISO/IEC 9899:1999, 5.1.1.2 phase 4, 6.10.3).
-use Rattle.std.specs.Prelude.{◌≡◌, ℕ, ◌+◌, true, List, length, Ok}
+use Rattle.std.specs.Prelude.{◌≡◌, ℕ, ◌+◌, false, List, length, codes, None, Some, Ok, slice_get}
 use Rattle.include_tree.specs.Below.cs_base.Token.{Token}
 use Rattle.include_tree.specs.Below.cs_base.Units.{UnitValue}
+use Rattle.include_tree.specs.Below.line_shape.declared.items.ItemKind.TheVariants.{Run}
 use Rattle.include_tree.specs.Below.macro_body.Hides.{toks_of}
 use Rattle.include_tree.specs.Below.macro_body.Notes as expansion
-use Rattle.include_tree.specs.Below.part_lexer.FileText.{TextValue, file_text}
+use Rattle.include_tree.specs.Below.macro_expand.Expansion as expanding
+use Rattle.include_tree.specs.Below.part_lexer.FileText.{TextValue}
 use Rattle.include_tree.specs.Below.source_files.Files.{Source, SourceFile, Carried}
-use Rattle.include_tree.specs.Below.source_files.Limits.{the_limits}
 use Rattle.include_tree.specs.Below.source_files.Tables.{AreFound}
-use Rattle.include_tree.specs.Below.unit_steps.Notes.{Note}
-use Rattle.include_tree.specs.Below.unit_steps.State.{State, Did}
-use Rattle.include_tree.specs.Walk.{ItemText}
-use Rattle.include_tree.specs.Unit.{unit_outcome}
+use Rattle.include_tree.specs.Below.unit_steps.declared.events.Event.{Event}
+use Rattle.include_tree.specs.Below.unit_steps.declared.events.EventKind.TheVariants as kind
+use Rattle.include_tree.specs.Below.unit_steps.declared.events.Reached.{Reached}
+use Rattle.include_tree.specs.Below.unit_steps.State.{State}
+use Rattle.include_tree.specs.Below.unit_steps.Texts.{UnitTextValue}
+use Rattle.include_tree.specs.Walk.{ItemText, items_in}
+use Rattle.include_tree.specs.Preprocessed.{Preprocessed, preprocessed}
 use Rattle.list_cuts.specs.Cuts.{Cut, IsOrder, arranged, AreOf}
-use Rattle.list_cuts.specs.CutOf.{front, back, is_between}
-use Rattle.arranged_laws.specs.Arranging.{MarksStand, AreDistinct, LinesStay, StandFor}
-use Rattle.reordered_unit_laws.specs.Edited.{Edit}
-use Rattle.reordered_unit_laws.specs.Walking.{KeepsTexts, IsReachedRun, UnitGoes}
+use Rattle.list_cuts.specs.CutOf.{front, back}
+use Rattle.arranged_laws.specs.Arranging.{SignsStand, MarksStand, AreDistinct, in_lists, StandFor}
+use Rattle.reordered_unit_laws.specs.Edited.{Edit, edited_source, edited_carried}
+use Rattle.reordered_unit_laws.specs.Walking.{KeepsTexts, text_items, IsEdited, IsOf, plains}
 
--- the cut of the tokens of a run, by that of the tokens of the unit
+-- ---- lists in a unit
+
+-- The lists of a cut stand in a unit: their marks were put in by no macro; no item is reached in a list, nor does one go
+-- past the last token; and no `__LINE__` is replaced in a list (6.10.8).
+pub record ListsStand (c : Cut) (text : UnitTextValue) : Type 0 where
+  pub marks : SignsStand c text.toks
+  pub reached : (r : Reached) → IsOf text.reached r → in_lists 0 c r.before ≡ false
+  pub last : in_lists 0 c (length text.toks) ≡ false
+  pub lines : (e : Event) (name : Token) → IsOf text.events e → e.kind ≡ kind.Replaced → e.name ≡ Some name → e.def ≡ None → name.text ≡ codes "__LINE__"
+      → in_lists 0 c e.before ≡ false
+
+-- the cut of so many tokens behind so many others, by that of the tokens of the unit
 abbrev pub part_of : Cut → ℕ → ℕ → Cut
 part_of c before count = front count (back before c)
 
--- A run that a unit reaches: no list goes on from it to another; the lists of the unit that stand in what it is expanded to
--- stand in it too, by their marks; no `__LINE__` is replaced in them; and the run of the edited file is this one in the new
--- order, but for lines, places and white space.
-pub record RunStands (order : List ℕ) (c : Cut) (i j : ItemText) (s : State) (e : expansion.Expanded) : Type 0 where
-  pub cut : Cut
-  pub new : List Token
-  pub begins : is_between s.before c ≡ true
-  pub ends : is_between (s.before + length e.toks) c ≡ true
-  pub distinct : AreDistinct i.toks
+-- ---- runs
+
+-- What is known of a run of text lines that the unit reaches: its file and the edited one, the item of both, what it is
+-- expanded to, where this stands in the unit, that no list goes on from it to another run, and the cut of the run.
+pub record IsRunOf (edit : Edit) (old : Source) (c : Cut) (text : UnitTextValue) (file : SourceFile) (file_text2 : TextValue) (k : ℕ) (i j : ItemText) (s : State) (e : expansion.Expanded) (cut : Cut) : Type 0 where
+  pub edited : IsEdited edit old file file_text2
+  pub item : slice_get (items_in file) k ≡ Some i
+  pub item2 : slice_get (text_items file_text2) k ≡ Some j
+  pub run : i.kind ≡ Run
+  pub reached : (r : Reached) × IsOf text.reached r × (r.file ≡ file.number) × (r.item ≡ k) × (r.before ≡ s.before)
+  pub expands : expanding.expansion s.macros file.path i.toks s.work ≡ Ok e
+  pub toks : (m : ℕ) (t : Token) → slice_get (toks_of e.toks) m ≡ Some t → slice_get text.toks (s.before + m) ≡ Some t
+  pub begins : in_lists 0 c s.before ≡ false
+  pub ends : in_lists 0 c (s.before + length e.toks) ≡ false
   pub marks : MarksStand cut (part_of c s.before (length e.toks)) i.toks (toks_of e.toks)
-  pub lines : LinesStay s.macros 0 (part_of c s.before (length e.toks)) e.notes
+
+-- The run of the edited file is this one in the new order, but for lines, places and white space before items; no token of
+-- the run stands in it twice.
+pub record RunStands (order : List ℕ) (i j : ItemText) (cut : Cut) : Type 0 where
+  pub new : List Token
+  pub distinct : AreDistinct i.toks
   pub stands : StandFor cut new i.toks
   pub run : j.toks ≡ arranged order cut new
 
 -- so it is with each
-abbrev pub RunsStand : Edit → Source → List ℕ → Cut → List Note → List Token → Type 0
-RunsStand edit old order c told all = (file : SourceFile) (text : TextValue) (k : ℕ) (i j : ItemText) (s : State) (e : expansion.Expanded)
-    → IsReachedRun edit old told all file text k i j s e → RunStands order c i j s e
+abbrev pub RunsStand : Edit → Source → List ℕ → Cut → UnitTextValue → Type 0
+RunsStand edit old order c text = (file : SourceFile) (file_text2 : TextValue) (k : ℕ) (i j : ItemText) (s : State) (e : expansion.Expanded) (cut : Cut)
+    → IsRunOf edit old c text file file_text2 k i j s e cut → RunStands order i j cut
 
--- The law: the unit over the edited files brings its tokens in the new order.
+-- ---- the law
+
+-- The unit over the edited files brings its tokens in the new order; what is carried on is the same but for the bytes of
+-- files.
+pub record UnitIsReordered (edit : Edit) (order : List ℕ) (c : Cut) (old : Source) (number : ℕ) (unit : UnitValue) (before : Carried) (p : Preprocessed) : Type 0 where
+  pub new : Preprocessed
+  pub is : preprocessed (edited_source edit old) number unit (edited_carried edit before) ≡ Ok new
+  pub toks : plains new.text.toks ≡ arranged order c (plains p.text.toks)
+  pub after : new.after ≡ edited_carried edit p.after
+
+-- The law.
 abbrev pub UnitsAreReordered : Type 0
-UnitsAreReordered = (edit : Edit) (n : ℕ) (order : List ℕ) (c : Cut) (old : Source) (number : ℕ) (unit : UnitValue) (before : Carried) (d : Did (List Token))
-    → IsOrder n order → AreOf n c → unit_outcome the_limits file_text old number unit before ≡ Ok d → AreFound old before.table → KeepsTexts edit old
-    → RunsStand edit old order c d.notes d.value → UnitGoes edit order c old number unit before d
+UnitsAreReordered = (edit : Edit) (n : ℕ) (order : List ℕ) (c : Cut) (old : Source) (number : ℕ) (unit : UnitValue) (before : Carried) (p : Preprocessed)
+    → IsOrder n order → AreOf n c → preprocessed old number unit before ≡ Ok p → AreFound old before.table → KeepsTexts edit old
+    → ListsStand c p.text → RunsStand edit old order c p.text → UnitIsReordered edit order c old number unit before p

@@ -1,12 +1,15 @@
 -- Units over files as they were and over edited ones, where the lines of directives stay, and the runs of text lines do in
 -- the edited files what they did (ISO/IEC 9899:1999, 5.1.1.2 phase 4, 6.10).
-use Rattle.std.specs.Prelude.{◌≡◌, ℕ, ◌+◌, true, false, ◌⊎◌, List, [], ◌∷◌, ◌++◌, map, length, Some, Ok, slice_get}
+use Rattle.std.specs.Prelude.{◌≡◌, ℕ, ◌+◌, true, false, ◌⊎◌, List, [], ◌∷◌, ◌++◌, map, length, Some, Ok, codes, slice_get}
 use Rattle.include_tree.specs.Below.cs_base.declared.tokens.Kind.{Kind}
 use Rattle.include_tree.specs.Below.cs_base.Token.{Token}
 use Rattle.include_tree.specs.Below.cs_base.Units.{UnitValue}
 use Rattle.include_tree.specs.Below.part_lexer.FileText.{TextValue, file_text}
 use Rattle.include_tree.specs.Below.line_shape.Directives.{is_run}
 use Rattle.include_tree.specs.Below.line_shape.declared.items.ItemKind.TheVariants.{Run}
+use Rattle.include_tree.specs.Below.macro_body.declared.definitions.Definition.{Definition}
+use Rattle.include_tree.specs.Below.macro_body.declared.definitions.Form.TheVariants as form
+use Rattle.include_tree.specs.Below.macro_body.Defining.{line_macro}
 use Rattle.include_tree.specs.Below.macro_body.Hides.{toks_of}
 use Rattle.include_tree.specs.Below.macro_body.Notes as expansion
 use Rattle.include_tree.specs.Below.macro_expand.Expansion as expanding
@@ -60,7 +63,8 @@ abbrev pub IsOf : {X : Type 0} → List X → X → Type 0
 IsOf xs x = (k : ℕ) × (slice_get xs k ≡ Some x)
 
 -- What is known of a run of text lines that a unit with these notes and tokens reaches: its file and the edited one, the
--- item of both, what it is expanded to, and that this stands among the notes and the tokens of the unit.
+-- item of both, what it is expanded to, that a macro that stands for the number of a line is `__LINE__`, and that what
+-- happens and what is brought stand among the notes and the tokens of the unit.
 pub record IsReachedRun (edit : Edit) (old : Source) (told : List Note) (all : List Token) (file : SourceFile) (text : TextValue) (k : ℕ) (i j : ItemText) (s : State) (e : expansion.Expanded) : Type 0 where
   pub edited : IsEdited edit old file text
   pub item : slice_get (items_in file) k ≡ Some i
@@ -68,6 +72,7 @@ pub record IsReachedRun (edit : Edit) (old : Source) (told : List Note) (all : L
   pub run : i.kind ≡ Run
   pub reached : IsOf told (Reaches file.number k false s.before)
   pub expands : expanding.expansion s.macros file.path i.toks s.work ≡ Ok e
+  pub lines : (name : List ℕ) (m : Definition) → s.macros name ≡ Some m → m.form ≡ form.Line → (m.name ≡ line_macro.name) × (name ≡ codes "__LINE__")
   pub notes : (note : expansion.Note) → IsOf e.notes note → IsOf told (Happened true s.before note)
   pub toks : (m : ℕ) (t : Token) → slice_get (toks_of e.toks) m ≡ Some t → slice_get all (s.before + m) ≡ Some t
 
