@@ -29,3 +29,5 @@ mod MovedHeads
 mod MovedOrders
 mod MovedUnits
 mod OnlyAdding
+mod Quiet
+mod Owned

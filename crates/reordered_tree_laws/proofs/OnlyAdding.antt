@@ -48,7 +48,7 @@ name_in l (node m first under rest) at i lo hi w low high e =
     (name_in m under at i lo hi w.1 low (omega (arith, high)))
     (name_in l rest (at + token_count under) i lo hi w.2 (omega (arith, low)) (omega (arith, high)))
 
-begins_some : (f : Forest) → begins_with_token f ≡ true → 1 ≤ token_count f
+pub begins_some : (f : Forest) → begins_with_token f ≡ true → 1 ≤ token_count f
 begins_some none e = absurd (false≢true e)
 begins_some (token i rest) e = omega arith
 begins_some (node l first under rest) e = absurd (false≢true e)
@@ -321,7 +321,7 @@ module _ (toks : List Token) (lo hi : ℕ) where
   adds_parameter_in Param fr l under f w = adds_parameter fr under (name_below l under) f w
   adds_parameter_in _ fr l under f w = adds_same f
 
-  adds_after : (p : Production) (within : Bool) (fr : Frame) (l : Label) (first : ℕ) (under : Forest) (body : Option Body) (f : Facts) → NameIn (name_below l under)
+  pub adds_after : (p : Production) (within : Bool) (fr : Frame) (l : Label) (first : ℕ) (under : Forest) (body : Option Body) (f : Facts) → NameIn (name_below l under)
       → is_adding_node (λ i. true) p fr.label within l under ≡ true → has_form p under ≡ true → (begins_with_token under ≡ true → In first)
       → Adds f (facts_after toks p first fr l under body f)
   adds_after Declarator within fr l first under body f w e form begins = adds_declarator fr.label.production within fr l under f w e

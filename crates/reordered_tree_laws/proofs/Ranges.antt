@@ -28,7 +28,7 @@ use Rattle.reordered_tree_laws.specs.Ranges.{has_range, IsAdded, IsFine, RangesE
 
 -- ---- Tokens of a part
 
-last_below : (f : Forest) (lo k bound : ℕ) → AreFrom lo f → lo + token_count f ≤ bound → k + 1 ≤ bound → last_token f k + 1 ≤ bound
+pub last_below : (f : Forest) (lo k bound : ℕ) → AreFrom lo f → lo + token_count f ≤ bound → k + 1 ≤ bound → last_token f k + 1 ≤ bound
 last_below none lo k bound w within h = h
 last_below (token i rest) lo k bound w within h =
     last_below rest (lo + 1) i bound w.1 (omega (arith, within)) (omega (arith, within, w.0))
@@ -356,7 +356,7 @@ reaches toks P l under lo behind scope_end w within None e = tt
 reaches toks P l under lo behind scope_end w within (Some i) e = last_below under lo i behind w within (name_within l under lo i behind w within e)
 
 module _ (toks : List Token) where
-  fine_walk : (f : Forest) (P : Declaration → Type 0) (lo : ℕ) (s : State) → 1 ≤ lo → AreFrom lo f → have_forms f ≡ true
+  pub fine_walk : (f : Forest) (P : Declaration → Type 0) (lo : ℕ) (s : State) → 1 ≤ lo → AreFrom lo f → have_forms f ≡ true
       → All (IsFine P lo s.frame.scope.to) s.facts.declared → All (IsFine P (lo + token_count f) s.frame.scope.to) (walked toks f s).facts.declared
   unfolding walked
   fine_walk none P lo s one w forms all = later P lo (lo + 0) s.frame.scope.to s.facts.declared (omega arith) all

@@ -9,3 +9,5 @@ pub mod Ranges
 pub mod Premises
 pub mod Moving
 pub mod Gathering
+pub mod Lasting
+pub mod Owned

@@ -7,7 +7,7 @@ use Rattle.tree_laws.specs.Below.cs_base.Token.{Token}
 use Rattle.tree_laws.specs.Below.c99_tree.Tree.{Forest, none, token, node, Node}
 use Rattle.tree_laws.specs.Below.c99_tree.declared.production.Label.{Label}
 use Rattle.tree_laws.specs.Below.c99_tree.declared.production.Production.{Production}
-use Rattle.tree_laws.specs.Below.c99_tree.declared.production.Production.TheVariants.{FunBody, Specs, Main, SuRest, EnRest, MemRest, Enumerator, Declarator, Params, Param, Pdecl, TypeName, Add, Unary, Primary, Args, Statement, Sub, Assign, Cond, Lor, Land, Bor, Bxor, Band, Equal, Relate, Shift, Mul, Cast}
+use Rattle.tree_laws.specs.Below.c99_tree.declared.production.Production.TheVariants.{FunBody, Specs, Main, SuRest, EnRest, MemRest, Enumerator, Declarator, Params, Param, Pdecl, TypeName, Add, Unary, Primary, Args, Statement, Sub, Assign, Cond, Lor, Land, Bor, Bxor, Band, Equal, Relate, Shift, Mul, Cast, Block}
 use Rattle.tree_laws.specs.Below.c_types.Trees.{is_node, is_at, is_list, name_below, first_list}
 use Rattle.tree_laws.specs.Below.c_types.Declarations.{alike, is_in}
 use Rattle.tree_laws.specs.Below.name_chains.Entering.{scope_in}
@@ -130,12 +130,21 @@ is_item_production Primary = true
 is_item_production Param = true
 is_item_production _ = false
 
+-- blocks, bodies and statements, which are no part of an item
+abbrev pub is_scope : Production → Bool
+is_scope Block = true
+is_scope FunBody = true
+is_scope Statement = true
+is_scope Sub = true
+is_scope _ = false
+
 -- Of the ordinary identifiers that some children declare, only these last behind them: the names of parameters stand in
 -- parameter lists, with whose parentheses they end, or are these, and no enumerator is declared (6.2.1 paragraph 4).
 module _ (lasting : ℕ → Bool) where
   abbrev pub is_quiet_child : Label → Label → Forest → Bool
   is_quiet_child l m under =
-      not (is_node m Enumerator) && (not (is_node l Param && is_node m Pdecl) || option_map_or lasting (name_below m under) true)
+      not (is_node m Enumerator)
+      && (not (is_scope m.production) && (not (is_node l Param && is_node m Pdecl) || option_map_or lasting (name_below m under) true))
 
   abbrev pub is_quiet : Label → Forest → Bool
   is_quiet l none = true
