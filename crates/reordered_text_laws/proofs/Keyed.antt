@@ -41,6 +41,9 @@ module _ (g : Grammar) (words : List Spelled) where
   starts_same (many t a) c d = holds_same t (starts h a c d) (starts g a c d) c d (starts_same a c d)
   starts_same (deep a) c d = starts_same a c d
 
+  pub says_same : (t : Test) (a : Item) (c d : Class) → holds h t (starts h a c d) c d ≡ holds g t (starts g a c d) c d
+  says_same t a c d = holds_same t (starts h a c d) (starts g a c d) c d (starts_same a c d)
+
   module _ (class_of : ℕ → Class) where
     here_same : (xs : List ℕ) → here h class_of xs ≡ here g class_of xs
     here_same [] = refl

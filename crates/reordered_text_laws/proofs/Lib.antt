@@ -28,3 +28,10 @@ mod Numbered
 mod Keyed
 mod TextsInOrder
 mod Rows
+mod FrontNames
+mod CleanNames
+mod FrontClasses
+mod FrontTrees
+mod FrontGrows
+mod FrontSteps
+mod FrontTop

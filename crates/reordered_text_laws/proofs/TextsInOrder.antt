@@ -87,7 +87,7 @@ same_from f h a b e =
 -- ---- Steps
 
 -- more steps than are needed read the same
-settles : (g : Grammar) → IsSound g → (fuel depth : ℕ) (goal : Goal) (s : State) → is_met goal ≡ true → measure s (goal_order goal) < fuel
+pub settles : (g : Grammar) → IsSound g → (fuel depth : ℕ) (goal : Goal) (s : State) → is_met goal ≡ true → measure s (goal_order goal) < fuel
     → read_within g fuel depth goal s ≡ whole g depth goal s
 unfolding read_within
 settles g sound zero depth goal s met few = absurd (omega (arith, few))

@@ -4,3 +4,4 @@ pub mod Lists
 pub mod Laws
 pub mod Alone
 pub mod InOrder
+pub mod Fronted

@@ -1,5 +1,6 @@
 // What is true of items that change places, as to how they are read: laws that no caller runs.
 ghost use Rattle.reordered_text_laws.specs.Alone.{TextsAloneAreReadByClasses};
+ghost use Rattle.reordered_text_laws.specs.Fronted.{TextsAreReadBehindATypedef};
 ghost use Rattle.reordered_text_laws.specs.InOrder.{ListsAreReadInAnyOrder, ArrangedTokensAreReadInOrder, TextsAloneAreReadInOrder};
 ghost use Rattle.reordered_text_laws.specs.Laws.{PartsAreReadAnywhere, ItemsAreReadAnywhere, NumbersDoNotMatter};
 ghost use Rattle.reordered_text_laws.specs.Laws.{ArgumentsAreReadInAnyOrder, ParametersAreReadInAnyOrder, CallsAreReadInAnyOrder};
@@ -55,3 +56,9 @@ pub fn texts_alone_are_read_in_order()
 {
     tokens_stand_in_order();
 }
+
+/// A text is read by a grammar in which the empty word is a typedef name as it is read, by the grammar of the standard,
+/// behind a typedef of the empty word, where the word stands for type names alone.
+pub fn texts_are_read_behind_a_typedef()
+    ensures texts { TextsAreReadBehindATypedef }
+{}
