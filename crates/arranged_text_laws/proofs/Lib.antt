@@ -19,3 +19,5 @@ pub mod ViewLemmas
 pub mod CalmLemmas
 pub mod LeadLemmas
 pub mod TokenLaw
+pub mod RunLemmas
+pub mod PartLemmas

@@ -22,10 +22,10 @@ use Rattle.arranged_text_laws.proofs.ElsewhereLemmas.{elsewhere, one_elsewhere}
 
 -- ---- a list in the new order takes the same place
 
-abbrev weave_of : {X : Type 0} → List ℕ → Items → List X → List X
+abbrev pub weave_of : {X : Type 0} → List ℕ → Items → List X → List X
 weave_of order is xs = woven (picked order (items_of order is xs)) (gaps_of is xs)
 
-list_arranged : {X : Type 0} (order : List ℕ) (is : Items) (xs : List X) → arranged order (list is done) xs ≡ weave_of order is xs ++ drop (span_of is) xs
+pub list_arranged : {X : Type 0} (order : List ℕ) (is : Items) (xs : List X) → arranged order (list is done) xs ≡ weave_of order is xs ++ drop (span_of is) xs
 unfolding arranged
 list_arranged order is xs = refl
 
@@ -39,7 +39,7 @@ woven_sum f m order is xs permutes count all =
     let same = ap (sum_by f) (take-append-drop (span_of is) xs) in
     omega (arith, whole, made, new, old, same)
 
-woven_long : {X : Type 0} (m : ℕ) (order : List ℕ) (is : Items) (xs : List X) → IsOrder m order → count_of is ≡ m → AreItemsOf m is → span_of is ≤ length xs
+pub woven_long : {X : Type 0} (m : ℕ) (order : List ℕ) (is : Items) (xs : List X) → IsOrder m order → count_of is ≡ m → AreItemsOf m is → span_of is ≤ length xs
     → length (weave_of order is xs) ≡ span_of is
 woven_long m order is xs permutes count all within =
     let whole = length-arranged m order (list is done) xs permutes (count, all, tt) in

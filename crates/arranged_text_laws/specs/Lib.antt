@@ -11,3 +11,5 @@ pub mod Outside
 pub mod Arranging
 pub mod Calm
 pub mod Tokens
+pub mod Runs
+pub mod Parts

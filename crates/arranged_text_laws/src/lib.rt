@@ -5,11 +5,12 @@
 //! asks for nothing behind it: a lone quote does, as it might close there, and so do a header name and an open comment. Then
 //! the tokens of it and of what stands behind it are those of both, one behind the other. So the tokens of a file whose
 //! lists change places, by a cut of `list_cuts`, are its tokens in the new order, by the cut of its tokens that this one
-//! gives. Read `specs/Settling.antt`, `specs/Joining.antt` and `specs/Calm.antt`, then `specs/Marks.antt`,
-//! `specs/Along.antt`, `specs/Seams.antt` and `specs/Weighed.antt`, then `specs/Arranging.antt`,
-//! `specs/Tokens.antt` and `laws.rt`.
+//! gives; and its items, directive lines and runs of text lines, are those that it had. That a new order of the parameters
+//! of a function keeps what a program means will rest on these laws. Read `specs/Settling.antt`, `specs/Joining.antt` and
+//! `specs/Calm.antt`, then `specs/Marks.antt`, `specs/Along.antt`, `specs/Seams.antt` and `specs/Weighed.antt`, then
+//! `specs/Arranging.antt`, `specs/Tokens.antt`, `specs/Runs.antt` and `laws.rt`.
 #![tactic(auto)]
 
 mod laws;
 
-pub use laws::{files_are_arranged, texts_join, texts_settle, tokens_are_arranged};
+pub use laws::{files_are_arranged, items_stay, texts_join, texts_settle, tokens_are_arranged};
