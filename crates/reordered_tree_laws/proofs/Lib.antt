@@ -1,17 +1,17 @@
 pub mod Arranged
 pub mod SameForms
 mod Beside
-mod OwnTypes
+pub mod OwnTypes
 mod BesideNames
 mod BesideMembers
 mod BesideSteps
-mod BesideWalk
+pub mod BesideWalk
 mod Seen
 mod Adding
 mod Items
 mod Rows
 mod PremiseRows
-mod Ranges
+pub mod Ranges
 mod MovedLists
 mod MovedFacts
 mod MovedTypes
@@ -28,6 +28,4 @@ mod MovedPlaces
 mod MovedHeads
 mod MovedOrders
 mod MovedUnits
-mod OnlyAdding
-mod Quiet
-mod Owned
+pub mod OnlyAdding

@@ -9,5 +9,3 @@ pub mod Ranges
 pub mod Premises
 pub mod Moving
 pub mod Gathering
-pub mod Lasting
-pub mod Owned

@@ -2,10 +2,8 @@
 ghost use Rattle.reordered_tree_laws.specs.Adding.{ItemsBindAlike, PartsAddBeside, PartsOnlyAdd};
 ghost use Rattle.reordered_tree_laws.specs.Beside.{PartsBindAlike};
 ghost use Rattle.reordered_tree_laws.specs.Gathering.{ReorderedBindByLists};
-ghost use Rattle.reordered_tree_laws.specs.Lasting.{NamesLast};
 ghost use Rattle.reordered_tree_laws.specs.Laws.{TokensAreArranged, ReorderedTreesAreOfTheirTexts};
 ghost use Rattle.reordered_tree_laws.specs.Moving.{PartsMoveAlike};
-ghost use Rattle.reordered_tree_laws.specs.Owned.{PartsStayOwn};
 ghost use Rattle.reordered_tree_laws.specs.Ranges.{RangesEndWithScopes};
 ghost use Rattle.reordered_tree_laws.specs.Seen.{NewOrdersAreNotSeen};
 
@@ -58,14 +56,4 @@ pub fn reordered_bind_by_lists()
 /// its own.
 pub fn parts_only_add()
     ensures { PartsOnlyAdd }
-{}
-
-/// Behind a part in which only some names can last and no tag is declared, all that it has declared has ended but for these.
-pub fn names_last()
-    ensures { NamesLast }
-{}
-
-/// A part none of whose tokens stands beside makes known nothing that does.
-pub fn parts_stay_own()
-    ensures { PartsStayOwn }
 {}

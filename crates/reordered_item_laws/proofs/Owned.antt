@@ -30,7 +30,7 @@ use Rattle.tree_laws.specs.Below.scope_bind.Labels.{label_declaration, with_labe
 use Rattle.tree_laws.specs.Below.scope_bind.Roles.{role_if, role_of}
 use Rattle.tree_laws.specs.Below.scope_bind.Walk.{facts_at, found_at, passed, declared_in, parameter_in, facts_after, left, walked}
 use Rattle.reordered_tree_laws.specs.Beside.{IsOwn, IsOwnFrame}
-use Rattle.reordered_tree_laws.specs.Owned.{is_clear, IsOwnName, IsOwnState, PartsStayOwn}
+use Rattle.reordered_item_laws.specs.Owned.{is_clear, IsOwnName, IsOwnState, PartsStayOwn}
 use Rattle.reordered_tree_laws.proofs.OwnTypes.{own_if, own_adjusted, own_called, own_declarator, own_renumbered, own_after}
 
 not_false : (b : Bool) → not b ≡ true → b ≡ false

@@ -1,18 +1,19 @@
 -- What lasts behind an item of a list: its own name, and nothing that stands in lists in it (ISO/IEC 9899:1999, 6.2.1
 -- paragraph 4).
-use Rattle.std.specs.Prelude.{ℕ, ◌+◌, ◌≤◌, ◌≡◌, ◌==◌, ◌⊎◌, Bool, true, false, ◌&&◌, ◌||◌, not, List}
+use Rattle.std.specs.Prelude.{ℕ, ◌+◌, ◌≤◌, ◌≡◌, ◌==◌, ◌⊎◌, Bool, true, false, ◌&&◌, ◌||◌, not, List, ◌++◌}
 use Rattle.std.specs.List.{All}
 use Rattle.tree_laws.specs.Below.cs_base.Token.{Token}
 use Rattle.tree_laws.specs.Below.c99_tree.Tree.{Forest, none, token, node}
 use Rattle.tree_laws.specs.Below.c99_tree.declared.production.Label.{Label}
 use Rattle.tree_laws.specs.Below.c99_tree.declared.production.Production.TheVariants.{SuRest, EnRest}
 use Rattle.tree_laws.specs.Below.c_types.Trees.{is_at}
-use Rattle.tree_laws.specs.Below.c_types.Declarations.{is_space}
+use Rattle.tree_laws.specs.Below.c_types.Declarations.{Facts, is_space}
 use Rattle.tree_laws.specs.Below.name_chains.Frames.{State}
 use Rattle.tree_laws.specs.Below.scope_bind.Named.{Declaration, Occurrence, ordinary}
 use Rattle.tree_laws.specs.Below.scope_bind.Walk.{walked}
 use Rattle.tree_laws.specs.TreesOfTexts.{token_count, AreFrom, have_forms}
 use Rattle.reordered_tree_laws.specs.Adding.{is_adding}
+use Rattle.reordered_tree_laws.specs.Beside.{is_apart, StandBeside}
 use Rattle.reordered_tree_laws.specs.Ranges.{has_range}
 use Rattle.reordered_tree_laws.specs.Premises.{is_quiet}
 
@@ -41,3 +42,20 @@ NamesLast =
     → All (λ (o : Occurrence). (o.declares && barred o.index) ≡ false) (walked toks f s).facts.occurrences
     → All (λ d. old d ≡ true) s.facts.declared
     → All (IsQuiet (λ d. old d ≡ true) lasting s.frame.scope.depth (lo + token_count f)) (walked toks f s).facts.declared
+
+-- ---- What is added behind other items
+
+-- the same declarations have been added to what was known in two states
+pub record AddAlike (f g x y : Facts) : Type 0 where
+  pub declared : List Declaration
+  pub first : x.declared ≡ declared ++ f.declared
+  pub second : y.declared ≡ declared ++ g.declared
+
+-- A part like an item adds the same declarations whatever stands beside it that it does not ask for.
+abbrev pub ItemsAddAlike : Type 0
+ItemsAddAlike =
+    (toks : List Token) (foreign : ℕ → Bool) (ds es : List Declaration) (bs cs : List Occurrence) (f : Forest) (within : Bool) (lo : ℕ) (s t : State)
+    → foreign 0 ≡ false → StandBeside foreign ds es bs cs s t
+    → is_apart foreign toks ds s.frame.label s.frame.nth s.frame.scope f ≡ true
+    → is_apart foreign toks es s.frame.label s.frame.nth s.frame.scope f ≡ true → AreFrom lo f → have_forms f ≡ true
+    → is_adding (λ i. true) within s.frame.label f ≡ true → AddAlike s.facts t.facts (walked toks f s).facts (walked toks f t).facts

@@ -27,7 +27,7 @@ use Rattle.tree_laws.specs.TreesOfTexts.{token_count, AreFrom, has_form, have_fo
 use Rattle.reordered_tree_laws.specs.Adding.{has_no_list, within_of, is_adding_token, is_adding_declarator, is_adding_node, is_adding, IsAddedIn}
 use Rattle.reordered_tree_laws.specs.Ranges.{has_range, IsAdded, IsFine}
 use Rattle.reordered_tree_laws.specs.Premises.{is_scope, is_quiet_child, is_quiet}
-use Rattle.reordered_tree_laws.specs.Lasting.{tags_pass, IsLast, IsQuiet, NamesLast}
+use Rattle.reordered_item_laws.specs.Lasting.{tags_pass, IsLast, IsQuiet, NamesLast}
 use Rattle.reordered_tree_laws.proofs.OnlyAdding.{name_in, begins_some, adds_after, adds_walk}
 use Rattle.reordered_tree_laws.proofs.Ranges.{last_below, fine_walk}
 

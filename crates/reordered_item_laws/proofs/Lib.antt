@@ -1,0 +1,3 @@
+mod Quiet
+mod Owned
+mod AddsAlike

@@ -1,0 +1,18 @@
+// What is true of the items of lists, towards a new order of them: laws that no caller runs.
+ghost use Rattle.reordered_item_laws.specs.Lasting.{ItemsAddAlike, NamesLast};
+ghost use Rattle.reordered_item_laws.specs.Owned.{PartsStayOwn};
+
+/// An item adds the same declarations whatever stands beside it that it does not ask for.
+pub fn items_add_alike()
+    ensures { ItemsAddAlike }
+{}
+
+/// Behind a part in which only some names can last and no tag is declared, all that it has declared has ended but for these.
+pub fn names_last()
+    ensures { NamesLast }
+{}
+
+/// A part none of whose tokens stands beside makes known nothing that does.
+pub fn parts_stay_own()
+    ensures { PartsStayOwn }
+{}
