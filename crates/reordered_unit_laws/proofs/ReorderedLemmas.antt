@@ -36,7 +36,7 @@ use Rattle.reordered_unit_laws.specs.Reordered.{ListsStand, part_of, RunsStand, 
 use Rattle.reordered_unit_laws.specs.Walking.{IsOf, IsReachedRun, plain, plains, GoAlong}
 use Rattle.reordered_unit_laws.proofs.PartLemmas.{of_front, behind, falls, no_list_between, in_part, not_in_back}
 use Rattle.reordered_unit_laws.proofs.RunLemmas.{RunsToo}
-use Rattle.reordered_unit_laws.proofs.SignLemmas.{signs_back, signs_front}
+use Rattle.reordered_unit_laws.proofs.SignLemmas.{signs_back, signs_front, signs_end}
 use Rattle.reordered_unit_laws.proofs.StepLemmas.{World, front_at, behind_at, StandAt}
 use Rattle.reordered_unit_laws.proofs.UnitLemmas.{of_back, along_none, along_both, along_all, UnitToo, unit_goes}
 
@@ -201,6 +201,8 @@ units_are_reordered law cuts true_notes = λ edit n order c old number unit befo
     let d : Did (List Token) = o.0 in
     let lists2 : ListsStand c (unit_text d.value d.notes) = subst (λ (t : UnitTextValue). ListsStand c t) o.2 lists in
     let stand2 : RunsStand edit old order c (unit_text d.value d.notes) = subst (λ (t : UnitTextValue). RunsStand edit old order c t) o.2 stand in
+    let count : 0 + length d.value ≡ length d.value = omega arith in
+    let last : in_lists 0 c (length d.value) ≡ false = ap (λ (b : ℕ). in_lists 0 c b) (sym count) ∙ signs_end 0 c d.value lists2.marks in
     let w : World = record {
       edit = edit;
       old = old;
@@ -217,7 +219,7 @@ units_are_reordered law cuts true_notes = λ edit n order c old number unit befo
     let runs : RunsToo w = λ file text k i j s e at ends.
     let g = run_too law cuts true_notes edit n order c old d.notes d.value is_order of lists2 stand2 file text k i j s e at ends in
     record { e2 = g.0; expands = g.1; left = g.2; many = g.3; goes = g.4 } in
-    let k : UnitToo w number unit before d = unit_goes w runs keeps number unit before d o.1 found refl refl lists2.last in
+    let k : UnitToo w number unit before d = unit_goes w runs keeps number unit before d o.1 found refl refl last in
     let toks : plains k.toks ≡ arranged order c (plains d.value) = along_all n order c is_order of d.value k.toks k.goes in
     let many : length k.toks ≡ length d.value = sym (length-map k.toks plain) ∙ ap length toks ∙ length-arranged n order c (plains d.value) is_order of ∙ length-map d.value plain in
     let after2 : Carried = carried (edited_carried edit (carried d.state.table 0)).table (before.toks + length k.toks) in

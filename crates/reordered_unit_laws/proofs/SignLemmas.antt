@@ -1,11 +1,12 @@
 -- Lists of a unit stand in the part that a run brings.
-use Rattle.std.proofs.Common.{◌≡◌, ℕ, zero, suc, ◌+◌, ◌-◌, ◌<◌, ◌≤◌, Bool, true, false, cond, List, [], ◌∷◌, take, drop, Some, refl, ap, sym, subst, ◌∙◌, arith}
-use Rattle.std.specs.Prelude.{slice_get, nat_le, ◌&&◌}
-use Rattle.std.proofs.lemmas.Bool.{le-leb, leb-true, leb-false}
-use Rattle.std.proofs.lemmas.List.{drop-drop, drop-take, take-take}
+use Rattle.std.proofs.Common.{◌≡◌, ℕ, zero, suc, ◌+◌, ◌-◌, ◌<◌, ◌≤◌, Bool, true, false, cond, List, [], ◌∷◌, length, take, drop, Some, refl, ap, sym, subst, ◌∙◌, arith}
+use Rattle.std.specs.Prelude.{slice_get, nat_le, ◌&&◌, ◌||◌}
+use Rattle.std.proofs.lemmas.Bool.{le-leb, lt-leb, leb-true, leb-false}
+use Rattle.std.proofs.lemmas.List.{drop-drop, drop-take, take-take, length-drop}
+use Rattle.std.proofs.lemmas.Option.{slice_get_within}
 use Rattle.include_tree.specs.Below.cs_base.Token.{Token}
 use Rattle.include_tree.specs.Below.line_shape.Signs.{is_open, is_close, is_comma}
-use Rattle.list_cuts.specs.Cuts.{Cut, done, keep, list, Items, ended, item, span_of}
+use Rattle.list_cuts.specs.Cuts.{Cut, done, keep, list, Items, ended, item, count_of, span_of}
 use Rattle.list_cuts.specs.CutOf.{front, back}
 use Rattle.arranged_laws.specs.Arranging.{IsSign, SignsStand, ItemsSigned, in_lists}
 use Rattle.reordered_unit_laws.proofs.PartLemmas.{or_none, and_rest}
@@ -161,3 +162,41 @@ signs_front from n done out h s = tt
 signs_front from n (keep (suc k) (list js d)) out h s =
     front_by from n k js d out s (nat_le n (suc k)) refl h (λ n2 out2 e s2. signs_front (from + suc k + span_of js) n2 d out2 e s2)
 signs_front from n c out h s = absurd s
+
+-- ---- the last mark
+
+-- a `)` stands behind the items
+items_end : (js : Items) (out : List Token) → 0 < count_of js → ItemsSigned js out → span_of js < length out
+unfolding span_of count_of
+items_end ended out some s = absurd (omega (arith, some))
+items_end (item m d gap ended) out some s =
+    let here = slice_get_within out m s.1.1.mark s.1.1.has in
+    omega (arith, here, s.1.0)
+items_end (item m d gap (item m2 d2 gap2 more)) out some s =
+    let here = slice_get_within out m s.1.1.mark s.1.1.has in
+    let deep = items_end (item m2 d2 gap2 more) (drop (m + gap) out) (omega arith) s.2 in
+    let long = length-drop (m + gap) out in
+    omega (arith, here, deep, long)
+
+behind_list : (low high at : ℕ) (b : Bool) → high < at → b ≡ false → ((nat_le low at && nat_le at high) || b) ≡ false
+behind_list low high at b lt none =
+    ap (λ (x : Bool). (nat_le low at && x) || b) (lt-leb at high lt) ∙ both (nat_le low at) ∙ none
+  where
+    both : (x : Bool) → ((x && false) || b) ≡ b
+    both true = refl
+    both false = refl
+
+-- no list goes past the last token
+pub signs_end : (from : ℕ) (c : Cut) (out : List Token) → SignsStand c out → in_lists from c (from + length out) ≡ false
+unfolding in_lists
+signs_end from done out s = refl
+signs_end from (keep (suc k) (list js d)) out s =
+    let first = slice_get_within out k s.0.mark s.0.has in
+    let ends = items_end js (drop (suc k) out) s.1 s.2 in
+    let long = length-drop (suc k) out in
+    let long2 = length-drop (span_of js) (drop (suc k) out) in
+    let rest = signs_end (from + suc k + span_of js) d (drop (span_of js) (drop (suc k) out)) s.3 in
+    let same : from + suc k + span_of js + length (drop (span_of js) (drop (suc k) out)) ≡ from + length out = omega (arith, first, ends, long, long2) in
+    behind_list (from + suc k) (from + suc k + span_of js) (from + length out) (in_lists (from + suc k + span_of js) d (from + length out)) (omega (arith, first, ends, long))
+    (ap (λ (i : ℕ). in_lists (from + suc k + span_of js) d i) (sym same) ∙ rest)
+signs_end from c out s = absurd s

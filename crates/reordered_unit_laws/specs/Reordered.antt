@@ -24,12 +24,11 @@ use Rattle.reordered_unit_laws.specs.Walking.{KeepsTexts, text_items, IsEdited, 
 
 -- ---- lists in a unit
 
--- The lists of a cut stand in a unit: their marks were put in by no macro; no item is reached in a list, nor does one go
--- past the last token; and no `__LINE__` is replaced in a list (6.10.8).
+-- The lists of a cut stand in a unit: their marks were put in by no macro; no item is reached in a list; and no `__LINE__` is
+-- replaced in one (6.10.8).
 pub record ListsStand (c : Cut) (text : UnitTextValue) : Type 0 where
   pub marks : SignsStand c text.toks
   pub reached : (r : Reached) → IsOf text.reached r → in_lists 0 c r.before ≡ false
-  pub last : in_lists 0 c (length text.toks) ≡ false
   pub lines : (e : Event) (name : Token) → IsOf text.events e → e.kind ≡ kind.Replaced → e.name ≡ Some name → e.def ≡ None → name.text ≡ codes "__LINE__"
       → in_lists 0 c e.before ≡ false
 
