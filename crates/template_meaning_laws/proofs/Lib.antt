@@ -7,5 +7,9 @@ mod Counted
 mod Bare
 mod Units
 mod Clear
+mod Bracketed
 mod UnitLists
 mod UnitCut
+mod FitTable
+mod Fit
+mod FitWalk

@@ -1,24 +1,57 @@
 -- In a unit against which nothing stands each list has as many items as the order has numbers.
-use Rattle.std.proofs.Common.{◌≡◌, ℕ, length, sym, subst, ◌∙◌}
+use Rattle.std.proofs.Common.{◌≡◌, ℕ, ◌<◌, List, length, sym, subst, ◌∙◌}
 use Rattle.std.specs.Prelude.{◌==◌}
 use Rattle.std.proofs.lemmas.Bool.{and_parts, eqb-true}
+use Rattle.tree_laws.specs.Below.cs_base.declared.positions.Part.{Part}
+use Rattle.tree_laws.specs.Below.c_types.declared.lists.List.{List as NameList}
+use Rattle.tree_laws.specs.Below.c_types.Parameters.{parameters_in}
+use Rattle.tree_laws.proofs.Lookups as tree
+use Rattle.no_offence_laws.specs.Below.source_files.Files.{Source}
+use Rattle.no_offence_laws.specs.Below.ws_file.Workspace.{WorkspaceValue}
+use Rattle.no_offence_laws.specs.Below.ws_core.Analysis.{UnitAnalysis, AnalysisValue}
+use Rattle.no_offence_laws.proofs.ListLemmas.{In}
 use Rattle.tree_laws.specs.ReadTexts.{ReadParameterListsAreInOrder}
 use Rattle.list_cuts.specs.Cuts.{IsOrder}
 use Rattle.list_cuts.proofs.OrderLemmas.{orders_permute}
-use Rattle.template_rules.specs.Lists.{count_of}
-use Rattle.template_meaning_laws.specs.Lists.{UnitsAreCut}
+use Rattle.template_rules.specs.Lists.{parameters_of, arguments_of, count_of}
+use Rattle.template_meaning_laws.specs.Accepted.{IsAccepted}
+use Rattle.template_meaning_laws.specs.Children.{EachNode}
+use Rattle.template_meaning_laws.specs.Clear.{IsOwn, UnitIsClear}
+use Rattle.template_meaning_laws.specs.Forms.{IsBracketed, UnitListsAreBracketed}
+use Rattle.template_meaning_laws.specs.Reordered.{begins_list}
+use Rattle.template_meaning_laws.specs.Lists.{IsCut, UnitsAreCut}
 use Rattle.template_meaning_laws.proofs.Clear.{units_are_clear}
-use Rattle.template_meaning_laws.proofs.UnitLists.{index_of, unit_many}
-use Rattle.template_meaning_laws.proofs.Units.{unit_read_so}
+use Rattle.template_meaning_laws.proofs.UnitLists.{index_of, unit_many, unit_brackets}
+use Rattle.template_meaning_laws.proofs.Units.{IsReadSo, unit_read_so}
+
+module _ (in_order : ReadParameterListsAreInOrder) (source : Source) (ws : WorkspaceValue) (a : AnalysisValue) (members : List Part) (order : List ℕ) (h : IsAccepted source ws a members order)
+    (u : UnitAnalysis) (i : In u a.units) where
+  count_is : count_of a members ≡ length order
+  count_is = sym (eqb-true (length order) (count_of a members) (and_parts (length order == count_of a members) _ h.ordered).0)
+
+  clear : UnitIsClear a members u
+  clear = units_are_clear source ws a members order h u i
+
+  read : IsReadSo u
+  read = unit_read_so source ws a h.analysed u i
+
+  declared : (l : NameList) → tree.In l u.bound.declarators → IsOwn members u l → parameters_of (parameters_in u.tree.under) l.name ≡ length order
+  declared l w own = let c = clear in let d = c.declarators l (index_of l u.bound.declarators w) own in let list = d.list in list.many ∙ count_is
+
+  called : (l : NameList) → tree.In l u.bound.calls → IsOwn members u l → arguments_of l ≡ length order
+  called l w own = let c = clear in let d = c.calls l (index_of l u.bound.calls w) own in let list = d.list in list.many ∙ count_is
+
+  is_cut : IsCut members order u
+  is_cut = let r = read in record {
+    order_is = subst (λ (k : ℕ). IsOrder k order) count_is (orders_permute (count_of a members) order h.ordered);
+    each = unit_many u.standard members u (length order) r.reads r.binds in_order declared called;
+  }
+
+  is_bracketed_unit : 0 < length order → EachNode (IsBracketed (begins_list members u)) u.tree.under
+  is_bracketed_unit some = let r = read in unit_brackets u.standard members u (length order) r.reads r.binds in_order declared called some
 
 pub units_are_cut : ReadParameterListsAreInOrder → UnitsAreCut
-units_are_cut in_order source ws a members order h u i =
-    let clear = units_are_clear source ws a members order h u i in
-    let read = unit_read_so source ws a h.analysed u i in
-    let many : count_of a members ≡ length order = sym (eqb-true (length order) (count_of a members) (and_parts (length order == count_of a members) _ h.ordered).0) in
-    record {
-      order_is = subst (λ (k : ℕ). IsOrder k order) many (orders_permute (count_of a members) order h.ordered);
-      each = unit_many u.standard members u (length order) read.reads read.binds in_order
-          (λ l w own. let d = clear.declarators l (index_of l u.bound.declarators w) own in let list = d.list in list.many ∙ many)
-          (λ l w own. let c = clear.calls l (index_of l u.bound.calls w) own in let list = c.list in list.many ∙ many);
-    }
+units_are_cut in_order source ws a members order h u i = is_cut in_order source ws a members order h u i
+
+pub unit_lists_are_bracketed : ReadParameterListsAreInOrder → UnitListsAreBracketed
+unit_lists_are_bracketed in_order source ws a members order h some u i = is_bracketed_unit in_order source ws a members order h u i some

@@ -24,15 +24,18 @@ use Rattle.tree_laws.proofs.HeldNames.{binding_is}
 use Rattle.tree_laws.proofs.Lookups.{In}
 use Rattle.tree_laws.proofs.OfTexts.{trees_of_texts}
 use Rattle.list_cuts.specs.Cuts.{AreOf}
-use Rattle.reordered_tree_laws.specs.Reordered.{is_parenthesised}
+use Rattle.reordered_tree_laws.specs.Premises.{is_bracketed}
+use Rattle.reordered_tree_laws.specs.Reordered.{is_parenthesised, is_among}
 use Rattle.no_offence_laws.specs.Below.ws_core.Analysis.{UnitAnalysis}
 use Rattle.template_rules.specs.Functions.{names_function}
 use Rattle.template_rules.specs.Lists.{declarations_in, arguments_of, parameters_at}
 use Rattle.template_rules.specs.Lists as lists
 use Rattle.template_meaning_laws.specs.Children.{EachNode, IsOfAlternative}
 use Rattle.template_meaning_laws.specs.Clear.{IsOwn}
+use Rattle.template_meaning_laws.specs.Forms.{IsBracketed}
 use Rattle.template_meaning_laws.specs.Reordered.{begins_with, begins_list, unit_cut}
 use Rattle.template_meaning_laws.proofs.Children.{each_below}
+use Rattle.template_meaning_laws.proofs.Bracketed.{call_bracketed, list_bracketed}
 use Rattle.template_meaning_laws.proofs.Counted.{ListHas, InnerHave, call_have, list_have, tree_has}
 use Rattle.template_meaning_laws.proofs.Forms.{IsPair, call_pair, list_pair}
 use Rattle.template_meaning_laws.proofs.Parens.{in_first, in_last, in_map, map_in, Entry, entry, entry_of, entries, begins, Begins, one_entry, is_call, calls_listed, Pair, list_by, parameters_by, pairs_in, lists_paired, parameters_paired, pairs_entries}
@@ -233,6 +236,27 @@ module _ (s : Standard) (members : List Part) (u : UnitAnalysis) (n : ℕ) (read
         let many : declarations_in (parameters_by p) ≡ n = sym (ap (λ (o : Option ParameterList). option_map_or declarations_in o 0) found) ∙ of_declarators m w own in
         list_have s n l p.name under (ap is_list (sym labels) ∙ e.passes) x each (ap (λ (g : Forest). declarations_in (parameters_of p.name g)) (sym unders) ∙ many)
 
+    declarator_bracketed : 0 < n → is_list l ≡ true → (m : NameList) → In m u.bound.declarators → IsOwn members u m → m.begin ≡ first_token under 0 → is_bracketed under ≡ true
+    declarator_bracketed some list m w own at =
+        let d = declarator_is m w in
+        let p = d.0 in
+        let e = pairs_entries T p d.1 in
+        let begin : first_token p.under 0 ≡ first_token under 0 = ap (λ (q : NameList). q.begin) d.2 ∙ at in
+        let one = one_of (entry e.label p.under) (entry l under) e.there there begin in
+        let unders : p.under ≡ under = ap (λ (y : Entry). y.under) one in
+        let found = parameters_found m w p d.1 d.2 d.3 in
+        let many : declarations_in (parameters_by p) ≡ n = sym (ap (λ (o : Option ParameterList). option_map_or declarations_in o 0) found) ∙ of_declarators m w own in
+        list_bracketed s n some l p.name under list x each (ap (λ (g : Forest). declarations_in (parameters_of p.name g)) (sym unders) ∙ many)
+
+    call_label : (m : NameList) → In m u.bound.calls → m.begin ≡ first_token under 0 → is_at l Post 2 ≡ true
+    call_label m w at =
+        let c = calls_listed T m (subst (λ (b : Bound). In m b.calls) bound_is w) in
+        let begin : first_token c.under 0 ≡ first_token under 0 = ap (λ (q : NameList). q.begin) c.is ∙ at in
+        let e = c.entered in
+        let one = one_of (entry e.label c.under) (entry l under) e.there there begin in
+        let labels : e.label ≡ l = ap (λ (y : Entry). y.label) one in
+        ap is_call (sym labels) ∙ e.passes
+
     has_many : ListHas n (begins_list members u) l under
     has_many among =
         let both = and_parts (is_parenthesised l) _ among in
@@ -249,25 +273,55 @@ module _ (s : Standard) (members : List Part) (u : UnitAnalysis) (n : ℕ) (read
               by_call m.0 m.1.0 parts.0 (eqb-true m.0.begin (first_token under 0) parts.1)
         ]
 
-  each_many : (f : Forest) (k : ℕ) → ((x : Entry) → In x (entries f) → In x (entries T)) → AreFrom k f → EachNode (IsOfAlternative (grammar s)) f
-      → EachNode (ListHas n (begins_list members u)) f
-  each_many none k into tokens each = tt
-  each_many (token i rest) k into tokens each = each_many rest (k + 1) into tokens.1 each
-  each_many (node l first under rest) k into tokens each = (
-    own,
-    each_many under k (λ x w. into x (in_last x (entry_of l under) (entries under ++ entries rest) (in_first x (entries under) (entries rest) w))) tokens.1 each.1,
-    each_many rest _ (λ x w. into x (in_last x (entry_of l under) (entries under ++ entries rest) (in_last x (entries under) (entries rest) w))) tokens.2 each.2,
-  )
-    where
-      in_own : (b : Bool) → is_parenthesised l ≡ b → b ≡ true → In (entry l under) (if b then entry l under ∷ [] else [])
-      in_own true e h = inl refl
-      in_own false e h = absurd (false≢true h)
+    -- and where lists have some items, it is bracketed
+    has_brackets : 0 < n → IsBracketed (begins_list members u) l under
+    has_brackets some among =
+        let both = and_parts (is_parenthesised l) _ among in
+        elim (or_cases (is_at l Post 2) (is_list l) both.0) [
+          | inl call ↦ call_bracketed s l under call x each
+          | inr list ↦
+              let begun = (and_parts (begins_list members u (first_token under 0)) _ both.1).0 in
+              elim (or_cases (list_any (begins_with members toks u.bound.names (first_token under 0)) u.bound.declarators)
+              (list_any (begins_with members toks u.bound.names (first_token under 0)) u.bound.calls) begun) [
+                | inl declared ↦
+                    let m = any_in (begins_with members toks u.bound.names (first_token under 0)) u.bound.declarators declared in
+                    let parts = and_parts (names_function members toks u.bound.names m.0.name) (m.0.begin == first_token under 0) m.1.1 in
+                    declarator_bracketed some list m.0 m.1.0 parts.0 (eqb-true m.0.begin (first_token under 0) parts.1)
+                | inr called ↦
+                    let m = any_in (begins_with members toks u.bound.names (first_token under 0)) u.bound.calls called in
+                    let parts = and_parts (names_function members toks u.bound.names m.0.name) (m.0.begin == first_token under 0) m.1.1 in
+                    call_bracketed s l under (call_label m.0 m.1.0 (eqb-true m.0.begin (first_token under 0) parts.1)) x each
+              ]
+        ]
 
-      own : ListHas n (begins_list members u) l under
-      own among =
+  -- what is true of each such list is true of each node
+  module _ (Q : Label → Forest → Type 0)
+      (each_list : (l : Label) (under : Forest) → In (entry l under) (entries T) → IsOfAlternative (grammar s) l under → EachNode (IsOfAlternative (grammar s)) under → (k : ℕ) → AreFrom k under
+      → is_among (begins_list members u) l under ≡ true → Q l under) where
+    abbrev IfAmong : Label → Forest → Type 0
+    IfAmong l under = is_among (begins_list members u) l under ≡ true → Q l under
+
+    in_own : (l : Label) (under : Forest) (b : Bool) → b ≡ true → In (entry l under) (if b then entry l under ∷ [] else [])
+    in_own l under true h = inl refl
+    in_own l under false h = absurd (false≢true h)
+
+    each_among : (f : Forest) (k : ℕ) → ((x : Entry) → In x (entries f) → In x (entries T)) → AreFrom k f → EachNode (IsOfAlternative (grammar s)) f → EachNode IfAmong f
+    each_among none k into tokens each = tt
+    each_among (token i rest) k into tokens each = each_among rest (k + 1) into tokens.1 each
+    each_among (node l first under rest) k into tokens each = (
+      λ among.
           let par = (and_parts (is_parenthesised l) _ among).0 in
-          let there = into (entry l under) (in_first (entry l under) (entry_of l under) (entries under ++ entries rest) (in_own (is_parenthesised l) refl par)) in
-          has_many l under there each.0 each.1 k tokens.1 among
+          let there = into (entry l under) (in_first (entry l under) (entry_of l under) (entries under ++ entries rest) (in_own l under (is_parenthesised l) par)) in
+          each_list l under there each.0 each.1 k tokens.1 among,
+      each_among under k (λ x w. into x (in_last x (entry_of l under) (entries under ++ entries rest) (in_first x (entries under) (entries rest) w))) tokens.1 each.1,
+      each_among rest _ (λ x w. into x (in_last x (entry_of l under) (entries under ++ entries rest) (in_last x (entries under) (entries rest) w))) tokens.2 each.2,
+    )
 
   pub unit_many : AreOf n (unit_cut members u)
-  unit_many = tree_has n (begins_list members u) u.tree (each_many T 0 (λ x w. w) of_text.tokens each_of)
+  unit_many =
+      tree_has n (begins_list members u) u.tree
+      (each_among (λ l under. InnerHave n under) (λ l under there x each k tokens among. has_many l under there x each k tokens among) T 0 (λ x w. w) of_text.tokens each_of)
+
+  pub unit_brackets : 0 < n → EachNode (IsBracketed (begins_list members u)) T
+  unit_brackets some =
+      each_among (λ l under. is_bracketed under ≡ true) (λ l under there x each k tokens among. has_brackets l under there x each k tokens some among) T 0 (λ x w. w) of_text.tokens each_of

@@ -1,11 +1,11 @@
 -- Which children the nodes of a tree have: those of the alternative by which each was read (ISO/IEC 9899:1999, Annex A.2).
-use Rattle.std.specs.Prelude.{ℕ, zero, suc, ◌+◌, ◌≡◌, ◌⊎◌, Bool, true, List, [], ◌∷◌, ◌++◌, Some, slice_get}
+use Rattle.std.specs.Prelude.{ℕ, zero, suc, ◌+◌, ◌≡◌, ◌⊎◌, Bool, true, false, List, [], ◌∷◌, ◌++◌, Some, slice_get}
 use Rattle.tree_laws.specs.Below.cs_base.declared.ws_units.Standard.{Standard}
 use Rattle.tree_laws.specs.Below.cs_base.Token.{Token}
 use Rattle.tree_laws.specs.Below.c99_tree.Tree.{Forest, none, token, node, Node}
 use Rattle.tree_laws.specs.Below.c99_tree.declared.production.Label.{Label}
 use Rattle.tree_laws.specs.Below.c99_tree.declared.production.Production.{Production}
-use Rattle.tree_laws.specs.Below.c99_tree.declared.production.Production.TheVariants.{TranslationUnit, Primary}
+use Rattle.tree_laws.specs.Below.c99_tree.declared.production.Production.TheVariants.{TranslationUnit, Expr, Primary}
 use Rattle.tree_laws.specs.Below.c99_grammar.Items.{Item, one, part, end_of_text, act, ◌·◌, choice, maybe, many, deep, Alternative}
 use Rattle.tree_laws.specs.Below.c99_grammar.Standard.{Grammar, grammar}
 use Rattle.tree_laws.specs.Below.c99_read.State.{collapses}
@@ -25,6 +25,7 @@ children (node l first under rest) = a_node l.production ∷ children rest
 -- an operand of operators (6.5): a node of these stands for an expression that is nothing but this operand
 abbrev pub is_operand : Production → Bool
 is_operand Primary = true
+is_operand Expr = false
 is_operand p = collapses p
 
 -- what is read for a production is a node of it; or, for an expression, an operand that is all of it

@@ -5,3 +5,4 @@ pub mod Children
 pub mod Accepted
 pub mod Clear
 pub mod Lists
+pub mod Forms

@@ -1,5 +1,6 @@
 // What is so where nothing stands against a new order of the parameters of a function: laws that no caller runs.
 ghost use Rattle.template_meaning_laws.specs.Clear.{UnitsAreClear};
+ghost use Rattle.template_meaning_laws.specs.Forms.{UnitListsAreBracketed};
 ghost use Rattle.template_meaning_laws.specs.Lists.{UnitsAreCut};
 
 use tree_laws::read_lists_stand_in_order;
@@ -13,6 +14,14 @@ pub fn units_are_clear()
 /// Each list of the functions has as many items as the order has numbers, those in items of others too.
 pub fn units_are_cut()
     ensures { UnitsAreCut }
+{
+    read_lists_stand_in_order();
+}
+
+/// Each list of the functions is a pair of parentheses with arguments or parameters in it, or nothing, where the order is not
+/// empty: no identifier list is among them.
+pub fn unit_lists_are_bracketed()
+    ensures { UnitListsAreBracketed }
 {
     read_lists_stand_in_order();
 }

@@ -1,8 +1,15 @@
-// What is true of the tree of every text that is read, as far as lists rest on it: a law that no caller runs.
+// What is true of the tree of every text that is read, as far as lists rest on it: laws that no caller runs.
 ghost use Rattle.template_meaning_laws.specs.Children.{ChildrenAreOfAlternatives};
+ghost use Rattle.template_meaning_laws.specs.Forms.{TreesHaveForms};
 
 /// The children of each node of a tree that is read are those of one alternative of its production; and below a node that is
 /// no function, no statement and no declaration but that of parameters or members there is none of these.
 pub fn children_are_of_alternatives()
     ensures { ChildrenAreOfAlternatives }
+{}
+
+/// The tree that is read of a text has all the forms that binding in a new order asks for, where its lists are bracketed and
+/// the list that a body begins with is no part of an item of one.
+pub fn trees_have_forms()
+    ensures { TreesHaveForms }
 {}
