@@ -71,7 +71,7 @@ numbers_at from (suc n) zero h = ap (λ (j : ℕ). Some j) (let e : from ≡ fro
 numbers_at from (suc n) (suc k) h =
     numbers_at (from + 1) n k (omega (arith, h)) ∙ ap (λ (j : ℕ). Some j) (let e : from + 1 + k ≡ from + suc k = omega arith in e)
 
-in_numbers : (from n i : ℕ) → from < i + 1 → i < from + n → In i (numbers from n)
+pub in_numbers : (from n i : ℕ) → from < i + 1 → i < from + n → In i (numbers from n)
 in_numbers from n i low high =
     let e : from + (i - from) ≡ i = omega (arith, low) in
     (i - from, numbers_at from n (i - from) (omega (arith, low, high)) ∙ ap (λ (j : ℕ). Some j) e)

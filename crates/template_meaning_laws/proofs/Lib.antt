@@ -13,3 +13,4 @@ mod UnitCut
 mod FitTable
 mod Fit
 mod FitWalk
+mod Again

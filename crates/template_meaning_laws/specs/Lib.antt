@@ -6,3 +6,4 @@ pub mod Accepted
 pub mod Clear
 pub mod Lists
 pub mod Forms
+pub mod Again

@@ -1,4 +1,5 @@
 // What is so where nothing stands against a new order of the parameters of a function: laws that no caller runs.
+ghost use Rattle.template_meaning_laws.specs.Again.{ListsStandInEach};
 ghost use Rattle.template_meaning_laws.specs.Clear.{UnitsAreClear};
 ghost use Rattle.template_meaning_laws.specs.Forms.{UnitListsAreBracketed};
 ghost use Rattle.template_meaning_laws.specs.Lists.{UnitsAreCut};
@@ -25,3 +26,9 @@ pub fn unit_lists_are_bracketed()
 {
     read_lists_stand_in_order();
 }
+
+/// In each processing of the run for which a mark of a list was put out, in whatever unit, a list of the functions stands at the
+/// same positions, with its own mark there.
+pub fn lists_stand_in_each()
+    ensures { ListsStandInEach }
+{}

@@ -8,8 +8,9 @@
 //! here: a law is the `ensures` of a function.
 //!
 //! `IsAccepted` of `specs/Accepted.antt` is an order against which nothing stands. Then each list and each name is clear,
-//! `UnitIsClear` of `specs/Clear.antt`, which says of each offence what follows where it does not stand; and each list has as
-//! many items as the order has numbers, `IsCut` of `specs/Lists.antt`. For that the trees that are read have to be known:
+//! `UnitIsClear` of `specs/Clear.antt`, which says of each offence what follows where it does not stand; a list stands again in
+//! each processing of its run, `StandsInEach` of `specs/Again.antt`; and each list has as many items as the order has numbers,
+//! `IsCut` of `specs/Lists.antt`. For that the trees that are read have to be known:
 //! each node has the children of one alternative of its production, `IsOfAlternative` of `specs/Children.antt`; so it has the
 //! forms that binding in a new order asks for, `specs/Forms.antt`.
 #![tactic(auto)]
@@ -17,5 +18,5 @@
 mod laws;
 mod trees;
 
-pub use laws::{unit_lists_are_bracketed, units_are_clear, units_are_cut};
+pub use laws::{lists_stand_in_each, unit_lists_are_bracketed, units_are_clear, units_are_cut};
 pub use trees::{children_are_of_alternatives, trees_have_forms};
