@@ -21,3 +21,4 @@ pub mod LeadLemmas
 pub mod TokenLaw
 pub mod RunLemmas
 pub mod PartLemmas
+pub mod FileItemLemmas

@@ -194,7 +194,7 @@ mutual
       ap (λ (l : List _). masked_items (λ y. y) is ys ++ l) (masked_same c (drop (span_of is) ys))
       ∙ ap (λ (l : List _). l ++ drop (span_of is) ys) (masked_items_same is ys) ∙ take-append-drop (span_of is) ys
 
-  masked_items_same : {Y : Type 0} (is : Items) (ys : List Y) → masked_items (λ y. y) is ys ≡ take (span_of is) ys
+  pub masked_items_same : {Y : Type 0} (is : Items) (ys : List Y) → masked_items (λ y. y) is ys ≡ take (span_of is) ys
   masked_items_same ended ys = refl
   masked_items_same (item n c gap more) ys =
       ap (λ (l : List _). l ++ (take gap (drop n ys) ++ masked_items (λ y. y) more (drop (n + gap) ys))) (head_same (masked (λ y. y) c (take n ys)) ∙ masked_same c (take n ys))

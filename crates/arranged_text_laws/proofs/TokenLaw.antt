@@ -63,7 +63,7 @@ head-image h k g same (x ∷ xs) = ap (λ y. y ∷ map g xs) (same x)
 mutual
   unfolding masked masked_items span_of
 
-  masked-image : {X Y : Type 0} (h : X → X) (k : Y → Y) (g : X → Y) → ((x : X) → k (g x) ≡ g (h x)) → (c : Cut) (xs : List X) → masked k c (map g xs) ≡ map g (masked h c xs)
+  pub masked-image : {X Y : Type 0} (h : X → X) (k : Y → Y) (g : X → Y) → ((x : X) → k (g x) ≡ g (h x)) → (c : Cut) (xs : List X) → masked k c (map g xs) ≡ map g (masked h c xs)
   masked-image h k g same done xs = refl
   masked-image h k g same (keep n c) xs =
       rw (take-map g n xs, drop-map g n xs, masked-image h k g same c (drop n xs)) (sym (map-append g (take n xs) (masked h c (drop n xs))))
@@ -71,7 +71,7 @@ mutual
       rw (masked_items-image h k g same is xs, drop-map g (span_of is) xs, masked-image h k g same c (drop (span_of is) xs))
       (sym (map-append g (masked_items h is xs) (masked h c (drop (span_of is) xs))))
 
-  masked_items-image : {X Y : Type 0} (h : X → X) (k : Y → Y) (g : X → Y) → ((x : X) → k (g x) ≡ g (h x)) → (is : Items) (xs : List X)
+  pub masked_items-image : {X Y : Type 0} (h : X → X) (k : Y → Y) (g : X → Y) → ((x : X) → k (g x) ≡ g (h x)) → (is : Items) (xs : List X)
       → masked_items k is (map g xs) ≡ map g (masked_items h is xs)
   masked_items-image h k g same ended xs = refl
   masked_items-image h k g same (item n c gap more) xs =
@@ -195,7 +195,7 @@ shut_same fs gs h all =
     shuts : (fs : List Found) → map is_shut fs ≡ map shut_sort (map sort_of fs)
     shuts fs = map-same is_shut (λ f. shut_sort (sort_of f)) fs (λ f. sym (sort_shut f)) ∙ sym (map-map shut_sort sort_of fs)
 
-firsts_of_file : (file : ℕ) (bytes : List ℕ) → firsts_in (found_of file bytes) ≡ firsts_of bytes
+pub firsts_of_file : (file : ℕ) (bytes : List ℕ) → firsts_in (found_of file bytes) ≡ firsts_of bytes
 unfolding firsts_of
 firsts_of_file file bytes = firsts_sorts (found_of file bytes) (found_of 0 bytes) (file_sorts file bytes)
 

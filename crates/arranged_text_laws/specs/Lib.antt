@@ -13,3 +13,4 @@ pub mod Calm
 pub mod Tokens
 pub mod Runs
 pub mod Parts
+pub mod FileItems

@@ -8,7 +8,7 @@
 //! gives; and its items, directive lines and runs of text lines, are those that it had. That a new order of the parameters
 //! of a function keeps what a program means will rest on these laws. Read `specs/Settling.antt`, `specs/Joining.antt` and
 //! `specs/Calm.antt`, then `specs/Marks.antt`, `specs/Along.antt`, `specs/Seams.antt` and `specs/Weighed.antt`, then
-//! `specs/Arranging.antt`, `specs/Tokens.antt`, `specs/Runs.antt` and `laws.rt`.
+//! `specs/Arranging.antt`, `specs/Tokens.antt`, `specs/Runs.antt`, `specs/FileItems.antt` and `laws.rt`.
 #![tactic(auto)]
 
 mod laws;
