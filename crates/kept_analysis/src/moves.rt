@@ -158,7 +158,7 @@ fn places(
     requires { length puts.items ≡ length (text_in file.now.bytes) }
     ensures { (members : List APart) → ArePuts members number puts.items → IfOk result (λ f. AreOfFile members name.now number file.now.bytes f) }
 {
-    let mut places = Vec::new(alloc);
+    let mut places = Vec::with_capacity(alloc, puts.len())?;
     let mut end: u32 = 0;
     for at in 0..puts.len() {
         places.push(end)?;

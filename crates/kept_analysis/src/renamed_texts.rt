@@ -70,7 +70,7 @@ fn with_rest(
 fn renamed_events(alloc: Global, moves: &Moves, events: &[Event]) -> Result<Vec<Event>, Memory>
     ensures { IfOk result (λ r. r.items ≡ map (renamed_event (renaming_by moves.now)) events.now) }
 {
-    let mut renamed = Vec::new(alloc);
+    let mut renamed = Vec::with_capacity(alloc, events.len())?;
     for event in events {
         renamed.push(renamed_one(alloc, moves, event)?)?;
     }

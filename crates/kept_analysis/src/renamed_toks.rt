@@ -156,7 +156,7 @@ fn push_origins(origins: &mut Vec<Option<Pos>>, from: Pos, len: u32) -> Result<(
 pub(crate) fn renamed_toks(alloc: Global, moves: &Moves, toks: &[Tok]) -> Result<Vec<Tok>, Memory>
     ensures { IfOk result (λ r. r.items ≡ map (renamed_token (renaming_by moves.now)) toks.now) }
 {
-    let mut renamed = Vec::new(alloc);
+    let mut renamed = Vec::with_capacity(alloc, toks.len())?;
     for tok in toks {
         renamed.push(renamed_tok(alloc, moves, tok)?)?;
     }
@@ -171,7 +171,7 @@ pub(crate) fn renamed_links(
 ) -> Result<Vec<Link>, Memory>
     ensures { IfOk result (λ r. r.items ≡ map (renamed_link (renaming_by moves.now)) links.now) }
 {
-    let mut renamed = Vec::new(alloc);
+    let mut renamed = Vec::with_capacity(alloc, links.len())?;
     for link in links {
         renamed.push(renamed_one(alloc, moves, link)?)?;
     }
