@@ -1,5 +1,5 @@
 -- In each processing of a run the lists of the functions are the same.
-use Rattle.std.proofs.Common.{◌≡◌, ℕ, zero, suc, ◌+◌, ◌<◌, ◌⊎◌, inl, inr, ◌&&◌, ◌||◌, not, Bool, true, false, List, [], ◌∷◌, length, Option, None, Some, refl, sym, ap, subst, ◌∙◌, arith}
+use Rattle.std.proofs.Common.{◌≡◌, ℕ, zero, suc, ◌+◌, ◌<◌, ◌⊎◌, inl, inr, ◌||◌, not, Bool, true, false, List, [], ◌∷◌, length, Option, None, Some, refl, ap, subst, ◌∙◌, arith}
 use Rattle.std.specs.Prelude.{slice_get}
 use Rattle.std.specs.List.{list_any, list_all}
 use Rattle.std.specs.Option.{option_map_or}
@@ -12,11 +12,10 @@ use Rattle.no_offence_laws.specs.Below.unit_steps.declared.events.Reached.{Reach
 use Rattle.no_offence_laws.specs.Below.ws_core.Analysis.{UnitAnalysis, AnalysisValue}
 use Rattle.no_offence_laws.proofs.ListLemmas.{In}
 use Rattle.list_cuts.specs.Cuts.{numbers}
-use Rattle.template_rules.specs.Functions.{origin_of, names_function}
-use Rattle.template_rules.specs.Lists.{each_mark, some_mark}
-use Rattle.template_rules.specs.MacroOffences.{is_same_list, item_of, is_item, is_mark_in, is_list_at, is_list_in, is_list_as, is_list_through, is_list_for, is_mark_everywhere}
+use Rattle.template_rules.specs.Functions.{names_function}
+use Rattle.template_rules.specs.Lists.{each_mark}
+use Rattle.template_rules.specs.MacroOffences.{is_same_list, item_of, is_item, is_list_at, is_list_in, is_list_as, is_list_through, is_list_for, is_mark_everywhere}
 use Rattle.template_meaning_laws.specs.Again.{IsMarkOf, StandsAgain, StandsInEach, ListsStandInEach}
-use Rattle.template_meaning_laws.specs.Clear.{IsOwn}
 use Rattle.template_meaning_laws.proofs.Clear.{units_are_clear, in_numbers}
 
 all_pass : {X : Type 0} (test : X → Bool) (xs : List X) (x : X) (k : ℕ) → list_all test xs ≡ true → slice_get xs k ≡ Some x → test x ≡ true

@@ -56,7 +56,7 @@ both_none : (xs ys : List Child) → xs ++ ys ≡ [] → (xs ≡ []) × (ys ≡ 
 both_none [] ys e = (refl, e)
 both_none (x ∷ xs) ys e = absurd (cc)
 
-item_none : (a : Item) (w : List Child) → AreOfItem a w → w ≡ [] → can_none a ≡ true
+pub item_none : (a : Item) (w : List Child) → AreOfItem a w → w ≡ [] → can_none a ≡ true
 item_none (one classes) w h e = let no : a_token ∷ [] ≡ [] = sym h ∙ e in absurd (cc)
 item_none (part p) w (q, h, stands) e = let no : a_node q ∷ [] ≡ [] = sym h ∙ e in absurd (cc)
 item_none end_of_text w h e = refl

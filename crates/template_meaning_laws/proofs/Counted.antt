@@ -175,7 +175,7 @@ some_behind : {X : Type 0} (xs ys : List X) → (xs ++ ys ≡ []) → (xs ≡ []
 some_behind [] ys e = (refl, e)
 some_behind (x ∷ xs) ys e = absurd (cc)
 
-item_some : (a : Item) → has_token a ≡ true → (w : List Child) → AreOfItem a w → w ≡ [] → ⊥
+pub item_some : (a : Item) → has_token a ≡ true → (w : List Child) → AreOfItem a w → w ≡ [] → ⊥
 item_some (one classes) h w is e = let no : a_token ∷ [] ≡ [] = sym is ∙ e in cc
 item_some (part p) h w (q, is, stands) e = let no : a_node q ∷ [] ≡ [] = sym is ∙ e in cc
 item_some end_of_text h w is e = absurd (false≢true h)
@@ -196,7 +196,7 @@ inner_some : (p : Production) → has_no_declaring p ≡ true → never_empty p 
 inner_some TranslationUnit h = absurd (false≢true h)
 inner_some _ h = refl
 
-sound_at : (g : Grammar) (p : Production) (rows : List Alternative) (n : ℕ) (a : Alternative) → list_all (is_sound p) rows ≡ true → slice_get rows n ≡ Some a → is_sound p a ≡ true
+pub sound_at : (g : Grammar) (p : Production) (rows : List Alternative) (n : ℕ) (a : Alternative) → list_all (is_sound p) rows ≡ true → slice_get rows n ≡ Some a → is_sound p a ≡ true
 sound_at g p [] n a all at = absurd (cc)
 sound_at g p (b ∷ more) zero a all at = subst (λ (c : Alternative). is_sound p c ≡ true) (same_Some b a at) (and_parts (is_sound p b) (list_all (is_sound p) more) all).0
 sound_at g p (b ∷ more) (suc n) a all at = sound_at g p more n a (and_parts (is_sound p b) (list_all (is_sound p) more) all).1 at

@@ -8,6 +8,7 @@ mod Bare
 mod Units
 mod Clear
 mod Bracketed
+mod Leading
 mod UnitLists
 mod UnitCut
 mod FitTable

@@ -101,7 +101,7 @@ begins_at k none w b = absurd (false≢true b)
 begins_at k (token i rest) w b = (w.0, omega arith)
 begins_at k (node l first under rest) w b = absurd (false≢true b)
 
-within : (f : Forest) (k : ℕ) → AreFrom k f → EachNode Begins f → (x : Entry) → In x (entries f) → IsWithin k (token_count f) x.begin
+pub within : (f : Forest) (k : ℕ) → AreFrom k f → EachNode Begins f → (x : Entry) → In x (entries f) → IsWithin k (token_count f) x.begin
 within none k w each x v = absurd v
 within (token i rest) k w each x v =
     let h = within rest (k + 1) w.1 each x v in (omega (arith, h.0), omega (arith, h.1))

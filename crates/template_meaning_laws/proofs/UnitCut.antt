@@ -17,11 +17,11 @@ use Rattle.template_rules.specs.Lists.{parameters_of, arguments_of, count_of}
 use Rattle.template_meaning_laws.specs.Accepted.{IsAccepted}
 use Rattle.template_meaning_laws.specs.Children.{EachNode}
 use Rattle.template_meaning_laws.specs.Clear.{IsOwn, UnitIsClear}
-use Rattle.template_meaning_laws.specs.Forms.{IsBracketed, UnitListsAreBracketed}
+use Rattle.template_meaning_laws.specs.Forms.{IsBracketed, UnitListsAreBracketed, NoListIsFirst}
 use Rattle.template_meaning_laws.specs.Reordered.{begins_list}
 use Rattle.template_meaning_laws.specs.Lists.{IsCut, UnitsAreCut}
 use Rattle.template_meaning_laws.proofs.Clear.{units_are_clear}
-use Rattle.template_meaning_laws.proofs.UnitLists.{index_of, unit_many, unit_brackets}
+use Rattle.template_meaning_laws.proofs.UnitLists.{index_of, unit_many, unit_brackets, unit_first}
 use Rattle.template_meaning_laws.proofs.Units.{IsReadSo, unit_read_so}
 
 module _ (in_order : ReadParameterListsAreInOrder) (source : Source) (ws : WorkspaceValue) (a : AnalysisValue) (members : List Part) (order : List ℕ) (h : IsAccepted source ws a members order)
@@ -55,3 +55,8 @@ units_are_cut in_order source ws a members order h u i = is_cut in_order source 
 
 pub unit_lists_are_bracketed : ReadParameterListsAreInOrder → UnitListsAreBracketed
 unit_lists_are_bracketed in_order source ws a members order h some u i = is_bracketed_unit in_order source ws a members order h u i some
+
+pub no_list_is_first : ReadParameterListsAreInOrder → NoListIsFirst
+no_list_is_first in_order source ws a members order h u i =
+    let r = read in_order source ws a members order h u i in
+    unit_first u.standard members u (length order) r.reads r.binds in_order (declared in_order source ws a members order h u i) (called in_order source ws a members order h u i)

@@ -30,14 +30,15 @@ use Rattle.no_offence_laws.specs.Below.ws_core.Analysis.{UnitAnalysis}
 use Rattle.template_rules.specs.Functions.{names_function}
 use Rattle.template_rules.specs.Lists.{declarations_in, arguments_of, parameters_at}
 use Rattle.template_rules.specs.Lists as lists
-use Rattle.template_meaning_laws.specs.Children.{EachNode, IsOfAlternative}
+use Rattle.template_meaning_laws.specs.Children.{children, EachNode, IsOfAlternative}
 use Rattle.template_meaning_laws.specs.Clear.{IsOwn}
 use Rattle.template_meaning_laws.specs.Forms.{IsBracketed}
 use Rattle.template_meaning_laws.specs.Reordered.{begins_with, begins_list, unit_cut}
-use Rattle.template_meaning_laws.proofs.Children.{each_below}
+use Rattle.template_meaning_laws.proofs.Children.{children_of_alternatives, each_below}
 use Rattle.template_meaning_laws.proofs.Bracketed.{call_bracketed, list_bracketed}
 use Rattle.template_meaning_laws.proofs.Counted.{ListHas, InnerHave, call_have, list_have, tree_has}
 use Rattle.template_meaning_laws.proofs.Forms.{IsPair, call_pair, list_pair}
+use Rattle.template_meaning_laws.proofs.Leading.{leads, unit_leads, behind_first}
 use Rattle.template_meaning_laws.proofs.Parens.{in_first, in_last, in_map, map_in, Entry, entry, entry_of, entries, begins, Begins, one_entry, is_call, calls_listed, Pair, list_by, parameters_by, pairs_in, lists_paired, parameters_paired, pairs_entries}
 
 -- ---- Lists
@@ -325,3 +326,34 @@ module _ (s : Standard) (members : List Part) (u : UnitAnalysis) (n : ℕ) (read
   pub unit_brackets : 0 < n → EachNode (IsBracketed (begins_list members u)) T
   unit_brackets some =
       each_among (λ l under. is_bracketed under ≡ true) (λ l under there x each k tokens among. has_brackets l under there x each k tokens some among) T 0 (λ x w. w) of_text.tokens each_of
+
+  -- no list of the functions begins the unit
+  pub unit_first : begins_list members u 0 ≡ false
+  unit_first = elim (cases_Bool (begins_list members u 0)) [
+    | inl begun ↦ absurd (elim (or_cases (list_any (begins_with members toks u.bound.names 0) u.bound.declarators) (list_any (begins_with members toks u.bound.names 0) u.bound.calls) begun) [
+      | inl declared ↦
+          let m = any_in (begins_with members toks u.bound.names 0) u.bound.declarators declared in
+          let zero_ = eqb-true m.0.begin 0 (and_parts (names_function members toks u.bound.names m.0.name) (m.0.begin == 0) m.1.1).1 in
+          let d = declarator_is m.0 m.1.0 in
+          let p = d.0 in
+          let e = pairs_entries T p d.1 in
+          let begin : first_token p.under 0 ≡ 0 = ap (λ (q : NameList). q.begin) d.2 ∙ zero_ in
+          let later = behind_first s T 0 of_text.tokens each_of each_begins leads_unit (entry e.label p.under) e.there in
+          omega (arith, begin, later)
+      | inr called ↦
+          let m = any_in (begins_with members toks u.bound.names 0) u.bound.calls called in
+          let zero_ = eqb-true m.0.begin 0 (and_parts (names_function members toks u.bound.names m.0.name) (m.0.begin == 0) m.1.1).1 in
+          let c = calls_listed T m.0 (subst (λ (b : Bound). In m.0 b.calls) bound_is m.1.0) in
+          let e = c.entered in
+          let begin : first_token c.under 0 ≡ 0 = ap (λ (q : NameList). q.begin) c.is ∙ zero_ in
+          let later = behind_first s T 0 of_text.tokens each_of each_begins leads_unit (entry e.label c.under) e.there in
+          omega (arith, begin, later)
+    ])
+    | inr other ↦ other
+  ]
+    where
+      leads_unit : leads (children T) ≡ true
+      leads_unit =
+          let unit = children_of_alternatives s toks u.tree reads in
+          let whole = unit.1 in
+          unit_leads s u.tree.label T whole.0 unit.0

@@ -42,3 +42,8 @@ TreesHaveForms = (s : Standard) (toks : List Token) (tree : Node) (lists : ℕ �
 abbrev pub UnitListsAreBracketed : Type 0
 UnitListsAreBracketed = (source : Source) (ws : WorkspaceValue) (a : AnalysisValue) (members : List Part) (order : List ℕ) → IsAccepted source ws a members order
     → 0 < length order → (u : UnitAnalysis) → IsIn a.units u → EachNode (IsBracketed (begins_list members u)) u.tree.under
+
+-- The law: no list of the functions begins a unit.
+abbrev pub NoListIsFirst : Type 0
+NoListIsFirst = (source : Source) (ws : WorkspaceValue) (a : AnalysisValue) (members : List Part) (order : List ℕ) → IsAccepted source ws a members order
+    → (u : UnitAnalysis) → IsIn a.units u → begins_list members u 0 ≡ false

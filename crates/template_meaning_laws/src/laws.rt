@@ -1,7 +1,7 @@
 // What is so where nothing stands against a new order of the parameters of a function: laws that no caller runs.
 ghost use Rattle.template_meaning_laws.specs.Again.{ListsStandInEach};
 ghost use Rattle.template_meaning_laws.specs.Clear.{UnitsAreClear};
-ghost use Rattle.template_meaning_laws.specs.Forms.{UnitListsAreBracketed};
+ghost use Rattle.template_meaning_laws.specs.Forms.{NoListIsFirst, UnitListsAreBracketed};
 ghost use Rattle.template_meaning_laws.specs.Lists.{UnitsAreCut};
 
 use tree_laws::read_lists_stand_in_order;
@@ -32,3 +32,10 @@ pub fn unit_lists_are_bracketed()
 pub fn lists_stand_in_each()
     ensures { ListsStandInEach }
 {}
+
+/// No list of the functions begins a unit: words of a declaration stand in front.
+pub fn no_list_is_first()
+    ensures { NoListIsFirst }
+{
+    read_lists_stand_in_order();
+}

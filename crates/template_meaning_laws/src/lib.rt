@@ -18,5 +18,7 @@
 mod laws;
 mod trees;
 
-pub use laws::{lists_stand_in_each, unit_lists_are_bracketed, units_are_clear, units_are_cut};
+pub use laws::{
+    lists_stand_in_each, no_list_is_first, unit_lists_are_bracketed, units_are_clear, units_are_cut,
+};
 pub use trees::{children_are_of_alternatives, trees_have_forms};
