@@ -35,3 +35,6 @@ mod FrontTrees
 mod FrontGrows
 mod FrontSteps
 mod FrontTop
+mod FrontAgrees
+mod FrontOutlines
+mod Bridge

@@ -1,6 +1,6 @@
 -- A text behind a typedef of its own, `typedef int`, the empty word and `;`, by which its typedef names are read as if they
 -- were keywords (ISO/IEC 9899:1999, 6.7.7).
-use Rattle.std.specs.Prelude.{ℕ, suc, ◌≡◌, ◌⊎◌, Bool, true, false, ◌&&◌, ◌||◌, not, List, [], ◌∷◌, Ok, codes}
+use Rattle.std.specs.Prelude.{ℕ, suc, ◌≡◌, ◌⊎◌, Bool, true, false, ◌&&◌, ◌||◌, not, List, [], ◌∷◌, length, Ok, codes}
 use Rattle.std.specs.Str.{bytes_eq}
 use Rattle.tree_laws.specs.Below.cs_base.declared.ws_units.Standard.{Standard}
 use Rattle.tree_laws.specs.Below.cs_base.declared.ws_units.Standard.TheVariants.{C99, C11}
@@ -17,6 +17,8 @@ use Rattle.tree_laws.specs.Below.c99_grammar.Standard.{Grammar, grammar}
 use Rattle.tree_laws.specs.Below.c99_read.State.{base_at, spelling_at, is_identifier}
 use Rattle.tree_laws.specs.Below.c99_read.Reading.{read_of}
 use Rattle.tree_laws.specs.Below.c_types.Trees.{is_at}
+use Rattle.tree_laws.specs.Below.name_chains.Frames.{at_first as before}
+use Rattle.typedef_laws.specs.Agreeing.{agrees}
 use Rattle.reordered_text_laws.specs.ByClasses.{joined}
 use Rattle.reordered_text_laws.specs.InOrder.{with_words}
 
@@ -87,3 +89,42 @@ TextsAreReadBehindATypedef =
     → dirty (used toks) (labelled_as TranslationUnit 1) tree.under ≡ false → tree.first ≡ 0
     → (read_of (with_words words (grammar s)) toks ≡ Ok tree → read_of (grammar s) (fronted toks) ≡ Ok (with_front s tree))
     × (read_of (grammar s) (fronted toks) ≡ Ok (with_front s tree) → read_of (with_words words (grammar s)) toks ≡ Ok tree)
+
+-- ---- Names
+
+-- a token stands below
+abbrev pub has_leaf : Forest → Bool
+has_leaf none = false
+has_leaf (token i rest) = true
+has_leaf (node l first under rest) = has_leaf under || has_leaf rest
+
+-- .. below each node
+abbrev pub is_filled : Forest → Bool
+is_filled none = true
+is_filled (token i rest) = is_filled rest
+is_filled (node l first under rest) = has_leaf under && (is_filled under && is_filled rest)
+
+-- one of some tokens stands below
+abbrev pub has_some : (ℕ → Bool) → Forest → Bool
+has_some some none = false
+has_some some (token i rest) = some i || has_some some rest
+has_some some (node l first under rest) = has_some some under || has_some some rest
+
+-- Where the names of a text agree with a tree, in which each node has a token, and no name nor token of the tree is spelled
+-- by the empty word, they agree with it behind the typedef.
+abbrev pub AgreesBehindATypedef : Type 0
+AgreesBehindATypedef =
+    (s : Standard) (toks : List Token) (tree : Node) → ((k : ℕ) → is_identifier (base_at (grammar s) toks k) ≡ true → used toks k ≡ false)
+    → is_filled tree.under ≡ true → has_some (used toks) tree.under ≡ false → agrees s toks tree.under (before (length toks)) ≡ true
+    → agrees s (fronted toks) (with_front s tree).under (before (length (fronted toks))) ≡ true
+
+-- A text is read to a tree by the grammar of a standard if its names agree with the tree, and a text of the same classes is
+-- read to it by the grammar with the keyword, where the empty word stands for type names alone: what declares them need
+-- not be in that text.
+abbrev pub AgreeingTextsAreRead : Type 0
+AgreeingTextsAreRead =
+    (s : Standard) (words : List Spelled) (keyed new : List Token) (tree : Node) → ((k : ℕ) → Fits keyed (grammar s) (with_words words (grammar s)) k)
+    → dirty (used keyed) (labelled_as TranslationUnit 1) tree.under ≡ false → tree.first ≡ 0 → read_of (with_words words (grammar s)) keyed ≡ Ok tree
+    → length keyed ≡ length new → ((k : ℕ) → base_at (grammar s) keyed k ≡ base_at (grammar s) new k)
+    → ((k : ℕ) → is_identifier (base_at (grammar s) new k) ≡ true → used new k ≡ false) → is_filled tree.under ≡ true → has_some (used new) tree.under ≡ false
+    → agrees s new tree.under (before (length new)) ≡ true → read_of (grammar s) new ≡ Ok tree

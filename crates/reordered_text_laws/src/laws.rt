@@ -1,10 +1,11 @@
 // What is true of items that change places, as to how they are read: laws that no caller runs.
 ghost use Rattle.reordered_text_laws.specs.Alone.{TextsAloneAreReadByClasses};
-ghost use Rattle.reordered_text_laws.specs.Fronted.{TextsAreReadBehindATypedef};
+ghost use Rattle.reordered_text_laws.specs.Fronted.{TextsAreReadBehindATypedef, AgreesBehindATypedef, AgreeingTextsAreRead};
 ghost use Rattle.reordered_text_laws.specs.InOrder.{ListsAreReadInAnyOrder, ArrangedTokensAreReadInOrder, TextsAloneAreReadInOrder};
 ghost use Rattle.reordered_text_laws.specs.Laws.{PartsAreReadAnywhere, ItemsAreReadAnywhere, NumbersDoNotMatter};
 ghost use Rattle.reordered_text_laws.specs.Laws.{ArgumentsAreReadInAnyOrder, ParametersAreReadInAnyOrder, CallsAreReadInAnyOrder};
 
+use renamed_tree_laws::agreeing_texts_read_alike;
 use tree_laws::tokens_stand_in_order;
 
 /// A text in which each identifier is spelled as no other token is read as the classes of its tokens are, by any grammar.
@@ -62,3 +63,16 @@ pub fn texts_alone_are_read_in_order()
 pub fn texts_are_read_behind_a_typedef()
     ensures texts { TextsAreReadBehindATypedef }
 {}
+
+/// Names that agree with a tree agree with it behind such a typedef.
+pub fn names_agree_behind_a_typedef()
+    ensures agrees { AgreesBehindATypedef }
+{}
+
+/// A text whose names agree with a tree is read to it, if tokens of its classes are read to it with their typedef names as
+/// keywords.
+pub fn agreeing_texts_are_read()
+    ensures texts { AgreeingTextsAreRead }
+{
+    agreeing_texts_read_alike();
+}

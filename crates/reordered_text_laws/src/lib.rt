@@ -12,7 +12,9 @@
 mod laws;
 
 pub use laws::{
-    arguments_are_read_in_any_order, arranged_tokens_are_read_in_order,
+    agreeing_texts_are_read, arguments_are_read_in_any_order, arranged_tokens_are_read_in_order,
     calls_are_read_in_any_order, items_are_read_anywhere, lists_are_read_in_any_order,
-    numbers_do_not_matter, parameters_are_read_in_any_order, texts_alone_are_read_by_classes,
+    names_agree_behind_a_typedef, numbers_do_not_matter, parameters_are_read_in_any_order,
+    texts_alone_are_read_by_classes, texts_alone_are_read_in_order,
+    texts_are_read_behind_a_typedef,
 };
