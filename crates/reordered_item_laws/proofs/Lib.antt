@@ -1,3 +1,4 @@
 mod Quiet
 mod Owned
 mod AddsAlike
+mod Spread

@@ -1,6 +1,7 @@
 // What is true of the items of lists, towards a new order of them: laws that no caller runs.
 ghost use Rattle.reordered_item_laws.specs.Lasting.{ItemsAddAlike, NamesLast};
 ghost use Rattle.reordered_item_laws.specs.Owned.{PartsStayOwn};
+ghost use Rattle.reordered_item_laws.specs.Spread.{ItemsAddTheirTokens, NothingIsAskedFor};
 
 /// An item adds the same declarations whatever stands beside it that it does not ask for.
 pub fn items_add_alike()
@@ -15,4 +16,14 @@ pub fn names_last()
 /// A part none of whose tokens stands beside makes known nothing that does.
 pub fn parts_stay_own()
     ensures { PartsStayOwn }
+{}
+
+/// A part like an item adds nothing but what stands beside, where its tokens do.
+pub fn items_add_their_tokens()
+    ensures { ItemsAddTheirTokens }
+{}
+
+/// A part like an item asks for none of no declarations, where none of its tokens stands beside.
+pub fn nothing_is_asked_for()
+    ensures { NothingIsAskedFor }
 {}
