@@ -9,3 +9,4 @@ pub mod MarkLemmas
 pub mod GoingLemmas
 pub mod ArrangeLemmas
 pub mod CutLemmas
+pub mod OneCutLemmas

@@ -139,3 +139,7 @@ abbrev mutual
 abbrev pub RunsHaveCuts : Type 0
 RunsHaveCuts = (table : Table) (path : List ℕ) (d : Cut) (run : List Token) (work : ℕ) (e : Expanded) → expansion table path run work ≡ Ok e → SignsStand d (toks_of e.toks)
     → (c : Cut) × MarksStand c d run (toks_of e.toks) × ((n : ℕ) → AreOf n d → AreOf n c)
+
+-- The law: they are in one cut alone, where no token stands in the run twice.
+abbrev pub CutsAreOne : Type 0
+CutsAreOne = (c c2 d : Cut) (run out : List Token) → AreDistinct run → MarksStand c d run out → MarksStand c2 d run out → c ≡ c2

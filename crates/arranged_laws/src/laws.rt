@@ -1,6 +1,6 @@
 // What is true of expansions whose tokens change places: laws that no caller runs, and that callers' proofs cite.
 ghost use Rattle.arranged_laws.specs.Alike.{ExpandsAlike};
-ghost use Rattle.arranged_laws.specs.Arranging.{RunsAreArranged, RunsHaveCuts};
+ghost use Rattle.arranged_laws.specs.Arranging.{CutsAreOne, RunsAreArranged, RunsHaveCuts};
 ghost use Rattle.arranged_laws.specs.Portions.{PortionsCompose, PortionsMove};
 ghost use Rattle.arranged_laws.specs.Sections.{RunsFall};
 ghost use Rattle.arranged_laws.specs.Splitting.{ExpansionSplits};
@@ -48,7 +48,8 @@ pub fn runs_are_arranged()
 }
 
 /// Where the marks of lists stand in what a run is expanded to, each put in by no macro, the run has the same lists, with
-/// as many items: each mark stands in it too.
+/// as many items: each mark stands in it too. There is one such cut, where no token stands in the run twice.
 pub fn runs_have_cuts()
     ensures cuts { RunsHaveCuts }
+    ensures one { CutsAreOne }
 {}

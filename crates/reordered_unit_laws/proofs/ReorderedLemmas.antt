@@ -15,6 +15,7 @@ use Rattle.include_tree.specs.Below.macro_expand.Expansion as expanding
 use Rattle.include_tree.specs.Below.part_lexer.FileText.{TextValue, file_text}
 use Rattle.include_tree.specs.Below.source_files.Faults.{Fault}
 use Rattle.include_tree.specs.Below.source_files.Files.{Source, SourceFile, Carried, carried}
+use Rattle.include_tree.specs.Below.source_files.Tables.{AreFound}
 use Rattle.include_tree.specs.Below.source_files.Limits.{the_limits}
 use Rattle.include_tree.specs.Below.unit_steps.declared.events.Event.{Event}
 use Rattle.include_tree.specs.Below.unit_steps.declared.events.EventKind.TheVariants as kind
@@ -228,4 +229,5 @@ units_are_reordered law cuts true_notes = λ edit n order c old number unit befo
       is = ap (preprocessed_by before.toks) k.is;
       toks = toks ∙ ap (λ (t : UnitTextValue). arranged order c (plains t.toks)) (sym o.2);
       after = ap (λ (m : ℕ). carried after2.table (before.toks + m)) many ∙ ap (edited_carried edit) (sym o.3);
+      found = subst (λ (a : Carried). AreFound old a.table) (sym o.3) k.found;
     }

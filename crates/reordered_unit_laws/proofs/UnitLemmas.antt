@@ -98,6 +98,7 @@ pub record UnitToo (w : World) (number : ℕ) (unit : UnitValue) (before : Carri
   pub notes : List Note
   pub is : unit_outcome the_limits file_text (edited_source w.edit w.old) number unit (edited_carried w.edit before) ≡ Ok (did toks notes (edited_state w.edit d.state))
   pub goes : w.V 0 d.value toks
+  pub found : AreFound w.old d.state.table
 
 pub unit_goes : (w : World) → RunsToo w → KeepsTexts w.edit w.old → (number : ℕ) (unit : UnitValue) (before : Carried) (d : Did (List Token))
     → unit_outcome the_limits file_text w.old number unit before ≡ Ok d → AreFound w.old before.table → d.notes ≡ w.told → d.value ≡ w.all → w.Starts (length d.value) → UnitToo w number unit before d
@@ -118,6 +119,7 @@ unit_goes w runs keeps number unit before d is found told all ends =
       notes = x.notes;
       is = ap (both_files (ctx2 w keeps unit.ipath before.toks) (defines_path number) unit.path) (first_edited w.edit number unit before.table) ∙ x.is;
       goes = x.goes;
+      found = k.fits.0;
     }
 
 -- ---- along the cut

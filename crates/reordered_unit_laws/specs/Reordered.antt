@@ -68,12 +68,13 @@ RunsStand edit old order c text = (file : SourceFile) (file_text2 : TextValue) (
 -- ---- the law
 
 -- The unit over the edited files brings its tokens in the new order; what is carried on is the same but for the bytes of
--- files.
+-- files, and tells what the paths held.
 pub record UnitIsReordered (edit : Edit) (order : List ℕ) (c : Cut) (old : Source) (number : ℕ) (unit : UnitValue) (before : Carried) (p : Preprocessed) : Type 0 where
   pub new : Preprocessed
   pub is : preprocessed (edited_source edit old) number unit (edited_carried edit before) ≡ Ok new
   pub toks : plains new.text.toks ≡ arranged order c (plains p.text.toks)
   pub after : new.after ≡ edited_carried edit p.after
+  pub found : AreFound old p.after.table
 
 -- The law.
 abbrev pub UnitsAreReordered : Type 0
