@@ -27,7 +27,7 @@
 mod laws;
 
 pub use laws::{
-    items_bind_alike, new_orders_are_not_seen, parts_add_beside, parts_bind_alike, parts_move_alike,
-    parts_only_add, ranges_end_with_scopes, reordered_bind_by_lists,
+    items_bind_alike, new_orders_are_not_seen, parts_add_beside, parts_bind_alike,
+    parts_move_alike, parts_only_add, ranges_end_with_scopes, reordered_bind_by_lists,
     reordered_trees_are_of_their_texts,
 };
