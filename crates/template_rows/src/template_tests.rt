@@ -146,7 +146,7 @@ $a.c 2:int f(int b, int a);
 int v(void) { return f(2, 1) + L; }
 @
 %
-A tag that an argument declares, and an enumerator that a parameter declares.
+A tag that an argument declares, an enumerator that a parameter declares, and typedef names.
 $file a.c
 $a.c:int f(int a, int b);
 int v(void) { return f(sizeof(struct q { int m; }), 2); }
@@ -158,6 +158,18 @@ $file a.c
 $a.c:int f(int a, enum { E } b);
 $a.c 1 5 2,1
 $a.c:1:21: declaration in argument
+%
+
+$file a.c
+$a.c:int f(typedef int a, typedef int a);
+$a.c 1 5 2,1
+$a.c:1:19: declaration in argument
+%
+
+$file a.c
+$a.c:int f(int a, int (*g)(int typedef t));
+$a.c 1 5 2,1
+$a.c:1:35: declaration in argument
 %
 A name that is pasted.
 $file a.c

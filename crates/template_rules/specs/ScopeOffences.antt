@@ -25,14 +25,16 @@ is_inside l k = nat_lt l.begin k && nat_lt k l.close
 
 -- ---- DeclarationInArgument
 
-abbrev pub is_tag_or_enumerator : EntityKind → Bool
-is_tag_or_enumerator entity.Tag = true
-is_tag_or_enumerator entity.Enumerator = true
-is_tag_or_enumerator _ = false
+-- what is declared for later tokens: a tag or a typedef name, by which a type is named, or an enumerator
+abbrev pub is_type_or_constant : EntityKind → Bool
+is_type_or_constant entity.Tag = true
+is_type_or_constant entity.Typedef = true
+is_type_or_constant entity.Enumerator = true
+is_type_or_constant _ = false
 
--- a tag or an enumerator that is declared inside a list
+-- such a name that is declared inside a list
 abbrev pub declaration_place : List Token → NameList → Name → List Pos
-declaration_place toks l n = if (n.declares && is_tag_or_enumerator n.kind) && is_inside l n.index then place_of toks n.index else []
+declaration_place toks l n = if (n.declares && is_type_or_constant n.kind) && is_inside l n.index then place_of toks n.index else []
 
 abbrev pub declaration_places : List Token → List Name → NameList → List Pos
 declaration_places toks names l = flat_map (declaration_place toks l) names

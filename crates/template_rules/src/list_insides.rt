@@ -5,7 +5,7 @@ ghost use Rattle.cs_base.specs.declared.causes.Cause.TheVariants as cause;
 ghost use Rattle.rename_rules.specs.First.{standing, FirstThen};
 ghost use Rattle.template_rules.specs.Insides.{inside_offences, list_insides, all_insides};
 ghost use Rattle.template_rules.specs.MacroOffences.{is_line_number, line_number_place, line_number_places};
-ghost use Rattle.template_rules.specs.ScopeOffences.{is_tag_or_enumerator, declaration_place, declaration_places};
+ghost use Rattle.template_rules.specs.ScopeOffences.{is_type_or_constant, declaration_place, declaration_places};
 
 use crate::functions::Functions;
 use crate::macro_names::is_replacing;
@@ -64,16 +64,17 @@ fn line_numbers_at(
     now
 }
 
-fn is_tag_or_enumerator(kind: EntityKind) -> bool
-    ensures { result ≡ is_tag_or_enumerator kind }
+// Whether names of this kind are declared for later tokens: types, or a constant.
+fn is_type_or_constant(kind: EntityKind) -> bool
+    ensures { result ≡ is_type_or_constant kind }
 {
     match kind {
-        EntityKind::Tag | EntityKind::Enumerator => true,
+        EntityKind::Tag | EntityKind::Typedef | EntityKind::Enumerator => true,
         _ => false,
     }
 }
 
-// `DeclarationInArgument` at a name, if it declares a tag or an enumerator inside a list.
+// `DeclarationInArgument` at a name, if it declares a tag, a typedef name or an enumerator inside a list.
 fn declaration_at(
     a: &Analysis,
     toks: &[Tok],
@@ -84,7 +85,7 @@ fn declaration_at(
     ensures { FirstThen a.now.value.table (standing cause.DeclarationInArgument (declaration_place toks.now list.now name)) first result }
 {
     if name.declares
-        && is_tag_or_enumerator(name.kind)
+        && is_type_or_constant(name.kind)
         && list.begin < name.index
         && name.index < list.close
     {
@@ -166,7 +167,7 @@ fn at_lists(
 }
 
 /// `LineNumber`, at each `__LINE__` that is replaced by a line's number inside a list; `DeclarationInArgument`, at each
-/// tag or enumerator that is declared inside one.
+/// tag, typedef name or enumerator that is declared inside one.
 pub fn at_insides(functions: &Functions<'_>, first: Option<Offence>) -> Option<Offence>
     ensures answer { FirstThen functions.now.analysis.value.table
         (all_insides functions.now.members functions.now.analysis.value) first result }
