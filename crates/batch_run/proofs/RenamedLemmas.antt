@@ -84,7 +84,7 @@ module _ (ws : WorkspaceValue) (q : LineValue) (a : AnalysisValue) (new : List E
 -- ---- the analysis behind it
 
 -- an analysis is one of its workspace
-workspace_is : (source : Source) (ws : WorkspaceValue) (a : AnalysisValue) → analysis_of source ws ≡ Ok a → a.workspace ≡ ws
+pub workspace_is : (source : Source) (ws : WorkspaceValue) (a : AnalysisValue) → analysis_of source ws ≡ Ok a → a.workspace ≡ ws
 workspace_is source ws a e =
     let all = done_first (analysed_from source 1 ws.units nothing_carried) _ a e in
     ok_holds {E = UnitFault} (λ (b : AnalysisValue). b.workspace ≡ ws) (analysis_and ws all.0.units all.0.table) a all.2 refl
@@ -109,7 +109,7 @@ at_is (y ∷ ys) zero x at = (omega arith, same_Some y x at)
 at_is (y ∷ ys) (suc k) x at = let later = at_is ys k x at in (omega (arith, later.0), later.1)
 
 -- edits are put where each is: its path holds its bytes
-edits_are_put : (edits : List Edit) (before : FileMap) → IsKept edits → ArePut edits before (with_edits edits before)
+pub edits_are_put : (edits : List Edit) (before : FileMap) → IsKept edits → ArePut edits before (with_edits edits before)
 edits_are_put edits before sound = record {
   each = λ k e at.
       let is = at_is edits k e at in
