@@ -171,6 +171,12 @@ $a.c:int f(int a, int (*g)(int typedef t));
 $a.c 1 5 2,1
 $a.c:1:35: declaration in argument
 %
+
+$file a.c
+$a.c:int f(int __func__, int b);
+$a.c 1 5 2,1
+$a.c:1:11: declaration in argument
+%
 A name that is pasted.
 $file a.c
 $a.c:#define P(x, y) x##y

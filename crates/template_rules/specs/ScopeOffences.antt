@@ -1,6 +1,6 @@
 -- What scopes say against a new order of items (this project's, over ISO/IEC 9899:1999, 6.2.1, 6.7.5.3 and 6.9.1): names
 -- that an item declares for what stands behind it, and uses of one parameter's name in another parameter.
-use Rattle.std.specs.Prelude.{ℕ, ◌+◌, ◌-◌, ◌==◌, ◌&&◌, ◌||◌, not, nat_lt, if◌then◌else◌, Bool, true, false, Option, List, [], ◌∷◌, ◌++◌, length, slice_index_or}
+use Rattle.std.specs.Prelude.{ℕ, ◌+◌, ◌-◌, ◌==◌, ◌&&◌, ◌||◌, not, nat_lt, if◌then◌else◌, Bool, true, false, Option, List, [], ◌∷◌, ◌++◌, codes, length, slice_index_or}
 use Rattle.std.specs.List.{flat_map, list_any, remove}
 use Rattle.std.specs.Option.{option_map_or}
 use Rattle.std.specs.Str.{bytes_eq}
@@ -32,9 +32,14 @@ is_type_or_constant entity.Typedef = true
 is_type_or_constant entity.Enumerator = true
 is_type_or_constant _ = false
 
--- such a name that is declared inside a list
+-- token k is spelled as the name of the function in which it stands (6.4.2.2)
+abbrev pub is_function_word : List Token → ℕ → Bool
+is_function_word toks k = bytes_eq (spelling_at toks k) (codes "__func__")
+
+-- such a name that is declared inside a list, or one that is spelled so
 abbrev pub declaration_place : List Token → NameList → Name → List Pos
-declaration_place toks l n = if (n.declares && is_type_or_constant n.kind) && is_inside l n.index then place_of toks n.index else []
+declaration_place toks l n =
+    if (n.declares && (is_type_or_constant n.kind || is_function_word toks n.index)) && is_inside l n.index then place_of toks n.index else []
 
 abbrev pub declaration_places : List Token → List Name → NameList → List Pos
 declaration_places toks names l = flat_map (declaration_place toks l) names

@@ -55,7 +55,8 @@ fn is_use(names: &[Name], bare: &[u32], k: u32) -> bool
     is_used(names, k) || is_in(bare, k)
 }
 
-fn spelling_at(toks: &[Tok], k: u32) -> &[u8]
+/// How token `k` is spelled; empty past the last one.
+pub(crate) fn spelling_at(toks: &[Tok], k: u32) -> &[u8]
     ensures { result.now ≡ spelling_at toks.now k }
 {
     if (k as usize) < toks.len() {

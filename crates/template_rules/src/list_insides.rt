@@ -5,8 +5,9 @@ ghost use Rattle.cs_base.specs.declared.causes.Cause.TheVariants as cause;
 ghost use Rattle.rename_rules.specs.First.{standing, FirstThen};
 ghost use Rattle.template_rules.specs.Insides.{inside_offences, list_insides, all_insides};
 ghost use Rattle.template_rules.specs.MacroOffences.{is_line_number, line_number_place, line_number_places};
-ghost use Rattle.template_rules.specs.ScopeOffences.{is_type_or_constant, declaration_place, declaration_places};
+ghost use Rattle.template_rules.specs.ScopeOffences.{is_type_or_constant, is_function_word, declaration_place, declaration_places};
 
+use crate::dependences::spelling_at;
 use crate::functions::Functions;
 use crate::macro_names::is_replacing;
 use crate::places::at_token;
@@ -74,7 +75,14 @@ fn is_type_or_constant(kind: EntityKind) -> bool
     }
 }
 
-// `DeclarationInArgument` at a name, if it declares a tag, a typedef name or an enumerator inside a list.
+// Whether token `k` is spelled as the name of the function in which it stands.
+fn is_function_word(toks: &[Tok], k: u32) -> bool
+    ensures { result ≡ is_function_word toks.now k }
+{
+    spelling_at(toks, k) == b"__func__".as_slice()
+}
+
+// `DeclarationInArgument` at a name, if it declares a tag, a typedef name, an enumerator or `__func__` inside a list.
 fn declaration_at(
     a: &Analysis,
     toks: &[Tok],
@@ -85,7 +93,7 @@ fn declaration_at(
     ensures { FirstThen a.now.value.table (standing cause.DeclarationInArgument (declaration_place toks.now list.now name)) first result }
 {
     if name.declares
-        && is_type_or_constant(name.kind)
+        && (is_type_or_constant(name.kind) || is_function_word(toks, name.index))
         && list.begin < name.index
         && name.index < list.close
     {
@@ -167,7 +175,7 @@ fn at_lists(
 }
 
 /// `LineNumber`, at each `__LINE__` that is replaced by a line's number inside a list; `DeclarationInArgument`, at each
-/// tag, typedef name or enumerator that is declared inside one.
+/// tag, typedef name, enumerator or `__func__` that is declared inside one.
 pub fn at_insides(functions: &Functions<'_>, first: Option<Offence>) -> Option<Offence>
     ensures answer { FirstThen functions.now.analysis.value.table
         (all_insides functions.now.members functions.now.analysis.value) first result }
