@@ -35,7 +35,7 @@ use Rattle.template_rules.specs.MacroOffences.{is_direct, is_mark_everywhere, ma
 use Rattle.template_rules.specs.Marks.{read_only_at, read_only_place, is_between, is_across, across_place, count_place, mark_offences, declarator_marks, call_marks, unit_marks, all_marks}
 use Rattle.template_rules.specs.NameOffences.{has_prototype, no_prototype_place, is_callee, value_place, name_offences, unit_names, all_names}
 use Rattle.template_rules.specs.Offences.{list_offences, declarator_offences, call_offences, unit_lists, all_lists, offences_of}
-use Rattle.template_rules.specs.ScopeOffences.{is_inside, is_type_or_constant, is_function_word, declaration_place, declaration_places, body_lists_in, body_place, is_used_at, is_spelled_as, is_use, dependence_place, dependence_in, dependence_places}
+use Rattle.template_rules.specs.ScopeOffences.{is_inside, declares_more, declaration_place, declaration_places, body_lists_in, body_place, is_used_at, is_spelled_as, is_use, dependence_place, dependence_in, dependence_places}
 use Rattle.template_meaning_laws.specs.Accepted.{IsAccepted}
 use Rattle.template_meaning_laws.specs.Clear.{IsOwn, ListIsClear, DeclaratorIsClear, CallIsClear, NameIsClear, UnitsAreClear}
 use Rattle.template_meaning_laws.proofs.Bare.{bare_pass}
@@ -155,7 +155,7 @@ module _ (source : Source) (ws : WorkspaceValue) (a : AnalysisValue) (members : 
               (flat_nil (line_number_place l) u.text.events e lines_ j);
           declared = λ n j.
               let p = name_placed source ws a h.analysed u i n j in
-              if_then ((n.declares && (is_type_or_constant n.kind || is_function_word toks n.index)) && is_inside l n.index) (place_of toks n.index) (no_place toks n.index p.0 p.1)
+              if_then (declares_more toks n && is_inside l n.index) (place_of toks n.index) (no_place toks n.index p.0 p.1)
               (flat_nil (declaration_place toks l) u.bound.names n tags j);
           odd = λ p j. if_then (is_odd_by a.table u.text l p) (p ∷ []) (cons_nil p [])
               (flat_nil (odd_place a.table u.text l) (odd_positions a.table) p odds j);

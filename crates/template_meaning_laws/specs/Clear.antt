@@ -20,7 +20,7 @@ use Rattle.template_rules.specs.Lists.{parameters_at, parameters_of, arguments_o
 use Rattle.template_rules.specs.MacroOffences.{is_direct, is_mark_everywhere, is_line_number}
 use Rattle.template_rules.specs.Marks.{is_between, is_across}
 use Rattle.template_rules.specs.NameOffences.{has_prototype, is_callee}
-use Rattle.template_rules.specs.ScopeOffences.{is_inside, is_type_or_constant, is_function_word, body_lists_in, is_spelled_as, is_use}
+use Rattle.template_rules.specs.ScopeOffences.{is_inside, declares_more, body_lists_in, is_spelled_as, is_use}
 use Rattle.template_meaning_laws.specs.Accepted.{IsAccepted}
 
 -- the list belongs to a function that the class names
@@ -39,7 +39,7 @@ pub record ListIsClear (a : AnalysisValue) (members : List Part) (u : UnitAnalys
   pub everywhere : each_mark (is_mark_everywhere members a u.text.toks u.text.reached l) l ≡ true
   pub many : items ≡ count_of a members
   pub lines : (e : Event) → IsIn u.text.events e → (is_line_number e.kind e.def e.name && is_between l.begin l.close e.before) ≡ false
-  pub declared : (n : Name) → IsIn u.bound.names n → ((n.declares && (is_type_or_constant n.kind || is_function_word u.text.toks n.index)) && is_inside l n.index) ≡ false
+  pub declared : (n : Name) → IsIn u.bound.names n → (declares_more u.text.toks n && is_inside l n.index) ≡ false
   pub odd : (p : Pos) → IsIn (odd_positions a.table) p → is_odd_by a.table u.text l p ≡ false
 
 -- The parameter list of a declarator: and no identifier in an item that is spelled as the name of another parameter of the list is a

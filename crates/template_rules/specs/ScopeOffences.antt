@@ -36,10 +36,14 @@ is_type_or_constant _ = false
 abbrev pub is_function_word : List Token → ℕ → Bool
 is_function_word toks k = bytes_eq (spelling_at toks k) (codes "__func__")
 
--- such a name that is declared inside a list, or one that is spelled so
+-- A name that declares more than a parameter or a member of its own: such a one, one that is spelled so, or one that declares
+-- anew what another name declares.
+abbrev pub declares_more : List Token → Name → Bool
+declares_more toks n = n.declares && (is_type_or_constant n.kind || (is_function_word toks n.index || not (n.entity == n.index)))
+
+-- it does so inside a list
 abbrev pub declaration_place : List Token → NameList → Name → List Pos
-declaration_place toks l n =
-    if (n.declares && (is_type_or_constant n.kind || is_function_word toks n.index)) && is_inside l n.index then place_of toks n.index else []
+declaration_place toks l n = if declares_more toks n && is_inside l n.index then place_of toks n.index else []
 
 abbrev pub declaration_places : List Token → List Name → NameList → List Pos
 declaration_places toks names l = flat_map (declaration_place toks l) names

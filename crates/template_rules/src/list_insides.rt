@@ -5,7 +5,7 @@ ghost use Rattle.cs_base.specs.declared.causes.Cause.TheVariants as cause;
 ghost use Rattle.rename_rules.specs.First.{standing, FirstThen};
 ghost use Rattle.template_rules.specs.Insides.{inside_offences, list_insides, all_insides};
 ghost use Rattle.template_rules.specs.MacroOffences.{is_line_number, line_number_place, line_number_places};
-ghost use Rattle.template_rules.specs.ScopeOffences.{is_type_or_constant, is_function_word, declaration_place, declaration_places};
+ghost use Rattle.template_rules.specs.ScopeOffences.{is_type_or_constant, is_function_word, declares_more, declaration_place, declaration_places};
 
 use crate::dependences::spelling_at;
 use crate::functions::Functions;
@@ -82,7 +82,16 @@ fn is_function_word(toks: &[Tok], k: u32) -> bool
     spelling_at(toks, k) == b"__func__".as_slice()
 }
 
-// `DeclarationInArgument` at a name, if it declares a tag, a typedef name, an enumerator or `__func__` inside a list.
+// Whether a name declares a tag, a typedef name, an enumerator or `__func__`, or anew what another name declares.
+fn declares_more(toks: &[Tok], name: Name) -> bool
+    ensures { result ≡ declares_more toks.now name }
+{
+    name.declares
+        && (is_type_or_constant(name.kind)
+            || (is_function_word(toks, name.index) || name.entity != name.index))
+}
+
+// `DeclarationInArgument` at a name, if it declares such a thing inside a list.
 fn declaration_at(
     a: &Analysis,
     toks: &[Tok],
@@ -92,11 +101,7 @@ fn declaration_at(
 ) -> Option<Offence>
     ensures { FirstThen a.now.value.table (standing cause.DeclarationInArgument (declaration_place toks.now list.now name)) first result }
 {
-    if name.declares
-        && (is_type_or_constant(name.kind) || is_function_word(toks, name.index))
-        && list.begin < name.index
-        && name.index < list.close
-    {
+    if declares_more(toks, name) && list.begin < name.index && name.index < list.close {
         at_token(a, toks, name.index, Cause::DeclarationInArgument, first)
     } else {
         first
