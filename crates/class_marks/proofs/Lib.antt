@@ -3,3 +3,5 @@ pub mod KeepLemmas
 pub mod MarkLemmas
 pub mod ReadOnlyLemmas
 pub mod RoleLemmas
+-- Words of the crates below, passed on.
+pub mod Below

@@ -1,8 +1,8 @@
 -- Marks on classes for each thing that a query may ask of their names.
 use Rattle.std.specs.Prelude.{Bool, List}
-use Rattle.ws_core.specs.Below.c_types.declared.entity.EntityKind.{EntityKind}
-use Rattle.ws_core.specs.Below.c_types.declared.entity.EntityKind.TheVariants as entity
-use Rattle.ws_core.specs.Analysed.{Analysed}
+use Rattle.unused_names.specs.Below.ws_core.Below.c_types.declared.entity.EntityKind.{EntityKind}
+use Rattle.unused_names.specs.Below.ws_core.Below.c_types.declared.entity.EntityKind.TheVariants as entity
+use Rattle.unused_names.specs.Below.ws_core.Analysed.{Analysed}
 use Rattle.unused_names.specs.Below.class_marks.declared.roles.Role.{Role}
 use Rattle.unused_names.specs.Below.class_marks.declared.roles.Role.TheVariants as role
 use Rattle.unused_names.specs.Below.class_marks.Marks.{AreMarked}

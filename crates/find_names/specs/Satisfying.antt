@@ -1,11 +1,11 @@
 -- What attributes say of a class, and which classes satisfy a query (this project's, over ISO/IEC 9899:1999, 6.2.1 to
 -- 6.2.3 and 6.10.3).
 use Rattle.cs_base.specs.declared.positions.Part.{Part}
-use Rattle.ws_core.specs.Below.c_types.declared.entity.EntityKind.TheVariants as entity
-use Rattle.ws_core.specs.Analysis.{AnalysisValue}
-use Rattle.ws_core.specs.FileTokens.{IsFileToken}
-use Rattle.ws_core.specs.Parts.{IsMember}
-use Rattle.ws_core.specs.Spellings.{spelling_of}
+use Rattle.unused_names.specs.Below.ws_core.Below.c_types.declared.entity.EntityKind.TheVariants as entity
+use Rattle.unused_names.specs.Below.ws_core.Analysis.{AnalysisValue}
+use Rattle.unused_names.specs.Below.ws_core.FileTokens.{IsFileToken}
+use Rattle.unused_names.specs.Below.ws_core.Parts.{IsMember}
+use Rattle.unused_names.specs.Below.ws_core.Spellings.{spelling_of}
 use Rattle.query_words.specs.declared.attributes.Attribute.{Attribute}
 use Rattle.query_words.specs.declared.attributes.Attribute.TheVariants.{Macro, Function, Object, Typedef, Parameter, Enumerator, Tag, Member, Label, External, ReadOnly, Unused, Cut}
 use Rattle.query_words.specs.Queries.{Query}

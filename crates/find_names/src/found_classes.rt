@@ -1,7 +1,7 @@
 // The classes that satisfy a query, and their lines.
 ghost use Rattle.std.specs.Prelude.{◌≡◌, ◌<◌, ◌^◌, ◌++◌, Ok, IfErr, IfOk, IfSome, MatchBool, OnOk, length};
-ghost use Rattle.ws_core.specs.Parts.{AreMembers, IsFirst, IsPart};
-ghost use Rattle.ws_core.specs.Spellings.{spelling_of};
+ghost use Rattle.unused_names.specs.Below.ws_core.Parts.{AreMembers, IsFirst, IsPart};
+ghost use Rattle.unused_names.specs.Below.ws_core.Spellings.{spelling_of};
 ghost use Rattle.query_words.specs.Queries.{Query};
 ghost use Rattle.query_words.specs.Reading.{parsed};
 ghost use Rattle.find_names.specs.FileTokens.{AreFileTokens};
@@ -17,7 +17,7 @@ use cs_base::{Memory, Part};
 use itoa::Buffer;
 use query_words::{Facts, satisfies};
 use std::alloc::Global;
-use ws_core::{Analysis, push_place};
+use unused_names::{Analysis, push_place};
 
 // Whether the class of a first member is in question and satisfies the query.
 fn is_found(

@@ -1,7 +1,7 @@
 // Which classes are in question.
 ghost use Rattle.std.specs.Prelude.{◌≡◌, MatchBool};
-ghost use Rattle.ws_core.specs.Naming.{Names};
-ghost use Rattle.ws_core.specs.Parts.{IsPart};
+ghost use Rattle.unused_names.specs.Below.ws_core.Naming.{Names};
+ghost use Rattle.unused_names.specs.Below.ws_core.Parts.{IsPart};
 ghost use Rattle.find_names.specs.FileTokens.{AreFileTokens, is_part};
 ghost use Rattle.find_names.specs.Question.{IsInQuestion, IsKeywordClass, IsNameable, IsNamed, IsWholeKeyword};
 
@@ -9,7 +9,7 @@ use crate::file_tokens::FileTokens;
 use crate::keywords::is_keyword;
 use cs_base::Part;
 use std::str;
-use ws_core::Analysis;
+use unused_names::Analysis;
 
 // The part that a place names, where its path is text.
 fn part_named(a: &Analysis, path: &[u8], line: u32, column: u32) -> Option<Part>

@@ -3,10 +3,8 @@ ghost use Rattle.std.specs.Prelude.{IfOk};
 ghost use Rattle.find_names.specs.RoleMarks.{AreKindMarks, AreRoleMarks};
 
 use cs_base::Memory;
-use scope_bind::EntityKind;
 use std::alloc::Global;
-use unused_names::{Role, marks_of};
-use ws_core::Analysis;
+use unused_names::{Analysis, EntityKind, Role, marks_of};
 
 /// Marks on the classes with an occurrence of an entity of a kind.
 #[derive(Drop)]

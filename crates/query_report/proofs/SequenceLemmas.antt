@@ -4,11 +4,14 @@ use Rattle.std.specs.Prelude.{Option, None, Some, Result, Ok, Err, OnOk}
 use Rattle.std.specs.List.{flat_map}
 use Rattle.std.specs.Option.{option_map_or, option_to_list}
 use Rattle.std.proofs.lemmas.Grind.{flat_map-append}
-use Rattle.std.proofs.lemmas.List.{at_drop_more, at_drop_all}
+use Rattle.std.proofs.lemmas.List.{at_drop_more, at_drop_all, append-nil}
+use Rattle.cs_base.specs.declared.positions.Part.{Part}
 use Rattle.line_shape.specs.declared.items.Item.{Item}
 use Rattle.query_report.specs.declared.spans.Span.{Span}
-use Rattle.include_tree.specs.Below.source_files.KeptFiles.{KeptValue, kept_at}
-use Rattle.ws_core.specs.Texts.{TextsValue}
+use Rattle.unused_names.specs.Below.include_tree.Below.source_files.KeptFiles.{KeptValue, kept_at}
+use Rattle.unused_names.specs.Below.ws_core.Analysis.{AnalysisValue}
+use Rattle.unused_names.specs.Below.ws_core.ClassReport.{part_line, part_lines}
+use Rattle.unused_names.specs.Below.ws_core.Texts.{TextsValue}
 use Rattle.query_report.specs.Skipped.{ended, going_on, sequences, span_line, file_lines, is_reached, items_in, lines_in, lines_at}
 use Rattle.query_report.specs.Marks.{count_at, is_marked, AreMarked}
 
@@ -61,6 +64,24 @@ pub lines-end : (path : List ℕ) (p : ℕ → Bool) (items : List Item) (k : �
     → text' ≡ text ++ flat_map (span_line path) (option_to_list before) → text' ≡ whole
 lines-end path p items k before text text' whole past so_far added =
     added ∙ ap (λ (s : List Span). text ++ flat_map (span_line path) s) (sym (sequences-end p k before items past)) ∙ so_far
+
+-- The lines of parts so far and those that are still to come: the line of a part is added.
+pub parts-more : (a : AnalysisValue) (parts : List Part) (k : ℕ) (d : Part) (text text' whole : List ℕ)
+    → k < length parts → text ++ part_lines a (drop k parts) ≡ whole → text' ≡ text ++ part_line a (get_or parts k d)
+    → text' ++ part_lines a (drop (k + 1) parts) ≡ whole
+unfolding part_lines
+parts-more a parts k d text text' whole within so_far added =
+    ap (λ (t : List ℕ). t ++ part_lines a (drop (k + 1) parts)) added
+    ∙ append_assoc text (part_line a (get_or parts k d)) (part_lines a (drop (k + 1) parts))
+    ∙ ap (λ (t : List ℕ). text ++ t) (sym (at_drop_more (part_lines a) parts k d within))
+    ∙ so_far
+
+-- behind the last part
+pub parts-end : (a : AnalysisValue) (parts : List Part) (k : ℕ) (text whole : List ℕ)
+    → length parts ≤ k → text ++ part_lines a (drop k parts) ≡ whole → text ≡ whole
+unfolding part_lines
+parts-end a parts k text whole past so_far =
+    sym (append-nil text) ∙ ap (λ (t : List ℕ). text ++ t) (sym (at_drop_all (part_lines a) parts k past)) ∙ so_far
 
 -- what is added where a call succeeds
 pub on_ok-then : {X E : Type 0} (r : Result X E) (P Q : Type 0) → OnOk r P → (P → Q) → OnOk r Q

@@ -1,9 +1,9 @@
 // The report `class`: the members of the class that a place names.
 ghost use Rattle.std.specs.Prelude.{◌≡◌, ◌++◌, ℕ, Err, None, Some, false, IfOk, OnOk, slice_get};
-ghost use Rattle.include_tree.specs.Below.source_files.KeptFiles.{kept_at};
-ghost use Rattle.ws_core.specs.ClassReport.{IsClassReport, part_line, part_lines};
-ghost use Rattle.ws_core.specs.Naming.{file_named};
-ghost use Rattle.ws_core.specs.Parts.{IsPart};
+ghost use Rattle.unused_names.specs.Below.include_tree.Below.source_files.KeptFiles.{kept_at};
+ghost use Rattle.unused_names.specs.Below.ws_core.ClassReport.{IsClassReport, part_line, part_lines};
+ghost use Rattle.unused_names.specs.Below.ws_core.Naming.{file_named};
+ghost use Rattle.unused_names.specs.Below.ws_core.Parts.{IsPart};
 ghost use Rattle.query_report.specs.Paths.{has_path};
 ghost use Rattle.query_report.specs.declared.queries.QueryRefusal.TheVariants.{NoName};
 
@@ -11,7 +11,7 @@ use crate::queries::QueryRefusal;
 use cs_base::{Memory, Part, Place};
 use std::alloc::Global;
 use std::str;
-use ws_core::{Analysis, push_place};
+use unused_names::{Analysis, push_place};
 
 /// The members of the class of the name at a place, each as `PATH:LINE:COL TEXT` on a line, in the order of
 /// their places.
@@ -66,7 +66,6 @@ fn has_path(a: &Analysis, number: u32, path: &[u8]) -> bool
     }
 }
 
-#[tactic(auto, unfolding(ws_core::specs::ClassReport::part_lines))]
 /// The lines of parts, in order.
 pub(crate) fn part_lines(alloc: Global, a: &Analysis, parts: &[Part]) -> Result<Vec<u8>, Memory>
     requires parts { (k : ℕ) (part : Part) → slice_get parts.now k ≡ Some part → IsPart a.now.value part }

@@ -5,11 +5,10 @@ ghost use Rattle.query_report.specs.Skipped.{items_in};
 ghost use Rattle.query_report.specs.Marks.{count_at, is_marked, marked, marked_by, AreBlank, AreMarked};
 
 use cs_base::Memory;
-use include_tree::{KeptFile, Reached};
 use line_shape::Item;
 use std::alloc::Global;
 use std::marker::Model;
-use ws_core::Texts;
+use unused_names::{KeptFile, Reached, Texts};
 
 /// A mark for each item of a file. Contracts see the list of them.
 #[derive(Drop)]

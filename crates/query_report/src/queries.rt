@@ -7,7 +7,7 @@ use crate::class_lines::class_report;
 use crate::list_lines::{includes_report, unused_report};
 use cs_base::{Memory as NoMemory, Place};
 use std::alloc::Global;
-use ws_core::Analysis;
+use unused_names::Analysis;
 
 /// What a report tells.
 #[derive(Drop)]

@@ -8,7 +8,7 @@ use crate::marks::{Marks, items_in, marks_of};
 use crate::spans::push_file;
 use cs_base::Memory;
 use std::alloc::Global;
-use ws_core::Texts;
+use unused_names::Texts;
 
 #[tactic(auto, unfolding(crate::specs::Skipped::skipped_text))]
 /// The sequences of directive lines and runs that no unit processes, each as `PATH:FIRST-LAST` on a line, in

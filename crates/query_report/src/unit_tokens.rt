@@ -3,8 +3,8 @@ ghost use Rattle.std.specs.Prelude.{◌≡◌, ◌++◌, IfOk, OnOk};
 ghost use Rattle.query_report.specs.TokensText.{token_line, tokens_text};
 
 use cs_base::{Memory, Tok};
-use include_tree::UnitText;
 use std::alloc::Global;
+use unused_names::UnitText;
 
 /// The tokens of a unit in order, the spelling of each on a line of its own.
 pub fn print_tokens(alloc: Global, t: &UnitText) -> Result<Vec<u8>, Memory>

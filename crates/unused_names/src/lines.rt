@@ -9,12 +9,10 @@ ghost use Rattle.unused_names.specs.Unneeded.{IsUnneeded};
 use crate::inclusions::{end_of, is_enter, tokens_before};
 use crate::last_uses::{LastUses, any_means_behind};
 use crate::spans::{Span, any_reaches_out, count_of, spans};
+use class_marks::{Analysis, Bound, UnitText};
 use cs_base::{Memory, Pos};
-use include_tree::UnitText;
 use indexmap::IndexSet;
-use scope_bind::Bound;
 use std::alloc::Global;
-use ws_core::Analysis;
 
 // Whether what an inclusion brings is not used outside it.
 fn is_unneeded(

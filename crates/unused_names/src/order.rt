@@ -3,9 +3,9 @@ ghost use Rattle.std.specs.Prelude.{◌≡◌};
 ghost use Rattle.std.specs.Ordering.{nat_cmp, ordering_then};
 ghost use Rattle.unused_names.specs.Order.{path_of, position_cmp};
 
+use class_marks::Analysis;
 use cs_base::Pos;
 use std::cmp::Ordering;
-use ws_core::Analysis;
 
 // The path of the kept file with a number.
 fn path_of(a: &Analysis, number: u32) -> &[u8]

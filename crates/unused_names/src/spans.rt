@@ -2,8 +2,8 @@
 ghost use Rattle.std.specs.Prelude.{◌≡◌, ◌≤◌, ◌<◌, ◌+◌, ℕ, None, Some, IfOk, OnOk, MatchBool, length, slice_index_or, slice_set};
 ghost use Rattle.unused_names.specs.Spans.{span_with, AreSpans, ReachesOut, TellsSpan};
 
+use class_marks::Bound;
 use cs_base::{Memory, Tok};
-use scope_bind::Bound;
 use std::alloc::Global;
 
 /// How many tokens there are: `Memory` from 2^32 on.

@@ -7,9 +7,9 @@ ghost use Rattle.unused_names.specs.Unneeded.{AreUnneeded};
 
 use crate::lines::Lines;
 use crate::order::compare;
+use class_marks::Analysis;
 use cs_base::{Memory, Pos};
 use std::alloc::Global;
-use ws_core::Analysis;
 
 /// The `#` of each include line that is unneeded in every inclusion, in the order of their places; lines in
 /// read-only files are left out.

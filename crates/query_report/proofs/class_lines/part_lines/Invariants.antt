@@ -1,5 +1,5 @@
 use Rattle.std.proofs.Common.{◌≡◌, ◌++◌, drop}
-use Rattle.ws_core.specs.ClassReport.{part_lines}
+use Rattle.unused_names.specs.Below.ws_core.ClassReport.{part_lines}
 use Rattle.query_report.proofs.class_lines.part_lines.Given as goal
 
 abbrev pub invariant-loop-part : goal.invariant-loop-part
