@@ -10,3 +10,4 @@ pub mod NumberLemmas
 pub mod OddLemmas
 pub mod ListLemmas
 pub mod PlanLemmas
+pub mod Below

@@ -1,6 +1,6 @@
 -- What inner functions promise each other of the marks of a list that are asked for at once.
 use Rattle.std.specs.Prelude.{ℕ, ◌==◌, Bool, List}
-use Rattle.include_tree.specs.Below.unit_steps.declared.events.Reached.{Reached}
+use Rattle.rename_rules.specs.Below.include_tree.Below.unit_steps.declared.events.Reached.{Reached}
 use Rattle.c_types.specs.declared.lists.List.{List as NameList}
 use Rattle.template_rules.specs.declared.list_macros.Asked.{Asked}
 use Rattle.template_rules.specs.declared.list_macros.Asked.TheVariants as asked

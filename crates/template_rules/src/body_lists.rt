@@ -12,10 +12,8 @@ use crate::places::at_token;
 use c_types::{Part as Child, child_at, first_list, is_node};
 use c99_tree::{Production, Tree};
 use cs_base::{Cause, Memory, Tok};
-use rename_rules::Offence;
-use scope_bind::List;
+use rename_rules::{Analysis, List, Offence};
 use std::alloc::Global;
-use ws_core::Analysis;
 
 // Whether what follows a declarator begins with a body.
 fn begins_body(tail: &Tree) -> bool

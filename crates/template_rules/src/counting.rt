@@ -8,10 +8,8 @@ use crate::functions::Functions;
 use crate::places::origin_of;
 use crate::unit_functions::{UnitFunctions, declares_function};
 use cs_base::Pos;
-use rename_rules::compare;
-use scope_bind::{List, Name, ParameterForm, ParameterList};
+use rename_rules::{Analysis, List, Name, ParameterForm, ParameterList, compare};
 use std::cmp::Ordering;
-use ws_core::Analysis;
 
 /// A declarator of a function: where its name stands, and how many parameters it has.
 #[derive(Clone, Copy, Debug, PartialEq, Eq)]

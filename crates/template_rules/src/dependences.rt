@@ -11,9 +11,7 @@ ghost use Rattle.template_rules.specs.ScopeOffences.{is_ordinary, uses_ordinary,
 use crate::counting::parameters_at;
 use crate::places::at_token;
 use cs_base::{Cause, Tok};
-use rename_rules::Offence;
-use scope_bind::{EntityKind, List, Name, ParameterList};
-use ws_core::Analysis;
+use rename_rules::{Analysis, EntityKind, List, Name, Offence, ParameterList};
 
 fn is_ordinary(kind: EntityKind) -> bool
     ensures { result ≡ is_ordinary kind }

@@ -3,19 +3,17 @@ ghost use Rattle.std.specs.Prelude.{◌≡◌, [], length, IfOk, IsUtf8, OnOk};
 ghost use Rattle.std.specs.Option.{option_map_or};
 ghost use Rattle.edited_files.specs.Edited.{with_each};
 ghost use Rattle.list_cuts.specs.Cuts.{IsOrder};
-ghost use Rattle.include_tree.specs.Below.source_files.KeptFiles.{kept_at};
-ghost use Rattle.include_tree.specs.Below.source_files.Tables.{AreText};
+ghost use Rattle.rename_rules.specs.Below.include_tree.Below.source_files.KeptFiles.{kept_at};
+ghost use Rattle.rename_rules.specs.Below.include_tree.Below.source_files.Tables.{AreText};
 ghost use Rattle.template_rules.specs.FileLists.{new_bytes, edit_for, edit_in, edits_of};
 
 use crate::file_lists::{FoundList, found_lists, lists_in, spans_of};
 use crate::functions::Functions;
 use cs_base::{Edits, Memory};
 use edited_files::TextEdits;
-use include_tree::KeptFile;
 use list_cuts::arrange;
-use scope_bind::Indices;
+use rename_rules::{Analysis, Indices, KeptFile};
 use std::alloc::Global;
-use ws_core::Analysis;
 
 // The bytes of a file with the items of these lists in the new order.
 fn new_bytes(

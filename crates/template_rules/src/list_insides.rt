@@ -13,10 +13,7 @@ use crate::macro_names::is_replacing;
 use crate::places::at_token;
 use crate::unit_functions::{UnitFunctions, names_function};
 use cs_base::{Cause, Tok};
-use include_tree::Event;
-use rename_rules::{Offence, first_with};
-use scope_bind::{EntityKind, List, Name};
-use ws_core::Analysis;
+use rename_rules::{Analysis, EntityKind, Event, List, Name, Offence, first_with};
 
 // Whether an event replaces `__LINE__` by the number of its line.
 fn is_line_number(event: &Event) -> bool

@@ -13,9 +13,7 @@ use crate::functions::Functions;
 use crate::places::{at_token, origin_of};
 use crate::unit_functions::{UnitFunctions, names_function};
 use cs_base::{Cause, Pos, Tok};
-use include_tree::Reached;
-use rename_rules::Offence;
-use scope_bind::List;
+use rename_rules::{List, Offence, Reached};
 
 fn is_direct_at(toks: &[Tok], k: u32) -> bool
     ensures { result ≡ is_direct_at toks.now k }

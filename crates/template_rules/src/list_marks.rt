@@ -12,10 +12,7 @@ use crate::functions::Functions;
 use crate::places::{at_token, origin_of};
 use crate::unit_functions::{UnitFunctions, names_function};
 use cs_base::{Cause, Tok};
-use include_tree::Reached;
-use rename_rules::{Offence, first_with};
-use scope_bind::List;
-use ws_core::Analysis;
+use rename_rules::{Analysis, List, Offence, Reached, first_with};
 
 // `ReadOnly` at a list.
 fn read_only_at(a: &Analysis, toks: &[Tok], list: &List, first: Option<Offence>) -> Option<Offence>

@@ -11,9 +11,7 @@ use crate::list_macros::macro_at;
 use crate::odd_tokens::{odd_tokens, odds_at};
 use crate::unit_functions::{UnitFunctions, names_function};
 use cs_base::{Memory, Pos};
-use include_tree::UnitText;
-use rename_rules::Offence;
-use scope_bind::List;
+use rename_rules::{List, Offence, UnitText};
 use std::alloc::Global;
 
 // `InMacro` and `OddToken` at a list.

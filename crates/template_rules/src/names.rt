@@ -10,9 +10,7 @@ use crate::functions::{Functions, holds_at};
 use crate::places::at_token;
 use crate::unit_functions::{UnitFunctions, declares_function};
 use cs_base::Cause;
-use rename_rules::Offence;
-use scope_bind::{List, Name, ParameterForm, ParameterList};
-use ws_core::Analysis;
+use rename_rules::{Analysis, List, Name, Offence, ParameterForm, ParameterList};
 
 fn is_prototype(form: ParameterForm) -> bool
     ensures { result ≡ is_prototype form }

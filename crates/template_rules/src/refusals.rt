@@ -1,13 +1,12 @@
 // Why a new order is refused.
 ghost use Rattle.std.specs.Prelude.{◌≡◌, IfOk, IfSome};
-ghost use Rattle.ws_core.specs.Places.{place_at};
+ghost use Rattle.rename_rules.specs.Below.ws_core.Places.{place_at};
 ghost use Rattle.template_rules.specs.Refusals.{refusal_of};
 ghost use Rattle.template_rules.specs.Template.{refused_for};
 
 use cs_base::{Cause, Memory as NoMemory, Place, Pos, Text};
-use rename_rules::Offence;
+use rename_rules::{Analysis, Offence};
 use std::alloc::Global;
-use ws_core::Analysis;
 
 /// What `plan_template` answers where it gives no edits, in the order in which it looks.
 #[derive(Drop)]
