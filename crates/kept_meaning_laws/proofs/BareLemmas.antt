@@ -5,16 +5,16 @@ use Rattle.std.specs.List.{flat_map, list_any}
 use Rattle.std.specs.Option.{option_and_then, option_map_or}
 use Rattle.std.specs.Str.{bytes_eq}
 use Rattle.std.proofs.lemmas.Bool.{cases_Bool, both_ways, false≢true, and_parts, and_from, or_cases, or_left, or_right, ltb-false, le-leb}
-use Rattle.tree_laws.proofs.Below.cs_base.FileMapLemmas.{bytes_eq-equal}
-use Rattle.tree_laws.specs.Below.cs_base.declared.positions.Part.{Part}
-use Rattle.tree_laws.specs.Below.cs_base.declared.positions.Pos.{Pos}
-use Rattle.tree_laws.specs.Below.cs_base.Token.{Token}
+use Rattle.renamed_tree_laws.proofs.Below.tree_laws.Below.cs_base.FileMapLemmas.{bytes_eq-equal}
+use Rattle.renamed_tree_laws.specs.Below.tree_laws.Below.cs_base.declared.positions.Part.{Part}
+use Rattle.renamed_tree_laws.specs.Below.tree_laws.Below.cs_base.declared.positions.Pos.{Pos}
+use Rattle.renamed_tree_laws.specs.Below.tree_laws.Below.cs_base.Token.{Token}
 use Rattle.no_offence_laws.specs.Below.part_lexer.Spelling.{is_identifier_text}
 use Rattle.no_offence_laws.specs.Below.line_shape.Signs.{is_name}
 use Rattle.no_offence_laws.specs.Below.macro_expand.Renaming.{Renaming, renamed}
 use Rattle.no_offence_laws.specs.Below.macro_expand.Renaming as macros
-use Rattle.tree_laws.specs.Below.c_types.declared.lists.Range.{Range}
-use Rattle.tree_laws.specs.Below.c_types.Declarations.{spelling_at, alike}
+use Rattle.renamed_tree_laws.specs.Below.tree_laws.Below.c_types.declared.lists.Range.{Range}
+use Rattle.renamed_tree_laws.specs.Below.tree_laws.Below.c_types.Declarations.{spelling_at, alike}
 use Rattle.renamed_tree_laws.specs.Loose.{is_hidden, StaysWhole}
 use Rattle.no_offence_laws.specs.Below.ws_core.Analysed.{Analysed}
 use Rattle.no_offence_laws.specs.Below.ws_core.Analysis.{UnitAnalysis, AnalysisValue}
@@ -29,8 +29,8 @@ use Rattle.no_offence_laws.proofs.ListLemmas.{In, cons_nil, flat_nil, any_at}
 use Rattle.no_offence_laws.proofs.NoneLemmas.{NoneStand, none_stand, holder}
 use Rattle.no_offence_laws.proofs.OccurringLemmas.{name_like, parted_one, like_spelled}
 use Rattle.no_offence_laws.proofs.TracedLemmas.{AreChained}
-use Rattle.tree_laws.specs.Below.c99_grammar.Standard.{grammar}
-use Rattle.tree_laws.specs.Below.c99_read.State.{base_at, is_identifier}
+use Rattle.renamed_tree_laws.specs.Below.tree_laws.Below.c99_grammar.Standard.{grammar}
+use Rattle.renamed_tree_laws.specs.Below.tree_laws.Below.c99_read.State.{base_at, is_identifier}
 use Rattle.kept_meaning_laws.proofs.LinkedNameLemmas.{named_token}
 use Rattle.kept_meaning_laws.proofs.NamedLemmas.{NameAt, OtherAt, alike_from, whole, old_identifier, old_at, new_at, look}
 use Rattle.kept_meaning_laws.proofs.UnitTokenLemmas.{tokens_kept}

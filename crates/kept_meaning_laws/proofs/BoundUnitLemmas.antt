@@ -1,19 +1,19 @@
 -- The renamed tokens of a unit are bound as before.
 use Rattle.std.proofs.Common.{◌≡◌, ℕ, true, List, map, Option, Some, sym, ap, subst, ◌∙◌}
 use Rattle.std.specs.Prelude.{slice_get}
-use Rattle.tree_laws.specs.Below.cs_base.declared.positions.Part.{Part}
-use Rattle.tree_laws.proofs.Below.cs_base.FileMapLemmas.{bytes_eq-equal}
-use Rattle.tree_laws.specs.Below.cs_base.Token.{Token}
+use Rattle.renamed_tree_laws.specs.Below.tree_laws.Below.cs_base.declared.positions.Part.{Part}
+use Rattle.renamed_tree_laws.proofs.Below.tree_laws.Below.cs_base.FileMapLemmas.{bytes_eq-equal}
+use Rattle.renamed_tree_laws.specs.Below.tree_laws.Below.cs_base.Token.{Token}
 use Rattle.no_offence_laws.specs.Below.line_shape.Signs.{is_name}
 use Rattle.no_offence_laws.specs.Below.macro_expand.Renaming.{Renaming, renamed}
-use Rattle.tree_laws.specs.Below.c99_grammar.Standard.{grammar}
-use Rattle.tree_laws.specs.Below.c99_read.State.{base_at, is_identifier}
-use Rattle.tree_laws.specs.Below.scope_bind.declared.bound.Name.{Name}
-use Rattle.tree_laws.specs.Below.c_types.Declarations.{spelling_at, alike}
-use Rattle.tree_laws.specs.Below.scope_bind.Names.{entity_at}
-use Rattle.tree_laws.specs.RenamedNames.{StaysApart, NamesAreRenamed}
-use Rattle.tree_laws.proofs.HeldNames.{spelled_as_entities}
-use Rattle.tree_laws.proofs.RenamedWalk.{renamed_bind_alike}
+use Rattle.renamed_tree_laws.specs.Below.tree_laws.Below.c99_grammar.Standard.{grammar}
+use Rattle.renamed_tree_laws.specs.Below.tree_laws.Below.c99_read.State.{base_at, is_identifier}
+use Rattle.renamed_tree_laws.specs.Below.tree_laws.Below.scope_bind.declared.bound.Name.{Name}
+use Rattle.renamed_tree_laws.specs.Below.tree_laws.Below.c_types.Declarations.{spelling_at, alike}
+use Rattle.renamed_tree_laws.specs.Below.tree_laws.Below.scope_bind.Names.{entity_at}
+use Rattle.renamed_tree_laws.specs.Below.tree_laws.RenamedNames.{StaysApart, NamesAreRenamed}
+use Rattle.renamed_tree_laws.proofs.Below.tree_laws.HeldNames.{spelled_as_entities}
+use Rattle.renamed_tree_laws.proofs.Below.tree_laws.RenamedWalk.{renamed_bind_alike}
 use Rattle.no_offence_laws.specs.Below.part_respell.Respelled.{spelled}
 use Rattle.no_offence_laws.specs.Below.ws_core.Analysed.{Analysed}
 use Rattle.no_offence_laws.specs.Below.ws_core.Analysis.{UnitAnalysis}

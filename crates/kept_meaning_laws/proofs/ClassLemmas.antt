@@ -6,20 +6,20 @@ use Rattle.std.specs.Option.{option_map_or}
 use Rattle.std.specs.Str.{bytes_eq}
 use Rattle.std.proofs.lemmas.Bool.{cases_Bool, both_ways, and_parts}
 use Rattle.std.proofs.lemmas.Option.{slice_get-map}
-use Rattle.tree_laws.specs.Below.cs_base.declared.ws_units.Standard.{Standard}
-use Rattle.tree_laws.specs.Below.cs_base.declared.ws_units.Standard.TheVariants.{C99, C11}
-use Rattle.tree_laws.specs.Below.cs_base.declared.positions.Part.{Part}
-use Rattle.tree_laws.specs.Below.cs_base.declared.tokens.Kind.{Kind}
-use Rattle.tree_laws.specs.Below.cs_base.declared.tokens.Kind.TheVariants as kind
-use Rattle.tree_laws.specs.Below.cs_base.Reserved.{is_reserved_text}
-use Rattle.tree_laws.specs.Below.cs_base.Token.{Token}
+use Rattle.renamed_tree_laws.specs.Below.tree_laws.Below.cs_base.declared.ws_units.Standard.{Standard}
+use Rattle.renamed_tree_laws.specs.Below.tree_laws.Below.cs_base.declared.ws_units.Standard.TheVariants.{C99, C11}
+use Rattle.renamed_tree_laws.specs.Below.tree_laws.Below.cs_base.declared.positions.Part.{Part}
+use Rattle.renamed_tree_laws.specs.Below.tree_laws.Below.cs_base.declared.tokens.Kind.{Kind}
+use Rattle.renamed_tree_laws.specs.Below.tree_laws.Below.cs_base.declared.tokens.Kind.TheVariants as kind
+use Rattle.renamed_tree_laws.specs.Below.tree_laws.Below.cs_base.Reserved.{is_reserved_text}
+use Rattle.renamed_tree_laws.specs.Below.tree_laws.Below.cs_base.Token.{Token}
 use Rattle.no_offence_laws.specs.Below.line_shape.Signs as signs
 use Rattle.no_offence_laws.specs.Below.macro_expand.Renaming.{Renaming, renamed}
 use Rattle.no_offence_laws.specs.Below.macro_expand.Renaming as macros
-use Rattle.tree_laws.specs.Below.c99_grammar.Spellings.{Spelled, keywords_of}
-use Rattle.tree_laws.specs.Below.c99_grammar.Standard.{grammar}
-use Rattle.tree_laws.specs.Below.c99_read.State.{base_at}
-use Rattle.tree_laws.specs.Below.c99_grammar.TokenClasses.{spelled_class, class_of_kind, base_class}
+use Rattle.renamed_tree_laws.specs.Below.tree_laws.Below.c99_grammar.Spellings.{Spelled, keywords_of}
+use Rattle.renamed_tree_laws.specs.Below.tree_laws.Below.c99_grammar.Standard.{grammar}
+use Rattle.renamed_tree_laws.specs.Below.tree_laws.Below.c99_read.State.{base_at}
+use Rattle.renamed_tree_laws.specs.Below.tree_laws.Below.c99_grammar.TokenClasses.{spelled_class, class_of_kind, base_class}
 use Rattle.renamed_tree_laws.proofs.Private.{Class, identifier, no_class, end_class}
 use Rattle.no_offence_laws.specs.Below.ws_core.Analysed.{Analysed}
 use Rattle.no_offence_laws.specs.Below.ws_core.Analysis.{UnitAnalysis}

@@ -5,18 +5,18 @@ use Rattle.std.specs.Option.{option_map, option_map_or, option_and_then}
 use Rattle.std.specs.Str.{bytes_eq}
 use Rattle.std.proofs.lemmas.Bool.{and_from}
 use Rattle.std.proofs.lemmas.Option.{none-some, same_Some, slice_get-map}
-use Rattle.tree_laws.proofs.Below.cs_base.FileMapLemmas.{bytes_eq-equal, bytes_eq-same}
-use Rattle.tree_laws.specs.Below.cs_base.declared.positions.Part.{Part}
-use Rattle.tree_laws.specs.Below.cs_base.Token.{Token}
-use Rattle.tree_laws.specs.Below.cs_base.Units.{UnitValue}
+use Rattle.renamed_tree_laws.proofs.Below.tree_laws.Below.cs_base.FileMapLemmas.{bytes_eq-equal, bytes_eq-same}
+use Rattle.renamed_tree_laws.specs.Below.tree_laws.Below.cs_base.declared.positions.Part.{Part}
+use Rattle.renamed_tree_laws.specs.Below.tree_laws.Below.cs_base.Token.{Token}
+use Rattle.renamed_tree_laws.specs.Below.tree_laws.Below.cs_base.Units.{UnitValue}
 use Rattle.no_offence_laws.specs.Below.linkage_join.Linkage.{UnitValue as ExternalNames, names_of}
 use Rattle.no_offence_laws.specs.Below.macro_expand.Renaming.{Renaming, renamed}
 use Rattle.no_offence_laws.specs.Below.macro_expand.Renaming as macros
-use Rattle.tree_laws.specs.Below.c_types.declared.entity.Linkage.TheVariants.{External}
-use Rattle.tree_laws.specs.Below.c_types.Declarations.{spelling_at, alike, is_linkage}
-use Rattle.tree_laws.specs.Below.scope_bind.declared.bound.Name.{Name}
-use Rattle.tree_laws.specs.Below.scope_bind.Names.{entity_at, linkage_at}
-use Rattle.tree_laws.proofs.HeldNames.{spelled_as_entities}
+use Rattle.renamed_tree_laws.specs.Below.tree_laws.Below.c_types.declared.entity.Linkage.TheVariants.{External}
+use Rattle.renamed_tree_laws.specs.Below.tree_laws.Below.c_types.Declarations.{spelling_at, alike, is_linkage}
+use Rattle.renamed_tree_laws.specs.Below.tree_laws.Below.scope_bind.declared.bound.Name.{Name}
+use Rattle.renamed_tree_laws.specs.Below.tree_laws.Below.scope_bind.Names.{entity_at, linkage_at}
+use Rattle.renamed_tree_laws.proofs.Below.tree_laws.HeldNames.{spelled_as_entities}
 use Rattle.no_offence_laws.specs.Below.edited_unit_laws.Analyses.{renamed_unit_analysis, renamed_analysis}
 use Rattle.no_offence_laws.specs.Below.renamed.Renamed.{ExternalName, external_name, external_if, external_at, is_one_entity, denote_one}
 use Rattle.no_offence_laws.specs.Below.ws_core.Analysed.{Analysed}

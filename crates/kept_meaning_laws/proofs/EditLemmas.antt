@@ -6,9 +6,9 @@ use Rattle.std.specs.Option.{option_map, option_map_or, option_and_then}
 use Rattle.std.specs.Str.{bytes_eq}
 use Rattle.std.proofs.lemmas.Bool.{cases_Bool, or_parts}
 use Rattle.std.proofs.lemmas.Option.{none-some, same_Some}
-use Rattle.tree_laws.specs.Below.cs_base.declared.positions.Part.{Part}
-use Rattle.tree_laws.specs.Below.cs_base.Edit.{Edit, edit}
-use Rattle.tree_laws.proofs.Below.cs_base.FileMapLemmas.{bytes_eq-equal}
+use Rattle.renamed_tree_laws.specs.Below.tree_laws.Below.cs_base.declared.positions.Part.{Part}
+use Rattle.renamed_tree_laws.specs.Below.tree_laws.Below.cs_base.Edit.{Edit, edit}
+use Rattle.renamed_tree_laws.proofs.Below.tree_laws.Below.cs_base.FileMapLemmas.{bytes_eq-equal}
 use Rattle.no_offence_laws.specs.Below.source_files.Files.{Source, Found, Lines, Absent, Unopened, Opened, Made, Table}
 use Rattle.no_offence_laws.specs.Below.source_files.KeptFiles.{KeptValue, kept as kept_file, kept_at, kept_bytes, kept_in}
 use Rattle.no_offence_laws.specs.Below.source_files.Tables.{IsFound, AreFound}

@@ -6,9 +6,9 @@ use Rattle.std.specs.Str.{bytes_eq}
 use Rattle.std.proofs.lemmas.Bool.{cases_Bool}
 use Rattle.std.proofs.lemmas.List.{append-nil, append_assoc}
 use Rattle.std.proofs.lemmas.Option.{same_Some}
-use Rattle.tree_laws.proofs.Below.cs_base.FileMapLemmas.{bytes_eq-equal}
-use Rattle.tree_laws.specs.Below.cs_base.declared.tokens.Link.{Link}
-use Rattle.tree_laws.specs.Below.cs_base.Token.{Token}
+use Rattle.renamed_tree_laws.proofs.Below.tree_laws.Below.cs_base.FileMapLemmas.{bytes_eq-equal}
+use Rattle.renamed_tree_laws.specs.Below.tree_laws.Below.cs_base.declared.tokens.Link.{Link}
+use Rattle.renamed_tree_laws.specs.Below.tree_laws.Below.cs_base.Token.{Token}
 use Rattle.no_offence_laws.specs.Below.macro_expand.Renaming.{Renaming, spelled}
 use Rattle.no_offence_laws.specs.Below.linkage_join.Linkage.{UnitValue as ExternalNames, link_to, first_spelled, names_of, unit_links as links_in, links_after}
 use Rattle.no_offence_laws.specs.Below.edited_unit_laws.Lines.{Each}

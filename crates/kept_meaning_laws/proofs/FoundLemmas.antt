@@ -6,9 +6,9 @@ use Rattle.std.specs.Str.{bytes_eq}
 use Rattle.std.proofs.lemmas.Bool.{cases_Bool}
 use Rattle.std.proofs.lemmas.List.Elements.{All-head, All-tail}
 use Rattle.std.proofs.lemmas.Option.{same_Some}
-use Rattle.tree_laws.proofs.Below.cs_base.FileMapLemmas.{bytes_eq-equal}
-use Rattle.tree_laws.specs.Below.cs_base.Token.{Token}
-use Rattle.tree_laws.specs.Below.cs_base.Units.{UnitValue, IsUnit, defines_text}
+use Rattle.renamed_tree_laws.proofs.Below.tree_laws.Below.cs_base.FileMapLemmas.{bytes_eq-equal}
+use Rattle.renamed_tree_laws.specs.Below.tree_laws.Below.cs_base.Token.{Token}
+use Rattle.renamed_tree_laws.specs.Below.tree_laws.Below.cs_base.Units.{UnitValue, IsUnit, defines_text}
 use Rattle.no_offence_laws.specs.Below.part_lexer.FileText.{file_text}
 use Rattle.no_offence_laws.specs.Below.ws_file.Workspace.{WorkspaceValue, IsWorkspace}
 use Rattle.no_offence_laws.specs.Below.source_files.Faults.{Fault, first_place}

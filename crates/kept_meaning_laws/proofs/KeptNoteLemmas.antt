@@ -4,9 +4,9 @@ use Rattle.std.specs.Prelude.{slice_get}
 use Rattle.std.specs.List.{flat_map, list_all}
 use Rattle.std.specs.Option.{is_none, option_map, option_map_or, option_and_then}
 use Rattle.std.proofs.lemmas.Bool.{eq-eqb}
-use Rattle.tree_laws.specs.Below.cs_base.declared.positions.Part.{Part}
-use Rattle.tree_laws.specs.Below.cs_base.declared.positions.Pos.{Pos}
-use Rattle.tree_laws.specs.Below.cs_base.Token.{Token, origin_at}
+use Rattle.renamed_tree_laws.specs.Below.tree_laws.Below.cs_base.declared.positions.Part.{Part}
+use Rattle.renamed_tree_laws.specs.Below.tree_laws.Below.cs_base.declared.positions.Pos.{Pos}
+use Rattle.renamed_tree_laws.specs.Below.tree_laws.Below.cs_base.Token.{Token, origin_at}
 use Rattle.no_offence_laws.specs.Below.part_lexer.Places.{pos, origins_from}
 use Rattle.no_offence_laws.specs.Below.part_lexer.Spelling.{is_identifier_text}
 use Rattle.no_offence_laws.specs.Below.line_shape.Signs.{is_name}

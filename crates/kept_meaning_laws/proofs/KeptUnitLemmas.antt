@@ -1,9 +1,9 @@
 -- A renaming against which nothing stands keeps each unit of an analysis.
 use Rattle.std.proofs.Common.{◌≡◌, ℕ, suc, ◌+◌, ◌-◌, ◌≤◌, List, [], ◌∷◌, length, Option, Some, Ok, refl, sym, ap, subst, ◌∙◌, arith}
 use Rattle.std.specs.Prelude.{slice_get}
-use Rattle.tree_laws.specs.Below.cs_base.declared.positions.Part.{Part}
-use Rattle.tree_laws.specs.Below.cs_base.Token.{Token}
-use Rattle.tree_laws.specs.Below.cs_base.Units.{UnitValue}
+use Rattle.renamed_tree_laws.specs.Below.tree_laws.Below.cs_base.declared.positions.Part.{Part}
+use Rattle.renamed_tree_laws.specs.Below.tree_laws.Below.cs_base.Token.{Token}
+use Rattle.renamed_tree_laws.specs.Below.tree_laws.Below.cs_base.Units.{UnitValue}
 use Rattle.no_offence_laws.specs.Below.part_lexer.FileText.{file_text}
 use Rattle.no_offence_laws.specs.Below.source_files.Faults.{Fault}
 use Rattle.no_offence_laws.specs.Below.source_files.Files.{Source, Table, Carried, carried, nothing_carried}

@@ -8,20 +8,20 @@ use Rattle.std.specs.Str.{bytes_eq}
 use Rattle.std.proofs.lemmas.Bool.{cases_Bool, both_ways, and_parts, and_from, eqb-true, eq-eqb}
 use Rattle.std.proofs.lemmas.List.Elements.{All-nil, All-cons, All-head, All-tail}
 use Rattle.std.proofs.lemmas.Option.{same_Some}
-use Rattle.tree_laws.specs.Below.cs_base.declared.ws_units.Standard.{Standard}
-use Rattle.tree_laws.specs.Below.cs_base.declared.tokens.Kind.{Kind}
-use Rattle.tree_laws.specs.Below.cs_base.declared.tokens.Kind.TheVariants as kind
-use Rattle.tree_laws.specs.Below.cs_base.declared.tokens.Link.{Link}
-use Rattle.tree_laws.specs.Below.cs_base.Token.{Token}
+use Rattle.renamed_tree_laws.specs.Below.tree_laws.Below.cs_base.declared.ws_units.Standard.{Standard}
+use Rattle.renamed_tree_laws.specs.Below.tree_laws.Below.cs_base.declared.tokens.Kind.{Kind}
+use Rattle.renamed_tree_laws.specs.Below.tree_laws.Below.cs_base.declared.tokens.Kind.TheVariants as kind
+use Rattle.renamed_tree_laws.specs.Below.tree_laws.Below.cs_base.declared.tokens.Link.{Link}
+use Rattle.renamed_tree_laws.specs.Below.tree_laws.Below.cs_base.Token.{Token}
 use Rattle.no_offence_laws.specs.Below.line_shape.Signs.{is_name}
 use Rattle.no_offence_laws.specs.Below.line_shape.Signs as signs
 use Rattle.no_offence_laws.specs.Below.linkage_join.Linkage.{link_to, links_of as external_links}
-use Rattle.tree_laws.specs.Below.c99_grammar.Spellings.{Spelled, punctuators}
-use Rattle.tree_laws.specs.Below.c99_grammar.Standard.{grammar}
-use Rattle.tree_laws.specs.Below.c99_read.State.{base_at, is_identifier}
-use Rattle.tree_laws.specs.Below.c99_grammar.TokenClasses.{spelled_class, class_of_kind, base_class}
-use Rattle.tree_laws.specs.Below.scope_bind.declared.bound.Name.{Name}
-use Rattle.tree_laws.specs.Below.scope_bind.Names.{entity_at}
+use Rattle.renamed_tree_laws.specs.Below.tree_laws.Below.c99_grammar.Spellings.{Spelled, punctuators}
+use Rattle.renamed_tree_laws.specs.Below.tree_laws.Below.c99_grammar.Standard.{grammar}
+use Rattle.renamed_tree_laws.specs.Below.tree_laws.Below.c99_read.State.{base_at, is_identifier}
+use Rattle.renamed_tree_laws.specs.Below.tree_laws.Below.c99_grammar.TokenClasses.{spelled_class, class_of_kind, base_class}
+use Rattle.renamed_tree_laws.specs.Below.tree_laws.Below.scope_bind.declared.bound.Name.{Name}
+use Rattle.renamed_tree_laws.specs.Below.tree_laws.Below.scope_bind.Names.{entity_at}
 use Rattle.no_offence_laws.specs.Below.ws_core.Analysis.{UnitAnalysis, AnalysisValue}
 use Rattle.no_offence_laws.specs.Below.ws_core.Links.{is_bound_to, first_occurrence, occurrence_link, occurrence_links, names_of_units, are_alike, unit_links, links_of}
 use Rattle.no_offence_laws.proofs.Below.ws_core.NamingLemmas.{split_at, in_left, in_right, in_filter}

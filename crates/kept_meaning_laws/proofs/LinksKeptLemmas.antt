@@ -6,23 +6,23 @@ use Rattle.std.specs.Option.{option_map_or}
 use Rattle.std.specs.Str.{bytes_eq}
 use Rattle.std.proofs.lemmas.Bool.{and_parts, and_from}
 use Rattle.std.proofs.lemmas.Option.{same_Some}
-use Rattle.tree_laws.specs.Below.cs_base.declared.positions.Part.{Part}
-use Rattle.tree_laws.specs.Below.cs_base.declared.tokens.Link.{Link}
-use Rattle.tree_laws.specs.Below.cs_base.Token.{Token}
-use Rattle.tree_laws.specs.Below.cs_base.Units.{UnitValue}
+use Rattle.renamed_tree_laws.specs.Below.tree_laws.Below.cs_base.declared.positions.Part.{Part}
+use Rattle.renamed_tree_laws.specs.Below.tree_laws.Below.cs_base.declared.tokens.Link.{Link}
+use Rattle.renamed_tree_laws.specs.Below.tree_laws.Below.cs_base.Token.{Token}
+use Rattle.renamed_tree_laws.specs.Below.tree_laws.Below.cs_base.Units.{UnitValue}
 use Rattle.no_offence_laws.specs.Below.line_shape.Signs.{is_name}
 use Rattle.no_offence_laws.specs.Below.linkage_join.Linkage.{UnitValue as ExternalNames, links_of as external_links}
 use Rattle.no_offence_laws.specs.Below.macro_expand.Renaming.{Renaming}
 use Rattle.no_offence_laws.specs.Below.macro_expand.Renaming as macros
-use Rattle.tree_laws.specs.Below.c99_grammar.Standard.{grammar}
-use Rattle.tree_laws.specs.Below.c99_read.State.{base_at, is_identifier}
-use Rattle.tree_laws.specs.Below.c_types.declared.entity.Linkage.{Linkage}
-use Rattle.tree_laws.specs.Below.c_types.declared.entity.Linkage.TheVariants.{External, Internal, Absent}
-use Rattle.tree_laws.specs.Below.c_types.Declarations.{spelling_at, alike, has_linkage, is_linkage}
-use Rattle.tree_laws.specs.Below.scope_bind.declared.bound.Name.{Name}
-use Rattle.tree_laws.specs.Below.scope_bind.Names.{entity_at, linkage_at}
-use Rattle.tree_laws.proofs.LinkedNames.{linked_once}
-use Rattle.tree_laws.proofs.OfTexts.{trees_of_texts}
+use Rattle.renamed_tree_laws.specs.Below.tree_laws.Below.c99_grammar.Standard.{grammar}
+use Rattle.renamed_tree_laws.specs.Below.tree_laws.Below.c99_read.State.{base_at, is_identifier}
+use Rattle.renamed_tree_laws.specs.Below.tree_laws.Below.c_types.declared.entity.Linkage.{Linkage}
+use Rattle.renamed_tree_laws.specs.Below.tree_laws.Below.c_types.declared.entity.Linkage.TheVariants.{External, Internal, Absent}
+use Rattle.renamed_tree_laws.specs.Below.tree_laws.Below.c_types.Declarations.{spelling_at, alike, has_linkage, is_linkage}
+use Rattle.renamed_tree_laws.specs.Below.tree_laws.Below.scope_bind.declared.bound.Name.{Name}
+use Rattle.renamed_tree_laws.specs.Below.tree_laws.Below.scope_bind.Names.{entity_at, linkage_at}
+use Rattle.renamed_tree_laws.proofs.Below.tree_laws.LinkedNames.{linked_once}
+use Rattle.renamed_tree_laws.proofs.Below.tree_laws.OfTexts.{trees_of_texts}
 use Rattle.no_offence_laws.specs.Below.edited_unit_laws.Links.{all_links, StaysAlike}
 use Rattle.no_offence_laws.proofs.Below.edited_unit_laws.LinksLemmas.{links_are_renamed}
 use Rattle.no_offence_laws.proofs.Below.expansion_laws.ListLemmas.{toks_at}

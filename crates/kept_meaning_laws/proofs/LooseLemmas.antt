@@ -1,18 +1,18 @@
 -- Names that are read as no typedef names, though they are uses of nothing, are identifiers (ISO/IEC 9899:1999, 6.7.5.3).
 use Rattle.std.proofs.Common.{◌≡◌, ℕ, ◌+◌, ◌==◌, ◌%◌, ◌&&◌, ◌||◌, Bool, true, false, not, List, refl}
 use Rattle.std.proofs.lemmas.Bool.{and_parts, or_left}
-use Rattle.tree_laws.specs.Below.cs_base.declared.ws_units.Standard.{Standard}
-use Rattle.tree_laws.specs.Below.cs_base.Token.{Token}
-use Rattle.tree_laws.specs.Below.c99_tree.Tree.{Forest, none, token, node}
-use Rattle.tree_laws.specs.Below.c99_tree.declared.production.Label.{Label}
-use Rattle.tree_laws.specs.Below.c99_tree.declared.production.Production.{Production}
-use Rattle.tree_laws.specs.Below.c99_tree.declared.production.Production.TheVariants.{Enumerator, Params, Pdirect}
-use Rattle.tree_laws.specs.Below.c99_grammar.Standard.{grammar}
-use Rattle.tree_laws.specs.Below.c99_read.State.{base_at, is_identifier}
-use Rattle.tree_laws.specs.Below.c_types.Trees.{is_node, is_at, has_name}
-use Rattle.tree_laws.specs.Below.scope_bind.Named.{is_plain_role}
-use Rattle.tree_laws.specs.Below.scope_bind.Roles.{role_of}
-use Rattle.tree_laws.specs.TreesOfTexts.{is_name_place, names_pass}
+use Rattle.renamed_tree_laws.specs.Below.tree_laws.Below.cs_base.declared.ws_units.Standard.{Standard}
+use Rattle.renamed_tree_laws.specs.Below.tree_laws.Below.cs_base.Token.{Token}
+use Rattle.renamed_tree_laws.specs.Below.tree_laws.Below.c99_tree.Tree.{Forest, none, token, node}
+use Rattle.renamed_tree_laws.specs.Below.tree_laws.Below.c99_tree.declared.production.Label.{Label}
+use Rattle.renamed_tree_laws.specs.Below.tree_laws.Below.c99_tree.declared.production.Production.{Production}
+use Rattle.renamed_tree_laws.specs.Below.tree_laws.Below.c99_tree.declared.production.Production.TheVariants.{Enumerator, Params, Pdirect}
+use Rattle.renamed_tree_laws.specs.Below.tree_laws.Below.c99_grammar.Standard.{grammar}
+use Rattle.renamed_tree_laws.specs.Below.tree_laws.Below.c99_read.State.{base_at, is_identifier}
+use Rattle.renamed_tree_laws.specs.Below.tree_laws.Below.c_types.Trees.{is_node, is_at, has_name}
+use Rattle.renamed_tree_laws.specs.Below.tree_laws.Below.scope_bind.Named.{is_plain_role}
+use Rattle.renamed_tree_laws.specs.Below.tree_laws.Below.scope_bind.Roles.{role_of}
+use Rattle.renamed_tree_laws.specs.Below.tree_laws.TreesOfTexts.{is_name_place, names_pass}
 use Rattle.renamed_tree_laws.specs.Loose.{is_listed, is_enclosed, AllLoose}
 
 abbrev labelled : Production → ℕ → Label

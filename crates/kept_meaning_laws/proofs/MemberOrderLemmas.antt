@@ -14,8 +14,8 @@ use Rattle.std.proofs.lemmas.Cmp.{nat_list_cmp_total}
 use Rattle.std.proofs.lemmas.Map.Keys.{Less-from_sorted, sorted_tail}
 use Rattle.std.proofs.lemmas.Map.Text.{is_eq-slice_cmp}
 use Rattle.std.proofs.lemmas.Option.{none-some, same_Some, slice_get_within}
-use Rattle.tree_laws.specs.Below.cs_base.declared.positions.Part.{Part}
-use Rattle.tree_laws.proofs.Below.cs_base.FileMapLemmas.{bytes_eq-same, bytes_eq-equal}
+use Rattle.renamed_tree_laws.specs.Below.tree_laws.Below.cs_base.declared.positions.Part.{Part}
+use Rattle.renamed_tree_laws.proofs.Below.tree_laws.Below.cs_base.FileMapLemmas.{bytes_eq-same, bytes_eq-equal}
 use Rattle.no_offence_laws.specs.Below.line_shape.MacroLine.{are_distinct}
 use Rattle.no_offence_laws.specs.Below.source_files.Files.{Entry, Table}
 use Rattle.no_offence_laws.specs.Below.source_files.KeptFiles.{KeptValue, kept_in, kept_at}

@@ -4,8 +4,8 @@ use Rattle.std.specs.Prelude.{slice_get, option_map, nat_eq, nat_lt}
 use Rattle.std.specs.List.{count_by}
 use Rattle.std.proofs.lemmas.Bool.{cases_Bool, cases_lt, cases_eq, eqb-true, eq-eqb, ne_eqb, ltb-true, lt-ltb, false_from_ne_true}
 use Rattle.std.proofs.lemmas.Option.{none-some, same_Some, slice_get-map}
-use Rattle.tree_laws.specs.Below.cs_base.declared.positions.Part.{Part}
-use Rattle.tree_laws.specs.Below.cs_base.declared.positions.Pos.{Pos}
+use Rattle.renamed_tree_laws.specs.Below.tree_laws.Below.cs_base.declared.positions.Part.{Part}
+use Rattle.renamed_tree_laws.specs.Below.tree_laws.Below.cs_base.declared.positions.Pos.{Pos}
 use Rattle.no_offence_laws.specs.Below.eclass_map.ClassTable.{Table, Spot, label, class_in, members_of, part_from, part_of, Same, IsHeld, IsStart, IsPart, HasParts}
 use Rattle.no_offence_laws.specs.Below.eclass_map.Positions.{along, holds}
 use Rattle.no_offence_laws.specs.Below.eclass_map.Resized.{Resizes, begins_before, members_before, moved_to, moved_part}

@@ -6,18 +6,18 @@ use Rattle.std.specs.Str.{bytes_eq}
 use Rattle.std.proofs.lemmas.Bool.{cases_Bool, both_ways}
 use Rattle.std.proofs.lemmas.List.{length-map}
 use Rattle.std.proofs.lemmas.Option.{slice_get-map}
-use Rattle.tree_laws.proofs.Below.cs_base.FileMapLemmas.{bytes_eq-equal, bytes_eq-same}
-use Rattle.tree_laws.specs.Below.cs_base.declared.positions.Part.{Part}
-use Rattle.tree_laws.specs.Below.cs_base.declared.positions.Pos.{Pos}
-use Rattle.tree_laws.specs.Below.cs_base.Reserved.{is_reserved_text}
-use Rattle.tree_laws.specs.Below.cs_base.Token.{Token}
+use Rattle.renamed_tree_laws.proofs.Below.tree_laws.Below.cs_base.FileMapLemmas.{bytes_eq-equal, bytes_eq-same}
+use Rattle.renamed_tree_laws.specs.Below.tree_laws.Below.cs_base.declared.positions.Part.{Part}
+use Rattle.renamed_tree_laws.specs.Below.tree_laws.Below.cs_base.declared.positions.Pos.{Pos}
+use Rattle.renamed_tree_laws.specs.Below.tree_laws.Below.cs_base.Reserved.{is_reserved_text}
+use Rattle.renamed_tree_laws.specs.Below.tree_laws.Below.cs_base.Token.{Token}
 use Rattle.no_offence_laws.specs.Below.part_lexer.Characters.{double_quote}
 use Rattle.no_offence_laws.specs.Below.part_lexer.Spelling.{is_identifier_text}
 use Rattle.no_offence_laws.specs.Below.line_shape.Signs.{is_name}
 use Rattle.no_offence_laws.specs.Below.macro_expand.Renaming.{Renaming, renamed}
 use Rattle.no_offence_laws.specs.Below.macro_expand.Renaming as macros
-use Rattle.tree_laws.specs.Below.c_types.Declarations.{spelling_at, alike}
-use Rattle.tree_laws.specs.RenamedNames.{is_own_word, StaysApart}
+use Rattle.renamed_tree_laws.specs.Below.tree_laws.Below.c_types.Declarations.{spelling_at, alike}
+use Rattle.renamed_tree_laws.specs.Below.tree_laws.RenamedNames.{is_own_word, StaysApart}
 use Rattle.no_offence_laws.specs.Below.part_respell.Respelled.{spelled}
 use Rattle.no_offence_laws.specs.Below.rename_rules.Tokens.{holds_member}
 use Rattle.no_offence_laws.specs.Below.ws_core.Analysed.{Analysed}

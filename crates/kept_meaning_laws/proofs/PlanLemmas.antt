@@ -1,7 +1,7 @@
 -- The edits of a plan keep meaning, over each source that has the analysis.
 use Rattle.std.proofs.Common.{◌≡◌, ℕ, Bool, true, false, List, [], Option, None, Some, Ok, refl, sym, subst}
-use Rattle.tree_laws.specs.Below.cs_base.declared.positions.Part.{Part}
-use Rattle.tree_laws.specs.Below.cs_base.Edit.{Edit}
+use Rattle.renamed_tree_laws.specs.Below.tree_laws.Below.cs_base.declared.positions.Part.{Part}
+use Rattle.renamed_tree_laws.specs.Below.tree_laws.Below.cs_base.Edit.{Edit}
 use Rattle.no_offence_laws.specs.Below.eclass_map.ClassTable as classes
 use Rattle.no_offence_laws.specs.Below.part_lexer.Spelling.{is_identifier_text}
 use Rattle.no_offence_laws.specs.Below.ws_file.Workspace.{WorkspaceValue, IsWorkspace}

@@ -1,12 +1,12 @@
 -- The renamed tokens of each unit are read and bound as before.
 use Rattle.std.proofs.Common.{◌≡◌, ℕ, true, List, map}
-use Rattle.tree_laws.specs.Below.cs_base.declared.positions.Part.{Part}
-use Rattle.tree_laws.specs.Below.cs_base.Token.{Token}
+use Rattle.renamed_tree_laws.specs.Below.tree_laws.Below.cs_base.declared.positions.Part.{Part}
+use Rattle.renamed_tree_laws.specs.Below.tree_laws.Below.cs_base.Token.{Token}
 use Rattle.no_offence_laws.specs.Below.macro_expand.Renaming.{Renaming, renamed}
-use Rattle.tree_laws.specs.Below.c99_grammar.Standard.{grammar}
-use Rattle.tree_laws.specs.Below.c99_read.State.{base_at, is_identifier}
-use Rattle.tree_laws.specs.Below.name_chains.Frames.{outermost}
-use Rattle.tree_laws.proofs.NamesRead.{names_are_read}
+use Rattle.renamed_tree_laws.specs.Below.tree_laws.Below.c99_grammar.Standard.{grammar}
+use Rattle.renamed_tree_laws.specs.Below.tree_laws.Below.c99_read.State.{base_at, is_identifier}
+use Rattle.renamed_tree_laws.specs.Below.tree_laws.Below.name_chains.Frames.{outermost}
+use Rattle.renamed_tree_laws.proofs.Below.tree_laws.NamesRead.{names_are_read}
 use Rattle.renamed_tree_laws.specs.Loose.{StaysWhole}
 use Rattle.renamed_tree_laws.proofs.ReadBareNames.{bare_names_are_loose}
 use Rattle.renamed_tree_laws.proofs.RenamedTrees.{renamed_alike}

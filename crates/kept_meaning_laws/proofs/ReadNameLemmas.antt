@@ -1,11 +1,11 @@
 -- Names of a text that is read and bound, and the tokens that name their entities.
-use Rattle.tree_laws.specs.Below.c99_grammar.Standard.{grammar}
-use Rattle.tree_laws.specs.Below.c99_read.State.{base_at, is_identifier}
-use Rattle.tree_laws.proofs.EntityNames.{entities_are_names}
-use Rattle.tree_laws.proofs.HeldNames.{bound_names_pass}
-use Rattle.tree_laws.specs.ReadTexts.{ReadEntitiesAreNames, ReadNamesAreIdentifiers}
-use Rattle.tree_laws.proofs.NamesRead.{names_are_read}
-use Rattle.tree_laws.proofs.OfTexts.{trees_of_texts}
+use Rattle.renamed_tree_laws.specs.Below.tree_laws.Below.c99_grammar.Standard.{grammar}
+use Rattle.renamed_tree_laws.specs.Below.tree_laws.Below.c99_read.State.{base_at, is_identifier}
+use Rattle.renamed_tree_laws.proofs.Below.tree_laws.EntityNames.{entities_are_names}
+use Rattle.renamed_tree_laws.proofs.Below.tree_laws.HeldNames.{bound_names_pass}
+use Rattle.renamed_tree_laws.specs.Below.tree_laws.ReadTexts.{ReadEntitiesAreNames, ReadNamesAreIdentifiers}
+use Rattle.renamed_tree_laws.proofs.Below.tree_laws.NamesRead.{names_are_read}
+use Rattle.renamed_tree_laws.proofs.Below.tree_laws.OfTexts.{trees_of_texts}
 
 -- they are identifiers
 pub names_identify : ReadNamesAreIdentifiers

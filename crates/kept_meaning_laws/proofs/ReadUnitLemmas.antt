@@ -2,15 +2,15 @@
 use Rattle.std.proofs.Common.{◌≡◌, ℕ, zero, suc, ◌+◌, List, [], ◌∷◌, Some, Ok, subst}
 use Rattle.std.specs.Prelude.{slice_get}
 use Rattle.std.proofs.lemmas.Option.{same_Some}
-use Rattle.tree_laws.specs.Below.cs_base.declared.ws_units.Standard.{Standard}
-use Rattle.tree_laws.specs.Below.cs_base.Units.{UnitValue}
+use Rattle.renamed_tree_laws.specs.Below.tree_laws.Below.cs_base.declared.ws_units.Standard.{Standard}
+use Rattle.renamed_tree_laws.specs.Below.tree_laws.Below.cs_base.Units.{UnitValue}
 use Rattle.no_offence_laws.specs.Below.ws_file.Workspace.{WorkspaceValue}
 use Rattle.no_offence_laws.specs.Below.source_files.Faults.{Fault}
 use Rattle.no_offence_laws.specs.Below.source_files.Files.{Source, Table, Carried, nothing_carried}
 use Rattle.no_offence_laws.specs.Below.unit_steps.Texts.{UnitTextValue}
-use Rattle.tree_laws.specs.Below.c99_read.Reading.{read_of}
-use Rattle.tree_laws.specs.Below.c99_grammar.Standard.{grammar}
-use Rattle.tree_laws.specs.Below.scope_bind.Bound.{binding_of}
+use Rattle.renamed_tree_laws.specs.Below.tree_laws.Below.c99_read.Reading.{read_of}
+use Rattle.renamed_tree_laws.specs.Below.tree_laws.Below.c99_grammar.Standard.{grammar}
+use Rattle.renamed_tree_laws.specs.Below.tree_laws.Below.scope_bind.Bound.{binding_of}
 use Rattle.no_offence_laws.specs.Below.ws_core.Analysis.{UnitAnalysis, UnitsValue, AnalysisValue, analysis_and, with_unit, unit_read, analysed_from, analysis_of, read_unit, bound_unit, unit_analysis}
 use Rattle.no_offence_laws.specs.Below.ws_core.Texts.{UnitFault, unit_fault, unit_with}
 use Rattle.no_offence_laws.proofs.ListLemmas.{In}

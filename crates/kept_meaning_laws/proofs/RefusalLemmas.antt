@@ -10,11 +10,11 @@ use Rattle.std.specs.declared.cmp.Ordering.TheVariants.{Less, Equal, Greater}
 use Rattle.std.proofs.lemmas.Bool.{cases_Bool, eqb-true}
 use Rattle.std.proofs.lemmas.Cmp.{then_total, on_total, nat_list_cmp_total, nat_cmp_total}
 use Rattle.std.proofs.lemmas.Option.{none-some, same_Some}
-use Rattle.tree_laws.specs.Below.cs_base.declared.causes.Cause.{Cause}
-use Rattle.tree_laws.specs.Below.cs_base.declared.causes.Cause.TheVariants as cause
-use Rattle.tree_laws.specs.Below.cs_base.declared.positions.Part.{Part}
-use Rattle.tree_laws.specs.Below.cs_base.declared.positions.Place.{Place}
-use Rattle.tree_laws.specs.Below.cs_base.declared.positions.Pos.{Pos}
+use Rattle.renamed_tree_laws.specs.Below.tree_laws.Below.cs_base.declared.causes.Cause.{Cause}
+use Rattle.renamed_tree_laws.specs.Below.tree_laws.Below.cs_base.declared.causes.Cause.TheVariants as cause
+use Rattle.renamed_tree_laws.specs.Below.tree_laws.Below.cs_base.declared.positions.Part.{Part}
+use Rattle.renamed_tree_laws.specs.Below.tree_laws.Below.cs_base.declared.positions.Place.{Place}
+use Rattle.renamed_tree_laws.specs.Below.tree_laws.Below.cs_base.declared.positions.Pos.{Pos}
 use Rattle.no_offence_laws.specs.Below.ws_file.Workspace.{WorkspaceValue, IsWorkspace}
 use Rattle.no_offence_laws.specs.Below.source_files.Files.{Source, Table, lines_path}
 use Rattle.no_offence_laws.specs.Below.source_files.KeptFiles.{KeptValue, kept_at}

@@ -2,7 +2,7 @@
 use Rattle.std.proofs.Common.{◌≡◌, ℕ, zero, suc, ◌+◌, List, [], ◌∷◌, map, Some, refl, sym, ap, subst, ◌∙◌, arith}
 use Rattle.std.specs.Prelude.{slice_get}
 use Rattle.std.proofs.lemmas.Option.{none-some, same_Some}
-use Rattle.tree_laws.specs.Below.cs_base.declared.positions.Pos.{Pos}
+use Rattle.renamed_tree_laws.specs.Below.tree_laws.Below.cs_base.declared.positions.Pos.{Pos}
 use Rattle.no_offence_laws.proofs.ListLemmas.{In}
 
 -- no element stands again behind itself

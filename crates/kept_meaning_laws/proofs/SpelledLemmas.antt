@@ -4,17 +4,17 @@ use Rattle.std.specs.List.{list_all, list_any}
 use Rattle.std.specs.Str.{bytes_eq}
 use Rattle.std.proofs.lemmas.Bool.{cases_Bool, both_ways, false_from_ne_true, and_parts, or_cases, eqb-true}
 use Rattle.std.proofs.lemmas.Bool.Decides.{nat_tests}
-use Rattle.tree_laws.proofs.Below.cs_base.FileMapLemmas.{bytes_eq-equal}
-use Rattle.tree_laws.specs.Below.cs_base.declared.tokens.Kind.{Kind}
-use Rattle.tree_laws.specs.Below.cs_base.declared.tokens.Kind.TheVariants.{Ident, Number}
-use Rattle.tree_laws.specs.Below.cs_base.Reserved.{is_reserved_text}
-use Rattle.tree_laws.specs.Below.cs_base.Token.{has_origins}
+use Rattle.renamed_tree_laws.proofs.Below.tree_laws.Below.cs_base.FileMapLemmas.{bytes_eq-equal}
+use Rattle.renamed_tree_laws.specs.Below.tree_laws.Below.cs_base.declared.tokens.Kind.{Kind}
+use Rattle.renamed_tree_laws.specs.Below.tree_laws.Below.cs_base.declared.tokens.Kind.TheVariants.{Ident, Number}
+use Rattle.renamed_tree_laws.specs.Below.tree_laws.Below.cs_base.Reserved.{is_reserved_text}
+use Rattle.renamed_tree_laws.specs.Below.tree_laws.Below.cs_base.Token.{has_origins}
 use Rattle.no_offence_laws.specs.Below.part_lexer.Characters.{double_quote, full_stop, is_nondigit, is_digit, is_word}
 use Rattle.no_offence_laws.specs.Below.part_lexer.Spelling.{is_identifier_text, begins_with_digit, begins_number, all_follow, is_number_text}
 use Rattle.no_offence_laws.specs.Below.line_shape.Signs.{is_identifier}
 use Rattle.no_offence_laws.specs.Below.expansion_laws.Spelled.{fits}
 use Rattle.no_offence_laws.proofs.Below.expansion_laws.ShapeLemmas.{words_are_names}
-use Rattle.tree_laws.specs.RenamedNames.{own_words, is_own_word}
+use Rattle.renamed_tree_laws.specs.Below.tree_laws.RenamedNames.{own_words, is_own_word}
 use Rattle.no_offence_laws.proofs.Below.part_lexer.FitLemmas.{identifier-words}
 
 -- ---- kinds

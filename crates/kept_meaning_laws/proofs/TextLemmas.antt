@@ -1,7 +1,7 @@
 -- Over files in which members are respelled, units have the renamed texts, the workspace has the renamed analysis, and
 -- identifiers of external linkage denote one entity exactly where they did.
 use Rattle.std.proofs.Common.{◌≡◌, ℕ, List, Some, sym, ap, ◌∙◌}
-use Rattle.tree_laws.specs.Below.cs_base.declared.positions.Part.{Part}
+use Rattle.renamed_tree_laws.specs.Below.tree_laws.Below.cs_base.declared.positions.Part.{Part}
 use Rattle.no_offence_laws.specs.Below.eclass_map.ClassTable as classes
 use Rattle.no_offence_laws.specs.Below.ws_file.Workspace.{WorkspaceValue}
 use Rattle.no_offence_laws.specs.Below.source_files.Files.{Source}

@@ -6,11 +6,11 @@ use Rattle.std.specs.Fmt.{decimal}
 use Rattle.std.specs.List.{flat_map, list_all}
 use Rattle.std.specs.Option.{is_none}
 use Rattle.std.proofs.lemmas.List.{length-replicate}
-use Rattle.tree_laws.specs.Below.cs_base.declared.positions.Part.{Part}
-use Rattle.tree_laws.specs.Below.cs_base.declared.positions.Pos.{Pos}
-use Rattle.tree_laws.specs.Below.cs_base.declared.tokens.Kind.{Kind}
-use Rattle.tree_laws.specs.Below.cs_base.declared.tokens.Kind.TheVariants.{Number, Str}
-use Rattle.tree_laws.specs.Below.cs_base.Token.{Token}
+use Rattle.renamed_tree_laws.specs.Below.tree_laws.Below.cs_base.declared.positions.Part.{Part}
+use Rattle.renamed_tree_laws.specs.Below.tree_laws.Below.cs_base.declared.positions.Pos.{Pos}
+use Rattle.renamed_tree_laws.specs.Below.tree_laws.Below.cs_base.declared.tokens.Kind.{Kind}
+use Rattle.renamed_tree_laws.specs.Below.tree_laws.Below.cs_base.declared.tokens.Kind.TheVariants.{Number, Str}
+use Rattle.renamed_tree_laws.specs.Below.tree_laws.Below.cs_base.Token.{Token}
 use Rattle.no_offence_laws.specs.Below.part_lexer.Tokens.{tokens_of}
 use Rattle.no_offence_laws.specs.Below.part_lexer.Characters.{double_quote}
 use Rattle.no_offence_laws.specs.Below.paste_origin.Strings.{spellings_of, all_origins, string_text, string_origins, string_token}

@@ -1,5 +1,5 @@
 -- Words of the crates below, passed on: who needs them in definitions and proofs alone lists this crate in their place.
-pub use Rattle.tree_laws.specs.Below.cs_base as cs_base
+pub use Rattle.renamed_tree_laws.specs.Below.tree_laws.Below.cs_base as cs_base
 pub use Rattle.no_offence_laws.specs.Below.part_lexer as part_lexer
 pub use Rattle.no_offence_laws.specs.Below.line_shape as line_shape
 pub use Rattle.no_offence_laws.specs.Below.ws_file as ws_file
@@ -9,10 +9,10 @@ pub use Rattle.no_offence_laws.specs.Below.macro_expand as macro_expand
 pub use Rattle.no_offence_laws.specs.Below.source_files as source_files
 pub use Rattle.no_offence_laws.specs.Below.unit_steps as unit_steps
 pub use Rattle.no_offence_laws.specs.Below.include_tree as include_tree
-pub use Rattle.tree_laws.specs.Below.c99_tree as c99_tree
-pub use Rattle.tree_laws.specs.Below.c99_grammar as c99_grammar
-pub use Rattle.tree_laws.specs.Below.c99_read as c99_read
-pub use Rattle.tree_laws.specs.Below.scope_bind as scope_bind
+pub use Rattle.renamed_tree_laws.specs.Below.tree_laws.Below.c99_tree as c99_tree
+pub use Rattle.renamed_tree_laws.specs.Below.tree_laws.Below.c99_grammar as c99_grammar
+pub use Rattle.renamed_tree_laws.specs.Below.tree_laws.Below.c99_read as c99_read
+pub use Rattle.renamed_tree_laws.specs.Below.tree_laws.Below.scope_bind as scope_bind
 pub use Rattle.no_offence_laws.specs.Below.ws_core as ws_core
 pub use Rattle.analysis_laws.specs as analysis_laws
 pub use Rattle.no_offence_laws.specs.Below.part_respell as part_respell

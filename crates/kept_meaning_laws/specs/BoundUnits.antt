@@ -1,9 +1,9 @@
 -- The binding of units under a renaming against which nothing stands (ISO/IEC 9899:1999, 6.2.1).
 use Rattle.std.specs.Prelude.{◌≡◌, ℕ, List, map, Ok}
-use Rattle.tree_laws.specs.Below.cs_base.declared.positions.Part.{Part}
+use Rattle.renamed_tree_laws.specs.Below.tree_laws.Below.cs_base.declared.positions.Part.{Part}
 use Rattle.no_offence_laws.specs.Below.macro_expand.Renaming.{Renaming, renamed}
-use Rattle.tree_laws.specs.Below.scope_bind.Bound.{binding_of}
-use Rattle.tree_laws.specs.RenamedNames.{NamesAreRenamed}
+use Rattle.renamed_tree_laws.specs.Below.tree_laws.Below.scope_bind.Bound.{binding_of}
+use Rattle.renamed_tree_laws.specs.Below.tree_laws.RenamedNames.{NamesAreRenamed}
 use Rattle.no_offence_laws.specs.Below.ws_core.Analysed.{Analysed}
 use Rattle.no_offence_laws.specs.Below.ws_core.Analysis.{UnitAnalysis}
 use Rattle.no_offence_laws.specs.Allowed.{IsAllowed}

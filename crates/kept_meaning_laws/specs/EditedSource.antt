@@ -1,6 +1,6 @@
 -- The files behind a renaming against which nothing stands (this project's): they hold what the change of the analysis says.
 use Rattle.std.specs.Prelude.{◌≡◌, ◌≢◌, ℕ, List, Some}
-use Rattle.tree_laws.specs.Below.cs_base.declared.positions.Part.{Part}
+use Rattle.renamed_tree_laws.specs.Below.tree_laws.Below.cs_base.declared.positions.Part.{Part}
 use Rattle.no_offence_laws.specs.Below.source_files.Files.{Source}
 use Rattle.no_offence_laws.specs.Below.source_files.KeptFiles.{KeptValue}
 use Rattle.no_offence_laws.specs.Below.source_files.Tables.{HasEachOnce}

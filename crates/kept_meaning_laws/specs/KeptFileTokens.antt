@@ -1,6 +1,6 @@
 -- A renaming against which nothing stands keeps the file tokens (this project's).
 use Rattle.std.specs.Prelude.{ℕ, ◌≡◌, List, Some, map}
-use Rattle.tree_laws.specs.Below.cs_base.declared.positions.Part.{Part}
+use Rattle.renamed_tree_laws.specs.Below.tree_laws.Below.cs_base.declared.positions.Part.{Part}
 use Rattle.no_offence_laws.specs.Below.macro_expand.Renaming.{renamed}
 use Rattle.no_offence_laws.specs.Below.edited_unit_laws.Analyses.{renamed_analysis}
 use Rattle.no_offence_laws.specs.Below.edited_unit_laws.FileTokens.{KeepsFileTokens}

@@ -1,7 +1,7 @@
 -- Links behind a renaming against which nothing stands (this project's, over ISO/IEC 9899:1999, 6.2.1, 6.2.2, 6.10.1 and
 -- 6.10.3).
 use Rattle.std.specs.Prelude.{ℕ, ◌≡◌, List, map}
-use Rattle.tree_laws.specs.Below.cs_base.declared.positions.Part.{Part}
+use Rattle.renamed_tree_laws.specs.Below.tree_laws.Below.cs_base.declared.positions.Part.{Part}
 use Rattle.no_offence_laws.specs.Below.macro_expand.Renaming.{Renaming}
 use Rattle.no_offence_laws.specs.Below.edited_unit_laws.Analyses.{renamed_analysis}
 use Rattle.no_offence_laws.specs.Below.edited_unit_laws.Links.{KeepsLinks}

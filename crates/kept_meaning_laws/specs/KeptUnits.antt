@@ -1,6 +1,6 @@
 -- A renaming against which nothing stands keeps each unit (ISO/IEC 9899:1999, 5.1.1.2 phases 1 to 4).
 use Rattle.std.specs.Prelude.{ℕ, ◌-◌, ◌≡◌, Option, Some, None, List, Ok, slice_get}
-use Rattle.tree_laws.specs.Below.cs_base.declared.positions.Part.{Part}
+use Rattle.renamed_tree_laws.specs.Below.tree_laws.Below.cs_base.declared.positions.Part.{Part}
 use Rattle.no_offence_laws.specs.Below.part_respell.Respelled.{respelled}
 use Rattle.no_offence_laws.specs.Below.ws_file.Workspace.{IsWorkspace}
 use Rattle.no_offence_laws.specs.Below.source_files.Files.{Source, nothing_carried}

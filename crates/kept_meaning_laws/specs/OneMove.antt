@@ -1,8 +1,8 @@
 -- Where file tokens and their parts stand behind a renaming, told in two ways (this project's): by what is put for the characters
 -- before them, as the edited files have it, and by the growth of the members before them, as the table of classes has it.
 use Rattle.std.specs.Prelude.{ℕ, ◌≡◌, Some, List, length}
-use Rattle.tree_laws.specs.Below.cs_base.declared.positions.Part.{Part}
-use Rattle.tree_laws.specs.Below.cs_base.Token.{Token}
+use Rattle.renamed_tree_laws.specs.Below.tree_laws.Below.cs_base.declared.positions.Part.{Part}
+use Rattle.renamed_tree_laws.specs.Below.tree_laws.Below.cs_base.Token.{Token}
 use Rattle.no_offence_laws.specs.Below.eclass_map.ClassTable.{Table, HasParts}
 use Rattle.no_offence_laws.specs.Below.eclass_map.Positions.{end_of}
 use Rattle.no_offence_laws.specs.Below.eclass_map.Resized.{Resizes, moved_to, moved_token}

@@ -2,8 +2,8 @@
 -- phases 1 to 7): its edits respell the members of the named class, and the workspace means what it meant.
 use Rattle.std.specs.Prelude.{◌≡◌, false, ℕ, Bool, List, Some, Ok, Err}
 use Rattle.std.specs.Str.{bytes_eq}
-use Rattle.tree_laws.specs.Below.cs_base.declared.positions.Part.{Part}
-use Rattle.tree_laws.specs.Below.cs_base.Edit.{Edit}
+use Rattle.renamed_tree_laws.specs.Below.tree_laws.Below.cs_base.declared.positions.Part.{Part}
+use Rattle.renamed_tree_laws.specs.Below.tree_laws.Below.cs_base.Edit.{Edit}
 use Rattle.no_offence_laws.specs.Below.eclass_map.ClassTable as classes
 use Rattle.no_offence_laws.specs.Below.ws_file.Workspace.{WorkspaceValue, IsWorkspace}
 use Rattle.no_offence_laws.specs.Below.source_files.Files.{Source}

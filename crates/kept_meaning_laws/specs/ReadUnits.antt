@@ -1,6 +1,6 @@
 -- Units under a renaming against which nothing stands: they are read and bound as before (ISO/IEC 9899:1999, 5.1.1.2 phase 7).
 use Rattle.std.specs.Prelude.{ℕ, ◌≡◌, List, Ok, Some}
-use Rattle.tree_laws.specs.Below.cs_base.declared.positions.Part.{Part}
+use Rattle.renamed_tree_laws.specs.Below.tree_laws.Below.cs_base.declared.positions.Part.{Part}
 use Rattle.no_offence_laws.specs.Below.ws_file.Workspace.{IsWorkspace}
 use Rattle.no_offence_laws.specs.Below.source_files.Files.{Source}
 use Rattle.no_offence_laws.specs.Below.source_files.Tables.{HasEachOnce}

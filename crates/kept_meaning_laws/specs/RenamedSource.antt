@@ -1,7 +1,7 @@
 -- What the units of a workspace preprocess to behind a renaming, and what analysis it has (this project's, over ISO/IEC
 -- 9899:1999, 5.1.1.2 phases 1 to 4 and 7).
 use Rattle.std.specs.Prelude.{◌≡◌, true, ℕ, List, Ok, Some, None}
-use Rattle.tree_laws.specs.Below.cs_base.declared.positions.Part.{Part}
+use Rattle.renamed_tree_laws.specs.Below.tree_laws.Below.cs_base.declared.positions.Part.{Part}
 use Rattle.no_offence_laws.specs.Below.eclass_map.ClassTable as classes
 use Rattle.no_offence_laws.specs.Below.part_lexer.Spelling.{is_identifier_text}
 use Rattle.no_offence_laws.specs.Below.ws_file.Workspace.{WorkspaceValue, IsWorkspace}

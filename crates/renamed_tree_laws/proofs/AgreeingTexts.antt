@@ -1,13 +1,13 @@
 -- A text whose names agree with the tree of another one is read to it.
 use Rattle.std.proofs.Common.{ℕ, ◌≡◌, Bool, true, List, length, Result, Ok, Err, sym, ap, subst, ◌∙◌}
-use Rattle.tree_laws.specs.Below.cs_base.declared.ws_units.Standard.{Standard}
-use Rattle.tree_laws.specs.Below.cs_base.Token.{Token}
-use Rattle.tree_laws.specs.Below.c99_tree.Tree.{Node, node_of, lone}
-use Rattle.tree_laws.specs.Below.c99_tree.declared.production.Production.TheVariants.{TranslationUnit}
-use Rattle.tree_laws.specs.Below.c99_read.State.{base_at}
-use Rattle.tree_laws.specs.Below.c99_read.Reading.{Step, Stop, produce, steps_for, read_within, read_of, whole, at_first, tree_of}
-use Rattle.tree_laws.specs.Below.c99_grammar.Standard.{grammar}
-use Rattle.tree_laws.specs.Below.name_chains.Frames.{at_first as before}
+use Rattle.typedef_laws.specs.Below.tree_laws.Below.cs_base.declared.ws_units.Standard.{Standard}
+use Rattle.typedef_laws.specs.Below.tree_laws.Below.cs_base.Token.{Token}
+use Rattle.typedef_laws.specs.Below.tree_laws.Below.c99_tree.Tree.{Node, node_of, lone}
+use Rattle.typedef_laws.specs.Below.tree_laws.Below.c99_tree.declared.production.Production.TheVariants.{TranslationUnit}
+use Rattle.typedef_laws.specs.Below.tree_laws.Below.c99_read.State.{base_at}
+use Rattle.typedef_laws.specs.Below.tree_laws.Below.c99_read.Reading.{Step, Stop, produce, steps_for, read_within, read_of, whole, at_first, tree_of}
+use Rattle.typedef_laws.specs.Below.tree_laws.Below.c99_grammar.Standard.{grammar}
+use Rattle.typedef_laws.specs.Below.tree_laws.Below.name_chains.Frames.{at_first as before}
 use Rattle.typedef_laws.specs.Agreeing.{agrees}
 use Rattle.typedef_laws.proofs.Outlines.{agrees_same}
 use Rattle.typedef_laws.proofs.Goes.{After}

@@ -2,21 +2,21 @@
 -- read.
 use Rattle.std.proofs.Common.{ℕ, ◌+◌, ◌≤◌, ◌≡◌, Bool, true, false, ◌&&◌, not, if◌then◌else◌, ◌==◌, List, [], ◌∷◌, length, Ok, Err, nat_lt, refl, sym, ap, subst, ◌∙◌, arith}
 use Rattle.std.proofs.lemmas.Bool.{false≢true, and_parts, not-true, and_from}
-use Rattle.tree_laws.specs.Below.cs_base.declared.ws_units.Standard.{Standard}
-use Rattle.tree_laws.specs.Below.cs_base.Token.{Token}
-use Rattle.tree_laws.specs.Below.c99_tree.Tree.{Forest, none, token, node, Node, node_of, leaf, inner, put, lone, collapsed}
-use Rattle.tree_laws.specs.Below.c99_tree.declared.production.Label.{Label}
-use Rattle.tree_laws.specs.Below.c99_tree.declared.production.Production.{Production}
-use Rattle.tree_laws.specs.Below.c99_tree.declared.production.Production.TheVariants.{Main, Params, Primary, Pdirect}
-use Rattle.tree_laws.specs.Below.c99_grammar.Items.{Item, one, part, end_of_text, act, ◌·◌, choice, maybe, many, deep, Test, own, Alternative}
-use Rattle.tree_laws.specs.Below.c99_grammar.Standard.{grammar}
-use Rattle.tree_laws.specs.Below.c99_read.Sound.{is_met, goal_has_token}
-use Rattle.tree_laws.specs.Below.c99_read.State.{State, collapses, finished, opened, closed}
-use Rattle.tree_laws.specs.Below.c99_read.Reading.{Goal, produce, repeat, Step, syntax, too_deep, and_then, deepest, at_end, enter, may, step, alternative, pick}
-use Rattle.tree_laws.proofs.Below.c99_read.Moves.{Moves}
-use Rattle.tree_laws.specs.Below.scope_bind.Named.{Scope}
-use Rattle.tree_laws.specs.Below.c_types.Trees.{is_at}
-use Rattle.tree_laws.specs.Below.name_chains.Entering.{scope_in}
+use Rattle.typedef_laws.specs.Below.tree_laws.Below.cs_base.declared.ws_units.Standard.{Standard}
+use Rattle.typedef_laws.specs.Below.tree_laws.Below.cs_base.Token.{Token}
+use Rattle.typedef_laws.specs.Below.tree_laws.Below.c99_tree.Tree.{Forest, none, token, node, Node, node_of, leaf, inner, put, lone, collapsed}
+use Rattle.typedef_laws.specs.Below.tree_laws.Below.c99_tree.declared.production.Label.{Label}
+use Rattle.typedef_laws.specs.Below.tree_laws.Below.c99_tree.declared.production.Production.{Production}
+use Rattle.typedef_laws.specs.Below.tree_laws.Below.c99_tree.declared.production.Production.TheVariants.{Main, Params, Primary, Pdirect}
+use Rattle.typedef_laws.specs.Below.tree_laws.Below.c99_grammar.Items.{Item, one, part, end_of_text, act, ◌·◌, choice, maybe, many, deep, Test, own, Alternative}
+use Rattle.typedef_laws.specs.Below.tree_laws.Below.c99_grammar.Standard.{grammar}
+use Rattle.typedef_laws.specs.Below.tree_laws.Below.c99_read.Sound.{is_met, goal_has_token}
+use Rattle.typedef_laws.specs.Below.tree_laws.Below.c99_read.State.{State, collapses, finished, opened, closed}
+use Rattle.typedef_laws.specs.Below.tree_laws.Below.c99_read.Reading.{Goal, produce, repeat, Step, syntax, too_deep, and_then, deepest, at_end, enter, may, step, alternative, pick}
+use Rattle.typedef_laws.proofs.Below.tree_laws.Below.c99_read.Moves.{Moves}
+use Rattle.typedef_laws.specs.Below.tree_laws.Below.scope_bind.Named.{Scope}
+use Rattle.typedef_laws.specs.Below.tree_laws.Below.c_types.Trees.{is_at}
+use Rattle.typedef_laws.specs.Below.tree_laws.Below.name_chains.Entering.{scope_in}
 use Rattle.typedef_laws.specs.Laws.{is_bodiless}
 use Rattle.typedef_laws.proofs.Private.{Declaration}
 use Rattle.typedef_laws.proofs.Outline.{Outline, stepped, begun, ended, entries_in, outlined, token_agrees, node_agrees, all_agree}

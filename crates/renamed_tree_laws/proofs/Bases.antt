@@ -4,16 +4,16 @@ use Rattle.std.specs.List.{list_all}
 use Rattle.std.specs.Option.{option_map_or}
 use Rattle.std.specs.Str.{bytes_eq}
 use Rattle.std.proofs.lemmas.Bool.{false≢true, and_parts, not-true}
-use Rattle.tree_laws.specs.Below.cs_base.declared.ws_units.Standard.{Standard}
-use Rattle.tree_laws.specs.Below.cs_base.Token.{Token}
-use Rattle.tree_laws.specs.Below.cs_base.declared.tokens.Kind.{Kind}
-use Rattle.tree_laws.specs.Below.cs_base.declared.tokens.Kind.TheVariants as kind
-use Rattle.tree_laws.specs.Below.cs_base.declared.ws_units.Standard.TheVariants.{C11}
-use Rattle.tree_laws.specs.Below.c99_grammar.Spellings.{Spelled, keywords_of, punctuators}
-use Rattle.tree_laws.specs.Below.c99_grammar.Standard.{c99, grammar}
-use Rattle.tree_laws.proofs.Below.c99_grammar.StandardLemmas.{keywords_fit}
-use Rattle.tree_laws.specs.Below.c99_read.State.{base_at, is_identifier}
-use Rattle.tree_laws.specs.Below.c99_grammar.TokenClasses.{spelled_class, class_of_kind, base_class}
+use Rattle.typedef_laws.specs.Below.tree_laws.Below.cs_base.declared.ws_units.Standard.{Standard}
+use Rattle.typedef_laws.specs.Below.tree_laws.Below.cs_base.Token.{Token}
+use Rattle.typedef_laws.specs.Below.tree_laws.Below.cs_base.declared.tokens.Kind.{Kind}
+use Rattle.typedef_laws.specs.Below.tree_laws.Below.cs_base.declared.tokens.Kind.TheVariants as kind
+use Rattle.typedef_laws.specs.Below.tree_laws.Below.cs_base.declared.ws_units.Standard.TheVariants.{C11}
+use Rattle.typedef_laws.specs.Below.tree_laws.Below.c99_grammar.Spellings.{Spelled, keywords_of, punctuators}
+use Rattle.typedef_laws.specs.Below.tree_laws.Below.c99_grammar.Standard.{c99, grammar}
+use Rattle.typedef_laws.proofs.Below.tree_laws.Below.c99_grammar.StandardLemmas.{keywords_fit}
+use Rattle.typedef_laws.specs.Below.tree_laws.Below.c99_read.State.{base_at, is_identifier}
+use Rattle.typedef_laws.specs.Below.tree_laws.Below.c99_grammar.TokenClasses.{spelled_class, class_of_kind, base_class}
 use Rattle.renamed_tree_laws.proofs.Private.{Class, identifier, no_class, end_class, covers}
 
 spelled_so : (P : Class → Bool) (words : List Spelled) (text : List ℕ) (other : Class) → list_all (λ w. P w.1) words ≡ true → P other ≡ true

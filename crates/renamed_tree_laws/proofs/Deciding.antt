@@ -1,16 +1,16 @@
 -- Tests have the same answers in both lists, where enough is known.
 use Rattle.std.proofs.Common.{ℕ, ◌+◌, ◌≡◌, Bool, true, false, ◌&&◌, ◌||◌, not, if◌then◌else◌, List, [], ◌∷◌, refl, sym, ap, ◌∙◌, inl, inr}
 use Rattle.std.proofs.lemmas.Bool.{and_parts}
-use Rattle.tree_laws.specs.Below.cs_base.declared.ws_units.Standard.{Standard}
-use Rattle.tree_laws.specs.Below.cs_base.Token.{Token}
-use Rattle.tree_laws.specs.Below.c99_tree.declared.production.Production.{Production}
-use Rattle.tree_laws.specs.Below.c99_grammar.Classes.{among}
-use Rattle.tree_laws.specs.Below.c99_grammar.Items.{Item, one, part, end_of_text, act, ◌·◌, choice, maybe, many, deep, Test, own, otherwise, next, next_two, Ask, is, is_not, begins, either}
-use Rattle.tree_laws.specs.Below.c99_grammar.Standard.{grammar}
-use Rattle.tree_laws.specs.Below.c99_read.State.{State, class_at, base_at}
-use Rattle.tree_laws.specs.Below.c99_read.Reading.{may}
-use Rattle.tree_laws.specs.Below.c99_grammar.Starting.{is_passed, production_starts, asks, holds, starts}
-use Rattle.tree_laws.proofs.Below.c99_read.Alike.{swapped}
+use Rattle.typedef_laws.specs.Below.tree_laws.Below.cs_base.declared.ws_units.Standard.{Standard}
+use Rattle.typedef_laws.specs.Below.tree_laws.Below.cs_base.Token.{Token}
+use Rattle.typedef_laws.specs.Below.tree_laws.Below.c99_tree.declared.production.Production.{Production}
+use Rattle.typedef_laws.specs.Below.tree_laws.Below.c99_grammar.Classes.{among}
+use Rattle.typedef_laws.specs.Below.tree_laws.Below.c99_grammar.Items.{Item, one, part, end_of_text, act, ◌·◌, choice, maybe, many, deep, Test, own, otherwise, next, next_two, Ask, is, is_not, begins, either}
+use Rattle.typedef_laws.specs.Below.tree_laws.Below.c99_grammar.Standard.{grammar}
+use Rattle.typedef_laws.specs.Below.tree_laws.Below.c99_read.State.{State, class_at, base_at}
+use Rattle.typedef_laws.specs.Below.tree_laws.Below.c99_read.Reading.{may}
+use Rattle.typedef_laws.specs.Below.tree_laws.Below.c99_grammar.Starting.{is_passed, production_starts, asks, holds, starts}
+use Rattle.typedef_laws.proofs.Below.tree_laws.Below.c99_read.Alike.{swapped}
 use Rattle.renamed_tree_laws.proofs.Private.{Class, end_class, colons}
 use Rattle.renamed_tree_laws.proofs.Twins.{agree_is, blind, plain_class, alike_by, blind_same, same_class, Same}
 use Rattle.renamed_tree_laws.proofs.Moods.{Mood, any, label, calm, solid, asks_same, test_same, starts_same, joint, blind_part, each_list, each_part, decides}

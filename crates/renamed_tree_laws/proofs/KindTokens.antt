@@ -1,17 +1,17 @@
 -- Tokens whose kind is asked: primary expressions, type names, and names in an identifier list.
 use Rattle.std.proofs.Common.{ℕ, ◌+◌, ◌<◌, ◌≡◌, Bool, true, false, ◌&&◌, ◌||◌, not, if◌then◌else◌, ◌==◌, ◌%◌, List, length, Ok, Err, refl, sym, ap, subst, ◌∙◌, arith}
 use Rattle.std.proofs.lemmas.Bool.{false≢true, and_from}
-use Rattle.tree_laws.specs.Below.cs_base.declared.ws_units.Standard.{Standard}
-use Rattle.tree_laws.specs.Below.cs_base.Token.{Token}
-use Rattle.tree_laws.specs.Below.c99_tree.Tree.{count_of}
-use Rattle.tree_laws.specs.Below.c99_tree.declared.production.Label.{Label}
-use Rattle.tree_laws.specs.Below.c99_tree.declared.production.Production.{Production}
-use Rattle.tree_laws.specs.Below.c99_tree.declared.production.Production.TheVariants.{Main, Mod, Params, Primary}
-use Rattle.tree_laws.specs.Below.c99_grammar.Classes.{among}
-use Rattle.tree_laws.specs.Below.c99_grammar.Items.{Item, one, part, act, ◌·◌, many, own, name}
-use Rattle.tree_laws.specs.Below.c99_grammar.Standard.{grammar}
-use Rattle.tree_laws.specs.Below.c99_read.State.{State, base_at, is_identifier, is_typedef_at, class_at, declaration, in_innermost, acted, opened}
-use Rattle.tree_laws.specs.Below.c99_read.Reading.{Goal, repeat, Step, and_then, take_one, may, step}
+use Rattle.typedef_laws.specs.Below.tree_laws.Below.cs_base.declared.ws_units.Standard.{Standard}
+use Rattle.typedef_laws.specs.Below.tree_laws.Below.cs_base.Token.{Token}
+use Rattle.typedef_laws.specs.Below.tree_laws.Below.c99_tree.Tree.{count_of}
+use Rattle.typedef_laws.specs.Below.tree_laws.Below.c99_tree.declared.production.Label.{Label}
+use Rattle.typedef_laws.specs.Below.tree_laws.Below.c99_tree.declared.production.Production.{Production}
+use Rattle.typedef_laws.specs.Below.tree_laws.Below.c99_tree.declared.production.Production.TheVariants.{Main, Mod, Params, Primary}
+use Rattle.typedef_laws.specs.Below.tree_laws.Below.c99_grammar.Classes.{among}
+use Rattle.typedef_laws.specs.Below.tree_laws.Below.c99_grammar.Items.{Item, one, part, act, ◌·◌, many, own, name}
+use Rattle.typedef_laws.specs.Below.tree_laws.Below.c99_grammar.Standard.{grammar}
+use Rattle.typedef_laws.specs.Below.tree_laws.Below.c99_read.State.{State, base_at, is_identifier, is_typedef_at, class_at, declaration, in_innermost, acted, opened}
+use Rattle.typedef_laws.specs.Below.tree_laws.Below.c99_read.Reading.{Goal, repeat, Step, and_then, take_one, may, step}
 use Rattle.typedef_laws.proofs.Private.{Class}
 use Rattle.typedef_laws.proofs.Classes.{identifiers, typedef_names}
 use Rattle.typedef_laws.proofs.Outline.{Outline, outlined, typedef_among, token_agrees}

@@ -1,11 +1,11 @@
 -- What is known of the next token, as facts of the two lists.
 use Rattle.std.proofs.Common.{ℕ, ◌+◌, ◌≡◌, ◌⊎◌, Bool, true, false, if◌then◌else◌, List, refl, sym, ap, ◌∙◌, inl}
 use Rattle.std.proofs.lemmas.Bool.{false≢true}
-use Rattle.tree_laws.specs.Below.cs_base.declared.ws_units.Standard.{Standard}
-use Rattle.tree_laws.specs.Below.cs_base.Token.{Token}
-use Rattle.tree_laws.specs.Below.c99_grammar.Classes.{among}
-use Rattle.tree_laws.specs.Below.c99_grammar.Standard.{grammar}
-use Rattle.tree_laws.specs.Below.c99_read.State.{base_at, is_identifier}
+use Rattle.typedef_laws.specs.Below.tree_laws.Below.cs_base.declared.ws_units.Standard.{Standard}
+use Rattle.typedef_laws.specs.Below.tree_laws.Below.cs_base.Token.{Token}
+use Rattle.typedef_laws.specs.Below.tree_laws.Below.c99_grammar.Classes.{among}
+use Rattle.typedef_laws.specs.Below.tree_laws.Below.c99_grammar.Standard.{grammar}
+use Rattle.typedef_laws.specs.Below.tree_laws.Below.c99_read.State.{base_at, is_identifier}
 use Rattle.renamed_tree_laws.specs.Respelled.{Declaration}
 use Rattle.renamed_tree_laws.proofs.Private.{identifier, colons}
 use Rattle.renamed_tree_laws.proofs.Bases.{base_is}

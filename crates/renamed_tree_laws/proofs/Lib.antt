@@ -4,6 +4,10 @@ pub mod Bases
 pub mod RespelledTexts
 pub mod ReadBareNames
 pub mod RenamedTrees
+pub mod BareNames
+pub mod Enclosing
+-- Words of the crates below, passed on.
+pub mod Below
 -- What the proofs of this crate rest on.
 mod Twins
 mod Moods
@@ -26,6 +30,4 @@ mod OuterAsks
 mod UnitAsks
 mod AgreeingTexts
 mod LooseNames
-mod BareNames
 mod EnclosedNames
-mod Enclosing

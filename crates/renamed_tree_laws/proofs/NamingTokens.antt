@@ -1,16 +1,16 @@
 -- Names that are declared where they stand, and a parameter's declarator in parentheses.
 use Rattle.std.proofs.Common.{ℕ, ◌+◌, ◌<◌, ◌≡◌, Bool, true, false, ◌&&◌, ◌||◌, not, if◌then◌else◌, List, length, Option, None, Some, Ok, Err, refl, ap, subst, ◌∙◌, arith}
 use Rattle.std.proofs.lemmas.Bool.{and_from}
-use Rattle.tree_laws.specs.Below.cs_base.declared.ws_units.Standard.{Standard}
-use Rattle.tree_laws.specs.Below.cs_base.Token.{Token}
-use Rattle.tree_laws.specs.Below.c99_tree.declared.production.Label.{Label}
-use Rattle.tree_laws.specs.Below.c99_tree.declared.production.Production.TheVariants.{InitDecl, Specs, Declarator, Enumerator, Cond, Param, Pdecl, Pdirect}
-use Rattle.tree_laws.specs.Below.c99_grammar.Items.{Item, one, part, act, ◌·◌, maybe, deep, own, names, declare, name}
-use Rattle.tree_laws.specs.Below.c99_grammar.Standard.{c99, grammar}
-use Rattle.tree_laws.specs.Below.c99_read.Sound.{has_token, is_low, is_met, goal_has_token}
-use Rattle.tree_laws.specs.Below.c99_read.State.{State, Names, base_at, is_identifier, declaration, with_declared, acted, opened}
-use Rattle.tree_laws.specs.Below.c99_read.Reading.{Goal, produce, Step, and_then, take_one, may, step}
-use Rattle.tree_laws.proofs.Below.c99_read.Moves.{Moves, Moves-step}
+use Rattle.typedef_laws.specs.Below.tree_laws.Below.cs_base.declared.ws_units.Standard.{Standard}
+use Rattle.typedef_laws.specs.Below.tree_laws.Below.cs_base.Token.{Token}
+use Rattle.typedef_laws.specs.Below.tree_laws.Below.c99_tree.declared.production.Label.{Label}
+use Rattle.typedef_laws.specs.Below.tree_laws.Below.c99_tree.declared.production.Production.TheVariants.{InitDecl, Specs, Declarator, Enumerator, Cond, Param, Pdecl, Pdirect}
+use Rattle.typedef_laws.specs.Below.tree_laws.Below.c99_grammar.Items.{Item, one, part, act, ◌·◌, maybe, deep, own, names, declare, name}
+use Rattle.typedef_laws.specs.Below.tree_laws.Below.c99_grammar.Standard.{c99, grammar}
+use Rattle.typedef_laws.specs.Below.tree_laws.Below.c99_read.Sound.{has_token, is_low, is_met, goal_has_token}
+use Rattle.typedef_laws.specs.Below.tree_laws.Below.c99_read.State.{State, Names, base_at, is_identifier, declaration, with_declared, acted, opened}
+use Rattle.typedef_laws.specs.Below.tree_laws.Below.c99_read.Reading.{Goal, produce, Step, and_then, take_one, may, step}
+use Rattle.typedef_laws.proofs.Below.tree_laws.Below.c99_read.Moves.{Moves, Moves-step}
 use Rattle.typedef_laws.proofs.Private.{Class}
 use Rattle.typedef_laws.proofs.Parts.{first_body, rest_of}
 use Rattle.typedef_laws.proofs.Classes.{equals}

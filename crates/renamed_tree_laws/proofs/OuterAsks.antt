@@ -1,21 +1,21 @@
 -- What is asked along external definitions (6.9), and along bodies of functions (6.9.1).
 use Rattle.std.proofs.Common.{ℕ, ◌+◌, ◌<◌, ◌≡◌, Bool, true, false, ◌&&◌, if◌then◌else◌, List, [], ◌∷◌, Ok, Err, refl, sym, ap, subst, ◌∙◌, arith}
 use Rattle.std.proofs.lemmas.Bool.{and_from}
-use Rattle.tree_laws.specs.Below.cs_base.declared.ws_units.Standard.{Standard}
-use Rattle.tree_laws.specs.Below.cs_base.declared.ws_units.Standard.TheVariants.{C99}
-use Rattle.tree_laws.specs.Below.cs_base.Token.{Token}
-use Rattle.tree_laws.specs.Below.c99_tree.Tree.{Forest, Node, node_of, leaf, inner, put, collapsed}
-use Rattle.tree_laws.specs.Below.c99_tree.declared.production.Label.{Label}
-use Rattle.tree_laws.specs.Below.c99_tree.declared.production.Production.{Production}
-use Rattle.tree_laws.specs.Below.c99_tree.declared.production.Production.TheVariants.{External, ExtRest, ExtTail, FunBody, Sassert, Specs, Declarator, Pdirect}
-use Rattle.tree_laws.specs.Below.c99_grammar.Items.{Item, Alternative, part, own, end, declare, again, plain}
-use Rattle.tree_laws.specs.Below.c99_grammar.Grammar.{externals}
-use Rattle.tree_laws.specs.Below.c99_grammar.Standard.{c99, grammar}
-use Rattle.tree_laws.specs.Below.c99_read.State.{State, Names, head_closed, names_closed, finished, with_scope_ended, acted, opened, closed}
-use Rattle.tree_laws.specs.Below.c99_read.Reading.{Goal, produce, Step, syntax, and_then, take_one, may, step, alternative, pick}
-use Rattle.tree_laws.proofs.Below.c99_grammar.StandardLemmas.{both}
-use Rattle.tree_laws.specs.Below.c_types.Trees.{is_at}
-use Rattle.tree_laws.specs.Below.scope_bind.Named.{Scope}
+use Rattle.typedef_laws.specs.Below.tree_laws.Below.cs_base.declared.ws_units.Standard.{Standard}
+use Rattle.typedef_laws.specs.Below.tree_laws.Below.cs_base.declared.ws_units.Standard.TheVariants.{C99}
+use Rattle.typedef_laws.specs.Below.tree_laws.Below.cs_base.Token.{Token}
+use Rattle.typedef_laws.specs.Below.tree_laws.Below.c99_tree.Tree.{Forest, Node, node_of, leaf, inner, put, collapsed}
+use Rattle.typedef_laws.specs.Below.tree_laws.Below.c99_tree.declared.production.Label.{Label}
+use Rattle.typedef_laws.specs.Below.tree_laws.Below.c99_tree.declared.production.Production.{Production}
+use Rattle.typedef_laws.specs.Below.tree_laws.Below.c99_tree.declared.production.Production.TheVariants.{External, ExtRest, ExtTail, FunBody, Sassert, Specs, Declarator, Pdirect}
+use Rattle.typedef_laws.specs.Below.tree_laws.Below.c99_grammar.Items.{Item, Alternative, part, own, end, declare, again, plain}
+use Rattle.typedef_laws.specs.Below.tree_laws.Below.c99_grammar.Grammar.{externals}
+use Rattle.typedef_laws.specs.Below.tree_laws.Below.c99_grammar.Standard.{c99, grammar}
+use Rattle.typedef_laws.specs.Below.tree_laws.Below.c99_read.State.{State, Names, head_closed, names_closed, finished, with_scope_ended, acted, opened, closed}
+use Rattle.typedef_laws.specs.Below.tree_laws.Below.c99_read.Reading.{Goal, produce, Step, syntax, and_then, take_one, may, step, alternative, pick}
+use Rattle.typedef_laws.proofs.Below.tree_laws.Below.c99_grammar.StandardLemmas.{both}
+use Rattle.typedef_laws.specs.Below.tree_laws.Below.c_types.Trees.{is_at}
+use Rattle.typedef_laws.specs.Below.tree_laws.Below.scope_bind.Named.{Scope}
 use Rattle.typedef_laws.proofs.Private.{Declaration, Class}
 use Rattle.typedef_laws.proofs.Parts.{first_body, second_body, first_test, second_test, rest_of, front_of, classes_of}
 use Rattle.typedef_laws.proofs.Outline.{Outline, begun, node_agrees, all_agree}

@@ -2,17 +2,17 @@
 use Rattle.std.proofs.Common.{ℕ, suc, ◌≡◌, List, [], ◌∷◌, Some, Ok, slice_get, inl, inr, ap, subst}
 use Rattle.std.specs.List.{Contains}
 use Rattle.std.proofs.lemmas.Option.{slice_get_within, get_or_from_slice_get}
-use Rattle.tree_laws.specs.Below.cs_base.declared.ws_units.Standard.{Standard}
-use Rattle.tree_laws.specs.Below.cs_base.Token.{Token}
-use Rattle.tree_laws.specs.Below.c99_tree.Tree.{Node}
-use Rattle.tree_laws.specs.Below.c99_read.Reading.{read_of}
-use Rattle.tree_laws.specs.Below.c99_grammar.Standard.{grammar}
-use Rattle.tree_laws.specs.Below.c_types.Declarations.{Facts}
-use Rattle.tree_laws.specs.Below.name_chains.Frames.{outermost}
-use Rattle.tree_laws.specs.Below.c_types.Lists.{bare_in}
-use Rattle.tree_laws.specs.Below.scope_bind.Bound.{Bound, facts_of, binding_of}
-use Rattle.tree_laws.proofs.Lookups.{false≢true}
-use Rattle.tree_laws.proofs.HeldNames.{bound_is}
+use Rattle.typedef_laws.specs.Below.tree_laws.Below.cs_base.declared.ws_units.Standard.{Standard}
+use Rattle.typedef_laws.specs.Below.tree_laws.Below.cs_base.Token.{Token}
+use Rattle.typedef_laws.specs.Below.tree_laws.Below.c99_tree.Tree.{Node}
+use Rattle.typedef_laws.specs.Below.tree_laws.Below.c99_read.Reading.{read_of}
+use Rattle.typedef_laws.specs.Below.tree_laws.Below.c99_grammar.Standard.{grammar}
+use Rattle.typedef_laws.specs.Below.tree_laws.Below.c_types.Declarations.{Facts}
+use Rattle.typedef_laws.specs.Below.tree_laws.Below.name_chains.Frames.{outermost}
+use Rattle.typedef_laws.specs.Below.tree_laws.Below.c_types.Lists.{bare_in}
+use Rattle.typedef_laws.specs.Below.tree_laws.Below.scope_bind.Bound.{Bound, facts_of, binding_of}
+use Rattle.typedef_laws.proofs.Below.tree_laws.Lookups.{false≢true}
+use Rattle.typedef_laws.proofs.Below.tree_laws.HeldNames.{bound_is}
 use Rattle.renamed_tree_laws.specs.Loose.{AllLoose}
 use Rattle.renamed_tree_laws.specs.TreesAlike.{LooseNamesAreBare}
 use Rattle.renamed_tree_laws.proofs.BareNames.{Each, loose_of_bare}

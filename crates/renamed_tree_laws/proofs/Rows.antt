@@ -1,14 +1,14 @@
 -- What is asked of short texts.
 use Rattle.std.proofs.Common.{ℕ, ◌≡◌, Bool, true, false, List, [], ◌∷◌, refl}
 use Rattle.std.specs.Prelude.{codes}
-use Rattle.tree_laws.specs.Below.cs_base.declared.ws_units.Standard.TheVariants.{C99}
-use Rattle.tree_laws.specs.Below.cs_base.Token.{Token}
-use Rattle.tree_laws.specs.Below.cs_base.declared.tokens.Kind.TheVariants.{Ident, Punct}
-use Rattle.tree_laws.specs.Below.c99_read.Reading.{read_within, take_one, at_end, enter}
-use Rattle.tree_laws.specs.Below.c99_grammar.Standard.{grammar}
-use Rattle.tree_laws.specs.Below.c99_read.State.{class_at, acted, opened, closed}
-use Rattle.tree_laws.specs.Below.c99_grammar.TokenClasses.{spelled_class, base_class}
-use Rattle.tree_laws.proofs.Below.c99_read.ReadRows.{tok}
+use Rattle.typedef_laws.specs.Below.tree_laws.Below.cs_base.declared.ws_units.Standard.TheVariants.{C99}
+use Rattle.typedef_laws.specs.Below.tree_laws.Below.cs_base.Token.{Token}
+use Rattle.typedef_laws.specs.Below.tree_laws.Below.cs_base.declared.tokens.Kind.TheVariants.{Ident, Punct}
+use Rattle.typedef_laws.specs.Below.tree_laws.Below.c99_read.Reading.{read_within, take_one, at_end, enter}
+use Rattle.typedef_laws.specs.Below.tree_laws.Below.c99_grammar.Standard.{grammar}
+use Rattle.typedef_laws.specs.Below.tree_laws.Below.c99_read.State.{class_at, acted, opened, closed}
+use Rattle.typedef_laws.specs.Below.tree_laws.Below.c99_grammar.TokenClasses.{spelled_class, base_class}
+use Rattle.typedef_laws.proofs.Below.tree_laws.Below.c99_read.ReadRows.{tok}
 use Rattle.renamed_tree_laws.specs.Along.{all_along, along_within}
 use Rattle.renamed_tree_laws.specs.Respelled.{is_kind_so, is_token_so, is_node_so}
 

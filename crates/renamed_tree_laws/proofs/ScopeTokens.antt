@@ -1,20 +1,20 @@
 -- Nodes that are scopes: blocks, parameter lists, statements and substatements (6.2.1 paragraph 4).
 use Rattle.std.proofs.Common.{ℕ, ◌+◌, ◌<◌, ◌≡◌, Bool, true, false, ◌&&◌, List, [], ◌∷◌, length, Ok, Err, inl, inr, refl, sym, ap, subst, ◌∙◌, arith}
 use Rattle.std.proofs.lemmas.Bool.{false≢true, and_parts, and_from}
-use Rattle.tree_laws.specs.Below.cs_base.declared.ws_units.Standard.{Standard}
-use Rattle.tree_laws.specs.Below.cs_base.Token.{Token}
-use Rattle.tree_laws.specs.Below.c99_tree.Tree.{Forest, leaf, put}
-use Rattle.tree_laws.specs.Below.c99_tree.declared.production.Label.{Label}
-use Rattle.tree_laws.specs.Below.c99_tree.declared.production.Production.{Production}
-use Rattle.tree_laws.specs.Below.c99_tree.declared.production.Production.TheVariants.{Suffix, Pdirect, Block}
-use Rattle.tree_laws.specs.Below.c99_grammar.Items.{Item, one, part, end_of_text, act, ◌·◌, choice, maybe, many, deep, scope, end, declare, name, keep, again}
-use Rattle.tree_laws.specs.Below.c99_grammar.Standard.{grammar}
-use Rattle.tree_laws.specs.Below.c99_read.Sound.{has_token, is_low, is_met, goal_has_token}
-use Rattle.tree_laws.specs.Below.c99_read.State.{State, Names, with_scope_ended, acted, opened}
-use Rattle.tree_laws.specs.Below.c99_read.Reading.{Goal, Step, and_then, take_one, step}
-use Rattle.tree_laws.proofs.Below.c99_read.Moves.{Moves, Moves-step}
-use Rattle.tree_laws.specs.Below.scope_bind.Named.{Scope}
-use Rattle.tree_laws.specs.Below.c_types.Trees.{is_at, last_token}
+use Rattle.typedef_laws.specs.Below.tree_laws.Below.cs_base.declared.ws_units.Standard.{Standard}
+use Rattle.typedef_laws.specs.Below.tree_laws.Below.cs_base.Token.{Token}
+use Rattle.typedef_laws.specs.Below.tree_laws.Below.c99_tree.Tree.{Forest, leaf, put}
+use Rattle.typedef_laws.specs.Below.tree_laws.Below.c99_tree.declared.production.Label.{Label}
+use Rattle.typedef_laws.specs.Below.tree_laws.Below.c99_tree.declared.production.Production.{Production}
+use Rattle.typedef_laws.specs.Below.tree_laws.Below.c99_tree.declared.production.Production.TheVariants.{Suffix, Pdirect, Block}
+use Rattle.typedef_laws.specs.Below.tree_laws.Below.c99_grammar.Items.{Item, one, part, end_of_text, act, ◌·◌, choice, maybe, many, deep, scope, end, declare, name, keep, again}
+use Rattle.typedef_laws.specs.Below.tree_laws.Below.c99_grammar.Standard.{grammar}
+use Rattle.typedef_laws.specs.Below.tree_laws.Below.c99_read.Sound.{has_token, is_low, is_met, goal_has_token}
+use Rattle.typedef_laws.specs.Below.tree_laws.Below.c99_read.State.{State, Names, with_scope_ended, acted, opened}
+use Rattle.typedef_laws.specs.Below.tree_laws.Below.c99_read.Reading.{Goal, Step, and_then, take_one, step}
+use Rattle.typedef_laws.proofs.Below.tree_laws.Below.c99_read.Moves.{Moves, Moves-step}
+use Rattle.typedef_laws.specs.Below.tree_laws.Below.scope_bind.Named.{Scope}
+use Rattle.typedef_laws.specs.Below.tree_laws.Below.c_types.Trees.{is_at, last_token}
 use Rattle.typedef_laws.proofs.Private.{Class}
 use Rattle.typedef_laws.proofs.Outline.{Outline, begun}
 use Rattle.typedef_laws.proofs.Matching.{Bounds, IsOpen, SameOuter, bounds_within, bounds_inner, within_sooner}

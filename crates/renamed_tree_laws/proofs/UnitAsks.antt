@@ -1,15 +1,15 @@
 -- What is asked along a whole unit.
 use Rattle.std.proofs.Common.{ℕ, zero, suc, ◌≡◌, Bool, true, false, ◌&&◌, if◌then◌else◌, ◌==◌, List, [], ◌∷◌, length, Ok, Err, refl, ap, ◌∙◌, arith}
 use Rattle.std.proofs.lemmas.Bool.{and_from}
-use Rattle.tree_laws.specs.Below.cs_base.declared.ws_units.Standard.{Standard}
-use Rattle.tree_laws.specs.Below.cs_base.Token.{Token}
-use Rattle.tree_laws.specs.Below.c99_tree.Tree.{none, node}
-use Rattle.tree_laws.specs.Below.c99_tree.declared.production.Production.TheVariants.{TranslationUnit, External}
-use Rattle.tree_laws.specs.Below.c99_grammar.Items.{Item, part, end_of_text, many, own}
-use Rattle.tree_laws.specs.Below.c99_grammar.Standard.{c99, grammar}
-use Rattle.tree_laws.specs.Below.c99_read.State.{State, base_at, opened, closed}
-use Rattle.tree_laws.specs.Below.c99_read.Reading.{Goal, produce, repeat, Step, syntax, at_end, at_first, and_then, may, step, alternative, read_within}
-use Rattle.tree_laws.specs.Below.name_chains.Frames.{at_first as before}
+use Rattle.typedef_laws.specs.Below.tree_laws.Below.cs_base.declared.ws_units.Standard.{Standard}
+use Rattle.typedef_laws.specs.Below.tree_laws.Below.cs_base.Token.{Token}
+use Rattle.typedef_laws.specs.Below.tree_laws.Below.c99_tree.Tree.{none, node}
+use Rattle.typedef_laws.specs.Below.tree_laws.Below.c99_tree.declared.production.Production.TheVariants.{TranslationUnit, External}
+use Rattle.typedef_laws.specs.Below.tree_laws.Below.c99_grammar.Items.{Item, part, end_of_text, many, own}
+use Rattle.typedef_laws.specs.Below.tree_laws.Below.c99_grammar.Standard.{c99, grammar}
+use Rattle.typedef_laws.specs.Below.tree_laws.Below.c99_read.State.{State, base_at, opened, closed}
+use Rattle.typedef_laws.specs.Below.tree_laws.Below.c99_read.Reading.{Goal, produce, repeat, Step, syntax, at_end, at_first, and_then, may, step, alternative, read_within}
+use Rattle.typedef_laws.specs.Below.tree_laws.Below.name_chains.Frames.{at_first as before}
 use Rattle.typedef_laws.proofs.Parts.{first_body}
 use Rattle.typedef_laws.proofs.Outline.{Outline, all_agree}
 use Rattle.typedef_laws.proofs.Outlines.{outline}

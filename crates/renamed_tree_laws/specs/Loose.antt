@@ -1,16 +1,16 @@
 -- Names that are read as no typedef names, though they are uses of nothing (ISO/IEC 9899:1999, 6.7.5.3).
 use Rattle.std.specs.Prelude.{ℕ, ◌+◌, ◌≡◌, Bool, true, ◌&&◌, not, List, ◌==◌, ◌%◌, nat_lt}
 use Rattle.std.specs.List.{list_any}
-use Rattle.tree_laws.specs.Below.cs_base.declared.ws_units.Standard.{Standard}
-use Rattle.tree_laws.specs.Below.cs_base.Token.{Token}
-use Rattle.tree_laws.specs.Below.c99_tree.Tree.{Forest, none, token, node}
-use Rattle.tree_laws.specs.Below.c99_tree.declared.production.Label.{Label}
-use Rattle.tree_laws.specs.Below.c99_tree.declared.production.Production.TheVariants.{Params, Pdirect}
-use Rattle.tree_laws.specs.Below.c99_grammar.Standard.{grammar}
-use Rattle.tree_laws.specs.Below.c99_read.State.{base_at, is_identifier}
-use Rattle.tree_laws.specs.Below.c_types.declared.lists.Range.{Range}
-use Rattle.tree_laws.specs.Below.c_types.Trees.{is_at}
-use Rattle.tree_laws.specs.Below.c_types.Declarations.{alike}
+use Rattle.typedef_laws.specs.Below.tree_laws.Below.cs_base.declared.ws_units.Standard.{Standard}
+use Rattle.typedef_laws.specs.Below.tree_laws.Below.cs_base.Token.{Token}
+use Rattle.typedef_laws.specs.Below.tree_laws.Below.c99_tree.Tree.{Forest, none, token, node}
+use Rattle.typedef_laws.specs.Below.tree_laws.Below.c99_tree.declared.production.Label.{Label}
+use Rattle.typedef_laws.specs.Below.tree_laws.Below.c99_tree.declared.production.Production.TheVariants.{Params, Pdirect}
+use Rattle.typedef_laws.specs.Below.tree_laws.Below.c99_grammar.Standard.{grammar}
+use Rattle.typedef_laws.specs.Below.tree_laws.Below.c99_read.State.{base_at, is_identifier}
+use Rattle.typedef_laws.specs.Below.tree_laws.Below.c_types.declared.lists.Range.{Range}
+use Rattle.typedef_laws.specs.Below.tree_laws.Below.c_types.Trees.{is_at}
+use Rattle.typedef_laws.specs.Below.tree_laws.Below.c_types.Declarations.{alike}
 
 -- a name in an identifier list (paragraph 3)
 abbrev pub is_listed : Label → ℕ → Bool

@@ -1,10 +1,10 @@
 -- What is true of the tree of a text in which names are respelled.
 use Rattle.std.specs.Prelude.{◌≡◌, List, Ok}
-use Rattle.tree_laws.specs.Below.cs_base.declared.ws_units.Standard.{Standard}
-use Rattle.tree_laws.specs.Below.cs_base.Token.{Token}
-use Rattle.tree_laws.specs.Below.c99_tree.Tree.{Node}
-use Rattle.tree_laws.specs.Below.c99_read.Reading.{read_of}
-use Rattle.tree_laws.specs.Below.c99_grammar.Standard.{grammar}
+use Rattle.typedef_laws.specs.Below.tree_laws.Below.cs_base.declared.ws_units.Standard.{Standard}
+use Rattle.typedef_laws.specs.Below.tree_laws.Below.cs_base.Token.{Token}
+use Rattle.typedef_laws.specs.Below.tree_laws.Below.c99_tree.Tree.{Node}
+use Rattle.typedef_laws.specs.Below.tree_laws.Below.c99_read.Reading.{read_of}
+use Rattle.typedef_laws.specs.Below.tree_laws.Below.c99_grammar.Standard.{grammar}
 use Rattle.renamed_tree_laws.specs.Respelled.{IsReadSo, IsRespelled}
 
 -- a text whose names are of the kinds that another is read with is read to the same tree

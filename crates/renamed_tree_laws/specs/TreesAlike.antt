@@ -1,15 +1,15 @@
 -- What is true of a text whose names agree with the tree of another one.
 use Rattle.std.specs.Prelude.{ℕ, ◌≡◌, true, List, length, Ok}
 use Rattle.std.specs.List.{Contains}
-use Rattle.tree_laws.specs.Below.cs_base.declared.ws_units.Standard.{Standard}
-use Rattle.tree_laws.specs.Below.cs_base.Token.{Token}
-use Rattle.tree_laws.specs.Below.c99_tree.Tree.{Node}
-use Rattle.tree_laws.specs.Below.c99_read.Reading.{read_of}
-use Rattle.tree_laws.specs.Below.c99_read.State.{base_at}
-use Rattle.tree_laws.specs.Below.c99_grammar.Standard.{grammar}
-use Rattle.tree_laws.specs.Below.scope_bind.Bound.{Bound, binding_of}
-use Rattle.tree_laws.specs.Below.name_chains.Frames.{at_first as before, outermost}
-use Rattle.tree_laws.specs.RenamedNames.{NamesAreRenamed}
+use Rattle.typedef_laws.specs.Below.tree_laws.Below.cs_base.declared.ws_units.Standard.{Standard}
+use Rattle.typedef_laws.specs.Below.tree_laws.Below.cs_base.Token.{Token}
+use Rattle.typedef_laws.specs.Below.tree_laws.Below.c99_tree.Tree.{Node}
+use Rattle.typedef_laws.specs.Below.tree_laws.Below.c99_read.Reading.{read_of}
+use Rattle.typedef_laws.specs.Below.tree_laws.Below.c99_read.State.{base_at}
+use Rattle.typedef_laws.specs.Below.tree_laws.Below.c99_grammar.Standard.{grammar}
+use Rattle.typedef_laws.specs.Below.tree_laws.Below.scope_bind.Bound.{Bound, binding_of}
+use Rattle.typedef_laws.specs.Below.tree_laws.Below.name_chains.Frames.{at_first as before, outermost}
+use Rattle.typedef_laws.specs.Below.tree_laws.RenamedNames.{NamesAreRenamed}
 use Rattle.typedef_laws.specs.Agreeing.{agrees}
 use Rattle.renamed_tree_laws.specs.Loose.{AllLoose, StaysWhole}
 

@@ -12,9 +12,9 @@
 //! are names that denote nothing, in identifier lists and behind such a parenthesis: each is one of the bare names of
 //! the binding.
 //!
-//! They are given to `kept_meaning_laws`. Its proofs cite the modules of `proofs/Lib.antt` that are public; a lemma
-//! there keeps its name, and all else may change. Read `specs/Along.antt`, `specs/Respelled.antt`,
-//! `specs/ReadAlike.antt`, then `proofs/Moods.antt` and `proofs/Locked.antt`; `specs/Loose.antt`,
+//! They are given to `kept_meaning_laws` and `reordered_reading_laws`. Their proofs cite the modules of `proofs/Lib.antt`
+//! that are public; a lemma there keeps its name, and all else may change. Read `specs/Along.antt`,
+//! `specs/Respelled.antt`, `specs/ReadAlike.antt`, then `proofs/Moods.antt` and `proofs/Locked.antt`; `specs/Loose.antt`,
 //! `specs/TreesAlike.antt`, then `proofs/Asking.antt`, `proofs/RenamedTrees.antt` and `proofs/Enclosing.antt`.
 #![tactic(auto)]
 

@@ -27,3 +27,5 @@ pub mod Functions
 pub mod Beginning
 pub mod Units
 pub mod Texts
+-- Words of the crates below, passed on.
+pub mod Below
