@@ -10,3 +10,5 @@ pub mod GoingLemmas
 pub mod ArrangeLemmas
 pub mod CutLemmas
 pub mod OneCutLemmas
+pub mod EndLemmas
+pub mod Below

@@ -4,3 +4,6 @@ pub mod Alike
 pub mod Portions
 pub mod Sections
 pub mod Arranging
+pub mod Ends
+-- Words of the crates below, passed on.
+pub mod Below

@@ -1,6 +1,7 @@
 // What is true of expansions whose tokens change places: laws that no caller runs, and that callers' proofs cite.
 ghost use Rattle.arranged_laws.specs.Alike.{ExpandsAlike};
 ghost use Rattle.arranged_laws.specs.Arranging.{CutsAreOne, RunsAreArranged, RunsHaveCuts};
+ghost use Rattle.arranged_laws.specs.Ends.{ExpansionsEndAlike, FirstStays, LastStays};
 ghost use Rattle.arranged_laws.specs.Portions.{PortionsCompose, PortionsMove};
 ghost use Rattle.arranged_laws.specs.Sections.{RunsFall};
 ghost use Rattle.arranged_laws.specs.Splitting.{ExpansionSplits};
@@ -52,4 +53,12 @@ pub fn runs_are_arranged()
 pub fn runs_have_cuts()
     ensures cuts { RunsHaveCuts }
     ensures one { CutsAreOne }
+{}
+
+/// The first token of an expansion is that of its run where this one is no name, and the last one is where it is no name and
+/// no `)`. So tests that each name passes, and each `)`, tell of the ends of the run what they tell of those of the expansion.
+pub fn ends_stay()
+    ensures first { FirstStays }
+    ensures last { LastStays }
+    ensures tests { ExpansionsEndAlike }
 {}

@@ -22,11 +22,11 @@ use Rattle.arranged_text_laws.proofs.RunLemmas.{items_stay, runs_move}
 abbrev nothing : {X : Type 0} → X → Unit {0}
 nothing x = tt
 
-length-masked : {X : Type 0} (h : X → X) (c : Cut) (xs : List X) → length (masked h c xs) ≡ length xs
+pub length-masked : {X : Type 0} (h : X → X) (c : Cut) (xs : List X) → length (masked h c xs) ≡ length xs
 length-masked h c xs =
     sym (length-map (masked h c xs) nothing) ∙ ap length (sym (masked-image h (λ y. y) nothing (λ x. refl) c xs) ∙ masked_same c (map nothing xs)) ∙ length-map xs nothing
 
-length-masked_items : {X : Type 0} (h : X → X) (is : Items) (xs : List X) → span_of is ≤ length xs → length (masked_items h is xs) ≡ span_of is
+pub length-masked_items : {X : Type 0} (h : X → X) (is : Items) (xs : List X) → span_of is ≤ length xs → length (masked_items h is xs) ≡ span_of is
 length-masked_items h is xs within =
     sym (length-map (masked_items h is xs) nothing)
     ∙ ap length (sym (masked_items-image h (λ y. y) nothing (λ x. refl) is xs) ∙ masked_items_same is (map nothing xs))
@@ -52,20 +52,20 @@ outside_sym done xs ys h = sym h
 outside_sym (keep n c) xs ys h = (sym h.0, outside_sym c (drop n xs) (drop n ys) h.1)
 outside_sym (list is c) xs ys h = outside_sym c (drop (span_of is) xs) (drop (span_of is) ys) h
 
-outside_both : {X : Type 0} (c : Cut) (xs ys zs : List X) → SameOutside c xs ys → SameOutside c ys zs → SameOutside c xs zs
+pub outside_both : {X : Type 0} (c : Cut) (xs ys zs : List X) → SameOutside c xs ys → SameOutside c ys zs → SameOutside c xs zs
 outside_both done xs ys zs h k = h ∙ k
 outside_both (keep n c) xs ys zs h k = (h.0 ∙ k.0, outside_both c (drop n xs) (drop n ys) (drop n zs) h.1 k.1)
 outside_both (list is c) xs ys zs h k = outside_both c (drop (span_of is) xs) (drop (span_of is) ys) (drop (span_of is) zs) h k
 
 -- lists that are alike under a mask are the same outside of lists
-alike_outside : {X : Type 0} (h : X → X) (c : Cut) (xs ys : List X) → extent_of c ≤ length xs → length ys ≡ length xs → masked h c xs ≡ masked h c ys → SameOutside c xs ys
+pub alike_outside : {X : Type 0} (h : X → X) (c : Cut) (xs ys : List X) → extent_of c ≤ length xs → length ys ≡ length xs → masked h c xs ≡ masked h c ys → SameOutside c xs ys
 alike_outside h c xs ys within long same =
     outside_both c xs (masked h c xs) ys (outside_sym c (masked h c xs) xs (masked_outside h c xs within))
     (subst (λ (l : List _). SameOutside c l ys) (sym same) (masked_outside h c ys (rw long within)))
 
 -- ---- pairs
 
-take-placed : (n : ℕ) (ts : List Token) (fs : List Bool) → take n (placed ts fs) ≡ placed (take n ts) (take n fs)
+pub take-placed : (n : ℕ) (ts : List Token) (fs : List Bool) → take n (placed ts fs) ≡ placed (take n ts) (take n fs)
 take-placed zero [] fs = refl
 take-placed zero (t ∷ ts) [] = refl
 take-placed zero (t ∷ ts) (f ∷ fs) = refl
@@ -77,7 +77,7 @@ placed-none : (ts : List Token) → placed ts [] ≡ []
 placed-none [] = refl
 placed-none (t ∷ ts) = refl
 
-drop-placed : (n : ℕ) (ts : List Token) (fs : List Bool) → drop n (placed ts fs) ≡ placed (drop n ts) (drop n fs)
+pub drop-placed : (n : ℕ) (ts : List Token) (fs : List Bool) → drop n (placed ts fs) ≡ placed (drop n ts) (drop n fs)
 drop-placed zero ts fs = refl
 drop-placed (suc n) [] fs = refl
 drop-placed (suc n) (t ∷ ts) [] = sym (placed-none (drop n ts))
@@ -93,18 +93,18 @@ outside_placed (list is c) ts us fs gs h k =
     let n = span_of is in
     rw (drop-placed n ts fs, drop-placed n us gs) (outside_placed c (drop n ts) (drop n us) (drop n fs) (drop n gs) h k)
 
-toks_placed : (ts : List Token) (fs : List Bool) → length fs ≡ length ts → toks_of (placed ts fs) ≡ ts
+pub toks_placed : (ts : List Token) (fs : List Bool) → length fs ≡ length ts → toks_of (placed ts fs) ≡ ts
 toks_placed [] fs e = refl
 toks_placed (t ∷ ts) [] e = absurd (omega (arith, e))
 toks_placed (t ∷ ts) (f ∷ fs) e = ap (λ (l : List Token). t ∷ l) (toks_placed ts fs (omega (arith, e)))
 
-firsts_placed : (ts : List Token) (fs : List Bool) → length fs ≡ length ts → firsts_of (placed ts fs) ≡ fs
+pub firsts_placed : (ts : List Token) (fs : List Bool) → length fs ≡ length ts → firsts_of (placed ts fs) ≡ fs
 firsts_placed [] [] e = refl
 firsts_placed [] (f ∷ fs) e = absurd (omega (arith, e))
 firsts_placed (t ∷ ts) [] e = absurd (omega (arith, e))
 firsts_placed (t ∷ ts) (f ∷ fs) e = ap (λ (l : List Bool). f ∷ l) (firsts_placed ts fs (omega (arith, e)))
 
-length-placed : (ts : List Token) (fs : List Bool) → length fs ≡ length ts → length (placed ts fs) ≡ length ts
+pub length-placed : (ts : List Token) (fs : List Bool) → length fs ≡ length ts → length (placed ts fs) ≡ length ts
 length-placed ts fs e = sym (length-map (placed ts fs) (λ (p : Placed). p.tok)) ∙ ap length (toks_placed ts fs e)
 
 many_firsts : (fs : List Found) → length (firsts_in fs) ≡ length (tokens_in fs)
@@ -112,7 +112,7 @@ many_firsts [] = refl
 many_firsts (FoundToken t first ∷ fs) = ap (λ (n : ℕ). suc n) (many_firsts fs)
 many_firsts (FoundOpen at ∷ fs) = many_firsts fs
 
-file_firsts : (file : ℕ) (bytes : List ℕ) → length (firsts_of_bytes bytes) ≡ length (tokens_of file bytes)
+pub file_firsts : (file : ℕ) (bytes : List ℕ) → length (firsts_of_bytes bytes) ≡ length (tokens_of file bytes)
 unfolding tokens_of
 file_firsts file bytes = sym (ap length (firsts_of_file file bytes)) ∙ many_firsts (found_of file bytes)
 

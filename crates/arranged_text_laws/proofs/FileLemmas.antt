@@ -30,7 +30,7 @@ unfolding marks_from
 text_marks bytes at [] = refl
 text_marks bytes at (c ∷ cs) = ap (λ (l : List ℕ). c.byte ∷ l) (text_marks bytes (at + 1) cs)
 
-length-marks : (bytes : List ℕ) (at : ℕ) (cs : List Character) → length (marks_from bytes at cs) ≡ length cs
+pub length-marks : (bytes : List ℕ) (at : ℕ) (cs : List Character) → length (marks_from bytes at cs) ≡ length cs
 unfolding marks_from
 length-marks bytes at [] = refl
 length-marks bytes at (c ∷ cs) = ap (λ (n : ℕ). suc n) (length-marks bytes (at + 1) cs)

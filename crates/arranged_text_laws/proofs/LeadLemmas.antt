@@ -19,19 +19,19 @@ use Rattle.arranged_text_laws.proofs.CalmLemmas.{IsPlain, plain_at, no_header, t
 
 -- ---- what stands on the line: one of four
 
-abbrev hash_front : Front
+abbrev pub hash_front : Front
 hash_front = with_token (codes "#") line_start
 
-abbrev include_front : Front
+abbrev pub include_front : Front
 include_front = with_token (codes "include") hash_front
 
-abbrev IsKnown : Front → Type 0
+abbrev pub IsKnown : Front → Type 0
 IsKnown front = (front ≡ line_start) ⊎ ((front ≡ some_tokens) ⊎ ((front ≡ hash_front) ⊎ (front ≡ include_front)))
 
 known_at : (st : Before) → IsKnown (front_at st)
 known_at st = elim (cases_Bool st.first) [ inl first ↦ inl (rw first refl) | inr later ↦ inr (inl (rw later refl)) ]
 
-start_known : IsKnown line_start
+pub start_known : IsKnown line_start
 start_known = inl refl
 
 at_start : (chars : List ℕ) → IsKnown (with_token chars line_start) × (is_line_start (with_token chars line_start) ≡ false)
@@ -48,7 +48,7 @@ at_hash chars = elim (cases_Bool (bytes_eq chars (codes "include"))) [
   | inr other ↦ (inr (inl (rw other refl)), rw other refl)
 ]
 
-word_known : (front : Front) (chars : List ℕ) → IsKnown front → IsKnown (with_token chars front) × (is_line_start (with_token chars front) ≡ false)
+pub word_known : (front : Front) (chars : List ℕ) → IsKnown front → IsKnown (with_token chars front) × (is_line_start (with_token chars front) ≡ false)
 unfolding file_front
 word_known front chars k =
     elim k [
@@ -66,7 +66,7 @@ word_known front chars k =
 abbrev PlainIf : Bool → Front → Type 0
 PlainIf plain front = plain ≡ true → IsPlain front
 
-start_is : (front : Front) → IsKnown front → is_line_start front ≡ true → front ≡ line_start
+pub start_is : (front : Front) → IsKnown front → is_line_start front ≡ true → front ≡ line_start
 unfolding file_front
 start_is front k h =
     elim k [
@@ -101,7 +101,7 @@ l_header front c k is_l =
     ])
 
 -- what stands on the line behind a piece is known
-known_after : (header : Bool) (c : ℕ) (R chars : List ℕ) (front : Front) → IsKnown front → IsKnown (line_front_after chars front (piece_of header c R))
+pub known_after : (header : Bool) (c : ℕ) (R chars : List ℕ) (front : Front) → IsKnown front → IsKnown (line_front_after chars front (piece_of header c R))
 known_after header c R chars front k =
     elim (view header c R) [
       | feeds f ↦ inl (f.front chars front)

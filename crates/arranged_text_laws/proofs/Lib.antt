@@ -22,3 +22,4 @@ pub mod TokenLaw
 pub mod RunLemmas
 pub mod PartLemmas
 pub mod FileItemLemmas
+pub mod Below

@@ -18,14 +18,14 @@ use Rattle.arranged_text_laws.specs.Runs.{Placed, begins_directive, in_text, goe
 -- ---- lines
 
 -- the tokens of the line of a token, from it on, and the lines behind it
-abbrev line_from : Token → List Placed → List Token
+abbrev pub line_from : Token → List Placed → List Token
 line_from t [] = t ∷ []
 line_from t (q ∷ qs) = cond q.first (t ∷ []) (t ∷ line_from q.tok qs)
 
-abbrev all_lines : List Placed → List (List Token)
+abbrev pub all_lines : List Placed → List (List Token)
 all_lines ps = lines_of (toks_of ps) (firsts_of ps)
 
-abbrev later_lines : List Placed → List (List Token)
+abbrev pub later_lines : List Placed → List (List Token)
 later_lines [] = []
 later_lines (q ∷ qs) = cond q.first (all_lines (q ∷ qs)) (later_lines qs)
 
@@ -33,7 +33,7 @@ all_none : all_lines [] ≡ []
 unfolding lines_of
 all_none = refl
 
-one_line : (p : Placed) (ps : List Placed) → all_lines (p ∷ ps) ≡ line_from p.tok ps ∷ later_lines ps
+pub one_line : (p : Placed) (ps : List Placed) → all_lines (p ∷ ps) ≡ line_from p.tok ps ∷ later_lines ps
 unfolding lines_of
 one_line p [] = refl
 one_line p (q ∷ qs) =
@@ -42,7 +42,7 @@ one_line p (q ∷ qs) =
       | inr on ↦ rw on (ap (onto_first p.tok) (one_line q qs))
     ]
 
-head_line : (t : Token) (ps : List Placed) → (r : List Token) × (line_from t ps ≡ t ∷ r)
+pub head_line : (t : Token) (ps : List Placed) → (r : List Token) × (line_from t ps ≡ t ∷ r)
 head_line t [] = ([], refl)
 head_line t (q ∷ qs) =
     elim (cases_Bool q.first) [
@@ -53,15 +53,15 @@ head_line t (q ∷ qs) =
 -- ---- runs
 
 -- the tokens of a run from here on, and what stands behind it
-abbrev run_in : List Placed → List Token
+abbrev pub run_in : List Placed → List Token
 run_in [] = []
 run_in (p ∷ ps) = cond (begins_directive p) [] (p.tok ∷ run_in ps)
 
-abbrev behind_run : List Placed → List Placed
+abbrev pub behind_run : List Placed → List Placed
 behind_run [] = []
 behind_run (p ∷ ps) = cond (begins_directive p) (p ∷ ps) (behind_run ps)
 
-abbrev all_pieces : List Placed → List Piece
+abbrev pub all_pieces : List Placed → List Piece
 all_pieces ps = pieces_of (all_lines ps)
 
 line_pieces : (p : Placed) (ps : List Placed)
@@ -69,12 +69,12 @@ line_pieces : (p : Placed) (ps : List Placed)
 unfolding pieces_of
 line_pieces p ps = ap pieces_of (one_line p ps)
 
-kind_of_line : (t : Token) (ps : List Placed) → is_run (line_kind (line_from t ps)) ≡ not (is_hash t)
+pub kind_of_line : (t : Token) (ps : List Placed) → is_run (line_kind (line_from t ps)) ≡ not (is_hash t)
 kind_of_line t ps =
     let h = head_line t ps in
     ap (λ (l : List Token). is_run (line_kind l)) h.1 ∙ is_run-line_kind t h.0
 
-text_line : (t : Token) (ps : List Placed) → is_hash t ≡ false → line_kind (line_from t ps) ≡ Run
+pub text_line : (t : Token) (ps : List Placed) → is_hash t ≡ false → line_kind (line_from t ps) ≡ Run
 text_line t ps h = let l = head_line t ps in ap line_kind l.1 ∙ rw h refl
 
 -- a line that is no run stays a piece, behind a run too
@@ -119,11 +119,11 @@ run_pieces u t (q ∷ qs) =
       ]
     ]
 
-start_run : (p : Placed) (ps : List Placed) → is_hash p.tok ≡ false → all_pieces (p ∷ ps) ≡ piece Run (p.tok ∷ run_in ps) ∷ all_pieces (behind_run ps)
+pub start_run : (p : Placed) (ps : List Placed) → is_hash p.tok ≡ false → all_pieces (p ∷ ps) ≡ piece Run (p.tok ∷ run_in ps) ∷ all_pieces (behind_run ps)
 start_run p ps h =
     line_pieces p ps ∙ ap (λ (k : ItemKind). onto_pieces (piece k (line_from p.tok ps)) (pieces_of (later_lines ps))) (text_line p.tok ps h) ∙ run_pieces [] p.tok ps
 
-start_directive : (p : Placed) (ps : List Placed) → is_hash p.tok ≡ true
+pub start_directive : (p : Placed) (ps : List Placed) → is_hash p.tok ≡ true
     → all_pieces (p ∷ ps) ≡ piece (line_kind (line_from p.tok ps)) (line_from p.tok ps) ∷ pieces_of (later_lines ps)
 start_directive p ps h =
     line_pieces p ps ∙ onto_other (piece (line_kind (line_from p.tok ps)) (line_from p.tok ps)) (pieces_of (later_lines ps)) (kind_of_line p.tok ps ∙ rw h refl)
@@ -195,39 +195,39 @@ start_shape p ps qs s =
           rw (start_run p ps text, start_run p qs text) (run_piece p.tok (run_in ps) (run_in qs) (s.long is) (s.last is p.tok), s.behind is)
     ]
 
-same_text : (text : Bool) (p : Placed) → p.first ≡ true → in_text text p ≡ not (is_hash p.tok)
+pub same_text : (text : Bool) (p : Placed) → p.first ≡ true → in_text text p ≡ not (is_hash p.tok)
 same_text text p first = ap (λ b. cond b (not (is_hash p.tok)) text) first
 
-same_line : (text : Bool) (p : Placed) → p.first ≡ false → in_text text p ≡ text
+pub same_line : (text : Bool) (p : Placed) → p.first ≡ false → in_text text p ≡ text
 same_line text p on = ap (λ b. cond b (not (is_hash p.tok)) text) on
 
 -- the first of these tokens, which begins a directive or not, a line or not
-run_start : (p : Placed) (ps : List Placed) → begins_directive p ≡ true → run_in (p ∷ ps) ≡ []
+pub run_start : (p : Placed) (ps : List Placed) → begins_directive p ≡ true → run_in (p ∷ ps) ≡ []
 run_start p ps h = ap (λ b. cond b [] (p.tok ∷ run_in ps)) h
 
-run_on : (p : Placed) (ps : List Placed) → begins_directive p ≡ false → run_in (p ∷ ps) ≡ p.tok ∷ run_in ps
+pub run_on : (p : Placed) (ps : List Placed) → begins_directive p ≡ false → run_in (p ∷ ps) ≡ p.tok ∷ run_in ps
 run_on p ps h = ap (λ b. cond b [] (p.tok ∷ run_in ps)) h
 
-behind_start : (p : Placed) (ps : List Placed) → begins_directive p ≡ true → behind_run (p ∷ ps) ≡ p ∷ ps
+pub behind_start : (p : Placed) (ps : List Placed) → begins_directive p ≡ true → behind_run (p ∷ ps) ≡ p ∷ ps
 behind_start p ps h = ap (λ b. cond b (p ∷ ps) (behind_run ps)) h
 
-behind_on : (p : Placed) (ps : List Placed) → begins_directive p ≡ false → behind_run (p ∷ ps) ≡ behind_run ps
+pub behind_on : (p : Placed) (ps : List Placed) → begins_directive p ≡ false → behind_run (p ∷ ps) ≡ behind_run ps
 behind_on p ps h = ap (λ b. cond b (p ∷ ps) (behind_run ps)) h
 
-later_start : (p : Placed) (ps : List Placed) → p.first ≡ true → later_lines (p ∷ ps) ≡ all_lines (p ∷ ps)
+pub later_start : (p : Placed) (ps : List Placed) → p.first ≡ true → later_lines (p ∷ ps) ≡ all_lines (p ∷ ps)
 later_start p ps h = ap (λ b. cond b (all_lines (p ∷ ps)) (later_lines ps)) h
 
-later_on : (p : Placed) (ps : List Placed) → p.first ≡ false → later_lines (p ∷ ps) ≡ later_lines ps
+pub later_on : (p : Placed) (ps : List Placed) → p.first ≡ false → later_lines (p ∷ ps) ≡ later_lines ps
 later_on p ps h = ap (λ b. cond b (all_lines (p ∷ ps)) (later_lines ps)) h
 
-line_start_at : (t : Token) (p : Placed) (ps : List Placed) → p.first ≡ true → line_from t (p ∷ ps) ≡ t ∷ []
+pub line_start_at : (t : Token) (p : Placed) (ps : List Placed) → p.first ≡ true → line_from t (p ∷ ps) ≡ t ∷ []
 line_start_at t p ps h = ap (λ b. cond b (t ∷ []) (t ∷ line_from p.tok ps)) h
 
-line_on : (t : Token) (p : Placed) (ps : List Placed) → p.first ≡ false → line_from t (p ∷ ps) ≡ t ∷ line_from p.tok ps
+pub line_on : (t : Token) (p : Placed) (ps : List Placed) → p.first ≡ false → line_from t (p ∷ ps) ≡ t ∷ line_from p.tok ps
 line_on t p ps h = ap (λ b. cond b (t ∷ []) (t ∷ line_from p.tok ps)) h
 
 -- a token that begins no directive stands in a text line where the one before it does
-goes_text : (text : Bool) (p : Placed) → text ≡ true → begins_directive p ≡ false → in_text text p ≡ true
+pub goes_text : (text : Bool) (p : Placed) → text ≡ true → begins_directive p ≡ false → in_text text p ≡ true
 goes_text text p is none =
     elim (cases_Bool p.first) [
       | inl first ↦
@@ -236,7 +236,7 @@ goes_text text p is none =
       | inr on ↦ same_line text p on ∙ is
     ]
 
-begins_first : (p : Placed) → begins_directive p ≡ true → p.first ≡ true
+pub begins_first : (p : Placed) → begins_directive p ≡ true → p.first ≡ true
 begins_first p h = (and_parts p.first (is_hash p.tok) h).0
 
 no_start : (p : Placed) (ps : List Placed) → begins_directive p ≡ true → goes_on (p ∷ ps) ≡ true → ⊥
@@ -356,7 +356,7 @@ goes_same text (x ∷ xs) (y ∷ ys) h on =
       | inr two ↦ ap not two.2
     ]
 
-or_parts_false : (b c : Bool) → (b || c) ≡ false → (b ≡ false) × (c ≡ false)
+pub or_parts_false : (b c : Bool) → (b || c) ≡ false → (b ≡ false) × (c ≡ false)
 or_parts_false true c h = absurd cc
 or_parts_false false c h = (refl, h)
 

@@ -62,7 +62,7 @@ no_line : (ys : List ℕ) → starts is_plain ys ≡ true → (new_line_length y
 no_line [] h = absurd cc
 no_line (y ∷ ys) h = let p = plain_parts y h in (rw (p.feed, p.return) refl, p.feed)
 
-gone_before : (c : ℕ) (xs ys : List ℕ) → starts is_plain ys ≡ true → gone_length c (xs ++ ys) ≡ gone_length c xs
+pub gone_before : (c : ℕ) (xs ys : List ℕ) → starts is_plain ys ≡ true → gone_length c (xs ++ ys) ≡ gone_length c xs
 unfolding gone_length
 gone_before c [] ys h = let no = no_line ys h in rw (no.0, no.1) refl
 gone_before c (x ∷ []) ys h = let no = no_line ys h in rw no.1 refl
@@ -78,13 +78,13 @@ seam_before zero (c ∷ xs) ys h plain =
     rw same (seam_before (gone_length c xs - 1) xs ys p.1 plain)
 
 -- and none goes on behind one
-gone_behind : (c : ℕ) (xs ys : List ℕ) → ends_plain (c ∷ xs) ≡ true → gone_length c (xs ++ ys) ≡ gone_length c xs
+pub gone_behind : (c : ℕ) (xs ys : List ℕ) → ends_plain (c ∷ xs) ≡ true → gone_length c (xs ++ ys) ≡ gone_length c xs
 unfolding gone_length
 gone_behind c [] ys h = let p = plain_parts c h in rw (p.slash, p.return) refl
 gone_behind c (x ∷ []) ys h = let p = plain_parts x h in rw (p.feed, p.return) refl
 gone_behind c (x ∷ x2 ∷ xs) ys h = refl
 
-ends_on : (c : ℕ) (xs : List ℕ) → ends_plain (c ∷ xs) ≡ true → ends_plain xs ≡ true
+pub ends_on : (c : ℕ) (xs : List ℕ) → ends_plain (c ∷ xs) ≡ true → ends_plain xs ≡ true
 ends_on c [] h = refl
 ends_on c (x ∷ xs) h = h
 

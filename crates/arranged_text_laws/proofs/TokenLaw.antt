@@ -23,23 +23,23 @@ use Rattle.arranged_text_laws.proofs.FileLemmas.{file_found, of_weighed, texts_a
 
 -- ---- what is found, all of it tokens
 
-abbrev no_token : Token
+abbrev pub no_token : Token
 no_token = token Other [] [] false (pos 0 0) 0 false
 
-abbrev token_in : Found → Token
+abbrev pub token_in : Found → Token
 token_in (FoundToken t first) = t
 token_in (FoundOpen at) = no_token
 
-abbrev first_in : Found → Bool
+abbrev pub first_in : Found → Bool
 first_in (FoundToken t first) = first
 first_in (FoundOpen at) = false
 
-tokens_all : (fs : List Found) → list_all is_shut fs ≡ true → tokens_in fs ≡ map token_in fs
+pub tokens_all : (fs : List Found) → list_all is_shut fs ≡ true → tokens_in fs ≡ map token_in fs
 tokens_all [] h = refl
 tokens_all (FoundToken t first ∷ fs) h = ap (λ (l : List Token). t ∷ l) (tokens_all fs h)
 tokens_all (FoundOpen at ∷ fs) h = absurd cc
 
-firsts_all : (fs : List Found) → list_all is_shut fs ≡ true → firsts_in fs ≡ map first_in fs
+pub firsts_all : (fs : List Found) → list_all is_shut fs ≡ true → firsts_in fs ≡ map first_in fs
 firsts_all [] h = refl
 firsts_all (FoundToken t first ∷ fs) h = ap (λ (l : List Bool). first ∷ l) (firsts_all fs h)
 firsts_all (FoundOpen at ∷ fs) h = absurd cc
@@ -85,11 +85,11 @@ outside-image g (keep n c) xs ys h =
     (take-map g n xs ∙ ap (map g) h.0 ∙ sym (take-map g n ys), rw (drop-map g n xs, drop-map g n ys) (outside-image g c (drop n xs) (drop n ys) h.1))
 outside-image g (list is c) xs ys h = rw (drop-map g (span_of is) xs, drop-map g (span_of is) ys) (outside-image g c (drop (span_of is) xs) (drop (span_of is) ys) h)
 
-map-map : {X Y Z : Type 0} (f : Y → Z) (g : X → Y) (xs : List X) → map f (map g xs) ≡ map (λ x. f (g x)) xs
+pub map-map : {X Y Z : Type 0} (f : Y → Z) (g : X → Y) (xs : List X) → map f (map g xs) ≡ map (λ x. f (g x)) xs
 map-map f g [] = refl
 map-map f g (x ∷ xs) = ap (λ (l : List _). f (g x) ∷ l) (map-map f g xs)
 
-map-same : {X Y : Type 0} (f g : X → Y) (xs : List X) → ((x : X) → f x ≡ g x) → map f xs ≡ map g xs
+pub map-same : {X Y : Type 0} (f g : X → Y) (xs : List X) → ((x : X) → f x ≡ g x) → map f xs ≡ map g xs
 map-same f g [] same = refl
 map-same f g (x ∷ xs) same = ap (λ y. y ∷ map f xs) (same x) ∙ ap (λ (l : List _). g x ∷ l) (map-same f g xs same)
 
@@ -199,7 +199,7 @@ pub firsts_of_file : (file : ℕ) (bytes : List ℕ) → firsts_in (found_of fil
 unfolding firsts_of
 firsts_of_file file bytes = firsts_sorts (found_of file bytes) (found_of 0 bytes) (file_sorts file bytes)
 
-shut_file : (file : ℕ) (bytes : List ℕ) → open_comment_of bytes ≡ None → list_all is_shut (found_of file bytes) ≡ true
+pub shut_file : (file : ℕ) (bytes : List ℕ) → open_comment_of bytes ≡ None → list_all is_shut (found_of file bytes) ≡ true
 unfolding open_comment_of
 shut_file file bytes h = shut_same (found_of file bytes) (found_of 0 bytes) (file_sorts file bytes) (open_none (found_of 0 bytes) h)
 
@@ -235,7 +235,7 @@ new_shut n order c file bytes is all none F =
     let shut : list_all is_shut F.new ≡ true = map_shut F.new ∙ ap (list_all (λ b. b)) same ∙ sym (map_shut T) ∙ shut_file file bytes none in
     (shut, ap (list_all is_shut) F.found ∙ shut_arranged n order tc F.new is all shut)
 
-length-text : (bytes : List ℕ) → length (text (marks_of bytes)) ≡ length (logical_of bytes)
+pub length-text : (bytes : List ℕ) → length (text (marks_of bytes)) ≡ length (logical_of bytes)
 length-text bytes = ap length (text_marks bytes 0 (logical_of bytes)) ∙ length-map (logical_of bytes) (λ (c : Character). c.byte)
 
 pub tokens_of_files_are_arranged : TokensOfFilesAreArranged

@@ -105,7 +105,7 @@ masked-append h (list is c) xs ys le =
     rw (masked_items-append h is xs ys one, drop-append-le (span_of is) xs ys one, masked-append h c (drop (span_of is) xs) ys rest)
     (sym (append_assoc (masked_items h is xs) (masked h c (drop (span_of is) xs)) ys))
 
-firsts_append : {Y : Type 0} (p : Y → Bool) (c : Cut) (xs ys : List Y) → extent_of c ≤ length xs → Firsts p c xs → Firsts p c (xs ++ ys)
+pub firsts_append : {Y : Type 0} (p : Y → Bool) (c : Cut) (xs ys : List Y) → extent_of c ≤ length xs → Firsts p c xs → Firsts p c (xs ++ ys)
 unfolding extent_of
 firsts_append p done xs ys le h = tt
 firsts_append p (keep k c) xs ys le h =

@@ -14,3 +14,5 @@ pub mod Tokens
 pub mod Runs
 pub mod Parts
 pub mod FileItems
+-- Words of the crates below, passed on.
+pub mod Below

@@ -1,15 +1,18 @@
 -- Tables of files, and what is looked for in them, as they were and edited.
-use Rattle.std.proofs.Common.{◌≡◌, ℕ, ◌+◌, Bool, true, false, cond, List, [], ◌∷◌, length, Option, None, Some, is_some, refl, sym, ◌∙◌, ap, subst, inl, inr}
+use Rattle.std.proofs.Common.{◌≡◌, ℕ, zero, suc, ◌+◌, Bool, true, false, cond, List, [], ◌∷◌, ◌++◌, length, Option, None, Some, is_some, refl, sym, ◌∙◌, ap, subst, inl, inr}
+use Rattle.std.specs.Prelude.{slice_get}
 use Rattle.std.specs.Option.{option_map}
 use Rattle.std.specs.Str.{bytes_eq}
 use Rattle.std.proofs.lemmas.Bool.{cases_Bool}
 use Rattle.std.proofs.lemmas.List.{map-append}
 use Rattle.std.proofs.lemmas.Option.{none-some, same_Some}
 use Rattle.include_tree.proofs.Below.cs_base.FileMapLemmas.{bytes_eq-equal}
-use Rattle.include_tree.specs.Below.source_files.Files.{Source, Found, Lines, Absent, Unopened, Opened, Made, entry, Table, number_of, found_at, found_in, numbered, asked, opened, opened_bytes, one_more, more_bytes, files_opened, bytes_opened}
+use Rattle.include_tree.specs.Below.source_files.Files.{Source, SourceFile, Found, Lines, Absent, Unopened, Opened, Made, Entry, entry, Table, number_of, found_at, found_in, numbered, asked, opened, opened_bytes, one_more, more_bytes, files_opened, bytes_opened}
 use Rattle.include_tree.specs.Below.source_files.Search.{Searched, searched, search, search_on}
-use Rattle.include_tree.specs.Below.source_files.Tables.{IsFound, AreFound}
-use Rattle.reordered_unit_laws.specs.Edited.{Edit, edited_found, edited_entry, edited_files, edited_source}
+use Rattle.include_tree.specs.Below.source_files.Tables.{Becomes, IsGrown, IsFound, AreFound}
+use Rattle.include_tree.specs.Below.part_lexer.FileText.{TextValue}
+use Rattle.reordered_unit_laws.specs.Walking.{IsEdited}
+use Rattle.reordered_unit_laws.specs.Edited.{Edit, edited_found, edited_entry, edited_files, edited_source, IsEditedSource}
 
 -- ---- what a path stands for
 
@@ -46,9 +49,10 @@ asked_by edit old path t false =
     ap (λ (f : Found). numbered path f (edited_files edit t)) (read_edited (edit path) (old path)) ∙ sym (numbered_edited edit path (found_in (old path)) t)
 
 -- a path that is asked for
-pub asked_edited : (edit : Edit) (old : Source) (path : List ℕ) (t : Table) → asked (edited_source edit old) path (edited_files edit t) ≡ edited_files edit (asked old path t)
-asked_edited edit old path t =
-    ap (λ (b : Bool). cond b (edited_files edit t) (numbered path (found_in (edited_source edit old path)) (edited_files edit t)))
+pub asked_edited : (edit : Edit) (old new : Source) → IsEditedSource edit old new → (path : List ℕ) (t : Table) → asked new path (edited_files edit t) ≡ edited_files edit (asked old path t)
+asked_edited edit old new news path t =
+    ap (λ (o : Option (List ℕ)). cond (is_some (found_at path (edited_files edit t))) (edited_files edit t) (numbered path (found_in o) (edited_files edit t))) (news path)
+    ∙ ap (λ (b : Bool). cond b (edited_files edit t) (numbered path (found_in (edited_source edit old path)) (edited_files edit t)))
     (ap (λ (o : Option Found). is_some o) (found_edited edit path t) ∙ some_edited (edit path) (found_at path t))
     ∙ asked_by edit old path t (is_some (found_at path t))
 
@@ -82,18 +86,18 @@ unfolding files_opened
 files_edited edit [] = refl
 files_edited edit (e ∷ t) = one_edited (edit e.path) e.found (files_opened (edited_files edit t)) ∙ ap (one_more (opened_bytes e.found)) (files_edited edit t)
 
-more_edited : (one : List ℕ → List ℕ) → ((bytes : List ℕ) → length (one bytes) ≡ length bytes) → (f : Found) (n : ℕ) → more_bytes (opened_bytes (edited_found one f)) n ≡ more_bytes (opened_bytes f) n
-more_edited one sizes Lines n = refl
-more_edited one sizes Absent n = refl
-more_edited one sizes (Unopened bytes) n = refl
-more_edited one sizes (Opened bytes) n = ap (λ (k : ℕ). n + k) (sizes bytes)
-more_edited one sizes (Made bytes) n = refl
+more_edited : (old : Source) (path : List ℕ) (one : List ℕ → List ℕ) → ((bytes : List ℕ) → old path ≡ Some bytes → length (one bytes) ≡ length bytes) → (f : Found) (n : ℕ) → IsFound old path f → more_bytes (opened_bytes (edited_found one f)) n ≡ more_bytes (opened_bytes f) n
+more_edited old path one sizes Lines n held = refl
+more_edited old path one sizes Absent n held = refl
+more_edited old path one sizes (Unopened bytes) n held = refl
+more_edited old path one sizes (Opened bytes) n held = ap (λ (k : ℕ). n + k) (sizes bytes held)
+more_edited old path one sizes (Made bytes) n held = refl
 
-pub bytes_edited : (edit : Edit) → ((path bytes : List ℕ) → length (edit path bytes) ≡ length bytes) → (t : Table) → bytes_opened (edited_files edit t) ≡ bytes_opened t
+pub bytes_edited : (edit : Edit) (old : Source) → ((path bytes : List ℕ) → old path ≡ Some bytes → length (edit path bytes) ≡ length bytes) → (t : Table) → AreFound old t → bytes_opened (edited_files edit t) ≡ bytes_opened t
 unfolding bytes_opened
-bytes_edited edit sizes [] = refl
-bytes_edited edit sizes (e ∷ t) =
-    more_edited (edit e.path) (sizes e.path) e.found (bytes_opened (edited_files edit t)) ∙ ap (more_bytes (opened_bytes e.found)) (bytes_edited edit sizes t)
+bytes_edited edit old sizes [] all = refl
+bytes_edited edit old sizes (e ∷ t) all =
+    more_edited old e.path (edit e.path) (sizes e.path) e.found (bytes_opened (edited_files edit t)) all.0 ∙ ap (more_bytes (opened_bytes e.found)) (bytes_edited edit old sizes t all.1)
 
 -- ---- searching
 
@@ -110,15 +114,15 @@ on_edited edit one path t rest rest2 (Some (Unopened bytes)) h = refl
 on_edited edit one path t rest rest2 (Some (Opened bytes)) h = refl
 on_edited edit one path t rest rest2 (Some (Made bytes)) h = refl
 
-pub search_edited : (edit : Edit) (old : Source) (paths : List (List ℕ)) (t : Table)
-    → search (edited_source edit old) paths (edited_files edit t) ≡ searched (search old paths t).path (edited_files edit (search old paths t).table)
+pub search_edited : (edit : Edit) (old new : Source) → IsEditedSource edit old new → (paths : List (List ℕ)) (t : Table)
+    → search new paths (edited_files edit t) ≡ searched (search old paths t).path (edited_files edit (search old paths t).table)
 unfolding search
-search_edited edit old [] t = refl
-search_edited edit old (path ∷ paths) t =
+search_edited edit old new news [] t = refl
+search_edited edit old new news (path ∷ paths) t =
     let u : Table = asked old path t in
-    ap (λ (v : Table). search_on path v (search (edited_source edit old) paths) (found_at path v)) (asked_edited edit old path t)
-    ∙ ap (search_on path (edited_files edit u) (search (edited_source edit old) paths)) (found_edited edit path u)
-    ∙ on_edited edit (edit path) path u (search old paths) (search (edited_source edit old) paths) (found_at path u) (search_edited edit old paths u)
+    ap (λ (v : Table). search_on path v (search new paths) (found_at path v)) (asked_edited edit old new news path t)
+    ∙ ap (search_on path (edited_files edit u) (search new paths)) (found_edited edit path u)
+    ∙ on_edited edit (edit path) path u (search old paths) (search new paths) (found_at path u) (search_edited edit old new news paths u)
 
 -- ---- what the source holds
 
@@ -138,3 +142,28 @@ found_is old path f (e ∷ t) all is =
 pub found_more : (old : Source) (path bytes : List ℕ) (t : Table) → AreFound old t → AreFound old (numbered path (Made bytes) t)
 found_more old path bytes [] all = (tt, tt)
 found_more old path bytes (e ∷ t) all = (all.0, found_more old path bytes t all.1)
+
+-- ---- tables that grow
+
+-- what a file that was opened or made stands for stays
+entry_stays : (t u : Table) (n : ℕ) (path : List ℕ) (f : Found) → ((bytes : List ℕ) → f ≡ Unopened bytes → ⊥) → IsGrown t u → slice_get t n ≡ Some (entry path f) → slice_get u n ≡ Some (entry path f)
+entry_stays [] u n path f read grown at = absurd (none-some (entry path f) at)
+entry_stays (e ∷ t) [] n path f read grown at = absurd grown
+entry_stays (e ∷ t) (g ∷ u) (suc n) path f read grown at = entry_stays t u n path f read grown.2 at
+entry_stays (e ∷ t) (g ∷ u) zero path f read grown at =
+    let same : e ≡ entry path f = same_Some e (entry path f) at in
+    let path_is : g.path ≡ path = grown.0 ∙ ap (λ (x : Entry). x.path) same in
+    let old_is : e.found ≡ f = ap (λ (x : Entry). x.found) same in
+    ap (λ (p : List ℕ). Some (entry p g.found)) path_is ∙ ap (λ (x : Found). Some (entry path x)) (found_stays e.found g.found old_is grown.1)
+  where
+    found_stays : (x y : Found) → x ≡ f → Becomes x y → y ≡ f
+    found_stays x y is (inl same) = same ∙ is
+    found_stays x y is (inr more) = absurd (read more.0 (sym is ∙ more.1))
+
+pub edited_grown : (edit : Edit) (old : Source) (t u : Table) (file : SourceFile) (text : TextValue) → IsGrown t u → IsEdited edit old t file text → IsEdited edit old u file text
+edited_grown edit old t u file text grown (inl h) = inl (h.0, entry_stays t u file.number file.path (Opened h.0) (λ bytes e. absurd cc) grown h.1, h.2, h.3, h.4)
+edited_grown edit old t u file text grown (inr h) = inr (h.0, entry_stays t u file.number file.path (Made h.0) (λ bytes e. absurd cc) grown h.1, h.2, h.3)
+
+pub grown_more : (t u : Table) → IsGrown t (t ++ u)
+grown_more [] u = tt
+grown_more (e ∷ t) u = (refl, inl refl, grown_more t u)

@@ -1,6 +1,6 @@
 -- Lines of directives do over the edited files what they did.
 use Rattle.std.proofs.Common.{◌≡◌, ℕ, ◌+◌, Bool, true, false, cond, is_some, List, [], ◌∷◌, ◌++◌, length, map, drop, codes, Option, Some, None, Result, Ok, Err, refl, ap, sym, subst, ◌∙◌}
-use Rattle.std.specs.List.{list_any}
+use Rattle.std.specs.List.{list_any, flat_map}
 use Rattle.std.specs.Option.{option_map}
 use Rattle.std.specs.Str.{bytes_eq}
 use Rattle.std.proofs.lemmas.Option.{none-some, same_Some}
@@ -23,19 +23,20 @@ use Rattle.include_tree.specs.Below.source_files.Faults.{fault_at}
 use Rattle.include_tree.specs.Below.source_files.Files.{SourceFile, Table}
 use Rattle.include_tree.specs.Below.source_files.HeaderNames.{is_header, header_in, header_of_toks}
 use Rattle.include_tree.specs.Below.source_files.Search.{Header}
-use Rattle.include_tree.specs.Below.source_files.Tables.{AreFound}
+use Rattle.include_tree.specs.Below.source_files.Tables.{IsGrown, AreFound}
+use Rattle.include_tree.proofs.Below.source_files.TableLemmas.{grown_refl}
 use Rattle.include_tree.specs.Below.unit_steps.Conditions.{Piece, Plain, Asks, pieces_from, is_macro, test_notes, answer_for, answered, left_name, left_over, valued, judged, asked_pieces, holds, is_defined}
 use Rattle.include_tree.specs.Below.unit_steps.Directives.{operand_in, define_notes, after_define, defined_as, define_of, after_undef, undefined_as, undef_of, asks_name}
 use Rattle.include_tree.specs.Below.unit_steps.Expanding.{expanded_as, expanded_in}
 use Rattle.include_tree.specs.Below.unit_steps.IncludeNames.{header_or, computed_header, header_named}
-use Rattle.include_tree.specs.Below.unit_steps.Names.{spelled_in, name_links, with_name}
-use Rattle.include_tree.specs.Below.unit_steps.Notes.{Note, Happened, Undefined, Left, Answered, Entered, Exited, Named}
+use Rattle.include_tree.specs.Below.unit_steps.Names.{spelled_in, linked_with, name_links, with_name, parameter_named, definition_links}
+use Rattle.include_tree.specs.Below.unit_steps.Notes.{Note, Happened, Defined, Undefined, Tested, Left, Answered, Entered, Exited, Named}
 use Rattle.include_tree.specs.Below.unit_steps.State.{State, Did, did, only, onward}
 use Rattle.include_tree.specs.Including.{Process, Inner, entered, included, include_of, open_header}
 use Rattle.include_tree.specs.Walk.{items_in}
 use Rattle.reordered_unit_laws.specs.Edited.{Edit, edited_state}
-use Rattle.reordered_unit_laws.specs.Walking.{AreItemsAlike, text_items, KeepsTexts, with_text, IsEdited}
-use Rattle.reordered_unit_laws.proofs.StepLemmas.{World, LineMacros, Fits, Still, Goes, Same, itself, plus_none, none_begins, still_only, goes_noted, then_still, still_then, goes_then, still_cond, still_test}
+use Rattle.reordered_unit_laws.specs.Walking.{AreItemsAlike, text_items, KeepsTexts, with_text, IsEdited, IsReachedAt}
+use Rattle.reordered_unit_laws.proofs.StepLemmas.{World, LineMacros, AreQuiet, quiet_both, Fits, Still, Goes, Same, itself, plus_none, none_begins, still_only, goes_noted, then_still, still_then, goes_then, still_cond, still_test}
 use Rattle.reordered_unit_laws.proofs.OpenLemmas.{FileGoes, ctx, ctx2, header_goes}
 
 -- ---- names
@@ -102,23 +103,53 @@ record IsSteady {A : Type 0} (edit : Edit) (s : State) (d d2 : Did A) : Type 0 w
   table : d.state.table ≡ s.table
   before : d.state.before ≡ s.before
   lines : LineMacros s.macros → LineMacros d.state.macros
+  quiet : AreQuiet d.notes
 
 steady_fits : {A : Type 0} (w : World) (s : State) (d d2 : Did A) → IsSteady w.edit s d d2 → Fits w s → Fits w d.state
 steady_fits w s d d2 k fits = (subst (λ (t : Table). AreFound w.old t) (sym k.table) fits.0, k.lines fits.1)
 
+steady_grown : {A : Type 0} (edit : Edit) (s : State) (d d2 : Did A) → IsSteady edit s d d2 → IsGrown s.table d.state.table
+steady_grown edit s d d2 k = subst (IsGrown s.table) (sym k.table) (grown_refl s.table)
+
 steady_goes : {A : Type 0} (w : World) (s : State) (d d2 : Did A) → IsSteady w.edit s d d2 → Still w Same s (Ok d) (Ok d2)
-steady_goes w s d d2 k = λ told fits. record {
+steady_goes w s d d2 k = λ fits. record {
   too = record { value = d2.value; notes = d2.notes; is = ap (λ (t : State). Ok (did d2.value d2.notes t)) k.state; goes = k.value };
   fits = steady_fits w s d d2 k fits;
   before = k.before;
+  grown = steady_grown w.edit s d d2 k;
+  quiet = k.quiet;
 }
+
+links_quiet : (name : Token) (o : Option Token) → AreQuiet (linked_with name o)
+links_quiet name None = λ b. (tt, tt)
+links_quiet name (Some first) = λ b. ((tt, tt), (tt, tt))
+
+behind_quiet : (note : Note) (notes : List Note) → AreQuiet (note ∷ []) → AreQuiet notes → AreQuiet (note ∷ notes)
+behind_quiet note notes h k = quiet_both (note ∷ []) notes h k
+
+tested_quiet : (name : Token) (s : State) → AreQuiet (test_notes name s)
+tested_quiet name s = behind_quiet (Tested name s.before) (name_links name s) (λ b. ((tt, tt), (tt, tt))) (links_quiet name (spelled_in s.names name.text))
+
+pub happened_quiet : (run : Bool) (before : ℕ) (notes : List expansion.Note) → AreQuiet (map (Happened run before) notes)
+happened_quiet run before [] = λ b. (tt, tt)
+happened_quiet run before (n ∷ ns) = behind_quiet (Happened run before n) (map (Happened run before) ns) (λ b. ((tt, tt), (tt, tt))) (happened_quiet run before ns)
+
+uses_quiet : (params body : List Token) → AreQuiet (flat_map (λ t. linked_with t (parameter_named params t)) body)
+uses_quiet params [] = λ b. (tt, tt)
+uses_quiet params (t ∷ body) =
+    quiet_both (linked_with t (parameter_named params t)) (flat_map (λ t. linked_with t (parameter_named params t)) body) (links_quiet t (parameter_named params t)) (uses_quiet params body)
+
+define_quiet : (m : Definition) (s : State) → AreQuiet (define_notes m s)
+define_quiet m s =
+    behind_quiet (Defined m s.before) (name_links m.name s ++ definition_links m) (λ b. ((tt, tt), (tt, tt)))
+    (quiet_both (name_links m.name s) (definition_links m) (links_quiet m.name (spelled_in s.names m.name.text)) (uses_quiet m.params m.body))
 
 answered_steady : (edit : Edit) (pieces : List Piece) (s : State) → IsSteady edit s (answered pieces s) (answered pieces (edited_state edit s))
 unfolding answered
-answered_steady edit [] s = record { value = refl; notes = refl; state = refl; table = refl; before = refl; lines = λ h. h }
+answered_steady edit [] s = record { value = refl; notes = refl; state = refl; table = refl; before = refl; lines = λ h. h; quiet = λ b. (tt, tt) }
 answered_steady edit (Plain t ∷ pieces) s =
     let k = answered_steady edit pieces s in
-    record { value = ap (λ (l : List Token). t ∷ l) k.value; notes = k.notes; state = k.state; table = k.table; before = k.before; lines = k.lines }
+    record { value = ap (λ (l : List Token). t ∷ l) k.value; notes = k.notes; state = k.state; table = k.table; before = k.before; lines = k.lines; quiet = k.quiet }
 answered_steady edit (Asks word name ∷ pieces) s =
     let k = answered_steady edit pieces (with_name name s) in
     let there : answered pieces (with_name name (edited_state edit s)) ≡ answered pieces (edited_state edit (with_name name s)) = ap (answered pieces) (name_edited edit name s) in
@@ -129,6 +160,8 @@ answered_steady edit (Asks word name ∷ pieces) s =
       table = k.table ∙ name_table name s;
       before = k.before ∙ name_before name s;
       lines = λ h. k.lines (name_lines name s h);
+      quiet = quiet_both (front s) (answered pieces (with_name name s)).notes
+          (quiet_both (test_notes name s) (Answered (answer_for word (is_macro name s)) ∷ []) (tested_quiet name s) (λ b. ((tt, tt), (tt, tt)))) k.quiet;
     }
   where
     front : State → List Note
@@ -148,11 +181,13 @@ left_by edit t toks s h k true =
       table = k.table ∙ name_table t s;
       before = k.before ∙ name_before t s;
       lines = λ h. k.lines (name_lines t s h);
+      quiet = behind_quiet (Left t s.before) (name_links t s ++ (left_over toks (with_name t s)).notes) (λ b. ((tt, tt), (tt, tt)))
+          (quiet_both (name_links t s) (left_over toks (with_name t s)).notes (links_quiet t (spelled_in s.names t.text)) k.quiet);
     }
 
 left_steady : (edit : Edit) (toks : List Token) (s : State) → IsSteady edit s (left_over toks s) (left_over toks (edited_state edit s))
 unfolding left_over
-left_steady edit [] s = record { value = refl; notes = refl; state = refl; table = refl; before = refl; lines = λ h. h }
+left_steady edit [] s = record { value = refl; notes = refl; state = refl; table = refl; before = refl; lines = λ h. h; quiet = λ b. (tt, tt) }
 left_steady edit (t ∷ toks) s = left_by edit t toks s (left_steady edit toks s) (left_steady edit toks (with_name t s)) (is_name t)
 
 module _ (w : World) where
@@ -160,10 +195,12 @@ module _ (w : World) where
   expanded_goes : (file : SourceFile) (text : TextValue) (s : State) (r : Result expansion.Expanded expansion.Fault)
       → Still w Same s (expanded_as false file s r) (expanded_as false (with_text file text) (edited_state w.edit s) r)
   expanded_goes file text s (Err found) = tt
-  expanded_goes file text s (Ok e) = λ told fits. record {
+  expanded_goes file text s (Ok e) = λ fits. record {
     too = record { value = toks_of e.toks; notes = map (Happened false s.before) e.notes; is = refl; goes = refl };
     fits = fits;
     before = refl;
+    grown = grown_refl s.table;
+    quiet = happened_quiet false s.before e.notes;
   }
 
   valued_goes : (file : SourceFile) (text : TextValue) (at : Pos) (toks : List Token) (s : State) (r : Result Bool CondFault)
@@ -173,7 +210,7 @@ module _ (w : World) where
       let k = left_steady w.edit toks s in
       let d = left_over toks s in
       let d2 = left_over toks (edited_state w.edit s) in
-      steady_goes w s (did b d.notes d.state) (did b d2.notes d2.state) (record { value = refl; notes = k.notes; state = k.state; table = k.table; before = k.before; lines = k.lines })
+      steady_goes w s (did b d.notes d.state) (did b d2.notes d2.state) (record { value = refl; notes = k.notes; state = k.state; table = k.table; before = k.before; lines = k.lines; quiet = k.quiet })
 
   pub holds_goes : (file : SourceFile) (text : TextValue) (at : Pos) (toks : List Token) (s : State)
       → Still w Same s (holds file at toks s) (holds (with_text file text) at toks (edited_state w.edit s))
@@ -206,7 +243,7 @@ module _ (w : World) where
   asks_goes file new at answer s None = tt
   asks_goes file new at answer s (Some name) =
       steady_goes w s (did (answer (is_macro name s)) (test_notes name s) (with_name name s)) (did (answer (is_macro name s)) (test_notes name s) (with_name name (edited_state w.edit s)))
-      (record { value = refl; notes = refl; state = name_edited w.edit name s; table = name_table name s; before = name_before name s; lines = name_lines name s })
+      (record { value = refl; notes = refl; state = name_edited w.edit name s; table = name_table name s; before = name_before name s; lines = name_lines name s; quiet = tested_quiet name s })
 
   -- ---- lines that put nothing out
 
@@ -215,11 +252,14 @@ module _ (w : World) where
   Put before toks toks2 = w.V before toks toks2
 
   silent_goes : (s : State) (d d2 : Did (List Token)) → IsSteady w.edit s d d2 → d.value ≡ [] → Goes w itself Put s (Ok d) (Ok d2)
-  silent_goes s d d2 k none = λ told fits stand. record {
+  silent_goes s d d2 k none = λ fits. record {
     fits = steady_fits w s d d2 k fits;
     counted = k.before ∙ plus_none s.before ∙ ap (λ (l : List Token). s.before + length l) (sym none);
-    begins = none_begins d.value (w.Starts s.before) none;
-    too = λ ends. record {
+    grown = steady_grown w.edit s d d2 k;
+    up = (k.quiet d.state.before).0;
+    down = (k.quiet s.before).1;
+    begins = none_begins d.value (IsReachedAt s.before d.notes) none;
+    too = λ within. record {
       value = d2.value;
       notes = d2.notes;
       is = ap (λ (t : State). Ok (did d2.value d2.notes t)) k.state;
@@ -242,6 +282,7 @@ module _ (w : World) where
             table = name_table m.name s;
             before = name_before m.name s;
             lines = λ h name d e. with_line m d name (s.macros name) (bytes_eq name m.name.text) (defined_no_line toks m is) (h name d) e;
+            quiet = define_quiet m s;
           }) refl
 
   pub undef_goes : (file new : SourceFile) (at : Pos) (toks : List Token) (s : State)
@@ -259,6 +300,7 @@ module _ (w : World) where
             table = name_table name s;
             before = name_before name s;
             lines = λ h n d e. without_line d n (s.macros n) (bytes_eq n name.text) (h n d) e;
+            quiet = behind_quiet (Undefined name s.before) (name_links name s) (λ b. ((tt, tt), (tt, tt))) (links_quiet name (spelled_in s.names name.text));
           }) refl
 
   -- ---- include lines
@@ -267,7 +309,7 @@ module _ (w : World) where
       → Still w Same s (header_or file at toks s o) (header_or new at toks (edited_state w.edit s) o)
   header_or_goes file new at toks s None = tt
   header_or_goes file new at toks s (Some h) =
-      steady_goes w s (did h (Named toks ∷ []) s) (did h (Named toks ∷ []) (edited_state w.edit s)) (record { value = refl; notes = refl; state = refl; table = refl; before = refl; lines = λ h. h })
+      steady_goes w s (did h (Named toks ∷ []) s) (did h (Named toks ∷ []) (edited_state w.edit s)) (record { value = refl; notes = refl; state = refl; table = refl; before = refl; lines = λ h. h; quiet = λ b. ((tt, tt), (tt, tt)) })
 
   computed_goes : (file : SourceFile) (text : TextValue) (at : Pos) (toks : List Token) (s : State)
       → Still w Same s (computed_header file at toks s) (computed_header (with_text file text) at toks (edited_state w.edit s))
@@ -288,7 +330,7 @@ module _ (w : World) where
 
   -- the items of an included file
   abbrev pub ProcessGoes : Process → Process → Type 0
-  ProcessGoes process process2 = (file : SourceFile) (text : TextValue) → AreItemsAlike (items_in file) (text_items text) → IsEdited w.edit w.old file text → (s : State)
+  ProcessGoes process process2 = (file : SourceFile) (text : TextValue) → AreItemsAlike (items_in file) (text_items text) → (s : State) → IsEdited w.edit w.old s.table file text
       → Goes w itself Put s (process file s) (process2 (with_text file text) (edited_state w.edit s))
 
   abbrev pub InnerGoes : Inner → Inner → Type 0
@@ -298,12 +340,12 @@ module _ (w : World) where
 
   module _ (keeps : KeepsTexts w.edit w.old) (ipath : List (List ℕ)) (earlier : ℕ) where
     entered_goes : (process process2 : Process) → ProcessGoes process process2 → (at : Pos) (file : SourceFile) (text : TextValue) → AreItemsAlike (items_in file) (text_items text)
-        → IsEdited w.edit w.old file text → (s : State) → Goes w itself Put s (entered process at file s) (entered process2 at (with_text file text) (edited_state w.edit s))
-    entered_goes process process2 goes at file text items edited s =
+        → (s : State) → IsEdited w.edit w.old s.table file text → Goes w itself Put s (entered process at file s) (entered process2 at (with_text file text) (edited_state w.edit s))
+    entered_goes process process2 goes at file text items s edited =
         goes_noted w itself Put s (Entered at file.number s.before ∷ []) (onward (process file s) (λ toks t. Ok (did toks (Exited at file.number t.before ∷ []) t)))
         (onward (process2 (with_text file text) (edited_state w.edit s)) (λ toks t. Ok (did toks (Exited at file.number t.before ∷ []) t)))
-        (λ told. goes_then w itself Put itself Put s (process file s) (process2 (with_text file text) (edited_state w.edit s)) (λ toks. toks) (λ t. Exited at file.number t.before ∷ [])
-        (λ a. refl) (λ b x y v. v) (λ t. refl) (goes file text items edited s))
+        (tt, tt) (tt, tt) (goes_then w itself Put itself Put s (process file s) (process2 (with_text file text) (edited_state w.edit s)) (λ toks. toks) (λ t. Exited at file.number t.before ∷ [])
+        (λ a. refl) (λ b x y v. v) (λ t. refl) (λ t b. ((tt, tt), (tt, tt))) (goes file text items s edited))
 
     included_goes : (inner inner2 : Inner) → InnerGoes inner inner2 → (file : SourceFile) (text : TextValue) (at : Pos) (h : Header) (s : State)
         → Goes w itself Put s (included (ctx w keeps ipath earlier) inner file at h s) (included (ctx2 w keeps ipath earlier) inner2 (with_text file text) at h (edited_state w.edit s))
@@ -314,7 +356,7 @@ module _ (w : World) where
         still_then w (FileGoes w) itself Put s (open_header (ctx w keeps ipath earlier) file at h s) (open_header (ctx2 w keeps ipath earlier) (with_text file text) at h (edited_state w.edit s))
         (entered process at) (entered process2 at) (header_goes w keeps ipath earlier file text at h s)
         (λ f f2 t r. subst (λ (g : SourceFile). Goes w itself Put t (entered process at f t) (entered process2 at g (edited_state w.edit t))) (sym r.1)
-        (entered_goes process process2 goes at f r.0 r.2 r.3 t))
+        (entered_goes process process2 goes at f r.0 r.2 t r.3))
 
     pub include_goes : (inner inner2 : Inner) → InnerGoes inner inner2 → (file : SourceFile) (text : TextValue) (at : Pos) (toks : List Token) (s : State)
         → Goes w itself Put s (include_of (ctx w keeps ipath earlier) inner file at toks s) (include_of (ctx2 w keeps ipath earlier) inner2 (with_text file text) at toks (edited_state w.edit s))

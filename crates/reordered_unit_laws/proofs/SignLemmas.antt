@@ -6,8 +6,8 @@ use Rattle.std.proofs.lemmas.List.{drop-drop, drop-take, take-take, length-drop}
 use Rattle.std.proofs.lemmas.Option.{slice_get_within}
 use Rattle.include_tree.specs.Below.cs_base.Token.{Token}
 use Rattle.include_tree.specs.Below.line_shape.Signs.{is_open, is_close, is_comma}
-use Rattle.list_cuts.specs.Cuts.{Cut, done, keep, list, Items, ended, item, count_of, span_of}
-use Rattle.list_cuts.specs.CutOf.{front, back}
+use Rattle.arranged_laws.specs.Below.list_cuts.Cuts.{Cut, done, keep, list, Items, ended, item, count_of, span_of}
+use Rattle.arranged_laws.specs.Below.list_cuts.CutOf.{front, back}
 use Rattle.arranged_laws.specs.Arranging.{IsSign, SignsStand, ItemsSigned, in_lists}
 use Rattle.reordered_unit_laws.proofs.PartLemmas.{or_none, and_rest}
 

@@ -13,22 +13,22 @@ use Rattle.include_tree.specs.Below.macro_body.declared.definitions.Definition.{
 use Rattle.include_tree.specs.Below.macro_body.Defining.{line_macro, file_macro, first_macros}
 use Rattle.include_tree.specs.Below.part_lexer.FileText.{file_text}
 use Rattle.include_tree.specs.Below.source_files.Faults.{first_place}
-use Rattle.include_tree.specs.Below.source_files.Files.{Made, SourceFile, Table, Carried, defines_path, asked}
+use Rattle.include_tree.specs.Below.source_files.Files.{Made, entry, SourceFile, Table, Carried, defines_path, asked}
 use Rattle.include_tree.specs.Below.source_files.Limits.{the_limits}
-use Rattle.include_tree.specs.Below.source_files.Tables.{AreFound}
-use Rattle.include_tree.proofs.Below.source_files.TableLemmas.{widens_asked}
+use Rattle.include_tree.specs.Below.source_files.Tables.{IsGrown, AreFound, Widens}
+use Rattle.include_tree.proofs.Below.source_files.TableLemmas.{grown_refl, grown_trans, widens_asked}
 use Rattle.include_tree.specs.OpeningStep.{open_file}
 use Rattle.include_tree.specs.Below.unit_steps.Notes.{Note}
 use Rattle.include_tree.specs.Below.unit_steps.State.{State, Did, did, Outcome}
 use Rattle.include_tree.specs.Unit.{first_state, outer_file, main_file, both_files, unit_outcome}
 use Rattle.include_tree.specs.Walk.{file_items}
-use Rattle.list_cuts.specs.Cuts.{Cut, done, keep, list, span_of, IsOrder, picked, woven, gaps_of, arranged, items_of, AreOf}
-use Rattle.list_cuts.specs.CutOf.{back}
-use Rattle.list_cuts.proofs.CutLemmas.{length-arranged, gaps_of-append, items_of-append}
-use Rattle.reordered_unit_laws.specs.Edited.{Edit, edited_files, edited_source, edited_carried, edited_state}
+use Rattle.arranged_laws.specs.Below.list_cuts.Cuts.{Cut, done, keep, list, span_of, IsOrder, picked, woven, gaps_of, arranged, items_of, AreOf}
+use Rattle.arranged_laws.specs.Below.list_cuts.CutOf.{back}
+use Rattle.arranged_laws.proofs.Below.list_cuts.CutLemmas.{length-arranged, gaps_of-append, items_of-append}
+use Rattle.reordered_unit_laws.specs.Edited.{Edit, edited_files, edited_carried, edited_state}
 use Rattle.reordered_unit_laws.specs.Walking.{KeepsTexts, plain, plains, GoAlong, UnitsGoAlike}
-use Rattle.reordered_unit_laws.proofs.EditedLemmas.{numbered_edited, asked_edited, found_more}
-use Rattle.reordered_unit_laws.proofs.StepLemmas.{World, LineMacros, PutsToo, Goes, itself, AreAmong, of_itself, StandAt, still_then}
+use Rattle.reordered_unit_laws.proofs.EditedLemmas.{numbered_edited, asked_edited, found_more, grown_more}
+use Rattle.reordered_unit_laws.proofs.StepLemmas.{World, LineMacros, PutsToo, Goes, itself, StandAt, still_then}
 use Rattle.reordered_unit_laws.proofs.OpenLemmas.{FileGoes, ctx, ctx2, open_goes}
 use Rattle.reordered_unit_laws.proofs.RunLemmas.{RunsToo}
 use Rattle.reordered_unit_laws.proofs.WalkLemmas.{goes_more, goes_map, files_go}
@@ -46,26 +46,29 @@ module _ (w : World) (runs : RunsToo w) (keeps : KeepsTexts w.edit w.old) (ipath
       (file_items (ctx w keeps ipath earlier) room) (file_items (ctx2 w keeps ipath earlier) room) (open_goes w keeps ipath earlier (first_place path) (first_place path) path s)
       (λ f f2 t r.
       subst (λ (g : SourceFile). Goes w itself w.V t (file_items (ctx w keeps ipath earlier) room f t) (file_items (ctx2 w keeps ipath earlier) room g (edited_state w.edit t))) (sym r.1)
-      (files_go w runs keeps ipath earlier room f r.0 r.2 r.3 t))
+      (files_go w runs keeps ipath earlier room f r.0 r.2 t r.3))
 
   -- a step from another table
-  table_goes : (s : State) (t : Table) (m new : Outcome (List Token)) → (AreFound w.old s.table → AreFound w.old t) → Goes w itself w.V (record s { table = t }) m new → Goes w itself w.V s m new
+  table_goes : (s : State) (t : Table) (m new : Outcome (List Token)) → Widens w.old s.table t → Goes w itself w.V (record s { table = t }) m new → Goes w itself w.V s m new
   table_goes s t (Err fault) new more h = tt
-  table_goes s t (Ok d) new more h = λ told fits stand.
-      let k = h told (more fits.0, fits.1) stand in
+  table_goes s t (Ok d) new more h = λ fits.
+      let k = h (more.found fits.0, fits.1) in
       record {
         fits = k.fits;
         counted = k.counted;
+        grown = grown_trans s.table t d.state.table more.grown k.grown;
+        up = k.up;
+        down = k.down;
         begins = k.begins;
-        too = λ ends. let x = k.too ends in record { value = x.value; notes = x.notes; is = x.is; goes = x.goes };
+        too = λ within. let x = k.too within in record { value = x.value; notes = x.notes; is = x.is; goes = x.goes };
       }
 
   main_goes : (path : List ℕ) (s : State) → Goes w itself w.V s (main_file (ctx w keeps ipath earlier) path s) (main_file (ctx2 w keeps ipath earlier) path (edited_state w.edit s))
   main_goes path s =
       subst (λ (t : Table). Goes w itself w.V s (main_file (ctx w keeps ipath earlier) path s) (outer_file (ctx2 w keeps ipath earlier) path (record (edited_state w.edit s) { table = t })))
-      (sym (asked_edited w.edit w.old path s.table))
+      (sym (asked_edited w.edit w.old w.new w.news path s.table))
       (table_goes s (asked w.old path s.table) (main_file (ctx w keeps ipath earlier) path s) (outer_file (ctx2 w keeps ipath earlier) path (edited_state w.edit (record s { table = asked w.old path s.table })))
-      (widens_asked w.old path s.table).found (outer_goes path (record s { table = asked w.old path s.table })))
+      (widens_asked w.old path s.table) (outer_goes path (record s { table = asked w.old path s.table })))
 
   files_of_goes : (defines path : List ℕ) (s : State) → Goes w itself w.V s (both_files (ctx w keeps ipath earlier) defines path s) (both_files (ctx2 w keeps ipath earlier) defines path (edited_state w.edit s))
   files_of_goes defines path s =
@@ -73,7 +76,7 @@ module _ (w : World) (runs : RunsToo w) (keeps : KeepsTexts w.edit w.old) (ipath
       (λ toks t. main_file (ctx w keeps ipath earlier) path t) (λ toks t. main_file (ctx2 w keeps ipath earlier) path t)
       (goes_map w itself w.V (λ b x y. Unit {0} × w.V b x y) s (outer_file (ctx w keeps ipath earlier) defines s) (outer_file (ctx2 w keeps ipath earlier) defines (edited_state w.edit s))
       (λ b x y v. (tt, v)) (outer_goes defines s))
-      (λ x y t r. main_goes path t)
+      (λ x y t r grown. main_goes path t)
 
 -- ---- the first state
 
@@ -96,30 +99,40 @@ first_lines = λ name m e h. first_by name m (bytes_eq name (codes "__FILE__")) 
 pub record UnitToo (w : World) (number : ℕ) (unit : UnitValue) (before : Carried) (d : Did (List Token)) : Type 0 where
   pub toks : List Token
   pub notes : List Note
-  pub is : unit_outcome the_limits file_text (edited_source w.edit w.old) number unit (edited_carried w.edit before) ≡ Ok (did toks notes (edited_state w.edit d.state))
+  pub is : unit_outcome the_limits file_text w.new number unit (edited_carried w.edit before) ≡ Ok (did toks notes (edited_state w.edit d.state))
   pub goes : w.V 0 d.value toks
   pub found : AreFound w.old d.state.table
+  pub grown : IsGrown before.table d.state.table
 
 pub unit_goes : (w : World) → RunsToo w → KeepsTexts w.edit w.old → (number : ℕ) (unit : UnitValue) (before : Carried) (d : Did (List Token))
-    → unit_outcome the_limits file_text w.old number unit before ≡ Ok d → AreFound w.old before.table → d.notes ≡ w.told → d.value ≡ w.all → w.Starts (length d.value) → UnitToo w number unit before d
-unit_goes w runs keeps number unit before d is found told all ends =
+    → unit_outcome the_limits file_text w.old number unit before ≡ Ok d → AreFound w.old before.table → d.notes ≡ w.told → d.value ≡ w.all → d.state.table ≡ w.files → UnitToo w number unit before d
+unit_goes w runs keeps number unit before d is found told all files =
     let s : State = first_state the_limits number unit before.table in
     let goes = files_of_goes w runs keeps unit.ipath before.toks (defines_path number) unit.path s in
     let new : Outcome (List Token) = both_files (ctx2 w keeps unit.ipath before.toks) (defines_path number) unit.path (edited_state w.edit s) in
     let done : Goes w itself w.V s (Ok d) new = subst (λ (m : Outcome (List Token)). Goes w itself w.V s m new) is goes in
     let k : PutsToo w itself w.V s d new =
-    done (subst (λ (l : List Note). AreAmong w.told l) (sym told) (of_itself w.told))
-    (found_more w.old (defines_path number) (defines_text unit.standard unit.settings) before.table found, first_lines)
-    (subst (λ (l : List Token). StandAt w.all 0 l) (sym all) (λ m t at. let same : 0 + m ≡ m = omega arith in rw same at)) in
+    done (found_more w.old (defines_path number) (defines_text unit.standard unit.settings) before.table found, first_lines) in
     let count = k.counted in
-    let last : length d.value ≡ d.state.before = omega (arith, count) in
-    let x = k.too (subst w.Starts last ends) in
+    let last : d.state.before ≡ length w.all = (let same : d.state.before ≡ length d.value = omega (arith, count) in same) ∙ ap length all in
+    let x = k.too (record {
+      earlier = [];
+      later = [];
+      among = sym told ∙ sym (append-nil d.notes);
+      up = tt;
+      down = tt;
+      next = λ some. absurd (omega (arith, last, some));
+      room = omega (arith, last);
+      stand = subst (λ (l : List Token). StandAt l 0 d.value) all (λ m t at. let same : 0 + m ≡ m = omega arith in rw same at);
+      grown = subst (IsGrown d.state.table) files (grown_refl d.state.table);
+    }) in
     record {
       toks = x.value;
       notes = x.notes;
       is = ap (both_files (ctx2 w keeps unit.ipath before.toks) (defines_path number) unit.path) (first_edited w.edit number unit before.table) ∙ x.is;
       goes = x.goes;
       found = k.fits.0;
+      grown = grown_trans before.table s.table d.state.table (grown_more before.table (entry (defines_path number) (Made (defines_text unit.standard unit.settings)) ∷ [])) k.grown;
     }
 
 -- ---- along the cut
@@ -198,22 +211,23 @@ along_all n order c is_order of xs ys goes =
     ∙ ap (arranged order (back 0 c)) (append-nil (plains xs)) ∙ back_none n order c (plains xs) is_order of
 
 pub units_go_alike : UnitsGoAlike
-units_go_alike = λ edit n order c old number unit before d is_order of is found keeps runs.
+units_go_alike = λ edit n order c old new number unit before d is_order of is found news keeps runs.
     let w : World = record {
       edit = edit;
       old = old;
+      new = new;
+      news = news;
       told = d.notes;
       all = d.value;
+      files = d.state.table;
       V = GoAlong order c;
       v_none = along_none order c;
       v_both = along_both order c;
-      Starts = λ b. Unit {0};
-      starts = λ number k evaluated b at. tt;
     } in
-    let too : RunsToo w = λ file text k i j s e at ends.
+    let too : RunsToo w = λ file text k i j s e at.
     let g = runs file text k i j s e at in
     record { e2 = g.e2; expands = g.expands; left = g.left; many = g.many; goes = g.goes } in
-    let k = unit_goes w too keeps number unit before d is found refl refl tt in
+    let k = unit_goes w too keeps number unit before d is found refl refl refl in
     let goes : plains k.toks ≡ arranged order c (plains d.value) = along_all n order c is_order of d.value k.toks k.goes in
     let long = ap length goes ∙ length-arranged n order c (plains d.value) is_order of in
     record {

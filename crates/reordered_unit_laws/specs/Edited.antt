@@ -1,5 +1,5 @@
 -- Files whose bytes change, path by path (this project's), as those in which the items of lists change places.
-use Rattle.std.specs.Prelude.{ℕ, List, map}
+use Rattle.std.specs.Prelude.{◌≡◌, ℕ, List, map}
 use Rattle.std.specs.Option.{option_map}
 use Rattle.include_tree.specs.Below.source_files.Files.{Source, Found, Lines, Absent, Unopened, Opened, Made, Entry, entry, Table, Carried, carried}
 use Rattle.include_tree.specs.Below.unit_steps.State.{State}
@@ -31,3 +31,7 @@ edited_state edit s = record s { table = edited_files edit s.table }
 
 abbrev pub edited_source : Edit → Source → Source
 edited_source edit old path = option_map (edit path) (old path)
+
+-- the new source holds the edited bytes
+abbrev pub IsEditedSource : Edit → Source → Source → Type 0
+IsEditedSource edit old new = (path : List ℕ) → new path ≡ edited_source edit old path

@@ -2,3 +2,6 @@
 pub mod Edited
 pub mod Walking
 pub mod Reordered
+pub mod Files
+pub mod TokenRuns
+pub mod Below

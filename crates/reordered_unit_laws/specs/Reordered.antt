@@ -1,5 +1,5 @@
 -- Units over files in which the items of lists change places (ISO/IEC 9899:1999, 5.1.1.2 phase 4, 6.10.3).
-use Rattle.std.specs.Prelude.{◌≡◌, ℕ, ◌+◌, false, List, length, codes, None, Some, Ok, slice_get}
+use Rattle.std.specs.Prelude.{◌≡◌, ◌≤◌, ◌<◌, ℕ, ◌+◌, false, List, length, codes, None, Some, Ok, slice_get}
 use Rattle.include_tree.specs.Below.cs_base.Token.{Token}
 use Rattle.include_tree.specs.Below.cs_base.Units.{UnitValue}
 use Rattle.include_tree.specs.Below.line_shape.declared.items.ItemKind.TheVariants.{Run}
@@ -7,8 +7,8 @@ use Rattle.include_tree.specs.Below.macro_body.Hides.{toks_of}
 use Rattle.include_tree.specs.Below.macro_body.Notes as expansion
 use Rattle.include_tree.specs.Below.macro_expand.Expansion as expanding
 use Rattle.include_tree.specs.Below.part_lexer.FileText.{TextValue}
-use Rattle.include_tree.specs.Below.source_files.Files.{Source, SourceFile, Carried}
-use Rattle.include_tree.specs.Below.source_files.Tables.{AreFound}
+use Rattle.include_tree.specs.Below.source_files.Files.{Source, Table, SourceFile, Carried}
+use Rattle.include_tree.specs.Below.source_files.Tables.{IsGrown, AreFound}
 use Rattle.include_tree.specs.Below.unit_steps.declared.events.Event.{Event}
 use Rattle.include_tree.specs.Below.unit_steps.declared.events.EventKind.TheVariants as kind
 use Rattle.include_tree.specs.Below.unit_steps.declared.events.Reached.{Reached}
@@ -16,10 +16,10 @@ use Rattle.include_tree.specs.Below.unit_steps.State.{State}
 use Rattle.include_tree.specs.Below.unit_steps.Texts.{UnitTextValue}
 use Rattle.include_tree.specs.Walk.{ItemText, items_in}
 use Rattle.include_tree.specs.Preprocessed.{Preprocessed, preprocessed}
-use Rattle.list_cuts.specs.Cuts.{Cut, IsOrder, arranged, AreOf}
-use Rattle.list_cuts.specs.CutOf.{front, back}
+use Rattle.arranged_laws.specs.Below.list_cuts.Cuts.{Cut, IsOrder, arranged, AreOf}
+use Rattle.arranged_laws.specs.Below.list_cuts.CutOf.{front, back}
 use Rattle.arranged_laws.specs.Arranging.{SignsStand, MarksStand, AreDistinct, in_lists, StandFor}
-use Rattle.reordered_unit_laws.specs.Edited.{Edit, edited_source, edited_carried}
+use Rattle.reordered_unit_laws.specs.Edited.{Edit, IsEditedSource, edited_carried}
 use Rattle.reordered_unit_laws.specs.Walking.{KeepsTexts, text_items, IsEdited, IsOf, plains}
 
 -- ---- lists in a unit
@@ -38,14 +38,27 @@ part_of c before count = front count (back before c)
 
 -- ---- runs
 
+-- Of the items that a unit reached, one is item k of the file, with `before` tokens put out before it. It alone put out the next
+-- ones, so many.
+pub record IsProcessed (text : UnitTextValue) (file : SourceFile) (k before count : ℕ) : Type 0 where
+  pub number : ℕ
+  pub item : Reached
+  pub is : slice_get text.reached number ≡ Some item
+  pub file_is : item.file ≡ file.number
+  pub item_is : item.item ≡ k
+  pub before_is : item.before ≡ before
+  pub earlier : (i : ℕ) (q : Reached) → i < number → slice_get text.reached i ≡ Some q → q.before ≤ before
+  pub later : (i : ℕ) (q : Reached) → number < i → slice_get text.reached i ≡ Some q → before + count ≤ q.before
+  pub next : before + count < length text.toks → (i : ℕ) × (q : Reached) × (number < i) × (slice_get text.reached i ≡ Some q) × (q.before ≡ before + count)
+
 -- What is known of a run of text lines that the unit reaches: its file and the edited one, the item of both, what it is
 -- expanded to, where this stands in the unit, that no list goes on from it to another run, and the cut of the run.
-pub record IsRunOf (edit : Edit) (old : Source) (c : Cut) (text : UnitTextValue) (file : SourceFile) (file_text2 : TextValue) (k : ℕ) (i j : ItemText) (s : State) (e : expansion.Expanded) (cut : Cut) : Type 0 where
-  pub edited : IsEdited edit old file file_text2
+pub record IsRunOf (edit : Edit) (old : Source) (files : Table) (c : Cut) (text : UnitTextValue) (file : SourceFile) (file_text2 : TextValue) (k : ℕ) (i j : ItemText) (s : State) (e : expansion.Expanded) (cut : Cut) : Type 0 where
+  pub edited : IsEdited edit old files file file_text2
   pub item : slice_get (items_in file) k ≡ Some i
   pub item2 : slice_get (text_items file_text2) k ≡ Some j
   pub run : i.kind ≡ Run
-  pub reached : (r : Reached) × IsOf text.reached r × (r.file ≡ file.number) × (r.item ≡ k) × (r.before ≡ s.before)
+  pub reached : IsProcessed text file k s.before (length e.toks)
   pub expands : expanding.expansion s.macros file.path i.toks s.work ≡ Ok e
   pub toks : (m : ℕ) (t : Token) → slice_get (toks_of e.toks) m ≡ Some t → slice_get text.toks (s.before + m) ≡ Some t
   pub begins : in_lists 0 c s.before ≡ false
@@ -60,24 +73,25 @@ pub record RunStands (order : List ℕ) (i j : ItemText) (cut : Cut) : Type 0 wh
   pub stands : StandFor cut new i.toks
   pub run : j.toks ≡ arranged order cut new
 
--- so it is with each
-abbrev pub RunsStand : Edit → Source → List ℕ → Cut → UnitTextValue → Type 0
-RunsStand edit old order c text = (file : SourceFile) (file_text2 : TextValue) (k : ℕ) (i j : ItemText) (s : State) (e : expansion.Expanded) (cut : Cut)
-    → IsRunOf edit old c text file file_text2 k i j s e cut → RunStands order i j cut
+-- So it is with each; the unit has these files in the end.
+abbrev pub RunsStand : Edit → Source → List ℕ → Table → Cut → UnitTextValue → Type 0
+RunsStand edit old order files c text = (file : SourceFile) (file_text2 : TextValue) (k : ℕ) (i j : ItemText) (s : State) (e : expansion.Expanded) (cut : Cut)
+    → IsRunOf edit old files c text file file_text2 k i j s e cut → RunStands order i j cut
 
 -- ---- the law
 
 -- The unit over the edited files brings its tokens in the new order; what is carried on is the same but for the bytes of
--- files, and tells what the paths held.
-pub record UnitIsReordered (edit : Edit) (order : List ℕ) (c : Cut) (old : Source) (number : ℕ) (unit : UnitValue) (before : Carried) (p : Preprocessed) : Type 0 where
+-- files, and tells what the paths held; numbers of files only come behind those that there are.
+pub record UnitIsReordered (edit : Edit) (order : List ℕ) (c : Cut) (old new_source : Source) (number : ℕ) (unit : UnitValue) (before : Carried) (p : Preprocessed) : Type 0 where
   pub new : Preprocessed
-  pub is : preprocessed (edited_source edit old) number unit (edited_carried edit before) ≡ Ok new
+  pub is : preprocessed new_source number unit (edited_carried edit before) ≡ Ok new
   pub toks : plains new.text.toks ≡ arranged order c (plains p.text.toks)
   pub after : new.after ≡ edited_carried edit p.after
   pub found : AreFound old p.after.table
+  pub grown : IsGrown before.table p.after.table
 
 -- The law.
 abbrev pub UnitsAreReordered : Type 0
-UnitsAreReordered = (edit : Edit) (n : ℕ) (order : List ℕ) (c : Cut) (old : Source) (number : ℕ) (unit : UnitValue) (before : Carried) (p : Preprocessed)
-    → IsOrder n order → AreOf n c → preprocessed old number unit before ≡ Ok p → AreFound old before.table → KeepsTexts edit old
-    → ListsStand c p.text → RunsStand edit old order c p.text → UnitIsReordered edit order c old number unit before p
+UnitsAreReordered = (edit : Edit) (n : ℕ) (order : List ℕ) (c : Cut) (old new : Source) (number : ℕ) (unit : UnitValue) (before : Carried) (p : Preprocessed)
+    → IsOrder n order → AreOf n c → preprocessed old number unit before ≡ Ok p → AreFound old before.table → IsEditedSource edit old new → KeepsTexts edit old
+    → ListsStand c p.text → RunsStand edit old order p.after.table c p.text → UnitIsReordered edit order c old new number unit before p

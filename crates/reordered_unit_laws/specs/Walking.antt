@@ -1,6 +1,6 @@
 -- Units over files as they were and over edited ones, where the lines of directives stay, and the runs of text lines do in
 -- the edited files what they did (ISO/IEC 9899:1999, 5.1.1.2 phase 4, 6.10).
-use Rattle.std.specs.Prelude.{◌≡◌, ℕ, ◌+◌, true, false, ◌⊎◌, List, [], ◌∷◌, ◌++◌, map, length, Some, Ok, codes, slice_get}
+use Rattle.std.specs.Prelude.{◌≡◌, ◌≤◌, ◌<◌, ℕ, ◌+◌, Bool, true, false, ◌⊎◌, List, [], ◌∷◌, ◌++◌, map, length, Some, Ok, codes, slice_get}
 use Rattle.include_tree.specs.Below.cs_base.declared.tokens.Kind.{Kind}
 use Rattle.include_tree.specs.Below.cs_base.Token.{Token}
 use Rattle.include_tree.specs.Below.cs_base.Units.{UnitValue}
@@ -13,16 +13,16 @@ use Rattle.include_tree.specs.Below.macro_body.Defining.{line_macro}
 use Rattle.include_tree.specs.Below.macro_body.Hides.{toks_of}
 use Rattle.include_tree.specs.Below.macro_body.Notes as expansion
 use Rattle.include_tree.specs.Below.macro_expand.Expansion as expanding
-use Rattle.include_tree.specs.Below.source_files.Files.{Source, SourceFile, source_file, Carried}
+use Rattle.include_tree.specs.Below.source_files.Files.{Source, Opened, Made, entry, Table, SourceFile, source_file, Carried}
 use Rattle.include_tree.specs.Below.source_files.Limits.{the_limits}
-use Rattle.include_tree.specs.Below.source_files.Tables.{AreFound}
+use Rattle.include_tree.specs.Below.source_files.Tables.{IsGrown, AreFound}
 use Rattle.include_tree.specs.Below.unit_steps.Notes.{Note, Reaches, Happened}
 use Rattle.include_tree.specs.Below.unit_steps.State.{State, Did, did}
 use Rattle.include_tree.specs.Walk.{ItemText, item_texts, items_in}
 use Rattle.include_tree.specs.Unit.{unit_outcome}
-use Rattle.list_cuts.specs.Cuts.{Cut, IsOrder, arranged, AreOf}
-use Rattle.list_cuts.specs.CutOf.{back}
-use Rattle.reordered_unit_laws.specs.Edited.{Edit, edited_source, edited_carried, edited_state}
+use Rattle.arranged_laws.specs.Below.list_cuts.Cuts.{Cut, IsOrder, arranged, AreOf}
+use Rattle.arranged_laws.specs.Below.list_cuts.CutOf.{back}
+use Rattle.reordered_unit_laws.specs.Edited.{Edit, IsEditedSource, edited_carried, edited_state}
 
 -- ---- files
 
@@ -40,9 +40,9 @@ AreItemsAlike _ _ = ⊥
 abbrev pub text_items : TextValue → List ItemText
 text_items text = item_texts text.toks text.firsts
 
--- An edit keeps how long files are, and their items but for runs.
+-- An edit keeps how long the files are that paths hold, and their items but for runs.
 pub record KeepsTexts (edit : Edit) (old : Source) : Type 0 where
-  pub sizes : (path bytes : List ℕ) → length (edit path bytes) ≡ length bytes
+  pub sizes : (path bytes : List ℕ) → old path ≡ Some bytes → length (edit path bytes) ≡ length bytes
   pub items : (number : ℕ) (path bytes : List ℕ) (text : TextValue) → old path ≡ Some bytes → file_text number bytes ≡ Ok text
       → (text2 : TextValue) × (file_text number (edit path bytes) ≡ Ok text2) × AreItemsAlike (text_items text) (text_items text2)
 
@@ -50,31 +50,68 @@ pub record KeepsTexts (edit : Edit) (old : Source) : Type 0 where
 abbrev pub with_text : SourceFile → TextValue → SourceFile
 with_text file text = source_file file.number file.path text
 
--- This is the text of the edited file; a file that the program makes is not edited.
-abbrev pub IsEdited : Edit → Source → SourceFile → TextValue → Type 0
-IsEdited edit old file text =
-    ((bytes : List ℕ) × (old file.path ≡ Some bytes) × (file_text file.number bytes ≡ Ok file.text) × (file_text file.number (edit file.path bytes) ≡ Ok text))
-    ⊎ (text ≡ file.text)
+-- This is the text of the edited file, which has these bytes in the table; a file that the program makes is not edited.
+abbrev pub IsEdited : Edit → Source → Table → SourceFile → TextValue → Type 0
+IsEdited edit old files file text =
+    ((bytes : List ℕ) × (slice_get files file.number ≡ Some (entry file.path (Opened bytes))) × (old file.path ≡ Some bytes)
+    × (file_text file.number bytes ≡ Ok file.text) × (file_text file.number (edit file.path bytes) ≡ Ok text))
+    ⊎ ((bytes : List ℕ) × (slice_get files file.number ≡ Some (entry file.path (Made bytes))) × (file_text file.number bytes ≡ Ok file.text) × (text ≡ file.text))
 
--- ---- runs
+-- ---- notes
 
 -- one of these
 abbrev pub IsOf : {X : Type 0} → List X → X → Type 0
 IsOf xs x = (k : ℕ) × (slice_get xs k ≡ Some x)
 
--- What is known of a run of text lines that a unit with these notes and tokens reaches: its file and the edited one, the
--- item of both, what it is expanded to, that a macro that stands for the number of a line is `__LINE__`, and that what
--- happens and what is brought stand among the notes and the tokens of the unit.
-pub record IsReachedRun (edit : Edit) (old : Source) (told : List Note) (all : List Token) (file : SourceFile) (text : TextValue) (k : ℕ) (i j : ItemText) (s : State) (e : expansion.Expanded) : Type 0 where
-  pub edited : IsEdited edit old file text
+-- each item that notes tell to be reached is so where at most so many tokens were put out before
+abbrev pub IsUpTo : ℕ → Note → Type 0
+IsUpTo most (Reaches number k evaluated before) = before ≤ most
+IsUpTo most _ = Unit {0}
+
+abbrev pub AreUpTo : ℕ → List Note → Type 0
+AreUpTo most [] = Unit {0}
+AreUpTo most (note ∷ notes) = IsUpTo most note × AreUpTo most notes
+
+-- or at least so many
+abbrev pub IsFrom : ℕ → Note → Type 0
+IsFrom least (Reaches number k evaluated before) = least ≤ before
+IsFrom least _ = Unit {0}
+
+abbrev pub AreFrom : ℕ → List Note → Type 0
+AreFrom least [] = Unit {0}
+AreFrom least (note ∷ notes) = IsFrom least note × AreFrom least notes
+
+-- an item is reached where so many were
+abbrev pub IsReachedAt : ℕ → List Note → Type 0
+IsReachedAt before notes = (number k : ℕ) × (evaluated : Bool) × IsOf notes (Reaches number k evaluated before)
+
+-- What a step puts out stands among all tokens of the unit, and what happens then among its notes: items reached before it are
+-- so where at most `from` tokens were put out, and those behind it where at least `to` were; if tokens stand behind, an item is
+-- reached there. The table of files is that of the unit, so far.
+pub record Stands (told : List Note) (all : List Token) (files : Table) (from to : ℕ) (notes : List Note) (toks : List Token) (table : Table) : Type 0 where
+  pub earlier : List Note
+  pub later : List Note
+  pub among : told ≡ earlier ++ (notes ++ later)
+  pub up : AreUpTo from earlier
+  pub down : AreFrom to later
+  pub next : to < length all → IsReachedAt to later
+  pub room : to ≤ length all
+  pub stand : (m : ℕ) (t : Token) → slice_get toks m ≡ Some t → slice_get all (from + m) ≡ Some t
+  pub grown : IsGrown table files
+
+-- ---- runs
+
+-- What is known of a run of text lines that a unit with these notes, tokens and files reaches: its file and the edited one, the
+-- item of both, what it is expanded to, that a macro that stands for the number of a line is `__LINE__`, and where what happens
+-- and what is brought stand in the unit.
+pub record IsReachedRun (edit : Edit) (old : Source) (told : List Note) (all : List Token) (files : Table) (file : SourceFile) (text : TextValue) (k : ℕ) (i j : ItemText) (s : State) (e : expansion.Expanded) : Type 0 where
+  pub edited : IsEdited edit old files file text
   pub item : slice_get (items_in file) k ≡ Some i
   pub item2 : slice_get (text_items text) k ≡ Some j
   pub run : i.kind ≡ Run
-  pub reached : IsOf told (Reaches file.number k false s.before)
   pub expands : expanding.expansion s.macros file.path i.toks s.work ≡ Ok e
   pub lines : (name : List ℕ) (m : Definition) → s.macros name ≡ Some m → m.form ≡ form.Line → (m.name ≡ line_macro.name) × (name ≡ codes "__LINE__")
-  pub notes : (note : expansion.Note) → IsOf e.notes note → IsOf told (Happened true s.before note)
-  pub toks : (m : ℕ) (t : Token) → slice_get (toks_of e.toks) m ≡ Some t → slice_get all (s.before + m) ≡ Some t
+  pub stands : Stands told all files s.before (s.before + length e.toks) (Reaches file.number k false s.before ∷ map (Happened true s.before) e.notes) (toks_of e.toks) s.table
 
 -- a token, as it is read: its kind and its spelling
 abbrev pub plain : Token → Kind × List ℕ
@@ -96,23 +133,23 @@ pub record RunGoes (order : List ℕ) (c : Cut) (file : SourceFile) (j : ItemTex
   pub many : length e2.toks ≡ length e.toks
   pub goes : GoAlong order c s.before (toks_of e.toks) (toks_of e2.toks)
 
-abbrev pub RunsGo : Edit → Source → List ℕ → Cut → List Note → List Token → Type 0
-RunsGo edit old order c told all = (file : SourceFile) (text : TextValue) (k : ℕ) (i j : ItemText) (s : State) (e : expansion.Expanded)
-    → IsReachedRun edit old told all file text k i j s e → RunGoes order c file j s e
+abbrev pub RunsGo : Edit → Source → List ℕ → Cut → List Note → List Token → Table → Type 0
+RunsGo edit old order c told all files = (file : SourceFile) (text : TextValue) (k : ℕ) (i j : ItemText) (s : State) (e : expansion.Expanded)
+    → IsReachedRun edit old told all files file text k i j s e → RunGoes order c file j s e
 
 -- ---- the law
 
 -- The unit over the edited files brings the tokens in the new order; the state behind it is the same, but for the bytes of
 -- files.
-pub record UnitGoes (edit : Edit) (order : List ℕ) (c : Cut) (old : Source) (number : ℕ) (unit : UnitValue) (before : Carried) (d : Did (List Token)) : Type 0 where
+pub record UnitGoes (edit : Edit) (order : List ℕ) (c : Cut) (new : Source) (number : ℕ) (unit : UnitValue) (before : Carried) (d : Did (List Token)) : Type 0 where
   pub toks : List Token
   pub notes : List Note
-  pub is : unit_outcome the_limits file_text (edited_source edit old) number unit (edited_carried edit before) ≡ Ok (did toks notes (edited_state edit d.state))
+  pub is : unit_outcome the_limits file_text new number unit (edited_carried edit before) ≡ Ok (did toks notes (edited_state edit d.state))
   pub goes : plains toks ≡ arranged order c (plains d.value)
   pub many : length toks ≡ length d.value
 
 -- The law: so it is where each reached run goes so.
 abbrev pub UnitsGoAlike : Type 0
-UnitsGoAlike = (edit : Edit) (n : ℕ) (order : List ℕ) (c : Cut) (old : Source) (number : ℕ) (unit : UnitValue) (before : Carried) (d : Did (List Token))
-    → IsOrder n order → AreOf n c → unit_outcome the_limits file_text old number unit before ≡ Ok d → AreFound old before.table → KeepsTexts edit old
-    → RunsGo edit old order c d.notes d.value → UnitGoes edit order c old number unit before d
+UnitsGoAlike = (edit : Edit) (n : ℕ) (order : List ℕ) (c : Cut) (old new : Source) (number : ℕ) (unit : UnitValue) (before : Carried) (d : Did (List Token))
+    → IsOrder n order → AreOf n c → unit_outcome the_limits file_text old number unit before ≡ Ok d → AreFound old before.table → IsEditedSource edit old new
+    → KeepsTexts edit old → RunsGo edit old order c d.notes d.value d.state.table → UnitGoes edit order c new number unit before d

@@ -1,0 +1,5 @@
+-- What the public contracts rest on.
+pub mod Lists
+pub mod Moving
+pub mod Apart
+pub mod RunTokens
