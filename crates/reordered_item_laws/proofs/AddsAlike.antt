@@ -1,9 +1,9 @@
 -- An item adds the same declarations whatever stands beside it.
 use Rattle.std.proofs.Common.{ℕ, ◌+◌, ◌≡◌, Bool, true, false, not, cond, List, [], ◌∷◌, ◌++◌, length, refl, sym, ap, subst, ◌∙◌, arith, length-append}
 use Rattle.std.specs.Prelude.{filter}
-use Rattle.tree_laws.specs.Below.scope_bind.Named.{Declaration, Frame}
-use Rattle.tree_laws.specs.Below.scope_bind.Walk.{walked}
-use Rattle.tree_laws.specs.TreesOfTexts.{token_count}
+use Rattle.reordered_tree_laws.specs.Below.tree_laws.Below.scope_bind.Named.{Declaration, Frame}
+use Rattle.reordered_tree_laws.specs.Below.tree_laws.Below.scope_bind.Walk.{walked}
+use Rattle.reordered_tree_laws.specs.Below.tree_laws.TreesOfTexts.{token_count}
 use Rattle.reordered_tree_laws.specs.Beside.{is_beside, beside_of, seen_of, StandBeside}
 use Rattle.reordered_tree_laws.specs.Adding.{is_adding, IsAddedIn}
 use Rattle.reordered_item_laws.specs.Lasting.{ItemsAddAlike}
@@ -13,7 +13,7 @@ use Rattle.reordered_tree_laws.proofs.OnlyAdding.{parts_only_add}
 -- ---- Lists
 
 module _ {X : Type 0} where
-  nothing_more : (xs ys : List X) → xs ++ ys ≡ ys → xs ≡ []
+  pub nothing_more : (xs ys : List X) → xs ++ ys ≡ ys → xs ≡ []
   nothing_more [] ys e = refl
   nothing_more (x ∷ xs) ys e =
       let longer : length (x ∷ (xs ++ ys)) ≡ length ys = ap (λ (zs : List X). length zs) e in
@@ -27,7 +27,7 @@ module _ {X : Type 0} where
   behind_first [] = []
   behind_first (y ∷ ys) = ys
 
-  same_front : (xs ys zs : List X) → xs ++ zs ≡ ys ++ zs → xs ≡ ys
+  pub same_front : (xs ys zs : List X) → xs ++ zs ≡ ys ++ zs → xs ≡ ys
   same_front [] [] zs e = refl
   same_front [] (y ∷ ys) zs e = sym (nothing_more (y ∷ ys) zs (sym e))
   same_front (x ∷ xs) [] zs e = nothing_more (x ∷ xs) zs e
@@ -36,7 +36,7 @@ module _ {X : Type 0} where
       let more : xs ≡ ys = same_front xs ys zs (ap (λ (l : List X). behind_first l) e) in
       ap (λ (z : X). z ∷ xs) here ∙ ap (λ (l : List X). y ∷ l) more
 
-  filter_append : (q : X → Bool) (xs ys : List X) → filter q (xs ++ ys) ≡ filter q xs ++ filter q ys
+  pub filter_append : (q : X → Bool) (xs ys : List X) → filter q (xs ++ ys) ≡ filter q xs ++ filter q ys
   filter_append q [] ys = refl
   filter_append q (x ∷ xs) ys = step (q x) (filter_append q xs ys)
     where
@@ -46,7 +46,7 @@ module _ {X : Type 0} where
       step false e = e
 
   -- of which none passes, all are left
-  all_left : (q : X → Bool) (xs : List X) → filter q xs ≡ [] → filter (λ x. not (q x)) xs ≡ xs
+  pub all_left : (q : X → Bool) (xs : List X) → filter q xs ≡ [] → filter (λ x. not (q x)) xs ≡ xs
   all_left q [] e = refl
   all_left q (x ∷ xs) e = step (q x) e (all_left q xs)
     where

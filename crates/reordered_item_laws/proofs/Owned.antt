@@ -7,28 +7,28 @@ use Rattle.std.specs.Option.{option_map_or}
 use Rattle.std.specs.Str.{bytes_eq}
 use Rattle.std.proofs.lemmas.Bool.{and_parts}
 use Rattle.std.proofs.lemmas.List.Elements.{All-nil, All-cons, All-head, All-tail, All-append, All-push, All-same, All-filter}
-use Rattle.tree_laws.specs.Below.cs_base.Token.{Token}
-use Rattle.tree_laws.specs.Below.c99_tree.Tree.{Forest, none, token, node}
-use Rattle.tree_laws.specs.Below.c99_tree.declared.production.Label.{Label}
-use Rattle.tree_laws.specs.Below.c99_tree.declared.production.Production.{Production}
-use Rattle.tree_laws.specs.Below.c99_tree.declared.production.Production.TheVariants.{ExtRest, ExtTail, InitDecl, FunBody, Main, Specs, Params, Primary, Post, Designator, SuRest, EnRest, Members, MemRest, Mdecl, Enumerators, Enumerator, Declarator, Param, Pdecl, Statement, Init, InitItem, CastRest, SizeLit}
-use Rattle.tree_laws.specs.Below.c_types.declared.entity.EntityKind.TheVariants.{Typedef, Parameter, Enumerator as Constant}
-use Rattle.tree_laws.specs.Below.c_types.declared.frames.Position.{Position}
-use Rattle.tree_laws.specs.Below.c_types.declared.frames.Position.TheVariants.{Numbered, Lost, Beyond}
-use Rattle.tree_laws.specs.Below.c_types.Types.{CType, arithmetic, array, adjusted, structure, union, called, inner_of, is_array, is_unknown, unknown, target_of}
-use Rattle.tree_laws.specs.Below.c_types.Trees.{is_node, name_below, last_token, first_token, declarator_type, has_name, holds_name}
-use Rattle.tree_laws.specs.Below.c_types.Tags.{number_in, renumbered, is_same_tag, tag_entity, is_declaring, tag_declaration, tag_named, is_prior_tag, prior_tag, with_tag, tag_type, is_complete, is_sort, enumeration_used}
-use Rattle.tree_laws.specs.Below.c_types.Declarations.{Facts, has_linkage, with_fault, with_use, with_declaration, with_begun, visible, in_scope, anywhere, linked, is_mixed, is_named, is_live, looked_up, spelling_at}
-use Rattle.tree_laws.specs.Below.name_chains.Frames.{State}
-use Rattle.tree_laws.specs.Below.name_chains.Places.{is_member_of}
-use Rattle.tree_laws.specs.Below.name_chains.Initializers.{member_place, is_union_base, next_member, is_lost, next_place}
-use Rattle.tree_laws.specs.Below.name_chains.Entering.{is_member, body_in, owner_in, given_in, kept_here, with_kept, facts_in, found_in, entered}
-use Rattle.tree_laws.specs.Below.name_chains.Members.{with_silent, member_declaration, is_known, members_of, is_found_in, unnamed_declaration, lifted, found_of, with_member, with_lifted, with_anonymous, member_at, member_used_as, member_used, member_type}
-use Rattle.tree_laws.specs.Below.scope_bind.Named.{Cause, Space, Declaration, Declared, Body, Frame, Scope, Role, undeclared, redeclared, tag_redefined, mixed_linkage, designator_after_elision, ordinary, tags, members, labels}
-use Rattle.tree_laws.specs.Below.scope_bind.Ordinary.{is_again, linked_entity, entity_of, is_listed, declaration_of, declared, used_as, used, used_type, is_func, plain_name, with_parameter, new_object, with_object}
-use Rattle.tree_laws.specs.Below.scope_bind.Labels.{label_declaration, with_label, jump_to, with_jumps, with_labels}
-use Rattle.tree_laws.specs.Below.scope_bind.Roles.{role_if, role_of}
-use Rattle.tree_laws.specs.Below.scope_bind.Walk.{facts_at, found_at, passed, declared_in, parameter_in, facts_after, left, walked}
+use Rattle.reordered_tree_laws.specs.Below.tree_laws.Below.cs_base.Token.{Token}
+use Rattle.reordered_tree_laws.specs.Below.tree_laws.Below.c99_tree.Tree.{Forest, none, token, node}
+use Rattle.reordered_tree_laws.specs.Below.tree_laws.Below.c99_tree.declared.production.Label.{Label}
+use Rattle.reordered_tree_laws.specs.Below.tree_laws.Below.c99_tree.declared.production.Production.{Production}
+use Rattle.reordered_tree_laws.specs.Below.tree_laws.Below.c99_tree.declared.production.Production.TheVariants.{ExtRest, ExtTail, InitDecl, FunBody, Main, Specs, Params, Primary, Post, Designator, SuRest, EnRest, Members, MemRest, Mdecl, Enumerators, Enumerator, Declarator, Param, Pdecl, Statement, Init, InitItem, CastRest, SizeLit}
+use Rattle.reordered_tree_laws.specs.Below.tree_laws.Below.c_types.declared.entity.EntityKind.TheVariants.{Typedef, Parameter, Enumerator as Constant}
+use Rattle.reordered_tree_laws.specs.Below.tree_laws.Below.c_types.declared.frames.Position.{Position}
+use Rattle.reordered_tree_laws.specs.Below.tree_laws.Below.c_types.declared.frames.Position.TheVariants.{Numbered, Lost, Beyond}
+use Rattle.reordered_tree_laws.specs.Below.tree_laws.Below.c_types.Types.{CType, arithmetic, array, adjusted, structure, union, called, inner_of, is_array, is_unknown, unknown, target_of}
+use Rattle.reordered_tree_laws.specs.Below.tree_laws.Below.c_types.Trees.{is_node, name_below, last_token, declarator_type, has_name, holds_name}
+use Rattle.reordered_tree_laws.specs.Below.tree_laws.Below.c_types.Tags.{number_in, renumbered, is_same_tag, tag_entity, is_declaring, tag_declaration, tag_named, is_prior_tag, prior_tag, with_tag, tag_type, is_complete, is_sort, enumeration_used}
+use Rattle.reordered_tree_laws.specs.Below.tree_laws.Below.c_types.Declarations.{Facts, has_linkage, with_fault, with_use, with_declaration, with_begun, visible, in_scope, anywhere, linked, is_mixed, is_named, is_live, looked_up, spelling_at}
+use Rattle.reordered_tree_laws.specs.Below.tree_laws.Below.name_chains.Frames.{State}
+use Rattle.reordered_tree_laws.specs.Below.tree_laws.Below.name_chains.Places.{is_member_of}
+use Rattle.reordered_tree_laws.specs.Below.tree_laws.Below.name_chains.Initializers.{member_place, is_union_base, next_member, is_lost, next_place}
+use Rattle.reordered_tree_laws.specs.Below.tree_laws.Below.name_chains.Entering.{is_member, owner_in, given_in, kept_here, with_kept, facts_in, found_in, entered}
+use Rattle.reordered_tree_laws.specs.Below.tree_laws.Below.name_chains.Members.{with_silent, member_declaration, is_known, members_of, is_found_in, unnamed_declaration, lifted, found_of, with_member, with_lifted, with_anonymous, member_at, member_used_as, member_used, member_type}
+use Rattle.reordered_tree_laws.specs.Below.tree_laws.Below.scope_bind.Named.{Cause, Space, Declaration, Declared, Body, Frame, Scope, Role, undeclared, redeclared, tag_redefined, mixed_linkage, designator_after_elision, ordinary, tags, members, labels}
+use Rattle.reordered_tree_laws.specs.Below.tree_laws.Below.scope_bind.Ordinary.{is_again, linked_entity, entity_of, is_listed, declaration_of, declared, used_as, used, used_type, is_func, plain_name, with_parameter, new_object, with_object}
+use Rattle.reordered_tree_laws.specs.Below.tree_laws.Below.scope_bind.Labels.{label_declaration, with_label, jump_to, with_jumps, with_labels}
+use Rattle.reordered_tree_laws.specs.Below.tree_laws.Below.scope_bind.Roles.{role_if, role_of}
+use Rattle.reordered_tree_laws.specs.Below.tree_laws.Below.scope_bind.Walk.{facts_at, found_at, passed, declared_in, parameter_in, facts_after, left, walked}
 use Rattle.reordered_tree_laws.specs.Beside.{IsOwn, IsOwnFrame}
 use Rattle.reordered_item_laws.specs.Owned.{is_clear, IsOwnName, IsOwnState, PartsStayOwn}
 use Rattle.reordered_tree_laws.proofs.OwnTypes.{own_if, own_adjusted, own_called, own_declarator, own_renumbered, own_after}
@@ -207,13 +207,10 @@ module _ (toks : List Token) (foreign : ℕ → Bool) (zero_own : foreign 0 ≡ 
       (own_lifted fr.owner (found_of (number_in fr.base) f) f o.owner
       (reversed_all Own (filter (is_found_in (number_in fr.base)) f.declared) (All-filter (is_found_in (number_in fr.base)) Own f.declared a)) a)
 
-  abbrev OwnBody : Option Body → Type 0
-  OwnBody body = IfSome body (λ (b : Body). Mine b.from)
-
-  own_label : (body : Option Body) (i : ℕ) (f : Facts) → OwnBody body → Mine i → AllOwn f → AllOwn (with_label toks body i f)
-  own_label None i f o w a = a
-  own_label (Some b) i f o w a =
-      own_once (label_declaration b i) (is_some (anywhere toks (labels b.from) i f)) i f (record { ctype = zero_own; entity = w; name = w; space = o }) a
+  own_label : (body : Option Body) (i : ℕ) (f : Facts) → Mine i → AllOwn f → AllOwn (with_label toks body i f)
+  own_label None i f w a = a
+  own_label (Some b) i f w a =
+      own_once (label_declaration b i) (is_some (anywhere toks (labels b.from) i f)) i f (record { ctype = zero_own; entity = w; name = w; space = zero_own }) a
 
   own_jump : (i : ℕ) (r : Option Declaration) (f : Facts) → AllOwn f → AllOwn (jump_to toks i r f)
   own_jump i None f a = a
@@ -254,8 +251,8 @@ module _ (toks : List Token) (foreign : ℕ → Bool) (zero_own : foreign 0 ≡ 
     facts : AllOwn (facts_at toks r i fr f)
     found : Kind (found_at toks r i fr f)
 
-  own_token : (fr : Frame) (i : ℕ) (f : Facts) (p : Production) (x n : ℕ) → IsOwnFrame foreign fr → OwnBody fr.body → Mine i → AllOwn f → TokenOwn (role_of p x n) i fr f
-  own_token fr i f p x n o body w a = by p
+  own_token : (fr : Frame) (i : ℕ) (f : Facts) (p : Production) (x n : ℕ) → IsOwnFrame foreign fr → Mine i → AllOwn f → TokenOwn (role_of p x n) i fr f
+  own_token fr i f p x n o w a = by p
     where
       plain : TokenOwn (role_if false (role_of Primary 1 0)) i fr f
       plain = record { facts = a; found = o.found }
@@ -310,7 +307,7 @@ module _ (toks : List Token) (foreign : ℕ → Bool) (zero_own : foreign 0 ≡ 
       }
 
       label : (c d : Bool) → TokenOwn (if c then role_of Statement 1 0 else role_if d (role_of Statement 10 1)) i fr f
-      label true d = record { facts = own_label fr.body i f body w a; found = o.found }
+      label true d = record { facts = own_label fr.body i f w a; found = o.found }
       label false true = record { facts = a; found = o.found }
       label false false = record { facts = a; found = o.found }
 
@@ -347,16 +344,6 @@ module _ (toks : List Token) (foreign : ℕ → Bool) (zero_own : foreign 0 ≡ 
   own_enter : (p : Production) (first : ℕ) (under : Forest) (fr : Frame) (f : Facts) → AllOwn f → AllOwn (facts_in p first under fr f)
   own_enter FunBody first under fr f a = own_kept fr.kept (fr.scope.depth + 1) first (last_token under 0) (record f { jumps = [] }) a
   own_enter _ first under fr f a = a
-
-  first_own : (f : Forest) (k : ℕ) → is_clear foreign f ≡ true → Mine k → Mine (first_token f k)
-  first_own none k e h = h
-  first_own (token i rest) k e h = not_false (foreign i) ((and_parts (not (foreign i)) (is_clear foreign rest) e).0)
-  first_own (node l first under rest) k e h =
-      first_own rest k ((and_parts (is_clear foreign under) (is_clear foreign rest) ((and_parts (not (foreign first)) (is_clear foreign under && is_clear foreign rest) e).1)).1) h
-
-  body_own : (p : Production) (under : Forest) (around : Option Body) → is_clear foreign under ≡ true → OwnBody around → OwnBody (body_in p under around)
-  body_own FunBody under around e h = first_own under 0 e zero_own
-  body_own _ under around e h = h
 
   found_own : (p : Production) (l : Label) (fr : Frame) (f : Facts) → IsOwnFrame foreign fr → AllOwn f → Kind (found_in toks p l fr f)
   found_own ExtTail l fr f o a = o.found
@@ -459,18 +446,17 @@ module _ (toks : List Token) (foreign : ℕ → Bool) (zero_own : foreign 0 ≡ 
 
   -- ---- The walk
 
-  passed_own : (i : ℕ) (s : State) → Mine i → IsOwnState foreign s → IsOwnState foreign (passed toks i s)
+  pub passed_own : (i : ℕ) (s : State) → Mine i → IsOwnState foreign s → IsOwnState foreign (passed toks i s)
   passed_own i s w k =
       let t : TokenOwn (role_of s.frame.label.production s.frame.label.alternative s.frame.nth) i s.frame s.facts =
-      own_token s.frame i s.facts s.frame.label.production s.frame.label.alternative s.frame.nth k.frame k.body w k.declared in
+      own_token s.frame i s.facts s.frame.label.production s.frame.label.alternative s.frame.nth k.frame w k.declared in
       record {
         declared = t.facts;
         frame = record { base = k.frame.base; given = k.frame.given; found = t.found; token = w; owner = k.frame.owner };
-        body = k.body;
       }
 
-  entered_own : (l : Label) (first : ℕ) (under : Forest) (s : State) → is_clear foreign under ≡ true → IsOwnState foreign s → IsOwnState foreign (entered toks l first under s)
-  entered_own l first under s e k = record {
+  pub entered_own : (l : Label) (first : ℕ) (under : Forest) (s : State) → IsOwnState foreign s → IsOwnState foreign (entered toks l first under s)
+  entered_own l first under s k = record {
     declared = own_enter l.production first under s.frame s.facts k.declared;
     frame = record {
       base = k.frame.base;
@@ -479,13 +465,12 @@ module _ (toks : List Token) (foreign : ℕ → Bool) (zero_own : foreign 0 ≡ 
       token = k.frame.token;
       owner = owner_own l.production s.frame k.frame;
     };
-    body = body_own l.production under s.frame.body e k.body;
   }
 
-  left_own : (l : Label) (first : ℕ) (under : Forest) (s s' : State) → Mine first → is_clear foreign under ≡ true → IsOwnState foreign s → IsOwnState foreign s'
-      → IsOwnState foreign (left toks l first under s s')
+  pub left_own : (l : Label) (first : ℕ) (under : Forest) (s s' : State) → Mine first → ((i : ℕ) → name_below l under ≡ Some i → Mine i)
+      → IsOwnState foreign s → IsOwnState foreign s' → IsOwnState foreign (left toks l first under s s')
   left_own l first under s s' w e k k' = record {
-    declared = own_leave l.production s.frame l first under s'.frame.body s'.facts (λ i h. name_own l under i e h) w k.frame k'.declared;
+    declared = own_leave l.production s.frame l first under s'.frame.body s'.facts e w k.frame k'.declared;
     frame = record {
       base = own_if foreign zero_own (is_node l Specs) s'.frame.found s.frame.base k'.frame.found k.frame.base;
       given = k.frame.given;
@@ -493,7 +478,6 @@ module _ (toks : List Token) (foreign : ℕ → Bool) (zero_own : foreign 0 ≡ 
       token = k.frame.token;
       owner = k.frame.owner;
     };
-    body = k.body;
   }
 
   pub own_walk : (f : Forest) (s : State) → is_clear foreign f ≡ true → IsOwnState foreign s → IsOwnState foreign (walked toks f s)
@@ -507,7 +491,7 @@ module _ (toks : List Token) (foreign : ℕ → Bool) (zero_own : foreign 0 ≡ 
       let q = and_parts (is_clear foreign under) (is_clear foreign rest) p.1 in
       let s1 : State = entered toks l first under s in
       own_walk rest (left toks l first under s (walked toks under s1)) q.1
-      (left_own l first under s (walked toks under s1) (not_false (foreign first) p.0) q.0 k (own_walk under s1 q.0 (entered_own l first under s q.0 k)))
+      (left_own l first under s (walked toks under s1) (not_false (foreign first) p.0) (λ i h. name_own l under i q.0 h) k (own_walk under s1 q.0 (entered_own l first under s k)))
 
 pub parts_stay_own : PartsStayOwn
 parts_stay_own toks foreign f s zero_own e k = own_walk toks foreign zero_own f s e k

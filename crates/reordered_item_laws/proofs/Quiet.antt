@@ -5,25 +5,25 @@ use Rattle.std.specs.List.{All}
 use Rattle.std.specs.Option.{option_map_or}
 use Rattle.std.proofs.lemmas.Bool.{false≢true, cases_Bool, and_parts}
 use Rattle.std.proofs.lemmas.List.Elements.{All-cons, All-weaker, All-head, All-tail}
-use Rattle.tree_laws.specs.Below.cs_base.Token.{Token}
-use Rattle.tree_laws.specs.Below.c99_tree.Tree.{Forest, none, token, node}
-use Rattle.tree_laws.specs.Below.c99_tree.declared.production.Label.{Label}
-use Rattle.tree_laws.specs.Below.c99_tree.declared.production.Production.{Production}
-use Rattle.tree_laws.specs.Below.c99_tree.declared.production.Production.TheVariants.{ExtRest, InitDecl, FunBody, Main, Params, Primary, Post, Designator, SuRest, EnRest, Members, MemRest, Mdecl, Enumerators, Enumerator, Declarator, Param, Pdecl, Statement, Suffix, Block, Sub}
-use Rattle.tree_laws.specs.Below.c99_tree.contracts.production.ProductionPartialEq.TheImpl.{ghosts}
-use Rattle.tree_laws.specs.Below.c_types.declared.entity.EntityKind.TheVariants.{Typedef, Parameter}
-use Rattle.tree_laws.specs.Below.c_types.Types.{CType, adjusted, is_unknown, target_of}
-use Rattle.tree_laws.specs.Below.c_types.Trees.{is_node, is_at, is_list, name_below, last_token, declarator_type}
-use Rattle.tree_laws.specs.Below.c_types.Tags.{number_in, renumbered, is_same_tag, tag_entity, is_declaring, tag_declaration, tag_named, prior_tag, with_tag, is_complete, is_sort, enumeration_used}
-use Rattle.tree_laws.specs.Below.c_types.Declarations.{Facts, has_linkage, with_fault, with_use, with_declaration, with_begun, visible, in_scope, anywhere, linked, is_mixed}
-use Rattle.tree_laws.specs.Below.name_chains.Frames.{State}
-use Rattle.tree_laws.specs.Below.name_chains.Entering.{inner, scope_in, facts_in, entered}
-use Rattle.tree_laws.specs.Below.name_chains.Members.{with_silent, member_declaration, unnamed_declaration, lifted, found_of, with_member, with_lifted, with_anonymous, member_at, member_used_as, member_used}
-use Rattle.tree_laws.specs.Below.scope_bind.Named.{Cause, Declaration, Declared, Occurrence, Body, Frame, Scope, undeclared, redeclared, tag_redefined, mixed_linkage, designator_after_elision, ordinary, tags, members}
-use Rattle.tree_laws.specs.Below.scope_bind.Ordinary.{is_again, entity_of, is_listed, declaration_of, declared, used_as, used, is_func, plain_name, with_parameter}
-use Rattle.tree_laws.specs.Below.scope_bind.Roles.{role_if, role_of}
-use Rattle.tree_laws.specs.Below.scope_bind.Walk.{facts_at, passed, declared_in, parameter_in, facts_after, left, walked}
-use Rattle.tree_laws.specs.TreesOfTexts.{token_count, AreFrom, has_form, have_forms}
+use Rattle.reordered_tree_laws.specs.Below.tree_laws.Below.cs_base.Token.{Token}
+use Rattle.reordered_tree_laws.specs.Below.tree_laws.Below.c99_tree.Tree.{Forest, none, token, node}
+use Rattle.reordered_tree_laws.specs.Below.tree_laws.Below.c99_tree.declared.production.Label.{Label}
+use Rattle.reordered_tree_laws.specs.Below.tree_laws.Below.c99_tree.declared.production.Production.{Production}
+use Rattle.reordered_tree_laws.specs.Below.tree_laws.Below.c99_tree.declared.production.Production.TheVariants.{ExtRest, InitDecl, FunBody, Main, Params, Primary, Post, Designator, SuRest, EnRest, Members, MemRest, Mdecl, Enumerators, Enumerator, Declarator, Param, Pdecl, Statement, Suffix, Block, Sub}
+use Rattle.reordered_tree_laws.specs.Below.tree_laws.Below.c99_tree.contracts.production.ProductionPartialEq.TheImpl.{ghosts}
+use Rattle.reordered_tree_laws.specs.Below.tree_laws.Below.c_types.declared.entity.EntityKind.TheVariants.{Typedef, Parameter}
+use Rattle.reordered_tree_laws.specs.Below.tree_laws.Below.c_types.Types.{CType, adjusted, is_unknown, target_of}
+use Rattle.reordered_tree_laws.specs.Below.tree_laws.Below.c_types.Trees.{is_node, is_at, is_list, name_below, last_token, declarator_type}
+use Rattle.reordered_tree_laws.specs.Below.tree_laws.Below.c_types.Tags.{number_in, renumbered, is_same_tag, tag_entity, is_declaring, tag_declaration, tag_named, prior_tag, with_tag, is_complete, is_sort, enumeration_used}
+use Rattle.reordered_tree_laws.specs.Below.tree_laws.Below.c_types.Declarations.{Facts, has_linkage, with_fault, with_use, with_declaration, with_begun, visible, in_scope, anywhere, linked, is_mixed}
+use Rattle.reordered_tree_laws.specs.Below.tree_laws.Below.name_chains.Frames.{State}
+use Rattle.reordered_tree_laws.specs.Below.tree_laws.Below.name_chains.Entering.{inner, scope_in, facts_in, entered}
+use Rattle.reordered_tree_laws.specs.Below.tree_laws.Below.name_chains.Members.{with_silent, member_declaration, unnamed_declaration, lifted, found_of, with_member, with_lifted, with_anonymous, member_at, member_used_as, member_used}
+use Rattle.reordered_tree_laws.specs.Below.tree_laws.Below.scope_bind.Named.{Cause, Declaration, Declared, Occurrence, Body, Frame, Scope, undeclared, redeclared, tag_redefined, mixed_linkage, designator_after_elision, ordinary, tags, members}
+use Rattle.reordered_tree_laws.specs.Below.tree_laws.Below.scope_bind.Ordinary.{is_again, entity_of, is_listed, declaration_of, declared, used_as, used, is_func, plain_name, with_parameter}
+use Rattle.reordered_tree_laws.specs.Below.tree_laws.Below.scope_bind.Roles.{role_if, role_of}
+use Rattle.reordered_tree_laws.specs.Below.tree_laws.Below.scope_bind.Walk.{facts_at, passed, declared_in, parameter_in, facts_after, left, walked}
+use Rattle.reordered_tree_laws.specs.Below.tree_laws.TreesOfTexts.{token_count, AreFrom, has_form, have_forms}
 use Rattle.reordered_tree_laws.specs.Adding.{has_no_list, within_of, is_adding_token, is_adding_declarator, is_adding_node, is_adding, IsAddedIn}
 use Rattle.reordered_tree_laws.specs.Ranges.{has_range, IsAdded, IsFine}
 use Rattle.reordered_tree_laws.specs.Premises.{is_scope, is_quiet_child, is_quiet}
@@ -34,16 +34,16 @@ use Rattle.reordered_tree_laws.proofs.Ranges.{last_below, fine_walk}
 no_range : {X : Type 0} → false ≡ true → X
 no_range e = absurd (false≢true e)
 
-or_met : (a b : Bool) → (not a || b) ≡ true → a ≡ true → b ≡ true
+pub or_met : (a b : Bool) → (not a || b) ≡ true → a ≡ true → b ≡ true
 or_met true b e h = e
 or_met false b e h = absurd (false≢true h)
 
-both_true : (a b : Bool) → a ≡ true → b ≡ true → (a && b) ≡ true
+pub both_true : (a b : Bool) → a ≡ true → b ≡ true → (a && b) ≡ true
 both_true true b e f = f
 both_true false b e f = absurd (false≢true e)
 
 -- what is so of what is noted behind is so of what was noted before
-noted_before : (lo hi : ℕ) (P : Occurrence → Type 0) (f g : Facts) → IsAddedIn lo hi f g → All P g.occurrences → All P f.occurrences
+pub noted_before : (lo hi : ℕ) (P : Occurrence → Type 0) (f g : Facts) → IsAddedIn lo hi f g → All P g.occurrences → All P f.occurrences
 noted_before lo hi P f g a all =
     let whole : All P (a.occurrences ++ f.occurrences) = subst (λ (os : List Occurrence). All P os) a.noted all in
     back a.occurrences whole
@@ -52,10 +52,9 @@ noted_before lo hi P f g a all =
     back [] h = h
     back (o ∷ os) h = back os (All-tail P o (os ++ f.occurrences) h)
 
-module _ (toks : List Token) (P : Declaration → Type 0) (lasting barred : ℕ → Bool) (depth behind : ℕ) where
-  abbrev Quiet : Declaration → Type 0
-  Quiet d = IsQuiet P lasting depth behind d
-
+-- Of declarations in a scope may be said what is so of those that may last in it, and of all that have no range.
+module _ (toks : List Token) (Quiet : Declaration → Type 0) (lasting barred : ℕ → Bool) (around : Scope)
+    (plain : (d : Declaration) → (has_range d.space ≡ true → IsLast lasting around.depth d × (d.to ≡ around.to)) → Quiet d) where
   abbrev AllQuiet : Facts → Type 0
   AllQuiet f = All Quiet f.declared
 
@@ -117,7 +116,8 @@ module _ (toks : List Token) (P : Declaration → Type 0) (lasting barred : ℕ 
   quiet_member fr under None f a = a
   quiet_member fr under (Some i) f a =
       let g : Facts = with_fault (is_some (anywhere toks (members fr.owner) i f)) redeclared i f in
-      All-cons Quiet (member_declaration fr i (last_token under i) (declarator_type fr.base under)) g.declared no_range
+      All-cons Quiet (member_declaration fr i (last_token under i) (declarator_type fr.base under)) g.declared
+      (plain (member_declaration fr i (last_token under i) (declarator_type fr.base under)) no_range)
       (quiet_fault (is_some (anywhere toks (members fr.owner) i f)) redeclared i f a)
 
   quiet_lifted : (owner : ℕ) (ds : List Declaration) (f : Facts) → AllQuiet f → AllQuiet (with_lifted toks owner ds f)
@@ -125,16 +125,16 @@ module _ (toks : List Token) (P : Declaration → Type 0) (lasting barred : ℕ 
   quiet_lifted owner (d ∷ ds) f a =
       let wrong : Bool = is_some (anywhere toks (members owner) d.name_at f) in
       let f1 : Facts = with_fault wrong redeclared d.name_at f in
-      quiet_lifted owner ds (with_silent (lifted owner d) f1) (All-cons Quiet (lifted owner d) f1.declared no_range (quiet_fault wrong redeclared d.name_at f a))
+      quiet_lifted owner ds (with_silent (lifted owner d) f1) (All-cons Quiet (lifted owner d) f1.declared (plain (lifted owner d) no_range) (quiet_fault wrong redeclared d.name_at f a))
 
   quiet_anonymous : (fr : Frame) (i : ℕ) (f : Facts) (c : Bool) → AllQuiet f
       → AllQuiet (if c then with_silent (unnamed_declaration fr i) (with_lifted toks fr.owner (found_of (number_in fr.base) f) f) else f)
   quiet_anonymous fr i f false a = a
   quiet_anonymous fr i f true a =
-      All-cons Quiet (unnamed_declaration fr i) (with_lifted toks fr.owner (found_of (number_in fr.base) f) f).declared no_range
+      All-cons Quiet (unnamed_declaration fr i) (with_lifted toks fr.owner (found_of (number_in fr.base) f) f).declared (plain (unnamed_declaration fr i) no_range)
       (quiet_lifted fr.owner (found_of (number_in fr.base) f) f a)
 
-  quiet_declared : (scope : Scope) (n : Declared) (f : Facts) → scope.depth ≡ depth → lasting n.name_at ≡ true → AllQuiet f → AllQuiet (declared toks scope n f)
+  quiet_declared : (scope : Scope) (n : Declared) (f : Facts) → scope ≡ around → lasting n.name_at ≡ true → AllQuiet f → AllQuiet (declared toks scope n f)
   quiet_declared scope n f same last a =
       let r : Option Declaration = in_scope toks ordinary scope.depth n.name_at n.last f in
       let mixed : Bool = has_linkage n.linkage && is_mixed toks n.linkage n.name_at f in
@@ -144,15 +144,15 @@ module _ (toks : List Token) (P : Declaration → Type 0) (lasting barred : ℕ 
       let listed : Bool = n.listing && not (is_listed n r) in
       let f3 : Facts = with_fault listed undeclared n.name_at f2 in
       let d : Declaration = declaration_of scope n (entity_of n r (linked toks n.name_at f)) (n.listed || is_listed n r) in
-      All-cons Quiet d f3.declared (λ e. inr (inr (record { space = refl; name = last; depth = same })))
+      All-cons Quiet d f3.declared (plain d (λ e. (record { space = refl; name = last; depth = ap (λ (x : Scope). x.depth) same }, ap (λ (x : Scope). x.to) same)))
       (quiet_fault listed undeclared n.name_at f2 (quiet_fault again redeclared n.name_at f1 (quiet_fault mixed mixed_linkage n.name_at f a)))
 
-  quiet_parameter_by : (scope : Scope) (i last : ℕ) (t : CType) (f : Facts) (c : Bool) → scope.depth ≡ depth → lasting i ≡ true → AllQuiet f
+  quiet_parameter_by : (scope : Scope) (i last : ℕ) (t : CType) (f : Facts) (c : Bool) → scope ≡ around → lasting i ≡ true → AllQuiet f
       → AllQuiet (declared toks scope (if c then plain_name toks i last Typedef t false else plain_name toks i last Parameter (adjusted t) false) f)
   quiet_parameter_by scope i last t f true same lasts a = quiet_declared scope (plain_name toks i last Typedef t false) f same lasts a
   quiet_parameter_by scope i last t f false same lasts a = quiet_declared scope (plain_name toks i last Parameter (adjusted t) false) f same lasts a
 
-  quiet_parameter : (fr : Frame) (under : Forest) (name : Option ℕ) (f : Facts) → fr.scope.depth ≡ depth → option_map_or lasting name true ≡ true → AllQuiet f
+  quiet_parameter : (fr : Frame) (under : Forest) (name : Option ℕ) (f : Facts) → fr.scope ≡ around → option_map_or lasting name true ≡ true → AllQuiet f
       → AllQuiet (with_parameter toks fr under name f)
   quiet_parameter fr under None f same lasts a = a
   quiet_parameter fr under (Some i) f same lasts a =
@@ -160,7 +160,7 @@ module _ (toks : List Token) (P : Declaration → Type 0) (lasting barred : ℕ 
 
   -- ---- A token
 
-  quiet_token : (fr : Frame) (i : ℕ) (f : Facts) (p : Production) (x n : ℕ) → is_adding_token (λ j. true) p ≡ true → not (ghosts.eq p Params) ≡ true
+  pub quiet_token : (fr : Frame) (i : ℕ) (f : Facts) (p : Production) (x n : ℕ) → is_adding_token (λ j. true) p ≡ true → not (ghosts.eq p Params) ≡ true
       → (not (((ghosts.eq p SuRest && (x == 1)) || (ghosts.eq p EnRest && (x == 1))) && (n == 0)) || barred i) ≡ true
       → All Fresh (facts_at toks (role_of p x n) i fr f).occurrences → AllQuiet f → AllQuiet (facts_at toks (role_of p x n) i fr f)
   quiet_token fr i f p x n adds lists bar fresh a = by p adds lists bar fresh
@@ -221,12 +221,12 @@ module _ (toks : List Token) (P : Declaration → Type 0) (lasting barred : ℕ 
   quiet_declarator Mdecl within fr l under f e a = quiet_member fr under (name_below l under) f a
   quiet_declarator _ within fr l under f e a = a
 
-  quiet_parameter_in : (p : Production) (fr : Frame) (l : Label) (under : Forest) (f : Facts) → fr.scope.depth ≡ depth
+  quiet_parameter_in : (p : Production) (fr : Frame) (l : Label) (under : Forest) (f : Facts) → fr.scope ≡ around
       → (ghosts.eq p Param ≡ true → option_map_or lasting (name_below l under) true ≡ true) → AllQuiet f → AllQuiet (parameter_in toks p fr l under f)
   quiet_parameter_in Param fr l under f same lasts a = quiet_parameter fr under (name_below l under) f same (lasts refl) a
   quiet_parameter_in _ fr l under f same lasts a = a
 
-  quiet_after : (p : Production) (within : Bool) (fr : Frame) (l : Label) (first : ℕ) (under : Forest) (body : Option Body) (f : Facts) → fr.scope.depth ≡ depth
+  pub quiet_after : (p : Production) (within : Bool) (fr : Frame) (l : Label) (first : ℕ) (under : Forest) (body : Option Body) (f : Facts) → fr.scope ≡ around
       → is_adding_node (λ i. true) p fr.label within l under ≡ true → not (ghosts.eq p Enumerator) ≡ true
       → (ghosts.eq p Pdecl ≡ true → ghosts.eq fr.label.production Param ≡ true → option_map_or lasting (name_below l under) true ≡ true)
       → AllQuiet f → AllQuiet (facts_after toks p first fr l under body f)
@@ -243,7 +243,7 @@ module _ (toks : List Token) (P : Declaration → Type 0) (lasting barred : ℕ 
   quiet_after FunBody within fr l first under body f same e c lasts a = absurd (false≢true e)
   quiet_after _ within fr l first under body f same e c lasts a = a
 
-  quiet_enter : (p : Production) (within : Bool) (first : ℕ) (l : Label) (under : Forest) (fr : Frame) (f : Facts) → is_adding_node (λ i. true) p fr.label within l under ≡ true
+  pub quiet_enter : (p : Production) (within : Bool) (first : ℕ) (l : Label) (under : Forest) (fr : Frame) (f : Facts) → is_adding_node (λ i. true) p fr.label within l under ≡ true
       → AllQuiet f → AllQuiet (facts_in p first under fr f)
   quiet_enter FunBody within first l under fr f e a = absurd (false≢true e)
   quiet_enter _ within first l under fr f e a = a
@@ -263,7 +263,7 @@ further_quiet : (P : Declaration → Type 0) (lasting : ℕ → Bool) (depth h k
 further_quiet P lasting depth h k ds le all =
     All-weaker (IsQuiet P lasting depth h) (IsQuiet P lasting depth k) (λ d x. further_one P lasting depth h k d le x) ds all
 
-or_false : (a b : Bool) → (a || b) ≡ true → a ≡ false → b ≡ true
+pub or_false : (a b : Bool) → (a || b) ≡ true → a ≡ false → b ≡ true
 or_false true b e h = absurd (false≢true (sym h))
 or_false false b e h = e
 
@@ -283,20 +283,20 @@ ended P lasting depth behind to ds le all = All-weaker (IsFine (IsQuiet P lastin
     one : (d : Declaration) → IsFine (IsQuiet P lasting depth behind) behind to d → IsQuiet P lasting depth behind d
     one d f r = by d r (f r)
 
-list_ends : (p : Production) (l : Label) (under : Forest) (scope : Scope) → is_list l ≡ true → (ghosts.eq p Suffix && (l.alternative == 2)) ≡ true
+pub list_ends : (p : Production) (l : Label) (under : Forest) (scope : Scope) → is_list l ≡ true → (ghosts.eq p Suffix && (l.alternative == 2)) ≡ true
     → (scope_in p l under scope).to ≡ last_token under 0
 list_ends Suffix l under scope e h = ap (λ (c : Bool). (if c then inner scope (last_token under 0) else scope).to) e
 list_ends _ l under scope e h = absurd (false≢true h)
 
-no_scope : (p : Production) (l : Label) (under : Forest) (scope : Scope) → is_list l ≡ false → is_scope p ≡ false → (scope_in p l under scope).depth ≡ scope.depth
-no_scope Block l under scope e h = absurd (false≢true (sym h))
-no_scope FunBody l under scope e h = absurd (false≢true (sym h))
-no_scope Sub l under scope e h = absurd (false≢true (sym h))
-no_scope Statement l under scope e h = absurd (false≢true (sym h))
-no_scope Suffix l under scope e h = ap (λ (c : Bool). (if c then inner scope (last_token under 0) else scope).depth) e
-no_scope _ l under scope e h = refl
+pub same_scope : (p : Production) (l : Label) (under : Forest) (scope : Scope) → is_list l ≡ false → is_scope p ≡ false → scope_in p l under scope ≡ scope
+same_scope Block l under scope e h = absurd (false≢true (sym h))
+same_scope FunBody l under scope e h = absurd (false≢true (sym h))
+same_scope Sub l under scope e h = absurd (false≢true (sym h))
+same_scope Statement l under scope e h = absurd (false≢true (sym h))
+same_scope Suffix l under scope e h = ap (λ (c : Bool). if c then inner scope (last_token under 0) else scope) e
+same_scope _ l under scope e h = refl
 
-not_false : (b : Bool) → not b ≡ true → b ≡ false
+pub not_false : (b : Bool) → not b ≡ true → b ≡ false
 not_false true e = sym e
 not_false false e = refl
 
@@ -319,7 +319,7 @@ module _ (toks : List Token) (lasting barred : ℕ → Bool) where
       adds_walk toks (lo + 1) (lo + 1 + token_count rest) rest within (lo + 1) s1 w.1 (omega arith) (omega arith) forms p.1 in
       let before = noted_before (lo + 1) (lo + 1 + token_count rest) (λ (o : Occurrence). (o.declares && barred o.index) ≡ false) s1.facts (walked toks rest s1).facts more fresh in
       let here : All (IsQuiet P lasting depth (lo + 1)) s1.facts.declared =
-      quiet_token toks P lasting barred depth (lo + 1) s.frame i s.facts l.production l.alternative s.frame.nth p.0 q.0 b.0 before
+      quiet_token toks (IsQuiet P lasting depth (lo + 1)) lasting barred s.frame.scope (λ d x r. inr (inr ((x r).0))) s.frame i s.facts l.production l.alternative s.frame.nth p.0 q.0 b.0 before
       (further_quiet P lasting depth lo (lo + 1) s.facts.declared (omega arith) all) in
       further_quiet P lasting depth (lo + 1 + token_count rest) (lo + (token_count rest + 1)) (walked toks rest s1).facts.declared (omega arith)
       (quiet_walk rest P within (lo + 1) s1 (omega (arith, one)) w.1 forms p.1 q.1 b.1 fresh here)
@@ -353,7 +353,7 @@ module _ (toks : List Token) (lasting barred : ℕ → Bool) where
       (λ begins. (omega (arith, w.0), omega (arith, w.0, begins_some under begins))) in
       let fresh2 : All F s2.facts.occurrences = noted_before lo behind F s2.facts s3.facts left_adds fresh3 in
       let in1 : All (IsQuiet P lasting depth lo) s1.facts.declared =
-      quiet_enter toks P lasting barred depth lo m.production within first m under s.frame s.facts p.0 all in
+      quiet_enter toks (IsQuiet P lasting depth lo) lasting barred s.frame.scope (λ d x r. inr (inr ((x r).0))) m.production within first m under s.frame s.facts p.0 all in
       let in2 : All (IsQuiet P lasting depth behind) s2.facts.declared =
       elim (cases_Bool (is_list m)) [
         | inl is ↦
@@ -365,14 +365,14 @@ module _ (toks : List Token) (lasting barred : ℕ → Bool) where
             (omega (arith, to, last_below under lo 0 behind w.1 (omega arith) (omega (arith, one))))
             (fine_walk toks under (IsQuiet P lasting depth behind) lo s1 one w.1 gs.0 in1')
         | inr free ↦
-            let same : s1.frame.scope.depth ≡ depth = no_scope m.production m under s.frame.scope free (not_false (is_scope m.production) c1.0) in
+            let same : s1.frame.scope.depth ≡ depth = ap (λ (x : Scope). x.depth) (same_scope m.production m under s.frame.scope free (not_false (is_scope m.production) c1.0)) in
             let inside : is_quiet lasting m under ≡ true = or_false (is_list m) (is_quiet lasting m under) q1.0 free in
             subst (λ (n : ℕ). All (IsQuiet P lasting n behind) s2.facts.declared) same
             (quiet_walk under P (within_of m.production within) lo s1 one w.1 gs.0 p2.0 inside b.0 fresh2
             (subst (λ (n : ℕ). All (IsQuiet P lasting n lo) s1.facts.declared) (sym same) in1))
       ] in
       let out3 : All (IsQuiet P lasting depth behind) s3.facts.declared =
-      quiet_after toks P lasting barred depth behind m.production within s.frame m first under s2.frame.body s2.facts refl p.0 c.0
+      quiet_after toks (IsQuiet P lasting depth behind) lasting barred s.frame.scope (λ d x r. inr (inr ((x r).0))) m.production within s.frame m first under s2.frame.body s2.facts refl p.0 c.0
       (λ x y. or_met (is_node l Param && is_node m Pdecl) (option_map_or lasting (name_below m under) true) c1.1
       (both_true (is_node l Param) (is_node m Pdecl) y x)) in2 in
       further_quiet P lasting depth (behind + token_count rest) (lo + (token_count under + token_count rest)) (walked toks rest s3).facts.declared (omega arith)

@@ -1,22 +1,22 @@
 -- An item adds what its own tokens name, and asks for nothing of nothing.
-use Rattle.std.proofs.Common.{ℕ, ◌+◌, ◌≡◌, Bool, true, false, ◌&&◌, ◌||◌, not, if◌then◌else◌, ◌==◌, List, [], Option, None, Some, refl, sym, ap, subst, ◌∙◌}
+use Rattle.std.proofs.Common.{ℕ, ◌+◌, ◌≡◌, Bool, true, false, ◌&&◌, not, if◌then◌else◌, ◌==◌, List, [], Option, None, Some, refl}
 use Rattle.std.specs.Prelude.{◌%◌}
 use Rattle.std.specs.Option.{option_map_or}
-use Rattle.std.proofs.lemmas.Bool.{false≢true, and_parts, and_from}
-use Rattle.tree_laws.specs.Below.cs_base.Token.{Token}
-use Rattle.tree_laws.specs.Below.c99_tree.Tree.{Forest, none, token, node}
-use Rattle.tree_laws.specs.Below.c99_tree.declared.production.Label.{Label}
-use Rattle.tree_laws.specs.Below.c99_tree.declared.production.Production.{Production}
-use Rattle.tree_laws.specs.Below.c99_tree.declared.production.Production.TheVariants.{ExtRest, InitDecl, FunBody, Main, Params, Primary, SuRest, EnRest, MemRest, Mdecl, Members, Enumerators, Enumerator, Declarator, Param, Pdecl}
-use Rattle.tree_laws.specs.Below.c_types.Trees.{holds_name, has_name, name_below, last_token}
-use Rattle.tree_laws.specs.Below.name_chains.Entering.{scope_in}
-use Rattle.tree_laws.specs.Below.scope_bind.Named.{Scope}
+use Rattle.std.proofs.lemmas.Bool.{and_parts, and_from}
+use Rattle.reordered_tree_laws.specs.Below.tree_laws.Below.cs_base.Token.{Token}
+use Rattle.reordered_tree_laws.specs.Below.tree_laws.Below.c99_tree.Tree.{Forest, none, token, node}
+use Rattle.reordered_tree_laws.specs.Below.tree_laws.Below.c99_tree.declared.production.Label.{Label}
+use Rattle.reordered_tree_laws.specs.Below.tree_laws.Below.c99_tree.declared.production.Production.{Production}
+use Rattle.reordered_tree_laws.specs.Below.tree_laws.Below.c99_tree.declared.production.Production.TheVariants.{ExtRest, InitDecl, FunBody, Main, Params, Primary, SuRest, EnRest, MemRest, Mdecl, Members, Enumerators, Enumerator, Declarator, Param, Pdecl}
+use Rattle.reordered_tree_laws.specs.Below.tree_laws.Below.c_types.Trees.{holds_name, has_name, name_below, last_token}
+use Rattle.reordered_tree_laws.specs.Below.tree_laws.Below.name_chains.Entering.{scope_in}
+use Rattle.reordered_tree_laws.specs.Below.tree_laws.Below.scope_bind.Named.{Scope}
 use Rattle.reordered_tree_laws.specs.Adding.{has_no_list, within_of, names_foreign, is_adding_token, is_adding_declarator, is_adding_parameter, is_adding_node, is_adding}
 use Rattle.reordered_tree_laws.specs.Beside.{is_free_use, is_free_tag, is_free_name, is_free_token, is_free_declarator, is_free_parameter, is_free_node, is_apart}
 use Rattle.reordered_item_laws.specs.Spread.{tokens_pass, ItemsAddTheirTokens, NothingIsAskedFor}
 
 -- the name of a declarator is one of its tokens
-name_passes : (test : ℕ → Bool) (l : Label) (f : Forest) → tokens_pass test f ≡ true → option_map_or test (name_below l f) true ≡ true
+pub name_passes : (test : ℕ → Bool) (l : Label) (f : Forest) → tokens_pass test f ≡ true → option_map_or test (name_below l f) true ≡ true
 name_passes test l none e = refl
 name_passes test l (token i rest) e =
     let p = and_parts (test i) (tokens_pass test rest) e in

@@ -2,16 +2,16 @@
 -- paragraph 4).
 use Rattle.std.specs.Prelude.{ℕ, ◌+◌, ◌≤◌, ◌≡◌, ◌==◌, ◌⊎◌, Bool, true, false, ◌&&◌, ◌||◌, not, List, ◌++◌}
 use Rattle.std.specs.List.{All}
-use Rattle.tree_laws.specs.Below.cs_base.Token.{Token}
-use Rattle.tree_laws.specs.Below.c99_tree.Tree.{Forest, none, token, node}
-use Rattle.tree_laws.specs.Below.c99_tree.declared.production.Label.{Label}
-use Rattle.tree_laws.specs.Below.c99_tree.declared.production.Production.TheVariants.{SuRest, EnRest}
-use Rattle.tree_laws.specs.Below.c_types.Trees.{is_at}
-use Rattle.tree_laws.specs.Below.c_types.Declarations.{Facts, is_space}
-use Rattle.tree_laws.specs.Below.name_chains.Frames.{State}
-use Rattle.tree_laws.specs.Below.scope_bind.Named.{Declaration, Occurrence, ordinary}
-use Rattle.tree_laws.specs.Below.scope_bind.Walk.{walked}
-use Rattle.tree_laws.specs.TreesOfTexts.{token_count, AreFrom, have_forms}
+use Rattle.reordered_tree_laws.specs.Below.tree_laws.Below.cs_base.Token.{Token}
+use Rattle.reordered_tree_laws.specs.Below.tree_laws.Below.c99_tree.Tree.{Forest, none, token, node}
+use Rattle.reordered_tree_laws.specs.Below.tree_laws.Below.c99_tree.declared.production.Label.{Label}
+use Rattle.reordered_tree_laws.specs.Below.tree_laws.Below.c99_tree.declared.production.Production.TheVariants.{SuRest, EnRest}
+use Rattle.reordered_tree_laws.specs.Below.tree_laws.Below.c_types.Trees.{is_at}
+use Rattle.reordered_tree_laws.specs.Below.tree_laws.Below.c_types.Declarations.{Facts, is_space}
+use Rattle.reordered_tree_laws.specs.Below.tree_laws.Below.name_chains.Frames.{State}
+use Rattle.reordered_tree_laws.specs.Below.tree_laws.Below.scope_bind.Named.{Declaration, Occurrence, ordinary}
+use Rattle.reordered_tree_laws.specs.Below.tree_laws.Below.scope_bind.Walk.{walked}
+use Rattle.reordered_tree_laws.specs.Below.tree_laws.TreesOfTexts.{token_count, AreFrom, have_forms}
 use Rattle.reordered_tree_laws.specs.Adding.{is_adding}
 use Rattle.reordered_tree_laws.specs.Beside.{is_apart, StandBeside}
 use Rattle.reordered_tree_laws.specs.Ranges.{has_range}

@@ -1,20 +1,19 @@
 -- What is known where no token stands beside: nothing that does (ISO/IEC 9899:1999, 6.2.1).
-use Rattle.std.specs.Prelude.{ℕ, ◌≡◌, Bool, true, false, ◌&&◌, not, List, IfSome}
+use Rattle.std.specs.Prelude.{ℕ, ◌≡◌, Bool, true, false, ◌&&◌, not, List}
 use Rattle.std.specs.List.{All}
-use Rattle.tree_laws.specs.Below.cs_base.Token.{Token}
-use Rattle.tree_laws.specs.Below.c99_tree.Tree.{Forest, none, token, node}
-use Rattle.tree_laws.specs.Below.c_types.declared.declarations.Space.TheVariants.{Members as members, Inner as inner, Unnamed as unnamed, Labels as labels}
-use Rattle.tree_laws.specs.Below.name_chains.Frames.{State}
-use Rattle.tree_laws.specs.Below.scope_bind.Named.{Space, Declaration, Body}
-use Rattle.tree_laws.specs.Below.scope_bind.Walk.{walked}
+use Rattle.reordered_tree_laws.specs.Below.tree_laws.Below.cs_base.Token.{Token}
+use Rattle.reordered_tree_laws.specs.Below.tree_laws.Below.c99_tree.Tree.{Forest, none, token, node}
+use Rattle.reordered_tree_laws.specs.Below.tree_laws.Below.c_types.declared.declarations.Space.TheVariants.{Members as members, Inner as inner, Unnamed as unnamed}
+use Rattle.reordered_tree_laws.specs.Below.tree_laws.Below.name_chains.Frames.{State}
+use Rattle.reordered_tree_laws.specs.Below.tree_laws.Below.scope_bind.Named.{Space, Declaration}
+use Rattle.reordered_tree_laws.specs.Below.tree_laws.Below.scope_bind.Walk.{walked}
 use Rattle.reordered_tree_laws.specs.Beside.{IsOwn, IsOwnFrame}
 
--- the number of a structure, union or body to which a name space belongs
+-- the number of a structure or union to which a name space belongs
 abbrev pub space_number : Space → ℕ
 space_number (members n) = n
 space_number (inner n) = n
 space_number (unnamed n) = n
-space_number (labels n) = n
 space_number _ = 0
 
 module _ (foreign : ℕ → Bool) where
@@ -24,7 +23,7 @@ module _ (foreign : ℕ → Bool) where
   is_clear (token i rest) = not (foreign i) && is_clear rest
   is_clear (node l first under rest) = not (foreign first) && (is_clear under && is_clear rest)
 
-  -- neither the name of a declaration nor its entity, type or name space does
+  -- neither the name of a declaration nor its entity, its type or the structure or union whose member it is does
   pub record IsOwnName (d : Declaration) : Type 0 where
     pub ctype : IsOwn foreign d.ctype
     pub entity : foreign d.entity ≡ false
@@ -35,7 +34,6 @@ module _ (foreign : ℕ → Bool) where
   pub record IsOwnState (s : State) : Type 0 where
     pub declared : All IsOwnName s.facts.declared
     pub frame : IsOwnFrame foreign s.frame
-    pub body : IfSome s.frame.body (λ (b : Body). foreign b.from ≡ false)
 
 -- A part none of whose tokens stands beside makes known nothing that does.
 abbrev pub PartsStayOwn : Type 0

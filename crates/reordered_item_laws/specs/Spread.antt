@@ -1,9 +1,9 @@
 -- What an item adds where its tokens stand beside, and what it asks for where none does (ISO/IEC 9899:1999, 6.2.1).
 use Rattle.std.specs.Prelude.{ℕ, ◌≡◌, Bool, true, ◌&&◌, not, List, []}
-use Rattle.tree_laws.specs.Below.cs_base.Token.{Token}
-use Rattle.tree_laws.specs.Below.c99_tree.Tree.{Forest, none, token, node}
-use Rattle.tree_laws.specs.Below.c99_tree.declared.production.Label.{Label}
-use Rattle.tree_laws.specs.Below.scope_bind.Named.{Scope}
+use Rattle.reordered_tree_laws.specs.Below.tree_laws.Below.cs_base.Token.{Token}
+use Rattle.reordered_tree_laws.specs.Below.tree_laws.Below.c99_tree.Tree.{Forest, none, token, node}
+use Rattle.reordered_tree_laws.specs.Below.tree_laws.Below.c99_tree.declared.production.Label.{Label}
+use Rattle.reordered_tree_laws.specs.Below.tree_laws.Below.scope_bind.Named.{Scope}
 use Rattle.reordered_tree_laws.specs.Adding.{is_adding}
 use Rattle.reordered_tree_laws.specs.Beside.{is_apart}
 

@@ -1,6 +1,7 @@
 // What is true of the items of lists, towards a new order of them: laws that no caller runs.
 ghost use Rattle.reordered_item_laws.specs.Lasting.{ItemsAddAlike, NamesLast};
 ghost use Rattle.reordered_item_laws.specs.Owned.{PartsStayOwn};
+ghost use Rattle.reordered_item_laws.specs.Siblings.{ItemsStandBeside, SiblingsAreApart, WholesAreClear};
 ghost use Rattle.reordered_item_laws.specs.Spread.{ItemsAddTheirTokens, NothingIsAskedFor};
 
 /// An item adds the same declarations whatever stands beside it that it does not ask for.
@@ -26,4 +27,19 @@ pub fn items_add_their_tokens()
 /// A part like an item asks for none of no declarations, where none of its tokens stands beside.
 pub fn nothing_is_asked_for()
     ensures { NothingIsAskedFor }
+{}
+
+/// An item asks for none of what the items in front of it declare, whose names it does not use.
+pub fn siblings_are_apart()
+    ensures { SiblingsAreApart }
+{}
+
+/// A list gains what its items gain, each read alone, where each is clear by itself.
+pub fn items_stand_beside()
+    ensures { ItemsStandBeside }
+{}
+
+/// Each item of a list is clear by itself, where the list as a whole is.
+pub fn wholes_are_clear()
+    ensures { WholesAreClear }
 {}

@@ -4,17 +4,17 @@ use Rattle.std.specs.Prelude.{All, IsPermutation}
 use Rattle.std.proofs.lemmas.List.{append_assoc}
 use Rattle.std.proofs.lemmas.List.Elements.{All-nil, All-cons, All-head, All-tail}
 use Rattle.std.proofs.lemmas.List.Sorted.{All-permutation}
-use Rattle.tree_laws.specs.Below.cs_base.declared.ws_units.Standard.{Standard}
-use Rattle.tree_laws.specs.Below.c99_tree.Tree.{Forest}
-use Rattle.tree_laws.specs.Below.c99_tree.declared.production.Production.{Production}
-use Rattle.tree_laws.specs.Below.c99_tree.declared.production.Production.TheVariants.{Args, Assign, Param}
-use Rattle.tree_laws.specs.Below.c99_grammar.declared.classes.Class.{Class}
-use Rattle.tree_laws.specs.Below.c99_grammar.declared.classes.Class.TheVariants.{Comma, RightParen}
-use Rattle.tree_laws.specs.Below.c99_grammar.Classes.{among}
-use Rattle.tree_laws.specs.Below.c99_grammar.Items.{Item, part, ◌·◌, many, own}
-use Rattle.tree_laws.specs.Below.c99_grammar.Standard.{grammar}
-use Rattle.tree_laws.specs.Below.c99_read.Reading.{Goal, produce}
-use Rattle.tree_laws.specs.Below.c99_read.Sound.{never_empty}
+use Rattle.renamed_tree_laws.specs.Below.tree_laws.Below.cs_base.declared.ws_units.Standard.{Standard}
+use Rattle.renamed_tree_laws.specs.Below.tree_laws.Below.c99_tree.Tree.{Forest}
+use Rattle.renamed_tree_laws.specs.Below.tree_laws.Below.c99_tree.declared.production.Production.{Production}
+use Rattle.renamed_tree_laws.specs.Below.tree_laws.Below.c99_tree.declared.production.Production.TheVariants.{Args, Assign, Param}
+use Rattle.renamed_tree_laws.specs.Below.tree_laws.Below.c99_grammar.declared.classes.Class.{Class}
+use Rattle.renamed_tree_laws.specs.Below.tree_laws.Below.c99_grammar.declared.classes.Class.TheVariants.{Comma, RightParen}
+use Rattle.renamed_tree_laws.specs.Below.tree_laws.Below.c99_grammar.Classes.{among}
+use Rattle.renamed_tree_laws.specs.Below.tree_laws.Below.c99_grammar.Items.{Item, part, ◌·◌, many, own}
+use Rattle.renamed_tree_laws.specs.Below.tree_laws.Below.c99_grammar.Standard.{grammar}
+use Rattle.renamed_tree_laws.specs.Below.tree_laws.Below.c99_read.Reading.{Goal, produce}
+use Rattle.renamed_tree_laws.specs.Below.tree_laws.Below.c99_read.Sound.{never_empty}
 use Rattle.reordered_text_laws.specs.ByClasses.{joined, tokens_of, Taken, taken, child_of, as_child, here, may_read, read_item, read_by_classes}
 use Rattle.reordered_text_laws.specs.Lists.{Others, others_of, listed, items_in, AreCommas}
 use Rattle.reordered_text_laws.specs.Laws.{ReadsAnywhere, PartsAreReadAnywhere, ItemsAreReadAnywhere, ArgumentsAreReadInAnyOrder}

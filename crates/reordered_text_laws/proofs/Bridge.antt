@@ -1,21 +1,21 @@
 -- A text whose names agree with a tree is read to it, where the same classes are.
 use Rattle.std.proofs.Common.{ℕ, zero, suc, ◌≡◌, Bool, true, false, ◌&&◌, ◌||◌, not, List, length, refl, sym, ap, ◌∙◌, inl}
 use Rattle.std.proofs.lemmas.Bool.{or_parts}
-use Rattle.tree_laws.specs.Below.cs_base.declared.ws_units.Standard.{Standard}
-use Rattle.tree_laws.specs.Below.cs_base.Token.{Token}
-use Rattle.tree_laws.specs.Below.c99_tree.Tree.{Forest, none, token, node}
-use Rattle.tree_laws.specs.Below.c99_tree.declared.production.Label.{Label}
-use Rattle.tree_laws.specs.Below.c99_tree.declared.production.Production.TheVariants.{TranslationUnit, Main}
-use Rattle.tree_laws.specs.Below.c99_grammar.Standard.{grammar}
-use Rattle.tree_laws.specs.Below.c99_read.State.{base_at}
-use Rattle.tree_laws.specs.Below.c_types.Trees.{is_at}
+use Rattle.renamed_tree_laws.specs.Below.tree_laws.Below.cs_base.declared.ws_units.Standard.{Standard}
+use Rattle.renamed_tree_laws.specs.Below.tree_laws.Below.cs_base.Token.{Token}
+use Rattle.renamed_tree_laws.specs.Below.tree_laws.Below.c99_tree.Tree.{Forest, none, token, node}
+use Rattle.renamed_tree_laws.specs.Below.tree_laws.Below.c99_tree.declared.production.Label.{Label}
+use Rattle.renamed_tree_laws.specs.Below.tree_laws.Below.c99_tree.declared.production.Production.TheVariants.{TranslationUnit, Main}
+use Rattle.renamed_tree_laws.specs.Below.tree_laws.Below.c99_grammar.Standard.{grammar}
+use Rattle.renamed_tree_laws.specs.Below.tree_laws.Below.c99_read.State.{base_at}
+use Rattle.renamed_tree_laws.specs.Below.tree_laws.Below.c_types.Trees.{is_at}
 use Rattle.renamed_tree_laws.specs.TreesAlike.{AgreeingTextsReadAlike}
 use Rattle.reordered_text_laws.specs.Fronted.{fronted, used, up, dirty, has_some, labelled_as, with_front, AgreeingTextsAreRead}
 use Rattle.reordered_text_laws.proofs.FrontClasses.{base_up}
 use Rattle.reordered_text_laws.proofs.FrontTop.{front_kept, front_gone}
 use Rattle.reordered_text_laws.proofs.FrontOutlines.{agrees_behind}
 
-and_false : (a b : Bool) → b ≡ false → (a && b) ≡ false
+pub and_false : (a b : Bool) → b ≡ false → (a && b) ≡ false
 and_false true b e = e
 and_false false b e = refl
 
@@ -29,7 +29,7 @@ none_strays some l (node m first under rest) e =
     let both = or_parts (has_some some under) (has_some some rest) e in
     ap (λ b. b || dirty some l rest) (none_strays some m under both.0) ∙ none_strays some l rest both.1
 
-classes_behind : (s : Standard) (u z : List Token) → ((k : ℕ) → base_at (grammar s) u k ≡ base_at (grammar s) z k) → length u ≡ length z
+pub classes_behind : (s : Standard) (u z : List Token) → ((k : ℕ) → base_at (grammar s) u k ≡ base_at (grammar s) z k) → length u ≡ length z
     → (k : ℕ) → base_at (grammar s) (fronted u) k ≡ base_at (grammar s) (fronted z) k
 classes_behind s u z e long zero = refl
 classes_behind s u z e long (suc zero) = refl

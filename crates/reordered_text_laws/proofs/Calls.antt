@@ -2,15 +2,15 @@
 use Rattle.std.proofs.Common.{ℕ, suc, zero, ◌+◌, ◌≡◌, ◌⊎◌, true, ◌&&◌, List, [], ◌∷◌, ◌++◌, Option, None, Some, nat_lt, sym, ap, ◌∙◌, inl, inr}
 use Rattle.std.specs.Prelude.{IsPermutation}
 use Rattle.std.proofs.lemmas.Bool.{false≢true, and_parts}
-use Rattle.tree_laws.specs.Below.cs_base.declared.ws_units.Standard.{Standard}
-use Rattle.tree_laws.specs.Below.c99_tree.Tree.{Forest, none}
-use Rattle.tree_laws.specs.Below.c99_tree.declared.production.Production.TheVariants.{Args, Post}
-use Rattle.tree_laws.specs.Below.c99_grammar.declared.classes.Class.{Class}
-use Rattle.tree_laws.specs.Below.c99_grammar.declared.classes.Class.TheVariants.{LeftBracket, LeftParen, RightParen}
-use Rattle.tree_laws.specs.Below.c99_grammar.Classes.{among}
-use Rattle.tree_laws.specs.Below.c99_grammar.Items.{Item, part, own}
-use Rattle.tree_laws.specs.Below.c99_grammar.Standard.{grammar}
-use Rattle.tree_laws.specs.Below.c99_read.Reading.{Goal, produce, deepest}
+use Rattle.renamed_tree_laws.specs.Below.tree_laws.Below.cs_base.declared.ws_units.Standard.{Standard}
+use Rattle.renamed_tree_laws.specs.Below.tree_laws.Below.c99_tree.Tree.{Forest, none}
+use Rattle.renamed_tree_laws.specs.Below.tree_laws.Below.c99_tree.declared.production.Production.TheVariants.{Args, Post}
+use Rattle.renamed_tree_laws.specs.Below.tree_laws.Below.c99_grammar.declared.classes.Class.{Class}
+use Rattle.renamed_tree_laws.specs.Below.tree_laws.Below.c99_grammar.declared.classes.Class.TheVariants.{LeftBracket, LeftParen, RightParen}
+use Rattle.renamed_tree_laws.specs.Below.tree_laws.Below.c99_grammar.Classes.{among}
+use Rattle.renamed_tree_laws.specs.Below.tree_laws.Below.c99_grammar.Items.{Item, part, own}
+use Rattle.renamed_tree_laws.specs.Below.tree_laws.Below.c99_grammar.Standard.{grammar}
+use Rattle.renamed_tree_laws.specs.Below.tree_laws.Below.c99_read.Reading.{Goal, produce, deepest}
 use Rattle.reordered_text_laws.specs.ByClasses.{tokens_of, Taken, taken, child_of, as_child, here, may_read, read_item, read_by_classes}
 use Rattle.reordered_text_laws.specs.Lists.{Others, listed, items_in, AreCommas}
 use Rattle.reordered_text_laws.specs.Laws.{enclosed, CallsAreReadInAnyOrder}

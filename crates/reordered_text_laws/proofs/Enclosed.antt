@@ -1,15 +1,15 @@
 -- A list in its parentheses is read.
 use Rattle.std.proofs.Common.{ℕ, ◌+◌, ◌≡◌, true, ◌&&◌, List, [], ◌∷◌, ◌++◌, Option, None, Some, nat_lt, refl, sym, ap, ◌∙◌}
 use Rattle.std.proofs.lemmas.Bool.{false≢true}
-use Rattle.tree_laws.specs.Below.cs_base.declared.ws_units.Standard.{Standard}
-use Rattle.tree_laws.specs.Below.c99_tree.Tree.{Forest, none, token}
-use Rattle.tree_laws.specs.Below.c99_tree.declared.production.Production.{Production}
-use Rattle.tree_laws.specs.Below.c99_grammar.declared.classes.Class.{Class}
-use Rattle.tree_laws.specs.Below.c99_grammar.declared.classes.Class.TheVariants.{LeftParen, RightParen}
-use Rattle.tree_laws.specs.Below.c99_grammar.Classes.{among}
-use Rattle.tree_laws.specs.Below.c99_grammar.Items.{Item, part, ◌·◌, maybe, deep, own, tok}
-use Rattle.tree_laws.specs.Below.c99_grammar.Standard.{grammar}
-use Rattle.tree_laws.specs.Below.c99_read.Reading.{Goal, produce, deepest}
+use Rattle.renamed_tree_laws.specs.Below.tree_laws.Below.cs_base.declared.ws_units.Standard.{Standard}
+use Rattle.renamed_tree_laws.specs.Below.tree_laws.Below.c99_tree.Tree.{Forest, none, token}
+use Rattle.renamed_tree_laws.specs.Below.tree_laws.Below.c99_tree.declared.production.Production.{Production}
+use Rattle.renamed_tree_laws.specs.Below.tree_laws.Below.c99_grammar.declared.classes.Class.{Class}
+use Rattle.renamed_tree_laws.specs.Below.tree_laws.Below.c99_grammar.declared.classes.Class.TheVariants.{LeftParen, RightParen}
+use Rattle.renamed_tree_laws.specs.Below.tree_laws.Below.c99_grammar.Classes.{among}
+use Rattle.renamed_tree_laws.specs.Below.tree_laws.Below.c99_grammar.Items.{Item, part, ◌·◌, maybe, deep, own, tok}
+use Rattle.renamed_tree_laws.specs.Below.tree_laws.Below.c99_grammar.Standard.{grammar}
+use Rattle.renamed_tree_laws.specs.Below.tree_laws.Below.c99_read.Reading.{Goal, produce, deepest}
 use Rattle.reordered_text_laws.specs.ByClasses.{joined, Taken, taken, may_read, read_one, read_item, read_by_classes}
 use Rattle.reordered_text_laws.specs.Laws.{enclosed}
 use Rattle.reordered_text_laws.proofs.Found.{stopped, between, then_is, if_yes}

@@ -1,12 +1,12 @@
 -- A test that asks nothing behind a parenthesis says there the same, whatever stands behind.
 use Rattle.std.proofs.Common.{◌≡◌, Bool, true, false, ◌&&◌, ◌||◌, not, if◌then◌else◌, [], ◌∷◌, refl, sym, ap, ◌∙◌}
 use Rattle.std.proofs.lemmas.Bool.{and_parts, not-true}
-use Rattle.tree_laws.specs.Below.c99_grammar.declared.classes.Class.{Class}
-use Rattle.tree_laws.specs.Below.c99_grammar.declared.classes.Class.TheVariants.{LeftParen, Colon}
-use Rattle.tree_laws.specs.Below.c99_grammar.Classes.{among}
-use Rattle.tree_laws.specs.Below.c99_grammar.Items.{Item, one, part, end_of_text, act, ◌·◌, choice, maybe, many, deep, own, otherwise, next, next_two, Test}
-use Rattle.tree_laws.specs.Below.c99_grammar.Standard.{Grammar}
-use Rattle.tree_laws.specs.Below.c99_grammar.Starting.{is_passed, asks, holds, starts}
+use Rattle.renamed_tree_laws.specs.Below.tree_laws.Below.c99_grammar.declared.classes.Class.{Class}
+use Rattle.renamed_tree_laws.specs.Below.tree_laws.Below.c99_grammar.declared.classes.Class.TheVariants.{LeftParen, Colon}
+use Rattle.renamed_tree_laws.specs.Below.tree_laws.Below.c99_grammar.Classes.{among}
+use Rattle.renamed_tree_laws.specs.Below.tree_laws.Below.c99_grammar.Items.{Item, one, part, end_of_text, act, ◌·◌, choice, maybe, many, deep, own, otherwise, next, next_two, Test}
+use Rattle.renamed_tree_laws.specs.Below.tree_laws.Below.c99_grammar.Standard.{Grammar}
+use Rattle.renamed_tree_laws.specs.Below.tree_laws.Below.c99_grammar.Starting.{is_passed, asks, holds, starts}
 
 module _ (g : Grammar) where
   -- what a test says at a parenthesis does not hang on what stands behind

@@ -1,22 +1,22 @@
 -- The whole tree agrees behind the typedef.
 use Rattle.std.proofs.Common.{ℕ, ◌+◌, ◌≡◌, Bool, false, ◌&&◌, if◌then◌else◌, List, [], length, Option, None, refl, sym, ap, ◌∙◌}
-use Rattle.tree_laws.specs.Below.cs_base.declared.ws_units.Standard.{Standard}
-use Rattle.tree_laws.specs.Below.cs_base.Token.{Token}
-use Rattle.tree_laws.specs.Below.c99_tree.Tree.{Forest, none, token, node}
-use Rattle.tree_laws.specs.Below.c99_tree.declared.production.Label.{Label}
-use Rattle.tree_laws.specs.Below.c99_tree.declared.production.Production.{Production}
-use Rattle.tree_laws.specs.Below.c99_tree.declared.production.Production.TheVariants.{TranslationUnit, Enumerator, Declarator, Pdecl, Specs}
-use Rattle.tree_laws.specs.Below.scope_bind.Named.{Scope}
-use Rattle.tree_laws.specs.Below.c_types.Trees.{is_node, has_mod, first_list}
-use Rattle.tree_laws.specs.Below.name_chains.Frames.{at_first as before}
-use Rattle.typedef_laws.proofs.Outline.{Entry, Outline, begun, entries_after, outlined, node_agrees, all_agree}
-use Rattle.typedef_laws.proofs.Outlines.{outline, agrees_same}
+use Rattle.renamed_tree_laws.specs.Below.tree_laws.Below.cs_base.declared.ws_units.Standard.{Standard}
+use Rattle.renamed_tree_laws.specs.Below.tree_laws.Below.cs_base.Token.{Token}
+use Rattle.renamed_tree_laws.specs.Below.tree_laws.Below.c99_tree.Tree.{Forest, none, token, node}
+use Rattle.renamed_tree_laws.specs.Below.tree_laws.Below.c99_tree.declared.production.Label.{Label}
+use Rattle.renamed_tree_laws.specs.Below.tree_laws.Below.c99_tree.declared.production.Production.{Production}
+use Rattle.renamed_tree_laws.specs.Below.tree_laws.Below.c99_tree.declared.production.Production.TheVariants.{TranslationUnit, Enumerator, Declarator, Pdecl, Specs}
+use Rattle.renamed_tree_laws.specs.Below.tree_laws.Below.scope_bind.Named.{Scope}
+use Rattle.renamed_tree_laws.specs.Below.tree_laws.Below.c_types.Trees.{is_node, has_mod, first_list}
+use Rattle.renamed_tree_laws.specs.Below.tree_laws.Below.name_chains.Frames.{at_first as before}
+use Rattle.renamed_tree_laws.proofs.Below.typedef_laws.Outline.{Entry, Outline, begun, entries_after, outlined, node_agrees, all_agree}
+use Rattle.renamed_tree_laws.proofs.Below.typedef_laws.Outlines.{outline, agrees_same}
 use Rattle.reordered_text_laws.specs.ByClasses.{joined}
 use Rattle.reordered_text_laws.specs.Fronted.{fronted, raised, labelled_as, front_forest, AgreesBehindATypedef}
 use Rattle.reordered_text_laws.proofs.FrontAgrees.{up_outline, all_same}
 
 -- what is known between definitions
-abbrev between : List Entry → ℕ → Scope → Bool → Option ℕ → Outline
+abbrev pub between : List Entry → ℕ → Scope → Bool → Option ℕ → Outline
 between es m sc typedef kept = record { entries = es; label = labelled_as TranslationUnit 1; nth = m; scope = sc; typedef = typedef; kept = kept }
 
 after_same : (p : Production) (first : ℕ) (l : Label) (f : Forest) (xs es : List Entry) (m k : ℕ) (sc : Scope) (typedef : Bool) (kept : Option ℕ)
@@ -28,7 +28,7 @@ after_same _ first l f xs es m k sc typedef kept = refl
 
 module _ (std : Standard) (toks : List Token) where
   -- how many definitions stand before is not asked
-  any_place : (f : Forest) (es : List Entry) (m k : ℕ) (sc : Scope) (typedef : Bool) (kept : Option ℕ)
+  pub any_place : (f : Forest) (es : List Entry) (m k : ℕ) (sc : Scope) (typedef : Bool) (kept : Option ℕ)
       → all_agree std toks f (between es m sc typedef kept) ≡ all_agree std toks f (between es k sc typedef kept)
   any_place none es m k sc typedef kept = refl
   any_place (token i rest) es m k sc typedef kept = any_place rest es (m + 1) (k + 1) sc typedef kept
@@ -40,11 +40,11 @@ module _ (std : Standard) (toks : List Token) where
       (any_place rest (entries_after l.production first (between es m sc typedef kept) l under inside.entries) (m + 1) (k + 1) sc typedef' kept'
       ∙ ap (λ xs. all_agree std toks rest (between xs (k + 1) sc typedef' kept')) (after_same l.production first l under inside.entries es m k sc typedef kept))
 
-abbrev start : ℕ → Outline
+abbrev pub start : ℕ → Outline
 start n = between [] 0 (record { depth = 0; to = n }) false None
 
 -- the typedef by itself
-front_agrees : (s : Standard) (z : List Token) (f : Forest) → all_agree s (fronted z) (joined (front_forest s) f) (outline (before (length (fronted z))))
+pub front_agrees : (s : Standard) (z : List Token) (f : Forest) → all_agree s (fronted z) (joined (front_forest s) f) (outline (before (length (fronted z))))
     ≡ all_agree s (fronted z) f (record (up_outline (length z) (start (length z))) { nth = 1 })
 front_agrees s z f = refl
 

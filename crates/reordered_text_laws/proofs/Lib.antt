@@ -1,10 +1,21 @@
-mod Found
-mod Whole
-mod Stops
-mod Local
+-- For the crates of laws above.
+pub mod Found
+pub mod Whole
+pub mod Stops
+pub mod Local
+pub mod Tables
+pub mod Units
+pub mod Numbered
+pub mod TextsInOrder
+pub mod FrontClasses
+pub mod FrontSteps
+pub mod FrontTop
+pub mod FrontAgrees
+pub mod FrontOutlines
+pub mod Bridge
+-- What the proofs of this crate rest on.
 mod Later
 mod Orders
-mod Tables
 mod Starts
 mod Arguments
 mod Parameters
@@ -23,18 +34,11 @@ mod Anew
 mod ParameterLists
 mod AnewLists
 mod AnewTables
-mod Units
-mod Numbered
 mod Keyed
-mod TextsInOrder
 mod Rows
 mod FrontNames
 mod CleanNames
-mod FrontClasses
 mod FrontTrees
 mod FrontGrows
-mod FrontSteps
-mod FrontTop
-mod FrontAgrees
-mod FrontOutlines
-mod Bridge
+-- Words of the crates below, passed on.
+pub mod Below

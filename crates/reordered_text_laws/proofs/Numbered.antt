@@ -4,19 +4,19 @@ use Rattle.std.proofs.lemmas.Bool.{false≢true}
 use Rattle.std.proofs.lemmas.List.{length-map, get_or-map, get_or_default, same_lists}
 use Rattle.std.proofs.lemmas.List.Sorted.{length_permutation}
 use Rattle.std.proofs.Math.ListN as listn
-use Rattle.tree_laws.specs.Below.cs_base.declared.ws_units.Standard.{Standard}
-use Rattle.tree_laws.specs.Below.c99_tree.Tree.{Forest, none, token, node, Node, node_of}
-use Rattle.tree_laws.specs.Below.c99_tree.declared.production.Label.{Label}
-use Rattle.tree_laws.specs.Below.c99_tree.declared.production.Production.TheVariants.{TranslationUnit}
-use Rattle.tree_laws.specs.Below.c99_grammar.declared.classes.Class.{Class}
-use Rattle.tree_laws.specs.Below.c99_grammar.Standard.{grammar}
-use Rattle.tree_laws.specs.Below.c99_read.Reading.{produce}
-use Rattle.tree_laws.specs.Below.c_types.Trees.{first_token}
-use Rattle.tree_laws.specs.Below.c_types.Parameters.{ends_in_token}
-use Rattle.tree_laws.specs.TreesOfTexts.{token_count}
-use Rattle.list_cuts.specs.Cuts.{Cut, done, keep, list, item, numbers, IsOrder, arranged, AreOf}
-use Rattle.list_cuts.proofs.OrderLemmas.{length-numbers, get_or-numbers}
-use Rattle.list_cuts.proofs.CutLemmas.{length-order, arranged_permutes}
+use Rattle.renamed_tree_laws.specs.Below.tree_laws.Below.cs_base.declared.ws_units.Standard.{Standard}
+use Rattle.renamed_tree_laws.specs.Below.tree_laws.Below.c99_tree.Tree.{Forest, none, token, node, Node, node_of}
+use Rattle.renamed_tree_laws.specs.Below.tree_laws.Below.c99_tree.declared.production.Label.{Label}
+use Rattle.renamed_tree_laws.specs.Below.tree_laws.Below.c99_tree.declared.production.Production.TheVariants.{TranslationUnit}
+use Rattle.renamed_tree_laws.specs.Below.tree_laws.Below.c99_grammar.declared.classes.Class.{Class}
+use Rattle.renamed_tree_laws.specs.Below.tree_laws.Below.c99_grammar.Standard.{grammar}
+use Rattle.renamed_tree_laws.specs.Below.tree_laws.Below.c99_read.Reading.{produce}
+use Rattle.renamed_tree_laws.specs.Below.tree_laws.Below.c_types.Trees.{first_token}
+use Rattle.renamed_tree_laws.specs.Below.tree_laws.Below.c_types.Parameters.{ends_in_token}
+use Rattle.renamed_tree_laws.specs.Below.tree_laws.TreesOfTexts.{token_count}
+use Rattle.reordered_tree_laws.specs.Below.list_cuts.Cuts.{Cut, done, keep, list, item, numbers, IsOrder, arranged, AreOf}
+use Rattle.reordered_tree_laws.proofs.Below.list_cuts.OrderLemmas.{length-numbers, get_or-numbers}
+use Rattle.reordered_tree_laws.proofs.Below.list_cuts.CutLemmas.{length-order, arranged_permutes}
 use Rattle.reordered_tree_laws.specs.Reordered.{nodes_in, refilled, no_node, picked_nodes, shuffled, is_parenthesised, is_among, permuted, leaves, numbered, reordered}
 use Rattle.reordered_tree_laws.specs.Cuts.{gap_in, cut_then, list_then, items_in, cut_in}
 use Rattle.reordered_tree_laws.proofs.SameForms.{arranged_leaves}

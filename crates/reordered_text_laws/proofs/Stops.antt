@@ -1,14 +1,14 @@
 -- What may stand behind an item of a list: its tests are the same before a comma and before the parenthesis that ends the list.
 use Rattle.std.proofs.Common.{ℕ, ◌≡◌, Bool, true, false, ◌&&◌, ◌||◌, not, if◌then◌else◌, List, [], ◌∷◌, ◌++◌, refl, sym, ap, ◌∙◌, inl, inr, ◌⊎◌}
 use Rattle.std.proofs.lemmas.Bool.{false≢true, and_parts, or_parts, not-true}
-use Rattle.tree_laws.specs.Below.c99_tree.declared.production.Production.{Production}
-use Rattle.tree_laws.specs.Below.c99_grammar.declared.classes.Class.{Class}
-use Rattle.tree_laws.specs.Below.c99_grammar.declared.classes.Class.TheVariants.{Comma, RightParen, End, Colon}
-use Rattle.tree_laws.specs.Below.c99_grammar.Classes.{among}
-use Rattle.tree_laws.specs.Below.c99_grammar.Items.{Item, one, part, end_of_text, act, ◌·◌, choice, maybe, many, deep, Test, own, otherwise, next, next_two, Alternative}
-use Rattle.tree_laws.specs.Below.c99_grammar.Standard.{Grammar}
-use Rattle.tree_laws.specs.Below.c99_grammar.Starting.{is_passed, asks, holds, starts}
-use Rattle.tree_laws.specs.Below.c99_read.Sound.{never_empty, has_token}
+use Rattle.renamed_tree_laws.specs.Below.tree_laws.Below.c99_tree.declared.production.Production.{Production}
+use Rattle.renamed_tree_laws.specs.Below.tree_laws.Below.c99_grammar.declared.classes.Class.{Class}
+use Rattle.renamed_tree_laws.specs.Below.tree_laws.Below.c99_grammar.declared.classes.Class.TheVariants.{Comma, RightParen, End, Colon}
+use Rattle.renamed_tree_laws.specs.Below.tree_laws.Below.c99_grammar.Classes.{among}
+use Rattle.renamed_tree_laws.specs.Below.tree_laws.Below.c99_grammar.Items.{Item, one, part, end_of_text, act, ◌·◌, choice, maybe, many, deep, Test, own, otherwise, next, next_two, Alternative}
+use Rattle.renamed_tree_laws.specs.Below.tree_laws.Below.c99_grammar.Standard.{Grammar}
+use Rattle.renamed_tree_laws.specs.Below.tree_laws.Below.c99_grammar.Starting.{is_passed, asks, holds, starts}
+use Rattle.renamed_tree_laws.specs.Below.tree_laws.Below.c99_read.Sound.{never_empty, has_token}
 use Rattle.reordered_text_laws.specs.ByClasses.{here, behind, may_read}
 use Rattle.reordered_text_laws.specs.Lists.{EndsItem}
 use Rattle.reordered_text_laws.proofs.Whole.{has_any}

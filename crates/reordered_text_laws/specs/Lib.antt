@@ -5,3 +5,5 @@ pub mod Laws
 pub mod Alone
 pub mod InOrder
 pub mod Fronted
+-- Words of the crates below, passed on.
+pub mod Below

@@ -6,7 +6,7 @@ ghost use Rattle.reordered_text_laws.specs.Laws.{PartsAreReadAnywhere, ItemsAreR
 ghost use Rattle.reordered_text_laws.specs.Laws.{ArgumentsAreReadInAnyOrder, ParametersAreReadInAnyOrder, CallsAreReadInAnyOrder};
 
 use renamed_tree_laws::agreeing_texts_read_alike;
-use tree_laws::tokens_stand_in_order;
+use reordered_tree_laws::tokens_stand_in_order;
 
 /// A text in which each identifier is spelled as no other token is read as the classes of its tokens are, by any grammar.
 pub fn texts_alone_are_read_by_classes()

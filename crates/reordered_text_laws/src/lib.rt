@@ -7,6 +7,9 @@
 //! unit is read with all its lists in a new order at once: to the tree in that order, `reordered` of the crate
 //! `reordered_tree_laws`. No program stands here: each law is the `ensures` of a function without a body. Read
 //! `specs/Laws.antt`, then `specs/InOrder.antt`; of the proofs `proofs/Near.antt` and `proofs/Anew.antt`.
+//!
+//! They are given to `reordered_reading_laws`. Its proofs cite the modules of `proofs/Lib.antt` that are public; a lemma there
+//! keeps its name, and all else may change.
 #![tactic(auto)]
 
 mod laws;
@@ -18,3 +21,4 @@ pub use laws::{
     texts_alone_are_read_by_classes, texts_alone_are_read_in_order,
     texts_are_read_behind_a_typedef,
 };
+pub use renamed_tree_laws::agreeing_texts_read_alike;

@@ -10,6 +10,7 @@ use Rattle.tree_laws.specs.Below.c99_tree.Tree.{Forest, none, token, node}
 use Rattle.tree_laws.specs.Below.c99_tree.declared.production.Label.{Label}
 use Rattle.tree_laws.specs.Below.c99_tree.declared.production.Production.{Production}
 use Rattle.tree_laws.specs.Below.c99_tree.declared.production.Production.TheVariants.{ExtRest, InitDecl, FunBody, Main, Params, Primary, Post, Designator, SuRest, EnRest, Members, MemRest, Mdecl, Enumerators, Enumerator, Declarator, Param, Pdecl, Statement}
+use Rattle.tree_laws.specs.Below.c99_tree.contracts.production.ProductionPartialEq.TheImpl.{ghosts}
 use Rattle.tree_laws.specs.Below.c_types.declared.entity.EntityKind.TheVariants.{Typedef, Parameter, Enumerator as Constant}
 use Rattle.tree_laws.specs.Below.c_types.Types.{CType, arithmetic, adjusted, union, structure, is_unknown, target_of}
 use Rattle.tree_laws.specs.Below.c_types.Trees.{has_node, name_below, last_token, declarator_type}
@@ -28,15 +29,15 @@ use Rattle.reordered_tree_laws.specs.Adding.{is_untagged, is_tagged, has_no_list
 
 module _ (toks : List Token) (foreign : ℕ → Bool) where
   -- what is known later has more that stands beside, and nothing else
-  record Added (f g : Facts) : Type 0 where
-    seen : seen_of foreign g.declared ≡ seen_of foreign f.declared
-    begun : (n : ℕ) → foreign n ≡ false → is_in g.begun n ≡ is_in f.begun n
-    complete : (n : ℕ) → foreign n ≡ false → is_in g.complete n ≡ is_in f.complete n
+  pub record Added (f g : Facts) : Type 0 where
+    pub seen : seen_of foreign g.declared ≡ seen_of foreign f.declared
+    pub begun : (n : ℕ) → foreign n ≡ false → is_in g.begun n ≡ is_in f.begun n
+    pub complete : (n : ℕ) → foreign n ≡ false → is_in g.complete n ≡ is_in f.complete n
 
-  added_none : (f : Facts) → Added f f
+  pub added_none : (f : Facts) → Added f f
   added_none f = record { seen = refl; begun = λ n h. refl; complete = λ n h. refl }
 
-  added_both : (f g h : Facts) → Added f g → Added g h → Added f h
+  pub added_both : (f g h : Facts) → Added f g → Added g h → Added f h
   added_both f g h a b = record {
     seen = b.seen ∙ a.seen;
     begun = λ n o. b.begun n o ∙ a.begun n o;
@@ -222,7 +223,7 @@ module _ (toks : List Token) (foreign : ℕ → Bool) where
   add_designators fr i f false = added_none f
   add_designators fr i f true = add_designated (is_unknown fr.given) fr.given i f
 
-  add_token : (fr : Frame) (i : ℕ) (f : Facts) (p : Production) (a n : ℕ) → (is_tagged (record { production = p; alternative = a }) ≡ true → fr.has_body ≡ false)
+  pub add_token : (fr : Frame) (i : ℕ) (f : Facts) (p : Production) (a n : ℕ) → (is_tagged (record { production = p; alternative = a }) ≡ true → fr.has_body ≡ false)
       → foreign i ≡ true → is_adding_token foreign p ≡ true → Added f (facts_at toks (role_of p a n) i fr f)
   add_token fr i f Primary a n no_list mine e = add_primary fr i f (a == 1)
   add_token fr i f Main a n no_list mine e = add_type_name fr i f ((a == 4) && (n == 0))
@@ -241,7 +242,7 @@ module _ (toks : List Token) (foreign : ℕ → Bool) where
   plain_found : (fr : Frame) (i : ℕ) (f : Facts) (a n : ℕ) → (a == 2) ≡ true → ((a == 1) && (n == 0)) ≡ false
   plain_found fr i f a n e = ap (λ x. (x == 1) && (n == 0)) (eqb-true a 2 e)
 
-  found_stays : (fr : Frame) (i : ℕ) (f : Facts) (p : Production) (a n : ℕ) → is_untagged (record { production = p; alternative = a }) ≡ true
+  pub found_stays : (fr : Frame) (i : ℕ) (f : Facts) (p : Production) (a n : ℕ) → is_untagged (record { production = p; alternative = a }) ≡ true
       → found_at toks (role_of p a n) i fr f ≡ fr.found
   found_stays fr i f SuRest a n e = ap (λ c. found_at toks (role_if c (role_of SuRest 1 0)) i fr f) (plain_found fr i f a n (or_left (a == 2) e))
     where
@@ -251,13 +252,13 @@ module _ (toks : List Token) (foreign : ℕ → Bool) where
   found_stays fr i f EnRest a n e = ap (λ c. found_at toks (role_if c (role_of EnRest 1 0)) i fr f) (plain_found fr i f a n e)
   found_stays fr i f _ a n e = absurd (false≢true e)
 
-  after_stays : (fr : Frame) (l : Label) (under : Forest) (child : Frame) (p : Production) (a : ℕ) → is_untagged (record { production = p; alternative = a }) ≡ true
+  pub after_stays : (fr : Frame) (l : Label) (under : Forest) (child : Frame) (p : Production) (a : ℕ) → is_untagged (record { production = p; alternative = a }) ≡ true
       → found_after toks p fr l under child ≡ fr.found
   after_stays fr l under child SuRest a e = refl
   after_stays fr l under child EnRest a e = refl
   after_stays fr l under child _ a e = absurd (false≢true e)
 
-  found_foreign : (fr : Frame) (l : Label) (f : Facts) (p : Production) (a : ℕ) → foreign fr.token ≡ true → is_untagged (record { production = p; alternative = a }) ≡ true
+  pub found_foreign : (fr : Frame) (l : Label) (f : Facts) (p : Production) (a : ℕ) → foreign fr.token ≡ true → is_untagged (record { production = p; alternative = a }) ≡ true
       → foreign (number_in (found_in toks p l fr f)) ≡ true
   found_foreign fr l f SuRest a h e = by (bytes_eq (spelling_at toks fr.token) (codes "union"))
     where
@@ -269,7 +270,7 @@ module _ (toks : List Token) (foreign : ℕ → Bool) where
 
   -- ---- A node
 
-  enter : (p : Production) (around l : Label) (within : Bool) (first : ℕ) (under : Forest) (fr : Frame) (f : Facts) → is_adding_node foreign p around within l under ≡ true
+  pub enter : (p : Production) (around l : Label) (within : Bool) (first : ℕ) (under : Forest) (fr : Frame) (f : Facts) → is_adding_node foreign p around within l under ≡ true
       → Added f (facts_in p first under fr f)
   enter FunBody around l within first under fr f e = absurd (false≢true e)
   enter _ around l within first under fr f e = added_none f
@@ -286,28 +287,30 @@ module _ (toks : List Token) (foreign : ℕ → Bool) where
   add_parameter_in Param fr l under f e = add_parameter fr under (name_below l under) f e
   add_parameter_in _ fr l under f e = added_none f
 
-  add_after : (p : Production) (fr : Frame) (within : Bool) (l : Label) (first : ℕ) (under : Forest) (body : Option Body) (f : Facts) → IsAddingFrame foreign within fr
-      → foreign first ≡ true → is_adding_node foreign p fr.label within l under ≡ true → Added f (facts_after toks p first fr l under body f)
-  add_after Declarator fr within l first under body f h mine e = add_declarator fr.label.production fr within l under f h.owner e
-  add_after Pdecl fr within l first under body f h mine e = add_parameter_in fr.label.production fr l under f e
-  add_after Enumerator fr within l first under body f h mine e =
-      add_declared fr.scope (plain_name toks first (last_token under first) Constant arithmetic false) f mine
-  add_after MemRest fr within l first under body f h mine e = by (l.alternative == 1)
+  pub add_after : (p : Production) (fr : Frame) (within : Bool) (l : Label) (first : ℕ) (under : Forest) (body : Option Body) (f : Facts)
+      → (within ≡ true → foreign fr.owner ≡ true) → (is_untagged fr.label ≡ true → foreign (number_in fr.found) ≡ true) → (ghosts.eq p Enumerator ≡ true → foreign first ≡ true)
+      → is_adding_node foreign p fr.label within l under ≡ true → Added f (facts_after toks p first fr l under body f)
+  add_after Declarator fr within l first under body f owner untagged mine e = add_declarator fr.label.production fr within l under f owner e
+  add_after Pdecl fr within l first under body f owner untagged mine e = add_parameter_in fr.label.production fr l under f e
+  add_after Enumerator fr within l first under body f owner untagged mine e =
+      add_declared fr.scope (plain_name toks first (last_token under first) Constant arithmetic false) f (mine refl)
+  add_after MemRest fr within l first under body f owner untagged mine e = by (l.alternative == 1)
     where
       by : (c : Bool) → Added f (if c then with_anonymous toks fr first f else f)
-      by true = add_anonymous fr first f fr.words.anonymous (h.owner e)
+      by true = add_anonymous fr first f fr.words.anonymous (owner e)
       by false = added_none f
-  add_after Members fr within l first under body f h mine e = add_complete (number_in fr.found) f (h.untagged e)
-  add_after Enumerators fr within l first under body f h mine e = add_complete (number_in fr.found) f (h.untagged e)
-  add_after FunBody fr within l first under body f h mine e = absurd (false≢true e)
-  add_after _ fr within l first under body f h mine e = added_none f
+  add_after Members fr within l first under body f owner untagged mine e = add_complete (number_in fr.found) f (untagged e)
+  add_after Enumerators fr within l first under body f owner untagged mine e = add_complete (number_in fr.found) f (untagged e)
+  add_after FunBody fr within l first under body f owner untagged mine e = absurd (false≢true e)
+  add_after _ fr within l first under body f owner untagged mine e = added_none f
 
-  owner_foreign : (p : Production) (fr : Frame) (around l : Label) (within : Bool) (under : Forest) → fr.label ≡ around → IsAddingFrame foreign within fr
+  pub owner_foreign : (p : Production) (fr : Frame) (around l : Label) (within : Bool) (under : Forest) → fr.label ≡ around
+      → (within ≡ true → foreign fr.owner ≡ true) → (is_untagged fr.label ≡ true → foreign (number_in fr.found) ≡ true)
       → is_adding_node foreign p around within l under ≡ true → within_of p within ≡ true → foreign (owner_in p fr) ≡ true
-  owner_foreign Members fr around l within under same h e inside = h.untagged (ap is_untagged same ∙ e)
-  owner_foreign _ fr around l within under same h e inside = h.owner inside
+  owner_foreign Members fr around l within under same owner untagged e inside = untagged (ap is_untagged same ∙ e)
+  owner_foreign _ fr around l within under same owner untagged e inside = owner inside
 
-  no_list_in : (l : Label) (under : Forest) → has_no_list l under ≡ true → is_tagged l ≡ true → (has_node Members under || has_node Enumerators under) ≡ false
+  pub no_list_in : (l : Label) (under : Forest) → has_no_list l under ≡ true → is_tagged l ≡ true → (has_node Members under || has_node Enumerators under) ≡ false
   no_list_in l under e t = by (is_tagged l) (has_node Members under || has_node Enumerators under) e t
     where
       by : (t c : Bool) → not (t && c) ≡ true → t ≡ true → c ≡ false
@@ -343,7 +346,7 @@ module _ (toks : List Token) (foreign : ℕ → Bool) where
   entered_frame within l first under s h e no_list = record {
     token = h.token;
     untagged = λ u. found_foreign s.frame l s.facts l.production l.alternative h.token u;
-    owner = λ inside. owner_foreign l.production s.frame s.frame.label l within under refl h e inside;
+    owner = λ inside. owner_foreign l.production s.frame s.frame.label l within under refl h.owner h.untagged e inside;
     tagged = λ t. no_list_in l under no_list t;
   }
 
@@ -387,7 +390,7 @@ module _ (toks : List Token) (foreign : ℕ → Bool) where
         added = added_both s.facts s3.facts (walked toks rest s3).facts
             (added_both s.facts s2.facts s3.facts
             (added_both s.facts s1.facts s2.facts (enter l.production around l within first under s.frame s.facts q.0) inside.added)
-            (add_after l.production s.frame within l first under s2.frame.body s2.facts h p.0 q.0))
+            (add_after l.production s.frame within l first under s2.frame.body s2.facts h.owner h.untagged (λ x. p.0) q.0))
             more.added;
         label = more.label;
         frame = more.frame;

@@ -6,26 +6,27 @@ mod BesideNames
 mod BesideMembers
 mod BesideSteps
 pub mod BesideWalk
-mod Seen
-mod Adding
+pub mod Seen
+pub mod Adding
 mod Items
-mod Rows
+pub mod Rows
 mod PremiseRows
 pub mod Ranges
-mod MovedLists
-mod MovedFacts
-mod MovedTypes
-mod MovedNames
-mod MovedMembers
-mod MovedTrees
-mod MovedKept
-mod MovedTokens
-mod MovedEntering
-mod MovedLeaving
-mod MovedWalk
-mod MovedResult
-mod MovedPlaces
-mod MovedHeads
-mod MovedOrders
-mod MovedUnits
+pub mod MovedLists
+pub mod MovedFacts
+pub mod MovedTypes
+pub mod MovedNames
+pub mod MovedMembers
+pub mod MovedTrees
+pub mod MovedKept
+pub mod MovedTokens
+pub mod MovedEntering
+pub mod MovedLeaving
+pub mod MovedWalk
+pub mod MovedResult
+pub mod MovedPlaces
+pub mod MovedHeads
+pub mod MovedOrders
+pub mod MovedUnits
 pub mod OnlyAdding
+pub mod Below

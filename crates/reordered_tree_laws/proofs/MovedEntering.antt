@@ -61,7 +61,7 @@ module _ (m : ℕ → ℕ) (old new : List Token) (law : AreMovedTexts m old new
   -- ---- The end of a scope
 
   -- a token ahead stands before the last one of the node in both texts or in neither
-  before_last : (k : ℕ) → IsAhead m lo there k → nat_lt (m k) (last_token over 0) ≡ nat_lt k (last_token under 0)
+  pub before_last : (k : ℕ) → IsAhead m lo there k → nat_lt (m k) (last_token over 0) ≡ nat_lt k (last_token under 0)
   before_last k a = elim (cases_Bool (nat_lt 0 count)) [
     | inl some ↦ filled (ltb-true 0 count some)
     | inr empty ↦
@@ -104,7 +104,7 @@ module _ (m : ℕ → ℕ) (old new : List Token) (law : AreMovedTexts m old new
       (λ e. lt-ltb k 1 (omega (arith, eqb-true k 0 e)))
 
   -- .. or before its end
-  before_end : (k : ℕ) → IsAhead m lo there k → nat_lt (m k) (last_token over 0 + 1) ≡ nat_lt k (last_token under 0 + 1)
+  pub before_end : (k : ℕ) → IsAhead m lo there k → nat_lt (m k) (last_token over 0 + 1) ≡ nat_lt k (last_token under 0 + 1)
   before_end k a = elim (cases_Bool (nat_lt 0 count)) [
     | inl some ↦ filled (ltb-true 0 count some) a
     | inr empty ↦
@@ -256,7 +256,7 @@ module _ (m : ℕ → ℕ) (old new : List Token) (law : AreMovedTexts m old new
           subst (λ (d : ℕ). GoTogether m old new lo there (with_kept fr.kept d lo (last_token under 0) (record f { jumps = [] }))
           (with_kept kept d there (last_token over 0) (record g { jumps = [] }))) (sym one)
           (kept_moves m old new law lo there (record f { jumps = [] }) (record g { jumps = [] }) fr.kept kept lo (last_token under 0) there (last_token over 0)
-          (record { asked = k.asked; begun = k.begun; complete = k.complete; jumps = refl; fault = k.fault; noted = k.noted }) (list refl) in_body last_zero)
+          (record { asked = k.asked; told = k.told; begun = k.begun; complete = k.complete; jumps = refl; fault = k.fault; noted = k.noted }) (list refl) in_body last_zero)
       facts_move _ e list = k
 
       -- ---- The node

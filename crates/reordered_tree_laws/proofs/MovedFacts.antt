@@ -18,7 +18,7 @@ use Rattle.tree_laws.specs.Below.name_chains.Members.{with_silent}
 use Rattle.tree_laws.specs.Below.scope_bind.Labels.{with_jump}
 use Rattle.tree_laws.specs.Below.scope_bind.Named.{Cause, Fault, Space, Declaration, Occurrence, ordinary, tags, members, labels}
 use Rattle.reordered_tree_laws.specs.Ranges.{has_range}
-use Rattle.reordered_tree_laws.specs.Moving.{moved_base, moved_type, moved_space, moved_occurrence, IsMoved, AreMoved, Mark, named, tagged, joined, owned, labelled, placed, is_owned, has_mark, is_of_list, Question, whole, living, listed, answers, moved_mark, moved_question, IsAhead, IsAsked, GoTogether, AreMovedTexts}
+use Rattle.reordered_tree_laws.specs.Moving.{moved_base, moved_type, moved_space, moved_occurrence, IsMoved, AreMoved, AreToldAlike, Mark, named, tagged, joined, owned, labelled, placed, is_owned, has_mark, is_of_list, Question, whole, living, listed, answers, moved_mark, moved_question, IsAhead, IsAsked, GoTogether, AreMovedTexts}
 use Rattle.reordered_tree_laws.proofs.MovedLists.{find_both, filter_both, any_both, moved_more, AreFound, found_moved, filter_moved, any_moved}
 
 -- a declaration beside its moved one: the same tokens ahead stand in their ranges, and they are names of the same list
@@ -160,7 +160,7 @@ module _ (m : ℕ → ℕ) (old new : List Token) (law : AreMovedTexts m old new
   further_asked lo there hi beyond (whole (joined i)) v w a = tt
   further_asked lo there hi beyond (whole (owned n)) v w a = tt
   further_asked lo there hi beyond (whole (labelled n)) v w a = tt
-  further_asked lo there hi beyond (whole (placed i)) v w a = tt
+  further_asked lo there hi beyond (whole (placed i)) v w a = absurd a
   further_asked lo there hi beyond (living (named i) k) v w a = further_ahead lo there hi beyond k v w a
   further_asked lo there hi beyond (living (tagged i) k) v w a = further_ahead lo there hi beyond k v w a
   further_asked lo there hi beyond (living (joined i) k) v w a = absurd a
@@ -175,6 +175,7 @@ module _ (m : ℕ → ℕ) (old new : List Token) (law : AreMovedTexts m old new
   pub further : (lo there hi beyond : ℕ) (f g : Facts) → lo + 1 ≤ hi → there + 1 ≤ beyond → Together lo there f g → Together hi beyond f g
   further lo there hi beyond f g v w k = record {
     asked = λ q a. k.asked q (further_asked lo there hi beyond q v w a);
+    told = k.told;
     begun = k.begun;
     complete = k.complete;
     jumps = k.jumps;
@@ -229,6 +230,7 @@ module _ (m : ℕ → ℕ) (old new : List Token) (law : AreMovedTexts m old new
     fault_moves false false cause i e = k
     fault_moves true true cause i e = record {
       asked = k.asked;
+      told = k.told;
       begun = k.begun;
       complete = k.complete;
       jumps = k.jumps;
@@ -250,6 +252,7 @@ module _ (m : ℕ → ℕ) (old new : List Token) (law : AreMovedTexts m old new
         let o : Occurrence = record { index = i; entity = e; declares = declares } in
         record {
           asked = k.asked;
+          told = k.told;
           begun = k.begun;
           complete = k.complete;
           jumps = k.jumps;
@@ -259,11 +262,21 @@ module _ (m : ℕ → ℕ) (old new : List Token) (law : AreMovedTexts m old new
               (filter (λ (x : Occurrence). x.index == m j) g.occurrences) (same_number i j) (k.noted j);
         }
 
+    told_more : (d e : Declaration) (x y : Option Declaration) (c b : Bool) → b ≡ c → IsMoved m d e → AreToldAlike x y
+        → AreToldAlike (cond c (Some d) x) (cond b (Some e) y)
+    told_more d e x y true true w h t = (h.kind, h.linkage)
+    told_more d e x y false false w h t = t
+    told_more d e x y true false w h t = absurd cc
+    told_more d e x y false true w h t = absurd cc
+
     pub silent_moves : (d e : Declaration) → IsMoved m d e → IsTimed m lo there d e → Together lo there (with_silent d f) (with_silent e g)
     silent_moves d e h t = record {
       asked = λ q a.
           moved_more m d e (filter (answers old q) f.declared) (filter (answers new (moved_question m q)) g.declared) (answers old q d)
           (answers new (moved_question m q) e) (answer_moved lo there q d e a h t) h (k.asked q a);
+      told = λ i.
+          told_more d e (find (λ x. x.name_at == i) f.declared) (find (λ x. x.name_at == m i) g.declared) (d.name_at == i) (e.name_at == m i)
+          (ap (λ j. j == m i) h.name_at ∙ same_number d.name_at i) h (k.told i);
       begun = k.begun;
       complete = k.complete;
       jumps = k.jumps;
@@ -281,6 +294,7 @@ module _ (m : ℕ → ℕ) (old new : List Token) (law : AreMovedTexts m old new
     begun_moves false e = k
     begun_moves true e = record {
       asked = k.asked;
+      told = k.told;
       begun = λ n. more_in f.begun g.begun e n (k.begun n);
       complete = k.complete;
       jumps = k.jumps;
@@ -291,6 +305,7 @@ module _ (m : ℕ → ℕ) (old new : List Token) (law : AreMovedTexts m old new
     pub complete_moves : (e : ℕ) → Together lo there (with_complete e f) (with_complete (m e) g)
     complete_moves e = record {
       asked = k.asked;
+      told = k.told;
       begun = k.begun;
       complete = λ n. more_in f.complete g.complete e n (k.complete n);
       jumps = k.jumps;
@@ -301,6 +316,7 @@ module _ (m : ℕ → ℕ) (old new : List Token) (law : AreMovedTexts m old new
     pub jump_moves : (i : ℕ) → Together lo there (with_jump i f) (with_jump (m i) g)
     jump_moves i = record {
       asked = k.asked;
+      told = k.told;
       begun = k.begun;
       complete = k.complete;
       jumps = ap (λ (xs : List ℕ). xs ++ m i ∷ []) k.jumps ∙ sym (map-append m f.jumps (i ∷ []));

@@ -1,6 +1,6 @@
 -- The names that a body has from the list that it begins with, in two texts that go together.
 use Rattle.std.proofs.Common.{ℕ, ◌≡◌, Bool, true, false, ◌&&◌, not, cond, if◌then◌else◌, ◌==◌, List, [], ◌∷◌, ◌++◌, map, Option, None, Some, refl, sym, ap, subst, ◌∙◌}
-use Rattle.std.specs.Prelude.{filter, filter_map, nat_lt}
+use Rattle.std.specs.Prelude.{filter, filter_map, find, nat_lt}
 use Rattle.std.specs.List.{cons_option}
 use Rattle.std.specs.Option.{option_map}
 use Rattle.std.proofs.lemmas.Bool.{and_parts}
@@ -8,7 +8,7 @@ use Rattle.tree_laws.specs.Below.cs_base.Token.{Token}
 use Rattle.tree_laws.specs.Below.c_types.Declarations.{Facts}
 use Rattle.tree_laws.specs.Below.name_chains.Entering.{is_member, kept_here, with_kept}
 use Rattle.tree_laws.specs.Below.scope_bind.Named.{Declaration}
-use Rattle.reordered_tree_laws.specs.Moving.{IsMoved, AreMoved, Mark, named, tagged, joined, owned, labelled, placed, has_mark, is_of_list, Question, whole, living, listed, answers, moved_mark, moved_question, IsAhead, IsAsked, GoTogether, AreMovedTexts}
+use Rattle.reordered_tree_laws.specs.Moving.{IsMoved, AreMoved, AreToldAlike, Mark, named, tagged, joined, owned, labelled, placed, has_mark, is_of_list, Question, whole, living, listed, answers, moved_mark, moved_question, IsAhead, IsAsked, GoTogether, AreMovedTexts}
 use Rattle.reordered_tree_laws.proofs.MovedLists.{append_moved}
 use Rattle.reordered_tree_laws.proofs.MovedFacts.{same_number}
 
@@ -19,6 +19,20 @@ filter_append q (x ∷ xs) ys = step (q x) (filter_append q xs ys)
     step : (c : Bool) → filter q (xs ++ ys) ≡ filter q xs ++ filter q ys
         → cond c (x ∷ filter q (xs ++ ys)) (filter q (xs ++ ys)) ≡ cond c (x ∷ filter q xs) (filter q xs) ++ filter q ys
     step true e = ap (λ (zs : List Declaration). x ∷ zs) e
+    step false e = e
+
+-- the first of some, or another one
+abbrev found_or : List Declaration → Option Declaration → Option Declaration
+found_or [] other = other
+found_or (x ∷ xs) other = Some x
+
+find_before : (q : Declaration → Bool) (xs ys : List Declaration) → find q (xs ++ ys) ≡ found_or (filter q xs) (find q ys)
+find_before q [] ys = refl
+find_before q (x ∷ xs) ys = step (q x) (find_before q xs ys)
+  where
+    step : (c : Bool) → find q (xs ++ ys) ≡ found_or (filter q xs) (find q ys)
+        → cond c (Some x) (find q (xs ++ ys)) ≡ found_or (cond c (x ∷ filter q xs) (filter q xs)) (find q ys)
+    step true e = refl
     step false e = e
 
 -- with the range of the body
@@ -102,6 +116,20 @@ module _ (m : ℕ → ℕ) (old new : List Token) (law : AreMovedTexts m old new
   map_moved from to from' to' [] (y ∷ ys) h = absurd h
   map_moved from to from' to' (x ∷ xs) [] h = absurd h
 
+  -- what is found in front tells the same where it is moved
+  told_before : (p r : Declaration → Bool) (xs ys ds es : List Declaration) → AreMoved m (filter p xs) (filter r ys) → AreToldAlike (find p ds) (find r es)
+      → AreToldAlike (find p (xs ++ ds)) (find r (ys ++ es))
+  told_before p r xs ys ds es h t =
+      subst (λ (x : Option Declaration). AreToldAlike x (find r (ys ++ es))) (sym (find_before p xs ds))
+      (subst (λ (y : Option Declaration). AreToldAlike (found_or (filter p xs) (find p ds)) y) (sym (find_before r ys es))
+      (by (filter p xs) (filter r ys) h))
+    where
+      by : (us vs : List Declaration) → AreMoved m us vs → AreToldAlike (found_or us (find p ds)) (found_or vs (find r es))
+      by [] [] w = t
+      by (u ∷ us) (v ∷ vs) w = ((w.0).kind, (w.0).linkage)
+      by [] (v ∷ vs) w = absurd w
+      by (u ∷ us) [] w = absurd w
+
   if_moved : (c b : Bool) (xs ys : List Declaration) → b ≡ c → AreMoved m xs ys → AreMoved m (cond c xs []) (cond b ys [])
   if_moved true true xs ys e h = h
   if_moved false false xs ys e h = tt
@@ -126,10 +154,10 @@ module _ (m : ℕ → ℕ) (old new : List Token) (law : AreMovedTexts m old new
     holds_moved (living (placed i) n) w = absurd w
     holds_moved (listed a l) w = ap (λ (x : ℕ). x == m l) ends ∙ same_number m old new law to l
 
-    kept_asked : (q : Question) → IsAsked m lo there q
+    kept_asked : (q : Question) → holds from' to' (moved_question m q) ≡ holds from to q
         → AreMoved m (filter (answers old q) (filter_map (kept_here list 1 from to) f.declared))
         (filter (answers new (moved_question m q)) (filter_map (kept_here (m list) 1 from' to') g.declared))
-    kept_asked q w =
+    kept_asked q same_holds =
         let here : Declaration → Bool = has_mark old (mark_of q) in
         let over : Declaration → Bool = has_mark new (mark_of (moved_question m q)) in
         let xs : List Declaration = filter (λ d. here d && is_of_list list d) f.declared in
@@ -142,7 +170,7 @@ module _ (m : ℕ → ℕ) (old new : List Token) (law : AreMovedTexts m old new
         (subst (λ (zs : List Declaration). AreMoved m (cond (holds from to q) (map (stretched from to) xs) []) zs)
         (sym (kept_filter (m list) from' to' (answers new (moved_question m q)) over (holds from' to' (moved_question m q))
         (kept_law new (m list) from' to' (moved_question m q)) g.declared))
-        (if_moved (holds from to q) (holds from' to' (moved_question m q)) (map (stretched from to) xs) (map (stretched from' to') ys) (holds_moved q w)
+        (if_moved (holds from to q) (holds from' to' (moved_question m q)) (map (stretched from to) xs) (map (stretched from' to') ys) same_holds
         (map_moved from to from' to' xs ys same)))
 
     pub list_moves : GoTogether m old new lo there (with_kept (Some list) 1 from to f) (with_kept (Some (m list)) 1 from' to' g)
@@ -154,7 +182,10 @@ module _ (m : ℕ → ℕ) (old new : List Token) (law : AreMovedTexts m old new
           let ys : List Declaration = filter_map (kept_here (m list) 1 from' to') g.declared in
           subst (λ (zs : List Declaration). AreMoved m zs (filter T' (ys ++ g.declared))) (sym (filter_append T xs f.declared))
           (subst (λ (zs : List Declaration). AreMoved m (filter T xs ++ filter T f.declared) zs) (sym (filter_append T' ys g.declared))
-          (append_moved m (filter T xs) (filter T' ys) (filter T f.declared) (filter T' g.declared) (kept_asked q w) (k.asked q w)));
+          (append_moved m (filter T xs) (filter T' ys) (filter T f.declared) (filter T' g.declared) (kept_asked q (holds_moved q w)) (k.asked q w)));
+      told = λ i.
+          told_before (λ d. d.name_at == i) (λ d. d.name_at == m i) (filter_map (kept_here list 1 from to) f.declared)
+          (filter_map (kept_here (m list) 1 from' to') g.declared) f.declared g.declared (kept_asked (whole (placed i)) refl) (k.told i);
       begun = k.begun;
       complete = k.complete;
       jumps = k.jumps;

@@ -195,7 +195,7 @@ module _ (m : ℕ → ℕ) (old new : List Token) (law : AreMovedTexts m old new
 
   -- ---- A node
 
-  declares_at : (p : Production) (l : Label) (outer : Bool) (lo there : ℕ) (under over : Forest) → AreReordered m outer lo there under over → has_form p under ≡ true
+  pub declares_at : (p : Production) (l : Label) (outer : Bool) (lo there : ℕ) (under over : Forest) → AreReordered m outer lo there under over → has_form p under ≡ true
       → (not (ghosts.eq p MemRest && (l.alternative == 1)) || begins_with_token under) ≡ true
       → DeclaresAt m lo there p l under over (lo + token_count under) (there + token_count under)
   declares_at Enumerator l outer lo there under over r form member =
@@ -210,7 +210,7 @@ module _ (m : ℕ → ℕ) (old new : List Token) (law : AreMovedTexts m old new
       (r.placed.here i some, omega (arith, r.placed.beyond (m i) some, r.seen.last i (m i) refl))
   declares_at _ l outer lo there under over r form member = tt
 
-  node_enters : (own keeps outer : Bool) (lo there : ℕ) (l : Label) (under over : Forest) (s t : State) → AreReordered m outer lo there under over
+  pub node_enters : (own keeps outer : Bool) (lo there : ℕ) (l : Label) (under over : Forest) (s t : State) → AreReordered m outer lo there under over
       → IsFitNode s.frame.label own s.frame.nth s.frame.scope keeps l under → StatesGo m old new own keeps lo there s t
       → StatesGo m old new false keeps lo there (entered old l lo under s) (entered new l there over t)
   node_enters own keeps outer lo there l under over s t r fit k =
@@ -219,7 +219,7 @@ module _ (m : ℕ → ℕ) (old new : List Token) (law : AreMovedTexts m old new
       s.frame t.frame.token t.frame.scope.to t.frame.kept (record { ends = k.frame.ends; outer = k.frame.outer }) s.facts t.facts k.facts l fit.stands
       (λ e. k.frame.token (fit.words e)) (λ e. k.frame.kept (fit.body e)) k.frame.kept)
 
-  node_leaves : (own keeps any outer : Bool) (lo there : ℕ) (l : Label) (under over : Forest) (s t s' t' : State) → AreReordered m outer lo there under over
+  pub node_leaves : (own keeps any outer : Bool) (lo there : ℕ) (l : Label) (under over : Forest) (s t s' t' : State) → AreReordered m outer lo there under over
       → has_form l.production under ≡ true → IsFitNode s.frame.label own s.frame.nth s.frame.scope keeps l under → StatesGo m old new own keeps lo there s t
       → StatesGo m old new false false (lo + token_count under) (there + token_count under) s' t'
       → (any ≡ true → (if is_node l Declarator then outer else keeps) ≡ true)
@@ -244,12 +244,12 @@ module _ (m : ℕ → ℕ) (old new : List Token) (law : AreMovedTexts m old new
   Clean s = Good old old s.facts
 
   -- a node whose children stand as they stood, but for lists in them, and a list
-  record IsStep (keeps : Bool) (lo there : ℕ) (l : Label) (under : Forest) (s : State) (b : Bool) : Type 0 where
-    outer : Bool
-    reordered : AreReordered m outer lo there under (numbered there (permuted order lists b under))
-    behind : (if is_node l Declarator then has_outer_list lists false under else keeps) ≡ true → (if is_node l Declarator then outer else keeps) ≡ true
+  pub record IsStep (keeps : Bool) (lo there : ℕ) (l : Label) (under : Forest) (s : State) (b : Bool) : Type 0 where
+    pub outer : Bool
+    pub reordered : AreReordered m outer lo there under (numbered there (permuted order lists b under))
+    pub behind : (if is_node l Declarator then has_outer_list lists false under else keeps) ≡ true → (if is_node l Declarator then outer else keeps) ≡ true
 
-  step_of : (keeps : Bool) (lo there : ℕ) (l : Label) (under : Forest) (s : State) (b : Bool) → b ≡ is_among lists l under
+  pub step_of : (keeps : Bool) (lo there : ℕ) (l : Label) (under : Forest) (s : State) (b : Bool) → b ≡ is_among lists l under
       → (not (is_among lists l under) || is_bracketed under) ≡ true
       → (has_outer_list lists false under ≡ true → first_list (permuted order lists false under) ≡ first_list under)
       → AreOf (length order) (cut_then lists b under done) → AreFrom lo under → AreMovedTo m there (permuted order lists b under)

@@ -179,7 +179,7 @@ module _ (n : ℕ) (order : List ℕ) (c : Cut) (is : IsOrder (length order) ord
   within : (x : ℕ) → x < n → IsPlaced x all
   within x less = placed-some x all (omega (arith, hits-all x, hits-once n 0 x (omega arith) (omega (arith, less))))
 
-  moved-within : (x : ℕ) → x < n → (m x < n) × (get_or all (m x) 0 ≡ x)
+  pub moved-within : (x : ℕ) → x < n → (m x < n) × (get_or all (m x) 0 ≡ x)
   moved-within x less =
       let w : IsPlaced x all = within x less in
       let e : m x ≡ place_in x all = of-some all x w.within in
@@ -256,34 +256,37 @@ tokens_moved order lists tree n is each of =
     ap (λ (xs : List ℕ). arranged order (cut_in lists tree) xs) (sym numbered) ∙ (sym (arranged_leaves order lists tree each) ∙ sym (append-nil (leaves g))) in
     part-moved n order (cut_in lists tree) is each g [] [] 0 all_leaves refl
 
-pub texts_moved : (order : List ℕ) (c : Cut) (old new : List Token) → IsOrder (length order) order → AreOf (length order) c
-    → map (λ (t : Token). t.text) new ≡ arranged order c (map (λ (t : Token). t.text) old) → moved order c (length old) 0 ≡ 0
-    → AreMovedTexts (moved order c (length old)) old new
-texts_moved order c old new is each same zero_stays =
+-- a token is spelled at its new place as it was
+pub texts_spelled : (order : List ℕ) (c : Cut) (old new : List Token) → IsOrder (length order) order → AreOf (length order) c
+    → map (λ (t : Token). t.text) new ≡ arranged order c (map (λ (t : Token). t.text) old) → (k : ℕ)
+    → spelling_at new (moved order c (length old) k) ≡ spelling_at old k
+texts_spelled order c old new is each same k =
     let n : ℕ = length old in
     let text : Token → List ℕ = λ (t : Token). t.text in
-    let h : ℕ → List ℕ = λ k. get_or (map text old) k [] in
+    let h : ℕ → List ℕ = λ i. get_or (map text old) i [] in
     let images : map text new ≡ map h (all n order c is each) =
     same ∙ (ap (λ (xs : List (List ℕ)). arranged order c xs) (texts-numbered [] old) ∙ arranged-map h order c (numbers 0 n)) in
     let size : length new ≡ n =
     sym (length-map new text) ∙ (ap (λ (xs : List (List ℕ)). length xs) images ∙ (length-map (all n order c is each) h ∙ long n order c is each)) in
-    record {
-      first = zero_stays;
-      apart = moved-apart n order c is each;
-      spelled = λ k. elim (cases_Bool (nat_lt k n)) [
-        | inl a ↦
-            let w = moved-within n order c is each k (ltb-true k n a) in
-            texts-at new (m n order c is each k)
-            ∙ (ap (λ (xs : List (List ℕ)). get_or xs (m n order c is each k) []) images
-            ∙ (get_or-map h (all n order c is each) (m n order c is each k) 0 [] (omega (arith, w.0, long n order c is each))
-            ∙ (ap h w.1 ∙ sym (texts-at old k))))
-        | inr a ↦
-            let stays : m n order c is each k ≡ k = moved-beyond n order c is each k (ltb-false k n a) in
-            ap (spelling_at new) stays ∙ (beyond new k (omega (arith, size, ltb-false k n a)) ∙ sym (beyond old k (ltb-false k n a)))
-      ];
-    }
+    elim (cases_Bool (nat_lt k n)) [
+      | inl a ↦
+          let w = moved-within n order c is each k (ltb-true k n a) in
+          texts-at new (m n order c is each k)
+          ∙ (ap (λ (xs : List (List ℕ)). get_or xs (m n order c is each k) []) images
+          ∙ (get_or-map h (all n order c is each) (m n order c is each k) 0 [] (omega (arith, w.0, long n order c is each))
+          ∙ (ap h w.1 ∙ sym (texts-at old k))))
+      | inr a ↦
+          let stays : m n order c is each k ≡ k = moved-beyond n order c is each k (ltb-false k n a) in
+          ap (spelling_at new) stays ∙ (beyond new k (omega (arith, size, ltb-false k n a)) ∙ sym (beyond old k (ltb-false k n a)))
+    ]
   where
     beyond : (toks : List Token) (k : ℕ) → length toks ≤ k → spelling_at toks k ≡ []
     beyond [] k less = refl
     beyond (t ∷ toks) zero less = absurd (omega (arith, less))
     beyond (t ∷ toks) (suc k) less = beyond toks k (omega (arith, less))
+
+pub texts_moved : (order : List ℕ) (c : Cut) (old new : List Token) → IsOrder (length order) order → AreOf (length order) c
+    → map (λ (t : Token). t.text) new ≡ arranged order c (map (λ (t : Token). t.text) old) → moved order c (length old) 0 ≡ 0
+    → AreMovedTexts (moved order c (length old)) old new
+texts_moved order c old new is each same zero_stays =
+    record { first = zero_stays; apart = moved-apart (length old) order c is each; spelled = texts_spelled order c old new is each same }

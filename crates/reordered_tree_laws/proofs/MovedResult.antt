@@ -8,12 +8,11 @@ use Rattle.tree_laws.specs.Below.c_types.declared.entity.EntityKind.TheVariants.
 use Rattle.tree_laws.specs.Below.c_types.declared.entity.Linkage.TheVariants.{Absent}
 use Rattle.tree_laws.specs.Below.c_types.Declarations.{Facts}
 use Rattle.tree_laws.specs.Below.scope_bind.declared.bound.Name.{Name}
-use Rattle.tree_laws.specs.Below.scope_bind.Named.{Occurrence}
+use Rattle.tree_laws.specs.Below.scope_bind.Named.{Declaration, Occurrence}
 use Rattle.tree_laws.specs.Below.scope_bind.Bound.{declaration_at, name_of, names_of}
-use Rattle.tree_laws.specs.Below.scope_bind.Names.{name_at, entity_at, kind_at, linkage_at}
-use Rattle.reordered_tree_laws.specs.Moving.{moved_occurrence, placed, whole, GoTogether, AreMovedTexts}
-use Rattle.reordered_tree_laws.proofs.MovedLists.{and_true, AreFound, told_moved}
-use Rattle.reordered_tree_laws.proofs.MovedFacts.{same_number, asked_found}
+use Rattle.tree_laws.specs.Below.scope_bind.Names.{name_at, entity_at, declares_at, kind_at, linkage_at}
+use Rattle.reordered_tree_laws.specs.Moving.{AreToldAlike, moved_occurrence, GoTogether, AreMovedTexts}
+use Rattle.reordered_tree_laws.proofs.MovedFacts.{same_number}
 
 -- ---- The first of a list
 
@@ -75,18 +74,36 @@ module _ (m : ℕ → ℕ) (old new : List Token) (law : AreMovedTexts m old new
       ∙ (entity_by (find (λ (o : Occurrence). o.index == i) f.occurrences)
       ∙ ap (λ r. option_map m (option_map (λ (n : Name). n.entity) r)) (sym (name_found f i)))
 
+  declares_by : (r : Option Occurrence) → option_map_or (λ (n : Name). n.declares) (option_map (name_of g) (option_map (moved_occurrence m) r)) false
+      ≡ option_map_or (λ (n : Name). n.declares) (option_map (name_of f) r) false
+  declares_by None = refl
+  declares_by (Some o) = refl
+
+  pub declares_moved : (i : ℕ) → declares_at (names_of g) (m i) ≡ declares_at (names_of f) i
+  declares_moved i =
+      ap (λ r. option_map_or (λ (n : Name). n.declares) r false) (name_moved i)
+      ∙ (declares_by (find (λ (o : Occurrence). o.index == i) f.occurrences)
+      ∙ ap (λ r. option_map_or (λ (n : Name). n.declares) r false) (sym (name_found f i)))
+
   -- ---- Kinds and linkages
 
-  declaration_found : (e : ℕ) → AreFound m (declaration_at f e) (declaration_at g (m e))
-  declaration_found e =
-      asked_found m old new law lo there f g k (whole (placed e)) tt (λ d. true) (λ d. true) (λ d x h. refl) (λ d. d.name_at == e) (λ d. d.name_at == m e)
-      (λ d. and_true (d.name_at == e)) (λ d. and_true (d.name_at == m e))
+  told_kind : (x y : Option Declaration) → AreToldAlike x y → option_map_or (λ d. d.kind) y Object ≡ option_map_or (λ d. d.kind) x Object
+  told_kind None None h = refl
+  told_kind (Some d) (Some e) h = h.0
+  told_kind None (Some e) h = absurd h
+  told_kind (Some d) None h = absurd h
+
+  told_linkage : (x y : Option Declaration) → AreToldAlike x y → option_map_or (λ d. d.linkage) y Absent ≡ option_map_or (λ d. d.linkage) x Absent
+  told_linkage None None h = refl
+  told_linkage (Some d) (Some e) h = h.1
+  told_linkage None (Some e) h = absurd h
+  told_linkage (Some d) None h = absurd h
 
   kind_same : (e : ℕ) → option_map_or (λ d. d.kind) (declaration_at g (m e)) Object ≡ option_map_or (λ d. d.kind) (declaration_at f e) Object
-  kind_same e = told_moved m (λ d. d.kind) (λ d. d.kind) Object (λ d x h. h.kind) (declaration_at f e) (declaration_at g (m e)) (declaration_found e)
+  kind_same e = told_kind (declaration_at f e) (declaration_at g (m e)) (k.told e)
 
   linkage_same : (e : ℕ) → option_map_or (λ d. d.linkage) (declaration_at g (m e)) Absent ≡ option_map_or (λ d. d.linkage) (declaration_at f e) Absent
-  linkage_same e = told_moved m (λ d. d.linkage) (λ d. d.linkage) Absent (λ d x h. h.linkage) (declaration_at f e) (declaration_at g (m e)) (declaration_found e)
+  linkage_same e = told_linkage (declaration_at f e) (declaration_at g (m e)) (k.told e)
 
   abbrev named : ℕ → Option Name → Option Name
   named e r = option_and_then (λ (n : Name). if n.entity == e then Some n else None) r

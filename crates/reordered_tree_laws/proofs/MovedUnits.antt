@@ -13,7 +13,7 @@ use Rattle.tree_laws.specs.Below.name_chains.Frames.{State, outermost, at_first}
 use Rattle.tree_laws.specs.Below.scope_bind.declared.bound.Name.{Name}
 use Rattle.tree_laws.specs.Below.scope_bind.Named.{Fault}
 use Rattle.tree_laws.specs.Below.scope_bind.Bound.{Bound, names_of, bound_of, bound_unless, facts_of, binding_of}
-use Rattle.tree_laws.specs.Below.scope_bind.Names.{entity_at, kind_at, linkage_at}
+use Rattle.tree_laws.specs.Below.scope_bind.Names.{entity_at, declares_at, kind_at, linkage_at}
 use Rattle.tree_laws.specs.Below.scope_bind.Walk.{walked}
 use Rattle.tree_laws.specs.TreesOfTexts.{token_count}
 use Rattle.tree_laws.specs.RenamedNames.{StaysApart}
@@ -30,10 +30,10 @@ use Rattle.reordered_tree_laws.proofs.MovedTrees.{AreSpans}
 use Rattle.reordered_tree_laws.proofs.MovedEntering.{both_ways}
 use Rattle.reordered_tree_laws.proofs.MovedHeads.{lowest_stays}
 use Rattle.reordered_tree_laws.proofs.MovedPlaces.{moved-beyond, tokens_moved, texts_moved}
-use Rattle.reordered_tree_laws.proofs.MovedResult.{entity_moved, kind_moved, linkage_moved}
+use Rattle.reordered_tree_laws.proofs.MovedResult.{entity_moved, declares_moved, kind_moved, linkage_moved}
 use Rattle.reordered_tree_laws.proofs.MovedOrders.{spans_permuted, walk_lists}
 
-all_list : {X : Type 0} (p : X → Bool) (xs : List X) → All (λ x. p x ≡ true) xs → list_all p xs ≡ true
+pub all_list : {X : Type 0} (p : X → Bool) (xs : List X) → All (λ x. p x ≡ true) xs → list_all p xs ≡ true
 all_list p [] h = refl
 all_list p (x ∷ xs) h = and_from (p x) (list_all p xs) (All-head (λ y. p y ≡ true) x xs h) (all_list p xs (All-tail (λ y. p y ≡ true) x xs h))
 
@@ -64,7 +64,7 @@ module _ (toks : List Token) (tree : Node) (b : Bound) (e : binding_of toks tree
       ∙ all_list (λ (n : Name). alike toks n.index n.entity) b.names (spelled_as_entities toks tree b e))
       (stays_apart toks (names_of facts))
 
-no_some : (o p : Option Fault) → is_some p ≡ is_some o → o ≡ None → p ≡ None
+pub no_some : (o p : Option Fault) → is_some p ≡ is_some o → o ≡ None → p ≡ None
 no_some None None e h = refl
 no_some None (Some x) e h = absurd cc
 no_some (Some x) p e h = absurd cc
@@ -72,7 +72,7 @@ no_some (Some x) p e h = absurd cc
 module _ (m : ℕ → ℕ) (old new : List Token) (law : AreMovedTexts m old new) (count : ℕ) (spans : AreSpans m 0 0 count) where
   pub starts_go : StatesGo m old new true true 0 0 (at_first count) (at_first count)
   starts_go = record {
-    facts = record { asked = λ q w. tt; begun = λ n. refl; complete = λ n. refl; jumps = refl; fault = refl; noted = λ i. refl };
+    facts = record { asked = λ q w. tt; told = λ i. tt; begun = λ n. refl; complete = λ n. refl; jumps = refl; fault = refl; noted = λ i. refl };
     frame = record {
       same = ap (λ (x : ℕ). record (outermost count) { owner = x }) (sym law.first);
       token = λ e. sym law.first;
@@ -84,7 +84,7 @@ module _ (m : ℕ → ℕ) (old new : List Token) (law : AreMovedTexts m old new
     };
   }
 
-told_of : (toks : List Token) (tree : Node) → (facts_of toks tree.under).fault ≡ None → binding_of toks tree ≡ Ok (bound_of tree.under (facts_of toks tree.under))
+pub told_of : (toks : List Token) (tree : Node) → (facts_of toks tree.under).fault ≡ None → binding_of toks tree ≡ Ok (bound_of tree.under (facts_of toks tree.under))
 unfolding binding_of
 told_of toks tree e = ap (λ (o : Option Fault). bound_unless tree.under (facts_of toks tree.under) o) e
 
@@ -120,6 +120,7 @@ reordered_bind_by_lists old new order lists tree b of e is each fit texts go =
       told = told_of new tree' (no_some facts.fault g.fault together.fault (clean_facts old tree b e));
       named = λ i less.
           entity_moved m old new law (0 + token_count f) (0 + token_count f) facts g together i ∙ ap (λ (ns : List Name). option_map m (entity_at ns i)) (sym names);
+      declared = λ i less. declares_moved m old new law (0 + token_count f) (0 + token_count f) facts g together i ∙ ap (λ (ns : List Name). declares_at ns i) (sym names);
       kinds = λ i less. kind_moved m old new law (0 + token_count f) (0 + token_count f) facts g together i ∙ ap (λ (ns : List Name). kind_at ns i) (sym names);
       linked = λ i less. linkage_moved m old new law (0 + token_count f) (0 + token_count f) facts g together i ∙ ap (λ (ns : List Name). linkage_at ns i) (sym names);
     }

@@ -40,7 +40,7 @@ same_trans f g h s t = record {
   forms = s.forms ∙ t.forms;
 }
 
-form-same : (p : Production) (f g : Forest) → Same f g → has_form p f ≡ has_form p g
+pub form-same : (p : Production) (f g : Forest) → Same f g → has_form p f ≡ has_form p g
 form-same Enumerator f g s = s.begins
 form-same FunBody f g s = ap (λ b. b && not (has_body f)) s.tokens ∙ ap (λ b. has_token g && not b) s.bodies
 form-same Declarator f g s = ap not s.declaring
@@ -65,7 +65,7 @@ or_joined : (a b c : Bool) → (a || (b || c)) ≡ ((a || b) || c)
 or_joined true b c = refl
 or_joined false b c = refl
 
-and_not : (a b c d : Bool) → d ≡ not c → (a && (b && d)) ≡ not (not (a && b) || c)
+pub and_not : (a b c d : Bool) → d ≡ not c → (a && (b && d)) ≡ not (not (a && b) || c)
 and_not true true c d e = e
 and_not true false c d e = refl
 and_not false b c d e = refl
@@ -97,7 +97,7 @@ forms-any (token i rest) = forms-any rest
 forms-any (node l first under rest) =
     and_not (has_form l.production under) (have_forms under) (list_any misformed (nodes_in rest)) (have_forms rest) (forms-any rest)
 
-nodes-refilled : (g : Forest) (ns : List Node) → length ns ≡ length (nodes_in g) → nodes_in (refilled ns g) ≡ ns
+pub nodes-refilled : (g : Forest) (ns : List Node) → length ns ≡ length (nodes_in g) → nodes_in (refilled ns g) ≡ ns
 nodes-refilled none [] e = refl
 nodes-refilled none (n ∷ ns) e = absurd (omega (arith, e))
 nodes-refilled (token i rest) ns e = nodes-refilled rest ns e
@@ -116,7 +116,7 @@ tokens-refilled (token i rest) ns = refl
 tokens-refilled (node l first under rest) [] = refl
 tokens-refilled (node l first under rest) (n ∷ ns) = tokens-refilled rest ns
 
-unfilled : (g : Forest) (ns : List Node) → length (nodes_in g) ≡ 0 → refilled ns g ≡ g
+pub unfilled : (g : Forest) (ns : List Node) → length (nodes_in g) ≡ 0 → refilled ns g ≡ g
 unfilled none ns e = refl
 unfilled (token i rest) ns e = ap (token i) (unfilled rest ns e)
 unfilled (node l first under rest) ns e = absurd (omega (arith, e))
@@ -143,7 +143,7 @@ nodes_permute order ns is =
     rw (picked-all ns) at moved
 
 module _ (order : List ℕ) (lists : ℕ → Bool) (is : IsOrder (length order) order) where
-  shuffled_same : (g : Forest) → (length (nodes_in g) ≡ length order) ⊎ (length (nodes_in g) ≡ 0) → Same (shuffled order g) g
+  pub shuffled_same : (g : Forest) → (length (nodes_in g) ≡ length order) ⊎ (length (nodes_in g) ≡ 0) → Same (shuffled order g) g
   shuffled_same g (inr few) = subst (λ h. Same h g) (sym (unfilled g (picked_nodes order (nodes_in g)) few)) (same_refl g)
   shuffled_same g (inl many) =
       let ns : List Node = picked_nodes order (nodes_in g) in
@@ -159,14 +159,14 @@ module _ (order : List ℕ) (lists : ℕ → Bool) (is : IsOrder (length order) 
             ∙ (ap not (sym (list_any-IsPermutation misformed (nodes_in g) ns moved)) ∙ sym (forms-any g)));
       }
 
-  counted : (f : Forest) (c : Cut) → AreOf (length order) (list_then lists f c)
+  pub counted : (f : Forest) (c : Cut) → AreOf (length order) (list_then lists f c)
       → (length (nodes_in (permuted order lists false f)) ≡ length order) ⊎ (length (nodes_in (permuted order lists false f)) ≡ 0)
   counted none c all = inr refl
   counted (token i rest) c all = counted rest c all
   counted (node l first under rest) c all = inl (count-items order lists false (node l first under rest) ∙ all.0)
 
   mutual
-    same-items : (f : Forest) → AreItemsOf (length order) (items_in lists f) → Same (permuted order lists false f) f
+    pub same-items : (f : Forest) → AreItemsOf (length order) (items_in lists f) → Same (permuted order lists false f) f
     same-items none all = same_refl none
     same-items (token i rest) all = same_token i i (permuted order lists false rest) rest (same-items rest all)
     same-items (node l first under rest) all =
@@ -192,12 +192,12 @@ module _ (order : List ℕ) (lists : ℕ → Bool) (is : IsOrder (length order) 
 
 -- ---- Numbers anew
 
-count-numbered : (k : ℕ) (f : Forest) → token_count (numbered k f) ≡ token_count f
+pub count-numbered : (k : ℕ) (f : Forest) → token_count (numbered k f) ≡ token_count f
 count-numbered k none = refl
 count-numbered k (token i rest) = ap (λ n. n + 1) (count-numbered (k + 1) rest)
 count-numbered k (node l first under rest) = omega (arith, count-numbered k under, count-numbered (k + token_count under) rest)
 
-from-numbered : (k : ℕ) (f : Forest) → AreFrom k (numbered k f)
+pub from-numbered : (k : ℕ) (f : Forest) → AreFrom k (numbered k f)
 from-numbered k none = tt
 from-numbered k (token i rest) = (refl, from-numbered (k + 1) rest)
 from-numbered k (node l first under rest) = (
@@ -206,7 +206,7 @@ from-numbered k (node l first under rest) = (
   subst (λ n. AreFrom (k + n) (numbered (k + token_count under) rest)) (sym (count-numbered k under)) (from-numbered (k + token_count under) rest),
 )
 
-same-numbered : (k : ℕ) (f : Forest) → Same (numbered k f) f
+pub same-numbered : (k : ℕ) (f : Forest) → Same (numbered k f) f
 same-numbered k none = same_refl none
 same-numbered k (token i rest) = same_token k i (numbered (k + 1) rest) rest (same-numbered (k + 1) rest)
 same-numbered k (node l first under rest) =

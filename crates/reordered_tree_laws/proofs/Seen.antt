@@ -42,7 +42,7 @@ module _ (order : List ℕ) (lists : ℕ → Bool) where
   not_among l under e = ap (λ b. b && (lists (first_token under 0) && ends_in_token false under)) e
 
   -- what stands in no list stands as it stood
-  stays : (l : Label) (under : Forest) → is_parenthesised l ≡ false → permuted order lists (is_among lists l under) under ≡ permuted order lists false under
+  pub stays : (l : Label) (under : Forest) → is_parenthesised l ≡ false → permuted order lists (is_among lists l under) under ≡ permuted order lists false under
   stays l under e = ap (λ b. permuted order lists b under) (not_among l under e)
 
   -- ---- Tokens
@@ -85,7 +85,7 @@ module _ (order : List ℕ) (lists : ℕ → Bool) where
 
   -- ---- Nodes
 
-  nodes_same : (p : Production) (b : Bool) (f : Forest) → has_node p (permuted order lists b f) ≡ has_node p f
+  pub nodes_same : (p : Production) (b : Bool) (f : Forest) → has_node p (permuted order lists b f) ≡ has_node p f
   nodes_same p b none = refl
   nodes_same p b (token i rest) = nodes_same p b rest
   nodes_same p b (node l first under rest) = ap (λ c. is_node l p || c) (nodes_same p b rest)

@@ -9,3 +9,5 @@ pub mod Ranges
 pub mod Premises
 pub mod Moving
 pub mod Gathering
+-- Words of the crates below, passed on.
+pub mod Below

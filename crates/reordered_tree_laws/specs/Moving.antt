@@ -1,6 +1,6 @@
 -- States of the binder in two texts that go together, where token i of the one is at another place in the other: what is known
 -- is the same, at the moved places (this project's, over ISO/IEC 9899:1999, 6.2.1 to 6.2.3).
-use Rattle.std.specs.Prelude.{ℕ, ◌+◌, ◌≤◌, ◌≡◌, ◌==◌, ◌⊎◌, Bool, true, false, ◌&&◌, not, nat_lt, List, [], ◌∷◌, filter, map, is_some, Option}
+use Rattle.std.specs.Prelude.{ℕ, ◌+◌, ◌≤◌, ◌≡◌, ◌==◌, ◌⊎◌, Bool, true, false, ◌&&◌, not, nat_lt, List, [], ◌∷◌, filter, find, map, is_some, Option, None, Some}
 use Rattle.std.specs.Option.{option_map}
 use Rattle.tree_laws.specs.Below.cs_base.Token.{Token}
 use Rattle.tree_laws.specs.Below.c_types.declared.types.Base.{Base}
@@ -80,6 +80,12 @@ module _ (m : ℕ → ℕ) where
   AreMoved (d ∷ ds) (e ∷ es) = IsMoved d e × AreMoved ds es
   AreMoved _ _ = ⊥
 
+-- both are there, of one kind and linkage, or neither is
+abbrev pub AreToldAlike : Option Declaration → Option Declaration → Type 0
+AreToldAlike None None = Unit {0}
+AreToldAlike (Some d) (Some e) = (e.kind ≡ d.kind) × (e.linkage ≡ d.linkage)
+AreToldAlike _ _ = ⊥
+
 -- ---- What is asked of declarations
 
 -- A mark: an ordinary identifier or a tag that is spelled as token i; such an identifier that has linkage; what is found in
@@ -139,10 +145,12 @@ module _ (m : ℕ → ℕ) where
   abbrev pub IsAhead : ℕ → ℕ → ℕ → Type 0
   IsAhead lo there k = ((lo ≤ k) × (there ≤ m k)) ⊎ ((k + 1 ≡ lo) × (m k + 1 ≡ there))
 
-  -- what is asked of the declarations once these places are reached: names and tags by their ranges alone
+  -- what is asked of the declarations once these places are reached: names and tags by their ranges alone, and what a token
+  -- names among the names of a list alone
   abbrev pub IsAsked : ℕ → ℕ → Question → Type 0
   IsAsked lo there (whole (named i)) = ⊥
   IsAsked lo there (whole (tagged i)) = ⊥
+  IsAsked lo there (whole (placed i)) = ⊥
   IsAsked lo there (whole a) = Unit {0}
   IsAsked lo there (living (named i) k) = IsAhead lo there k
   IsAsked lo there (living (tagged i) k) = IsAhead lo there k
@@ -152,11 +160,13 @@ module _ (m : ℕ → ℕ) where
 -- ---- States that go together
 
 module _ (m : ℕ → ℕ) (old new : List Token) where
-  -- What is known at these places in the two texts: each question has the same answer, at the moved places; the same structures
-  -- have begun and are complete; as much is at fault; and each token has been bound to the same entities.
+  -- What is known at these places in the two texts: each question has the same answer, at the moved places; the latest
+  -- declaration that a token names is of the same kind and linkage; the same structures have begun and are complete; as much
+  -- is at fault; and each token has been bound to the same entities.
   pub record GoTogether (lo there : ℕ) (f g : Facts) : Type 0 where
     pub asked : (q : Question) → IsAsked m lo there q
         → AreMoved m (filter (answers old q) f.declared) (filter (answers new (moved_question m q)) g.declared)
+    pub told : (i : ℕ) → AreToldAlike (find (λ d. d.name_at == i) f.declared) (find (λ d. d.name_at == m i) g.declared)
     pub begun : (n : ℕ) → is_in g.begun (m n) ≡ is_in f.begun n
     pub complete : (n : ℕ) → is_in g.complete (m n) ≡ is_in f.complete n
     pub jumps : g.jumps ≡ map m f.jumps

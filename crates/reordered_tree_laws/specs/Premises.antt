@@ -8,14 +8,15 @@ use Rattle.tree_laws.specs.Below.c99_tree.Tree.{Forest, none, token, node, Node}
 use Rattle.tree_laws.specs.Below.c99_tree.declared.production.Label.{Label}
 use Rattle.tree_laws.specs.Below.c99_tree.declared.production.Production.{Production}
 use Rattle.tree_laws.specs.Below.c99_tree.declared.production.Production.TheVariants.{FunBody, Specs, Main, SuRest, EnRest, MemRest, Enumerator, Declarator, Params, Param, Pdecl, TypeName, Add, Unary, Primary, Args, Statement, Sub, Assign, Cond, Lor, Land, Bor, Bxor, Band, Equal, Relate, Shift, Mul, Cast, Block}
-use Rattle.tree_laws.specs.Below.c_types.Trees.{is_node, is_at, is_list, name_below, first_list}
+use Rattle.tree_laws.specs.Below.c_types.Trees.{is_node, is_at, is_list, has_mod, name_below, first_list}
+use Rattle.tree_laws.specs.Below.c_types.Lists.{bare_at, bare_in}
 use Rattle.tree_laws.specs.Below.c_types.Declarations.{alike, is_in}
 use Rattle.tree_laws.specs.Below.name_chains.Entering.{scope_in}
 use Rattle.tree_laws.specs.Below.name_chains.Frames.{outermost}
 use Rattle.tree_laws.specs.Below.scope_bind.Named.{Scope}
 use Rattle.tree_laws.specs.Below.scope_bind.declared.bound.Name.{Name}
 use Rattle.tree_laws.specs.Below.scope_bind.Bound.{Bound, binding_of}
-use Rattle.tree_laws.specs.Below.scope_bind.Names.{entity_at, kind_at, linkage_at}
+use Rattle.tree_laws.specs.Below.scope_bind.Names.{entity_at, declares_at, kind_at, linkage_at}
 use Rattle.tree_laws.specs.TreesOfTexts.{IsTreeOf, begins_with_token}
 use Rattle.list_cuts.specs.Cuts.{IsOrder, AreOf, arranged, moved}
 use Rattle.reordered_tree_laws.specs.Reordered.{nodes_in, is_among, reordered}
@@ -151,10 +152,17 @@ module _ (lasting : ℕ → Bool) where
   is_quiet l (token i rest) = not (is_node l Params) && is_quiet l rest
   is_quiet l (node m first under rest) = is_quiet_child l m under && ((is_list m || is_quiet m under) && is_quiet l rest)
 
--- An item declares nothing but parameters of lists in it and members of structures without a tag, and perhaps one name.
+-- `typedef` stands among the specifiers in front of a declarator (6.7.1)
+abbrev pub has_typedef_word : Forest → Bool
+has_typedef_word none = false
+has_typedef_word (token i rest) = has_typedef_word rest
+has_typedef_word (node l first under rest) = (is_node l Specs && has_mod 1 under) || has_typedef_word rest
+
+-- An item declares nothing but parameters of lists in it and members of structures without a tag, and perhaps one name,
+-- which is no typedef name.
 abbrev pub is_item : Node → Bool
 is_item n =
-    is_item_production n.label.production
+    (is_item_production n.label.production && option_map_or (λ i. not (has_typedef_word n.under)) (declared_name n) true)
     && (is_adding (λ i. true) false n.label n.under && is_quiet (λ i. option_map_or (λ j. j == i) (declared_name n) false) n.label n.under)
 
 -- the ordinary identifiers below some children that are used: in expressions and as type names (6.5.1, 6.7.2)
@@ -164,11 +172,15 @@ used_in l k (token i rest) =
     if is_at l Primary 1 || (is_at l Main 4 && (k == 0)) then i ∷ used_in l (k + 1) rest else used_in l (k + 1) rest
 used_in l k (node m first under rest) = used_in m 0 under ++ used_in l (k + 1) rest
 
+-- these of an item, and the names that are parameters only since they are no typedef names where they stand (6.7.5.3
+-- paragraph 11)
+abbrev pub asked_in : Node → List ℕ
+asked_in n = used_in n.label 0 n.under ++ (bare_at n.label n.under ++ bare_in n.under)
+
 module _ (toks : List Token) where
-  -- an item uses no identifier that is spelled so, and declares no other one
+  -- an item asks for no identifier that is spelled so, and declares no other one
   abbrev pub is_unasked_in : Node → ℕ → Bool
-  is_unasked_in n j =
-      not (list_any (alike toks j) (used_in n.label 0 n.under)) && not (option_map_or (alike toks j) (declared_name n) false)
+  is_unasked_in n j = not (list_any (alike toks j) (asked_in n)) && not (option_map_or (alike toks j) (declared_name n) false)
 
   abbrev pub are_two_apart : Node → Node → Bool
   are_two_apart n m =
@@ -192,11 +204,13 @@ pub record CanReorder (order : List ℕ) (lists : ℕ → Bool) (toks : List Tok
   pub fresh : All (λ (n : Name). (n.declares && is_in (tags_in lists false false (outermost 0).label 0 tree.under) n.index) ≡ false) b.names
 
 -- A text with this tree binds name for name as so many tokens were bound: token i is at its place anew a name of the entity
--- whose name it was, at the place where that is now, and of the same kind and linkage; and nothing is at fault.
+-- whose name it was, at the place where that is now, and of the same kind and linkage; it declares it where it did; and
+-- nothing is at fault.
 pub record BindsAlike (m : ℕ → ℕ) (count : ℕ) (b : Bound) (toks : List Token) (tree : Node) : Type 0 where
   pub bound : Bound
   pub told : binding_of toks tree ≡ Ok bound
   pub named : (i : ℕ) → i < count → entity_at bound.names (m i) ≡ option_map m (entity_at b.names i)
+  pub declared : (i : ℕ) → i < count → declares_at bound.names (m i) ≡ declares_at b.names i
   pub kinds : (i : ℕ) → i < count → kind_at bound.names (m i) ≡ kind_at b.names i
   pub linked : (i : ℕ) → i < count → linkage_at bound.names (m i) ≡ linkage_at b.names i
 

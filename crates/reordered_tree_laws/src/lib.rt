@@ -17,9 +17,9 @@
 //! places: `GoTogether` of `specs/Moving.antt` says that what is asked of the declarations has the same answer in both.
 //! A part that is moved as a whole keeps that, `parts_move_alike` (`proofs/MovedWalk.antt`), and so does a unit whose lists
 //! keep it, `ListsGo` of `specs/Gathering.antt`: then it binds as before, `reordered_bind_by_lists`
-//! (`proofs/MovedOrders.antt`, `proofs/MovedUnits.antt`). That a list keeps it, by `CanReorder`, is not said here:
-//! `parts_only_add`, which says that a part like an item adds names of its own in front of what is known, and the laws of
-//! `reordered_item_laws` are towards it.
+//! (`proofs/MovedOrders.antt`, `proofs/MovedUnits.antt`). That a list keeps it, by `CanReorder`, is said in
+//! `reordered_list_laws`. To it lead `parts_only_add`, which says that a part like an item adds names of its own in front of
+//! what is known, and the laws of `reordered_item_laws`.
 //! `proofs/Rows.antt` has worked rows of lists in a new order, some of which bind as before and some of which do not.
 //! No program stands here: a law is the `ensures` of a function without a body.
 #![tactic(auto)]
@@ -30,4 +30,7 @@ pub use laws::{
     items_bind_alike, new_orders_are_not_seen, parts_add_beside, parts_bind_alike,
     parts_move_alike, parts_only_add, ranges_end_with_scopes, reordered_bind_by_lists,
     reordered_trees_are_of_their_texts,
+};
+pub use tree_laws::{
+    read_lists_stand_in_order, read_names_stand_in_the_text, tokens_stand_in_order,
 };

@@ -1,0 +1,24 @@
+pub mod Answered
+pub mod OutlineSteps
+pub mod Longer
+pub mod Within
+pub mod Chains
+pub mod Bags
+pub mod Answering
+pub mod Placing
+pub mod Ready
+pub mod NamesGo
+pub mod NamesWalk
+pub mod Tested
+pub mod Unseen
+pub mod Agreeing
+pub mod AgreeingNew
+pub mod AgreeSteps
+pub mod AgreeWalk
+pub mod NamesAgree
+pub mod TextsAgree
+pub mod Heads
+pub mod ReadHeads
+pub mod BareTrees
+pub mod ReadNames
+mod NameRows
