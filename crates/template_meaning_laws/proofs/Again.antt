@@ -5,13 +5,13 @@ use Rattle.std.specs.List.{list_any, list_all}
 use Rattle.std.specs.Option.{option_map_or}
 use Rattle.std.proofs.lemmas.Bool.{false≢true, and_parts, or_cases}
 use Rattle.std.proofs.lemmas.Option.{same_Some}
-use Rattle.tree_laws.specs.Below.cs_base.declared.positions.Part.{Part}
-use Rattle.tree_laws.specs.Below.cs_base.Token.{Token}
-use Rattle.tree_laws.specs.Below.c_types.declared.lists.List.{List as NameList}
+use Rattle.reordered_list_laws.specs.Below.tree_laws.Below.cs_base.declared.positions.Part.{Part}
+use Rattle.reordered_list_laws.specs.Below.tree_laws.Below.cs_base.Token.{Token}
+use Rattle.reordered_list_laws.specs.Below.tree_laws.Below.c_types.declared.lists.List.{List as NameList}
 use Rattle.no_offence_laws.specs.Below.unit_steps.declared.events.Reached.{Reached}
 use Rattle.no_offence_laws.specs.Below.ws_core.Analysis.{UnitAnalysis, AnalysisValue}
 use Rattle.no_offence_laws.proofs.ListLemmas.{In}
-use Rattle.list_cuts.specs.Cuts.{numbers}
+use Rattle.template_rules.specs.Below.list_cuts.Cuts.{numbers}
 use Rattle.template_rules.specs.Functions.{names_function}
 use Rattle.template_rules.specs.Lists.{each_mark}
 use Rattle.template_rules.specs.MacroOffences.{is_same_list, item_of, is_item, is_list_at, is_list_in, is_list_as, is_list_through, is_list_for, is_mark_everywhere}

@@ -4,16 +4,16 @@ use Rattle.std.specs.Prelude.{◌==◌, ◌%◌}
 use Rattle.std.specs.List.{list_all}
 use Rattle.std.proofs.lemmas.Bool.{cases_Bool, false≢true, and_parts, and_from, eqb-true, eq-eqb}
 use Rattle.std.proofs.lemmas.List.Folds.{list_all-append}
-use Rattle.tree_laws.specs.Below.c99_tree.Tree.{Forest, none, token, node}
-use Rattle.tree_laws.specs.Below.c99_tree.declared.production.Label.{Label}
-use Rattle.tree_laws.specs.Below.c99_tree.declared.production.Production.{Production}
-use Rattle.tree_laws.specs.Below.c99_tree.declared.production.Production.TheVariants.{Direct, Params, Pdirect}
-use Rattle.tree_laws.specs.Below.c99_tree.contracts.production.ProductionPartialEq.TheImpl.{ghosts}
-use Rattle.tree_laws.specs.Below.c_types.Trees.{is_at, is_node, has_name}
-use Rattle.tree_laws.specs.Below.c_types.Lists.{odd_tokens, even_tokens, name_in, bare_at, bare_in}
-use Rattle.tree_laws.specs.Below.scope_bind.Named.{is_plain_role}
-use Rattle.tree_laws.specs.Below.scope_bind.Roles.{role_of}
-use Rattle.tree_laws.specs.TreesOfTexts.{is_name_place, names_pass}
+use Rattle.reordered_list_laws.specs.Below.tree_laws.Below.c99_tree.Tree.{Forest, none, token, node}
+use Rattle.reordered_list_laws.specs.Below.tree_laws.Below.c99_tree.declared.production.Label.{Label}
+use Rattle.reordered_list_laws.specs.Below.tree_laws.Below.c99_tree.declared.production.Production.{Production}
+use Rattle.reordered_list_laws.specs.Below.tree_laws.Below.c99_tree.declared.production.Production.TheVariants.{Direct, Params, Pdirect}
+use Rattle.reordered_list_laws.specs.Below.tree_laws.Below.c99_tree.contracts.production.ProductionPartialEq.TheImpl.{ghosts}
+use Rattle.reordered_list_laws.specs.Below.tree_laws.Below.c_types.Trees.{is_at, is_node, has_name}
+use Rattle.reordered_list_laws.specs.Below.tree_laws.Below.c_types.Lists.{odd_tokens, even_tokens, name_in, bare_at, bare_in}
+use Rattle.reordered_list_laws.specs.Below.tree_laws.Below.scope_bind.Named.{is_plain_role}
+use Rattle.reordered_list_laws.specs.Below.tree_laws.Below.scope_bind.Roles.{role_of}
+use Rattle.reordered_list_laws.specs.Below.tree_laws.TreesOfTexts.{is_name_place, names_pass}
 
 listed_role : (p : Production) (a k : ℕ) → ghosts.eq p Params ≡ true → (a == 1) ≡ true → (k % 2 == 0) ≡ true → not (is_plain_role (role_of p a k)) ≡ true
 listed_role Params a k same one even = rw (one, even) refl

@@ -2,16 +2,16 @@
 use Rattle.std.proofs.Common.{◌≡◌, ℕ, ◌<◌, inl, inr, Bool, true, false, ◌&&◌, ◌||◌, not, if◌then◌else◌, refl, sym, ap, subst, ◌∙◌, arith}
 use Rattle.std.specs.Prelude.{◌==◌}
 use Rattle.std.proofs.lemmas.Bool.{false≢true, and_parts, and_from}
-use Rattle.tree_laws.specs.Below.cs_base.declared.ws_units.Standard.{Standard}
-use Rattle.tree_laws.specs.Below.c99_tree.Tree.{Forest, none, token, node}
-use Rattle.tree_laws.specs.Below.c99_tree.declared.production.Label.{Label}
-use Rattle.tree_laws.specs.Below.c99_tree.declared.production.Production.{Production}
-use Rattle.tree_laws.specs.Below.c99_tree.declared.production.Production.TheVariants.{Post, Args, Params}
-use Rattle.tree_laws.specs.Below.c99_tree.contracts.production.ProductionPartialEq.TheImpl.{ghosts}
-use Rattle.tree_laws.specs.Below.c99_grammar.Standard.{grammar}
-use Rattle.tree_laws.specs.Below.c_types.Parameters.{parameters_of, typed, untyped}
-use Rattle.tree_laws.specs.Below.c_types.Trees.{is_node, is_at, is_list}
-use Rattle.reordered_tree_laws.specs.Premises.{is_items, is_spaced, is_bracketed}
+use Rattle.reordered_list_laws.specs.Below.tree_laws.Below.cs_base.declared.ws_units.Standard.{Standard}
+use Rattle.reordered_list_laws.specs.Below.tree_laws.Below.c99_tree.Tree.{Forest, none, token, node}
+use Rattle.reordered_list_laws.specs.Below.tree_laws.Below.c99_tree.declared.production.Label.{Label}
+use Rattle.reordered_list_laws.specs.Below.tree_laws.Below.c99_tree.declared.production.Production.{Production}
+use Rattle.reordered_list_laws.specs.Below.tree_laws.Below.c99_tree.declared.production.Production.TheVariants.{Post, Args, Params}
+use Rattle.reordered_list_laws.specs.Below.tree_laws.Below.c99_tree.contracts.production.ProductionPartialEq.TheImpl.{ghosts}
+use Rattle.reordered_list_laws.specs.Below.tree_laws.Below.c99_grammar.Standard.{grammar}
+use Rattle.reordered_list_laws.specs.Below.tree_laws.Below.c_types.Parameters.{parameters_of, typed, untyped}
+use Rattle.reordered_list_laws.specs.Below.tree_laws.Below.c_types.Trees.{is_node, is_at, is_list}
+use Rattle.reordered_list_laws.specs.Below.reordered_tree_laws.Premises.{is_items, is_spaced, is_bracketed}
 use Rattle.template_rules.specs.Lists.{declarations_in}
 use Rattle.template_meaning_laws.specs.Children.{children, EachNode, IsOfAlternative}
 use Rattle.template_meaning_laws.proofs.Forms.{IsPair, IsFullPair, call_pair, list_pair, are_items, are_more, is_end, any_production, is_param, args_items, params_items}
@@ -60,6 +60,13 @@ module _ (s : Standard) where
       by : IsPair Args under → is_bracketed under ≡ true
       by (inl p) = ap is_bracketed p.is
       by (inr p) = full p
+
+  -- a parameter type list
+  pub typed_bracketed : (under : Forest) (p : IsFullPair Params under) → EachNode (IsOfAlternative (grammar s)) under → is_at p.label Params 1 ≡ false → is_bracketed under ≡ true
+  typed_bracketed under p each other =
+      let whole_each : EachNode (IsOfAlternative (grammar s)) (token p.begin (node p.label p.first p.items (token p.close none))) = subst (EachNode (IsOfAlternative (grammar s))) p.is each in
+      let spaced = items_spaced true is_param p.items (params_items s p.label p.items whole_each.0 p.production other) in
+      ap is_bracketed p.is ∙ and_from (is_items p.label) (is_spaced false p.items) (types_is p.label p.production other) spaced
 
   -- a parameter list of so many parameters, which are not none
   pub list_bracketed : (n : ℕ) → 0 < n → (l : Label) (name : ℕ) (under : Forest) → is_list l ≡ true → IsOfAlternative (grammar s) l under → EachNode (IsOfAlternative (grammar s)) under

@@ -4,20 +4,20 @@ use Rattle.std.specs.Prelude.{slice_get, ◌==◌}
 use Rattle.std.specs.List.{list_all}
 use Rattle.std.proofs.lemmas.Bool.{false≢true, and_parts, and_from, or_left, or_right}
 use Rattle.std.proofs.lemmas.Option.{same_Some}
-use Rattle.tree_laws.specs.Below.cs_base.declared.ws_units.Standard.{Standard}
-use Rattle.tree_laws.specs.Below.cs_base.Token.{Token}
-use Rattle.tree_laws.specs.Below.c99_tree.Tree.{Forest, none, token, node, Node, leaf, inner, put, lone, collapsed}
-use Rattle.tree_laws.specs.Below.c99_tree.declared.production.Label.{Label}
-use Rattle.tree_laws.specs.Below.c99_tree.declared.production.Production.{Production}
-use Rattle.tree_laws.specs.Below.c99_tree.declared.production.Production.TheVariants.{TranslationUnit}
-use Rattle.tree_laws.specs.Below.c99_grammar.Classes.{among}
-use Rattle.tree_laws.specs.Below.c99_grammar.Items.{Item, one, part, end_of_text, act, ◌·◌, choice, maybe, many, deep, own, Action, Alternative}
-use Rattle.tree_laws.specs.Below.c99_grammar.Standard.{Grammar, grammar}
-use Rattle.tree_laws.specs.Below.c99_read.State.{State, class_at, collapses, finished, acted, opened, closed}
-use Rattle.tree_laws.specs.Below.c99_read.Reading.{Goal, produce, repeat, Step, and_then, deepest, take_one, at_end, enter, may, step, alternative, pick, run, read_within, steps_for, whole, at_first, tree_of, read_of}
-use Rattle.tree_laws.specs.Shapes.{has_no_declaring, parts_all, goal_all, passes_on}
-use Rattle.tree_laws.proofs.Walked.{After, after_if, with_token}
-use Rattle.tree_laws.proofs.NameClasses.{implied}
+use Rattle.reordered_list_laws.specs.Below.tree_laws.Below.cs_base.declared.ws_units.Standard.{Standard}
+use Rattle.reordered_list_laws.specs.Below.tree_laws.Below.cs_base.Token.{Token}
+use Rattle.reordered_list_laws.specs.Below.tree_laws.Below.c99_tree.Tree.{Forest, none, token, node, Node, leaf, inner, put, lone, collapsed}
+use Rattle.reordered_list_laws.specs.Below.tree_laws.Below.c99_tree.declared.production.Label.{Label}
+use Rattle.reordered_list_laws.specs.Below.tree_laws.Below.c99_tree.declared.production.Production.{Production}
+use Rattle.reordered_list_laws.specs.Below.tree_laws.Below.c99_tree.declared.production.Production.TheVariants.{TranslationUnit}
+use Rattle.reordered_list_laws.specs.Below.tree_laws.Below.c99_grammar.Classes.{among}
+use Rattle.reordered_list_laws.specs.Below.tree_laws.Below.c99_grammar.Items.{Item, one, part, end_of_text, act, ◌·◌, choice, maybe, many, deep, own, Action, Alternative}
+use Rattle.reordered_list_laws.specs.Below.tree_laws.Below.c99_grammar.Standard.{Grammar, grammar}
+use Rattle.reordered_list_laws.specs.Below.tree_laws.Below.c99_read.State.{State, class_at, collapses, finished, acted, opened, closed}
+use Rattle.reordered_list_laws.specs.Below.tree_laws.Below.c99_read.Reading.{Goal, produce, repeat, Step, and_then, deepest, take_one, at_end, enter, may, step, alternative, pick, run, read_within, steps_for, whole, at_first, tree_of, read_of}
+use Rattle.reordered_list_laws.specs.Below.tree_laws.Shapes.{has_no_declaring, parts_all, goal_all, passes_on}
+use Rattle.reordered_list_laws.proofs.Below.tree_laws.Walked.{After, after_if, with_token}
+use Rattle.reordered_list_laws.proofs.Below.tree_laws.NameClasses.{implied}
 use Rattle.template_meaning_laws.specs.Children.{Child, a_token, a_node, children, is_operand, StandsFor, AreTimes, AreOfItem, EachNode, IsInner, IsOfAlternative, whole_of, ChildrenAreOfAlternatives}
 use Rattle.template_meaning_laws.proofs.InnerTable.{can_none, is_lone_operand, stays_inner, inner_at}
 

@@ -4,21 +4,21 @@ use Rattle.std.specs.Prelude.{slice_get, slice_index_or}
 use Rattle.std.specs.List.{flat_map, list_any, list_all, remove}
 use Rattle.std.specs.Option.{option_map_or}
 use Rattle.std.proofs.lemmas.Bool.{cases_Bool, false≢true, and_parts, or_cases, eqb-true}
-use Rattle.tree_laws.specs.Below.cs_base.declared.causes.Cause.TheVariants as cause
-use Rattle.tree_laws.specs.Below.cs_base.declared.positions.Part.{Part}
-use Rattle.tree_laws.specs.Below.cs_base.declared.positions.Pos.{Pos}
-use Rattle.tree_laws.specs.Below.cs_base.Token.{Token}
-use Rattle.tree_laws.specs.Below.c_types.Declarations.{is_in}
-use Rattle.tree_laws.specs.Below.c_types.declared.lists.List.{List as NameList}
-use Rattle.tree_laws.specs.Below.c_types.declared.parameters.ParameterList.{ParameterList}
-use Rattle.tree_laws.specs.Below.c_types.Parameters.{parameters_in}
-use Rattle.tree_laws.specs.Below.c99_grammar.Standard.{grammar}
-use Rattle.tree_laws.specs.Below.c99_read.State.{base_at, is_identifier}
-use Rattle.tree_laws.specs.Below.scope_bind.declared.bound.Name.{Name}
-use Rattle.tree_laws.specs.Below.scope_bind.Bound.{Bound}
-use Rattle.tree_laws.specs.Below.scope_bind.Names.{entity_at}
-use Rattle.tree_laws.proofs.HeldNames.{binding_is}
-use Rattle.tree_laws.proofs.NamesRead.{names_are_read}
+use Rattle.reordered_list_laws.specs.Below.tree_laws.Below.cs_base.declared.causes.Cause.TheVariants as cause
+use Rattle.reordered_list_laws.specs.Below.tree_laws.Below.cs_base.declared.positions.Part.{Part}
+use Rattle.reordered_list_laws.specs.Below.tree_laws.Below.cs_base.declared.positions.Pos.{Pos}
+use Rattle.reordered_list_laws.specs.Below.tree_laws.Below.cs_base.Token.{Token}
+use Rattle.reordered_list_laws.specs.Below.tree_laws.Below.c_types.Declarations.{is_in}
+use Rattle.reordered_list_laws.specs.Below.tree_laws.Below.c_types.declared.lists.List.{List as NameList}
+use Rattle.reordered_list_laws.specs.Below.tree_laws.Below.c_types.declared.parameters.ParameterList.{ParameterList}
+use Rattle.reordered_list_laws.specs.Below.tree_laws.Below.c_types.Parameters.{parameters_in}
+use Rattle.reordered_list_laws.specs.Below.tree_laws.Below.c99_grammar.Standard.{grammar}
+use Rattle.reordered_list_laws.specs.Below.tree_laws.Below.c99_read.State.{base_at, is_identifier}
+use Rattle.reordered_list_laws.specs.Below.tree_laws.Below.scope_bind.declared.bound.Name.{Name}
+use Rattle.reordered_list_laws.specs.Below.tree_laws.Below.scope_bind.Bound.{Bound}
+use Rattle.reordered_list_laws.specs.Below.tree_laws.Below.scope_bind.Names.{entity_at}
+use Rattle.reordered_list_laws.proofs.Below.tree_laws.HeldNames.{binding_is}
+use Rattle.reordered_list_laws.proofs.Below.tree_laws.NamesRead.{names_are_read}
 use Rattle.no_offence_laws.specs.Below.source_files.Files.{Source}
 use Rattle.no_offence_laws.specs.Below.ws_file.Workspace.{WorkspaceValue}
 use Rattle.no_offence_laws.specs.Below.ws_core.Analysis.{UnitAnalysis, AnalysisValue}
@@ -26,7 +26,7 @@ use Rattle.no_offence_laws.specs.Below.ws_core.Places.{is_read_only}
 use Rattle.no_offence_laws.specs.Below.rename_rules.declared.offences.Offence.{Offence}
 use Rattle.no_offence_laws.specs.Below.rename_rules.First.{offence, standing}
 use Rattle.no_offence_laws.proofs.ListLemmas.{In, nil_left, nil_right, map_nil, cons_nil, flat_nil}
-use Rattle.list_cuts.specs.Cuts.{numbers}
+use Rattle.template_rules.specs.Below.list_cuts.Cuts.{numbers}
 use Rattle.template_rules.specs.Functions.{origin_of, place_of, holds_at, is_function, declares_function}
 use Rattle.template_rules.specs.Insides.{inside_offences, list_insides, unit_insides, all_insides, all_macro_names}
 use Rattle.template_rules.specs.LineOffences.{odd_positions, is_odd_by, odd_place, odd_places}

@@ -4,27 +4,27 @@ use Rattle.std.specs.Prelude.{◌==◌, ◌%◌, slice_get}
 use Rattle.std.specs.List.{list_all}
 use Rattle.std.proofs.lemmas.Bool.{cases_Bool, false≢true, and_parts, or_cases, eq-eqb, ne_eqb}
 use Rattle.std.proofs.lemmas.Option.{same_Some}
-use Rattle.tree_laws.specs.Below.cs_base.declared.ws_units.Standard.{Standard}
-use Rattle.tree_laws.specs.Below.c99_tree.Tree.{Forest, none, token, node, Node}
-use Rattle.tree_laws.specs.Below.c99_tree.declared.production.Label.{Label}
-use Rattle.tree_laws.specs.Below.c99_tree.declared.production.Production.{Production}
-use Rattle.tree_laws.specs.Below.c99_tree.declared.production.Production.TheVariants.{TranslationUnit, Params, Param, Post, Args}
-use Rattle.tree_laws.specs.Below.c99_tree.contracts.production.ProductionPartialEq.TheImpl.{ghosts}
-use Rattle.tree_laws.specs.Below.c99_grammar.First.{order}
-use Rattle.tree_laws.specs.Below.c99_grammar.Items.{Item, one, part, end_of_text, act, ◌·◌, choice, maybe, many, deep, Alternative}
-use Rattle.tree_laws.specs.Below.c99_grammar.Standard.{Grammar, grammar}
-use Rattle.tree_laws.specs.Below.c99_read.Sound.{never_empty, has_token, is_low, is_sound}
-use Rattle.tree_laws.specs.Below.c_types.declared.parameters.ParameterForm.TheVariants.{Types as types, Ellipsis as ellipsis}
-use Rattle.tree_laws.specs.Below.c_types.Lists.{odd_tokens, list_of}
-use Rattle.tree_laws.specs.Below.c_types.Parameters.{declared_names, ends_in_token, typed, untyped, parameters_of}
-use Rattle.tree_laws.specs.Below.c_types.Trees.{is_at, is_list, last_token}
-use Rattle.tree_laws.specs.TreesOfTexts.{token_count, AreFrom}
-use Rattle.tree_laws.specs.Shapes.{has_no_declaring}
-use Rattle.tree_laws.proofs.Below.c99_read.C99Sound.{grammar-sound}
-use Rattle.tree_laws.proofs.NameClasses.{implied}
-use Rattle.list_cuts.specs.Cuts.{Cut, done, count_of, AreOf, AreItemsOf}
-use Rattle.reordered_tree_laws.specs.Reordered.{is_among}
-use Rattle.reordered_tree_laws.specs.Cuts.{cut_then, list_then, items_in, cut_in}
+use Rattle.reordered_list_laws.specs.Below.tree_laws.Below.cs_base.declared.ws_units.Standard.{Standard}
+use Rattle.reordered_list_laws.specs.Below.tree_laws.Below.c99_tree.Tree.{Forest, none, token, node, Node}
+use Rattle.reordered_list_laws.specs.Below.tree_laws.Below.c99_tree.declared.production.Label.{Label}
+use Rattle.reordered_list_laws.specs.Below.tree_laws.Below.c99_tree.declared.production.Production.{Production}
+use Rattle.reordered_list_laws.specs.Below.tree_laws.Below.c99_tree.declared.production.Production.TheVariants.{TranslationUnit, Params, Param, Post, Args}
+use Rattle.reordered_list_laws.specs.Below.tree_laws.Below.c99_tree.contracts.production.ProductionPartialEq.TheImpl.{ghosts}
+use Rattle.reordered_list_laws.specs.Below.tree_laws.Below.c99_grammar.First.{order}
+use Rattle.reordered_list_laws.specs.Below.tree_laws.Below.c99_grammar.Items.{Item, one, part, end_of_text, act, ◌·◌, choice, maybe, many, deep, Alternative}
+use Rattle.reordered_list_laws.specs.Below.tree_laws.Below.c99_grammar.Standard.{Grammar, grammar}
+use Rattle.reordered_list_laws.specs.Below.tree_laws.Below.c99_read.Sound.{never_empty, has_token, is_low, is_sound}
+use Rattle.reordered_list_laws.specs.Below.tree_laws.Below.c_types.declared.parameters.ParameterForm.TheVariants.{Types as types, Ellipsis as ellipsis}
+use Rattle.reordered_list_laws.specs.Below.tree_laws.Below.c_types.Lists.{odd_tokens, list_of}
+use Rattle.reordered_list_laws.specs.Below.tree_laws.Below.c_types.Parameters.{declared_names, ends_in_token, typed, untyped, parameters_of}
+use Rattle.reordered_list_laws.specs.Below.tree_laws.Below.c_types.Trees.{is_at, is_list, last_token}
+use Rattle.reordered_list_laws.specs.Below.tree_laws.TreesOfTexts.{token_count, AreFrom}
+use Rattle.reordered_list_laws.specs.Below.tree_laws.Shapes.{has_no_declaring}
+use Rattle.reordered_list_laws.proofs.Below.tree_laws.Below.c99_read.C99Sound.{grammar-sound}
+use Rattle.reordered_list_laws.proofs.Below.tree_laws.NameClasses.{implied}
+use Rattle.template_rules.specs.Below.list_cuts.Cuts.{Cut, done, count_of, AreOf, AreItemsOf}
+use Rattle.reordered_list_laws.specs.Below.reordered_tree_laws.Reordered.{is_among}
+use Rattle.reordered_list_laws.specs.Below.reordered_tree_laws.Cuts.{cut_then, list_then, items_in, cut_in}
 use Rattle.template_rules.specs.Lists.{declarations_in, arguments_of}
 use Rattle.template_meaning_laws.specs.Children.{Child, a_token, a_node, children, AreOfItem, EachNode, IsInner, IsOfAlternative}
 use Rattle.template_meaning_laws.proofs.Forms.{IsPair, IsFullPair, call_pair, list_pair, are_items, are_more, is_end, any_production, is_param, args_items, params_items, no_nodes, names_alone}
@@ -202,13 +202,13 @@ sound_at g p (b ∷ more) zero a all at = subst (λ (c : Alternative). is_sound 
 sound_at g p (b ∷ more) (suc n) a all at = sound_at g p more n a (and_parts (is_sound p b) (list_all (is_sound p) more) all).1 at
 
 module _ (s : Standard) where
-  node_some : (l : Label) (under : Forest) → IsOfAlternative (grammar s) l under → has_no_declaring l.production ≡ true → under ≡ none → ⊥
+  pub node_some : (l : Label) (under : Forest) → IsOfAlternative (grammar s) l under → has_no_declaring l.production ≡ true → under ≡ none → ⊥
   node_some l under x inner e =
       let sound = sound_at (grammar s) l.production ((grammar s).table l.production) x.number x.alternative ((grammar-sound s).sound l.production) x.is_one in
       let body = implied (never_empty l.production) (has_token x.alternative.body) (and_parts (is_low (order l.production) x.alternative.body) _ sound).1 (inner_some l.production inner) in
       item_some x.alternative.body body (children under) x.own (ap children e)
 
-  some_tokens : (f : Forest) → EachNode (IsOfAlternative (grammar s)) f → EachNode IsInner f → (f ≡ none → ⊥) → 1 ≤ token_count f
+  pub some_tokens : (f : Forest) → EachNode (IsOfAlternative (grammar s)) f → EachNode IsInner f → (f ≡ none → ⊥) → 1 ≤ token_count f
   some_tokens none each inner some = absurd (some refl)
   some_tokens (token i rest) each inner some = omega arith
   some_tokens (node l first under rest) each inner some =

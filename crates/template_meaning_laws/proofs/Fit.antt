@@ -3,19 +3,19 @@ use Rattle.std.proofs.Common.{◌≡◌, ℕ, zero, suc, ◌+◌, inl, inr, Bool
 use Rattle.std.specs.Prelude.{◌==◌, slice_get}
 use Rattle.std.proofs.lemmas.Bool.{cases_Bool, false≢true, and_parts, and_from, eqb-true}
 use Rattle.std.proofs.lemmas.Option.{same_Some}
-use Rattle.tree_laws.specs.Below.cs_base.declared.ws_units.Standard.{Standard}
-use Rattle.tree_laws.specs.Below.c99_tree.Tree.{Forest}
-use Rattle.tree_laws.specs.Below.c99_tree.declared.production.Label.{Label}
-use Rattle.tree_laws.specs.Below.c99_tree.declared.production.Production.{Production}
-use Rattle.tree_laws.specs.Below.c99_tree.declared.production.Production.TheVariants.{StructSpec, SuRest, EnumSpec, EnRest, Add, Mul, Unary, Cast}
-use Rattle.tree_laws.specs.Below.c99_tree.contracts.production.ProductionPartialEq.TheImpl.{ghosts}
-use Rattle.tree_laws.specs.Below.c99_grammar.declared.classes.Class.TheVariants.{PlusPlus, MinusMinus, Amp, Star, Plus, Minus, Tilde, Bang}
-use Rattle.tree_laws.specs.Below.c99_grammar.Items.{Item, one, part, ◌·◌, many, deep, own, Alternative, plain}
-use Rattle.tree_laws.specs.Below.c99_grammar.Standard.{grammar}
-use Rattle.tree_laws.specs.Below.c_types.Trees.{is_node, is_at}
-use Rattle.tree_laws.specs.Shapes.{parts_all, begins, has_no_body, passes_on}
-use Rattle.tree_laws.proofs.NameClasses.{implied}
-use Rattle.reordered_tree_laws.specs.Premises.{is_items}
+use Rattle.reordered_list_laws.specs.Below.tree_laws.Below.cs_base.declared.ws_units.Standard.{Standard}
+use Rattle.reordered_list_laws.specs.Below.tree_laws.Below.c99_tree.Tree.{Forest}
+use Rattle.reordered_list_laws.specs.Below.tree_laws.Below.c99_tree.declared.production.Label.{Label}
+use Rattle.reordered_list_laws.specs.Below.tree_laws.Below.c99_tree.declared.production.Production.{Production}
+use Rattle.reordered_list_laws.specs.Below.tree_laws.Below.c99_tree.declared.production.Production.TheVariants.{StructSpec, SuRest, EnumSpec, EnRest, Add, Mul, Unary, Cast}
+use Rattle.reordered_list_laws.specs.Below.tree_laws.Below.c99_tree.contracts.production.ProductionPartialEq.TheImpl.{ghosts}
+use Rattle.reordered_list_laws.specs.Below.tree_laws.Below.c99_grammar.declared.classes.Class.TheVariants.{PlusPlus, MinusMinus, Amp, Star, Plus, Minus, Tilde, Bang}
+use Rattle.reordered_list_laws.specs.Below.tree_laws.Below.c99_grammar.Items.{Item, one, part, ◌·◌, many, deep, own, Alternative, plain}
+use Rattle.reordered_list_laws.specs.Below.tree_laws.Below.c99_grammar.Standard.{grammar}
+use Rattle.reordered_list_laws.specs.Below.tree_laws.Below.c_types.Trees.{is_node, is_at}
+use Rattle.reordered_list_laws.specs.Below.tree_laws.Shapes.{parts_all, begins, has_no_body, passes_on}
+use Rattle.reordered_list_laws.proofs.Below.tree_laws.NameClasses.{implied}
+use Rattle.reordered_list_laws.specs.Below.reordered_tree_laws.Premises.{is_items}
 use Rattle.template_meaning_laws.specs.Children.{Child, a_token, a_node, children, AreTimes, AreOfItem, StandsFor, IsOfAlternative}
 use Rattle.template_meaning_laws.proofs.FitTable.{is_rest, is_specifier, is_outer, is_body, is_ext_tail, is_ext_rest, is_declarator, is_declarator_child, is_type_name, is_type_child, is_membered, has_members, is_list_node, not_these, row_first, row_second, row_third, row_fits, fits_at, plainly, all_nodes, parts_nodes, plain_nodes, begins_token, table_row, operands_are}
 use Rattle.template_meaning_laws.proofs.Forms.{alternative_is}

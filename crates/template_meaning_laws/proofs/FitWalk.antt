@@ -3,25 +3,25 @@ use Rattle.std.proofs.Common.{◌≡◌, ℕ, zero, suc, ◌+◌, ◌⊎◌, inl
 use Rattle.std.specs.Prelude.{◌==◌, slice_get}
 use Rattle.std.proofs.lemmas.Bool.{cases_Bool, false≢true, and_parts, and_from, or_cases, eqb-true, eq-eqb, lt-ltb}
 use Rattle.std.proofs.lemmas.Option.{same_Some}
-use Rattle.tree_laws.specs.Below.cs_base.declared.ws_units.Standard.{Standard}
-use Rattle.tree_laws.specs.Below.cs_base.declared.ws_units.Standard.TheVariants.{C99, C11}
-use Rattle.tree_laws.specs.Below.c99_tree.Tree.{Forest, none, token, node, Node}
-use Rattle.tree_laws.specs.Below.c99_tree.declared.production.Label.{Label}
-use Rattle.tree_laws.specs.Below.c99_tree.declared.production.Production.{Production}
-use Rattle.tree_laws.specs.Below.c99_tree.declared.production.Production.TheVariants.{TranslationUnit, ExtRest, ExtTail, FunBody, Specs, MemRest, Declarator, Direct, Pointer, Suffix, Pdecl, Pdirect, TypeName, Adecl, Adirect, Add, Unary, Block, Statement, Sub}
-use Rattle.tree_laws.specs.Below.c99_tree.contracts.production.ProductionPartialEq.TheImpl.{ghosts}
-use Rattle.tree_laws.specs.Below.c99_grammar.declared.classes.Class.TheVariants.{LeftBrace, Semicolon}
-use Rattle.tree_laws.specs.Below.c99_grammar.Items.{part, act, ◌·◌, declare, again, tok, next, either, is, begins as begins_with, when, Alternative, plain}
-use Rattle.tree_laws.specs.Below.c99_grammar.Standard.{grammar}
-use Rattle.tree_laws.specs.Below.c_types.Trees.{is_node, is_at, is_list, last_token, has_node}
-use Rattle.tree_laws.specs.Below.name_chains.Frames.{outermost}
-use Rattle.tree_laws.specs.Below.name_chains.Entering.{scope_in, inner, is_scoped}
-use Rattle.tree_laws.specs.Below.scope_bind.Named.{Scope}
-use Rattle.tree_laws.specs.Shapes.{parts_all, has_no_body}
-use Rattle.tree_laws.specs.TreesOfTexts.{begins_with_token}
-use Rattle.reordered_tree_laws.specs.Premises.{is_items, is_bracketed, asks_sign, stands_in, declares_type, has_outer_list, is_fit_child, is_fit}
-use Rattle.reordered_tree_laws.specs.Reordered.{is_among}
-use Rattle.reordered_tree_laws.specs.Seen.{is_part, are_parts}
+use Rattle.reordered_list_laws.specs.Below.tree_laws.Below.cs_base.declared.ws_units.Standard.{Standard}
+use Rattle.reordered_list_laws.specs.Below.tree_laws.Below.cs_base.declared.ws_units.Standard.TheVariants.{C99, C11}
+use Rattle.reordered_list_laws.specs.Below.tree_laws.Below.c99_tree.Tree.{Forest, none, token, node, Node}
+use Rattle.reordered_list_laws.specs.Below.tree_laws.Below.c99_tree.declared.production.Label.{Label}
+use Rattle.reordered_list_laws.specs.Below.tree_laws.Below.c99_tree.declared.production.Production.{Production}
+use Rattle.reordered_list_laws.specs.Below.tree_laws.Below.c99_tree.declared.production.Production.TheVariants.{TranslationUnit, ExtRest, ExtTail, FunBody, Specs, MemRest, Declarator, Direct, Pointer, Suffix, Pdecl, Pdirect, TypeName, Adecl, Adirect, Add, Unary, Block, Statement, Sub}
+use Rattle.reordered_list_laws.specs.Below.tree_laws.Below.c99_tree.contracts.production.ProductionPartialEq.TheImpl.{ghosts}
+use Rattle.reordered_list_laws.specs.Below.tree_laws.Below.c99_grammar.declared.classes.Class.TheVariants.{LeftBrace, Semicolon}
+use Rattle.reordered_list_laws.specs.Below.tree_laws.Below.c99_grammar.Items.{part, act, ◌·◌, declare, again, tok, next, either, is, begins as begins_with, when, Alternative, plain}
+use Rattle.reordered_list_laws.specs.Below.tree_laws.Below.c99_grammar.Standard.{grammar}
+use Rattle.reordered_list_laws.specs.Below.tree_laws.Below.c_types.Trees.{is_node, is_at, is_list, last_token, has_node}
+use Rattle.reordered_list_laws.specs.Below.tree_laws.Below.name_chains.Frames.{outermost}
+use Rattle.reordered_list_laws.specs.Below.tree_laws.Below.name_chains.Entering.{scope_in, inner, is_scoped}
+use Rattle.reordered_list_laws.specs.Below.tree_laws.Below.scope_bind.Named.{Scope}
+use Rattle.reordered_list_laws.specs.Below.tree_laws.Shapes.{parts_all, has_no_body}
+use Rattle.reordered_list_laws.specs.Below.tree_laws.TreesOfTexts.{begins_with_token}
+use Rattle.reordered_list_laws.specs.Below.reordered_tree_laws.Premises.{is_items, is_bracketed, asks_sign, stands_in, declares_type, has_outer_list, is_fit_child, is_fit}
+use Rattle.reordered_list_laws.specs.Below.reordered_tree_laws.Reordered.{is_among}
+use Rattle.reordered_list_laws.specs.Below.reordered_tree_laws.Seen.{is_part, are_parts}
 use Rattle.template_meaning_laws.specs.Forms.{IsBracketed, BodyListIsOuter, HasOuterList, TreesHaveForms}
 use Rattle.template_meaning_laws.specs.Children.{Child, a_token, a_node, children, AreOfItem, EachNode, IsOfAlternative}
 use Rattle.template_meaning_laws.proofs.Children.{children_of_alternatives}
@@ -164,7 +164,7 @@ token_first none v e = absurd (cc)
 token_first (token i rest) v e = refl
 token_first (node l first under rest) v e = absurd (cc)
 
-rest_begins : (s : Standard) (m : Label) (under : Forest) → IsOfAlternative (grammar s) m under → is_at m MemRest 1 ≡ true → begins_with_token under ≡ true
+pub rest_begins : (s : Standard) (m : Label) (under : Forest) → IsOfAlternative (grammar s) m under → is_at m MemRest 1 ≡ true → begins_with_token under ≡ true
 rest_begins s m under x at =
     let both_ = and_parts (is_node m MemRest) (m.alternative == 1) at in
     let named = rest_named m.production both_.0 in
@@ -195,7 +195,7 @@ each_of_fits s lists none each = tt
 each_of_fits s lists (token i rest) each = each_of_fits s lists rest each
 each_of_fits s lists (node l first under rest) each = (let x = each.0 in x.of, each_of_fits s lists under each.1, each_of_fits s lists rest each.2)
 
-body_same : (q : Production) → ghosts.eq q FunBody ≡ is_body q
+pub body_same : (q : Production) → ghosts.eq q FunBody ≡ is_body q
 body_same FunBody = refl
 body_same _ = refl
 
@@ -249,7 +249,7 @@ module _ (s : Standard) (lists : ℕ → Bool) where
 
   -- ---- What stands below
 
-  abbrev RestIs : List Child → Type 0
+  abbrev pub RestIs : List Child → Type 0
   RestIs w = (w ≡ a_token ∷ []) ⊎ (w ≡ a_node Declarator ∷ (a_node ExtTail ∷ []))
 
   no_body_here : (q : Production) → is_body q ≡ false → (keeps : Bool) → is_body q ≡ true → keeps ≡ true
@@ -258,7 +258,7 @@ module _ (s : Standard) (lists : ℕ → Bool) where
   no_type_here : (q r : Production) → is_type_name q ≡ false → is_type_name q ≡ true → is_type_child r ≡ true
   no_type_here q r e h = absurd (false≢true (sym e ∙ h))
 
-  rest_shape : (m : Label) (under : Forest) → IsOfAlternative (grammar s) m under → m.production ≡ ExtRest → RestIs (children under)
+  pub rest_shape : (m : Label) (under : Forest) → IsOfAlternative (grammar s) m under → m.production ≡ ExtRest → RestIs (children under)
   rest_shape m under x named = by x.number x.alternative (sym (ap (λ (q : Production). slice_get ((grammar s).table q) x.number) named) ∙ x.is_one) x.own
     where
       two : AreOfItem (part Declarator · (act declare · (act again · part ExtTail))) (children under) → children under ≡ a_node Declarator ∷ (a_node ExtTail ∷ [])
@@ -277,7 +277,7 @@ module _ (s : Standard) (lists : ℕ → Bool) where
           inr (two (subst (λ (b : Alternative). AreOfItem b.body (children under)) (sym same) y))
       by (suc (suc n)) a at y = absurd (cc)
 
-  tail_shape : (t : Label) (under : Forest) → IsOfAlternative (grammar s) t under → t.production ≡ ExtTail → all_nodes (not_these is_body) (children under) ≡ false
+  pub tail_shape : (t : Label) (under : Forest) → IsOfAlternative (grammar s) t under → t.production ≡ ExtTail → all_nodes (not_these is_body) (children under) ≡ false
       → children under ≡ a_node FunBody ∷ []
   tail_shape t under x named some = by x.number x.alternative (sym (ap (λ (q : Production). slice_get ((grammar s).table q) x.number) named) ∙ x.is_one) x.own
     where

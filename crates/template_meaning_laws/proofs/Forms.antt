@@ -3,17 +3,17 @@ use Rattle.std.proofs.Common.{ℕ, zero, suc, ◌+◌, ◌≡◌, ◌⊎◌, inl
 use Rattle.std.specs.Prelude.{◌==◌, slice_get}
 use Rattle.std.proofs.lemmas.Bool.{false≢true, and_parts, and_from, eqb-true, eq-eqb}
 use Rattle.std.proofs.lemmas.Option.{same_Some}
-use Rattle.tree_laws.specs.Below.cs_base.declared.ws_units.Standard.{Standard}
-use Rattle.tree_laws.specs.Below.c99_tree.Tree.{Forest, none, token, node}
-use Rattle.tree_laws.specs.Below.c99_tree.declared.production.Label.{Label}
-use Rattle.tree_laws.specs.Below.c99_tree.declared.production.Production.{Production}
-use Rattle.tree_laws.specs.Below.c99_tree.declared.production.Production.TheVariants.{Suffix, Params, Param, Assign, Post, Args}
-use Rattle.tree_laws.specs.Below.c99_tree.contracts.production.ProductionPartialEq.TheImpl.{ghosts}
-use Rattle.tree_laws.specs.Below.c99_grammar.declared.classes.Class.TheVariants.{LeftParen, RightParen, Comma, Ellipsis, Identifier}
-use Rattle.tree_laws.specs.Below.c99_grammar.Items.{part, act, ◌·◌, maybe, many, deep, tok, own, next_two, is, is_not, scope, end, keep, name, Alternative, plain}
-use Rattle.tree_laws.specs.Below.c99_grammar.Standard.{Grammar, grammar}
-use Rattle.tree_laws.specs.Below.c99_read.State.{collapses}
-use Rattle.tree_laws.specs.Below.c_types.Trees.{is_node, is_at}
+use Rattle.reordered_list_laws.specs.Below.tree_laws.Below.cs_base.declared.ws_units.Standard.{Standard}
+use Rattle.reordered_list_laws.specs.Below.tree_laws.Below.c99_tree.Tree.{Forest, none, token, node}
+use Rattle.reordered_list_laws.specs.Below.tree_laws.Below.c99_tree.declared.production.Label.{Label}
+use Rattle.reordered_list_laws.specs.Below.tree_laws.Below.c99_tree.declared.production.Production.{Production}
+use Rattle.reordered_list_laws.specs.Below.tree_laws.Below.c99_tree.declared.production.Production.TheVariants.{Suffix, Params, Param, Assign, Post, Args}
+use Rattle.reordered_list_laws.specs.Below.tree_laws.Below.c99_tree.contracts.production.ProductionPartialEq.TheImpl.{ghosts}
+use Rattle.reordered_list_laws.specs.Below.tree_laws.Below.c99_grammar.declared.classes.Class.TheVariants.{LeftParen, RightParen, Comma, Ellipsis, Identifier}
+use Rattle.reordered_list_laws.specs.Below.tree_laws.Below.c99_grammar.Items.{part, act, ◌·◌, maybe, many, deep, tok, own, next_two, is, is_not, scope, end, keep, name, Alternative, plain}
+use Rattle.reordered_list_laws.specs.Below.tree_laws.Below.c99_grammar.Standard.{Grammar, grammar}
+use Rattle.reordered_list_laws.specs.Below.tree_laws.Below.c99_read.State.{collapses}
+use Rattle.reordered_list_laws.specs.Below.tree_laws.Below.c_types.Trees.{is_node, is_at}
 use Rattle.template_meaning_laws.specs.Children.{Child, a_token, a_node, children, StandsFor, AreTimes, AreOfItem, IsOfAlternative}
 
 -- ---- Children one by one
@@ -202,6 +202,24 @@ args_named zero a e = refl
 args_named (suc n) a e = absurd (cc)
 
 module _ (s : Standard) where
+  -- the arguments of a call, where what stands for an argument passes
+  pub args_pass : (ok : Production → Bool) → ((q : Production) → StandsFor Assign q → ok q ≡ true) → (l : Label) (under : Forest) → IsOfAlternative (grammar s) l under
+      → l.production ≡ Args → are_items false ok (children under) ≡ true
+  args_pass ok pass l under x is_args =
+      let number : x.number ≡ 0 = args_named x.number x.alternative (sym (ap (λ (p : Production). slice_get ((grammar s).table p) x.number) is_args) ∙ x.is_one) in
+      let one : l.alternative ≡ 0 + 1 = omega (arith, x.numbered, number) in
+      by (alternative_is (grammar s) l under x Args 0 (plain (part Assign · many own (tok Comma · part Assign))) is_args one refl)
+    where
+      by : AreOfItem (part Assign · many own (tok Comma · part Assign)) (children under) → are_items false ok (children under) ≡ true
+      by (xs, ys, all, (q, first, stands), (n, more)) =
+          let behind = times_more false ok (AreOfItem (tok Comma · part Assign)) n ys [] (comma_part Assign ok pass) more refl in
+          let same : children under ≡ a_node q ∷ (ys ++ []) = all ∙ (ap (λ (w : List Child). w ++ ys) first ∙ ap (λ (w : List Child). a_node q ∷ w) (sym (end_nil ys))) in
+          subst (λ (w : List Child). are_items false ok w ≡ true) (sym same) (and_from (ok q) (are_more false ok (ys ++ [])) (pass q stands) behind)
+        where
+          end_nil : (w : List Child) → w ++ [] ≡ w
+          end_nil [] = refl
+          end_nil (c ∷ w) = ap (λ (v : List Child). c ∷ v) (end_nil w)
+
   -- the arguments of a call
   pub args_items : (l : Label) (under : Forest) → IsOfAlternative (grammar s) l under → l.production ≡ Args → are_items false any_production (children under) ≡ true
   args_items l under x is_args =

@@ -4,21 +4,21 @@ use Rattle.std.specs.Prelude.{slice_get}
 use Rattle.std.specs.List.{list_all}
 use Rattle.std.proofs.lemmas.Bool.{false≢true, and_parts}
 use Rattle.std.proofs.lemmas.Option.{same_Some}
-use Rattle.tree_laws.specs.Below.cs_base.declared.ws_units.Standard.{Standard}
-use Rattle.tree_laws.specs.Below.c99_tree.Tree.{Forest, none, token, node}
-use Rattle.tree_laws.specs.Below.c99_tree.declared.production.Label.{Label}
-use Rattle.tree_laws.specs.Below.c99_tree.declared.production.Production.{Production}
-use Rattle.tree_laws.specs.Below.c99_tree.declared.production.Production.TheVariants.{TranslationUnit, External, Sassert, Specs, Main, Mod, Qual, Word, StructSpec, EnumSpec}
-use Rattle.tree_laws.specs.Below.c99_grammar.First.{order}
-use Rattle.tree_laws.specs.Below.c99_grammar.Items.{Item, one, part, end_of_text, act, ◌·◌, choice, maybe, many, deep, Alternative}
-use Rattle.tree_laws.specs.Below.c99_grammar.Standard.{grammar}
-use Rattle.tree_laws.specs.Below.c99_read.Sound.{never_empty, has_token, is_low}
-use Rattle.tree_laws.proofs.Below.c99_grammar.StandardLemmas.{both}
-use Rattle.tree_laws.proofs.Below.c99_read.C99Sound.{grammar-sound}
-use Rattle.tree_laws.specs.TreesOfTexts.{token_count, AreFrom}
-use Rattle.tree_laws.proofs.Lookups.{In}
-use Rattle.tree_laws.proofs.NameClasses.{implied}
-use Rattle.reordered_tree_laws.specs.Reordered.{is_parenthesised}
+use Rattle.reordered_list_laws.specs.Below.tree_laws.Below.cs_base.declared.ws_units.Standard.{Standard}
+use Rattle.reordered_list_laws.specs.Below.tree_laws.Below.c99_tree.Tree.{Forest, none, token, node}
+use Rattle.reordered_list_laws.specs.Below.tree_laws.Below.c99_tree.declared.production.Label.{Label}
+use Rattle.reordered_list_laws.specs.Below.tree_laws.Below.c99_tree.declared.production.Production.{Production}
+use Rattle.reordered_list_laws.specs.Below.tree_laws.Below.c99_tree.declared.production.Production.TheVariants.{TranslationUnit, External, Sassert, Specs, Main, Mod, Qual, Word, StructSpec, EnumSpec}
+use Rattle.reordered_list_laws.specs.Below.tree_laws.Below.c99_grammar.First.{order}
+use Rattle.reordered_list_laws.specs.Below.tree_laws.Below.c99_grammar.Items.{Item, one, part, end_of_text, act, ◌·◌, choice, maybe, many, deep, Alternative}
+use Rattle.reordered_list_laws.specs.Below.tree_laws.Below.c99_grammar.Standard.{grammar}
+use Rattle.reordered_list_laws.specs.Below.tree_laws.Below.c99_read.Sound.{never_empty, has_token, is_low}
+use Rattle.reordered_list_laws.proofs.Below.tree_laws.Below.c99_grammar.StandardLemmas.{both}
+use Rattle.reordered_list_laws.proofs.Below.tree_laws.Below.c99_read.C99Sound.{grammar-sound}
+use Rattle.reordered_list_laws.specs.Below.tree_laws.TreesOfTexts.{token_count, AreFrom}
+use Rattle.reordered_list_laws.proofs.Below.tree_laws.Lookups.{In}
+use Rattle.reordered_list_laws.proofs.Below.tree_laws.NameClasses.{implied}
+use Rattle.reordered_list_laws.specs.Below.reordered_tree_laws.Reordered.{is_parenthesised}
 use Rattle.template_meaning_laws.specs.Children.{Child, a_token, a_node, children, StandsFor, AreTimes, AreOfItem, EachNode, IsOfAlternative}
 use Rattle.template_meaning_laws.proofs.Counted.{item_some, sound_at}
 use Rattle.template_meaning_laws.proofs.InnerTable.{can_none}

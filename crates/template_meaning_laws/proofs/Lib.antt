@@ -1,17 +1,44 @@
+-- For the crates of laws above.
+pub mod Children
+pub mod Forms
+pub mod Parens
+pub mod Units
+pub mod Clear
+pub mod UnitLists
 -- What the proofs of this crate rest on.
 mod InnerTable
-mod Children
-mod Forms
-mod Parens
 mod Counted
 mod Bare
-mod Units
-mod Clear
 mod Bracketed
 mod Leading
-mod UnitLists
 mod UnitCut
 mod FitTable
 mod Fit
 mod FitWalk
 mod Again
+mod ItemTable
+mod ItemForms
+mod ItemQuiet
+mod OuterList
+mod ItemUses
+mod ItemsApart
+mod ItemPairs
+mod UnitItems
+mod ListTests
+mod UnitReorder
+mod CanReorder
+mod Prototypes
+mod ExternalMoved
+pub mod TablesEdited
+mod EditsMade
+mod PlansKept
+mod NamesGoOn
+mod UnitsGoOn
+mod PathsStanding
+pub mod FilesHeld
+pub mod FilesKept
+pub mod NoneMove
+pub mod Top
+mod Signs
+mod Ending
+pub mod Below

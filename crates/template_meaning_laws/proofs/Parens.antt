@@ -4,17 +4,17 @@ use Rattle.std.specs.Option.{option_or}
 use Rattle.std.proofs.lemmas.Bool.{false≢true, and_parts}
 use Rattle.std.proofs.lemmas.List.{map-append}
 use Rattle.std.proofs.lemmas.Option.{same_Some}
-use Rattle.tree_laws.specs.Below.c99_tree.Tree.{Forest, none, token, node}
-use Rattle.tree_laws.specs.Below.c99_tree.declared.production.Label.{Label}
-use Rattle.tree_laws.specs.Below.c99_tree.declared.production.Production.TheVariants.{Declarator, Suffix, Pointer, Unary, Primary, Post}
-use Rattle.tree_laws.specs.Below.c_types.declared.lists.List.{List as NameList}
-use Rattle.tree_laws.specs.Below.c_types.declared.parameters.ParameterList.{ParameterList}
-use Rattle.tree_laws.specs.Below.c_types.Lists.{list_of, call_in, calls_in, nearest_of, own_list, declarator_in, is_declaring, lists_in}
-use Rattle.tree_laws.specs.Below.c_types.Parameters.{parameters_of, own_parameters, declarator_parameters, parameters_in}
-use Rattle.tree_laws.specs.Below.c_types.Trees.{is_node, is_at, is_list, name_below, first_token}
-use Rattle.tree_laws.specs.TreesOfTexts.{token_count, AreFrom}
-use Rattle.tree_laws.proofs.Lookups.{In}
-use Rattle.reordered_tree_laws.specs.Reordered.{is_parenthesised}
+use Rattle.reordered_list_laws.specs.Below.tree_laws.Below.c99_tree.Tree.{Forest, none, token, node}
+use Rattle.reordered_list_laws.specs.Below.tree_laws.Below.c99_tree.declared.production.Label.{Label}
+use Rattle.reordered_list_laws.specs.Below.tree_laws.Below.c99_tree.declared.production.Production.TheVariants.{Declarator, Suffix, Pointer, Unary, Primary, Post}
+use Rattle.reordered_list_laws.specs.Below.tree_laws.Below.c_types.declared.lists.List.{List as NameList}
+use Rattle.reordered_list_laws.specs.Below.tree_laws.Below.c_types.declared.parameters.ParameterList.{ParameterList}
+use Rattle.reordered_list_laws.specs.Below.tree_laws.Below.c_types.Lists.{list_of, call_in, calls_in, nearest_of, own_list, declarator_in, is_declaring, lists_in}
+use Rattle.reordered_list_laws.specs.Below.tree_laws.Below.c_types.Parameters.{parameters_of, own_parameters, declarator_parameters, parameters_in}
+use Rattle.reordered_list_laws.specs.Below.tree_laws.Below.c_types.Trees.{is_node, is_at, is_list, name_below, first_token}
+use Rattle.reordered_list_laws.specs.Below.tree_laws.TreesOfTexts.{token_count, AreFrom}
+use Rattle.reordered_list_laws.proofs.Below.tree_laws.Lookups.{In}
+use Rattle.reordered_list_laws.specs.Below.reordered_tree_laws.Reordered.{is_parenthesised}
 use Rattle.template_meaning_laws.specs.Children.{EachNode}
 
 -- ---- Lists
@@ -254,11 +254,11 @@ list_by p = list_of p.name p.under
 abbrev pub parameters_by : Pair → ParameterList
 parameters_by p = parameters_of p.name p.under
 
-abbrev own_pair : Option ℕ → Option (Option Forest) → List Pair
+abbrev pub own_pair : Option ℕ → Option (Option Forest) → List Pair
 own_pair (Some name) (Some (Some list)) = record { name = name; under = list } ∷ []
 own_pair _ _ = []
 
-abbrev pair_in : Forest → List Pair
+abbrev pub pair_in : Forest → List Pair
 pair_in (node l first under rest) = if is_node l Declarator then own_pair (name_below l under) (nearest_of under) else []
 pair_in _ = []
 
@@ -337,7 +337,7 @@ nearest_node l first under rest list of_under of_rest false b false is same = by
     by None at e = entered is_list rest (node l first under rest) list (behind_in l first under rest) (of_rest e)
     by (Some z) at e = entered is_list under (node l first under rest) list (below_in l first under rest) (of_under (at ∙ e))
 
-nearest_entry : (f list : Forest) → nearest_of f ≡ Some (Some list) → IsEntry is_list f list
+pub nearest_entry : (f list : Forest) → nearest_of f ≡ Some (Some list) → IsEntry is_list f list
 nearest_entry none list e = absurd (cc)
 nearest_entry (token i rest) list e = let r = nearest_entry rest list e in record { label = r.label; passes = r.passes; there = r.there }
 nearest_entry (node l first under rest) list e =

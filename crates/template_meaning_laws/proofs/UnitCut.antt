@@ -2,17 +2,17 @@
 use Rattle.std.proofs.Common.{◌≡◌, ℕ, ◌<◌, List, length, sym, subst, ◌∙◌}
 use Rattle.std.specs.Prelude.{◌==◌}
 use Rattle.std.proofs.lemmas.Bool.{and_parts, eqb-true}
-use Rattle.tree_laws.specs.Below.cs_base.declared.positions.Part.{Part}
-use Rattle.tree_laws.specs.Below.c_types.declared.lists.List.{List as NameList}
-use Rattle.tree_laws.specs.Below.c_types.Parameters.{parameters_in}
-use Rattle.tree_laws.proofs.Lookups as tree
+use Rattle.reordered_list_laws.specs.Below.tree_laws.Below.cs_base.declared.positions.Part.{Part}
+use Rattle.reordered_list_laws.specs.Below.tree_laws.Below.c_types.declared.lists.List.{List as NameList}
+use Rattle.reordered_list_laws.specs.Below.tree_laws.Below.c_types.Parameters.{parameters_in}
+use Rattle.reordered_list_laws.proofs.Below.tree_laws.Lookups as tree
 use Rattle.no_offence_laws.specs.Below.source_files.Files.{Source}
 use Rattle.no_offence_laws.specs.Below.ws_file.Workspace.{WorkspaceValue}
 use Rattle.no_offence_laws.specs.Below.ws_core.Analysis.{UnitAnalysis, AnalysisValue}
 use Rattle.no_offence_laws.proofs.ListLemmas.{In}
-use Rattle.tree_laws.specs.ReadTexts.{ReadParameterListsAreInOrder}
-use Rattle.list_cuts.specs.Cuts.{IsOrder}
-use Rattle.list_cuts.proofs.OrderLemmas.{orders_permute}
+use Rattle.reordered_list_laws.specs.Below.tree_laws.ReadTexts.{ReadParameterListsAreInOrder}
+use Rattle.template_rules.specs.Below.list_cuts.Cuts.{IsOrder}
+use Rattle.template_rules.proofs.Below.list_cuts.OrderLemmas.{orders_permute}
 use Rattle.template_rules.specs.Lists.{parameters_of, arguments_of, count_of}
 use Rattle.template_meaning_laws.specs.Accepted.{IsAccepted}
 use Rattle.template_meaning_laws.specs.Children.{EachNode}
@@ -29,16 +29,16 @@ module _ (in_order : ReadParameterListsAreInOrder) (source : Source) (ws : Works
   count_is : count_of a members ≡ length order
   count_is = sym (eqb-true (length order) (count_of a members) (and_parts (length order == count_of a members) _ h.ordered).0)
 
-  clear : UnitIsClear a members u
+  pub clear : UnitIsClear a members u
   clear = units_are_clear source ws a members order h u i
 
-  read : IsReadSo u
+  pub read : IsReadSo u
   read = unit_read_so source ws a h.analysed u i
 
-  declared : (l : NameList) → tree.In l u.bound.declarators → IsOwn members u l → parameters_of (parameters_in u.tree.under) l.name ≡ length order
+  pub declared : (l : NameList) → tree.In l u.bound.declarators → IsOwn members u l → parameters_of (parameters_in u.tree.under) l.name ≡ length order
   declared l w own = let c = clear in let d = c.declarators l (index_of l u.bound.declarators w) own in let list = d.list in list.many ∙ count_is
 
-  called : (l : NameList) → tree.In l u.bound.calls → IsOwn members u l → arguments_of l ≡ length order
+  pub called : (l : NameList) → tree.In l u.bound.calls → IsOwn members u l → arguments_of l ≡ length order
   called l w own = let c = clear in let d = c.calls l (index_of l u.bound.calls w) own in let list = d.list in list.many ∙ count_is
 
   is_cut : IsCut members order u

@@ -4,28 +4,28 @@ use Rattle.std.specs.Prelude.{◌==◌, AllPairs, slice_get, find, filter}
 use Rattle.std.specs.List.{list_any}
 use Rattle.std.specs.Option.{option_map_or}
 use Rattle.std.proofs.lemmas.Bool.{cases_Bool, false≢true, and_parts, or_cases, eqb-true, eq-eqb}
-use Rattle.tree_laws.specs.Below.cs_base.declared.positions.Part.{Part}
-use Rattle.tree_laws.specs.Below.cs_base.declared.ws_units.Standard.{Standard}
-use Rattle.tree_laws.specs.Below.cs_base.Token.{Token}
-use Rattle.tree_laws.specs.Below.c99_tree.Tree.{Forest, none, token, node}
-use Rattle.tree_laws.specs.Below.c99_tree.declared.production.Label.{Label}
-use Rattle.tree_laws.specs.Below.c99_tree.declared.production.Production.TheVariants.{Post, Args, Params}
-use Rattle.tree_laws.specs.Below.c99_grammar.Standard.{grammar}
-use Rattle.tree_laws.specs.Below.c_types.declared.lists.List.{List as NameList}
-use Rattle.tree_laws.specs.Below.c_types.declared.parameters.ParameterList.{ParameterList}
-use Rattle.tree_laws.specs.Below.c_types.Lists.{list_of, lists_in}
-use Rattle.tree_laws.specs.Below.c_types.Parameters.{typed, untyped, parameters_of, parameters_in}
-use Rattle.tree_laws.specs.Below.c_types.Trees.{is_at, is_list, first_token}
-use Rattle.tree_laws.specs.Below.c_types.Declarations.{Facts}
-use Rattle.tree_laws.specs.Below.scope_bind.Bound.{Bound, is_of_function, names_of, bound_of, facts_of, binding_of}
-use Rattle.tree_laws.specs.ReadTexts.{Reads, ReadParameterListsAreInOrder}
-use Rattle.tree_laws.specs.TreesOfTexts.{AreFrom, IsTreeOf}
-use Rattle.tree_laws.proofs.HeldNames.{binding_is}
-use Rattle.tree_laws.proofs.Lookups.{In}
-use Rattle.tree_laws.proofs.OfTexts.{trees_of_texts}
-use Rattle.list_cuts.specs.Cuts.{AreOf}
-use Rattle.reordered_tree_laws.specs.Premises.{is_bracketed}
-use Rattle.reordered_tree_laws.specs.Reordered.{is_parenthesised, is_among}
+use Rattle.reordered_list_laws.specs.Below.tree_laws.Below.cs_base.declared.positions.Part.{Part}
+use Rattle.reordered_list_laws.specs.Below.tree_laws.Below.cs_base.declared.ws_units.Standard.{Standard}
+use Rattle.reordered_list_laws.specs.Below.tree_laws.Below.cs_base.Token.{Token}
+use Rattle.reordered_list_laws.specs.Below.tree_laws.Below.c99_tree.Tree.{Forest, none, token, node}
+use Rattle.reordered_list_laws.specs.Below.tree_laws.Below.c99_tree.declared.production.Label.{Label}
+use Rattle.reordered_list_laws.specs.Below.tree_laws.Below.c99_tree.declared.production.Production.TheVariants.{Post, Args, Params}
+use Rattle.reordered_list_laws.specs.Below.tree_laws.Below.c99_grammar.Standard.{grammar}
+use Rattle.reordered_list_laws.specs.Below.tree_laws.Below.c_types.declared.lists.List.{List as NameList}
+use Rattle.reordered_list_laws.specs.Below.tree_laws.Below.c_types.declared.parameters.ParameterList.{ParameterList}
+use Rattle.reordered_list_laws.specs.Below.tree_laws.Below.c_types.Lists.{list_of, lists_in}
+use Rattle.reordered_list_laws.specs.Below.tree_laws.Below.c_types.Parameters.{typed, untyped, parameters_of, parameters_in}
+use Rattle.reordered_list_laws.specs.Below.tree_laws.Below.c_types.Trees.{is_at, is_list, first_token}
+use Rattle.reordered_list_laws.specs.Below.tree_laws.Below.c_types.Declarations.{Facts}
+use Rattle.reordered_list_laws.specs.Below.tree_laws.Below.scope_bind.Bound.{Bound, is_of_function, names_of, bound_of, facts_of, binding_of}
+use Rattle.reordered_list_laws.specs.Below.tree_laws.ReadTexts.{Reads, ReadParameterListsAreInOrder}
+use Rattle.reordered_list_laws.specs.Below.tree_laws.TreesOfTexts.{AreFrom, IsTreeOf}
+use Rattle.reordered_list_laws.proofs.Below.tree_laws.HeldNames.{binding_is}
+use Rattle.reordered_list_laws.proofs.Below.tree_laws.Lookups.{In}
+use Rattle.reordered_list_laws.proofs.Below.tree_laws.OfTexts.{trees_of_texts}
+use Rattle.template_rules.specs.Below.list_cuts.Cuts.{AreOf}
+use Rattle.reordered_list_laws.specs.Below.reordered_tree_laws.Premises.{is_bracketed}
+use Rattle.reordered_list_laws.specs.Below.reordered_tree_laws.Reordered.{is_parenthesised, is_among}
 use Rattle.no_offence_laws.specs.Below.ws_core.Analysis.{UnitAnalysis}
 use Rattle.template_rules.specs.Functions.{names_function}
 use Rattle.template_rules.specs.Lists.{declarations_in, arguments_of, parameters_at}
@@ -145,16 +145,16 @@ module _ (s : Standard) (members : List Part) (u : UnitAnalysis) (n : ℕ) (read
     (in_order : ReadParameterListsAreInOrder)
     (of_declarators : (l : NameList) → In l u.bound.declarators → IsOwn members u l → lists.parameters_of (parameters_in u.tree.under) l.name ≡ n)
     (of_calls : (l : NameList) → In l u.bound.calls → IsOwn members u l → arguments_of l ≡ n) where
-  abbrev T : Forest
+  abbrev pub T : Forest
   T = u.tree.under
 
-  abbrev toks : List Token
+  abbrev pub toks : List Token
   toks = u.text.toks
 
-  abbrev facts : Facts
+  abbrev pub facts : Facts
   facts = facts_of toks T
 
-  bound_is : u.bound ≡ bound_of T facts
+  pub bound_is : u.bound ≡ bound_of T facts
   bound_is = binding_is toks u.tree u.bound binds
 
   pub each_of : EachNode (IsOfAlternative (grammar s)) T
@@ -169,14 +169,14 @@ module _ (s : Standard) (members : List Part) (u : UnitAnalysis) (n : ℕ) (read
         | inr list ↦ pair_begins Params under (list_pair s l under x list)
       ]
 
-  of_text : IsTreeOf (length toks) u.tree
+  pub of_text : IsTreeOf (length toks) u.tree
   of_text = trees_of_texts s toks u.tree reads
 
   pub one_of : (x y : Entry) → In x (entries T) → In y (entries T) → x.begin ≡ y.begin → x ≡ y
   one_of = one_entry T 0 of_text.tokens each_begins
 
   -- a parameter list of a function by its name
-  declarator_is : (l : NameList) → In l u.bound.declarators → (p : Pair) × (In p (pairs_in T)) × (list_by p ≡ l) × (is_of_function (names_of facts) l.name ≡ true)
+  pub declarator_is : (l : NameList) → In l u.bound.declarators → (p : Pair) × (In p (pairs_in T)) × (list_by p ≡ l) × (is_of_function (names_of facts) l.name ≡ true)
   declarator_is l w =
       let declared : In l (filter (λ (m : NameList). is_of_function (names_of facts) m.name) (lists_in T)) =
       subst (λ (b : Bound). In l b.declarators) bound_is w in
@@ -186,7 +186,7 @@ module _ (s : Standard) (members : List Part) (u : UnitAnalysis) (n : ℕ) (read
       (p.0, p.1.0, p.1.1, parts.1)
 
   -- what its parameters are found by
-  parameters_found : (l : NameList) → In l u.bound.declarators → (p : Pair) → In p (pairs_in T) → list_by p ≡ l → is_of_function (names_of facts) l.name ≡ true
+  pub parameters_found : (l : NameList) → In l u.bound.declarators → (p : Pair) → In p (pairs_in T) → list_by p ≡ l → is_of_function (names_of facts) l.name ≡ true
       → parameters_at (parameters_in T) l.name ≡ Some (parameters_by p)
   parameters_found l w p there is of_function =
       let named : p.name ≡ l.name = ap (λ (m : NameList). m.name) is in

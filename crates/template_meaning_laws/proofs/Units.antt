@@ -8,12 +8,12 @@ use Rattle.std.specs.Option.{option_map_or, option_and_then}
 use Rattle.std.proofs.lemmas.Bool.{and_parts, both_ways, eqb-true}
 use Rattle.std.proofs.lemmas.Option.{same_Some}
 use Rattle.std.proofs.lemmas.List.Elements.{All-head, All-tail}
-use Rattle.tree_laws.specs.Below.cs_base.declared.positions.Pos.{Pos}
-use Rattle.tree_laws.specs.Below.cs_base.declared.tokens.Kind.{Kind}
-use Rattle.tree_laws.specs.Below.cs_base.declared.tokens.Kind.TheVariants as kind
-use Rattle.tree_laws.specs.Below.cs_base.declared.ws_units.Standard.{Standard}
-use Rattle.tree_laws.specs.Below.cs_base.Token.{Token, origin_at}
-use Rattle.tree_laws.specs.Below.cs_base.Units.{UnitValue}
+use Rattle.reordered_list_laws.specs.Below.tree_laws.Below.cs_base.declared.positions.Pos.{Pos}
+use Rattle.reordered_list_laws.specs.Below.tree_laws.Below.cs_base.declared.tokens.Kind.{Kind}
+use Rattle.reordered_list_laws.specs.Below.tree_laws.Below.cs_base.declared.tokens.Kind.TheVariants as kind
+use Rattle.reordered_list_laws.specs.Below.tree_laws.Below.cs_base.declared.ws_units.Standard.{Standard}
+use Rattle.reordered_list_laws.specs.Below.tree_laws.Below.cs_base.Token.{Token, origin_at}
+use Rattle.reordered_list_laws.specs.Below.tree_laws.Below.cs_base.Units.{UnitValue}
 use Rattle.no_offence_laws.specs.Below.part_lexer.Spelling.{is_identifier_text}
 use Rattle.no_offence_laws.specs.Below.line_shape.Signs.{is_name}
 use Rattle.no_offence_laws.specs.Below.line_shape.Signs as signs
@@ -22,17 +22,17 @@ use Rattle.no_offence_laws.specs.Below.ws_file.Workspace.{WorkspaceValue}
 use Rattle.no_offence_laws.specs.Below.source_files.Faults.{Fault}
 use Rattle.no_offence_laws.specs.Below.source_files.Files.{Source, Table, Carried, nothing_carried}
 use Rattle.no_offence_laws.specs.Below.unit_steps.Texts.{UnitTextValue}
-use Rattle.tree_laws.specs.Below.c99_grammar.Spellings.{Spelled, punctuators}
-use Rattle.tree_laws.specs.Below.c99_grammar.Standard.{grammar}
-use Rattle.tree_laws.specs.Below.c99_grammar.TokenClasses.{spelled_class, class_of_kind, base_class}
-use Rattle.tree_laws.specs.Below.c99_read.Reading.{read_of}
-use Rattle.tree_laws.specs.Below.c99_read.State.{base_at, is_identifier}
-use Rattle.tree_laws.specs.Below.scope_bind.Bound.{binding_of}
-use Rattle.tree_laws.specs.Below.scope_bind.Names.{entity_at}
-use Rattle.tree_laws.specs.Below.scope_bind.declared.bound.Name.{Name}
-use Rattle.tree_laws.proofs.HeldNames.{bound_names_pass}
-use Rattle.tree_laws.proofs.NamesRead.{names_are_read}
-use Rattle.tree_laws.proofs.OfTexts.{trees_of_texts}
+use Rattle.reordered_list_laws.specs.Below.tree_laws.Below.c99_grammar.Spellings.{Spelled, punctuators}
+use Rattle.reordered_list_laws.specs.Below.tree_laws.Below.c99_grammar.Standard.{grammar}
+use Rattle.reordered_list_laws.specs.Below.tree_laws.Below.c99_grammar.TokenClasses.{spelled_class, class_of_kind, base_class}
+use Rattle.reordered_list_laws.specs.Below.tree_laws.Below.c99_read.Reading.{read_of}
+use Rattle.reordered_list_laws.specs.Below.tree_laws.Below.c99_read.State.{base_at, is_identifier}
+use Rattle.reordered_list_laws.specs.Below.tree_laws.Below.scope_bind.Bound.{binding_of}
+use Rattle.reordered_list_laws.specs.Below.tree_laws.Below.scope_bind.Names.{entity_at}
+use Rattle.reordered_list_laws.specs.Below.tree_laws.Below.scope_bind.declared.bound.Name.{Name}
+use Rattle.reordered_list_laws.proofs.Below.tree_laws.HeldNames.{bound_names_pass}
+use Rattle.reordered_list_laws.proofs.Below.tree_laws.NamesRead.{names_are_read}
+use Rattle.reordered_list_laws.proofs.Below.tree_laws.OfTexts.{trees_of_texts}
 use Rattle.no_offence_laws.specs.Below.ws_core.Analysis.{UnitAnalysis, UnitsValue, AnalysisValue, analysis_and, with_unit, unit_read, analysed_from, analysis_of, read_unit, bound_unit, unit_analysis}
 use Rattle.no_offence_laws.specs.Below.ws_core.Texts.{UnitFault, unit_fault, unit_with}
 use Rattle.no_offence_laws.proofs.Below.part_lexer.FitLemmas.{identifier-words}

@@ -1,11 +1,11 @@
 -- A new order against which nothing stands (this project's).
 use Rattle.std.specs.Prelude.{ℕ, ◌≡◌, true, None, List, Ok}
-use Rattle.tree_laws.specs.Below.cs_base.declared.positions.Part.{Part}
+use Rattle.reordered_list_laws.specs.Below.tree_laws.Below.cs_base.declared.positions.Part.{Part}
 use Rattle.no_offence_laws.specs.Below.source_files.Files.{Source}
 use Rattle.no_offence_laws.specs.Below.ws_file.Workspace.{WorkspaceValue}
 use Rattle.no_offence_laws.specs.Below.ws_core.Analysis.{AnalysisValue, analysis_of}
 use Rattle.no_offence_laws.specs.Below.rename_rules.First.{IsFirst}
-use Rattle.list_cuts.specs.Orders.{is_order}
+use Rattle.template_rules.specs.Below.list_cuts.Orders.{is_order}
 use Rattle.template_rules.specs.Functions.{has_function}
 use Rattle.template_rules.specs.Lists.{count_of}
 use Rattle.template_rules.specs.Offences.{offences_of}

@@ -1,8 +1,8 @@
 -- A run that is processed more than once, in one unit or in several (ISO/IEC 9899:1999, 6.10.2): where nothing stands against a
 -- new order, each processing has the same lists of the functions.
 use Rattle.std.specs.Prelude.{ℕ, ◌+◌, ◌≡◌, ◌⊎◌, true, List, Some, slice_get}
-use Rattle.tree_laws.specs.Below.cs_base.declared.positions.Part.{Part}
-use Rattle.tree_laws.specs.Below.c_types.declared.lists.List.{List as NameList}
+use Rattle.reordered_list_laws.specs.Below.tree_laws.Below.cs_base.declared.positions.Part.{Part}
+use Rattle.reordered_list_laws.specs.Below.tree_laws.Below.c_types.declared.lists.List.{List as NameList}
 use Rattle.no_offence_laws.specs.Below.source_files.Files.{Source}
 use Rattle.no_offence_laws.specs.Below.unit_laws.UnitLinks.{IsIn}
 use Rattle.no_offence_laws.specs.Below.unit_steps.declared.events.Reached.{Reached}

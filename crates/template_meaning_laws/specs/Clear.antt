@@ -2,12 +2,12 @@
 -- 5.1.1.2, 6.2.1, 6.5.2.2, 6.7.5.3 and 6.10.3).
 use Rattle.std.specs.Prelude.{ℕ, ◌≡◌, ◌<◌, ◌+◌, ◌&&◌, ◌||◌, true, false, List, Some, length, slice_index_or}
 use Rattle.std.specs.List.{list_any, remove}
-use Rattle.tree_laws.specs.Below.cs_base.declared.positions.Part.{Part}
-use Rattle.tree_laws.specs.Below.cs_base.declared.positions.Pos.{Pos}
-use Rattle.tree_laws.specs.Below.c_types.declared.lists.List.{List as NameList}
-use Rattle.tree_laws.specs.Below.c_types.declared.parameters.ParameterList.{ParameterList}
-use Rattle.tree_laws.specs.Below.c_types.Parameters.{parameters_in}
-use Rattle.tree_laws.specs.Below.scope_bind.declared.bound.Name.{Name}
+use Rattle.reordered_list_laws.specs.Below.tree_laws.Below.cs_base.declared.positions.Part.{Part}
+use Rattle.reordered_list_laws.specs.Below.tree_laws.Below.cs_base.declared.positions.Pos.{Pos}
+use Rattle.reordered_list_laws.specs.Below.tree_laws.Below.c_types.declared.lists.List.{List as NameList}
+use Rattle.reordered_list_laws.specs.Below.tree_laws.Below.c_types.declared.parameters.ParameterList.{ParameterList}
+use Rattle.reordered_list_laws.specs.Below.tree_laws.Below.c_types.Parameters.{parameters_in}
+use Rattle.reordered_list_laws.specs.Below.tree_laws.Below.scope_bind.declared.bound.Name.{Name}
 use Rattle.no_offence_laws.specs.Below.unit_steps.declared.events.Event.{Event}
 use Rattle.no_offence_laws.specs.Below.unit_laws.UnitLinks.{IsIn}
 use Rattle.no_offence_laws.specs.Below.source_files.Files.{Source}

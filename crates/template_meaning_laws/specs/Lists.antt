@@ -1,12 +1,12 @@
 -- The lists of functions in a unit, where nothing stands against a new order: each has as many items as the order has numbers
 -- (ISO/IEC 9899:1999, 6.5.2.2, 6.7.5.3).
 use Rattle.std.specs.Prelude.{ℕ, List, length}
-use Rattle.tree_laws.specs.Below.cs_base.declared.positions.Part.{Part}
+use Rattle.reordered_list_laws.specs.Below.tree_laws.Below.cs_base.declared.positions.Part.{Part}
 use Rattle.no_offence_laws.specs.Below.source_files.Files.{Source}
 use Rattle.no_offence_laws.specs.Below.unit_laws.UnitLinks.{IsIn}
 use Rattle.no_offence_laws.specs.Below.ws_file.Workspace.{WorkspaceValue}
 use Rattle.no_offence_laws.specs.Below.ws_core.Analysis.{UnitAnalysis, AnalysisValue}
-use Rattle.list_cuts.specs.Cuts.{IsOrder, AreOf}
+use Rattle.template_rules.specs.Below.list_cuts.Cuts.{IsOrder, AreOf}
 use Rattle.template_meaning_laws.specs.Accepted.{IsAccepted}
 use Rattle.template_meaning_laws.specs.Reordered.{unit_cut}
 

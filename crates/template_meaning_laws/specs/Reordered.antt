@@ -5,23 +5,23 @@
 use Rattle.std.specs.Prelude.{ℕ, ◌≡◌, ◌<◌, ◌==◌, ◌&&◌, ◌||◌, Bool, Some, List, length, map, Ok, slice_get}
 use Rattle.std.specs.List.{list_any}
 use Rattle.std.specs.Option.{option_map, option_map_or}
-use Rattle.tree_laws.specs.Below.cs_base.declared.positions.Part.{Part}
-use Rattle.tree_laws.specs.Below.cs_base.declared.tokens.Kind.{Kind}
-use Rattle.tree_laws.specs.Below.cs_base.Token.{Token}
-use Rattle.tree_laws.specs.Below.c_types.declared.lists.List.{List as NameList}
-use Rattle.tree_laws.specs.Below.scope_bind.declared.bound.Name.{Name}
-use Rattle.tree_laws.specs.Below.scope_bind.Names.{entity_at, declares_at, kind_at, linkage_at}
+use Rattle.reordered_list_laws.specs.Below.tree_laws.Below.cs_base.declared.positions.Part.{Part}
+use Rattle.reordered_list_laws.specs.Below.tree_laws.Below.cs_base.declared.tokens.Kind.{Kind}
+use Rattle.reordered_list_laws.specs.Below.tree_laws.Below.cs_base.Token.{Token}
+use Rattle.reordered_list_laws.specs.Below.tree_laws.Below.c_types.declared.lists.List.{List as NameList}
+use Rattle.reordered_list_laws.specs.Below.tree_laws.Below.scope_bind.declared.bound.Name.{Name}
+use Rattle.reordered_list_laws.specs.Below.tree_laws.Below.scope_bind.Names.{entity_at, declares_at, kind_at, linkage_at}
 use Rattle.no_offence_laws.specs.Below.part_lexer.Tokens.{tokens_of}
 use Rattle.no_offence_laws.specs.Below.source_files.Files.{Source}
 use Rattle.no_offence_laws.specs.Below.ws_file.Workspace.{WorkspaceValue}
 use Rattle.no_offence_laws.specs.Below.ws_core.Analysis.{UnitAnalysis, AnalysisValue, analysis_of}
 use Rattle.no_offence_laws.specs.Below.renamed.Renamed.{edited_table, denote_one}
-use Rattle.list_cuts.specs.Cuts.{Cut, arranged, moved}
-use Rattle.list_cuts.specs.Spans.{all_rearranged}
+use Rattle.template_rules.specs.Below.list_cuts.Cuts.{Cut, arranged, moved}
+use Rattle.template_rules.specs.Below.list_cuts.Spans.{all_rearranged}
 use Rattle.template_rules.specs.FileLists.{all_found, lists_in, items_of}
 use Rattle.template_rules.specs.Functions.{names_function}
-use Rattle.reordered_tree_laws.specs.Cuts.{cut_in}
-use Rattle.reordered_tree_laws.specs.Reordered.{reordered}
+use Rattle.reordered_list_laws.specs.Below.reordered_tree_laws.Cuts.{cut_in}
+use Rattle.reordered_list_laws.specs.Below.reordered_tree_laws.Reordered.{reordered}
 
 -- ---- the lists in a unit
 

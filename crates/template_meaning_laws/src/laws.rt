@@ -1,10 +1,20 @@
 // What is so where nothing stands against a new order of the parameters of a function: laws that no caller runs.
 ghost use Rattle.template_meaning_laws.specs.Again.{ListsStandInEach};
+ghost use Rattle.template_meaning_laws.specs.CanReorder.{UnitsCanReorder};
 ghost use Rattle.template_meaning_laws.specs.Clear.{UnitsAreClear};
 ghost use Rattle.template_meaning_laws.specs.Forms.{NoListIsFirst, UnitListsAreBracketed};
 ghost use Rattle.template_meaning_laws.specs.Lists.{UnitsAreCut};
+ghost use Rattle.template_meaning_laws.specs.Prototypes.{DeclaratorsHavePrototypes};
+ghost use Rattle.template_meaning_laws.specs.Spans.{FilesStandInOrder};
+ghost use Rattle.template_meaning_laws.specs.Standing.{UnitsGoOn};
 
-use tree_laws::read_lists_stand_in_order;
+use bound_name_laws::identifiers_are_told;
+use reordered_list_laws::{read_lists_stand_in_order, reordered_bind_alike};
+use reordered_name_laws::reordered_names_agree;
+use reordered_reading_laws::{
+    plain_tokens_stand_in_order, spelled_texts_have_names, texts_are_read_in_order,
+};
+use reordered_source_laws::paths_stand;
 
 /// Each list of the functions is clear, and so is each of their names: its marks come from no macro and were put out for one
 /// run, a list stands there in each processing of that run, and so on with each offence.
@@ -38,4 +48,43 @@ pub fn no_list_is_first()
     ensures { NoListIsFirst }
 {
     read_lists_stand_in_order();
+}
+
+/// The lists of the functions in each unit can get the order: each node has its form, and no item says anything to the items
+/// beside it or to what follows.
+pub fn units_can_reorder()
+    ensures { UnitsCanReorder }
+{
+    read_lists_stand_in_order();
+    identifiers_are_told();
+}
+
+/// Each declarator of the functions has a parameter type list without `...`.
+pub fn declarators_have_prototypes()
+    ensures { DeclaratorsHavePrototypes }
+{
+    read_lists_stand_in_order();
+    identifiers_are_told();
+}
+
+/// Tokens with the kinds and spellings of those of a unit, with the items of the functions' lists in the new order, are read to
+/// its tree in this order and bound, and each name denotes at its new place what it denoted.
+pub fn units_go_on()
+    ensures { UnitsGoOn }
+{
+    read_lists_stand_in_order();
+    texts_are_read_in_order();
+    plain_tokens_stand_in_order();
+    spelled_texts_have_names();
+    reordered_names_agree();
+    reordered_bind_alike();
+    units_can_reorder();
+}
+
+/// Where the lists of each file that holds some may move, and its path holds the bytes that were read, each path that holds a file
+/// has a text in the new order, by the edit of the new order.
+pub fn files_stand_in_order()
+    ensures { FilesStandInOrder }
+{
+    paths_stand();
 }

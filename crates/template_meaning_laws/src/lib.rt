@@ -2,7 +2,7 @@
 //! project's, over ISO/IEC 9899:1999, 5.1.1.2, 6.2.1, 6.5.2.2, 6.7.5.3 and 6.10.3).
 //!
 //! `specs/Reordered.antt` says on one page what the workspace is behind the edit: its files, and each unit's tokens, tree and
-//! names. That an accepted order makes it so is not proved here. It rests on laws of the crates `arranged_laws`,
+//! names. That an accepted order makes it so is proved in `template_run_laws`. It rests on laws of the crates `arranged_laws`,
 //! `reordered_tree_laws` and `reordered_text_laws`, which ask that no list comes from a macro, that items have no say in each
 //! other, and so on; this crate proves that it is so where none of the offences of `template_rules` stands. No program stands
 //! here: a law is the `ensures` of a function.
@@ -12,13 +12,23 @@
 //! each processing of its run, `StandsInEach` of `specs/Again.antt`; and each list has as many items as the order has numbers,
 //! `IsCut` of `specs/Lists.antt`. For that the trees that are read have to be known:
 //! each node has the children of one alternative of its production, `IsOfAlternative` of `specs/Children.antt`; so it has the
-//! forms that binding in a new order asks for, `specs/Forms.antt`.
+//! forms that binding in a new order asks for, `specs/Forms.antt`, and no token in it is of a class for which no alternative
+//! asks, `specs/Ends.antt`. With what a binding tells of the identifiers in a tree
+//! (`bound_name_laws`) each unit is such that its lists can get the order, `CanReorder` of `reordered_tree_laws`: that is
+//! `specs/CanReorder.antt`.
 #![tactic(auto)]
 
 mod laws;
 mod trees;
 
+pub use analysis_laws::{made_files_are_pseudo, paths_stand_once};
 pub use laws::{
-    lists_stand_in_each, no_list_is_first, unit_lists_are_bracketed, units_are_clear, units_are_cut,
+    declarators_have_prototypes, files_stand_in_order, lists_stand_in_each, no_list_is_first,
+    unit_lists_are_bracketed, units_are_clear, units_are_cut, units_can_reorder, units_go_on,
 };
-pub use trees::{children_are_of_alternatives, trees_have_forms};
+pub use reordered_list_laws::{read_lists_stand_in_order, read_names_stand_in_the_text};
+pub use reordered_source_laws::{
+    files_stand, workspace_tokens_are_of_runs, workspaces_are_reordered,
+};
+pub use template_rules::{Analysis, TemplateRefusal, plan_template};
+pub use trees::{children_are_of_alternatives, tokens_may_stand, trees_have_forms};

@@ -1,5 +1,6 @@
 // What is true of the tree of every text that is read, as far as lists rest on it: laws that no caller runs.
 ghost use Rattle.template_meaning_laws.specs.Children.{ChildrenAreOfAlternatives};
+ghost use Rattle.template_meaning_laws.specs.Ends.{TokensMayStand};
 ghost use Rattle.template_meaning_laws.specs.Forms.{TreesHaveForms};
 
 /// The children of each node of a tree that is read are those of one alternative of its production; and below a node that is
@@ -12,4 +13,9 @@ pub fn children_are_of_alternatives()
 /// the list that a body begins with is no part of an item of one.
 pub fn trees_have_forms()
     ensures { TreesHaveForms }
+{}
+
+/// No token of a text that is read is `#`; and an argument or a parameter has tokens, the last of which is no `/` and no `(`.
+pub fn tokens_may_stand()
+    ensures { TokensMayStand }
 {}

@@ -1,0 +1,71 @@
+-- The lists of the functions in each unit can get the order, where nothing stands against it.
+use Rattle.std.proofs.Common.{◌≡◌, ℕ, false, List, length}
+use Rattle.reordered_list_laws.specs.Below.tree_laws.Below.cs_base.declared.positions.Part.{Part}
+use Rattle.reordered_list_laws.specs.Below.tree_laws.Below.cs_base.declared.ws_units.Standard.{Standard}
+use Rattle.reordered_list_laws.specs.Below.tree_laws.Below.c99_tree.Tree.{Forest, none, token, node}
+use Rattle.reordered_list_laws.specs.Below.tree_laws.Below.c99_grammar.Standard.{grammar}
+use Rattle.reordered_list_laws.specs.Below.tree_laws.Below.c_types.declared.lists.List.{List as NameList}
+use Rattle.reordered_list_laws.specs.Below.tree_laws.Below.c_types.Parameters.{parameters_in}
+use Rattle.reordered_list_laws.specs.Below.tree_laws.Below.name_chains.Frames.{outermost}
+use Rattle.reordered_list_laws.specs.Below.tree_laws.ReadTexts.{ReadParameterListsAreInOrder}
+use Rattle.reordered_list_laws.proofs.Below.tree_laws.Lookups as tree
+use Rattle.reordered_list_laws.proofs.Below.tree_laws.OfTexts.{trees_of_texts}
+use Rattle.bound_name_laws.specs.Told.{AreTold}
+use Rattle.bound_name_laws.specs.Laws.{AnonymousBegin, IdentifiersAreTold}
+use Rattle.no_offence_laws.specs.Below.source_files.Files.{Source}
+use Rattle.no_offence_laws.specs.Below.ws_file.Workspace.{WorkspaceValue}
+use Rattle.no_offence_laws.specs.Below.ws_core.Analysis.{UnitAnalysis, AnalysisValue}
+use Rattle.no_offence_laws.proofs.ListLemmas.{In}
+use Rattle.reordered_list_laws.specs.Below.reordered_tree_laws.Premises.{CanReorder}
+use Rattle.template_rules.specs.Lists.{parameters_of, arguments_of}
+use Rattle.template_meaning_laws.specs.Accepted.{IsAccepted}
+use Rattle.template_meaning_laws.specs.CanReorder.{UnitsCanReorder}
+use Rattle.template_meaning_laws.specs.Children.{EachNode, IsOfAlternative}
+use Rattle.template_meaning_laws.specs.Clear.{IsOwn, UnitIsClear}
+use Rattle.template_meaning_laws.specs.Reordered.{begins_list}
+use Rattle.template_meaning_laws.proofs.Children.{each_below}
+use Rattle.template_meaning_laws.proofs.FitWalk.{rest_begins, trees_have_forms}
+use Rattle.template_meaning_laws.proofs.UnitCut.{clear, read, declared, called, units_are_cut, no_list_is_first}
+use Rattle.template_meaning_laws.proofs.UnitReorder.{unit_items, unit_apart, unit_bracketed, unit_fresh, unit_outer}
+use Rattle.template_meaning_laws.proofs.Units.{IsReadSo}
+
+anonymous_begin : (s : Standard) (f : Forest) → EachNode (IsOfAlternative (grammar s)) f → AnonymousBegin f
+anonymous_begin s none each = tt
+anonymous_begin s (token i rest) each = anonymous_begin s rest each
+anonymous_begin s (node m first under rest) each = (rest_begins s m under each.0, anonymous_begin s under each.1, anonymous_begin s rest each.2)
+
+module _ (in_order : ReadParameterListsAreInOrder) (are_told : IdentifiersAreTold) (source : Source) (ws : WorkspaceValue) (a : AnalysisValue) (members : List Part) (order : List ℕ)
+    (h : IsAccepted source ws a members order) (u : UnitAnalysis) (i : In u a.units) where
+  is_read : IsReadSo u
+  is_read = read in_order source ws a members order h u i
+
+  pub is_clear : UnitIsClear a members u
+  is_clear = clear in_order source ws a members order h u i
+
+  pub all_told : AreTold u.bound.names u.text.toks false false (outermost 0).label u.tree.under
+  all_told =
+      let r = is_read in
+      are_told u.text.toks u.tree u.bound (trees_of_texts u.standard u.text.toks u.tree r.reads)
+      (anonymous_begin u.standard u.tree.under (each_below u.standard u.text.toks u.tree r.reads)) r.binds
+
+  can_reorder : CanReorder order (begins_list members u) u.text.toks u.tree u.bound
+  can_reorder =
+      let r = is_read in
+      let cut = units_are_cut in_order source ws a members order h u i in
+      let of_declarators : (l : NameList) → tree.In l u.bound.declarators → IsOwn members u l → parameters_of (parameters_in u.tree.under) l.name ≡ length order =
+      declared in_order source ws a members order h u i in
+      let of_calls : (l : NameList) → tree.In l u.bound.calls → IsOwn members u l → arguments_of l ≡ length order = called in_order source ws a members order h u i in
+      record {
+        first = no_list_is_first in_order source ws a members order h u i;
+        many = cut.order_is;
+        each = cut.each;
+        formed = trees_have_forms u.standard u.text.toks u.tree (begins_list members u) r.reads
+            (unit_bracketed u.standard members u a (length order) r.reads r.binds in_order of_declarators of_calls is_clear all_told)
+            (unit_outer u.standard members u a (length order) r.reads r.binds in_order of_declarators of_calls is_clear all_told);
+        items = unit_items u.standard members u a (length order) r.reads r.binds in_order of_declarators of_calls is_clear all_told;
+        apart = unit_apart u.standard members u a (length order) r.reads r.binds in_order of_declarators of_calls is_clear all_told;
+        fresh = unit_fresh u.standard members u a (length order) r.reads r.binds in_order of_declarators of_calls is_clear all_told;
+      }
+
+pub units_can_reorder : ReadParameterListsAreInOrder → IdentifiersAreTold → UnitsCanReorder
+units_can_reorder in_order are_told source ws a members order h u i = can_reorder in_order are_told source ws a members order h u i

@@ -1,0 +1,115 @@
+-- Files whose lists are in a new order against which nothing stands have the analysis that they had, reordered.
+use Rattle.std.proofs.Common.{◌≡◌, ℕ, List, [], ◌∷◌, length, map, Some, Ok, Result, refl, sym, ap, subst, ◌∙◌}
+use Rattle.std.specs.Prelude.{slice_get}
+use Rattle.reordered_list_laws.specs.Below.tree_laws.Below.cs_base.declared.positions.Part.{Part}
+use Rattle.reordered_list_laws.specs.Below.tree_laws.Below.cs_base.declared.tokens.Kind.{Kind}
+use Rattle.reordered_list_laws.specs.Below.tree_laws.Below.cs_base.Token.{Token}
+use Rattle.reordered_list_laws.specs.Below.tree_laws.Below.c99_tree.Tree.{Node}
+use Rattle.reordered_list_laws.specs.Below.tree_laws.Below.c99_grammar.Standard.{grammar}
+use Rattle.reordered_list_laws.specs.Below.tree_laws.Below.c99_read.Reading.{read_of}
+use Rattle.reordered_list_laws.specs.Below.tree_laws.Below.scope_bind.Bound.{Bound, binding_of}
+use Rattle.reordered_list_laws.specs.Below.tree_laws.ReadTexts.{ReadNamesStandInTheText, ReadParameterListsAreInOrder}
+use Rattle.no_offence_laws.specs.Below.source_files.Files.{Source}
+use Rattle.no_offence_laws.specs.Below.source_files.Tables.{HasEachOnce}
+use Rattle.no_offence_laws.specs.Below.ws_file.Workspace.{WorkspaceValue, IsWorkspace}
+use Rattle.no_offence_laws.specs.Below.ws_core.Analysis.{UnitAnalysis, AnalysisValue, analysis_of}
+use Rattle.no_offence_laws.specs.Below.edited_unit_laws.Analyses.{IsRead}
+use Rattle.no_offence_laws.proofs.UnitsLemmas.{ok_same}
+use Rattle.template_rules.specs.Below.list_cuts.Cuts.{Cut, arranged}
+use Rattle.template_rules.proofs.Below.list_cuts.CutLemmas.{arranged-map}
+use Rattle.reordered_list_laws.specs.Below.reordered_tree_laws.Reordered.{reordered}
+use Rattle.reordered_source_laws.specs.Below.reordered_unit_laws.Walking.{plains}
+use Rattle.reordered_source_laws.specs.Analyses.{ReadsSo, IsReorderedText}
+use Rattle.reordered_source_laws.specs.Workspaces.{WorkspacesAreReordered}
+use Rattle.template_meaning_laws.specs.Editing.{edit_by}
+use Rattle.template_meaning_laws.specs.Kept.{OrdersKeepMeaning, PlansKeepMeaning}
+use Rattle.template_meaning_laws.specs.Lists.{IsCut}
+use Rattle.template_meaning_laws.specs.Reordered.{begins_list, unit_cut, moved_in, Plain, plain, NamesMove, IsReorderedUnit}
+use Rattle.template_meaning_laws.specs.Standing.{UnitGoesOn, UnitsGoOn, ListsHavePlaces, AcceptedListsHavePlaces}
+use Rattle.template_meaning_laws.proofs.ExternalMoved.{IsNamed, external_moved}
+use Rattle.template_meaning_laws.proofs.PlansKept as plans
+use Rattle.template_meaning_laws.proofs.TablesEdited.{source_edited, table_edited}
+use Rattle.template_meaning_laws.proofs.UnitCut.{units_are_cut}
+use Rattle.template_meaning_laws.proofs.Units.{unit_read_so}
+
+-- ---- One answer
+
+same_ok : {X E : Type 0} (x y : X) (r : Result X E) → r ≡ Ok x → r ≡ Ok y → x ≡ y
+same_ok x y r e f = ok_same x y (sym e ∙ f)
+
+-- ---- A unit
+
+pair_plain : Kind × List ℕ → Plain
+pair_plain p = record { kind = p.0; text = p.1 }
+
+plain_pairs : (toks : List Token) → map pair_plain (plains toks) ≡ map plain toks
+unfolding pair_plain
+plain_pairs [] = refl
+plain_pairs (t ∷ toks) = ap (λ (ps : List Plain). plain t ∷ ps) (plain_pairs toks)
+
+module _ (members : List Part) (order : List ℕ) (u : UnitAnalysis) (c : Cut) (same : (xs : List (Kind × List ℕ)) → arranged order c xs ≡ arranged order (unit_cut members u) xs)
+    (goes : (toks : List Token) → plains toks ≡ arranged order (unit_cut members u) (plains u.text.toks) → UnitGoesOn members order u toks) where
+  reads_so : ReadsSo order c u
+  reads_so text is =
+      let g = goes text.toks (is ∙ same (plains u.text.toks)) in (
+        record { standard = u.standard; text = text; tree = reordered order (begins_list members u) u.tree; bound = g.bound },
+        refl,
+        refl,
+        record { reads = g.reads; binds = g.binds },
+      )
+
+  unit_is : (v : UnitAnalysis) → IsReorderedText order c u v → IsReorderedUnit members order u v
+  unit_is v is =
+      let toks : plains v.text.toks ≡ arranged order (unit_cut members u) (plains u.text.toks) = is.toks ∙ same (plains u.text.toks) in
+      let g = goes v.text.toks toks in
+      let read = is.read in
+      let tree : v.tree ≡ reordered order (begins_list members u) u.tree =
+      same_ok v.tree (reordered order (begins_list members u) u.tree) (read_of (grammar v.standard) v.text.toks) read.reads
+      (subst (λ s. read_of (grammar s) v.text.toks ≡ Ok (reordered order (begins_list members u) u.tree)) (sym is.standard) g.reads) in
+      let bound : v.bound ≡ g.bound =
+      same_ok v.bound g.bound (binding_of v.text.toks v.tree) read.binds (subst (λ (t : Node). binding_of v.text.toks t ≡ Ok g.bound) (sym tree) g.binds) in
+      record {
+        standard = is.standard;
+        tokens = sym (plain_pairs v.text.toks)
+            ∙ (ap (λ ps. map pair_plain ps) toks
+            ∙ (sym (arranged-map pair_plain order (unit_cut members u) (plains u.text.toks)) ∙ ap (λ (ps : List Plain). arranged order (unit_cut members u) ps) (plain_pairs u.text.toks)));
+        tree = tree;
+        names = subst (λ (b : Bound). NamesMove (moved_in members order u) (length u.text.toks) u.bound.names b.names) (sym bound) g.names;
+      }
+
+-- ---- The workspace
+
+module _ (over : WorkspacesAreReordered) (in_text : ReadNamesStandInTheText) (in_order : ReadParameterListsAreInOrder) (go_on : UnitsGoOn) (places : AcceptedListsHavePlaces)
+    (once : (source : Source) (ws : WorkspaceValue) (a : AnalysisValue) → IsWorkspace ws → analysis_of source ws ≡ Ok a → HasEachOnce a.table) where
+  named_at : (u : UnitAnalysis) → IsRead u → IsNamed u
+  named_at u read = in_text u.standard u.text.toks u.tree u.bound read.reads read.binds
+
+  pub orders_keep_meaning : OrdersKeepMeaning
+  orders_keep_meaning before now ws a members order is h files =
+      let p : ListsHavePlaces before a members order = places before ws a members order is h in
+      let each_once : HasEachOnce a.table = once before ws a is h.analysed in
+      let order_is : (u : UnitAnalysis) → (k : ℕ) → slice_get a.units k ≡ Some u → IsCut members order u = λ u k at. units_are_cut in_order before ws a members order h u (k, at) in
+      let r = over (edit_by members order a) (length order) order p.paths p.cuts before now ws a p.ordered
+      (source_edited members order a before now each_once p.files files) p.stand h.analysed p.marks
+      (λ u i. reads_so members order u (p.cuts u) (p.same u i) (go_on before ws a members order h u i)) in
+      let b : AnalysisValue = r.0 in
+      let are = r.4 in
+      let units : (n : ℕ) (u v : UnitAnalysis) → slice_get a.units n ≡ Some u → slice_get b.units n ≡ Some v → IsReorderedUnit members order u v =
+      λ n u v at at2. unit_is members order u (p.cuts u) (p.same u (n, at)) (go_on before ws a members order h u (n, at)) v (are.units n u v at at2) in
+      let workspace : b.workspace ≡ a.workspace = r.2 ∙ sym r.3 in (
+        b,
+        r.1,
+        record {
+          workspace = workspace;
+          many = are.many;
+          units = units;
+          table = are.table ∙ table_edited members order a each_once;
+          external = external_moved members order a b workspace are.many units (λ n u at. order_is u n at)
+              (λ n u at. let read = unit_read_so before ws a h.analysed u (n, at) in named_at u (record { reads = read.reads; binds = read.binds }))
+              (λ n v at. let read = unit_read_so now ws b r.1 v (n, at) in named_at v (record { reads = read.reads; binds = read.binds }));
+        },
+      )
+
+  pub plans_keep_meaning : PlansKeepMeaning
+  plans_keep_meaning =
+      plans.plans_keep_meaning orders_keep_meaning (λ source ws a members order is h f holds. let p = places source ws a members order is h in p.held f holds) once

@@ -1,0 +1,57 @@
+-- What is so of the files and the units of a workspace, where nothing stands against a new order: where lists stand among tokens, and
+-- how each unit goes on (this project's, over ISO/IEC 9899:1999, 5.1.1.2 phases 1 to 7).
+use Rattle.std.specs.Prelude.{ℕ, ◌≡◌, List, [], length, Some, Ok}
+use Rattle.reordered_list_laws.specs.Below.tree_laws.Below.cs_base.declared.positions.Part.{Part}
+use Rattle.reordered_list_laws.specs.Below.tree_laws.Below.cs_base.declared.tokens.Kind.{Kind}
+use Rattle.reordered_list_laws.specs.Below.tree_laws.Below.cs_base.Token.{Token}
+use Rattle.reordered_list_laws.specs.Below.tree_laws.Below.c99_grammar.Standard.{grammar}
+use Rattle.reordered_list_laws.specs.Below.tree_laws.Below.c99_read.Reading.{read_of}
+use Rattle.reordered_list_laws.specs.Below.tree_laws.Below.scope_bind.Bound.{Bound, binding_of}
+use Rattle.no_offence_laws.specs.Below.source_files.Files.{Source}
+use Rattle.no_offence_laws.specs.Below.source_files.KeptFiles.{KeptValue, kept_at}
+use Rattle.no_offence_laws.specs.Below.unit_laws.UnitLinks.{IsIn}
+use Rattle.no_offence_laws.specs.Below.ws_file.Workspace.{WorkspaceValue, IsWorkspace}
+use Rattle.no_offence_laws.specs.Below.ws_core.Analysis.{UnitAnalysis, AnalysisValue}
+use Rattle.template_rules.specs.Below.list_cuts.Cuts.{IsOrder, arranged}
+use Rattle.reordered_list_laws.specs.Below.reordered_tree_laws.Reordered.{reordered}
+use Rattle.reordered_source_laws.specs.Below.reordered_unit_laws.Walking.{plains}
+use Rattle.reordered_source_laws.specs.Analyses.{UnitCuts}
+use Rattle.reordered_source_laws.specs.Workspaces.{PathCuts, PathsStand, UnitMarks}
+use Rattle.template_rules.specs.FileLists.{all_found, lists_in}
+use Rattle.template_meaning_laws.specs.Accepted.{IsAccepted}
+use Rattle.template_meaning_laws.specs.Kept.{HoldsLists}
+use Rattle.template_meaning_laws.specs.Reordered.{begins_list, unit_cut, moved_in, NamesMove}
+use Rattle.template_meaning_laws.specs.Editing.{edit_by}
+
+-- ---- a unit
+
+-- Tokens that are those of the unit in the new order, as they are read, are read by its standard to its tree, reordered, and bound
+-- name for name as before.
+pub record UnitGoesOn (members : List Part) (order : List ℕ) (u : UnitAnalysis) (toks : List Token) : Type 0 where
+  pub bound : Bound
+  pub reads : read_of (grammar u.standard) toks ≡ Ok (reordered order (begins_list members u) u.tree)
+  pub binds : binding_of toks (reordered order (begins_list members u) u.tree) ≡ Ok bound
+  pub names : NamesMove (moved_in members order u) (length u.text.toks) u.bound.names bound.names
+
+-- The law: so it is with each unit.
+abbrev pub UnitsGoOn : Type 0
+UnitsGoOn = (source : Source) (ws : WorkspaceValue) (a : AnalysisValue) (members : List Part) (order : List ℕ) → IsAccepted source ws a members order
+    → (u : UnitAnalysis) → IsIn a.units u → (toks : List Token) → plains toks ≡ arranged order (unit_cut members u) (plains u.text.toks) → UnitGoesOn members order u toks
+
+-- ---- all units and files
+
+-- The lists of the functions stand in files, which the source holds, in units and in runs at these places.
+pub record ListsHavePlaces (source : Source) (a : AnalysisValue) (members : List Part) (order : List ℕ) : Type 0 where
+  pub paths : PathCuts
+  pub cuts : UnitCuts
+  pub same : (u : UnitAnalysis) → IsIn a.units u → (xs : List (Kind × List ℕ)) → arranged order (cuts u) xs ≡ arranged order (unit_cut members u) xs
+  pub stand : PathsStand (edit_by members order a) source (length order) order paths
+  pub marks : (u : UnitAnalysis) → IsIn a.units u → UnitMarks (length order) paths a.table (cuts u) u
+  pub files : (number : ℕ) → (lists_in (all_found members a) number ≡ [] → ⊥) → (f : KeptValue) × (kept_at a.table number ≡ Some f)
+  pub ordered : IsOrder (length order) order
+  pub held : (f : KeptValue) → HoldsLists a members f → source f.path ≡ Some f.bytes
+
+-- The law: so they do, where nothing stands against the order.
+abbrev pub AcceptedListsHavePlaces : Type 0
+AcceptedListsHavePlaces = (source : Source) (ws : WorkspaceValue) (a : AnalysisValue) (members : List Part) (order : List ℕ) → IsWorkspace ws
+    → IsAccepted source ws a members order → ListsHavePlaces source a members order
