@@ -14,8 +14,8 @@ use Rattle.ws_core.specs.Analysis.{AnalysisValue, analysis_of}
 use Rattle.ws_core.specs.Naming.{Names}
 use Rattle.ws_core.specs.Parts.{part_cmp}
 use Rattle.ws_core.proofs.ListingLemmas.{part_cmp-total}
-use Rattle.template_rules.specs.Below.rename_rules.First.{IsAmong, offences_of}
-use Rattle.template_rules.specs.Below.rename_rules.Renaming.{Refusal, IsRenamed, IsClassRenamed, IsNamedRenamed, IsRenaming}
+use Rattle.template_edit.specs.Below.rename_rules.First.{IsAmong, offences_of}
+use Rattle.template_edit.specs.Below.rename_rules.Renaming.{Refusal, IsRenamed, IsClassRenamed, IsNamedRenamed, IsRenaming}
 use Rattle.ws_core.proofs.PartLemmas.{part_once}
 use Rattle.batch_run.proofs.Below.kept_analysis.MemberLemmas.{AreIn, one_list, same_lists}
 use Rattle.batch_run.proofs.Below.kept_meaning_laws.RefusalLemmas.{refusals_are_one}

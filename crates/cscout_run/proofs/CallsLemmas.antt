@@ -13,7 +13,7 @@ use Rattle.std.proofs.lemmas.List.Folds.{Any-from_list_any, list_any_at}
 use Rattle.std.proofs.lemmas.Map.Keys.{Less-from_sorted, sorted_from_all_adjacent}
 use Rattle.std.proofs.lemmas.Option.{slice_get-get_or, slice_get_within, get_or_from_slice_get}
 use Rattle.ws_core.specs.Analysis.{AnalysisValue}
-use Rattle.template_rules.specs.Below.rename_rules.First.{IsAmong}
+use Rattle.template_edit.specs.Below.rename_rules.First.{IsAmong}
 use Rattle.calls_of.specs.Below.call_graphs.declared.nodes.Node.{Node}
 use Rattle.calls_of.specs.Below.call_graphs.declared.nodes.Edge.{Edge}
 use Rattle.calls_of.specs.Below.call_graphs.Graph.{GraphValue, IsWithin, graph, leads, is_edge, comes_before, are_in_order}

@@ -4,7 +4,7 @@ use Rattle.cs_base.specs.Edit.{Edit, with_edits}
 use Rattle.cs_base.specs.Outside.{FileMap}
 use Rattle.batch_file.specs.Line.{LineValue}
 use Rattle.batch_run.specs.Batch.{Plan, IsLine, IsBatch, after}
-use Rattle.template_rules.specs.Below.rename_rules.Renaming.{IsRenaming}
+use Rattle.template_edit.specs.Below.rename_rules.Renaming.{IsRenaming}
 use Rattle.ws_file.specs.Workspace.{WorkspaceValue, IsWorkspace}
 use Rattle.ws_core.specs.Below.source_files.Files.{source_of}
 use Rattle.ws_core.specs.Analysis.{AnalysisValue, analysis_of}

@@ -9,7 +9,7 @@ use Rattle.cs_base.specs.declared.positions.Part.{Part}
 use Rattle.cs_base.specs.declared.positions.Place.{Place}
 use Rattle.cs_base.specs.declared.positions.Pos.{Pos}
 use Rattle.cs_base.specs.Edit.{Edit}
-use Rattle.template_rules.specs.Below.list_cuts.Orders.{is_order}
+use Rattle.template_edit.specs.Below.list_cuts.Orders.{is_order}
 use Rattle.ws_file.specs.Workspace.{WorkspaceValue, IsWorkspace}
 use Rattle.ws_core.specs.Below.c_types.Parameters.{parameters_in}
 use Rattle.ws_core.specs.Below.c_types.declared.lists.List.{List as NameList}
@@ -17,21 +17,21 @@ use Rattle.ws_core.specs.Below.source_files.Files.{Source}
 use Rattle.ws_core.specs.Analysis.{AnalysisValue, analysis_of}
 use Rattle.ws_core.specs.Places.{place_at}
 use Rattle.ws_core.specs.Naming.{Names}
-use Rattle.template_rules.specs.Below.rename_rules.declared.offences.Offence.{Offence as AnOffence}
-use Rattle.template_rules.specs.Below.rename_rules.First.{number_of, standing}
-use Rattle.template_rules.specs.Functions.{has_function, names_function}
-use Rattle.template_rules.specs.Insides.{inside_offences, list_insides, unit_insides, all_insides, unit_macro_names, all_macro_names}
-use Rattle.template_rules.specs.LineOffences.{odd_places, odd_positions}
-use Rattle.template_rules.specs.MacroOffences.{line_number_places, macro_place, pasted_place, replaced_place}
-use Rattle.template_rules.specs.Marks.{across_place, all_marks, call_marks, count_place, declarator_marks, mark_offences, read_only_place, unit_marks}
-use Rattle.template_rules.specs.NameOffences.{all_names, name_offences, no_prototype_place, unit_names, value_place}
-use Rattle.template_rules.specs.Lists.{arguments_of, count_of, parameters_of}
-use Rattle.template_rules.specs.Offences.{all_lists, call_offences, declarator_offences, list_offences, offences_of, unit_lists}
-use Rattle.template_rules.specs.Refusals.{refusal_of}
-use Rattle.template_rules.specs.ScopeOffences.{body_lists_in, body_place, declaration_places, dependence_places}
-use Rattle.template_rules.specs.Template.{Refusal, no_name, not_a_function, bad_order, refused, IsReordered, IsOrdered, IsClassOrdered, IsNamedOrdered, IsTemplate}
-use Rattle.template_rules.specs.declared.refusals.TemplateRefusal.{TemplateRefusal}
-use Rattle.template_rules.specs.declared.refusals.TemplateRefusal.TheVariants.{NoName, NotAFunction, BadOrder, Offence, Memory}
+use Rattle.template_edit.specs.Below.rename_rules.declared.offences.Offence.{Offence as AnOffence}
+use Rattle.template_edit.specs.Below.rename_rules.First.{number_of, standing}
+use Rattle.template_edit.specs.Below.template_rules.Functions.{has_function, names_function}
+use Rattle.template_edit.specs.Below.template_rules.Insides.{inside_offences, list_insides, unit_insides, all_insides, unit_macro_names, all_macro_names}
+use Rattle.template_edit.specs.Below.template_rules.LineOffences.{odd_places, odd_positions}
+use Rattle.template_edit.specs.Below.template_rules.MacroOffences.{line_number_places, macro_place, pasted_place, replaced_place}
+use Rattle.template_edit.specs.Below.template_rules.Marks.{across_place, all_marks, call_marks, count_place, declarator_marks, mark_offences, read_only_place, unit_marks}
+use Rattle.template_edit.specs.Below.template_rules.NameOffences.{all_names, name_offences, no_prototype_place, unit_names, value_place}
+use Rattle.template_edit.specs.Below.template_rules.Lists.{arguments_of, count_of, parameters_of}
+use Rattle.template_edit.specs.Below.template_rules.Offences.{all_lists, call_offences, declarator_offences, list_offences, offences_of, unit_lists}
+use Rattle.template_edit.specs.Below.template_rules.Refusals.{refusal_of}
+use Rattle.template_edit.specs.Below.template_rules.ScopeOffences.{body_lists_in, body_place, declaration_places, dependence_places}
+use Rattle.template_edit.specs.Below.template_rules.Template.{Refusal, no_name, not_a_function, bad_order, refused, IsReordered, IsOrdered, IsClassOrdered, IsNamedOrdered, IsTemplate}
+use Rattle.template_edit.specs.Below.template_rules.declared.refusals.TemplateRefusal.{TemplateRefusal}
+use Rattle.template_edit.specs.Below.template_rules.declared.refusals.TemplateRefusal.TheVariants.{NoName, NotAFunction, BadOrder, Offence, Memory}
 use Rattle.command_words.specs.Request.{TemplateValue}
 use Rattle.cscout_run.specs.Answer.{Answer, IsTemplateAnswer, stopped, template_answer, template_line}
 use Rattle.cscout_run.specs.declared.status.Status.TheVariants.{Refused}

@@ -24,12 +24,12 @@ use Rattle.query_words.specs.Reading.{parsed}
 use Rattle.query_words.specs.declared.faults.QueryFault.{QueryFault}
 use Rattle.query_words.specs.declared.faults.QueryFault.TheVariants.{Bad, Deep}
 use Rattle.find_names.specs.Found.{PrintsFound}
-use Rattle.template_rules.specs.Below.rename_rules.Renaming.{Refusal, bad_name, no_name, refused, IsRenaming}
+use Rattle.template_edit.specs.Below.rename_rules.Renaming.{Refusal, bad_name, no_name, refused, IsRenaming}
 use Rattle.batch_file.specs.Line.{LineValue}
 use Rattle.batch_file.specs.Reading.{batch_of}
 use Rattle.batch_run.specs.Batch.{Plan, IsBatch, after_each, plan_text, is_refused}
-use Rattle.template_rules.specs.Template.{IsTemplate, Refusal as TemplateRefused}
-use Rattle.template_rules.specs.Template as template
+use Rattle.template_edit.specs.Below.template_rules.Template.{IsTemplate, Refusal as TemplateRefused}
+use Rattle.template_edit.specs.Below.template_rules.Template as template
 use Rattle.generated.specs.Generated.{header_path, workspace_path, generated_files}
 use Rattle.cscout_run.specs.declared.status.Status.{Status}
 use Rattle.cscout_run.specs.declared.status.Status.TheVariants.{Done, Refused, Usage, Workspace}

@@ -1,5 +1,5 @@
--- The promise of a rename that is done, and of each accepted line of a batch: exactly the named class changes, and meaning
--- is kept.
+-- The promise of a rename that is done, of a new order of parameters, and of each accepted line of a batch: exactly the named
+-- class changes, or the lists of the named functions, and meaning is kept.
 use Rattle.std.specs.Prelude.{ℕ, ◌≡◌, ◌≢◌, List, [], Option, Some, None, Ok, All}
 use Rattle.cs_base.specs.declared.positions.Part.{Part}
 use Rattle.cs_base.specs.Edit.{with_edits}
@@ -12,29 +12,31 @@ use Rattle.ws_core.specs.Analysis.{AnalysisValue, analysis_of}
 use Rattle.ws_core.specs.Naming.{Names}
 use Rattle.ws_core.specs.Parts.{AreMembers}
 use Rattle.batch_run.specs.Below.analysis_laws.Tables.{IsOpened}
-use Rattle.template_rules.specs.Below.rename_rules.First.{IsAmong, IsFirst, offences_of}
-use Rattle.template_rules.specs.Below.rename_rules.Runs.{runs, file_of, new_bytes}
+use Rattle.template_edit.specs.Below.rename_rules.First.{IsAmong, IsFirst, offences_of}
+use Rattle.template_edit.specs.Below.rename_rules.Runs.{runs, file_of, new_bytes}
 use Rattle.batch_file.specs.Line.{LineValue}
 use Rattle.batch_run.specs.Batch.{Plan, IsBatch, after_each}
 use Rattle.batch_run.specs.Renamed.{KeepsLines}
 use Rattle.batch_run.specs.Below.renamed.Renamed.{TextsAreRenamed, AnalysisIsRenamed, ExternalNamesAreKept}
-use Rattle.command_words.specs.Request.{RequestValue, renaming_asked, batch_asked, RenameValue, BatchValue}
+use Rattle.command_words.specs.Request.{RequestValue, renaming_asked, template_asked, batch_asked, RenameValue, TemplateValue, BatchValue}
+use Rattle.template_edit.specs.Below.template_meaning_laws.Accepted.{IsAccepted}
+use Rattle.template_edit.specs.Below.template_meaning_laws.Kept.{AreReordered}
+use Rattle.template_edit.specs.Below.template_meaning_laws.Reordered.{AnalysisIsReordered}
 use Rattle.cscout_run.specs.Answer.{batch_at, workspace_at}
 
--- What a class is renamed in: the workspace of the workspace file, its analysis, the part at the place, and the
--- members of its class.
-pub record Renamed : Type 0 where
+-- What is edited: the workspace of the workspace file, its analysis, the part at the place, and the members of its class.
+pub record Edited : Type 0 where
   pub ws : WorkspaceValue
   pub analysis : AnalysisValue
   pub part : Part
   pub members : List Part
 
 -- The file holds members: these are all that stand in it.
-abbrev pub HoldsMembers : Renamed → List Part → KeptValue → Type 0
+abbrev pub HoldsMembers : Edited → List Part → KeptValue → Type 0
 HoldsMembers r run f = IsAmong (runs r.members) run × (file_of r.analysis run ≡ Some f)
 
 -- The files before and after a renaming.
-pub record IsRenamed (q : RenameValue) (before now : FileMap) (r : Renamed) : Type 0 where
+pub record IsRenamed (q : RenameValue) (before now : FileMap) (r : Edited) : Type 0 where
   -- the workspace file is there and accepted
   pub workspace : workspace_at q.ws before ≡ Some (Ok r.ws)
   -- so is every unit
@@ -60,6 +62,25 @@ pub record IsRenamed (q : RenameValue) (before now : FileMap) (r : Renamed) : Ty
   -- and two identifiers of external linkage, of whatever units, denote one entity exactly where they did
   pub shared : ExternalNamesAreKept (source_of now) r.ws r.analysis
 
+-- The files before and after a new order of the parameters of functions.
+pub record IsReordered (q : TemplateValue) (before now : FileMap) (r : Edited) : Type 0 where
+  -- the workspace file is there and accepted
+  pub workspace : workspace_at q.ws before ≡ Some (Ok r.ws)
+  -- so is every unit
+  pub analysed : analysis_of (source_of before) r.ws ≡ Ok r.analysis
+  -- the place names the part
+  pub named : Names r.analysis q.path q.line q.column (Some r.part)
+  -- these are all that must be spelled as it is
+  pub class : AreMembers r.analysis r.part r.members
+  -- they name functions, and the numbers are an order of their parameters, against which no reason stands
+  pub accepted : IsAccepted (source_of before) r.ws r.analysis r.members q.order
+  -- each file that holds lists of the functions had the bytes that were read, and has them with the items of these lists in the
+  -- new order; every other path holds what it held
+  pub files : AreReordered r.members q.order r.analysis (source_of before) (source_of now)
+  -- each unit preprocesses to the tokens that it had, in the new order; they are read to the tree that it had, in this order;
+  -- and two names denote one entity, in one unit or in two of a project, exactly where they did
+  pub meaning : AnalysisIsReordered (source_of now) r.ws r.analysis r.members q.order
+
 -- The files before and after a batch whose lines were run.
 pub record HasRun (q : BatchValue) (before now : FileMap) : Type 0 where
   -- the workspace file is there and accepted
@@ -76,10 +97,11 @@ pub record HasRun (q : BatchValue) (before now : FileMap) : Type 0 where
   -- the files are as the last line leaves them
   pub left : now ≡ with_edits (after_each plans []) before
 
--- the promise to these words where the run is done: if they ask for a rename, the files are renamed, and if for a batch, its
--- lines were run
+-- the promise to these words where the run is done: if they ask for a rename, the files are renamed, if for a new order, they
+-- are in it, and if for a batch, its lines were run
 abbrev pub KeepsPromise : Option RequestValue → FileMap → FileMap → Type 0
-KeepsPromise (Some (renaming_asked q)) before now = (r : Renamed) × IsRenamed q before now r
+KeepsPromise (Some (renaming_asked q)) before now = (r : Edited) × IsRenamed q before now r
+KeepsPromise (Some (template_asked q)) before now = (r : Edited) × IsReordered q before now r
 KeepsPromise (Some (batch_asked q)) before now = HasRun q before now
 KeepsPromise _ before now = Unit {0}
 

@@ -15,17 +15,18 @@ use Rattle.cscout_run.specs.declared.status.Status.TheVariants as status
 use Rattle.cscout_run.specs.declared.stops.Stop.{Stop}
 use Rattle.cscout_run.specs.declared.stops.Stop.TheVariants.{UnreadWorkspace, UnitFault, UnreadFile, BadName, NoName, NotAFunction, BadOrder, BadQuery, DeepQuery, Offence, Memory}
 use Rattle.cscout_run.specs.declared.preparing.Ready.{Ready}
-use Rattle.template_rules.specs.Below.rename_rules.Renaming.{IsRenaming}
+use Rattle.template_edit.specs.Below.rename_rules.Renaming.{IsRenaming}
 use Rattle.batch_file.specs.Line.{LineValue}
 use Rattle.batch_run.specs.Batch.{Plan, IsBatch, after_each}
 use Rattle.batch_run.specs.Below.rename_edit.declared.refusals.RenameRefusal.{RenameRefusal}
 use Rattle.batch_run.specs.Below.rename_edit.declared.refusals.RenameRefusal.TheVariants as refusal
 use Rattle.batch_run.specs.Renamed.{KeepsLines}
-use Rattle.template_rules.specs.declared.refusals.TemplateRefusal.{TemplateRefusal}
-use Rattle.template_rules.specs.declared.refusals.TemplateRefusal.TheVariants as template
+use Rattle.template_edit.specs.Below.template_rules.declared.refusals.TemplateRefusal.{TemplateRefusal}
+use Rattle.template_edit.specs.Below.template_rules.declared.refusals.TemplateRefusal.TheVariants as template
 use Rattle.find_names.specs.declared.refusal.FindRefusal.{FindRefusal}
 use Rattle.find_names.specs.declared.refusal.FindRefusal.TheVariants as found
-use Rattle.command_words.specs.Request.{RequestValue, RenameValue, BatchValue, renaming_asked, batch_asked}
+use Rattle.command_words.specs.Request.{RequestValue, RenameValue, TemplateValue, BatchValue, renaming_asked, template_asked, batch_asked}
+use Rattle.template_edit.specs.Below.template_meaning_laws.Kept.{ReordersOver}
 use Rattle.cscout_run.specs.Answer.{Answer, answer_of, batch_at, ready_status, stopped, workspace_at, ws_fault_line}
 use Rattle.command_words.specs.Message.{absent_line, batch_line}
 use Rattle.cscout_run.specs.Stopping.{Stops, stop_reads}
@@ -108,6 +109,21 @@ abbrev pub IsPlanned : RenameValue → FileMap → Result Ready Stop → Type 0
 IsPlanned q files (Ok ready) = Planned q files ready.edits
 IsPlanned q files (Err stop) = Unit {0}
 
+-- An accepted new order, as it stands before the first put: it is planned over the analysis of the workspace, and paths of edits
+-- are in order.
+pub record Ordered (q : TemplateValue) (files : FileMap) (edits : List Edit) : Type 0 where
+  pub ws : WorkspaceValue
+  pub analysis : AnalysisValue
+  pub workspace : workspace_at q.ws files ≡ Some (Ok ws)
+  pub analysed : analysis_of (source_of files) ws ≡ Ok analysis
+  pub over : ReordersOver analysis.workspace analysis q.path q.line q.column q.order edits
+  pub sound : IsKept edits
+
+-- what stands ready for a new order is planned
+abbrev pub IsOrdered : TemplateValue → FileMap → Result Ready Stop → Type 0
+IsOrdered q files (Ok ready) = Ordered q files ready.edits
+IsOrdered q files (Err stop) = Unit {0}
+
 -- A batch whose lines were run, as it stands before the first put.
 pub record LinesRun (q : BatchValue) (files : FileMap) (edits : List Edit) : Type 0 where
   pub ws : WorkspaceValue
@@ -124,9 +140,10 @@ abbrev pub AreRun : BatchValue → FileMap → Result Ready Stop → Type 0
 AreRun q files (Ok ready) = LinesRun q files ready.edits
 AreRun q files (Err stop) = Unit {0}
 
--- the same for what is asked for, where that is a rename or a batch
+-- the same for what is asked for, where that edits files
 abbrev pub IsPlannedFor : RequestValue → FileMap → Result Ready Stop → Type 0
 IsPlannedFor (renaming_asked q) files result = IsPlanned q files result
+IsPlannedFor (template_asked q) files result = IsOrdered q files result
 IsPlannedFor (batch_asked q) files result = AreRun q files result
 IsPlannedFor _ files result = Unit {0}
 

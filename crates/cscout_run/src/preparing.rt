@@ -2,7 +2,7 @@
 ghost use Rattle.std.specs.Prelude.{◌≡◌, false, IfSome, IfOk, IfErr, IsUtf8, Ok, []};
 ghost use Rattle.cs_base.specs.Outside.{ReadsOnly};
 ghost use Rattle.cs_base.specs.Edit.{IsKept};
-ghost use Rattle.template_rules.specs.Below.rename_rules.Renaming.{IsRenaming};
+ghost use Rattle.template_edit.specs.Below.rename_rules.Renaming.{IsRenaming};
 ghost use Rattle.cscout_run.specs.Answer.{IsRenameAnswer, IsRequestAnswer};
 ghost use Rattle.command_words.specs.Asking.{request_value, rename_value, workspace_file};
 ghost use Rattle.command_words.specs.Request.{renaming_asked};

@@ -1,10 +1,12 @@
 // New orders of parameters: all but their puts and their output.
-ghost use Rattle.std.specs.Prelude.{◌≡◌, Ok, IfErr, IfSome};
+ghost use Rattle.std.specs.Prelude.{◌≡◌, Ok, IfErr, IfOk, IfSome};
+ghost use Rattle.cs_base.specs.Edit.{IsKept};
 ghost use Rattle.cs_base.specs.Outside.{ReadsOnly};
 ghost use Rattle.command_words.specs.Asking.{template_value};
 ghost use Rattle.command_words.specs.Request.{template_asked};
 ghost use Rattle.cscout_run.specs.Answer.{IsRequestAnswer, IsTemplateAnswer};
-ghost use Rattle.cscout_run.specs.Steps.{IsPlanStop, Prepares, reads_of, template_stop};
+ghost use Rattle.cscout_run.specs.Steps.{IsOrdered, IsPlanStop, Prepares, reads_of, template_stop};
+ghost use Rattle.template_edit.specs.Below.template_meaning_laws.Kept.{ReordersOver};
 
 use crate::preparing::{Ready, path_text};
 use crate::reporting::stop_of;
@@ -14,7 +16,7 @@ use command_words::{Reordering, edited_text, order_of};
 use cs_base::{Files, normal_path};
 use std::alloc::Global;
 use std::mem;
-use template_rules::{TemplateRefusal, plan_template};
+use template_edit::{TemplateRefusal, plan_template};
 use ws_core::{Analysis, analyse};
 
 /// All of the answer to a new order of parameters but its puts and its output.
@@ -25,6 +27,7 @@ pub(crate) fn prepare_template<F: Files>(
 ) -> Result<Ready, Stop>
     ensures answer { IfSome (F.told files.old).held (λ fs.
         Prepares q.now.ws.now (IsRequestAnswer fs (template_asked (template_value q.now))) result) }
+    ensures planned { IfSome (F.told files.old).held (λ fs. IsOrdered (template_value q.now) fs result) }
     ensures faults { ReadsOnly (F.told files.old) (F.told files.new) (reads_of q.now.ws.now result) }
 {
     let ws = read_workspace(alloc, q.ws, files)?;
@@ -41,6 +44,9 @@ pub(crate) fn prepare_template<F: Files>(
 // The edits and the text that tells them, once the workspace is analysed.
 fn reordered(alloc: Global, a: &Analysis, q: &Reordering<'_>) -> Result<Ready, Stop>
     ensures answer { Prepares q.now.ws.now (IsTemplateAnswer (template_value q.now) (Ok a.now.value)) result }
+    ensures over { IfOk result (λ ready. ReordersOver a.now.value.workspace a.now.value
+        (template_value q.now).path q.now.line q.now.column (template_value q.now).order ready.edits) }
+    ensures sound { IfOk result (λ ready. IsKept ready.edits) }
     ensures stops { IfErr result IsPlanStop }
 {
     let path = normal_path(alloc, q.path.as_bytes())?;

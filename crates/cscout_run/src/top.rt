@@ -29,7 +29,8 @@ pub fn run<F: Files, O: Sink, E: Sink>(
         (world (F.told files.old) (O.bytes out.old) (O.failed_writes out.old) (E.bytes err.old) (E.failed_writes err.old))
         (world (F.told files.new) (O.bytes out.new) (O.failed_writes out.new) (E.bytes err.new) (E.failed_writes err.new))
         result }
-    // A rename that is done has changed the named class, and nothing else; a batch that is done has run its lines.
+    // A rename that is done has changed the named class, and nothing else; a new order has moved the items of the functions' lists,
+    // and nothing else; a batch that is done has run its lines.
     ensures promise { result ≡ Status.Done → IfSome (F.told files.old).held (λ before.
         IfSome (F.told files.new).held (KeepsPromise (asked (map string_bytes words.now)) before)) }
     // So has a batch some of whose lines were refused.

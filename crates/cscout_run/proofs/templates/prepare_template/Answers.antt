@@ -10,6 +10,7 @@ use Rattle.command_words.specs.Asking.{template_value}
 use Rattle.cscout_run.specs.Stopping.{Stops}
 use Rattle.cscout_run.proofs.ReportLemmas.{handed_on, over_told, reading-stops_told, analysed-prepared, analysed-stop}
 use Rattle.cscout_run.proofs.RunLemmas.{if_told-map}
+use Rattle.cscout_run.proofs.PlannedLemmas.{ordered_told}
 use Rattle.cscout_run.proofs.templates.prepare_template.Goals as goal
 
 -- the answers over a workspace
@@ -38,3 +39,8 @@ returns-clause-answer g c =
     let P : FileMap → Stop → Type 0 = λ fs s. Stops q.ws (IsNext q fs c.in_ok-ws.ws) s in
     over_told (g.F.Files.told c.args.files.now).held told q.ws c.in_ok-ws.ws (IsNext q) (Err c.stop_of.result) c.read_workspace.ensures.faults.held c.in_ok-ws.ensures.answer
     (if_told-map told _ _ found (λ fs h. subst (P fs) (sym c.stop_of.ensures) h))
+
+pub returns-in-Ok-clause-planned : goal.returns-in-Ok-clause-planned
+returns-in-Ok-clause-planned g c =
+    ordered_told (g.F.Files.told c.args.files.now).held (g.F.Files.told c.read_workspace.new.files).held (template_value c.args.q.now) c.in_ok-ws.ws c.in-Ok.analysis.value
+    c.reordered-answer.result c.read_workspace.ensures.faults.held c.in_ok-ws.ensures.answer c.in-Ok.ensures.answer c.reordered-answer.ensures.over c.reordered-answer.ensures.sound

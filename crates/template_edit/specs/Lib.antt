@@ -1,0 +1,2 @@
+-- Words of the crates below, passed on.
+pub mod Below
