@@ -1,15 +1,15 @@
 -- Lists of which each two stand behind one another or inside items of one another stand in one another.
-use Rattle.std.proofs.Common.{◌≡◌, ℕ, zero, suc, ◌+◌, ◌-◌, ◌<◌, ◌≤◌, Bool, true, false, ◌&&◌, ◌||◌, nat_le, List, [], ◌∷◌, length, refl, sym, ap, subst, ◌∙◌, arith, inl, inr}
+use Rattle.std.proofs.Common.{◌≡◌, ℕ, ◌+◌, ◌-◌, ◌<◌, ◌≤◌, true, ◌&&◌, List, [], ◌∷◌, length, refl, sym, subst, ◌∙◌, arith, inl, inr}
 use Rattle.std.specs.Prelude.{◌⊎◌}
-use Rattle.std.proofs.lemmas.Bool.{and_parts, and_from}
+use Rattle.std.proofs.lemmas.Bool.{and_from}
 use Rattle.arranged_text_laws.specs.Below.part_lexer.Tokens.{tokens_of}
 use Rattle.arranged_text_laws.specs.Below.list_cuts.declared.spans.Span.{Span}
-use Rattle.arranged_text_laws.specs.Below.list_cuts.Cuts.{Cut, done, keep, list, Items, ended, item, count_of, span_of, extent_of}
+use Rattle.arranged_text_laws.specs.Below.list_cuts.Cuts.{Cut, done, keep, list, Items, ended, item, count_of, span_of}
 use Rattle.arranged_text_laws.specs.Below.list_cuts.Spans.{end_of}
-use Rattle.arranged_text_laws.specs.Below.list_cuts.CutOf.{front, back, is_between, is_free, cut_items, rest_of, cut_of, holds_items, is_around, are_nested}
-use Rattle.arranged_file_laws.specs.Lists.{begin_of, close_of, ListMoves, EachMoves, Rise}
+use Rattle.arranged_text_laws.specs.Below.list_cuts.CutOf.{back, is_between, is_free, cut_of, holds_items, is_around, are_nested}
+use Rattle.arranged_file_laws.specs.Lists.{begin_of, close_of, ListMoves}
 use Rattle.arranged_file_laws.specs.Apart.{IsInside, EachApart, StandApart, ApartListsNest}
-use Rattle.arranged_file_laws.proofs.Formed.{IsKept, Formed, FormedItems, between_short, free_short, between_past, free_between, PartsFormed, parts_formed, Chain, chain_first, chain_end, spans_at, Each, EachIn, parts_each, ends_of, starts_at, AllSo, IsBehind, CutFormed, cut_formed}
+use Rattle.arranged_file_laws.proofs.Formed.{IsKept, Formed, FormedItems, between_short, free_short, between_past, free_between, parts_formed, Chain, chain_first, chain_end, spans_at, Each, EachIn, parts_each, ends_of, starts_at, AllSo, cut_formed}
 use Rattle.arranged_file_laws.proofs.Tree.{ends_spans}
 use Rattle.arranged_file_laws.proofs.MayLaw.{all_so}
 

@@ -1,5 +1,5 @@
 -- Each token of a run of a file stands in a text line.
-use Rattle.std.proofs.Common.{◌≡◌, ℕ, zero, suc, ◌+◌, ◌-◌, ◌<◌, ◌≤◌, Bool, true, false, not, cond, ◌&&◌, ◌||◌, nat_le, List, [], ◌∷◌, ◌++◌, length, take, drop, Option, Some, None, inl, inr, refl, sym, ap, subst, ◌∙◌, arith, take-add}
+use Rattle.std.proofs.Common.{◌≡◌, ℕ, zero, suc, ◌+◌, ◌-◌, ◌<◌, ◌≤◌, Bool, true, false, not, cond, ◌&&◌, nat_le, List, [], ◌∷◌, ◌++◌, length, take, drop, Option, Some, None, inl, inr, refl, sym, ap, subst, ◌∙◌, arith, take-add}
 use Rattle.std.specs.Prelude.{slice_get, unwrap_or}
 use Rattle.std.specs.List.{list_any}
 use Rattle.std.proofs.lemmas.Bool.{cases_Bool, and_parts, leb-true, leb-false}
@@ -11,14 +11,13 @@ use Rattle.arranged_text_laws.specs.Below.line_shape.declared.items.ItemKind.{It
 use Rattle.arranged_text_laws.specs.Below.line_shape.declared.items.ItemKind.TheVariants.{Run}
 use Rattle.arranged_text_laws.specs.Below.line_shape.Signs.{is_hash}
 use Rattle.arranged_text_laws.specs.Below.line_shape.Directives.{is_run}
-use Rattle.arranged_text_laws.specs.Below.line_shape.Items.{lines_of, line_kind, Piece, piece, pieces_of, item_of, items_from, items_of}
-use Rattle.arranged_text_laws.specs.Below.list_cuts.declared.spans.Span.{Span}
-use Rattle.arranged_text_laws.specs.Runs.{Placed, begins_directive, in_text, text_behind, toks_of, firsts_of as firsts_placed_of}
+use Rattle.arranged_text_laws.specs.Below.line_shape.Items.{lines_of, line_kind, pieces_of, item_of, items_from, items_of}
+use Rattle.arranged_text_laws.specs.Runs.{Placed, begins_directive, in_text, text_behind, firsts_of as firsts_placed_of}
 use Rattle.arranged_text_laws.specs.FileItems.{placed}
 use Rattle.arranged_text_laws.proofs.FileItemLemmas.{file_firsts, toks_placed, firsts_placed}
 use Rattle.arranged_text_laws.proofs.RunLemmas.{line_from, all_lines, later_lines, run_in, behind_run, all_pieces, start_run, start_directive, kind_of_line}
 use Rattle.arranged_file_laws.specs.Lists.{begin_of, close_of}
-use Rattle.arranged_file_laws.specs.RunTokens.{IsTextAt, RunTokensAreText, IsTextList, RunListsAreText}
+use Rattle.arranged_file_laws.specs.RunTokens.{IsTextAt, RunTokensAreText, RunListsAreText}
 use Rattle.arranged_file_laws.proofs.PartFound.{get_drop}
 use Rattle.arranged_file_laws.proofs.FileRuns.{behind_append, first_there}
 

@@ -1,12 +1,12 @@
 -- Names may begin and end items, and `)` may end them.
-use Rattle.std.proofs.Common.{◌≡◌, Bool, true, false, not, ◌&&◌, ◌||◌, List, codes, refl, sym, ap, ◌∙◌}
+use Rattle.std.proofs.Common.{◌≡◌, Bool, true, false, not, ◌&&◌, ◌||◌, List, codes, refl, ap, ◌∙◌}
 use Rattle.std.specs.Str.{bytes_eq}
 use Rattle.std.proofs.lemmas.Bool.{and_parts}
 use Rattle.std.proofs.lemmas.Slice.Eq.{bytes_eq-Decides}
 use Rattle.arranged_text_laws.specs.Below.cs_base.declared.tokens.Kind.{Kind}
 use Rattle.arranged_text_laws.specs.Below.cs_base.declared.tokens.Kind.TheVariants.{Ident}
 use Rattle.arranged_text_laws.specs.Below.cs_base.Token.{Token}
-use Rattle.arranged_text_laws.specs.Below.line_shape.Signs.{is_identifier, is_punctuator, is_name, is_sign, is_hash, is_open, is_close}
+use Rattle.arranged_text_laws.specs.Below.line_shape.Signs.{is_identifier, is_punctuator, is_name, is_hash, is_open, is_close}
 use Rattle.arranged_file_laws.specs.Lists.{may_begin, may_end}
 
 name_no_sign : (k : Kind) → is_identifier k ≡ true → is_punctuator k ≡ false

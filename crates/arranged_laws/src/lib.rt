@@ -13,8 +13,8 @@
 
 mod laws;
 
+pub use expansion_laws::notes_tell_what_happened;
 pub use laws::{
     ends_stay, expansion_goes_alike, expansion_splits, portions_compose, runs_are_arranged,
     runs_fall, runs_have_cuts,
 };
-pub use expansion_laws::notes_tell_what_happened;

@@ -1,15 +1,15 @@
 -- The marks of a part of a cut, and lists of marks in order.
-use Rattle.std.proofs.Common.{◌≡◌, ℕ, zero, suc, ◌+◌, ◌-◌, ◌<◌, ◌≤◌, ◌⊎◌, inl, inr, Bool, true, false, ◌&&◌, ◌||◌, List, [], ◌∷◌, ◌++◌, map, refl, ap, sym, subst, ◌∙◌, arith, append_assoc}
+use Rattle.std.proofs.Common.{◌≡◌, ℕ, zero, suc, ◌+◌, ◌-◌, ◌<◌, ◌≤◌, ◌⊎◌, inl, inr, Bool, true, false, ◌&&◌, ◌||◌, List, [], ◌∷◌, ◌++◌, map, refl, ap, sym, subst, ◌∙◌, arith}
 use Rattle.std.specs.Prelude.{nat_le}
-use Rattle.std.proofs.lemmas.Bool.{false≢true, leb-true, leb-false, le-leb, cases_Bool}
+use Rattle.std.proofs.lemmas.Bool.{leb-false}
 use Rattle.std.proofs.lemmas.List.{map-append}
-use Rattle.reordered_tree_laws.specs.Below.list_cuts.Cuts.{Cut, done, keep, list, Items, ended, item, count_of, span_of}
+use Rattle.reordered_tree_laws.specs.Below.list_cuts.Cuts.{Cut, done, keep, list, Items, ended, item, span_of}
 use Rattle.reordered_tree_laws.specs.Below.list_cuts.CutOf.{front, back}
 use Rattle.arranged_laws.specs.Arranging.{in_lists}
-use Rattle.marked_cuts.specs.Marks.{ends_of, marks_of, marks_in, first_of, last_after, last_of, EndsWith, IsMarked, AreMarked, Each, StandFrom, AreOfList, StandBy, AreNested}
+use Rattle.marked_cuts.specs.Marks.{ends_of, marks_of, marks_in, first_of, last_of, IsMarked, AreMarked, Each, StandFrom, AreOfList, StandBy, AreNested}
 use Rattle.marked_cuts.specs.Laws.{IsBeside}
-use Rattle.marked_cuts.proofs.EachLemmas.{each_map, each_join, each_first, each_later}
-use Rattle.marked_cuts.proofs.MarkLemmas.{Within, wider, items_last, cut_within, items_within, marked_cuts_are_nested}
+use Rattle.marked_cuts.proofs.EachLemmas.{each_map, each_join, each_later}
+use Rattle.marked_cuts.proofs.MarkLemmas.{Within, items_last, cut_within, items_within}
 use Rattle.marked_cuts.proofs.SplitLemmas.{marked_cuts_split}
 use Rattle.marked_tree_laws.specs.Trees.{IsAmong}
 

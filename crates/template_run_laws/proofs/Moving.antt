@@ -1,15 +1,12 @@
 -- The lists of the files may move, where nothing stands against a new order of their items.
-use Rattle.std.proofs.Common.{ℕ, ◌<◌, ◌≡◌, inl, List, [], ◌∷◌, length, map, Some, Ok, refl, sym, ap, subst, ◌∙◌}
-use Rattle.template_meaning_laws.specs.Below.tree_laws.Below.cs_base.declared.positions.Part.{Part}
+use Rattle.std.proofs.Common.{ℕ, ◌≡◌, inl, List, [], ◌∷◌, map, Some, Ok, refl, sym, ap, subst, ◌∙◌}
 use Rattle.template_meaning_laws.specs.Below.tree_laws.Below.cs_base.Token.{Token}
-use Rattle.template_meaning_laws.specs.Below.no_offence_laws.Below.part_lexer.FileText.{text_value, file_text}
+use Rattle.template_meaning_laws.specs.Below.no_offence_laws.Below.part_lexer.FileText.{file_text}
 use Rattle.template_meaning_laws.specs.Below.no_offence_laws.Below.part_lexer.Tokens.{tokens_of, firsts_of}
-use Rattle.template_meaning_laws.specs.Below.no_offence_laws.Below.source_files.Files.{Source, SourceFile}
-use Rattle.template_meaning_laws.specs.Below.no_offence_laws.Below.source_files.KeptFiles.{KeptValue}
+use Rattle.template_meaning_laws.specs.Below.no_offence_laws.Below.source_files.Files.{SourceFile}
 use Rattle.template_meaning_laws.specs.Below.no_offence_laws.Below.source_files.Sources.{source_at}
 use Rattle.template_meaning_laws.specs.Below.no_offence_laws.Below.unit_laws.UnitLinks.{IsIn}
-use Rattle.template_meaning_laws.specs.Below.no_offence_laws.Below.ws_file.Workspace.{WorkspaceValue}
-use Rattle.template_meaning_laws.specs.Below.no_offence_laws.Below.ws_core.Analysis.{UnitAnalysis, AnalysisValue}
+use Rattle.template_meaning_laws.specs.Below.no_offence_laws.Below.ws_core.Analysis.{UnitAnalysis}
 use Rattle.template_meaning_laws.specs.Below.arranged_file_laws.Lists.{ListMoves}
 use Rattle.template_meaning_laws.specs.Below.arranged_file_laws.RunTokens.{IsTextList}
 use Rattle.marked_tree_laws.specs.Below.arranged_laws.Arranging.{RunsHaveCuts}
@@ -19,9 +16,7 @@ use Rattle.marked_tree_laws.specs.Trees.{IsAmong}
 use Rattle.template_meaning_laws.specs.Below.reordered_source_laws.TokenRuns.{WorkspaceTokensAreOfRuns}
 use Rattle.template_meaning_laws.proofs.Below.reordered_unit_laws.FileLemmas.{text_toks}
 use Rattle.template_meaning_laws.specs.Below.template_rules.FileLists.{begun_before, all_found, lists_in}
-use Rattle.template_meaning_laws.specs.Accepted.{IsAccepted}
 use Rattle.template_meaning_laws.specs.Again.{ListsStandInEach}
-use Rattle.template_meaning_laws.specs.Kept.{HoldsLists}
 use Rattle.template_meaning_laws.specs.Prototypes.{DeclaratorsHavePrototypes}
 use Rattle.template_meaning_laws.specs.Spans.{SpansMove}
 use Rattle.template_run_laws.specs.Files.{file_marks, FilesHaveLists}

@@ -1,6 +1,6 @@
 -- The lists of the functions have places in files, in units and in runs, where nothing stands against a new order and the lists of each
 -- file may move.
-use Rattle.std.proofs.Common.{ℕ, zero, suc, ◌+◌, ◌<◌, ◌≡◌, ◌⊎◌, inl, inr, Bool, true, false, if◌then◌else◌, List, [], ◌∷◌, length, map, Option, None, Some, refl, sym, ap, subst, ◌∙◌}
+use Rattle.std.proofs.Common.{ℕ, zero, suc, ◌<◌, ◌≡◌, ◌⊎◌, inl, inr, Bool, true, false, if◌then◌else◌, List, [], ◌∷◌, length, map, Option, None, Some, refl, sym, ap, subst, ◌∙◌}
 use Rattle.std.specs.Prelude.{slice_get}
 use Rattle.std.specs.Option.{option_map, option_map_or, option_and_then}
 use Rattle.std.proofs.lemmas.Bool.{false≢true}
@@ -11,9 +11,8 @@ use Rattle.template_meaning_laws.specs.Below.tree_laws.ReadTexts.{ReadParameterL
 use Rattle.template_meaning_laws.specs.Below.analysis_laws.Tables.{IsPseudoIfMade, MadeArePseudo, MadeFilesArePseudo, PathsStandOnce}
 use Rattle.template_meaning_laws.specs.Below.no_offence_laws.Below.include_tree.PseudoFiles.{is_pseudo}
 use Rattle.template_meaning_laws.specs.Below.no_offence_laws.Below.part_lexer.Tokens.{tokens_of}
-use Rattle.template_meaning_laws.specs.Below.no_offence_laws.Below.source_files.Files.{Source, SourceFile, Found, Lines, Absent, Unopened, Opened, Made, Entry, Table, number_of}
+use Rattle.template_meaning_laws.specs.Below.no_offence_laws.Below.source_files.Files.{Source, Found, Lines, Absent, Unopened, Opened, Made, Entry, Table, number_of}
 use Rattle.template_meaning_laws.specs.Below.no_offence_laws.Below.source_files.KeptFiles.{KeptValue, kept as kept_file, kept_at, kept_bytes, kept_in}
-use Rattle.template_meaning_laws.specs.Below.no_offence_laws.Below.source_files.Sources.{source_at}
 use Rattle.template_meaning_laws.specs.Below.no_offence_laws.Below.source_files.Tables.{HasEachOnce}
 use Rattle.template_meaning_laws.specs.Below.no_offence_laws.Below.unit_laws.UnitLinks.{IsIn}
 use Rattle.template_meaning_laws.specs.Below.no_offence_laws.Below.ws_file.Workspace.{WorkspaceValue, IsWorkspace}
@@ -25,7 +24,7 @@ use Rattle.marked_tree_laws.specs.Below.marked_cuts.Marks.{spans_by}
 use Rattle.marked_tree_laws.proofs.Below.marked_cuts.TidyLemmas.{tidied_cuts_arrange}
 use Rattle.template_meaning_laws.specs.Below.reordered_unit_laws.Files.{TextsStay}
 use Rattle.template_meaning_laws.specs.Below.reordered_source_laws.TokenRuns.{WorkspaceTokensAreOfRuns}
-use Rattle.template_meaning_laws.specs.Below.reordered_source_laws.Workspaces.{PathCuts, found_cut, cuts_in, UnitMarks}
+use Rattle.template_meaning_laws.specs.Below.reordered_source_laws.Workspaces.{PathCuts, found_cut, cuts_in}
 use Rattle.template_meaning_laws.specs.Below.template_rules.FileLists.{all_found, lists_in, begun_before}
 use Rattle.template_meaning_laws.specs.Accepted.{IsAccepted}
 use Rattle.template_meaning_laws.specs.Kept.{HoldsLists}

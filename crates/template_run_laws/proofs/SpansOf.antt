@@ -1,20 +1,19 @@
 -- The lists of a file may move: what their marks give of this.
-use Rattle.std.proofs.Common.{◌≡◌, ℕ, zero, suc, ◌+◌, ◌-◌, ◌<◌, ◌≤◌, ◌⊎◌, inl, inr, Bool, true, false, cond, List, [], ◌∷◌, ◌++◌, length, take, drop, map, Option, None, Some, Result, Ok, Err, refl, sym, ap, subst, ◌∙◌, arith}
-use Rattle.std.specs.Prelude.{slice_get, nat_lt, nat_le, count_by}
+use Rattle.std.proofs.Common.{◌≡◌, ℕ, zero, suc, ◌+◌, ◌-◌, ◌<◌, ◌≤◌, inl, inr, Bool, true, false, cond, List, [], ◌∷◌, length, take, drop, map, Option, None, Some, Result, Ok, Err, refl, sym, ap, subst, ◌∙◌, arith}
+use Rattle.std.specs.Prelude.{slice_get, nat_lt, nat_le}
 use Rattle.std.specs.Option.{option_map_or, option_and_then}
 use Rattle.std.proofs.lemmas.Bool.{lt-leb, le-leb, ltb-true, ltb-false}
 use Rattle.std.proofs.lemmas.List.{length-map}
 use Rattle.std.proofs.lemmas.Option.{same_Some, slice_get_within}
 use Rattle.template_meaning_laws.specs.Below.tree_laws.Below.cs_base.declared.positions.Part.{Part}
 use Rattle.template_meaning_laws.specs.Below.tree_laws.Below.cs_base.Token.{Token}
-use Rattle.template_meaning_laws.specs.Below.tree_laws.Below.c_types.declared.lists.List.{List as NameList}
 use Rattle.template_meaning_laws.specs.Below.no_offence_laws.Below.line_shape.Signs.{is_open, is_close, is_comma}
 use Rattle.template_meaning_laws.specs.Below.no_offence_laws.Below.macro_body.Hides.{toks_of}
 use Rattle.template_meaning_laws.specs.Below.no_offence_laws.Below.part_lexer.FileText.{TextValue, LexFault, FileTooLarge, most_bytes, text_value, text_or_open, file_text}
 use Rattle.template_meaning_laws.specs.Below.no_offence_laws.Below.part_lexer.Logical.{logical_of}
 use Rattle.template_meaning_laws.specs.Below.no_offence_laws.Below.part_lexer.Order.{InOrder}
 use Rattle.template_meaning_laws.specs.Below.no_offence_laws.Below.part_lexer.Tokens.{tokens_of, firsts_of, open_comment_of}
-use Rattle.template_meaning_laws.specs.Below.no_offence_laws.Below.source_files.Files.{Source, SourceFile, source_file, Table}
+use Rattle.template_meaning_laws.specs.Below.no_offence_laws.Below.source_files.Files.{SourceFile, source_file, Table}
 use Rattle.template_meaning_laws.specs.Below.no_offence_laws.Below.source_files.KeptFiles.{KeptValue, kept_at}
 use Rattle.template_meaning_laws.specs.Below.no_offence_laws.Below.source_files.Sources.{source_at, source_kept, read_as}
 use Rattle.template_meaning_laws.specs.Below.no_offence_laws.Below.unit_laws.UnitLinks.{IsIn}
@@ -38,9 +37,8 @@ use Rattle.marked_tree_laws.proofs.PartMarks.{later_by, Rises, rises_of, each_am
 use Rattle.template_meaning_laws.proofs.Below.reordered_unit_laws.FileLemmas.{text_toks}
 use Rattle.template_meaning_laws.specs.Below.template_rules.FileLists.{begun_by, begun_before, first_byte, end_byte, item_between, items_of, all_found, lists_in}
 use Rattle.template_meaning_laws.specs.Below.template_rules.Lists.{separators}
-use Rattle.template_meaning_laws.specs.Kept.{HoldsLists}
 use Rattle.template_meaning_laws.specs.Spans.{SpansMove}
-use Rattle.template_run_laws.specs.Files.{file_marks, file_cut}
+use Rattle.template_run_laws.specs.Files.{file_marks}
 use Rattle.template_run_laws.specs.Places.{ListInFile}
 use Rattle.template_run_laws.specs.Units.{own_lists, own_marks, run_cut, UnitHasLists}
 use Rattle.template_run_laws.proofs.Counts.{counted_at, begun_in}

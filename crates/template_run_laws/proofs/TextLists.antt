@@ -1,5 +1,5 @@
 -- The lists of a file stand in text lines: each stands in a run.
-use Rattle.std.proofs.Common.{◌≡◌, ℕ, zero, suc, ◌+◌, ◌-◌, ◌<◌, ◌≤◌, true, List, [], ◌∷◌, length, take, drop, map, Some, None, refl, sym, ap, subst, ◌∙◌, arith, length-take, length-drop}
+use Rattle.std.proofs.Common.{◌≡◌, ℕ, ◌+◌, ◌-◌, ◌≤◌, List, [], ◌∷◌, length, drop, map, Some, None, refl, sym, ap, subst, ◌∙◌, arith, length-take}
 use Rattle.std.specs.Prelude.{slice_get, slice_range, min}
 use Rattle.template_meaning_laws.specs.Below.tree_laws.Below.cs_base.declared.positions.Part.{Part}
 use Rattle.template_meaning_laws.specs.Below.tree_laws.Below.cs_base.Token.{Token}
@@ -9,10 +9,9 @@ use Rattle.template_meaning_laws.specs.Below.no_offence_laws.Below.part_lexer.Fi
 use Rattle.template_meaning_laws.specs.Below.no_offence_laws.Below.part_lexer.Tokens.{tokens_of, firsts_of, open_comment_of}
 use Rattle.template_meaning_laws.specs.Below.no_offence_laws.Below.source_files.Files.{SourceFile}
 use Rattle.template_meaning_laws.specs.Below.no_offence_laws.Below.ws_core.Analysis.{AnalysisValue}
-use Rattle.template_meaning_laws.specs.Below.list_cuts.declared.spans.Span.{Span}
 use Rattle.template_meaning_laws.specs.Below.list_cuts.Spans.{end_of}
 use Rattle.template_meaning_laws.specs.Below.arranged_text_laws.FileItems.{placed}
-use Rattle.template_meaning_laws.specs.Below.arranged_file_laws.Lists.{begin_of, close_of}
+use Rattle.template_meaning_laws.specs.Below.arranged_file_laws.Lists.{close_of}
 use Rattle.template_meaning_laws.specs.Below.arranged_file_laws.RunTokens.{IsTextList}
 use Rattle.template_meaning_laws.proofs.Below.arranged_file_laws.RunTokenLemmas.{run_lists_are_text}
 use Rattle.marked_tree_laws.specs.Below.marked_cuts.Marks.{last_after, StandFrom, AreOfList, spans_by}

@@ -4,8 +4,8 @@
 //! The lists of the functions stand in each unit by their marks, `(`, `,` and `)`, that no macro put in (`specs/Units.antt`);
 //! in the files they are nested, and in each run that a unit reaches stand those of its file (`specs/Files.antt`,
 //! `specs/Places.antt`); so their items change places in files, runs and units alike. Their tokens let them move:
-//! `specs/Moves.antt`. No program stands here. Each law is the `ensures` of a function. Read these, then `laws.rt`; what the
-//! analysis is in the new order says `specs/Reordered.antt` of `template_meaning_laws`.
+//! `specs/Items.antt`, `specs/Even.antt`, `specs/Moves.antt`. No program stands here. Each law is the `ensures` of a function.
+//! Read these, then `laws.rt`; what the analysis is in the new order says `specs/Reordered.antt` of `template_meaning_laws`.
 #![tactic(auto)]
 
 mod laws;
