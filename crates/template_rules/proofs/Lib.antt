@@ -1,10 +1,12 @@
 pub mod StepLemmas
+pub mod TurnLemmas
 pub mod FindLemmas
 pub mod FunctionLemmas
 pub mod CountLemmas
 pub mod UnitLemmas
 pub mod FoundLemmas
 pub mod AskLemmas
+pub mod ItemLemmas
 pub mod MarkLemmas
 pub mod NumberLemmas
 pub mod OddLemmas

@@ -1,11 +1,16 @@
--- What inner functions promise each other of the marks of a list that are asked for at once.
-use Rattle.std.specs.Prelude.{ℕ, ◌==◌, Bool, List}
+-- What inner functions promise each other of the marks of a list that are asked for at once, and of the units that
+-- reached an item.
+use Rattle.std.specs.Prelude.{ℕ, ◌≡◌, ◌==◌, ◌≤◌, ◌<◌, Bool, true, Some, List, slice_get}
+use Rattle.std.specs.List.{list_any}
 use Rattle.rename_rules.specs.Below.include_tree.Below.unit_steps.declared.events.Reached.{Reached}
 use Rattle.c_types.specs.declared.lists.List.{List as NameList}
+use Rattle.rename_rules.specs.Below.ws_core.Analysis.{UnitAnalysis}
+use Rattle.template_rules.specs.declared.item_units.ItemUnits.{ItemUnits}
 use Rattle.template_rules.specs.declared.list_macros.Asked.{Asked}
 use Rattle.template_rules.specs.declared.list_macros.Asked.TheVariants as asked
+use Rattle.template_rules.specs.declared.unit_functions.UnitFunctions.{UnitFunctions}
 use Rattle.template_rules.specs.Lists.{each_mark}
-use Rattle.template_rules.specs.MacroOffences.{run_of}
+use Rattle.template_rules.specs.MacroOffences.{run_of, is_item}
 
 -- the marks that are asked for pass a test
 abbrev pub asks : Asked → (ℕ → Bool) → NameList → Bool
@@ -15,3 +20,20 @@ asks asked.All test l = each_mark test l
 -- token k was put out for this run
 abbrev pub is_of_run : List Reached → ℕ → ℕ → Bool
 is_of_run reached number k = run_of reached k == number
+
+-- the number, from 0, of each of these units that reached the item is such a one
+abbrev pub Reaching : List UnitFunctions → Reached → (ℕ → Type 0) → Type 0
+Reaching fs r is = (k : ℕ) (f : UnitFunctions) → slice_get fs k ≡ Some f → list_any (is_item r) f.text.now.reached ≡ true → is k
+
+-- none before this one did
+abbrev pub NoneBefore : List UnitFunctions → Reached → ℕ → Type 0
+NoneBefore fs r from = Reaching fs r (λ k. from ≤ k)
+
+-- neither this one nor one behind it did
+abbrev pub NoneFrom : List UnitFunctions → Reached → ℕ → Type 0
+NoneFrom fs r to = Reaching fs r (λ k. k < to)
+
+-- each of these units that reached the item stands between these numbers
+abbrev pub AreWithin : List UnitAnalysis → ItemUnits → Type 0
+AreWithin us w =
+    (k : ℕ) (u : UnitAnalysis) → slice_get us k ≡ Some u → list_any (is_item w.item) u.text.reached ≡ true → (w.from ≤ k) × (k < w.to)

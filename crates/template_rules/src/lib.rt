@@ -17,6 +17,7 @@ mod dependences;
 mod file_edits;
 mod file_lists;
 mod functions;
+mod item_units;
 mod list_insides;
 mod list_macros;
 mod list_marks;

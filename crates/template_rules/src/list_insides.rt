@@ -1,17 +1,17 @@
 // What happens inside lists that stands against a new order.
-ghost use Rattle.std.specs.Prelude.{◌≡◌};
+ghost use Rattle.std.specs.Prelude.{◌≡◌, ◌++◌};
 ghost use Rattle.std.specs.List.{flat_map};
 ghost use Rattle.cs_base.specs.declared.causes.Cause.TheVariants as cause;
 ghost use Rattle.rename_rules.specs.First.{standing, FirstThen};
-ghost use Rattle.template_rules.specs.Insides.{inside_offences, list_insides, all_insides};
-ghost use Rattle.template_rules.specs.MacroOffences.{is_line_number, line_number_place, line_number_places};
-ghost use Rattle.template_rules.specs.ScopeOffences.{is_type_or_constant, is_function_word, declares_more, declaration_place, declaration_places};
+ghost use Rattle.template_rules.specs.Insides.{list_insides, all_insides};
+ghost use Rattle.template_rules.specs.MacroOffences.{is_line_number, line_number_place};
+ghost use Rattle.template_rules.specs.ScopeOffences.{is_type_or_constant, is_function_word, declares_more, declaration_place};
 
 use crate::dependences::spelling_at;
 use crate::functions::Functions;
 use crate::macro_names::is_replacing;
 use crate::places::at_token;
-use crate::unit_functions::{UnitFunctions, names_function};
+use crate::unit_functions::UnitFunctions;
 use cs_base::{Cause, Tok};
 use rename_rules::{Analysis, EntityKind, Event, List, Name, Offence, first_with};
 
@@ -34,30 +34,51 @@ fn is_line_number(event: &Event) -> bool
 // `LineNumber` at an event, if it happens inside a list.
 fn line_number_at(
     a: &Analysis,
-    list: &List,
     event: &Event,
+    list: &List,
     first: Option<Offence>,
 ) -> Option<Offence>
     ensures { FirstThen a.now.value.table (standing cause.LineNumber (line_number_place list.now event.now)) first result }
 {
-    if is_line_number(event) && list.begin < event.before && event.before <= list.close {
+    if list.begin < event.before && event.before <= list.close && is_line_number(event) {
         first_with(a, first, event.at, Cause::LineNumber)
     } else {
         first
     }
 }
 
-fn line_numbers_at(
+// The same in each of these lists. They are looked through only for an event that replaces `__LINE__`.
+fn line_number_in(
     a: &Analysis,
-    list: &List,
-    events: &[Event],
+    event: &Event,
+    lists: &[&List],
     first: Option<Offence>,
 ) -> Option<Offence>
-    ensures { FirstThen a.now.value.table (standing cause.LineNumber (line_number_places events.now list.now)) first result }
+    ensures { FirstThen a.now.value.table (flat_map (λ l. standing cause.LineNumber (line_number_place l.now event.now)) lists.now) first result }
+{
+    if !is_line_number(event) {
+        return first;
+    }
+    let mut now = first;
+    for list in lists {
+        now = line_number_at(a, event, list, now);
+    }
+    now
+}
+
+// The same at each event.
+fn line_numbers_at(
+    a: &Analysis,
+    events: &[Event],
+    lists: &[&List],
+    first: Option<Offence>,
+) -> Option<Offence>
+    ensures { FirstThen a.now.value.table (flat_map (λ e. flat_map (λ l. standing cause.LineNumber (line_number_place l.now e)) lists.now) events.now)
+        first result }
 {
     let mut now = first;
     for event in events {
-        now = line_number_at(a, list, event, now);
+        now = line_number_in(a, event, lists, now);
     }
     now
 }
@@ -92,88 +113,73 @@ fn declares_more(toks: &[Tok], name: Name) -> bool
 fn declaration_at(
     a: &Analysis,
     toks: &[Tok],
-    list: &List,
     name: Name,
+    list: &List,
     first: Option<Offence>,
 ) -> Option<Offence>
     ensures { FirstThen a.now.value.table (standing cause.DeclarationInArgument (declaration_place toks.now list.now name)) first result }
 {
-    if declares_more(toks, name) && list.begin < name.index && name.index < list.close {
+    if list.begin < name.index && name.index < list.close && declares_more(toks, name) {
         at_token(a, toks, name.index, Cause::DeclarationInArgument, first)
     } else {
         first
     }
 }
 
+// The same in each of these lists. They are looked through only for a name that declares such a thing.
+fn declaration_in(
+    a: &Analysis,
+    toks: &[Tok],
+    name: Name,
+    lists: &[&List],
+    first: Option<Offence>,
+) -> Option<Offence>
+    ensures { FirstThen a.now.value.table
+        (flat_map (λ l. standing cause.DeclarationInArgument (declaration_place toks.now l.now name)) lists.now) first result }
+{
+    if !declares_more(toks, name) {
+        return first;
+    }
+    let mut now = first;
+    for list in lists {
+        now = declaration_at(a, toks, name, list, now);
+    }
+    now
+}
+
+// The same at each name.
 fn declarations_at(
     a: &Analysis,
     toks: &[Tok],
-    list: &List,
     names: &[Name],
+    lists: &[&List],
     first: Option<Offence>,
 ) -> Option<Offence>
-    ensures { FirstThen a.now.value.table (standing cause.DeclarationInArgument (declaration_places toks.now names.now list.now)) first result }
+    ensures { FirstThen a.now.value.table
+        (flat_map (λ n. flat_map (λ l. standing cause.DeclarationInArgument (declaration_place toks.now l.now n)) lists.now) names.now)
+        first result }
 {
     let mut now = first;
     for name in names {
-        now = declaration_at(a, toks, list, *name, now);
+        now = declaration_in(a, toks, *name, lists, now);
     }
     now
 }
 
-// Both in a list.
-fn insides_at(
-    a: &Analysis,
-    toks: &[Tok],
-    events: &[Event],
-    names: &[Name],
-    list: &List,
-    first: Option<Offence>,
-) -> Option<Offence>
-    ensures { FirstThen a.now.value.table (inside_offences toks.now events.now names.now list.now) first result }
+// Both in the lists of a unit that are ones of a function that the class names.
+fn insides_at(a: &Analysis, unit: &UnitFunctions<'_>, first: Option<Offence>) -> Option<Offence>
+    ensures { FirstThen a.now.value.table
+        (flat_map (list_insides unit.now.class.members unit.now.text.now.toks unit.now.text.now.events unit.now.bound.now.names)
+        unit.now.bound.now.declarators
+        ++ flat_map (list_insides unit.now.class.members unit.now.text.now.toks unit.now.text.now.events unit.now.bound.now.names)
+        unit.now.bound.now.calls) first result }
 {
-    let numbered = line_numbers_at(a, list, events, first);
-    declarations_at(a, toks, list, names, numbered)
-}
-
-// Both in a list, if it is one of a function that the class names.
-fn at_list(
-    a: &Analysis,
-    unit: &UnitFunctions<'_>,
-    list: &List,
-    first: Option<Offence>,
-) -> Option<Offence>
-    ensures { FirstThen a.now.value.table (list_insides unit.now.class.members unit.now.text.now.toks
-        unit.now.text.now.events unit.now.bound.now.names list.now) first result }
-{
-    if names_function(unit, list.name) {
-        insides_at(
-            a,
-            unit.text.toks(),
-            unit.text.events(),
-            unit.bound.names(),
-            list,
-            first,
-        )
-    } else {
-        first
+    let lists = unit.found.as_slice();
+    if lists.is_empty() {
+        return first;
     }
-}
-
-fn at_lists(
-    a: &Analysis,
-    unit: &UnitFunctions<'_>,
-    all: &[List],
-    first: Option<Offence>,
-) -> Option<Offence>
-    ensures { FirstThen a.now.value.table (flat_map (list_insides unit.now.class.members unit.now.text.now.toks
-        unit.now.text.now.events unit.now.bound.now.names) all.now) first result }
-{
-    let mut now = first;
-    for list in all {
-        now = at_list(a, unit, list, now);
-    }
-    now
+    let numbered = line_numbers_at(a, unit.text.events(), lists, first);
+    declarations_at(a, unit.text.toks(), unit.bound.names(), lists, numbered)
 }
 
 /// `LineNumber`, at each `__LINE__` that is replaced by a line's number inside a list; `DeclarationInArgument`, at each
@@ -186,8 +192,7 @@ pub fn at_insides(functions: &Functions<'_>, first: Option<Offence>) -> Option<O
     let mut now = first;
     let units = functions.units();
     for unit in units {
-        let declared = at_lists(a, unit, unit.bound.declarators(), now);
-        now = at_lists(a, unit, unit.bound.calls(), declared);
+        now = insides_at(a, unit, now);
     }
     now
 }

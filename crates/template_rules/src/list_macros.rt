@@ -7,9 +7,10 @@ ghost use Rattle.list_cuts.specs.Cuts.{numbers};
 ghost use Rattle.rename_rules.specs.First.{standing, FirstThen};
 ghost use Rattle.template_rules.specs.Lists.{each_mark, some_mark};
 ghost use Rattle.template_rules.specs.MacroOffences.{is_direct, is_direct_at, is_pos, is_same, are_same, is_same_list, run_of, item_of, is_item, is_mark_in, is_list_at, is_list_in, is_list_as, is_list_through, is_list_for, is_mark_everywhere, macro_place};
-ghost use Rattle.template_rules.specs.Asking.{asks, is_of_run};
+ghost use Rattle.template_rules.specs.Asking.{asks, is_of_run, AreWithin};
 
 use crate::functions::Functions;
+use crate::item_units::{ItemUnits, is_between, is_item};
 use crate::places::{at_token, origin_of};
 use crate::unit_functions::{UnitFunctions, names_function};
 use cs_base::{Cause, Pos, Tok};
@@ -104,8 +105,8 @@ fn item_at(reached: &[Reached], number: usize) -> Option<Reached>
     }
 }
 
-// The item for which token `k` was put out.
-fn item_of(reached: &[Reached], k: u32) -> Option<Reached>
+/// The item for which token `k` was put out.
+pub(crate) fn item_of(reached: &[Reached], k: u32) -> Option<Reached>
     ensures { result ≡ item_of reached.now k }
 {
     item_at(reached, run_of(reached, k))
@@ -295,6 +296,69 @@ fn is_list_for(
     true
 }
 
+// Whether a unit has them in each processing of an item, where it may be known that there is none.
+fn is_list_if(
+    unit: &UnitFunctions<'_>,
+    toks: &[Tok],
+    list: &List,
+    asked: Asked,
+    item: Reached,
+    some: bool,
+) -> bool
+    requires { some ≡ false → list_any (is_item item) unit.now.text.now.reached ≡ false }
+    ensures { result ≡ asks asked
+        (λ k. is_list_through unit.now.class.members toks.now list.now k item unit.now.text.now unit.now.bound.now) list.now }
+{
+    if !some {
+        return true;
+    }
+    is_list_through(unit, toks, list, asked, item)
+}
+
+// Whether each unit has, where it is known between which units the item was reached.
+fn is_list_within(
+    functions: &Functions<'_>,
+    toks: &[Tok],
+    list: &List,
+    asked: Asked,
+    item: Reached,
+    near: ItemUnits,
+) -> bool
+    requires near { AreWithin functions.now.analysis.value.units near }
+    requires item { is_item near.item item ≡ true }
+    ensures { result ≡ asks asked
+        (λ k. is_list_for functions.now.members functions.now.analysis.value toks.now list.now k item) list.now }
+{
+    let units = functions.units();
+    for at in 0..units.len() {
+        let some = is_between(near, at);
+        if !is_list_if(&units[at], toks, list, asked, item, some) {
+            return false;
+        }
+    }
+    true
+}
+
+// Whether each unit has, where it is known of this item or of another.
+fn is_list_near(
+    functions: &Functions<'_>,
+    toks: &[Tok],
+    list: &List,
+    asked: Asked,
+    item: Reached,
+    near: ItemUnits,
+) -> bool
+    requires { AreWithin functions.now.analysis.value.units near }
+    ensures { result ≡ asks asked
+        (λ k. is_list_for functions.now.members functions.now.analysis.value toks.now list.now k item) list.now }
+{
+    if is_item(near.item, item) {
+        is_list_within(functions, toks, list, asked, item, near)
+    } else {
+        is_list_for(functions, toks, list, asked, item)
+    }
+}
+
 // The same for the run for which mark `k` was put out.
 fn is_mark_everywhere(
     functions: &Functions<'_>,
@@ -368,42 +432,53 @@ fn is_everywhere_at(
     reached: &[Reached],
     list: &List,
     number: usize,
+    near: ItemUnits,
 ) -> bool
-    requires { each_mark (is_of_run reached.now number) list.now ≡ true }
+    requires run { each_mark (is_of_run reached.now number) list.now ≡ true }
+    requires near { AreWithin functions.now.analysis.value.units near }
     ensures { result ≡ each_mark
         (is_mark_everywhere functions.now.members functions.now.analysis.value toks.now reached.now list.now) list.now }
 {
     match item_at(reached, number) {
-        Some(item) => is_list_for(functions, toks, list, Asked::All, item),
+        Some(item) => is_list_near(functions, toks, list, Asked::All, item, near),
         None => false,
     }
 }
 
 // The same for all marks of a list.
-fn is_everywhere(functions: &Functions<'_>, toks: &[Tok], reached: &[Reached], list: &List) -> bool
+fn is_everywhere(
+    functions: &Functions<'_>,
+    toks: &[Tok],
+    reached: &[Reached],
+    list: &List,
+    near: ItemUnits,
+) -> bool
+    requires { AreWithin functions.now.analysis.value.units near }
     ensures { result ≡ each_mark
         (is_mark_everywhere functions.now.members functions.now.analysis.value toks.now reached.now list.now) list.now }
 {
     let number = run_of(reached, list.name);
     if is_of_run(reached, number, list) {
-        is_everywhere_at(functions, toks, reached, list, number)
+        is_everywhere_at(functions, toks, reached, list, number, near)
     } else {
         are_marks_everywhere(functions, toks, reached, list)
     }
 }
 
-/// `InMacro` at a list.
+/// `InMacro` at a list, where it is known between which units an item was reached.
 pub(crate) fn macro_at(
     functions: &Functions<'_>,
     toks: &[Tok],
     reached: &[Reached],
     list: &List,
+    near: ItemUnits,
     first: Option<Offence>,
 ) -> Option<Offence>
+    requires { AreWithin functions.now.analysis.value.units near }
     ensures { FirstThen functions.now.analysis.value.table (standing cause.InMacro
         (macro_place functions.now.members functions.now.analysis.value toks.now reached.now list.now)) first result }
 {
-    if is_direct(toks, list) && is_everywhere(functions, toks, reached, list) {
+    if is_direct(toks, list) && is_everywhere(functions, toks, reached, list, near) {
         first
     } else {
         at_token(functions.analysis(), toks, list.name, Cause::InMacro, first)

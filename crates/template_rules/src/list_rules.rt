@@ -2,11 +2,13 @@
 ghost use Rattle.std.specs.Prelude.{◌≡◌, IfOk};
 ghost use Rattle.std.specs.List.{flat_map};
 ghost use Rattle.rename_rules.specs.First.{FirstThen};
+ghost use Rattle.template_rules.specs.Asking.{AreWithin};
 ghost use Rattle.template_rules.specs.Offences.{list_offences, declarator_offences, call_offences, all_lists};
 
 use crate::body_lists::{body_at, body_lists};
 use crate::dependences::dependences_at;
 use crate::functions::Functions;
+use crate::item_units::{ItemUnits, all_units, units_at};
 use crate::list_macros::macro_at;
 use crate::odd_tokens::{odd_tokens, odds_at};
 use crate::unit_functions::{UnitFunctions, names_function};
@@ -20,12 +22,14 @@ fn list_at(
     odds: &[Pos],
     text: &UnitText,
     list: &List,
+    near: ItemUnits,
     first: Option<Offence>,
 ) -> Option<Offence>
+    requires { AreWithin functions.now.analysis.value.units near }
     ensures { FirstThen functions.now.analysis.value.table
         (list_offences functions.now.members functions.now.analysis.value odds.now text.now list.now) first result }
 {
-    let named = macro_at(functions, text.toks(), text.reached(), list, first);
+    let named = macro_at(functions, text.toks(), text.reached(), list, near, first);
     odds_at(functions.analysis(), odds, text, list, named)
 }
 
@@ -35,14 +39,16 @@ fn declarator_at(
     odds: &[Pos],
     unit: &UnitFunctions<'_>,
     list: &List,
+    near: ItemUnits,
     first: Option<Offence>,
 ) -> Option<Offence>
-    requires { unit.now.class ≡ functions.now }
+    requires class { unit.now.class ≡ functions.now }
+    requires near { AreWithin functions.now.analysis.value.units near }
     ensures { FirstThen functions.now.analysis.value.table (declarator_offences functions.now.members
         functions.now.analysis.value odds.now unit.now.text.now unit.now.bound.now unit.now.lists.items list.now) first result }
 {
     if names_function(unit, list.name) {
-        let named = list_at(functions, odds, unit.text, list, first);
+        let named = list_at(functions, odds, unit.text, list, near, first);
         dependences_at(
             functions.analysis(),
             unit.text.toks(),
@@ -64,14 +70,16 @@ fn call_at(
     unit: &UnitFunctions<'_>,
     ends: &[u32],
     list: &List,
+    near: ItemUnits,
     first: Option<Offence>,
 ) -> Option<Offence>
-    requires { unit.now.class ≡ functions.now }
+    requires class { unit.now.class ≡ functions.now }
+    requires near { AreWithin functions.now.analysis.value.units near }
     ensures { FirstThen functions.now.analysis.value.table (call_offences functions.now.members
         functions.now.analysis.value odds.now unit.now.text.now unit.now.bound.now ends.now list.now) first result }
 {
     if names_function(unit, list.name) {
-        let named = list_at(functions, odds, unit.text, list, first);
+        let named = list_at(functions, odds, unit.text, list, near, first);
         body_at(functions.analysis(), unit.text.toks(), ends, list, named)
     } else {
         first
@@ -90,8 +98,10 @@ fn at_declarators(
         functions.now.analysis.value odds.now unit.now.text.now unit.now.bound.now unit.now.lists.items) all.now) first result }
 {
     let mut now = first;
+    let mut near = all_units(functions);
     for list in all {
-        now = declarator_at(functions, odds, unit, list, now);
+        near = units_at(functions, unit, list, near);
+        now = declarator_at(functions, odds, unit, list, near, now);
     }
     now
 }
@@ -109,8 +119,10 @@ fn at_calls(
         functions.now.analysis.value odds.now unit.now.text.now unit.now.bound.now ends.now) all.now) first result }
 {
     let mut now = first;
+    let mut near = all_units(functions);
     for list in all {
-        now = call_at(functions, odds, unit, ends, list, now);
+        near = units_at(functions, unit, list, near);
+        now = call_at(functions, odds, unit, ends, list, near, now);
     }
     now
 }

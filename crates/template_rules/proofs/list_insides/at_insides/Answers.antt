@@ -1,7 +1,5 @@
-use Rattle.std.proofs.Common.{ap}
-use Rattle.std.specs.List.{flat_map}
-use Rattle.rename_rules.proofs.FirstLemmas.{then_none, then_both}
-use Rattle.template_rules.specs.Insides.{list_insides, unit_insides}
+use Rattle.rename_rules.proofs.FirstLemmas.{then_none}
+use Rattle.template_rules.specs.Insides.{unit_insides}
 use Rattle.template_rules.proofs.StepLemmas.{more_next, more_all}
 use Rattle.template_rules.proofs.UnitLemmas.{insides_of, insides_told, units_first}
 use Rattle.template_rules.proofs.list_insides.at_insides.Goals as goal
@@ -12,12 +10,8 @@ loop-unit-init c = then_none c.analysis-a.result.now.value.table c.args.first
 pub loop-unit-preserved : goal.loop-unit-preserved
 loop-unit-preserved c =
     let f = c.unit-item.result in
-    more_next c.analysis-a.result.now.value.table insides_of c.units-units.result.now c.loop-unit.unit-index f c.args.first c.loop-unit.now c.at_lists-now.result
-    c.loop-unit-test.true c.unit-item.is c.loop-unit.invariant
-    (then_both c.analysis-a.result.now.value.table
-    (flat_map (list_insides f.class.members f.text.now.toks f.text.now.events f.bound.now.names) f.bound.now.declarators)
-    (flat_map (list_insides f.class.members f.text.now.toks f.text.now.events f.bound.now.names) f.bound.now.calls)
-    c.loop-unit.now c.at_lists-declared.result c.at_lists-now.result (rw c.declarators.ensures at c.at_lists-declared.ensures) (rw c.calls.ensures at c.at_lists-now.ensures))
+    more_next c.analysis-a.result.now.value.table insides_of c.units-units.result.now c.loop-unit.unit-index f c.args.first c.loop-unit.now
+    c.insides_at-now.result c.loop-unit-test.true c.unit-item.is c.loop-unit.invariant c.insides_at-now.ensures
 
 pub returns : goal.returns
 returns c =

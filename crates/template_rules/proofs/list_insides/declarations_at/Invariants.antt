@@ -6,4 +6,7 @@ use Rattle.template_rules.specs.ScopeOffences.{declaration_place}
 use Rattle.template_rules.proofs.list_insides.declarations_at.Given as goal
 
 abbrev pub invariant-loop-name : goal.invariant-loop-name
-invariant-loop-name l = FirstThen l.a.value.table (standing cause.DeclarationInArgument (flat_map (declaration_place l.toks l.list) (take l.name-index l.names))) l.initial.now l.now
+invariant-loop-name l =
+    FirstThen l.a.value.table
+    (flat_map (λ n. flat_map (λ m. standing cause.DeclarationInArgument (declaration_place l.toks m.now n)) l.lists) (take l.name-index l.names))
+    l.initial.now l.now

@@ -1,13 +1,27 @@
+use Rattle.std.proofs.Common.{sym, ◌∙◌}
+use Rattle.std.specs.List.{flat_map}
 use Rattle.cs_base.specs.declared.causes.Cause.TheVariants as cause
 use Rattle.rename_rules.specs.First.{standing}
 use Rattle.rename_rules.proofs.FirstLemmas.{then_both}
-use Rattle.template_rules.specs.MacroOffences.{line_number_places}
-use Rattle.template_rules.specs.ScopeOffences.{declaration_places}
+use Rattle.template_rules.specs.MacroOffences.{line_number_place}
+use Rattle.template_rules.specs.ScopeOffences.{declaration_place}
+use Rattle.template_rules.proofs.PlanLemmas.{nil_from}
+use Rattle.template_rules.proofs.TurnLemmas.{none_insides, insides_first}
 use Rattle.template_rules.proofs.list_insides.insides_at.Goals as goal
+
+pub returns-then-is_empty : goal.returns-then-is_empty
+returns-then-is_empty c =
+    none_insides c.args.unit.now c.args.a.now.value.table c.args.first
+    (sym c.as_slice-lists.ensures.value ∙ nil_from c.as_slice-lists.result.now c.if-is_empty.ensures)
 
 pub returns : goal.returns
 returns c =
+    let f = c.args.unit.now in
+    let both =
     then_both c.args.a.now.value.table
-    (standing cause.LineNumber (line_number_places c.args.events.now c.args.list.now))
-    (standing cause.DeclarationInArgument (declaration_places c.args.toks.now c.args.names.now c.args.list.now))
-    c.args.first c.line_numbers_at-numbered.result c.declarations_at.result c.line_numbers_at-numbered.ensures c.declarations_at.ensures
+    (flat_map (λ e. flat_map (λ l. standing cause.LineNumber (line_number_place l.now e)) c.as_slice-lists.result.now) f.text.now.events)
+    (flat_map (λ n. flat_map (λ l. standing cause.DeclarationInArgument (declaration_place f.text.now.toks l.now n)) c.as_slice-lists.result.now)
+    f.bound.now.names)
+    c.args.first c.line_numbers_at-numbered.result c.declarations_at.result (rw c.events.ensures at c.line_numbers_at-numbered.ensures)
+    (rw (c.toks.ensures, c.names.ensures) at c.declarations_at.ensures) in
+    insides_first f c.args.a.now.value.table c.args.first c.declarations_at.result (rw c.as_slice-lists.ensures.value at both)

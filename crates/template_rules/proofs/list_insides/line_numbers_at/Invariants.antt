@@ -6,4 +6,6 @@ use Rattle.template_rules.specs.MacroOffences.{line_number_place}
 use Rattle.template_rules.proofs.list_insides.line_numbers_at.Given as goal
 
 abbrev pub invariant-loop-event : goal.invariant-loop-event
-invariant-loop-event l = FirstThen l.a.value.table (standing cause.LineNumber (flat_map (line_number_place l.list) (take l.event-index l.events))) l.initial.now l.now
+invariant-loop-event l =
+    FirstThen l.a.value.table (flat_map (λ e. flat_map (λ m. standing cause.LineNumber (line_number_place m.now e)) l.lists) (take l.event-index l.events))
+    l.initial.now l.now

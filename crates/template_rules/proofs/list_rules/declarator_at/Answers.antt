@@ -1,4 +1,3 @@
-use Rattle.std.proofs.Common.{ap}
 use Rattle.cs_base.specs.declared.causes.Cause.TheVariants as cause
 use Rattle.rename_rules.specs.First.{standing}
 use Rattle.rename_rules.proofs.FirstLemmas.{then_both, then_none}
@@ -10,7 +9,7 @@ pub returns-then-names_function : goal.returns-then-names_function
 returns-then-names_function c =
     let class = c.args.functions.now in
     let unit = c.args.unit.now in
-    let named = rw c.requires at c.if-names_function.ensures in
+    let named = rw c.requires.class at c.if-names_function.ensures in
     rw (← named)
     (then_both class.analysis.value.table
     (list_offences class.members class.analysis.value c.args.odds.now unit.text.now c.args.list.now)
@@ -20,5 +19,5 @@ returns-then-names_function c =
 
 pub returns-else-names_function : goal.returns-else-names_function
 returns-else-names_function c =
-    let named = rw c.requires at c.if-names_function.ensures in
+    let named = rw c.requires.class at c.if-names_function.ensures in
     rw (← named) (then_none c.args.functions.now.analysis.value.table c.args.first)

@@ -1,0 +1,11 @@
+use Rattle.std.proofs.Common.{take}
+use Rattle.std.specs.List.{flat_map}
+use Rattle.cs_base.specs.declared.causes.Cause.TheVariants as cause
+use Rattle.rename_rules.specs.First.{standing, FirstThen}
+use Rattle.template_rules.specs.ScopeOffences.{declaration_place}
+use Rattle.template_rules.proofs.list_insides.declaration_in.Given as goal
+
+abbrev pub invariant-loop-list : goal.invariant-loop-list
+invariant-loop-list l =
+    FirstThen l.a.value.table (flat_map (λ m. standing cause.DeclarationInArgument (declaration_place l.toks m.now l.name)) (take l.list-index l.lists))
+    l.initial.now l.now
