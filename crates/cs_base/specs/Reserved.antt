@@ -30,16 +30,17 @@ keywords_of_c11 =
     codes "_Alignas" ∷ codes "_Alignof" ∷ codes "_Atomic" ∷ codes "_Generic" ∷ codes "_Noreturn"
     ∷ codes "_Static_assert" ∷ codes "_Thread_local" ∷ []
 
--- Names that the preprocessor or the implementation gives a meaning (6.4.2.2, 6.10.1, 6.10.3, 6.10.8),
--- and `L`, which directly before a quote would become its prefix (6.4.4.4, 6.4.5).
+-- Names that the preprocessor or the implementation gives a meaning (6.4.2.2, 6.10.1, 6.10.3, 6.10.8, 6.10.9), here or
+-- in later standards and GNU C, and `L`, which directly before a quote would become its prefix (6.4.4.4, 6.4.5).
 abbrev pub given_names : List (List ℕ)
 given_names =
     codes "defined" ∷ codes "__VA_ARGS__" ∷ codes "__func__" ∷ codes "L" ∷ codes "__LINE__"
     ∷ codes "__FILE__" ∷ codes "__DATE__" ∷ codes "__TIME__" ∷ codes "__STDC__"
-    ∷ codes "__STDC_HOSTED__" ∷ codes "__STDC_VERSION__" ∷ []
+    ∷ codes "__STDC_HOSTED__" ∷ codes "__STDC_VERSION__" ∷ codes "_Pragma" ∷ codes "__VA_OPT__"
+    ∷ codes "__COUNTER__" ∷ codes "__has_include" ∷ codes "__has_include_next" ∷ []
 
 -- A reserved spelling, whatever the standards of the units are: one of the 37 keywords of C99, of the 7 that C11
--- has more, or of the 11 given names. `unfoldable`, since the table would stand in every goal above.
+-- has more, or of the 16 given names. `unfoldable`, since the table would stand in every goal above.
 unfoldable pub is_reserved_text : List ℕ → Bool
 is_reserved_text text =
     list_any (bytes_eq text) keywords_to_if

@@ -1,4 +1,4 @@
-// Spellings that no name may take or lose (ISO/IEC 9899:1999, 6.4.1, 6.4.2.2, 6.10.8; ISO/IEC 9899:2011, 6.4.1).
+// Spellings that no name may take or lose (ISO/IEC 9899:1999, 6.4.1, 6.4.2.2, 6.10.8, 6.10.9; ISO/IEC 9899:2011, 6.4.1).
 ghost use Rattle.std.specs.Prelude.{◌≡◌};
 ghost use Rattle.std.specs.List.{list_any};
 ghost use Rattle.std.specs.Str.{bytes_eq};
@@ -123,6 +123,11 @@ fn is_given_name(text: &[u8]) -> bool
             b"__STDC__",
             b"__STDC_HOSTED__",
             b"__STDC_VERSION__",
+            b"_Pragma",
+            b"__VA_OPT__",
+            b"__COUNTER__",
+            b"__has_include",
+            b"__has_include_next",
         ],
     )
 }

@@ -66,7 +66,7 @@ const GENERIC: &str = "a.c:int _Generic;\n";
 const BOTH: &str =
     "a.c:#if __STDC_VERSION__ >= 201112L\n_Static_assert(sizeof(int) > 0, \"s\");\nstruct s { struct { int n; }; };\nint f(struct s *p) { return p->n; }\n#endif\nint n;\nint g(void) { return n; }\n";
 
-const ROWS: [Row; 29] = [
+const ROWS: [Row; 30] = [
     Row {
         ws: "file a.c\n",
         files: SHOWN,
@@ -285,6 +285,17 @@ const ROWS: [Row; 29] = [
         line: 1,
         column: 5,
         name: "_Generic",
+        strings: false,
+        want: "a.c:1:5: reserved",
+    },
+    // Nor is the operator of pragmas.
+    Row {
+        ws: "file a.c\nfile b.c\n",
+        files: EXTERNAL,
+        path: "a.c",
+        line: 1,
+        column: 5,
+        name: "_Pragma",
         strings: false,
         want: "a.c:1:5: reserved",
     },
