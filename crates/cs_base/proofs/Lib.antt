@@ -10,3 +10,4 @@ pub mod UnitLemmas
 pub mod PathLaws
 pub mod NormalPaths
 pub mod JoinLaws
+pub mod CauseLemmas

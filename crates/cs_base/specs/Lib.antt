@@ -5,6 +5,7 @@ pub mod Padding
 pub mod Spans
 pub mod Outside
 pub mod Words
+pub mod Order
 pub mod Reserved
 pub mod Edit
 pub mod Calls

@@ -1,7 +1,7 @@
 -- The words of messages: each cause in this project's own words.
 use Rattle.std.specs.Prelude.{ℕ, List, codes}
 use Rattle.cs_base.specs.declared.causes.Cause.{Cause}
-use Rattle.cs_base.specs.declared.causes.Cause.TheVariants.{UnknownDirective, NoMacroName, BadMacroName, BadParameters, BadHash, BadPaste, BadVaArgs, NoHeader, OpenComment, FileTooLarge, TooManyFiles, TooManyBytes, IncludeDepth, MissingFile, OpenCall, WrongArguments, NotOneToken, NotAString, TooMuchWork, TooDeep, BadDirective, UnbalancedIf, ErrorDirective, DefinedFromMacro, BadCondition, DivideByZero, Overflow, TooManyTokens, Syntax, Undeclared, NoMember, NoLabel, Redeclared, TagRedefined, MixedLinkage, DesignatorAfterElision, ReadOnly, Reserved, Stringized, HeaderName, NotIdentifier, Occurs, Clash, TooLarge, ShadowedTypedef, NoPrototype, FunctionAsValue, InMacro, AcrossDirective, LineNumber, DeclarationInArgument, ParameterDependence, ArgumentCount, OddToken}
+use Rattle.cs_base.specs.declared.causes.Cause.TheVariants.{UnknownDirective, NoMacroName, BadMacroName, BadParameters, BadHash, BadPaste, BadVaArgs, NoHeader, OpenComment, FileTooLarge, TooManyFiles, TooManyBytes, IncludeDepth, MissingFile, OpenCall, WrongArguments, NotOneToken, NotAString, TooMuchWork, TooDeep, BadDirective, UnbalancedIf, ErrorDirective, DefinedFromMacro, BadCondition, DivideByZero, Overflow, TooManyTokens, Syntax, Undeclared, NoMember, NoLabel, Redeclared, TagRedefined, MixedLinkage, DesignatorAfterElision, ReadOnly, Reserved, Stringized, HeaderName, NotIdentifier, Occurs, Clash, TooLarge, ShadowedTypedef, NoPrototype, FunctionAsValue, InMacro, AcrossDirective, LineNumber, DeclarationInArgument, ParameterDependence, ArgumentCount, OddToken, AssemblerText, CountedParameter, NoParameters, InDirective, NotExpanded}
 
 -- what messages print of a cause
 abbrev pub words_of : Cause → List ℕ
@@ -59,3 +59,8 @@ words_of DeclarationInArgument = codes "declaration in argument"
 words_of ParameterDependence = codes "parameter dependence"
 words_of ArgumentCount = codes "argument count"
 words_of OddToken = codes "odd token"
+words_of AssemblerText = codes "assembler text"
+words_of CountedParameter = codes "counted parameter"
+words_of NoParameters = codes "no parameters"
+words_of InDirective = codes "in a directive"
+words_of NotExpanded = codes "not expanded"

@@ -66,10 +66,19 @@ pub enum Cause {
     ParameterDependence,
     ArgumentCount,
     OddToken,
+    // Offences against a renaming and a reordering, the last.
+    AssemblerText,
+    // Offences against a reordering where attributes count parameters.
+    CountedParameter,
+    // Offences against a new order of a macro's parameters, beside those that have these names too.
+    NoParameters,
+    InDirective,
+    NotExpanded,
 }
 
 impl Cause {
     ghost use Rattle.cs_base.specs.Words.{words_of};
+    ghost use Rattle.cs_base.specs.Order.{number_of, cause_of};
 
     /// The words that messages print.
     pub fn words(&self) -> &'static [u8]
@@ -130,6 +139,79 @@ impl Cause {
             Cause::ParameterDependence => b"parameter dependence",
             Cause::ArgumentCount => b"argument count",
             Cause::OddToken => b"odd token",
+            Cause::AssemblerText => b"assembler text",
+            Cause::CountedParameter => b"counted parameter",
+            Cause::NoParameters => b"no parameters",
+            Cause::InDirective => b"in a directive",
+            Cause::NotExpanded => b"not expanded",
+        }
+    }
+
+    /// The number of the cause, which tells it: of two offences at one place the one of the lower number is named.
+    pub fn number(&self) -> u32
+        ensures numbered { result ≡ number_of self.now }
+        ensures told { cause_of result ≡ self.now }
+    {
+        match self {
+            Cause::ReadOnly => 1,
+            Cause::Reserved => 2,
+            Cause::NoPrototype => 3,
+            Cause::FunctionAsValue => 4,
+            Cause::NoParameters => 5,
+            Cause::InMacro => 6,
+            Cause::AcrossDirective => 7,
+            Cause::InDirective => 8,
+            Cause::LineNumber => 9,
+            Cause::NotExpanded => 10,
+            Cause::Stringized => 11,
+            Cause::HeaderName => 12,
+            Cause::NotIdentifier => 13,
+            Cause::Occurs => 14,
+            Cause::Clash => 15,
+            Cause::TooLarge => 16,
+            Cause::ShadowedTypedef => 17,
+            Cause::DeclarationInArgument => 18,
+            Cause::ParameterDependence => 19,
+            Cause::ArgumentCount => 20,
+            Cause::OddToken => 21,
+            Cause::CountedParameter => 22,
+            Cause::AssemblerText => 23,
+            Cause::UnknownDirective => 24,
+            Cause::NoMacroName => 25,
+            Cause::BadMacroName => 26,
+            Cause::BadParameters => 27,
+            Cause::BadHash => 28,
+            Cause::BadPaste => 29,
+            Cause::BadVaArgs => 30,
+            Cause::NoHeader => 31,
+            Cause::OpenComment => 32,
+            Cause::FileTooLarge => 33,
+            Cause::TooManyFiles => 34,
+            Cause::TooManyBytes => 35,
+            Cause::IncludeDepth => 36,
+            Cause::MissingFile => 37,
+            Cause::OpenCall => 38,
+            Cause::WrongArguments => 39,
+            Cause::NotOneToken => 40,
+            Cause::NotAString => 41,
+            Cause::TooMuchWork => 42,
+            Cause::TooDeep => 43,
+            Cause::BadDirective => 44,
+            Cause::UnbalancedIf => 45,
+            Cause::ErrorDirective => 46,
+            Cause::DefinedFromMacro => 47,
+            Cause::BadCondition => 48,
+            Cause::DivideByZero => 49,
+            Cause::Overflow => 50,
+            Cause::TooManyTokens => 51,
+            Cause::Syntax => 52,
+            Cause::Undeclared => 53,
+            Cause::NoMember => 54,
+            Cause::NoLabel => 55,
+            Cause::Redeclared => 56,
+            Cause::TagRedefined => 57,
+            Cause::MixedLinkage => 58,
+            Cause::DesignatorAfterElision => 59,
         }
     }
 }

@@ -1,5 +1,5 @@
 -- A renaming is refused in one way: the first offence, its place and its cause, is one.
-use Rattle.std.proofs.Common.{◌≡◌, ℕ, zero, suc, ◌+◌, Bool, List, [], ◌∷◌, ◌++◌, Option, None, Some, inl, inr, refl, sym, ap, subst, ◌∙◌, Ok}
+use Rattle.std.proofs.Common.{◌≡◌, ℕ, List, Option, None, Some, inl, inr, refl, sym, ap, ◌∙◌, Ok}
 use Rattle.std.specs.Prelude.{◌==◌, nat_lt, slice_get}
 use Rattle.std.specs.Cmp.{IsTotalOrder}
 use Rattle.std.specs.Cmp.Lexicographic.{slice_cmp}
@@ -11,10 +11,9 @@ use Rattle.std.proofs.lemmas.Bool.{cases_Bool, eqb-true}
 use Rattle.std.proofs.lemmas.Cmp.{then_total, on_total, nat_list_cmp_total, nat_cmp_total}
 use Rattle.std.proofs.lemmas.Option.{none-some, same_Some}
 use Rattle.renamed_tree_laws.specs.Below.tree_laws.Below.cs_base.declared.causes.Cause.{Cause}
-use Rattle.renamed_tree_laws.specs.Below.tree_laws.Below.cs_base.declared.causes.Cause.TheVariants as cause
-use Rattle.renamed_tree_laws.specs.Below.tree_laws.Below.cs_base.declared.positions.Part.{Part}
 use Rattle.renamed_tree_laws.specs.Below.tree_laws.Below.cs_base.declared.positions.Place.{Place}
 use Rattle.renamed_tree_laws.specs.Below.tree_laws.Below.cs_base.declared.positions.Pos.{Pos}
+use Rattle.renamed_tree_laws.specs.Below.tree_laws.Below.cs_base.Order.{number_of}
 use Rattle.no_offence_laws.specs.Below.ws_file.Workspace.{WorkspaceValue, IsWorkspace}
 use Rattle.no_offence_laws.specs.Below.source_files.Files.{Source, Table, lines_path}
 use Rattle.no_offence_laws.specs.Below.source_files.KeptFiles.{KeptValue, kept_at}
@@ -22,11 +21,9 @@ use Rattle.no_offence_laws.specs.Below.source_files.Tables.{paths_in, HasEachOnc
 use Rattle.no_offence_laws.specs.Below.ws_core.Analysis.{AnalysisValue, analysis_of}
 use Rattle.no_offence_laws.specs.Below.ws_core.Places.{place_at, place_in_file, place_in_lines}
 use Rattle.no_offence_laws.specs.Below.rename_rules.declared.offences.Offence.{Offence}
-use Rattle.no_offence_laws.specs.Below.rename_rules.First.{number_of, offence, offence_cmp, path_of, position_cmp, standing, member_offences, spelling_offences, offences_of, IsAmong, IsFirst}
-use Rattle.no_offence_laws.specs.Below.rename_rules.Offences.{read_only_places, reserved_places, kept_string_places, header_places, no_identifier_places, occurring_places, clashing_places, too_large_places, shadowed_places}
-use Rattle.no_offence_laws.specs.Below.rename_rules.Renaming.{Refusal, refused}
-use Rattle.no_offence_laws.proofs.LinkLemmas.{all_both}
-use Rattle.no_offence_laws.proofs.ListLemmas.{AllOf, all_at}
+use Rattle.no_offence_laws.specs.Below.rename_rules.First.{offence_cmp, path_of, position_cmp, offences_of, IsFirst}
+use Rattle.no_offence_laws.specs.Below.rename_rules.Renaming.{refused}
+use Rattle.renamed_tree_laws.proofs.Below.tree_laws.Below.cs_base.CauseLemmas.{one_cause}
 use Rattle.no_offence_laws.proofs.UnitsLemmas.{no_lines, lines_first}
 use Rattle.analysis_laws.proofs.OnceLemmas.{paths_once}
 use Rattle.kept_meaning_laws.specs.Plans.{RefusalsAreOne}
@@ -104,50 +101,6 @@ module _ (table : Table) (once : HasEachOnce table) (lines : kept_at table 0 ≡
       by (Some f) (Some g) e k =
           place_by p (Some f) e ∙ (in_file f g (one_file p.file q.file f g e k (told (Some f) (Some g) e k)) ∙ sym (place_by q (Some g) k))
 
--- ---- causes
-
--- the causes of offences, by their numbers
-causes : List Cause
-causes =
-    cause.ReadOnly ∷ cause.ReadOnly ∷ cause.Reserved ∷ cause.Stringized ∷ cause.HeaderName ∷ cause.NotIdentifier ∷ cause.Occurs ∷ cause.Clash
-    ∷ cause.TooLarge ∷ cause.ShadowedTypedef ∷ []
-
-IsListed : Offence → Type 0
-IsListed o = slice_get causes (number_of o.cause) ≡ Some o.cause
-
-all_standing : (c : Cause) → slice_get causes (number_of c) ≡ Some c → (places : List Pos) → AllOf IsListed (standing c places)
-unfolding IsListed
-all_standing c e [] = tt
-all_standing c e (p ∷ places) = (e, all_standing c e places)
-
-all_listed : (a : AnalysisValue) (members : List Part) (name : List ℕ) (strings : Bool) → AllOf IsListed (offences_of a members name strings)
-unfolding member_offences spelling_offences causes
-all_listed a members name strings =
-    let s1 = standing cause.ReadOnly (read_only_places a members) in
-    let s2 = standing cause.Reserved (reserved_places a members name) in
-    let s3 = standing cause.Stringized (kept_string_places a members strings) in
-    let s4 = standing cause.HeaderName (header_places a members) in
-    let s5 = standing cause.NotIdentifier (no_identifier_places a members) in
-    let s6 = standing cause.Occurs (occurring_places a members name) in
-    let s7 = standing cause.Clash (clashing_places a members name) in
-    let s8 = standing cause.TooLarge (too_large_places a members name) in
-    let s9 = standing cause.ShadowedTypedef (shadowed_places a members) in
-    all_both IsListed (s1 ++ s2 ++ s3 ++ s4 ++ s5) (s6 ++ s7 ++ s8 ++ s9)
-    (all_both IsListed (s1 ++ s2 ++ s3 ++ s4) s5
-    (all_both IsListed (s1 ++ s2 ++ s3) s4
-    (all_both IsListed (s1 ++ s2) s3 (all_both IsListed s1 s2 (all_standing cause.ReadOnly refl (read_only_places a members))
-    (all_standing cause.Reserved refl (reserved_places a members name))) (all_standing cause.Stringized refl (kept_string_places a members strings)))
-    (all_standing cause.HeaderName refl (header_places a members)))
-    (all_standing cause.NotIdentifier refl (no_identifier_places a members)))
-    (all_both IsListed (s6 ++ s7 ++ s8) s9
-    (all_both IsListed (s6 ++ s7) s8 (all_both IsListed s6 s7 (all_standing cause.Occurs refl (occurring_places a members name))
-    (all_standing cause.Clash refl (clashing_places a members name))) (all_standing cause.TooLarge refl (too_large_places a members name)))
-    (all_standing cause.ShadowedTypedef refl (shadowed_places a members)))
-
-one_cause : (o p : Offence) → IsListed o → IsListed p → number_of o.cause ≡ number_of p.cause → o.cause ≡ p.cause
-unfolding IsListed
-one_cause o p e f same = same_Some o.cause p.cause (sym e ∙ (ap (slice_get causes) same ∙ f))
-
 -- two first offences among some stand at one place, and their causes have one number
 pub firsts_are_tied : (source : Source) (ws : WorkspaceValue) (a : AnalysisValue) (offences : List Offence) (o u : Offence) → IsWorkspace ws
     → analysis_of source ws ≡ Ok a → IsFirst a.table offences (Some o) → IsFirst a.table offences (Some u)
@@ -166,7 +119,5 @@ refusals_are_one = λ source ws a members name strings x y is analysed p q.
     let o : Offence = p.0 in
     let u : Offence = q.0 in
     let both = firsts_are_tied source ws a (offences_of a members name strings) o u is analysed p.1 q.1 in
-    let cause_is : o.cause ≡ u.cause =
-    one_cause o u (all_at IsListed (offences_of a members name strings) (all_listed a members name strings) o p.1.0)
-    (all_at IsListed (offences_of a members name strings) (all_listed a members name strings) u q.1.0) both.1 in
+    let cause_is : o.cause ≡ u.cause = one_cause o.cause u.cause both.1 in
     p.2 ∙ (ap (λ (z : Place). refused z o.cause) both.0 ∙ (ap (λ (c : Cause). refused (place_at a.table u.at) c) cause_is ∙ sym q.2))

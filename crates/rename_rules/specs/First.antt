@@ -9,6 +9,7 @@ use Rattle.cs_base.specs.declared.causes.Cause.{Cause}
 use Rattle.cs_base.specs.declared.causes.Cause.TheVariants as cause
 use Rattle.cs_base.specs.declared.positions.Part.{Part}
 use Rattle.cs_base.specs.declared.positions.Pos.{Pos}
+use Rattle.cs_base.specs.Order.{number_of}
 use Rattle.include_tree.specs.Below.source_files.Files.{Table, lines_path}
 use Rattle.include_tree.specs.Below.source_files.KeptFiles.{KeptValue, kept_at}
 use Rattle.ws_core.specs.Analysis.{AnalysisValue}
@@ -18,28 +19,6 @@ use Rattle.rename_rules.specs.Offences.{read_only_places, reserved_places, kept_
 -- an offence: a position in a file, and what stands against the renaming there
 abbrev pub offence : Cause → Pos → Offence
 offence cause at = record { at = at; cause = cause }
-
--- the number of a cause among those against a renaming, and among those against a new order of parameters: of two at
--- one place the first is named
-abbrev pub number_of : Cause → ℕ
-number_of cause.ReadOnly = 1
-number_of cause.Reserved = 2
-number_of cause.Stringized = 3
-number_of cause.HeaderName = 4
-number_of cause.NotIdentifier = 5
-number_of cause.Occurs = 6
-number_of cause.Clash = 7
-number_of cause.TooLarge = 8
-number_of cause.ShadowedTypedef = 9
-number_of cause.NoPrototype = 2
-number_of cause.FunctionAsValue = 3
-number_of cause.InMacro = 4
-number_of cause.AcrossDirective = 5
-number_of cause.LineNumber = 6
-number_of cause.DeclarationInArgument = 7
-number_of cause.ParameterDependence = 8
-number_of cause.ArgumentCount = 9
-number_of _ = 10
 
 -- the path of the places in a file; the pseudo file of lines is kept nowhere
 abbrev pub path_of : Table → ℕ → List ℕ

@@ -1,7 +1,7 @@
 // Offences against a renaming, and the first of them.
 ghost use Rattle.std.specs.Prelude.{◌≡◌, ◌∷◌, [], MatchBool};
 ghost use Rattle.std.specs.declared.cmp.Ordering.TheVariants.{Less};
-ghost use Rattle.rename_rules.specs.First.{number_of, offence, offence_cmp, path_of, position_cmp, FirstThen};
+ghost use Rattle.rename_rules.specs.First.{offence, offence_cmp, path_of, position_cmp, FirstThen};
 
 use cs_base::{Cause, Pos};
 use std::cmp::Ordering;
@@ -12,32 +12,6 @@ use ws_core::Analysis;
 pub struct Offence {
     pub at: Pos,
     pub cause: Cause,
-}
-
-// The number of a cause.
-fn number_of(cause: Cause) -> u32
-    ensures { result ≡ number_of cause }
-{
-    match cause {
-        Cause::ReadOnly => 1,
-        Cause::Reserved => 2,
-        Cause::Stringized => 3,
-        Cause::HeaderName => 4,
-        Cause::NotIdentifier => 5,
-        Cause::Occurs => 6,
-        Cause::Clash => 7,
-        Cause::TooLarge => 8,
-        Cause::ShadowedTypedef => 9,
-        Cause::NoPrototype => 2,
-        Cause::FunctionAsValue => 3,
-        Cause::InMacro => 4,
-        Cause::AcrossDirective => 5,
-        Cause::LineNumber => 6,
-        Cause::DeclarationInArgument => 7,
-        Cause::ParameterDependence => 8,
-        Cause::ArgumentCount => 9,
-        _ => 10,
-    }
 }
 
 // The path of the places in a file.
@@ -67,7 +41,7 @@ fn comes_before(a: &Analysis, offence: Offence, other: Offence) -> bool
 {
     match compare(a, offence.at, other.at) {
         Ordering::Less => true,
-        Ordering::Equal => number_of(offence.cause) < number_of(other.cause),
+        Ordering::Equal => offence.cause.number() < other.cause.number(),
         Ordering::Greater => false,
     }
 }
