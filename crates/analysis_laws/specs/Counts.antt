@@ -1,5 +1,6 @@
 -- How many tokens the units of an analysis have (ISO/IEC 9899:1999, 5.2.4.1: a translation limit of this project).
-use Rattle.std.specs.Prelude.{ℕ, ◌≡◌, ◌≤◌, ◌+◌, ◌^◌, List, [], ◌∷◌, Ok, length}
+use Rattle.std.specs.Prelude.{ℕ, ◌≡◌, ◌≤◌, ◌+◌, List, [], ◌∷◌, Ok, length}
+use Rattle.ws_core.specs.Below.cs_base.Limits.{most_tokens_of_all}
 use Rattle.ws_core.specs.Below.ws_file.Workspace.{WorkspaceValue, IsWorkspace}
 use Rattle.ws_core.specs.Below.source_files.Files.{Source}
 use Rattle.ws_core.specs.Analysis.{UnitAnalysis, AnalysisValue, analysis_of}
@@ -11,4 +12,4 @@ tokens_in (u ∷ units) = length u.text.toks + tokens_in units
 
 -- They are at most the limit on those of all units.
 abbrev pub TokensAreFew : Type 0
-TokensAreFew = (source : Source) (ws : WorkspaceValue) (a : AnalysisValue) → IsWorkspace ws → analysis_of source ws ≡ Ok a → tokens_in a.units ≤ 2 ^ 23
+TokensAreFew = (source : Source) (ws : WorkspaceValue) (a : AnalysisValue) → IsWorkspace ws → analysis_of source ws ≡ Ok a → tokens_in a.units ≤ most_tokens_of_all

@@ -4,10 +4,10 @@ use Rattle.std.specs.Prelude.{◌≡◌, ◌<◌, ℕ, zero, suc, ◌+◌, ◌-�
 use Rattle.std.specs.List.{list_any}
 use Rattle.std.specs.Option.{option_map_or}
 use Rattle.arranged_text_laws.specs.Below.cs_base.Token.{Token}
+use Rattle.arranged_text_laws.specs.Below.cs_base.Limits.{most_bytes}
 use Rattle.arranged_text_laws.specs.Below.part_lexer.Characters.{line_feed}
 use Rattle.arranged_text_laws.specs.Below.part_lexer.Logical.{Character, logical_of}
 use Rattle.arranged_text_laws.specs.Below.part_lexer.Tokens.{tokens_of, firsts_of, open_comment_of}
-use Rattle.arranged_text_laws.specs.Below.part_lexer.FileText.{most_bytes}
 use Rattle.arranged_text_laws.specs.Below.line_shape.Signs.{is_sign, is_hash, is_open, is_comma, is_close}
 use Rattle.arranged_text_laws.specs.Below.list_cuts.declared.spans.Span.{Span}
 use Rattle.arranged_text_laws.specs.Below.list_cuts.Spans.{end_of}

@@ -1,9 +1,10 @@
 -- Reading a batch file, line by line (this project's own).
-use Rattle.std.specs.Prelude.{ℕ, Bool, true, false, not, ◌&&◌, ◌||◌, ◌==◌, ◌+◌, ◌-◌, ◌^◌, List, [], ◌∷◌, ◌++◌, Option, None, Some, Result, Ok, Err, length, take, codes, nat_lt, if◌then◌else◌}
+use Rattle.std.specs.Prelude.{ℕ, Bool, true, false, not, ◌&&◌, ◌||◌, ◌==◌, ◌+◌, ◌-◌, List, [], ◌∷◌, ◌++◌, Option, None, Some, Result, Ok, Err, length, take, codes, nat_lt, if◌then◌else◌}
 use Rattle.std.specs.List.{slice_split}
 use Rattle.std.specs.Str.{bytes_eq, is_utf8}
 use Rattle.cs_base.specs.Paths.{normal_path_of}
 use Rattle.cs_base.specs.Units.{ends_with}
+use Rattle.cs_base.specs.Limits.{most_bytes}
 use Rattle.ws_file.specs.Lines.{lines_of}
 use Rattle.command_words.specs.Request.{is_number, number_of}
 use Rattle.batch_file.specs.Line.{LineValue, line_value}
@@ -47,7 +48,7 @@ without_return ended line =
 -- or is no UTF-8, or asks for nothing. All but the last line of a file end before its last byte.
 unfoldable pub line_at : ℕ → ℕ → List ℕ → Option LineValue
 line_at size start line =
-    if nat_lt (2 ^ 22) (start + length line) || not (is_utf8 line) then None
+    if nat_lt most_bytes (start + length line) || not (is_utf8 line) then None
     else asked_by (words_of (without_return (nat_lt (start + length line) size) line))
 
 -- the lines taken once the line of this number follows: a bad one is named

@@ -1,8 +1,9 @@
 // The lines of a file.
-ghost use Rattle.std.specs.Prelude.{◌≡◌, ◌≤◌, ◌+◌, ◌++◌, ◌∷◌, [], ◌^◌, IfOk, OnOk, OnSome, IsTrue, IsUtf8, length};
+ghost use Rattle.std.specs.Prelude.{◌≡◌, ◌≤◌, ◌+◌, ◌++◌, ◌∷◌, [], IfOk, OnOk, OnSome, IsTrue, IsUtf8, length};
 ghost use Rattle.std.specs.List.{list_all};
 ghost use Rattle.std.specs.Str.{bytes_eq, is_utf8};
 ghost use Rattle.cs_base.specs.Answer.{Gives};
+ghost use Rattle.cs_base.specs.Limits.{most_bytes};
 ghost use Rattle.batch_file.specs.Reading.{asked_by, batch_of, line_at, renaming_of, taken_with};
 ghost use Rattle.batch_file.specs.Refusal.{bad_line_of};
 ghost use Rattle.batch_file.specs.Taking.{texts_of};
@@ -11,7 +12,7 @@ use crate::batch_line::BatchLine;
 use crate::line_parts::{first_line, without_return, words};
 use crate::refusal::BatchRefusal;
 use command_words::{is_number, number};
-use cs_base::{Memory, Text, normal_path};
+use cs_base::{MOST_BYTES, Memory, Text, normal_path};
 use std::alloc::Global;
 use std::str;
 
@@ -43,7 +44,7 @@ fn take_line(
     line: &[u8],
 ) -> Result<(), BatchRefusal>
     ensures answer { Gives (λ _. taken.new.items) bad_line_of result (taken_with number taken.old.items (line_at size start line.now)) }
-    ensures within { OnOk result (start + length line.now ≤ 2 ^ 22) }
+    ensures within { OnOk result (start + length line.now ≤ most_bytes) }
 {
     match line_at(alloc, size, start, line)? {
         Some(value) => Ok(add(taken, value)?),
@@ -58,9 +59,6 @@ fn add(taken: &mut Vec<BatchLine>, value: BatchLine) -> Result<(), Memory>
     Ok(())
 }
 
-// A file's lines end within this many bytes.
-const FILE_LIMIT: usize = 1 << 22;
-
 #[tactic(auto, unfolding(crate::specs::Reading::line_at))]
 // The line that begins at this byte of a file of this size; none where it is bad.
 fn line_at(
@@ -70,9 +68,9 @@ fn line_at(
     line: &[u8],
 ) -> Result<Option<BatchLine>, Memory>
     ensures answer { IfOk result (λ value. value ≡ line_at size start line.now) }
-    ensures within { IfOk result (λ value. OnSome value (start + length line.now ≤ 2 ^ 22)) }
+    ensures within { IfOk result (λ value. OnSome value (start + length line.now ≤ most_bytes)) }
 {
-    if start > FILE_LIMIT || line.len() > FILE_LIMIT - start {
+    if start > MOST_BYTES || line.len() > MOST_BYTES - start {
         return Ok(None);
     }
     if !is_utf8(line) {

@@ -7,6 +7,7 @@ pub mod Outside
 pub mod Words
 pub mod Order
 pub mod Reserved
+pub mod Limits
 pub mod Edit
 pub mod Calls
 pub mod World

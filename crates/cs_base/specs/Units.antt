@@ -1,5 +1,5 @@
 -- The units of a workspace, their settings and standards: what contracts see of a `Unit`, and what is true of each.
-use Rattle.std.specs.Prelude.{ℕ, Bool, false, not, ◌&&◌, ◌||◌, ◌==◌, ◌^◌, List, [], ◌∷◌, ◌++◌, IsTrue, length, map, reverse, codes, nat_le}
+use Rattle.std.specs.Prelude.{ℕ, Bool, false, not, ◌&&◌, ◌||◌, ◌==◌, List, [], ◌∷◌, ◌++◌, IsTrue, length, map, reverse, codes, nat_le}
 use Rattle.std.specs.List.{list_all, flat_map}
 use Rattle.std.specs.Char.{is_ascii_alphabetic, is_ascii_digit}
 use Rattle.std.specs.Str.{bytes_eq, is_utf8}
@@ -8,6 +8,7 @@ use Rattle.cs_base.specs.declared.ws_units.Setting.TheVariants.{Define, Undefine
 use Rattle.cs_base.specs.declared.ws_units.Standard.{Standard}
 use Rattle.cs_base.specs.declared.ws_units.Standard.TheVariants.{C99, C11}
 use Rattle.cs_base.specs.Paths.{is_normal}
+use Rattle.cs_base.specs.Limits.{most_defines}
 
 abbrev pub line_feed : ℕ
 line_feed = 10
@@ -105,7 +106,7 @@ defines_text standard settings = flat_map ended_line (fixed_lines standard ++ ma
 
 -- no more than 2^16 bytes of pseudo file
 unfoldable pub defines_fit : Standard → List Setting → Bool
-defines_fit standard settings = nat_le (length (defines_text standard settings)) (2 ^ 16)
+defines_fit standard settings = nat_le (length (defines_text standard settings)) most_defines
 
 -- A unit: its project, the path of its main source file, the directories that its includes are looked
 -- for in, and the settings that hold in it, both in order, and its standard.

@@ -15,6 +15,7 @@ mod edit_list;
 mod forms;
 mod held_bytes;
 mod held_files;
+mod limits;
 mod no_memory;
 mod outside;
 mod paths;
@@ -31,6 +32,10 @@ pub use causes::Cause;
 pub use edit_list::Edits;
 pub use held_bytes::MemSink;
 pub use held_files::MemFiles;
+pub use limits::{
+    MOST_BYTES, MOST_BYTES_OF_ALL, MOST_FILES, MOST_TOKENS, MOST_TOKENS_OF_ALL, MOST_UNITS,
+    MOST_WORK,
+};
 pub use no_memory::Memory;
 pub use outside::{Files, Got, Put, Sink, Wrote};
 pub use paths::normal_path;

@@ -12,7 +12,8 @@ use Rattle.cs_base.specs.declared.ws_units.Standard.{Standard as Language}
 use Rattle.cs_base.specs.declared.ws_units.Standard.TheVariants.{C99, C11}
 use Rattle.cs_base.specs.Paths.{normal_path_of}
 use Rattle.cs_base.specs.Units.{unit, line_feed, backslash, is_blank, is_nondigit, is_identifier, begins_with, ends_with, has_bad_ends, is_writable, is_project, is_setting, defines_fit}
-use Rattle.ws_file.specs.Workspace.{WorkspaceValue, IsWorkspace, workspace, most_units, is_prefix}
+use Rattle.cs_base.specs.Limits.{most_units}
+use Rattle.ws_file.specs.Workspace.{WorkspaceValue, IsWorkspace, workspace, is_prefix}
 use Rattle.ws_file.specs.Lines.{lines_of, trimmed, first_word, rest_of, line_word}
 use Rattle.ws_file.specs.Reading.{Reading, WsFault, too_many_units, at_first, of_standard, with_project, with_standard, with_directory, with_prefix, with_define, with_undefine, with_unit, is_bad_path, with_word, is_comment, with_text, with_line, checked, read_lines, workspace_of}
 use Rattle.ws_file.specs.Taking.{IsReading, IsTrimmed, has_no_feed}

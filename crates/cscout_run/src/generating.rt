@@ -1,5 +1,6 @@
 // The generated workspace: made, analysed and renamed in memory, and counted. It touches no file.
-ghost use Rattle.std.specs.Prelude.{◌≡◌, ◌≤◌, ◌^◌, IfErr, Ok};
+ghost use Rattle.std.specs.Prelude.{◌≡◌, ◌≤◌, IfErr, Ok};
+ghost use Rattle.cs_base.specs.Limits.{most_tokens_of_all};
 ghost use Rattle.batch_run.specs.Below.analysis_laws.Counts.{tokens_in};
 ghost use Rattle.generated.specs.Generated.{workspace_path};
 ghost use Rattle.cscout_run.specs.Answer.{IsGenerated, IsSizeAnswer, places_in};
@@ -31,7 +32,7 @@ pub(crate) fn prepare_generated(alloc: Global, n: u32) -> Result<Ready, Stop>
 
 // What is told of the generated workspace, once it is analysed.
 fn size_of(alloc: Global, a: &Analysis, n: u32) -> Result<Ready, Stop>
-    requires { tokens_in a.now.value.units ≤ 2 ^ 23 }
+    requires { tokens_in a.now.value.units ≤ most_tokens_of_all }
     ensures answer { Prepares workspace_path (IsSizeAnswer n (Ok a.now.value)) result }
     ensures stops { IfErr result IsPlanStop }
 {
@@ -50,7 +51,7 @@ fn size_of(alloc: Global, a: &Analysis, n: u32) -> Result<Ready, Stop>
 
 // How many tokens the units have.
 fn tokens(a: &Analysis) -> u32
-    requires { tokens_in a.now.value.units ≤ 2 ^ 23 }
+    requires { tokens_in a.now.value.units ≤ most_tokens_of_all }
     ensures { result ≡ tokens_in a.now.value.units }
 {
     let mut sum = 0;

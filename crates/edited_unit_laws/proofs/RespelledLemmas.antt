@@ -3,7 +3,8 @@ use Rattle.std.proofs.Common.{◌≡◌, ℕ, ◌≤◌, Bool, true, false, cond
 use Rattle.std.specs.Option.{option_map, option_and_then}
 use Rattle.std.proofs.lemmas.Bool.{le-ltb}
 use Rattle.renamed.specs.Below.cs_base.Token.{Token}
-use Rattle.renamed.specs.Below.part_lexer.FileText.{TextValue, LexFault, FileTooLarge, most_bytes, text_value, text_or_open, file_text}
+use Rattle.renamed.specs.Below.cs_base.Limits.{most_bytes}
+use Rattle.renamed.specs.Below.part_lexer.FileText.{TextValue, LexFault, FileTooLarge, text_value, text_or_open, file_text}
 use Rattle.renamed.specs.Below.part_lexer.Tokens.{tokens_of, firsts_of, open_comment_of}
 use Rattle.renamed.specs.Below.part_respell.Respelled.{respelled}
 use Rattle.renamed.specs.Below.macro_expand.Renaming.{Renaming, renamed}

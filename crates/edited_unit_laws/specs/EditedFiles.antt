@@ -3,7 +3,7 @@ use Rattle.std.specs.Prelude.{◌≡◌, ℕ, ◌≤◌, List, Some, None, lengt
 use Rattle.std.specs.Option.{option_map}
 use Rattle.renamed.specs.Below.cs_base.declared.positions.Part.{Part}
 use Rattle.renamed.specs.Below.cs_base.Token.{Token}
-use Rattle.renamed.specs.Below.part_lexer.FileText.{most_bytes}
+use Rattle.renamed.specs.Below.cs_base.Limits.{most_bytes}
 use Rattle.renamed.specs.Below.part_lexer.Respelling.{KeepsPieces}
 use Rattle.renamed.specs.Below.part_lexer.Tokens.{tokens_of, firsts_of, open_comment_of}
 use Rattle.renamed.specs.Below.part_respell.Respelled.{put_of, respelled}

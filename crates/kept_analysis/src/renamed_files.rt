@@ -1,6 +1,7 @@
 // Files with their new bytes behind a renaming.
-ghost use Rattle.std.specs.Prelude.{◌≡◌, ◌≤◌, ◌^◌, ◌++◌, IfOk, IsSome, OnOk, Some, length};
+ghost use Rattle.std.specs.Prelude.{◌≡◌, ◌≤◌, ◌++◌, IfOk, IsSome, OnOk, Some, length};
 ghost use Rattle.std.specs.Option.{option_map};
+ghost use Rattle.cs_base.specs.Limits.{most_bytes};
 ghost use Rattle.kept_meaning_laws.specs.Below.source_files.Edited.{edited};
 ghost use Rattle.kept_meaning_laws.specs.Below.source_files.KeptFiles.{kept_at};
 ghost use Rattle.kept_analysis.specs.Edits.{IsNew, edited_front, edited_one, stands_at};
@@ -101,7 +102,7 @@ fn respelled(
 // Whether the byte at an offset of a file is character `at` of its text.
 fn stands_at(file: &KeptFile, at: u32, offset: usize) -> bool
     ensures answer { result ≡ stands_at file.now.bytes at offset }
-    ensures small { length file.now.bytes ≤ 2 ^ 22 }
+    ensures small { length file.now.bytes ≤ most_bytes }
 {
     match file.text().byte_of(at) {
         Some(byte) => byte as usize == offset,

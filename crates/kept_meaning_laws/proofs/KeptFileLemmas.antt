@@ -7,7 +7,8 @@ use Rattle.std.proofs.lemmas.Bool.{cases_Bool, cases_lt, both_ways, or_left, or_
 use Rattle.std.proofs.lemmas.Option.{none-some, same_Some}
 use Rattle.renamed_tree_laws.specs.Below.tree_laws.Below.cs_base.declared.positions.Part.{Part}
 use Rattle.renamed_tree_laws.specs.Below.tree_laws.Below.cs_base.Token.{Token}
-use Rattle.no_offence_laws.specs.Below.part_lexer.FileText.{TextValue, LexFault, FileTooLarge, most_bytes, file_text}
+use Rattle.renamed_tree_laws.specs.Below.tree_laws.Below.cs_base.Limits.{most_bytes}
+use Rattle.no_offence_laws.specs.Below.part_lexer.FileText.{TextValue, LexFault, FileTooLarge, file_text}
 use Rattle.no_offence_laws.specs.Below.part_lexer.Logical.{gone_length}
 use Rattle.no_offence_laws.specs.Below.part_lexer.Places.{pos}
 use Rattle.no_offence_laws.specs.Below.part_lexer.Respelling.{Put, edited_from as bytes_edited, edited}

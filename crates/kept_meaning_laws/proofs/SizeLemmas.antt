@@ -6,7 +6,7 @@ use Rattle.std.specs.Option.{option_map, option_map_or, option_and_then}
 use Rattle.std.proofs.lemmas.Bool.{cases_Bool, cases_lt, both_ways, eq-eqb, eqb-true, lt-ltb, ltb-true, or_left, or_right, false_from_ne_true}
 use Rattle.std.proofs.lemmas.Option.{same_Some}
 use Rattle.renamed_tree_laws.specs.Below.tree_laws.Below.cs_base.declared.positions.Part.{Part}
-use Rattle.no_offence_laws.specs.Below.part_lexer.FileText.{most_bytes}
+use Rattle.renamed_tree_laws.specs.Below.tree_laws.Below.cs_base.Limits.{most_bytes}
 use Rattle.no_offence_laws.specs.Below.source_files.Files.{Found, Lines, Absent, Unopened, Opened, Made, Entry, entry, Table, opened_bytes, more_bytes, bytes_opened}
 use Rattle.no_offence_laws.specs.Below.source_files.KeptFiles.{KeptValue, kept, kept_bytes, kept_in, kept_at}
 use Rattle.no_offence_laws.specs.Below.include_tree.PseudoFiles.{is_pseudo}

@@ -1,7 +1,7 @@
 -- The sizes of edited files (this project's limits): where nothing stands against the renaming, they are within these.
 use Rattle.std.specs.Prelude.{ℕ, ◌≡◌, ◌≤◌, Some, List, length}
 use Rattle.renamed_tree_laws.specs.Below.tree_laws.Below.cs_base.declared.positions.Part.{Part}
-use Rattle.no_offence_laws.specs.Below.part_lexer.FileText.{most_bytes}
+use Rattle.renamed_tree_laws.specs.Below.tree_laws.Below.cs_base.Limits.{most_bytes}
 use Rattle.no_offence_laws.specs.Below.part_respell.Respelled.{respelled}
 use Rattle.no_offence_laws.specs.Below.ws_file.Workspace.{IsWorkspace}
 use Rattle.no_offence_laws.specs.Below.source_files.Files.{bytes_opened}

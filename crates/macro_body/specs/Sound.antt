@@ -2,6 +2,7 @@
 use Rattle.std.specs.Prelude.{◌≡◌, ℕ, ◌^◌, ◌+◌, ◌==◌, ◌&&◌, ◌||◌, Bool, IsTrue, nat_lt, is_some, List, length, Some}
 use Rattle.std.specs.List.{list_all, list_any}
 use Rattle.cs_base.specs.Token.{Token}
+use Rattle.cs_base.specs.Limits.{most_bytes}
 use Rattle.part_lexer.specs.Characters.{double_quote}
 use Rattle.macro_body.specs.declared.definitions.Definition.{Definition}
 use Rattle.macro_body.specs.Hides.{Hidden}
@@ -15,7 +16,7 @@ is_traced t = list_all is_some t.origins || list_any (λ c. c == double_quote) t
 
 -- the line of a token is one that a source file can have
 abbrev pub is_low : Token → Bool
-is_low t = nat_lt t.line (2 ^ 22 + 1)
+is_low t = nat_lt t.line (most_bytes + 1)
 
 -- the same for tokens with their hide sets
 abbrev pub is_sound : Hidden → Bool

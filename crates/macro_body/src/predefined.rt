@@ -2,6 +2,7 @@
 ghost use Rattle.std.specs.Prelude.{◌≡◌, ◌<◌, ◌≤◌, ◌+◌, ◌++◌, ◌^◌, [], IfOk};
 ghost use Rattle.std.specs.List.{flat_map};
 ghost use Rattle.cs_base.specs.declared.tokens.Kind.TheVariants.{Str};
+ghost use Rattle.cs_base.specs.Limits.{most_bytes};
 ghost use Rattle.paste_origin.specs.Strings.{escaped};
 ghost use Rattle.macro_body.specs.Substitution.{digit_origins, line_number, path_text, path_string};
 
@@ -12,7 +13,7 @@ use std::alloc::Global;
 /// The number that stands for `__LINE__` (6.10.8): the line of the name, counted from 1. Its characters come
 /// from the digits of the line in the file with number 0. `Memory` where memory ran out.
 pub fn line_number(alloc: Global, name: &Tok) -> Result<Tok, Memory>
-    requires low { name.now.line ≤ 2 ^ 22 }
+    requires low { name.now.line ≤ most_bytes }
     ensures { IfOk result (λ t. t ≡ line_number name.now) }
 {
     let mut buffer = Buffer::new();

@@ -2,6 +2,7 @@
 use Rattle.std.proofs.Common.{◌≡◌, ℕ, zero, suc, ◌<◌, ◌≤◌, ◌^◌, true, false, nat_lt, List, length, Option, Some, None, Ok, Err, IfSome, inl, inr, refl, sym, ap, ◌∙◌}
 use Rattle.std.specs.Option.{option_and_then}
 use Rattle.std.proofs.lemmas.Bool.{cases_Bool, le-ltb, lt-ltb, ltb-true}
+use Rattle.cs_base.specs.Limits.{most_bytes}
 use Rattle.part_lexer.specs.declared.refusal.LexRefusal.{LexRefusal}
 use Rattle.part_lexer.specs.declared.refusal.LexRefusal.TheVariants as refused
 use Rattle.part_lexer.specs.Refusal.{fault_of}
@@ -11,7 +12,7 @@ use Rattle.part_lexer.specs.Tokens.{tokens_of, firsts_of, open_comment_of}
 use Rattle.part_lexer.specs.Lines.{place_of_byte, byte_at_place, byte_offset_of, line_column_of, index_in, offset_of}
 use Rattle.part_lexer.specs.LineTable.{line_starts, place_in}
 use Rattle.part_lexer.specs.GoneTable.{gone_of, marks_of, byte_in, character_in}
-use Rattle.part_lexer.specs.FileText.{TextValue, FileTooLarge, open_at, most_bytes, text_value, text_or_open, file_text, byte_at, place_at, place_byte, offset_at}
+use Rattle.part_lexer.specs.FileText.{TextValue, FileTooLarge, open_at, text_value, text_or_open, file_text, byte_at, place_at, place_byte, offset_at}
 use Rattle.part_lexer.proofs.LineLemmas.{place_of_byte-table, byte_at_place-table, byte_at_place-within}
 use Rattle.part_lexer.proofs.GoneLemmas.{byte_offset_of-table, byte_in-within, index_in-table}
 

@@ -1,7 +1,8 @@
 -- The text of a source file as contracts see it, or why there is none.
-use Rattle.std.specs.Prelude.{◌≡◌, ℕ, zero, suc, ◌^◌, nat_lt, if◌then◌else◌, Bool, List, length, Option, Some, None, Result, Ok, Err, unwrap_or}
+use Rattle.std.specs.Prelude.{◌≡◌, ℕ, zero, suc, nat_lt, if◌then◌else◌, Bool, List, length, Option, Some, None, Result, Ok, Err, unwrap_or}
 use Rattle.std.specs.Option.{option_map, option_and_then}
 use Rattle.cs_base.specs.Token.{Token}
+use Rattle.cs_base.specs.Limits.{most_bytes}
 use Rattle.part_lexer.specs.Logical.{logical_of}
 use Rattle.part_lexer.specs.Lines.{line_column_of}
 use Rattle.part_lexer.specs.Tokens.{tokens_of, firsts_of, open_comment_of}
@@ -25,10 +26,6 @@ pub record TextValue : Type 0 where
 pub data LexFault : Type 0 where
   FileTooLarge : LexFault
   OpenComment : ℕ → ℕ → ℕ → LexFault
-
--- a file may have this many bytes (this project's limit)
-abbrev pub most_bytes : ℕ
-most_bytes = 2 ^ 22
 
 -- the text of a file without such a comment, given by its number and its bytes
 unfoldable pub text_value : ℕ → List ℕ → TextValue

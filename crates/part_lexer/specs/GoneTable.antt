@@ -1,9 +1,10 @@
 -- The table of bytes that are no logical character: the bytes of line splices, and the carriage returns
 -- of new-lines.
-use Rattle.std.specs.Prelude.{◌≤◌, ◌<◌, ◌^◌, ℕ, zero, suc, ◌+◌, ◌-◌, ◌==◌, nat_lt, nat_le, Bool, false, if◌then◌else◌, List, [], ◌∷◌, length, get_or, slice_get, Option, Some, None}
+use Rattle.std.specs.Prelude.{◌≤◌, ◌<◌, ℕ, zero, suc, ◌+◌, ◌-◌, ◌==◌, nat_lt, nat_le, Bool, false, if◌then◌else◌, List, [], ◌∷◌, length, get_or, slice_get, Option, Some, None}
 use Rattle.std.specs.List.{prefix_len}
 use Rattle.std.specs.Option.{option_map_or}
 use Rattle.std.specs.List.Sorted.{IsNonDecreasing}
+use Rattle.cs_base.specs.Limits.{most_bytes}
 use Rattle.part_lexer.specs.Logical.{gone_length}
 
 -- how many bytes go from this one on, where `skip` go that go with one before
@@ -54,4 +55,4 @@ pub record IsGoneTable (len size : ℕ) (gone marks : List ℕ) : Type 0 where
   pub apart : (k : ℕ) → k < length gone → k ≤ get_or gone k 0
   pub marks_rise : IsNonDecreasing marks
   pub few : len + length marks ≤ size
-  pub small : size ≤ 2 ^ 22
+  pub small : size ≤ most_bytes

@@ -1,7 +1,8 @@
 -- The table of line starts: for each line the number of the bytes before it.
-use Rattle.std.specs.Prelude.{◌≡◌, ℕ, suc, ◌+◌, ◌-◌, ◌≤◌, ◌^◌, nat_lt, nat_le, ◌==◌, true, false, if◌then◌else◌, List, [], ◌∷◌, length, get_or, slice_get, Option, Some, None}
+use Rattle.std.specs.Prelude.{◌≡◌, ℕ, suc, ◌+◌, ◌-◌, ◌≤◌, nat_lt, nat_le, ◌==◌, true, false, if◌then◌else◌, List, [], ◌∷◌, length, get_or, slice_get, Option, Some, None}
 use Rattle.std.specs.List.Sorted.{IsNonDecreasing, IsPartitionPoint}
 use Rattle.std.specs.Option.{option_and_then}
+use Rattle.cs_base.specs.Limits.{most_bytes}
 use Rattle.part_lexer.specs.Characters.{line_feed}
 
 -- where the lines begin that begin behind a line feed of these characters, the first being `at`
@@ -38,7 +39,7 @@ pub record IsTable (len : ℕ) (starts : List ℕ) : Type 0 where
   pub first : slice_get starts 0 ≡ Some 0
   pub rises : IsNonDecreasing starts
   pub few : length starts ≤ len + 1
-  pub small : len ≤ 2 ^ 22
+  pub small : len ≤ most_bytes
 
 -- what a search of the table for a character finds: the lines before that index begin at the
 -- character or before it, and the others behind it

@@ -2,6 +2,7 @@
 ghost use Rattle.std.specs.Prelude.{◌≡◌, ◌≤◌, ◌<◌, ◌+◌, ◌^◌, nat_lt, nat_le, if◌then◌else◌, ℕ, IfOk, Some, None, length, get_or};
 ghost use Rattle.std.specs.List.{prefix_len};
 ghost use Rattle.std.specs.List.Sorted.{IsNonDecreasing};
+ghost use Rattle.cs_base.specs.Limits.{most_bytes};
 ghost use Rattle.part_lexer.specs.GoneTable.{gone_of, marks_of, byte_in as byte, character_in as character, gone_before as before, is_gone as gone_is, going as going_of};
 
 use crate::logical::gone_length;
@@ -23,7 +24,7 @@ fn going(skip: usize, first: u8, after: &[u8]) -> usize
 
 /// The offsets of the bytes of a file that go.
 pub(crate) fn gone_offsets(alloc: Global, bytes: &[u8]) -> Result<Vec<u32>, Memory>
-    requires { length bytes.now ≤ 2 ^ 22 }
+    requires { length bytes.now ≤ most_bytes }
     ensures { IfOk result (λ gone. gone.items ≡ gone_of bytes.now) }
 {
     let mut gone = Vec::new(alloc);
@@ -44,7 +45,7 @@ pub(crate) fn gone_offsets(alloc: Global, bytes: &[u8]) -> Result<Vec<u32>, Memo
 
 /// For each byte of a file that goes, the number of the logical characters before it.
 pub(crate) fn gone_marks(alloc: Global, bytes: &[u8]) -> Result<Vec<u32>, Memory>
-    requires { length bytes.now ≤ 2 ^ 22 }
+    requires { length bytes.now ≤ most_bytes }
     ensures { IfOk result (λ marks. marks.items ≡ marks_of bytes.now) }
 {
     let mut marks = Vec::new(alloc);

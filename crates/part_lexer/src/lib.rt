@@ -11,8 +11,9 @@
 //! `specs/Tokens.antt`, then `scan.rt`.
 #![tactic(auto)]
 
-ghost use Rattle.std.specs.Prelude.{◌≡◌, ◌<◌, ◌≤◌, ◌^◌, ◌↔◌, length, IsErrOf};
+ghost use Rattle.std.specs.Prelude.{◌≡◌, ◌<◌, ◌≤◌, ◌↔◌, length, IsErrOf};
 ghost use Rattle.cs_base.specs.Answer.{Gives};
+ghost use Rattle.cs_base.specs.Limits.{most_bytes};
 ghost use Rattle.part_lexer.specs.FileText.{file_text};
 ghost use Rattle.part_lexer.specs.Refusal.{fault_of};
 
@@ -29,6 +30,7 @@ mod refusal;
 mod scan;
 mod single;
 
+use cs_base::MOST_BYTES;
 pub use file_text::FileText;
 pub use front::is_identifier;
 pub use laws::tokens_can_be_renamed;
@@ -36,11 +38,9 @@ pub use refusal::LexRefusal;
 pub use single::one_token;
 use std::alloc::Global;
 
-const MOST_BYTES: usize = 1 << 22;
-
 /// The text of file number `file`, or the first fault.
 pub fn lex(alloc: Global, file: u32, bytes: &[u8]) -> Result<FileText, LexRefusal>
-    ensures too_large { IsErrOf result LexRefusal.FileTooLarge ↔ (2 ^ 22 < length bytes.now) }
+    ensures too_large { IsErrOf result LexRefusal.FileTooLarge ↔ (most_bytes < length bytes.now) }
     ensures answer { Gives (λ text. text) fault_of result (file_text file bytes.now) }
 {
     if bytes.len() > MOST_BYTES {

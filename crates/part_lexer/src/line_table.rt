@@ -1,5 +1,6 @@
 // The table of line starts, by which lines and columns are looked up without the text.
-ghost use Rattle.std.specs.Prelude.{◌≡◌, ◌≤◌, ◌<◌, ◌+◌, ◌^◌, nat_lt, if◌then◌else◌, IfOk, Some, None, length};
+ghost use Rattle.std.specs.Prelude.{◌≡◌, ◌≤◌, ◌<◌, ◌+◌, nat_lt, if◌then◌else◌, IfOk, Some, None, length};
+ghost use Rattle.cs_base.specs.Limits.{most_bytes};
 ghost use Rattle.part_lexer.specs.LineTable.{line_starts as starts_of, place_in as place, offset_in as offset, IsTable, Found};
 
 use cs_base::Memory;
@@ -8,7 +9,7 @@ use std::alloc::Global;
 #[tactic(auto, unfolding(crate::specs::LineTable::line_starts))]
 /// Where the lines of a file begin.
 pub(crate) fn line_starts(alloc: Global, bytes: &[u8]) -> Result<Vec<u32>, Memory>
-    requires { length bytes.now ≤ 2 ^ 22 }
+    requires { length bytes.now ≤ most_bytes }
     ensures { IfOk result (λ starts. starts.items ≡ starts_of bytes.now) }
 {
     let mut starts = Vec::new(alloc);

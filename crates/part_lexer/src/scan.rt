@@ -1,5 +1,6 @@
 // The pieces of a file, from its first byte to its last.
 ghost use Rattle.std.specs.Prelude.{◌≡◌, ◌≤◌, ◌<◌, ◌+◌, ◌-◌, ◌++◌, ◌==◌, ◌^◌, ℕ, IfOk, MatchResult, true, length, take, count_by};
+ghost use Rattle.cs_base.specs.Limits.{most_bytes};
 ghost use Rattle.part_lexer.specs.LineTable.{line_starts, place_in as place};
 ghost use Rattle.part_lexer.specs.Logical.{line_at as line_of};
 ghost use Rattle.part_lexer.specs.Scan.{IsScanned, ScanRefused};
@@ -102,7 +103,7 @@ pub(crate) fn scan(
     bytes: &[u8],
     starts: &[u32],
 ) -> Result<Scanned, LexRefusal>
-    requires small { length bytes.now ≤ 2 ^ 22 }
+    requires small { length bytes.now ≤ most_bytes }
     requires table { starts.now ≡ line_starts bytes.now }
     ensures { MatchResult result (λ s. IsScanned file bytes.now s) (λ e. ScanRefused bytes.now e) }
 {

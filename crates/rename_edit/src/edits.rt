@@ -7,14 +7,12 @@ ghost use Rattle.rename_edit.specs.Order.{AreByPath, IsNext};
 ghost use Rattle.rename_rules.specs.Runs.{edit_of, edits_of, new_bytes, AreApart};
 ghost use Rattle.cs_base.specs.declared.positions.Part.{Part as APart};
 
-use cs_base::{Edits, Memory, Part, Text};
+use cs_base::{Edits, MOST_BYTES_OF_ALL, Memory, Part, Text};
 use include_tree::KeptFile;
 use part_respell::respell;
 use rename_rules::run_length;
 use std::alloc::Global;
 use ws_core::Analysis;
-
-const MOST_OF_ALL: usize = 1 << 25;
 
 // One edit more.
 fn pushed(
@@ -57,7 +55,7 @@ fn with_file(
         file.text(),
         run,
         name,
-        MOST_OF_ALL,
+        MOST_BYTES_OF_ALL,
     )?;
     let count = run.len();
     if count > u32::MAX as usize {

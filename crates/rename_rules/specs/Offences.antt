@@ -1,6 +1,6 @@
 -- What stands against the renaming of a class to a name (this project's): nine offences, each at the places where
 -- it stands. A member's place is that of its first character.
-use Rattle.std.specs.Prelude.{ℕ, ◌^◌, ◌&&◌, ◌||◌, nat_le, nat_lt, if◌then◌else◌, Bool, List, [], ◌∷◌, ◌++◌, slice_get}
+use Rattle.std.specs.Prelude.{ℕ, ◌&&◌, ◌||◌, nat_le, nat_lt, if◌then◌else◌, Bool, List, [], ◌∷◌, ◌++◌, slice_get}
 use Rattle.std.specs.List.{flat_map, list_any}
 use Rattle.std.specs.Option.{option_map_or}
 use Rattle.std.specs.Str.{bytes_eq}
@@ -8,6 +8,7 @@ use Rattle.cs_base.specs.declared.positions.Part.{Part}
 use Rattle.cs_base.specs.declared.positions.Pos.{Pos}
 use Rattle.cs_base.specs.Reserved.{is_reserved_text}
 use Rattle.cs_base.specs.Token.{Token}
+use Rattle.cs_base.specs.Limits.{most_bytes_of_all}
 use Rattle.include_tree.specs.Below.line_shape.Signs.{is_name}
 use Rattle.ws_core.specs.Below.c_types.declared.lists.Range.{Range}
 use Rattle.ws_core.specs.Below.c_types.Declarations.{spelling_at}
@@ -76,7 +77,7 @@ large_place a name (m ∷ run) = if is_too_large a name (m ∷ run) then m.start
 -- where the first member of all stands, if the files together would have more than 2^25
 abbrev pub full_place : AnalysisValue → List ℕ → List Part → List Pos
 full_place a name [] = []
-full_place a name (m ∷ members) = if nat_lt (2 ^ 25) (new_size_of_all a name (m ∷ members)) then m.start ∷ [] else []
+full_place a name (m ∷ members) = if nat_lt most_bytes_of_all (new_size_of_all a name (m ∷ members)) then m.start ∷ [] else []
 
 -- TooLarge: the first member of a file that would grow too large, and the first of all where all files would
 unfoldable pub too_large_places : AnalysisValue → List Part → List ℕ → List Pos

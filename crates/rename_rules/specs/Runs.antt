@@ -1,10 +1,11 @@
 -- The members of a class by their files (this project's), and the files as they are edited. Members stand in the order
 -- of their places, and places are ordered by path first: so those of one file stand one behind the other.
-use Rattle.std.specs.Prelude.{ℕ, ◌+◌, ◌^◌, ◌≡◌, ◌<◌, ◌≤◌, ◌==◌, nat_lt, if◌then◌else◌, Bool, Option, None, List, [], ◌∷◌, length}
+use Rattle.std.specs.Prelude.{ℕ, ◌+◌, ◌≡◌, ◌<◌, ◌≤◌, ◌==◌, nat_lt, if◌then◌else◌, Bool, Option, None, List, [], ◌∷◌, length}
 use Rattle.std.specs.List.{flat_map, list_any, prefix_len}
 use Rattle.std.specs.Option.{option_map_or}
 use Rattle.cs_base.specs.declared.positions.Part.{Part}
 use Rattle.cs_base.specs.Edit.{Edit, edit}
+use Rattle.cs_base.specs.Limits.{most_bytes, most_bytes_of_all}
 use Rattle.include_tree.specs.Below.source_files.Files.{Table}
 use Rattle.include_tree.specs.Below.source_files.KeptFiles.{KeptValue, kept_in, kept_at}
 use Rattle.include_tree.specs.PseudoFiles.{is_pseudo}
@@ -50,7 +51,7 @@ new_size a name run = option_map_or (λ (f : KeptValue). size_of f (new_bytes na
 
 -- they would be more than a file may have
 abbrev pub is_too_large : AnalysisValue → List ℕ → List Part → Bool
-is_too_large a name run = nat_lt (2 ^ 22) (new_size a name run)
+is_too_large a name run = nat_lt most_bytes (new_size a name run)
 
 -- a member stands in the file with this number
 abbrev pub is_edited : List Part → ℕ → Bool
@@ -94,4 +95,4 @@ AreApart (m ∷ n ∷ members) =
 
 -- a size, as far as the limits ask for it
 abbrev pub most_size : ℕ
-most_size = 2 ^ 25 + 1
+most_size = most_bytes_of_all + 1

@@ -13,15 +13,11 @@ ghost use Rattle.rename_rules.specs.Runs.{is_edited, is_in, kept_size, kept_size
 
 use crate::offences::{Offence, first_with};
 use crate::renamings::Renaming;
-use cs_base::{Cause, Memory, Part};
+use cs_base::{Cause, MOST_BYTES, MOST_BYTES_OF_ALL, Memory, Part};
 use include_tree::KeptFile;
 use part_respell::respell;
 use std::alloc::Global;
 use ws_core::Analysis;
-
-const MOST_OF_ONE: usize = 1 << 22;
-
-const MOST_OF_ALL: usize = 1 << 25;
 
 // Whether this is the name of a pseudo file.
 fn is_pseudo(path: &[u8]) -> bool
@@ -62,8 +58,8 @@ fn sum(size: usize, more: usize) -> usize
     ensures { result ≡ min (size + more) most_size }
 {
     let sum = size + more;
-    if sum > MOST_OF_ALL {
-        MOST_OF_ALL + 1
+    if sum > MOST_BYTES_OF_ALL {
+        MOST_BYTES_OF_ALL + 1
     } else {
         sum
     }
@@ -73,8 +69,8 @@ fn sum(size: usize, more: usize) -> usize
 fn capped(size: usize) -> usize
     ensures { result ≡ min size most_size }
 {
-    if size > MOST_OF_ALL {
-        MOST_OF_ALL + 1
+    if size > MOST_BYTES_OF_ALL {
+        MOST_BYTES_OF_ALL + 1
     } else {
         size
     }
@@ -96,10 +92,10 @@ fn size_in(alloc: Global, file: &KeptFile, run: &[Part], name: &[u8]) -> Result<
         file.text(),
         run,
         name,
-        MOST_OF_ALL,
+        MOST_BYTES_OF_ALL,
     )? {
         Some(bytes) => Ok(bytes.len()),
-        None => Ok(MOST_OF_ALL + 1),
+        None => Ok(MOST_BYTES_OF_ALL + 1),
     }
 }
 
@@ -124,7 +120,7 @@ fn large_at(a: &Analysis, run: &[Part], size: usize, first: Option<Offence>) -> 
 {
     match run {
         [part, ..] => {
-            if size > MOST_OF_ONE {
+            if size > MOST_BYTES {
                 first_with(a, first, part.start, Cause::TooLarge)
             } else {
                 first
@@ -232,7 +228,7 @@ fn full_at(a: &Analysis, members: &[Part], total: usize, first: Option<Offence>)
 {
     match members {
         [part, ..] => {
-            if total > MOST_OF_ALL {
+            if total > MOST_BYTES_OF_ALL {
                 first_with(a, first, part.start, Cause::TooLarge)
             } else {
                 first

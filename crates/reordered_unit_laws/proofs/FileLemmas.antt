@@ -5,11 +5,12 @@ use Rattle.std.specs.Option.{option_and_then}
 use Rattle.std.proofs.lemmas.Bool.{ltb-true, ltb-false}
 use Rattle.std.proofs.lemmas.Option.{none-some, same_Some}
 use Rattle.include_tree.specs.Below.cs_base.Token.{Token}
+use Rattle.include_tree.specs.Below.cs_base.Limits.{most_bytes}
 use Rattle.include_tree.specs.Below.line_shape.Items.{Follow}
 use Rattle.include_tree.specs.Below.line_shape.declared.items.Item.{Item}
 use Rattle.include_tree.specs.Below.macro_body.Hides.{toks_of}
 use Rattle.include_tree.specs.Below.macro_body.Notes as expansion
-use Rattle.include_tree.specs.Below.part_lexer.FileText.{TextValue, FileTooLarge, most_bytes, text_value, text_or_open, file_text}
+use Rattle.include_tree.specs.Below.part_lexer.FileText.{TextValue, FileTooLarge, text_value, text_or_open, file_text}
 use Rattle.include_tree.specs.Below.part_lexer.Order.{InOrder}
 use Rattle.include_tree.specs.Below.part_lexer.Tokens.{tokens_of, firsts_of, open_comment_of}
 use Rattle.include_tree.specs.Below.source_files.Files.{Source, SourceFile, Opened, Made, Entry, entry, Table}

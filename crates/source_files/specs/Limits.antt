@@ -1,6 +1,7 @@
 -- This project's limits on translation units. The standard sets lower bounds for some (ISO/IEC 9899:1999,
 -- 5.2.4.1).
-use Rattle.std.specs.Prelude.{ℕ, ◌^◌}
+use Rattle.std.specs.Prelude.{ℕ}
+use Rattle.cs_base.specs.Limits.{most_bytes_of_all, most_files, most_open_files, most_tokens, most_tokens_of_all, most_work}
 
 -- How many files may be read, and how many bytes in them together; how many files may be open inside one
 -- another, that of the unit among them; what the replacements of macros in a unit may cost together; how
@@ -26,4 +27,4 @@ limits files all_bytes open_files work unit_toks all_toks = record {
 
 -- the limits that hold; that on the bytes of one file is the lexer's
 abbrev pub the_limits : Limits
-the_limits = limits 4096 (2 ^ 25) 200 (2 ^ 22) (2 ^ 22) (2 ^ 23)
+the_limits = limits most_files most_bytes_of_all most_open_files most_work most_tokens most_tokens_of_all

@@ -1,9 +1,10 @@
 -- Source files that are kept, as they are opened.
-use Rattle.std.specs.Prelude.{◌≡◌, ℕ, ◌-◌, ◌^◌, min, Option, Some, None, List, Result, Ok, Err, IfSome}
+use Rattle.std.specs.Prelude.{◌≡◌, ℕ, ◌-◌, min, Option, Some, None, List, Result, Ok, Err, IfSome}
 use Rattle.std.specs.Option.{option_and_then}
 use Rattle.part_lexer.specs.FileText.{TextValue, LexFault, file_text}
 use Rattle.cs_base.specs.declared.causes.Cause.TheVariants.{MissingFile}
 use Rattle.cs_base.specs.declared.positions.Place.{Place}
+use Rattle.cs_base.specs.Limits.{most_tokens, most_tokens_of_all}
 use Rattle.source_files.specs.declared.pre_fault.PreFault.{PreFault}
 use Rattle.source_files.specs.Limits.{the_limits}
 use Rattle.source_files.specs.Files.{SourceFile, source_file, Table}
@@ -28,7 +29,7 @@ source_at table number = option_and_then source_kept (kept_at table number)
 
 -- how many tokens the unit may have
 abbrev pub unit_most : ℕ → ℕ
-unit_most earlier = min (2 ^ 22) (2 ^ 23 - earlier)
+unit_most earlier = min most_tokens (most_tokens_of_all - earlier)
 
 -- An opening as it is answered: the number of its file is told, which is kept; or its fault, which yields to
 -- want of memory and a failed read.

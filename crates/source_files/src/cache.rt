@@ -1,10 +1,11 @@
 // What is kept from unit to unit.
-ghost use Rattle.std.specs.Prelude.{◌≡◌, ◌⊎◌, ◌≤◌, ◌<◌, ◌+◌, ◌^◌, ℕ, false, MatchBool, None, Err, IfErr, IfSome, IsSome, OnErr, option_copied, not, IfOk, OnOk, length, slice_get};
+ghost use Rattle.std.specs.Prelude.{◌≡◌, ◌⊎◌, ◌≤◌, ◌<◌, ◌+◌, ℕ, false, MatchBool, None, Err, IfErr, IfSome, IsSome, OnErr, option_copied, not, IfOk, OnOk, length, slice_get};
 ghost use Rattle.std.specs.Option.{option_map};
 ghost use Rattle.std.specs.Str.{bytes_eq};
 ghost use Rattle.part_lexer.specs.FileText.{file_text};
 ghost use Rattle.part_lexer.specs.Refusal.{fault_of as lex_fault_of};
 ghost use Rattle.cs_base.specs.Outside.{ReadsOnly};
+ghost use Rattle.cs_base.specs.Limits.{most_bytes, most_bytes_of_all};
 ghost use Rattle.source_files.specs.Limits.{the_limits};
 ghost use Rattle.source_files.specs.Files.{Source, Table, lines_path, nothing_carried, asked, found_at, number_at};
 ghost use Rattle.source_files.specs.Opening.{opening, file_read};
@@ -21,16 +22,10 @@ use crate::file_table::FileTable;
 use crate::kept_file::KeptFile;
 use crate::pre_fault::{PreFault, fault_at, fault_there};
 use crate::status::{Status, is_there, status_of};
-use cs_base::{Cause, Files, Place};
+use cs_base::{Cause, Files, MOST_BYTES, MOST_BYTES_OF_ALL, MOST_FILES, Place};
 use part_lexer::LexRefusal;
 use std::alloc::Global;
 use std::marker::Model;
-
-const MOST_FILES: u32 = 4096;
-
-const MOST_FILE_BYTES: usize = 1 << 22;
-
-const MOST_BYTES: usize = 1 << 25;
 
 /// The files that were read, absent paths too, each under its number, and how many tokens the units had.
 #[derive(Drop)]
@@ -175,10 +170,10 @@ impl Cache {
 
 // So many bytes more are too many; a file that is too large is named for that.
 fn is_too_much(size: usize, bytes: u32) -> bool
-    requires { bytes ≤ 2 ^ 25 }
-    ensures { MatchBool result ((size ≤ 2 ^ 22) × (2 ^ 25 < bytes + size)) ((2 ^ 22 < size) ⊎ (bytes + size ≤ 2 ^ 25)) }
+    requires { bytes ≤ most_bytes_of_all }
+    ensures { MatchBool result ((size ≤ most_bytes) × (most_bytes_of_all < bytes + size)) ((most_bytes < size) ⊎ (bytes + size ≤ most_bytes_of_all)) }
 {
-    size <= MOST_FILE_BYTES && size > MOST_BYTES - bytes as usize
+    size <= MOST_BYTES && size > MOST_BYTES_OF_ALL - bytes as usize
 }
 
 // Why a file has no text, as a fault of the unit.

@@ -7,9 +7,10 @@ use Rattle.std.proofs.lemmas.List.{length-map}
 use Rattle.std.proofs.lemmas.Option.{same_Some, slice_get_within}
 use Rattle.template_meaning_laws.specs.Below.tree_laws.Below.cs_base.declared.positions.Part.{Part}
 use Rattle.template_meaning_laws.specs.Below.tree_laws.Below.cs_base.Token.{Token}
+use Rattle.template_meaning_laws.specs.Below.tree_laws.Below.cs_base.Limits.{most_bytes}
 use Rattle.template_meaning_laws.specs.Below.no_offence_laws.Below.line_shape.Signs.{is_open, is_close, is_comma}
 use Rattle.template_meaning_laws.specs.Below.no_offence_laws.Below.macro_body.Hides.{toks_of}
-use Rattle.template_meaning_laws.specs.Below.no_offence_laws.Below.part_lexer.FileText.{TextValue, LexFault, FileTooLarge, most_bytes, text_value, text_or_open, file_text}
+use Rattle.template_meaning_laws.specs.Below.no_offence_laws.Below.part_lexer.FileText.{TextValue, LexFault, FileTooLarge, text_value, text_or_open, file_text}
 use Rattle.template_meaning_laws.specs.Below.no_offence_laws.Below.part_lexer.Logical.{logical_of}
 use Rattle.template_meaning_laws.specs.Below.no_offence_laws.Below.part_lexer.Order.{InOrder}
 use Rattle.template_meaning_laws.specs.Below.no_offence_laws.Below.part_lexer.Tokens.{tokens_of, firsts_of, open_comment_of}

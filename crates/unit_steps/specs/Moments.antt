@@ -1,6 +1,7 @@
 -- What the program knows at each moment, and the state of the definition.
-use Rattle.std.specs.Prelude.{◌≡◌, ◌≤◌, ◌^◌, ◌++◌, ◌∷◌, [], ℕ, None, OnOk, Result, length}
+use Rattle.std.specs.Prelude.{◌≡◌, ◌≤◌, ◌++◌, ◌∷◌, [], ℕ, None, OnOk, Result, length}
 use Rattle.cs_base.specs.Token.{Token}
+use Rattle.cs_base.specs.Limits.{most_tokens, most_work}
 use Rattle.macro_expand.specs.Below.macro_body.Live.{table_of}
 use Rattle.macro_expand.specs.Below.macro_body.Sound.{AllTraced}
 use Rattle.unit_steps.specs.declared.events.EventKind.{EventKind}
@@ -25,8 +26,8 @@ state_in table p = record {
 -- What is true at each moment.
 pub record IsAble (p : Progress) : Type 0 where
   pub few : length p.text.toks ≤ p.most
-  pub low : p.most ≤ 2 ^ 22
-  pub little : p.work.left ≤ 2 ^ 22
+  pub low : p.most ≤ most_tokens
+  pub little : p.work.left ≤ most_work
   pub traced : AllTraced (table_of p.macros)
 
 -- A step goes on: where it is done, all this is true behind it; and it leaves the limit.

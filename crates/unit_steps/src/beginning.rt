@@ -1,5 +1,6 @@
 // What is known at the beginning of a unit (6.10.8).
-ghost use Rattle.std.specs.Prelude.{◌≡◌, ◌≤◌, ◌^◌, [], IfOk};
+ghost use Rattle.std.specs.Prelude.{◌≡◌, ◌≤◌, [], IfOk};
+ghost use Rattle.cs_base.specs.Limits.{most_tokens, most_work};
 ghost use Rattle.macro_expand.specs.Below.macro_body.Live.{table_of};
 ghost use Rattle.macro_expand.specs.Below.macro_body.Defining.{first_definition, first_macros};
 ghost use Rattle.source_files.specs.Files.{Table};
@@ -9,11 +10,9 @@ ghost use Rattle.unit_steps.specs.Moments.{state_in, IsAble};
 use crate::first_names::FirstNames;
 use crate::progress::Progress;
 use crate::unit_text::UnitText;
-use cs_base::{Kind, Memory, Pos, Tok, Toks};
+use cs_base::{Kind, MOST_WORK, Memory, Pos, Tok, Toks};
 use macro_expand::{Definition, Form, Macros, Work};
 use std::alloc::Global;
-
-const MOST_WORK: u32 = 1 << 22;
 
 // A macro that no `define` line defines.
 fn first_definition(alloc: Global, form: Form, name: &[u8]) -> Result<Definition, Memory>
@@ -44,11 +43,11 @@ fn first_macros(alloc: Global) -> Result<Macros, Memory>
 impl Progress {
     /// Nothing happened yet; the unit may have so many tokens.
     pub fn begin(alloc: Global, most: u32) -> Result<Progress, Memory>
-        requires { most ≤ 2 ^ 22 }
+        requires { most ≤ most_tokens }
         ensures able { IfOk result (λ p. IsAble p) }
         ensures most { IfOk result (λ p. p.most ≡ most) }
         ensures text { IfOk result (λ p. p.text ≡ no_text) }
-        ensures state { (table : Table) → IfOk result (λ p. state_in table p ≡ record { table = table; macros = first_macros; work = 2 ^ 22; names = []; before = 0 }) }
+        ensures state { (table : Table) → IfOk result (λ p. state_in table p ≡ record { table = table; macros = first_macros; work = most_work; names = []; before = 0 }) }
     {
         Ok(Progress {
             alloc,

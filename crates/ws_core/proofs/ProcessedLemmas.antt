@@ -6,7 +6,8 @@ use Rattle.std.specs.Option.{option_map_or, option_and_then}
 use Rattle.std.proofs.lemmas.Bool.{cases_Bool, both_ways}
 use Rattle.std.proofs.lemmas.Option.{same_Some}
 use Rattle.cs_base.specs.Token.{Token}
-use Rattle.include_tree.specs.Below.part_lexer.FileText.{TextValue, most_bytes, text_value, text_or_open, file_text}
+use Rattle.cs_base.specs.Limits.{most_bytes}
+use Rattle.include_tree.specs.Below.part_lexer.FileText.{TextValue, text_value, text_or_open, file_text}
 use Rattle.include_tree.specs.Below.part_lexer.Tokens.{tokens_of, firsts_of, open_comment_of}
 use Rattle.include_tree.specs.Below.line_shape.declared.items.Item.{Item}
 use Rattle.include_tree.specs.Below.line_shape.Items.{items_of}

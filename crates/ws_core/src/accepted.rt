@@ -1,6 +1,7 @@
 // A workspace whose units are accepted: preprocessed, read and bound.
 ghost use Rattle.std.specs.Prelude.{◌≡◌, ◌≤◌, length, option_copied, slice_get};
 ghost use Rattle.std.specs.Option.{option_map};
+ghost use Rattle.cs_base.specs.Limits.{most_units};
 ghost use Rattle.include_tree.specs.Below.source_files.KeptFiles.{kept_at};
 ghost use Rattle.include_tree.specs.Below.source_files.Tables.{AreText, BeginsWithLines, HasEachOnce};
 
@@ -94,6 +95,7 @@ pub(crate) struct Accepted {
 
 impl Model for Accepted {
     ghost use Rattle.std.specs.Prelude.{◌≤◌, length};
+    ghost use Rattle.cs_base.specs.Limits.{most_units};
     ghost use Rattle.std.specs.Coded.{codes};
     ghost use Rattle.c99_tree.specs.TreeCode.{node_code};
     ghost use Rattle.ws_core.specs.Analysis.{AnalysisValue, analysis_and};
@@ -104,14 +106,14 @@ impl Model for Accepted {
 
     ghost view = { λ a. analysis_and a.workspace a.units.items a.cache.table };
 
-    ghost invariant = { λ a. length a.units.items ≤ 1024 };
+    ghost invariant = { λ a. length a.units.items ≤ most_units };
 }
 
 impl Accepted {
     ghost use Rattle.ws_core.specs.Analysis.{analysis_and};
 
     pub(crate) fn new(workspace: Workspace, units: Vec<UnitParts>, cache: Cache) -> Accepted
-        requires few { length units.items ≤ 1024 }
+        requires few { length units.items ≤ most_units }
         ensures { result ≡ analysis_and workspace units.items cache.table }
     {
         Accepted {
@@ -124,7 +126,7 @@ impl Accepted {
     /// The workspace, the units and the files, each as it is.
     pub(crate) fn into_parts(self) -> (Workspace, Vec<UnitParts>, Cache)
         ensures answer { analysis_and result.0 result.1.items result.2.table ≡ self }
-        ensures few { length result.1.items ≤ 1024 }
+        ensures few { length result.1.items ≤ most_units }
     {
         let Accepted {
             workspace,
@@ -143,7 +145,7 @@ impl Accepted {
     /// The units in order.
     pub(crate) fn units(&self) -> &[UnitParts]
         ensures answer { result.now ≡ self.now.units }
-        ensures few { length self.now.units ≤ 1024 }
+        ensures few { length self.now.units ≤ most_units }
     {
         self.units.as_slice()
     }

@@ -2,6 +2,7 @@
 ghost use Rattle.std.specs.Prelude.{◌≡◌, ◌≤◌, ◌+◌, ◌++◌, ◌∷◌, [], IfOk, OnOk, length};
 ghost use Rattle.cs_base.specs.Answer.{Gives};
 ghost use Rattle.cs_base.specs.Outside.{ReadsOnly};
+ghost use Rattle.cs_base.specs.Limits.{most_units};
 ghost use Rattle.include_tree.specs.Below.source_files.Files.{Source, Table, nothing_carried};
 ghost use Rattle.include_tree.specs.Below.source_files.Tables.{AreFound};
 ghost use Rattle.ws_core.specs.Answers.{fault_of, reads_of};
@@ -51,7 +52,7 @@ fn accepted_units<F: Files>(
     files: &mut F,
     units: &[Unit],
 ) -> Result<Vec<UnitParts>, AnalyseFault>
-    requires few { length units.now ≤ 1024 }
+    requires few { length units.now ≤ most_units }
     requires first { cache.old ≡ nothing_carried }
     ensures each { IfOk result (λ all. length all.items ≡ length units.now) }
     ensures over { IsOver (F.told files.old).held cache.new.table (λ source. Gives (λ all. units_and all.items cache.new.table) fault_of result (units_of source units.now)) }

@@ -1,5 +1,6 @@
 // The units of a workspace that are preprocessed.
 ghost use Rattle.std.specs.Prelude.{◌≡◌, ◌≤◌, ◌-◌, Some, length, slice_get, option_copied};
+ghost use Rattle.cs_base.specs.Limits.{most_units};
 ghost use Rattle.include_tree.specs.Below.source_files.KeptFiles.{kept_at};
 ghost use Rattle.include_tree.specs.Below.source_files.Tables.{AreText, HasEachOnce};
 
@@ -16,20 +17,21 @@ pub struct Texts {
 
 impl Model for Texts {
     ghost use Rattle.std.specs.Prelude.{◌≤◌, length};
+    ghost use Rattle.cs_base.specs.Limits.{most_units};
     ghost use Rattle.ws_core.specs.Texts.{TextsValue, texts_and};
 
     ghost Value = { TextsValue };
 
     ghost view = { λ t. texts_and t.texts.items t.cache.table };
 
-    ghost invariant = { λ t. length t.texts.items ≤ 1024 };
+    ghost invariant = { λ t. length t.texts.items ≤ most_units };
 }
 
 impl Texts {
     ghost use Rattle.ws_core.specs.Texts.{texts_and};
 
     pub(crate) fn new(texts: Vec<UnitText>, cache: Cache) -> Texts
-        requires few { length texts.items ≤ 1024 }
+        requires few { length texts.items ≤ most_units }
         ensures answer { result ≡ texts_and texts.items cache.table }
     {
         Texts { texts, cache }

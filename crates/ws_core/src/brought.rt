@@ -6,7 +6,7 @@ ghost use Rattle.ws_core.specs.BroughtNumbers.{all_brought};
 ghost use Rattle.ws_core.specs.FileTokens.{number_of_event, numbers_brought};
 
 use crate::accepted::UnitParts;
-use cs_base::{Memory, Tok};
+use cs_base::{MOST_BYTES, Memory, Tok};
 use include_tree::{Event, EventKind, UnitText};
 use macro_expand::{line_number, push_shared};
 use std::alloc::Global;
@@ -70,7 +70,7 @@ fn line_name(event: &Event) -> Option<&Tok>
 fn number_of(alloc: Global, name: &Tok) -> Result<Tok, Memory>
     ensures { IfOk result (λ t. t ≡ line_number name.now) }
 {
-    if name.line() > 1 << 22 {
+    if name.line() as usize > MOST_BYTES {
         return Err(Memory);
     }
     line_number(alloc, name)

@@ -2,6 +2,7 @@
 ghost use Rattle.std.specs.Prelude.{◌≡◌, ◌≤◌, ◌+◌, ◌++◌, ◌∷◌, [], IfOk, IfSome, OnOk, length};
 ghost use Rattle.cs_base.specs.Answer.{Gives, result_map_err};
 ghost use Rattle.cs_base.specs.Outside.{ReadsOnly};
+ghost use Rattle.cs_base.specs.Limits.{most_units};
 ghost use Rattle.include_tree.specs.Below.source_files.Files.{Source, Table, source_of, nothing_carried};
 ghost use Rattle.include_tree.specs.Below.source_files.Tables.{AreFound};
 ghost use Rattle.include_tree.specs.Preprocessed.{with_text};
@@ -72,7 +73,7 @@ fn unit_texts<F: Files>(
     files: &mut F,
     units: &[Unit],
 ) -> Result<Vec<UnitText>, AnalyseFault>
-    requires few { length units.now ≤ 1024 }
+    requires few { length units.now ≤ most_units }
     requires first { cache.old ≡ nothing_carried }
     ensures each { IfOk result (λ all. length all.items ≡ length units.now) }
     ensures over { IsOver (F.told files.old).held cache.new.table (λ source. Gives (λ all. texts_and all.items cache.new.table) fault_of result (texts_of source units.now)) }

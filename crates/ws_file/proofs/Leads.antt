@@ -5,7 +5,7 @@ use Rattle.std.specs.List.{list_all}
 use Rattle.std.proofs.lemmas.Bool.{le-ltb, and_from}
 use Rattle.std.proofs.lemmas.List.Folds.{list_all-append}
 use Rattle.cs_base.specs.Units.{line_feed, ended_line}
-use Rattle.ws_file.specs.Workspace.{most_units}
+use Rattle.cs_base.specs.Limits.{most_units}
 use Rattle.ws_file.specs.Lines.{line_word}
 use Rattle.ws_file.specs.Reading.{Reading, with_word, with_line, checked, read_lines}
 use Rattle.ws_file.specs.Printing.{lines_text}

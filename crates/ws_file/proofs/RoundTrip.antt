@@ -16,7 +16,8 @@ use Rattle.cs_base.specs.Paths.{normal_path_of, is_normal, kept_of}
 use Rattle.cs_base.specs.Units.{UnitValue, unit, IsUnit, line_feed, backslash, less_sign, is_blank, begins_with, has_bad_ends, is_writable, is_project, is_unit_path, is_directory, is_nondigit, is_identifier, is_setting, defines_fit}
 use Rattle.cs_base.proofs.PathLaws.{list_all-reverse}
 use Rattle.cs_base.proofs.UnitLemmas.{is_utf8-ascii}
-use Rattle.ws_file.specs.Workspace.{WorkspaceValue, workspace, IsWorkspace, is_prefix, most_units}
+use Rattle.cs_base.specs.Limits.{most_units}
+use Rattle.ws_file.specs.Workspace.{WorkspaceValue, workspace, IsWorkspace, is_prefix}
 use Rattle.ws_file.specs.Lines.{lines_of, line_word}
 use Rattle.ws_file.specs.Reading.{Reading, reading, at_first, of_standard, with_word, read_lines, workspace_of}
 use Rattle.ws_file.specs.Printing.{readonly_line, project_line, standard_lines, ipath_line, define_line, file_line, unit_lines, lines_text, workspace_lines, workspace_text}

@@ -1,5 +1,5 @@
 -- Reading a workspace file, line by line.
-use Rattle.std.specs.Prelude.{ℕ, Bool, not, ◌||◌, ◌==◌, ◌+◌, ◌^◌, List, [], ◌∷◌, ◌++◌, Option, None, Some, Result, Ok, Err, length, codes, nat_lt, if◌then◌else◌}
+use Rattle.std.specs.Prelude.{ℕ, Bool, not, ◌||◌, ◌==◌, ◌+◌, List, [], ◌∷◌, ◌++◌, Option, None, Some, Result, Ok, Err, length, codes, nat_lt, if◌then◌else◌}
 use Rattle.std.specs.List.{list_all}
 use Rattle.std.specs.Str.{bytes_eq, is_utf8}
 use Rattle.cs_base.specs.declared.ws_units.Setting.{Setting}
@@ -8,9 +8,10 @@ use Rattle.cs_base.specs.declared.ws_units.Standard.{Standard as Language}
 use Rattle.cs_base.specs.declared.ws_units.Standard.TheVariants.{C99, C11}
 use Rattle.cs_base.specs.Paths.{normal_path_of}
 use Rattle.cs_base.specs.Units.{UnitValue, unit, backslash, less_sign, is_blank, begins_with, ends_with, has_bad_ends, is_nondigit, is_identifier, defines_fit}
+use Rattle.cs_base.specs.Limits.{most_bytes, most_units}
 use Rattle.ws_file.specs.declared.words.LineWord.{LineWord}
 use Rattle.ws_file.specs.declared.words.LineWord.TheVariants.{Project, Standard, Ipath, Readonly, Define, Undefine, File, Other}
-use Rattle.ws_file.specs.Workspace.{WorkspaceValue, workspace, most_units}
+use Rattle.ws_file.specs.Workspace.{WorkspaceValue, workspace}
 use Rattle.ws_file.specs.Lines.{lines_of, trimmed, first_word, rest_of, line_word}
 
 -- What the lines read so far say: the project, include paths and settings of the next units, the units
@@ -118,7 +119,7 @@ with_text text r =
 -- or is no UTF-8, or says nothing that a line may say.
 unfoldable pub with_line : ℕ → List ℕ → Reading → Option Reading
 with_line start line r =
-    if nat_lt (2 ^ 22) (start + length line) || not (is_utf8 line) then None
+    if nat_lt most_bytes (start + length line) || not (is_utf8 line) then None
     else with_text (trimmed line) r
 
 -- Why a file is refused, with the number of the line, from 1.

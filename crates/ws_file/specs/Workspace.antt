@@ -3,6 +3,7 @@ use Rattle.std.specs.Prelude.{ℕ, Bool, not, ◌&&◌, ◌≤◌, List, [], IsT
 use Rattle.std.specs.List.{list_all}
 use Rattle.std.specs.Str.{bytes_eq}
 use Rattle.cs_base.specs.Units.{UnitValue, IsUnit, is_writable}
+use Rattle.cs_base.specs.Limits.{most_units}
 
 -- A workspace: its units in order, numbered from 1, and the prefixes of read-only paths.
 pub record WorkspaceValue : Type 0 where
@@ -12,10 +13,6 @@ pub record WorkspaceValue : Type 0 where
 -- a workspace of these parts
 abbrev pub workspace : List UnitValue → List (List ℕ) → WorkspaceValue
 workspace units readonly = record { units = units; readonly = readonly }
-
--- how many units a workspace may have
-abbrev pub most_units : ℕ
-most_units = 1024
 
 -- a prefix of read-only paths, as written
 abbrev pub is_prefix : List ℕ → Bool

@@ -1,7 +1,8 @@
 // The text of a workspace.
-ghost use Rattle.std.specs.Prelude.{◌≡◌, ◌≤◌, ◌++◌, ◌^◌, Ok, IfOk, OnOk, length, map};
+ghost use Rattle.std.specs.Prelude.{◌≡◌, ◌≤◌, ◌++◌, Ok, IfOk, OnOk, length, map};
 ghost use Rattle.std.specs.List.{flat_map};
 ghost use Rattle.cs_base.specs.Units.{ended_line};
+ghost use Rattle.cs_base.specs.Limits.{most_bytes};
 ghost use Rattle.ws_file.specs.Reading.{workspace_of};
 ghost use Rattle.ws_file.specs.Printing.{readonly_line, standard_lines, ipath_line, define_line, unit_lines, lines_text, workspace_text};
 
@@ -13,7 +14,7 @@ use std::alloc::Global;
 /// The text of the workspace, which is read back as the same workspace where it fits into a file.
 pub fn print_ws(alloc: Global, ws: &Workspace) -> Result<Vec<u8>, Memory>
     ensures answer { IfOk result (λ text. text.items ≡ workspace_text ws.now) }
-    ensures read_back { IfOk result (λ text. length text.items ≤ 2 ^ 22 → workspace_of text.items ≡ Ok ws.now) }
+    ensures read_back { IfOk result (λ text. length text.items ≤ most_bytes → workspace_of text.items ≡ Ok ws.now) }
 {
     let mut text = Vec::new(alloc);
     add_prefixes(&mut text, ws.readonly())?;

@@ -1,7 +1,7 @@
 // The workspace of a file.
-ghost use Rattle.std.specs.Prelude.{◌≡◌, ◌≤◌, ◌+◌, ◌^◌, IsTrue, OnOk, length};
+ghost use Rattle.std.specs.Prelude.{◌≡◌, ◌≤◌, ◌+◌, IsTrue, OnOk, length};
 ghost use Rattle.cs_base.specs.Answer.{Gives};
-ghost use Rattle.ws_file.specs.Workspace.{most_units};
+ghost use Rattle.cs_base.specs.Limits.{most_bytes, most_units};
 ghost use Rattle.ws_file.specs.Reading.{with_line, checked, workspace_of};
 ghost use Rattle.ws_file.specs.Refusal.{fault_of};
 ghost use Rattle.ws_file.specs.Taking.{has_no_feed};
@@ -10,6 +10,7 @@ use crate::line_parts::first_line;
 use crate::reader::Reader;
 use crate::refusal::WsRefusal;
 use crate::workspaces::Workspace;
+use cs_base::MOST_UNITS;
 use std::alloc::Global;
 
 /// The workspace that the file describes, or its first fault.
@@ -30,8 +31,6 @@ pub fn read_ws(alloc: Global, bytes: &[u8]) -> Result<Workspace, WsRefusal>
     Ok(reader.finish())
 }
 
-const MOST_UNITS: usize = 1024;
-
 // Takes the line of this number, or refuses it.
 fn take_line(
     reader: &mut Reader,
@@ -42,7 +41,7 @@ fn take_line(
 ) -> Result<(), WsRefusal>
     requires { IsTrue (has_no_feed line.now) }
     ensures answer { Gives (λ _. reader.new) fault_of result (checked number (with_line start line.now reader.old)) }
-    ensures within { OnOk result (start + length line.now ≤ 2 ^ 22) }
+    ensures within { OnOk result (start + length line.now ≤ most_bytes) }
     ensures few { OnOk result (length reader.new.units ≤ most_units) }
 {
     if !reader.take_line(alloc, start, line)? {

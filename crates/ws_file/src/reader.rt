@@ -1,6 +1,7 @@
 // Reading a workspace file, line by line.
-ghost use Rattle.std.specs.Prelude.{◌≡◌, ◌≢◌, ◌≤◌, ◌+◌, ◌^◌, [], IfOk, IsTrue, length};
+ghost use Rattle.std.specs.Prelude.{◌≡◌, ◌≢◌, ◌≤◌, ◌+◌, [], IfOk, IsTrue, length};
 ghost use Rattle.cs_base.specs.Units.{is_writable};
+ghost use Rattle.cs_base.specs.Limits.{most_bytes, most_units};
 ghost use Rattle.ws_file.specs.declared.words.LineWord.{LineWord};
 
 use crate::copies::{copied_settings, copied_text, copied_texts};
@@ -11,7 +12,7 @@ use crate::text_tests::{
 };
 use crate::words::{LineWord, word_of};
 use crate::workspaces::Workspace;
-use cs_base::{Memory, Setting, Standard, Text, Unit, normal_path};
+use cs_base::{MOST_BYTES, Memory, Setting, Standard, Text, Unit, normal_path};
 use std::alloc::Global;
 use std::marker::Model;
 
@@ -39,7 +40,7 @@ impl Model for Reader {
 
 impl Reader {
     ghost use Rattle.cs_base.specs.Paths.{normal_path_of};
-    ghost use Rattle.ws_file.specs.Workspace.{workspace, most_units};
+    ghost use Rattle.ws_file.specs.Workspace.{workspace};
     ghost use Rattle.ws_file.specs.Reading.{at_first, with_project, with_standard, with_directory, with_prefix, with_define, with_undefine, with_unit, with_word, with_text, with_line};
     ghost use Rattle.ws_file.specs.Taking.{Takes, IsTrimmed, has_no_feed};
 
@@ -219,9 +220,9 @@ impl Reader {
     pub fn take_line(&mut self, alloc: Global, start: usize, line: &[u8]) -> Result<bool, Memory>
         requires { IsTrue (has_no_feed line.now) }
         ensures taken { IfOk result (λ taken. Takes (with_line start line.now self.old) taken self.new) }
-        ensures within { IfOk result (λ taken. IsTrue taken → start + length line.now ≤ 2 ^ 22) }
+        ensures within { IfOk result (λ taken. IsTrue taken → start + length line.now ≤ most_bytes) }
     {
-        if start > FILE_LIMIT || line.len() > FILE_LIMIT - start {
+        if start > MOST_BYTES || line.len() > MOST_BYTES - start {
             return Ok(false);
         }
         if !is_utf8(line) {
@@ -230,6 +231,3 @@ impl Reader {
         self.take_text(alloc, trimmed(line))
     }
 }
-
-// A file's lines end within this many bytes.
-const FILE_LIMIT: usize = 1 << 22;

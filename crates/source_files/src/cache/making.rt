@@ -1,6 +1,7 @@
 // Pseudo files, and tokens that are counted.
-ghost use Rattle.std.specs.Prelude.{◌≡◌, ◌≤◌, ◌+◌, ◌^◌, true, false, None, is_some, IfOk, IfErr, IsSome};
+ghost use Rattle.std.specs.Prelude.{◌≡◌, ◌≤◌, ◌+◌, true, false, None, is_some, IfOk, IfErr, IsSome};
 ghost use Rattle.std.specs.Str.{bytes_eq, is_utf8};
+ghost use Rattle.cs_base.specs.Limits.{most_tokens, most_tokens_of_all};
 ghost use Rattle.part_lexer.specs.FileText.{file_text};
 ghost use Rattle.source_files.specs.Limits.{the_limits};
 ghost use Rattle.source_files.specs.Files.{Made, lines_path, carried, found_at, numbered};
@@ -14,30 +15,27 @@ use crate::kept_file::KeptFile;
 use crate::opening::first_place;
 use crate::pre_fault::PreFault;
 use crate::slot::Slot;
+use cs_base::{MOST_TOKENS, MOST_TOKENS_OF_ALL};
 use std::alloc::Global;
-
-const MOST_UNIT_TOKS: u32 = 1 << 22;
-
-const MOST_TOKS: u32 = 1 << 23;
 
 impl Cache {
     // How many tokens the next unit may have.
     pub fn most(&self) -> u32
         ensures answer { result ≡ unit_most self.now.toks }
-        ensures low { result ≤ 2 ^ 22 }
-        ensures room { self.now.toks + result ≤ 2 ^ 23 }
+        ensures low { result ≤ most_tokens }
+        ensures room { self.now.toks + result ≤ most_tokens_of_all }
     {
-        let room = MOST_TOKS - self.toks;
-        if room < MOST_UNIT_TOKS {
+        let room = MOST_TOKENS_OF_ALL - self.toks;
+        if room < MOST_TOKENS {
             room
         } else {
-            MOST_UNIT_TOKS
+            MOST_TOKENS
         }
     }
 
     // So many tokens more.
     pub fn count(&mut self, toks: u32)
-        requires { self.old.toks + toks ≤ 2 ^ 23 }
+        requires { self.old.toks + toks ≤ most_tokens_of_all }
         ensures { self.new ≡ carried self.old.table (self.old.toks + toks) }
     {
         self.toks += toks;

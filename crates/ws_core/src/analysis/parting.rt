@@ -1,5 +1,6 @@
 // An analysis in its parts, and an analysis of parts.
 ghost use Rattle.std.specs.Prelude.{◌≡◌, ◌≤◌, IfOk, length};
+ghost use Rattle.cs_base.specs.Limits.{most_units};
 ghost use Rattle.ws_core.specs.Analysed.{analysed};
 ghost use Rattle.ws_core.specs.Analysis.{analysis_and};
 ghost use Rattle.ws_core.specs.Classes.{AreItsClasses};
@@ -28,7 +29,7 @@ impl Analysis {
     /// The parts of the analysis, each as it is. Takes no memory.
     pub fn into_parts(self) -> AnalysisParts
         ensures answer { analysed (analysis_and result.workspace result.units.items result.cache.table) result.classes ≡ self }
-        ensures few { length result.units.items ≤ 1024 }
+        ensures few { length result.units.items ≤ most_units }
         ensures own { AreItsClasses self.value self.classes }
     {
         let Analysis {
@@ -48,7 +49,7 @@ impl Analysis {
     /// The analysis of these parts, where the table has the classes of their links. The lists of the members of
     /// classes, of the identifiers that units process and of the numbers that they bring are made anew.
     pub fn of_parts(alloc: Global, parts: AnalysisParts) -> Result<Analysis, Memory>
-        requires few { length parts.units.items ≤ 1024 }
+        requires few { length parts.units.items ≤ most_units }
         requires own { AreItsClasses (analysis_and parts.workspace parts.units.items parts.cache.table) parts.classes }
         ensures { IfOk result (λ a. a ≡ analysed (analysis_and parts.workspace parts.units.items parts.cache.table) parts.classes) }
     {

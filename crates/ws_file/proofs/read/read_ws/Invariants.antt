@@ -1,5 +1,5 @@
 use Rattle.std.proofs.Common.{◌≡◌, ◌+◌, ◌≤◌, ◌^◌, ℕ, List, length}
-use Rattle.ws_file.specs.Workspace.{most_units}
+use Rattle.cs_base.specs.Limits.{most_units}
 use Rattle.ws_file.specs.Lines.{lines_of}
 use Rattle.ws_file.specs.Reading.{Reading, read_lines, workspace_of}
 use Rattle.ws_file.proofs.read.read_ws.Given as goal
