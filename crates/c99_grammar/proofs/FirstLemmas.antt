@@ -2,7 +2,7 @@
 use Rattle.std.proofs.Common.{ℕ, zero, suc, ◌<◌, ◌≡◌, Bool, true, false, not, List, [], ◌∷◌, length, get_or, refl, sym, ap, ◌∙◌, lit<, arith}
 use Rattle.std.specs.List.{list_all}
 use Rattle.std.proofs.lemmas.Bool.{and_parts}
-use Rattle.cs_base.specs.declared.ws_units.Standard.{Standard}
+use Rattle.c99_grammar.specs.declared.dialects.Dialect.{Dialect}
 use Rattle.c99_tree.specs.declared.production.Production.{Production}
 use Rattle.c99_tree.specs.declared.production.Production.TheVariants.{TranslationUnit, External, ExtRest, ExtTail, FunBody, Declaration, DeclRest, InitDecl, Sassert, Specs, Main, Mod, Qual, Word, StructSpec, SuRest, Members, Member, MemRest, Mdecl, EnumSpec, EnRest, Enumerators, Enumerator, Declarator, Pointer, Direct, Suffix, Bound, Params, Param, Pdecl, Pdirect, TypeName, Adecl, Adirect, Init, InitList, InitItem, Designator, Expr, Assign, Asgop, Cond, Lor, Land, Bor, Bxor, Band, Equal, Relate, Shift, Add, Mul, Cast, CastRest, Unary, SizeRest, SizeLit, Primary, Post, Args, Block, BlockItem, Statement, Sub, ForInit}
 use Rattle.c99_grammar.specs.declared.classes.Class.{Class}
@@ -11,7 +11,7 @@ use Rattle.c99_grammar.specs.First.{every}
 use Rattle.c99_grammar.specs.FirstSets.{alternative_starts, FirstSetsAreTheTables}
 use Rattle.c99_grammar.specs.Starting.{production_starts}
 use Rattle.c99_grammar.specs.Standard.{grammar}
-use Rattle.c99_grammar.proofs.StandardLemmas.{both}
+use Rattle.c99_grammar.proofs.StandardLemmas.{by_dialect}
 
 same_bool : Bool → Bool → Bool
 same_bool true b = b
@@ -135,281 +135,281 @@ all_of P all c =
     let at = place c in
     ap P (sym at.2) ∙ list_all-get P every at.0 c all at.1
 
-is_right : Production → Standard → Class → Class → Bool
+is_right : Production → Dialect → Class → Class → Bool
 is_right p s c d = same_bool (production_starts (grammar s) p c d) (alternative_starts s p c d)
 
-abbrev IsRight : Production → Standard → Type 0
+abbrev IsRight : Production → Dialect → Type 0
 IsRight p s = list_all (λ c. list_all (λ d. is_right p s c d) every) every ≡ true
 
-right_at-TranslationUnit : (s : Standard) → IsRight TranslationUnit s
+right_at-TranslationUnit : (s : Dialect) → IsRight TranslationUnit s
 unfolding is_right same_bool
-right_at-TranslationUnit = both (IsRight TranslationUnit) refl refl
+right_at-TranslationUnit = by_dialect (IsRight TranslationUnit) refl refl refl
 
-right_at-External : (s : Standard) → IsRight External s
+right_at-External : (s : Dialect) → IsRight External s
 unfolding is_right same_bool
-right_at-External = both (IsRight External) refl refl
+right_at-External = by_dialect (IsRight External) refl refl refl
 
-right_at-ExtRest : (s : Standard) → IsRight ExtRest s
+right_at-ExtRest : (s : Dialect) → IsRight ExtRest s
 unfolding is_right same_bool
 right_at-ExtRest s = refl
 
-right_at-ExtTail : (s : Standard) → IsRight ExtTail s
+right_at-ExtTail : (s : Dialect) → IsRight ExtTail s
 unfolding is_right same_bool
-right_at-ExtTail = both (IsRight ExtTail) refl refl
+right_at-ExtTail = by_dialect (IsRight ExtTail) refl refl refl
 
-right_at-FunBody : (s : Standard) → IsRight FunBody s
+right_at-FunBody : (s : Dialect) → IsRight FunBody s
 unfolding is_right same_bool
-right_at-FunBody = both (IsRight FunBody) refl refl
+right_at-FunBody = by_dialect (IsRight FunBody) refl refl refl
 
-right_at-Declaration : (s : Standard) → IsRight Declaration s
+right_at-Declaration : (s : Dialect) → IsRight Declaration s
 unfolding is_right same_bool
-right_at-Declaration = both (IsRight Declaration) refl refl
+right_at-Declaration = by_dialect (IsRight Declaration) refl refl refl
 
-right_at-DeclRest : (s : Standard) → IsRight DeclRest s
+right_at-DeclRest : (s : Dialect) → IsRight DeclRest s
 unfolding is_right same_bool
 right_at-DeclRest s = refl
 
-right_at-InitDecl : (s : Standard) → IsRight InitDecl s
+right_at-InitDecl : (s : Dialect) → IsRight InitDecl s
 unfolding is_right same_bool
 right_at-InitDecl s = refl
 
-right_at-Sassert : (s : Standard) → IsRight Sassert s
+right_at-Sassert : (s : Dialect) → IsRight Sassert s
 unfolding is_right same_bool
-right_at-Sassert = both (IsRight Sassert) refl refl
+right_at-Sassert = by_dialect (IsRight Sassert) refl refl refl
 
-right_at-Specs : (s : Standard) → IsRight Specs s
+right_at-Specs : (s : Dialect) → IsRight Specs s
 unfolding is_right same_bool
-right_at-Specs = both (IsRight Specs) refl refl
+right_at-Specs = by_dialect (IsRight Specs) refl refl refl
 
-right_at-Main : (s : Standard) → IsRight Main s
+right_at-Main : (s : Dialect) → IsRight Main s
 unfolding is_right same_bool
-right_at-Main = both (IsRight Main) refl refl
+right_at-Main = by_dialect (IsRight Main) refl refl refl
 
-right_at-Mod : (s : Standard) → IsRight Mod s
+right_at-Mod : (s : Dialect) → IsRight Mod s
 unfolding is_right same_bool
-right_at-Mod = both (IsRight Mod) refl refl
+right_at-Mod = by_dialect (IsRight Mod) refl refl refl
 
-right_at-Qual : (s : Standard) → IsRight Qual s
+right_at-Qual : (s : Dialect) → IsRight Qual s
 unfolding is_right same_bool
 right_at-Qual s = refl
 
-right_at-Word : (s : Standard) → IsRight Word s
+right_at-Word : (s : Dialect) → IsRight Word s
 unfolding is_right same_bool
 right_at-Word s = refl
 
-right_at-StructSpec : (s : Standard) → IsRight StructSpec s
+right_at-StructSpec : (s : Dialect) → IsRight StructSpec s
 unfolding is_right same_bool
 right_at-StructSpec s = refl
 
-right_at-SuRest : (s : Standard) → IsRight SuRest s
+right_at-SuRest : (s : Dialect) → IsRight SuRest s
 unfolding is_right same_bool
 right_at-SuRest s = refl
 
-right_at-Members : (s : Standard) → IsRight Members s
+right_at-Members : (s : Dialect) → IsRight Members s
 unfolding is_right same_bool
-right_at-Members = both (IsRight Members) refl refl
+right_at-Members = by_dialect (IsRight Members) refl refl refl
 
-right_at-Member : (s : Standard) → IsRight Member s
+right_at-Member : (s : Dialect) → IsRight Member s
 unfolding is_right same_bool
-right_at-Member = both (IsRight Member) refl refl
+right_at-Member = by_dialect (IsRight Member) refl refl refl
 
-right_at-MemRest : (s : Standard) → IsRight MemRest s
+right_at-MemRest : (s : Dialect) → IsRight MemRest s
 unfolding is_right same_bool
-right_at-MemRest = both (IsRight MemRest) refl refl
+right_at-MemRest = by_dialect (IsRight MemRest) refl refl refl
 
-right_at-Mdecl : (s : Standard) → IsRight Mdecl s
+right_at-Mdecl : (s : Dialect) → IsRight Mdecl s
 unfolding is_right same_bool
 right_at-Mdecl s = refl
 
-right_at-EnumSpec : (s : Standard) → IsRight EnumSpec s
+right_at-EnumSpec : (s : Dialect) → IsRight EnumSpec s
 unfolding is_right same_bool
 right_at-EnumSpec s = refl
 
-right_at-EnRest : (s : Standard) → IsRight EnRest s
+right_at-EnRest : (s : Dialect) → IsRight EnRest s
 unfolding is_right same_bool
 right_at-EnRest s = refl
 
-right_at-Enumerators : (s : Standard) → IsRight Enumerators s
+right_at-Enumerators : (s : Dialect) → IsRight Enumerators s
 unfolding is_right same_bool
 right_at-Enumerators s = refl
 
-right_at-Enumerator : (s : Standard) → IsRight Enumerator s
+right_at-Enumerator : (s : Dialect) → IsRight Enumerator s
 unfolding is_right same_bool
 right_at-Enumerator s = refl
 
-right_at-Declarator : (s : Standard) → IsRight Declarator s
+right_at-Declarator : (s : Dialect) → IsRight Declarator s
 unfolding is_right same_bool
 right_at-Declarator s = refl
 
-right_at-Pointer : (s : Standard) → IsRight Pointer s
+right_at-Pointer : (s : Dialect) → IsRight Pointer s
 unfolding is_right same_bool
 right_at-Pointer s = refl
 
-right_at-Direct : (s : Standard) → IsRight Direct s
+right_at-Direct : (s : Dialect) → IsRight Direct s
 unfolding is_right same_bool
 right_at-Direct s = refl
 
-right_at-Suffix : (s : Standard) → IsRight Suffix s
+right_at-Suffix : (s : Dialect) → IsRight Suffix s
 unfolding is_right same_bool
 right_at-Suffix s = refl
 
-right_at-Bound : (s : Standard) → IsRight Bound s
+right_at-Bound : (s : Dialect) → IsRight Bound s
 unfolding is_right same_bool
 right_at-Bound s = refl
 
-right_at-Params : (s : Standard) → IsRight Params s
+right_at-Params : (s : Dialect) → IsRight Params s
 unfolding is_right same_bool
-right_at-Params = both (IsRight Params) refl refl
+right_at-Params = by_dialect (IsRight Params) refl refl refl
 
-right_at-Param : (s : Standard) → IsRight Param s
+right_at-Param : (s : Dialect) → IsRight Param s
 unfolding is_right same_bool
-right_at-Param = both (IsRight Param) refl refl
+right_at-Param = by_dialect (IsRight Param) refl refl refl
 
-right_at-Pdecl : (s : Standard) → IsRight Pdecl s
+right_at-Pdecl : (s : Dialect) → IsRight Pdecl s
 unfolding is_right same_bool
 right_at-Pdecl s = refl
 
-right_at-Pdirect : (s : Standard) → IsRight Pdirect s
+right_at-Pdirect : (s : Dialect) → IsRight Pdirect s
 unfolding is_right same_bool
 right_at-Pdirect s = refl
 
-right_at-TypeName : (s : Standard) → IsRight TypeName s
+right_at-TypeName : (s : Dialect) → IsRight TypeName s
 unfolding is_right same_bool
-right_at-TypeName = both (IsRight TypeName) refl refl
+right_at-TypeName = by_dialect (IsRight TypeName) refl refl refl
 
-right_at-Adecl : (s : Standard) → IsRight Adecl s
+right_at-Adecl : (s : Dialect) → IsRight Adecl s
 unfolding is_right same_bool
 right_at-Adecl s = refl
 
-right_at-Adirect : (s : Standard) → IsRight Adirect s
+right_at-Adirect : (s : Dialect) → IsRight Adirect s
 unfolding is_right same_bool
 right_at-Adirect s = refl
 
-right_at-Init : (s : Standard) → IsRight Init s
+right_at-Init : (s : Dialect) → IsRight Init s
 unfolding is_right same_bool
 right_at-Init s = refl
 
-right_at-InitList : (s : Standard) → IsRight InitList s
+right_at-InitList : (s : Dialect) → IsRight InitList s
 unfolding is_right same_bool
 right_at-InitList s = refl
 
-right_at-InitItem : (s : Standard) → IsRight InitItem s
+right_at-InitItem : (s : Dialect) → IsRight InitItem s
 unfolding is_right same_bool
 right_at-InitItem s = refl
 
-right_at-Designator : (s : Standard) → IsRight Designator s
+right_at-Designator : (s : Dialect) → IsRight Designator s
 unfolding is_right same_bool
 right_at-Designator s = refl
 
-right_at-Expr : (s : Standard) → IsRight Expr s
+right_at-Expr : (s : Dialect) → IsRight Expr s
 unfolding is_right same_bool
 right_at-Expr s = refl
 
-right_at-Assign : (s : Standard) → IsRight Assign s
+right_at-Assign : (s : Dialect) → IsRight Assign s
 unfolding is_right same_bool
 right_at-Assign s = refl
 
-right_at-Asgop : (s : Standard) → IsRight Asgop s
+right_at-Asgop : (s : Dialect) → IsRight Asgop s
 unfolding is_right same_bool
 right_at-Asgop s = refl
 
-right_at-Cond : (s : Standard) → IsRight Cond s
+right_at-Cond : (s : Dialect) → IsRight Cond s
 unfolding is_right same_bool
 right_at-Cond s = refl
 
-right_at-Lor : (s : Standard) → IsRight Lor s
+right_at-Lor : (s : Dialect) → IsRight Lor s
 unfolding is_right same_bool
 right_at-Lor s = refl
 
-right_at-Land : (s : Standard) → IsRight Land s
+right_at-Land : (s : Dialect) → IsRight Land s
 unfolding is_right same_bool
 right_at-Land s = refl
 
-right_at-Bor : (s : Standard) → IsRight Bor s
+right_at-Bor : (s : Dialect) → IsRight Bor s
 unfolding is_right same_bool
 right_at-Bor s = refl
 
-right_at-Bxor : (s : Standard) → IsRight Bxor s
+right_at-Bxor : (s : Dialect) → IsRight Bxor s
 unfolding is_right same_bool
 right_at-Bxor s = refl
 
-right_at-Band : (s : Standard) → IsRight Band s
+right_at-Band : (s : Dialect) → IsRight Band s
 unfolding is_right same_bool
 right_at-Band s = refl
 
-right_at-Equal : (s : Standard) → IsRight Equal s
+right_at-Equal : (s : Dialect) → IsRight Equal s
 unfolding is_right same_bool
 right_at-Equal s = refl
 
-right_at-Relate : (s : Standard) → IsRight Relate s
+right_at-Relate : (s : Dialect) → IsRight Relate s
 unfolding is_right same_bool
 right_at-Relate s = refl
 
-right_at-Shift : (s : Standard) → IsRight Shift s
+right_at-Shift : (s : Dialect) → IsRight Shift s
 unfolding is_right same_bool
 right_at-Shift s = refl
 
-right_at-Add : (s : Standard) → IsRight Add s
+right_at-Add : (s : Dialect) → IsRight Add s
 unfolding is_right same_bool
 right_at-Add s = refl
 
-right_at-Mul : (s : Standard) → IsRight Mul s
+right_at-Mul : (s : Dialect) → IsRight Mul s
 unfolding is_right same_bool
 right_at-Mul s = refl
 
-right_at-Cast : (s : Standard) → IsRight Cast s
+right_at-Cast : (s : Dialect) → IsRight Cast s
 unfolding is_right same_bool
-right_at-Cast = both (IsRight Cast) refl refl
+right_at-Cast = by_dialect (IsRight Cast) refl refl refl
 
-right_at-CastRest : (s : Standard) → IsRight CastRest s
+right_at-CastRest : (s : Dialect) → IsRight CastRest s
 unfolding is_right same_bool
 right_at-CastRest s = refl
 
-right_at-Unary : (s : Standard) → IsRight Unary s
+right_at-Unary : (s : Dialect) → IsRight Unary s
 unfolding is_right same_bool
 right_at-Unary s = refl
 
-right_at-SizeRest : (s : Standard) → IsRight SizeRest s
+right_at-SizeRest : (s : Dialect) → IsRight SizeRest s
 unfolding is_right same_bool
-right_at-SizeRest = both (IsRight SizeRest) refl refl
+right_at-SizeRest = by_dialect (IsRight SizeRest) refl refl refl
 
-right_at-SizeLit : (s : Standard) → IsRight SizeLit s
+right_at-SizeLit : (s : Dialect) → IsRight SizeLit s
 unfolding is_right same_bool
 right_at-SizeLit s = refl
 
-right_at-Primary : (s : Standard) → IsRight Primary s
+right_at-Primary : (s : Dialect) → IsRight Primary s
 unfolding is_right same_bool
 right_at-Primary s = refl
 
-right_at-Post : (s : Standard) → IsRight Post s
+right_at-Post : (s : Dialect) → IsRight Post s
 unfolding is_right same_bool
 right_at-Post s = refl
 
-right_at-Args : (s : Standard) → IsRight Args s
+right_at-Args : (s : Dialect) → IsRight Args s
 unfolding is_right same_bool
 right_at-Args s = refl
 
-right_at-Block : (s : Standard) → IsRight Block s
+right_at-Block : (s : Dialect) → IsRight Block s
 unfolding is_right same_bool
 right_at-Block s = refl
 
-right_at-BlockItem : (s : Standard) → IsRight BlockItem s
+right_at-BlockItem : (s : Dialect) → IsRight BlockItem s
 unfolding is_right same_bool
-right_at-BlockItem = both (IsRight BlockItem) refl refl
+right_at-BlockItem = by_dialect (IsRight BlockItem) refl refl refl
 
-right_at-Statement : (s : Standard) → IsRight Statement s
+right_at-Statement : (s : Dialect) → IsRight Statement s
 unfolding is_right same_bool
 right_at-Statement s = refl
 
-right_at-Sub : (s : Standard) → IsRight Sub s
+right_at-Sub : (s : Dialect) → IsRight Sub s
 unfolding is_right same_bool
 right_at-Sub s = refl
 
-right_at-ForInit : (s : Standard) → IsRight ForInit s
+right_at-ForInit : (s : Dialect) → IsRight ForInit s
 unfolding is_right same_bool
-right_at-ForInit = both (IsRight ForInit) refl refl
+right_at-ForInit = by_dialect (IsRight ForInit) refl refl refl
 
-right_at : (p : Production) (s : Standard) → IsRight p s
+right_at : (p : Production) (s : Dialect) → IsRight p s
 right_at TranslationUnit s = right_at-TranslationUnit s
 right_at External s = right_at-External s
 right_at ExtRest s = right_at-ExtRest s

@@ -1,4 +1,5 @@
 pub mod SpelledLemmas
 pub mod StandardLemmas
 pub mod AmongLemmas
+pub mod PairLemmas
 pub mod FirstLemmas

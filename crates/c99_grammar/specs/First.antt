@@ -1,11 +1,12 @@
 -- With which classes each production starts. That these are the right ones is checked against the table.
 use Rattle.std.specs.Prelude.{ℕ, List, [], ◌∷◌, ◌++◌}
-use Rattle.cs_base.specs.declared.ws_units.Standard.{Standard}
-use Rattle.cs_base.specs.declared.ws_units.Standard.TheVariants.{C99, C11}
+use Rattle.c99_grammar.specs.declared.dialects.Dialect.{Dialect}
+use Rattle.c99_grammar.specs.declared.dialects.Dialect.TheVariants.{C99, C11, Gnu}
 use Rattle.c99_tree.specs.declared.production.Production.{Production}
 use Rattle.c99_tree.specs.declared.production.Production.TheVariants.{TranslationUnit, External, ExtRest, ExtTail, FunBody, Declaration, DeclRest, InitDecl, Sassert, Specs, Main, Mod, Qual, Word, StructSpec, SuRest, Members, Member, MemRest, Mdecl, EnumSpec, EnRest, Enumerators, Enumerator, Declarator, Pointer, Direct, Suffix, Bound, Params, Param, Pdecl, Pdirect, TypeName, Adecl, Adirect, Init, InitList, InitItem, Designator, Expr, Assign, Asgop, Cond, Lor, Land, Bor, Bxor, Band, Equal, Relate, Shift, Add, Mul, Cast, CastRest, Unary, SizeRest, SizeLit, Primary, Post, Args, Block, BlockItem, Statement, Sub, ForInit}
 use Rattle.c99_grammar.specs.declared.classes.Class.{Class}
 use Rattle.c99_grammar.specs.declared.classes.Class.TheVariants.{Auto, Break, Case, Char, Const, Continue, Default, Do, Double, Else, Enum, Extern, Float, For, Goto, If, Inline, Int, Long, Register, Restrict, Return, Short, Signed, Sizeof, Static, Struct, Switch, Typedef, Union, Unsigned, Void, Volatile, While, BoolWord, ComplexWord, ImaginaryWord, Alignas, Alignof, Atomic, Generic, Noreturn, StaticAssert, ThreadLocal, LeftBracket, RightBracket, LeftParen, RightParen, LeftBrace, RightBrace, Dot, Arrow, PlusPlus, MinusMinus, Amp, Star, Plus, Minus, Tilde, Bang, Slash, Percent, ShiftLeft, ShiftRight, Less, Greater, LessEq, GreaterEq, EqEq, BangEq, Caret, Bar, AmpAmp, BarBar, Question, Colon, Semicolon, Ellipsis, Eq, StarEq, SlashEq, PercentEq, PlusEq, MinusEq, ShiftLeftEq, ShiftRightEq, AmpEq, CaretEq, BarEq, Comma, Hash, HashHash, Identifier, TypedefName, Constant, CharConstant, StringLiteral, End, NoClass}
+use Rattle.c99_grammar.specs.Items.{Ask, is}
 
 abbrev pub specifiers : List Class
 specifiers =
@@ -74,7 +75,7 @@ every =
     ShiftLeftEq ∷ ShiftRightEq ∷ AmpEq ∷ CaretEq ∷ BarEq ∷ Comma ∷ Hash ∷ HashHash ∷ Identifier
     ∷ TypedefName ∷ Constant ∷ CharConstant ∷ StringLiteral ∷ End ∷ NoClass ∷ []
 
--- with which classes a production starts by each standard
+-- with which classes a production starts by each dialect
 abbrev pub shared : Production → List Class
 shared TranslationUnit = Semicolon ∷ End ∷ specifiers
 shared External = members
@@ -152,7 +153,7 @@ specifiers_added = Noreturn ∷ []
 abbrev pub declarations_added : List Class
 declarations_added = Noreturn ∷ StaticAssert ∷ []
 
--- with which classes it starts by C11 alone
+-- with which classes it starts by C11 and not by C99
 abbrev pub added : Production → List Class
 added TranslationUnit = declarations_added
 added External = declarations_added
@@ -171,21 +172,26 @@ added BlockItem = declarations_added
 added ForInit = declarations_added
 added _ = []
 
--- These by C11, and none by C99. The list decides first, so that nothing added is nothing for any standard.
-abbrev pub by_c11 : List Class → Standard → List Class
+-- These by C11 and by GNU C, and none by C99. The list decides first, so that nothing added is nothing for any dialect.
+abbrev pub by_c11 : List Class → Dialect → List Class
 by_c11 [] s = []
 by_c11 (c ∷ classes) C99 = []
 by_c11 (c ∷ classes) C11 = c ∷ classes
+by_c11 (c ∷ classes) Gnu = c ∷ classes
 
 -- with which classes a production starts
-abbrev pub first : Production → Standard → List Class
+abbrev pub first : Production → Dialect → List Class
 first p s = shared p ++ by_c11 (added p) s
 
--- with which classes it starts where a colon stands behind, beside those
-abbrev pub labels : Production → List Class
-labels Statement = TypedefName ∷ []
-labels Sub = TypedefName ∷ []
-labels _ = []
+-- the colon that makes a label of the name before it (6.8.1)
+abbrev pub before_colon : List (Class × Ask)
+before_colon = (TypedefName, is (Colon ∷ [])) ∷ []
+
+-- with which classes it starts where what stands behind is so, beside those
+abbrev pub pairs : Production → Dialect → List (Class × Ask)
+pairs Statement s = before_colon
+pairs Sub s = before_colon
+pairs _ s = []
 
 -- what a production may begin with, without a token before it, has a lower number
 abbrev pub order : Production → ℕ

@@ -1,7 +1,7 @@
 -- The first sets belong to the table.
 use Rattle.std.specs.Prelude.{◌≡◌, Bool}
 use Rattle.std.specs.List.{list_any}
-use Rattle.cs_base.specs.declared.ws_units.Standard.{Standard}
+use Rattle.c99_grammar.specs.declared.dialects.Dialect.{Dialect}
 use Rattle.c99_tree.specs.declared.production.Production.{Production}
 use Rattle.c99_grammar.specs.declared.classes.Class.{Class}
 use Rattle.c99_grammar.specs.Grammar.{table}
@@ -9,11 +9,11 @@ use Rattle.c99_grammar.specs.Starting.{production_starts, holds, starts}
 use Rattle.c99_grammar.specs.Standard.{grammar}
 
 -- some alternative of the production is taken where c stands before d
-abbrev pub alternative_starts : Standard → Production → Class → Class → Bool
+abbrev pub alternative_starts : Dialect → Production → Class → Class → Bool
 alternative_starts s p c d =
     list_any (λ a. holds (grammar s) a.test (starts (grammar s) a.body c d) c d) (table p s)
 
--- by each standard a production starts exactly where one of its alternatives is taken
+-- by each dialect a production starts exactly where one of its alternatives is taken
 abbrev pub FirstSetsAreTheTables : Type 0
-FirstSetsAreTheTables = (s : Standard) (p : Production) (c d : Class)
+FirstSetsAreTheTables = (s : Dialect) (p : Production) (c d : Class)
     → production_starts (grammar s) p c d ≡ alternative_starts s p c d

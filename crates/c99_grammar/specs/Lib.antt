@@ -1,5 +1,6 @@
 -- What the public contracts rest on.
 pub mod Classes
+pub mod Dialects
 pub mod Spellings
 pub mod Items
 pub mod Grammar

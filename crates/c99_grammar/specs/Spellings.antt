@@ -1,7 +1,7 @@
 -- Which class a spelling has: keywords (ISO/IEC 9899:1999 and 9899:2011, 6.4.1) and punctuators (6.4.6).
 use Rattle.std.specs.Prelude.{ℕ, List, [], ◌∷◌, ◌++◌, codes}
-use Rattle.cs_base.specs.declared.ws_units.Standard.{Standard}
-use Rattle.cs_base.specs.declared.ws_units.Standard.TheVariants.{C99, C11}
+use Rattle.c99_grammar.specs.declared.dialects.Dialect.{Dialect}
+use Rattle.c99_grammar.specs.declared.dialects.Dialect.TheVariants.{C99, C11, Gnu}
 use Rattle.c99_grammar.specs.declared.classes.Class.{Class}
 use Rattle.c99_grammar.specs.declared.classes.Class.TheVariants.{Auto, Break, Case, Char, Const, Continue, Default, Do, Double, Else, Enum, Extern, Float, For, Goto, If, Inline, Int, Long, Register, Restrict, Return, Short, Signed, Sizeof, Static, Struct, Switch, Typedef, Union, Unsigned, Void, Volatile, While, BoolWord, ComplexWord, ImaginaryWord, Alignas, Alignof, Atomic, Generic, Noreturn, StaticAssert, ThreadLocal, LeftBracket, RightBracket, LeftParen, RightParen, LeftBrace, RightBrace, Dot, Arrow, PlusPlus, MinusMinus, Amp, Star, Plus, Minus, Tilde, Bang, Slash, Percent, ShiftLeft, ShiftRight, Less, Greater, LessEq, GreaterEq, EqEq, BangEq, Caret, Bar, AmpAmp, BarBar, Question, Colon, Semicolon, Ellipsis, Eq, StarEq, SlashEq, PercentEq, PlusEq, MinusEq, ShiftLeftEq, ShiftRightEq, AmpEq, CaretEq, BarEq, Comma, Hash, HashHash}
 
@@ -29,10 +29,11 @@ keywords_added =
     (codes "_Alignas", Alignas) ∷ (codes "_Alignof", Alignof) ∷ (codes "_Atomic", Atomic) ∷ (codes "_Generic", Generic) ∷
     (codes "_Noreturn", Noreturn) ∷ (codes "_Static_assert", StaticAssert) ∷ (codes "_Thread_local", ThreadLocal) ∷ []
 
--- the keywords of a standard
-abbrev pub keywords_of : Standard → List Spelled
+-- the keywords of a dialect
+abbrev pub keywords_of : Dialect → List Spelled
 keywords_of C99 = keywords
 keywords_of C11 = keywords ++ keywords_added
+keywords_of Gnu = keywords ++ keywords_added
 
 -- the punctuators; paragraph 3 of 6.4.6 says what the last six stand for
 abbrev pub punctuators : List Spelled

@@ -2,17 +2,17 @@
 ghost use Rattle.std.specs.Prelude.{◌≡◌, ◌∷◌};
 ghost use Rattle.c99_tree.specs.declared.production.Production.TheVariants.{TranslationUnit, ExtRest, FunBody, Sassert, Main, StructSpec, SuRest, MemRest, Mdecl, EnumSpec, Enumerators, Pointer, Direct, Suffix, Params, Pdecl, Pdirect, Adecl, Designator, SizeLit, Primary, Post, BlockItem, ForInit};
 ghost use Rattle.c99_grammar.specs.Classes.{among};
-ghost use Rattle.c99_grammar.specs.First.{shared, added, by_c11, first, labels, expressions, specifiers_added, declarations_added};
+ghost use Rattle.c99_grammar.specs.First.{shared, added, by_c11, first, expressions, specifiers_added, declarations_added};
 ghost use Rattle.c99_grammar.specs.declared.classes.Class.TheVariants.{Semicolon};
 
 use crate::classes::Class;
+use crate::dialects::Dialect;
 use crate::first_sets::{
     starts_assignment, starts_declarator, starts_every, starts_expression, starts_initializer,
     starts_initializer_item, starts_member, starts_modifier, starts_qualifier, starts_specifier,
     starts_statement, starts_word,
 };
 use c99_tree::Production;
-use cs_base::Standard;
 
 fn starts_translation_unit(class: Class) -> bool
     ensures { result ≡ among (shared TranslationUnit) class }
@@ -305,7 +305,7 @@ fn starts_for_init(class: Class) -> bool
     starts_specifier(class) || starts_expression_line(class)
 }
 
-// The production starts with the class by each standard.
+// The production starts with the class by each dialect.
 fn starts_by_each(production: Production, class: Class) -> bool
     ensures { result ≡ among (shared production) class }
 {
@@ -412,7 +412,7 @@ fn starts_member_rest(class: Class) -> bool
     )
 }
 
-// The production starts with the class by C11 alone.
+// The production starts with the class by C11 and not by C99.
 fn starts_added(production: Production, class: Class) -> bool
     ensures { result ≡ among (added production) class }
 {
@@ -436,30 +436,20 @@ fn starts_added(production: Production, class: Class) -> bool
     }
 }
 
-// The production starts with the class by the standard, and not by C99.
-fn starts_by(production: Production, class: Class, standard: Standard) -> bool
-    ensures { result ≡ among (by_c11 (added production) standard) class }
+// The production starts with the class by the dialect, and not by C99.
+fn starts_by(production: Production, class: Class, dialect: Dialect) -> bool
+    ensures { result ≡ among (by_c11 (added production) dialect) class }
 {
-    match standard {
-        Standard::C99 => false,
-        Standard::C11 => starts_added(production, class),
+    match dialect {
+        Dialect::C99 => false,
+        Dialect::C11 => starts_added(production, class),
+        Dialect::Gnu => starts_added(production, class),
     }
 }
 
-/// The production starts with the class by the standard.
-pub(crate) fn starts_with(production: Production, class: Class, standard: Standard) -> bool
-    ensures { result ≡ among (first production standard) class }
+/// The production starts with the class by the dialect.
+pub(crate) fn starts_with(production: Production, class: Class, dialect: Dialect) -> bool
+    ensures { result ≡ among (first production dialect) class }
 {
-    starts_by_each(production, class) || starts_by(production, class, standard)
-}
-
-/// The production starts with the class where a colon stands behind.
-pub(crate) fn is_label(production: Production, class: Class) -> bool
-    ensures { result ≡ among (labels production) class }
-{
-    match production {
-        Production::Statement => matches!(class, Class::TypedefName),
-        Production::Sub => matches!(class, Class::TypedefName),
-        _ => false,
-    }
+    starts_by_each(production, class) || starts_by(production, class, dialect)
 }

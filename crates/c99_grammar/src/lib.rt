@@ -5,13 +5,14 @@
 //! the rows of a production, which are those of `table` in `specs/Grammar.antt`; they are data that costs nothing
 //! when it runs. `production_starts`, `starts` and `holds` say of a production, an item and a test whether it fits
 //! the classes of the next two tokens. Nothing here reads a text or wants memory: that is `c99_read`. Another
-//! standard is another table. Read `specs/Grammar.antt` beside the standard's annex, `specs/Starting.antt` and
+//! dialect is another table. Read `specs/Grammar.antt` beside the standard's annex, `specs/Starting.antt` and
 //! `specs/Standard.antt`, then `table.rt` and `starting.rt`.
 #![tactic(auto)]
 
 mod classes;
 mod declarations;
 mod declarators;
+mod dialects;
 mod expressions;
 mod first;
 mod first_sets;
@@ -24,6 +25,7 @@ mod statements;
 mod table;
 
 pub use classes::Class;
+pub use dialects::Dialect;
 pub use grammar_laws::first_sets_are_the_tables;
 pub use items::{Action, Alternative, Ask, Item, Test};
 pub use spellings::base_class;

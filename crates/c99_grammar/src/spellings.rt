@@ -1,14 +1,15 @@
-// Which class a token has by its spelling and a standard: keywords (6.4.1) and punctuators (6.4.6).
-ghost use Rattle.std.specs.Prelude.{◌≡◌, map};
+// Which class a token has by its spelling and a dialect: keywords (6.4.1) and punctuators (6.4.6).
+ghost use Rattle.std.specs.Prelude.{◌≡◌, ◌++◌, map};
 ghost use Rattle.std.specs.Str.{bytes_eq};
 ghost use Rattle.c99_grammar.specs.Words.{spelled_of};
 ghost use Rattle.c99_grammar.specs.TokenClasses.{spelled_class, base_class};
 ghost use Rattle.c99_grammar.specs.Standard.{grammar};
-ghost use Rattle.c99_grammar.specs.Spellings.{keywords_of};
+ghost use Rattle.c99_grammar.specs.Spellings.{keywords, keywords_added, keywords_of};
 ghost use Rattle.c99_grammar.specs.declared.classes.Class.TheVariants.{Identifier};
 
 use crate::classes::Class;
-use cs_base::{Kind, Standard, Tok};
+use crate::dialects::Dialect;
+use cs_base::{Kind, Tok};
 
 /// A spelling and its class.
 #[derive(Clone, Copy)]
@@ -443,26 +444,32 @@ fn spelled(words: &[Word], text: &[u8], other: Class) -> Class
     }
 }
 
-// The class of an identifier by a standard.
-fn word_class(text: &[u8], standard: Standard) -> Class
-    ensures { result ≡ spelled_class (keywords_of standard) text.now Identifier }
+// The class of an identifier where the words that C11 adds are keywords too.
+fn word_class_of_c11(text: &[u8]) -> Class
+    ensures { result ≡ spelled_class (keywords ++ keywords_added) text.now Identifier }
 {
-    match standard {
-        Standard::C99 => spelled(&KEYWORDS, text, Class::Identifier),
-        Standard::C11 => {
-            let other = spelled(&KEYWORDS_ADDED, text, Class::Identifier);
-            spelled(&KEYWORDS, text, other)
-        }
+    let other = spelled(&KEYWORDS_ADDED, text, Class::Identifier);
+    spelled(&KEYWORDS, text, other)
+}
+
+// The class of an identifier by a dialect.
+fn word_class(text: &[u8], dialect: Dialect) -> Class
+    ensures { result ≡ spelled_class (keywords_of dialect) text.now Identifier }
+{
+    match dialect {
+        Dialect::C99 => spelled(&KEYWORDS, text, Class::Identifier),
+        Dialect::C11 => word_class_of_c11(text),
+        Dialect::Gnu => word_class_of_c11(text),
     }
 }
 
 #[tactic(auto, unfolding(crate::specs::TokenClasses::base_class))]
-/// The class of a token by a standard, where each identifier that is no keyword counts as no typedef name.
-pub fn base_class(tok: &Tok, standard: Standard) -> Class
-    ensures { result ≡ base_class (grammar standard) tok.now }
+/// The class of a token by a dialect, where each identifier that is no keyword counts as no typedef name.
+pub fn base_class(tok: &Tok, dialect: Dialect) -> Class
+    ensures { result ≡ base_class (grammar dialect) tok.now }
 {
     match tok.kind() {
-        Kind::Ident => word_class(tok.text(), standard),
+        Kind::Ident => word_class(tok.text(), dialect),
         Kind::Punct => spelled(&PUNCTUATORS, tok.text(), Class::NoClass),
         Kind::Number => Class::Constant,
         Kind::Char => Class::CharConstant,

@@ -13,6 +13,7 @@ use crate::declarators::{
     ADECL, ADIRECT, BOUND, DECLARATOR, DIRECT, PARAM, PARAMS, PDECL, PDIRECT, POINTER, SUFFIX,
     TYPE_NAME,
 };
+use crate::dialects::Dialect;
 use crate::expressions::{
     ADD, ARGS, ASGOP, ASSIGN, BAND, BOR, BXOR, CAST, CAST_REST, COND, EQUAL, EXPR, LAND, LOR, MUL,
     POST, PRIMARY, RELATE, SHIFT, SIZE_LIT, SIZE_REST, UNARY,
@@ -20,95 +21,94 @@ use crate::expressions::{
 use crate::items::Alternative;
 use crate::statements::{BLOCK, BLOCK_ITEM, FOR_INIT, STATEMENT, SUB};
 use c99_tree::Production;
-use cs_base::Standard;
 
 // ---- Rows that C11 changes
 
-fn externals(standard: Standard) -> &'static [Alternative]
-    ensures rows { map alternative_of result.now ≡ externals standard }
+fn externals(dialect: Dialect) -> &'static [Alternative]
+    ensures rows { map alternative_of result.now ≡ externals dialect }
     ensures few { length result.now < 200 }
 {
-    match standard {
-        Standard::C99 => &EXTERNAL,
-        Standard::C11 => &EXTERNAL_OF_C11,
+    match dialect {
+        Dialect::C99 => &EXTERNAL,
+        Dialect::C11 | Dialect::Gnu => &EXTERNAL_OF_C11,
     }
 }
 
-fn declarations(standard: Standard) -> &'static [Alternative]
-    ensures rows { map alternative_of result.now ≡ declarations standard }
+fn declarations(dialect: Dialect) -> &'static [Alternative]
+    ensures rows { map alternative_of result.now ≡ declarations dialect }
     ensures few { length result.now < 200 }
 {
-    match standard {
-        Standard::C99 => &DECLARATION,
-        Standard::C11 => &DECLARATION_OF_C11,
+    match dialect {
+        Dialect::C99 => &DECLARATION,
+        Dialect::C11 | Dialect::Gnu => &DECLARATION_OF_C11,
     }
 }
 
-fn static_assertions(standard: Standard) -> &'static [Alternative]
-    ensures rows { map alternative_of result.now ≡ static_assertions standard }
+fn static_assertions(dialect: Dialect) -> &'static [Alternative]
+    ensures rows { map alternative_of result.now ≡ static_assertions dialect }
     ensures few { length result.now < 200 }
 {
-    match standard {
-        Standard::C99 => &[],
-        Standard::C11 => &SASSERT,
+    match dialect {
+        Dialect::C99 => &[],
+        Dialect::C11 | Dialect::Gnu => &SASSERT,
     }
 }
 
-fn modifiers(standard: Standard) -> &'static [Alternative]
-    ensures rows { map alternative_of result.now ≡ modifiers standard }
+fn modifiers(dialect: Dialect) -> &'static [Alternative]
+    ensures rows { map alternative_of result.now ≡ modifiers dialect }
     ensures few { length result.now < 200 }
 {
-    match standard {
-        Standard::C99 => &MOD,
-        Standard::C11 => &MOD_OF_C11,
+    match dialect {
+        Dialect::C99 => &MOD,
+        Dialect::C11 | Dialect::Gnu => &MOD_OF_C11,
     }
 }
 
-fn member_lines(standard: Standard) -> &'static [Alternative]
-    ensures rows { map alternative_of result.now ≡ member_lines standard }
+fn member_lines(dialect: Dialect) -> &'static [Alternative]
+    ensures rows { map alternative_of result.now ≡ member_lines dialect }
     ensures few { length result.now < 200 }
 {
-    match standard {
-        Standard::C99 => &MEMBER,
-        Standard::C11 => &MEMBER_OF_C11,
+    match dialect {
+        Dialect::C99 => &MEMBER,
+        Dialect::C11 | Dialect::Gnu => &MEMBER_OF_C11,
     }
 }
 
-fn member_rests(standard: Standard) -> &'static [Alternative]
-    ensures rows { map alternative_of result.now ≡ member_rests standard }
+fn member_rests(dialect: Dialect) -> &'static [Alternative]
+    ensures rows { map alternative_of result.now ≡ member_rests dialect }
     ensures few { length result.now < 200 }
 {
-    match standard {
-        Standard::C99 => &[],
-        Standard::C11 => &MEM_REST,
+    match dialect {
+        Dialect::C99 => &[],
+        Dialect::C11 | Dialect::Gnu => &MEM_REST,
     }
 }
 
-/// The alternatives of a production by a standard, the first one first.
-pub fn alternatives(production: Production, standard: Standard) -> &'static [Alternative]
-    ensures rows { map alternative_of result.now ≡ table production standard }
+/// The alternatives of a production by a dialect, the first one first.
+pub fn alternatives(production: Production, dialect: Dialect) -> &'static [Alternative]
+    ensures rows { map alternative_of result.now ≡ table production dialect }
     ensures few { length result.now < 200 }
 {
     match production {
         Production::TranslationUnit => &TRANSLATION_UNIT,
-        Production::External => externals(standard),
+        Production::External => externals(dialect),
         Production::ExtRest => &EXT_REST,
         Production::ExtTail => &EXT_TAIL,
         Production::FunBody => &FUN_BODY,
-        Production::Declaration => declarations(standard),
+        Production::Declaration => declarations(dialect),
         Production::DeclRest => &DECL_REST,
         Production::InitDecl => &INIT_DECL,
-        Production::Sassert => static_assertions(standard),
+        Production::Sassert => static_assertions(dialect),
         Production::Specs => &SPECS,
         Production::Main => &MAIN,
-        Production::Mod => modifiers(standard),
+        Production::Mod => modifiers(dialect),
         Production::Qual => &QUAL,
         Production::Word => &WORD,
         Production::StructSpec => &STRUCT_SPEC,
         Production::SuRest => &SU_REST,
         Production::Members => &MEMBERS,
-        Production::Member => member_lines(standard),
-        Production::MemRest => member_rests(standard),
+        Production::Member => member_lines(dialect),
+        Production::MemRest => member_rests(dialect),
         Production::Mdecl => &MDECL,
         Production::EnumSpec => &ENUM_SPEC,
         Production::EnRest => &EN_REST,

@@ -1,38 +1,38 @@
--- The table of each standard is sound: what a production begins with has a lower order, and each has a token.
+-- The table of each dialect is sound: what a production begins with has a lower order, and each has a token.
 use Rattle.std.specs.Prelude.{◌≡◌, true, refl}
 use Rattle.std.specs.List.{list_all}
-use Rattle.cs_base.specs.declared.ws_units.Standard.{Standard}
-use Rattle.cs_base.specs.declared.ws_units.Standard.TheVariants.{C99}
+use Rattle.c99_grammar.specs.declared.dialects.Dialect.{Dialect}
+use Rattle.c99_grammar.specs.declared.dialects.Dialect.TheVariants.{C99}
 use Rattle.c99_tree.specs.declared.production.Production.{Production}
 use Rattle.c99_tree.specs.declared.production.Production.TheVariants.{TranslationUnit, External, ExtRest, ExtTail, FunBody, Declaration, DeclRest, InitDecl, Sassert, Specs, Main, Mod, Qual, Word, StructSpec, SuRest, Members, Member, MemRest, Mdecl, EnumSpec, EnRest, Enumerators, Enumerator, Declarator, Pointer, Direct, Suffix, Bound, Params, Param, Pdecl, Pdirect, TypeName, Adecl, Adirect, Init, InitList, InitItem, Designator, Expr, Assign, Asgop, Cond, Lor, Land, Bor, Bxor, Band, Equal, Relate, Shift, Add, Mul, Cast, CastRest, Unary, SizeRest, SizeLit, Primary, Post, Args, Block, BlockItem, Statement, Sub, ForInit}
 use Rattle.c99_grammar.specs.Grammar.{table}
 use Rattle.c99_grammar.specs.Standard.{grammar, c99}
-use Rattle.c99_grammar.proofs.StandardLemmas.{both}
+use Rattle.c99_grammar.proofs.StandardLemmas.{by_dialect}
 use Rattle.c99_read.specs.Sound.{is_sound, IsSound}
 
-abbrev AreSound : Production → Standard → Type 0
+abbrev AreSound : Production → Dialect → Type 0
 AreSound p std = list_all (is_sound p) (table p std) ≡ true
 
-sound_at : (p : Production) (std : Standard) → AreSound p std
+sound_at : (p : Production) (std : Dialect) → AreSound p std
 sound_at TranslationUnit std = refl
-sound_at External std = both (AreSound External) refl refl std
+sound_at External std = by_dialect (AreSound External) refl refl refl std
 sound_at ExtRest std = refl
 sound_at ExtTail std = refl
 sound_at FunBody std = refl
-sound_at Declaration std = both (AreSound Declaration) refl refl std
+sound_at Declaration std = by_dialect (AreSound Declaration) refl refl refl std
 sound_at DeclRest std = refl
 sound_at InitDecl std = refl
-sound_at Sassert std = both (AreSound Sassert) refl refl std
+sound_at Sassert std = by_dialect (AreSound Sassert) refl refl refl std
 sound_at Specs std = refl
 sound_at Main std = refl
-sound_at Mod std = both (AreSound Mod) refl refl std
+sound_at Mod std = by_dialect (AreSound Mod) refl refl refl std
 sound_at Qual std = refl
 sound_at Word std = refl
 sound_at StructSpec std = refl
 sound_at SuRest std = refl
 sound_at Members std = refl
-sound_at Member std = both (AreSound Member) refl refl std
-sound_at MemRest std = both (AreSound MemRest) refl refl std
+sound_at Member std = by_dialect (AreSound Member) refl refl refl std
+sound_at MemRest std = by_dialect (AreSound MemRest) refl refl refl std
 sound_at Mdecl std = refl
 sound_at EnumSpec std = refl
 sound_at EnRest std = refl
@@ -82,7 +82,7 @@ sound_at Statement std = refl
 sound_at Sub std = refl
 sound_at ForInit std = refl
 
-pub grammar-sound : (std : Standard) → IsSound (grammar std)
+pub grammar-sound : (std : Dialect) → IsSound (grammar std)
 grammar-sound std = record { sound = λ p. sound_at p std }
 
 pub c99-sound : IsSound c99

@@ -2,7 +2,7 @@
 use Rattle.std.proofs.Common.{ℕ, ◌+◌, ◌≡◌, true, false, if◌then◌else◌, List, [], ◌∷◌, None, Some, Result, Ok, Err, refl, sym, ap, subst, ◌∙◌}
 use Rattle.std.specs.Result.{IsErrAnd}
 use Rattle.std.proofs.lemmas.Bool.{false≢true}
-use Rattle.cs_base.specs.declared.ws_units.Standard.{Standard}
+use Rattle.c99_grammar.specs.declared.dialects.Dialect.{Dialect}
 use Rattle.c99_tree.specs.Tree.{Node, node_of, none}
 use Rattle.c99_tree.specs.declared.production.Production.{Production}
 use Rattle.c99_tree.specs.declared.production.Production.TheVariants.{Declarator, Specs}
@@ -43,7 +43,7 @@ ReadsNode-alike (Err (refusal.Syntax i)) old new read read' alike m = λ b. sym 
 ReadsNode-alike (Err (refusal.TooDeep i)) old new read read' alike m = λ b. sym (alike b) ∙ m b
 ReadsNode-alike (Err refusal.Memory) old new read read' alike m = m
 
-module _ (std : Standard) where
+module _ (std : Dialect) where
   pub node-chosen : (depth : ℕ) (p : Production) (c : Choice) (r : Result Node ReadRefusal) (s new : State) → chosen (grammar std) s 1 (table p std) ≡ Some c
       → ReadsNode r s new (alternative (grammar std) (whole (grammar std)) depth p c.number c.body)
       → ReadsNode r s new (whole (grammar std) depth (produce p))

@@ -1,7 +1,7 @@
 -- Productions of expressions: their rows, and what follows their first operands.
 use Rattle.std.proofs.Common.{ℕ, ◌≡◌, Bool, true, false, if◌then◌else◌, List, [], ◌∷◌, None, Some, Result, Err, refl, sym, ap, subst, ◌∙◌}
 use Rattle.std.proofs.lemmas.Bool.{false≢true, and_parts}
-use Rattle.cs_base.specs.declared.ws_units.Standard.{Standard}
+use Rattle.c99_grammar.specs.declared.dialects.Dialect.{Dialect}
 use Rattle.c99_tree.specs.Tree.{Node}
 use Rattle.c99_tree.specs.declared.production.Production.{Production}
 use Rattle.c99_tree.specs.declared.production.Production.TheVariants.{Expr, Assign, Asgop, Cond, Lor, Land, Bor, Bxor, Band, Equal, Relate, Shift, Add, Mul, Cast}
@@ -22,7 +22,7 @@ use Rattle.c99_read.specs.Levels.{is_ready}
 use Rattle.std.specs.List.{list_all}
 
 -- the only row
-pub row-of : (std : Standard) (p : Production) → is_binary p ≡ true → table p std ≡ plain (part (operand_of p) · rest_of p) ∷ []
+pub row-of : (std : Dialect) (p : Production) → is_binary p ≡ true → table p std ≡ plain (part (operand_of p) · rest_of p) ∷ []
 row-of std Expr e = refl
 row-of std Assign e = refl
 row-of std Cond e = refl
@@ -39,7 +39,7 @@ row-of std Mul e = refl
 row-of std _ e = absurd (false≢true e)
 
 -- each begins as the innermost operand does
-begins-same : (std : Standard) (p : Production) (s : State) → is_binary p ≡ true
+begins-same : (std : Dialect) (p : Production) (s : State) → is_binary p ≡ true
     → may (grammar std) own (part (operand_of p)) s ≡ may (grammar std) own (part Cast) s
 begins-same std Expr s e = refl
 begins-same std Assign s e = refl
@@ -73,12 +73,12 @@ left-out Add e = record { collapses = refl; optional = refl }
 left-out Mul e = record { collapses = refl; optional = refl }
 left-out _ e = absurd (false≢true e)
 
-pub goes-assign : (std : Standard) (p : Production) (s : State) → is_assign p ≡ true
+pub goes-assign : (std : Dialect) (p : Production) (s : State) → is_assign p ≡ true
     → may (grammar std) own (part Asgop) s ≡ may (grammar std) own (rest_of p) s
 goes-assign std Assign s e = refl
 goes-assign std _ s e = absurd (false≢true e)
 
-pub goes-sign : (std : Standard) (p : Production) (s : State) → is_binary p ≡ true → is_assign p ≡ false
+pub goes-sign : (std : Dialect) (p : Production) (s : State) → is_binary p ≡ true → is_assign p ≡ false
     → among (signs p) (class_at (grammar std) s s.at) ≡ may (grammar std) own (rest_of p) s
 goes-sign std Expr s e f = refl
 goes-sign std Assign s e f = absurd (false≢true (sym f))
@@ -98,21 +98,21 @@ goes-sign std _ s e f = absurd (false≢true e)
 abbrev choice : Production → Choice
 choice p = record { number = 1; body = part (operand_of p) · rest_of p }
 
-chosen-row : (std : Standard) (p : Production) (s : State) (b : Bool) → is_binary p ≡ true → may (grammar std) own (part Cast) s ≡ b
+chosen-row : (std : Dialect) (p : Production) (s : State) (b : Bool) → is_binary p ≡ true → may (grammar std) own (part Cast) s ≡ b
     → chosen (grammar std) s 1 (table p std) ≡ (if b then Some (choice p) else None)
 chosen-row std p s b e starts =
     ap (chosen (grammar std) s 1) (row-of std p e) ∙ ap (λ x. if x then Some (choice p) else None) (begins-same std p s e ∙ starts)
 
-pub binary-read : (std : Standard) (depth : ℕ) (p : Production) (r : Result Node ReadRefusal) (s new : State) → is_binary p ≡ true
+pub binary-read : (std : Dialect) (depth : ℕ) (p : Production) (r : Result Node ReadRefusal) (s new : State) → is_binary p ≡ true
     → may (grammar std) own (part Cast) s ≡ true → ReadsNode r s new (alternative (grammar std) (whole (grammar std)) depth p 1 (part (operand_of p) · rest_of p))
     → ReadsNode r s new (whole (grammar std) depth (produce p))
 binary-read std depth p r s new e starts m = node-chosen std depth p (choice p) r s new (chosen-row std p s true e starts) m
 
-pub binary-none : (std : Standard) (depth : ℕ) (p : Production) (s : State) → is_binary p ≡ true → may (grammar std) own (part Cast) s ≡ false
+pub binary-none : (std : Dialect) (depth : ℕ) (p : Production) (s : State) → is_binary p ≡ true → may (grammar std) own (part Cast) s ≡ false
     → (b : Node) → whole (grammar std) depth (produce p) (with_built s b) ≡ Err (syntax s.at)
 binary-none std depth p s e starts = node-none std depth p s (chosen-row std p s false e starts)
 
-pub binary-ready : (std : Standard) (p : Production) → is_binary p ≡ true → IsReady p (part (operand_of p) · rest_of p)
+pub binary-ready : (std : Dialect) (p : Production) → is_binary p ≡ true → IsReady p (part (operand_of p) · rest_of p)
 binary-ready std p e =
     let P : List Alternative → Type 0 = λ rows. list_all (λ a. is_ready p a.body) rows ≡ true in
     ready-parts p (part (operand_of p) · rest_of p) (and_parts (is_ready p (part (operand_of p) · rest_of p)) true (subst P (row-of std p e) (ready-at p std))).0

@@ -2,7 +2,7 @@
 use Rattle.std.proofs.Common.{ℕ, ◌+◌, ◌≡◌, ◌<◌, ◌≤◌, Bool, true, false, if◌then◌else◌, nat_lt, List, [], ◌∷◌, Option, None, Some, refl, subst, lit<, arith}
 use Rattle.std.specs.List.{list_all}
 use Rattle.std.proofs.lemmas.Bool.{and_parts, ltb-true}
-use Rattle.cs_base.specs.declared.ws_units.Standard.{Standard}
+use Rattle.c99_grammar.specs.declared.dialects.Dialect.{Dialect}
 use Rattle.c99_tree.specs.declared.production.Production.{Production}
 use Rattle.c99_tree.specs.declared.production.Production.TheVariants.{TranslationUnit, External, ExtRest, ExtTail, FunBody, Declaration, DeclRest, InitDecl, Sassert, Specs, Main, Mod, Qual, Word, StructSpec, SuRest, Members, Member, MemRest, Mdecl, EnumSpec, EnRest, Enumerators, Enumerator, Declarator, Pointer, Direct, Suffix, Bound, Params, Param, Pdecl, Pdirect, TypeName, Adecl, Adirect, Init, InitList, InitItem, Designator, Expr, Assign, Asgop, Cond, Lor, Land, Bor, Bxor, Band, Equal, Relate, Shift, Add, Mul, Cast, CastRest, Unary, SizeRest, SizeLit, Primary, Post, Args, Block, BlockItem, Statement, Sub, ForInit}
 use Rattle.c99_grammar.specs.Grammar.{table}
@@ -12,7 +12,7 @@ use Rattle.c99_read.specs.Levels.{level_of, height, size, Met, is_ready}
 use Rattle.c99_read.specs.Reading.{may}
 use Rattle.c99_read.specs.Sound.{has_token, is_low}
 use Rattle.c99_grammar.specs.Standard.{Grammar, grammar}
-use Rattle.c99_grammar.proofs.StandardLemmas.{both}
+use Rattle.c99_grammar.proofs.StandardLemmas.{by_dialect}
 use Rattle.c99_read.specs.State.{State}
 
 pub level-small : (p : Production) → level_of p < 20
@@ -85,29 +85,29 @@ level-small Sub = lit< tt
 level-small ForInit = lit< tt
 
 -- each alternative of the table is ready to be read
-abbrev AreReady : Production → Standard → Type 0
+abbrev AreReady : Production → Dialect → Type 0
 AreReady p std = list_all (λ a. is_ready p a.body) (table p std) ≡ true
 
-pub ready-at : (p : Production) (std : Standard) → AreReady p std
+pub ready-at : (p : Production) (std : Dialect) → AreReady p std
 ready-at TranslationUnit std = refl
-ready-at External std = both (AreReady External) refl refl std
+ready-at External std = by_dialect (AreReady External) refl refl refl std
 ready-at ExtRest std = refl
 ready-at ExtTail std = refl
 ready-at FunBody std = refl
-ready-at Declaration std = both (AreReady Declaration) refl refl std
+ready-at Declaration std = by_dialect (AreReady Declaration) refl refl refl std
 ready-at DeclRest std = refl
 ready-at InitDecl std = refl
-ready-at Sassert std = both (AreReady Sassert) refl refl std
+ready-at Sassert std = by_dialect (AreReady Sassert) refl refl refl std
 ready-at Specs std = refl
 ready-at Main std = refl
-ready-at Mod std = both (AreReady Mod) refl refl std
+ready-at Mod std = by_dialect (AreReady Mod) refl refl refl std
 ready-at Qual std = refl
 ready-at Word std = refl
 ready-at StructSpec std = refl
 ready-at SuRest std = refl
 ready-at Members std = refl
-ready-at Member std = both (AreReady Member) refl refl std
-ready-at MemRest std = both (AreReady MemRest) refl refl std
+ready-at Member std = by_dialect (AreReady Member) refl refl refl std
+ready-at MemRest std = by_dialect (AreReady MemRest) refl refl refl std
 ready-at Mdecl std = refl
 ready-at EnumSpec std = refl
 ready-at EnRest std = refl
@@ -210,5 +210,5 @@ chosen-ready g p s n (a ∷ more) c ready e =
     (chosen-ready g p s (n + 1) more c both.1) e
 
 -- an alternative of the table that was chosen
-pub row-ready : (std : Standard) (p : Production) (s : State) (c : Choice) → chosen (grammar std) s 1 (table p std) ≡ Some c → IsReady p c.body
+pub row-ready : (std : Dialect) (p : Production) (s : State) (c : Choice) → chosen (grammar std) s 1 (table p std) ≡ Some c → IsReady p c.body
 row-ready std p s c e = ready-parts p c.body (chosen-ready (grammar std) p s 1 (table p std) c (ready-at p std) e)

@@ -2,7 +2,7 @@
 use Rattle.std.proofs.Common.{ℕ, ◌+◌, List, [], ◌∷◌, length, drop, map, get_or, Option, None, Some, ◌<◌, ◌≤◌, ◌≡◌, Bool, true, false, if◌then◌else◌, Ok, Err, refl, sym, ap, subst, ◌∙◌}
 use Rattle.std.proofs.lemmas.Bool.{and_parts}
 use Rattle.std.proofs.lemmas.List.{drop_more, drop_all}
-use Rattle.cs_base.specs.declared.ws_units.Standard.{Standard}
+use Rattle.c99_grammar.specs.declared.dialects.Dialect.{Dialect}
 use Rattle.c99_tree.specs.declared.production.Production.{Production}
 use Rattle.c99_grammar.specs.Grammar.{table}
 use Rattle.c99_grammar.specs.Items.{Item, Test, many, Alternative}
@@ -17,7 +17,7 @@ use Rattle.c99_read.proofs.C99Sound.{grammar-sound}
 use Rattle.c99_read.proofs.Moves.{Moves, Moves-step}
 use Rattle.c99_read.proofs.Suffices.{whole-runs, whole-moves}
 
-module _ (std : Standard) where
+module _ (std : Dialect) where
   pub produced : (depth : ℕ) (p : Production) (s : State) → whole (grammar std) depth (produce p) s ≡ run (grammar std) (whole (grammar std)) depth (produce p) s
   produced depth p s = whole-runs (grammar std) (grammar-sound std) depth (produce p) s refl
 

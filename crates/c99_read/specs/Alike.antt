@@ -1,7 +1,7 @@
 -- Lists of tokens that reading cannot tell apart.
 use Rattle.std.specs.Prelude.{ℕ, ◌≡◌, List, length}
 use Rattle.std.specs.Str.{bytes_eq}
-use Rattle.cs_base.specs.declared.ws_units.Standard.{Standard}
+use Rattle.c99_grammar.specs.declared.dialects.Dialect.{Dialect}
 use Rattle.cs_base.specs.Token.{Token}
 use Rattle.c99_read.specs.Reading.{read_of}
 use Rattle.c99_read.specs.State.{base_at, spelling_at}
@@ -13,6 +13,6 @@ pub record IsAlike (g : Grammar) (a b : List Token) : Type 0 where
   pub classes : (k : ℕ) → base_at g a k ≡ base_at g b k
   pub spellings : (i j : ℕ) → bytes_eq (spelling_at a i) (spelling_at a j) ≡ bytes_eq (spelling_at b i) (spelling_at b j)
 
--- such lists read to the same tree, or the same fault, by each standard
+-- such lists read to the same tree, or the same fault, by each dialect
 abbrev pub AlikeReadAlike : Type 0
-AlikeReadAlike = (s : Standard) (a b : List Token) → IsAlike (grammar s) a b → read_of (grammar s) a ≡ read_of (grammar s) b
+AlikeReadAlike = (s : Dialect) (a b : List Token) → IsAlike (grammar s) a b → read_of (grammar s) a ≡ read_of (grammar s) b

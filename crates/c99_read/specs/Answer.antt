@@ -1,6 +1,6 @@
 -- How the answers of the reader's procedures are tied to the definition.
 use Rattle.std.specs.Prelude.{ℕ, ◌≡◌, List, Option, None, Some, Result, Ok, Err, IfSome}
-use Rattle.cs_base.specs.declared.ws_units.Standard.{Standard}
+use Rattle.c99_grammar.specs.declared.dialects.Dialect.{Dialect}
 use Rattle.cs_base.specs.Token.{Token}
 use Rattle.c99_tree.specs.Tree.{Node, node_of, none, inner, put}
 use Rattle.c99_tree.specs.declared.production.Label.{Label}
@@ -66,7 +66,7 @@ Closes (Ok n) old new p outer =
     × (n ≡ finished p old.built)
 Closes (Err e) old new p outer = e ≡ refusal.Memory
 
--- a reader by the standard before the first token, unless memory ran out
-abbrev pub Starts : Result Reading ReadRefusal → Standard → List Token → Type 0
-Starts (Ok r) standard toks = (r.standard ≡ standard) × (r.state ≡ at_first toks)
-Starts (Err e) standard toks = e ≡ refusal.Memory
+-- a reader by the dialect before the first token, unless memory ran out
+abbrev pub Starts : Result Reading ReadRefusal → Dialect → List Token → Type 0
+Starts (Ok r) dialect toks = (r.dialect ≡ dialect) × (r.state ≡ at_first toks)
+Starts (Err e) dialect toks = e ≡ refusal.Memory

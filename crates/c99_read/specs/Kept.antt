@@ -1,6 +1,6 @@
 -- What is true of every reader, beside the state that contracts see.
 use Rattle.std.specs.Prelude.{ℕ, ◌≤◌, ◌<◌, ◌+◌, ◌^◌, ◌≡◌, List, length, map, if◌then◌else◌, ◌&&◌}
-use Rattle.cs_base.specs.declared.ws_units.Standard.{Standard}
+use Rattle.c99_grammar.specs.declared.dialects.Dialect.{Dialect}
 use Rattle.cs_base.specs.Token.{Token}
 use Rattle.c99_tree.specs.Names.{Declared, is_typedef}
 use Rattle.c99_grammar.specs.declared.classes.Class.{Class}
@@ -10,9 +10,9 @@ use Rattle.c99_read.specs.State.{State, Names, base_at, spelling_at, is_identifi
 use Rattle.c99_grammar.specs.TokenClasses.{base_class}
 use Rattle.c99_grammar.specs.Standard.{Grammar}
 
--- what contracts see of a reader: its standard, and how far the text has been read
+-- what contracts see of a reader: its dialect, and how far the text has been read
 pub record Reading : Type 0 where
-  pub standard : Standard
+  pub dialect : Dialect
   pub state : State
 
 -- the class of token k, where these names are visible

@@ -6,9 +6,9 @@ ghost use Rattle.c99_grammar.specs.Standard.{grammar};
 ghost use Rattle.c99_read.specs.State.{base_at, spelling_at};
 ghost use Rattle.c99_grammar.specs.TokenClasses.{base_class};
 
-use c99_grammar::Class;
+use c99_grammar::{Class, Dialect};
 use c99_tree::Visible;
-use cs_base::{Standard, Tok};
+use cs_base::Tok;
 
 /// The class of the next token, and that of the one behind it.
 #[derive(Clone, Copy)]
@@ -28,9 +28,9 @@ pub(crate) fn spelling<'a>(toks: &'a [Tok], k: usize) -> &'a [u8]
 }
 
 /// The class of token `k`, where no name counts as a typedef name.
-pub(crate) fn base_at(_standard: Standard, toks: &[Tok], classes: &[Class], k: usize) -> Class
-    requires classes_of { classes.now ≡ map (base_class (grammar _standard)) toks.now }
-    ensures { result ≡ base_at (grammar _standard) toks.now k }
+pub(crate) fn base_at(_dialect: Dialect, toks: &[Tok], classes: &[Class], k: usize) -> Class
+    requires classes_of { classes.now ≡ map (base_class (grammar _dialect)) toks.now }
+    ensures { result ≡ base_at (grammar _dialect) toks.now k }
 {
     match classes.get(k) {
         Some(class) => *class,
@@ -53,17 +53,11 @@ fn is_typedef_at(toks: &[Tok], visible: &Visible, k: usize) -> bool
 
 #[tactic(auto, unfolding(crate::specs::Kept::class_among))]
 // The class of token `k`.
-fn class_at(
-    standard: Standard,
-    toks: &[Tok],
-    classes: &[Class],
-    visible: &Visible,
-    k: usize,
-) -> Class
-    requires classes_of { classes.now ≡ map (base_class (grammar standard)) toks.now }
-    ensures { result ≡ class_among (grammar standard) toks.now visible.now k }
+fn class_at(dialect: Dialect, toks: &[Tok], classes: &[Class], visible: &Visible, k: usize) -> Class
+    requires classes_of { classes.now ≡ map (base_class (grammar dialect)) toks.now }
+    ensures { result ≡ class_among (grammar dialect) toks.now visible.now k }
 {
-    let class = base_at(standard, toks, classes, k);
+    let class = base_at(dialect, toks, classes, k);
     if class == Class::Identifier && is_typedef_at(toks, visible, k) {
         Class::TypedefName
     } else {
@@ -73,38 +67,38 @@ fn class_at(
 
 /// The classes of token `at` and the one behind it.
 pub(crate) fn look_ahead(
-    standard: Standard,
+    dialect: Dialect,
     toks: &[Tok],
     classes: &[Class],
     visible: &Visible,
     at: usize,
 ) -> Ahead
-    requires classes_of { classes.now ≡ map (base_class (grammar standard)) toks.now }
+    requires classes_of { classes.now ≡ map (base_class (grammar dialect)) toks.now }
     requires small { at < 2 ^ 32 }
-    ensures { IsAhead (grammar standard) result toks.now visible.now at }
+    ensures { IsAhead (grammar dialect) result toks.now visible.now at }
 {
     Ahead {
-        here: class_at(standard, toks, classes, visible, at),
-        behind: class_at(standard, toks, classes, visible, at + 1),
+        here: class_at(dialect, toks, classes, visible, at),
+        behind: class_at(dialect, toks, classes, visible, at + 1),
     }
 }
 
 /// The same one token further on.
 pub(crate) fn moved_on(
-    standard: Standard,
+    dialect: Dialect,
     ahead: Ahead,
     toks: &[Tok],
     classes: &[Class],
     visible: &Visible,
     at: usize,
 ) -> Ahead
-    requires classes_of { classes.now ≡ map (base_class (grammar standard)) toks.now }
+    requires classes_of { classes.now ≡ map (base_class (grammar dialect)) toks.now }
     requires small { at < 2 ^ 32 }
-    requires ahead_of { IsAhead (grammar standard) ahead toks.now visible.now at }
-    ensures { IsAhead (grammar standard) result toks.now visible.now (at + 1) }
+    requires ahead_of { IsAhead (grammar dialect) ahead toks.now visible.now at }
+    ensures { IsAhead (grammar dialect) result toks.now visible.now (at + 1) }
 {
     Ahead {
         here: ahead.behind,
-        behind: class_at(standard, toks, classes, visible, at + 2),
+        behind: class_at(dialect, toks, classes, visible, at + 2),
     }
 }

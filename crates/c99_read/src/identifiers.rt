@@ -7,24 +7,24 @@ ghost use Rattle.c99_read.specs.State.{last_identifier};
 ghost use Rattle.c99_grammar.specs.TokenClasses.{base_class};
 
 use crate::ahead::base_at;
-use c99_grammar::Class;
+use c99_grammar::{Class, Dialect};
 use c99_tree::{Child, Tree};
-use cs_base::{Standard, Tok};
+use cs_base::Tok;
 
 /// The last identifier among the tokens of the node.
 pub(crate) fn last_identifier(
-    standard: Standard,
+    dialect: Dialect,
     toks: &[Tok],
     classes: &[Class],
     node: &Tree,
 ) -> Option<u32>
-    requires classes_of { classes.now ≡ map (base_class (grammar standard)) toks.now }
-    ensures { result ≡ last_identifier (grammar standard) toks.now node.now.under None }
+    requires classes_of { classes.now ≡ map (base_class (grammar dialect)) toks.now }
+    ensures { result ≡ last_identifier (grammar dialect) toks.now node.now.under None }
 {
     let mut k = node.len();
     'children: while k > 0 {
         k -= 1;
-        if let Some(index) = identifier_at(standard, toks, classes, node, k) {
+        if let Some(index) = identifier_at(dialect, toks, classes, node, k) {
             return Some(index);
         }
     }
@@ -33,27 +33,27 @@ pub(crate) fn last_identifier(
 
 // Child `k` of the node, where it is an identifier.
 fn identifier_at(
-    standard: Standard,
+    dialect: Dialect,
     toks: &[Tok],
     classes: &[Class],
     node: &Tree,
     k: u32,
 ) -> Option<u32>
-    requires classes_of { classes.now ≡ map (base_class (grammar standard)) toks.now }
-    ensures { result ≡ identifier_found (grammar standard) toks.now (part_at node.now.under k) }
+    requires classes_of { classes.now ≡ map (base_class (grammar dialect)) toks.now }
+    ensures { result ≡ identifier_found (grammar dialect) toks.now (part_at node.now.under k) }
 {
     match node.child(k) {
-        Some(Child::Token(index)) => identifier(standard, toks, classes, index),
+        Some(Child::Token(index)) => identifier(dialect, toks, classes, index),
         Some(Child::Node(_)) => None,
         None => None,
     }
 }
 
-fn identifier(standard: Standard, toks: &[Tok], classes: &[Class], index: u32) -> Option<u32>
-    requires classes_of { classes.now ≡ map (base_class (grammar standard)) toks.now }
-    ensures { result ≡ identifier_found (grammar standard) toks.now (Some (leaf index)) }
+fn identifier(dialect: Dialect, toks: &[Tok], classes: &[Class], index: u32) -> Option<u32>
+    requires classes_of { classes.now ≡ map (base_class (grammar dialect)) toks.now }
+    ensures { result ≡ identifier_found (grammar dialect) toks.now (Some (leaf index)) }
 {
-    if base_at(standard, toks, classes, index as usize) == Class::Identifier {
+    if base_at(dialect, toks, classes, index as usize) == Class::Identifier {
         Some(index)
     } else {
         None

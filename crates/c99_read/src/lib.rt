@@ -3,7 +3,7 @@
 //! `read` takes the tokens of a preprocessed translation unit and gives its tree, or the first fault:
 //! `Syntax` where nothing that may follow starts, `TooDeep` where the 257th level would begin. It equals
 //! `read_of` of `specs/Reading.antt`, one interpreter of a table of productions, at the table that
-//! `c99_grammar` has for the standard. A token counts by its class alone, and whether a name
+//! `c99_grammar` has for the dialect. A token counts by its class alone, and whether a name
 //! is a typedef name where it stands (6.7.7) the reader keeps for itself while it reads. Types, tags,
 //! members, labels and what is declared twice belong to the crates above. A few procedures read any item of
 //! the table; nesting is bounded, so a text of any length needs little stack. The first operand of an expression is
@@ -30,20 +30,20 @@ mod parts;
 mod reader;
 mod reading;
 
-pub use c99_grammar::first_sets_are_the_tables;
+pub use c99_grammar::{Dialect, first_sets_are_the_tables};
 use c99_tree::{Production, Tree};
-use cs_base::{Standard, Tok};
+use cs_base::Tok;
 pub use faults::ReadRefusal;
 pub use laws::alike_tokens_read_alike;
 use reader::Reader;
 use std::alloc::Global;
 
-/// The tree of the tokens of a translation unit by a standard, or the first fault.
-pub fn read(alloc: Global, toks: &[Tok], standard: Standard) -> Result<Tree, ReadRefusal>
+/// The tree of the tokens of a translation unit by a dialect, or the first fault.
+pub fn read(alloc: Global, toks: &[Tok], dialect: Dialect) -> Result<Tree, ReadRefusal>
     requires few { length toks.now < 2 ^ 32 }
-    ensures answer { Gives (λ tree. tree) stop_of result (read_of (grammar standard) toks.now) }
+    ensures answer { Gives (λ tree. tree) stop_of result (read_of (grammar dialect) toks.now) }
 {
-    let mut reader = Reader::new(alloc, toks, standard)?;
-    reader.produce(0, Production::TranslationUnit, standard)?;
+    let mut reader = Reader::new(alloc, toks, dialect)?;
+    reader.produce(0, Production::TranslationUnit, dialect)?;
     Ok(reader.into_tree()?)
 }

@@ -5,9 +5,8 @@ ghost use Rattle.c99_grammar.specs.ItemsOf.{item_of};
 ghost use Rattle.c99_read.specs.Operators.{is_assign, is_binary, operand_of, rest_of, signs};
 ghost use Rattle.c99_tree.specs.declared.production.Production.TheVariants.{Expr, Cond, Lor, Land, Bor, Bxor, Band, Equal, Relate, Shift, Add, Mul};
 
-use c99_grammar::{Class, Item, alternatives};
+use c99_grammar::{Class, Dialect, Item, alternatives};
 use c99_tree::Production;
-use cs_base::Standard;
 
 pub(crate) fn is_binary(production: Production) -> bool
     ensures { result ≡ is_binary production }
@@ -154,11 +153,11 @@ pub(crate) fn is_assign(production: Production) -> bool
 }
 
 /// What may follow the first operand, as the table has it.
-pub(crate) fn rest_of(production: Production, standard: Standard) -> &'static Item
+pub(crate) fn rest_of(production: Production, dialect: Dialect) -> &'static Item
     requires { is_binary production ≡ true }
     ensures { item_of result.now ≡ rest_of production }
 {
-    let rows = alternatives(production, standard);
+    let rows = alternatives(production, dialect);
     match &rows[0].body {
         Item::Then(_, rest) => *rest,
         _ => unreachable!(),

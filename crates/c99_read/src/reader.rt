@@ -18,17 +18,17 @@ use crate::identifiers::last_identifier;
 use crate::names::NameTable;
 use crate::open_node::OpenNode;
 use crate::parts::collapses;
-use c99_grammar::{Class, base_class};
+use c99_grammar::{Class, Dialect, base_class};
 use c99_tree::{Label, Production, Tree, Visible};
-use cs_base::{Memory, Standard, Tok};
+use cs_base::{Memory, Tok};
 use std::alloc::{AllocError, Global};
 use std::marker::Model;
 use std::mem;
 
-/// Contracts see the reading of specs/Kept.antt: the standard, and the state of specs/State.antt.
+/// Contracts see the reading of specs/Kept.antt: the dialect, and the state of specs/State.antt.
 #[derive(Drop)]
 pub(crate) struct Reader<'a> {
-    standard: Standard,
+    dialect: Dialect,
     toks: &'a [Tok],
     classes: Vec<Class>,
     at: usize,
@@ -52,11 +52,11 @@ impl<'a> Model for Reader<'a> {
     ghost coded = { Prim.hlevel (codes, forest_code) };
 
     ghost view = { λ r. record {
-      standard = r.standard;
+      dialect = r.dialect;
       state = record { toks = r.toks.now; at = r.at; names = r.names; near = r.near; built = r.built };
     } };
 
-    ghost invariant = { λ r. IsKept (grammar r.standard) r.toks.now r.classes.items r.at r.names r.visible r.ahead };
+    ghost invariant = { λ r. IsKept (grammar r.dialect) r.toks.now r.classes.items r.at r.names r.visible r.ahead };
 }
 
 /// What was open around a node.
@@ -89,18 +89,18 @@ impl<'a> Reader<'a> {
     pub(crate) fn new(
         alloc: Global,
         toks: &'a [Tok],
-        standard: Standard,
+        dialect: Dialect,
     ) -> Result<Reader<'a>, ReadRefusal>
         requires few { length toks.now < 2 ^ 32 }
-        ensures { Starts result standard toks.now }
+        ensures { Starts result dialect toks.now }
     {
-        match classes_of(alloc, toks, standard) {
+        match classes_of(alloc, toks, dialect) {
             Ok(classes) => {
                 let visible = Visible::new(alloc);
                 Ok(Reader {
-                    standard,
+                    dialect,
                     toks,
-                    ahead: look_ahead(standard, toks, classes.as_slice(), &visible, 0),
+                    ahead: look_ahead(dialect, toks, classes.as_slice(), &visible, 0),
                     classes,
                     at: 0,
                     names: NameTable::new(alloc),
@@ -122,35 +122,35 @@ impl<'a> Reader<'a> {
     }
 
     /// The class of the next token.
-    pub(crate) fn class_here(&self, standard: Standard) -> Class
-        requires by { self.now.standard ≡ standard }
-        ensures { result ≡ class_at (grammar standard) self.now.state self.now.state.at }
+    pub(crate) fn class_here(&self, dialect: Dialect) -> Class
+        requires by { self.now.dialect ≡ dialect }
+        ensures { result ≡ class_at (grammar dialect) self.now.state self.now.state.at }
     {
         self.ahead.here
     }
 
     /// The class of the token behind the next one.
-    pub(crate) fn class_behind(&self, standard: Standard) -> Class
-        requires by { self.now.standard ≡ standard }
-        ensures { result ≡ class_at (grammar standard) self.now.state (self.now.state.at + 1) }
+    pub(crate) fn class_behind(&self, dialect: Dialect) -> Class
+        requires by { self.now.dialect ≡ dialect }
+        ensures { result ≡ class_at (grammar dialect) self.now.state (self.now.state.at + 1) }
     {
         self.ahead.behind
     }
 
     /// The next token is of one of the classes.
-    pub(crate) fn is(&self, classes: &[Class], standard: Standard) -> bool
-        requires by { self.now.standard ≡ standard }
-        ensures { result ≡ among classes.now (class_at (grammar standard) self.now.state self.now.state.at) }
+    pub(crate) fn is(&self, classes: &[Class], dialect: Dialect) -> bool
+        requires by { self.now.dialect ≡ dialect }
+        ensures { result ≡ among classes.now (class_at (grammar dialect) self.now.state self.now.state.at) }
     {
-        classes.contains(&self.class_here(standard))
+        classes.contains(&self.class_here(dialect))
     }
 
     /// The token behind the next one is of one of the classes.
-    pub(crate) fn is_then(&self, classes: &[Class], standard: Standard) -> bool
-        requires by { self.now.standard ≡ standard }
-        ensures { result ≡ among classes.now (class_at (grammar standard) self.now.state (self.now.state.at + 1)) }
+    pub(crate) fn is_then(&self, classes: &[Class], dialect: Dialect) -> bool
+        requires by { self.now.dialect ≡ dialect }
+        ensures { result ≡ among classes.now (class_at (grammar dialect) self.now.state (self.now.state.at + 1)) }
     {
-        classes.contains(&self.class_behind(standard))
+        classes.contains(&self.class_behind(dialect))
     }
 
     /// Nothing that may follow starts here.
@@ -173,31 +173,31 @@ impl<'a> Reader<'a> {
 
     #[tactic(auto, unfolding(crate::specs::Reading::take_one))]
     /// A token of one of the classes becomes a child of the open node.
-    pub(crate) fn take(&mut self, classes: &[Class], standard: Standard) -> Read
-        requires by { self.old.standard ≡ standard }
-        ensures by { self.new.standard ≡ standard }
-        ensures answer { Reads result self.new.state (take_one (grammar standard) classes.now self.old.state) }
+    pub(crate) fn take(&mut self, classes: &[Class], dialect: Dialect) -> Read
+        requires by { self.old.dialect ≡ dialect }
+        ensures by { self.new.dialect ≡ dialect }
+        ensures answer { Reads result self.new.state (take_one (grammar dialect) classes.now self.old.state) }
     {
         if self.at >= self.toks.len() {
             return self.syntax();
         }
-        if !self.is(classes, standard) {
+        if !self.is(classes, dialect) {
             return self.syntax();
         }
         self.built.push_token(self.at as u32)?;
-        self.move_on(standard);
+        self.move_on(dialect);
         Ok(())
     }
 
     // The token behind the next one is next.
-    fn move_on(&mut self, standard: Standard)
-        requires by { self.old.standard ≡ standard }
+    fn move_on(&mut self, dialect: Dialect)
+        requires by { self.old.dialect ≡ dialect }
         requires within { self.old.state.at < length self.old.state.toks }
-        ensures by { self.new.standard ≡ standard }
+        ensures by { self.new.dialect ≡ dialect }
         ensures answer { self.new.state ≡ record self.old.state { at = self.old.state.at + 1 } }
     {
         self.ahead = moved_on(
-            standard,
+            dialect,
             self.ahead,
             self.toks,
             self.classes.as_slice(),
@@ -243,10 +243,10 @@ impl<'a> Reader<'a> {
         &mut self,
         production: Production,
         alternative: u8,
-        standard: Standard,
+        dialect: Dialect,
     ) -> Result<Outer, ReadRefusal>
-        requires by { self.old.standard ≡ standard }
-        ensures by { self.new.standard ≡ standard }
+        requires by { self.old.dialect ≡ dialect }
+        ensures by { self.new.dialect ≡ dialect }
         ensures answer { Opens result self.old.state self.new.state production alternative }
     {
         open_names(&mut self.names, production)?;
@@ -273,9 +273,9 @@ impl<'a> Reader<'a> {
     }
 
     /// A node ends that began there, and the nearest specifiers are again those of before.
-    pub(crate) fn end(&mut self, begun: Begun, standard: Standard)
-        requires by { self.old.standard ≡ standard }
-        ensures by { self.new.standard ≡ standard }
+    pub(crate) fn end(&mut self, begun: Begun, dialect: Dialect)
+        requires by { self.old.dialect ≡ dialect }
+        ensures by { self.new.dialect ≡ dialect }
         ensures answer { self.new.state ≡ record self.old.state { near = begun.near } }
     {
         self.near = begun.near;
@@ -288,10 +288,10 @@ impl<'a> Reader<'a> {
         alternative: u8,
         begun: Begun,
         first: Tree,
-        standard: Standard,
+        dialect: Dialect,
     ) -> Result<Outer, ReadRefusal>
-        requires by { self.old.standard ≡ standard }
-        ensures by { self.new.standard ≡ standard }
+        requires by { self.old.dialect ≡ dialect }
+        ensures by { self.new.dialect ≡ dialect }
         ensures answer { Wraps result self.old.state self.new.state (record { production = production; alternative = alternative }) begun first }
     {
         let label = Label {
@@ -311,10 +311,10 @@ impl<'a> Reader<'a> {
         &mut self,
         outer: Outer,
         production: Production,
-        standard: Standard,
+        dialect: Dialect,
     ) -> Result<Tree, ReadRefusal>
-        requires by { self.old.standard ≡ standard }
-        ensures by { self.new.standard ≡ standard }
+        requires by { self.old.dialect ≡ dialect }
+        ensures by { self.new.dialect ≡ dialect }
         ensures answer { Closes result self.old.state self.new.state production outer }
     {
         close_names(&mut self.names, production);
@@ -326,9 +326,9 @@ impl<'a> Reader<'a> {
 
     /// A node becomes a child of the open node.
     #[inline(never)]
-    pub(crate) fn push(&mut self, node: Tree, standard: Standard) -> Read
-        requires by { self.old.standard ≡ standard }
-        ensures by { self.new.standard ≡ standard }
+    pub(crate) fn push(&mut self, node: Tree, dialect: Dialect) -> Read
+        requires by { self.old.dialect ≡ dialect }
+        ensures by { self.new.dialect ≡ dialect }
         ensures answer { Reads result self.new.state (Ok (with_built self.old.state (behind self.old.state.built node))) }
     {
         self.built.push_node(node)?;
@@ -337,14 +337,14 @@ impl<'a> Reader<'a> {
 
     #[tactic(auto, unfolding(crate::specs::State::acted))]
     /// A scope begins.
-    pub(crate) fn begin_scope(&mut self, standard: Standard) -> Read
-        requires by { self.old.standard ≡ standard }
-        ensures by { self.new.standard ≡ standard }
-        ensures answer { Reads result self.new.state (Ok (acted (grammar standard) scope self.old.state)) }
+    pub(crate) fn begin_scope(&mut self, dialect: Dialect) -> Read
+        requires by { self.old.dialect ≡ dialect }
+        ensures by { self.new.dialect ≡ dialect }
+        ensures answer { Reads result self.new.state (Ok (acted (grammar dialect) scope self.old.state)) }
     {
         let outcome = begin_scope(self.toks, &mut self.names, &mut self.visible, self.alloc);
         self.ahead = look_ahead(
-            standard,
+            dialect,
             self.toks,
             self.classes.as_slice(),
             &self.visible,
@@ -356,14 +356,14 @@ impl<'a> Reader<'a> {
 
     #[tactic(auto, unfolding(crate::specs::State::acted))]
     /// A scope ends.
-    pub(crate) fn end_scope(&mut self, standard: Standard) -> Read
-        requires by { self.old.standard ≡ standard }
-        ensures by { self.new.standard ≡ standard }
-        ensures answer { Reads result self.new.state (Ok (acted (grammar standard) end self.old.state)) }
+    pub(crate) fn end_scope(&mut self, dialect: Dialect) -> Read
+        requires by { self.old.dialect ≡ dialect }
+        ensures by { self.new.dialect ≡ dialect }
+        ensures answer { Reads result self.new.state (Ok (acted (grammar dialect) end self.old.state)) }
     {
         end_scope(self.toks, &mut self.names, &mut self.visible);
         self.ahead = look_ahead(
-            standard,
+            dialect,
             self.toks,
             self.classes.as_slice(),
             &self.visible,
@@ -373,9 +373,9 @@ impl<'a> Reader<'a> {
     }
 
     // The name at a token is declared.
-    fn declare_at(&mut self, name_at: u32, typedef: bool, standard: Standard) -> Read
-        requires by { self.old.standard ≡ standard }
-        ensures by { self.new.standard ≡ standard }
+    fn declare_at(&mut self, name_at: u32, typedef: bool, dialect: Dialect) -> Read
+        requires by { self.old.dialect ≡ dialect }
+        ensures by { self.new.dialect ≡ dialect }
         ensures answer { Reads result self.new.state (Ok (record self.old.state { names = with_declared self.old.state.names (Some name_at) typedef })) }
     {
         let outcome = declare(
@@ -387,7 +387,7 @@ impl<'a> Reader<'a> {
             typedef,
         );
         self.ahead = look_ahead(
-            standard,
+            dialect,
             self.toks,
             self.classes.as_slice(),
             &self.visible,
@@ -399,37 +399,37 @@ impl<'a> Reader<'a> {
 
     #[tactic(auto, unfolding(crate::specs::State::acted))]
     /// The declarator that stands just before is declared, if there is one and it has a name.
-    pub(crate) fn declare(&mut self, standard: Standard) -> Read
-        requires by { self.old.standard ≡ standard }
-        ensures by { self.new.standard ≡ standard }
-        ensures answer { Reads result self.new.state (Ok (acted (grammar standard) declare self.old.state)) }
+    pub(crate) fn declare(&mut self, dialect: Dialect) -> Read
+        requires by { self.old.dialect ≡ dialect }
+        ensures by { self.new.dialect ≡ dialect }
+        ensures answer { Reads result self.new.state (Ok (acted (grammar dialect) declare self.old.state)) }
     {
         match self.built.last_declared() {
-            Some(name_at) => self.declare_at(name_at, self.near, standard),
+            Some(name_at) => self.declare_at(name_at, self.near, dialect),
             None => Ok(()),
         }
     }
 
     #[tactic(auto, unfolding(crate::specs::State::acted))]
     /// The last identifier of the open node is declared, as no typedef name.
-    pub(crate) fn declare_name(&mut self, standard: Standard) -> Read
-        requires by { self.old.standard ≡ standard }
-        ensures by { self.new.standard ≡ standard }
-        ensures answer { Reads result self.new.state (Ok (acted (grammar standard) name self.old.state)) }
+    pub(crate) fn declare_name(&mut self, dialect: Dialect) -> Read
+        requires by { self.old.dialect ≡ dialect }
+        ensures by { self.new.dialect ≡ dialect }
+        ensures answer { Reads result self.new.state (Ok (acted (grammar dialect) name self.old.state)) }
     {
-        match self.last_identifier(standard) {
-            Some(name_at) => self.declare_at(name_at, false, standard),
+        match self.last_identifier(dialect) {
+            Some(name_at) => self.declare_at(name_at, false, dialect),
             None => Ok(()),
         }
     }
 
     // The last identifier among the tokens of the open node.
-    fn last_identifier(&self, standard: Standard) -> Option<u32>
-        requires by { self.now.standard ≡ standard }
-        ensures { result ≡ last_identifier (grammar standard) self.now.state.toks self.now.state.built.under None }
+    fn last_identifier(&self, dialect: Dialect) -> Option<u32>
+        requires by { self.now.dialect ≡ dialect }
+        ensures { result ≡ last_identifier (grammar dialect) self.now.state.toks self.now.state.built.under None }
     {
         last_identifier(
-            standard,
+            dialect,
             self.toks,
             self.classes.as_slice(),
             self.built.tokens(),
@@ -438,10 +438,10 @@ impl<'a> Reader<'a> {
 
     #[tactic(auto, unfolding(crate::specs::State::acted))]
     /// The names of the scope just ended go to the outermost declarator that began in this scope.
-    pub(crate) fn keep(&mut self, standard: Standard) -> Read
-        requires by { self.old.standard ≡ standard }
-        ensures by { self.new.standard ≡ standard }
-        ensures answer { Reads result self.new.state (Ok (acted (grammar standard) keep self.old.state)) }
+    pub(crate) fn keep(&mut self, dialect: Dialect) -> Read
+        requires by { self.old.dialect ≡ dialect }
+        ensures by { self.new.dialect ≡ dialect }
+        ensures answer { Reads result self.new.state (Ok (acted (grammar dialect) keep self.old.state)) }
     {
         self.names.keep()?;
         Ok(())
@@ -449,26 +449,26 @@ impl<'a> Reader<'a> {
 
     #[tactic(auto, unfolding(crate::specs::State::acted))]
     /// A scope begins, with the names that were given to the declarator read last.
-    pub(crate) fn again(&mut self, standard: Standard) -> Read
-        requires by { self.old.standard ≡ standard }
-        ensures by { self.new.standard ≡ standard }
-        ensures answer { Reads result self.new.state (Ok (acted (grammar standard) again self.old.state)) }
+    pub(crate) fn again(&mut self, dialect: Dialect) -> Read
+        requires by { self.old.dialect ≡ dialect }
+        ensures by { self.new.dialect ≡ dialect }
+        ensures answer { Reads result self.new.state (Ok (acted (grammar dialect) again self.old.state)) }
     {
-        self.begin_scope(standard)?;
+        self.begin_scope(dialect)?;
         let count = self.names.kept_len();
         'names: for k in 0..count {
             let kept = self.names.kept_at(k);
-            self.declare_at(kept.name_at, kept.typedef, standard)?;
+            self.declare_at(kept.name_at, kept.typedef, dialect)?;
         }
         Ok(())
     }
 }
 
-fn classes_of(alloc: Global, toks: &[Tok], standard: Standard) -> Result<Vec<Class>, AllocError>
-    ensures { IfOk result (λ classes. classes.items ≡ map (base_class (grammar standard)) toks.now) }
+fn classes_of(alloc: Global, toks: &[Tok], dialect: Dialect) -> Result<Vec<Class>, AllocError>
+    ensures { IfOk result (λ classes. classes.items ≡ map (base_class (grammar dialect)) toks.now) }
 {
     toks.iter()
-        .map(|tok| base_class(tok, standard))
+        .map(|tok| base_class(tok, dialect))
         .collect(alloc)
 }
 

@@ -2,9 +2,9 @@
 use crate::entity_rows::BOUND;
 use crate::fault_rows::FAULTS;
 use crate::list_rows::{KINDS, LISTS, PARAMETERS};
-use c99_read::read;
+use c99_read::{Dialect, read};
 use c99_tree::Tree;
-use cs_base::{Standard, Tok};
+use cs_base::Tok;
 use part_lexer::lex;
 use scope_bind::{Bound, List, ParameterList, Range, bind, parameter_lists};
 use std::alloc::Global;
@@ -128,23 +128,18 @@ fn told(
 }
 
 // What is told of a program, or its first fault.
-fn answer(alloc: Global, asked: Asked, text: &[u8], standard: Standard) -> Result<String, Fail> {
+fn answer(alloc: Global, asked: Asked, text: &[u8], dialect: Dialect) -> Result<String, Fail> {
     match lex(alloc, 1, text) {
-        Ok(file) => answer_of(alloc, asked, file.toks(), standard),
+        Ok(file) => answer_of(alloc, asked, file.toks(), dialect),
         Err(_) => Ok(format!(in alloc; "not lexed")?),
     }
 }
 
-fn answer_of(
-    alloc: Global,
-    asked: Asked,
-    toks: &[Tok],
-    standard: Standard,
-) -> Result<String, Fail> {
+fn answer_of(alloc: Global, asked: Asked, toks: &[Tok], dialect: Dialect) -> Result<String, Fail> {
     if toks.len() > 1000 {
         return Ok(format!(in alloc; "too long")?);
     }
-    match read(alloc, toks, standard) {
+    match read(alloc, toks, dialect) {
         Ok(tree) => match bind(alloc, toks, &tree) {
             Ok(bound) => told(alloc, asked, &tree, &bound, toks.len() as u32),
             Err(refusal) => Ok(format!(in alloc; "{refusal}")?),
@@ -158,10 +153,10 @@ fn differing(
     alloc: Global,
     asked: Asked,
     rows: &[(&[u8], &str)],
-    standard: Standard,
+    dialect: Dialect,
 ) -> Result<String, Fail> {
     for (k, (text, expected)) in rows.iter().enumerate() {
-        let found = answer(alloc, asked, text, standard)?;
+        let found = answer(alloc, asked, text, dialect)?;
         if found.as_str() != *expected {
             return Ok(format!(in alloc; "number {k}: {found}")?);
         }
@@ -171,20 +166,20 @@ fn differing(
 
 /// The first row whose entities or fault are others by C11, or nothing.
 pub(crate) fn bound_by_c11(alloc: Global, rows: &[(&[u8], &str)]) -> Result<String, Fail> {
-    differing(alloc, Asked::Entities, rows, Standard::C11)
+    differing(alloc, Asked::Entities, rows, Dialect::C11)
 }
 
 #[test]
 fn worked_programs(rt: HostRuntime) -> Result<(), Fail> {
-    let entities = differing(rt.alloc(), Asked::Entities, &BOUND, Standard::C99)?;
+    let entities = differing(rt.alloc(), Asked::Entities, &BOUND, Dialect::C99)?;
     assert_eq!(rt; entities.as_str(), "", "BOUND");
-    let faults = differing(rt.alloc(), Asked::Entities, &FAULTS, Standard::C99)?;
+    let faults = differing(rt.alloc(), Asked::Entities, &FAULTS, Dialect::C99)?;
     assert_eq!(rt; faults.as_str(), "", "FAULTS");
-    let kinds = differing(rt.alloc(), Asked::Kinds, &KINDS, Standard::C99)?;
+    let kinds = differing(rt.alloc(), Asked::Kinds, &KINDS, Dialect::C99)?;
     assert_eq!(rt; kinds.as_str(), "", "KINDS");
-    let lists = differing(rt.alloc(), Asked::Lists, &LISTS, Standard::C99)?;
+    let lists = differing(rt.alloc(), Asked::Lists, &LISTS, Dialect::C99)?;
     assert_eq!(rt; lists.as_str(), "", "LISTS");
-    let parameters = differing(rt.alloc(), Asked::Parameters, &PARAMETERS, Standard::C99)?;
+    let parameters = differing(rt.alloc(), Asked::Parameters, &PARAMETERS, Dialect::C99)?;
     assert_eq!(rt; parameters.as_str(), "", "PARAMETERS");
     Ok(())
 }

@@ -1,13 +1,12 @@
 // The classes of tokens (6.4.1, 6.4.6), and what starts with them (Annex A.2).
-use c99_grammar::{Class, alternatives, base_class, production_starts};
+use c99_grammar::{Class, Dialect, alternatives, base_class, production_starts};
 use c99_tree::Production;
-use cs_base::Standard;
 use row_tools::toks;
 use std::test::Fail;
 
 const WORDS: &[u8] = b"int x _Bool _Noreturn _Generic u8 1 'c' \"s\" -> <: %:%: #";
 
-// Their classes by C99 and by C11.
+// Their classes by C99 and by C11. GNU C has the words of C11 so far.
 const CLASSES: [(Class, Class); 13] = [
     (Class::Int, Class::Int),
     (Class::Identifier, Class::Identifier),
@@ -30,12 +29,16 @@ fn tokens_have_their_classes(rt: HostRuntime) -> Result<(), Fail> {
     assert_eq!(rt; toks.len(), CLASSES.len());
     for k in 0..toks.len() {
         assert!(rt;
-            base_class(&toks[k], Standard::C99) == CLASSES[k].0,
+            base_class(&toks[k], Dialect::C99) == CLASSES[k].0,
             "{k} by C99"
         );
         assert!(rt;
-            base_class(&toks[k], Standard::C11) == CLASSES[k].1,
+            base_class(&toks[k], Dialect::C11) == CLASSES[k].1,
             "{k} by C11"
+        );
+        assert!(rt;
+            base_class(&toks[k], Dialect::Gnu) == CLASSES[k].1,
+            "{k} by GNU C"
         );
     }
     Ok(())
@@ -71,7 +74,7 @@ const STARTS: [(Production, Class, Class, bool); 7] = [
 fn productions_start_as_the_rows_say(rt: HostRuntime) -> Result<(), Fail> {
     for (production, class, behind, want) in STARTS {
         assert_eq!(rt;
-            production_starts(production, class, behind, Standard::C11),
+            production_starts(production, class, behind, Dialect::C11),
             want
         );
     }
@@ -80,12 +83,10 @@ fn productions_start_as_the_rows_say(rt: HostRuntime) -> Result<(), Fail> {
 
 #[test]
 fn productions_have_their_alternatives(rt: HostRuntime) -> Result<(), Fail> {
-    assert_eq!(rt;
-        alternatives(Production::Statement, Standard::C99).len(),
-        15
-    );
-    assert_eq!(rt; alternatives(Production::Sassert, Standard::C99).len(), 0);
-    assert_eq!(rt; alternatives(Production::Sassert, Standard::C11).len(), 1);
-    assert_eq!(rt; alternatives(Production::Mod, Standard::C11).len(), 8);
+    assert_eq!(rt; alternatives(Production::Statement, Dialect::C99).len(), 15);
+    assert_eq!(rt; alternatives(Production::Sassert, Dialect::C99).len(), 0);
+    assert_eq!(rt; alternatives(Production::Sassert, Dialect::C11).len(), 1);
+    assert_eq!(rt; alternatives(Production::Mod, Dialect::C11).len(), 8);
+    assert_eq!(rt; alternatives(Production::Mod, Dialect::Gnu).len(), 8);
     Ok(())
 }

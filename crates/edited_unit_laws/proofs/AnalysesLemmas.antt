@@ -10,6 +10,7 @@ use Rattle.renamed.specs.Below.unit_steps.Texts.{UnitTextValue}
 use Rattle.renamed.specs.Below.include_tree.Preprocessed.{Preprocessed}
 use Rattle.renamed.proofs.Below.source_files.TableLemmas.{grown_refl}
 use Rattle.renamed.specs.Below.c99_read.Reading.{Stop, read_of}
+use Rattle.renamed.specs.Below.c99_grammar.Dialects.{dialect}
 use Rattle.renamed.specs.Below.c99_grammar.Standard.{grammar}
 use Rattle.renamed.specs.Below.scope_bind.Named.{Fault as BindFault}
 use Rattle.renamed.specs.Below.scope_bind.Bound.{Bound, binding_of}
@@ -46,11 +47,11 @@ unbound p path f = fault_at_index p.after.table path p.text.toks (index_of f) (c
 unit-of : (standard : Standard) (number : ℕ) (path : List ℕ) (p : Preprocessed) (u : UnitAnalysis) → unit_read standard number path p ≡ Ok u → IsUnit standard p.text u
 unit-of standard number path p u h =
     let whole : read_unit standard p.after.table path p.text ≡ Ok u = unmapped (unit_fault number) (read_unit standard p.after.table path p.text) u h in
-    let tree = then-ok (bound_unit standard p.after.table path p.text) (result_map_err (stopped p path) (read_of (grammar standard) p.text.toks)) u whole in
+    let tree = then-ok (bound_unit standard p.after.table path p.text) (result_map_err (stopped p path) (read_of (grammar (dialect standard)) p.text.toks)) u whole in
     let bound = then-ok {E = Fault} (λ (b : Bound). Ok (unit_analysis standard p.text tree.0 b)) (result_map_err (unbound p path) (binding_of p.text.toks tree.0)) u tree.2 in
     let same : unit_analysis standard p.text tree.0 bound.0 ≡ u = ok-same {E = Fault} (unit_analysis standard p.text tree.0 bound.0) u bound.2 in
     let read : IsRead (unit_analysis standard p.text tree.0 bound.0) = record {
-      reads = unmapped (stopped p path) (read_of (grammar standard) p.text.toks) tree.0 tree.1;
+      reads = unmapped (stopped p path) (read_of (grammar (dialect standard)) p.text.toks) tree.0 tree.1;
       binds = unmapped (unbound p path) (binding_of p.text.toks tree.0) bound.0 bound.1;
     } in
     record { same = sym (ap (λ (x : UnitAnalysis). x.text) same); own = sym (ap (λ (x : UnitAnalysis). x.standard) same); read = subst IsRead same read }
@@ -58,8 +59,8 @@ unit-of standard number path p u h =
 of-unit : (standard : Standard) (number : ℕ) (path : List ℕ) (p : Preprocessed) (u : UnitAnalysis) → u.text ≡ p.text → u.standard ≡ standard → IsRead u
     → unit_read standard number path p ≡ Ok u
 of-unit standard number path p u same own read =
-    let here : read_of (grammar u.standard) p.text.toks ≡ Ok u.tree = subst (λ (x : UnitTextValue). read_of (grammar u.standard) x.toks ≡ Ok u.tree) same read.reads in
-    let reads : read_of (grammar standard) p.text.toks ≡ Ok u.tree = subst (λ (x : Standard). read_of (grammar x) p.text.toks ≡ Ok u.tree) own here in
+    let here : read_of (grammar (dialect u.standard)) p.text.toks ≡ Ok u.tree = subst (λ (x : UnitTextValue). read_of (grammar (dialect u.standard)) x.toks ≡ Ok u.tree) same read.reads in
+    let reads : read_of (grammar (dialect standard)) p.text.toks ≡ Ok u.tree = subst (λ (x : Standard). read_of (grammar (dialect x)) p.text.toks ≡ Ok u.tree) own here in
     let binds : binding_of p.text.toks u.tree ≡ Ok u.bound = subst (λ (x : UnitTextValue). binding_of x.toks u.tree ≡ Ok u.bound) same read.binds in
     rw reads (rw binds (
     ap (λ (x : UnitTextValue). Ok (unit_analysis standard x u.tree u.bound)) (sym same)

@@ -6,6 +6,7 @@ use Rattle.renamed.specs.Below.macro_expand.Renaming.{Renaming}
 use Rattle.renamed.specs.Below.source_files.Files.{Source, Table, Carried, nothing_carried}
 use Rattle.renamed.specs.Below.source_files.Tables.{IsGrown}
 use Rattle.renamed.specs.Below.c99_read.Reading.{read_of}
+use Rattle.renamed.specs.Below.c99_grammar.Dialects.{dialect}
 use Rattle.renamed.specs.Below.c99_grammar.Standard.{grammar}
 use Rattle.renamed.specs.Below.scope_bind.Bound.{binding_of}
 use Rattle.renamed.specs.Below.ws_core.Texts.{texts_and, texts_from}
@@ -22,7 +23,7 @@ use Rattle.renamed.specs.Renamed as page
 
 -- The tokens of a unit are read by its standard to its tree (Annex A), and bound so (6.2).
 pub record IsRead (u : UnitAnalysis) : Type 0 where
-  pub reads : read_of (grammar u.standard) u.text.toks ≡ Ok u.tree
+  pub reads : read_of (grammar (dialect u.standard)) u.text.toks ≡ Ok u.tree
   pub binds : binding_of u.text.toks u.tree ≡ Ok u.bound
 
 -- they are of the standards of these units

@@ -29,6 +29,7 @@ use Rattle.no_offence_laws.proofs.ListLemmas.{In, cons_nil, flat_nil, any_at}
 use Rattle.no_offence_laws.proofs.NoneLemmas.{NoneStand, none_stand, holder}
 use Rattle.no_offence_laws.proofs.OccurringLemmas.{name_like, parted_one, like_spelled}
 use Rattle.no_offence_laws.proofs.TracedLemmas.{AreChained}
+use Rattle.renamed_tree_laws.specs.Below.tree_laws.Below.c99_grammar.Dialects.{dialect}
 use Rattle.renamed_tree_laws.specs.Below.tree_laws.Below.c99_grammar.Standard.{grammar}
 use Rattle.renamed_tree_laws.specs.Below.tree_laws.Below.c99_read.State.{base_at, is_identifier}
 use Rattle.kept_meaning_laws.proofs.LinkedNameLemmas.{named_token}
@@ -168,8 +169,8 @@ module _ (a : Analysed) (members : List Part) (name : List ℕ) (r : Renaming) (
       name_stays k n n.token.text own free ∙ sym there
 
   -- a bare name stays with all tokens of its spelling, where a typedef name of this spelling is hidden
-  pub bare_stays : (k : ℕ) → In k u.bound.bare → is_identifier (base_at (grammar u.standard) old k) ≡ true → StaysWhole old new u.bound.typedefs k
+  pub bare_stays : (k : ℕ) → In k u.bound.bare → is_identifier (base_at (grammar (dialect u.standard)) old k) ≡ true → StaysWhole old new u.bound.typedefs k
   bare_stays k bare named = λ hidden j both.
-      let t = named_token u.standard old k named in
+      let t = named_token (dialect u.standard) old k named in
       let same : spelling_at old k ≡ spelling_at old j = bytes_eq-equal (spelling_at old k) (spelling_at old j) both in
       alike_from (spelling_at new k) (spelling_at new j) (whole_name k j (record { token = t.0; there = t.1; named = t.2 }) bare hidden same)

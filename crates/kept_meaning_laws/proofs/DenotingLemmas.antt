@@ -9,6 +9,7 @@ use Rattle.renamed_tree_laws.proofs.Below.tree_laws.Below.cs_base.FileMapLemmas.
 use Rattle.renamed_tree_laws.specs.Below.tree_laws.Below.cs_base.declared.positions.Part.{Part}
 use Rattle.renamed_tree_laws.specs.Below.tree_laws.Below.cs_base.Token.{Token}
 use Rattle.renamed_tree_laws.specs.Below.tree_laws.Below.cs_base.Units.{UnitValue}
+use Rattle.renamed_tree_laws.specs.Below.tree_laws.Below.c99_grammar.Dialects.{dialect}
 use Rattle.no_offence_laws.specs.Below.linkage_join.Linkage.{UnitValue as ExternalNames, names_of}
 use Rattle.no_offence_laws.specs.Below.macro_expand.Renaming.{Renaming, renamed}
 use Rattle.no_offence_laws.specs.Below.macro_expand.Renaming as macros
@@ -193,7 +194,7 @@ module _ (a : Analysed) (members : List Part) (name : List ℕ) (h : IsAllowed a
     name_has_entity n j =
         let is = unit_read_so h.source h.workspace a.value h.accepted u i in
         let entity = all_at (λ (m : Name). (entity_at u.bound.names m.index ≡ Some m.entity) × (entity_at u.bound.names m.entity ≡ Some m.entity)) u.bound.names
-        (all_listed _ u.bound.names (entities_named u.standard u.text.toks u.tree u.bound is.reads is.binds)) n j in
+        (all_listed _ u.bound.names (entities_named (dialect u.standard) u.text.toks u.tree u.bound is.reads is.binds)) n j in
         let same = all_at (λ (m : Name). alike u.text.toks m.index m.entity ≡ true) u.bound.names
         (all_listed _ u.bound.names (spelled_as_entities u.text.toks u.tree u.bound is.binds)) n j in
         record {

@@ -8,7 +8,7 @@ use Rattle.std.specs.Str.{bytes_eq}
 use Rattle.std.proofs.lemmas.Bool.{cases_Bool, both_ways, and_parts, and_from, eqb-true, eq-eqb}
 use Rattle.std.proofs.lemmas.List.Elements.{All-nil, All-cons, All-head, All-tail}
 use Rattle.std.proofs.lemmas.Option.{same_Some}
-use Rattle.renamed_tree_laws.specs.Below.tree_laws.Below.cs_base.declared.ws_units.Standard.{Standard}
+use Rattle.renamed_tree_laws.specs.Below.tree_laws.Below.c99_grammar.declared.dialects.Dialect.{Dialect}
 use Rattle.renamed_tree_laws.specs.Below.tree_laws.Below.cs_base.declared.tokens.Kind.{Kind}
 use Rattle.renamed_tree_laws.specs.Below.tree_laws.Below.cs_base.declared.tokens.Kind.TheVariants as kind
 use Rattle.renamed_tree_laws.specs.Below.tree_laws.Below.cs_base.declared.tokens.Link.{Link}
@@ -192,7 +192,7 @@ sign_class (w ∷ words) text other all last =
     by true k m = not_true (is_identifier w.1) k
     by false k m = m
 
-kind_named : (std : Standard) (k : Kind) (text : List ℕ) → is_identifier (class_of_kind (grammar std) k text) ≡ true → signs.is_identifier k ≡ true
+kind_named : (std : Dialect) (k : Kind) (text : List ℕ) → is_identifier (class_of_kind (grammar std) k text) ≡ true → signs.is_identifier k ≡ true
 kind_named std kind.Ident text h = refl
 kind_named std kind.Punct text h = absurd (both_ways (is_identifier (class_of_kind (grammar std) kind.Punct text)) (sign_class punctuators text _ refl refl) h)
 kind_named std kind.Number text h = absurd (both_ways (is_identifier (class_of_kind (grammar std) kind.Number text)) refl h)
@@ -201,12 +201,12 @@ kind_named std kind.Str text h = absurd (both_ways (is_identifier (class_of_kind
 kind_named std kind.Header text h = absurd (both_ways (is_identifier (class_of_kind (grammar std) kind.Header text)) refl h)
 kind_named std kind.Other text h = absurd (both_ways (is_identifier (class_of_kind (grammar std) kind.Other text)) refl h)
 
-class_named : (std : Standard) (t : Token) → is_identifier (base_class (grammar std) t) ≡ true → is_name t ≡ true
+class_named : (std : Dialect) (t : Token) → is_identifier (base_class (grammar std) t) ≡ true → is_name t ≡ true
 unfolding base_class
 class_named std t h = kind_named std t.kind t.text h
 
 -- an identifier, as reading sees it, is one
-pub named_token : (std : Standard) (toks : List Token) (k : ℕ) → is_identifier (base_at (grammar std) toks k) ≡ true → (t : Token) × (slice_get toks k ≡ Some t) × (is_name t ≡ true)
+pub named_token : (std : Dialect) (toks : List Token) (k : ℕ) → is_identifier (base_at (grammar std) toks k) ≡ true → (t : Token) × (slice_get toks k ≡ Some t) × (is_name t ≡ true)
 named_token std toks k h = by (slice_get toks k) (k == length toks) refl h
   where
     by : (o : Option Token) (c : Bool) → slice_get toks k ≡ o

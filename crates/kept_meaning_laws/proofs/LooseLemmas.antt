@@ -1,7 +1,7 @@
 -- Names that are read as no typedef names, though they are uses of nothing, are identifiers (ISO/IEC 9899:1999, 6.7.5.3).
 use Rattle.std.proofs.Common.{◌≡◌, ℕ, ◌+◌, ◌==◌, ◌%◌, ◌&&◌, ◌||◌, Bool, true, false, not, List, refl}
 use Rattle.std.proofs.lemmas.Bool.{and_parts, or_left}
-use Rattle.renamed_tree_laws.specs.Below.tree_laws.Below.cs_base.declared.ws_units.Standard.{Standard}
+use Rattle.renamed_tree_laws.specs.Below.tree_laws.Below.c99_grammar.declared.dialects.Dialect.{Dialect}
 use Rattle.renamed_tree_laws.specs.Below.tree_laws.Below.cs_base.Token.{Token}
 use Rattle.renamed_tree_laws.specs.Below.tree_laws.Below.c99_tree.Tree.{Forest, none, token, node}
 use Rattle.renamed_tree_laws.specs.Below.tree_laws.Below.c99_tree.declared.production.Label.{Label}
@@ -27,7 +27,7 @@ place_passes : (place test : Bool) → place ≡ true → (not place || test) �
 place_passes true test is h = h
 place_passes false test is h = absurd (cc)
 
-module _ (std : Standard) (toks : List Token) where
+module _ (std : Dialect) (toks : List Token) where
   abbrev test : ℕ → Bool
   test i = is_identifier (base_at (grammar std) toks i)
 

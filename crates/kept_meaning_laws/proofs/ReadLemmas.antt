@@ -3,6 +3,7 @@ use Rattle.std.proofs.Common.{◌≡◌, ℕ, true, List, map}
 use Rattle.renamed_tree_laws.specs.Below.tree_laws.Below.cs_base.declared.positions.Part.{Part}
 use Rattle.renamed_tree_laws.specs.Below.tree_laws.Below.cs_base.Token.{Token}
 use Rattle.no_offence_laws.specs.Below.macro_expand.Renaming.{Renaming, renamed}
+use Rattle.renamed_tree_laws.specs.Below.tree_laws.Below.c99_grammar.Dialects.{dialect}
 use Rattle.renamed_tree_laws.specs.Below.tree_laws.Below.c99_grammar.Standard.{grammar}
 use Rattle.renamed_tree_laws.specs.Below.tree_laws.Below.c99_read.State.{base_at, is_identifier}
 use Rattle.renamed_tree_laws.specs.Below.tree_laws.Below.name_chains.Frames.{outermost}
@@ -36,13 +37,13 @@ module _ (a : Analysed) (members : List Part) (name : List ℕ) (r : Renaming) (
       let is = unit_read_so h.source h.workspace a.value h.accepted u i in
       let old : List Token = u.text.toks in
       let new : List Token = map (renamed r) u.text.toks in
-      let Named : ℕ → Type 0 = λ k. is_identifier (base_at (grammar u.standard) old k) ≡ true in
-      let named = loose_named u.standard old (outermost 0).label 0 u.tree.under (names_are_read u.standard old u.tree is.reads) in
-      let whole = bare_names_are_loose u.standard old u.tree u.bound is.reads is.binds (λ x. Named x → StaysWhole old new u.bound.typedefs x)
+      let Named : ℕ → Type 0 = λ k. is_identifier (base_at (grammar (dialect u.standard)) old k) ≡ true in
+      let named = loose_named (dialect u.standard) old (outermost 0).label 0 u.tree.under (names_are_read (dialect u.standard) old u.tree is.reads) in
+      let whole = bare_names_are_loose (dialect u.standard) old u.tree u.bound is.reads is.binds (λ x. Named x → StaysWhole old new u.bound.typedefs x)
       (λ k x at. bare_stays a members name r h spells keeps u i x (k, at)) in
-      let loose = loose_all u.standard old Named (StaysWhole old new u.bound.typedefs) (outermost 0).label 0 u.tree.under named whole in
+      let loose = loose_all (dialect u.standard) old Named (StaysWhole old new u.bound.typedefs) (outermost 0).label 0 u.tree.under named whole in
       record {
-        reads = renamed_alike u.standard old new u.tree u.bound is.reads is.binds (units_are_renamed_whole a members name r h spells keeps u i)
+        reads = renamed_alike (dialect u.standard) old new u.tree u.bound is.reads is.binds (units_are_renamed_whole a members name r h spells keeps u i)
             (bases_kept a members name r h spells keeps u i) loose;
         binds = names_bind_as_before a members name r h spells keeps u i;
       }

@@ -1,7 +1,7 @@
 -- Which tokens of a tree are parentheses and commas: those that an alternative has by their class (ISO/IEC 9899:1999,
 -- Annex A.2).
 use Rattle.std.specs.Prelude.{ℕ, zero, suc, ◌+◌, ◌≡◌, ◌⊎◌, Bool, true, false, List, [], ◌∷◌, ◌++◌, Some, slice_get}
-use Rattle.reordered_tree_laws.specs.Below.tree_laws.Below.cs_base.declared.ws_units.Standard.{Standard}
+use Rattle.reordered_tree_laws.specs.Below.tree_laws.Below.c99_grammar.declared.dialects.Dialect.{Dialect}
 use Rattle.reordered_tree_laws.specs.Below.tree_laws.Below.cs_base.Token.{Token}
 use Rattle.reordered_tree_laws.specs.Below.tree_laws.Below.c99_tree.Tree.{Forest, none, token, node, Node}
 use Rattle.reordered_tree_laws.specs.Below.tree_laws.Below.c99_tree.declared.production.Label.{Label}
@@ -60,6 +60,6 @@ module _ (g : Grammar) (toks : List Token) where
     pub is_one : slice_get (g.table l.production) number ≡ Some alternative
     pub own : AreOfItem alternative.body (children under)
 
--- The law: so it is with each node of a tree that is read of a text by a standard.
+-- The law: so it is with each node of a tree that is read of a text by a dialect.
 abbrev pub TokensAreOfClasses : Type 0
-TokensAreOfClasses = (s : Standard) (toks : List Token) (tree : Node) → Reads (grammar s) toks tree → EachNode (IsOfClasses (grammar s) toks) tree.under
+TokensAreOfClasses = (s : Dialect) (toks : List Token) (tree : Node) → Reads (grammar s) toks tree → EachNode (IsOfClasses (grammar s) toks) tree.under

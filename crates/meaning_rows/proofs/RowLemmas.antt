@@ -6,6 +6,7 @@ use Rattle.kept_meaning_laws.specs.Below.cs_base.Token.{Token}
 use Rattle.kept_meaning_laws.specs.Below.macro_expand.Renaming.{Renaming, renamed}
 use Rattle.kept_meaning_laws.specs.Below.c99_tree.Tree.{Node}
 use Rattle.kept_meaning_laws.specs.Below.c99_read.Reading.{read_of}
+use Rattle.kept_meaning_laws.specs.Below.c99_grammar.Dialects.{dialect}
 use Rattle.kept_meaning_laws.specs.Below.c99_grammar.Standard.{c99, grammar}
 use Rattle.kept_meaning_laws.specs.Below.scope_bind.Bound.{Bound, binding_of}
 use Rattle.kept_meaning_laws.specs.Below.ws_core.Analysis.{UnitAnalysis, AnalysisValue}
@@ -29,7 +30,7 @@ module _ (toks : List Token) (tree : Node) (bound : Bound) (old : ReadSo toks tr
     (read : IsRead u) where
   unit_tree : u.tree ≡ tree
   unit_tree =
-      let reads : read_of c99 toks ≡ Ok u.tree = subst (λ (ts : List Token). read_of c99 ts ≡ Ok u.tree) has (subst (λ (s : Standard). read_of (grammar s) u.text.toks ≡ Ok u.tree) is read.reads) in
+      let reads : read_of c99 toks ≡ Ok u.tree = subst (λ (ts : List Token). read_of c99 ts ≡ Ok u.tree) has (subst (λ (s : Standard). read_of (grammar (dialect s)) u.text.toks ≡ Ok u.tree) is read.reads) in
       one_answer (read_of c99 toks) u.tree tree reads old.reads
 
   pub unit_bound : u.bound ≡ bound
@@ -47,7 +48,7 @@ module _ (toks : List Token) (tree : Node) (bound : Bound) (old : ReadSo toks tr
       let so : ReadSo (map (renamed c) u.text.toks) u.tree u.bound =
       subst (λ (b : Bound). ReadSo (map (renamed c) u.text.toks) u.tree b) (sym unit_bound) on_tree in
       record {
-        reads = subst (λ (s : Standard). read_of (grammar s) (map (renamed c) u.text.toks) ≡ Ok u.tree) (sym is) so.reads;
+        reads = subst (λ (s : Standard). read_of (grammar (dialect s)) (map (renamed c) u.text.toks) ≡ Ok u.tree) (sym is) so.reads;
         binds = so.binds;
       }
 
@@ -73,7 +74,7 @@ breaks r at name tree bound old never a h now ws kept =
     let u : UnitAnalysis = h.unit in
     let each : Each (ReadsAlike c) (u ∷ []) = subst (Each (ReadsAlike c)) h.only (kept_meaning_reads_alike now ws a (member at) name kept) in
     let so : ReadSo (map (renamed c) u.text.toks) u.tree u.bound = record {
-      reads = subst (λ (s : Standard). read_of (grammar s) (map (renamed c) u.text.toks) ≡ Ok u.tree) h.standard each.0.reads;
+      reads = subst (λ (s : Standard). read_of (grammar (dialect s)) (map (renamed c) u.text.toks) ≡ Ok u.tree) h.standard each.0.reads;
       binds = each.0.binds;
     } in
     let on_bound : ReadSo (map (renamed c) u.text.toks) u.tree bound =

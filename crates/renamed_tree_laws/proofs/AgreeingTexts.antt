@@ -1,6 +1,6 @@
 -- A text whose names agree with the tree of another one is read to it.
 use Rattle.std.proofs.Common.{ℕ, ◌≡◌, Bool, true, List, length, Result, Ok, Err, sym, ap, subst, ◌∙◌}
-use Rattle.typedef_laws.specs.Below.tree_laws.Below.cs_base.declared.ws_units.Standard.{Standard}
+use Rattle.typedef_laws.specs.Below.tree_laws.Below.c99_grammar.declared.dialects.Dialect.{Dialect}
 use Rattle.typedef_laws.specs.Below.tree_laws.Below.cs_base.Token.{Token}
 use Rattle.typedef_laws.specs.Below.tree_laws.Below.c99_tree.Tree.{Node, node_of, lone}
 use Rattle.typedef_laws.specs.Below.tree_laws.Below.c99_tree.declared.production.Production.TheVariants.{TranslationUnit}
@@ -25,7 +25,7 @@ read_as n = Ok n
 same_node : (x y c : Node) → read_as x ≡ read_as y → x ≡ c → y ≡ c
 same_node x y c h k = cc
 
-module _ (std : Standard) where
+module _ (std : Dialect) where
   module _ (a b : List Token) (same : (k : ℕ) → base_at (grammar std) a k ≡ base_at (grammar std) b k) (tree : Node) (agree : agrees std b tree.under (before (length a)) ≡ true) where
     step_told : (v : Bool) (r : Step) → After (UnitTold std a b same v) r → tree_of r ≡ Ok tree → v ≡ true
     step_told v (Err stop) m e = absurd (cc)

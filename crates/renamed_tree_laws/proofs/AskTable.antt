@@ -1,13 +1,13 @@
 -- What is asked along each production of C99, where the second text's names agree with the tree.
 use Rattle.std.proofs.Common.{ℕ, zero, suc, ◌+◌, ◌≡◌, Bool, true, false, ◌&&◌, not, List, [], ◌∷◌, inl, inr, refl}
 use Rattle.std.proofs.lemmas.Bool.{false≢true, and_parts, or_cases, not-true}
-use Rattle.typedef_laws.specs.Below.tree_laws.Below.cs_base.declared.ws_units.Standard.{Standard}
+use Rattle.typedef_laws.specs.Below.tree_laws.Below.c99_grammar.declared.dialects.Dialect.{Dialect}
 use Rattle.typedef_laws.specs.Below.tree_laws.Below.cs_base.Token.{Token}
 use Rattle.typedef_laws.specs.Below.tree_laws.Below.c99_tree.declared.production.Production.{Production}
 use Rattle.typedef_laws.specs.Below.tree_laws.Below.c99_tree.declared.production.Production.TheVariants.{TranslationUnit, External, ExtRest, ExtTail, FunBody, Declaration, DeclRest, InitDecl, Sassert, Specs, Main, Mod, Qual, Word, StructSpec, SuRest, Members, Member, MemRest, Mdecl, EnumSpec, EnRest, Enumerators, Enumerator, Declarator, Pointer, Direct, Suffix, Bound, Params, Param, Pdecl, Pdirect, TypeName, Adecl, Adirect, Init, InitList, InitItem, Designator, Expr, Assign, Asgop, Cond, Lor, Land, Bor, Bxor, Band, Equal, Relate, Shift, Add, Mul, Cast, CastRest, Unary, SizeRest, SizeLit, Primary, Post, Args, Block, BlockItem, Statement, Sub, ForInit}
 use Rattle.typedef_laws.specs.Below.tree_laws.Below.c99_grammar.Items.{Item, many, own, Alternative}
 use Rattle.typedef_laws.specs.Below.tree_laws.Below.c99_grammar.Standard.{c99, grammar}
-use Rattle.typedef_laws.proofs.Below.tree_laws.Below.c99_grammar.StandardLemmas.{both}
+use Rattle.typedef_laws.proofs.Below.tree_laws.Below.c99_grammar.StandardLemmas.{by_dialect}
 use Rattle.typedef_laws.specs.Below.tree_laws.Below.c99_read.Sound.{is_met, goal_has_token}
 use Rattle.typedef_laws.specs.Below.tree_laws.Below.c99_read.State.{State, base_at, opened}
 use Rattle.typedef_laws.specs.Below.tree_laws.Below.c99_read.Reading.{Goal, repeat, Step, step, read_within}
@@ -31,7 +31,7 @@ whole_plain : (p : Production) (n : ℕ) → is_whole p n ≡ true → is_at (la
 whole_plain Pdirect n h = absurd (false≢true h)
 whole_plain _ n h = refl
 
-module _ (std : Standard) where
+module _ (std : Dialect) where
   module _ (a b : List Token) (same : (k : ℕ) → base_at (grammar std) a k ≡ base_at (grammar std) b k) where
     module _ (below : ℕ → Goal → State → Step) (along_below : ℕ → Goal → State → Bool) (reads : Reads std a below) (asked : Asked std a b below along_below)
         (moves : (depth : ℕ) (goal : Goal) (s : State) → is_met goal ≡ true → Moves (goal_has_token goal) s (below depth goal s)) (depth : ℕ) where
@@ -113,18 +113,18 @@ module _ (std : Standard) where
             (λ m. ok_asked Pdirect 3 (nth_of 2 (c99.table Pdirect)) s refl, tt),
           ),
         )
-        asked_of Declaration s h = ok_asks Declaration 1 ((grammar std).table Declaration) s (both (λ v. all_ok Declaration 1 ((grammar v).table Declaration) ≡ true) refl refl std)
+        asked_of Declaration s h = ok_asks Declaration 1 ((grammar std).table Declaration) s (by_dialect (λ v. all_ok Declaration 1 ((grammar v).table Declaration) ≡ true) refl refl refl std)
         asked_of DeclRest s h = ok_asks DeclRest 1 (c99.table DeclRest) s refl
-        asked_of Sassert s h = ok_asks Sassert 1 ((grammar std).table Sassert) s (both (λ v. all_ok Sassert 1 ((grammar v).table Sassert) ≡ true) refl refl std)
+        asked_of Sassert s h = ok_asks Sassert 1 ((grammar std).table Sassert) s (by_dialect (λ v. all_ok Sassert 1 ((grammar v).table Sassert) ≡ true) refl refl refl std)
         asked_of Specs s h = ok_asks Specs 1 (c99.table Specs) s refl
-        asked_of Mod s h = ok_asks Mod 1 ((grammar std).table Mod) s (both (λ v. all_ok Mod 1 ((grammar v).table Mod) ≡ true) refl refl std)
+        asked_of Mod s h = ok_asks Mod 1 ((grammar std).table Mod) s (by_dialect (λ v. all_ok Mod 1 ((grammar v).table Mod) ≡ true) refl refl refl std)
         asked_of Qual s h = ok_asks Qual 1 (c99.table Qual) s refl
         asked_of Word s h = ok_asks Word 1 (c99.table Word) s refl
         asked_of StructSpec s h = ok_asks StructSpec 1 (c99.table StructSpec) s refl
         asked_of SuRest s h = ok_asks SuRest 1 (c99.table SuRest) s refl
         asked_of Members s h = ok_asks Members 1 (c99.table Members) s refl
-        asked_of Member s h = ok_asks Member 1 ((grammar std).table Member) s (both (λ v. all_ok Member 1 ((grammar v).table Member) ≡ true) refl refl std)
-        asked_of MemRest s h = ok_asks MemRest 1 ((grammar std).table MemRest) s (both (λ v. all_ok MemRest 1 ((grammar v).table MemRest) ≡ true) refl refl std)
+        asked_of Member s h = ok_asks Member 1 ((grammar std).table Member) s (by_dialect (λ v. all_ok Member 1 ((grammar v).table Member) ≡ true) refl refl refl std)
+        asked_of MemRest s h = ok_asks MemRest 1 ((grammar std).table MemRest) s (by_dialect (λ v. all_ok MemRest 1 ((grammar v).table MemRest) ≡ true) refl refl refl std)
         asked_of Mdecl s h = ok_asks Mdecl 1 (c99.table Mdecl) s refl
         asked_of EnumSpec s h = ok_asks EnumSpec 1 (c99.table EnumSpec) s refl
         asked_of EnRest s h = ok_asks EnRest 1 (c99.table EnRest) s refl

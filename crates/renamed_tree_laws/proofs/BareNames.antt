@@ -1,7 +1,7 @@
 -- The names that are read as no typedef names, though they are uses of nothing, are the bare names of the tree.
 use Rattle.std.proofs.Common.{ℕ, ◌+◌, ◌≡◌, Bool, true, false, ◌&&◌, if◌then◌else◌, ◌==◌, ◌%◌, List, [], ◌∷◌, ◌++◌, inl, inr, refl, ap, subst, arith}
 use Rattle.std.proofs.lemmas.Bool.{eqb-true, eq-eqb, and_parts}
-use Rattle.typedef_laws.specs.Below.tree_laws.Below.cs_base.declared.ws_units.Standard.{Standard}
+use Rattle.typedef_laws.specs.Below.tree_laws.Below.c99_grammar.declared.dialects.Dialect.{Dialect}
 use Rattle.typedef_laws.specs.Below.tree_laws.Below.cs_base.Token.{Token}
 use Rattle.typedef_laws.specs.Below.tree_laws.Below.c99_tree.Tree.{Forest, none, token, node}
 use Rattle.typedef_laws.specs.Below.tree_laws.Below.c99_tree.declared.production.Label.{Label}
@@ -31,7 +31,7 @@ no_list : (p : Production) → ghosts.eq p Pdirect ≡ true → ghosts.eq p Para
 no_list Params h = absurd (false≢true h)
 no_list _ h = refl
 
-module _ (std : Standard) where
+module _ (std : Dialect) where
   -- each name directly behind the parenthesis that begins a parameter's declarator is the declared name there
   abbrev pub Encloses : List Token → Forest → Type 0
   Encloses toks none = Unit {0}

@@ -4,11 +4,11 @@ use Rattle.std.specs.List.{list_all}
 use Rattle.std.specs.Option.{option_map_or}
 use Rattle.std.specs.Str.{bytes_eq}
 use Rattle.std.proofs.lemmas.Bool.{false≢true, and_parts, not-true}
-use Rattle.typedef_laws.specs.Below.tree_laws.Below.cs_base.declared.ws_units.Standard.{Standard}
+use Rattle.typedef_laws.specs.Below.tree_laws.Below.c99_grammar.declared.dialects.Dialect.{Dialect}
 use Rattle.typedef_laws.specs.Below.tree_laws.Below.cs_base.Token.{Token}
 use Rattle.typedef_laws.specs.Below.tree_laws.Below.cs_base.declared.tokens.Kind.{Kind}
 use Rattle.typedef_laws.specs.Below.tree_laws.Below.cs_base.declared.tokens.Kind.TheVariants as kind
-use Rattle.typedef_laws.specs.Below.tree_laws.Below.cs_base.declared.ws_units.Standard.TheVariants.{C11}
+use Rattle.typedef_laws.specs.Below.tree_laws.Below.c99_grammar.declared.dialects.Dialect.TheVariants.{Gnu}
 use Rattle.typedef_laws.specs.Below.tree_laws.Below.c99_grammar.Spellings.{Spelled, keywords_of, punctuators}
 use Rattle.typedef_laws.specs.Below.tree_laws.Below.c99_grammar.Standard.{c99, grammar}
 use Rattle.typedef_laws.proofs.Below.tree_laws.Below.c99_grammar.StandardLemmas.{keywords_fit}
@@ -29,7 +29,7 @@ spelled_so P (w ∷ words) text other all last =
     by false h k = k
 
 record Covered (P : Class → Bool) : Type 0 where
-  words : list_all (λ w. P w.1) (keywords_of C11) ≡ true
+  words : list_all (λ w. P w.1) (keywords_of Gnu) ≡ true
   signs : list_all (λ w. P w.1) punctuators ≡ true
   names : P identifier ≡ true
   none : P no_class ≡ true
@@ -40,7 +40,7 @@ record Covered (P : Class → Bool) : Type 0 where
 
 covered : (P : Class → Bool) → covers P ≡ true → Covered P
 covered P h =
-    let h1 = and_parts (list_all (λ w. P w.1) (keywords_of C11)) _ h in
+    let h1 = and_parts (list_all (λ w. P w.1) (keywords_of Gnu)) _ h in
     let h2 = and_parts (list_all (λ w. P w.1) punctuators) _ h1.1 in
     let h3 = and_parts (P identifier) _ h2.1 in
     let h4 = and_parts (P no_class) _ h3.1 in
@@ -64,7 +64,7 @@ spelled_is (w ∷ words) text other all h =
     by true n f e = absurd (false≢true (sym n ∙ e))
     by false n f e = f e
 
-module _ (std : Standard) where
+module _ (std : Dialect) where
   kind_so : (P : Class → Bool) → Covered P → (k : Kind) (text : List ℕ) → P (class_of_kind (grammar std) k text) ≡ true
   kind_so P h kind.Ident text = spelled_so P (keywords_of std) text identifier (keywords_fit P h.words std) h.names
   kind_so P h kind.Punct text = spelled_so P punctuators text no_class h.signs h.none

@@ -1,22 +1,29 @@
 -- Tests have the same answers in both lists, where enough is known.
 use Rattle.std.proofs.Common.{ℕ, ◌+◌, ◌≡◌, Bool, true, false, ◌&&◌, ◌||◌, not, if◌then◌else◌, List, [], ◌∷◌, refl, sym, ap, ◌∙◌, inl, inr}
-use Rattle.std.proofs.lemmas.Bool.{and_parts}
-use Rattle.typedef_laws.specs.Below.tree_laws.Below.cs_base.declared.ws_units.Standard.{Standard}
+use Rattle.std.specs.List.{list_all, list_any}
+use Rattle.std.proofs.lemmas.Bool.{and_parts, false≢true}
+use Rattle.typedef_laws.specs.Below.tree_laws.Below.c99_grammar.declared.dialects.Dialect.{Dialect}
 use Rattle.typedef_laws.specs.Below.tree_laws.Below.cs_base.Token.{Token}
 use Rattle.typedef_laws.specs.Below.tree_laws.Below.c99_tree.declared.production.Production.{Production}
 use Rattle.typedef_laws.specs.Below.tree_laws.Below.c99_grammar.Classes.{among}
+use Rattle.typedef_laws.specs.Below.tree_laws.Below.c99_grammar.declared.classes.Class.TheVariants.{Colon}
 use Rattle.typedef_laws.specs.Below.tree_laws.Below.c99_grammar.Items.{Item, one, part, end_of_text, act, ◌·◌, choice, maybe, many, deep, Test, own, otherwise, next, next_two, Ask, is, is_not, begins, either}
 use Rattle.typedef_laws.specs.Below.tree_laws.Below.c99_grammar.Standard.{grammar}
 use Rattle.typedef_laws.specs.Below.tree_laws.Below.c99_read.State.{State, class_at, base_at}
 use Rattle.typedef_laws.specs.Below.tree_laws.Below.c99_read.Reading.{may}
-use Rattle.typedef_laws.specs.Below.tree_laws.Below.c99_grammar.Starting.{is_passed, production_starts, asks, holds, starts}
+use Rattle.typedef_laws.specs.Below.tree_laws.Below.c99_grammar.Starting.{is_passed, production_starts, asks, holds, starts, is_pair}
+use Rattle.typedef_laws.proofs.Below.tree_laws.Below.c99_grammar.PairLemmas.{pairs_same}
 use Rattle.typedef_laws.proofs.Below.tree_laws.Below.c99_read.Alike.{swapped}
-use Rattle.renamed_tree_laws.proofs.Private.{Class, end_class, colons}
+use Rattle.renamed_tree_laws.proofs.Private.{Class, end_class, colon, colons}
 use Rattle.renamed_tree_laws.proofs.Twins.{agree_is, blind, plain_class, alike_by, blind_same, same_class, Same}
-use Rattle.renamed_tree_laws.proofs.Moods.{Mood, any, label, calm, solid, asks_same, test_same, starts_same, joint, blind_part, each_list, each_part, decides}
+use Rattle.renamed_tree_laws.proofs.Moods.{Mood, any, label, calm, solid, asks_same, test_same, starts_same, joint, pair_behind, blind_pair, blind_part, each_list, each_part, decides}
 use Rattle.renamed_tree_laws.proofs.Knowing.{Known, no_name, colon_is}
 
-module _ (std : Standard) where
+colon_class : (d : Class) → among colons d ≡ true → d ≡ colon
+colon_class Colon e = refl
+colon_class _ e = absurd (false≢true e)
+
+module _ (std : Dialect) where
   pub asks_are : (sees : List Class → Bool) (e e' : Class) → ((L : List Class) → sees L ≡ true → among L e' ≡ among L e)
       → (x : Ask) → asks_same std sees x ≡ true → asks (grammar std) x e' ≡ asks (grammar std) x e
   asks_are sees e e' f (is L) h = f L h
@@ -83,54 +90,57 @@ module _ (std : Standard) where
     pub blind_second : (L : List Class) → blind L ≡ true → among L d' ≡ among L d
     blind_second L h = blind_same std a b classes s (s.at + 1) of_a L h
 
-    starts_as : (p : Production) (u u' v v' : Bool) → u' ≡ u → v' ≡ v → (u' || (v' && among colons d')) ≡ (u || (v && among colons d))
-    starts_as p u u' v v' e f =
-        ap (λ z. z || (v' && among colons d')) e
-        ∙ (ap (λ z. u || (z && among colons d')) f ∙ ap (λ z. u || (v && z)) (blind_second colons refl))
+    -- what is asked behind the next token has the same answer in both lists
+    pair_is : (x : Class × Ask) → among (x.0 ∷ []) c' ≡ among (x.0 ∷ []) c → pair_behind std x ≡ true → is_pair (grammar std) x c' d' ≡ is_pair (grammar std) x c d
+    pair_is x e h = ap (λ z. z && asks (grammar std) x.1 d') e ∙ ap (λ z. among (x.0 ∷ []) c && z) (asks_are blind d d' blind_second x.1 h)
+
+    starts_as : (p : Production) (P : Class × Ask → Bool) → among ((grammar std).first p) c' ≡ among ((grammar std).first p) c
+        → ((x : Class × Ask) → P x ≡ true → is_pair (grammar std) x c' d' ≡ is_pair (grammar std) x c d) → list_all P ((grammar std).pairs p) ≡ true
+        → production_starts (grammar std) p c' d' ≡ production_starts (grammar std) p c d
+    starts_as p P e f h =
+        ap (λ z. z || list_any (λ x. is_pair (grammar std) x c' d') ((grammar std).pairs p)) e
+        ∙ ap (λ z. among ((grammar std).first p) c || z) (pairs_same (grammar std) P c d c' d' f ((grammar std).pairs p) h)
+
+    blind_pair_is : (x : Class × Ask) → blind_pair std x ≡ true → is_pair (grammar std) x c' d' ≡ is_pair (grammar std) x c d
+    blind_pair_is x h = let both = and_parts (blind (x.0 ∷ [])) (pair_behind std x) h in pair_is x (blind_first (x.0 ∷ []) both.0) both.1
 
     any_decides : (t : Test) (item : Item) → test_same std blind t (starts_same std blind (blind_part std) item) ≡ true
         → may (grammar std) t item (swapped b s) ≡ may (grammar std) t item s
     any_decides t item h =
         holds_are c d c' d' blind (blind_part std) blind_first blind_second
-        (λ p k. (let both = and_parts (blind ((grammar std).first p)) (blind ((grammar std).labels p)) k in
-        starts_as p (among ((grammar std).first p) c) (among ((grammar std).first p) c') (among ((grammar std).labels p) c) (among ((grammar std).labels p) c')
-        (blind_first ((grammar std).first p) both.0) (blind_first ((grammar std).labels p) both.1)))
+        (λ p k. (let both = and_parts (blind ((grammar std).first p)) (list_all (blind_pair std) ((grammar std).pairs p)) k in
+        starts_as p (blind_pair std) (blind_first ((grammar std).first p) both.0) blind_pair_is both.1))
         (blind_first (end_class ∷ []) refl) t item h
 
     -- the next token is the same
-    calm_decides : Same std a b s.names.scopes s.at → (t : Test) (item : Item) → test_same std each_list t (starts_same std each_list each_part item) ≡ true
+    calm_decides : Same std a b s.names.scopes s.at → (t : Test) (item : Item) → test_same std each_list t (starts_same std each_list (each_part std) item) ≡ true
         → may (grammar std) t item (swapped b s) ≡ may (grammar std) t item s
     calm_decides same t item h =
         let e : c' ≡ c = same_class std a b classes s s.at of_a same in
-        holds_are c d c' d' each_list each_part (λ L k. ap (among L) e) blind_second
-        (λ p k. starts_as p (among ((grammar std).first p) c) (among ((grammar std).first p) c') (among ((grammar std).labels p) c) (among ((grammar std).labels p) c')
-        (ap (among ((grammar std).first p)) e) (ap (among ((grammar std).labels p)) e))
+        holds_are c d c' d' each_list (each_part std) (λ L k. ap (among L) e) blind_second
+        (λ p k. starts_as p (pair_behind std) (ap (among ((grammar std).first p)) e) (λ x h. pair_is x (ap (among (x.0 ∷ [])) e) h) k)
         (ap (among (end_class ∷ [])) e) t item h
 
     -- .. or stands before a colon
-    or_colon : (u v w : Bool) → w ≡ true → (u || (v && w)) ≡ (u || v)
-    or_colon u true w e = ap (λ z. u || z) e
-    or_colon u false w e = refl
-
     label_decides : among colons (base_at (grammar std) a (s.at + 1)) ≡ true → (t : Test) (item : Item) → test_same std blind t (starts_same std blind (joint std) item) ≡ true
         → may (grammar std) t item (swapped b s) ≡ may (grammar std) t item s
-    label_decides colon t item h =
-        let at_a : among colons (base_at (grammar std) s.toks (s.at + 1)) ≡ true = ap (λ x. among colons (base_at (grammar std) x (s.at + 1))) of_a ∙ colon in
+    label_decides stands t item h =
+        let at_a : among colons (base_at (grammar std) s.toks (s.at + 1)) ≡ true = ap (λ x. among colons (base_at (grammar std) x (s.at + 1))) of_a ∙ stands in
         let here : among colons d ≡ true = ap (among colons) (plain_class std s (s.at + 1) (colon_is std s.toks (s.at + 1) at_a)) ∙ at_a in
         let there : among colons d' ≡ true = blind_second colons refl ∙ here in
         holds_are c d c' d' blind (joint std) blind_first blind_second
         (λ p k.
-        or_colon (among ((grammar std).first p) c') (among ((grammar std).labels p) c') (among colons d') there
-        ∙ (alike_by std a b classes s s.at of_a (λ x. among ((grammar std).first p) x || among ((grammar std).labels p) x) (agree_is _ _ k)
-        ∙ sym (or_colon (among ((grammar std).first p) c) (among ((grammar std).labels p) c) (among colons d) here)))
+        ap (production_starts (grammar std) p c') (colon_class d' there)
+        ∙ (alike_by std a b classes s s.at of_a (λ x. production_starts (grammar std) p x colon) (agree_is _ _ k)
+        ∙ sym (ap (production_starts (grammar std) p c) (colon_class d here))))
         (blind_first (end_class ∷ []) refl) t item h
 
     pub decided_same : (m : Mood) → Known std a b s.names.scopes s.at m → (t : Test) (item : Item) → decides std m t item ≡ true
         → may (grammar std) t item (swapped b s) ≡ may (grammar std) t item s
     decided_same any known t item h = any_decides t item h
     decided_same label (inl same) t item h =
-        calm_decides same t item (and_parts (test_same std blind t (starts_same std blind (joint std) item)) (test_same std each_list t (starts_same std each_list each_part item)) h).1
+        calm_decides same t item (and_parts (test_same std blind t (starts_same std blind (joint std) item)) (test_same std each_list t (starts_same std each_list (each_part std) item)) h).1
     decided_same label (inr colon) t item h =
-        label_decides colon t item (and_parts (test_same std blind t (starts_same std blind (joint std) item)) (test_same std each_list t (starts_same std each_list each_part item)) h).0
+        label_decides colon t item (and_parts (test_same std blind t (starts_same std blind (joint std) item)) (test_same std each_list t (starts_same std each_list (each_part std) item)) h).0
     decided_same calm known t item h = calm_decides known t item h
     decided_same solid known t item h = calm_decides (no_name std a b s.names.scopes s.at known) t item h

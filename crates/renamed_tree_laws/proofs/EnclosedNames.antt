@@ -1,7 +1,7 @@
 -- A parameter's declarator in parentheses whose first token is an identifier begins with this name.
 use Rattle.std.proofs.Common.{ℕ, zero, suc, ◌+◌, ◌≡◌, Bool, true, false, ◌&&◌, not, if◌then◌else◌, List, [], ◌∷◌, length, Ok, Err, nat_lt, refl, sym, ap, ◌∙◌}
 use Rattle.std.proofs.lemmas.Bool.{not-true}
-use Rattle.typedef_laws.specs.Below.tree_laws.Below.cs_base.declared.ws_units.Standard.{Standard}
+use Rattle.typedef_laws.specs.Below.tree_laws.Below.c99_grammar.declared.dialects.Dialect.{Dialect}
 use Rattle.typedef_laws.specs.Below.tree_laws.Below.c99_tree.Tree.{Forest, none, token, node, Node, Part, leaf, inner, put, lone}
 use Rattle.typedef_laws.specs.Below.tree_laws.Below.c99_tree.declared.production.Label.{Label}
 use Rattle.typedef_laws.specs.Below.tree_laws.Below.c99_tree.declared.production.Production.{Production}
@@ -116,7 +116,7 @@ holds_so : (p k : ℕ) (s s' : State) → s.built.under ≡ token p none → Add
 holds_so p k s s' alone a =
     ap name_in (a.under ∙ ap (λ f. put f (inner a.child)) alone) ∙ (name_so p a.child.label a.child.first a.child.under ∙ a.good)
 
-module _ (std : Standard) where
+module _ (std : Dialect) where
   -- ---- The class of an identifier
 
   -- what is so of the two classes that an identifier may have is so of its class

@@ -1,7 +1,7 @@
 -- In each tree that is read an identifier behind the parenthesis that begins a parameter's declarator is the declared name there.
 use Rattle.std.proofs.Common.{ℕ, ◌+◌, ◌≡◌, Bool, true, false, ◌&&◌, ◌||◌, not, if◌then◌else◌, ◌==◌, List, [], ◌∷◌, Ok, Err, refl, sym, ap, subst, ◌∙◌}
 use Rattle.std.proofs.lemmas.Bool.{eqb-true, and_parts}
-use Rattle.typedef_laws.specs.Below.tree_laws.Below.cs_base.declared.ws_units.Standard.{Standard}
+use Rattle.typedef_laws.specs.Below.tree_laws.Below.c99_grammar.declared.dialects.Dialect.{Dialect}
 use Rattle.typedef_laws.specs.Below.tree_laws.Below.cs_base.Token.{Token}
 use Rattle.typedef_laws.specs.Below.tree_laws.Below.c99_tree.Tree.{Forest, none, token, node, Node, leaf, inner, put, lone, collapsed}
 use Rattle.typedef_laws.specs.Below.tree_laws.Below.c99_tree.declared.production.Label.{Label}
@@ -44,7 +44,7 @@ second_is p n e =
     let alternative : n ≡ 2 = eqb-true n 2 ((and_parts (ghosts.eq p Pdirect) (n == 2) e).1) in
     ap (λ q. labelled q n) production ∙ ap (λ k. labelled Pdirect k) alternative
 
-module _ (std : Standard) where
+module _ (std : Dialect) where
   table_fits : (p : Production) → fit_from (fits p) 1 ((grammar std).table p) ≡ true
   table_fits p = by (ghosts.eq p Pdirect) refl
     where

@@ -1,7 +1,7 @@
 -- What stays so while a node is read: the tokens, its label, and what is so of the declared names.
 use Rattle.std.proofs.Common.{ℕ, zero, suc, ◌+◌, ◌≡◌, Bool, true, false, if◌then◌else◌, List, [], ◌∷◌, Ok, refl, ap, subst, ◌∙◌}
 use Rattle.std.proofs.lemmas.Bool.{and_parts}
-use Rattle.typedef_laws.specs.Below.tree_laws.Below.cs_base.declared.ws_units.Standard.{Standard}
+use Rattle.typedef_laws.specs.Below.tree_laws.Below.c99_grammar.declared.dialects.Dialect.{Dialect}
 use Rattle.typedef_laws.specs.Below.tree_laws.Below.cs_base.Token.{Token}
 use Rattle.typedef_laws.specs.Below.tree_laws.Below.c99_tree.declared.production.Label.{Label}
 use Rattle.typedef_laws.specs.Below.tree_laws.Below.c99_tree.declared.production.Production.{Production}
@@ -26,7 +26,7 @@ abbrev pub placed_goal : Label → Goal → Bool
 placed_goal l (produce p) = true
 placed_goal l (repeat t a) = placed l a
 
-module _ (std : Standard) where
+module _ (std : Dialect) where
   -- what the table says of an alternative
   pub record Fit (p : Production) (n : ℕ) (a : Alternative) : Type 0 where
     pub starts : at_least (mood a.body any) (start_mood p) ≡ true

@@ -1,7 +1,7 @@
 -- Tokens whose kind is asked: primary expressions, type names, and names in an identifier list.
 use Rattle.std.proofs.Common.{ℕ, ◌+◌, ◌<◌, ◌≡◌, Bool, true, false, ◌&&◌, ◌||◌, not, if◌then◌else◌, ◌==◌, ◌%◌, List, length, Ok, Err, refl, sym, ap, subst, ◌∙◌, arith}
 use Rattle.std.proofs.lemmas.Bool.{false≢true, and_from}
-use Rattle.typedef_laws.specs.Below.tree_laws.Below.cs_base.declared.ws_units.Standard.{Standard}
+use Rattle.typedef_laws.specs.Below.tree_laws.Below.c99_grammar.declared.dialects.Dialect.{Dialect}
 use Rattle.typedef_laws.specs.Below.tree_laws.Below.cs_base.Token.{Token}
 use Rattle.typedef_laws.specs.Below.tree_laws.Below.c99_tree.Tree.{count_of}
 use Rattle.typedef_laws.specs.Below.tree_laws.Below.c99_tree.declared.production.Label.{Label}
@@ -51,7 +51,7 @@ opened_count : (p : Production) (n : ℕ) (s : State) → count_of (opened p n s
 unfolding opened
 opened_count p n s = refl
 
-module _ (std : Standard) where
+module _ (std : Dialect) where
   pub comma_is : (s : State) (k : ℕ) → among comma (class_at (grammar std) s k) ≡ true → is_identifier (base_at (grammar std) s.toks k) ≡ false
   unfolding class_at
   comma_is s k e =

@@ -1,7 +1,7 @@
 -- What is known of the next token, as facts of the two lists.
 use Rattle.std.proofs.Common.{ℕ, ◌+◌, ◌≡◌, ◌⊎◌, Bool, true, false, if◌then◌else◌, List, refl, sym, ap, ◌∙◌, inl}
 use Rattle.std.proofs.lemmas.Bool.{false≢true}
-use Rattle.typedef_laws.specs.Below.tree_laws.Below.cs_base.declared.ws_units.Standard.{Standard}
+use Rattle.typedef_laws.specs.Below.tree_laws.Below.c99_grammar.declared.dialects.Dialect.{Dialect}
 use Rattle.typedef_laws.specs.Below.tree_laws.Below.cs_base.Token.{Token}
 use Rattle.typedef_laws.specs.Below.tree_laws.Below.c99_grammar.Classes.{among}
 use Rattle.typedef_laws.specs.Below.tree_laws.Below.c99_grammar.Standard.{grammar}
@@ -30,7 +30,7 @@ at_most solid label h = absurd (false≢true (sym h))
 at_most solid calm h = absurd (false≢true (sym h))
 at_most solid solid h = absurd (false≢true (sym h))
 
-module _ (std : Standard) where
+module _ (std : Dialect) where
   module _ (a b : List Token) (scopes : List (List Declaration)) (k : ℕ) where
     abbrev pub Known : Mood → Type 0
     Known any = Unit {0}

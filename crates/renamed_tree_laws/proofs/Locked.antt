@@ -1,7 +1,7 @@
 -- Both lists are read in step.
 use Rattle.std.proofs.Common.{ℕ, zero, suc, ◌+◌, ◌≡◌, Bool, true, false, ◌&&◌, ◌||◌, not, if◌then◌else◌, List, [], ◌∷◌, length, Option, None, Some, Ok, Err, nat_lt, ◌==◌, eq-eqb, refl, sym, ap, ap₂, subst, ◌∙◌, inl, inr}
 use Rattle.std.proofs.lemmas.Bool.{false≢true, and_parts, and_from, or_cases}
-use Rattle.typedef_laws.specs.Below.tree_laws.Below.cs_base.declared.ws_units.Standard.{Standard}
+use Rattle.typedef_laws.specs.Below.tree_laws.Below.c99_grammar.declared.dialects.Dialect.{Dialect}
 use Rattle.typedef_laws.specs.Below.tree_laws.Below.cs_base.Token.{Token}
 use Rattle.typedef_laws.specs.Below.tree_laws.Below.c99_tree.Tree.{Forest, none, token, node}
 use Rattle.typedef_laws.specs.Below.tree_laws.Below.c99_tree.declared.production.Label.{Label}
@@ -39,7 +39,7 @@ enter_swapped b depth s c h k =
     ap (λ x. if x then (if nat_lt depth 256 then Ok (swapped b s) else Err (too_deep s.at)) else Err (syntax s.at)) h
     ∙ ap (λ x. if x then Ok (swapped b s) else Err (too_deep s.at)) k
 
-module _ (std : Standard) where
+module _ (std : Dialect) where
   module _ (a b : List Token) (as_long : length a ≡ length b) (classes : (k : ℕ) → base_at (grammar std) a k ≡ base_at (grammar std) b k) where
     ends_swapped : (s : State) → s.toks ≡ a → s.at ≡ length s.toks → at_end (swapped b s) ≡ Ok (swapped b s)
     unfolding at_end

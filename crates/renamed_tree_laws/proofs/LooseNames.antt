@@ -4,7 +4,7 @@ use Rattle.std.specs.Prelude.{find, IfSome}
 use Rattle.std.specs.List.{list_any}
 use Rattle.std.specs.Option.{option_map_or}
 use Rattle.std.proofs.lemmas.Bool.{and_parts, and_from}
-use Rattle.typedef_laws.specs.Below.tree_laws.Below.cs_base.declared.ws_units.Standard.{Standard}
+use Rattle.typedef_laws.specs.Below.tree_laws.Below.c99_grammar.declared.dialects.Dialect.{Dialect}
 use Rattle.typedef_laws.specs.Below.tree_laws.Below.cs_base.Token.{Token}
 use Rattle.typedef_laws.specs.Below.tree_laws.Below.c99_tree.Tree.{Forest, none, token, node}
 use Rattle.typedef_laws.specs.Below.tree_laws.Below.c99_tree.declared.production.Label.{Label}
@@ -67,7 +67,7 @@ outlined_in e (node l first under rest) o w =
     (after_in e l.production first o l under (outlined under (begun l first under o)).entries
     (outlined_in e under (begun l first under o) (begun_in e l.production first under o.kept o.scope.depth o.entries w)))
 
-module _ (std : Standard) where
+module _ (std : Dialect) where
   pub any_in : {X : Type 0} (p : X → Bool) (xs : List X) (x : X) → In x xs → p x ≡ true → list_any p xs ≡ true
   any_in p xs x w h = by (list_any p xs) refl
     where

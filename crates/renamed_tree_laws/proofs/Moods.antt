@@ -1,6 +1,7 @@
 -- What the table says of the next token where an item is read: how far it is known to be the same in both lists.
 use Rattle.std.proofs.Common.{ℕ, ◌+◌, Bool, true, false, ◌&&◌, ◌||◌, not, if◌then◌else◌, ◌==◌, List, [], ◌∷◌}
-use Rattle.typedef_laws.specs.Below.tree_laws.Below.cs_base.declared.ws_units.Standard.{Standard}
+use Rattle.std.specs.List.{list_all}
+use Rattle.typedef_laws.specs.Below.tree_laws.Below.c99_grammar.declared.dialects.Dialect.{Dialect}
 use Rattle.typedef_laws.specs.Below.tree_laws.Below.c99_tree.declared.production.Label.{Label}
 use Rattle.typedef_laws.specs.Below.tree_laws.Below.c99_tree.declared.production.Production.{Production}
 use Rattle.typedef_laws.specs.Below.tree_laws.Below.c99_tree.declared.production.Production.TheVariants.{ExtRest, DeclRest, InitDecl, SuRest, Members, MemRest, Mdecl, EnRest, Enumerators, Enumerator, Declarator, Direct, Pdecl, Pdirect, Cast, Unary, SizeRest, Primary, Suffix, Statement, BlockItem, Sub, Main, Params}
@@ -8,8 +9,8 @@ use Rattle.typedef_laws.specs.Below.tree_laws.Below.c99_grammar.Classes.{among}
 use Rattle.typedef_laws.specs.Below.tree_laws.Below.c99_grammar.Items.{Item, one, part, end_of_text, act, ◌·◌, choice, maybe, many, deep, Test, own, otherwise, next, next_two, Ask, is, is_not, begins, either, scope, Alternative}
 use Rattle.typedef_laws.specs.Below.tree_laws.Below.c99_grammar.Standard.{grammar}
 use Rattle.typedef_laws.specs.Below.tree_laws.Below.c99_read.State.{is_identifier, has_name}
-use Rattle.typedef_laws.specs.Below.tree_laws.Below.c99_grammar.Starting.{is_passed}
-use Rattle.renamed_tree_laws.proofs.Private.{Class, identifier, typedef_name, colons, parens, covers}
+use Rattle.typedef_laws.specs.Below.tree_laws.Below.c99_grammar.Starting.{is_passed, production_starts}
+use Rattle.renamed_tree_laws.proofs.Private.{Class, identifier, typedef_name, colon, colons, parens, covers}
 use Rattle.renamed_tree_laws.proofs.Twins.{agree, blind}
 
 -- Of the next token nothing is known; it is the same in both lists or stands before a colon; it is the same; it is no name.
@@ -130,9 +131,6 @@ second_known _ = false
 abbrev pub each_list : List Class → Bool
 each_list L = true
 
-abbrev pub each_part : Production → Bool
-each_part p = true
-
 abbrev pub told_where : Mood → Bool → Bool
 told_where calm told = told
 told_where _ told = true
@@ -175,13 +173,12 @@ second_where false asked t body = true
 second_where true true t body = is_bare_test t
 second_where true false t body = second_known body
 
-module _ (std : Standard) where
+module _ (std : Dialect) where
   -- ---- Tests
 
+  -- before a colon the production does not tell a typedef name from another
   abbrev pub joint : Production → Bool
-  joint p =
-      agree (among ((grammar std).first p) identifier || among ((grammar std).labels p) identifier)
-      (among ((grammar std).first p) typedef_name || among ((grammar std).labels p) typedef_name)
+  joint p = agree (production_starts (grammar std) p identifier colon) (production_starts (grammar std) p typedef_name colon)
 
   -- how lists of classes are seen: `sees` of the first token, and `parts` of a production that may start with it
   abbrev pub asks_same : (List Class → Bool) → Ask → Bool
@@ -207,8 +204,18 @@ module _ (std : Standard) where
   starts_same sees parts (many t a) = test_same sees t (starts_same sees parts a)
   starts_same sees parts (deep a) = starts_same sees parts a
 
+  -- what a pair asks of the second token has the same answer in both lists
+  abbrev pub pair_behind : Class × Ask → Bool
+  pair_behind x = asks_same blind x.1
+
+  abbrev pub each_part : Production → Bool
+  each_part p = list_all pair_behind ((grammar std).pairs p)
+
+  abbrev pub blind_pair : Class × Ask → Bool
+  blind_pair x = blind (x.0 ∷ []) && pair_behind x
+
   abbrev pub blind_part : Production → Bool
-  blind_part p = blind ((grammar std).first p) && blind ((grammar std).labels p)
+  blind_part p = blind ((grammar std).first p) && list_all blind_pair ((grammar std).pairs p)
 
   -- the test has the same answer in both lists, where so much is known
   abbrev pub decides : Mood → Test → Item → Bool

@@ -1,7 +1,7 @@
 -- The names that the reader declares are identifiers.
 use Rattle.std.proofs.Common.{ℕ, zero, suc, ◌-◌, ◌≡◌, Bool, true, false, ◌||◌, not, if◌then◌else◌, ◌==◌, List, [], ◌∷◌, ◌++◌, length, take, slice_get, Option, None, Some, unwrap_or, refl, sym, ap, subst, ◌∙◌}
 use Rattle.std.specs.Option.{option_map_or}
-use Rattle.typedef_laws.specs.Below.tree_laws.Below.cs_base.declared.ws_units.Standard.{Standard}
+use Rattle.typedef_laws.specs.Below.tree_laws.Below.c99_grammar.declared.dialects.Dialect.{Dialect}
 use Rattle.typedef_laws.specs.Below.tree_laws.Below.cs_base.Token.{Token}
 use Rattle.typedef_laws.specs.Below.tree_laws.Below.c99_tree.Tree.{Forest, none, token, node, Node, leaf, inner, put, lone, collapsed}
 use Rattle.typedef_laws.specs.Below.tree_laws.Below.c99_tree.declared.production.Label.{Label}
@@ -17,7 +17,7 @@ use Rattle.renamed_tree_laws.proofs.Moods.{named_where}
 use Rattle.renamed_tree_laws.proofs.Steps.{with_token}
 use Rattle.renamed_tree_laws.proofs.Keeping.{Kept}
 
-module _ (std : Standard) where
+module _ (std : Dialect) where
   module _ (toks : List Token) where
     abbrev pub Is : ℕ → Type 0
     Is k = is_identifier (base_at (grammar std) toks k) ≡ true

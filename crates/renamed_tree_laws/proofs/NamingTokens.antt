@@ -1,7 +1,7 @@
 -- Names that are declared where they stand, and a parameter's declarator in parentheses.
 use Rattle.std.proofs.Common.{ℕ, ◌+◌, ◌<◌, ◌≡◌, Bool, true, false, ◌&&◌, ◌||◌, not, if◌then◌else◌, List, length, Option, None, Some, Ok, Err, refl, ap, subst, ◌∙◌, arith}
 use Rattle.std.proofs.lemmas.Bool.{and_from}
-use Rattle.typedef_laws.specs.Below.tree_laws.Below.cs_base.declared.ws_units.Standard.{Standard}
+use Rattle.typedef_laws.specs.Below.tree_laws.Below.c99_grammar.declared.dialects.Dialect.{Dialect}
 use Rattle.typedef_laws.specs.Below.tree_laws.Below.cs_base.Token.{Token}
 use Rattle.typedef_laws.specs.Below.tree_laws.Below.c99_tree.declared.production.Label.{Label}
 use Rattle.typedef_laws.specs.Below.tree_laws.Below.c99_tree.declared.production.Production.TheVariants.{InitDecl, Specs, Declarator, Enumerator, Cond, Param, Pdecl, Pdirect}
@@ -36,7 +36,7 @@ value_items = one equals · deep (part Cond)
 abbrev enumerator : Label
 enumerator = labelled Enumerator 1
 
-module _ (std : Standard) where
+module _ (std : Dialect) where
   module _ (a b : List Token) where
     pub asks_true : (l : Label) (v : Bool) (s s' : State) → Asks std a b l v s s' → Asks std a b l (v && true) s s'
     asks_true l v s s' k = λ o ends bounds f agree. (let r = k o ends bounds f agree in (r.0, and_from v true r.1 refl))

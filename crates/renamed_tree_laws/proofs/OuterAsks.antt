@@ -1,8 +1,8 @@
 -- What is asked along external definitions (6.9), and along bodies of functions (6.9.1).
 use Rattle.std.proofs.Common.{ℕ, ◌+◌, ◌<◌, ◌≡◌, Bool, true, false, ◌&&◌, if◌then◌else◌, List, [], ◌∷◌, Ok, Err, refl, sym, ap, subst, ◌∙◌, arith}
 use Rattle.std.proofs.lemmas.Bool.{and_from}
-use Rattle.typedef_laws.specs.Below.tree_laws.Below.cs_base.declared.ws_units.Standard.{Standard}
-use Rattle.typedef_laws.specs.Below.tree_laws.Below.cs_base.declared.ws_units.Standard.TheVariants.{C99}
+use Rattle.typedef_laws.specs.Below.tree_laws.Below.c99_grammar.declared.dialects.Dialect.{Dialect}
+use Rattle.typedef_laws.specs.Below.tree_laws.Below.c99_grammar.declared.dialects.Dialect.TheVariants.{C99, C11}
 use Rattle.typedef_laws.specs.Below.tree_laws.Below.cs_base.Token.{Token}
 use Rattle.typedef_laws.specs.Below.tree_laws.Below.c99_tree.Tree.{Forest, Node, node_of, leaf, inner, put, collapsed}
 use Rattle.typedef_laws.specs.Below.tree_laws.Below.c99_tree.declared.production.Label.{Label}
@@ -13,7 +13,7 @@ use Rattle.typedef_laws.specs.Below.tree_laws.Below.c99_grammar.Grammar.{externa
 use Rattle.typedef_laws.specs.Below.tree_laws.Below.c99_grammar.Standard.{c99, grammar}
 use Rattle.typedef_laws.specs.Below.tree_laws.Below.c99_read.State.{State, Names, head_closed, names_closed, finished, with_scope_ended, acted, opened, closed}
 use Rattle.typedef_laws.specs.Below.tree_laws.Below.c99_read.Reading.{Goal, produce, Step, syntax, and_then, take_one, may, step, alternative, pick}
-use Rattle.typedef_laws.proofs.Below.tree_laws.Below.c99_grammar.StandardLemmas.{both}
+use Rattle.typedef_laws.proofs.Below.tree_laws.Below.c99_grammar.StandardLemmas.{by_dialect}
 use Rattle.typedef_laws.specs.Below.tree_laws.Below.c_types.Trees.{is_at}
 use Rattle.typedef_laws.specs.Below.tree_laws.Below.scope_bind.Named.{Scope}
 use Rattle.typedef_laws.proofs.Private.{Declaration, Class}
@@ -33,7 +33,7 @@ use Rattle.renamed_tree_laws.specs.Along.{along_rest, along_first}
 use Rattle.renamed_tree_laws.proofs.Asking.{before_leaf, before_inner, of_token, of_node, Asks, asks_further, quiet_so, along, Asked, asks_step, BodyAsks, fine_asks}
 use Rattle.renamed_tree_laws.proofs.NamingTokens.{declare_asks}
 
-module _ (std : Standard) where
+module _ (std : Dialect) where
   module _ (a b : List Token) where
     -- what is known of the outline in these scopes, where the second text's names agree with a node, tells what was asked
     abbrev pub Told : List (List Declaration) → (Outline → Type 0) → Production → ℕ → Bool → State → State → Type 0
@@ -442,19 +442,24 @@ module _ (std : Standard) where
           (opens_node s.names.scopes (IsFresh s) External n (along_here external_items (opened External n s)) s (step (grammar std) below depth external_items (opened External n s)) refl (external_body n s))
           tt
 
-      pub external_made : (s : State) → After (DefinitionAsks (along_all External s) s) (pick (grammar std) below depth External 1 ((grammar std).table External) s)
-      external_made s =
-          both (λ v. After (DefinitionAsks (along_rows 1 (externals v) s) s) (pick (grammar std) below depth External 1 (externals v) s))
-          (either s.names.scopes (IsFresh s) (along_here semicolon_external (opened External 1 s)) (along_rows 2 (plain external_items ∷ []) s) s
-          (may (grammar std) own semicolon_external s) (alternative (grammar std) below depth External 1 semicolon_external s)
-          (pick (grammar std) below depth External 2 (plain external_items ∷ []) s)
-          (plain_external 1 semicolon_external s refl refl refl) (specs_external 2 s))
-          (either s.names.scopes (IsFresh s) (along_here semicolon_external (opened External 1 s)) (along_rows 2 (plain (part Sassert) ∷ (plain external_items ∷ [])) s) s
+      -- where an assertion may stand for a definition (C11 6.7.10)
+      asserted_external : (s : State) → After (DefinitionAsks (along_rows 1 (externals C11) s) s) (pick (grammar std) below depth External 1 (externals C11) s)
+      asserted_external s =
+          either s.names.scopes (IsFresh s) (along_here semicolon_external (opened External 1 s)) (along_rows 2 (plain (part Sassert) ∷ (plain external_items ∷ [])) s) s
           (may (grammar std) own semicolon_external s) (alternative (grammar std) below depth External 1 semicolon_external s)
           (pick (grammar std) below depth External 2 (plain (part Sassert) ∷ (plain external_items ∷ [])) s)
           (plain_external 1 semicolon_external s refl refl refl)
           (either s.names.scopes (IsFresh s) (along_here (part Sassert) (opened External 2 s)) (along_rows 3 (plain external_items ∷ []) s) s
           (may (grammar std) own (part Sassert) s) (alternative (grammar std) below depth External 2 (part Sassert) s)
           (pick (grammar std) below depth External 3 (plain external_items ∷ []) s)
-          (plain_external 2 (part Sassert) s refl refl refl) (specs_external 3 s)))
+          (plain_external 2 (part Sassert) s refl refl refl) (specs_external 3 s))
+
+      pub external_made : (s : State) → After (DefinitionAsks (along_all External s) s) (pick (grammar std) below depth External 1 ((grammar std).table External) s)
+      external_made s =
+          by_dialect (λ v. After (DefinitionAsks (along_rows 1 (externals v) s) s) (pick (grammar std) below depth External 1 (externals v) s))
+          (either s.names.scopes (IsFresh s) (along_here semicolon_external (opened External 1 s)) (along_rows 2 (plain external_items ∷ []) s) s
+          (may (grammar std) own semicolon_external s) (alternative (grammar std) below depth External 1 semicolon_external s)
+          (pick (grammar std) below depth External 2 (plain external_items ∷ []) s)
+          (plain_external 1 semicolon_external s refl refl refl) (specs_external 2 s))
+          (asserted_external s) (asserted_external s)
           std

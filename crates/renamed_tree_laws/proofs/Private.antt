@@ -3,7 +3,7 @@ use Rattle.std.proofs.Common.{Bool, ◌&&◌, List, [], ◌∷◌, drop}
 use Rattle.std.specs.List.{list_all}
 use Rattle.typedef_laws.specs.Below.tree_laws.Below.cs_base.declared.tokens.Kind.TheVariants as kind
 use Rattle.typedef_laws.specs.Below.tree_laws.Below.c99_tree.declared.production.Production.TheVariants.{Statement, Pdirect}
-use Rattle.typedef_laws.specs.Below.tree_laws.Below.cs_base.declared.ws_units.Standard.TheVariants.{C11}
+use Rattle.typedef_laws.specs.Below.tree_laws.Below.c99_grammar.declared.dialects.Dialect.TheVariants.{Gnu}
 use Rattle.typedef_laws.specs.Below.tree_laws.Below.c99_grammar.Items.{names, Test, own, next_two, Ask, is, Alternative}
 use Rattle.typedef_laws.specs.Below.tree_laws.Below.c99_grammar.Spellings.{keywords_of, punctuators}
 use Rattle.typedef_laws.specs.Below.tree_laws.Below.c99_grammar.Standard.{c99}
@@ -56,6 +56,9 @@ second_test _ = own
 abbrev pub colons : List Class
 colons = asked_second (first_test (c99.table Statement))
 
+abbrev pub colon : Class
+colon = first_class colons
+
 -- the parenthesis of a parameter's declarator
 abbrev pub parens : List Class
 parens = asked_first (second_test (c99.table Pdirect))
@@ -63,5 +66,5 @@ parens = asked_first (second_test (c99.table Pdirect))
 -- it is so of each class that tokens have by themselves
 abbrev pub covers : (Class → Bool) → Bool
 covers P =
-    list_all (λ w. P w.1) (keywords_of C11) && (list_all (λ w. P w.1) punctuators && (P identifier && (P no_class && (P end_class &&
+    list_all (λ w. P w.1) (keywords_of Gnu) && (list_all (λ w. P w.1) punctuators && (P identifier && (P no_class && (P end_class &&
     (P (class_of_kind c99 kind.Number []) && (P (class_of_kind c99 kind.Char []) && P (class_of_kind c99 kind.Str [])))))))

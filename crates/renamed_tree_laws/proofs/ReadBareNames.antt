@@ -2,7 +2,7 @@
 use Rattle.std.proofs.Common.{ℕ, suc, ◌≡◌, List, [], ◌∷◌, Some, Ok, slice_get, inl, inr, ap, subst}
 use Rattle.std.specs.List.{Contains}
 use Rattle.std.proofs.lemmas.Option.{slice_get_within, get_or_from_slice_get}
-use Rattle.typedef_laws.specs.Below.tree_laws.Below.cs_base.declared.ws_units.Standard.{Standard}
+use Rattle.typedef_laws.specs.Below.tree_laws.Below.c99_grammar.declared.dialects.Dialect.{Dialect}
 use Rattle.typedef_laws.specs.Below.tree_laws.Below.cs_base.Token.{Token}
 use Rattle.typedef_laws.specs.Below.tree_laws.Below.c99_tree.Tree.{Node}
 use Rattle.typedef_laws.specs.Below.tree_laws.Below.c99_read.Reading.{read_of}
@@ -23,7 +23,7 @@ each_got P [] all x w = absurd w
 each_got P (y ∷ xs) all x (inl s) = all 0 x (ap Some s)
 each_got P (y ∷ xs) all x (inr w) = each_got P xs (λ k z e. all (suc k) z e) x w
 
-module _ (std : Standard) where
+module _ (std : Dialect) where
   -- what is so of each bare name is so of each loose name
   abbrev pub BareNamesAreLoose : Type 1
   BareNamesAreLoose =

@@ -6,7 +6,7 @@ use Rattle.std.specs.Option.{option_map_or}
 use Rattle.std.specs.Str.{bytes_eq}
 use Rattle.std.proofs.lemmas.Bool.{and_parts, and_from}
 use Rattle.std.proofs.lemmas.Slice.Eq.{bytes_eq-Decides}
-use Rattle.typedef_laws.specs.Below.tree_laws.Below.cs_base.declared.ws_units.Standard.{Standard}
+use Rattle.typedef_laws.specs.Below.tree_laws.Below.c99_grammar.declared.dialects.Dialect.{Dialect}
 use Rattle.typedef_laws.specs.Below.tree_laws.Below.cs_base.Token.{Token}
 use Rattle.typedef_laws.specs.Below.tree_laws.Below.c99_tree.Tree.{Forest, none, token, node}
 use Rattle.typedef_laws.specs.Below.tree_laws.Below.c99_tree.declared.production.Label.{Label}
@@ -91,7 +91,7 @@ entry_apart a b x (d ∷ ds) apart w = by (is_space d.space ordinary) refl w (λ
     by true here (inr v) later = later v
     by false here v later = later v
 
-module _ (std : Standard) where
+module _ (std : Dialect) where
   module _ (a b : List Token)
       (words : (word : List ℕ) (k : ℕ) → is_own_word word ≡ true → bytes_eq (spelling_at b k) word ≡ bytes_eq (spelling_at a k) word)
       (same : (k : ℕ) → base_at (grammar std) a k ≡ base_at (grammar std) b k) (typedefs : List Range) where

@@ -1,7 +1,7 @@
 -- Texts in which names are respelled are read alike.
 use Rattle.std.proofs.Common.{ℕ, ◌+◌, ◌-◌, ◌*◌, ◌≡◌, Bool, true, false, not, if◌then◌else◌, ◌==◌, List, length, Ok, Err, refl, sym, ap, ◌∙◌}
 use Rattle.std.proofs.lemmas.Bool.{false≢true, and_parts, not-true}
-use Rattle.typedef_laws.specs.Below.tree_laws.Below.cs_base.declared.ws_units.Standard.{Standard}
+use Rattle.typedef_laws.specs.Below.tree_laws.Below.c99_grammar.declared.dialects.Dialect.{Dialect}
 use Rattle.typedef_laws.specs.Below.tree_laws.Below.cs_base.Token.{Token}
 use Rattle.typedef_laws.specs.Below.tree_laws.Below.c99_tree.Tree.{Node}
 use Rattle.typedef_laws.specs.Below.tree_laws.Below.c99_tree.declared.production.Production.{Production}
@@ -30,7 +30,7 @@ yes : (c x : Bool) → c ≡ true → (if c then x else true) ≡ true → x ≡
 yes true x e h = h
 yes false x e h = absurd (false≢true e)
 
-module _ (std : Standard) where
+module _ (std : Dialect) where
   -- ---- Names that are read by their kind
 
   module _ (a b : List Token) (classes : (k : ℕ) → base_at (grammar std) a k ≡ base_at (grammar std) b k) where

@@ -1,7 +1,7 @@
 -- What is asked of short texts.
 use Rattle.std.proofs.Common.{ℕ, ◌≡◌, Bool, true, false, List, [], ◌∷◌, refl}
 use Rattle.std.specs.Prelude.{codes}
-use Rattle.typedef_laws.specs.Below.tree_laws.Below.cs_base.declared.ws_units.Standard.TheVariants.{C99}
+use Rattle.typedef_laws.specs.Below.tree_laws.Below.c99_grammar.declared.dialects.Dialect.TheVariants.{C99}
 use Rattle.typedef_laws.specs.Below.tree_laws.Below.cs_base.Token.{Token}
 use Rattle.typedef_laws.specs.Below.tree_laws.Below.cs_base.declared.tokens.Kind.TheVariants.{Ident, Punct}
 use Rattle.typedef_laws.specs.Below.tree_laws.Below.c99_read.Reading.{read_within, take_one, at_end, enter}

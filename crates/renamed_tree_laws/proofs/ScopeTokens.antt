@@ -1,7 +1,7 @@
 -- Nodes that are scopes: blocks, parameter lists, statements and substatements (6.2.1 paragraph 4).
 use Rattle.std.proofs.Common.{ℕ, ◌+◌, ◌<◌, ◌≡◌, Bool, true, false, ◌&&◌, List, [], ◌∷◌, length, Ok, Err, inl, inr, refl, sym, ap, subst, ◌∙◌, arith}
 use Rattle.std.proofs.lemmas.Bool.{false≢true, and_parts, and_from}
-use Rattle.typedef_laws.specs.Below.tree_laws.Below.cs_base.declared.ws_units.Standard.{Standard}
+use Rattle.typedef_laws.specs.Below.tree_laws.Below.c99_grammar.declared.dialects.Dialect.{Dialect}
 use Rattle.typedef_laws.specs.Below.tree_laws.Below.cs_base.Token.{Token}
 use Rattle.typedef_laws.specs.Below.tree_laws.Below.c99_tree.Tree.{Forest, leaf, put}
 use Rattle.typedef_laws.specs.Below.tree_laws.Below.c99_tree.declared.production.Label.{Label}
@@ -27,7 +27,7 @@ use Rattle.typedef_laws.proofs.Scoping.{is_whole, ends_fine, whole_fine, block_s
 use Rattle.renamed_tree_laws.specs.Along.{along_rest}
 use Rattle.renamed_tree_laws.proofs.Asking.{before_leaf, of_token, of_node, Asks, asks_still, asks_further, quiet_so, plain_asked, told_after, along, Asked, asks_step, BodyAsks}
 
-module _ (std : Standard) where
+module _ (std : Dialect) where
   module _ (a b : List Token) where
     -- ---- A scope between two tokens
 

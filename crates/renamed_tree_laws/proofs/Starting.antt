@@ -2,7 +2,7 @@
 use Rattle.std.proofs.Common.{ℕ, zero, suc, ◌+◌, ◌≡◌, Bool, true, false, ◌&&◌, ◌||◌, not, if◌then◌else◌, ◌==◌, List, [], ◌∷◌, length, None, slice_get, Ok, refl, sym, ap, subst, ◌∙◌, arith, inl, inr}
 use Rattle.std.specs.Option.{option_map_or}
 use Rattle.std.proofs.lemmas.Bool.{false≢true, and_parts, and_from, or_cases, not-true}
-use Rattle.typedef_laws.specs.Below.tree_laws.Below.cs_base.declared.ws_units.Standard.{Standard}
+use Rattle.typedef_laws.specs.Below.tree_laws.Below.c99_grammar.declared.dialects.Dialect.{Dialect}
 use Rattle.typedef_laws.specs.Below.tree_laws.Below.cs_base.Token.{Token}
 use Rattle.typedef_laws.specs.Below.tree_laws.Below.c99_tree.declared.production.Label.{Label}
 use Rattle.typedef_laws.specs.Below.tree_laws.Below.c99_tree.declared.production.Production.{Production}
@@ -31,7 +31,7 @@ none_past (t ∷ toks) (suc k) e = none_past toks k (omega (arith, e))
 pub rest_so : (r : Step) (asked : State → Bool) (s : State) → r ≡ Ok s → along_rest r asked ≡ true → asked s ≡ true
 rest_so r asked s e h = subst (λ x. along_rest x asked ≡ true) e h
 
-module _ (std : Standard) where
+module _ (std : Dialect) where
   end_is : (toks : List Token) (k : ℕ) → k ≡ length toks → is_identifier (base_at (grammar std) toks k) ≡ false
   end_is toks k e =
       subst (λ t. is_identifier (option_map_or (base_class (grammar std)) t (if k == length toks then end_class else no_class)) ≡ false)

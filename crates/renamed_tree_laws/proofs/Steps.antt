@@ -1,7 +1,7 @@
 -- What is so of a step of reading that does not stop.
 use Rattle.std.proofs.Common.{ℕ, ◌+◌, ◌≡◌, Bool, true, false, ◌&&◌, if◌then◌else◌, List, length, Ok, Err, nat_lt, ◌==◌, eqb-true, refl, sym, ap, ◌∙◌}
 use Rattle.std.proofs.lemmas.Bool.{false≢true}
-use Rattle.typedef_laws.specs.Below.tree_laws.Below.cs_base.declared.ws_units.Standard.{Standard}
+use Rattle.typedef_laws.specs.Below.tree_laws.Below.c99_grammar.declared.dialects.Dialect.{Dialect}
 use Rattle.typedef_laws.specs.Below.tree_laws.Below.cs_base.Token.{Token}
 use Rattle.typedef_laws.specs.Below.tree_laws.Below.c99_tree.Tree.{leaf, put}
 use Rattle.typedef_laws.specs.Below.tree_laws.Below.c99_tree.declared.production.Production.{Production}
@@ -128,7 +128,7 @@ pub closed_at : (p : Production) (outer s : State) → (closed p outer s).at ≡
 unfolding closed
 closed_at p outer s = refl
 
-module _ (std : Standard) where
+module _ (std : Dialect) where
   pub record Takes (L : List Class) (s s' : State) : Type 0 where
     pub within : nat_lt s.at (length s.toks) ≡ true
     pub here : among L (class_at (grammar std) s s.at) ≡ true

@@ -1,7 +1,7 @@
 -- The classes of one token in two lists: they differ at most where a name counts as a typedef name in one of them.
 use Rattle.std.proofs.Common.{ℕ, ◌≡◌, Bool, true, false, ◌&&◌, ◌||◌, not, if◌then◌else◌, List, refl, sym, ap, subst, ◌∙◌}
 use Rattle.std.proofs.lemmas.Bool.{false≢true}
-use Rattle.typedef_laws.specs.Below.tree_laws.Below.cs_base.declared.ws_units.Standard.{Standard}
+use Rattle.typedef_laws.specs.Below.tree_laws.Below.c99_grammar.declared.dialects.Dialect.{Dialect}
 use Rattle.typedef_laws.specs.Below.tree_laws.Below.cs_base.Token.{Token}
 use Rattle.typedef_laws.specs.Below.tree_laws.Below.c99_grammar.Classes.{among}
 use Rattle.typedef_laws.specs.Below.tree_laws.Below.c99_grammar.Standard.{grammar}
@@ -26,7 +26,7 @@ agree_is false false h = refl
 abbrev pub blind : List Class → Bool
 blind L = agree (among L identifier) (among L typedef_name)
 
-module _ (std : Standard) where
+module _ (std : Dialect) where
   -- ---- One list
 
   module _ (s : State) (k : ℕ) where

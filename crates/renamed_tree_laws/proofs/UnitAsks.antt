@@ -1,7 +1,7 @@
 -- What is asked along a whole unit.
 use Rattle.std.proofs.Common.{ℕ, zero, suc, ◌≡◌, Bool, true, false, ◌&&◌, if◌then◌else◌, ◌==◌, List, [], ◌∷◌, length, Ok, Err, refl, ap, ◌∙◌, arith}
 use Rattle.std.proofs.lemmas.Bool.{and_from}
-use Rattle.typedef_laws.specs.Below.tree_laws.Below.cs_base.declared.ws_units.Standard.{Standard}
+use Rattle.typedef_laws.specs.Below.tree_laws.Below.c99_grammar.declared.dialects.Dialect.{Dialect}
 use Rattle.typedef_laws.specs.Below.tree_laws.Below.cs_base.Token.{Token}
 use Rattle.typedef_laws.specs.Below.tree_laws.Below.c99_tree.Tree.{none, node}
 use Rattle.typedef_laws.specs.Below.tree_laws.Below.c99_tree.declared.production.Production.TheVariants.{TranslationUnit, External}
@@ -27,7 +27,7 @@ use Rattle.renamed_tree_laws.proofs.Asking.{of_token, of_node, along}
 use Rattle.renamed_tree_laws.proofs.AskTable.{asked_within}
 use Rattle.renamed_tree_laws.proofs.OuterAsks.{DefinitionAsks, OuterAsked, body_made, tail_made, rest_made, external_made}
 
-module _ (std : Standard) where
+module _ (std : Dialect) where
   module _ (a b : List Token) (same : (k : ℕ) → base_at (grammar std) a k ≡ base_at (grammar std) b k) where
     abbrev along_steps : ℕ → ℕ → Goal → State → Bool
     along_steps fuel = along_within (grammar std) (of_token std a b) (of_node std a b) fuel

@@ -3,7 +3,7 @@ use Rattle.std.proofs.Common.{ℕ, ◌≡◌, Bool, true, false, if◌then◌els
 use Rattle.std.specs.Option.{option_map_or}
 use Rattle.std.specs.Str.{bytes_eq}
 use Rattle.std.proofs.lemmas.Bool.{false≢true}
-use Rattle.typedef_laws.specs.Below.tree_laws.Below.cs_base.declared.ws_units.Standard.{Standard}
+use Rattle.typedef_laws.specs.Below.tree_laws.Below.c99_grammar.declared.dialects.Dialect.{Dialect}
 use Rattle.typedef_laws.specs.Below.tree_laws.Below.cs_base.Token.{Token}
 use Rattle.typedef_laws.specs.Below.tree_laws.Below.c99_tree.Names.{latest}
 use Rattle.typedef_laws.specs.Below.tree_laws.Below.c99_grammar.Standard.{grammar}
@@ -11,7 +11,7 @@ use Rattle.typedef_laws.specs.Below.tree_laws.Below.c99_read.State.{base_at, is_
 use Rattle.renamed_tree_laws.specs.Respelled.{Declaration, declared_in, or_outer, denoted}
 use Rattle.renamed_tree_laws.proofs.Named.{AllIn, AllScopes}
 
-module _ (std : Standard) where
+module _ (std : Dialect) where
   module _ (a b : List Token)
       (apart : (i j : ℕ) → is_identifier (base_at (grammar std) a i) ≡ true → is_identifier (base_at (grammar std) a j) ≡ true
       → bytes_eq (spelling_at b i) (spelling_at b j) ≡ true → bytes_eq (spelling_at a i) (spelling_at a j) ≡ true)

@@ -1,7 +1,7 @@
 -- Names that are read as no typedef names, though they are uses of nothing (ISO/IEC 9899:1999, 6.7.5.3).
 use Rattle.std.specs.Prelude.{ℕ, ◌+◌, ◌≡◌, Bool, true, ◌&&◌, not, List, ◌==◌, ◌%◌, nat_lt}
 use Rattle.std.specs.List.{list_any}
-use Rattle.typedef_laws.specs.Below.tree_laws.Below.cs_base.declared.ws_units.Standard.{Standard}
+use Rattle.typedef_laws.specs.Below.tree_laws.Below.c99_grammar.declared.dialects.Dialect.{Dialect}
 use Rattle.typedef_laws.specs.Below.tree_laws.Below.cs_base.Token.{Token}
 use Rattle.typedef_laws.specs.Below.tree_laws.Below.c99_tree.Tree.{Forest, none, token, node}
 use Rattle.typedef_laws.specs.Below.tree_laws.Below.c99_tree.declared.production.Label.{Label}
@@ -24,7 +24,7 @@ is_hidden toks k r = alike toks k r.name && (not (nat_lt k r.from) && nat_lt k r
 abbrev pub StaysWhole : List Token → List Token → List Range → ℕ → Type 0
 StaysWhole old new typedefs k = list_any (is_hidden old k) typedefs ≡ true → (j : ℕ) → alike old k j ≡ true → alike new k j ≡ true
 
-module _ (std : Standard) where
+module _ (std : Dialect) where
   -- a name directly behind the parenthesis that begins a parameter's declarator (paragraph 11)
   abbrev pub is_enclosed : List Token → Label → ℕ → Bool
   is_enclosed toks m first = is_at m Pdirect 2 && is_identifier (base_at (grammar std) toks (first + 1))

@@ -2,7 +2,7 @@
 use Rattle.std.specs.Prelude.{ℕ, ◌+◌, ◌≡◌, ◌||◌, Bool, true, not, List, [], ◌∷◌, Option, None, Some, length, if◌then◌else◌, ◌==◌}
 use Rattle.std.specs.Option.{option_map_or}
 use Rattle.std.specs.Str.{bytes_eq}
-use Rattle.typedef_laws.specs.Below.tree_laws.Below.cs_base.declared.ws_units.Standard.{Standard}
+use Rattle.typedef_laws.specs.Below.tree_laws.Below.c99_grammar.declared.dialects.Dialect.{Dialect}
 use Rattle.typedef_laws.specs.Below.tree_laws.Below.cs_base.Token.{Token}
 use Rattle.typedef_laws.specs.Below.tree_laws.Below.c99_tree.declared.production.Production.{Production}
 use Rattle.typedef_laws.specs.Below.tree_laws.Below.c99_tree.declared.production.Production.TheVariants.{Main, Primary, Params, Pdirect}
@@ -31,7 +31,7 @@ abbrev pub denoted : List Token → List (List Declaration) → ℕ → Option D
 denoted toks [] k = None
 denoted toks (scope ∷ outer) k = or_outer (declared_in toks scope k) (denoted toks outer k)
 
-module _ (std : Standard) where
+module _ (std : Dialect) where
   -- What is asked of a name in these scopes, so that it is read as the same kind of name: a type name is a typedef name
   -- (6.7.2 paragraph 2); a primary expression is none (6.5.1 paragraph 2), and a name in an identifier list is none before
   -- it is declared there (6.7.5.3 paragraph 3).

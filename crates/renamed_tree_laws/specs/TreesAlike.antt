@@ -1,7 +1,7 @@
 -- What is true of a text whose names agree with the tree of another one.
 use Rattle.std.specs.Prelude.{ℕ, ◌≡◌, true, List, length, Ok}
 use Rattle.std.specs.List.{Contains}
-use Rattle.typedef_laws.specs.Below.tree_laws.Below.cs_base.declared.ws_units.Standard.{Standard}
+use Rattle.typedef_laws.specs.Below.tree_laws.Below.c99_grammar.declared.dialects.Dialect.{Dialect}
 use Rattle.typedef_laws.specs.Below.tree_laws.Below.cs_base.Token.{Token}
 use Rattle.typedef_laws.specs.Below.tree_laws.Below.c99_tree.Tree.{Node}
 use Rattle.typedef_laws.specs.Below.tree_laws.Below.c99_read.Reading.{read_of}
@@ -17,7 +17,7 @@ use Rattle.renamed_tree_laws.specs.Loose.{AllLoose, StaysWhole}
 -- one if in this tree its own names are read as they are bound (ISO/IEC 9899:1999, 6.2.1 and 6.7.7).
 abbrev pub AgreeingTextsReadAlike : Type 0
 AgreeingTextsReadAlike =
-    (s : Standard) (a b : List Token) (tree : Node) → length a ≡ length b → ((k : ℕ) → base_at (grammar s) a k ≡ base_at (grammar s) b k) → read_of (grammar s) a ≡ Ok tree
+    (s : Dialect) (a b : List Token) (tree : Node) → length a ≡ length b → ((k : ℕ) → base_at (grammar s) a k ≡ base_at (grammar s) b k) → read_of (grammar s) a ≡ Ok tree
     → agrees s b tree.under (before (length b)) ≡ true → read_of (grammar s) b ≡ Ok tree
 
 -- A text that is renamed so that all names of an entity go together is read to the same tree, if each name in an
@@ -25,7 +25,7 @@ AgreeingTextsReadAlike =
 -- with all tokens of its spelling where a typedef name of this spelling is hidden (6.7.5.3 paragraphs 3 and 11).
 abbrev pub RenamedTextsReadAlike : Type 0
 RenamedTextsReadAlike =
-    (s : Standard) (old new : List Token) (tree : Node) (b : Bound) → read_of (grammar s) old ≡ Ok tree → binding_of old tree ≡ Ok b → NamesAreRenamed old new b.names
+    (s : Dialect) (old new : List Token) (tree : Node) (b : Bound) → read_of (grammar s) old ≡ Ok tree → binding_of old tree ≡ Ok b → NamesAreRenamed old new b.names
     → ((k : ℕ) → base_at (grammar s) old k ≡ base_at (grammar s) new k) → AllLoose s old (StaysWhole old new b.typedefs) (outermost 0).label 0 tree.under
     → read_of (grammar s) new ≡ Ok tree
 
@@ -33,5 +33,5 @@ RenamedTextsReadAlike =
 -- is one of the bare names of its binding (6.7.5.3 paragraphs 3 and 11).
 abbrev pub LooseNamesAreBare : Type 0
 LooseNamesAreBare =
-    (s : Standard) (toks : List Token) (tree : Node) (b : Bound) → read_of (grammar s) toks ≡ Ok tree → binding_of toks tree ≡ Ok b
+    (s : Dialect) (toks : List Token) (tree : Node) (b : Bound) → read_of (grammar s) toks ≡ Ok tree → binding_of toks tree ≡ Ok b
     → AllLoose s toks (Contains b.bare) (outermost 0).label 0 tree.under

@@ -3,7 +3,7 @@ use Rattle.std.proofs.Common.{ℕ, ◌+◌, ◌≡◌, Bool, true, false, ◌&&�
 use Rattle.std.specs.List.{All, list_all}
 use Rattle.std.proofs.lemmas.Bool.{false≢true, and_parts, ltb-true}
 use Rattle.std.proofs.lemmas.List.Elements.{All-nil, All-cons}
-use Rattle.reordered_tree_laws.specs.Below.tree_laws.Below.cs_base.declared.ws_units.Standard.{Standard}
+use Rattle.reordered_tree_laws.specs.Below.tree_laws.Below.c99_grammar.declared.dialects.Dialect.{Dialect}
 use Rattle.reordered_tree_laws.specs.Below.tree_laws.Below.cs_base.Token.{Token}
 use Rattle.reordered_tree_laws.specs.Below.tree_laws.Below.c99_tree.Tree.{Forest, none, token, node, Node, node_of}
 use Rattle.reordered_tree_laws.specs.Below.tree_laws.Below.c99_tree.declared.production.Label.{Label}
@@ -49,14 +49,14 @@ list_begun i first q u o items unlisted body =
 
 -- ---- Tested tokens of nodes
 
-module _ (s : Standard) (toks : List Token) where
+module _ (s : Dialect) (toks : List Token) where
   pub tested_nodes : (P : ℕ → Type 0) (u : Forest) (l : Label) (k : ℕ) → Tested s toks P l k u → All (TestedNode s toks P) (nodes_in u)
   tested_nodes P none l k t = All-nil (TestedNode s toks P)
   tested_nodes P (token i rest) l k t = tested_nodes P rest l (k + 1) t.1
   tested_nodes P (node x first under rest) l k t =
       All-cons (TestedNode s toks P) (node_of x first under) (nodes_in rest) (t.0, t.1) (tested_nodes P rest l (k + 1) t.2)
 
-module _ (m : ℕ → ℕ) (old new : List Token) (law : AreMovedTexts m old new) (order : List ℕ) (lists : ℕ → Bool) (is : IsOrder (length order) order) (s : Standard) where
+module _ (m : ℕ → ℕ) (old new : List Token) (law : AreMovedTexts m old new) (order : List ℕ) (lists : ℕ → Bool) (is : IsOrder (length order) order) (s : Dialect) where
   pub own_items : (u : Forest) (lo : ℕ) → AreFrom lo u → HaveBareNames s old u → All (HasOwnTests m old new law order lists is s) (nodes_in u)
   own_items none lo a h = All-nil (HasOwnTests m old new law order lists is s)
   own_items (token i rest) lo a h = own_items rest (lo + 1) a.1 h

@@ -4,7 +4,7 @@ use Rattle.std.specs.List.{All}
 use Rattle.std.proofs.lemmas.Bool.{false≢true, and_parts, and_from}
 use Rattle.std.proofs.lemmas.List.Elements.{All-nil, All-cons}
 use Rattle.std.proofs.lemmas.List.Sorted.{All-permutation}
-use Rattle.reordered_tree_laws.specs.Below.tree_laws.Below.cs_base.declared.ws_units.Standard.{Standard}
+use Rattle.reordered_tree_laws.specs.Below.tree_laws.Below.c99_grammar.declared.dialects.Dialect.{Dialect}
 use Rattle.reordered_tree_laws.specs.Below.tree_laws.Below.cs_base.Token.{Token}
 use Rattle.reordered_tree_laws.specs.Below.tree_laws.Below.c99_tree.Tree.{Forest, none, token, node, Node}
 use Rattle.reordered_tree_laws.specs.Below.tree_laws.Below.c99_tree.declared.production.Label.{Label}
@@ -43,11 +43,11 @@ no_direct Args a e = refl
 no_direct Params a e = refl
 no_direct _ a e = absurd (false≢true e)
 
-items_node : (s : Standard) (toks : List Token) (q : Label) (first : ℕ) (es : List Entry) → is_items q ≡ true → node_agrees s toks q first es ≡ true
+items_node : (s : Dialect) (toks : List Token) (q : Label) (first : ℕ) (es : List Entry) → is_items q ≡ true → node_agrees s toks q first es ≡ true
 items_node s toks q first es e =
     ap (λ c. if c then not (is_identifier (base_at (grammar s) toks (first + 1))) || not (typedef_among s toks (first + 1) es) else true) (no_direct q.production q.alternative e)
 
-module _ (m : ℕ → ℕ) (old new : List Token) (law : AreMovedTexts m old new) (order : List ℕ) (lists : ℕ → Bool) (is : IsOrder (length order) order) (s : Standard)
+module _ (m : ℕ → ℕ) (old new : List Token) (law : AreMovedTexts m old new) (order : List ℕ) (lists : ℕ → Bool) (is : IsOrder (length order) order) (s : Dialect)
     (base : (k : ℕ) → base_at (grammar s) new (m k) ≡ base_at (grammar s) old k) where
   abbrev Along : ℕ → Bool → ℕ → ℕ → Outline → Outline → Type 0
   Along level keeps lo there o p = OutlinesGo m old new law level keeps lo there o p

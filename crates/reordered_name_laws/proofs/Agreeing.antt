@@ -5,7 +5,7 @@ use Rattle.std.specs.Option.{option_or}
 use Rattle.std.proofs.lemmas.Bool.{false≢true, and_parts, and_from, or_parts}
 use Rattle.std.proofs.lemmas.List.{append_assoc}
 use Rattle.std.proofs.lemmas.List.Elements.{All-nil, All-cons, All-head, All-tail}
-use Rattle.reordered_tree_laws.specs.Below.tree_laws.Below.cs_base.declared.ws_units.Standard.{Standard}
+use Rattle.reordered_tree_laws.specs.Below.tree_laws.Below.c99_grammar.declared.dialects.Dialect.{Dialect}
 use Rattle.reordered_tree_laws.specs.Below.tree_laws.Below.cs_base.Token.{Token}
 use Rattle.reordered_tree_laws.specs.Below.tree_laws.Below.c99_tree.Tree.{Forest, none, token, node, Node, node_of}
 use Rattle.reordered_tree_laws.specs.Below.tree_laws.Below.c99_tree.declared.production.Label.{Label}
@@ -32,10 +32,10 @@ use Rattle.reordered_name_laws.proofs.Unseen.{IsClear, ArePairsClear, hidden_old
 -- ---- The tests
 
 -- an item passes its tests
-abbrev pub item_agrees : Standard → List Token → Node → Outline → Bool
+abbrev pub item_agrees : Dialect → List Token → Node → Outline → Bool
 item_agrees s toks n o = node_agrees s toks n.label n.first o.entries && all_agree s toks n.under (begun n.label n.first n.under o)
 
-pub items_test : (s : Standard) (toks : List Token) (p : Production) (a k i : ℕ) (es : List Entry) → (ghosts.eq p Args || (ghosts.eq p Params && not (a == 1))) ≡ true
+pub items_test : (s : Dialect) (toks : List Token) (p : Production) (a k i : ℕ) (es : List Entry) → (ghosts.eq p Args || (ghosts.eq p Params && not (a == 1))) ≡ true
     → token_agrees s toks p a k i es ≡ true
 items_test s toks Args a k i es e = refl
 items_test s toks Params a k i es e = by (a == 1) e
@@ -45,7 +45,7 @@ items_test s toks Params a k i es e = by (a == 1) e
     by false h = refl
 items_test s toks _ a k i es e = absurd (false≢true e)
 
-pub list_test : (s : Standard) (toks : List Token) (p : Production) (a k i : ℕ) (es : List Entry) → ((ghosts.eq p Post && (a == 2)) || (ghosts.eq p Suffix && (a == 2))) ≡ true
+pub list_test : (s : Dialect) (toks : List Token) (p : Production) (a k i : ℕ) (es : List Entry) → ((ghosts.eq p Post && (a == 2)) || (ghosts.eq p Suffix && (a == 2))) ≡ true
     → token_agrees s toks p a k i es ≡ true
 list_test s toks Post a k i es e = refl
 list_test s toks Suffix a k i es e = refl
@@ -60,7 +60,7 @@ name_test false i j x y f g = refl
 name_test true i true x y f g = ap (λ b. not b || not x) (f refl) ∙ ap (λ b. false || not b) (g refl refl)
 name_test true i false x y f g = ap (λ b. not b || not x) (f refl)
 
-module _ (m : ℕ → ℕ) (old new : List Token) (law : AreMovedTexts m old new) (order : List ℕ) (lists : ℕ → Bool) (is : IsOrder (length order) order) (s : Standard) where
+module _ (m : ℕ → ℕ) (old new : List Token) (law : AreMovedTexts m old new) (order : List ℕ) (lists : ℕ → Bool) (is : IsOrder (length order) order) (s : Dialect) where
   -- the same is seen of these entries at a token and at its new place
   abbrev pub SeenAlike : List Entry → List Entry → ℕ → Type 0
   SeenAlike es fs i = kind_among new (m i) (open_at (m i)) fs ≡ kind_among old i (open_at i) es

@@ -5,7 +5,7 @@ use Rattle.std.specs.List.{All}
 use Rattle.std.proofs.lemmas.Bool.{cases_Bool, and_parts, and_from, ltb-true, ltb-false}
 use Rattle.std.proofs.lemmas.List.{append_assoc}
 use Rattle.std.proofs.lemmas.List.Elements.{All-nil, All-cons, All-head, All-tail}
-use Rattle.reordered_tree_laws.specs.Below.tree_laws.Below.cs_base.declared.ws_units.Standard.{Standard}
+use Rattle.reordered_tree_laws.specs.Below.tree_laws.Below.c99_grammar.declared.dialects.Dialect.{Dialect}
 use Rattle.reordered_tree_laws.specs.Below.tree_laws.Below.cs_base.Token.{Token}
 use Rattle.reordered_tree_laws.specs.Below.tree_laws.Below.c99_tree.Tree.{Forest, none, token, node, Node}
 use Rattle.reordered_tree_laws.specs.Below.tree_laws.Below.c_types.Declarations.{alike}
@@ -29,7 +29,7 @@ use Rattle.reordered_name_laws.proofs.Tested.{TestedNode, node_imp, node_both, I
 use Rattle.reordered_name_laws.proofs.Unseen.{all_imp, IsSameOrClear, hidden_new}
 use Rattle.reordered_name_laws.proofs.Agreeing.{item_agrees, items_test, SeenAlike, seen_more, HasOwnTests, AgreesOld, nothing_more}
 
-module _ (m : ℕ → ℕ) (old new : List Token) (law : AreMovedTexts m old new) (order : List ℕ) (lists : ℕ → Bool) (is : IsOrder (length order) order) (s : Standard)
+module _ (m : ℕ → ℕ) (old new : List Token) (law : AreMovedTexts m old new) (order : List ℕ) (lists : ℕ → Bool) (is : IsOrder (length order) order) (s : Dialect)
     (b c : Outline) (zs ws : List Entry) (end from : ℕ) (empty : c.entries ≡ []) (depth : c.scope.depth ≡ b.scope.depth) where
   abbrev Seen : List Entry → List Entry → ℕ → Type 0
   Seen es fs i = SeenAlike m old new law order lists is s es fs i

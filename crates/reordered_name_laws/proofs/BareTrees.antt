@@ -1,7 +1,7 @@
 -- Trees that are read have bare names as names of declarators.
 use Rattle.std.proofs.Common.{ℕ, ◌+◌, ◌≡◌, Bool, true, false, ◌&&◌, not, if◌then◌else◌, ◌==◌, List, [], ◌∷◌, ◌⊎◌, inl, inr, refl, sym, ap, subst, ◌∙◌, arith}
 use Rattle.std.proofs.lemmas.Bool.{false≢true, and_parts, eqb-true, lt-ltb}
-use Rattle.reordered_tree_laws.specs.Below.tree_laws.Below.cs_base.declared.ws_units.Standard.{Standard}
+use Rattle.reordered_tree_laws.specs.Below.tree_laws.Below.c99_grammar.declared.dialects.Dialect.{Dialect}
 use Rattle.reordered_tree_laws.specs.Below.tree_laws.Below.cs_base.Token.{Token}
 use Rattle.reordered_tree_laws.specs.Below.tree_laws.Below.c99_tree.Tree.{Forest, none, token, node}
 use Rattle.reordered_tree_laws.specs.Below.tree_laws.Below.c99_tree.declared.production.Label.{Label}
@@ -57,7 +57,7 @@ not_both : (b : Bool) → not b ≡ true → b ≡ true → ⊥
 not_both true e h = false≢true e
 not_both false e h = false≢true h
 
-module _ (s : Standard) (toks : List Token) where
+module _ (s : Dialect) (toks : List Token) where
   never_head : (f : Forest) → heads s toks (never ∷ []) f ≡ true → ⊥
   never_head none e = false≢true e
   never_head (token i rest) e = false≢true e

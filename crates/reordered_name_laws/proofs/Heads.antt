@@ -1,7 +1,7 @@
 -- The first children of parameters' declarators and of their parts in trees that are read.
 use Rattle.std.proofs.Common.{ℕ, ◌+◌, ◌≡◌, Bool, true, false, ◌&&◌, not, if◌then◌else◌, List, [], ◌∷◌, ◌++◌, Ok, Err, ◌==◌, refl, sym, ap, subst, ◌∙◌}
 use Rattle.std.proofs.lemmas.Bool.{false≢true, and_parts, and_from}
-use Rattle.reordered_tree_laws.specs.Below.tree_laws.Below.cs_base.declared.ws_units.Standard.{Standard}
+use Rattle.reordered_tree_laws.specs.Below.tree_laws.Below.c99_grammar.declared.dialects.Dialect.{Dialect}
 use Rattle.reordered_tree_laws.specs.Below.tree_laws.Below.cs_base.Token.{Token}
 use Rattle.reordered_tree_laws.specs.Below.tree_laws.Below.c99_tree.Tree.{Forest, none, token, node, Node, leaf, inner, put}
 use Rattle.reordered_tree_laws.specs.Below.tree_laws.Below.c99_tree.declared.production.Production.{Production}
@@ -103,7 +103,7 @@ all_fit : (n : ℕ) (alternatives : List Alternative) → fit_from (λ m a. true
 all_fit n [] = refl
 all_fit n (a ∷ more) = all_fit (n + 1) more
 
-pub table_fits : (s : Standard) (p : Production) → fit_from (fits p) 1 ((grammar s).table p) ≡ true
+pub table_fits : (s : Dialect) (p : Production) → fit_from (fits p) 1 ((grammar s).table p) ≡ true
 table_fits s Pointer = refl
 table_fits s Suffix = refl
 table_fits s Pdecl = refl
@@ -137,7 +137,7 @@ put_inner none n = refl
 put_inner (token j rest) n = ap (token j) (put_inner rest n)
 put_inner (node l first under rest) n = ap (node l first under) (put_inner rest n)
 
-module _ (s : Standard) (toks : List Token) where
+module _ (s : Dialect) (toks : List Token) where
   abbrev pub token_is : Shape → ℕ → Bool
   token_is sign i = not (is_identifier (base_at (grammar s) toks i))
   token_is word i = true

@@ -1,7 +1,7 @@
 -- Worked rows: names agree with a tree in the new order where its lists can get it, and do not where a parameter hides a typedef
 -- name that another one asks for.
 use Rattle.std.specs.Prelude.{ℕ, ◌≡◌, Bool, true, false, ◌||◌, ◌==◌, List, [], ◌∷◌, length, refl}
-use Rattle.reordered_tree_laws.specs.Below.tree_laws.Below.cs_base.declared.ws_units.Standard.TheVariants.{C99}
+use Rattle.reordered_tree_laws.specs.Below.tree_laws.Below.c99_grammar.declared.dialects.Dialect.TheVariants.{C99}
 use Rattle.reordered_tree_laws.specs.Below.tree_laws.Below.cs_base.Token.{Token}
 use Rattle.reordered_tree_laws.specs.Below.tree_laws.Below.c99_tree.Tree.{Node}
 use Rattle.reordered_tree_laws.specs.Below.tree_laws.Below.name_chains.Frames.{at_first as before}

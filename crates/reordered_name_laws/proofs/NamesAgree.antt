@@ -3,7 +3,7 @@ use Rattle.std.proofs.Common.{ℕ, ◌+◌, ◌≤◌, ◌≡◌, Bool, true, fa
 use Rattle.std.specs.List.{All}
 use Rattle.std.proofs.lemmas.Bool.{false≢true, and_parts, and_from, or_parts}
 use Rattle.std.proofs.lemmas.List.Elements.{All-nil, All-cons, All-head, All-tail}
-use Rattle.reordered_tree_laws.specs.Below.tree_laws.Below.cs_base.declared.ws_units.Standard.{Standard}
+use Rattle.reordered_tree_laws.specs.Below.tree_laws.Below.c99_grammar.declared.dialects.Dialect.{Dialect}
 use Rattle.reordered_tree_laws.specs.Below.tree_laws.Below.cs_base.Token.{Token}
 use Rattle.reordered_tree_laws.specs.Below.tree_laws.Below.c99_tree.Tree.{Forest, none, token, node, Node, node_of}
 use Rattle.reordered_tree_laws.specs.Below.tree_laws.Below.c99_tree.declared.production.Label.{Label}
@@ -34,7 +34,7 @@ use Rattle.reordered_name_laws.proofs.AgreeingNew.{ItemAgrees}
 use Rattle.reordered_name_laws.proofs.AgreeSteps.{IsPlainBoth, plain_old, plain_new, token_tests, node_tests}
 use Rattle.reordered_name_laws.proofs.AgreeWalk.{emptied, list_agrees}
 
-module _ (m : ℕ → ℕ) (old new : List Token) (law : AreMovedTexts m old new) (order : List ℕ) (lists : ℕ → Bool) (is : IsOrder (length order) order) (s : Standard)
+module _ (m : ℕ → ℕ) (old new : List Token) (law : AreMovedTexts m old new) (order : List ℕ) (lists : ℕ → Bool) (is : IsOrder (length order) order) (s : Dialect)
     (base : (k : ℕ) → base_at (grammar s) new (m k) ≡ base_at (grammar s) old k) where
   abbrev Along : ℕ → Bool → ℕ → ℕ → Outline → Outline → Type 0
   Along level keeps lo there o p = OutlinesGo m old new law level keeps lo there o p

@@ -1,7 +1,7 @@
 -- The first children of parameters' declarators and of their parts are read as they are wanted.
 use Rattle.std.proofs.Common.{ℕ, zero, suc, ◌+◌, ◌≡◌, Bool, true, false, ◌&&◌, not, if◌then◌else◌, List, [], ◌∷◌, ◌++◌, length, Ok, Err, nat_lt, refl, sym, ap, subst, ◌∙◌}
 use Rattle.std.proofs.lemmas.Bool.{and_parts, and_from}
-use Rattle.reordered_tree_laws.specs.Below.tree_laws.Below.cs_base.declared.ws_units.Standard.{Standard}
+use Rattle.reordered_tree_laws.specs.Below.tree_laws.Below.c99_grammar.declared.dialects.Dialect.{Dialect}
 use Rattle.reordered_tree_laws.specs.Below.tree_laws.Below.cs_base.Token.{Token}
 use Rattle.reordered_tree_laws.specs.Below.tree_laws.Below.c99_tree.Tree.{Forest, none, token, node, Node, leaf, inner, put, lone, collapsed}
 use Rattle.reordered_tree_laws.specs.Below.tree_laws.Below.c99_tree.declared.production.Label.{Label}
@@ -16,7 +16,7 @@ use Rattle.reordered_tree_laws.specs.Below.tree_laws.Below.c99_read.Reading.{pro
 use Rattle.reordered_tree_laws.proofs.Below.tree_laws.Walked.{After, with_token, after_if, IsKept, each_part, kept_within, kept_by_item}
 use Rattle.reordered_name_laws.proofs.Heads.{Shape, behind_more, shape_of, same_shape, self_shape, is_exact, leads, wanted, fits, table_fits, behind, behind_none, put_leaf, put_inner, are_signs, sign, word, heads, matches, heads_more, exact_heads, joined_matches, covered, Extends, Grows, extends_kept, node_extends, loosely, after_imp, token_shape}
 
-module _ (s : Standard) (toks : List Token) where
+module _ (s : Dialect) (toks : List Token) where
   abbrev g : Grammar
   g = grammar s
 

@@ -3,7 +3,7 @@ use Rattle.std.proofs.Common.{ℕ, ◌+◌, ◌<◌, ◌≤◌, ◌≡◌, Bool,
 use Rattle.std.specs.List.{list_any}
 use Rattle.std.proofs.lemmas.Bool.{false≢true, and_parts, or_parts, ltb-true, eqb-true, eq-eqb}
 use Rattle.std.proofs.lemmas.List.Folds.{list_any-append}
-use Rattle.reordered_tree_laws.specs.Below.tree_laws.Below.cs_base.declared.ws_units.Standard.{Standard}
+use Rattle.reordered_tree_laws.specs.Below.tree_laws.Below.c99_grammar.declared.dialects.Dialect.{Dialect}
 use Rattle.reordered_tree_laws.specs.Below.tree_laws.Below.cs_base.Token.{Token}
 use Rattle.reordered_tree_laws.specs.Below.tree_laws.Below.c99_tree.Tree.{Forest, none, token, node, Node}
 use Rattle.reordered_tree_laws.specs.Below.tree_laws.Below.c99_tree.declared.production.Label.{Label}
@@ -25,7 +25,7 @@ is_tested Primary a k = a == 1
 is_tested Params a k = (a == 1) && (k % 2 == 0)
 is_tested _ a k = false
 
-module _ (s : Standard) (toks : List Token) where
+module _ (s : Dialect) (toks : List Token) where
   -- this is true of each tested token
   abbrev pub Tested : (ℕ → Type 0) → Label → ℕ → Forest → Type 0
   Tested P l k none = Unit {0}

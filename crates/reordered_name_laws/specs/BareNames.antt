@@ -1,6 +1,6 @@
 -- The form of a parameter's declarator in parentheses (ISO/IEC 9899:1999, 6.7.5 and 6.7.5.3 paragraph 11).
 use Rattle.std.specs.Prelude.{ℕ, ◌+◌, ◌≡◌, Bool, true, false, nat_lt, List, [], ◌∷◌}
-use Rattle.reordered_tree_laws.specs.Below.tree_laws.Below.cs_base.declared.ws_units.Standard.{Standard}
+use Rattle.reordered_tree_laws.specs.Below.tree_laws.Below.c99_grammar.declared.dialects.Dialect.{Dialect}
 use Rattle.reordered_tree_laws.specs.Below.tree_laws.Below.cs_base.Token.{Token}
 use Rattle.reordered_tree_laws.specs.Below.tree_laws.Below.c99_tree.Tree.{Forest, none, token, node}
 use Rattle.reordered_tree_laws.specs.Below.tree_laws.Below.c99_tree.declared.production.Production.TheVariants.{Pdirect}
@@ -15,7 +15,7 @@ abbrev pub is_opened : Forest → Bool
 is_opened (token i rest) = nat_lt 0 (token_count rest)
 is_opened _ = false
 
-module _ (s : Standard) (toks : List Token) where
+module _ (s : Dialect) (toks : List Token) where
   -- the parenthesis is the first token, and an identifier directly behind it is the name of the declarator
   pub record HasBareName (first : ℕ) (under : Forest) : Type 0 where
     pub opened : is_opened under ≡ true

@@ -1,7 +1,7 @@
 -- That the names of a text agree with its tree is kept in a new order of lists (ISO/IEC 9899:1999, 6.2.1, 6.7.7 and 6.7.5.3
 -- paragraph 11).
 use Rattle.std.specs.Prelude.{ℕ, ◌≡◌, Bool, true, List, length, map, Ok}
-use Rattle.reordered_tree_laws.specs.Below.tree_laws.Below.cs_base.declared.ws_units.Standard.{Standard}
+use Rattle.reordered_tree_laws.specs.Below.tree_laws.Below.c99_grammar.declared.dialects.Dialect.{Dialect}
 use Rattle.reordered_tree_laws.specs.Below.tree_laws.Below.cs_base.Token.{Token}
 use Rattle.reordered_tree_laws.specs.Below.tree_laws.Below.c99_tree.Tree.{Node}
 use Rattle.reordered_tree_laws.specs.Below.tree_laws.Below.c99_grammar.Standard.{grammar}
@@ -18,7 +18,7 @@ use Rattle.reordered_tree_laws.specs.Premises.{CanReorder}
 use Rattle.reordered_name_laws.specs.BareNames.{HaveBareNames}
 
 -- the second text is the first one in the new order, and each token has its class at its new place
-pub record IsReorderedText (s : Standard) (order : List ℕ) (lists : ℕ → Bool) (tree : Node) (old new : List Token) : Type 0 where
+pub record IsReorderedText (s : Dialect) (order : List ℕ) (lists : ℕ → Bool) (tree : Node) (old new : List Token) : Type 0 where
   pub texts : map (λ (t : Token). t.text) new ≡ arranged order (cut_in lists tree) (map (λ (t : Token). t.text) old)
   pub classes : (k : ℕ) → base_at (grammar s) new (moved order (cut_in lists tree) (length old) k) ≡ base_at (grammar s) old k
 
@@ -26,16 +26,16 @@ pub record IsReorderedText (s : Standard) (order : List ℕ) (lists : ℕ → Bo
 -- name denotes a typedef name there too, and a primary expression and the bare name of a parameter denote none.
 abbrev pub ReorderedNamesAgree : Type 0
 ReorderedNamesAgree =
-    (s : Standard) (old new : List Token) (order : List ℕ) (lists : ℕ → Bool) (tree : Node) (b : Bound) → IsTreeOf (length old) tree → HaveBareNames s old tree.under
+    (s : Dialect) (old new : List Token) (order : List ℕ) (lists : ℕ → Bool) (tree : Node) (b : Bound) → IsTreeOf (length old) tree → HaveBareNames s old tree.under
     → CanReorder order lists old tree b → IsReorderedText s order lists tree old new → agrees s old tree.under (before (length old)) ≡ true
     → agrees s new (reordered order lists tree).under (before (length new)) ≡ true
 
 -- Each tree that is read of a text has its bare names so.
 abbrev pub TreesHaveBareNames : Type 0
-TreesHaveBareNames = (s : Standard) (toks : List Token) (tree : Node) → read_of (grammar s) toks ≡ Ok tree → HaveBareNames s toks tree.under
+TreesHaveBareNames = (s : Dialect) (toks : List Token) (tree : Node) → read_of (grammar s) toks ≡ Ok tree → HaveBareNames s toks tree.under
 
 -- So the names of a text that is read agree with the tree in the new order.
 abbrev pub ReadNamesAgree : Type 0
 ReadNamesAgree =
-    (s : Standard) (old new : List Token) (order : List ℕ) (lists : ℕ → Bool) (tree : Node) (b : Bound) → read_of (grammar s) old ≡ Ok tree
+    (s : Dialect) (old new : List Token) (order : List ℕ) (lists : ℕ → Bool) (tree : Node) (b : Bound) → read_of (grammar s) old ≡ Ok tree
     → CanReorder order lists old tree b → IsReorderedText s order lists tree old new → agrees s new (reordered order lists tree).under (before (length new)) ≡ true

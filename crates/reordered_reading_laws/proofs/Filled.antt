@@ -2,7 +2,7 @@
 use Rattle.std.proofs.Common.{ℕ, suc, zero, ◌+◌, ◌≡◌, Bool, true, false, ◌&&◌, ◌||◌, not, if◌then◌else◌, List, [], ◌∷◌, ◌++◌, Option, None, Some, nat_lt, refl, sym, ap, subst, ◌∙◌}
 use Rattle.std.specs.List.{list_all}
 use Rattle.std.proofs.lemmas.Bool.{false≢true, and_parts, and_from}
-use Rattle.reordered_text_laws.specs.Below.tree_laws.Below.cs_base.declared.ws_units.Standard.{Standard}
+use Rattle.reordered_text_laws.specs.Below.tree_laws.Below.c99_grammar.declared.dialects.Dialect.{Dialect}
 use Rattle.reordered_text_laws.specs.Below.tree_laws.Below.c99_tree.Tree.{Forest, none, token, node, Node, node_of, lone, collapsed}
 use Rattle.reordered_text_laws.specs.Below.tree_laws.Below.c99_tree.declared.production.Production.{Production}
 use Rattle.reordered_text_laws.specs.Below.tree_laws.Below.c99_tree.declared.production.Production.TheVariants.{TranslationUnit, External}
@@ -113,7 +113,7 @@ module _ (g : Grammar) (tells : Tells g ending) (class_of : ℕ → Class) where
     filled_item : (item : Item) (depth : ℕ) (xs : List ℕ) → item_alike g item ≡ true → Filled (item_read depth item xs)
     filled_item (one classes) depth [] h = tt
     filled_item (one classes) depth (i ∷ more) h = filled_one classes (among classes (class_of i)) i more
-    filled_item (part p) depth xs h = fills depth (produce p) xs h
+    filled_item (part p) depth xs h = fills depth (produce p) xs (and_parts (never_empty p) _ h).0
     filled_item end_of_text depth xs h = absurd (false≢true h)
     filled_item (act a) depth xs h = refl
     filled_item (a · b) depth xs h =
@@ -157,7 +157,7 @@ abbrev under_of : Forest → Forest
 under_of (node l first under rest) = under
 under_of f = f
 
-filled_by : (s : Standard) (class_of : ℕ → Class) (count : ℕ) (tree : Node) (steps : ℕ)
+filled_by : (s : Dialect) (class_of : ℕ → Class) (count : ℕ) (tree : Node) (steps : ℕ)
     → read_by_classes (grammar s) class_of steps 0 (produce TranslationUnit) (numbers_from 0 count) ≡ Some (taken (untold (node tree.label tree.first tree.under none)) [])
     → is_filled tree.under ≡ true
 unfolding read_by_classes
@@ -169,5 +169,5 @@ filled_by s class_of count tree (suc fuel) e =
     let filled : Filled r = filled_item (grammar s) (tells s) class_of fuel (fills_all (grammar s) (tells s) class_of fuel) definitions 0 (numbers_from 0 count) refl in
     sym (filled_untold tree.under) ∙ (ap (λ f. is_filled (under_of f)) unit.is ∙ filled_is r unit.defs unit.reads_defs filled)
 
-pub filled_unit : (s : Standard) (class_of : ℕ → Class) (count : ℕ) (tree : Node) → IsReadAs s class_of count tree → is_filled tree.under ≡ true
+pub filled_unit : (s : Dialect) (class_of : ℕ → Class) (count : ℕ) (tree : Node) → IsReadAs s class_of count tree → is_filled tree.under ≡ true
 filled_unit s class_of count tree so = filled_by s class_of count tree so.0 so.1

@@ -6,7 +6,7 @@ use Rattle.std.specs.Option.{option_map_or}
 use Rattle.std.specs.Str.{bytes_eq}
 use Rattle.std.proofs.lemmas.Bool.{false≢true, and_parts, and_from, eqb-true, ltb-true, lt-ltb}
 use Rattle.std.proofs.lemmas.Slice.Eq.{bytes_eq-Decides}
-use Rattle.reordered_text_laws.specs.Below.tree_laws.Below.cs_base.declared.ws_units.Standard.{Standard}
+use Rattle.reordered_text_laws.specs.Below.tree_laws.Below.c99_grammar.declared.dialects.Dialect.{Dialect}
 use Rattle.reordered_text_laws.specs.Below.tree_laws.Below.cs_base.Token.{Token}
 use Rattle.reordered_text_laws.specs.Below.tree_laws.Below.c99_tree.Tree.{Forest, none, token, node, Node}
 use Rattle.reordered_text_laws.specs.Below.tree_laws.Below.c99_tree.declared.production.Label.{Label}
@@ -66,7 +66,7 @@ AllNodes N none = Unit {0}
 AllNodes N (token i rest) = AllNodes N rest
 AllNodes N (node m first under rest) = N m first × (AllNodes N under × AllNodes N rest)
 
-module _ (s : Standard) (q : ℕ → Bool) (old : List Token) where
+module _ (s : Dialect) (q : ℕ → Bool) (old : List Token) where
   abbrev u : List Token
   u = keyed s q old
 

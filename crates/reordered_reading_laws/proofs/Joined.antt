@@ -3,7 +3,7 @@
 use Rattle.std.proofs.Common.{ℕ, suc, ◌+◌, ◌<◌, ◌≡◌, Bool, true, false, ◌&&◌, ◌||◌, not, if◌then◌else◌, List, [], ◌∷◌, ◌++◌, length, get_or, Ok, refl, sym, ap, subst, ◌∙◌, arith, inl}
 use Rattle.std.proofs.lemmas.Bool.{false≢true, and_parts}
 use Rattle.std.proofs.lemmas.List.{append-nil, append_assoc}
-use Rattle.reordered_text_laws.specs.Below.tree_laws.Below.cs_base.declared.ws_units.Standard.{Standard}
+use Rattle.reordered_text_laws.specs.Below.tree_laws.Below.c99_grammar.declared.dialects.Dialect.{Dialect}
 use Rattle.reordered_text_laws.specs.Below.tree_laws.Below.cs_base.Token.{Token}
 use Rattle.reordered_text_laws.specs.Below.tree_laws.Below.c99_tree.Tree.{Forest, none, token, node, Node, node_of}
 use Rattle.reordered_text_laws.specs.Below.tree_laws.Below.c99_tree.declared.production.Label.{Label}
@@ -105,7 +105,7 @@ name_told q (token p (node m first (node o begin (token i list) rest) more)) l k
         subst (λ j. q j ≡ false) is (h.1.0.0.0 ∙ direct_apart o.production o.alternative at)
     by false at same = absurd (cc)
 
-module _ (s : Standard) (q : ℕ → Bool) (old : List Token) where
+module _ (s : Dialect) (q : ℕ → Bool) (old : List Token) where
   abbrev u : List Token
   u = keyed s q old
 
@@ -178,7 +178,7 @@ module _ (s : Standard) (q : ℕ → Bool) (old : List Token) where
 
 -- ---- In the new order
 
-module _ (alike : AgreeingTextsReadAlike) (in_order : TextsAloneAreReadInOrder) (s : Standard) (n : ℕ) (order : List ℕ) (lists : ℕ → Bool) (old new : List Token) (tree : Node)
+module _ (alike : AgreeingTextsReadAlike) (in_order : TextsAloneAreReadInOrder) (s : Dialect) (n : ℕ) (order : List ℕ) (lists : ℕ → Bool) (old new : List Token) (tree : Node)
     (old_full : NamesAreSpelled s old) (new_full : NamesAreSpelled s new) (tokens : AreTokensInOrder s order lists tree old new) (read : read_of (grammar s) old ≡ Ok tree)
     (is : IsOrder n order) (all : AreOf n (cut_in lists tree)) where
   abbrev arranged_tokens : List ℕ

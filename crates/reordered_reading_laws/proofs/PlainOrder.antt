@@ -7,7 +7,7 @@ use Rattle.std.proofs.lemmas.Bool.{false≢true, and_parts, not-true}
 use Rattle.std.proofs.lemmas.List.{length-map}
 use Rattle.std.proofs.lemmas.List.Sorted.{length_permutation}
 use Rattle.std.proofs.lemmas.Option.{slice_get-map, slice_get_past, slice_get_cases, get_or_from_slice_get, unwrap_or-slice_get}
-use Rattle.reordered_text_laws.specs.Below.tree_laws.Below.cs_base.declared.ws_units.Standard.{Standard}
+use Rattle.reordered_text_laws.specs.Below.tree_laws.Below.c99_grammar.declared.dialects.Dialect.{Dialect}
 use Rattle.reordered_text_laws.specs.Below.tree_laws.Below.cs_base.declared.tokens.Kind.{Kind}
 use Rattle.reordered_text_laws.specs.Below.tree_laws.Below.cs_base.declared.tokens.Kind.TheVariants.{Ident, Number, Char, Str, Punct, Header, Other}
 use Rattle.reordered_text_laws.specs.Below.tree_laws.Below.cs_base.Token.{Token}
@@ -106,7 +106,7 @@ class_plain : (g : Grammar) (t : Token) → base_class g t ≡ class_of_kind g (
 unfolding base_class
 class_plain g t = refl
 
-module _ (s : Standard) (n : ℕ) (order : List ℕ) (lists : ℕ → Bool) (old new : List Token) (tree : Node) (is : IsOrder n order) (all : AreOf n (cut_in lists tree))
+module _ (s : Dialect) (n : ℕ) (order : List ℕ) (lists : ℕ → Bool) (old new : List Token) (tree : Node) (is : IsOrder n order) (all : AreOf n (cut_in lists tree))
     (same : plains new ≡ arranged order (cut_in lists tree) (plains old)) where
   abbrev there : ℕ → ℕ
   there k = get_or (arranged order (cut_in lists tree) (numbers_from 0 (length old))) k k
@@ -181,7 +181,7 @@ spelled_other (w ∷ words) text other all e =
     by false h k = k
 
 -- an identifier that is spelled as one has a first character
-named_text : (s : Standard) (t : Token) → is_identifier (base_class (grammar s) t) ≡ true → fits t.kind t.text ≡ true → bytes_eq [] t.text ≡ false
+named_text : (s : Dialect) (t : Token) → is_identifier (base_class (grammar s) t) ≡ true → fits t.kind t.text ≡ true → bytes_eq [] t.text ≡ false
 unfolding base_class
 named_text s t = by t.kind t.text
   where

@@ -4,7 +4,7 @@ use Rattle.std.specs.Prelude.{find}
 use Rattle.std.specs.Option.{option_map_or}
 use Rattle.std.specs.Str.{bytes_eq}
 use Rattle.std.proofs.lemmas.Slice.Eq.{bytes_eq-Decides}
-use Rattle.reordered_text_laws.specs.Below.tree_laws.Below.cs_base.declared.ws_units.Standard.{Standard}
+use Rattle.reordered_text_laws.specs.Below.tree_laws.Below.c99_grammar.declared.dialects.Dialect.{Dialect}
 use Rattle.reordered_text_laws.specs.Below.tree_laws.Below.cs_base.Token.{Token}
 use Rattle.reordered_text_laws.specs.Below.tree_laws.Below.c99_tree.Tree.{Forest, none, token, node}
 use Rattle.reordered_text_laws.specs.Below.tree_laws.Below.c99_tree.declared.production.Label.{Label}
@@ -30,7 +30,7 @@ no_case : (b : Bool) → (b ≡ true → ⊥) → b ≡ false
 no_case true f = absurd (f refl)
 no_case false f = refl
 
-module _ (s : Standard) (toks : List Token) where
+module _ (s : Dialect) (toks : List Token) where
   -- other tokens are spelled by zeros where they had the empty word
   abbrev pub plain : List Token
   plain = reworded s (bytes_in toks) (λ k t. t) toks

@@ -6,7 +6,7 @@ use Rattle.std.specs.Str.{bytes_eq}
 use Rattle.std.proofs.lemmas.Bool.{false≢true}
 use Rattle.std.proofs.lemmas.Option.{slice_get_within}
 use Rattle.std.proofs.lemmas.Slice.Eq.{bytes_eq-Decides}
-use Rattle.reordered_text_laws.specs.Below.tree_laws.Below.cs_base.declared.ws_units.Standard.{Standard}
+use Rattle.reordered_text_laws.specs.Below.tree_laws.Below.c99_grammar.declared.dialects.Dialect.{Dialect}
 use Rattle.reordered_text_laws.specs.Below.tree_laws.Below.cs_base.Token.{Token}
 use Rattle.reordered_text_laws.specs.Below.tree_laws.Below.cs_base.declared.tokens.Kind.{Kind}
 use Rattle.reordered_text_laws.specs.Below.tree_laws.Below.cs_base.declared.tokens.Kind.TheVariants.{Ident, Punct}
@@ -16,7 +16,7 @@ use Rattle.reordered_text_laws.specs.Below.tree_laws.Below.c99_grammar.Spellings
 use Rattle.reordered_text_laws.specs.Below.tree_laws.Below.c99_grammar.Standard.{Grammar, grammar}
 use Rattle.reordered_text_laws.specs.Below.tree_laws.Below.c99_grammar.TokenClasses.{spelled_class, class_of_kind, base_class}
 use Rattle.reordered_text_laws.specs.Below.tree_laws.Below.c99_read.State.{base_at, spelling_at, is_identifier}
-use Rattle.reordered_text_laws.proofs.Below.tree_laws.Below.c99_grammar.StandardLemmas.{both}
+use Rattle.reordered_text_laws.proofs.Below.tree_laws.Below.c99_grammar.StandardLemmas.{by_dialect}
 use Rattle.reordered_text_laws.specs.Alone.{AreAlone}
 use Rattle.reordered_text_laws.specs.Fronted.{used, Fits}
 use Rattle.reordered_text_laws.specs.InOrder.{with_words}
@@ -52,7 +52,7 @@ bytes_of (x ∷ toks) (suc k) t e = (let few : length t.text ≤ bytes_in toks =
 -- ---- Texts
 
 -- what stands for an identifier is given, with its number; another token that is spelled by the empty word gets one of zeros
-module _ (s : Standard) (m : ℕ) (word : ℕ → Token → Token) where
+module _ (s : Dialect) (m : ℕ) (word : ℕ → Token → Token) where
   abbrev pub with_text : List ℕ → Token → Token
   with_text w t = record t { text = w }
 
@@ -100,15 +100,15 @@ if_so c x y e = ap (λ b. if b then x else y) e
 if_not : {A : Type 0} (c : Bool) (x y : A) → c ≡ false → (if c then x else y) ≡ y
 if_not c x y e = ap (λ b. if b then x else y) e
 
-empty_name : (s : Standard) → spelled_class (grammar s).keywords [] Identifier ≡ Identifier
+empty_name : (s : Dialect) → spelled_class (grammar s).keywords [] Identifier ≡ Identifier
 unfolding spelled_class
-empty_name s = both (λ s. spelled_class (grammar s).keywords [] Identifier ≡ Identifier) refl refl s
+empty_name s = by_dialect (λ s. spelled_class (grammar s).keywords [] Identifier ≡ Identifier) refl refl refl s
 
-zero_name : (s : Standard) (w : List ℕ) → spelled_class (grammar s).keywords (0 ∷ w) Identifier ≡ Identifier
+zero_name : (s : Dialect) (w : List ℕ) → spelled_class (grammar s).keywords (0 ∷ w) Identifier ≡ Identifier
 unfolding spelled_class
-zero_name s w = both (λ s. spelled_class (grammar s).keywords (0 ∷ w) Identifier ≡ Identifier) refl refl s
+zero_name s w = by_dialect (λ s. spelled_class (grammar s).keywords (0 ∷ w) Identifier ≡ Identifier) refl refl refl s
 
-module _ (s : Standard) where
+module _ (s : Dialect) where
   -- a token that is no identifier has its class with zeros too, where it had the empty word
   zeros_class : (k : Kind) (w : List ℕ) → is_identifier (class_of_kind (grammar s) k []) ≡ false → class_of_kind (grammar s) k (0 ∷ w) ≡ class_of_kind (grammar s) k []
   unfolding spelled_class
@@ -150,7 +150,7 @@ none_behind [] k e lt = omega (arith, lt)
 none_behind (t ∷ toks) zero e lt = false≢true (sym (ap (λ o. option_map_or (λ (x : Token). true) o false) e))
 none_behind (t ∷ toks) (suc k) e lt = none_behind toks k e (omega (arith, lt))
 
-module _ (s : Standard) (m : ℕ) (word : ℕ → Token → Token) (toks : List Token) where
+module _ (s : Dialect) (m : ℕ) (word : ℕ → Token → Token) (toks : List Token) where
   abbrev pub reworded : List Token
   reworded = reworded_from s m word 0 toks
 
@@ -180,10 +180,10 @@ filled_text m t = by (bytes_eq [] t.text) refl
 -- ---- A word for each identifier
 
 -- the grammar in which the empty word is a typedef name
-abbrev pub typed_words : Standard → List Spelled
+abbrev pub typed_words : Dialect → List Spelled
 typed_words s = ([], TypedefName) ∷ (grammar s).keywords
 
-module _ (s : Standard) (q : ℕ → Bool) (toks : List Token) where
+module _ (s : Dialect) (q : ℕ → Bool) (toks : List Token) where
   abbrev g : Grammar
   g = grammar s
 

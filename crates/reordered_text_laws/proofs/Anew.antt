@@ -3,7 +3,7 @@ use Rattle.std.proofs.Common.{ℕ, suc, ◌+◌, ◌≤◌, ◌≡◌, Bool, tru
 use Rattle.std.specs.List.{list_all}
 use Rattle.std.proofs.lemmas.Bool.{false≢true, and_parts, and_from}
 use Rattle.std.proofs.lemmas.List.{append_assoc}
-use Rattle.renamed_tree_laws.specs.Below.tree_laws.Below.cs_base.declared.ws_units.Standard.{Standard}
+use Rattle.renamed_tree_laws.specs.Below.tree_laws.Below.c99_grammar.declared.dialects.Dialect.{Dialect}
 use Rattle.renamed_tree_laws.specs.Below.tree_laws.Below.c99_tree.Tree.{Forest, none, token}
 use Rattle.renamed_tree_laws.specs.Below.tree_laws.Below.c99_tree.declared.production.Production.{Production}
 use Rattle.renamed_tree_laws.specs.Below.tree_laws.Below.c99_grammar.declared.classes.Class.{Class}
@@ -33,7 +33,7 @@ Sometime r t = (n : ℕ) × (r n ≡ Some t)
 abbrev pub Grows : (ℕ → List ℕ → Option Taken) → Type 0
 Grows again = (n m : ℕ) (xs : List ℕ) (t : Taken) → n ≤ m → again n xs ≡ Some t → again m xs ≡ Some t
 
-module _ (s : Standard) (class_of : ℕ → Class) (order : List ℕ) (lists : ℕ → Bool) where
+module _ (s : Dialect) (class_of : ℕ → Class) (order : List ℕ) (lists : ℕ → Bool) where
   abbrev g : Grammar
   g = grammar s
 
@@ -148,7 +148,7 @@ module _ (s : Standard) (class_of : ℕ → Class) (order : List ℕ) (lists : �
         → item_read fuel depth item xs ≡ Some t → Item_so item depth t
     anew_item (one L) depth [] t h k full e = absurd (stopped t e)
     anew_item (one L) depth (i ∷ more) t h k full e = anew_one L depth i more t e
-    anew_item (part p) depth xs t h k full e = goods depth (produce p) xs t h full e
+    anew_item (part p) depth xs t h k full e = goods depth (produce p) xs t (and_parts (never_empty p) _ h).0 full e
     anew_item end_of_text depth xs t h k full e = absurd (false≢true h)
     anew_item (act a) depth xs t h k full e =
         anew_still shut (closes g ending (act a) ≡ true) (λ m ys. item_read m depth (act a) ys) xs t e (λ zs b. (0, refl))

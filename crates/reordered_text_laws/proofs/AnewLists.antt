@@ -2,7 +2,7 @@
 use Rattle.std.proofs.Common.{ℕ, ◌+◌, ◌≡◌, Bool, true, false, ◌&&◌, List, [], ◌∷◌, ◌++◌, length, Option, None, Some, nat_lt, refl, sym, ap, subst, ◌∙◌, inl, inr}
 use Rattle.std.proofs.lemmas.Bool.{false≢true, and_parts}
 use Rattle.std.proofs.lemmas.List.{append_assoc, append-nil}
-use Rattle.renamed_tree_laws.specs.Below.tree_laws.Below.cs_base.declared.ws_units.Standard.{Standard}
+use Rattle.renamed_tree_laws.specs.Below.tree_laws.Below.c99_grammar.declared.dialects.Dialect.{Dialect}
 use Rattle.renamed_tree_laws.specs.Below.tree_laws.Below.c99_tree.Tree.{Forest, none, node}
 use Rattle.renamed_tree_laws.specs.Below.tree_laws.Below.c99_tree.declared.production.Production.{Production}
 use Rattle.renamed_tree_laws.specs.Below.tree_laws.Below.c99_tree.declared.production.Production.TheVariants.{Post, Suffix, Args, Params}
@@ -60,7 +60,7 @@ then_same (Some t) f h e = ap (behind_children t.read) (e t.left)
 abbrev pub parameter_list : Item
 parameter_list = tok LeftParen · act scope · maybe (deep (part Params)) · act end · act keep · tok RightParen
 
-module _ (s : Standard) (class_of : ℕ → Class) (order : List ℕ) (lists : ℕ → Bool) (is_order : IsOrder (length order) order) where
+module _ (s : Dialect) (class_of : ℕ → Class) (order : List ℕ) (lists : ℕ → Bool) (is_order : IsOrder (length order) order) where
   abbrev g : Grammar
   g = grammar s
 

@@ -1,8 +1,8 @@
--- In the table of each standard a list begins what it may begin, and is tested there alike.
+-- In the table of each dialect a list begins what it may begin, and is tested there alike.
 use Rattle.std.proofs.Common.{ℕ, suc, zero, ◌+◌, ◌≡◌, Bool, true, false, ◌||◌, List, [], ◌∷◌, length, refl, ap, inl, inr}
 use Rattle.std.specs.List.{list_all}
 use Rattle.std.proofs.lemmas.Bool.{and_parts}
-use Rattle.renamed_tree_laws.specs.Below.tree_laws.Below.cs_base.declared.ws_units.Standard.{Standard}
+use Rattle.renamed_tree_laws.specs.Below.tree_laws.Below.c99_grammar.declared.dialects.Dialect.{Dialect}
 use Rattle.renamed_tree_laws.specs.Below.tree_laws.Below.c99_tree.declared.production.Production.{Production}
 use Rattle.renamed_tree_laws.specs.Below.tree_laws.Below.c99_tree.declared.production.Production.TheVariants.{TranslationUnit, External, ExtRest, ExtTail, FunBody, Declaration, DeclRest, InitDecl, Sassert, Specs, Main, Mod, Qual, Word, StructSpec, SuRest, Members, Member, MemRest, Mdecl, EnumSpec, EnRest, Enumerators, Enumerator, Declarator, Pointer, Direct, Suffix, Bound, Params, Param, Pdecl, Pdirect, TypeName, Adecl, Adirect, Init, InitList, InitItem, Designator, Expr, Assign, Asgop, Cond, Lor, Land, Bor, Bxor, Band, Equal, Relate, Shift, Add, Mul, Cast, CastRest, Unary, SizeRest, SizeLit, Primary, Post, Args, Block, BlockItem, Statement, Sub, ForInit}
 use Rattle.renamed_tree_laws.specs.Below.tree_laws.Below.c99_grammar.declared.classes.Class.{Class}
@@ -10,7 +10,7 @@ use Rattle.renamed_tree_laws.specs.Below.tree_laws.Below.c99_grammar.declared.cl
 use Rattle.renamed_tree_laws.specs.Below.tree_laws.Below.c99_grammar.Classes.{is_same}
 use Rattle.renamed_tree_laws.specs.Below.tree_laws.Below.c99_grammar.Items.{Item, part, ◌·◌, choice, maybe, many, deep, own, tok, any_name, Alternative}
 use Rattle.renamed_tree_laws.specs.Below.tree_laws.Below.c99_grammar.Standard.{grammar}
-use Rattle.renamed_tree_laws.proofs.Below.tree_laws.Below.c99_grammar.StandardLemmas.{both}
+use Rattle.renamed_tree_laws.proofs.Below.tree_laws.Below.c99_grammar.StandardLemmas.{by_dialect}
 use Rattle.renamed_tree_laws.specs.Below.tree_laws.Below.c99_read.Reading.{produce, repeat}
 use Rattle.reordered_tree_laws.specs.Below.list_cuts.Cuts.{IsOrder}
 use Rattle.reordered_tree_laws.specs.Reordered.{is_parenthesised, permuted}
@@ -27,27 +27,27 @@ use Rattle.reordered_text_laws.proofs.Fronts.{production_front, item_front}
 use Rattle.reordered_text_laws.proofs.Anew.{Goods, Child_so, Children, AllSettled, child_itself, anew_suc, anew_item, anew_first}
 use Rattle.reordered_text_laws.proofs.AnewLists.{call_child, list_child}
 
-module _ (std : Standard) where
+module _ (std : Dialect) where
   fronts : (p : Production) → list_all (λ a. at_most (item_front a.body) (production_front p)) ((grammar std).table p) ≡ true
   fronts TranslationUnit = refl
-  fronts External = both (λ s. list_all (λ a. at_most (item_front a.body) (production_front External)) ((grammar s).table External) ≡ true) refl refl std
+  fronts External = by_dialect (λ s. list_all (λ a. at_most (item_front a.body) (production_front External)) ((grammar s).table External) ≡ true) refl refl refl std
   fronts ExtRest = refl
   fronts ExtTail = refl
   fronts FunBody = refl
-  fronts Declaration = both (λ s. list_all (λ a. at_most (item_front a.body) (production_front Declaration)) ((grammar s).table Declaration) ≡ true) refl refl std
+  fronts Declaration = by_dialect (λ s. list_all (λ a. at_most (item_front a.body) (production_front Declaration)) ((grammar s).table Declaration) ≡ true) refl refl refl std
   fronts DeclRest = refl
   fronts InitDecl = refl
-  fronts Sassert = both (λ s. list_all (λ a. at_most (item_front a.body) (production_front Sassert)) ((grammar s).table Sassert) ≡ true) refl refl std
+  fronts Sassert = by_dialect (λ s. list_all (λ a. at_most (item_front a.body) (production_front Sassert)) ((grammar s).table Sassert) ≡ true) refl refl refl std
   fronts Specs = refl
   fronts Main = refl
-  fronts Mod = both (λ s. list_all (λ a. at_most (item_front a.body) (production_front Mod)) ((grammar s).table Mod) ≡ true) refl refl std
+  fronts Mod = by_dialect (λ s. list_all (λ a. at_most (item_front a.body) (production_front Mod)) ((grammar s).table Mod) ≡ true) refl refl refl std
   fronts Qual = refl
   fronts Word = refl
   fronts StructSpec = refl
   fronts SuRest = refl
   fronts Members = refl
-  fronts Member = both (λ s. list_all (λ a. at_most (item_front a.body) (production_front Member)) ((grammar s).table Member) ≡ true) refl refl std
-  fronts MemRest = both (λ s. list_all (λ a. at_most (item_front a.body) (production_front MemRest)) ((grammar s).table MemRest) ≡ true) refl refl std
+  fronts Member = by_dialect (λ s. list_all (λ a. at_most (item_front a.body) (production_front Member)) ((grammar s).table Member) ≡ true) refl refl refl std
+  fronts MemRest = by_dialect (λ s. list_all (λ a. at_most (item_front a.body) (production_front MemRest)) ((grammar s).table MemRest) ≡ true) refl refl refl std
   fronts Mdecl = refl
   fronts EnumSpec = refl
   fronts EnRest = refl
@@ -103,7 +103,7 @@ three_of false true c d e = e
 three_of false false true d e = e
 three_of false false false d e = refl
 
-module _ (s : Standard) (class_of : ℕ → Class) (order : List ℕ) (lists : ℕ → Bool) where
+module _ (s : Dialect) (class_of : ℕ → Class) (order : List ℕ) (lists : ℕ → Bool) where
   all_shut : (alternatives : List Alternative) → AllSettled s class_of order lists shut alternatives
   all_shut [] = tt
   all_shut (a ∷ more) = (tt, all_shut more)

@@ -4,7 +4,7 @@ use Rattle.std.specs.Prelude.{All, IsPermutation}
 use Rattle.std.proofs.lemmas.List.{append_assoc}
 use Rattle.std.proofs.lemmas.List.Elements.{All-nil, All-cons, All-head, All-tail}
 use Rattle.std.proofs.lemmas.List.Sorted.{All-permutation}
-use Rattle.renamed_tree_laws.specs.Below.tree_laws.Below.cs_base.declared.ws_units.Standard.{Standard}
+use Rattle.renamed_tree_laws.specs.Below.tree_laws.Below.c99_grammar.declared.dialects.Dialect.{Dialect}
 use Rattle.renamed_tree_laws.specs.Below.tree_laws.Below.c99_tree.Tree.{Forest}
 use Rattle.renamed_tree_laws.specs.Below.tree_laws.Below.c99_tree.declared.production.Production.{Production}
 use Rattle.renamed_tree_laws.specs.Below.tree_laws.Below.c99_tree.declared.production.Production.TheVariants.{Args, Assign, Param}
@@ -44,7 +44,7 @@ items_anywhere = (anywhere Assign refl refl, anywhere Param refl refl)
 
 -- ---- Items in any order
 
-module _ (s : Standard) (class_of : ℕ → Class) (q : Production) (closes : ending q ≡ true) (never : never_empty q ≡ true) where
+module _ (s : Dialect) (class_of : ℕ → Class) (q : Production) (closes : ending q ≡ true) (never : never_empty q ≡ true) where
   abbrev Item_so : ℕ → ℕ → Forest → Type 0
   Item_so fuel depth f = IsItem (grammar s) ending (tells s) class_of q closes never fuel depth f
 
@@ -74,7 +74,7 @@ module _ (s : Standard) (class_of : ℕ → Class) (q : Production) (closes : en
 
 -- ---- Arguments
 
-module _ (s : Standard) (class_of : ℕ → Class) where
+module _ (s : Dialect) (class_of : ℕ → Class) where
   abbrev reads : ℕ → ℕ → Goal → List ℕ → Option Taken
   reads = read_by_classes (grammar s) class_of
 

@@ -1,7 +1,7 @@
 -- A text whose names agree with a tree is read to it, where the same classes are.
 use Rattle.std.proofs.Common.{ℕ, zero, suc, ◌≡◌, Bool, true, false, ◌&&◌, ◌||◌, not, List, length, refl, sym, ap, ◌∙◌, inl}
 use Rattle.std.proofs.lemmas.Bool.{or_parts}
-use Rattle.renamed_tree_laws.specs.Below.tree_laws.Below.cs_base.declared.ws_units.Standard.{Standard}
+use Rattle.renamed_tree_laws.specs.Below.tree_laws.Below.c99_grammar.declared.dialects.Dialect.{Dialect}
 use Rattle.renamed_tree_laws.specs.Below.tree_laws.Below.cs_base.Token.{Token}
 use Rattle.renamed_tree_laws.specs.Below.tree_laws.Below.c99_tree.Tree.{Forest, none, token, node}
 use Rattle.renamed_tree_laws.specs.Below.tree_laws.Below.c99_tree.declared.production.Label.{Label}
@@ -29,7 +29,7 @@ none_strays some l (node m first under rest) e =
     let both = or_parts (has_some some under) (has_some some rest) e in
     ap (λ b. b || dirty some l rest) (none_strays some m under both.0) ∙ none_strays some l rest both.1
 
-pub classes_behind : (s : Standard) (u z : List Token) → ((k : ℕ) → base_at (grammar s) u k ≡ base_at (grammar s) z k) → length u ≡ length z
+pub classes_behind : (s : Dialect) (u z : List Token) → ((k : ℕ) → base_at (grammar s) u k ≡ base_at (grammar s) z k) → length u ≡ length z
     → (k : ℕ) → base_at (grammar s) (fronted u) k ≡ base_at (grammar s) (fronted z) k
 classes_behind s u z e long zero = refl
 classes_behind s u z e long (suc zero) = refl

@@ -2,7 +2,7 @@
 use Rattle.std.proofs.Common.{ℕ, suc, zero, ◌+◌, ◌≡◌, ◌⊎◌, true, ◌&&◌, List, [], ◌∷◌, ◌++◌, Option, None, Some, nat_lt, sym, ap, ◌∙◌, inl, inr}
 use Rattle.std.specs.Prelude.{IsPermutation}
 use Rattle.std.proofs.lemmas.Bool.{false≢true, and_parts}
-use Rattle.renamed_tree_laws.specs.Below.tree_laws.Below.cs_base.declared.ws_units.Standard.{Standard}
+use Rattle.renamed_tree_laws.specs.Below.tree_laws.Below.c99_grammar.declared.dialects.Dialect.{Dialect}
 use Rattle.renamed_tree_laws.specs.Below.tree_laws.Below.c99_tree.Tree.{Forest, none}
 use Rattle.renamed_tree_laws.specs.Below.tree_laws.Below.c99_tree.declared.production.Production.TheVariants.{Args, Post}
 use Rattle.renamed_tree_laws.specs.Below.tree_laws.Below.c99_grammar.declared.classes.Class.{Class}
@@ -18,7 +18,7 @@ use Rattle.reordered_text_laws.proofs.Found.{stopped, found_is, branch, if_yes, 
 use Rattle.reordered_text_laws.proofs.Enclosed.{inside, enclosing, enclosed_read, Enclosed, enclosed_so}
 use Rattle.reordered_text_laws.proofs.Arguments.{arguments_in_any_order}
 
-module _ (s : Standard) (class_of : ℕ → Class) where
+module _ (s : Dialect) (class_of : ℕ → Class) where
   abbrev reads : ℕ → ℕ → Goal → List ℕ → Option Taken
   reads = read_by_classes (grammar s) class_of
 

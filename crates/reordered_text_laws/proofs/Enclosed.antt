@@ -1,7 +1,7 @@
 -- A list in its parentheses is read.
 use Rattle.std.proofs.Common.{ℕ, ◌+◌, ◌≡◌, true, ◌&&◌, List, [], ◌∷◌, ◌++◌, Option, None, Some, nat_lt, refl, sym, ap, ◌∙◌}
 use Rattle.std.proofs.lemmas.Bool.{false≢true}
-use Rattle.renamed_tree_laws.specs.Below.tree_laws.Below.cs_base.declared.ws_units.Standard.{Standard}
+use Rattle.renamed_tree_laws.specs.Below.tree_laws.Below.c99_grammar.declared.dialects.Dialect.{Dialect}
 use Rattle.renamed_tree_laws.specs.Below.tree_laws.Below.c99_tree.Tree.{Forest, none, token}
 use Rattle.renamed_tree_laws.specs.Below.tree_laws.Below.c99_tree.declared.production.Production.{Production}
 use Rattle.renamed_tree_laws.specs.Below.tree_laws.Below.c99_grammar.declared.classes.Class.{Class}
@@ -24,7 +24,7 @@ close_is : (c : Class) → among (RightParen ∷ []) c ≡ true → c ≡ RightP
 close_is RightParen e = refl
 close_is _ e = absurd (false≢true e)
 
-module _ (s : Standard) (class_of : ℕ → Class) where
+module _ (s : Dialect) (class_of : ℕ → Class) where
   one_read : (c : Class) (i : ℕ) (ys : List ℕ) → class_of i ≡ c → among (c ∷ []) c ≡ true → read_one (grammar s) class_of (c ∷ []) (i ∷ ys) ≡ Some (taken (token i none) ys)
   one_read c i ys e h = if_yes (among (c ∷ []) (class_of i)) (Some (taken (token i none) ys)) None (ap (among (c ∷ [])) e ∙ h)
 

@@ -1,12 +1,14 @@
 -- A test that asks nothing behind a parenthesis says there the same, whatever stands behind.
 use Rattle.std.proofs.Common.{◌≡◌, Bool, true, false, ◌&&◌, ◌||◌, not, if◌then◌else◌, [], ◌∷◌, refl, sym, ap, ◌∙◌}
+use Rattle.std.specs.List.{list_any}
 use Rattle.std.proofs.lemmas.Bool.{and_parts, not-true}
 use Rattle.renamed_tree_laws.specs.Below.tree_laws.Below.c99_grammar.declared.classes.Class.{Class}
-use Rattle.renamed_tree_laws.specs.Below.tree_laws.Below.c99_grammar.declared.classes.Class.TheVariants.{LeftParen, Colon}
+use Rattle.renamed_tree_laws.specs.Below.tree_laws.Below.c99_grammar.declared.classes.Class.TheVariants.{LeftParen}
 use Rattle.renamed_tree_laws.specs.Below.tree_laws.Below.c99_grammar.Classes.{among}
 use Rattle.renamed_tree_laws.specs.Below.tree_laws.Below.c99_grammar.Items.{Item, one, part, end_of_text, act, ◌·◌, choice, maybe, many, deep, own, otherwise, next, next_two, Test}
 use Rattle.renamed_tree_laws.specs.Below.tree_laws.Below.c99_grammar.Standard.{Grammar}
-use Rattle.renamed_tree_laws.specs.Below.tree_laws.Below.c99_grammar.Starting.{is_passed, asks, holds, starts}
+use Rattle.renamed_tree_laws.specs.Below.tree_laws.Below.c99_grammar.Starting.{is_passed, asks, holds, starts, is_pair}
+use Rattle.renamed_tree_laws.proofs.Below.tree_laws.Below.c99_grammar.PairLemmas.{none_begins}
 
 module _ (g : Grammar) where
   -- what a test says at a parenthesis does not hang on what stands behind
@@ -15,7 +17,7 @@ module _ (g : Grammar) where
   free_test _ = true
 
   abbrev pub free : Item → Bool
-  free (part p) = not (among (g.labels p) LeftParen)
+  free (part p) = not (list_any (λ x. among (x.0 ∷ []) LeftParen) (g.pairs p))
   free (a · b) = free a && free b
   free (choice a b) = free a && free b
   free (maybe a) = free a
@@ -46,8 +48,9 @@ module _ (g : Grammar) where
   pub free_starts : (a : Item) (d e : Class) → free a ≡ true → starts g a LeftParen d ≡ starts g a LeftParen e
   free_starts (one L) d e h = refl
   free_starts (part p) d e h =
-      let n = not-true (among (g.labels p) LeftParen) h in
-      ap (λ w. among (g.first p) LeftParen || (w && among (Colon ∷ []) d)) n ∙ sym (ap (λ w. among (g.first p) LeftParen || (w && among (Colon ∷ []) e)) n)
+      let n = not-true (list_any (λ x. among (x.0 ∷ []) LeftParen) (g.pairs p)) h in
+      let none : (b : Class) → list_any (λ x. is_pair g x LeftParen b) (g.pairs p) ≡ false = λ b. none_begins g (g.pairs p) LeftParen b n in
+      ap (λ w. among (g.first p) LeftParen || w) (none d ∙ sym (none e))
   free_starts end_of_text d e h = refl
   free_starts (act a) d e h = refl
   free_starts (a · b) d e h =

@@ -1,34 +1,34 @@
--- In the table of each standard the tests of items say the same at a parenthesis, whatever stands behind it.
+-- In the table of each dialect the tests of items say the same at a parenthesis, whatever stands behind it.
 use Rattle.std.proofs.Common.{◌≡◌, true, refl}
 use Rattle.std.specs.List.{list_all}
-use Rattle.renamed_tree_laws.specs.Below.tree_laws.Below.cs_base.declared.ws_units.Standard.{Standard}
+use Rattle.renamed_tree_laws.specs.Below.tree_laws.Below.c99_grammar.declared.dialects.Dialect.{Dialect}
 use Rattle.renamed_tree_laws.specs.Below.tree_laws.Below.c99_tree.declared.production.Production.{Production}
 use Rattle.renamed_tree_laws.specs.Below.tree_laws.Below.c99_tree.declared.production.Production.TheVariants.{TranslationUnit, External, ExtRest, ExtTail, FunBody, Declaration, DeclRest, InitDecl, Sassert, Specs, Main, Mod, Qual, Word, StructSpec, SuRest, Members, Member, MemRest, Mdecl, EnumSpec, EnRest, Enumerators, Enumerator, Declarator, Pointer, Direct, Suffix, Bound, Params, Param, Pdecl, Pdirect, TypeName, Adecl, Adirect, Init, InitList, InitItem, Designator, Expr, Assign, Asgop, Cond, Lor, Land, Bor, Bxor, Band, Equal, Relate, Shift, Add, Mul, Cast, CastRest, Unary, SizeRest, SizeLit, Primary, Post, Args, Block, BlockItem, Statement, Sub, ForInit}
 use Rattle.renamed_tree_laws.specs.Below.tree_laws.Below.c99_grammar.Standard.{grammar}
-use Rattle.renamed_tree_laws.proofs.Below.tree_laws.Below.c99_grammar.StandardLemmas.{both}
+use Rattle.renamed_tree_laws.proofs.Below.tree_laws.Below.c99_grammar.StandardLemmas.{by_dialect}
 use Rattle.reordered_text_laws.proofs.Free.{tests_free}
 
-module _ (std : Standard) where
+module _ (std : Dialect) where
   pub tests : (p : Production) → list_all (λ a. tests_free (grammar std) a.body) ((grammar std).table p) ≡ true
   tests TranslationUnit = refl
-  tests External = both (λ s. list_all (λ a. tests_free (grammar s) a.body) ((grammar s).table External) ≡ true) refl refl std
+  tests External = by_dialect (λ s. list_all (λ a. tests_free (grammar s) a.body) ((grammar s).table External) ≡ true) refl refl refl std
   tests ExtRest = refl
   tests ExtTail = refl
   tests FunBody = refl
-  tests Declaration = both (λ s. list_all (λ a. tests_free (grammar s) a.body) ((grammar s).table Declaration) ≡ true) refl refl std
+  tests Declaration = by_dialect (λ s. list_all (λ a. tests_free (grammar s) a.body) ((grammar s).table Declaration) ≡ true) refl refl refl std
   tests DeclRest = refl
   tests InitDecl = refl
-  tests Sassert = both (λ s. list_all (λ a. tests_free (grammar s) a.body) ((grammar s).table Sassert) ≡ true) refl refl std
+  tests Sassert = by_dialect (λ s. list_all (λ a. tests_free (grammar s) a.body) ((grammar s).table Sassert) ≡ true) refl refl refl std
   tests Specs = refl
   tests Main = refl
-  tests Mod = both (λ s. list_all (λ a. tests_free (grammar s) a.body) ((grammar s).table Mod) ≡ true) refl refl std
+  tests Mod = by_dialect (λ s. list_all (λ a. tests_free (grammar s) a.body) ((grammar s).table Mod) ≡ true) refl refl refl std
   tests Qual = refl
   tests Word = refl
   tests StructSpec = refl
   tests SuRest = refl
   tests Members = refl
-  tests Member = both (λ s. list_all (λ a. tests_free (grammar s) a.body) ((grammar s).table Member) ≡ true) refl refl std
-  tests MemRest = both (λ s. list_all (λ a. tests_free (grammar s) a.body) ((grammar s).table MemRest) ≡ true) refl refl std
+  tests Member = by_dialect (λ s. list_all (λ a. tests_free (grammar s) a.body) ((grammar s).table Member) ≡ true) refl refl refl std
+  tests MemRest = by_dialect (λ s. list_all (λ a. tests_free (grammar s) a.body) ((grammar s).table MemRest) ≡ true) refl refl refl std
   tests Mdecl = refl
   tests EnumSpec = refl
   tests EnRest = refl

@@ -3,7 +3,7 @@ use Rattle.std.proofs.Common.{ℕ, ◌+◌, ◌≡◌, Bool, true, false, ◌&&�
 use Rattle.std.specs.Prelude.{find}
 use Rattle.std.specs.Option.{option_map_or, option_or}
 use Rattle.std.proofs.lemmas.Bool.{false≢true, and_parts, or_parts}
-use Rattle.renamed_tree_laws.specs.Below.tree_laws.Below.cs_base.declared.ws_units.Standard.{Standard}
+use Rattle.renamed_tree_laws.specs.Below.tree_laws.Below.c99_grammar.declared.dialects.Dialect.{Dialect}
 use Rattle.renamed_tree_laws.specs.Below.tree_laws.Below.cs_base.Token.{Token}
 use Rattle.renamed_tree_laws.specs.Below.tree_laws.Below.c99_tree.Tree.{Forest, none, token, node}
 use Rattle.renamed_tree_laws.specs.Below.tree_laws.Below.c99_tree.declared.production.Label.{Label}
@@ -267,7 +267,7 @@ module _ (end : ℕ) where
     abbrev meets : List Token → ℕ → Entry → Bool
     meets toks i e = alike toks i e.name_at && is_open i e
 
-    typedef_up : (std : Standard) (i : ℕ) (es : List Entry) → used z i ≡ false → typedef_among std (fronted z) (up i) (up_entries es) ≡ typedef_among std z i es
+    typedef_up : (std : Dialect) (i : ℕ) (es : List Entry) → used z i ≡ false → typedef_among std (fronted z) (up i) (up_entries es) ≡ typedef_among std z i es
     typedef_up std i [] plain =
         ap (λ b. option_map_or (λ (e : Entry). e.typedef) (if b && is_open (up i) front_entry then Some front_entry else None) false) (other_way (spelling_at z i) plain)
     typedef_up std i (e ∷ es) plain =
@@ -283,14 +283,14 @@ module _ (end : ℕ) where
     if_same : (c x y : Bool) → x ≡ y → (if c then x else true) ≡ (if c then y else true)
     if_same c x y e = ap (λ v. if c then v else true) e
 
-    token_same : (std : Standard) (p : Production) (a k i : ℕ) (es : List Entry) → used z i ≡ false
+    token_same : (std : Dialect) (p : Production) (a k i : ℕ) (es : List Entry) → used z i ≡ false
         → token_agrees std (fronted z) p a k (up i) (up_entries es) ≡ token_agrees std z p a k i es
     token_same std Main a k i es h = if_same ((a == 4) && (k == 0)) _ _ (typedef_up std i es h)
     token_same std Primary a k i es h = if_same (a == 1) _ _ (ap not (typedef_up std i es h))
     token_same std Params a k i es h = if_same ((a == 1) && (k % 2 == 0)) _ _ (ap not (typedef_up std i es h))
     token_same std _ a k i es h = refl
 
-    module _ (std : Standard) (named : (k : ℕ) → is_identifier (base_at (grammar std) z k) ≡ true → used z k ≡ false) where
+    module _ (std : Dialect) (named : (k : ℕ) → is_identifier (base_at (grammar std) z k) ≡ true → used z k ≡ false) where
       node_same : (l : Label) (first : ℕ) (es : List Entry) → node_agrees std (fronted z) l (up first) (up_entries es) ≡ node_agrees std z l first es
       node_same l first es =
           ap (λ k. if is_at l Pdirect 2 then not (is_identifier (base_at (grammar std) (fronted z) k)) || not (typedef_among std (fronted z) k (up_entries es)) else true) (one_up first)

@@ -3,8 +3,8 @@ use Rattle.std.proofs.Common.{ℕ, zero, suc, ◌+◌, ◌*◌, ◌<◌, ◌≡�
 use Rattle.std.specs.Prelude.{Result}
 use Rattle.std.specs.List.{list_all}
 use Rattle.std.proofs.lemmas.Bool.{false≢true, lt-ltb}
-use Rattle.renamed_tree_laws.specs.Below.tree_laws.Below.cs_base.declared.ws_units.Standard.{Standard}
-use Rattle.renamed_tree_laws.specs.Below.tree_laws.Below.cs_base.declared.ws_units.Standard.TheVariants.{C99, C11}
+use Rattle.renamed_tree_laws.specs.Below.tree_laws.Below.c99_grammar.declared.dialects.Dialect.{Dialect}
+use Rattle.renamed_tree_laws.specs.Below.tree_laws.Below.c99_grammar.declared.dialects.Dialect.TheVariants.{C99, C11, Gnu}
 use Rattle.renamed_tree_laws.specs.Below.tree_laws.Below.cs_base.Token.{Token}
 use Rattle.renamed_tree_laws.specs.Below.tree_laws.Below.c99_tree.Tree.{Forest, none, token, node, Node, node_of, leaf, put}
 use Rattle.renamed_tree_laws.specs.Below.tree_laws.Below.c99_tree.declared.production.Label.{Label}
@@ -18,7 +18,7 @@ use Rattle.renamed_tree_laws.specs.Below.tree_laws.Below.c99_grammar.Items.{Item
 use Rattle.renamed_tree_laws.specs.Below.tree_laws.Below.c99_grammar.Spellings.{Spelled}
 use Rattle.renamed_tree_laws.specs.Below.tree_laws.Below.c99_grammar.Standard.{Grammar, grammar}
 use Rattle.renamed_tree_laws.specs.Below.tree_laws.Below.c99_grammar.TokenClasses.{base_class, spelled_class}
-use Rattle.renamed_tree_laws.proofs.Below.tree_laws.Below.c99_grammar.StandardLemmas.{both}
+use Rattle.renamed_tree_laws.proofs.Below.tree_laws.Below.c99_grammar.StandardLemmas.{by_dialect}
 use Rattle.renamed_tree_laws.specs.Below.tree_laws.Below.c99_read.State.{State, declaration, class_at, acted, opened, closed}
 use Rattle.renamed_tree_laws.specs.Below.tree_laws.Below.c99_read.Reading.{Goal, produce, repeat, Step, Stop, syntax, and_then, take_one, at_end, may, step, read_within, at_first, tree_of, read_of}
 use Rattle.renamed_tree_laws.specs.Below.tree_laws.Below.c99_read.Sound.{IsSound}
@@ -32,27 +32,27 @@ use Rattle.reordered_text_laws.proofs.FrontTrees.{behind_four, dirty-raised, dir
 use Rattle.reordered_text_laws.proofs.FrontGrows.{grown_end}
 use Rattle.reordered_text_laws.proofs.FrontSteps.{acts, is_main_one, Beside, Went, Sim, sim_then, end_same, turns_same}
 
-module _ (std : Standard) where
+module _ (std : Dialect) where
   quiet : (p : Production) → list_all (λ a. not (is_main_one p && acts a.body)) ((grammar std).table p) ≡ true
   quiet TranslationUnit = refl
-  quiet External = both (λ s. list_all (λ a. not (is_main_one External && acts a.body)) ((grammar s).table External) ≡ true) refl refl std
+  quiet External = by_dialect (λ s. list_all (λ a. not (is_main_one External && acts a.body)) ((grammar s).table External) ≡ true) refl refl refl std
   quiet ExtRest = refl
   quiet ExtTail = refl
   quiet FunBody = refl
-  quiet Declaration = both (λ s. list_all (λ a. not (is_main_one Declaration && acts a.body)) ((grammar s).table Declaration) ≡ true) refl refl std
+  quiet Declaration = by_dialect (λ s. list_all (λ a. not (is_main_one Declaration && acts a.body)) ((grammar s).table Declaration) ≡ true) refl refl refl std
   quiet DeclRest = refl
   quiet InitDecl = refl
-  quiet Sassert = both (λ s. list_all (λ a. not (is_main_one Sassert && acts a.body)) ((grammar s).table Sassert) ≡ true) refl refl std
+  quiet Sassert = by_dialect (λ s. list_all (λ a. not (is_main_one Sassert && acts a.body)) ((grammar s).table Sassert) ≡ true) refl refl refl std
   quiet Specs = refl
   quiet Main = refl
-  quiet Mod = both (λ s. list_all (λ a. not (is_main_one Mod && acts a.body)) ((grammar s).table Mod) ≡ true) refl refl std
+  quiet Mod = by_dialect (λ s. list_all (λ a. not (is_main_one Mod && acts a.body)) ((grammar s).table Mod) ≡ true) refl refl refl std
   quiet Qual = refl
   quiet Word = refl
   quiet StructSpec = refl
   quiet SuRest = refl
   quiet Members = refl
-  quiet Member = both (λ s. list_all (λ a. not (is_main_one Member && acts a.body)) ((grammar s).table Member) ≡ true) refl refl std
-  quiet MemRest = both (λ s. list_all (λ a. not (is_main_one MemRest && acts a.body)) ((grammar s).table MemRest) ≡ true) refl refl std
+  quiet Member = by_dialect (λ s. list_all (λ a. not (is_main_one Member && acts a.body)) ((grammar s).table Member) ≡ true) refl refl refl std
+  quiet MemRest = by_dialect (λ s. list_all (λ a. not (is_main_one MemRest && acts a.body)) ((grammar s).table MemRest) ≡ true) refl refl refl std
   quiet Mdecl = refl
   quiet EnumSpec = refl
   quiet EnRest = refl
@@ -108,7 +108,7 @@ abbrev at_unit : List Token → State
 at_unit toks = opened TranslationUnit 1 (at_first toks)
 
 -- the state behind it
-abbrev behind_front : Standard → List Token → State
+abbrev behind_front : Dialect → List Token → State
 behind_front s z = record {
   toks = fronted z;
   at = 4;
@@ -159,7 +159,7 @@ less_further n = suc (suc (suc (up (up n))))
 
 -- ---- .. in parts
 
-module _ (r : Standard) (w : ℕ) (z : List Token) where
+module _ (r : Dialect) (w : ℕ) (z : List Token) where
   abbrev reads : ℕ → Goal → State → Step
   reads n goal s = read_within (grammar r) n 0 goal s
 
@@ -513,6 +513,75 @@ specs_11 z n = specs_read C11 3 z (parts_11 z) n
 rest_11 : (z : List Token) (n : ℕ) → read_within (grammar C11) (less_further n) 0 (produce ExtRest) (behind_specs 3 z) ≡ Ok (behind_rest 3 z)
 rest_11 z n = rest_read C11 3 z (parts_11 z) n
 
+specs_part_gnu : (z : List Token) → PartOf_specs Gnu 3 z
+unfolding read_within class_at acted opened base_class spelled_class
+specs_part_gnu z = λ n. refl
+
+word_typedef_gnu : (z : List Token) → PartOf_word_typedef Gnu 3 z
+unfolding read_within class_at acted opened base_class spelled_class
+word_typedef_gnu z = λ n. refl
+
+is_typedef_gnu : (z : List Token) → PartOf_is_typedef Gnu 3 z
+unfolding read_within class_at acted opened base_class spelled_class
+is_typedef_gnu z = refl
+
+no_more_gnu : (z : List Token) → PartOf_no_more Gnu 3 z
+unfolding read_within class_at acted opened base_class spelled_class
+no_more_gnu z = λ n. refl
+
+main_gnu : (z : List Token) → PartOf_main Gnu 3 z
+unfolding read_within class_at acted opened base_class spelled_class
+main_gnu z = λ n. refl
+
+word_int_gnu : (z : List Token) → PartOf_word_int Gnu 3 z
+unfolding read_within class_at acted opened base_class spelled_class
+word_int_gnu z = λ n. refl
+
+is_int_gnu : (z : List Token) → PartOf_is_int Gnu 3 z
+unfolding read_within class_at acted opened base_class spelled_class
+is_int_gnu z = refl
+
+no_word_gnu : (z : List Token) → PartOf_no_word Gnu 3 z
+unfolding read_within class_at acted opened base_class spelled_class
+no_word_gnu z = λ n. refl
+
+rest_part_gnu : (z : List Token) → PartOf_rest Gnu 3 z
+unfolding read_within class_at acted opened base_class spelled_class
+rest_part_gnu z = λ n. refl
+
+declarator_gnu : (z : List Token) → PartOf_declarator Gnu 3 z
+unfolding read_within class_at acted opened base_class spelled_class
+declarator_gnu z = λ n. refl
+
+direct_gnu : (z : List Token) → PartOf_direct Gnu 3 z
+unfolding read_within class_at acted opened base_class spelled_class
+direct_gnu z = λ n. refl
+
+is_name_gnu : (z : List Token) → PartOf_is_name Gnu 3 z
+unfolding read_within class_at acted opened base_class spelled_class
+is_name_gnu z = refl
+
+no_suffix_gnu : (z : List Token) → PartOf_no_suffix Gnu 3 z
+unfolding read_within class_at acted opened base_class spelled_class
+no_suffix_gnu z = λ n. refl
+
+tail_gnu : (z : List Token) → PartOf_tail Gnu 3 z
+unfolding read_within class_at acted opened base_class spelled_class
+tail_gnu z = λ n. refl
+
+is_end_gnu : (z : List Token) → PartOf_is_end Gnu 3 z
+unfolding read_within class_at acted opened base_class spelled_class
+is_end_gnu z = refl
+
+parts_gnu : (z : List Token) → Parts Gnu 3 z
+parts_gnu z = record { specs = specs_part_gnu z; word_typedef = word_typedef_gnu z; is_typedef = is_typedef_gnu z; no_more = no_more_gnu z; main = main_gnu z; word_int = word_int_gnu z; is_int = is_int_gnu z; no_word = no_word_gnu z; rest = rest_part_gnu z; declarator = declarator_gnu z; direct = direct_gnu z; is_name = is_name_gnu z; no_suffix = no_suffix_gnu z; tail = tail_gnu z; is_end = is_end_gnu z }
+
+specs_gnu : (z : List Token) (n : ℕ) → read_within (grammar Gnu) (less_further n) 0 (produce Specs) (in_front 3 z) ≡ Ok (behind_specs 3 z)
+specs_gnu z n = specs_read Gnu 3 z (parts_gnu z) n
+
+rest_gnu : (z : List Token) (n : ℕ) → read_within (grammar Gnu) (less_further n) 0 (produce ExtRest) (behind_specs 3 z) ≡ Ok (behind_rest 3 z)
+rest_gnu z n = rest_read Gnu 3 z (parts_gnu z) n
+
 definition_99 : (z : List Token) (n : ℕ) → read_within (grammar C99) (suc n) 0 (produce External) (at_unit (fronted z))
     ≡ and_then (and_then (read_within (grammar C99) n 0 (produce Specs) (in_front 2 z)) (read_within (grammar C99) n 0 (produce ExtRest))) (λ s'. Ok (closed External (at_unit (fronted z)) s'))
 unfolding read_within class_at opened base_class spelled_class
@@ -522,6 +591,11 @@ definition_11 : (z : List Token) (n : ℕ) → read_within (grammar C11) (suc n)
     ≡ and_then (and_then (read_within (grammar C11) n 0 (produce Specs) (in_front 3 z)) (read_within (grammar C11) n 0 (produce ExtRest))) (λ s'. Ok (closed External (at_unit (fronted z)) s'))
 unfolding read_within class_at opened base_class spelled_class
 definition_11 z n = refl
+
+definition_gnu : (z : List Token) (n : ℕ) → read_within (grammar Gnu) (suc n) 0 (produce External) (at_unit (fronted z))
+    ≡ and_then (and_then (read_within (grammar Gnu) n 0 (produce Specs) (in_front 3 z)) (read_within (grammar Gnu) n 0 (produce ExtRest))) (λ s'. Ok (closed External (at_unit (fronted z)) s'))
+unfolding read_within class_at opened base_class spelled_class
+definition_gnu z n = refl
 
 done_99 : (z : List Token) (r q : Step) → r ≡ Ok (behind_specs 2 z) → q ≡ Ok (behind_rest 2 z) → (f : State → Step) → f (behind_specs 2 z) ≡ q
     → and_then (and_then r f) (λ s'. Ok (closed External (at_unit (fronted z)) s')) ≡ Ok (behind_front C99 z)
@@ -533,13 +607,20 @@ done_11 : (z : List Token) (r q : Step) → r ≡ Ok (behind_specs 3 z) → q �
 unfolding closed opened
 done_11 z r q e k f h = ap (λ x. and_then (and_then x f) (λ s'. Ok (closed External (at_unit (fronted z)) s'))) e ∙ ap (λ x. and_then x (λ s'. Ok (closed External (at_unit (fronted z)) s'))) (h ∙ k)
 
-front_read : (s : Standard) (z : List Token) (n : ℕ) → read_within (grammar s) (further n) 0 (produce External) (at_unit (fronted z)) ≡ Ok (behind_front s z)
+done_gnu : (z : List Token) (r q : Step) → r ≡ Ok (behind_specs 3 z) → q ≡ Ok (behind_rest 3 z) → (f : State → Step) → f (behind_specs 3 z) ≡ q
+    → and_then (and_then r f) (λ s'. Ok (closed External (at_unit (fronted z)) s')) ≡ Ok (behind_front Gnu z)
+unfolding closed opened
+done_gnu z r q e k f h = ap (λ x. and_then (and_then x f) (λ s'. Ok (closed External (at_unit (fronted z)) s'))) e ∙ ap (λ x. and_then x (λ s'. Ok (closed External (at_unit (fronted z)) s'))) (h ∙ k)
+
+front_read : (s : Dialect) (z : List Token) (n : ℕ) → read_within (grammar s) (further n) 0 (produce External) (at_unit (fronted z)) ≡ Ok (behind_front s z)
 front_read s z n =
-    both (λ r. read_within (grammar r) (further n) 0 (produce External) (at_unit (fronted z)) ≡ Ok (behind_front r z))
+    by_dialect (λ r. read_within (grammar r) (further n) 0 (produce External) (at_unit (fronted z)) ≡ Ok (behind_front r z))
     (definition_99 z (less_further n) ∙ done_99 z (read_within (grammar C99) (less_further n) 0 (produce Specs) (in_front 2 z)) (read_within (grammar C99) (less_further n) 0 (produce ExtRest) (behind_specs 2 z))
     (specs_99 z n) (rest_99 z n) (read_within (grammar C99) (less_further n) 0 (produce ExtRest)) refl)
     (definition_11 z (less_further n) ∙ done_11 z (read_within (grammar C11) (less_further n) 0 (produce Specs) (in_front 3 z)) (read_within (grammar C11) (less_further n) 0 (produce ExtRest) (behind_specs 3 z))
     (specs_11 z n) (rest_11 z n) (read_within (grammar C11) (less_further n) 0 (produce ExtRest)) refl)
+    (definition_gnu z (less_further n) ∙ done_gnu z (read_within (grammar Gnu) (less_further n) 0 (produce Specs) (in_front 3 z)) (read_within (grammar Gnu) (less_further n) 0 (produce ExtRest) (behind_specs 3 z))
+    (specs_gnu z n) (rest_gnu z n) (read_within (grammar Gnu) (less_further n) 0 (produce ExtRest)) refl)
     s
 
 -- ---- Trees
@@ -571,7 +652,7 @@ lowered-raised none = refl
 lowered-raised (token i rest) = ap (token i) (lowered-raised rest)
 lowered-raised (node l first under rest) = ap (λ f. node l first f (lowered (raised rest))) (lowered-raised under) ∙ ap (node l first under) (lowered-raised rest)
 
-behind_is : (s : Standard) (f h : Forest) → joined (front_forest s) (raised f) ≡ joined (front_forest s) (raised h) → f ≡ h
+behind_is : (s : Dialect) (f h : Forest) → joined (front_forest s) (raised f) ≡ joined (front_forest s) (raised h) → f ≡ h
 behind_is s f h e = sym (lowered-raised f) ∙ (ap (λ k. lowered (rest_of k)) e ∙ lowered-raised h)
 
 or_right : (x y : Bool) → y ≡ true → (x || y) ≡ true
@@ -593,7 +674,7 @@ ends_so t t' e = by (t.at == length t.toks) refl e
 
 -- ---- The text
 
-module _ (s : Standard) (words : List Spelled) (z : List Token) (fits : (k : ℕ) → Fits z (grammar s) (with_words words (grammar s)) k) where
+module _ (s : Dialect) (words : List Spelled) (z : List Token) (fits : (k : ℕ) → Fits z (grammar s) (with_words words (grammar s)) k) where
   abbrev g : Grammar
   g = grammar s
 
@@ -633,11 +714,11 @@ module _ (s : Standard) (words : List Spelled) (z : List Token) (fits : (k : ℕ
 
   begun_unit : may g own unit (at_first (fronted z)) ≡ true
   unfolding class_at base_class spelled_class
-  begun_unit = both (λ r. may (grammar r) own unit (at_first (fronted z)) ≡ true) refl refl s
+  begun_unit = by_dialect (λ r. may (grammar r) own unit (at_first (fronted z)) ≡ true) refl refl refl s
 
   begun_first : may g own (part External) (at_unit (fronted z)) ≡ true
   unfolding class_at base_class spelled_class opened
-  begun_first = both (λ r. may (grammar r) own (part External) (at_unit (fronted z)) ≡ true) refl refl s
+  begun_first = by_dialect (λ r. may (grammar r) own (part External) (at_unit (fronted z)) ≡ true) refl refl refl s
 
   if_yes : (c : Bool) (r r' : Step) → c ≡ true → (if c then r else r') ≡ r
   if_yes c r r' e = ap (λ x. if x then r else r') e

@@ -107,7 +107,7 @@ module _ (g : Grammar) (ending : Production → Bool) (tells : Tells g ending) (
         → Kin g class_of (closes g ending item ≡ true) t.left zs
         → item_read fuel depth item xs ≡ Some t → item_read fuel depth item (tokens_of t.read ++ zs) ≡ Some (taken t.read zs)
     local_item (one classes) depth xs t zs h kin e = local_one classes xs t zs e
-    local_item (part p) depth xs t zs h kin e = locals depth (produce p) xs t zs h kin e
+    local_item (part p) depth xs t zs h kin e = locals depth (produce p) xs t zs (and_parts (never_empty p) _ h).0 kin e
     local_item end_of_text depth xs t zs h kin e = absurd (false≢true h)
     local_item (act a) depth xs t zs h kin e = still (item_read fuel depth (act a)) xs t zs e refl
     local_item (a · b) depth xs t zs h kin e =

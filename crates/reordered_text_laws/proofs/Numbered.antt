@@ -4,7 +4,7 @@ use Rattle.std.proofs.lemmas.Bool.{false≢true}
 use Rattle.std.proofs.lemmas.List.{length-map, get_or-map, get_or_default, same_lists}
 use Rattle.std.proofs.lemmas.List.Sorted.{length_permutation}
 use Rattle.std.proofs.Math.ListN as listn
-use Rattle.renamed_tree_laws.specs.Below.tree_laws.Below.cs_base.declared.ws_units.Standard.{Standard}
+use Rattle.renamed_tree_laws.specs.Below.tree_laws.Below.c99_grammar.declared.dialects.Dialect.{Dialect}
 use Rattle.renamed_tree_laws.specs.Below.tree_laws.Below.c99_tree.Tree.{Forest, none, token, node, Node, node_of}
 use Rattle.renamed_tree_laws.specs.Below.tree_laws.Below.c99_tree.declared.production.Label.{Label}
 use Rattle.renamed_tree_laws.specs.Below.tree_laws.Below.c99_tree.declared.production.Production.TheVariants.{TranslationUnit}
@@ -250,7 +250,7 @@ nothing_mapped : (m : ℕ → ℕ) (xs : List ℕ) → map m xs ≡ [] → xs �
 nothing_mapped m [] e = refl
 nothing_mapped m (x ∷ xs) e = absurd (false≢true (sym (ap has_any e)))
 
-module _ (s : Standard) (class_of : ℕ → Class) (n count : ℕ) (order : List ℕ) (lists : ℕ → Bool) (tree : Node) (is_order : IsOrder n order) (all : AreOf n (cut_in lists tree)) where
+module _ (s : Dialect) (class_of : ℕ → Class) (n count : ℕ) (order : List ℕ) (lists : ℕ → Bool) (tree : Node) (is_order : IsOrder n order) (all : AreOf n (cut_in lists tree)) where
   abbrev place : ℕ → ℕ
   place k = get_or (arranged order (cut_in lists tree) (numbers_from 0 count)) k k
 

@@ -2,7 +2,7 @@
 use Rattle.std.proofs.Common.{ℕ, suc, zero, ◌+◌, ◌≡◌, ◌⊎◌, Bool, true, false, ◌&&◌, ◌||◌, if◌then◌else◌, List, [], ◌∷◌, ◌++◌, length, Option, None, Some, nat_lt, refl, sym, ap, subst, ◌∙◌, inr, arith}
 use Rattle.std.proofs.lemmas.Bool.{false≢true, and_parts}
 use Rattle.std.proofs.lemmas.List.{append-nil}
-use Rattle.renamed_tree_laws.specs.Below.tree_laws.Below.cs_base.declared.ws_units.Standard.{Standard}
+use Rattle.renamed_tree_laws.specs.Below.tree_laws.Below.c99_grammar.declared.dialects.Dialect.{Dialect}
 use Rattle.renamed_tree_laws.specs.Below.tree_laws.Below.c99_tree.Tree.{Forest, none, token, node, node_of}
 use Rattle.renamed_tree_laws.specs.Below.tree_laws.Below.c99_tree.declared.production.Label.{Label}
 use Rattle.renamed_tree_laws.specs.Below.tree_laws.Below.c99_tree.declared.production.Production.{Production}
@@ -13,7 +13,7 @@ use Rattle.renamed_tree_laws.specs.Below.tree_laws.Below.c99_grammar.Classes.{am
 use Rattle.renamed_tree_laws.specs.Below.tree_laws.Below.c99_grammar.Items.{Item, one, part, end_of_text, act, ◌·◌, choice, maybe, many, deep, own, tok, name, Test, next_two, is, is_not, Alternative}
 use Rattle.renamed_tree_laws.specs.Below.tree_laws.Below.c99_grammar.Standard.{grammar}
 use Rattle.renamed_tree_laws.specs.Below.tree_laws.Below.c99_grammar.Starting.{production_starts}
-use Rattle.renamed_tree_laws.proofs.Below.tree_laws.Below.c99_grammar.StandardLemmas.{both}
+use Rattle.renamed_tree_laws.proofs.Below.tree_laws.Below.c99_grammar.StandardLemmas.{by_dialect}
 use Rattle.renamed_tree_laws.specs.Below.tree_laws.Below.c99_read.Reading.{Goal, produce, repeat, deepest}
 use Rattle.renamed_tree_laws.specs.Below.tree_laws.Below.c99_read.State.{finished}
 use Rattle.renamed_tree_laws.specs.Below.tree_laws.Below.c99_read.Sound.{never_empty}
@@ -67,7 +67,7 @@ flat _ = true
 both_empty : (f h : Forest) → nodes_in f ≡ [] → nodes_in h ≡ [] → nodes_in (joined f h) ≡ []
 both_empty f h e e' = nodes-joined f h ∙ (ap (λ ns. ns ++ nodes_in h) e ∙ e')
 
-module _ (s : Standard) (class_of : ℕ → Class) where
+module _ (s : Dialect) (class_of : ℕ → Class) where
   abbrev reads : ℕ → ℕ → Goal → List ℕ → Option Taken
   reads = read_by_classes (grammar s) class_of
 
@@ -151,9 +151,9 @@ module _ (s : Standard) (class_of : ℕ → Class) where
 
   plain_not : (c d : Class) → among (LeftBracket ∷ LeftParen ∷ Star ∷ Identifier ∷ []) c ≡ true → production_starts (grammar s) Params c d ≡ true
       → among (Identifier ∷ []) c ≡ false → ⊥
-  plain_not LeftBracket d e h k = false≢true (both (λ r. false ≡ production_starts (grammar r) Params LeftBracket d) refl refl s ∙ h)
-  plain_not LeftParen d e h k = false≢true (both (λ r. false ≡ production_starts (grammar r) Params LeftParen d) refl refl s ∙ h)
-  plain_not Star d e h k = false≢true (both (λ r. false ≡ production_starts (grammar r) Params Star d) refl refl s ∙ h)
+  plain_not LeftBracket d e h k = false≢true (by_dialect (λ r. false ≡ production_starts (grammar r) Params LeftBracket d) refl refl refl s ∙ h)
+  plain_not LeftParen d e h k = false≢true (by_dialect (λ r. false ≡ production_starts (grammar r) Params LeftParen d) refl refl refl s ∙ h)
+  plain_not Star d e h k = false≢true (by_dialect (λ r. false ≡ production_starts (grammar r) Params Star d) refl refl refl s ∙ h)
   plain_not Identifier d e h k = false≢true (sym k)
   plain_not _ d e h k = false≢true e
 

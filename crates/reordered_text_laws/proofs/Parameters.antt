@@ -2,7 +2,7 @@
 use Rattle.std.proofs.Common.{ℕ, suc, zero, ◌≡◌, Bool, true, false, ◌&&◌, not, List, [], ◌∷◌, ◌++◌, Option, None, Some, refl, sym, ap, subst, ◌∙◌, inl, inr}
 use Rattle.std.proofs.lemmas.Bool.{false≢true}
 use Rattle.std.proofs.lemmas.List.{append_assoc}
-use Rattle.renamed_tree_laws.specs.Below.tree_laws.Below.cs_base.declared.ws_units.Standard.{Standard}
+use Rattle.renamed_tree_laws.specs.Below.tree_laws.Below.c99_grammar.declared.dialects.Dialect.{Dialect}
 use Rattle.renamed_tree_laws.specs.Below.tree_laws.Below.c99_tree.Tree.{Forest, none, token, node}
 use Rattle.renamed_tree_laws.specs.Below.tree_laws.Below.c99_tree.declared.production.Production.TheVariants.{Params, Param}
 use Rattle.renamed_tree_laws.specs.Below.tree_laws.Below.c99_grammar.declared.classes.Class.{Class}
@@ -11,7 +11,7 @@ use Rattle.renamed_tree_laws.specs.Below.tree_laws.Below.c99_grammar.Classes.{am
 use Rattle.renamed_tree_laws.specs.Below.tree_laws.Below.c99_grammar.Items.{Item, part, act, ◌·◌, maybe, many, own, tok, name, Test, next_two, is, is_not}
 use Rattle.renamed_tree_laws.specs.Below.tree_laws.Below.c99_grammar.Standard.{grammar}
 use Rattle.renamed_tree_laws.specs.Below.tree_laws.Below.c99_grammar.Starting.{production_starts}
-use Rattle.renamed_tree_laws.proofs.Below.tree_laws.Below.c99_grammar.StandardLemmas.{both}
+use Rattle.renamed_tree_laws.proofs.Below.tree_laws.Below.c99_grammar.StandardLemmas.{by_dialect}
 use Rattle.renamed_tree_laws.specs.Below.tree_laws.Below.c99_read.Reading.{Goal, produce}
 use Rattle.reordered_text_laws.specs.ByClasses.{joined, tokens_of, Taken, taken, then_read, child_of, as_child, here, behind, may_read, read_one, read_item, read_by_classes}
 use Rattle.reordered_text_laws.specs.Lists.{Others, others_of, listed_with, AreCommas, IsTail, EndsItem}
@@ -36,17 +36,17 @@ no_case true f = absurd (f refl)
 no_case false f = refl
 
 -- a parameter begins neither with `...` nor with an identifier
-no_ellipsis : (s : Standard) (c d : Class) → production_starts (grammar s) Param c d ≡ true → among (Ellipsis ∷ []) c ≡ false
+no_ellipsis : (s : Dialect) (c d : Class) → production_starts (grammar s) Param c d ≡ true → among (Ellipsis ∷ []) c ≡ false
 no_ellipsis s c d h =
     no_case (among (Ellipsis ∷ []) c)
-    (λ e. false≢true (both (λ r. false ≡ production_starts (grammar r) Param Ellipsis d) refl refl s ∙ (ap (λ x. production_starts (grammar s) Param x d) (sym (ellipsis_is c e)) ∙ h)))
+    (λ e. false≢true (by_dialect (λ r. false ≡ production_starts (grammar r) Param Ellipsis d) refl refl refl s ∙ (ap (λ x. production_starts (grammar s) Param x d) (sym (ellipsis_is c e)) ∙ h)))
 
-no_identifier : (s : Standard) (c d : Class) → production_starts (grammar s) Param c d ≡ true → among (Identifier ∷ []) c ≡ false
+no_identifier : (s : Dialect) (c d : Class) → production_starts (grammar s) Param c d ≡ true → among (Identifier ∷ []) c ≡ false
 no_identifier s c d h =
     no_case (among (Identifier ∷ []) c)
-    (λ e. false≢true (both (λ r. false ≡ production_starts (grammar r) Param Identifier d) refl refl s ∙ (ap (λ x. production_starts (grammar s) Param x d) (sym (identifier_is c e)) ∙ h)))
+    (λ e. false≢true (by_dialect (λ r. false ≡ production_starts (grammar r) Param Identifier d) refl refl refl s ∙ (ap (λ x. production_starts (grammar s) Param x d) (sym (identifier_is c e)) ∙ h)))
 
-module _ (s : Standard) (class_of : ℕ → Class) where
+module _ (s : Dialect) (class_of : ℕ → Class) where
   abbrev reads : ℕ → ℕ → Goal → List ℕ → Option Taken
   reads = read_by_classes (grammar s) class_of
 

@@ -1,6 +1,6 @@
 -- Worked rows: texts as the classes of their tokens, read in two orders.
 use Rattle.std.proofs.Common.{ℕ, ◌≡◌, ◌||◌, Bool, false, ◌==◌, List, [], ◌∷◌, length, get_or, Option, None, Some, refl}
-use Rattle.renamed_tree_laws.specs.Below.tree_laws.Below.cs_base.declared.ws_units.Standard.TheVariants.{C99}
+use Rattle.renamed_tree_laws.specs.Below.tree_laws.Below.c99_grammar.declared.dialects.Dialect.TheVariants.{C99}
 use Rattle.renamed_tree_laws.specs.Below.tree_laws.Below.c99_tree.Tree.{Forest, none}
 use Rattle.renamed_tree_laws.specs.Below.tree_laws.Below.c99_tree.declared.production.Production.TheVariants.{TranslationUnit}
 use Rattle.renamed_tree_laws.specs.Below.tree_laws.Below.c99_grammar.declared.classes.Class.{Class}

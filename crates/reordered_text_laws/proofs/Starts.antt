@@ -1,7 +1,7 @@
 -- What is read for a production starts it.
 use Rattle.std.proofs.Common.{ℕ, suc, zero, ◌+◌, ◌≡◌, Bool, true, false, ◌||◌, List, [], ◌∷◌, Option, Some, refl, ap, ◌∙◌}
 use Rattle.std.specs.List.{list_any}
-use Rattle.renamed_tree_laws.specs.Below.tree_laws.Below.cs_base.declared.ws_units.Standard.{Standard}
+use Rattle.renamed_tree_laws.specs.Below.tree_laws.Below.c99_grammar.declared.dialects.Dialect.{Dialect}
 use Rattle.renamed_tree_laws.specs.Below.tree_laws.Below.c99_tree.declared.production.Production.{Production}
 use Rattle.renamed_tree_laws.specs.Below.tree_laws.Below.c99_grammar.declared.classes.Class.{Class}
 use Rattle.renamed_tree_laws.specs.Below.tree_laws.Below.c99_grammar.Items.{Alternative}
@@ -26,7 +26,7 @@ module _ (g : Grammar) (class_of : ℕ → Class) (below : ℕ → Goal → List
       (λ c e'. or_right (may_read g class_of a.test a.body xs) _ (any_first p more depth (n + 1) xs t e'))
       e
 
-pub starts_so : (s : Standard) (class_of : ℕ → Class) (fuel depth : ℕ) (p : Production) (xs : List ℕ) (t : Taken)
+pub starts_so : (s : Dialect) (class_of : ℕ → Class) (fuel depth : ℕ) (p : Production) (xs : List ℕ) (t : Taken)
     → read_by_classes (grammar s) class_of fuel depth (produce p) xs ≡ Some t
     → production_starts (grammar s) p (here (grammar s) class_of xs) (behind (grammar s) class_of xs) ≡ true
 unfolding read_by_classes

@@ -1,13 +1,15 @@
 -- What may stand behind an item of a list: its tests are the same before a comma and before the parenthesis that ends the list.
 use Rattle.std.proofs.Common.{ℕ, ◌≡◌, Bool, true, false, ◌&&◌, ◌||◌, not, if◌then◌else◌, List, [], ◌∷◌, ◌++◌, refl, sym, ap, ◌∙◌, inl, inr, ◌⊎◌}
+use Rattle.std.specs.List.{list_all, list_any}
 use Rattle.std.proofs.lemmas.Bool.{false≢true, and_parts, or_parts, not-true}
 use Rattle.renamed_tree_laws.specs.Below.tree_laws.Below.c99_tree.declared.production.Production.{Production}
 use Rattle.renamed_tree_laws.specs.Below.tree_laws.Below.c99_grammar.declared.classes.Class.{Class}
-use Rattle.renamed_tree_laws.specs.Below.tree_laws.Below.c99_grammar.declared.classes.Class.TheVariants.{Comma, RightParen, End, Colon}
+use Rattle.renamed_tree_laws.specs.Below.tree_laws.Below.c99_grammar.declared.classes.Class.TheVariants.{Comma, RightParen, End}
 use Rattle.renamed_tree_laws.specs.Below.tree_laws.Below.c99_grammar.Classes.{among}
-use Rattle.renamed_tree_laws.specs.Below.tree_laws.Below.c99_grammar.Items.{Item, one, part, end_of_text, act, ◌·◌, choice, maybe, many, deep, Test, own, otherwise, next, next_two, Alternative}
+use Rattle.renamed_tree_laws.specs.Below.tree_laws.Below.c99_grammar.Items.{Item, one, part, end_of_text, act, ◌·◌, choice, maybe, many, deep, Test, own, otherwise, next, next_two, Ask, Alternative}
 use Rattle.renamed_tree_laws.specs.Below.tree_laws.Below.c99_grammar.Standard.{Grammar}
-use Rattle.renamed_tree_laws.specs.Below.tree_laws.Below.c99_grammar.Starting.{is_passed, asks, holds, starts}
+use Rattle.renamed_tree_laws.specs.Below.tree_laws.Below.c99_grammar.Starting.{is_passed, asks, holds, starts, is_pair}
+use Rattle.renamed_tree_laws.proofs.Below.tree_laws.Below.c99_grammar.PairLemmas.{none_begins, pairs_same}
 use Rattle.renamed_tree_laws.specs.Below.tree_laws.Below.c99_read.Sound.{never_empty, has_token}
 use Rattle.reordered_text_laws.specs.ByClasses.{here, behind, may_read}
 use Rattle.reordered_text_laws.specs.Lists.{EndsItem}
@@ -31,6 +33,10 @@ module _ (g : Grammar) where
   test_alike (next_two a b) = same_bool (asks g b Comma) (asks g b RightParen)
   test_alike _ = true
 
+  -- .. and so does what is asked behind a class with which a production may start
+  abbrev pub pair_alike : Class × Ask → Bool
+  pair_alike x = same_bool (asks g x.1 Comma) (asks g x.1 RightParen)
+
   -- .. in the item, which has no end of the text
   abbrev pub item_alike : Item → Bool
   item_alike (a · b) = item_alike a && item_alike b
@@ -38,7 +44,7 @@ module _ (g : Grammar) where
   item_alike (maybe a) = item_alike a
   item_alike (many t a) = test_alike t && item_alike a
   item_alike (deep a) = item_alike a
-  item_alike (part p) = never_empty p
+  item_alike (part p) = never_empty p && list_all pair_alike (g.pairs p)
   item_alike end_of_text = false
   item_alike _ = true
 
@@ -57,7 +63,10 @@ module _ (g : Grammar) where
 
   starts_alike : (a : Item) (c : Class) → item_alike a ≡ true → starts g a c Comma ≡ starts g a c RightParen
   starts_alike (one classes) c h = refl
-  starts_alike (part p) c h = refl
+  starts_alike (part p) c h =
+      ap (λ v. among (g.first p) c || v)
+      (pairs_same g pair_alike c RightParen c Comma (λ x k. ap (λ v. among (x.0 ∷ []) c && v) (same_is (asks g x.1 Comma) (asks g x.1 RightParen) k))
+      (g.pairs p) (and_parts (never_empty p) (list_all pair_alike (g.pairs p)) h).1)
   starts_alike end_of_text c h = refl
   starts_alike (act a) c h = refl
   starts_alike (a · b) c h =
@@ -90,7 +99,7 @@ module _ (g : Grammar) where
 
   abbrev pub could_start : Item → Class → Bool
   could_start (one classes) c = among classes c
-  could_start (part p) c = among (g.first p) c || among (g.labels p) c
+  could_start (part p) c = among (g.first p) c || list_any (λ x. among (x.0 ∷ []) c) (g.pairs p)
   could_start end_of_text c = among (End ∷ []) c
   could_start (act a) c = false
   could_start (a · b) c = if is_passed a then could_start a c || could_start b c else could_start a c
@@ -120,8 +129,8 @@ module _ (g : Grammar) where
   starts_no : (a : Item) (c d : Class) → could_start a c ≡ false → starts g a c d ≡ false
   starts_no (one classes) c d h = h
   starts_no (part p) c d h =
-      let parts = or_parts (among (g.first p) c) (among (g.labels p) c) h in
-      ap (λ v. v || (among (g.labels p) c && among (Colon ∷ []) d)) parts.0 ∙ no_and (among (g.labels p) c) (among (Colon ∷ []) d) parts.1
+      let parts = or_parts (among (g.first p) c) (list_any (λ x. among (x.0 ∷ []) c) (g.pairs p)) h in
+      ap (λ v. v || list_any (λ x. is_pair g x c d) (g.pairs p)) parts.0 ∙ none_begins g (g.pairs p) c d parts.1
   starts_no end_of_text c d h = h
   starts_no (act a) c d h = refl
   starts_no (a · b) c d h = both_no (is_passed a) _ (could_start a c) _ (could_start b c) (starts_no a c d) (starts_no b c d) h

@@ -1,12 +1,12 @@
--- In the table of each standard items of lists end before a comma and before the parenthesis that ends the list alike.
+-- In the table of each dialect items of lists end before a comma and before the parenthesis that ends the list alike.
 use Rattle.std.proofs.Common.{◌≡◌, Bool, true, false, refl}
 use Rattle.std.specs.List.{list_all}
 use Rattle.std.proofs.lemmas.Bool.{false≢true}
-use Rattle.renamed_tree_laws.specs.Below.tree_laws.Below.cs_base.declared.ws_units.Standard.{Standard}
+use Rattle.renamed_tree_laws.specs.Below.tree_laws.Below.c99_grammar.declared.dialects.Dialect.{Dialect}
 use Rattle.renamed_tree_laws.specs.Below.tree_laws.Below.c99_tree.declared.production.Production.{Production}
 use Rattle.renamed_tree_laws.specs.Below.tree_laws.Below.c99_tree.declared.production.Production.TheVariants.{TranslationUnit, External, ExtRest, ExtTail, FunBody, Declaration, DeclRest, InitDecl, Sassert, Specs, Main, Mod, Qual, Word, StructSpec, SuRest, Members, Member, MemRest, Mdecl, EnumSpec, EnRest, Enumerators, Enumerator, Declarator, Pointer, Direct, Suffix, Bound, Params, Param, Pdecl, Pdirect, TypeName, Adecl, Adirect, Init, InitList, InitItem, Designator, Expr, Assign, Asgop, Cond, Lor, Land, Bor, Bxor, Band, Equal, Relate, Shift, Add, Mul, Cast, CastRest, Unary, SizeRest, SizeLit, Primary, Post, Args, Block, BlockItem, Statement, Sub, ForInit}
 use Rattle.renamed_tree_laws.specs.Below.tree_laws.Below.c99_grammar.Standard.{grammar}
-use Rattle.renamed_tree_laws.proofs.Below.tree_laws.Below.c99_grammar.StandardLemmas.{both}
+use Rattle.renamed_tree_laws.proofs.Below.tree_laws.Below.c99_grammar.StandardLemmas.{by_dialect}
 use Rattle.renamed_tree_laws.proofs.Below.tree_laws.Below.c99_read.C99Sound.{grammar-sound}
 use Rattle.renamed_tree_laws.specs.Below.tree_laws.Below.c99_read.Sound.{never_empty}
 use Rattle.reordered_text_laws.proofs.Stops.{alternative_alike, closes}
@@ -49,27 +49,27 @@ ending Pointer = true
 ending Suffix = true
 ending _ = false
 
-module _ (std : Standard) where
+module _ (std : Dialect) where
   alike : (p : Production) → never_empty p ≡ true → list_all (alternative_alike (grammar std)) ((grammar std).table p) ≡ true
   alike TranslationUnit e = absurd (false≢true e)
-  alike External e = both (λ s. list_all (alternative_alike (grammar s)) ((grammar s).table External) ≡ true) refl refl std
+  alike External e = by_dialect (λ s. list_all (alternative_alike (grammar s)) ((grammar s).table External) ≡ true) refl refl refl std
   alike ExtRest e = refl
   alike ExtTail e = refl
   alike FunBody e = refl
-  alike Declaration e = both (λ s. list_all (alternative_alike (grammar s)) ((grammar s).table Declaration) ≡ true) refl refl std
+  alike Declaration e = by_dialect (λ s. list_all (alternative_alike (grammar s)) ((grammar s).table Declaration) ≡ true) refl refl refl std
   alike DeclRest e = refl
   alike InitDecl e = refl
-  alike Sassert e = both (λ s. list_all (alternative_alike (grammar s)) ((grammar s).table Sassert) ≡ true) refl refl std
+  alike Sassert e = by_dialect (λ s. list_all (alternative_alike (grammar s)) ((grammar s).table Sassert) ≡ true) refl refl refl std
   alike Specs e = refl
   alike Main e = refl
-  alike Mod e = both (λ s. list_all (alternative_alike (grammar s)) ((grammar s).table Mod) ≡ true) refl refl std
+  alike Mod e = by_dialect (λ s. list_all (alternative_alike (grammar s)) ((grammar s).table Mod) ≡ true) refl refl refl std
   alike Qual e = refl
   alike Word e = refl
   alike StructSpec e = refl
   alike SuRest e = refl
   alike Members e = refl
-  alike Member e = both (λ s. list_all (alternative_alike (grammar s)) ((grammar s).table Member) ≡ true) refl refl std
-  alike MemRest e = both (λ s. list_all (alternative_alike (grammar s)) ((grammar s).table MemRest) ≡ true) refl refl std
+  alike Member e = by_dialect (λ s. list_all (alternative_alike (grammar s)) ((grammar s).table Member) ≡ true) refl refl refl std
+  alike MemRest e = by_dialect (λ s. list_all (alternative_alike (grammar s)) ((grammar s).table MemRest) ≡ true) refl refl refl std
   alike Mdecl e = refl
   alike EnumSpec e = refl
   alike EnRest e = refl
@@ -105,10 +105,10 @@ module _ (std : Standard) where
   alike Shift e = refl
   alike Add e = refl
   alike Mul e = refl
-  alike Cast e = both (λ s. list_all (alternative_alike (grammar s)) ((grammar s).table Cast) ≡ true) refl refl std
+  alike Cast e = by_dialect (λ s. list_all (alternative_alike (grammar s)) ((grammar s).table Cast) ≡ true) refl refl refl std
   alike CastRest e = refl
   alike Unary e = refl
-  alike SizeRest e = both (λ s. list_all (alternative_alike (grammar s)) ((grammar s).table SizeRest) ≡ true) refl refl std
+  alike SizeRest e = by_dialect (λ s. list_all (alternative_alike (grammar s)) ((grammar s).table SizeRest) ≡ true) refl refl refl std
   alike SizeLit e = refl
   alike Primary e = refl
   alike Post e = refl
@@ -120,39 +120,39 @@ module _ (std : Standard) where
   alike ForInit e = refl
 
   closing : (p : Production) → ending p ≡ true → list_all (λ a. closes (grammar std) ending a.body) ((grammar std).table p) ≡ true
-  closing Specs e = both (λ s. list_all (λ a. closes (grammar s) ending a.body) ((grammar s).table Specs) ≡ true) refl refl std
-  closing Main e = both (λ s. list_all (λ a. closes (grammar s) ending a.body) ((grammar s).table Main) ≡ true) refl refl std
-  closing Mod e = both (λ s. list_all (λ a. closes (grammar s) ending a.body) ((grammar s).table Mod) ≡ true) refl refl std
-  closing Qual e = both (λ s. list_all (λ a. closes (grammar s) ending a.body) ((grammar s).table Qual) ≡ true) refl refl std
-  closing Word e = both (λ s. list_all (λ a. closes (grammar s) ending a.body) ((grammar s).table Word) ≡ true) refl refl std
-  closing StructSpec e = both (λ s. list_all (λ a. closes (grammar s) ending a.body) ((grammar s).table StructSpec) ≡ true) refl refl std
-  closing SuRest e = both (λ s. list_all (λ a. closes (grammar s) ending a.body) ((grammar s).table SuRest) ≡ true) refl refl std
-  closing EnumSpec e = both (λ s. list_all (λ a. closes (grammar s) ending a.body) ((grammar s).table EnumSpec) ≡ true) refl refl std
-  closing EnRest e = both (λ s. list_all (λ a. closes (grammar s) ending a.body) ((grammar s).table EnRest) ≡ true) refl refl std
-  closing Pointer e = both (λ s. list_all (λ a. closes (grammar s) ending a.body) ((grammar s).table Pointer) ≡ true) refl refl std
-  closing Suffix e = both (λ s. list_all (λ a. closes (grammar s) ending a.body) ((grammar s).table Suffix) ≡ true) refl refl std
-  closing Param e = both (λ s. list_all (λ a. closes (grammar s) ending a.body) ((grammar s).table Param) ≡ true) refl refl std
-  closing Pdecl e = both (λ s. list_all (λ a. closes (grammar s) ending a.body) ((grammar s).table Pdecl) ≡ true) refl refl std
-  closing Pdirect e = both (λ s. list_all (λ a. closes (grammar s) ending a.body) ((grammar s).table Pdirect) ≡ true) refl refl std
-  closing Assign e = both (λ s. list_all (λ a. closes (grammar s) ending a.body) ((grammar s).table Assign) ≡ true) refl refl std
-  closing Cond e = both (λ s. list_all (λ a. closes (grammar s) ending a.body) ((grammar s).table Cond) ≡ true) refl refl std
-  closing Lor e = both (λ s. list_all (λ a. closes (grammar s) ending a.body) ((grammar s).table Lor) ≡ true) refl refl std
-  closing Land e = both (λ s. list_all (λ a. closes (grammar s) ending a.body) ((grammar s).table Land) ≡ true) refl refl std
-  closing Bor e = both (λ s. list_all (λ a. closes (grammar s) ending a.body) ((grammar s).table Bor) ≡ true) refl refl std
-  closing Bxor e = both (λ s. list_all (λ a. closes (grammar s) ending a.body) ((grammar s).table Bxor) ≡ true) refl refl std
-  closing Band e = both (λ s. list_all (λ a. closes (grammar s) ending a.body) ((grammar s).table Band) ≡ true) refl refl std
-  closing Equal e = both (λ s. list_all (λ a. closes (grammar s) ending a.body) ((grammar s).table Equal) ≡ true) refl refl std
-  closing Relate e = both (λ s. list_all (λ a. closes (grammar s) ending a.body) ((grammar s).table Relate) ≡ true) refl refl std
-  closing Shift e = both (λ s. list_all (λ a. closes (grammar s) ending a.body) ((grammar s).table Shift) ≡ true) refl refl std
-  closing Add e = both (λ s. list_all (λ a. closes (grammar s) ending a.body) ((grammar s).table Add) ≡ true) refl refl std
-  closing Mul e = both (λ s. list_all (λ a. closes (grammar s) ending a.body) ((grammar s).table Mul) ≡ true) refl refl std
-  closing Cast e = both (λ s. list_all (λ a. closes (grammar s) ending a.body) ((grammar s).table Cast) ≡ true) refl refl std
-  closing CastRest e = both (λ s. list_all (λ a. closes (grammar s) ending a.body) ((grammar s).table CastRest) ≡ true) refl refl std
-  closing Unary e = both (λ s. list_all (λ a. closes (grammar s) ending a.body) ((grammar s).table Unary) ≡ true) refl refl std
-  closing SizeRest e = both (λ s. list_all (λ a. closes (grammar s) ending a.body) ((grammar s).table SizeRest) ≡ true) refl refl std
-  closing SizeLit e = both (λ s. list_all (λ a. closes (grammar s) ending a.body) ((grammar s).table SizeLit) ≡ true) refl refl std
-  closing Primary e = both (λ s. list_all (λ a. closes (grammar s) ending a.body) ((grammar s).table Primary) ≡ true) refl refl std
-  closing Post e = both (λ s. list_all (λ a. closes (grammar s) ending a.body) ((grammar s).table Post) ≡ true) refl refl std
+  closing Specs e = by_dialect (λ s. list_all (λ a. closes (grammar s) ending a.body) ((grammar s).table Specs) ≡ true) refl refl refl std
+  closing Main e = by_dialect (λ s. list_all (λ a. closes (grammar s) ending a.body) ((grammar s).table Main) ≡ true) refl refl refl std
+  closing Mod e = by_dialect (λ s. list_all (λ a. closes (grammar s) ending a.body) ((grammar s).table Mod) ≡ true) refl refl refl std
+  closing Qual e = by_dialect (λ s. list_all (λ a. closes (grammar s) ending a.body) ((grammar s).table Qual) ≡ true) refl refl refl std
+  closing Word e = by_dialect (λ s. list_all (λ a. closes (grammar s) ending a.body) ((grammar s).table Word) ≡ true) refl refl refl std
+  closing StructSpec e = by_dialect (λ s. list_all (λ a. closes (grammar s) ending a.body) ((grammar s).table StructSpec) ≡ true) refl refl refl std
+  closing SuRest e = by_dialect (λ s. list_all (λ a. closes (grammar s) ending a.body) ((grammar s).table SuRest) ≡ true) refl refl refl std
+  closing EnumSpec e = by_dialect (λ s. list_all (λ a. closes (grammar s) ending a.body) ((grammar s).table EnumSpec) ≡ true) refl refl refl std
+  closing EnRest e = by_dialect (λ s. list_all (λ a. closes (grammar s) ending a.body) ((grammar s).table EnRest) ≡ true) refl refl refl std
+  closing Pointer e = by_dialect (λ s. list_all (λ a. closes (grammar s) ending a.body) ((grammar s).table Pointer) ≡ true) refl refl refl std
+  closing Suffix e = by_dialect (λ s. list_all (λ a. closes (grammar s) ending a.body) ((grammar s).table Suffix) ≡ true) refl refl refl std
+  closing Param e = by_dialect (λ s. list_all (λ a. closes (grammar s) ending a.body) ((grammar s).table Param) ≡ true) refl refl refl std
+  closing Pdecl e = by_dialect (λ s. list_all (λ a. closes (grammar s) ending a.body) ((grammar s).table Pdecl) ≡ true) refl refl refl std
+  closing Pdirect e = by_dialect (λ s. list_all (λ a. closes (grammar s) ending a.body) ((grammar s).table Pdirect) ≡ true) refl refl refl std
+  closing Assign e = by_dialect (λ s. list_all (λ a. closes (grammar s) ending a.body) ((grammar s).table Assign) ≡ true) refl refl refl std
+  closing Cond e = by_dialect (λ s. list_all (λ a. closes (grammar s) ending a.body) ((grammar s).table Cond) ≡ true) refl refl refl std
+  closing Lor e = by_dialect (λ s. list_all (λ a. closes (grammar s) ending a.body) ((grammar s).table Lor) ≡ true) refl refl refl std
+  closing Land e = by_dialect (λ s. list_all (λ a. closes (grammar s) ending a.body) ((grammar s).table Land) ≡ true) refl refl refl std
+  closing Bor e = by_dialect (λ s. list_all (λ a. closes (grammar s) ending a.body) ((grammar s).table Bor) ≡ true) refl refl refl std
+  closing Bxor e = by_dialect (λ s. list_all (λ a. closes (grammar s) ending a.body) ((grammar s).table Bxor) ≡ true) refl refl refl std
+  closing Band e = by_dialect (λ s. list_all (λ a. closes (grammar s) ending a.body) ((grammar s).table Band) ≡ true) refl refl refl std
+  closing Equal e = by_dialect (λ s. list_all (λ a. closes (grammar s) ending a.body) ((grammar s).table Equal) ≡ true) refl refl refl std
+  closing Relate e = by_dialect (λ s. list_all (λ a. closes (grammar s) ending a.body) ((grammar s).table Relate) ≡ true) refl refl refl std
+  closing Shift e = by_dialect (λ s. list_all (λ a. closes (grammar s) ending a.body) ((grammar s).table Shift) ≡ true) refl refl refl std
+  closing Add e = by_dialect (λ s. list_all (λ a. closes (grammar s) ending a.body) ((grammar s).table Add) ≡ true) refl refl refl std
+  closing Mul e = by_dialect (λ s. list_all (λ a. closes (grammar s) ending a.body) ((grammar s).table Mul) ≡ true) refl refl refl std
+  closing Cast e = by_dialect (λ s. list_all (λ a. closes (grammar s) ending a.body) ((grammar s).table Cast) ≡ true) refl refl refl std
+  closing CastRest e = by_dialect (λ s. list_all (λ a. closes (grammar s) ending a.body) ((grammar s).table CastRest) ≡ true) refl refl refl std
+  closing Unary e = by_dialect (λ s. list_all (λ a. closes (grammar s) ending a.body) ((grammar s).table Unary) ≡ true) refl refl refl std
+  closing SizeRest e = by_dialect (λ s. list_all (λ a. closes (grammar s) ending a.body) ((grammar s).table SizeRest) ≡ true) refl refl refl std
+  closing SizeLit e = by_dialect (λ s. list_all (λ a. closes (grammar s) ending a.body) ((grammar s).table SizeLit) ≡ true) refl refl refl std
+  closing Primary e = by_dialect (λ s. list_all (λ a. closes (grammar s) ending a.body) ((grammar s).table Primary) ≡ true) refl refl refl std
+  closing Post e = by_dialect (λ s. list_all (λ a. closes (grammar s) ending a.body) ((grammar s).table Post) ≡ true) refl refl refl std
   closing _ e = absurd (false≢true e)
 
   pub tells : Tells (grammar std) ending

@@ -2,7 +2,7 @@
 use Rattle.std.proofs.Common.{ℕ, suc, zero, ◌≡◌, ◌⊎◌, Bool, true, false, List, [], ◌∷◌, ◌++◌, length, Option, None, Some, refl, sym, ap, subst, ◌∙◌, inl, inr}
 use Rattle.std.proofs.lemmas.Bool.{false≢true}
 use Rattle.std.proofs.lemmas.List.{append-nil}
-use Rattle.renamed_tree_laws.specs.Below.tree_laws.Below.cs_base.declared.ws_units.Standard.{Standard}
+use Rattle.renamed_tree_laws.specs.Below.tree_laws.Below.c99_grammar.declared.dialects.Dialect.{Dialect}
 use Rattle.renamed_tree_laws.specs.Below.tree_laws.Below.c99_tree.Tree.{Forest, none, node}
 use Rattle.renamed_tree_laws.specs.Below.tree_laws.Below.c99_tree.declared.production.Label.{Label}
 use Rattle.renamed_tree_laws.specs.Below.tree_laws.Below.c99_tree.declared.production.Production.{Production}
@@ -30,7 +30,7 @@ use Rattle.reordered_text_laws.proofs.Near.{shut, Near, Beside}
 use Rattle.reordered_text_laws.proofs.Anew.{Sometime, new, anew_item}
 use Rattle.reordered_text_laws.proofs.AnewTables.{goods}
 
-module _ (s : Standard) (class_of : ℕ → Class) where
+module _ (s : Dialect) (class_of : ℕ → Class) where
   abbrev g : Grammar
   g = grammar s
 

@@ -1,6 +1,6 @@
 -- What is true of items that change places, as to how they are read.
 use Rattle.std.specs.Prelude.{ℕ, ◌≡◌, ◌⊎◌, true, false, List, [], ◌∷◌, ◌++◌, map, Option, None, Some, IsPermutation}
-use Rattle.renamed_tree_laws.specs.Below.tree_laws.Below.cs_base.declared.ws_units.Standard.{Standard}
+use Rattle.renamed_tree_laws.specs.Below.tree_laws.Below.c99_grammar.declared.dialects.Dialect.{Dialect}
 use Rattle.renamed_tree_laws.specs.Below.tree_laws.Below.c99_tree.Tree.{Forest, none, token, node}
 use Rattle.renamed_tree_laws.specs.Below.tree_laws.Below.c99_tree.declared.production.Production.{Production}
 use Rattle.renamed_tree_laws.specs.Below.tree_laws.Below.c99_tree.declared.production.Production.TheVariants.{Assign, Param, Args, Params, Post}
@@ -17,7 +17,7 @@ use Rattle.reordered_text_laws.specs.Lists.{Others, listed, listed_with, items_i
 -- stands.
 abbrev pub PartsAreReadAnywhere : Type 0
 PartsAreReadAnywhere =
-    (s : Standard) (class_of : ℕ → Class) (fuel depth : ℕ) (p : Production) (xs zs : List ℕ) (t : Taken) → never_empty p ≡ true
+    (s : Dialect) (class_of : ℕ → Class) (fuel depth : ℕ) (p : Production) (xs zs : List ℕ) (t : Taken) → never_empty p ≡ true
     → read_by_classes (grammar s) class_of fuel depth (produce p) xs ≡ Some t
     → here (grammar s) class_of t.left ≡ here (grammar s) class_of zs → behind (grammar s) class_of t.left ≡ behind (grammar s) class_of zs
     → (xs ≡ tokens_of t.read ++ t.left) × (read_by_classes (grammar s) class_of fuel depth (produce p) (tokens_of t.read ++ zs) ≡ Some (taken t.read zs))
@@ -26,7 +26,7 @@ PartsAreReadAnywhere =
 -- begin with one of these, wherever it stands.
 abbrev pub ReadsAnywhere : Production → Type 0
 ReadsAnywhere item =
-    (s : Standard) (class_of : ℕ → Class) (fuel depth : ℕ) (xs zs : List ℕ) (t : Taken) → read_by_classes (grammar s) class_of fuel depth (produce item) xs ≡ Some t
+    (s : Dialect) (class_of : ℕ → Class) (fuel depth : ℕ) (xs zs : List ℕ) (t : Taken) → read_by_classes (grammar s) class_of fuel depth (produce item) xs ≡ Some t
     → EndsItem (here (grammar s) class_of t.left) → EndsItem (here (grammar s) class_of zs)
     → (xs ≡ tokens_of t.read ++ t.left) × (read_by_classes (grammar s) class_of fuel depth (produce item) (tokens_of t.read ++ zs) ≡ Some (taken t.read zs))
 
@@ -37,7 +37,7 @@ ItemsAreReadAnywhere = ReadsAnywhere Assign × ReadsAnywhere Param
 -- the same arguments in any other order, with any commas between them, are read to the list of these.
 abbrev pub ArgumentsAreReadInAnyOrder : Type 0
 ArgumentsAreReadInAnyOrder =
-    (s : Standard) (class_of : ℕ → Class) (fuel depth : ℕ) (xs : List ℕ) (t : Taken) → read_by_classes (grammar s) class_of fuel depth (produce Args) xs ≡ Some t
+    (s : Dialect) (class_of : ℕ → Class) (fuel depth : ℕ) (xs : List ℕ) (t : Taken) → read_by_classes (grammar s) class_of fuel depth (produce Args) xs ≡ Some t
     → here (grammar s) class_of t.left ≡ RightParen
     → (first : Forest) × ((more : Others) × ((t.read ≡ child_of Args 1 (listed first more)) × (AreCommas class_of more
     × ((other : Forest) (others : Others) (zs : List ℕ) → IsPermutation (items_in first more) (items_in other others) → AreCommas class_of others
@@ -48,7 +48,7 @@ ArgumentsAreReadInAnyOrder =
 -- stay there.
 abbrev pub ParametersAreReadInAnyOrder : Type 0
 ParametersAreReadInAnyOrder =
-    (s : Standard) (class_of : ℕ → Class) (fuel depth : ℕ) (xs : List ℕ) (t : Taken) → read_by_classes (grammar s) class_of fuel depth (produce Params) xs ≡ Some t
+    (s : Dialect) (class_of : ℕ → Class) (fuel depth : ℕ) (xs : List ℕ) (t : Taken) → read_by_classes (grammar s) class_of fuel depth (produce Params) xs ≡ Some t
     → here (grammar s) class_of t.left ≡ RightParen → among (Identifier ∷ []) (here (grammar s) class_of xs) ≡ false
     → (first : Forest) × ((more : Others) × ((tail : Forest) × ((t.read ≡ child_of Params 2 (listed_with first more tail)) × ((AreCommas class_of more × IsTail class_of tail)
     × ((other : Forest) (others : Others) (zs : List ℕ) → IsPermutation (items_in first more) (items_in other others) → AreCommas class_of others
@@ -66,7 +66,7 @@ enclosed opening list closing = token opening (joined list (token closing none))
 -- order too.
 abbrev pub CallsAreReadInAnyOrder : Type 0
 CallsAreReadInAnyOrder =
-    (s : Standard) (class_of : ℕ → Class) (fuel depth : ℕ) (xs : List ℕ) (t : Taken) → read_by_classes (grammar s) class_of fuel depth (produce Post) xs ≡ Some t
+    (s : Dialect) (class_of : ℕ → Class) (fuel depth : ℕ) (xs : List ℕ) (t : Taken) → read_by_classes (grammar s) class_of fuel depth (produce Post) xs ≡ Some t
     → here (grammar s) class_of xs ≡ LeftParen
     → ((opening : ℕ) × ((closing : ℕ) × (t.read ≡ child_of Post 2 (enclosed opening none closing))))
     ⊎ ((opening : ℕ) × ((closing : ℕ) × ((first : Forest) × ((more : Others) × ((t.read ≡ child_of Post 2 (enclosed opening (child_of Args 1 (listed first more)) closing))

@@ -5,19 +5,19 @@ use Rattle.std.specs.Option.{option_map_or}
 use Rattle.std.specs.Str.{bytes_eq}
 use Rattle.std.proofs.lemmas.Bool.{and_parts, or_parts, not-true, false≢true, cond-false}
 use Rattle.tree_laws.specs.Below.cs_base.Token.{Token}
-use Rattle.tree_laws.specs.Below.cs_base.declared.ws_units.Standard.TheVariants.{C99, C11}
+use Rattle.tree_laws.specs.Below.c99_grammar.declared.dialects.Dialect.TheVariants.{C99, C11}
 use Rattle.tree_laws.specs.Below.cs_base.declared.tokens.Kind.{Kind}
 use Rattle.tree_laws.specs.Below.cs_base.declared.tokens.Kind.TheVariants as kind
 use Rattle.tree_laws.specs.Below.c99_tree.declared.production.Production.{Production}
 use Rattle.tree_laws.specs.Below.c99_tree.declared.production.Production.TheVariants.{TranslationUnit, External, ExtRest, ExtTail, FunBody, Declaration, DeclRest, InitDecl, Sassert, Specs, Main, Mod, Qual, Word, StructSpec, SuRest, Members, Member, MemRest, Mdecl, EnumSpec, EnRest, Enumerators, Enumerator, Declarator, Pointer, Direct, Suffix, Bound, Params, Param, Pdecl, Pdirect, TypeName, Adecl, Adirect, Init, InitList, InitItem, Designator, Expr, Assign, Asgop, Cond, Lor, Land, Bor, Bxor, Band, Equal, Relate, Shift, Add, Mul, Cast, CastRest, Unary, SizeRest, SizeLit, Primary, Post, Args, Block, BlockItem, Statement, Sub, ForInit}
 use Rattle.tree_laws.specs.Below.c99_grammar.declared.classes.Class.{Class}
-use Rattle.tree_laws.specs.Below.c99_grammar.declared.classes.Class.TheVariants.{Noreturn, StaticAssert, Identifier, TypedefName, Colon, End, NoClass}
+use Rattle.tree_laws.specs.Below.c99_grammar.declared.classes.Class.TheVariants.{Noreturn, StaticAssert, Identifier, TypedefName, End, NoClass}
 use Rattle.tree_laws.specs.Below.c99_grammar.Classes.{is_same, among}
 use Rattle.tree_laws.specs.Below.c99_grammar.Spellings.{Spelled, keywords, keywords_added, punctuators}
 use Rattle.tree_laws.specs.Below.c99_grammar.Standard.{Grammar, grammar}
 use Rattle.tree_laws.specs.Below.c99_grammar.First.{first, shared, added, by_c11}
 use Rattle.tree_laws.specs.Below.c99_grammar.Items.{Item, one, part, end_of_text, act, ◌·◌, choice, maybe, many, deep, Test, own, otherwise, next, next_two, Ask, is, is_not, begins, either, Action, declare, name}
-use Rattle.tree_laws.specs.Below.c99_grammar.Starting.{is_passed, production_starts, asks, holds, starts}
+use Rattle.tree_laws.specs.Below.c99_grammar.Starting.{is_passed, production_starts, asks, holds, starts, is_pair}
 use Rattle.tree_laws.specs.Below.c99_grammar.TokenClasses.{spelled_class, class_of_kind, base_class}
 use Rattle.tree_laws.proofs.Below.c99_grammar.AmongLemmas.{among-append, among-none, among-all}
 use Rattle.tree_laws.specs.Below.c99_read.State.{State, base_at, is_identifier, is_typedef_at, class_at}
@@ -249,8 +249,15 @@ module _ (c d : Class) (f : fine c ≡ true) (g : fine d ≡ true) where
       let parts = and_parts (asks_fits a) (asks_fits k) h in
       ap (λ x. x && asks c99 k d) (asks_same a c f parts.0) ∙ ap (λ y. asks c11 a c && y) (asks_same k d g parts.1)
 
+  -- what is asked behind a class is the same by both
+  pairs_alike : (p : Production) → list_any (λ x. is_pair c99 x c d) (c99.pairs p) ≡ list_any (λ x. is_pair c11 x c d) (c11.pairs p)
+  pairs_alike Statement = refl
+  pairs_alike Sub = refl
+  pairs_alike _ = refl
+
   production_same : (p : Production) → is_new p ≡ false → production_starts c99 p c d ≡ production_starts c11 p c d
-  production_same p n = ap (λ b. b || (among (c99.labels p) c && among (Colon ∷ []) d)) (first_same c f p n)
+  production_same p n =
+      ap (λ b. b || list_any (λ x. is_pair c99 x c d) (c99.pairs p)) (first_same c f p n) ∙ ap (λ b. among (c11.first p) c || b) (pairs_alike p)
 
   starts_same : (lines names : Bool) (holder : Production) (item : Item) → fits lines names holder item ≡ true → starts c99 item c d ≡ starts c11 item c d
   starts_same lines names holder (one classes) h = refl

@@ -2,7 +2,7 @@
 use Rattle.std.proofs.Common.{◌≡◌, ℕ, ◌<◌, inl, inr, Bool, true, false, ◌&&◌, ◌||◌, not, if◌then◌else◌, refl, sym, ap, subst, ◌∙◌, arith}
 use Rattle.std.specs.Prelude.{◌==◌}
 use Rattle.std.proofs.lemmas.Bool.{false≢true, and_parts, and_from}
-use Rattle.reordered_list_laws.specs.Below.tree_laws.Below.cs_base.declared.ws_units.Standard.{Standard}
+use Rattle.reordered_list_laws.specs.Below.tree_laws.Below.c99_grammar.declared.dialects.Dialect.{Dialect}
 use Rattle.reordered_list_laws.specs.Below.tree_laws.Below.c99_tree.Tree.{Forest, none, token, node}
 use Rattle.reordered_list_laws.specs.Below.tree_laws.Below.c99_tree.declared.production.Label.{Label}
 use Rattle.reordered_list_laws.specs.Below.tree_laws.Below.c99_tree.declared.production.Production.{Production}
@@ -46,7 +46,7 @@ types_is l named other =
     ap (λ b. b || (is_node l Params && not (l.alternative == 1))) no_args
     ∙ (ap (λ b. false || (b && not (l.alternative == 1))) here ∙ ap (λ b. false || (true && not b)) second)
 
-module _ (s : Standard) where
+module _ (s : Dialect) where
   pub call_bracketed : (l : Label) (under : Forest) → is_at l Post 2 ≡ true → IsOfAlternative (grammar s) l under → EachNode (IsOfAlternative (grammar s)) under → is_bracketed under ≡ true
   call_bracketed l under at x each = by (call_pair s l under x at)
     where

@@ -1,8 +1,9 @@
 -- The lists of the functions in each unit can get the order, where nothing stands against it.
 use Rattle.std.proofs.Common.{◌≡◌, ℕ, false, List, length}
 use Rattle.reordered_list_laws.specs.Below.tree_laws.Below.cs_base.declared.positions.Part.{Part}
-use Rattle.reordered_list_laws.specs.Below.tree_laws.Below.cs_base.declared.ws_units.Standard.{Standard}
+use Rattle.reordered_list_laws.specs.Below.tree_laws.Below.c99_grammar.declared.dialects.Dialect.{Dialect}
 use Rattle.reordered_list_laws.specs.Below.tree_laws.Below.c99_tree.Tree.{Forest, none, token, node}
+use Rattle.reordered_list_laws.specs.Below.tree_laws.Below.c99_grammar.Dialects.{dialect}
 use Rattle.reordered_list_laws.specs.Below.tree_laws.Below.c99_grammar.Standard.{grammar}
 use Rattle.reordered_list_laws.specs.Below.tree_laws.Below.c_types.declared.lists.List.{List as NameList}
 use Rattle.reordered_list_laws.specs.Below.tree_laws.Below.c_types.Parameters.{parameters_in}
@@ -29,7 +30,7 @@ use Rattle.template_meaning_laws.proofs.UnitCut.{clear, read, declared, called, 
 use Rattle.template_meaning_laws.proofs.UnitReorder.{unit_items, unit_apart, unit_bracketed, unit_fresh, unit_outer}
 use Rattle.template_meaning_laws.proofs.Units.{IsReadSo}
 
-anonymous_begin : (s : Standard) (f : Forest) → EachNode (IsOfAlternative (grammar s)) f → AnonymousBegin f
+anonymous_begin : (s : Dialect) (f : Forest) → EachNode (IsOfAlternative (grammar s)) f → AnonymousBegin f
 anonymous_begin s none each = tt
 anonymous_begin s (token i rest) each = anonymous_begin s rest each
 anonymous_begin s (node m first under rest) each = (rest_begins s m under each.0, anonymous_begin s under each.1, anonymous_begin s rest each.2)
@@ -45,8 +46,8 @@ module _ (in_order : ReadParameterListsAreInOrder) (are_told : IdentifiersAreTol
   pub all_told : AreTold u.bound.names u.text.toks false false (outermost 0).label u.tree.under
   all_told =
       let r = is_read in
-      are_told u.text.toks u.tree u.bound (trees_of_texts u.standard u.text.toks u.tree r.reads)
-      (anonymous_begin u.standard u.tree.under (each_below u.standard u.text.toks u.tree r.reads)) r.binds
+      are_told u.text.toks u.tree u.bound (trees_of_texts (dialect u.standard) u.text.toks u.tree r.reads)
+      (anonymous_begin (dialect u.standard) u.tree.under (each_below (dialect u.standard) u.text.toks u.tree r.reads)) r.binds
 
   can_reorder : CanReorder order (begins_list members u) u.text.toks u.tree u.bound
   can_reorder =
@@ -59,12 +60,12 @@ module _ (in_order : ReadParameterListsAreInOrder) (are_told : IdentifiersAreTol
         first = no_list_is_first in_order source ws a members order h u i;
         many = cut.order_is;
         each = cut.each;
-        formed = trees_have_forms u.standard u.text.toks u.tree (begins_list members u) r.reads
-            (unit_bracketed u.standard members u a (length order) r.reads r.binds in_order of_declarators of_calls is_clear all_told)
-            (unit_outer u.standard members u a (length order) r.reads r.binds in_order of_declarators of_calls is_clear all_told);
-        items = unit_items u.standard members u a (length order) r.reads r.binds in_order of_declarators of_calls is_clear all_told;
-        apart = unit_apart u.standard members u a (length order) r.reads r.binds in_order of_declarators of_calls is_clear all_told;
-        fresh = unit_fresh u.standard members u a (length order) r.reads r.binds in_order of_declarators of_calls is_clear all_told;
+        formed = trees_have_forms (dialect u.standard) u.text.toks u.tree (begins_list members u) r.reads
+            (unit_bracketed (dialect u.standard) members u a (length order) r.reads r.binds in_order of_declarators of_calls is_clear all_told)
+            (unit_outer (dialect u.standard) members u a (length order) r.reads r.binds in_order of_declarators of_calls is_clear all_told);
+        items = unit_items (dialect u.standard) members u a (length order) r.reads r.binds in_order of_declarators of_calls is_clear all_told;
+        apart = unit_apart (dialect u.standard) members u a (length order) r.reads r.binds in_order of_declarators of_calls is_clear all_told;
+        fresh = unit_fresh (dialect u.standard) members u a (length order) r.reads r.binds in_order of_declarators of_calls is_clear all_told;
       }
 
 pub units_can_reorder : ReadParameterListsAreInOrder → IdentifiersAreTold → UnitsCanReorder

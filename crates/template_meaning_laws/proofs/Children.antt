@@ -4,7 +4,7 @@ use Rattle.std.specs.Prelude.{slice_get, ◌==◌}
 use Rattle.std.specs.List.{list_all}
 use Rattle.std.proofs.lemmas.Bool.{false≢true, and_parts, and_from, or_left, or_right}
 use Rattle.std.proofs.lemmas.Option.{same_Some}
-use Rattle.reordered_list_laws.specs.Below.tree_laws.Below.cs_base.declared.ws_units.Standard.{Standard}
+use Rattle.reordered_list_laws.specs.Below.tree_laws.Below.c99_grammar.declared.dialects.Dialect.{Dialect}
 use Rattle.reordered_list_laws.specs.Below.tree_laws.Below.cs_base.Token.{Token}
 use Rattle.reordered_list_laws.specs.Below.tree_laws.Below.c99_tree.Tree.{Forest, none, token, node, Node, leaf, inner, put, lone, collapsed}
 use Rattle.reordered_list_laws.specs.Below.tree_laws.Below.c99_tree.declared.production.Label.{Label}
@@ -380,5 +380,5 @@ children_of_alternatives s toks tree e =
     tree_each (grammar s) toks (whole (grammar s) 0 (produce TranslationUnit) (at_first toks)) tree (whole_adds (grammar s) (inner_at s) toks) e
 
 -- .. and of each below the unit
-pub each_below : (s : Standard) (toks : List Token) (tree : Node) → read_of (grammar s) toks ≡ Ok tree → EachNode (IsOfAlternative (grammar s)) tree.under
+pub each_below : (s : Dialect) (toks : List Token) (tree : Node) → read_of (grammar s) toks ≡ Ok tree → EachNode (IsOfAlternative (grammar s)) tree.under
 each_below s toks tree e = let whole_ = (children_of_alternatives s toks tree e).1 in whole_.1

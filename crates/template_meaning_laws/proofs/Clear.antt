@@ -12,6 +12,7 @@ use Rattle.reordered_list_laws.specs.Below.tree_laws.Below.c_types.Declarations.
 use Rattle.reordered_list_laws.specs.Below.tree_laws.Below.c_types.declared.lists.List.{List as NameList}
 use Rattle.reordered_list_laws.specs.Below.tree_laws.Below.c_types.declared.parameters.ParameterList.{ParameterList}
 use Rattle.reordered_list_laws.specs.Below.tree_laws.Below.c_types.Parameters.{parameters_in}
+use Rattle.reordered_list_laws.specs.Below.tree_laws.Below.c99_grammar.Dialects.{dialect}
 use Rattle.reordered_list_laws.specs.Below.tree_laws.Below.c99_grammar.Standard.{grammar}
 use Rattle.reordered_list_laws.specs.Below.tree_laws.Below.c99_read.State.{base_at, is_identifier}
 use Rattle.reordered_list_laws.specs.Below.tree_laws.Below.scope_bind.declared.bound.Name.{Name}
@@ -189,11 +190,11 @@ module _ (source : Source) (ws : WorkspaceValue) (a : AnalysisValue) (members : 
               | inr later ↦ any_all test ks both.1 later
             ]
 
-        bare_named : (j : ℕ) → is_in u.bound.bare k ≡ true → is_identifier (base_at (grammar u.standard) toks k) ≡ true
+        bare_named : (j : ℕ) → is_in u.bound.bare k ≡ true → is_identifier (base_at (grammar (dialect u.standard)) toks k) ≡ true
         bare_named j bare =
             let read = read_so source ws a h.analysed u i in
-            let test : ℕ → Bool = λ m. is_identifier (base_at (grammar u.standard) toks m) in
-            let pass = bare_pass test u.tree.under _ 0 (names_are_read u.standard toks u.tree read.reads) in
+            let test : ℕ → Bool = λ m. is_identifier (base_at (grammar (dialect u.standard)) toks m) in
+            let pass = bare_pass test u.tree.under _ 0 (names_are_read (dialect u.standard) toks u.tree read.reads) in
             let own : u.bound.bare ≡ _ = ap (λ (b : Bound). b.bare) (binding_is toks u.tree u.bound read.binds) in
             any_all test u.bound.bare (subst (λ (ks : List ℕ). list_all test ks ≡ true) (sym own) pass) bare
 

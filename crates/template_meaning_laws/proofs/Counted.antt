@@ -4,7 +4,7 @@ use Rattle.std.specs.Prelude.{◌==◌, ◌%◌, slice_get}
 use Rattle.std.specs.List.{list_all}
 use Rattle.std.proofs.lemmas.Bool.{cases_Bool, false≢true, and_parts, or_cases, eq-eqb, ne_eqb}
 use Rattle.std.proofs.lemmas.Option.{same_Some}
-use Rattle.reordered_list_laws.specs.Below.tree_laws.Below.cs_base.declared.ws_units.Standard.{Standard}
+use Rattle.reordered_list_laws.specs.Below.tree_laws.Below.c99_grammar.declared.dialects.Dialect.{Dialect}
 use Rattle.reordered_list_laws.specs.Below.tree_laws.Below.c99_tree.Tree.{Forest, none, token, node, Node}
 use Rattle.reordered_list_laws.specs.Below.tree_laws.Below.c99_tree.declared.production.Label.{Label}
 use Rattle.reordered_list_laws.specs.Below.tree_laws.Below.c99_tree.declared.production.Production.{Production}
@@ -201,7 +201,7 @@ sound_at g p [] n a all at = absurd (cc)
 sound_at g p (b ∷ more) zero a all at = subst (λ (c : Alternative). is_sound p c ≡ true) (same_Some b a at) (and_parts (is_sound p b) (list_all (is_sound p) more) all).0
 sound_at g p (b ∷ more) (suc n) a all at = sound_at g p more n a (and_parts (is_sound p b) (list_all (is_sound p) more) all).1 at
 
-module _ (s : Standard) where
+module _ (s : Dialect) where
   pub node_some : (l : Label) (under : Forest) → IsOfAlternative (grammar s) l under → has_no_declaring l.production ≡ true → under ≡ none → ⊥
   node_some l under x inner e =
       let sound = sound_at (grammar s) l.production ((grammar s).table l.production) x.number x.alternative ((grammar-sound s).sound l.production) x.is_one in
@@ -220,7 +220,7 @@ module _ (s : Standard) where
 last_of : (i m first : ℕ) (l : Label) (items : Forest) → last_token (token i (node l first items (token m none))) 0 ≡ m
 last_of i m first l items = refl
 
-module _ (s : Standard) (n : ℕ) where
+module _ (s : Dialect) (n : ℕ) where
   -- the argument list of a call
   pub call_have : (l : Label) (k name : ℕ) (under : Forest) → is_at l Post 2 ≡ true → IsOfAlternative (grammar s) l under → EachNode (IsOfAlternative (grammar s)) under → AreFrom k under
       → arguments_of (list_of name under) ≡ n → InnerHave n under

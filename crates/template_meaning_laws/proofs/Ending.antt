@@ -4,7 +4,7 @@ use Rattle.std.specs.Prelude.{slice_get, nat_lt}
 use Rattle.std.specs.List.{list_all}
 use Rattle.std.proofs.lemmas.Bool.{false≢true, cases_Bool, and_parts, and_from, or_left, or_right, ltb-true, ltb-false}
 use Rattle.std.proofs.lemmas.Option.{same_Some}
-use Rattle.reordered_list_laws.specs.Below.tree_laws.Below.cs_base.declared.ws_units.Standard.{Standard}
+use Rattle.reordered_list_laws.specs.Below.tree_laws.Below.c99_grammar.declared.dialects.Dialect.{Dialect}
 use Rattle.reordered_list_laws.specs.Below.tree_laws.Below.cs_base.Token.{Token}
 use Rattle.reordered_list_laws.specs.Below.tree_laws.Below.c99_tree.Tree.{Forest, none, token, node}
 use Rattle.reordered_list_laws.specs.Below.tree_laws.Below.c99_tree.declared.production.Label.{Label}
@@ -17,7 +17,7 @@ use Rattle.reordered_list_laws.specs.Below.tree_laws.Below.c99_grammar.Classes.{
 use Rattle.reordered_list_laws.specs.Below.tree_laws.Below.c99_grammar.Items.{Item, one, part, end_of_text, act, ◌·◌, choice, maybe, many, deep, own, Alternative, plain}
 use Rattle.reordered_list_laws.specs.Below.tree_laws.Below.c99_grammar.Standard.{Grammar, grammar}
 use Rattle.reordered_list_laws.specs.Below.tree_laws.Below.c99_read.State.{base_at, is_identifier}
-use Rattle.reordered_list_laws.proofs.Below.tree_laws.Below.c99_grammar.StandardLemmas.{both}
+use Rattle.reordered_list_laws.proofs.Below.tree_laws.Below.c99_grammar.StandardLemmas.{by_dialect}
 use Rattle.reordered_list_laws.specs.Below.tree_laws.Below.c_types.Trees.{last_token}
 use Rattle.reordered_list_laws.specs.Below.tree_laws.Shapes.{has_no_declaring}
 use Rattle.reordered_list_laws.specs.Below.tree_laws.TreesOfTexts.{token_count, AreFrom, IsTreeOf}
@@ -61,27 +61,27 @@ no_hash (deep a) = no_hash a
 abbrev row_ends : Production → Alternative → Bool
 row_ends p a = ends_ok a.body && no_hash a.body
 
-module _ (std : Standard) where
+module _ (std : Dialect) where
   ends_at : (p : Production) → list_all (row_ends p) ((grammar std).table p) ≡ true
   ends_at TranslationUnit = refl
-  ends_at External = both (λ s. list_all (row_ends External) ((grammar s).table External) ≡ true) refl refl std
+  ends_at External = by_dialect (λ s. list_all (row_ends External) ((grammar s).table External) ≡ true) refl refl refl std
   ends_at ExtRest = refl
   ends_at ExtTail = refl
   ends_at FunBody = refl
-  ends_at Declaration = both (λ s. list_all (row_ends Declaration) ((grammar s).table Declaration) ≡ true) refl refl std
+  ends_at Declaration = by_dialect (λ s. list_all (row_ends Declaration) ((grammar s).table Declaration) ≡ true) refl refl refl std
   ends_at DeclRest = refl
   ends_at InitDecl = refl
-  ends_at Sassert = both (λ s. list_all (row_ends Sassert) ((grammar s).table Sassert) ≡ true) refl refl std
+  ends_at Sassert = by_dialect (λ s. list_all (row_ends Sassert) ((grammar s).table Sassert) ≡ true) refl refl refl std
   ends_at Specs = refl
   ends_at Main = refl
-  ends_at Mod = both (λ s. list_all (row_ends Mod) ((grammar s).table Mod) ≡ true) refl refl std
+  ends_at Mod = by_dialect (λ s. list_all (row_ends Mod) ((grammar s).table Mod) ≡ true) refl refl refl std
   ends_at Qual = refl
   ends_at Word = refl
   ends_at StructSpec = refl
   ends_at SuRest = refl
   ends_at Members = refl
-  ends_at Member = both (λ s. list_all (row_ends Member) ((grammar s).table Member) ≡ true) refl refl std
-  ends_at MemRest = both (λ s. list_all (row_ends MemRest) ((grammar s).table MemRest) ≡ true) refl refl std
+  ends_at Member = by_dialect (λ s. list_all (row_ends Member) ((grammar s).table Member) ≡ true) refl refl refl std
+  ends_at MemRest = by_dialect (λ s. list_all (row_ends MemRest) ((grammar s).table MemRest) ≡ true) refl refl refl std
   ends_at Mdecl = refl
   ends_at EnumSpec = refl
   ends_at EnRest = refl
@@ -254,7 +254,7 @@ module _ (g : Grammar) (toks : List Token) where
 
 -- ---- Nodes
 
-module _ (s : Standard) (toks : List Token) where
+module _ (s : Dialect) (toks : List Token) where
   abbrev g : Grammar
   g = grammar s
 

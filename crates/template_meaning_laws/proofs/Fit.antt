@@ -3,7 +3,7 @@ use Rattle.std.proofs.Common.{◌≡◌, ℕ, zero, suc, ◌+◌, inl, inr, Bool
 use Rattle.std.specs.Prelude.{◌==◌, slice_get}
 use Rattle.std.proofs.lemmas.Bool.{cases_Bool, false≢true, and_parts, and_from, eqb-true}
 use Rattle.std.proofs.lemmas.Option.{same_Some}
-use Rattle.reordered_list_laws.specs.Below.tree_laws.Below.cs_base.declared.ws_units.Standard.{Standard}
+use Rattle.reordered_list_laws.specs.Below.tree_laws.Below.c99_grammar.declared.dialects.Dialect.{Dialect}
 use Rattle.reordered_list_laws.specs.Below.tree_laws.Below.c99_tree.Tree.{Forest}
 use Rattle.reordered_list_laws.specs.Below.tree_laws.Below.c99_tree.declared.production.Label.{Label}
 use Rattle.reordered_list_laws.specs.Below.tree_laws.Below.c99_tree.declared.production.Production.{Production}
@@ -26,7 +26,7 @@ or_other : (a b : Bool) → (a || b) ≡ true → a ≡ false → b ≡ true
 or_other true b h e = absurd (false≢true (sym e))
 or_other false b h e = h
 
-module _ (s : Standard) (l : Label) (under : Forest) (x : IsOfAlternative (grammar s) l under) where
+module _ (s : Dialect) (l : Label) (under : Forest) (x : IsOfAlternative (grammar s) l under) where
   abbrev p : Production
   p = l.production
 
@@ -188,7 +188,7 @@ operand_plain q (inr c) = not_is (is_rest q) (operands_are (not_these is_rest) r
     not_is true h = absurd (false≢true h)
     not_is false h = refl
 
-module _ (s : Standard) (l : Label) (under : Forest) (x : IsOfAlternative (grammar s) l under) where
+module _ (s : Dialect) (l : Label) (under : Forest) (x : IsOfAlternative (grammar s) l under) where
   signs_token : is_items l ≡ false → (v : List Child) → children under ≡ a_token ∷ v → signs l false 0 (children under) ≡ true
   signs_token plain_ v e =
       subst (λ (w : List Child). signs l false 0 w ≡ true) (sym e) (ap (λ b. signs l (not b) 1 v) plain_ ∙ signs_behind l plain_ 1 v)

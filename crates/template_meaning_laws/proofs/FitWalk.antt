@@ -3,8 +3,8 @@ use Rattle.std.proofs.Common.{◌≡◌, ℕ, zero, suc, ◌+◌, ◌⊎◌, inl
 use Rattle.std.specs.Prelude.{◌==◌, slice_get}
 use Rattle.std.proofs.lemmas.Bool.{cases_Bool, false≢true, and_parts, and_from, or_cases, eqb-true, eq-eqb, lt-ltb}
 use Rattle.std.proofs.lemmas.Option.{same_Some}
-use Rattle.reordered_list_laws.specs.Below.tree_laws.Below.cs_base.declared.ws_units.Standard.{Standard}
-use Rattle.reordered_list_laws.specs.Below.tree_laws.Below.cs_base.declared.ws_units.Standard.TheVariants.{C99, C11}
+use Rattle.reordered_list_laws.specs.Below.tree_laws.Below.c99_grammar.declared.dialects.Dialect.{Dialect}
+use Rattle.reordered_list_laws.specs.Below.tree_laws.Below.c99_grammar.declared.dialects.Dialect.TheVariants.{C99, C11, Gnu}
 use Rattle.reordered_list_laws.specs.Below.tree_laws.Below.c99_tree.Tree.{Forest, none, token, node, Node}
 use Rattle.reordered_list_laws.specs.Below.tree_laws.Below.c99_tree.declared.production.Label.{Label}
 use Rattle.reordered_list_laws.specs.Below.tree_laws.Below.c99_tree.declared.production.Production.{Production}
@@ -42,7 +42,7 @@ child_part Adecl b h k = k refl
 child_part Adirect b h k = k refl
 child_part _ b h k = absurd (false≢true h)
 
-parts_fit : (s : Standard) (f : Forest) → EachNode (IsOfAlternative (grammar s)) f → all_nodes is_declarator_child (children f) ≡ true → are_parts f ≡ true
+parts_fit : (s : Dialect) (f : Forest) → EachNode (IsOfAlternative (grammar s)) f → all_nodes is_declarator_child (children f) ≡ true → are_parts f ≡ true
 parts_fit s none each h = refl
 parts_fit s (token i rest) each h = parts_fit s rest each h
 parts_fit s (node l first under rest) each h =
@@ -130,7 +130,7 @@ body_scope : (q : Production) (m : Label) (under : Forest) (scope : Scope) → i
 body_scope FunBody m under scope h = deeper scope.depth
 body_scope _ m under scope h = absurd (false≢true h)
 
-module _ (s : Standard) where
+module _ (s : Dialect) where
   -- the children of a node in its scope
   below_deep : (m : Label) (under : Forest) (scope : Scope) (w : List Child) → IsOfAlternative (grammar s) m under → IsDeep scope.depth (a_node m.production ∷ w)
       → IsDeep (scope_in m.production m under scope).depth (children under)
@@ -148,12 +148,16 @@ module _ (s : Standard) where
 
 -- ---- Rest of members
 
-lone_rest : (s : Standard) (a : Alternative) → slice_get ((grammar s).table MemRest) 0 ≡ Some a → (w : List Child) → AreOfItem a.body w → (v : List Child) × (w ≡ a_token ∷ v)
-lone_rest C99 a at w x = absurd (cc)
-lone_rest C11 a at w x =
+lone_semicolon : (a : Alternative) → Some (plain (tok Semicolon)) ≡ Some a → (w : List Child) → AreOfItem a.body w → (v : List Child) × (w ≡ a_token ∷ v)
+lone_semicolon a at w x =
     let same : plain (tok Semicolon) ≡ a = same_Some (plain (tok Semicolon)) a at in
     let own_ : AreOfItem (tok Semicolon) w = subst (λ (b : Alternative). AreOfItem b.body w) (sym same) x in
     ([], own_)
+
+lone_rest : (s : Dialect) (a : Alternative) → slice_get ((grammar s).table MemRest) 0 ≡ Some a → (w : List Child) → AreOfItem a.body w → (v : List Child) × (w ≡ a_token ∷ v)
+lone_rest C99 a at w x = absurd (cc)
+lone_rest C11 a at w x = lone_semicolon a at w x
+lone_rest Gnu a at w x = lone_semicolon a at w x
 
 rest_named : (q : Production) → ghosts.eq q MemRest ≡ true → q ≡ MemRest
 rest_named MemRest h = refl
@@ -164,7 +168,7 @@ token_first none v e = absurd (cc)
 token_first (token i rest) v e = refl
 token_first (node l first under rest) v e = absurd (cc)
 
-pub rest_begins : (s : Standard) (m : Label) (under : Forest) → IsOfAlternative (grammar s) m under → is_at m MemRest 1 ≡ true → begins_with_token under ≡ true
+pub rest_begins : (s : Dialect) (m : Label) (under : Forest) → IsOfAlternative (grammar s) m under → is_at m MemRest 1 ≡ true → begins_with_token under ≡ true
 rest_begins s m under x at =
     let both_ = and_parts (is_node m MemRest) (m.alternative == 1) at in
     let named = rest_named m.production both_.0 in
@@ -185,12 +189,12 @@ ext_untyped ExtRest h = refl
 ext_untyped _ h = absurd (false≢true h)
 
 -- what is known of a node
-pub record NodeFits (s : Standard) (lists : ℕ → Bool) (l : Label) (under : Forest) : Type 0 where
+pub record NodeFits (s : Dialect) (lists : ℕ → Bool) (l : Label) (under : Forest) : Type 0 where
   pub of : IsOfAlternative (grammar s) l under
   pub bracketed : IsBracketed lists l under
   pub outer : is_ext_rest l.production ≡ true → BodyListIsOuter lists under
 
-pub each_of_fits : (s : Standard) (lists : ℕ → Bool) (f : Forest) → EachNode (NodeFits s lists) f → EachNode (IsOfAlternative (grammar s)) f
+pub each_of_fits : (s : Dialect) (lists : ℕ → Bool) (f : Forest) → EachNode (NodeFits s lists) f → EachNode (IsOfAlternative (grammar s)) f
 each_of_fits s lists none each = tt
 each_of_fits s lists (token i rest) each = each_of_fits s lists rest each
 each_of_fits s lists (node l first under rest) each = (let x = each.0 in x.of, each_of_fits s lists under each.1, each_of_fits s lists rest each.2)
@@ -220,7 +224,7 @@ or_from_not : (a b : Bool) → (a ≡ true → b ≡ true) → (not a || b) ≡ 
 or_from_not true b f = f refl
 or_from_not false b f = refl
 
-module _ (s : Standard) (lists : ℕ → Bool) where
+module _ (s : Dialect) (lists : ℕ → Bool) where
   -- a child of a node
   child_fits : (l : Label) (mine : Bool) (k : ℕ) (scope : Scope) (keeps : Bool) (m : Label) (under : Forest) (w : List Child)
       → signs l mine k (a_node m.production ∷ w) ≡ true → IsDeep scope.depth (a_node m.production ∷ w)
@@ -391,7 +395,7 @@ ext_is : (q : Production) → is_ext_rest q ≡ true → ghosts.eq q ExtRest ≡
 ext_is ExtRest h = refl
 ext_is _ h = absurd (false≢true h)
 
-all_fit : (s : Standard) (lists : ℕ → Bool) (f : Forest) → EachNode (IsOfAlternative (grammar s)) f → EachNode (IsBracketed lists) f → EachNode (HasOuterList lists) f
+all_fit : (s : Dialect) (lists : ℕ → Bool) (f : Forest) → EachNode (IsOfAlternative (grammar s)) f → EachNode (IsBracketed lists) f → EachNode (HasOuterList lists) f
     → EachNode (NodeFits s lists) f
 all_fit s lists none of brackets outers = tt
 all_fit s lists (token i rest) of brackets outers = all_fit s lists rest of brackets outers

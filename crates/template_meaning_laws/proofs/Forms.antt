@@ -3,7 +3,7 @@ use Rattle.std.proofs.Common.{ℕ, zero, suc, ◌+◌, ◌≡◌, ◌⊎◌, inl
 use Rattle.std.specs.Prelude.{◌==◌, slice_get}
 use Rattle.std.proofs.lemmas.Bool.{false≢true, and_parts, and_from, eqb-true, eq-eqb}
 use Rattle.std.proofs.lemmas.Option.{same_Some}
-use Rattle.reordered_list_laws.specs.Below.tree_laws.Below.cs_base.declared.ws_units.Standard.{Standard}
+use Rattle.reordered_list_laws.specs.Below.tree_laws.Below.c99_grammar.declared.dialects.Dialect.{Dialect}
 use Rattle.reordered_list_laws.specs.Below.tree_laws.Below.c99_tree.Tree.{Forest, none, token, node}
 use Rattle.reordered_list_laws.specs.Below.tree_laws.Below.c99_tree.declared.production.Label.{Label}
 use Rattle.reordered_list_laws.specs.Below.tree_laws.Below.c99_tree.declared.production.Production.{Production}
@@ -117,7 +117,7 @@ pair_of p under w alone e (inr empty) = inl (empty_pair under (e ∙ ap (λ (v :
 pair_of p under w alone e (inl full) =
     inr (full_pair p full.0 under (stands_alone p full.0 alone full.2) (e ∙ ap (λ (v : List Child). a_token ∷ (v ++ a_token ∷ [])) full.1))
 
-module _ (s : Standard) where
+module _ (s : Dialect) where
   pub call_pair : (l : Label) (under : Forest) → IsOfAlternative (grammar s) l under → is_at l Post 2 ≡ true → IsPair Args under
   call_pair l under x at =
       let both = and_parts (is_node l Post) (l.alternative == 2) at in
@@ -201,7 +201,7 @@ args_named : (n : ℕ) (a : Alternative) → slice_get (plain (part Assign · ma
 args_named zero a e = refl
 args_named (suc n) a e = absurd (cc)
 
-module _ (s : Standard) where
+module _ (s : Dialect) where
   -- the arguments of a call, where what stands for an argument passes
   pub args_pass : (ok : Production → Bool) → ((q : Production) → StandsFor Assign q → ok q ≡ true) → (l : Label) (under : Forest) → IsOfAlternative (grammar s) l under
       → l.production ≡ Args → are_items false ok (children under) ≡ true
@@ -283,7 +283,7 @@ tokens_times (suc n) w (xs, ys, all, (es, bs, here, comma, (cs, ds, there, word,
     let front : xs ≡ a_token ∷ (a_token ∷ []) = here ∙ (ap (λ (v : List Child). v ++ bs) comma ∙ ap (λ (v : List Child). a_token ∷ v) behind) in
     subst (λ (v : List Child). no_nodes v ≡ true) (sym (all ∙ ap (λ (v : List Child). v ++ ys) front)) rest
 
-pub names_alone : (s : Standard) (l : Label) (under : Forest) → IsOfAlternative (grammar s) l under → is_at l Params 1 ≡ true → no_nodes (children under) ≡ true
+pub names_alone : (s : Dialect) (l : Label) (under : Forest) → IsOfAlternative (grammar s) l under → is_at l Params 1 ≡ true → no_nodes (children under) ≡ true
 names_alone s l under x at =
     let both = and_parts (is_node l Params) (l.alternative == 1) at in
     let one : l.alternative ≡ 0 + 1 = omega (arith, eqb-true l.alternative 1 both.1) in

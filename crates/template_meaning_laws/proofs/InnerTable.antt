@@ -1,14 +1,14 @@
--- What the table of each standard says of productions: what is read in one that is no function, no statement and no declaration
+-- What the table of each dialect says of productions: what is read in one that is no function, no statement and no declaration
 -- is none of these either; and an expression that has one child alone is an operand.
 use Rattle.std.proofs.Common.{◌≡◌, Bool, true, false, ◌&&◌, ◌||◌, not, refl}
 use Rattle.std.specs.List.{list_all}
-use Rattle.reordered_list_laws.specs.Below.tree_laws.Below.cs_base.declared.ws_units.Standard.{Standard}
+use Rattle.reordered_list_laws.specs.Below.tree_laws.Below.c99_grammar.declared.dialects.Dialect.{Dialect}
 use Rattle.reordered_list_laws.specs.Below.tree_laws.Below.c99_tree.declared.production.Production.{Production}
 use Rattle.reordered_list_laws.specs.Below.tree_laws.Below.c99_tree.declared.production.Production.TheVariants.{TranslationUnit, External, ExtRest, ExtTail, FunBody, Declaration, DeclRest, InitDecl, Sassert, Specs, Main, Mod, Qual, Word, StructSpec, SuRest, Members, Member, MemRest, Mdecl, EnumSpec, EnRest, Enumerators, Enumerator, Declarator, Pointer, Direct, Suffix, Bound, Params, Param, Pdecl, Pdirect, TypeName, Adecl, Adirect, Init, InitList, InitItem, Designator, Expr, Assign, Asgop, Cond, Lor, Land, Bor, Bxor, Band, Equal, Relate, Shift, Add, Mul, Cast, CastRest, Unary, SizeRest, SizeLit, Primary, Post, Args, Block, BlockItem, Statement, Sub, ForInit}
 use Rattle.reordered_list_laws.specs.Below.tree_laws.Below.c99_grammar.Items.{Item, one, part, end_of_text, act, ◌·◌, choice, maybe, many, deep, Alternative}
 use Rattle.reordered_list_laws.specs.Below.tree_laws.Below.c99_read.State.{collapses}
 use Rattle.reordered_list_laws.specs.Below.tree_laws.Below.c99_grammar.Standard.{grammar}
-use Rattle.reordered_list_laws.proofs.Below.tree_laws.Below.c99_grammar.StandardLemmas.{both}
+use Rattle.reordered_list_laws.proofs.Below.tree_laws.Below.c99_grammar.StandardLemmas.{by_dialect}
 use Rattle.reordered_list_laws.specs.Below.tree_laws.Shapes.{has_no_declaring, passes_on}
 use Rattle.template_meaning_laws.specs.Children.{is_operand}
 
@@ -39,27 +39,27 @@ is_lone_operand (deep a) = is_lone_operand a
 abbrev pub stays_inner : Production → Alternative → Bool
 stays_inner p a = passes_on has_no_declaring p a.body && (not (collapses p) || is_lone_operand a.body)
 
-module _ (std : Standard) where
+module _ (std : Dialect) where
   pub inner_at : (p : Production) → list_all (stays_inner p) ((grammar std).table p) ≡ true
   inner_at TranslationUnit = refl
-  inner_at External = both (λ s. list_all (stays_inner External) ((grammar s).table External) ≡ true) refl refl std
+  inner_at External = by_dialect (λ s. list_all (stays_inner External) ((grammar s).table External) ≡ true) refl refl refl std
   inner_at ExtRest = refl
   inner_at ExtTail = refl
   inner_at FunBody = refl
-  inner_at Declaration = both (λ s. list_all (stays_inner Declaration) ((grammar s).table Declaration) ≡ true) refl refl std
+  inner_at Declaration = by_dialect (λ s. list_all (stays_inner Declaration) ((grammar s).table Declaration) ≡ true) refl refl refl std
   inner_at DeclRest = refl
   inner_at InitDecl = refl
-  inner_at Sassert = both (λ s. list_all (stays_inner Sassert) ((grammar s).table Sassert) ≡ true) refl refl std
+  inner_at Sassert = by_dialect (λ s. list_all (stays_inner Sassert) ((grammar s).table Sassert) ≡ true) refl refl refl std
   inner_at Specs = refl
   inner_at Main = refl
-  inner_at Mod = both (λ s. list_all (stays_inner Mod) ((grammar s).table Mod) ≡ true) refl refl std
+  inner_at Mod = by_dialect (λ s. list_all (stays_inner Mod) ((grammar s).table Mod) ≡ true) refl refl refl std
   inner_at Qual = refl
   inner_at Word = refl
   inner_at StructSpec = refl
   inner_at SuRest = refl
   inner_at Members = refl
-  inner_at Member = both (λ s. list_all (stays_inner Member) ((grammar s).table Member) ≡ true) refl refl std
-  inner_at MemRest = both (λ s. list_all (stays_inner MemRest) ((grammar s).table MemRest) ≡ true) refl refl std
+  inner_at Member = by_dialect (λ s. list_all (stays_inner Member) ((grammar s).table Member) ≡ true) refl refl refl std
+  inner_at MemRest = by_dialect (λ s. list_all (stays_inner MemRest) ((grammar s).table MemRest) ≡ true) refl refl refl std
   inner_at Mdecl = refl
   inner_at EnumSpec = refl
   inner_at EnRest = refl

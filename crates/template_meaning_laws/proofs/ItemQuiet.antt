@@ -4,7 +4,7 @@ use Rattle.std.specs.Prelude.{IfSome, slice_get, ◌==◌}
 use Rattle.std.specs.Option.{option_map_or}
 use Rattle.std.proofs.lemmas.Bool.{false≢true, and_parts, and_from, eq-eqb}
 use Rattle.std.proofs.lemmas.Option.{same_Some}
-use Rattle.reordered_list_laws.specs.Below.tree_laws.Below.cs_base.declared.ws_units.Standard.{Standard}
+use Rattle.reordered_list_laws.specs.Below.tree_laws.Below.c99_grammar.declared.dialects.Dialect.{Dialect}
 use Rattle.reordered_list_laws.specs.Below.tree_laws.Below.cs_base.Token.{Token}
 use Rattle.reordered_list_laws.specs.Below.tree_laws.Below.c99_tree.Tree.{Forest, none, token, node, Node, node_of}
 use Rattle.reordered_list_laws.specs.Below.tree_laws.Below.c99_tree.declared.production.Label.{Label}
@@ -55,7 +55,7 @@ or_right : (a b : Bool) → b ≡ true → (a || b) ≡ true
 or_right true b e = refl
 or_right false b e = e
 
-module _ (toks : List Token) (names : List Name) (s : Standard) (lo hi : ℕ) (clean : (t : ℕ) → lo ≤ t → t < hi → IsClean toks names t) where
+module _ (toks : List Token) (names : List Name) (s : Dialect) (lo hi : ℕ) (clean : (t : ℕ) → lo ≤ t → t < hi → IsClean toks names t) where
   abbrev Part : Bool → Bool → Label → ℕ → Forest → Type 0
   Part body listing l a f = IsPart toks names s lo hi clean body listing l a f
 

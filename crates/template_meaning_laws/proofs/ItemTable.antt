@@ -1,17 +1,17 @@
--- What the table of each standard says of parameters, of their lists, and of external declarations.
+-- What the table of each dialect says of parameters, of their lists, and of external declarations.
 use Rattle.std.proofs.Common.{◌≡◌, ℕ, zero, suc, Bool, true, false, ◌&&◌, ◌||◌, Some, refl, sym, ap, subst, ◌∙◌, arith}
 use Rattle.std.specs.Prelude.{slice_get}
 use Rattle.std.specs.List.{list_all}
 use Rattle.std.proofs.lemmas.Bool.{false≢true, and_parts}
 use Rattle.std.proofs.lemmas.Option.{same_Some}
-use Rattle.reordered_list_laws.specs.Below.tree_laws.Below.cs_base.declared.ws_units.Standard.{Standard}
+use Rattle.reordered_list_laws.specs.Below.tree_laws.Below.c99_grammar.declared.dialects.Dialect.{Dialect}
 use Rattle.reordered_list_laws.specs.Below.tree_laws.Below.c99_tree.Tree.{Forest}
 use Rattle.reordered_list_laws.specs.Below.tree_laws.Below.c99_tree.declared.production.Label.{Label}
 use Rattle.reordered_list_laws.specs.Below.tree_laws.Below.c99_tree.declared.production.Production.{Production}
 use Rattle.reordered_list_laws.specs.Below.tree_laws.Below.c99_tree.declared.production.Production.TheVariants.{TranslationUnit, External, ExtRest, ExtTail, FunBody, Declaration, DeclRest, InitDecl, Sassert, Specs, Main, Mod, Qual, Word, StructSpec, SuRest, Members, Member, MemRest, Mdecl, EnumSpec, EnRest, Enumerators, Enumerator, Declarator, Pointer, Direct, Suffix, Bound, Params, Param, Pdecl, Pdirect, TypeName, Adecl, Adirect, Init, InitList, InitItem, Designator, Expr, Assign, Asgop, Cond, Lor, Land, Bor, Bxor, Band, Equal, Relate, Shift, Add, Mul, Cast, CastRest, Unary, SizeRest, SizeLit, Primary, Post, Args, Block, BlockItem, Statement, Sub, ForInit}
 use Rattle.reordered_list_laws.specs.Below.tree_laws.Below.c99_grammar.Items.{Alternative}
 use Rattle.reordered_list_laws.specs.Below.tree_laws.Below.c99_grammar.Standard.{grammar}
-use Rattle.reordered_list_laws.proofs.Below.tree_laws.Below.c99_grammar.StandardLemmas.{both}
+use Rattle.reordered_list_laws.proofs.Below.tree_laws.Below.c99_grammar.StandardLemmas.{by_dialect}
 use Rattle.reordered_list_laws.specs.Below.tree_laws.Below.c_types.Trees.{is_list}
 use Rattle.reordered_list_laws.specs.Below.tree_laws.Shapes.{parts_all}
 use Rattle.template_meaning_laws.specs.Children.{children, IsOfAlternative}
@@ -43,27 +43,27 @@ abbrev row_lists : Production → Alternative → Bool
 row_lists p a =
     (is_params p || parts_all (not_these is_param) a.body) && ((is_suffix p || parts_all (not_these is_params) a.body) && (is_upper p || parts_all (not_these is_top) a.body))
 
-module _ (std : Standard) where
+module _ (std : Dialect) where
   lists_at : (p : Production) → list_all (row_lists p) ((grammar std).table p) ≡ true
   lists_at TranslationUnit = refl
-  lists_at External = both (λ s. list_all (row_lists External) ((grammar s).table External) ≡ true) refl refl std
+  lists_at External = by_dialect (λ s. list_all (row_lists External) ((grammar s).table External) ≡ true) refl refl refl std
   lists_at ExtRest = refl
   lists_at ExtTail = refl
   lists_at FunBody = refl
-  lists_at Declaration = both (λ s. list_all (row_lists Declaration) ((grammar s).table Declaration) ≡ true) refl refl std
+  lists_at Declaration = by_dialect (λ s. list_all (row_lists Declaration) ((grammar s).table Declaration) ≡ true) refl refl refl std
   lists_at DeclRest = refl
   lists_at InitDecl = refl
-  lists_at Sassert = both (λ s. list_all (row_lists Sassert) ((grammar s).table Sassert) ≡ true) refl refl std
+  lists_at Sassert = by_dialect (λ s. list_all (row_lists Sassert) ((grammar s).table Sassert) ≡ true) refl refl refl std
   lists_at Specs = refl
   lists_at Main = refl
-  lists_at Mod = both (λ s. list_all (row_lists Mod) ((grammar s).table Mod) ≡ true) refl refl std
+  lists_at Mod = by_dialect (λ s. list_all (row_lists Mod) ((grammar s).table Mod) ≡ true) refl refl refl std
   lists_at Qual = refl
   lists_at Word = refl
   lists_at StructSpec = refl
   lists_at SuRest = refl
   lists_at Members = refl
-  lists_at Member = both (λ s. list_all (row_lists Member) ((grammar s).table Member) ≡ true) refl refl std
-  lists_at MemRest = both (λ s. list_all (row_lists MemRest) ((grammar s).table MemRest) ≡ true) refl refl std
+  lists_at Member = by_dialect (λ s. list_all (row_lists Member) ((grammar s).table Member) ≡ true) refl refl refl std
+  lists_at MemRest = by_dialect (λ s. list_all (row_lists MemRest) ((grammar s).table MemRest) ≡ true) refl refl refl std
   lists_at Mdecl = refl
   lists_at EnumSpec = refl
   lists_at EnRest = refl
@@ -117,7 +117,7 @@ or_other : (a b : Bool) → (a || b) ≡ true → a ≡ false → b ≡ true
 or_other true b h e = absurd (false≢true (sym e))
 or_other false b h e = h
 
-module _ (s : Standard) (l : Label) (under : Forest) (x : IsOfAlternative (grammar s) l under) where
+module _ (s : Dialect) (l : Label) (under : Forest) (x : IsOfAlternative (grammar s) l under) where
   abbrev p : Production
   p = l.production
 

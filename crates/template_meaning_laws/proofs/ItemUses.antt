@@ -5,7 +5,7 @@ use Rattle.std.specs.List.{list_any}
 use Rattle.std.specs.Str.{bytes_eq}
 use Rattle.std.proofs.lemmas.Bool.{false≢true, and_parts, and_from, eq-eqb, eqb-true, ne_eqb}
 use Rattle.std.proofs.lemmas.Option.{same_Some}
-use Rattle.reordered_list_laws.specs.Below.tree_laws.Below.cs_base.declared.ws_units.Standard.{Standard}
+use Rattle.reordered_list_laws.specs.Below.tree_laws.Below.c99_grammar.declared.dialects.Dialect.{Dialect}
 use Rattle.reordered_list_laws.specs.Below.tree_laws.Below.cs_base.Token.{Token}
 use Rattle.reordered_list_laws.specs.Below.tree_laws.Below.c99_tree.Tree.{Forest, none, token, node, node_of}
 use Rattle.reordered_list_laws.specs.Below.tree_laws.Below.c99_tree.declared.production.Label.{Label}
@@ -120,7 +120,7 @@ item_bare Params n under e = absurd (false≢true e)
 item_bare Pdirect n under e = absurd (false≢true e)
 item_bare _ n under e = refl
 
-module _ (toks : List Token) (names : List Name) (bare : List ℕ) (s : Standard) (lo hi : ℕ) (clean : (t : ℕ) → lo ≤ t → t < hi → IsClean toks names t) where
+module _ (toks : List Token) (names : List Name) (bare : List ℕ) (s : Dialect) (lo hi : ℕ) (clean : (t : ℕ) → lo ≤ t → t < hi → IsClean toks names t) where
   -- a use, a bare name, or `__func__`
   abbrev pub IsAsked : ℕ → Type 0
   IsAsked i = (is_use names bare i ≡ true) ⊎ (is_function_word toks i ≡ true)

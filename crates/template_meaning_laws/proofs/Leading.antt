@@ -4,7 +4,7 @@ use Rattle.std.specs.Prelude.{slice_get}
 use Rattle.std.specs.List.{list_all}
 use Rattle.std.proofs.lemmas.Bool.{false≢true, and_parts}
 use Rattle.std.proofs.lemmas.Option.{same_Some}
-use Rattle.reordered_list_laws.specs.Below.tree_laws.Below.cs_base.declared.ws_units.Standard.{Standard}
+use Rattle.reordered_list_laws.specs.Below.tree_laws.Below.c99_grammar.declared.dialects.Dialect.{Dialect}
 use Rattle.reordered_list_laws.specs.Below.tree_laws.Below.c99_tree.Tree.{Forest, none, token, node}
 use Rattle.reordered_list_laws.specs.Below.tree_laws.Below.c99_tree.declared.production.Label.{Label}
 use Rattle.reordered_list_laws.specs.Below.tree_laws.Below.c99_tree.declared.production.Production.{Production}
@@ -13,7 +13,7 @@ use Rattle.reordered_list_laws.specs.Below.tree_laws.Below.c99_grammar.First.{or
 use Rattle.reordered_list_laws.specs.Below.tree_laws.Below.c99_grammar.Items.{Item, one, part, end_of_text, act, ◌·◌, choice, maybe, many, deep, Alternative}
 use Rattle.reordered_list_laws.specs.Below.tree_laws.Below.c99_grammar.Standard.{grammar}
 use Rattle.reordered_list_laws.specs.Below.tree_laws.Below.c99_read.Sound.{never_empty, has_token, is_low}
-use Rattle.reordered_list_laws.proofs.Below.tree_laws.Below.c99_grammar.StandardLemmas.{both}
+use Rattle.reordered_list_laws.proofs.Below.tree_laws.Below.c99_grammar.StandardLemmas.{by_dialect}
 use Rattle.reordered_list_laws.proofs.Below.tree_laws.Below.c99_read.C99Sound.{grammar-sound}
 use Rattle.reordered_list_laws.specs.Below.tree_laws.TreesOfTexts.{token_count, AreFrom}
 use Rattle.reordered_list_laws.proofs.Below.tree_laws.Lookups.{In}
@@ -97,13 +97,13 @@ item_leads (deep a) h w x = item_leads a h w x
 abbrev lead_row : Alternative → Bool
 lead_row a = leads_item a.body
 
-module _ (s : Standard) where
+module _ (s : Dialect) where
   rows_lead : (p : Production) → is_lead p ≡ true → list_all lead_row ((grammar s).table p) ≡ true
-  rows_lead External h = both (λ t. list_all lead_row ((grammar t).table External) ≡ true) refl refl s
-  rows_lead Sassert h = both (λ t. list_all lead_row ((grammar t).table Sassert) ≡ true) refl refl s
+  rows_lead External h = by_dialect (λ t. list_all lead_row ((grammar t).table External) ≡ true) refl refl refl s
+  rows_lead Sassert h = by_dialect (λ t. list_all lead_row ((grammar t).table Sassert) ≡ true) refl refl refl s
   rows_lead Specs h = refl
   rows_lead Main h = refl
-  rows_lead Mod h = both (λ t. list_all lead_row ((grammar t).table Mod) ≡ true) refl refl s
+  rows_lead Mod h = by_dialect (λ t. list_all lead_row ((grammar t).table Mod) ≡ true) refl refl refl s
   rows_lead Qual h = refl
   rows_lead Word h = refl
   rows_lead StructSpec h = refl

@@ -4,7 +4,7 @@ use Rattle.std.proofs.Common.{ℕ, zero, suc, ◌+◌, ◌≡◌, Bool, true, in
 use Rattle.std.specs.Prelude.{◌==◌, nat_lt}
 use Rattle.std.proofs.lemmas.Bool.{cases_Bool, false≢true, and_parts, and_from, eqb-true, ltb-true, ltb-false, lt-ltb}
 use Rattle.std.proofs.lemmas.List.{get_or_default, get_or_past}
-use Rattle.reordered_list_laws.specs.Below.tree_laws.Below.cs_base.declared.ws_units.Standard.{Standard}
+use Rattle.reordered_list_laws.specs.Below.tree_laws.Below.c99_grammar.declared.dialects.Dialect.{Dialect}
 use Rattle.reordered_list_laws.specs.Below.tree_laws.Below.cs_base.Token.{Token}
 use Rattle.reordered_list_laws.specs.Below.tree_laws.Below.c99_tree.Tree.{Forest, none, token, node, Node}
 use Rattle.reordered_list_laws.specs.Below.tree_laws.Below.c99_tree.declared.production.Label.{Label}
@@ -48,7 +48,7 @@ opened_by under q w e =
     ap token_count second.4 ∙ ap (λ (f : Forest). token_count second.2 + token_count f) third.2 in
     ap is_opened first.2 ∙ lt-ltb 0 (token_count first.1) (omega (arith, many_))
 
-module _ (s : Standard) where
+module _ (s : Dialect) where
   opened : (l : Label) (under : Forest) → IsOfAlternative (grammar s) l under → is_at l Pdirect 2 ≡ true → is_opened under ≡ true
   opened l under x at =
       let both = and_parts (is_node l Pdirect) (l.alternative == 2) at in
@@ -84,7 +84,7 @@ unfolding numbers
 numbers_same k zero = refl
 numbers_same k (suc n) = ap (λ (ks : List ℕ). k ∷ ks) (numbers_same (k + 1) n)
 
-module _ (s : Standard) (order : List ℕ) (lists : ℕ → Bool) (tree : Node) (old new : List Token) (is : IsOrder (length order) order)
+module _ (s : Dialect) (order : List ℕ) (lists : ℕ → Bool) (tree : Node) (old new : List Token) (is : IsOrder (length order) order)
     (each : AreOf (length order) (cut_in lists tree)) (stand : AreTokensInOrder s order lists tree old new) where
   abbrev c : Cut
   c = cut_in lists tree

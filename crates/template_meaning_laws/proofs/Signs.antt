@@ -2,7 +2,7 @@
 use Rattle.std.proofs.Common.{ℕ, zero, suc, ◌+◌, ◌≡◌, inl, inr, Bool, true, false, ◌&&◌, if◌then◌else◌, List, [], ◌∷◌, ◌++◌, length, Some, Ok, Err, nat_lt, refl, sym, ap, subst, ◌∙◌, arith, append_assoc, append-nil}
 use Rattle.std.specs.Prelude.{slice_get, ◌==◌}
 use Rattle.std.proofs.lemmas.Bool.{false≢true, and_parts}
-use Rattle.reordered_list_laws.specs.Below.tree_laws.Below.cs_base.declared.ws_units.Standard.{Standard}
+use Rattle.reordered_list_laws.specs.Below.tree_laws.Below.c99_grammar.declared.dialects.Dialect.{Dialect}
 use Rattle.reordered_list_laws.specs.Below.tree_laws.Below.cs_base.Token.{Token}
 use Rattle.reordered_list_laws.specs.Below.tree_laws.Below.c99_tree.Tree.{Forest, none, token, node, Node, leaf, inner, put, lone, collapsed}
 use Rattle.reordered_list_laws.specs.Below.tree_laws.Below.c99_tree.declared.production.Label.{Label}
@@ -280,5 +280,5 @@ module _ (g : Grammar) (toks : List Token) where
       lone_below s.built.under s.built tree (x.more ∙ x.made refl) (x.each refl tt) same_tree
   tree_each (Err stop) tree x e = absurd (cc)
 
-pub tokens_of_classes : (s : Standard) (toks : List Token) (tree : Node) → Reads (grammar s) toks tree → EachNode (IsOfClasses (grammar s) toks) tree.under
+pub tokens_of_classes : (s : Dialect) (toks : List Token) (tree : Node) → Reads (grammar s) toks tree → EachNode (IsOfClasses (grammar s) toks) tree.under
 tokens_of_classes s toks tree e = tree_each (grammar s) toks (whole (grammar s) 0 (produce TranslationUnit) (at_first toks)) tree (whole_adds (grammar s) toks) e

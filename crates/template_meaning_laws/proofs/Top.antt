@@ -5,6 +5,7 @@ use Rattle.reordered_list_laws.specs.Below.tree_laws.Below.cs_base.declared.posi
 use Rattle.reordered_list_laws.specs.Below.tree_laws.Below.cs_base.declared.tokens.Kind.{Kind}
 use Rattle.reordered_list_laws.specs.Below.tree_laws.Below.cs_base.Token.{Token}
 use Rattle.reordered_list_laws.specs.Below.tree_laws.Below.c99_tree.Tree.{Node}
+use Rattle.reordered_list_laws.specs.Below.tree_laws.Below.c99_grammar.Dialects.{dialect}
 use Rattle.reordered_list_laws.specs.Below.tree_laws.Below.c99_grammar.Standard.{grammar}
 use Rattle.reordered_list_laws.specs.Below.tree_laws.Below.c99_read.Reading.{read_of}
 use Rattle.reordered_list_laws.specs.Below.tree_laws.Below.scope_bind.Bound.{Bound, binding_of}
@@ -64,8 +65,8 @@ module _ (members : List Part) (order : List ℕ) (u : UnitAnalysis) (c : Cut) (
       let g = goes v.text.toks toks in
       let read = is.read in
       let tree : v.tree ≡ reordered order (begins_list members u) u.tree =
-      same_ok v.tree (reordered order (begins_list members u) u.tree) (read_of (grammar v.standard) v.text.toks) read.reads
-      (subst (λ s. read_of (grammar s) v.text.toks ≡ Ok (reordered order (begins_list members u) u.tree)) (sym is.standard) g.reads) in
+      same_ok v.tree (reordered order (begins_list members u) u.tree) (read_of (grammar (dialect v.standard)) v.text.toks) read.reads
+      (subst (λ s. read_of (grammar (dialect s)) v.text.toks ≡ Ok (reordered order (begins_list members u) u.tree)) (sym is.standard) g.reads) in
       let bound : v.bound ≡ g.bound =
       same_ok v.bound g.bound (binding_of v.text.toks v.tree) read.binds (subst (λ (t : Node). binding_of v.text.toks t ≡ Ok g.bound) (sym tree) g.binds) in
       record {
@@ -82,7 +83,7 @@ module _ (members : List Part) (order : List ℕ) (u : UnitAnalysis) (c : Cut) (
 module _ (over : WorkspacesAreReordered) (in_text : ReadNamesStandInTheText) (in_order : ReadParameterListsAreInOrder) (go_on : UnitsGoOn) (places : AcceptedListsHavePlaces)
     (once : (source : Source) (ws : WorkspaceValue) (a : AnalysisValue) → IsWorkspace ws → analysis_of source ws ≡ Ok a → HasEachOnce a.table) where
   named_at : (u : UnitAnalysis) → IsRead u → IsNamed u
-  named_at u read = in_text u.standard u.text.toks u.tree u.bound read.reads read.binds
+  named_at u read = in_text (dialect u.standard) u.text.toks u.tree u.bound read.reads read.binds
 
   pub orders_keep_meaning : OrdersKeepMeaning
   orders_keep_meaning before now ws a members order is h files =

@@ -3,6 +3,7 @@ use Rattle.std.proofs.Common.{◌≡◌, ℕ, ◌<◌, List, length, sym, subst,
 use Rattle.std.specs.Prelude.{◌==◌}
 use Rattle.std.proofs.lemmas.Bool.{and_parts, eqb-true}
 use Rattle.reordered_list_laws.specs.Below.tree_laws.Below.cs_base.declared.positions.Part.{Part}
+use Rattle.reordered_list_laws.specs.Below.tree_laws.Below.c99_grammar.Dialects.{dialect}
 use Rattle.reordered_list_laws.specs.Below.tree_laws.Below.c_types.declared.lists.List.{List as NameList}
 use Rattle.reordered_list_laws.specs.Below.tree_laws.Below.c_types.Parameters.{parameters_in}
 use Rattle.reordered_list_laws.proofs.Below.tree_laws.Lookups as tree
@@ -44,11 +45,11 @@ module _ (in_order : ReadParameterListsAreInOrder) (source : Source) (ws : Works
   is_cut : IsCut members order u
   is_cut = let r = read in record {
     order_is = subst (λ (k : ℕ). IsOrder k order) count_is (orders_permute (count_of a members) order h.ordered);
-    each = unit_many u.standard members u (length order) r.reads r.binds in_order declared called;
+    each = unit_many (dialect u.standard) members u (length order) r.reads r.binds in_order declared called;
   }
 
   is_bracketed_unit : 0 < length order → EachNode (IsBracketed (begins_list members u)) u.tree.under
-  is_bracketed_unit some = let r = read in unit_brackets u.standard members u (length order) r.reads r.binds in_order declared called some
+  is_bracketed_unit some = let r = read in unit_brackets (dialect u.standard) members u (length order) r.reads r.binds in_order declared called some
 
 pub units_are_cut : ReadParameterListsAreInOrder → UnitsAreCut
 units_are_cut in_order source ws a members order h u i = is_cut in_order source ws a members order h u i
@@ -59,4 +60,4 @@ unit_lists_are_bracketed in_order source ws a members order h some u i = is_brac
 pub no_list_is_first : ReadParameterListsAreInOrder → NoListIsFirst
 no_list_is_first in_order source ws a members order h u i =
     let r = read in_order source ws a members order h u i in
-    unit_first u.standard members u (length order) r.reads r.binds in_order (declared in_order source ws a members order h u i) (called in_order source ws a members order h u i)
+    unit_first (dialect u.standard) members u (length order) r.reads r.binds in_order (declared in_order source ws a members order h u i) (called in_order source ws a members order h u i)

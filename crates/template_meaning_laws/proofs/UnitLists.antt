@@ -5,7 +5,7 @@ use Rattle.std.specs.List.{list_any}
 use Rattle.std.specs.Option.{option_map_or}
 use Rattle.std.proofs.lemmas.Bool.{cases_Bool, false≢true, and_parts, or_cases, eqb-true, eq-eqb}
 use Rattle.reordered_list_laws.specs.Below.tree_laws.Below.cs_base.declared.positions.Part.{Part}
-use Rattle.reordered_list_laws.specs.Below.tree_laws.Below.cs_base.declared.ws_units.Standard.{Standard}
+use Rattle.reordered_list_laws.specs.Below.tree_laws.Below.c99_grammar.declared.dialects.Dialect.{Dialect}
 use Rattle.reordered_list_laws.specs.Below.tree_laws.Below.cs_base.Token.{Token}
 use Rattle.reordered_list_laws.specs.Below.tree_laws.Below.c99_tree.Tree.{Forest, none, token, node}
 use Rattle.reordered_list_laws.specs.Below.tree_laws.Below.c99_tree.declared.production.Label.{Label}
@@ -141,7 +141,7 @@ pair_begins p under (inr q) = ap begins q.is
 
 -- ---- A unit
 
-module _ (s : Standard) (members : List Part) (u : UnitAnalysis) (n : ℕ) (reads : Reads (grammar s) u.text.toks u.tree) (binds : binding_of u.text.toks u.tree ≡ Ok u.bound)
+module _ (s : Dialect) (members : List Part) (u : UnitAnalysis) (n : ℕ) (reads : Reads (grammar s) u.text.toks u.tree) (binds : binding_of u.text.toks u.tree ≡ Ok u.bound)
     (in_order : ReadParameterListsAreInOrder)
     (of_declarators : (l : NameList) → In l u.bound.declarators → IsOwn members u l → lists.parameters_of (parameters_in u.tree.under) l.name ≡ n)
     (of_calls : (l : NameList) → In l u.bound.calls → IsOwn members u l → arguments_of l ≡ n) where

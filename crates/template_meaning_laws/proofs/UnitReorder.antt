@@ -6,7 +6,7 @@ use Rattle.std.specs.Option.{option_or}
 use Rattle.std.proofs.lemmas.Bool.{false≢true, and_parts, and_from, eqb-true, ne_eqb, lt-ltb}
 use Rattle.std.proofs.lemmas.Option.{slice_get-get_or}
 use Rattle.reordered_list_laws.specs.Below.tree_laws.Below.cs_base.declared.positions.Part.{Part}
-use Rattle.reordered_list_laws.specs.Below.tree_laws.Below.cs_base.declared.ws_units.Standard.{Standard}
+use Rattle.reordered_list_laws.specs.Below.tree_laws.Below.c99_grammar.declared.dialects.Dialect.{Dialect}
 use Rattle.reordered_list_laws.specs.Below.tree_laws.Below.cs_base.Token.{Token}
 use Rattle.reordered_list_laws.specs.Below.tree_laws.Below.c99_tree.Tree.{Forest, none, token, node, Node, node_of}
 use Rattle.reordered_list_laws.specs.Below.tree_laws.Below.c99_tree.declared.production.Label.{Label}
@@ -56,7 +56,7 @@ if_own : (c : Bool) (x : Entry) → c ≡ true → In x (if c then x ∷ [] else
 if_own true x e = inl refl
 if_own false x e = absurd (false≢true e)
 
-module _ (s : Standard) (members : List Part) (u : UnitAnalysis) (a : AnalysisValue) (n : ℕ) (reads : Reads (grammar s) u.text.toks u.tree) (binds : binding_of u.text.toks u.tree ≡ Ok u.bound)
+module _ (s : Dialect) (members : List Part) (u : UnitAnalysis) (a : AnalysisValue) (n : ℕ) (reads : Reads (grammar s) u.text.toks u.tree) (binds : binding_of u.text.toks u.tree ≡ Ok u.bound)
     (in_order : ReadParameterListsAreInOrder)
     (of_declarators : (l : NameList) → In l u.bound.declarators → IsOwn members u l → lists.parameters_of (parameters_in u.tree.under) l.name ≡ n)
     (of_calls : (l : NameList) → In l u.bound.calls → IsOwn members u l → arguments_of l ≡ n)

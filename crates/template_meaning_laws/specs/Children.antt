@@ -1,6 +1,6 @@
 -- Which children the nodes of a tree have: those of the alternative by which each was read (ISO/IEC 9899:1999, Annex A.2).
 use Rattle.std.specs.Prelude.{ℕ, zero, suc, ◌+◌, ◌≡◌, ◌⊎◌, Bool, true, false, List, [], ◌∷◌, ◌++◌, Some, slice_get}
-use Rattle.reordered_list_laws.specs.Below.tree_laws.Below.cs_base.declared.ws_units.Standard.{Standard}
+use Rattle.reordered_list_laws.specs.Below.tree_laws.Below.c99_grammar.declared.dialects.Dialect.{Dialect}
 use Rattle.reordered_list_laws.specs.Below.tree_laws.Below.cs_base.Token.{Token}
 use Rattle.reordered_list_laws.specs.Below.tree_laws.Below.c99_tree.Tree.{Forest, none, token, node, Node}
 use Rattle.reordered_list_laws.specs.Below.tree_laws.Below.c99_tree.declared.production.Label.{Label}
@@ -73,7 +73,7 @@ pub record IsOfAlternative (g : Grammar) (l : Label) (under : Forest) : Type 0 w
 abbrev pub whole_of : Node → Forest
 whole_of tree = node tree.label tree.first tree.under none
 
--- The law: so it is with each node of the tree that is read of a text by a standard, which is a translation unit.
+-- The law: so it is with each node of the tree that is read of a text by a dialect, which is a translation unit.
 abbrev pub ChildrenAreOfAlternatives : Type 0
-ChildrenAreOfAlternatives = (s : Standard) (toks : List Token) (tree : Node) → Reads (grammar s) toks tree
+ChildrenAreOfAlternatives = (s : Dialect) (toks : List Token) (tree : Node) → Reads (grammar s) toks tree
     → (tree.label.production ≡ TranslationUnit) × EachNode (IsOfAlternative (grammar s)) (whole_of tree)

@@ -1,7 +1,7 @@
 -- Which tokens may stand in a tree, and end an item of a list: those that an alternative asks for by their class (ISO/IEC
 -- 9899:1999, 6.4.6 and Annex A.2).
 use Rattle.std.specs.Prelude.{ℕ, zero, suc, ◌+◌, ◌<◌, ◌≤◌, ◌≡◌, ◌⊎◌, ◌||◌, true, false, List, [], ◌∷◌, ◌++◌, Some, length, slice_get}
-use Rattle.reordered_list_laws.specs.Below.tree_laws.Below.cs_base.declared.ws_units.Standard.{Standard}
+use Rattle.reordered_list_laws.specs.Below.tree_laws.Below.c99_grammar.declared.dialects.Dialect.{Dialect}
 use Rattle.reordered_list_laws.specs.Below.tree_laws.Below.cs_base.Token.{Token}
 use Rattle.reordered_list_laws.specs.Below.tree_laws.Below.c99_tree.Tree.{Forest, none, token, node, Node}
 use Rattle.reordered_list_laws.specs.Below.tree_laws.Below.c99_tree.declared.production.Label.{Label}
@@ -80,5 +80,5 @@ module _ (g : Grammar) (toks : List Token) where
 
 -- The law: no token of a text that is read is `#`, and so it is with the items of each list in its tree.
 abbrev pub TokensMayStand : Type 0
-TokensMayStand = (s : Standard) (toks : List Token) (tree : Node) → Reads (grammar s) toks tree
+TokensMayStand = (s : Dialect) (toks : List Token) (tree : Node) → Reads (grammar s) toks tree
     → ((k : ℕ) → k < length toks → IsNot (grammar s) toks Hash k) × EachNode (ItemsEndWell (grammar s) toks) tree.under

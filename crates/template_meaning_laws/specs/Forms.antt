@@ -1,7 +1,7 @@
 -- The forms of nodes that binding in a new order of items asks for: trees that are read have them (ISO/IEC 9899:1999, Annex A.2).
 use Rattle.std.specs.Prelude.{ℕ, ◌<◌, ◌≡◌, Bool, true, false, List, length}
 use Rattle.reordered_list_laws.specs.Below.tree_laws.Below.cs_base.declared.positions.Part.{Part}
-use Rattle.reordered_list_laws.specs.Below.tree_laws.Below.cs_base.declared.ws_units.Standard.{Standard}
+use Rattle.reordered_list_laws.specs.Below.tree_laws.Below.c99_grammar.declared.dialects.Dialect.{Dialect}
 use Rattle.reordered_list_laws.specs.Below.tree_laws.Below.cs_base.Token.{Token}
 use Rattle.reordered_list_laws.specs.Below.tree_laws.Below.c99_tree.Tree.{Forest, node, Node}
 use Rattle.reordered_list_laws.specs.Below.tree_laws.Below.c99_tree.declared.production.Label.{Label}
@@ -35,7 +35,7 @@ HasOuterList lists l under = is_node l ExtRest ≡ true → BodyListIsOuter list
 
 -- The law: the tree that is read of a text has all these forms, where it is so with its lists.
 abbrev pub TreesHaveForms : Type 0
-TreesHaveForms = (s : Standard) (toks : List Token) (tree : Node) (lists : ℕ → Bool) → Reads (grammar s) toks tree → EachNode (IsBracketed lists) tree.under
+TreesHaveForms = (s : Dialect) (toks : List Token) (tree : Node) (lists : ℕ → Bool) → Reads (grammar s) toks tree → EachNode (IsBracketed lists) tree.under
     → EachNode (HasOuterList lists) tree.under → is_fit lists (outermost (length toks)).label true 0 (outermost (length toks)).scope true tree.under ≡ true
 
 -- The law: where no offence stands against an order that is not empty, the lists of the functions in a unit are bracketed.

@@ -4,6 +4,7 @@ use Rattle.std.specs.Prelude.{ℕ, ◌≡◌, List, [], length, Some, Ok}
 use Rattle.reordered_list_laws.specs.Below.tree_laws.Below.cs_base.declared.positions.Part.{Part}
 use Rattle.reordered_list_laws.specs.Below.tree_laws.Below.cs_base.declared.tokens.Kind.{Kind}
 use Rattle.reordered_list_laws.specs.Below.tree_laws.Below.cs_base.Token.{Token}
+use Rattle.reordered_list_laws.specs.Below.tree_laws.Below.c99_grammar.Dialects.{dialect}
 use Rattle.reordered_list_laws.specs.Below.tree_laws.Below.c99_grammar.Standard.{grammar}
 use Rattle.reordered_list_laws.specs.Below.tree_laws.Below.c99_read.Reading.{read_of}
 use Rattle.reordered_list_laws.specs.Below.tree_laws.Below.scope_bind.Bound.{Bound, binding_of}
@@ -29,7 +30,7 @@ use Rattle.template_meaning_laws.specs.Editing.{edit_by}
 -- name for name as before.
 pub record UnitGoesOn (members : List Part) (order : List ℕ) (u : UnitAnalysis) (toks : List Token) : Type 0 where
   pub bound : Bound
-  pub reads : read_of (grammar u.standard) toks ≡ Ok (reordered order (begins_list members u) u.tree)
+  pub reads : read_of (grammar (dialect u.standard)) toks ≡ Ok (reordered order (begins_list members u) u.tree)
   pub binds : binding_of toks (reordered order (begins_list members u) u.tree) ≡ Ok bound
   pub names : NamesMove (moved_in members order u) (length u.text.toks) u.bound.names bound.names
 

@@ -8,7 +8,7 @@ use Rattle.std.proofs.lemmas.Slice.Eq.{bytes_eq-Decides}
 use Rattle.template_meaning_laws.specs.Below.tree_laws.Below.cs_base.declared.positions.Part.{Part}
 use Rattle.template_meaning_laws.specs.Below.tree_laws.Below.cs_base.declared.tokens.Kind.{Kind}
 use Rattle.template_meaning_laws.specs.Below.tree_laws.Below.cs_base.declared.tokens.Kind.TheVariants as kind
-use Rattle.template_meaning_laws.specs.Below.tree_laws.Below.cs_base.declared.ws_units.Standard.{Standard}
+use Rattle.template_meaning_laws.specs.Below.tree_laws.Below.c99_grammar.declared.dialects.Dialect.{Dialect}
 use Rattle.template_meaning_laws.specs.Below.tree_laws.Below.cs_base.Token.{Token}
 use Rattle.template_meaning_laws.specs.Below.tree_laws.Below.c99_tree.Tree.{Forest, none, token, node}
 use Rattle.template_meaning_laws.specs.Below.tree_laws.Below.c99_tree.declared.production.Label.{Label}
@@ -18,6 +18,7 @@ use Rattle.template_meaning_laws.specs.Below.tree_laws.Below.c99_tree.contracts.
 use Rattle.template_meaning_laws.specs.Below.tree_laws.Below.c99_grammar.declared.classes.Class.{Class}
 use Rattle.template_meaning_laws.specs.Below.tree_laws.Below.c99_grammar.declared.classes.Class.TheVariants.{LeftParen, Slash, Hash, NoClass, End}
 use Rattle.template_meaning_laws.specs.Below.tree_laws.Below.c99_grammar.Classes.{is_same}
+use Rattle.template_meaning_laws.specs.Below.tree_laws.Below.c99_grammar.Dialects.{dialect}
 use Rattle.template_meaning_laws.specs.Below.tree_laws.Below.c99_grammar.Standard.{Grammar, grammar}
 use Rattle.template_meaning_laws.specs.Below.tree_laws.Below.c99_grammar.Spellings.{punctuators}
 use Rattle.template_meaning_laws.specs.Below.tree_laws.Below.c99_grammar.TokenClasses.{spelled_class, class_of_kind, base_class}
@@ -120,29 +121,29 @@ punct_is : (k : Kind) → is_punctuator k ≡ true → k ≡ kind.Punct
 punct_is kind.Punct e = refl
 punct_is _ e = absurd (false≢true e)
 
-sign_class : (s : Standard) (sign : List ℕ) (c : Class) → spelled_class punctuators sign NoClass ≡ c → (t : Token) → is_sign sign t ≡ true → base_class (grammar s) t ≡ c
+sign_class : (s : Dialect) (sign : List ℕ) (c : Class) → spelled_class punctuators sign NoClass ≡ c → (t : Token) → is_sign sign t ≡ true → base_class (grammar s) t ≡ c
 unfolding base_class
 sign_class s sign c e t h =
     let parts = and_parts (is_punctuator t.kind) (bytes_eq t.text sign) h in
     let text = (bytes_eq-Decides t.text sign).0 parts.1 in
     ap (λ (k : Kind). class_of_kind (grammar s) k t.text) (punct_is t.kind parts.0) ∙ ap (λ (x : List ℕ). spelled_class punctuators x NoClass) text ∙ e
 
-hash_class : (s : Standard) (t : Token) → is_hash t ≡ true → base_class (grammar s) t ≡ Hash
+hash_class : (s : Dialect) (t : Token) → is_hash t ≡ true → base_class (grammar s) t ≡ Hash
 unfolding is_hash spelled_class
 hash_class s t h = elim (or_cases (is_sign (codes "#") t) (is_sign (codes "%:") t) h) [
   | inl one ↦ sign_class s (codes "#") Hash refl t one
   | inr two ↦ sign_class s (codes "%:") Hash refl t two
 ]
 
-slash_class : (s : Standard) (t : Token) → is_sign (codes "/") t ≡ true → base_class (grammar s) t ≡ Slash
+slash_class : (s : Dialect) (t : Token) → is_sign (codes "/") t ≡ true → base_class (grammar s) t ≡ Slash
 unfolding spelled_class
 slash_class s t h = sign_class s (codes "/") Slash refl t h
 
-open_class : (s : Standard) (t : Token) → is_open t ≡ true → base_class (grammar s) t ≡ LeftParen
+open_class : (s : Dialect) (t : Token) → is_open t ≡ true → base_class (grammar s) t ≡ LeftParen
 unfolding is_open spelled_class
 open_class s t h = sign_class s (codes "(") LeftParen refl t h
 
-module _ (s : Standard) (toks : List Token) (k : ℕ) (t : Token) (at : slice_get toks k ≡ Some t) where
+module _ (s : Dialect) (toks : List Token) (k : ℕ) (t : Token) (at : slice_get toks k ≡ Some t) where
   is_no : (c : Class) (test : Token → Bool) → is_same c c ≡ true → (test t ≡ true → base_class (grammar s) t ≡ c) → IsNot (grammar s) toks c k → not (test t) ≡ true
   is_no c test self class isnt = by (test t) refl
     where
@@ -166,8 +167,8 @@ module _ (s : Standard) (toks : List Token) (k : ℕ) (t : Token) (at : slice_ge
 
 module _ (may : TokensMayStand) (in_order : ReadParameterListsAreInOrder) (cuts : UnitsAreCut) (source : Source) (ws : WorkspaceValue) (a : AnalysisValue) (members : List Part) (order : List ℕ) (h : IsAccepted source ws a members order)
     (some : 0 < length order) (u : UnitAnalysis) (i : IsIn a.units u) (typed_names : HavePrototypes members u) where
-  abbrev s : Standard
-  s = u.standard
+  abbrev s : Dialect
+  s = dialect u.standard
 
   abbrev toks : List Token
   toks = u.text.toks

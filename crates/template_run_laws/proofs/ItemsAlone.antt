@@ -7,7 +7,7 @@ use Rattle.std.proofs.lemmas.Bool.{false≢true}
 use Rattle.std.proofs.lemmas.List.{take-map, drop-map}
 use Rattle.std.proofs.lemmas.Option.{same_Some, slice_get_within}
 use Rattle.template_meaning_laws.specs.Below.tree_laws.Below.cs_base.Token.{Token}
-use Rattle.template_meaning_laws.specs.Below.tree_laws.Below.cs_base.declared.ws_units.Standard.{Standard}
+use Rattle.template_meaning_laws.specs.Below.tree_laws.Below.c99_grammar.declared.dialects.Dialect.{Dialect}
 use Rattle.template_meaning_laws.specs.Below.tree_laws.Below.c99_grammar.declared.classes.Class.TheVariants.{Hash}
 use Rattle.template_meaning_laws.specs.Below.tree_laws.Below.c99_grammar.Standard.{grammar}
 use Rattle.template_meaning_laws.specs.Below.no_offence_laws.Below.line_shape.Signs.{is_name, is_open, is_comma, is_close}
@@ -88,7 +88,7 @@ module _ (run toks : List Token) (from : ℕ) (there : (j : ℕ) (x : Token) →
 
 -- ---- an item of what a run is expanded to
 
-module _ (s : Standard) (out toks : List Token) (before : ℕ) (there : (j : ℕ) (x : Token) → slice_get out j ≡ Some x → slice_get toks (before + j) ≡ Some x)
+module _ (s : Dialect) (out toks : List Token) (before : ℕ) (there : (j : ℕ) (x : Token) → slice_get out j ≡ Some x → slice_get toks (before + j) ≡ Some x)
     (no_hash : (k : ℕ) → k < length toks → IsNot (grammar s) toks Hash k) where
   item_out : (o p : ℕ) → p < length out → EndsItem (grammar s) toks (before + o) (before + p) → IsItem out (record { begin = o + 1; end = p })
   item_out o p lt h =

@@ -4,7 +4,7 @@ use Rattle.std.specs.Prelude.{slice_get}
 use Rattle.std.specs.Option.{option_or}
 use Rattle.std.proofs.lemmas.Bool.{false≢true}
 use Rattle.std.proofs.lemmas.Option.{same_Some}
-use Rattle.template_meaning_laws.specs.Below.tree_laws.Below.cs_base.declared.ws_units.Standard.{Standard}
+use Rattle.template_meaning_laws.specs.Below.tree_laws.Below.c99_grammar.declared.dialects.Dialect.{Dialect}
 use Rattle.template_meaning_laws.specs.Below.tree_laws.Below.c99_tree.Tree.{Forest, none, token, node}
 use Rattle.template_meaning_laws.specs.Below.tree_laws.Below.c99_tree.declared.production.Label.{Label}
 use Rattle.template_meaning_laws.specs.Below.tree_laws.Below.c99_tree.declared.production.Production.{Production}
@@ -71,7 +71,7 @@ name_bound l (node m first under rest) k name w e =
     node_bound (holds_name m.production) (name_below m under) (name_below l rest) k (token_count under) (token_count rest) name
     (name_bound m under k name w.1) (name_bound l rest (k + token_count under) name w.2) e
 
-module _ (s : Standard) where
+module _ (s : Dialect) where
   declarator_of : (n : ℕ) (f : Forest) (ps qs : List Child) → AreTimes (AreOfItem (part Pointer)) n ps → AreOfItem (part Direct) qs → children f ≡ ps ++ qs → IsDeclarator f
   declarator_of zero f ps qs none_ (q, is, stands) e =
       let all : children f ≡ a_node q ∷ [] = e ∙ ap (λ (w : List Child). w ++ qs) none_ ∙ is in

@@ -3,7 +3,7 @@ use Rattle.std.proofs.Common.{◌≡◌, ℕ, zero, suc, ◌+◌, ◌<◌, inl, 
 use Rattle.std.specs.Prelude.{◌==◌, slice_get}
 use Rattle.std.proofs.lemmas.Bool.{false≢true, and_parts, and_from, eqb-true, eq-eqb}
 use Rattle.std.proofs.lemmas.Option.{same_Some}
-use Rattle.template_meaning_laws.specs.Below.tree_laws.Below.cs_base.declared.ws_units.Standard.{Standard}
+use Rattle.template_meaning_laws.specs.Below.tree_laws.Below.c99_grammar.declared.dialects.Dialect.{Dialect}
 use Rattle.template_meaning_laws.specs.Below.tree_laws.Below.cs_base.Token.{Token}
 use Rattle.template_meaning_laws.specs.Below.tree_laws.Below.c99_tree.Tree.{Forest, none, token, node}
 use Rattle.template_meaning_laws.specs.Below.tree_laws.Below.c99_tree.declared.production.Label.{Label}
@@ -84,7 +84,7 @@ own_names (Some name) (Some None) p w = absurd w
 own_names (Some name) (Some (Some under)) p (inl e) = (ap (λ (q : Pair). Some q.name) e, ap (λ (q : Pair). Some (Some q.under)) e)
 own_names (Some name) (Some (Some under)) p (inr w) = absurd w
 
-module _ (s : Standard) where
+module _ (s : Dialect) where
   pair_before_in : (f : Forest) (k : ℕ) (p : Pair) → AreFrom k f → EachNode (IsOfAlternative (grammar s)) f → EachNode Begins f → In p (pair_in f) → p.name < first_token p.under 0
   pair_before_in none k p w x each there = absurd there
   pair_before_in (token i rest) k p w x each there = absurd there
@@ -135,7 +135,7 @@ ends_of g toks under i j w e open_ close = record {
   close = ap (base_at g toks) (last_child under 0 j (classes.a_token i ∷ w) e) ∙ close RightParen refl refl;
 }
 
-module _ (s : Standard) (toks : List Token) where
+module _ (s : Dialect) (toks : List Token) where
   abbrev Of : Item → List classes.Child → Type 0
   Of item w = classes.AreOfItem (grammar s) toks item w
 

@@ -7,12 +7,13 @@ use Rattle.std.specs.Str.{bytes_eq}
 use Rattle.std.proofs.lemmas.Bool.{false≢true, and_parts, and_from, or_left, or_right, or_cases, eqb-true, eq-eqb, lt-ltb, le-leb}
 use Rattle.std.proofs.lemmas.Option.{same_Some}
 use Rattle.template_meaning_laws.specs.Below.tree_laws.Below.cs_base.declared.positions.Part.{Part}
-use Rattle.template_meaning_laws.specs.Below.tree_laws.Below.cs_base.declared.ws_units.Standard.{Standard}
+use Rattle.template_meaning_laws.specs.Below.tree_laws.Below.c99_grammar.declared.dialects.Dialect.{Dialect}
 use Rattle.template_meaning_laws.specs.Below.tree_laws.Below.cs_base.Token.{Token}
 use Rattle.template_meaning_laws.specs.Below.tree_laws.Below.c99_tree.Tree.{Forest, none, token, node}
 use Rattle.template_meaning_laws.specs.Below.tree_laws.Below.c99_tree.declared.production.Label.{Label}
 use Rattle.template_meaning_laws.specs.Below.tree_laws.Below.c99_tree.declared.production.Production.TheVariants.{Post, Args, Params}
 use Rattle.template_meaning_laws.specs.Below.tree_laws.Below.c99_grammar.declared.classes.Class.TheVariants.{RightParen, Comma}
+use Rattle.template_meaning_laws.specs.Below.tree_laws.Below.c99_grammar.Dialects.{dialect}
 use Rattle.template_meaning_laws.specs.Below.tree_laws.Below.c99_grammar.Standard.{grammar}
 use Rattle.template_meaning_laws.specs.Below.tree_laws.Below.c99_read.State.{base_at}
 use Rattle.template_meaning_laws.specs.Below.tree_laws.Below.c_types.declared.lists.List.{List as NameList}
@@ -101,7 +102,7 @@ entry_from (node l first under rest) k w x i = elim (in_split x (entry_of l unde
     own false v = absurd v
 
 -- commas and a parenthesis that no macro put in
-closes : (s : Standard) (toks : List Token) (commas : List ℕ) (close : ℕ) → Each (λ i. base_at (grammar s) toks i ≡ Comma) commas → Each (λ i. is_direct_at toks i ≡ true) commas
+closes : (s : Dialect) (toks : List Token) (commas : List ℕ) (close : ℕ) → Each (λ i. base_at (grammar s) toks i ≡ Comma) commas → Each (λ i. is_direct_at toks i ≡ true) commas
     → base_at (grammar s) toks close ≡ RightParen → is_direct_at toks close ≡ true → Closes toks (commas ++ close ∷ [])
 closes s toks [] close a b c d = close_at s toks close c d
 closes s toks (m ∷ []) close a b c d = (comma_at s toks m a.0 b.0, close_at s toks close c d)
@@ -111,7 +112,7 @@ closes s toks (m ∷ k ∷ ms) close a b c d = (comma_at s toks m a.0 b.0, close
 
 -- What a list of a function is in the tree: a pair of parentheses with items and a comma between each two, or with nothing in
 -- it, where so many items are none.
-pub record OwnNode (s : Standard) (toks : List Token) (T : Forest) (l : NameList) (items : ℕ) : Type 0 where
+pub record OwnNode (s : Dialect) (toks : List Token) (T : Forest) (l : NameList) (items : ℕ) : Type 0 where
   pub label : Label
   pub under : Forest
   pub there : In (entry label under) (entries T)
@@ -146,8 +147,8 @@ typed_so lab inner name h = by (is_at lab Params 1) refl h
 
 module _ (in_order : ReadParameterListsAreInOrder) (cuts : UnitsAreCut) (source : Source) (ws : WorkspaceValue) (a : AnalysisValue) (members : List Part) (order : List ℕ) (h : IsAccepted source ws a members order)
     (u : UnitAnalysis) (i : IsIn a.units u) (typed_names : HavePrototypes members u) where
-  abbrev s : Standard
-  s = u.standard
+  abbrev s : Dialect
+  s = dialect u.standard
 
   abbrev toks : List Token
   toks = u.text.toks

@@ -1,34 +1,34 @@
--- The table of each standard is formed: what stands below its productions, and with what they begin.
+-- The table of each dialect is formed: what stands below its productions, and with what they begin.
 use Rattle.std.specs.Prelude.{◌≡◌, true, refl}
 use Rattle.std.specs.List.{list_all}
-use Rattle.cs_base.specs.declared.ws_units.Standard.{Standard}
+use Rattle.c99_grammar.specs.declared.dialects.Dialect.{Dialect}
 use Rattle.c99_tree.specs.declared.production.Production.{Production}
 use Rattle.c99_tree.specs.declared.production.Production.TheVariants.{TranslationUnit, External, ExtRest, ExtTail, FunBody, Declaration, DeclRest, InitDecl, Sassert, Specs, Main, Mod, Qual, Word, StructSpec, SuRest, Members, Member, MemRest, Mdecl, EnumSpec, EnRest, Enumerators, Enumerator, Declarator, Pointer, Direct, Suffix, Bound, Params, Param, Pdecl, Pdirect, TypeName, Adecl, Adirect, Init, InitList, InitItem, Designator, Expr, Assign, Asgop, Cond, Lor, Land, Bor, Bxor, Band, Equal, Relate, Shift, Add, Mul, Cast, CastRest, Unary, SizeRest, SizeLit, Primary, Post, Args, Block, BlockItem, Statement, Sub, ForInit}
 use Rattle.c99_grammar.specs.Standard.{grammar}
-use Rattle.c99_grammar.proofs.StandardLemmas.{both}
+use Rattle.c99_grammar.proofs.StandardLemmas.{by_dialect}
 use Rattle.tree_laws.specs.Shapes.{is_formed, IsFormed}
 
-module _ (std : Standard) where
+module _ (std : Dialect) where
   formed_at : (p : Production) → list_all (is_formed p) ((grammar std).table p) ≡ true
   formed_at TranslationUnit = refl
-  formed_at External = both (λ s. list_all (is_formed External) ((grammar s).table External) ≡ true) refl refl std
+  formed_at External = by_dialect (λ s. list_all (is_formed External) ((grammar s).table External) ≡ true) refl refl refl std
   formed_at ExtRest = refl
   formed_at ExtTail = refl
   formed_at FunBody = refl
-  formed_at Declaration = both (λ s. list_all (is_formed Declaration) ((grammar s).table Declaration) ≡ true) refl refl std
+  formed_at Declaration = by_dialect (λ s. list_all (is_formed Declaration) ((grammar s).table Declaration) ≡ true) refl refl refl std
   formed_at DeclRest = refl
   formed_at InitDecl = refl
-  formed_at Sassert = both (λ s. list_all (is_formed Sassert) ((grammar s).table Sassert) ≡ true) refl refl std
+  formed_at Sassert = by_dialect (λ s. list_all (is_formed Sassert) ((grammar s).table Sassert) ≡ true) refl refl refl std
   formed_at Specs = refl
   formed_at Main = refl
-  formed_at Mod = both (λ s. list_all (is_formed Mod) ((grammar s).table Mod) ≡ true) refl refl std
+  formed_at Mod = by_dialect (λ s. list_all (is_formed Mod) ((grammar s).table Mod) ≡ true) refl refl refl std
   formed_at Qual = refl
   formed_at Word = refl
   formed_at StructSpec = refl
   formed_at SuRest = refl
   formed_at Members = refl
-  formed_at Member = both (λ s. list_all (is_formed Member) ((grammar s).table Member) ≡ true) refl refl std
-  formed_at MemRest = both (λ s. list_all (is_formed MemRest) ((grammar s).table MemRest) ≡ true) refl refl std
+  formed_at Member = by_dialect (λ s. list_all (is_formed Member) ((grammar s).table Member) ≡ true) refl refl refl std
+  formed_at MemRest = by_dialect (λ s. list_all (is_formed MemRest) ((grammar s).table MemRest) ≡ true) refl refl refl std
   formed_at Mdecl = refl
   formed_at EnumSpec = refl
   formed_at EnRest = refl

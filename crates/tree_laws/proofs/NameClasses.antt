@@ -5,11 +5,11 @@ use Rattle.std.specs.Option.{option_map_or}
 use Rattle.std.specs.Str.{bytes_eq}
 use Rattle.std.proofs.lemmas.Bool.{false≢true, and_parts}
 use Rattle.std.proofs.Math.Bool.{or-true}
-use Rattle.cs_base.specs.declared.ws_units.Standard.{Standard}
+use Rattle.c99_grammar.specs.declared.dialects.Dialect.{Dialect}
 use Rattle.cs_base.specs.Token.{Token}
 use Rattle.cs_base.specs.declared.tokens.Kind.{Kind}
 use Rattle.cs_base.specs.declared.tokens.Kind.TheVariants as kind
-use Rattle.cs_base.specs.declared.ws_units.Standard.TheVariants.{C11}
+use Rattle.c99_grammar.specs.declared.dialects.Dialect.TheVariants.{Gnu}
 use Rattle.c99_grammar.specs.Classes.{among}
 use Rattle.c99_grammar.specs.Spellings.{Spelled, keywords_of, punctuators}
 use Rattle.c99_grammar.specs.Standard.{c99, grammar}
@@ -31,7 +31,7 @@ is_fine classes c = not (among classes c) || is_identifier c
 -- no token but an identifier has one of these classes
 abbrev pub only_names : List Class → Bool
 only_names classes =
-    list_all (λ w. is_fine classes w.1) (keywords_of C11)
+    list_all (λ w. is_fine classes w.1) (keywords_of Gnu)
     && (list_all (λ w. is_fine classes w.1) punctuators
     && (is_fine classes (class_of_kind c99 kind.Number [])
     && (is_fine classes (class_of_kind c99 kind.Char [])
@@ -42,7 +42,7 @@ pub implied : (c d : Bool) → (not c || d) ≡ true → c ≡ true → d ≡ tr
 implied true d h e = h
 implied false d h e = absurd (false≢true e)
 
-module _ (std : Standard) where
+module _ (std : Dialect) where
   module _ (classes : List Class) (only : only_names classes ≡ true) where
     spelled_fine : (words : List Spelled) (text : List ℕ) (other : Class) → list_all (λ w. is_fine classes w.1) words ≡ true → is_fine classes other ≡ true
         → is_fine classes (spelled_class words text other) ≡ true
@@ -59,7 +59,7 @@ module _ (std : Standard) where
 
     -- what is asked of each kind
     record AreFine : Type 0 where
-      words : list_all (λ w. is_fine classes w.1) (keywords_of C11) ≡ true
+      words : list_all (λ w. is_fine classes w.1) (keywords_of Gnu) ≡ true
       signs : list_all (λ w. is_fine classes w.1) punctuators ≡ true
       number : is_fine classes (class_of_kind (grammar std) kind.Number []) ≡ true
       char : is_fine classes (class_of_kind (grammar std) kind.Char []) ≡ true
@@ -74,7 +74,7 @@ module _ (std : Standard) where
         let four : Bool = is_fine classes (class_of_kind (grammar std) kind.Char []) && five in
         let three : Bool = is_fine classes (class_of_kind (grammar std) kind.Number []) && four in
         let two : Bool = list_all (λ w. is_fine classes w.1) punctuators && three in
-        let a = and_parts (list_all (λ w. is_fine classes w.1) (keywords_of C11)) two only in
+        let a = and_parts (list_all (λ w. is_fine classes w.1) (keywords_of Gnu)) two only in
         let b = and_parts (list_all (λ w. is_fine classes w.1) punctuators) three a.1 in
         let c = and_parts (is_fine classes (class_of_kind (grammar std) kind.Number [])) four b.1 in
         let d = and_parts (is_fine classes (class_of_kind (grammar std) kind.Char [])) five c.1 in

@@ -1,7 +1,7 @@
 -- Where names stand, a production reads identifiers.
 use Rattle.std.proofs.Common.{ℕ, zero, suc, ◌+◌, ◌%◌, ◌≡◌, Bool, true, false, ◌&&◌, ◌||◌, not, if◌then◌else◌, ◌==◌, List, length, Ok, Err, nat_lt, inl, inr, refl, sym, ap, subst, ◌∙◌, arith}
 use Rattle.std.proofs.lemmas.Bool.{and_parts, cases_eq, eq-eqb, ne_eqb, and_from, or_left, or_right}
-use Rattle.cs_base.specs.declared.ws_units.Standard.{Standard}
+use Rattle.c99_grammar.specs.declared.dialects.Dialect.{Dialect}
 use Rattle.cs_base.specs.Token.{Token}
 use Rattle.c99_tree.specs.Tree.{Forest, none, token, node, Node, leaf, inner, put, count_of}
 use Rattle.c99_tree.specs.declared.production.Label.{Label}
@@ -253,7 +253,7 @@ count_inner none n = refl
 count_inner (token j rest) n = omega (arith, count_inner rest n)
 count_inner (node l begin under rest) n = omega (arith, count_inner rest n)
 
-module _ (std : Standard) where
+module _ (std : Dialect) where
   each_place : (test : Place → Bool) (c : Place) → all_places test ≡ true → test c ≡ true
   each_place test c all =
       let one_ = and_parts (test first) (test second && (test even && test odd)) all in

@@ -1,7 +1,7 @@
 -- The names of a tree that is read are identifiers.
 use Rattle.std.proofs.Common.{ℕ, zero, suc, ◌+◌, ◌≡◌, Bool, true, false, if◌then◌else◌, List, [], ◌∷◌, length, Ok, Err, refl, sym, subst, ◌∙◌, arith}
 use Rattle.std.proofs.lemmas.Bool.{and_parts, and_from}
-use Rattle.cs_base.specs.declared.ws_units.Standard.{Standard}
+use Rattle.c99_grammar.specs.declared.dialects.Dialect.{Dialect}
 use Rattle.cs_base.specs.Token.{Token}
 use Rattle.c99_tree.specs.Tree.{Forest, none, token, node, Node, leaf, inner, put, lone, collapsed, count_of}
 use Rattle.c99_tree.specs.declared.production.Label.{Label}
@@ -35,7 +35,7 @@ opened_text : (p : Production) (n : ℕ) (s : State) → (opened p n s).toks ≡
 unfolding opened
 opened_text p n s = refl
 
-module _ (std : Standard) where
+module _ (std : Dialect) where
   acted_text : (a : Action) (s : State) → SameText s (acted (grammar std) a s)
   unfolding acted
   acted_text a s = refl

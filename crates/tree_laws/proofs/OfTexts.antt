@@ -1,6 +1,6 @@
 -- The tree that is read of a text is one of this text.
 use Rattle.std.proofs.Common.{◌≡◌, true, List, Ok, Err, refl, sym, subst, ◌∙◌}
-use Rattle.cs_base.specs.declared.ws_units.Standard.{Standard}
+use Rattle.c99_grammar.specs.declared.dialects.Dialect.{Dialect}
 use Rattle.cs_base.specs.Token.{Token}
 use Rattle.c99_tree.specs.Tree.{Node, lone}
 use Rattle.c99_tree.specs.declared.production.Production.TheVariants.{TranslationUnit}
@@ -22,7 +22,7 @@ tree_formed toks (Ok s) tree keeps e =
     subst (λ (n : Node). each has_form n.under ≡ true) same (each_lone has_form s.built.under s.built below refl)
 tree_formed toks (Err stop) tree keeps e = absurd (cc)
 
-module _ (std : Standard) where
+module _ (std : Dialect) where
   unit_keeps : (toks : List Token) → After (Keeps has_form (at_first toks)) (whole (grammar std) 0 (produce TranslationUnit) (at_first toks))
   unfolding whole
   unit_keeps toks = forms_within (grammar std) (grammar_formed std) (steps_for (produce TranslationUnit) (at_first toks)) 0 TranslationUnit (at_first toks)

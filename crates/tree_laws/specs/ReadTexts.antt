@@ -1,6 +1,6 @@
 -- What is true of the tree of every text that is read.
 use Rattle.std.specs.Prelude.{ℕ, ◌<◌, ◌≤◌, ◌≡◌, ◌≢◌, true, List, length, Some, Ok, IfErr, All, AllPairs}
-use Rattle.cs_base.specs.declared.ws_units.Standard.{Standard}
+use Rattle.c99_grammar.specs.declared.dialects.Dialect.{Dialect}
 use Rattle.cs_base.specs.Token.{Token}
 use Rattle.c99_tree.specs.Tree.{Node}
 use Rattle.c99_read.specs.Reading.{Stop, syntax, too_deep, read_of}
@@ -30,9 +30,9 @@ abbrev pub AllTokensStandInTrees : Type 0
 AllTokensStandInTrees =
     (g : Grammar) (toks : List Token) (tree : Node) → reads_all g ≡ true → Reads g toks tree → token_count tree.under ≡ length toks
 
--- by each standard the tree that is read is one of the text (ISO/IEC 9899:1999 and 9899:2011, Annex A.2)
+-- by each dialect the tree that is read is one of the text (ISO/IEC 9899:1999 and 9899:2011, Annex A.2)
 abbrev pub TreesAreOfTheirTexts : Type 0
-TreesAreOfTheirTexts = (s : Standard) (toks : List Token) (tree : Node) → Reads (grammar s) toks tree → IsTreeOf (length toks) tree
+TreesAreOfTheirTexts = (s : Dialect) (toks : List Token) (tree : Node) → Reads (grammar s) toks tree → IsTreeOf (length toks) tree
 
 -- the index of the token at which reading stops
 abbrev pub place_of : Stop → ℕ
@@ -45,10 +45,10 @@ ReadingStopsInTheText = (g : Grammar) (toks : List Token) → IfErr (read_of g t
 
 -- ---- Texts that are read and bound
 
--- this is so of each text that is read by a standard, and of its binding
-abbrev pub OfEachBinding : (Standard → List Token → Bound → Type 0) → Type 0
+-- this is so of each text that is read by a dialect, and of its binding
+abbrev pub OfEachBinding : (Dialect → List Token → Bound → Type 0) → Type 0
 OfEachBinding P =
-    (s : Standard) (toks : List Token) (tree : Node) (b : Bound) → Reads (grammar s) toks tree → Binds toks tree b → P s toks b
+    (s : Dialect) (toks : List Token) (tree : Node) (b : Bound) → Reads (grammar s) toks tree → Binds toks tree b → P s toks b
 
 -- a name is a token of the text, and so is the one that names its entity (6.2.1)
 abbrev pub ReadNamesStandInTheText : Type 0
@@ -57,7 +57,7 @@ ReadNamesStandInTheText = OfEachBinding (λ s toks b. All (λ (n : Name). (n.ind
 -- a fault of binding stands at a token of the text
 abbrev pub ReadFaultsStandInTheText : Type 0
 ReadFaultsStandInTheText =
-    (s : Standard) (toks : List Token) (tree : Node) → Reads (grammar s) toks tree → IfErr (binding_of toks tree) (λ f. index_of f < length toks)
+    (s : Dialect) (toks : List Token) (tree : Node) → Reads (grammar s) toks tree → IfErr (binding_of toks tree) (λ f. index_of f < length toks)
 
 -- no token is two names
 abbrev pub EachReadTokenIsOneName : Type 0

@@ -4,12 +4,12 @@ use Rattle.std.specs.List.{list_all}
 use Rattle.std.specs.Option.{option_map_or}
 use Rattle.std.specs.Str.{bytes_eq}
 use Rattle.std.proofs.lemmas.Bool.{false≢true, and_parts, not-true}
-use Rattle.tree_laws.specs.Below.cs_base.declared.ws_units.Standard.{Standard}
+use Rattle.tree_laws.specs.Below.c99_grammar.declared.dialects.Dialect.{Dialect}
 use Rattle.tree_laws.specs.Below.cs_base.Token.{Token}
 use Rattle.tree_laws.specs.Below.cs_base.declared.tokens.Kind.{Kind}
 use Rattle.tree_laws.specs.Below.cs_base.declared.tokens.Kind.TheVariants as kind
 use Rattle.tree_laws.specs.Below.c99_tree.declared.production.Production.TheVariants.{Enumerator, Pdirect}
-use Rattle.tree_laws.specs.Below.cs_base.declared.ws_units.Standard.TheVariants.{C11}
+use Rattle.tree_laws.specs.Below.c99_grammar.declared.dialects.Dialect.TheVariants.{Gnu}
 use Rattle.tree_laws.specs.Below.c99_grammar.Classes.{among}
 use Rattle.tree_laws.specs.Below.c99_grammar.Items.{names}
 use Rattle.tree_laws.specs.Below.c99_grammar.Spellings.{Spelled, keywords_of, punctuators}
@@ -61,7 +61,7 @@ spelled_base (w ∷ words) text other all last =
     by true h k = h
     by false h k = k
 
-module _ (std : Standard) where
+module _ (std : Dialect) where
   kind_base : (k : Kind) (text : List ℕ) → is_base (class_of_kind (grammar std) k text) ≡ true
   kind_base kind.Ident text = spelled_base (keywords_of std) text _ (keywords_fit is_base refl std) refl
   kind_base kind.Punct text = spelled_base punctuators text _ refl refl

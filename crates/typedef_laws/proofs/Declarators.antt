@@ -2,7 +2,7 @@
 use Rattle.std.proofs.Common.{ℕ, zero, suc, ◌+◌, ◌≡◌, Bool, true, false, ◌&&◌, if◌then◌else◌, ◌==◌, List, [], ◌∷◌, length, Option, None, Some, Ok, Err, nat_lt, ◌⊎◌, inl, inr, refl, sym, ap, subst}
 use Rattle.std.specs.List.{list_all}
 use Rattle.std.proofs.lemmas.Bool.{false≢true, and_parts, and_left}
-use Rattle.tree_laws.specs.Below.cs_base.declared.ws_units.Standard.{Standard}
+use Rattle.tree_laws.specs.Below.c99_grammar.declared.dialects.Dialect.{Dialect}
 use Rattle.tree_laws.specs.Below.cs_base.Token.{Token}
 use Rattle.tree_laws.specs.Below.c99_tree.Tree.{Forest}
 use Rattle.tree_laws.specs.Below.c99_tree.declared.production.Label.{Label}
@@ -11,7 +11,7 @@ use Rattle.tree_laws.specs.Below.c99_tree.declared.production.Production.TheVari
 use Rattle.tree_laws.specs.Below.c99_tree.contracts.production.ProductionPartialEq.TheImpl.{ghosts}
 use Rattle.tree_laws.specs.Below.c99_grammar.Items.{Item, one, part, end_of_text, act, ◌·◌, choice, maybe, many, deep, Test, own, scope, end, declare, name, keep, again, Alternative}
 use Rattle.tree_laws.specs.Below.c99_grammar.Standard.{c99, grammar}
-use Rattle.tree_laws.proofs.Below.c99_grammar.StandardLemmas.{both}
+use Rattle.tree_laws.proofs.Below.c99_grammar.StandardLemmas.{by_dialect}
 use Rattle.tree_laws.specs.Below.c99_read.Sound.{is_met, goal_has_token}
 use Rattle.tree_laws.specs.Below.c99_read.State.{State, Names, last_declared, last_identifier, declaration, in_innermost, with_declared, acted, opened, closed}
 use Rattle.tree_laws.specs.Below.c99_read.Reading.{Goal, produce, repeat, Step, syntax, and_then, deepest, take_one, enter, may, step, alternative, pick, read_within}
@@ -96,7 +96,7 @@ both_after : (P Q : State → Type 0) (r : Step) → After P r → After Q r →
 both_after P Q (Err stop) m m' = tt
 both_after P Q (Ok s) m m' = (m, m')
 
-module _ (std : Standard) where
+module _ (std : Dialect) where
   -- .. in each production but the one of lists
   inert_at : (p : Production) → is_reached p ≡ true → ghosts.eq p Suffix ≡ false → all_inert ((grammar std).table p) ≡ true
   inert_at TranslationUnit h k = absurd (false≢true h)
@@ -113,10 +113,10 @@ module _ (std : Standard) where
   inert_at Sub h k = absurd (false≢true h)
   inert_at ForInit h k = absurd (false≢true h)
   inert_at Suffix h k = absurd (false≢true (sym k))
-  inert_at Sassert h k = both (λ s. all_inert ((grammar s).table Sassert) ≡ true) refl refl std
-  inert_at Mod h k = both (λ s. all_inert ((grammar s).table Mod) ≡ true) refl refl std
-  inert_at Member h k = both (λ s. all_inert ((grammar s).table Member) ≡ true) refl refl std
-  inert_at MemRest h k = both (λ s. all_inert ((grammar s).table MemRest) ≡ true) refl refl std
+  inert_at Sassert h k = by_dialect (λ s. all_inert ((grammar s).table Sassert) ≡ true) refl refl refl std
+  inert_at Mod h k = by_dialect (λ s. all_inert ((grammar s).table Mod) ≡ true) refl refl refl std
+  inert_at Member h k = by_dialect (λ s. all_inert ((grammar s).table Member) ≡ true) refl refl refl std
+  inert_at MemRest h k = by_dialect (λ s. all_inert ((grammar s).table MemRest) ≡ true) refl refl refl std
   inert_at _ h k = refl
 
   module _ (toks : List Token) where

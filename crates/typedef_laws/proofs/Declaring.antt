@@ -1,7 +1,7 @@
 -- Names that are declared: at the end of a declarator, and in an identifier list.
 use Rattle.std.proofs.Common.{ℕ, ◌+◌, ◌<◌, ◌≤◌, ◌≡◌, Bool, true, false, ◌&&◌, ◌||◌, if◌then◌else◌, ◌==◌, List, [], ◌∷◌, Option, None, Some, Ok, Err, inl, inr, refl, sym, ap, subst, ◌∙◌, arith}
 use Rattle.std.proofs.lemmas.Bool.{false≢true, and_parts}
-use Rattle.tree_laws.specs.Below.cs_base.declared.ws_units.Standard.{Standard}
+use Rattle.tree_laws.specs.Below.c99_grammar.declared.dialects.Dialect.{Dialect}
 use Rattle.tree_laws.specs.Below.cs_base.Token.{Token}
 use Rattle.tree_laws.specs.Below.c99_tree.Tree.{Forest, none, token, node, Node, inner, put, count_of}
 use Rattle.tree_laws.specs.Below.c99_tree.declared.production.Label.{Label}
@@ -66,7 +66,7 @@ put_matches at k i from to depth t (s ∷ outer) (e ∷ ends) es b h m =
 abbrev pub naming : State → Option ℕ → Bool → State
 naming s i t = record s { names = with_declared s.names i t }
 
-module _ (std : Standard) where
+module _ (std : Dialect) where
   -- ---- The name of a declarator
 
   has_name_same : (p : Production) (n : ℕ) → (is_direct p && (n == 1)) ≡ ((ghosts.eq p Direct && (n == 1)) || (ghosts.eq p Pdirect && (n == 1)))

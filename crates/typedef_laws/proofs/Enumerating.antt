@@ -1,6 +1,6 @@
 -- Enumerators (6.7.2.2), and parameters in parentheses (6.7.5.3 paragraph 11).
 use Rattle.std.proofs.Common.{ℕ, ◌+◌, ◌<◌, ◌≡◌, Bool, true, false, List, length, None, Some, Ok, Err, nat_lt, inl, inr, refl, sym, ap, subst, ◌∙◌, arith}
-use Rattle.tree_laws.specs.Below.cs_base.declared.ws_units.Standard.{Standard}
+use Rattle.tree_laws.specs.Below.c99_grammar.declared.dialects.Dialect.{Dialect}
 use Rattle.tree_laws.specs.Below.cs_base.Token.{Token}
 use Rattle.tree_laws.specs.Below.c99_tree.Tree.{none, Node}
 use Rattle.tree_laws.specs.Below.c99_tree.declared.production.Label.{Label}
@@ -21,7 +21,7 @@ use Rattle.typedef_laws.proofs.Steps.{Reads, Grows, after_if, taken, quiet_goes,
 use Rattle.typedef_laws.proofs.Declaring.{naming, outer_declared, put_matches}
 use Rattle.typedef_laws.proofs.Listing.{last_put, last_other, last_node, named_is}
 
-module _ (std : Standard) where
+module _ (std : Dialect) where
   module _ (toks : List Token) where
     abbrev enumerator : Label
     enumerator = labelled Enumerator 1

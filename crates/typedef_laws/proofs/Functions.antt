@@ -1,7 +1,7 @@
 -- Reading bodies of functions, and what stands around them (6.9.1).
 use Rattle.std.proofs.Common.{ℕ, ◌+◌, ◌<◌, ◌≤◌, ◌≡◌, Bool, true, false, ◌&&◌, not, if◌then◌else◌, List, [], ◌∷◌, ◌++◌, length, Option, None, Some, Ok, Err, nat_lt, refl, sym, ap, subst, ◌∙◌, arith}
 use Rattle.std.proofs.lemmas.Bool.{false≢true, le-ltb}
-use Rattle.tree_laws.specs.Below.cs_base.declared.ws_units.Standard.{Standard}
+use Rattle.tree_laws.specs.Below.c99_grammar.declared.dialects.Dialect.{Dialect}
 use Rattle.tree_laws.specs.Below.cs_base.Token.{Token}
 use Rattle.tree_laws.specs.Below.c99_tree.Tree.{Forest, Node, node_of, leaf, inner, put, count_of, collapsed}
 use Rattle.tree_laws.specs.Below.c99_tree.declared.production.Label.{Label}
@@ -70,7 +70,7 @@ outer_nearest : (p : Production) (n : Node) (near : Bool) → is_outer p ≡ tru
 outer_nearest Specs n near h = absurd (false≢true h)
 outer_nearest _ n near h = refl
 
-module _ (std : Standard) where
+module _ (std : Dialect) where
   module _ (toks : List Token) (base : List (List Declaration)) (pre : Outline → Type 0) where
     -- what is known of the outline where a node begins that was read from s to s'
     abbrev pub Fitting : State → State → Node → Type 0

@@ -1,7 +1,7 @@
 -- Reading goes on beside the outline of binding.
 use Rattle.std.proofs.Common.{ℕ, ◌+◌, ◌<◌, ◌≤◌, ◌≡◌, Bool, true, false, ◌&&◌, if◌then◌else◌, List, length, Ok, Err, refl, sym, ap, subst, ◌∙◌, arith}
 use Rattle.std.proofs.lemmas.Bool.{false≢true, and_parts}
-use Rattle.tree_laws.specs.Below.cs_base.declared.ws_units.Standard.{Standard}
+use Rattle.tree_laws.specs.Below.c99_grammar.declared.dialects.Dialect.{Dialect}
 use Rattle.tree_laws.specs.Below.cs_base.Token.{Token}
 use Rattle.tree_laws.specs.Below.c99_tree.Tree.{Forest, none, token, node, Node, node_of, leaf, inner, put, count_of, lone, collapsed}
 use Rattle.tree_laws.specs.Below.c99_tree.declared.production.Label.{Label}
@@ -31,7 +31,7 @@ pub record IsIn (l : Label) (first : ℕ) (s : State) : Type 0 where
   pub label : s.built.label ≡ l
   pub begins : s.built.first ≡ first
 
-module _ (std : Standard) where
+module _ (std : Dialect) where
   module _ (toks : List Token) where
     -- The state beside the outline: `o` is what was known where the open node, of this label, began, and `ends` says where
     -- the open scopes end.

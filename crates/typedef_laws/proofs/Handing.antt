@@ -2,7 +2,7 @@
 use Rattle.std.proofs.Common.{ℕ, ◌+◌, ◌<◌, ◌≤◌, ◌≡◌, Bool, true, false, ◌&&◌, if◌then◌else◌, ◌==◌, List, [], ◌∷◌, ◌++◌, length, Option, None, Some, ◌⊎◌, inl, inr, refl, sym, ap, subst, ◌∙◌, arith}
 use Rattle.std.specs.Option.{option_or}
 use Rattle.std.proofs.lemmas.Bool.{false≢true, and_parts, and_left, eqb-true, ne_eqb}
-use Rattle.tree_laws.specs.Below.cs_base.declared.ws_units.Standard.{Standard}
+use Rattle.tree_laws.specs.Below.c99_grammar.declared.dialects.Dialect.{Dialect}
 use Rattle.tree_laws.specs.Below.cs_base.Token.{Token}
 use Rattle.tree_laws.specs.Below.c99_tree.Tree.{Forest, none, token, node, Node, node_of, leaf, inner, put, lone, collapsed}
 use Rattle.tree_laws.specs.Below.c99_tree.declared.production.Label.{Label}
@@ -217,7 +217,7 @@ names_same : (o o' : Outline) (x : Option ℕ) (es es' : List Entry) → ((list 
 names_same o o' None es es' h = refl
 names_same o o' (Some list) es es' h = ap (λ r. Some r) (sym (h list))
 
-module _ (std : Standard) where
+module _ (std : Dialect) where
   -- a tame node says its declarations alone
   tame_behind : (l : Label) (begins : ℕ) (under : Forest) (o : Outline) → is_tame l.production ≡ true
       → behind (node_of l begins under) o ≡ record o { entries = (outlined under (begun l begins under o)).entries; nth = o.nth + 1 }

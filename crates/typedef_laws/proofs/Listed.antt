@@ -1,7 +1,7 @@
 -- The names of a parameter list that ends are the declarations of its scope.
 use Rattle.std.proofs.Common.{ℕ, ◌+◌, ◌<◌, ◌≤◌, ◌≡◌, Bool, true, false, ◌&&◌, not, if◌then◌else◌, List, [], ◌∷◌, ◌++◌, None, nat_lt, refl, sym, ap, subst, ◌∙◌, arith}
 use Rattle.std.proofs.lemmas.Bool.{le-ltb, lt-ltb}
-use Rattle.tree_laws.specs.Below.cs_base.declared.ws_units.Standard.{Standard}
+use Rattle.tree_laws.specs.Below.c99_grammar.declared.dialects.Dialect.{Dialect}
 use Rattle.tree_laws.specs.Below.cs_base.Token.{Token}
 use Rattle.tree_laws.specs.Below.c99_tree.Tree.{Forest, none, token, node, leaf, put}
 use Rattle.tree_laws.specs.Below.c99_tree.declared.production.Label.{Label}
@@ -81,7 +81,7 @@ outlined_scope none o = refl
 outlined_scope (token i rest) o = outlined_scope rest _
 outlined_scope (node l first under rest) o = outlined_scope rest _
 
-module _ (std : Standard) where
+module _ (std : Dialect) where
   -- ---- Scopes that end at one token, and declarations that show them
 
   abbrev levels : List (List Declaration) → ℕ → List ℕ

@@ -1,7 +1,7 @@
 -- Names that are declared where they stand: in an identifier list, and at the end of an enumerator.
 use Rattle.std.proofs.Common.{ℕ, ◌+◌, ◌<◌, ◌≡◌, true, false, not, if◌then◌else◌, ◌==◌, ◌%◌, List, length, Option, None, Some, Ok, Err, refl, sym, ap, subst, ◌∙◌, arith}
 use Rattle.std.proofs.lemmas.Bool.{eqb-false, eqb-true, eq-eqb, ne_eqb}
-use Rattle.tree_laws.specs.Below.cs_base.declared.ws_units.Standard.{Standard}
+use Rattle.tree_laws.specs.Below.c99_grammar.declared.dialects.Dialect.{Dialect}
 use Rattle.tree_laws.specs.Below.cs_base.Token.{Token}
 use Rattle.tree_laws.specs.Below.c99_tree.Tree.{Forest, none, token, node, Node, leaf, inner, put, count_of}
 use Rattle.tree_laws.specs.Below.c99_tree.declared.production.Label.{Label}
@@ -45,7 +45,7 @@ comma = classes_of (front_of more_listed)
 abbrev pub listed_items : Item
 listed_items = one identifiers · act name
 
-module _ (std : Standard) where
+module _ (std : Dialect) where
   -- ---- The last identifier among some children
 
   pub last_put : (toks : List Token) (f : Forest) (i : ℕ) (found : Option ℕ) → is_identifier (base_at (grammar std) toks i) ≡ true

@@ -3,7 +3,7 @@ use Rattle.std.proofs.Common.{ℕ, ◌+◌, ◌≡◌, Bool, true, false, ◌&&�
 use Rattle.std.specs.Prelude.{find, filter_map, is_some}
 use Rattle.std.specs.List.{cons_option}
 use Rattle.std.specs.Option.{option_map_or}
-use Rattle.tree_laws.specs.Below.cs_base.declared.ws_units.Standard.{Standard}
+use Rattle.tree_laws.specs.Below.c99_grammar.declared.dialects.Dialect.{Dialect}
 use Rattle.tree_laws.specs.Below.cs_base.Token.{Token}
 use Rattle.tree_laws.specs.Below.c99_tree.Tree.{Forest, none, token, node}
 use Rattle.tree_laws.specs.Below.c99_tree.declared.production.Label.{Label}
@@ -52,7 +52,7 @@ fault_same : (c : Bool) (cause : Cause) (i : ℕ) (facts : Facts) → (with_faul
 fault_same true cause i facts = refl
 fault_same false cause i facts = refl
 
-module _ (std : Standard) where
+module _ (std : Dialect) where
   module _ (toks : List Token) where
     used_same : (i : ℕ) (r : Option Declaration) (facts : Facts) → (used_as toks i r facts).declared ≡ facts.declared
     used_same i None facts = refl

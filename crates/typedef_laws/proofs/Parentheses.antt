@@ -1,6 +1,6 @@
 -- A parameter's declarator in parentheses (6.7.5.3 paragraph 11).
 use Rattle.std.proofs.Common.{ℕ, ◌+◌, ◌<◌, ◌≡◌, Bool, true, false, ◌||◌, not, List, length, Ok, Err, refl, sym, ap, subst, ◌∙◌, arith}
-use Rattle.tree_laws.specs.Below.cs_base.declared.ws_units.Standard.{Standard}
+use Rattle.tree_laws.specs.Below.c99_grammar.declared.dialects.Dialect.{Dialect}
 use Rattle.tree_laws.specs.Below.cs_base.Token.{Token}
 use Rattle.tree_laws.specs.Below.c99_tree.declared.production.Label.{Label}
 use Rattle.tree_laws.specs.Below.c99_tree.declared.production.Production.TheVariants.{Pdirect}
@@ -19,7 +19,7 @@ use Rattle.typedef_laws.proofs.Rules.{labelled, fine}
 use Rattle.typedef_laws.proofs.Goes.{After, with_token, IsIn, Goes, goes_further, Body}
 use Rattle.typedef_laws.proofs.Steps.{Reads, taken, goes_step, quiet_goes, goes_named, opened_outer}
 
-module _ (std : Standard) where
+module _ (std : Dialect) where
   module _ (toks : List Token) where
     abbrev in_parentheses : Label
     in_parentheses = labelled Pdirect 2

@@ -1,7 +1,7 @@
 -- Which productions declare and which begin scopes, and what may stand in them.
 use Rattle.std.proofs.Common.{ℕ, ◌+◌, ◌%◌, ◌≡◌, Bool, true, false, ◌&&◌, ◌||◌, not, if◌then◌else◌, ◌==◌, List, Option, refl, sym, ap, ◌∙◌}
 use Rattle.std.proofs.lemmas.Bool.{false≢true, and_parts, not-true}
-use Rattle.tree_laws.specs.Below.cs_base.declared.ws_units.Standard.{Standard}
+use Rattle.tree_laws.specs.Below.c99_grammar.declared.dialects.Dialect.{Dialect}
 use Rattle.tree_laws.specs.Below.cs_base.Token.{Token}
 use Rattle.tree_laws.specs.Below.c99_tree.Tree.{Forest, none, token, node, leaf, inner, Node, put}
 use Rattle.tree_laws.specs.Below.c99_tree.declared.production.Label.{Label}
@@ -371,7 +371,7 @@ held_told InitDecl q h = tame_told q h
 held_told ExtRest q h = tame_told q h
 held_told p q h = either_told (collapses p) (is_tame q) (is_bodiless q) (tame_told q) h
 
-module _ (std : Standard) where
+module _ (std : Dialect) where
   -- ---- Tokens
 
   pub quiet_token : (toks : List Token) (p : Production) (a k i : ℕ) (es : List Entry) → is_quiet p a ≡ true → token_agrees std toks p a k i es ≡ true

@@ -1,6 +1,6 @@
 -- Nodes that are scopes: blocks, parameter lists, statements and substatements (6.2.1 paragraph 4).
 use Rattle.std.proofs.Common.{ℕ, ◌+◌, ◌<◌, ◌≤◌, ◌≡◌, true, List, [], ◌∷◌, length, inl, inr, refl, sym, ap, subst, ◌∙◌, arith}
-use Rattle.tree_laws.specs.Below.cs_base.declared.ws_units.Standard.{Standard}
+use Rattle.tree_laws.specs.Below.c99_grammar.declared.dialects.Dialect.{Dialect}
 use Rattle.tree_laws.specs.Below.cs_base.Token.{Token}
 use Rattle.tree_laws.specs.Below.c99_tree.Tree.{Forest, leaf, put}
 use Rattle.tree_laws.specs.Below.c99_tree.declared.production.Label.{Label}
@@ -29,7 +29,7 @@ ended_scopes names (a ∷ outer) (s ∷ x) op same = ap (λ y. (with_scope_ended
 abbrev pub renamed_to : State → Names → State
 renamed_to s names = record s { names = names }
 
-module _ (std : Standard) where
+module _ (std : Dialect) where
   module _ (toks : List Token) where
     -- a scope begins in the open node
     pub scope_fits : (l : Label) (s : State) (to : ℕ) (ends : List ℕ) (o : Outline) → Fits std toks l s ends o → Fits std toks l (acted (grammar std) scope s) (to ∷ ends) o

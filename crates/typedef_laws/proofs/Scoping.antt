@@ -1,7 +1,7 @@
 -- Reading nodes that are scopes.
 use Rattle.std.proofs.Common.{ℕ, ◌+◌, ◌<◌, ◌≡◌, Bool, true, false, ◌&&◌, if◌then◌else◌, List, [], ◌∷◌, length, Ok, Err, refl, sym, ap, subst, ◌∙◌, arith}
 use Rattle.std.proofs.lemmas.Bool.{false≢true, and_parts}
-use Rattle.tree_laws.specs.Below.cs_base.declared.ws_units.Standard.{Standard}
+use Rattle.tree_laws.specs.Below.c99_grammar.declared.dialects.Dialect.{Dialect}
 use Rattle.tree_laws.specs.Below.cs_base.Token.{Token}
 use Rattle.tree_laws.specs.Below.c99_tree.Tree.{Forest, leaf, put}
 use Rattle.tree_laws.specs.Below.c99_tree.declared.production.Label.{Label}
@@ -41,7 +41,7 @@ abbrev pub whole_fine : Label → Item → Bool
 whole_fine l (act scope · rest) = ends_fine l rest && (has_token rest && is_low 64 rest)
 whole_fine l _ = false
 
-module _ (std : Standard) where
+module _ (std : Dialect) where
   module _ (toks : List Token) where
     -- ---- Blocks (6.8.2) and parameter lists (6.7.5.3)
 

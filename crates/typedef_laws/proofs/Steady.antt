@@ -2,7 +2,7 @@
 use Rattle.std.proofs.Common.{ℕ, ◌+◌, ◌-◌, ◌<◌, ◌≤◌, ◌≡◌, Bool, true, false, ◌&&◌, if◌then◌else◌, ◌==◌, List, [], ◌∷◌, length, take, Option, None, Some, unwrap_or, inl, inr, ◌⊎◌, refl, sym, ap, subst, ◌∙◌, arith}
 use Rattle.std.proofs.lemmas.Bool.{and_left, ne_eqb}
 use Rattle.std.proofs.lemmas.List.{length-append, length-take-le}
-use Rattle.tree_laws.specs.Below.cs_base.declared.ws_units.Standard.{Standard}
+use Rattle.tree_laws.specs.Below.c99_grammar.declared.dialects.Dialect.{Dialect}
 use Rattle.tree_laws.specs.Below.c99_tree.Tree.{Forest, none, token, node, Node, leaf, inner, put, lone, collapsed}
 use Rattle.tree_laws.specs.Below.c99_tree.declared.production.Label.{Label}
 use Rattle.tree_laws.specs.Below.c99_tree.declared.production.Production.{Production}
@@ -163,7 +163,7 @@ past_inside b l first under o w h past list e =
     (ends_here o.scope.depth b l.production l under w h o.scope (inl refl))
     ∙ past list e
 
-module _ (std : Standard) where
+module _ (std : Dialect) where
   acted_heads : (a : Action) (s : State) → length (names_after (grammar std) a s).heads ≡ length s.names.heads
   acted_heads scope s = refl
   acted_heads end s = ap length (ended_heads s.names s.names.scopes)

@@ -1,7 +1,7 @@
 -- Reading an item in which no scope begins and nothing is declared, and a node that is made of such items.
 use Rattle.std.proofs.Common.{ℕ, ◌+◌, ◌<◌, ◌≡◌, Bool, true, false, ◌&&◌, if◌then◌else◌, ◌==◌, List, length, Ok, Err, nat_lt, refl, sym, subst}
 use Rattle.std.proofs.lemmas.Bool.{false≢true, and_parts, ltb-true}
-use Rattle.tree_laws.specs.Below.cs_base.declared.ws_units.Standard.{Standard}
+use Rattle.tree_laws.specs.Below.c99_grammar.declared.dialects.Dialect.{Dialect}
 use Rattle.tree_laws.specs.Below.cs_base.Token.{Token}
 use Rattle.tree_laws.specs.Below.c99_tree.Tree.{Forest}
 use Rattle.tree_laws.specs.Below.c99_tree.declared.production.Label.{Label}
@@ -36,7 +36,7 @@ after_then P Q (Ok s) next_step m n = n s m
 abbrev pub Grows : Production → State → State → Type 0
 Grows p s s' = never_empty p ≡ true → s.at < s'.at
 
-module _ (std : Standard) where
+module _ (std : Dialect) where
   -- what is so of the state behind a token of these classes
   pub taken : (P : State → Type 0) (classes : List Class) (s : State) → (among classes (class_at (grammar std) s s.at) ≡ true → s.at < length s.toks → P (with_token s))
       → After P (take_one (grammar std) classes s)

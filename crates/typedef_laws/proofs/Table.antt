@@ -1,14 +1,14 @@
 -- Each production reads to a node that agrees with the outline of binding.
 use Rattle.std.proofs.Common.{ℕ, zero, suc, ◌+◌, ◌≡◌, Bool, true, false, ◌&&◌, ◌||◌, not, if◌then◌else◌, List, [], ◌∷◌, length, Ok, Err, inl, inr, refl, ap, arith}
 use Rattle.std.proofs.lemmas.Bool.{false≢true, and_parts, or_cases, not-true}
-use Rattle.tree_laws.specs.Below.cs_base.declared.ws_units.Standard.{Standard}
+use Rattle.tree_laws.specs.Below.c99_grammar.declared.dialects.Dialect.{Dialect}
 use Rattle.tree_laws.specs.Below.cs_base.Token.{Token}
 use Rattle.tree_laws.specs.Below.c99_tree.declared.production.Production.{Production}
 use Rattle.tree_laws.specs.Below.c99_tree.declared.production.Production.TheVariants.{TranslationUnit, External, ExtRest, ExtTail, FunBody, Declaration, DeclRest, InitDecl, Sassert, Specs, Main, Mod, Qual, Word, StructSpec, SuRest, Members, Member, MemRest, Mdecl, EnumSpec, EnRest, Enumerators, Enumerator, Declarator, Pointer, Direct, Suffix, Bound, Params, Param, Pdecl, Pdirect, TypeName, Adecl, Adirect, Init, InitList, InitItem, Designator, Expr, Assign, Asgop, Cond, Lor, Land, Bor, Bxor, Band, Equal, Relate, Shift, Add, Mul, Cast, CastRest, Unary, SizeRest, SizeLit, Primary, Post, Args, Block, BlockItem, Statement, Sub, ForInit}
 use Rattle.tree_laws.specs.Below.c99_grammar.Classes.{among}
 use Rattle.tree_laws.specs.Below.c99_grammar.Items.{Item, many, end_of_text, own, Alternative, plain}
 use Rattle.tree_laws.specs.Below.c99_grammar.Standard.{c99, grammar}
-use Rattle.tree_laws.proofs.Below.c99_grammar.StandardLemmas.{both}
+use Rattle.tree_laws.proofs.Below.c99_grammar.StandardLemmas.{by_dialect}
 use Rattle.tree_laws.specs.Below.c99_read.Sound.{never_empty, is_met, goal_has_token}
 use Rattle.tree_laws.specs.Below.c99_read.State.{State, class_at, opened}
 use Rattle.tree_laws.specs.Below.c99_read.Reading.{Goal, produce, repeat, Step, may, step, pick, read_within}
@@ -52,7 +52,7 @@ after_test : (P : State → Type 0) (b : Bool) (r r' : Step) → (b ≡ true →
 after_test P true r r' m m' = m refl
 after_test P false r r' m m' = m'
 
-module _ (std : Standard) where
+module _ (std : Dialect) where
   module _ (toks : List Token) where
     module _ (below : ℕ → Goal → State → Step) (reads : Reads std toks below)
         (moves : (depth : ℕ) (goal : Goal) (s : State) → is_met goal ≡ true → Moves (goal_has_token goal) s (below depth goal s)) (depth : ℕ) where
@@ -141,18 +141,18 @@ module _ (std : Standard) where
             (λ m. ok_body Pdirect 3 (nth_of 2 (c99.table Pdirect)) s refl, tt),
           ),
         )
-        bodies_of Declaration s h = ok_bodies Declaration 1 ((grammar std).table Declaration) s (both (λ v. all_ok Declaration 1 ((grammar v).table Declaration) ≡ true) refl refl std)
+        bodies_of Declaration s h = ok_bodies Declaration 1 ((grammar std).table Declaration) s (by_dialect (λ v. all_ok Declaration 1 ((grammar v).table Declaration) ≡ true) refl refl refl std)
         bodies_of DeclRest s h = ok_bodies DeclRest 1 (c99.table DeclRest) s refl
-        bodies_of Sassert s h = ok_bodies Sassert 1 ((grammar std).table Sassert) s (both (λ v. all_ok Sassert 1 ((grammar v).table Sassert) ≡ true) refl refl std)
+        bodies_of Sassert s h = ok_bodies Sassert 1 ((grammar std).table Sassert) s (by_dialect (λ v. all_ok Sassert 1 ((grammar v).table Sassert) ≡ true) refl refl refl std)
         bodies_of Specs s h = ok_bodies Specs 1 (c99.table Specs) s refl
-        bodies_of Mod s h = ok_bodies Mod 1 ((grammar std).table Mod) s (both (λ v. all_ok Mod 1 ((grammar v).table Mod) ≡ true) refl refl std)
+        bodies_of Mod s h = ok_bodies Mod 1 ((grammar std).table Mod) s (by_dialect (λ v. all_ok Mod 1 ((grammar v).table Mod) ≡ true) refl refl refl std)
         bodies_of Qual s h = ok_bodies Qual 1 (c99.table Qual) s refl
         bodies_of Word s h = ok_bodies Word 1 (c99.table Word) s refl
         bodies_of StructSpec s h = ok_bodies StructSpec 1 (c99.table StructSpec) s refl
         bodies_of SuRest s h = ok_bodies SuRest 1 (c99.table SuRest) s refl
         bodies_of Members s h = ok_bodies Members 1 (c99.table Members) s refl
-        bodies_of Member s h = ok_bodies Member 1 ((grammar std).table Member) s (both (λ v. all_ok Member 1 ((grammar v).table Member) ≡ true) refl refl std)
-        bodies_of MemRest s h = ok_bodies MemRest 1 ((grammar std).table MemRest) s (both (λ v. all_ok MemRest 1 ((grammar v).table MemRest) ≡ true) refl refl std)
+        bodies_of Member s h = ok_bodies Member 1 ((grammar std).table Member) s (by_dialect (λ v. all_ok Member 1 ((grammar v).table Member) ≡ true) refl refl refl std)
+        bodies_of MemRest s h = ok_bodies MemRest 1 ((grammar std).table MemRest) s (by_dialect (λ v. all_ok MemRest 1 ((grammar v).table MemRest) ≡ true) refl refl refl std)
         bodies_of Mdecl s h = ok_bodies Mdecl 1 (c99.table Mdecl) s refl
         bodies_of EnumSpec s h = ok_bodies EnumSpec 1 (c99.table EnumSpec) s refl
         bodies_of EnRest s h = ok_bodies EnRest 1 (c99.table EnRest) s refl

@@ -1,6 +1,6 @@
 -- Tokens that are read by their class: type names and primary expressions.
 use Rattle.std.proofs.Common.{ℕ, ◌+◌, ◌≡◌, Bool, true, false, not, if◌then◌else◌, ◌==◌, List, Ok, Err, refl, sym, ap, ◌∙◌, arith}
-use Rattle.tree_laws.specs.Below.cs_base.declared.ws_units.Standard.{Standard}
+use Rattle.tree_laws.specs.Below.c99_grammar.declared.dialects.Dialect.{Dialect}
 use Rattle.tree_laws.specs.Below.cs_base.Token.{Token}
 use Rattle.tree_laws.specs.Below.c99_tree.declared.production.Label.{Label}
 use Rattle.tree_laws.specs.Below.c99_tree.declared.production.Production.TheVariants.{Main, Mod, Primary}
@@ -16,7 +16,7 @@ use Rattle.typedef_laws.proofs.Rules.{labelled}
 use Rattle.typedef_laws.proofs.Goes.{After, with_token, Fits, Goes, token_goes, Body}
 use Rattle.typedef_laws.proofs.Steps.{Reads, taken, goes_then, goes_step, goes_body, opened_in}
 
-module _ (std : Standard) where
+module _ (std : Dialect) where
   module _ (toks : List Token) where
     module _ (l : Label) (s : State) where
       -- what the reader says of the next token, the outline says too

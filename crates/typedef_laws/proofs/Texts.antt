@@ -1,7 +1,7 @@
 -- A text that is read as one production, and one that is read as a unit.
 use Rattle.std.proofs.Common.{◌≤◌, ◌≡◌, true, List, [], ◌∷◌, length, Result, Ok, Err, refl, ap, subst, ◌∙◌, arith}
 use Rattle.std.proofs.lemmas.Bool.{and_from}
-use Rattle.tree_laws.specs.Below.cs_base.declared.ws_units.Standard.{Standard}
+use Rattle.tree_laws.specs.Below.c99_grammar.declared.dialects.Dialect.{Dialect}
 use Rattle.tree_laws.specs.Below.cs_base.Token.{Token}
 use Rattle.tree_laws.specs.Below.c99_tree.Tree.{none, node, Node, node_of, lone}
 use Rattle.tree_laws.specs.Below.c99_tree.declared.production.Production.{Production}
@@ -27,7 +27,7 @@ read_as n = Ok n
 ok_child : (x y c : Node) → read_as x ≡ read_as y → x ≡ c → c ≡ y
 ok_child x y c h k = cc
 
-module _ (std : Standard) where
+module _ (std : Dialect) where
   module _ (toks : List Token) (p : Production) where
     made_agrees : (s : State) → Makes std toks p (at_first toks) s → (tree : Node) → tree_of (Ok s) ≡ Ok tree
         → agrees std toks (node tree.label tree.first tree.under none) (before (length toks)) ≡ true

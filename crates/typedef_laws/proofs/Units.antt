@@ -1,7 +1,7 @@
 -- Reading external definitions (6.9), and the unit that is made of them.
 use Rattle.std.proofs.Common.{ℕ, zero, suc, ◌<◌, ◌≤◌, ◌≡◌, Bool, true, false, ◌&&◌, if◌then◌else◌, ◌==◌, List, [], ◌∷◌, length, Option, None, Some, Ok, Err, refl, sym, ap, subst, ◌∙◌, arith}
-use Rattle.tree_laws.specs.Below.cs_base.declared.ws_units.Standard.{Standard}
-use Rattle.tree_laws.specs.Below.cs_base.declared.ws_units.Standard.TheVariants.{C99}
+use Rattle.tree_laws.specs.Below.c99_grammar.declared.dialects.Dialect.{Dialect}
+use Rattle.tree_laws.specs.Below.c99_grammar.declared.dialects.Dialect.TheVariants.{C99, C11}
 use Rattle.tree_laws.specs.Below.cs_base.Token.{Token}
 use Rattle.tree_laws.specs.Below.c99_tree.Tree.{Forest, none, node, Node, inner, put}
 use Rattle.tree_laws.specs.Below.c99_tree.declared.production.Label.{Label}
@@ -11,7 +11,7 @@ use Rattle.tree_laws.specs.Below.c99_tree.contracts.production.ProductionPartial
 use Rattle.tree_laws.specs.Below.c99_grammar.Items.{Item, part, end_of_text, act, ◌·◌, many, own, end, declare, again, plain}
 use Rattle.tree_laws.specs.Below.c99_grammar.Grammar.{externals}
 use Rattle.tree_laws.specs.Below.c99_grammar.Standard.{c99, grammar}
-use Rattle.tree_laws.proofs.Below.c99_grammar.StandardLemmas.{both}
+use Rattle.tree_laws.proofs.Below.c99_grammar.StandardLemmas.{by_dialect}
 use Rattle.tree_laws.specs.Below.c99_read.State.{State, Names, last_declared, with_declared, with_scope_ended, acted, opened, closed}
 use Rattle.tree_laws.specs.Below.c99_read.Reading.{Goal, produce, repeat, Step, syntax, at_end, at_first, and_then, may, step, alternative, pick, read_within}
 use Rattle.tree_laws.proofs.Below.c99_read.Moves.{Moves}
@@ -58,7 +58,7 @@ tail_back n [] op = absurd op
 tail_back n (a ∷ []) op = absurd op
 tail_back n (a ∷ (b ∷ outer)) op = refl
 
-module _ (std : Standard) where
+module _ (std : Dialect) where
   module _ (toks : List Token) where
     -- the node of a body or of a declaration that is none, where the names of the list are in the scope
     abbrev pub Tails : Production → State → State → Type 0
@@ -452,18 +452,23 @@ module _ (std : Standard) where
           (opens_alternative s.names.scopes (IsFresh s) External n external_items s refl (external_body n s))
           tt
 
-      external_made : (s : State) → After (Defines External s) (pick (grammar std) below depth External 1 ((grammar std).table External) s)
-      external_made s =
-          both (λ v. After (Defines External s) (pick (grammar std) below depth External 1 (externals v) s))
-          (after_test (Defines External s) (may (grammar std) own semicolon_external s) (alternative (grammar std) below depth External 1 semicolon_external s)
-          (pick (grammar std) below depth External 2 (plain external_items ∷ []) s)
-          (plain_external 1 semicolon_external s refl refl refl) (specs_external 2 s))
-          (after_test (Defines External s) (may (grammar std) own semicolon_external s) (alternative (grammar std) below depth External 1 semicolon_external s)
+      -- where an assertion may stand for a definition (C11 6.7.10)
+      asserted_external : (s : State) → After (Defines External s) (pick (grammar std) below depth External 1 (externals C11) s)
+      asserted_external s =
+          after_test (Defines External s) (may (grammar std) own semicolon_external s) (alternative (grammar std) below depth External 1 semicolon_external s)
           (pick (grammar std) below depth External 2 (plain (part Sassert) ∷ (plain external_items ∷ [])) s)
           (plain_external 1 semicolon_external s refl refl refl)
           (after_test (Defines External s) (may (grammar std) own (part Sassert) s) (alternative (grammar std) below depth External 2 (part Sassert) s)
           (pick (grammar std) below depth External 3 (plain external_items ∷ []) s)
-          (plain_external 2 (part Sassert) s refl refl refl) (specs_external 3 s)))
+          (plain_external 2 (part Sassert) s refl refl refl) (specs_external 3 s))
+
+      external_made : (s : State) → After (Defines External s) (pick (grammar std) below depth External 1 ((grammar std).table External) s)
+      external_made s =
+          by_dialect (λ v. After (Defines External s) (pick (grammar std) below depth External 1 (externals v) s))
+          (after_test (Defines External s) (may (grammar std) own semicolon_external s) (alternative (grammar std) below depth External 1 semicolon_external s)
+          (pick (grammar std) below depth External 2 (plain external_items ∷ []) s)
+          (plain_external 1 semicolon_external s refl refl refl) (specs_external 2 s))
+          (asserted_external s) (asserted_external s)
           std
 
     pub outer_within : (fuel : ℕ) → OuterReads (read_within (grammar std) fuel)

@@ -1,7 +1,7 @@
 -- Where a tree is read as its names are bound (ISO/IEC 9899:1999, 6.2.1, 6.7.7 and 6.7.5.3 paragraph 11).
 use Rattle.std.specs.Prelude.{ℕ, Bool, true, false, ◌&&◌, ◌||◌, ◌+◌, not, List, if◌then◌else◌, ◌==◌, ◌%◌}
 use Rattle.std.specs.Option.{option_map_or}
-use Rattle.tree_laws.specs.Below.cs_base.declared.ws_units.Standard.{Standard}
+use Rattle.tree_laws.specs.Below.c99_grammar.declared.dialects.Dialect.{Dialect}
 use Rattle.tree_laws.specs.Below.cs_base.Token.{Token}
 use Rattle.tree_laws.specs.Below.c99_tree.Tree.{Forest, none, token, node}
 use Rattle.tree_laws.specs.Below.c99_tree.declared.production.Label.{Label}
@@ -29,7 +29,7 @@ module _ (toks : List Token) where
   is_read_so Params alternative k i facts = if (alternative == 1) && (k % 2 == 0) then not (denotes_typedef i facts) else true
   is_read_so _ alternative k i facts = true
 
-module _ (std : Standard) where
+module _ (std : Dialect) where
   module _ (toks : List Token) where
     -- An identifier directly behind the parenthesis that begins a parameter's declarator is the declared name: it is none
     -- before it is declared (6.7.5.3 paragraph 11).

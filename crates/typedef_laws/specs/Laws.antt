@@ -1,6 +1,6 @@
 -- What is true of each text that is read, as to its typedef names.
 use Rattle.std.specs.Prelude.{Bool, true, false, ◌≡◌, List, length, Ok}
-use Rattle.tree_laws.specs.Below.cs_base.declared.ws_units.Standard.{Standard}
+use Rattle.tree_laws.specs.Below.c99_grammar.declared.dialects.Dialect.{Dialect}
 use Rattle.tree_laws.specs.Below.cs_base.Token.{Token}
 use Rattle.tree_laws.specs.Below.c99_tree.Tree.{none, node, Node}
 use Rattle.tree_laws.specs.Below.c99_tree.declared.production.Production.{Production}
@@ -24,10 +24,10 @@ is_bodiless _ = true
 -- and the declaration lists before them too.
 abbrev pub NamesAreReadAsTheyAreBound : Type 0
 NamesAreReadAsTheyAreBound =
-    (s : Standard) (toks : List Token) (tree : Node) → read_of (grammar s) toks ≡ Ok tree → agrees s toks tree.under (before (length toks)) ≡ true
+    (s : Dialect) (toks : List Token) (tree : Node) → read_of (grammar s) toks ≡ Ok tree → agrees s toks tree.under (before (length toks)) ≡ true
 
 -- So it is in the tree that is read of a text as one production by itself, a declaration, a statement or an expression.
 abbrev pub NamesOfPartsAreReadAsTheyAreBound : Type 0
 NamesOfPartsAreReadAsTheyAreBound =
-    (s : Standard) (toks : List Token) (p : Production) (tree : Node) → is_bodiless p ≡ true → tree_of (whole (grammar s) 0 (produce p) (at_first toks)) ≡ Ok tree
+    (s : Dialect) (toks : List Token) (p : Production) (tree : Node) → is_bodiless p ≡ true → tree_of (whole (grammar s) 0 (produce p) (at_first toks)) ≡ Ok tree
     → agrees s toks (node tree.label tree.first tree.under none) (before (length toks)) ≡ true

@@ -17,6 +17,7 @@ use Rattle.include_tree.specs.Below.unit_steps.Texts.{UnitTextValue}
 use Rattle.include_tree.specs.Preprocessed.{Preprocessed}
 use Rattle.c99_tree.specs.Tree.{Node}
 use Rattle.c99_read.specs.Reading.{Stop, syntax, too_deep, read_of}
+use Rattle.c99_read.specs.Below.c99_grammar.Dialects.{dialect}
 use Rattle.c99_read.specs.Below.c99_grammar.Standard.{grammar}
 use Rattle.scope_bind.specs.Bound.{Bound, binding_of}
 use Rattle.scope_bind.specs.Causes.{cause_of, index_of}
@@ -81,7 +82,7 @@ bound_unit standard table path text tree =
 abbrev pub read_unit : Standard → Table → List ℕ → UnitTextValue → Result UnitAnalysis Fault
 read_unit standard table path text =
     result_then (bound_unit standard table path text)
-    (result_map_err (λ stop. fault_at_index table path text.toks (stop_index stop) (stop_cause stop)) (read_of (grammar standard) text.toks))
+    (result_map_err (λ stop. fault_at_index table path text.toks (stop_index stop) (stop_cause stop)) (read_of (grammar (dialect standard)) text.toks))
 
 -- Units that are accepted, and what each number of a file stands for behind them.
 pub record UnitsValue : Type 0 where

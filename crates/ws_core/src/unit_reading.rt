@@ -4,6 +4,7 @@ ghost use Rattle.std.specs.Option.{option_map};
 ghost use Rattle.cs_base.specs.Answer.{Gives, result_map_err};
 ghost use Rattle.c99_read.specs.Answer.{stop_of};
 ghost use Rattle.c99_read.specs.Reading.{read_of};
+ghost use Rattle.c99_read.specs.Below.c99_grammar.Dialects.{dialect};
 ghost use Rattle.c99_read.specs.Below.c99_grammar.Standard.{grammar};
 ghost use Rattle.scope_bind.specs.Causes.{cause_of, index_of};
 ghost use Rattle.c_types.specs.Faults.{fault_of as name_fault_of};
@@ -15,7 +16,7 @@ ghost use Rattle.ws_core.specs.Accepting.{told_of_stop, told_fault, MayTell, IsN
 use crate::accepted::UnitParts;
 use crate::analyse_fault::AnalyseFault;
 use crate::fault_places::place_of_index;
-use c99_read::{ReadRefusal, read};
+use c99_read::{Dialect, ReadRefusal, read};
 use c99_tree::Tree;
 use cs_base::{Cause, Standard, Tok};
 use include_tree::{Cache, UnitText};
@@ -50,12 +51,12 @@ pub(crate) fn read_text(
 
 // The tree of the tokens; 2^32 of them and more want too much memory.
 fn read_toks(alloc: Global, toks: &[Tok], standard: Standard) -> Result<Tree, ReadRefusal>
-    ensures { Gives (λ tree. tree) stop_of result (read_of (grammar standard) toks.now) }
+    ensures { Gives (λ tree. tree) stop_of result (read_of (grammar (dialect standard)) toks.now) }
 {
     if toks.len() > u32::MAX as usize {
         return Err(ReadRefusal::Memory);
     }
-    read(alloc, toks, standard)
+    read(alloc, toks, Dialect::of(standard))
 }
 
 // The same for a unit whose tokens have this tree.

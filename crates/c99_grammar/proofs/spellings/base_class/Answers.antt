@@ -9,12 +9,12 @@ pub returns-in-Ident : goal.returns-in-Ident
 unfolding base_class
 returns-in-Ident c =
     c.word_class.ensures
-    ∙ ap (λ t. spelled_class (keywords_of c.args.standard) t Identifier) c.text.ensures.answer
-    ∙ ap (λ k. class_of_kind (grammar c.args.standard) k c.args.tok.now.text) (sym c.in-Ident.is ∙ c.kind.ensures)
+    ∙ ap (λ t. spelled_class (keywords_of c.args.dialect) t Identifier) c.text.ensures.answer
+    ∙ ap (λ k. class_of_kind (grammar c.args.dialect) k c.args.tok.now.text) (sym c.in-Ident.is ∙ c.kind.ensures)
 
 pub returns-in-Punct : goal.returns-in-Punct
 unfolding base_class
 returns-in-Punct c =
     c.spelled.ensures
     ∙ ap (λ t. spelled_class punctuators t NoClass) c.text-in-Punct.ensures.answer
-    ∙ ap (λ k. class_of_kind (grammar c.args.standard) k c.args.tok.now.text) (sym c.in-Punct.is ∙ c.kind.ensures)
+    ∙ ap (λ k. class_of_kind (grammar c.args.dialect) k c.args.tok.now.text) (sym c.in-Punct.is ∙ c.kind.ensures)

@@ -1,16 +1,8 @@
 use Rattle.std.proofs.Common.{sym, ap, ◌∙◌}
-use Rattle.c99_grammar.specs.Spellings.{keywords, keywords_added, keywords_of}
+use Rattle.c99_grammar.specs.Spellings.{keywords_of}
 use Rattle.c99_grammar.specs.TokenClasses.{spelled_class}
 use Rattle.c99_grammar.specs.declared.classes.Class.TheVariants.{Identifier}
-use Rattle.c99_grammar.proofs.SpelledLemmas.{spelled_class-append}
 use Rattle.c99_grammar.proofs.spellings.word_class.Goals as goal
 
 pub returns-in-C99 : goal.returns-in-C99
 returns-in-C99 c = c.spelled.ensures ∙ ap (λ s. spelled_class (keywords_of s) c.args.text.now Identifier) (sym c.in-C99.is)
-
-pub returns-in-C11 : goal.returns-in-C11
-returns-in-C11 c =
-    c.spelled-in-C11.ensures
-    ∙ ap (λ other. spelled_class keywords c.args.text.now other) c.spelled-other.ensures
-    ∙ spelled_class-append keywords keywords_added c.args.text.now Identifier
-    ∙ ap (λ s. spelled_class (keywords_of s) c.args.text.now Identifier) (sym c.in-C11.is)

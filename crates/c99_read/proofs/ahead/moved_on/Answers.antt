@@ -8,5 +8,5 @@ returns c =
     let further : c.args.at + 2 ≡ c.args.at + 1 + 1 = omega arith in
     record {
       here = c.requires.ahead_of.behind;
-      behind = c.class_at.ensures ∙ ap (class_among (grammar c.args.standard) c.args.toks.now c.args.visible.now) further;
+      behind = c.class_at.ensures ∙ ap (class_among (grammar c.args.dialect) c.args.toks.now c.args.visible.now) further;
     }

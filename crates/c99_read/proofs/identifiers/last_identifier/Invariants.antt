@@ -7,7 +7,7 @@ use Rattle.c99_read.proofs.identifiers.last_identifier.Given as goal
 -- no identifier stands behind child k
 abbrev pub invariant-children : goal.invariant-children
 invariant-children l =
-    (found : Option ℕ) → last_identifier (grammar l.standard) l.toks (from_child l.k l.node.under) found ≡ found
+    (found : Option ℕ) → last_identifier (grammar l.dialect) l.toks (from_child l.k l.node.under) found ≡ found
 
 abbrev pub decreases-children : goal.decreases-children
 decreases-children l = l.k

@@ -43,9 +43,9 @@ decreases-deep l = 100000 * (257 - l.depth) + 2
 
 abbrev pub invariant-repeated-turns : goal.invariant-repeated-turns
 invariant-repeated-turns l =
-    (l.self.standard ≡ l.standard) ×
-    (step (grammar l.standard) (whole (grammar l.standard)) l.depth (many (test_of l.test) (item_of l.item)) l.self.state
-    ≡ step (grammar l.standard) (whole (grammar l.standard)) l.depth (many (test_of l.test) (item_of l.item)) l.initial.self.state)
+    (l.self.dialect ≡ l.dialect) ×
+    (step (grammar l.dialect) (whole (grammar l.dialect)) l.depth (many (test_of l.test) (item_of l.item)) l.self.state
+    ≡ step (grammar l.dialect) (whole (grammar l.dialect)) l.depth (many (test_of l.test) (item_of l.item)) l.initial.self.state)
 
 abbrev pub decreases-repeated-turns : goal.decreases-repeated-turns
 decreases-repeated-turns l = tokens_left l.self.state

@@ -17,5 +17,5 @@ pub kept_at-kept-requires : goal.kept_at-kept-requires
 kept_at-kept-requires c =
     let here = ap (λ r. length r.state.names.kept) c.self-in-names.view_is ∙ ap (λ s. length s.names.kept) c.names.invariant.1 in
     let before = ap (λ r. length r.state.names.kept) c.self.view_is in
-    let all = begun (grammar c.args.standard) c.args.self.now.state _ c.in_ok-begin_scope.ensures.answer in
+    let all = begun (grammar c.args.dialect) c.args.self.now.state _ c.in_ok-begin_scope.ensures.answer in
     omega (arith, here, before, all, c.kept_len-count.ensures, c.names-test.true)

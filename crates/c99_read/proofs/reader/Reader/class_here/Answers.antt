@@ -6,6 +6,6 @@ use Rattle.c99_read.proofs.reader.Reader.class_here.Goals as goal
 
 pub returns : goal.returns
 returns c =
-    class_at-among (grammar c.self.inside.standard) _ c.self.inside.visible c.self.inside.at c.self.inside.ahead.here c.self.invariant.visible_of c.self.invariant.ahead_of.here
-    ∙ ap (λ r. class_at (grammar r.standard) r.state (r.state.at)) c.self.view_is
+    class_at-among (grammar c.self.inside.dialect) _ c.self.inside.visible c.self.inside.at c.self.inside.ahead.here c.self.invariant.visible_of c.self.invariant.ahead_of.here
+    ∙ ap (λ r. class_at (grammar r.dialect) r.state (r.state.at)) c.self.view_is
     ∙ ap (λ s. class_at (grammar s) c.args.self.now.state (c.args.self.now.state.at)) c.requires.by

@@ -1,0 +1,10 @@
+-- Which grammar reads the C of a standard.
+use Rattle.cs_base.specs.declared.ws_units.Standard.{Standard}
+use Rattle.cs_base.specs.declared.ws_units.Standard.TheVariants as standard
+use Rattle.c99_grammar.specs.declared.dialects.Dialect.{Dialect}
+use Rattle.c99_grammar.specs.declared.dialects.Dialect.TheVariants.{C99, C11}
+
+-- Each standard has its own. No standard has that of gcc yet, which is `Gnu`.
+abbrev pub dialect : Standard → Dialect
+dialect standard.C99 = C99
+dialect standard.C11 = C11
