@@ -1,5 +1,5 @@
 -- A list of edits keeps its order and its paths' text at a push.
-use Rattle.std.proofs.Common.{◌≡◌, Bool, true, ◌&&◌, List, [], ◌∷◌, ◌++◌, IsTrue, refl, arith, length, length-append, ◌+◌, ◌^◌, ◌<◌}
+use Rattle.std.proofs.Common.{◌≡◌, true, List, [], ◌∷◌, ◌++◌, IsTrue, refl, arith, length, length-append, ◌+◌, ◌^◌, ◌<◌}
 use Rattle.std.proofs.lemmas.List.Elements.{All-append}
 use Rattle.std.specs.Prelude.{IsUtf8}
 use Rattle.std.proofs.lemmas.Bool.{and_from, and_parts}
