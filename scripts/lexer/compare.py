@@ -1,4 +1,4 @@
-"""Random texts and files through a program over part_lexer and through the model; prints how many differ."""
+"""Random texts and files through a program over lexer and through the model; prints how many differ."""
 
 import os
 import random

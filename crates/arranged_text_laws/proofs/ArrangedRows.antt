@@ -1,9 +1,9 @@
 -- Worked rows: a file with one list in another, both of which may change.
 use Rattle.std.proofs.Common.{◌≡◌, true, false, [], ◌∷◌, codes, refl, arith}
-use Rattle.part_lexer.specs.Logical.{gone_length, logical_of, logical_from}
-use Rattle.part_lexer.specs.Spelling.{is_punctuator_text, kind_of, kind_in}
-use Rattle.part_lexer.specs.Front.{front_of, plain_front, punctuator_length}
-use Rattle.part_lexer.specs.Tokens.{front_length, token_piece, piece_of}
+use Rattle.lexer.specs.Logical.{gone_length, logical_of, logical_from}
+use Rattle.lexer.specs.Spelling.{is_punctuator_text, kind_of, kind_in}
+use Rattle.lexer.specs.Front.{front_of, plain_front, punctuator_length}
+use Rattle.lexer.specs.Tokens.{front_length, token_piece, piece_of}
 use Rattle.list_cuts.specs.Cuts.{Cut, done, keep, list, ended, item, count_of, span_of, extent_of, woven, gaps_of, arranged, items_of}
 use Rattle.arranged_text_laws.specs.Settling.{settles, gap_behind, front_behind}
 use Rattle.arranged_text_laws.specs.Joining.{is_seam}

@@ -6,10 +6,10 @@ use Rattle.std.proofs.lemmas.Bool.{cases_Bool, and_parts, and_from, eqb-true, le
 use Rattle.std.proofs.lemmas.Bool.Decides.{nat_tests}
 use Rattle.cs_base.specs.declared.tokens.Kind.{Kind}
 use Rattle.cs_base.specs.declared.tokens.Kind.TheVariants.{Ident, Number, Char, Str, Punct, Other, Header}
-use Rattle.part_lexer.specs.Characters.{line_feed, single_quote, slash, star, capital_l, is_white, is_quote, is_word, is_on_line, begins}
-use Rattle.part_lexer.specs.Front.{quoted, quoted_kind, plain_front, front_of}
-use Rattle.part_lexer.specs.Tokens.{Found, FoundToken, FoundOpen, file_token, is_hash_text, with_token, is_line_start, expects_header, piece_of, piece_length, leaves_gap, line_front_after, found_in}
-use Rattle.part_lexer.proofs.LocalLemmas.{option-cases}
+use Rattle.lexer.specs.Characters.{line_feed, single_quote, slash, star, capital_l, is_white, is_quote, is_word, is_on_line, begins}
+use Rattle.lexer.specs.Front.{quoted, quoted_kind, plain_front, front_of}
+use Rattle.lexer.specs.Tokens.{Found, FoundToken, FoundOpen, file_token, is_hash_text, with_token, is_line_start, expects_header, piece_of, piece_length, leaves_gap, line_front_after, found_in}
+use Rattle.lexer.proofs.LocalLemmas.{option-cases}
 use Rattle.arranged_text_laws.specs.Settling.{Front, is_lone, begins_quote, has_line_feed, asks_nothing, keeps_line, is_closed, halts, lies_within, is_settled, settles, gap_behind}
 use Rattle.arranged_text_laws.specs.Places.{found_plain}
 use Rattle.arranged_text_laws.specs.Marks.{file_front, line_start, some_tokens, Before, front_at}

@@ -1,10 +1,10 @@
 -- Characters with other numbers and lines bring the same, elsewhere.
 use Rattle.std.proofs.Common.{◌≡◌, ℕ, Bool, ◌&&◌, ◌==◌, List, drop, map, inl, inr, refl}
 use Rattle.std.proofs.lemmas.Bool.{cases_Bool}
-use Rattle.part_lexer.specs.Characters.{line_feed, slash, star, is_white, begins}
-use Rattle.part_lexer.specs.Tokens.{comment_end, piece_of, found_in}
-use Rattle.part_lexer.proofs.LocalLemmas.{option-cases}
-use Rattle.part_lexer.proofs.PieceLocal.{token_piece-is}
+use Rattle.lexer.specs.Characters.{line_feed, slash, star, is_white, begins}
+use Rattle.lexer.specs.Tokens.{comment_end, piece_of, found_in}
+use Rattle.lexer.proofs.LocalLemmas.{option-cases}
+use Rattle.lexer.proofs.PieceLocal.{token_piece-is}
 use Rattle.arranged_text_laws.specs.Settling.{Front}
 use Rattle.arranged_text_laws.specs.Marks.{Mark, mark}
 use Rattle.arranged_text_laws.specs.Arranging.{moved_found}

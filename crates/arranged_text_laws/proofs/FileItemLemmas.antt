@@ -2,7 +2,7 @@
 use Rattle.std.proofs.Common.{◌≡◌, ℕ, zero, suc, ◌≤◌, Bool, not, List, [], ◌∷◌, length, take, drop, map, get_or, refl, sym, ap, subst, ◌∙◌, arith, length-take-le}
 use Rattle.std.proofs.lemmas.List.{length-map}
 use Rattle.cs_base.specs.Token.{Token}
-use Rattle.part_lexer.specs.Tokens.{Found, FoundToken, FoundOpen, found_of, tokens_in, firsts_in, tokens_of, firsts_of as firsts_of_bytes}
+use Rattle.lexer.specs.Tokens.{Found, FoundToken, FoundOpen, found_of, tokens_in, firsts_in, tokens_of, firsts_of as firsts_of_bytes}
 use Rattle.line_shape.specs.Signs.{is_hash}
 use Rattle.line_shape.specs.Items.{items_of}
 use Rattle.list_cuts.specs.Cuts.{Cut, done, keep, list, Items, span_of, extent_of, IsOrder, arranged, AreOf}

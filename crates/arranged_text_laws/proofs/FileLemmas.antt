@@ -5,8 +5,8 @@ use Rattle.std.specs.List.{position_or_len}
 use Rattle.std.proofs.lemmas.Bool.{eq-eqb, lt-ltb}
 use Rattle.std.proofs.lemmas.List.{map-append, length-map, take-map, drop-map, get_or-map, get_or_default, same_lists}
 use Rattle.std.proofs.lemmas.List.Sums.{position_or_len_is}
-use Rattle.part_lexer.specs.Logical.{Character, logical_of, spelling, line_at}
-use Rattle.part_lexer.specs.Tokens.{Found, FoundToken, FoundOpen, piece_of, piece_length, leaves_gap, line_front_after, expects_header, found_in, found_from, found_of}
+use Rattle.lexer.specs.Logical.{Character, logical_of, spelling, line_at}
+use Rattle.lexer.specs.Tokens.{Found, FoundToken, FoundOpen, piece_of, piece_length, leaves_gap, line_front_after, expects_header, found_in, found_from, found_of}
 use Rattle.list_cuts.specs.Cuts.{Cut, done, keep, list, Items, ended, item, count_of, span_of, extent_of, numbers, IsOrder, arranged, moved, AreOf, AreItemsOf}
 use Rattle.list_cuts.proofs.OrderLemmas.{length-numbers, get_or-numbers}
 use Rattle.list_cuts.proofs.CutLemmas.{arranged-map, length-arranged, arranged_permutes}

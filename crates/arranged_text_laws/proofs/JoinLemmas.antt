@@ -2,8 +2,8 @@
 use Rattle.std.proofs.Common.{◌≡◌, ℕ, zero, suc, ◌+◌, ◌-◌, ◌≤◌, Bool, true, ◌&&◌, ◌||◌, ◌==◌, cond, List, [], ◌∷◌, ◌++◌, length, take, inl, inr, refl, sym, ap, subst, ◌∙◌, arith, add-zero, append_assoc}
 use Rattle.std.proofs.lemmas.Bool.{cases_Bool, and_parts, eqb-true}
 use Rattle.std.proofs.lemmas.List.{map-append, take-append-le}
-use Rattle.part_lexer.specs.Logical.{Character, character, gone_length, logical_from, spelling, line_at}
-use Rattle.part_lexer.specs.Tokens.{Found, piece_of, piece_length, leaves_gap, expects_header, line_front_after, found_in, found_from, found_of}
+use Rattle.lexer.specs.Logical.{Character, character, gone_length, logical_from, spelling, line_at}
+use Rattle.lexer.specs.Tokens.{Found, piece_of, piece_length, leaves_gap, expects_header, line_front_after, found_in, found_from, found_of}
 use Rattle.arranged_text_laws.specs.Settling.{Front, Piece, is_lone, begins_stop, keeps_line, is_closed, halts, lies_within, is_settled, settles, gap_behind, front_behind, found_within}
 use Rattle.arranged_text_laws.specs.Joining.{is_seam, TextsJoin, LogicalTextsJoin, FilesBegin}
 use Rattle.arranged_text_laws.proofs.PieceStays.{piece_stays, size_same, found_same, front_same}

@@ -6,9 +6,9 @@ use Rattle.std.specs.Str.{bytes_eq}
 use Rattle.std.proofs.lemmas.Bool.{cases_Bool, and_parts, and_from, eqb-true}
 use Rattle.cs_base.specs.declared.tokens.Kind.{Kind}
 use Rattle.cs_base.specs.declared.tokens.Kind.TheVariants.{Ident}
-use Rattle.part_lexer.specs.Characters.{line_feed, slash, star, capital_l, is_quote, is_on_line, begins}
-use Rattle.part_lexer.specs.Front.{plain_front, front_of}
-use Rattle.part_lexer.specs.Tokens.{Found, FoundToken, FoundOpen, file_token, is_hash_text, with_token, is_line_start, expects_header, comment_end, piece_of, piece_length, leaves_gap, line_front_after, found_in}
+use Rattle.lexer.specs.Characters.{line_feed, slash, star, capital_l, is_quote, is_on_line, begins}
+use Rattle.lexer.specs.Front.{plain_front, front_of}
+use Rattle.lexer.specs.Tokens.{Found, FoundToken, FoundOpen, file_token, is_hash_text, with_token, is_line_start, expects_header, comment_end, piece_of, piece_length, leaves_gap, line_front_after, found_in}
 use Rattle.arranged_text_laws.specs.Settling.{Front, is_lone, is_stop, begins_quote, has_line_feed, asks_nothing, keeps_line, halts, is_settled, settles}
 use Rattle.arranged_text_laws.specs.Places.{found_plain}
 use Rattle.arranged_text_laws.specs.Marks.{file_front, line_start, some_tokens, Before, front_at}

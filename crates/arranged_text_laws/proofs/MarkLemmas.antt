@@ -2,10 +2,10 @@
 use Rattle.std.proofs.Common.{◌≡◌, ℕ, zero, suc, ◌+◌, ◌-◌, ◌<◌, Bool, true, false, ◌&&◌, ◌||◌, ◌==◌, List, [], ◌∷◌, ◌++◌, length, take, drop, map, inl, inr, refl, sym, ap, ◌∙◌, arith, append_assoc, take-append-drop}
 use Rattle.std.proofs.lemmas.Bool.{cases_Bool, and_parts, eqb-true}
 use Rattle.std.proofs.lemmas.List.{map-append}
-use Rattle.part_lexer.specs.Characters.{line_feed, slash, star, is_white, begins}
-use Rattle.part_lexer.specs.Tokens.{Found, comment_end, piece_of, piece_length, leaves_gap, line_front_after, expects_header, is_line_start, found_in}
-use Rattle.part_lexer.proofs.LocalLemmas.{option-cases}
-use Rattle.part_lexer.proofs.PieceLocal.{token_piece-is}
+use Rattle.lexer.specs.Characters.{line_feed, slash, star, is_white, begins}
+use Rattle.lexer.specs.Tokens.{Found, comment_end, piece_of, piece_length, leaves_gap, line_front_after, expects_header, is_line_start, found_in}
+use Rattle.lexer.proofs.LocalLemmas.{option-cases}
+use Rattle.lexer.proofs.PieceLocal.{token_piece-is}
 use Rattle.list_cuts.specs.Cuts.{Cut, done, keep, list, Items, ended, item, span_of}
 use Rattle.arranged_text_laws.specs.Labels.{head_with, starts, IsLed}
 use Rattle.arranged_text_laws.specs.Settling.{Front, Piece, is_stop, is_lone, begins_stop, is_closed, halts, keeps_line, lies_within, is_settled, settles, gap_behind, front_behind}

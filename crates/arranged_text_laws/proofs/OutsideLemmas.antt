@@ -4,10 +4,10 @@ use Rattle.std.specs.Prelude.{sum_by}
 use Rattle.std.proofs.lemmas.Bool.{cases_Bool}
 use Rattle.std.proofs.lemmas.List.{drop-drop, take-map, drop-map, length-map, get_or-map, get_or-take, get_or-drop, same_lists}
 use Rattle.std.proofs.lemmas.List.Sums.{sum_by-cons, sum_by-append}
-use Rattle.part_lexer.specs.Characters.{line_feed, line_after}
-use Rattle.part_lexer.specs.Logical.{gone_length, logical_from, line_at}
-use Rattle.part_lexer.specs.Tokens.{Found, piece_of, piece_length, leaves_gap, line_front_after, expects_header, found_in}
-use Rattle.part_lexer.proofs.ScanLemmas.{line-step}
+use Rattle.lexer.specs.Characters.{line_feed, line_after}
+use Rattle.lexer.specs.Logical.{gone_length, logical_from, line_at}
+use Rattle.lexer.specs.Tokens.{Found, piece_of, piece_length, leaves_gap, line_front_after, expects_header, found_in}
+use Rattle.lexer.proofs.ScanLemmas.{line-step}
 use Rattle.list_cuts.specs.Cuts.{Cut, done, keep, list, Items, count_of, span_of, extent_of, IsOrder, picked, woven, gaps_of, arranged, items_of, AreOf, AreItemsOf}
 use Rattle.list_cuts.proofs.CutLemmas.{sum-arranged, length-arranged, short-drop}
 use Rattle.arranged_text_laws.specs.Settling.{Front}

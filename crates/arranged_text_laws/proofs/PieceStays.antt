@@ -6,11 +6,11 @@ use Rattle.std.proofs.lemmas.Bool.{cases_Bool, and_parts, or_cases, eqb-true, le
 use Rattle.std.proofs.lemmas.Bool.Decides.{nat_tests}
 use Rattle.cs_base.specs.declared.tokens.Kind.{Kind}
 use Rattle.cs_base.specs.declared.tokens.Kind.TheVariants.{Ident, Punct, Other}
-use Rattle.part_lexer.specs.Characters.{line_feed, slash, star, capital_l, is_nondigit, is_digit, is_word, is_quote, is_on_line, is_white, begins}
-use Rattle.part_lexer.specs.Tokens.{token_piece, piece_of, piece_length, comment_end, comment_or_open, line_front_after, found_in}
-use Rattle.part_lexer.specs.Front.{quoted, quoted_kind, quoted_front, punctuator_length, plain_front, front_of}
-use Rattle.part_lexer.proofs.LocalLemmas.{option-cases, comment_end-local}
-use Rattle.part_lexer.proofs.PieceLocal.{token_piece-is}
+use Rattle.lexer.specs.Characters.{line_feed, slash, star, capital_l, is_nondigit, is_digit, is_word, is_quote, is_on_line, is_white, begins}
+use Rattle.lexer.specs.Tokens.{token_piece, piece_of, piece_length, comment_end, comment_or_open, line_front_after, found_in}
+use Rattle.lexer.specs.Front.{quoted, quoted_kind, quoted_front, punctuator_length, plain_front, front_of}
+use Rattle.lexer.proofs.LocalLemmas.{option-cases, comment_end-local}
+use Rattle.lexer.proofs.PieceLocal.{token_piece-is}
 use Rattle.arranged_text_laws.specs.Settling.{Front, is_lone, is_stop, begins_stop, begins_quote, has_line_feed, asks_nothing, keeps_line, is_closed, halts, lies_within, is_settled}
 use Rattle.arranged_text_laws.proofs.StopLemmas.{ends, on_line_alone, quoted_stays, Quotes, plain_same, front_line}
 

@@ -2,11 +2,11 @@
 use Rattle.std.proofs.Common.{◌≡◌, ℕ, zero, suc, ◌+◌, ◌-◌, Bool, ◌&&◌, ◌==◌, List, [], ◌∷◌, ◌++◌, map, drop, inl, inr, refl, ap, ◌∙◌, arith}
 use Rattle.std.proofs.lemmas.Bool.{cases_Bool}
 use Rattle.std.proofs.lemmas.List.{map-append}
-use Rattle.part_lexer.specs.Characters.{line_feed, slash, star, is_white, begins}
-use Rattle.part_lexer.specs.Logical.{Character, spelling, line_at}
-use Rattle.part_lexer.specs.Tokens.{Found, piece_of, piece_length, leaves_gap, line_front_after, expects_header, comment_end, found_in}
-use Rattle.part_lexer.proofs.LocalLemmas.{option-cases}
-use Rattle.part_lexer.proofs.PieceLocal.{token_piece-is}
+use Rattle.lexer.specs.Characters.{line_feed, slash, star, is_white, begins}
+use Rattle.lexer.specs.Logical.{Character, spelling, line_at}
+use Rattle.lexer.specs.Tokens.{Found, piece_of, piece_length, leaves_gap, line_front_after, expects_header, comment_end, found_in}
+use Rattle.lexer.proofs.LocalLemmas.{option-cases}
+use Rattle.lexer.proofs.PieceLocal.{token_piece-is}
 use Rattle.arranged_text_laws.specs.Settling.{Front, found_within}
 use Rattle.arranged_text_laws.specs.Places.{unplaced, found_plain, PlacesDoNotMatter}
 

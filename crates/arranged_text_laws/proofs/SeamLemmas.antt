@@ -2,8 +2,8 @@
 use Rattle.std.proofs.Common.{◌≡◌, ℕ, zero, suc, ◌+◌, ◌-◌, ◌<◌, ◌≤◌, Bool, true, false, not, ◌&&◌, ◌==◌, cond, List, [], ◌∷◌, ◌++◌, length, take, drop, map, inl, inr, refl, sym, ap, subst, ◌∙◌, arith, take-append-drop, take-add}
 use Rattle.std.proofs.lemmas.List.{drop-drop}
 use Rattle.std.proofs.lemmas.Bool.{cases_Bool, and_parts, eqb-true, eq-eqb}
-use Rattle.part_lexer.specs.Characters.{line_feed, carriage_return, backslash, begins}
-use Rattle.part_lexer.specs.Logical.{new_line_length, gone_length, logical_from, logical_of, spelling}
+use Rattle.lexer.specs.Characters.{line_feed, carriage_return, backslash, begins}
+use Rattle.lexer.specs.Logical.{new_line_length, gone_length, logical_from, logical_of, spelling}
 use Rattle.list_cuts.specs.Cuts.{Cut, done, keep, list, Items, ended, item, span_of, extent_of, IsOrder, arranged, AreOf}
 use Rattle.list_cuts.proofs.CutLemmas.{arranged-append}
 use Rattle.arranged_text_laws.specs.Labels.{head_with, masked, masked_items, starts, IsLed}

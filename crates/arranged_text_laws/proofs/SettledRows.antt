@@ -1,8 +1,8 @@
 -- Worked rows: texts of items of lists, and of what stands between them, and whether they settle.
 use Rattle.std.proofs.Common.{◌≡◌, true, false, codes, refl}
-use Rattle.part_lexer.specs.Spelling.{is_punctuator_text, kind_of, kind_in}
-use Rattle.part_lexer.specs.Tokens.{front_length, token_piece, piece_of}
-use Rattle.part_lexer.specs.Front.{front_of, plain_front, punctuator_length}
+use Rattle.lexer.specs.Spelling.{is_punctuator_text, kind_of, kind_in}
+use Rattle.lexer.specs.Tokens.{front_length, token_piece, piece_of}
+use Rattle.lexer.specs.Front.{front_of, plain_front, punctuator_length}
 use Rattle.arranged_text_laws.specs.Settling.{settles}
 use Rattle.arranged_text_laws.proofs.JoinLemmas.{files_begin}
 

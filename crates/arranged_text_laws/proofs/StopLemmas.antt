@@ -4,11 +4,11 @@ use Rattle.std.specs.List.{prefix_len, list_all}
 use Rattle.std.specs.Option.{option_map}
 use Rattle.std.proofs.lemmas.Bool.{cases_Bool, and_parts, eqb-true}
 use Rattle.std.proofs.lemmas.Bool.Decides.{nat_tests}
-use Rattle.part_lexer.specs.Characters.{line_feed, single_quote, capital_l, backslash, is_nondigit, is_digit, is_word, is_quote, is_on_line, begins}
-use Rattle.part_lexer.specs.Spelling.{may_follow, begins_number, begins_with_digit, header_close, punctuators_of_one, punctuators_of_two, punctuators_of_three, punctuators_of_four}
-use Rattle.part_lexer.specs.Tokens.{one_more}
-use Rattle.part_lexer.specs.Front.{count_following, closing, quoted, quoted_kind, wide_front, header_closing, header_length, begins_with, begins_with_one, punctuator_length, plain_front, front_of}
-use Rattle.part_lexer.proofs.LocalLemmas.{option-cases}
+use Rattle.lexer.specs.Characters.{line_feed, single_quote, capital_l, backslash, is_nondigit, is_digit, is_word, is_quote, is_on_line, begins}
+use Rattle.lexer.specs.Spelling.{may_follow, begins_number, begins_with_digit, header_close, punctuators_of_one, punctuators_of_two, punctuators_of_three, punctuators_of_four}
+use Rattle.lexer.specs.Tokens.{one_more}
+use Rattle.lexer.specs.Front.{count_following, closing, quoted, quoted_kind, wide_front, header_closing, header_length, begins_with, begins_with_one, punctuator_length, plain_front, front_of}
+use Rattle.lexer.proofs.LocalLemmas.{option-cases}
 use Rattle.arranged_text_laws.specs.Settling.{is_stop, begins_stop, has_line_feed}
 
 -- ---- stops

@@ -4,9 +4,9 @@ use Rattle.std.specs.List.{list_all, list_any}
 use Rattle.std.proofs.lemmas.List.{take-map, drop-map, map-append, length-map}
 use Rattle.cs_base.specs.declared.tokens.Kind.TheVariants.{Other}
 use Rattle.cs_base.specs.Token.{Token, token}
-use Rattle.part_lexer.specs.Logical.{Character, logical_of}
-use Rattle.part_lexer.specs.Places.{pos}
-use Rattle.part_lexer.specs.Tokens.{Found, FoundToken, FoundOpen, piece_of, piece_length, leaves_gap, line_front_after, expects_header, found_in, found_of, tokens_in, firsts_in, open_in, tokens_of, firsts_of, open_comment_of}
+use Rattle.lexer.specs.Logical.{Character, logical_of}
+use Rattle.lexer.specs.Places.{pos}
+use Rattle.lexer.specs.Tokens.{Found, FoundToken, FoundOpen, piece_of, piece_length, leaves_gap, line_front_after, expects_header, found_in, found_of, tokens_in, firsts_in, open_in, tokens_of, firsts_of, open_comment_of}
 use Rattle.list_cuts.specs.Cuts.{Cut, done, keep, list, Items, ended, item, span_of, IsOrder, arranged, AreOf}
 use Rattle.list_cuts.proofs.CutLemmas.{arranged-map, length-arranged, any-arranged}
 use Rattle.arranged_text_laws.specs.Labels.{head_with, masked, masked_items}

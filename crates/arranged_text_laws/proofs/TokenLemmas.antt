@@ -1,7 +1,7 @@
 -- What is found in characters in a new order, where each part of them may stand elsewhere.
 use Rattle.std.proofs.Common.{◌≡◌, ℕ, ◌+◌, ◌≤◌, Bool, true, false, ◌==◌, List, [], ◌∷◌, ◌++◌, length, take, drop, map, refl, sym, ap, subst, ◌∙◌, arith, append_assoc, take-append-drop, take-add}
 use Rattle.std.proofs.lemmas.List.{drop-drop, take-map, drop-map, map-append, length-map, take-append-le, drop-append-le}
-use Rattle.part_lexer.specs.Tokens.{Found, FoundToken, FoundOpen}
+use Rattle.lexer.specs.Tokens.{Found, FoundToken, FoundOpen}
 use Rattle.list_cuts.specs.Cuts.{Cut, done, keep, list, Items, ended, item, span_of, extent_of, IsOrder, arranged, AreOf}
 use Rattle.list_cuts.proofs.CutLemmas.{arranged-append, short-drop}
 use Rattle.arranged_text_laws.specs.Labels.{head_with, masked, masked_items, starts, Firsts, FirstsOfItems}

@@ -3,11 +3,11 @@ use Rattle.std.proofs.Common.{◌≡◌, ℕ, suc, ◌+◌, Bool, true, false, �
 use Rattle.std.specs.List.{prefix_len}
 use Rattle.std.proofs.lemmas.Bool.{cases_Bool, and_parts, eqb-true}
 use Rattle.std.proofs.lemmas.Bool.Decides.{nat_tests}
-use Rattle.part_lexer.specs.Characters.{line_feed, slash, star, is_white, is_on_line, begins}
-use Rattle.part_lexer.specs.Front.{front_of}
-use Rattle.part_lexer.specs.Tokens.{Found, FoundToken, FoundOpen, file_token, with_token, is_line_start, comment_end, piece_of, piece_length, leaves_gap, line_front_after, found_in}
-use Rattle.part_lexer.proofs.LocalLemmas.{option-cases}
-use Rattle.part_lexer.proofs.PieceLocal.{token_piece-is}
+use Rattle.lexer.specs.Characters.{line_feed, slash, star, is_white, is_on_line, begins}
+use Rattle.lexer.specs.Front.{front_of}
+use Rattle.lexer.specs.Tokens.{Found, FoundToken, FoundOpen, file_token, with_token, is_line_start, comment_end, piece_of, piece_length, leaves_gap, line_front_after, found_in}
+use Rattle.lexer.proofs.LocalLemmas.{option-cases}
+use Rattle.lexer.proofs.PieceLocal.{token_piece-is}
 use Rattle.arranged_text_laws.specs.Settling.{Front, is_lone, is_closed}
 use Rattle.arranged_text_laws.specs.Marks.{file_front, line_start}
 

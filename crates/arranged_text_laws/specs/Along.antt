@@ -1,7 +1,7 @@
 -- Texts whose parts may stand elsewhere (this project's, over ISO/IEC 9899:1999, 6.4 paragraph 4): each part that a cut
 -- leaves whole settles, and an item begins and ends with a token.
 use Rattle.std.specs.Prelude.{◌≡◌, ℕ, ◌+◌, ◌<◌, ◌≤◌, ◌||◌, Bool, true, false, List, [], ◌∷◌, ◌++◌, take, drop}
-use Rattle.part_lexer.specs.Tokens.{piece_of, leaves_gap, line_front_after}
+use Rattle.lexer.specs.Tokens.{piece_of, leaves_gap, line_front_after}
 use Rattle.list_cuts.specs.Cuts.{Cut, done, keep, list, Items, ended, item, count_of, span_of, extent_of}
 use Rattle.arranged_text_laws.specs.Labels.{IsListed, IsLed}
 use Rattle.arranged_text_laws.specs.Settling.{begins_stop, settles, gap_behind, front_behind}

@@ -2,8 +2,8 @@
 -- found in them is what was found, in the new order.
 use Rattle.std.specs.Prelude.{◌≡◌, ◌≤◌, ℕ, true, false, List, length, take, drop, map, get_or}
 use Rattle.cs_base.specs.Token.{token}
-use Rattle.part_lexer.specs.Places.{pos, origins_from}
-use Rattle.part_lexer.specs.Tokens.{Found, FoundToken, FoundOpen, found_of}
+use Rattle.lexer.specs.Places.{pos, origins_from}
+use Rattle.lexer.specs.Tokens.{Found, FoundToken, FoundOpen, found_of}
 use Rattle.list_cuts.specs.Cuts.{Cut, extent_of, IsOrder, arranged, moved, AreOf}
 use Rattle.arranged_text_laws.specs.Labels.{starts, masked}
 use Rattle.arranged_text_laws.specs.Settling.{begins_stop}

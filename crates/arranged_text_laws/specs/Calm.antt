@@ -3,8 +3,8 @@ use Rattle.std.specs.Prelude.{◌≡◌, ℕ, zero, suc, ◌-◌, ◌==◌, ◌&
 use Rattle.std.specs.List.{list_all}
 use Rattle.cs_base.specs.declared.tokens.Kind.{Kind}
 use Rattle.cs_base.specs.declared.tokens.Kind.TheVariants.{Other}
-use Rattle.part_lexer.specs.Characters.{line_feed, slash}
-use Rattle.part_lexer.specs.Tokens.{Found, FoundToken, FoundOpen, is_hash_text, piece_of, piece_length, leaves_gap, line_front_after, expects_header, found_in}
+use Rattle.lexer.specs.Characters.{line_feed, slash}
+use Rattle.lexer.specs.Tokens.{Found, FoundToken, FoundOpen, is_hash_text, piece_of, piece_length, leaves_gap, line_front_after, expects_header, found_in}
 use Rattle.arranged_text_laws.specs.Settling.{Front, is_lone, has_line_feed, settles, gap_behind}
 use Rattle.arranged_text_laws.specs.Labels.{starts}
 use Rattle.arranged_text_laws.specs.Places.{found_plain}

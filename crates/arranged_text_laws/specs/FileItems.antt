@@ -1,7 +1,7 @@
 -- The items of a file in which the items of lists change places (this project's, over ISO/IEC 9899:1999, 6.10).
 use Rattle.std.specs.Prelude.{◌≡◌, ◌≤◌, ℕ, suc, not, Bool, List, [], ◌∷◌, length}
 use Rattle.cs_base.specs.Token.{Token}
-use Rattle.part_lexer.specs.Tokens.{tokens_of, firsts_of}
+use Rattle.lexer.specs.Tokens.{tokens_of, firsts_of}
 use Rattle.line_shape.specs.Signs.{is_hash}
 use Rattle.line_shape.specs.Items.{items_of}
 use Rattle.list_cuts.specs.Cuts.{Cut, keep, extent_of, IsOrder, arranged, AreOf}

@@ -1,7 +1,7 @@
 -- The tokens of two texts, one behind the other (ISO/IEC 9899:1999, 5.1.1.2 phases 2 and 3).
 use Rattle.std.specs.Prelude.{◌≡◌, ℕ, zero, suc, ◌+◌, ◌-◌, ◌&&◌, ◌==◌, Bool, true, false, List, [], ◌∷◌, ◌++◌, length}
-use Rattle.part_lexer.specs.Logical.{Character, gone_length, logical_from, logical_of, spelling}
-use Rattle.part_lexer.specs.Tokens.{expects_header, is_line_start, found_from, found_of}
+use Rattle.lexer.specs.Logical.{Character, gone_length, logical_from, logical_of, spelling}
+use Rattle.lexer.specs.Tokens.{expects_header, is_line_start, found_from, found_of}
 use Rattle.arranged_text_laws.specs.Settling.{Front, begins_stop, settles, gap_behind, front_behind, found_within}
 
 -- no new-line that goes (5.1.1.2 phase 2) begins in the first text and ends in the second

@@ -14,5 +14,7 @@ pub mod Tokens
 pub mod Runs
 pub mod Parts
 pub mod FileItems
--- Words of the crates below, passed on.
-pub mod Below
+pub mod Lists
+pub mod Moving
+pub mod Apart
+pub mod RunTokens

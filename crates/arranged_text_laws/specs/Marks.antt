@@ -1,8 +1,8 @@
 -- Characters that keep their number and their line wherever they stand, and what each of them brings (ISO/IEC 9899:1999,
 -- 5.1.1.2 phase 3).
 use Rattle.std.specs.Prelude.{◌≡◌, refl, ℕ, zero, suc, ◌+◌, ◌-◌, Bool, true, false, if◌then◌else◌, List, [], ◌∷◌, length, map, codes}
-use Rattle.part_lexer.specs.Logical.{Character, logical_of, line_at}
-use Rattle.part_lexer.specs.Tokens.{Found, FoundToken, FoundOpen, with_token, piece_of, piece_length, leaves_gap, line_front_after, expects_header, found_in, found_from, found_of}
+use Rattle.lexer.specs.Logical.{Character, logical_of, line_at}
+use Rattle.lexer.specs.Tokens.{Found, FoundToken, FoundOpen, with_token, piece_of, piece_length, leaves_gap, line_front_after, expects_header, found_in, found_from, found_of}
 use Rattle.arranged_text_laws.specs.Settling.{Front}
 
 -- ---- what stands on a line

@@ -1,7 +1,7 @@
 -- Texts that stand elsewhere (ISO/IEC 9899:1999, 5.1.1.2 phase 3): what is found in them is the same but for its place.
 use Rattle.std.specs.Prelude.{◌≡◌, ℕ, zero, suc, ◌+◌, ◌-◌, Bool, List, [], ◌∷◌, ◌++◌, map}
-use Rattle.part_lexer.specs.Logical.{Character, spelling}
-use Rattle.part_lexer.specs.Tokens.{Found, FoundToken, FoundOpen, piece_of, piece_length, leaves_gap, line_front_after, expects_header, file_token, found_in}
+use Rattle.lexer.specs.Logical.{Character, spelling}
+use Rattle.lexer.specs.Tokens.{Found, FoundToken, FoundOpen, piece_of, piece_length, leaves_gap, line_front_after, expects_header, file_token, found_in}
 use Rattle.arranged_text_laws.specs.Settling.{Front, found_within}
 
 -- what is found, by its place behind a character, without its file and its line

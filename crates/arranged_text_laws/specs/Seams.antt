@@ -1,8 +1,8 @@
 -- Bytes whose parts may stand elsewhere (this project's, over ISO/IEC 9899:1999, 5.1.1.2 phase 2): no new-line that goes
 -- begins in one part and ends in another.
 use Rattle.std.specs.Prelude.{◌≡◌, ℕ, zero, suc, ◌+◌, ◌-◌, ◌<◌, ◌≤◌, ◌==◌, ◌&&◌, not, if◌then◌else◌, Bool, true, List, [], ◌∷◌, take, drop}
-use Rattle.part_lexer.specs.Characters.{line_feed, carriage_return, backslash}
-use Rattle.part_lexer.specs.Logical.{gone_length}
+use Rattle.lexer.specs.Characters.{line_feed, carriage_return, backslash}
+use Rattle.lexer.specs.Logical.{gone_length}
 use Rattle.list_cuts.specs.Cuts.{Cut, done, keep, list, Items, ended, item, count_of, span_of, extent_of}
 use Rattle.arranged_text_laws.specs.Labels.{starts, IsListed, IsLed}
 use Rattle.arranged_text_laws.specs.Joining.{is_seam}

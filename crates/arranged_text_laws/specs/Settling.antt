@@ -3,12 +3,12 @@ use Rattle.std.specs.Prelude.{ℕ, zero, suc, ◌+◌, ◌-◌, ◌&&◌, ◌||�
 use Rattle.std.specs.List.{list_any}
 use Rattle.cs_base.specs.declared.tokens.Kind.{Kind}
 use Rattle.cs_base.specs.declared.tokens.Kind.TheVariants.{Ident, Other}
-use Rattle.part_lexer.specs.Characters.{line_feed, slash, star, capital_l, is_white, is_quote, begins}
-use Rattle.part_lexer.specs.Front.{front_of}
-use Rattle.part_lexer.specs.Logical.{Character, spelling, line_at}
-use Rattle.part_lexer.specs.Tokens.{Found, comment_end, with_token, piece_of, piece_length, leaves_gap, line_front_after, expects_header, found_in}
+use Rattle.lexer.specs.Characters.{line_feed, slash, star, capital_l, is_white, is_quote, begins}
+use Rattle.lexer.specs.Front.{front_of}
+use Rattle.lexer.specs.Logical.{Character, spelling, line_at}
+use Rattle.lexer.specs.Tokens.{Found, comment_end, with_token, piece_of, piece_length, leaves_gap, line_front_after, expects_header, found_in}
 
--- ---- what stands on a line before a piece, and pieces: as the functions of the crate `part_lexer` have them
+-- ---- what stands on a line before a piece, and pieces: as the functions of the crate `lexer` have them
 
 abbrev pub result_of : {A B : Type 0} → (A → B) → Type 0
 result_of {A} {B} f = B

@@ -1,9 +1,9 @@
 -- The tokens of a file in which the items of lists change places (this project's, over ISO/IEC 9899:1999, 5.1.1.2 phase 3).
 use Rattle.std.specs.Prelude.{◌≡◌, ℕ, Bool, false, List, length, map, None}
 use Rattle.cs_base.specs.Token.{Token, token}
-use Rattle.part_lexer.specs.Logical.{logical_of}
-use Rattle.part_lexer.specs.Places.{pos, origins_from}
-use Rattle.part_lexer.specs.Tokens.{tokens_of, firsts_of, open_comment_of}
+use Rattle.lexer.specs.Logical.{logical_of}
+use Rattle.lexer.specs.Places.{pos, origins_from}
+use Rattle.lexer.specs.Tokens.{tokens_of, firsts_of, open_comment_of}
 use Rattle.list_cuts.specs.Cuts.{Cut, IsOrder, arranged, AreOf}
 use Rattle.arranged_text_laws.specs.Labels.{masked}
 use Rattle.arranged_text_laws.specs.Outside.{SameOutside}

@@ -1,11 +1,10 @@
 // Batches over files in memory: what is told of the lines, and what is put; worked by hand and with another program.
-use batch_file::read_batch;
-use batch_run::{Batched, run_batch};
+use analysis::AnalyseFault;
+use batch_run::{Batched, read_batch, run_batch};
 use cs_base::Edits;
 use row_tools::held;
 use std::alloc::{AllocError, Global};
 use std::test::Fail;
-use ws_core::AnalyseFault;
 use ws_file::read_ws;
 
 // The files that are held, each as `PATH:TEXT` with `@` between them, of which `a.c` and `b.c` are units; the lines; what

@@ -1,5 +1,5 @@
 // Batch files, with what they say; the values were worked by hand and with another program.
-use batch_file::{BatchLine, BatchRefusal, read_batch};
+use batch_run::{BatchLine, BatchRefusal, read_batch};
 use std::alloc::{AllocError, Global};
 use std::test::Fail;
 

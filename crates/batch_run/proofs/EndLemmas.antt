@@ -2,13 +2,13 @@
 use Rattle.std.proofs.Common.{◌≡◌, List, Option, None, Some, Result, Ok, Err, subst, sym}
 use Rattle.std.specs.Prelude.{IfSome, IfErr}
 use Rattle.cs_base.specs.Outside.{FileMap, FilesTold, ReadsOnly, NoneFailed}
-use Rattle.batch_file.specs.Line.{LineValue}
+use Rattle.batch_run.specs.Line.{LineValue}
 use Rattle.ws_file.specs.Workspace.{WorkspaceValue}
-use Rattle.ws_core.specs.Below.source_files.Files.{source_of}
-use Rattle.ws_core.specs.Analysis.{AnalysisValue, analysis_of}
-use Rattle.ws_core.specs.Answers.{reads_of}
-use Rattle.ws_core.specs.declared.analyse_fault.AnalyseFault.{AnalyseFault}
-use Rattle.ws_core.specs.declared.analyse_fault.AnalyseFault.TheVariants.{Memory}
+use Rattle.analysis.specs.Below.source_files.Files.{source_of}
+use Rattle.analysis.specs.Analysis.{AnalysisValue, analysis_of}
+use Rattle.analysis.specs.Answers.{reads_of}
+use Rattle.analysis.specs.declared.analyse_fault.AnalyseFault.{AnalyseFault}
+use Rattle.analysis.specs.declared.analyse_fault.AnalyseFault.TheVariants.{Memory}
 use Rattle.batch_run.specs.declared.running.Batched.{Batched}
 use Rattle.batch_run.specs.Running.{Runs}
 

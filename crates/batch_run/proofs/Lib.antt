@@ -1,3 +1,5 @@
+pub mod ReadLemmas
+pub mod WordLemmas
 pub mod SettledTables
 pub mod SettledWalk
 pub mod SettledAnalyses
@@ -6,5 +8,3 @@ pub mod StepLemmas
 pub mod RunLemmas
 pub mod ReplyLemmas
 pub mod EndLemmas
--- Words of the crates below, passed on.
-pub mod Below

@@ -6,29 +6,29 @@ use Rattle.cs_base.specs.declared.positions.Part.{Part}
 use Rattle.cs_base.specs.Edit.{Edit, IsKept, with_edits}
 use Rattle.cs_base.specs.Outside.{FileMap, bytes_at}
 use Rattle.cs_base.proofs.FileMapLemmas.{bytes_at-with_edits, bytes_at-with_edits_other}
-use Rattle.batch_file.specs.Line.{LineValue}
+use Rattle.batch_run.specs.Line.{LineValue}
 use Rattle.edited_files.specs.Edited.{ArePut}
-use Rattle.ws_core.specs.Below.eclass_map.ClassTable as classes
+use Rattle.analysis.specs.Below.eclass_map.ClassTable as classes
 use Rattle.ws_file.specs.Workspace.{WorkspaceValue, IsWorkspace}
-use Rattle.ws_core.specs.Below.source_files.Files.{Source, nothing_carried, source_of}
-use Rattle.ws_core.specs.Below.source_files.Tables.{HasEachOnce}
-use Rattle.ws_core.specs.Analysis.{AnalysisValue, analysed_from, analysis_and, analysis_of}
-use Rattle.ws_core.specs.Classes.{AreItsClasses}
-use Rattle.ws_core.specs.Naming.{Names}
-use Rattle.ws_core.specs.Parts.{AreMembers}
-use Rattle.ws_core.specs.Texts.{UnitFault}
+use Rattle.analysis.specs.Below.source_files.Files.{Source, nothing_carried, source_of}
+use Rattle.analysis.specs.Below.source_files.Tables.{HasEachOnce}
+use Rattle.analysis.specs.Analysis.{AnalysisValue, analysed_from, analysis_and, analysis_of}
+use Rattle.analysis.specs.Classes.{AreItsClasses}
+use Rattle.analysis.specs.Naming.{Names}
+use Rattle.analysis.specs.Parts.{AreMembers}
+use Rattle.analysis.specs.Texts.{UnitFault}
 use Rattle.kept_analysis.specs.Following.{IsFollowed, IsRenamedIn}
 use Rattle.kept_analysis.proofs.PlannedLemmas.{named_once, planned_is_followed}
-use Rattle.rename_edit.proofs.Below.analysis_laws.MadeLemmas.{done_first, ok_holds}
-use Rattle.rename_edit.proofs.Below.analysis_laws.ReadLemmas.{unit_files_opened}
-use Rattle.rename_edit.specs.Below.rename_rules.Renaming.{IsRenaming}
-use Rattle.rename_edit.specs.Below.kept_meaning_laws.EditedSource.{AreRespelled}
-use Rattle.rename_edit.specs.Below.kept_meaning_laws.Plans.{AreMade}
-use Rattle.rename_edit.specs.Below.kept_meaning_laws.RenamedSource.{IsAccepted}
-use Rattle.rename_edit.specs.Below.part_respell.Respelled.{respelled as spelled_anew}
-use Rattle.rename_edit.specs.Below.renamed.Renamed.{AnalysisIsRenamed, renamed_analysis, renaming_of}
-use Rattle.rename_edit.proofs.Below.kept_meaning_laws.PlanLemmas.{IsPlan, is_plan, plan_respells, plan_accepted}
-use Rattle.rename_edit.proofs.Below.kept_meaning_laws.TextLemmas.{respelled_files_have_renamed_texts, respelled_files_have_renamed_analysis, respelled_files_keep_external_names}
+use Rattle.analysis.proofs.MadeLemmas.{done_first, ok_holds}
+use Rattle.analysis.proofs.ReadLemmas.{unit_files_opened}
+use Rattle.rename_rules.specs.Renaming.{IsRenaming}
+use Rattle.rename_meaning.specs.EditedSource.{AreRespelled}
+use Rattle.rename_meaning.specs.Plans.{AreMade}
+use Rattle.rename_meaning.specs.RenamedSource.{IsAccepted}
+use Rattle.part_respell.specs.Respelled.{respelled as spelled_anew}
+use Rattle.renamed.specs.Renamed.{AnalysisIsRenamed, renamed_analysis, renaming_of}
+use Rattle.rename_meaning.proofs.PlanLemmas.{IsPlan, is_plan, plan_respells, plan_accepted}
+use Rattle.rename_meaning.proofs.TextLemmas.{respelled_files_have_renamed_texts, respelled_files_have_renamed_analysis, respelled_files_keep_external_names}
 use Rattle.batch_run.specs.Renamed.{Renamed, IsRenamed}
 
 -- the class that is renamed

@@ -3,12 +3,12 @@ use Rattle.std.proofs.Common.{◌≡◌, ◌++◌, ℕ, Bool, true, false, ◌||
 use Rattle.std.specs.List.{flat_map, list_any}
 use Rattle.cs_base.specs.Edit.{Edit, with_edits, IsKept}
 use Rattle.cs_base.specs.Outside.{FileMap}
-use Rattle.batch_file.specs.Line.{LineValue}
+use Rattle.batch_run.specs.Line.{LineValue}
 use Rattle.ws_file.specs.Workspace.{WorkspaceValue}
-use Rattle.ws_core.specs.Below.source_files.Files.{Source, source_of}
-use Rattle.ws_core.specs.Below.source_files.Tables.{AreFound, HasEachOnce}
-use Rattle.ws_core.proofs.Below.source_files.AgreeLemmas.{some_source}
-use Rattle.ws_core.specs.Analysis.{AnalysisValue, analysis_of}
+use Rattle.analysis.specs.Below.source_files.Files.{Source, source_of}
+use Rattle.analysis.specs.Below.source_files.Tables.{AreFound, HasEachOnce}
+use Rattle.analysis.proofs.Below.source_files.AgreeLemmas.{some_source}
+use Rattle.analysis.specs.Analysis.{AnalysisValue, analysis_of}
 use Rattle.batch_run.specs.declared.running.Batched.{Batched}
 use Rattle.batch_run.specs.declared.stepping.Batching.{Batching}
 use Rattle.batch_run.specs.Batch.{Plan, IsLine, IsBatch, after, after_each, plan_text, is_refused}

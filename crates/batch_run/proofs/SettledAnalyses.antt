@@ -7,21 +7,21 @@ use Rattle.cs_base.specs.Outside.{FileMap, bytes_at}
 use Rattle.cs_base.specs.Token.{Token}
 use Rattle.cs_base.specs.Units.{UnitValue}
 use Rattle.cs_base.proofs.FileMapLemmas.{bytes_eq-same, bytes_eq-equal}
-use Rattle.ws_core.specs.Below.part_lexer.FileText.{file_text}
+use Rattle.analysis.specs.Below.lexer.FileText.{file_text}
 use Rattle.ws_file.specs.Workspace.{WorkspaceValue}
-use Rattle.ws_core.specs.Below.source_files.Faults.{Fault}
-use Rattle.ws_core.specs.Below.source_files.Files.{Source, source_of, Found, Lines, Absent, Unopened, Opened, Made, Table, Carried, nothing_carried}
-use Rattle.ws_core.specs.Below.source_files.Limits.{the_limits}
-use Rattle.ws_core.specs.Below.source_files.KeptFiles.{kept_bytes}
-use Rattle.ws_core.specs.Below.source_files.Tables.{IsFound, AreFound, HasEachOnce, paths_in}
-use Rattle.ws_core.specs.Below.unit_steps.State.{Outcome}
-use Rattle.ws_core.specs.Below.include_tree.Laws.{IfDone}
-use Rattle.ws_core.specs.Below.include_tree.Preprocessed.{Preprocessed, preprocessed, preprocessed_by}
-use Rattle.ws_core.specs.Below.include_tree.Unit.{unit_outcome}
-use Rattle.ws_core.proofs.Below.include_tree.StayLemmas.{Stays}
-use Rattle.ws_core.specs.Analysis.{UnitsValue, AnalysisValue, analysis_and, with_unit, unit_read, analysed_from, analysis_of}
-use Rattle.ws_core.specs.Texts.{UnitFault, unit_fault, unit_with}
-use Rattle.rename_edit.proofs.Below.analysis_laws.MadeLemmas.{ok_holds, done_first, unmapped}
+use Rattle.analysis.specs.Below.source_files.Faults.{Fault}
+use Rattle.analysis.specs.Below.source_files.Files.{Source, source_of, Found, Lines, Absent, Unopened, Opened, Made, Table, Carried, nothing_carried}
+use Rattle.analysis.specs.Below.source_files.Limits.{the_limits}
+use Rattle.analysis.specs.Below.source_files.KeptFiles.{kept_bytes}
+use Rattle.analysis.specs.Below.source_files.Tables.{IsFound, AreFound, HasEachOnce, paths_in}
+use Rattle.analysis.specs.Below.unit_steps.State.{Outcome}
+use Rattle.analysis.specs.Below.include_tree.Laws.{IfDone}
+use Rattle.analysis.specs.Below.include_tree.Preprocessed.{Preprocessed, preprocessed, preprocessed_by}
+use Rattle.analysis.specs.Below.include_tree.Unit.{unit_outcome}
+use Rattle.analysis.proofs.Below.include_tree.StayLemmas.{Stays}
+use Rattle.analysis.specs.Analysis.{UnitsValue, AnalysisValue, analysis_and, with_unit, unit_read, analysed_from, analysis_of}
+use Rattle.analysis.specs.Texts.{UnitFault, unit_fault, unit_with}
+use Rattle.analysis.proofs.MadeLemmas.{ok_holds, done_first, unmapped}
 use Rattle.batch_run.proofs.SettledTables.{IsSettled, AreSettled}
 use Rattle.batch_run.proofs.SettledWalk.{unit_settles}
 

@@ -7,17 +7,17 @@ use Rattle.cs_base.specs.declared.causes.Cause.TheVariants.{TooManyFiles, TooMan
 use Rattle.cs_base.specs.declared.positions.Place.{Place}
 use Rattle.cs_base.specs.declared.positions.Pos.{Pos}
 use Rattle.cs_base.proofs.FileMapLemmas.{bytes_eq-same}
-use Rattle.ws_core.specs.Below.part_lexer.FileText.{TextValue, LexFault, FileTooLarge, OpenComment}
-use Rattle.ws_core.specs.Below.source_files.Limits.{Limits}
-use Rattle.ws_core.specs.Below.source_files.Files.{Source, Found, Lines, Absent, Unopened, Opened, Made, Table, SourceFile, found_at, found_in, numbered, opened, asked, number_of, files_opened}
-use Rattle.ws_core.specs.Below.source_files.Faults.{Fault, fault, place_in}
-use Rattle.ws_core.specs.Below.source_files.Opening.{Reader, Opening, file_read, readable, first_opened, are_too_many, opened_as, opening}
-use Rattle.ws_core.specs.Below.source_files.Search.{Header, Searched, candidates_of, search, search_on}
-use Rattle.ws_core.specs.Below.unit_steps.State.{Context, State}
-use Rattle.ws_core.specs.Below.include_tree.OpeningStep.{with_opened, open_file}
-use Rattle.ws_core.specs.Below.include_tree.Including.{open_searched, open_header}
-use Rattle.ws_core.specs.Below.include_tree.Laws.{IfDone}
-use Rattle.ws_core.proofs.Below.include_tree.StayLemmas.{Stays}
+use Rattle.analysis.specs.Below.lexer.FileText.{TextValue, LexFault, FileTooLarge, OpenComment}
+use Rattle.analysis.specs.Below.source_files.Limits.{Limits}
+use Rattle.analysis.specs.Below.source_files.Files.{Source, Found, Lines, Absent, Unopened, Opened, Made, Table, SourceFile, found_at, found_in, numbered, opened, asked, number_of, files_opened}
+use Rattle.analysis.specs.Below.source_files.Faults.{Fault, fault, place_in}
+use Rattle.analysis.specs.Below.source_files.Opening.{Reader, Opening, file_read, readable, first_opened, are_too_many, opened_as, opening}
+use Rattle.analysis.specs.Below.source_files.Search.{Header, Searched, candidates_of, search, search_on}
+use Rattle.analysis.specs.Below.unit_steps.State.{Context, State}
+use Rattle.analysis.specs.Below.include_tree.OpeningStep.{with_opened, open_file}
+use Rattle.analysis.specs.Below.include_tree.Including.{open_searched, open_header}
+use Rattle.analysis.specs.Below.include_tree.Laws.{IfDone}
+use Rattle.analysis.proofs.Below.include_tree.StayLemmas.{Stays}
 
 -- a file that was found is open
 abbrev pub IsSettled : Found → Type 0

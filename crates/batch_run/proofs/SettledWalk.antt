@@ -2,29 +2,29 @@
 use Rattle.std.proofs.Common.{ℕ, zero, suc, ◌+◌, ◌-◌, Bool, true, false, not, List, [], ◌∷◌, drop, Option, None, Some}
 use Rattle.cs_base.specs.declared.positions.Pos.{Pos}
 use Rattle.cs_base.specs.Token.{Token}
-use Rattle.ws_core.specs.Below.line_shape.declared.items.ItemKind.{ItemKind}
-use Rattle.ws_core.specs.Below.line_shape.declared.items.ItemKind.TheVariants as kind
+use Rattle.analysis.specs.Below.line_shape.declared.items.ItemKind.{ItemKind}
+use Rattle.analysis.specs.Below.line_shape.declared.items.ItemKind.TheVariants as kind
 use Rattle.cs_base.specs.Units.{UnitValue, defines_text}
-use Rattle.ws_core.specs.Below.source_files.Limits.{Limits}
-use Rattle.ws_core.specs.Below.source_files.Files.{Source, SourceFile, Made, Carried, defines_path, asked}
-use Rattle.ws_core.specs.Below.source_files.Opening.{Reader}
-use Rattle.ws_core.specs.Below.source_files.Faults.{first_place}
-use Rattle.ws_core.specs.Below.unit_steps.Notes.{Reaches, Entered}
-use Rattle.ws_core.specs.Below.unit_steps.State.{Context, context, State, Outcome, only}
-use Rattle.ws_core.specs.Below.include_tree.Sections.{Group, Processed, Awaited, Over, Skipped, Section, section, are_processed, group_of_else, Turn, Opens, GoesOn, GoesLast, Ends, Stays as Remains, turn_of}
-use Rattle.ws_core.specs.Below.source_files.Search.{Header}
-use Rattle.ws_core.specs.Below.include_tree.OpeningStep.{open_file}
-use Rattle.ws_core.specs.Below.unit_steps.Expanding.{expanded_in}
-use Rattle.ws_core.specs.Below.unit_steps.Conditions.{holds}
-use Rattle.ws_core.specs.Below.unit_steps.Directives.{opens_with, operand_in, is_if}
-use Rattle.ws_core.specs.Below.include_tree.Including.{open_header, Process, Inner, entered, included, include_of}
-use Rattle.ws_core.specs.Below.unit_steps.IncludeNames.{header_or, computed_header, header_named}
-use Rattle.ws_core.specs.Below.source_files.HeaderNames.{header_of_toks, is_header, header_in}
-use Rattle.ws_core.specs.Below.include_tree.Walk.{ItemText, items_in, processed, Stepped, stepped, go_on, opens, goes_on, reaching_alive, in_section, turned, item_step, file_end, walk, file_items}
-use Rattle.ws_core.specs.Below.include_tree.Unit.{first_state, outer_file, main_file, unit_outcome}
-use Rattle.ws_core.specs.Below.include_tree.Laws.{IfDone}
-use Rattle.ws_core.proofs.Below.include_tree.OutcomeLemmas.{noted_done, onward_done, cond_done}
-use Rattle.ws_core.proofs.Below.include_tree.StayLemmas.{Stays, expanded_stays, run_stays, define_stays, undef_stays, asks_stays, holds_stays}
+use Rattle.analysis.specs.Below.source_files.Limits.{Limits}
+use Rattle.analysis.specs.Below.source_files.Files.{Source, SourceFile, Made, Carried, defines_path, asked}
+use Rattle.analysis.specs.Below.source_files.Opening.{Reader}
+use Rattle.analysis.specs.Below.source_files.Faults.{first_place}
+use Rattle.analysis.specs.Below.unit_steps.Notes.{Reaches, Entered}
+use Rattle.analysis.specs.Below.unit_steps.State.{Context, context, State, Outcome, only}
+use Rattle.analysis.specs.Below.include_tree.Sections.{Group, Processed, Awaited, Over, Skipped, Section, section, are_processed, group_of_else, Turn, Opens, GoesOn, GoesLast, Ends, Stays as Remains, turn_of}
+use Rattle.analysis.specs.Below.source_files.Search.{Header}
+use Rattle.analysis.specs.Below.include_tree.OpeningStep.{open_file}
+use Rattle.analysis.specs.Below.unit_steps.Expanding.{expanded_in}
+use Rattle.analysis.specs.Below.unit_steps.Conditions.{holds}
+use Rattle.analysis.specs.Below.unit_steps.Directives.{opens_with, operand_in, is_if}
+use Rattle.analysis.specs.Below.include_tree.Including.{open_header, Process, Inner, entered, included, include_of}
+use Rattle.analysis.specs.Below.unit_steps.IncludeNames.{header_or, computed_header, header_named}
+use Rattle.analysis.specs.Below.source_files.HeaderNames.{header_of_toks, is_header, header_in}
+use Rattle.analysis.specs.Below.include_tree.Walk.{ItemText, items_in, processed, Stepped, stepped, go_on, opens, goes_on, reaching_alive, in_section, turned, item_step, file_end, walk, file_items}
+use Rattle.analysis.specs.Below.include_tree.Unit.{first_state, outer_file, main_file, unit_outcome}
+use Rattle.analysis.specs.Below.include_tree.Laws.{IfDone}
+use Rattle.analysis.proofs.Below.include_tree.OutcomeLemmas.{noted_done, onward_done, cond_done}
+use Rattle.analysis.proofs.Below.include_tree.StayLemmas.{Stays, expanded_stays, run_stays, define_stays, undef_stays, asks_stays, holds_stays}
 use Rattle.batch_run.proofs.SettledTables.{AreSettled, SettledBut, settled_push, but_all, asked_but, open_settles, header_settles as found_settles}
 
 -- ---- include lines

@@ -5,19 +5,19 @@ use Rattle.std.proofs.lemmas.Option.{none-some, same_Some}
 use Rattle.cs_base.specs.declared.positions.Part.{Part}
 use Rattle.cs_base.specs.Edit.{Edit, with_edits, IsKept}
 use Rattle.cs_base.specs.Outside.{FileMap}
-use Rattle.batch_file.specs.Line.{LineValue}
+use Rattle.batch_run.specs.Line.{LineValue}
 use Rattle.edited_files.specs.Edited.{with_each}
 use Rattle.edited_files.proofs.PutLemmas.{put_each}
 use Rattle.ws_file.specs.Workspace.{WorkspaceValue}
-use Rattle.ws_core.specs.Analysis.{AnalysisValue}
-use Rattle.ws_core.specs.Naming.{Names}
+use Rattle.analysis.specs.Analysis.{AnalysisValue}
+use Rattle.analysis.specs.Naming.{Names}
 use Rattle.kept_analysis.specs.Following.{IsRenamedIn}
-use Rattle.rename_edit.specs.Below.renamed.Renamed.{renamed_analysis, renaming_of}
-use Rattle.rename_edit.specs.Below.part_respell.Respelled.{respelled}
-use Rattle.rename_edit.specs.Below.rename_rules.Renaming.{Refusal, bad_name, no_name, refused}
-use Rattle.rename_edit.specs.Refusals.{refusal_of}
-use Rattle.rename_edit.specs.declared.refusals.RenameRefusal.{RenameRefusal}
-use Rattle.rename_edit.specs.declared.refusals.RenameRefusal.TheVariants.{BadName, NoName, Offence, Memory}
+use Rattle.renamed.specs.Renamed.{renamed_analysis, renaming_of}
+use Rattle.part_respell.specs.Respelled.{respelled}
+use Rattle.rename_rules.specs.Renaming.{Refusal, bad_name, no_name, refused}
+use Rattle.rename_plan.specs.Refusals.{refusal_of}
+use Rattle.rename_plan.specs.declared.refusals.RenameRefusal.{RenameRefusal}
+use Rattle.rename_plan.specs.declared.refusals.RenameRefusal.TheVariants.{BadName, NoName, Offence, Memory}
 use Rattle.batch_run.specs.declared.stepping.Batching.{Batching}
 use Rattle.batch_run.specs.Batch.{plan_text}
 use Rattle.batch_run.specs.Renamed.{KeepsLine}

@@ -1,8 +1,10 @@
 -- What the public contracts rest on.
+pub mod Line
+pub mod Reading
+pub mod Refusal
 pub mod Batch
 pub mod Renamed
 pub mod Running
 -- What inner functions promise each other.
+pub mod Taking
 pub mod Stepping
--- Words of the crates below, passed on.
-pub mod Below

@@ -5,18 +5,18 @@ use Rattle.cs_base.specs.declared.positions.Part.{Part}
 use Rattle.cs_base.specs.Edit.{Edit, with_edits}
 use Rattle.cs_base.specs.Outside.{FileMap, bytes_at}
 use Rattle.cs_base.specs.Units.{UnitValue}
-use Rattle.batch_file.specs.Line.{LineValue}
+use Rattle.batch_run.specs.Line.{LineValue}
 use Rattle.ws_file.specs.Workspace.{WorkspaceValue}
-use Rattle.ws_core.specs.Below.source_files.Files.{source_of}
-use Rattle.ws_core.specs.Below.source_files.KeptFiles.{KeptValue}
-use Rattle.ws_core.specs.Analysis.{AnalysisValue, analysis_of}
-use Rattle.ws_core.specs.Naming.{Names}
-use Rattle.ws_core.specs.Parts.{AreMembers}
-use Rattle.rename_edit.specs.Below.analysis_laws.Tables.{IsOpened}
-use Rattle.rename_edit.specs.Below.rename_rules.First.{IsFirst, offences_of}
-use Rattle.rename_edit.specs.Below.rename_rules.Runs.{new_bytes}
-use Rattle.rename_edit.specs.Below.kept_meaning_laws.EditedSource.{HoldsMembers}
-use Rattle.rename_edit.specs.Below.renamed.Renamed.{TextsAreRenamed, AnalysisIsRenamed, ExternalNamesAreKept}
+use Rattle.analysis.specs.Below.source_files.Files.{source_of}
+use Rattle.analysis.specs.Below.source_files.KeptFiles.{KeptValue}
+use Rattle.analysis.specs.Analysis.{AnalysisValue, analysis_of}
+use Rattle.analysis.specs.Naming.{Names}
+use Rattle.analysis.specs.Parts.{AreMembers}
+use Rattle.analysis.specs.Tables.{IsOpened}
+use Rattle.rename_rules.specs.First.{IsFirst, offences_of}
+use Rattle.rename_rules.specs.Runs.{new_bytes}
+use Rattle.rename_meaning.specs.EditedSource.{HoldsMembers}
+use Rattle.renamed.specs.Renamed.{TextsAreRenamed, AnalysisIsRenamed, ExternalNamesAreKept}
 use Rattle.batch_run.specs.Batch.{Plan, after}
 
 -- What a class is renamed in: the analysis of the workspace, the part at the place, and the members of its class.

@@ -3,12 +3,12 @@ use Rattle.std.specs.Prelude.{◌≡◌, List, [], Result, Ok, Err, IfSome, flat
 use Rattle.std.specs.List.{list_any}
 use Rattle.cs_base.specs.Edit.{IsKept}
 use Rattle.cs_base.specs.Outside.{FileMap}
-use Rattle.batch_file.specs.Line.{LineValue}
+use Rattle.batch_run.specs.Line.{LineValue}
 use Rattle.ws_file.specs.Workspace.{WorkspaceValue}
-use Rattle.ws_core.specs.Below.source_files.Files.{source_of}
-use Rattle.ws_core.specs.Analysis.{AnalysisValue, analysis_of}
-use Rattle.ws_core.specs.Answers.{fault_of}
-use Rattle.ws_core.specs.declared.analyse_fault.AnalyseFault.{AnalyseFault}
+use Rattle.analysis.specs.Below.source_files.Files.{source_of}
+use Rattle.analysis.specs.Analysis.{AnalysisValue, analysis_of}
+use Rattle.analysis.specs.Answers.{fault_of}
+use Rattle.analysis.specs.declared.analyse_fault.AnalyseFault.{AnalyseFault}
 use Rattle.batch_run.specs.declared.running.Batched.{Batched}
 use Rattle.batch_run.specs.Batch.{Plan, IsBatch, after_each, plan_text, is_refused}
 use Rattle.batch_run.specs.Renamed.{KeepsLines}

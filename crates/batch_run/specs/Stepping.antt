@@ -3,13 +3,13 @@ use Rattle.std.specs.Prelude.{ℕ, ◌≡◌, ◌++◌, ◌||◌, List, Result, 
 use Rattle.std.specs.List.{list_any}
 use Rattle.cs_base.specs.Edit.{Edit, with_edits}
 use Rattle.cs_base.specs.Outside.{FileMap}
-use Rattle.batch_file.specs.Line.{LineValue}
+use Rattle.batch_run.specs.Line.{LineValue}
 use Rattle.ws_file.specs.Workspace.{WorkspaceValue}
-use Rattle.ws_core.specs.Below.source_files.Files.{source_of}
-use Rattle.ws_core.specs.Analysis.{AnalysisValue, analysis_of}
-use Rattle.rename_edit.specs.declared.refusals.RenameRefusal.{RenameRefusal}
-use Rattle.rename_edit.specs.declared.refusals.RenameRefusal.TheVariants.{BadName, NoName, Offence, Memory}
-use Rattle.rename_edit.specs.Below.rename_rules.Renaming.{Refusal, bad_name, no_name, refused, IsRenaming}
+use Rattle.analysis.specs.Below.source_files.Files.{source_of}
+use Rattle.analysis.specs.Analysis.{AnalysisValue, analysis_of}
+use Rattle.rename_plan.specs.declared.refusals.RenameRefusal.{RenameRefusal}
+use Rattle.rename_plan.specs.declared.refusals.RenameRefusal.TheVariants.{BadName, NoName, Offence, Memory}
+use Rattle.rename_rules.specs.Renaming.{Refusal, bad_name, no_name, refused, IsRenaming}
 use Rattle.batch_run.specs.declared.stepping.Batching.{Batching}
 use Rattle.batch_run.specs.Batch.{Plan, IsLine, IsBatch, after, after_each, plan_text, is_refused}
 use Rattle.batch_run.specs.Renamed.{KeepsLine, KeepsLines}

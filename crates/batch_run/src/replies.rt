@@ -8,7 +8,7 @@ ghost use Rattle.batch_run.specs.Stepping.{TellsRefusal};
 use command_words::edited_text;
 use cs_base::{Cause, Edits, Memory, Place};
 use itoa::Buffer;
-use rename_edit::RenameRefusal;
+use rename_plan::RenameRefusal;
 use std::alloc::Global;
 
 /// Adds the lines of an accepted rename, one for each file.

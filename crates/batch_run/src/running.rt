@@ -1,22 +1,22 @@
 // A batch, line by line.
 ghost use Rattle.std.specs.Prelude.{◌≡◌, List, Ok, IfErr, IfOk, IfSome};
 ghost use Rattle.cs_base.specs.Outside.{FileMap, ReadsOnly};
-ghost use Rattle.ws_core.specs.Below.source_files.Files.{Source, source_of};
-ghost use Rattle.ws_core.specs.Below.source_files.Tables.{AreFound};
-ghost use Rattle.ws_core.specs.Analysis.{analysis_of};
-ghost use Rattle.ws_core.specs.Answers.{reads_of};
-ghost use Rattle.ws_core.specs.declared.analyse_fault.AnalyseFault.TheVariants.{Memory as no_memory};
+ghost use Rattle.analysis.specs.Below.source_files.Files.{Source, source_of};
+ghost use Rattle.analysis.specs.Below.source_files.Tables.{AreFound};
+ghost use Rattle.analysis.specs.Analysis.{analysis_of};
+ghost use Rattle.analysis.specs.Answers.{reads_of};
+ghost use Rattle.analysis.specs.declared.analyse_fault.AnalyseFault.TheVariants.{Memory as no_memory};
 ghost use Rattle.batch_run.specs.Batch.{Plan};
 ghost use Rattle.batch_run.specs.Running.{IsRun, Runs};
 ghost use Rattle.batch_run.specs.Stepping.{IsReady, RunTo};
 
+use crate::batch_line::BatchLine;
 use crate::stepping::{Batching, run_line};
-use batch_file::BatchLine;
+use analysis::{AnalyseFault, Analysis, analyse};
 use cs_base::{Edits, Files, Memory};
 use edited_files::TextEdits;
 use std::alloc::Global;
 use std::mem;
-use ws_core::{AnalyseFault, Analysis, analyse};
 use ws_file::Workspace;
 
 /// What a batch leaves to be done: the edits to put, the text to write, and whether a line was refused.

@@ -1,19 +1,18 @@
 // One line of a batch.
-ghost use Rattle.std.specs.Prelude.{Err, IfOk, Ok, Some};
-ghost use Rattle.rename_edit.specs.Below.rename_rules.Renaming.{IsRenaming};
-ghost use Rattle.rename_edit.specs.Refusals.{refusal_of};
-ghost use Rattle.std.specs.Prelude.{IfSome};
+ghost use Rattle.std.specs.Prelude.{Err, IfOk, Ok, Some, IfSome};
+ghost use Rattle.rename_rules.specs.Renaming.{IsRenaming};
+ghost use Rattle.rename_plan.specs.Refusals.{refusal_of};
 ghost use Rattle.batch_run.specs.Batch.{Plan};
 ghost use Rattle.batch_run.specs.Stepping.{IsAnswered, IsReady, Steps};
 
+use crate::batch_line::BatchLine;
 use crate::replies::{push_edits, push_refusal};
-use batch_file::BatchLine;
+use analysis::Analysis;
 use cs_base::{Edits, Memory};
 use edited_files::TextEdits;
 use kept_analysis::advance;
-use rename_edit::{RenameRefusal, plan_rename};
+use rename_plan::{RenameRefusal, plan_rename};
 use std::alloc::Global;
-use ws_core::Analysis;
 use ws_file::Workspace;
 
 /// A batch behind some of its lines: the analysis of the files as they left them, the edits, the text that tells the lines,

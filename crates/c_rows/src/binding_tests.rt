@@ -5,7 +5,7 @@ use crate::list_rows::{KINDS, LISTS, PARAMETERS};
 use c99_read::{Dialect, read};
 use c99_tree::Tree;
 use cs_base::Tok;
-use part_lexer::lex;
+use lexer::lex;
 use scope_bind::{Bound, List, ParameterList, Range, bind, parameter_lists};
 use std::alloc::Global;
 use std::fmt::Write;

@@ -1,6 +1,6 @@
 // Texts that are long and not deep, read and bound in the stack of a test.
 use c99_read::{Dialect, read};
-use part_lexer::lex;
+use lexer::lex;
 use scope_bind::bind;
 use std::alloc::Global;
 use std::test::Fail;

@@ -7,10 +7,10 @@ use Rattle.std.proofs.lemmas.List.{get_or_default}
 use Rattle.std.proofs.lemmas.List.Elements.{All-contains, All-nil, All-push, Contains-append_left, Contains-push, Contains-push_cases}
 use Rattle.std.proofs.lemmas.List.Folds.{list_any-append, Any-from_list_any, list_any-from_Any}
 use Rattle.std.proofs.lemmas.Option.{same_Some, slice_get_within}
-use Rattle.call_graphs.specs.declared.nodes.Node.{Node}
-use Rattle.call_graphs.specs.declared.nodes.Edge.{Edge}
-use Rattle.call_graphs.specs.Graph.{GraphValue, IsWithin, graph, leads, is_edge, are_in_order}
-use Rattle.ws_core.specs.Analysis.{AnalysisValue}
+use Rattle.calls_of.specs.declared.nodes.Node.{Node}
+use Rattle.calls_of.specs.declared.nodes.Edge.{Edge}
+use Rattle.calls_of.specs.Graph.{GraphValue, IsWithin, graph, leads, is_edge, are_in_order}
+use Rattle.analysis.specs.Analysis.{AnalysisValue}
 use Rattle.calls_of.specs.Calls.{Call, call, calls_of}
 use Rattle.calls_of.specs.Graphs.{IsCallIn, IsGraphOf, node_cmp, nodes_of}
 use Rattle.calls_of.specs.Numbers.{AreCalls, edge_cmp}

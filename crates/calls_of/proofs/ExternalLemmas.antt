@@ -12,13 +12,13 @@ use Rattle.std.proofs.lemmas.List.Folds.{find-append}
 use Rattle.std.proofs.lemmas.Option.{slice_get_within, get_or_from_slice_get}
 use Rattle.cs_base.specs.Token.{Token}
 use Rattle.cs_base.specs.Units.{UnitValue}
-use Rattle.scope_bind.specs.declared.bound.Name.{Name}
-use Rattle.ws_core.specs.Below.linkage_join.Linkage.{UnitValue as ExternalNames, first_spelled, names_of}
-use Rattle.ws_core.specs.Below.linkage_join.Firsts.{Table, with_names}
-use Rattle.ws_core.specs.Analysis.{UnitAnalysis}
-use Rattle.ws_core.specs.Links.{is_external_name, external_names_from, names_of_unit, names_of_units}
-use Rattle.ws_core.proofs.Below.linkage_join.FirstsLemmas.{option_or-None}
-use Rattle.ws_core.proofs.ExternalLemmas.{none_left}
+use Rattle.analysis.specs.Below.scope_bind.declared.bound.Name.{Name}
+use Rattle.analysis.specs.Below.linkage_join.Linkage.{UnitValue as ExternalNames, first_spelled, names_of}
+use Rattle.analysis.specs.Below.linkage_join.Firsts.{Table, with_names}
+use Rattle.analysis.specs.Analysis.{UnitAnalysis}
+use Rattle.analysis.specs.Links.{is_external_name, external_names_from, names_of_unit, names_of_units}
+use Rattle.analysis.proofs.Below.linkage_join.FirstsLemmas.{option_or-None}
+use Rattle.analysis.proofs.ExternalLemmas.{none_left}
 use Rattle.calls_of.specs.Externals.{own_name, Adds, AddsUnits}
 use Rattle.calls_of.proofs.OwnerLemmas.{option_or-assoc}
 

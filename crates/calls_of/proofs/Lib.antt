@@ -1,3 +1,7 @@
+pub mod GraphListLemmas
+pub mod EdgeLemmas
+pub mod WalkLemmas
+pub mod GraphOrderLemmas
 pub mod CallLemmas
 pub mod ExternalLemmas
 pub mod ListLemmas

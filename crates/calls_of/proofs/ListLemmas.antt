@@ -3,7 +3,7 @@ use Rattle.std.proofs.Common.{◌≡◌, ℕ, ◌+◌, List, [], ◌∷◌, ◌+
 use Rattle.std.specs.List.{flat_map, range_with_len}
 use Rattle.std.proofs.lemmas.Grind.{flat_map-append}
 use Rattle.std.proofs.lemmas.List.{append-nil}
-use Rattle.call_graphs.proofs.ListLemmas.{range-more}
+use Rattle.calls_of.proofs.GraphListLemmas.{range-more}
 
 -- one element more
 pub flat-more : {X Y : Type 0} (f : X → List Y) (xs ys : List X) (x : X) (old now new here : List Y) → ys ≡ xs ++ x ∷ []

@@ -10,12 +10,12 @@ use Rattle.std.proofs.lemmas.Bool.{cases_Bool, eqb-true, le-ltb, or_cases, and_p
 use Rattle.std.proofs.lemmas.Cmp.{then_total, on_total, nat_list_cmp_total, nat_cmp_total, tied_itself}
 use Rattle.std.proofs.lemmas.Map.Text.{is_eq-slice_cmp}
 use Rattle.cs_base.specs.declared.positions.Pos.{Pos}
-use Rattle.include_tree.specs.Below.source_files.Files.{Table}
-use Rattle.call_graphs.specs.declared.nodes.Node.{Node}
-use Rattle.call_graphs.specs.declared.nodes.NodeKind.{NodeKind}
-use Rattle.call_graphs.specs.declared.nodes.NodeKind.TheVariants.{Macro, Function}
-use Rattle.call_graphs.specs.declared.nodes.Edge.{Edge}
-use Rattle.call_graphs.specs.Graph.{comes_before, are_in_order}
+use Rattle.analysis.specs.Below.source_files.Files.{Table}
+use Rattle.calls_of.specs.declared.nodes.Node.{Node}
+use Rattle.calls_of.specs.declared.nodes.NodeKind.{NodeKind}
+use Rattle.calls_of.specs.declared.nodes.NodeKind.TheVariants.{Macro, Function}
+use Rattle.calls_of.specs.declared.nodes.Edge.{Edge}
+use Rattle.calls_of.specs.Graph.{comes_before, are_in_order}
 use Rattle.calls_of.specs.Graphs.{kind_number, path_of, pos_cmp, kind_cmp, node_cmp}
 use Rattle.calls_of.specs.Numbers.{edge_cmp}
 use Rattle.calls_of.proofs.OrderLemmas.{IsStrict}

@@ -6,8 +6,8 @@ use Rattle.std.proofs.lemmas.Bool.{cases_Bool, cases_lt, le-ltb, leb-false, lt-l
 use Rattle.std.proofs.lemmas.List.{get_or-set_same, get_or-set_other, get_or-replicate, get_or_past, length-replicate}
 use Rattle.std.proofs.lemmas.List.Elements.{All-push}
 use Rattle.std.proofs.lemmas.List.Folds.{find-append}
-use Rattle.ws_core.specs.Below.c_types.declared.lists.Range.{Range}
-use Rattle.ws_core.proofs.Below.linkage_join.FirstsLemmas.{option_or-None}
+use Rattle.analysis.specs.Below.c_types.declared.lists.Range.{Range}
+use Rattle.analysis.proofs.Below.linkage_join.FirstsLemmas.{option_or-None}
 use Rattle.calls_of.specs.Calls.{is_open_behind}
 use Rattle.calls_of.specs.OpenBodies.{open_among, body_at, AreOpenIn, is_between, Opened}
 use Rattle.calls_of.proofs.OwnerLemmas.{option_map-or}

@@ -5,17 +5,17 @@ use Rattle.std.specs.List.{flat_map, position}
 use Rattle.std.specs.Option.{option_map, option_map_or}
 use Rattle.cs_base.specs.declared.positions.Pos.{Pos}
 use Rattle.cs_base.specs.Token.{Token, origin_at}
-use Rattle.ws_core.specs.Below.part_lexer.Tokens.{tokens_of, firsts_of}
+use Rattle.analysis.specs.Below.lexer.Tokens.{tokens_of, firsts_of}
 use Rattle.line_shape.specs.declared.items.Item.{Item}
 use Rattle.line_shape.specs.declared.items.ItemKind.{ItemKind}
 use Rattle.line_shape.specs.declared.items.ItemKind.TheVariants as kind
 use Rattle.line_shape.specs.Signs.{is_close}
 use Rattle.line_shape.specs.Items.{items_of}
 use Rattle.line_shape.specs.MacroLine.{is_function_like}
-use Rattle.include_tree.specs.Below.source_files.Files.{Entry, Table}
-use Rattle.include_tree.specs.Below.source_files.KeptFiles.{KeptValue, kept_in}
-use Rattle.include_tree.specs.Walk.{ItemText, item_text}
-use Rattle.ws_core.specs.Analysis.{AnalysisValue}
+use Rattle.analysis.specs.Below.source_files.Files.{Entry, Table}
+use Rattle.analysis.specs.Below.source_files.KeptFiles.{KeptValue, kept_in}
+use Rattle.analysis.specs.Below.include_tree.Walk.{ItemText, item_text}
+use Rattle.analysis.specs.Analysis.{AnalysisValue}
 
 -- ---- a `define` line
 

@@ -6,21 +6,21 @@ use Rattle.std.specs.Option.{option_map, option_map_or, option_and_then, option_
 use Rattle.cs_base.specs.declared.positions.Pos.{Pos}
 use Rattle.cs_base.specs.Token.{Token, origin_at}
 use Rattle.cs_base.specs.Units.{UnitValue}
-use Rattle.include_tree.specs.Below.unit_steps.declared.events.Event.{Event}
-use Rattle.include_tree.specs.Below.unit_steps.declared.events.EventKind.{EventKind}
-use Rattle.include_tree.specs.Below.unit_steps.declared.events.EventKind.TheVariants as kind
-use Rattle.ws_core.specs.Below.c_types.declared.entity.Linkage.TheVariants.{External}
-use Rattle.ws_core.specs.Below.c_types.declared.lists.List.{List as NameList}
-use Rattle.ws_core.specs.Below.c_types.declared.lists.Range.{Range}
-use Rattle.scope_bind.specs.Bound.{Bound, is_function_name}
-use Rattle.ws_core.specs.Below.c_types.Declarations.{is_linkage}
-use Rattle.scope_bind.specs.Names.{entity_at, kind_at, linkage_at}
-use Rattle.ws_core.specs.Below.linkage_join.Linkage.{first_spelled, names_of}
-use Rattle.ws_core.specs.Analysis.{UnitAnalysis, AnalysisValue}
-use Rattle.ws_core.specs.Links.{names_of_units}
-use Rattle.call_graphs.specs.declared.nodes.Node.{Node}
-use Rattle.call_graphs.specs.declared.nodes.NodeKind.{NodeKind}
-use Rattle.call_graphs.specs.declared.nodes.NodeKind.TheVariants.{Macro, Function}
+use Rattle.analysis.specs.Below.unit_steps.declared.events.Event.{Event}
+use Rattle.analysis.specs.Below.unit_steps.declared.events.EventKind.{EventKind}
+use Rattle.analysis.specs.Below.unit_steps.declared.events.EventKind.TheVariants as kind
+use Rattle.analysis.specs.Below.c_types.declared.entity.Linkage.TheVariants.{External}
+use Rattle.analysis.specs.Below.c_types.declared.lists.List.{List as NameList}
+use Rattle.analysis.specs.Below.c_types.declared.lists.Range.{Range}
+use Rattle.analysis.specs.Below.scope_bind.Bound.{Bound, is_function_name}
+use Rattle.analysis.specs.Below.c_types.Declarations.{is_linkage}
+use Rattle.analysis.specs.Below.scope_bind.Names.{entity_at, kind_at, linkage_at}
+use Rattle.analysis.specs.Below.linkage_join.Linkage.{first_spelled, names_of}
+use Rattle.analysis.specs.Analysis.{UnitAnalysis, AnalysisValue}
+use Rattle.analysis.specs.Links.{names_of_units}
+use Rattle.calls_of.specs.declared.nodes.Node.{Node}
+use Rattle.calls_of.specs.declared.nodes.NodeKind.{NodeKind}
+use Rattle.calls_of.specs.declared.nodes.NodeKind.TheVariants.{Macro, Function}
 use Rattle.calls_of.specs.Bodies.{owner_of}
 
 -- ---- nodes

@@ -2,10 +2,10 @@
 use Rattle.std.specs.Prelude.{ℕ, ◌≡◌, if◌then◌else◌, List, [], ◌∷◌}
 use Rattle.std.specs.Option.{option_or}
 use Rattle.cs_base.specs.Token.{Token}
-use Rattle.scope_bind.specs.declared.bound.Name.{Name}
-use Rattle.ws_core.specs.Below.linkage_join.Linkage.{UnitValue as ExternalNames, first_spelled, names_of}
-use Rattle.ws_core.specs.Below.linkage_join.Firsts.{Table, with_names}
-use Rattle.ws_core.specs.Links.{is_external_name}
+use Rattle.analysis.specs.Below.scope_bind.declared.bound.Name.{Name}
+use Rattle.analysis.specs.Below.linkage_join.Linkage.{UnitValue as ExternalNames, first_spelled, names_of}
+use Rattle.analysis.specs.Below.linkage_join.Firsts.{Table, with_names}
+use Rattle.analysis.specs.Links.{is_external_name}
 
 -- token k, if it is the first that declares an entity of external linkage
 abbrev pub own_name : List Name → ℕ → Token → List Token

@@ -9,21 +9,21 @@ use Rattle.std.specs.declared.cmp.Ordering.{Ordering}
 use Rattle.cs_base.specs.declared.positions.Pos.{Pos}
 use Rattle.cs_base.specs.Token.{Token}
 use Rattle.cs_base.specs.Units.{UnitValue}
-use Rattle.include_tree.specs.Below.unit_steps.declared.events.Event.{Event}
-use Rattle.include_tree.specs.Below.unit_steps.declared.events.EventKind.{EventKind}
-use Rattle.include_tree.specs.Below.unit_steps.declared.events.EventKind.TheVariants as kind
-use Rattle.include_tree.specs.Below.source_files.Files.{Table, lines_path}
-use Rattle.include_tree.specs.Below.source_files.KeptFiles.{KeptValue, kept_at}
-use Rattle.scope_bind.specs.Bound.{Bound, is_function_name}
-use Rattle.scope_bind.specs.Names.{kind_at}
-use Rattle.ws_core.specs.Analysis.{UnitAnalysis, AnalysisValue}
-use Rattle.ws_core.specs.ClassReport.{place_text}
-use Rattle.ws_core.specs.Places.{place_at}
-use Rattle.call_graphs.specs.declared.nodes.Node.{Node}
-use Rattle.call_graphs.specs.declared.nodes.NodeKind.{NodeKind}
-use Rattle.call_graphs.specs.declared.nodes.NodeKind.TheVariants.{Macro, Function}
-use Rattle.call_graphs.specs.declared.nodes.Edge.{Edge}
-use Rattle.call_graphs.specs.Graph.{GraphValue, IsGraph, is_edge}
+use Rattle.analysis.specs.Below.unit_steps.declared.events.Event.{Event}
+use Rattle.analysis.specs.Below.unit_steps.declared.events.EventKind.{EventKind}
+use Rattle.analysis.specs.Below.unit_steps.declared.events.EventKind.TheVariants as kind
+use Rattle.analysis.specs.Below.source_files.Files.{Table, lines_path}
+use Rattle.analysis.specs.Below.source_files.KeptFiles.{KeptValue, kept_at}
+use Rattle.analysis.specs.Below.scope_bind.Bound.{Bound, is_function_name}
+use Rattle.analysis.specs.Below.scope_bind.Names.{kind_at}
+use Rattle.analysis.specs.Analysis.{UnitAnalysis, AnalysisValue}
+use Rattle.analysis.specs.ClassReport.{place_text}
+use Rattle.analysis.specs.Places.{place_at}
+use Rattle.calls_of.specs.declared.nodes.Node.{Node}
+use Rattle.calls_of.specs.declared.nodes.NodeKind.{NodeKind}
+use Rattle.calls_of.specs.declared.nodes.NodeKind.TheVariants.{Macro, Function}
+use Rattle.calls_of.specs.declared.nodes.Edge.{Edge}
+use Rattle.calls_of.specs.Graph.{GraphValue, IsGraph, is_edge}
 use Rattle.calls_of.specs.Bodies.{owner_of}
 use Rattle.calls_of.specs.Calls.{Call, node_of, function_node, first_in, in_units, calls_of}
 

@@ -3,12 +3,12 @@ use Rattle.std.specs.Prelude.{ℕ, ◌-◌, ◌≡◌, Option, Some, List, ◌++
 use Rattle.cs_base.specs.declared.positions.Pos.{Pos}
 use Rattle.cs_base.specs.Token.{Token}
 use Rattle.cs_base.specs.Units.{UnitValue}
-use Rattle.include_tree.specs.Below.unit_steps.declared.events.Event.{Event}
-use Rattle.include_tree.specs.Below.unit_steps.declared.events.EventKind.{EventKind}
-use Rattle.ws_core.specs.Below.linkage_join.Firsts.{first_at}
-use Rattle.ws_core.specs.Below.c_types.declared.lists.List.{List as NameList}
-use Rattle.ws_core.specs.Analysis.{UnitAnalysis, AnalysisValue}
-use Rattle.call_graphs.specs.declared.nodes.Node.{Node}
+use Rattle.analysis.specs.Below.unit_steps.declared.events.Event.{Event}
+use Rattle.analysis.specs.Below.unit_steps.declared.events.EventKind.{EventKind}
+use Rattle.analysis.specs.Below.linkage_join.Firsts.{first_at}
+use Rattle.analysis.specs.Below.c_types.declared.lists.List.{List as NameList}
+use Rattle.analysis.specs.Analysis.{UnitAnalysis, AnalysisValue}
+use Rattle.calls_of.specs.declared.nodes.Node.{Node}
 use Rattle.calls_of.specs.declared.known.Known.{Known}
 use Rattle.calls_of.specs.declared.one_unit.OneUnit.{OneUnit}
 use Rattle.calls_of.specs.Bodies.{owner_of}

@@ -3,9 +3,9 @@ use Rattle.std.specs.Prelude.{◌≡◌, ◌↔◌, Some, List, [], ◌∷◌, �
 use Rattle.std.specs.List.{Contains}
 use Rattle.std.specs.Ordering.{nat_cmp, ordering_then}
 use Rattle.std.specs.declared.cmp.Ordering.{Ordering}
-use Rattle.call_graphs.specs.declared.nodes.Node.{Node}
-use Rattle.call_graphs.specs.declared.nodes.Edge.{Edge}
-use Rattle.call_graphs.specs.Graph.{IsWithin, graph}
+use Rattle.calls_of.specs.declared.nodes.Node.{Node}
+use Rattle.calls_of.specs.declared.nodes.Edge.{Edge}
+use Rattle.calls_of.specs.Graph.{IsWithin, graph}
 use Rattle.calls_of.specs.Calls.{Call}
 use Rattle.calls_of.specs.Graphs.{IsCallIn}
 

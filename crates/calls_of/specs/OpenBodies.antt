@@ -1,7 +1,7 @@
 -- A table of the function whose body is open behind so many tokens of a unit (ISO/IEC 9899:1999, 6.9.1).
 use Rattle.std.specs.Prelude.{ℕ, ◌≡◌, ◌&&◌, nat_lt, if◌then◌else◌, Bool, Option, Some, None, List, find, slice_index_or}
 use Rattle.std.specs.Option.{option_map, option_or}
-use Rattle.ws_core.specs.Below.c_types.declared.lists.Range.{Range}
+use Rattle.analysis.specs.Below.c_types.declared.lists.Range.{Range}
 use Rattle.calls_of.specs.Calls.{is_open_behind}
 
 -- the name of the first of these bodies that is open

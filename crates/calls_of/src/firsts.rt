@@ -1,16 +1,15 @@
 // The first token of each name of external linkage, in its project (ISO/IEC 9899:1999, 6.2.2 paragraph 2).
 ghost use Rattle.std.specs.Prelude.{◌≡◌, ◌∷◌, [], List, ℕ, None, IfOk, OnOk};
 ghost use Rattle.std.specs.Option.{option_copied};
-ghost use Rattle.ws_core.specs.Below.linkage_join.Firsts.{first_at};
-ghost use Rattle.ws_core.specs.Links.{external_names_from, names_of_units};
+ghost use Rattle.analysis.specs.Below.linkage_join.Firsts.{first_at};
+ghost use Rattle.analysis.specs.Links.{external_names_from, names_of_units};
 ghost use Rattle.calls_of.specs.Calls.{first_in};
 ghost use Rattle.calls_of.specs.Externals.{own_name, Adds, AddsUnits};
 
+use analysis::{Analysis, Bound, is_external_name};
 use cs_base::{Memory, Tok, Unit};
 use indexmap::IndexMap;
-use scope_bind::Bound;
 use std::alloc::Global;
-use ws_core::{Analysis, is_external_name};
 
 /// For a project and a spelling the first token, where there is one. The keys and the tokens are lent.
 #[derive(Drop)]

@@ -9,9 +9,9 @@ use crate::call::NamedCall;
 use crate::known::Known;
 use crate::named::Named;
 use crate::one_unit::OneUnit;
+use analysis::Analysis;
 use cs_base::{Memory, Unit};
 use std::alloc::Global;
-use ws_core::Analysis;
 
 /// The calls, and the nodes.
 #[derive(Drop)]

@@ -1,19 +1,20 @@
 // The graph of the calls of an analysis.
 ghost use Rattle.std.specs.Prelude.{◌≡◌, ◌<◌, ◌^◌, length, IfOk, IsTrue};
-ghost use Rattle.call_graphs.specs.Graph.{are_in_order};
+ghost use Rattle.calls_of.specs.Graph.{are_in_order};
 ghost use Rattle.calls_of.specs.Graphs.{IsGraphOf};
 ghost use Rattle.calls_of.specs.Numbers.{AreCalls};
 
 use crate::call::NamedCall;
 use crate::found::all_found;
+use crate::graph::Graph;
 use crate::known::Known;
 use crate::named::Named;
+use crate::nodes::Edge;
 use crate::numbering::{edges_of, kept};
 use crate::ordering::{order_edges, order_nodes};
-use call_graphs::{Edge, Graph};
+use analysis::Analysis;
 use cs_base::{Memory, Unit};
 use std::alloc::Global;
-use ws_core::Analysis;
 
 /// The graph of the calls of an analysis. Its nodes are the macros that units define, the functions, and the ends of
 /// calls, in the order of their places and then of their names, each once.

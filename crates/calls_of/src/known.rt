@@ -6,9 +6,9 @@ ghost use Rattle.calls_of.specs.InUnits.{owner_by, first_by, AreKnown};
 
 use crate::firsts::Firsts;
 use crate::owners::Owners;
+use analysis::Analysis;
 use cs_base::{Memory, Tok, Unit};
 use std::alloc::Global;
-use ws_core::Analysis;
 
 /// The macros in whose replacement lists positions stand, and the first tokens of external names.
 #[derive(Drop)]

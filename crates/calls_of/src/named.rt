@@ -2,12 +2,12 @@
 ghost use Rattle.std.specs.Prelude.{◌≡◌, ◌++◌, IfOk, OnOk, IsTrue};
 ghost use Rattle.std.specs.Option.{option_to_list};
 ghost use Rattle.calls_of.specs.Calls.{node, node_of};
-ghost use Rattle.include_tree.specs.Below.unit_steps.declared.events.EventKind.TheVariants.{Defined};
+ghost use Rattle.analysis.specs.Below.unit_steps.declared.events.EventKind.TheVariants.{Defined};
 ghost use Rattle.calls_of.specs.Graphs.{defined_node, event_node};
 
-use call_graphs::{Node, NodeKind};
+use crate::nodes::{Node, NodeKind};
+use analysis::{Event, EventKind};
 use cs_base::{Memory, Pos, Text, Tok};
-use include_tree::{Event, EventKind};
 use std::alloc::Global;
 use std::marker::Model;
 
@@ -20,7 +20,7 @@ pub(crate) struct Named<'a> {
 }
 
 impl<'a> Model for Named<'a> {
-    ghost use Rattle.call_graphs.specs.declared.nodes.Node.{Node};
+    ghost use Rattle.calls_of.specs.declared.nodes.Node.{Node};
     ghost use Rattle.calls_of.specs.Calls.{node};
 
     ghost Value = { Node };

@@ -4,12 +4,12 @@ ghost use Rattle.calls_of.specs.Numbers.{AddsEdge, AreCalls};
 
 use crate::call::NamedCall;
 use crate::named::Named;
+use crate::nodes::{Edge, Node};
 use crate::ordering::compare;
-use call_graphs::{Edge, Node};
+use analysis::Analysis;
 use cs_base::Memory;
 use std::alloc::Global;
 use std::cmp::Ordering;
-use ws_core::Analysis;
 
 // A node comes before another.
 fn comes_before(a: &Analysis, m: &Named<'_>, n: &Named<'_>) -> bool {

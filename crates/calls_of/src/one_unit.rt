@@ -3,8 +3,8 @@ ghost use Rattle.std.specs.Prelude.{◌≡◌, IfOk};
 ghost use Rattle.calls_of.specs.OpenBodies.{AreOpenIn};
 
 use crate::open_bodies::open_bodies;
+use analysis::Bound;
 use cs_base::{Memory, Tok};
-use scope_bind::Bound;
 use std::alloc::Global;
 
 /// A unit: its project, its tokens and its binding, and for each number of tokens the function whose body is open

@@ -3,8 +3,8 @@ ghost use Rattle.std.specs.Prelude.{◌≡◌, ◌<◌, ◌≤◌, ◌+◌, None
 ghost use Rattle.std.specs.Option.{option_or};
 ghost use Rattle.calls_of.specs.OpenBodies.{body_at, AreOpenIn, Opened};
 
+use analysis::Range;
 use cs_base::Memory;
-use scope_bind::Range;
 use std::alloc::Global;
 
 // So many numbers of tokens, or more where the body is open behind more.

@@ -7,10 +7,10 @@ ghost use Rattle.calls_of.specs.Numbers.{edge_cmp};
 ghost use Rattle.calls_of.specs.Orders.{Orders};
 
 use crate::named::Named;
-use call_graphs::{Edge, NodeKind};
+use crate::nodes::{Edge, NodeKind};
+use analysis::Analysis;
 use cs_base::Pos;
 use std::cmp::Ordering;
-use ws_core::Analysis;
 
 const LINES_PATH: &[u8] = b"<lines>";
 

@@ -2,20 +2,19 @@
 ghost use Rattle.std.specs.Prelude.{◌≡◌, ◌∷◌, [], None, map, IfOk, OnOk};
 ghost use Rattle.std.specs.List.{flat_map};
 ghost use Rattle.std.specs.Option.{option_copied, option_map_or};
-ghost use Rattle.ws_core.specs.Below.part_lexer.Tokens.{tokens_of, firsts_of};
+ghost use Rattle.analysis.specs.Below.lexer.Tokens.{tokens_of, firsts_of};
 ghost use Rattle.line_shape.specs.Items.{items_of};
-ghost use Rattle.include_tree.specs.Below.source_files.KeptFiles.{kept_at};
+ghost use Rattle.analysis.specs.Below.source_files.KeptFiles.{kept_at};
 ghost use Rattle.cs_base.specs.declared.positions.Pos.{Pos as Position};
 ghost use Rattle.calls_of.specs.Bodies.{owned, owned_by, owned_in_item, owned_in_file, owned_from, owner_of};
 ghost use Rattle.calls_of.specs.Owners.{owner_at, owner_with, Grew};
 
 use crate::bodies::{between, is_define, list_behind};
+use analysis::{Analysis, KeptFile};
 use cs_base::{Memory, Pos, Tok};
-use include_tree::KeptFile;
 use indexmap::IndexMap;
 use line_shape::Item;
 use std::alloc::Global;
-use ws_core::Analysis;
 
 /// For a position the name of the macro in whose replacement list a token begins there. The names are lent by the
 /// files of an analysis.

@@ -2,10 +2,11 @@
 ghost use Rattle.std.specs.Prelude.{◌≡◌, ◌++◌, IfOk, OnOk};
 ghost use Rattle.calls_of.specs.Graphs.{calls_text, edge_line, node_text, numbered_text};
 
-use call_graphs::{Edge, Graph, Node};
+use crate::graph::Graph;
+use crate::nodes::{Edge, Node};
+use analysis::{Analysis, push_place};
 use cs_base::Memory;
 use std::alloc::Global;
-use ws_core::{Analysis, push_place};
 
 /// The report `calls`: a line `PATH:LINE:COL NAME -> PATH:LINE:COL NAME` for each edge of a graph, whose nodes stand in
 /// the files of the analysis.

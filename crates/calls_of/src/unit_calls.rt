@@ -2,22 +2,20 @@
 ghost use Rattle.std.specs.Prelude.{◌≡◌, ◌++◌, Some, false, length, OnOk};
 ghost use Rattle.std.specs.List.{flat_map, range_with_len};
 ghost use Rattle.std.specs.Option.{option_copied, option_map_or, option_to_list};
-ghost use Rattle.scope_bind.specs.Bound.{is_function_name};
-ghost use Rattle.scope_bind.specs.Names.{kind_at};
-ghost use Rattle.include_tree.specs.Below.unit_steps.declared.events.EventKind.TheVariants.{Replaced};
+ghost use Rattle.analysis.specs.Below.scope_bind.Bound.{is_function_name};
+ghost use Rattle.analysis.specs.Below.scope_bind.Names.{kind_at};
+ghost use Rattle.analysis.specs.Below.unit_steps.declared.events.EventKind.TheVariants.{Replaced};
 ghost use Rattle.calls_of.specs.Graphs.{event_node};
 ghost use Rattle.calls_of.specs.InUnits.{first_of, function_node, macro_around, function_around, caller_of, entity_call, direct_call, replacing, replacement_call, unit_calls, function_named, unit_nodes};
 
 use crate::call::{NamedCall, call_for, push_call};
 use crate::known::Known;
 use crate::named::{Named, event_node, node_named, push_node};
+use crate::nodes::NodeKind;
 use crate::one_unit::OneUnit;
 use crate::open_bodies::body_at;
-use call_graphs::NodeKind;
+use analysis::{EntityKind, Event, EventKind, List, is_external};
 use cs_base::{Memory, Pos, Tok};
-use include_tree::{Event, EventKind};
-use scope_bind::{EntityKind, List};
-use ws_core::is_external;
 
 impl<'a> OneUnit<'a> {
     // The first occurrence of an entity.

@@ -1,7 +1,6 @@
 // What is asked of graphs of calls, worked by hand from the definitions.
 use crate::workspaces::analysed;
-use call_graphs::Graph;
-use calls_of::graph;
+use calls_of::{Graph, graph};
 use cs_base::Memory;
 use std::alloc::Global;
 use std::test::Fail;

@@ -1,10 +1,10 @@
 // Include lines and names that nobody uses, worked by hand from the definitions.
 use crate::workspaces::analysed;
+use analysis::Analysis;
 use cs_base::Pos;
 use std::alloc::{AllocError, Global};
 use std::test::Fail;
 use unused_names::{unneeded, unused};
-use ws_core::Analysis;
 
 // Adds the place of a position.
 fn push_place(out: &mut Vec<u8>, alloc: Global, a: &Analysis, at: Pos) -> Result<(), AllocError> {

@@ -1,7 +1,7 @@
 // Workspaces in memory whose only unit is `a.c`.
+use analysis::{Analysis, analyse};
 use std::alloc::{AllocError, Global};
 use std::test::Fail;
-use ws_core::{Analysis, analyse};
 use ws_file::read_ws;
 
 /// The analysis of the unit, which is accepted. The files are held, each as `PATH:TEXT` with `@` between them.

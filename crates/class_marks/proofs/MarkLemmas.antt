@@ -12,7 +12,7 @@ use Rattle.cs_base.specs.declared.positions.Pos.{Pos}
 use Rattle.cs_base.specs.declared.positions.Part.{Part}
 use Rattle.cs_base.specs.Token.{Token, origin_at}
 use Rattle.eclass_map.specs.ClassTable.{Table, class_in}
-use Rattle.scope_bind.specs.declared.bound.Name.{Name}
+use Rattle.analysis.specs.Below.scope_bind.declared.bound.Name.{Name}
 use Rattle.class_marks.specs.declared.roles.Role.{Role}
 use Rattle.class_marks.specs.Marks.{class_at, mark_class, with_character, with_token, with_tokens, is_class, touches, AreMarked}
 use Rattle.class_marks.specs.Roles.{token_has, tokens_with}

@@ -3,9 +3,9 @@ use Rattle.std.proofs.Common.{◌≡◌, ℕ, ◌+◌, ◌<◌, Bool, true, fals
 use Rattle.std.proofs.lemmas.Option.{slice_get_within, slice_get-get_or, get_or_from_slice_get}
 use borrow.Author.Count.{below_more}
 use Rattle.cs_base.specs.declared.positions.Part.{Part}
-use Rattle.ws_core.specs.Analysis.{AnalysisValue}
-use Rattle.ws_core.specs.Parts.{AreMembers}
-use Rattle.ws_core.specs.Places.{is_read_only}
+use Rattle.analysis.specs.Analysis.{AnalysisValue}
+use Rattle.analysis.specs.Parts.{AreMembers}
+use Rattle.analysis.specs.Places.{is_read_only}
 use Rattle.class_marks.specs.Touching.{IsReadOnlyClass}
 
 -- ---- read-only files

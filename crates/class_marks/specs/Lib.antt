@@ -4,5 +4,3 @@ pub mod Touching
 pub mod Marks
 -- What inner functions promise each other, and those of crates above.
 pub mod Keeping
--- Words of the crates below, passed on.
-pub mod Below

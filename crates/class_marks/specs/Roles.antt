@@ -4,17 +4,17 @@ use Rattle.std.specs.Prelude.{ℕ, ◌+◌, ◌&&◌, Bool, true, false, not, if
 use Rattle.std.specs.List.{flat_map}
 use Rattle.std.specs.Option.{option_map_or}
 use Rattle.cs_base.specs.Token.{Token}
-use Rattle.include_tree.specs.Below.unit_steps.declared.events.Event.{Event}
-use Rattle.include_tree.specs.Below.unit_steps.declared.events.EventKind.{EventKind}
-use Rattle.include_tree.specs.Below.unit_steps.declared.events.EventKind.TheVariants as event
-use Rattle.include_tree.specs.Below.unit_steps.Texts.{UnitTextValue}
-use Rattle.scope_bind.specs.declared.bound.Name.{Name}
-use Rattle.ws_core.specs.Below.c_types.declared.entity.EntityKind.{EntityKind}
-use Rattle.ws_core.specs.Below.c_types.declared.entity.EntityKind.TheVariants as entity
-use Rattle.ws_core.specs.Below.c_types.declared.entity.Linkage.{Linkage}
-use Rattle.ws_core.specs.Below.c_types.declared.entity.Linkage.TheVariants as linkage
-use Rattle.scope_bind.specs.Names.{entity_at, declares_at, kind_at, linkage_at}
-use Rattle.ws_core.specs.Analysis.{UnitAnalysis, AnalysisValue}
+use Rattle.analysis.specs.Below.unit_steps.declared.events.Event.{Event}
+use Rattle.analysis.specs.Below.unit_steps.declared.events.EventKind.{EventKind}
+use Rattle.analysis.specs.Below.unit_steps.declared.events.EventKind.TheVariants as event
+use Rattle.analysis.specs.Below.unit_steps.Texts.{UnitTextValue}
+use Rattle.analysis.specs.Below.scope_bind.declared.bound.Name.{Name}
+use Rattle.analysis.specs.Below.c_types.declared.entity.EntityKind.{EntityKind}
+use Rattle.analysis.specs.Below.c_types.declared.entity.EntityKind.TheVariants as entity
+use Rattle.analysis.specs.Below.c_types.declared.entity.Linkage.{Linkage}
+use Rattle.analysis.specs.Below.c_types.declared.entity.Linkage.TheVariants as linkage
+use Rattle.analysis.specs.Below.scope_bind.Names.{entity_at, declares_at, kind_at, linkage_at}
+use Rattle.analysis.specs.Analysis.{UnitAnalysis, AnalysisValue}
 use Rattle.class_marks.specs.declared.roles.Role.{Role}
 use Rattle.class_marks.specs.declared.roles.Role.TheVariants.{Declares, Uses, Defines, OfKind, External}
 

@@ -4,9 +4,9 @@ use Rattle.cs_base.specs.declared.positions.Part.{Part}
 use Rattle.cs_base.specs.declared.positions.Pos.{Pos}
 use Rattle.cs_base.specs.Token.{Token, origin_at}
 use Rattle.eclass_map.specs.Positions.{holds}
-use Rattle.ws_core.specs.Analysis.{AnalysisValue}
-use Rattle.ws_core.specs.Parts.{IsMember}
-use Rattle.ws_core.specs.Places.{is_read_only}
+use Rattle.analysis.specs.Analysis.{AnalysisValue}
+use Rattle.analysis.specs.Parts.{IsMember}
+use Rattle.analysis.specs.Places.{is_read_only}
 use Rattle.class_marks.specs.declared.roles.Role.{Role}
 use Rattle.class_marks.specs.Roles.{names_with}
 

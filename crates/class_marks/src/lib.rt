@@ -15,8 +15,3 @@ mod roles;
 pub use marks::{is_marked, marks_of};
 pub use read_only::has_read_only;
 pub use roles::Role;
-
-// Passed on to the crates above, which list this one in the place of those below.
-pub use include_tree::{Event, EventKind, KeptFile, Reached, UnitText};
-pub use scope_bind::{Bound, EntityKind};
-pub use ws_core::{Analysis, Texts, push_place};

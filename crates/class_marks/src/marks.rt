@@ -4,19 +4,17 @@ ghost use Rattle.std.specs.List.{flat_map};
 ghost use Rattle.std.specs.Option.{option_map_or};
 ghost use Rattle.cs_base.specs.declared.positions.Part.{Part};
 ghost use Rattle.eclass_map.specs.ClassTable.{class_in};
-ghost use Rattle.ws_core.specs.Parts.{IsPart};
+ghost use Rattle.analysis.specs.Parts.{IsPart};
 ghost use Rattle.class_marks.specs.declared.roles.Role.{Role};
 ghost use Rattle.class_marks.specs.Touching.{HasRole};
 ghost use Rattle.class_marks.specs.Marks.{AreMarked, class_at, mark_class, with_character, with_token, with_tokens};
 ghost use Rattle.class_marks.specs.Roles.{event_name, names_in, names_with, tokens_with};
 
 use crate::roles::{Role, event_has, token_has};
+use analysis::{Analysis, Bound, Event, UnitText};
 use cs_base::{Memory, Part, Pos, Tok};
 use eclass_map::Classes;
-use include_tree::{Event, UnitText};
-use scope_bind::Bound;
 use std::alloc::Global;
-use ws_core::Analysis;
 
 // The class of the part that a character comes from.
 fn class_at(classes: &Classes, origin: Option<Pos>) -> Option<u32>

@@ -1,10 +1,10 @@
 // Classes with members in files that are not edited.
 ghost use Rattle.std.specs.Prelude.{MatchBool};
-ghost use Rattle.ws_core.specs.Parts.{IsPart};
+ghost use Rattle.analysis.specs.Parts.{IsPart};
 ghost use Rattle.class_marks.specs.Touching.{IsReadOnlyClass};
 
+use analysis::Analysis;
 use cs_base::Part;
-use ws_core::Analysis;
 
 /// Whether some member of the class lies in a read-only file.
 pub fn has_read_only(a: &Analysis, part: Part) -> bool

@@ -2,8 +2,7 @@
 ghost use Rattle.std.specs.Prelude.{◌≡◌};
 ghost use Rattle.class_marks.specs.Roles.{does_declare, event_has, is_external, is_kind, is_parameter, occurrence_has, token_has};
 
-use include_tree::EventKind;
-use scope_bind::{Bound, EntityKind, Linkage};
+use analysis::{Bound, EntityKind, EventKind, Linkage};
 
 /// What is asked of the name of an event, or of a token of a unit.
 #[derive(Clone, Copy, Debug, PartialEq, Eq)]

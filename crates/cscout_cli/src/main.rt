@@ -4,8 +4,9 @@
 //! the whole program, and ends with the number of the status. Start from `cscout_run`.
 #![tactic(auto)]
 
+use command_words::tell;
 use cs_base::Sink;
-use cscout_run::{HostFiles, HostSink, Status, run, tell};
+use cscout_run::{HostFiles, HostSink, Status, run};
 use std::process::ExitCode;
 use std::{env, io};
 

@@ -6,23 +6,23 @@ use Rattle.std.proofs.lemmas.Option.{none-some, same_Some}
 use Rattle.cs_base.specs.declared.positions.Part.{Part}
 use Rattle.cs_base.specs.declared.positions.Pos.{Pos}
 use Rattle.cs_base.specs.Edit.{Edit}
-use Rattle.ws_core.specs.Below.eclass_map.Positions.{holds}
-use Rattle.ws_core.specs.Below.part_lexer.Spelling.{is_identifier_text}
+use Rattle.analysis.specs.Below.eclass_map.Positions.{holds}
+use Rattle.analysis.specs.Below.lexer.Spelling.{is_identifier_text}
 use Rattle.ws_file.specs.Workspace.{WorkspaceValue, IsWorkspace}
-use Rattle.ws_core.specs.Below.source_files.Files.{Source}
-use Rattle.ws_core.specs.Analysis.{AnalysisValue, analysis_of}
-use Rattle.ws_core.specs.Naming.{Names}
-use Rattle.ws_core.specs.Parts.{part_cmp}
-use Rattle.ws_core.proofs.ListingLemmas.{part_cmp-total}
-use Rattle.template_edit.specs.Below.rename_rules.First.{IsAmong, offences_of}
-use Rattle.template_edit.specs.Below.rename_rules.Renaming.{Refusal, IsRenamed, IsClassRenamed, IsNamedRenamed, IsRenaming}
-use Rattle.ws_core.proofs.PartLemmas.{part_once}
-use Rattle.batch_run.proofs.Below.kept_analysis.MemberLemmas.{AreIn, one_list, same_lists}
-use Rattle.batch_run.proofs.Below.kept_meaning_laws.RefusalLemmas.{refusals_are_one}
-use Rattle.query_report.specs.Below.unused_names.Order.{position_cmp}
-use Rattle.query_report.specs.Below.unused_names.Unneeded.{AreUnneeded}
-use Rattle.query_report.specs.Below.unused_names.Unused.{AreUnused}
-use Rattle.query_report.proofs.Below.unused_names.OrderLemmas.{position_cmp-total}
+use Rattle.analysis.specs.Below.source_files.Files.{Source}
+use Rattle.analysis.specs.Analysis.{AnalysisValue, analysis_of}
+use Rattle.analysis.specs.Naming.{Names}
+use Rattle.analysis.specs.Parts.{part_cmp}
+use Rattle.analysis.proofs.ListingLemmas.{part_cmp-total}
+use Rattle.rename_rules.specs.First.{IsAmong, offences_of}
+use Rattle.rename_rules.specs.Renaming.{Refusal, IsRenamed, IsClassRenamed, IsNamedRenamed, IsRenaming}
+use Rattle.analysis.proofs.PartLemmas.{part_once}
+use Rattle.kept_analysis.proofs.MemberLemmas.{AreIn, one_list, same_lists}
+use Rattle.rename_meaning.proofs.RefusalLemmas.{refusals_are_one}
+use Rattle.unused_names.specs.Order.{position_cmp}
+use Rattle.unused_names.specs.Unneeded.{AreUnneeded}
+use Rattle.unused_names.specs.Unused.{AreUnused}
+use Rattle.unused_names.proofs.OrderLemmas.{position_cmp-total}
 use Rattle.query_words.specs.Queries.{Query}
 use Rattle.find_names.specs.Found.{AreFound, PrintsFound, PrintsLine, PrintsLines, found_line, nothing, more}
 

@@ -12,16 +12,16 @@ use Rattle.std.proofs.lemmas.List.Elements.{All-contains}
 use Rattle.std.proofs.lemmas.List.Folds.{Any-from_list_any, list_any_at}
 use Rattle.std.proofs.lemmas.Map.Keys.{Less-from_sorted, sorted_from_all_adjacent}
 use Rattle.std.proofs.lemmas.Option.{slice_get-get_or, slice_get_within, get_or_from_slice_get}
-use Rattle.ws_core.specs.Analysis.{AnalysisValue}
-use Rattle.template_edit.specs.Below.rename_rules.First.{IsAmong}
-use Rattle.calls_of.specs.Below.call_graphs.declared.nodes.Node.{Node}
-use Rattle.calls_of.specs.Below.call_graphs.declared.nodes.Edge.{Edge}
-use Rattle.calls_of.specs.Below.call_graphs.Graph.{GraphValue, IsWithin, graph, leads, is_edge, comes_before, are_in_order}
+use Rattle.analysis.specs.Analysis.{AnalysisValue}
+use Rattle.rename_rules.specs.First.{IsAmong}
+use Rattle.calls_of.specs.declared.nodes.Node.{Node}
+use Rattle.calls_of.specs.declared.nodes.Edge.{Edge}
+use Rattle.calls_of.specs.Graph.{GraphValue, IsWithin, graph, leads, is_edge, comes_before, are_in_order}
 use Rattle.calls_of.specs.Calls.{Call, call, calls_of}
 use Rattle.calls_of.specs.Graphs.{IsCallIn, IsGraphOf, node_cmp, nodes_of}
 use Rattle.calls_of.specs.Numbers.{edge_cmp}
 use Rattle.calls_of.proofs.NodeLemmas.{node_cmp-strict, edge_cmp-strict, before-less}
-use Rattle.batch_run.proofs.Below.kept_analysis.MemberLemmas.{AreIn, same_lists}
+use Rattle.kept_analysis.proofs.MemberLemmas.{AreIn, same_lists}
 
 -- ---- elements
 
@@ -99,7 +99,7 @@ led_by es i j is =
 edges_in : (a : AnalysisValue) (g h : GraphValue) → IsGraphOf a g → IsGraphOf a h → g.nodes ≡ h.nodes → AreIn g.edges h.edges
 edges_in a g h p q same e at =
     let within : IsWithin (length g.nodes) e = All-contains (IsWithin (length g.nodes)) g.edges e p.sound.within (contained g.edges e at) in
-    let none : Node = record { kind = Rattle.calls_of.specs.Below.call_graphs.declared.nodes.NodeKind.TheVariants.Macro; at = record { file = 0; at = 0 }; name = [] } in
+    let none : Node = record { kind = Rattle.calls_of.specs.declared.nodes.NodeKind.TheVariants.Macro; at = record { file = 0; at = 0 }; name = [] } in
     let m : Node = get_or g.nodes e.caller none in
     let n : Node = get_or g.nodes e.callee none in
     let calls : slice_get g.nodes e.caller ≡ Some m = slice_get-get_or g.nodes e.caller none within.caller in

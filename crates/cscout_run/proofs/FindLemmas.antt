@@ -1,6 +1,6 @@
 -- Answers to a query over classes: the lines of what is found, or the fault of the query.
 use Rattle.std.proofs.Common.{◌≡◌, ℕ, List, Result, Ok, Err, refl, sym, subst}
-use Rattle.ws_core.specs.Analysis.{AnalysisValue}
+use Rattle.analysis.specs.Analysis.{AnalysisValue}
 use Rattle.query_words.specs.Queries.{Query as FoundQuery}
 use Rattle.query_words.specs.Reading.{parsed}
 use Rattle.query_words.specs.declared.faults.QueryFault.{QueryFault}

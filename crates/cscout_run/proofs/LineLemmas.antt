@@ -2,13 +2,13 @@
 use Rattle.std.proofs.Common.{◌≡◌, ℕ, List, [], ◌∷◌, Option, None, Some, Result, Ok, Err, refl, ap, sym, subst, ◌∙◌}
 use Rattle.cs_base.specs.Edit.{Edit, with_edits}
 use Rattle.cs_base.specs.Outside.{FileMap}
-use Rattle.batch_file.specs.Line.{LineValue}
+use Rattle.batch_run.specs.Line.{LineValue}
 use Rattle.batch_run.specs.Batch.{Plan, IsLine, IsBatch, after}
-use Rattle.template_edit.specs.Below.rename_rules.Renaming.{IsRenaming}
+use Rattle.rename_rules.specs.Renaming.{IsRenaming}
 use Rattle.ws_file.specs.Workspace.{WorkspaceValue, IsWorkspace}
-use Rattle.ws_core.specs.Below.source_files.Files.{source_of}
-use Rattle.ws_core.specs.Analysis.{AnalysisValue, analysis_of}
-use Rattle.ws_core.specs.Texts.{UnitFault}
+use Rattle.analysis.specs.Below.source_files.Files.{source_of}
+use Rattle.analysis.specs.Analysis.{AnalysisValue, analysis_of}
+use Rattle.analysis.specs.Texts.{UnitFault}
 use Rattle.cscout_run.specs.Answer.{Answer, IsBatchAnswer, IsLinesAnswer, lines_answer}
 use Rattle.cscout_run.proofs.AlikeLemmas.{renamings_once}
 

@@ -4,14 +4,14 @@ use Rattle.std.specs.Prelude.{IfOk, IfSome}
 use Rattle.cs_base.specs.Edit.{IsKept}
 use Rattle.cs_base.specs.Outside.{FileMap}
 use Rattle.ws_file.specs.Workspace.{WorkspaceValue, IsWorkspace}
-use Rattle.ws_core.specs.Below.eclass_map.ClassTable as classes
-use Rattle.ws_core.specs.Below.source_files.Files.{source_of}
-use Rattle.ws_core.specs.Below.source_files.Tables.{HasEachOnce}
-use Rattle.ws_core.specs.Analysis.{AnalysisValue, analysis_of}
-use Rattle.ws_core.specs.Classes.{AreItsClasses}
-use Rattle.template_edit.specs.Below.rename_rules.Renaming.{IsRenaming}
+use Rattle.analysis.specs.Below.eclass_map.ClassTable as classes
+use Rattle.analysis.specs.Below.source_files.Files.{source_of}
+use Rattle.analysis.specs.Below.source_files.Tables.{HasEachOnce}
+use Rattle.analysis.specs.Analysis.{AnalysisValue, analysis_of}
+use Rattle.analysis.specs.Classes.{AreItsClasses}
+use Rattle.rename_rules.specs.Renaming.{IsRenaming}
 use Rattle.command_words.specs.Request.{RenameValue, TemplateValue}
-use Rattle.template_edit.specs.Below.template_meaning_laws.Kept.{ReordersOver}
+use Rattle.template_meaning.specs.Kept.{ReordersOver}
 use Rattle.cscout_run.specs.Steps.{IsOrdered, IsPlanned, ReadsWorkspace}
 use Rattle.cscout_run.specs.declared.preparing.Ready.{Ready}
 use Rattle.cscout_run.specs.declared.stops.Stop.{Stop}

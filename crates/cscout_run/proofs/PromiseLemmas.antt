@@ -5,18 +5,18 @@ use Rattle.std.specs.Option.{option_map}
 use Rattle.std.proofs.lemmas.Option.{slice_get-get_or}
 use Rattle.cs_base.specs.Edit.{Edit, with_edits}
 use Rattle.cs_base.specs.Outside.{FileMap}
-use Rattle.batch_file.specs.Line.{LineValue, line_value}
+use Rattle.batch_run.specs.Line.{LineValue, line_value}
 use Rattle.batch_run.proofs.RenamedLemmas.{IsPlanned, edits_are_put, rename_is_kept, workspace_is}
 use Rattle.command_words.proofs.MessageLemmas.{message_there}
 use Rattle.command_words.specs.Request.{RequestValue, RenameValue, TemplateValue, BatchValue, asked, help_asked, version_asked, renaming_asked, template_asked, tokens_asked, skipped_asked, class_asked, unused_asked, includes_asked, calls_asked, find_asked, batch_asked, generated_asked}
 use Rattle.edited_files.specs.Edited.{ArePut}
-use Rattle.template_edit.specs.Below.template_meaning_laws.Kept.{AreMade}
-use Rattle.template_edit.specs.Below.template_meaning_laws.Reordered.{AnalysisIsReordered}
+use Rattle.template_meaning.specs.Kept.{AreMade}
+use Rattle.template_meaning.specs.Reordered.{AnalysisIsReordered}
 use Rattle.ws_file.specs.Workspace.{WorkspaceValue}
 use Rattle.ws_file.specs.Reading.{WsFault}
-use Rattle.ws_core.specs.Below.source_files.Files.{source_of}
-use Rattle.ws_core.specs.Analysis.{AnalysisValue, analysis_of}
-use Rattle.ws_core.specs.Texts.{UnitFault}
+use Rattle.analysis.specs.Below.source_files.Files.{source_of}
+use Rattle.analysis.specs.Analysis.{AnalysisValue, analysis_of}
+use Rattle.analysis.specs.Texts.{UnitFault}
 use Rattle.cscout_run.specs.Answer.{Answer, IsBatchAnswer, IsLinesAnswer, IsOverWorkspace, IsRequestAnswer, batch_at, stopped, workspace_at}
 use Rattle.cscout_run.specs.Promise.{Edited, IsRenamed, IsReordered, HasRun, KeepsPromise, KeepsRefused}
 use Rattle.cscout_run.specs.Steps.{LinesRun, Ordered, Planned, Prepares, IsPlannedFor}

@@ -8,13 +8,13 @@ use Rattle.cs_base.specs.Outside.{FileMap}
 use Rattle.cs_base.specs.Units.{UnitValue}
 use Rattle.ws_file.specs.Workspace.{WorkspaceValue}
 use Rattle.ws_file.specs.Reading.{WsFault}
-use Rattle.ws_core.specs.Below.source_files.Files.{source_of}
-use Rattle.ws_core.specs.Below.unit_steps.Texts.{UnitTextValue}
-use Rattle.ws_core.specs.Analysis.{AnalysisValue, analysis_of}
-use Rattle.ws_core.specs.Texts.{UnitFault, unit_at, alone, one_text_of}
-use Rattle.ws_core.specs.Answers.{fault_of}
-use Rattle.ws_core.specs.declared.analyse_fault.AnalyseFault.{AnalyseFault}
-use Rattle.ws_core.specs.declared.analyse_fault.AnalyseFault.TheVariants as fault
+use Rattle.analysis.specs.Below.source_files.Files.{source_of}
+use Rattle.analysis.specs.Below.unit_steps.Texts.{UnitTextValue}
+use Rattle.analysis.specs.Analysis.{AnalysisValue, analysis_of}
+use Rattle.analysis.specs.Texts.{UnitFault, unit_at, alone, one_text_of}
+use Rattle.analysis.specs.Answers.{fault_of}
+use Rattle.analysis.specs.declared.analyse_fault.AnalyseFault.{AnalyseFault}
+use Rattle.analysis.specs.declared.analyse_fault.AnalyseFault.TheVariants as fault
 use Rattle.query_report.specs.TokensText.{tokens_text}
 use Rattle.cscout_run.specs.declared.status.Status.TheVariants.{Refused, Workspace}
 use Rattle.cscout_run.specs.declared.preparing.Ready.{Ready}

@@ -7,10 +7,10 @@ use Rattle.cs_base.specs.Edit.{Edit, with_edits}
 use Rattle.cs_base.specs.Outside.{FileMap, bytes_at, FilesTold, TellsReads, Rose}
 use Rattle.ws_file.specs.Workspace.{WorkspaceValue, IsWorkspace}
 use Rattle.ws_file.specs.Reading.{WsFault, workspace_of}
-use Rattle.ws_core.specs.Below.source_files.Files.{source_of}
-use Rattle.ws_core.specs.Analysis.{AnalysisValue, analysis_of}
-use Rattle.ws_core.specs.ClassReport.{IsClassReport, PrintsClass, part_lines}
-use Rattle.ws_core.specs.Parts.{AreMembers}
+use Rattle.analysis.specs.Below.source_files.Files.{source_of}
+use Rattle.analysis.specs.Analysis.{AnalysisValue, analysis_of}
+use Rattle.analysis.specs.ClassReport.{IsClassReport, PrintsClass, part_lines}
+use Rattle.analysis.specs.Parts.{AreMembers}
 use Rattle.cs_base.specs.declared.positions.Part.{Part}
 use Rattle.std.proofs.lemmas.Option.{same_Some}
 use Rattle.query_words.specs.Queries.{Query as FoundQuery}
@@ -18,7 +18,7 @@ use Rattle.query_words.specs.Reading.{parsed}
 use Rattle.query_words.specs.declared.faults.QueryFault.{QueryFault}
 use Rattle.query_report.specs.Queries.{IsIncludesReport, IsUnusedReport, lines_of}
 use Rattle.query_report.specs.declared.queries.Query.TheVariants.{Unused, Includes}
-use Rattle.ws_core.specs.Texts.{UnitFault}
+use Rattle.analysis.specs.Texts.{UnitFault}
 use Rattle.generated.specs.Generated.{header_path, workspace_path, generated_files}
 use Rattle.cscout_run.specs.declared.status.Status.{Status}
 use Rattle.cscout_run.specs.declared.status.Status.TheVariants.{Done, Refused, Usage, Workspace, ReadFault, WriteFault, Memory}
@@ -31,13 +31,13 @@ use Rattle.command_words.specs.Message.{usage_line}
 use Rattle.cscout_run.specs.Outcome.{World, told_in, GoesOn, StatusIs, HasCauses, IsComplete, IsDone, NoneRose, ShowsAnswer, Tells, FailedPut, Unmoved}
 use Rattle.cscout_run.specs.Steps.{Prepares}
 use Rattle.cscout_run.specs.declared.preparing.Ready.{Ready}
-use Rattle.edit_put.specs.Applying.{Applies}
-use Rattle.edit_put.specs.declared.applying.Applied.TheVariants as applied
-use Rattle.calls_of.specs.Below.call_graphs.Graph.{GraphValue}
+use Rattle.edited_files.specs.Applying.{Applies}
+use Rattle.edited_files.specs.declared.applying.Applied.TheVariants as applied
+use Rattle.calls_of.specs.Graph.{GraphValue}
 use Rattle.calls_of.specs.Graphs.{calls_text}
 use Rattle.cscout_run.proofs.CallsLemmas.{one_graph}
 use Rattle.cscout_run.specs.Stopping.{Stops, stop_reads, status_of, line_of}
-use Rattle.batch_run.proofs.Below.kept_analysis.MemberLemmas.{one_list}
+use Rattle.kept_analysis.proofs.MemberLemmas.{one_list}
 use Rattle.cscout_run.proofs.AlikeLemmas.{one_found, one_named, one_unneeded, one_unused, renamings_once}
 use Rattle.cscout_run.proofs.LineLemmas.{batch-alike, same-answer}
 use Rattle.cscout_run.proofs.WorkspaceLemmas.{read_is_workspace}

@@ -5,9 +5,9 @@ use Rattle.std.specs.Option.{option_map}
 use Rattle.std.proofs.lemmas.Option.{same_Some, none-some}
 use Rattle.cs_base.specs.Edit.{Edit}
 use Rattle.cs_base.specs.Token.{Token}
-use Rattle.ws_core.specs.Below.unit_steps.Texts.{UnitTextValue}
-use Rattle.ws_core.specs.Analysis.{UnitAnalysis}
-use Rattle.batch_run.specs.Below.analysis_laws.Counts.{tokens_in}
+use Rattle.analysis.specs.Below.unit_steps.Texts.{UnitTextValue}
+use Rattle.analysis.specs.Analysis.{UnitAnalysis}
+use Rattle.analysis.specs.Counts.{tokens_in}
 use Rattle.cscout_run.specs.Answer.{places_in}
 use Rattle.cscout_run.specs.declared.stops.Stop.{Stop}
 use Rattle.cscout_run.specs.declared.stops.Stop.TheVariants as stop

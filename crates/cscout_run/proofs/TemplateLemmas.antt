@@ -5,26 +5,26 @@ use Rattle.cs_base.specs.declared.causes.Cause.{Cause}
 use Rattle.cs_base.specs.declared.positions.Part.{Part}
 use Rattle.cs_base.specs.declared.positions.Place.{Place}
 use Rattle.cs_base.specs.Edit.{Edit}
-use Rattle.template_edit.specs.Below.list_cuts.Orders.{is_order}
+use Rattle.list_cuts.specs.Orders.{is_order}
 use Rattle.ws_file.specs.Workspace.{WorkspaceValue, IsWorkspace}
-use Rattle.ws_core.specs.Below.source_files.Files.{Source}
-use Rattle.ws_core.specs.Analysis.{AnalysisValue, analysis_of}
-use Rattle.ws_core.specs.Places.{place_at}
-use Rattle.template_edit.specs.Below.rename_rules.declared.offences.Offence.{Offence as AnOffence}
-use Rattle.template_edit.specs.Below.template_rules.Functions.{has_function}
-use Rattle.template_edit.specs.Below.template_rules.Lists.{count_of}
-use Rattle.template_edit.specs.Below.template_rules.Offences.{offences_of}
-use Rattle.template_edit.specs.Below.template_rules.Refusals.{refusal_of}
-use Rattle.template_edit.specs.Below.template_rules.Template.{Refusal, no_name, not_a_function, bad_order, refused, IsReordered, IsOrdered, IsClassOrdered, IsNamedOrdered, IsTemplate}
-use Rattle.template_edit.specs.Below.template_rules.declared.refusals.TemplateRefusal.{TemplateRefusal}
-use Rattle.template_edit.specs.Below.template_rules.declared.refusals.TemplateRefusal.TheVariants.{NoName, NotAFunction, BadOrder, Offence, Memory}
+use Rattle.analysis.specs.Below.source_files.Files.{Source}
+use Rattle.analysis.specs.Analysis.{AnalysisValue, analysis_of}
+use Rattle.analysis.specs.Places.{place_at}
+use Rattle.rename_rules.specs.declared.offences.Offence.{Offence as AnOffence}
+use Rattle.template_rules.specs.Functions.{has_function}
+use Rattle.template_rules.specs.Lists.{count_of}
+use Rattle.template_rules.specs.Offences.{offences_of}
+use Rattle.template_rules.specs.Refusals.{refusal_of}
+use Rattle.template_rules.specs.Template.{Refusal, no_name, not_a_function, bad_order, refused, IsReordered, IsOrdered, IsClassOrdered, IsNamedOrdered, IsTemplate}
+use Rattle.template_rules.specs.declared.refusals.TemplateRefusal.{TemplateRefusal}
+use Rattle.template_rules.specs.declared.refusals.TemplateRefusal.TheVariants.{NoName, NotAFunction, BadOrder, Offence, Memory}
 use Rattle.command_words.specs.Request.{TemplateValue}
 use Rattle.cscout_run.specs.Answer.{IsTemplateAnswer}
 use Rattle.cscout_run.specs.Steps.{template_stop}
 use Rattle.cscout_run.specs.Stopping.{Stops}
 use Rattle.cs_base.proofs.CauseLemmas.{one_cause}
-use Rattle.batch_run.proofs.Below.kept_analysis.MemberLemmas.{one_list}
-use Rattle.batch_run.proofs.Below.kept_meaning_laws.RefusalLemmas.{firsts_are_tied}
+use Rattle.kept_analysis.proofs.MemberLemmas.{one_list}
+use Rattle.rename_meaning.proofs.RefusalLemmas.{firsts_are_tied}
 use Rattle.cscout_run.proofs.AlikeLemmas.{one_named, none_stands}
 
 -- a refusal stops with its line

@@ -6,30 +6,30 @@ use Rattle.cs_base.specs.Edit.{Edit}
 use Rattle.cs_base.specs.Outside.{FileMap, bytes_at}
 use Rattle.ws_file.specs.Workspace.{WorkspaceValue}
 use Rattle.ws_file.specs.Reading.{WsFault, bad_line, too_many_units, workspace_of}
-use Rattle.ws_core.specs.Below.source_files.Files.{source_of}
-use Rattle.ws_core.specs.Below.unit_steps.Texts.{UnitTextValue}
-use Rattle.ws_core.specs.Analysis.{AnalysisValue, analysis_of}
-use Rattle.ws_core.specs.ClassReport.{IsClassReport}
-use Rattle.ws_core.specs.Texts as units
-use Rattle.batch_run.specs.Below.analysis_laws.Counts.{tokens_in}
+use Rattle.analysis.specs.Below.source_files.Files.{source_of}
+use Rattle.analysis.specs.Below.unit_steps.Texts.{UnitTextValue}
+use Rattle.analysis.specs.Analysis.{AnalysisValue, analysis_of}
+use Rattle.analysis.specs.ClassReport.{IsClassReport}
+use Rattle.analysis.specs.Texts as units
+use Rattle.analysis.specs.Counts.{tokens_in}
 use Rattle.query_report.specs.TokensText.{tokens_text}
 use Rattle.query_report.specs.Skipped.{skipped_text}
 use Rattle.query_report.specs.Queries.{IsReport}
 use Rattle.query_report.specs.declared.queries.Query.{Query}
 use Rattle.query_report.specs.declared.queries.Query.TheVariants.{Unused, Includes}
-use Rattle.calls_of.specs.Below.call_graphs.Graph.{GraphValue}
+use Rattle.calls_of.specs.Graph.{GraphValue}
 use Rattle.calls_of.specs.Graphs.{IsGraphOf, calls_text}
 use Rattle.query_words.specs.Queries.{Query as FoundQuery}
 use Rattle.query_words.specs.Reading.{parsed}
 use Rattle.query_words.specs.declared.faults.QueryFault.{QueryFault}
 use Rattle.query_words.specs.declared.faults.QueryFault.TheVariants.{Bad, Deep}
 use Rattle.find_names.specs.Found.{PrintsFound}
-use Rattle.template_edit.specs.Below.rename_rules.Renaming.{Refusal, bad_name, no_name, refused, IsRenaming}
-use Rattle.batch_file.specs.Line.{LineValue}
-use Rattle.batch_file.specs.Reading.{batch_of}
+use Rattle.rename_rules.specs.Renaming.{Refusal, bad_name, no_name, refused, IsRenaming}
+use Rattle.batch_run.specs.Line.{LineValue}
+use Rattle.batch_run.specs.Reading.{batch_of}
 use Rattle.batch_run.specs.Batch.{Plan, IsBatch, after_each, plan_text, is_refused}
-use Rattle.template_edit.specs.Below.template_rules.Template.{IsTemplate, Refusal as TemplateRefused}
-use Rattle.template_edit.specs.Below.template_rules.Template as template
+use Rattle.template_rules.specs.Template.{IsTemplate, Refusal as TemplateRefused}
+use Rattle.template_rules.specs.Template as template
 use Rattle.generated.specs.Generated.{header_path, workspace_path, generated_files}
 use Rattle.cscout_run.specs.declared.status.Status.{Status}
 use Rattle.cscout_run.specs.declared.status.Status.TheVariants.{Done, Refused, Usage, Workspace}

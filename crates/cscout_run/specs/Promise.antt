@@ -6,22 +6,22 @@ use Rattle.cs_base.specs.Edit.{with_edits}
 use Rattle.cs_base.specs.Outside.{FileMap, bytes_at}
 use Rattle.cs_base.specs.Units.{UnitValue}
 use Rattle.ws_file.specs.Workspace.{WorkspaceValue}
-use Rattle.ws_core.specs.Below.source_files.Files.{source_of}
-use Rattle.ws_core.specs.Below.source_files.KeptFiles.{KeptValue}
-use Rattle.ws_core.specs.Analysis.{AnalysisValue, analysis_of}
-use Rattle.ws_core.specs.Naming.{Names}
-use Rattle.ws_core.specs.Parts.{AreMembers}
-use Rattle.batch_run.specs.Below.analysis_laws.Tables.{IsOpened}
-use Rattle.template_edit.specs.Below.rename_rules.First.{IsAmong, IsFirst, offences_of}
-use Rattle.template_edit.specs.Below.rename_rules.Runs.{runs, file_of, new_bytes}
-use Rattle.batch_file.specs.Line.{LineValue}
+use Rattle.analysis.specs.Below.source_files.Files.{source_of}
+use Rattle.analysis.specs.Below.source_files.KeptFiles.{KeptValue}
+use Rattle.analysis.specs.Analysis.{AnalysisValue, analysis_of}
+use Rattle.analysis.specs.Naming.{Names}
+use Rattle.analysis.specs.Parts.{AreMembers}
+use Rattle.analysis.specs.Tables.{IsOpened}
+use Rattle.rename_rules.specs.First.{IsAmong, IsFirst, offences_of}
+use Rattle.rename_rules.specs.Runs.{runs, file_of, new_bytes}
+use Rattle.batch_run.specs.Line.{LineValue}
 use Rattle.batch_run.specs.Batch.{Plan, IsBatch, after_each}
 use Rattle.batch_run.specs.Renamed.{KeepsLines}
-use Rattle.batch_run.specs.Below.renamed.Renamed.{TextsAreRenamed, AnalysisIsRenamed, ExternalNamesAreKept}
+use Rattle.renamed.specs.Renamed.{TextsAreRenamed, AnalysisIsRenamed, ExternalNamesAreKept}
 use Rattle.command_words.specs.Request.{RequestValue, renaming_asked, template_asked, batch_asked, RenameValue, TemplateValue, BatchValue}
-use Rattle.template_edit.specs.Below.template_meaning_laws.Accepted.{IsAccepted}
-use Rattle.template_edit.specs.Below.template_meaning_laws.Kept.{AreReordered}
-use Rattle.template_edit.specs.Below.template_meaning_laws.Reordered.{AnalysisIsReordered}
+use Rattle.template_meaning.specs.Accepted.{IsAccepted}
+use Rattle.template_meaning.specs.Kept.{AreReordered}
+use Rattle.template_meaning.specs.Reordered.{AnalysisIsReordered}
 use Rattle.cscout_run.specs.Answer.{batch_at, workspace_at}
 
 -- What is edited: the workspace of the workspace file, its analysis, the part at the place, and the members of its class.

@@ -4,29 +4,29 @@ use Rattle.cs_base.specs.Outside.{FileMap, ReadEnd, NoneFailed}
 use Rattle.cs_base.specs.Edit.{Edit, IsKept}
 use Rattle.ws_file.specs.Workspace.{WorkspaceValue, IsWorkspace}
 use Rattle.ws_file.specs.Reading.{WsFault}
-use Rattle.ws_core.specs.Below.eclass_map.ClassTable as classes
-use Rattle.ws_core.specs.Below.source_files.Files.{source_of}
-use Rattle.ws_core.specs.Below.source_files.Tables.{HasEachOnce}
-use Rattle.ws_core.specs.Analysis.{AnalysisValue, analysis_of}
-use Rattle.ws_core.specs.Classes.{AreItsClasses}
-use Rattle.ws_core.specs.declared.analyse_fault.AnalyseFault.{AnalyseFault}
-use Rattle.ws_core.specs.declared.analyse_fault.AnalyseFault.TheVariants as fault
+use Rattle.analysis.specs.Below.eclass_map.ClassTable as classes
+use Rattle.analysis.specs.Below.source_files.Files.{source_of}
+use Rattle.analysis.specs.Below.source_files.Tables.{HasEachOnce}
+use Rattle.analysis.specs.Analysis.{AnalysisValue, analysis_of}
+use Rattle.analysis.specs.Classes.{AreItsClasses}
+use Rattle.analysis.specs.declared.analyse_fault.AnalyseFault.{AnalyseFault}
+use Rattle.analysis.specs.declared.analyse_fault.AnalyseFault.TheVariants as fault
 use Rattle.cscout_run.specs.declared.status.Status.TheVariants as status
 use Rattle.cscout_run.specs.declared.stops.Stop.{Stop}
 use Rattle.cscout_run.specs.declared.stops.Stop.TheVariants.{UnreadWorkspace, UnitFault, UnreadFile, BadName, NoName, NotAFunction, BadOrder, BadQuery, DeepQuery, Offence, Memory}
 use Rattle.cscout_run.specs.declared.preparing.Ready.{Ready}
-use Rattle.template_edit.specs.Below.rename_rules.Renaming.{IsRenaming}
-use Rattle.batch_file.specs.Line.{LineValue}
+use Rattle.rename_rules.specs.Renaming.{IsRenaming}
+use Rattle.batch_run.specs.Line.{LineValue}
 use Rattle.batch_run.specs.Batch.{Plan, IsBatch, after_each}
-use Rattle.batch_run.specs.Below.rename_edit.declared.refusals.RenameRefusal.{RenameRefusal}
-use Rattle.batch_run.specs.Below.rename_edit.declared.refusals.RenameRefusal.TheVariants as refusal
+use Rattle.rename_plan.specs.declared.refusals.RenameRefusal.{RenameRefusal}
+use Rattle.rename_plan.specs.declared.refusals.RenameRefusal.TheVariants as refusal
 use Rattle.batch_run.specs.Renamed.{KeepsLines}
-use Rattle.template_edit.specs.Below.template_rules.declared.refusals.TemplateRefusal.{TemplateRefusal}
-use Rattle.template_edit.specs.Below.template_rules.declared.refusals.TemplateRefusal.TheVariants as template
+use Rattle.template_rules.specs.declared.refusals.TemplateRefusal.{TemplateRefusal}
+use Rattle.template_rules.specs.declared.refusals.TemplateRefusal.TheVariants as template
 use Rattle.find_names.specs.declared.refusal.FindRefusal.{FindRefusal}
 use Rattle.find_names.specs.declared.refusal.FindRefusal.TheVariants as found
 use Rattle.command_words.specs.Request.{RequestValue, RenameValue, TemplateValue, BatchValue, renaming_asked, template_asked, batch_asked}
-use Rattle.template_edit.specs.Below.template_meaning_laws.Kept.{ReordersOver}
+use Rattle.template_meaning.specs.Kept.{ReordersOver}
 use Rattle.cscout_run.specs.Answer.{Answer, answer_of, batch_at, ready_status, stopped, workspace_at, ws_fault_line}
 use Rattle.command_words.specs.Message.{absent_line, batch_line}
 use Rattle.cscout_run.specs.Stopping.{Stops, stop_reads}

@@ -8,11 +8,11 @@ use crate::preparing::Ready;
 use crate::reporting::{stop_of, to_show};
 use crate::stops::Stop;
 use crate::workspace_files::read_workspace;
+use analysis::{Analysis, analyse};
 use calls_of::{graph, print_calls};
 use cs_base::Files;
 use std::alloc::Global;
 use std::mem;
-use ws_core::{Analysis, analyse};
 
 /// All of the answer to a report on calls but its output.
 pub(crate) fn prepare_calls<F: Files>(alloc: Global, ws: &str, files: &mut F) -> Result<Ready, Stop>

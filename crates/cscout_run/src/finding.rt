@@ -10,12 +10,12 @@ use crate::preparing::Ready;
 use crate::reporting::{stop_of, to_show};
 use crate::stops::Stop;
 use crate::workspace_files::read_workspace;
+use analysis::{Analysis, analyse};
 use command_words::Finding;
 use cs_base::Files;
 use find_names::{FindRefusal, find};
 use std::alloc::Global;
 use std::mem;
-use ws_core::{Analysis, analyse};
 
 /// All of the answer to a query over classes but its output.
 pub(crate) fn prepare_find<F: Files>(

@@ -1,7 +1,7 @@
 // The generated workspace: made, analysed and renamed in memory, and counted. It touches no file.
 ghost use Rattle.std.specs.Prelude.{◌≡◌, ◌≤◌, IfErr, Ok};
 ghost use Rattle.cs_base.specs.Limits.{most_tokens_of_all};
-ghost use Rattle.batch_run.specs.Below.analysis_laws.Counts.{tokens_in};
+ghost use Rattle.analysis.specs.Counts.{tokens_in};
 ghost use Rattle.generated.specs.Generated.{workspace_path};
 ghost use Rattle.cscout_run.specs.Answer.{IsGenerated, IsSizeAnswer, places_in};
 ghost use Rattle.cscout_run.specs.Steps.{IsPlanStop, IsQuiet, Prepares};
@@ -10,12 +10,12 @@ use crate::preparing::{Ready, stop_for};
 use crate::reporting::stop_of;
 use crate::stops::Stop;
 use crate::workspace_files::read_workspace;
-use batch_run::plan_rename;
+use analysis::{Analysis, analyse};
 use command_words::size_text;
 use cs_base::Edits;
 use generated::{Unfailing, generate};
+use rename_plan::plan_rename;
 use std::alloc::Global;
-use ws_core::{Analysis, analyse};
 
 /// All of the answer to a generated workspace of so many units but its output. No file is read.
 pub(crate) fn prepare_generated(alloc: Global, n: u32) -> Result<Ready, Stop>

@@ -26,7 +26,6 @@ mod templates;
 mod top;
 mod workspace_files;
 
-pub use command_words::tell;
 pub use host::{HostFiles, HostSink};
 pub use laws::words_and_files_decide;
 pub use status::Status;

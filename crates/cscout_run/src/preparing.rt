@@ -2,7 +2,7 @@
 ghost use Rattle.std.specs.Prelude.{◌≡◌, false, IfSome, IfOk, IfErr, IsUtf8, Ok, []};
 ghost use Rattle.cs_base.specs.Outside.{ReadsOnly};
 ghost use Rattle.cs_base.specs.Edit.{IsKept};
-ghost use Rattle.template_edit.specs.Below.rename_rules.Renaming.{IsRenaming};
+ghost use Rattle.rename_rules.specs.Renaming.{IsRenaming};
 ghost use Rattle.cscout_run.specs.Answer.{IsRenameAnswer, IsRequestAnswer};
 ghost use Rattle.command_words.specs.Asking.{request_value, rename_value, workspace_file};
 ghost use Rattle.command_words.specs.Request.{renaming_asked};
@@ -17,13 +17,13 @@ use crate::reporting::{prepare_class, prepare_skipped, prepare_tokens, stop_of};
 use crate::stops::Stop;
 use crate::templates::prepare_template;
 use crate::workspace_files::read_workspace;
-use batch_run::{RenameRefusal, plan_rename};
+use analysis::{Analysis, analyse};
 use command_words::{Rename, Request, edited_text, help, version};
 use cs_base::{Edits, Files, Memory, Text, normal_path};
 use query_report::Query;
+use rename_plan::{RenameRefusal, plan_rename};
 use std::alloc::Global;
 use std::{mem, str};
-use ws_core::{Analysis, analyse};
 
 /// What is left to do once nothing can want memory: the edits to put, the text to write, and whether the run is refused then,
 /// as a batch with a refused line.

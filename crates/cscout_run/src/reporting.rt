@@ -1,6 +1,6 @@
 // The reports `tokens`, `skipped` and `class`: they put nothing.
 ghost use Rattle.std.specs.Prelude.{◌≡◌, ◌≤◌, MatchBool, false, None, Ok, IfErr, IfSome, [], length};
-ghost use Rattle.ws_core.specs.Texts.{unit_at};
+ghost use Rattle.analysis.specs.Texts.{unit_at};
 ghost use Rattle.cs_base.specs.Outside.{ReadsOnly};
 ghost use Rattle.cscout_run.specs.Answer.{IsClassAnswer, IsRequestAnswer};
 ghost use Rattle.command_words.specs.Asking.{class_value, tokens_value};
@@ -10,12 +10,12 @@ ghost use Rattle.cscout_run.specs.Steps.{IsPlanStop, Prepares, reads_of, stop_of
 use crate::preparing::Ready;
 use crate::stops::Stop;
 use crate::workspace_files::read_workspace;
+use analysis::{AnalyseFault, Analysis, analyse, one_text, texts};
 use command_words::{NamedClass, UnitTokens};
 use cs_base::{Edits, Files, Place, normal_path};
 use query_report::{Query, QueryRefusal, print_skipped, print_tokens, report};
 use std::alloc::Global;
 use std::mem;
-use ws_core::{AnalyseFault, Analysis, analyse, one_text, texts};
 use ws_file::Workspace;
 
 /// All of the answer to a report on the tokens of a unit but its output.

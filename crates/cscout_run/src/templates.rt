@@ -6,18 +6,19 @@ ghost use Rattle.command_words.specs.Asking.{template_value};
 ghost use Rattle.command_words.specs.Request.{template_asked};
 ghost use Rattle.cscout_run.specs.Answer.{IsRequestAnswer, IsTemplateAnswer};
 ghost use Rattle.cscout_run.specs.Steps.{IsOrdered, IsPlanStop, Prepares, reads_of, template_stop};
-ghost use Rattle.template_edit.specs.Below.template_meaning_laws.Kept.{ReordersOver};
+ghost use Rattle.template_meaning.specs.Kept.{ReordersOver};
 
 use crate::preparing::{Ready, path_text};
 use crate::reporting::stop_of;
 use crate::stops::Stop;
 use crate::workspace_files::read_workspace;
+use analysis::{Analysis, analyse};
 use command_words::{Reordering, edited_text, order_of};
 use cs_base::{Files, normal_path};
 use std::alloc::Global;
 use std::mem;
-use template_edit::{TemplateRefusal, plan_template};
-use ws_core::{Analysis, analyse};
+use template_plan::plan_template;
+use template_rules::TemplateRefusal;
 
 /// All of the answer to a new order of parameters but its puts and its output.
 pub(crate) fn prepare_template<F: Files>(

@@ -11,7 +11,7 @@ use crate::status::Status;
 use crate::telling::tell_stop;
 use command_words::{asked, tell, workspace_file};
 use cs_base::{Files, Sink, Wrote};
-use edit_put::{Applied, apply};
+use edited_files::{Applied, apply};
 use std::alloc::Global;
 
 /// Runs the program on the words after its name.

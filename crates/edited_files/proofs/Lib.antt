@@ -2,3 +2,4 @@ pub mod OrderLemmas
 pub mod PlaceLemmas
 pub mod PutLemmas
 pub mod CopyLemmas
+pub mod ApplyingLemmas

@@ -1,20 +1,20 @@
 -- A unit by itself over edited files.
 use Rattle.std.proofs.Common.{◌≡◌, ℕ, ◌+◌, List, length, Option, Some, Result, Ok, Err, refl, ap, sym, subst, ◌∙◌}
 use Rattle.std.specs.Option.{option_map}
-use Rattle.renamed.specs.Below.cs_base.Answer.{result_then, result_map_err}
-use Rattle.renamed.specs.Below.cs_base.Token.{Token}
-use Rattle.renamed.specs.Below.cs_base.Units.{UnitValue}
-use Rattle.renamed.specs.Below.part_lexer.FileText.{file_text}
-use Rattle.renamed.specs.Below.source_files.Faults.{Fault}
-use Rattle.renamed.specs.Below.source_files.Files.{Source, carried, nothing_carried}
-use Rattle.renamed.specs.Below.source_files.Tables.{IsGrown}
-use Rattle.renamed.specs.Below.source_files.Limits.{the_limits}
-use Rattle.renamed.specs.Below.unit_steps.State.{Did, Outcome}
-use Rattle.renamed.specs.Below.unit_steps.Texts.{unit_text}
-use Rattle.renamed.specs.Below.include_tree.Preprocessed.{Preprocessed, preprocessed_by, preprocessed, one_unit}
-use Rattle.renamed.specs.Below.include_tree.Unit.{unit_outcome}
-use Rattle.renamed.proofs.Below.source_files.TableLemmas.{grown_refl}
-use Rattle.renamed.specs.Below.ws_core.Texts.{unit_fault, alone}
+use Rattle.cs_base.specs.Answer.{result_then, result_map_err}
+use Rattle.cs_base.specs.Token.{Token}
+use Rattle.cs_base.specs.Units.{UnitValue}
+use Rattle.lexer.specs.FileText.{file_text}
+use Rattle.source_files.specs.Faults.{Fault}
+use Rattle.source_files.specs.Files.{Source, carried, nothing_carried}
+use Rattle.source_files.specs.Tables.{IsGrown}
+use Rattle.source_files.specs.Limits.{the_limits}
+use Rattle.unit_steps.specs.State.{Did, Outcome}
+use Rattle.unit_steps.specs.Texts.{unit_text}
+use Rattle.include_tree.specs.Preprocessed.{Preprocessed, preprocessed_by, preprocessed, one_unit}
+use Rattle.include_tree.specs.Unit.{unit_outcome}
+use Rattle.source_files.proofs.TableLemmas.{grown_refl}
+use Rattle.analysis.specs.Texts.{unit_fault, alone}
 use Rattle.edited_unit_laws.proofs.SeenLemmas.{unit_texts_are_renamed}
 use Rattle.edited_unit_laws.specs.Alone.{UnitAloneIsRenamed, OneTextIsRenamed}
 

@@ -1,22 +1,22 @@
 -- An analysis is the texts of its units, each read and bound; so that of the edited files is the renamed one.
 use Rattle.std.proofs.Common.{◌≡◌, ℕ, ◌+◌, List, [], ◌∷◌, map, Result, Ok, Err, refl, ap, sym, subst, ◌∙◌}
-use Rattle.renamed.specs.Below.cs_base.declared.ws_units.Standard.{Standard}
-use Rattle.renamed.specs.Below.cs_base.Answer.{result_then, result_map_err}
-use Rattle.renamed.specs.Below.macro_expand.Renaming.{Renaming}
-use Rattle.renamed.specs.Below.source_files.Faults.{Fault}
-use Rattle.renamed.specs.Below.source_files.Files.{Table, nothing_carried}
-use Rattle.renamed.specs.Below.source_files.Tables.{IsGrown}
-use Rattle.renamed.specs.Below.unit_steps.Texts.{UnitTextValue}
-use Rattle.renamed.specs.Below.include_tree.Preprocessed.{Preprocessed}
-use Rattle.renamed.proofs.Below.source_files.TableLemmas.{grown_refl}
-use Rattle.renamed.specs.Below.c99_read.Reading.{Stop, read_of}
-use Rattle.renamed.specs.Below.c99_grammar.Dialects.{dialect}
-use Rattle.renamed.specs.Below.c99_grammar.Standard.{grammar}
-use Rattle.renamed.specs.Below.scope_bind.Named.{Fault as BindFault}
-use Rattle.renamed.specs.Below.scope_bind.Bound.{Bound, binding_of}
-use Rattle.renamed.specs.Below.scope_bind.Causes.{cause_of, index_of}
-use Rattle.renamed.specs.Below.ws_core.Texts.{TextsValue, texts_and, UnitFault, unit_fault, with_front, unit_with, texts_from}
-use Rattle.renamed.specs.Below.ws_core.Analysis.{UnitAnalysis, unit_analysis, UnitsValue, units_and, AnalysisValue, analysis_and, with_unit, fault_at_index, bound_unit, read_unit, unit_read, stop_index, stop_cause, analysed_from}
+use Rattle.cs_base.specs.declared.ws_units.Standard.{Standard}
+use Rattle.cs_base.specs.Answer.{result_then, result_map_err}
+use Rattle.macro_expand.specs.Renaming.{Renaming}
+use Rattle.source_files.specs.Faults.{Fault}
+use Rattle.source_files.specs.Files.{Table, nothing_carried}
+use Rattle.source_files.specs.Tables.{IsGrown}
+use Rattle.unit_steps.specs.Texts.{UnitTextValue}
+use Rattle.include_tree.specs.Preprocessed.{Preprocessed}
+use Rattle.source_files.proofs.TableLemmas.{grown_refl}
+use Rattle.analysis.specs.Below.c99_read.Reading.{Stop, read_of}
+use Rattle.analysis.specs.Below.c99_grammar.Dialects.{dialect}
+use Rattle.analysis.specs.Below.c99_grammar.Standard.{grammar}
+use Rattle.analysis.specs.Below.scope_bind.Named.{Fault as BindFault}
+use Rattle.analysis.specs.Below.scope_bind.Bound.{Bound, binding_of}
+use Rattle.analysis.specs.Below.scope_bind.Causes.{cause_of, index_of}
+use Rattle.analysis.specs.Texts.{TextsValue, texts_and, UnitFault, unit_fault, with_front, unit_with, texts_from}
+use Rattle.analysis.specs.Analysis.{UnitAnalysis, unit_analysis, UnitsValue, units_and, AnalysisValue, analysis_and, with_unit, fault_at_index, bound_unit, read_unit, unit_read, stop_index, stop_cause, analysed_from}
 use Rattle.edited_unit_laws.specs.Lines.{Each}
 use Rattle.edited_unit_laws.specs.Edited.{edited_carried}
 use Rattle.edited_unit_laws.specs.UnitTexts.{renamed_text}

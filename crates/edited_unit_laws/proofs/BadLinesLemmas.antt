@@ -2,13 +2,13 @@
 use Rattle.std.proofs.Common.{◌≡◌, Bool, true, List, [], ◌∷◌, drop, map, Option, Some, None, is_none, inl, inr, refl}
 use Rattle.std.specs.Option.{option_map}
 use Rattle.std.proofs.lemmas.Bool.{cases_Bool}
-use Rattle.renamed.specs.Below.cs_base.Token.{Token}
-use Rattle.renamed.specs.Below.line_shape.declared.items.ItemKind.{ItemKind}
-use Rattle.renamed.specs.Below.line_shape.Signs.{is_name, is_paste, is_close, is_va_args, is_unfit_name}
-use Rattle.renamed.specs.Below.line_shape.Directives.{is_define}
-use Rattle.renamed.specs.Below.line_shape.MacroLine.{MacroParts, spellings, macro_of, function_macro, is_function_like, params_in, before_close, behind_close, is_parameter_list}
-use Rattle.renamed.specs.Below.line_shape.BadLines.{begins_with, ends_with, is_operand, has_lone_hash, has_bad_hash, has_end_paste, has_bad_va_args, has, is_empty, cause_on}
-use Rattle.renamed.specs.Below.macro_expand.Renaming.{Renaming, renamed}
+use Rattle.cs_base.specs.Token.{Token}
+use Rattle.line_shape.specs.declared.items.ItemKind.{ItemKind}
+use Rattle.line_shape.specs.Signs.{is_name, is_paste, is_close, is_va_args, is_unfit_name}
+use Rattle.line_shape.specs.Directives.{is_define}
+use Rattle.line_shape.specs.MacroLine.{MacroParts, spellings, macro_of, function_macro, is_function_like, params_in, before_close, behind_close, is_parameter_list}
+use Rattle.line_shape.specs.BadLines.{begins_with, ends_with, is_operand, has_lone_hash, has_bad_hash, has_end_paste, has_bad_va_args, has, is_empty, cause_on}
+use Rattle.macro_expand.specs.Renaming.{Renaming, renamed}
 use Rattle.edited_unit_laws.specs.Lines.{Each, KeepsToken, NamesAsBefore, KeepsParameters}
 use Rattle.edited_unit_laws.proofs.MacroLineLemmas.{renamed_parts, hash-kept, paste-kept, any-kept, all-weaker, among-kept, macro_of-renamed}
 

@@ -5,25 +5,25 @@ use Rattle.std.specs.Option.{option_map}
 use Rattle.std.proofs.lemmas.Bool.{cases_Bool}
 use Rattle.std.proofs.lemmas.List.{map-append}
 use Rattle.std.proofs.lemmas.Option.{none-some, same_Some}
-use Rattle.renamed.specs.Below.cs_base.declared.causes.Cause.TheVariants.{DefinedFromMacro}
-use Rattle.renamed.specs.Below.cs_base.declared.positions.Pos.{Pos}
-use Rattle.renamed.specs.Below.cs_base.declared.tokens.Kind.TheVariants.{Number}
-use Rattle.renamed.specs.Below.cs_base.Token.{Token}
-use Rattle.renamed.specs.Below.part_lexer.FileText.{TextValue}
-use Rattle.renamed.specs.Below.line_shape.Signs.{is_name, is_open, is_close}
-use Rattle.renamed.specs.Below.cond_eval.declared.faults.CondFault.{CondFault}
-use Rattle.renamed.specs.Below.cond_eval.Evaluation.{condition}
-use Rattle.renamed.specs.Below.macro_body.Macro.{Table as Macros}
-use Rattle.renamed.specs.Below.macro_expand.Renaming.{renamed}
-use Rattle.renamed.specs.Below.source_files.Faults.{fault_at}
-use Rattle.renamed.specs.Below.source_files.Files.{SourceFile}
-use Rattle.renamed.specs.Below.unit_steps.Notes.{Note, Tested, Left, Answered}
-use Rattle.renamed.specs.Below.unit_steps.State.{State, Did, did, onward}
-use Rattle.renamed.specs.Below.unit_steps.Names.{name_links, with_name}
-use Rattle.renamed.specs.Below.unit_steps.Expanding.{expanded_in}
-use Rattle.renamed.specs.Below.unit_steps.Conditions.{Piece, Plain, Asks, is_defined, in_parentheses, operand_of, onto_pieces, asks_with, pieces_from, answer_for, is_macro, test_notes, with_front, answered, left_name, left_over, valued, judged, asked_pieces, holds}
-use Rattle.renamed.specs.Below.source_files.Tables.{IsGrown}
-use Rattle.renamed.proofs.Below.source_files.TableLemmas.{grown_refl, grown_trans}
+use Rattle.cs_base.specs.declared.causes.Cause.TheVariants.{DefinedFromMacro}
+use Rattle.cs_base.specs.declared.positions.Pos.{Pos}
+use Rattle.cs_base.specs.declared.tokens.Kind.TheVariants.{Number}
+use Rattle.cs_base.specs.Token.{Token}
+use Rattle.lexer.specs.FileText.{TextValue}
+use Rattle.line_shape.specs.Signs.{is_name, is_open, is_close}
+use Rattle.unit_steps.specs.Below.cond_eval.declared.faults.CondFault.{CondFault}
+use Rattle.unit_steps.specs.Below.cond_eval.Evaluation.{condition}
+use Rattle.macro_body.specs.Macro.{Table as Macros}
+use Rattle.macro_expand.specs.Renaming.{renamed}
+use Rattle.source_files.specs.Faults.{fault_at}
+use Rattle.source_files.specs.Files.{SourceFile}
+use Rattle.unit_steps.specs.Notes.{Note, Tested, Left, Answered}
+use Rattle.unit_steps.specs.State.{State, Did, did, onward}
+use Rattle.unit_steps.specs.Names.{name_links, with_name}
+use Rattle.unit_steps.specs.Expanding.{expanded_in}
+use Rattle.unit_steps.specs.Conditions.{Piece, Plain, Asks, is_defined, in_parentheses, operand_of, onto_pieces, asks_with, pieces_from, answer_for, is_macro, test_notes, with_front, answered, left_name, left_over, valued, judged, asked_pieces, holds}
+use Rattle.source_files.specs.Tables.{IsGrown}
+use Rattle.source_files.proofs.TableLemmas.{grown_refl, grown_trans}
 use Rattle.edited_unit_laws.specs.Lines.{Each}
 use Rattle.edited_unit_laws.specs.UnitLines.{renamed_piece}
 use Rattle.edited_unit_laws.proofs.MacroLineLemmas.{any-kept}

@@ -2,25 +2,25 @@
 use Rattle.std.proofs.Common.{◌≡◌, Bool, true, List, [], ◌∷◌, ◌++◌, map, Option, Some, None, Ok, refl, ap, sym, subst, ◌∙◌}
 use Rattle.std.specs.Option.{option_map}
 use Rattle.std.proofs.lemmas.List.{map-append}
-use Rattle.renamed.specs.Below.cs_base.declared.positions.Pos.{Pos}
-use Rattle.renamed.specs.Below.cs_base.Token.{Token}
-use Rattle.renamed.specs.Below.line_shape.declared.items.ItemKind.{ItemKind}
-use Rattle.renamed.specs.Below.line_shape.declared.items.ItemKind.TheVariants as kind
-use Rattle.renamed.specs.Below.line_shape.Directives.{takes_name}
-use Rattle.renamed.specs.Below.line_shape.Items.{line_kind}
-use Rattle.renamed.specs.Below.line_shape.Signs.{is_name}
-use Rattle.renamed.specs.Below.line_shape.MacroLine.{MacroParts, macro_of}
-use Rattle.renamed.specs.Below.macro_body.declared.definitions.Definition.{Definition}
-use Rattle.renamed.specs.Below.macro_body.Defining.{definition_of, defined_by}
-use Rattle.renamed.specs.Below.macro_body.Live.{with_macro, without_macro}
-use Rattle.renamed.specs.Below.macro_body.Macro.{Table as Macros}
-use Rattle.renamed.specs.Below.macro_expand.Renaming.{spelled, renamed, renamed_macro, occurs}
-use Rattle.renamed.specs.Below.source_files.Files.{SourceFile}
-use Rattle.renamed.specs.Below.unit_steps.Notes.{Note, Defined, Undefined, Tested}
-use Rattle.renamed.specs.Below.unit_steps.State.{State, did}
-use Rattle.renamed.specs.Below.unit_steps.Names.{name_links, with_name, definition_links}
-use Rattle.renamed.specs.Below.unit_steps.Conditions.{is_macro, test_notes}
-use Rattle.renamed.specs.Below.unit_steps.Directives.{operand_in, define_notes, after_define, defined_as, define_of, undefined_as, undef_of, asks_name}
+use Rattle.cs_base.specs.declared.positions.Pos.{Pos}
+use Rattle.cs_base.specs.Token.{Token}
+use Rattle.line_shape.specs.declared.items.ItemKind.{ItemKind}
+use Rattle.line_shape.specs.declared.items.ItemKind.TheVariants as kind
+use Rattle.line_shape.specs.Directives.{takes_name}
+use Rattle.line_shape.specs.Items.{line_kind}
+use Rattle.line_shape.specs.Signs.{is_name}
+use Rattle.line_shape.specs.MacroLine.{MacroParts, macro_of}
+use Rattle.macro_body.specs.declared.definitions.Definition.{Definition}
+use Rattle.macro_body.specs.Defining.{definition_of, defined_by}
+use Rattle.macro_body.specs.Live.{with_macro, without_macro}
+use Rattle.macro_body.specs.Macro.{Table as Macros}
+use Rattle.macro_expand.specs.Renaming.{spelled, renamed, renamed_macro, occurs}
+use Rattle.source_files.specs.Files.{SourceFile}
+use Rattle.unit_steps.specs.Notes.{Note, Defined, Undefined, Tested}
+use Rattle.unit_steps.specs.State.{State, did}
+use Rattle.unit_steps.specs.Names.{name_links, with_name, definition_links}
+use Rattle.unit_steps.specs.Conditions.{is_macro, test_notes}
+use Rattle.unit_steps.specs.Directives.{operand_in, define_notes, after_define, defined_as, define_of, undefined_as, undef_of, asks_name}
 use Rattle.edited_unit_laws.specs.Lines.{Each, KeepsToken, KeepsParameters, defines, KeepsLine}
 use Rattle.edited_unit_laws.proofs.MacroLineLemmas.{definitions_are_renamed}
 use Rattle.edited_unit_laws.specs.Keeping.{Change, KeepsNames, Fits}

@@ -1,15 +1,15 @@
 -- The tokens of an edited file, with the new spelling of each by its origins.
 use Rattle.std.proofs.Common.{◌≡◌, ℕ, zero, suc, ◌+◌, ◌-◌, Bool, true, ◌==◌, ◌&&◌, List, [], ◌∷◌, ◌++◌, length, map, drop, Option, None, Some, inl, inr, refl, sym, ap, ◌∙◌}
 use Rattle.std.proofs.lemmas.Bool.{cases_Bool}
-use Rattle.renamed.specs.Below.cs_base.declared.positions.Part.{Part}
-use Rattle.renamed.specs.Below.cs_base.Token.{Token}
-use Rattle.renamed.specs.Below.part_lexer.Characters.{line_feed, slash, star, is_white, begins}
-use Rattle.renamed.specs.Below.part_lexer.Logical.{Character, logical_of, spelling, line_at}
-use Rattle.renamed.specs.Below.part_lexer.Places.{origins_from}
-use Rattle.renamed.specs.Below.part_lexer.Respelling.{respell, respelled_token}
-use Rattle.renamed.specs.Below.part_lexer.Tokens.{Found, comment_end, comment_or_open, token_piece, piece_of, expects_header, piece_at, piece_length, leaves_gap, line_front_after, found_in, found_from, found_of, tokens_in, tokens_of}
-use Rattle.renamed.proofs.Below.part_lexer.EditedBytes.{edit_keeps_tokens}
-use Rattle.renamed.specs.Below.part_respell.Respelled.{put_of, respelled, spelled_from}
+use Rattle.cs_base.specs.declared.positions.Part.{Part}
+use Rattle.cs_base.specs.Token.{Token}
+use Rattle.lexer.specs.Characters.{line_feed, slash, star, is_white, begins}
+use Rattle.lexer.specs.Logical.{Character, logical_of, spelling, line_at}
+use Rattle.lexer.specs.Places.{origins_from}
+use Rattle.lexer.specs.Respelling.{respell, respelled_token}
+use Rattle.lexer.specs.Tokens.{Found, comment_end, comment_or_open, token_piece, piece_of, expects_header, piece_at, piece_length, leaves_gap, line_front_after, found_in, found_from, found_of, tokens_in, tokens_of}
+use Rattle.lexer.proofs.EditedBytes.{edit_keeps_tokens}
+use Rattle.part_respell.specs.Respelled.{put_of, respelled, spelled_from}
 use Rattle.edited_unit_laws.specs.EditedTokens.{edited_token, EditedFilesKeepTokens}
 
 -- ---- origins of file tokens

@@ -5,17 +5,17 @@ use Rattle.std.specs.Fmt.{decimal}
 use Rattle.std.specs.List.{flat_map}
 use Rattle.std.specs.Option.{option_map}
 use Rattle.std.specs.Str.{bytes_eq}
-use Rattle.renamed.specs.Below.cs_base.declared.positions.Pos.{Pos}
-use Rattle.renamed.specs.Below.cs_base.declared.tokens.Kind.TheVariants.{Number}
-use Rattle.renamed.specs.Below.cs_base.Token.{Token, token}
-use Rattle.renamed.specs.Below.macro_expand.Renaming.{Renaming, spelled, renamed}
-use Rattle.renamed.specs.Below.macro_body.Substitution.{digit_origins, line_number}
-use Rattle.renamed.specs.Below.unit_steps.declared.events.Event.{Event}
-use Rattle.renamed.specs.Below.unit_steps.declared.events.EventKind.{EventKind}
-use Rattle.renamed.specs.Below.unit_steps.declared.events.EventKind.TheVariants as kind
-use Rattle.renamed.specs.Below.source_files.Files.{Entry, Table}
-use Rattle.renamed.specs.Below.ws_core.Analysis.{UnitAnalysis}
-use Rattle.renamed.specs.Below.ws_core.FileTokens.{entry_tokens, table_tokens, number_for, number_of_event, numbers_brought, file_tokens}
+use Rattle.cs_base.specs.declared.positions.Pos.{Pos}
+use Rattle.cs_base.specs.declared.tokens.Kind.TheVariants.{Number}
+use Rattle.cs_base.specs.Token.{Token, token}
+use Rattle.macro_expand.specs.Renaming.{Renaming, spelled, renamed}
+use Rattle.macro_body.specs.Substitution.{digit_origins, line_number}
+use Rattle.unit_steps.specs.declared.events.Event.{Event}
+use Rattle.unit_steps.specs.declared.events.EventKind.{EventKind}
+use Rattle.unit_steps.specs.declared.events.EventKind.TheVariants as kind
+use Rattle.source_files.specs.Files.{Entry, Table}
+use Rattle.analysis.specs.Analysis.{UnitAnalysis}
+use Rattle.analysis.specs.FileTokens.{entry_tokens, table_tokens, number_for, number_of_event, numbers_brought, file_tokens}
 use Rattle.edited_unit_laws.specs.Lines.{Each}
 use Rattle.edited_unit_laws.specs.Keeping.{Change}
 use Rattle.edited_unit_laws.specs.UnitTexts.{renamed_event}

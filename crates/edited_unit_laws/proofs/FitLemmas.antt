@@ -7,24 +7,24 @@ use Rattle.std.specs.Option.{is_none}
 use Rattle.std.specs.Str.{bytes_eq}
 use Rattle.std.proofs.lemmas.Bool.{cases_Bool, and_parts, and_from, both_ways}
 use Rattle.std.proofs.lemmas.Slice.Eq.{bytes_eq-Decides}
-use Rattle.renamed.specs.Below.cs_base.declared.positions.Pos.{Pos}
-use Rattle.renamed.specs.Below.cs_base.declared.tokens.Kind.{Kind}
-use Rattle.renamed.specs.Below.cs_base.declared.tokens.Kind.TheVariants.{Ident, Number, Char, Str, Punct, Other, Header}
-use Rattle.renamed.specs.Below.cs_base.Token.{Token}
-use Rattle.renamed.specs.Below.line_shape.Signs.{is_identifier, is_va_args}
-use Rattle.renamed.specs.Below.paste_origin.Strings.{stringize_of}
-use Rattle.renamed.specs.Below.macro_body.declared.definitions.Definition.{Definition}
-use Rattle.renamed.specs.Below.macro_body.Hides.{Hidden, unhidden, toks_of}
-use Rattle.renamed.specs.Below.macro_expand.Laws.{Held, Passes, AllMadePass}
-use Rattle.renamed.specs.Below.macro_body.Macro.{Table as Macros}
-use Rattle.renamed.specs.Below.macro_body.Notes.{Note, Replaced, Linked, Stringized, Pasted, Expanded}
-use Rattle.renamed.specs.Below.macro_body.Substitution.{line_number, path_text, path_string}
-use Rattle.renamed.specs.Below.macro_expand.Expansion.{Setting, expansion}
-use Rattle.renamed.specs.Below.macro_expand.Renaming.{Renaming, spelled, Occurring, occurs, AllOccur, KeepsBody}
+use Rattle.cs_base.specs.declared.positions.Pos.{Pos}
+use Rattle.cs_base.specs.declared.tokens.Kind.{Kind}
+use Rattle.cs_base.specs.declared.tokens.Kind.TheVariants.{Ident, Number, Char, Str, Punct, Other, Header}
+use Rattle.cs_base.specs.Token.{Token}
+use Rattle.line_shape.specs.Signs.{is_identifier, is_va_args}
+use Rattle.macro_body.specs.Below.paste_origin.Strings.{stringize_of}
+use Rattle.macro_body.specs.declared.definitions.Definition.{Definition}
+use Rattle.macro_body.specs.Hides.{Hidden, unhidden, toks_of}
+use Rattle.macro_expand.specs.Laws.{Held, Passes, AllMadePass}
+use Rattle.macro_body.specs.Macro.{Table as Macros}
+use Rattle.macro_body.specs.Notes.{Note, Replaced, Linked, Stringized, Pasted, Expanded}
+use Rattle.macro_body.specs.Substitution.{line_number, path_text, path_string}
+use Rattle.macro_expand.specs.Expansion.{Setting, expansion}
+use Rattle.macro_expand.specs.Renaming.{Renaming, spelled, Occurring, occurs, AllOccur, KeepsBody}
 use Rattle.expansion_laws.proofs.OriginLemmas.{tokens_come_from_somewhere}
 use Rattle.expansion_laws.specs.Telling.{DidHappen, IsStringized}
 use Rattle.expansion_laws.proofs.TellingLemmas.{string_is, notes_are_true}
-use Rattle.renamed.specs.Below.unit_steps.State.{State}
+use Rattle.unit_steps.specs.State.{State}
 use Rattle.edited_unit_laws.specs.Lines.{Each, is_fixed, KeepsToken}
 use Rattle.edited_unit_laws.specs.Keeping.{Change, KeepsNames, Fits, GoesWell}
 use Rattle.edited_unit_laws.specs.Steps.{KeepsState}

@@ -1,13 +1,13 @@
 -- One step behind another, over the files as they were and over the edited ones.
 use Rattle.std.proofs.Common.{Bool, true, false, cond, List, [], ◌∷◌, ◌++◌, map, Ok, Err, refl, ap, sym, ◌∙◌}
 use Rattle.std.proofs.lemmas.List.{map-append}
-use Rattle.renamed.specs.Below.macro_body.Macro.{Table as Macros}
-use Rattle.renamed.specs.Below.source_files.Faults.{Fault}
-use Rattle.renamed.specs.Below.source_files.Files.{Table}
-use Rattle.renamed.specs.Below.unit_steps.Notes.{Note}
-use Rattle.renamed.specs.Below.unit_steps.State.{State, Did, did, Outcome, only, noted, onward}
-use Rattle.renamed.specs.Below.source_files.Tables.{IsGrown}
-use Rattle.renamed.proofs.Below.source_files.TableLemmas.{grown_trans}
+use Rattle.macro_body.specs.Macro.{Table as Macros}
+use Rattle.source_files.specs.Faults.{Fault}
+use Rattle.source_files.specs.Files.{Table}
+use Rattle.unit_steps.specs.Notes.{Note}
+use Rattle.unit_steps.specs.State.{State, Did, did, Outcome, only, noted, onward}
+use Rattle.source_files.specs.Tables.{IsGrown}
+use Rattle.source_files.proofs.TableLemmas.{grown_trans}
 use Rattle.edited_unit_laws.specs.Lines.{Each}
 use Rattle.edited_unit_laws.specs.Keeping.{Change, KeepsNote}
 use Rattle.edited_unit_laws.specs.Renamed.{renamed_happening}

@@ -2,8 +2,8 @@
 use Rattle.std.proofs.Common.{◌≡◌, ℕ, suc, ◌+◌, List, [], ◌∷◌, Some, refl, ap, ◌∙◌, arith}
 use Rattle.std.specs.Prelude.{slice_get}
 use Rattle.std.specs.Option.{option_map}
-use Rattle.renamed.specs.Below.source_files.Files.{Source, Found, Lines, Absent, Unopened, Opened, Made, Entry, Table}
-use Rattle.renamed.specs.Below.source_files.Tables.{IsFound, AreFound}
+use Rattle.source_files.specs.Files.{Source, Found, Lines, Absent, Unopened, Opened, Made, Entry, Table}
+use Rattle.source_files.specs.Tables.{IsFound, AreFound}
 use Rattle.edited_unit_laws.specs.EditedFiles.{EditedTablesAreFound}
 use Rattle.renamed.specs.Renamed.{Editing, edited_found, edited_from}
 

@@ -5,24 +5,24 @@ use Rattle.std.specs.Str.{bytes_eq}
 use Rattle.std.proofs.lemmas.Bool.{cases_Bool}
 use Rattle.std.proofs.lemmas.List.{drop-map}
 use Rattle.std.proofs.lemmas.Option.{none-some, same_Some}
-use Rattle.renamed.specs.Below.cs_base.declared.positions.Pos.{Pos}
-use Rattle.renamed.specs.Below.cs_base.declared.tokens.Kind.{Kind}
-use Rattle.renamed.specs.Below.cs_base.declared.tokens.Kind.TheVariants.{Ident, Number, Char, Str, Punct, Other, Header as HeaderName}
-use Rattle.renamed.specs.Below.cs_base.Token.{Token}
-use Rattle.renamed.specs.Below.part_lexer.FileText.{TextValue}
-use Rattle.renamed.specs.Below.line_shape.Signs.{is_punctuator, is_sign}
-use Rattle.renamed.specs.Below.macro_body.Macro.{Table as Macros}
-use Rattle.renamed.specs.Below.macro_expand.Renaming.{Renaming, spelled as respelled, renamed}
-use Rattle.renamed.specs.Below.source_files.Files.{Source, SourceFile}
-use Rattle.renamed.specs.Below.unit_steps.Notes.{Entered, Exited}
-use Rattle.renamed.specs.Below.unit_steps.State.{State, did, onward}
-use Rattle.renamed.specs.Below.source_files.Search.{Header, header}
-use Rattle.renamed.specs.Below.include_tree.GivenFiles.{unit_context}
-use Rattle.renamed.specs.Below.unit_steps.Expanding.{expanded_in}
-use Rattle.renamed.specs.Below.include_tree.Including.{open_header, Process, Inner, entered, included, include_of}
-use Rattle.renamed.specs.Below.unit_steps.IncludeNames.{header_or, computed_header, header_named}
-use Rattle.renamed.specs.Below.source_files.HeaderNames.{is_header, header_in, is_less, is_greater, before_greater, gap_text, spaced, spelled, header_of_signs, header_of_toks}
-use Rattle.renamed.proofs.Below.source_files.TableLemmas.{grown_refl}
+use Rattle.cs_base.specs.declared.positions.Pos.{Pos}
+use Rattle.cs_base.specs.declared.tokens.Kind.{Kind}
+use Rattle.cs_base.specs.declared.tokens.Kind.TheVariants.{Ident, Number, Char, Str, Punct, Other, Header as HeaderName}
+use Rattle.cs_base.specs.Token.{Token}
+use Rattle.lexer.specs.FileText.{TextValue}
+use Rattle.line_shape.specs.Signs.{is_punctuator, is_sign}
+use Rattle.macro_body.specs.Macro.{Table as Macros}
+use Rattle.macro_expand.specs.Renaming.{Renaming, spelled as respelled, renamed}
+use Rattle.source_files.specs.Files.{Source, SourceFile}
+use Rattle.unit_steps.specs.Notes.{Entered, Exited}
+use Rattle.unit_steps.specs.State.{State, did, onward}
+use Rattle.source_files.specs.Search.{Header, header}
+use Rattle.include_tree.specs.GivenFiles.{unit_context}
+use Rattle.unit_steps.specs.Expanding.{expanded_in}
+use Rattle.include_tree.specs.Including.{open_header, Process, Inner, entered, included, include_of}
+use Rattle.unit_steps.specs.IncludeNames.{header_or, computed_header, header_named}
+use Rattle.source_files.specs.HeaderNames.{is_header, header_in, is_less, is_greater, before_greater, gap_text, spaced, spelled, header_of_signs, header_of_toks}
+use Rattle.source_files.proofs.TableLemmas.{grown_refl}
 use Rattle.edited_unit_laws.specs.Lines.{Each, is_fixed}
 use Rattle.edited_unit_laws.specs.Keeping.{Change, KeepsNames, KeepsFile, KeepsFiles, Fits}
 use Rattle.edited_unit_laws.specs.Steps.{moved, GoesAlike, AreRenamed, IsPutOutRenamed, IsSame, with_text, OpensAlike, ProcessAlike, InnerAlike, Grows, ProcessGrows, InnerGrows}

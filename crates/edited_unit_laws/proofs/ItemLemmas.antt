@@ -4,16 +4,16 @@ use Rattle.std.specs.List.{onto_first}
 use Rattle.std.specs.Str.{bytes_eq}
 use Rattle.std.proofs.lemmas.Bool.{cases_Bool}
 use Rattle.std.proofs.lemmas.List.{map-append, length-map}
-use Rattle.renamed.specs.Below.cs_base.declared.causes.Cause.{Cause}
-use Rattle.renamed.specs.Below.cs_base.declared.positions.Pos.{Pos}
-use Rattle.renamed.specs.Below.cs_base.Token.{Token}
-use Rattle.renamed.specs.Below.line_shape.declared.items.ItemKind.{ItemKind}
-use Rattle.renamed.specs.Below.line_shape.declared.items.ItemKind.TheVariants.{Run, Define, Undef, If, Ifdef, Ifndef, Elif, Else, Endif, Include, Line, Error, Pragma, Empty, Bad}
-use Rattle.renamed.specs.Below.line_shape.Signs.{is_name, is_hash}
-use Rattle.renamed.specs.Below.line_shape.Directives.{directive_named, directive_spelled, directives, meaning_in, is_run, is_define}
-use Rattle.renamed.specs.Below.line_shape.BadLines.{cause_on}
-use Rattle.renamed.specs.Below.line_shape.Items.{onto_lines, lines_of, kind_unless, named_kind, directive_kind, line_kind, Piece, piece, onto_pieces, pieces_of, last_of, item_of, items_from, items_of}
-use Rattle.renamed.specs.Below.macro_expand.Renaming.{Renaming, renamed}
+use Rattle.cs_base.specs.declared.causes.Cause.{Cause}
+use Rattle.cs_base.specs.declared.positions.Pos.{Pos}
+use Rattle.cs_base.specs.Token.{Token}
+use Rattle.line_shape.specs.declared.items.ItemKind.{ItemKind}
+use Rattle.line_shape.specs.declared.items.ItemKind.TheVariants.{Run, Define, Undef, If, Ifdef, Ifndef, Elif, Else, Endif, Include, Line, Error, Pragma, Empty, Bad}
+use Rattle.line_shape.specs.Signs.{is_name, is_hash}
+use Rattle.line_shape.specs.Directives.{directive_named, directive_spelled, directives, meaning_in, is_run, is_define}
+use Rattle.line_shape.specs.BadLines.{cause_on}
+use Rattle.line_shape.specs.Items.{onto_lines, lines_of, kind_unless, named_kind, directive_kind, line_kind, Piece, piece, onto_pieces, pieces_of, last_of, item_of, items_from, items_of}
+use Rattle.macro_expand.specs.Renaming.{Renaming, renamed}
 use Rattle.edited_unit_laws.specs.Lines.{Each, KeepsToken, KeepsParameters, defines, KeepsLine, renamed_kind, renamed_item, ItemsAreRenamed}
 use Rattle.edited_unit_laws.proofs.MacroLineLemmas.{hash-kept}
 use Rattle.edited_unit_laws.proofs.BadLinesLemmas.{cause-kept}

@@ -29,5 +29,16 @@ mod OpenLemmas
 mod IncludeLemmas
 mod WalkLemmas
 mod StepLaws
--- Words of the crates below, passed on.
-pub mod Below
+mod ReorderedTextLemmas
+mod ReorderedAnalysesLemmas
+mod ReorderedWorkspaceLemmas
+mod TokenRunLemmas
+mod AlongLemmas
+mod HeadLemmas
+mod FirstLemmas
+mod ListRunLemmas
+mod NumberLemmas
+mod PathLemmas
+mod LooseLemmas
+mod BoundLemmas
+mod FileTextLemmas

@@ -3,18 +3,18 @@ use Rattle.std.proofs.Common.{◌≡◌, ℕ, ◌+◌, ◌-◌, ◌&&◌, Bool, 
 use Rattle.std.proofs.lemmas.Bool.{cases_Bool}
 use Rattle.std.proofs.lemmas.List.{drop-drop}
 use Rattle.std.proofs.Math.Seq.{take-append_seam, drop-append_seam}
-use Rattle.renamed.specs.Below.cs_base.declared.causes.Cause.{Cause}
-use Rattle.renamed.specs.Below.cs_base.declared.positions.Pos.{Pos}
-use Rattle.renamed.specs.Below.cs_base.Token.{Token}
-use Rattle.renamed.specs.Below.line_shape.declared.items.Item.{Item}
-use Rattle.renamed.specs.Below.line_shape.declared.items.ItemKind.{ItemKind}
-use Rattle.renamed.specs.Below.line_shape.declared.items.ItemKind.TheVariants.{Run, Bad}
-use Rattle.renamed.specs.Below.line_shape.Signs.{is_name, is_hash}
-use Rattle.renamed.specs.Below.line_shape.Directives.{directive_named, takes_name, is_run, nests_when_bad}
-use Rattle.renamed.specs.Below.line_shape.BadLines.{cause_on}
-use Rattle.renamed.specs.Below.line_shape.Items.{onto_lines, lines_of, line_kind, named_kind, kind_unless, directive_kind, Piece, piece, onto_pieces, pieces_of, item_of, items_from, items_of}
-use Rattle.renamed.proofs.Below.macro_expand.CallLemmas.{cond_has}
-use Rattle.renamed.specs.Below.include_tree.Walk.{ItemText, item_text, item_texts}
+use Rattle.cs_base.specs.declared.causes.Cause.{Cause}
+use Rattle.cs_base.specs.declared.positions.Pos.{Pos}
+use Rattle.cs_base.specs.Token.{Token}
+use Rattle.line_shape.specs.declared.items.Item.{Item}
+use Rattle.line_shape.specs.declared.items.ItemKind.{ItemKind}
+use Rattle.line_shape.specs.declared.items.ItemKind.TheVariants.{Run, Bad}
+use Rattle.line_shape.specs.Signs.{is_name, is_hash}
+use Rattle.line_shape.specs.Directives.{directive_named, takes_name, is_run, nests_when_bad}
+use Rattle.line_shape.specs.BadLines.{cause_on}
+use Rattle.line_shape.specs.Items.{onto_lines, lines_of, line_kind, named_kind, kind_unless, directive_kind, Piece, piece, onto_pieces, pieces_of, item_of, items_from, items_of}
+use Rattle.macro_expand.proofs.CallLemmas.{cond_has}
+use Rattle.include_tree.specs.Walk.{ItemText, item_text, item_texts}
 use Rattle.edited_unit_laws.specs.Lines.{Each, KeepsLine}
 use Rattle.edited_unit_laws.specs.Keeping.{Change, Fits}
 use Rattle.edited_unit_laws.proofs.FollowLemmas.{each-both}

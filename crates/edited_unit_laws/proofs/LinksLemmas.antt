@@ -5,15 +5,15 @@ use Rattle.std.specs.List.{flat_map}
 use Rattle.std.specs.Option.{option_map}
 use Rattle.std.specs.Str.{bytes_eq}
 use Rattle.std.proofs.lemmas.List.{map-append}
-use Rattle.renamed.specs.Below.cs_base.declared.tokens.Link.{Link}
-use Rattle.renamed.specs.Below.cs_base.Token.{Token}
-use Rattle.renamed.specs.Below.cs_base.Units.{UnitValue}
-use Rattle.renamed.specs.Below.linkage_join.Linkage.{UnitValue as ExternalNames, unit as external_names, link_to, first_spelled, names_of, unit_links as links_in, links_after, links_of as external_links}
-use Rattle.renamed.specs.Below.macro_expand.Renaming.{Renaming, spelled, renamed}
-use Rattle.renamed.specs.Below.scope_bind.declared.bound.Name.{Name}
-use Rattle.renamed.specs.Below.scope_bind.Names.{entity_at}
-use Rattle.renamed.specs.Below.ws_core.Analysis.{UnitAnalysis}
-use Rattle.renamed.specs.Below.ws_core.Links.{is_bound_to, first_occurrence, occurrence_link, occurrence_links, is_external_name, external_names_from, names_of_units, are_alike, unit_links, links_of}
+use Rattle.cs_base.specs.declared.tokens.Link.{Link}
+use Rattle.cs_base.specs.Token.{Token}
+use Rattle.cs_base.specs.Units.{UnitValue}
+use Rattle.analysis.specs.Below.linkage_join.Linkage.{UnitValue as ExternalNames, unit as external_names, link_to, first_spelled, names_of, unit_links as links_in, links_after, links_of as external_links}
+use Rattle.macro_expand.specs.Renaming.{Renaming, spelled, renamed}
+use Rattle.analysis.specs.Below.scope_bind.declared.bound.Name.{Name}
+use Rattle.analysis.specs.Below.scope_bind.Names.{entity_at}
+use Rattle.analysis.specs.Analysis.{UnitAnalysis}
+use Rattle.analysis.specs.Links.{is_bound_to, first_occurrence, occurrence_link, occurrence_links, is_external_name, external_names_from, names_of_units, are_alike, unit_links, links_of}
 use Rattle.edited_unit_laws.specs.Lines.{Each}
 use Rattle.edited_unit_laws.specs.UnitTexts.{renamed_link}
 use Rattle.edited_unit_laws.specs.Analyses.{renamed_unit_analysis}

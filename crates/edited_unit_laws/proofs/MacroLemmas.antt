@@ -4,13 +4,13 @@ use Rattle.std.specs.Str.{bytes_eq}
 use Rattle.std.proofs.lemmas.Bool.{cases_Bool}
 use Rattle.std.proofs.lemmas.Option.{none-some, same_Some}
 use Rattle.std.proofs.lemmas.Slice.Eq.{bytes_eq-Decides}
-use Rattle.renamed.specs.Below.cs_base.Token.{Token}
-use Rattle.renamed.specs.Below.line_shape.Signs.{is_name}
-use Rattle.renamed.specs.Below.macro_body.declared.definitions.Definition.{Definition}
-use Rattle.renamed.specs.Below.macro_body.Live.{with_macro, without_macro}
-use Rattle.renamed.specs.Below.macro_body.Macro.{Table as Macros}
-use Rattle.renamed.specs.Below.macro_expand.Renaming.{spelled, renamed_macro, occurs, KeepsBody, Keeps}
-use Rattle.renamed.proofs.Below.cs_base.FileMapLemmas.{bytes_eq-equal}
+use Rattle.cs_base.specs.Token.{Token}
+use Rattle.line_shape.specs.Signs.{is_name}
+use Rattle.macro_body.specs.declared.definitions.Definition.{Definition}
+use Rattle.macro_body.specs.Live.{with_macro, without_macro}
+use Rattle.macro_body.specs.Macro.{Table as Macros}
+use Rattle.macro_expand.specs.Renaming.{spelled, renamed_macro, occurs, KeepsBody, Keeps}
+use Rattle.cs_base.proofs.FileMapLemmas.{bytes_eq-equal}
 use Rattle.edited_unit_laws.specs.Keeping.{Change, KeepsNames}
 use Rattle.edited_unit_laws.specs.Steps.{IsTaken}
 

@@ -4,13 +4,13 @@ use Rattle.std.specs.List.{list_any, filter}
 use Rattle.std.specs.Option.{option_map}
 use Rattle.std.specs.Str.{bytes_eq}
 use Rattle.std.proofs.lemmas.Bool.{cases_Bool}
-use Rattle.renamed.specs.Below.cs_base.declared.tokens.Kind.{Kind}
-use Rattle.renamed.specs.Below.cs_base.declared.tokens.Kind.TheVariants.{Ident, Number, Char, Str, Punct, Other, Header}
-use Rattle.renamed.specs.Below.cs_base.Token.{Token}
-use Rattle.renamed.specs.Below.line_shape.Signs.{is_punctuator, is_name, is_sign, is_hash, is_paste, is_open, is_close, is_comma, is_ellipsis}
-use Rattle.renamed.specs.Below.line_shape.MacroLine.{MacroParts, macro, spellings, is_function_like, before_close, behind_close, is_parameter, is_identifier_list, params_in, are_distinct, is_parameter_list, function_macro, macro_of}
-use Rattle.renamed.specs.Below.macro_expand.Renaming.{Renaming, spelled, renamed, renamed_macro}
-use Rattle.renamed.specs.Below.macro_body.Defining.{definition_of}
+use Rattle.cs_base.specs.declared.tokens.Kind.{Kind}
+use Rattle.cs_base.specs.declared.tokens.Kind.TheVariants.{Ident, Number, Char, Str, Punct, Other, Header}
+use Rattle.cs_base.specs.Token.{Token}
+use Rattle.line_shape.specs.Signs.{is_punctuator, is_name, is_sign, is_hash, is_paste, is_open, is_close, is_comma, is_ellipsis}
+use Rattle.line_shape.specs.MacroLine.{MacroParts, macro, spellings, is_function_like, before_close, behind_close, is_parameter, is_identifier_list, params_in, are_distinct, is_parameter_list, function_macro, macro_of}
+use Rattle.macro_expand.specs.Renaming.{Renaming, spelled, renamed, renamed_macro}
+use Rattle.macro_body.specs.Defining.{definition_of}
 use Rattle.edited_unit_laws.specs.Lines.{Each, is_fixed, KeepsToken, NamesAsBefore, KeepsParameters, DefinitionsAreRenamed}
 
 -- the parts of a definition, renamed

@@ -6,15 +6,15 @@ use Rattle.std.proofs.lemmas.Bool.{cases_Bool}
 use Rattle.std.proofs.lemmas.Bool.Decides.{same_from_decides}
 use Rattle.std.proofs.lemmas.List.{map-append}
 use Rattle.std.proofs.lemmas.Slice.Eq.{bytes_eq-Decides}
-use Rattle.renamed.specs.Below.cs_base.Token.{Token}
-use Rattle.renamed.specs.Below.macro_body.declared.definitions.Definition.{Definition}
-use Rattle.renamed.specs.Below.macro_body.Macro.{Table as Macros}
-use Rattle.renamed.specs.Below.macro_expand.Renaming.{Renaming, spelled, renamed, renamed_macro}
-use Rattle.renamed.specs.Below.unit_steps.State.{State}
-use Rattle.renamed.specs.Below.unit_steps.Names.{spelled_in, linked_with, name_links, with_name}
-use Rattle.renamed.specs.Below.unit_steps.Conditions.{is_macro}
-use Rattle.renamed.specs.Below.source_files.Tables.{IsGrown}
-use Rattle.renamed.proofs.Below.source_files.TableLemmas.{grown_refl}
+use Rattle.cs_base.specs.Token.{Token}
+use Rattle.macro_body.specs.declared.definitions.Definition.{Definition}
+use Rattle.macro_body.specs.Macro.{Table as Macros}
+use Rattle.macro_expand.specs.Renaming.{Renaming, spelled, renamed, renamed_macro}
+use Rattle.unit_steps.specs.State.{State}
+use Rattle.unit_steps.specs.Names.{spelled_in, linked_with, name_links, with_name}
+use Rattle.unit_steps.specs.Conditions.{is_macro}
+use Rattle.source_files.specs.Tables.{IsGrown}
+use Rattle.source_files.proofs.TableLemmas.{grown_refl}
 use Rattle.edited_unit_laws.specs.Lines.{Each}
 use Rattle.edited_unit_laws.specs.Keeping.{Change, KeepsNames}
 use Rattle.edited_unit_laws.specs.Renamed.{renamed_happening}

@@ -3,29 +3,28 @@ use Rattle.std.proofs.Common.{◌≡◌, ℕ, zero, suc, ◌+◌, ◌≤◌, nat
 use Rattle.std.specs.Prelude.{slice_get}
 use Rattle.std.specs.Option.{option_map, option_and_then}
 use Rattle.std.proofs.lemmas.Bool.{le-ltb}
-use Rattle.renamed.specs.Below.cs_base.declared.causes.Cause.TheVariants.{TooManyFiles, TooManyBytes}
-use Rattle.renamed.specs.Below.cs_base.declared.positions.Place.{Place}
-use Rattle.renamed.specs.Below.cs_base.declared.positions.Pos.{Pos}
-use Rattle.renamed.specs.Below.part_lexer.FileText.{TextValue, LexFault, FileTooLarge, OpenComment, file_text}
-use Rattle.renamed.specs.Below.macro_body.Macro.{Table as Macros}
-use Rattle.renamed.specs.Below.source_files.Faults.{Fault, fault, place_in}
-use Rattle.renamed.specs.Below.source_files.Files.{Source, Found, Lines, Absent, Unopened, Opened, Made, Entry, Table, SourceFile, source_file, number_of, found_at, asked, opened, files_opened, bytes_opened}
-use Rattle.renamed.specs.Below.source_files.KeptFiles.{KeptValue, kept, kept_bytes, kept_in, kept_at}
-use Rattle.renamed.specs.Below.source_files.Tables.{Becomes, IsGrown, AreFound}
-use Rattle.renamed.specs.Below.source_files.Limits.{the_limits}
-use Rattle.renamed.specs.Below.source_files.Opening.{Opening, file_read, is_too_large, readable, are_too_many, first_opened, opened_as, opening}
-use Rattle.renamed.specs.Below.include_tree.OpeningStep.{with_opened, open_file}
-use Rattle.renamed.specs.Below.source_files.Search.{Header, Searched, searched, candidates_of, search, search_on}
-use Rattle.renamed.specs.Below.source_files.Sources.{read_as, source_kept, source_at}
-use Rattle.renamed.specs.Below.include_tree.GivenFiles.{unit_context}
-use Rattle.renamed.specs.Below.unit_steps.State.{State, Outcome}
-use Rattle.renamed.specs.Below.include_tree.Including.{open_searched, open_header}
-use Rattle.renamed.proofs.Below.source_files.TableLemmas.{grown_refl, grown_trans}
-use Rattle.renamed.proofs.Below.source_files.OpeningLemmas.{bytes-opened}
-use Rattle.renamed.proofs.Below.include_tree.SearchLemmas.{search_wide}
-use Rattle.renamed.proofs.Below.source_files.SourcesLemmas.{found-opened, opening-as}
-use Rattle.renamed.proofs.Below.include_tree.StayingLemmas.{source-grown}
-use Rattle.renamed.proofs.Below.source_files.SourcesLemmas.{entry-at}
+use Rattle.cs_base.specs.declared.causes.Cause.TheVariants.{TooManyFiles, TooManyBytes}
+use Rattle.cs_base.specs.declared.positions.Place.{Place}
+use Rattle.cs_base.specs.declared.positions.Pos.{Pos}
+use Rattle.lexer.specs.FileText.{TextValue, LexFault, FileTooLarge, OpenComment, file_text}
+use Rattle.macro_body.specs.Macro.{Table as Macros}
+use Rattle.source_files.specs.Faults.{Fault, fault, place_in}
+use Rattle.source_files.specs.Files.{Source, Found, Lines, Absent, Unopened, Opened, Made, Entry, Table, SourceFile, source_file, number_of, found_at, asked, opened, files_opened, bytes_opened}
+use Rattle.source_files.specs.KeptFiles.{KeptValue, kept, kept_bytes, kept_in, kept_at}
+use Rattle.source_files.specs.Tables.{Becomes, IsGrown, AreFound}
+use Rattle.source_files.specs.Limits.{the_limits}
+use Rattle.source_files.specs.Opening.{Opening, file_read, is_too_large, readable, are_too_many, first_opened, opened_as, opening}
+use Rattle.include_tree.specs.OpeningStep.{with_opened, open_file}
+use Rattle.source_files.specs.Search.{Header, Searched, searched, candidates_of, search, search_on}
+use Rattle.source_files.specs.Sources.{read_as, source_kept, source_at}
+use Rattle.include_tree.specs.GivenFiles.{unit_context}
+use Rattle.unit_steps.specs.State.{State, Outcome}
+use Rattle.include_tree.specs.Including.{open_searched, open_header}
+use Rattle.source_files.proofs.TableLemmas.{grown_refl, grown_trans}
+use Rattle.source_files.proofs.OpeningLemmas.{bytes-opened}
+use Rattle.include_tree.proofs.SearchLemmas.{search_wide}
+use Rattle.source_files.proofs.SourcesLemmas.{found-opened, opening-as, entry-at}
+use Rattle.include_tree.proofs.StayingLemmas.{source-grown}
 use Rattle.edited_unit_laws.specs.Keeping.{Change, edited_files, KeepsFile, KeepsFiles}
 use Rattle.edited_unit_laws.specs.Steps.{KeepsState, moved, GoesAlike, with_text, OpensAlike, Grows}
 use Rattle.edited_unit_laws.proofs.FollowLemmas.{later-grows, alike-reach}

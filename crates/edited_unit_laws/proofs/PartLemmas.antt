@@ -7,14 +7,14 @@ use Rattle.std.proofs.lemmas.Bool.Decides.{same_from_decides}
 use Rattle.std.proofs.lemmas.List.{map-append, length-map}
 use Rattle.std.proofs.lemmas.Option.{none-some, same_Some}
 use Rattle.std.proofs.lemmas.Slice.Eq.{bytes_eq-Decides}
-use Rattle.renamed.specs.Below.cs_base.Token.{Token}
-use Rattle.renamed.specs.Below.line_shape.Signs.{is_name, is_identifier, is_va_args, is_ellipsis, is_close}
-use Rattle.renamed.specs.Below.line_shape.MacroLine.{MacroParts, macro, is_function_like, before_close, behind_close, is_parameter_list, params_in, function_macro, macro_of}
-use Rattle.renamed.specs.Below.macro_body.declared.definitions.Definition.{Definition}
-use Rattle.renamed.specs.Below.macro_body.Macro.{rest_name, named_or_rest, parameter_at}
-use Rattle.renamed.specs.Below.macro_expand.Renaming.{Renaming, spelled, renamed, renamed_macro, KeepsBody}
-use Rattle.renamed.specs.Below.unit_steps.Names.{spelled_in, linked_with, parameter_named, definition_links}
-use Rattle.renamed.specs.Below.unit_steps.Notes.{Note}
+use Rattle.cs_base.specs.Token.{Token}
+use Rattle.line_shape.specs.Signs.{is_name, is_identifier, is_va_args, is_ellipsis, is_close}
+use Rattle.line_shape.specs.MacroLine.{MacroParts, macro, is_function_like, before_close, behind_close, is_parameter_list, params_in, function_macro, macro_of}
+use Rattle.macro_body.specs.declared.definitions.Definition.{Definition}
+use Rattle.macro_body.specs.Macro.{rest_name, named_or_rest, parameter_at}
+use Rattle.macro_expand.specs.Renaming.{Renaming, spelled, renamed, renamed_macro, KeepsBody}
+use Rattle.unit_steps.specs.Names.{spelled_in, linked_with, parameter_named, definition_links}
+use Rattle.unit_steps.specs.Notes.{Note}
 use Rattle.edited_unit_laws.specs.Lines.{Each, KeepsToken, NamesAsBefore, KeepsParameters}
 use Rattle.edited_unit_laws.specs.Keeping.{Change, Fits}
 use Rattle.edited_unit_laws.specs.Renamed.{renamed_happening}

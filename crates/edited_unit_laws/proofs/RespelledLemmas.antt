@@ -2,14 +2,14 @@
 use Rattle.std.proofs.Common.{◌≡◌, ℕ, ◌≤◌, Bool, true, false, cond, List, [], ◌∷◌, length, map, Option, Some, None, Result, Ok, Err, refl, ap, sym, ◌∙◌}
 use Rattle.std.specs.Option.{option_map, option_and_then}
 use Rattle.std.proofs.lemmas.Bool.{le-ltb}
-use Rattle.renamed.specs.Below.cs_base.Token.{Token}
-use Rattle.renamed.specs.Below.cs_base.Limits.{most_bytes}
-use Rattle.renamed.specs.Below.part_lexer.FileText.{TextValue, LexFault, FileTooLarge, text_value, text_or_open, file_text}
-use Rattle.renamed.specs.Below.part_lexer.Tokens.{tokens_of, firsts_of, open_comment_of}
-use Rattle.renamed.specs.Below.part_respell.Respelled.{respelled}
-use Rattle.renamed.specs.Below.macro_expand.Renaming.{Renaming, renamed}
-use Rattle.renamed.specs.Below.source_files.Files.{SourceFile, source_file}
-use Rattle.renamed.specs.Below.source_files.Sources.{read_as, source_kept, source_at}
+use Rattle.cs_base.specs.Token.{Token}
+use Rattle.cs_base.specs.Limits.{most_bytes}
+use Rattle.lexer.specs.FileText.{TextValue, LexFault, FileTooLarge, text_value, text_or_open, file_text}
+use Rattle.lexer.specs.Tokens.{tokens_of, firsts_of, open_comment_of}
+use Rattle.part_respell.specs.Respelled.{respelled}
+use Rattle.macro_expand.specs.Renaming.{Renaming, renamed}
+use Rattle.source_files.specs.Files.{SourceFile, source_file}
+use Rattle.source_files.specs.Sources.{read_as, source_kept, source_at}
 use Rattle.edited_unit_laws.specs.EditedTokens.{edited_token}
 use Rattle.edited_unit_laws.specs.Lines.{Each}
 use Rattle.edited_unit_laws.proofs.EditedTokenLemmas.{edited_files_keep_tokens}

@@ -2,17 +2,17 @@
 use Rattle.std.proofs.Common.{◌≡◌, ℕ, ◌+◌, Bool, List, [], ◌∷◌, ◌++◌, length, map, Result, Ok, refl, ap, sym, ◌∙◌}
 use Rattle.std.specs.List.{flat_map}
 use Rattle.std.proofs.lemmas.List.{map-append, length-map}
-use Rattle.renamed.specs.Below.cs_base.Token.{Token}
-use Rattle.renamed.specs.Below.macro_body.Notes as expansion
-use Rattle.renamed.specs.Below.macro_expand.Renaming.{Renaming, renamed, renamed_note}
-use Rattle.renamed.specs.Below.unit_steps.declared.events.Event.{Event}
-use Rattle.renamed.specs.Below.unit_steps.declared.events.EventKind.TheVariants as kind
-use Rattle.renamed.specs.Below.unit_steps.declared.events.Reached.{Reached}
-use Rattle.renamed.specs.Below.source_files.Faults.{Fault}
-use Rattle.renamed.specs.Below.source_files.Files.{carried}
-use Rattle.renamed.specs.Below.unit_steps.Notes.{Note, Reaches, Happened, Defined, Undefined, Tested, Left, Linked, Answered, Named, Entered, Exited, links_then, pasted_then, stringized_then, events_then, links_of, pasted_of, stringized_of, header_of, answers_of, events_of, reached_of, named_event, before_in}
-use Rattle.renamed.specs.Below.unit_steps.Texts.{UnitTextValue, reached_in, unit_text}
-use Rattle.renamed.specs.Below.include_tree.Preprocessed.{Preprocessed, preprocessed_by, preprocessed}
+use Rattle.cs_base.specs.Token.{Token}
+use Rattle.macro_body.specs.Notes as expansion
+use Rattle.macro_expand.specs.Renaming.{Renaming, renamed, renamed_note}
+use Rattle.unit_steps.specs.declared.events.Event.{Event}
+use Rattle.unit_steps.specs.declared.events.EventKind.TheVariants as kind
+use Rattle.unit_steps.specs.declared.events.Reached.{Reached}
+use Rattle.source_files.specs.Faults.{Fault}
+use Rattle.source_files.specs.Files.{carried}
+use Rattle.unit_steps.specs.Notes.{Note, Reaches, Happened, Defined, Undefined, Tested, Left, Linked, Answered, Named, Entered, Exited, links_then, pasted_then, stringized_then, events_then, links_of, pasted_of, stringized_of, header_of, answers_of, events_of, reached_of, named_event, before_in}
+use Rattle.unit_steps.specs.Texts.{UnitTextValue, reached_in, unit_text}
+use Rattle.include_tree.specs.Preprocessed.{Preprocessed, preprocessed_by, preprocessed}
 use Rattle.edited_unit_laws.specs.Lines.{Each}
 use Rattle.edited_unit_laws.specs.Keeping.{Change}
 use Rattle.edited_unit_laws.specs.Renamed.{renamed_happening}

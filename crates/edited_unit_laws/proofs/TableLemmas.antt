@@ -3,8 +3,8 @@ use Rattle.std.proofs.Common.{◌≡◌, ℕ, suc, ◌+◌, ◌≤◌, Bool, tru
 use Rattle.std.specs.Option.{option_map}
 use Rattle.std.specs.Str.{bytes_eq}
 use Rattle.std.proofs.lemmas.Bool.{cases_Bool}
-use Rattle.renamed.specs.Below.source_files.Files.{Source, Found, Lines, Absent, Unopened, Opened, Made, Entry, entry, Table, number_of, found_at, found_in, numbered, asked, opened, opened_bytes, one_more, more_bytes, files_opened, bytes_opened}
-use Rattle.renamed.specs.Below.source_files.Tables.{Becomes, IsGrown, IsFound, AreFound}
+use Rattle.source_files.specs.Files.{Source, Found, Lines, Absent, Unopened, Opened, Made, Entry, entry, Table, number_of, found_at, found_in, numbered, asked, opened, opened_bytes, one_more, more_bytes, files_opened, bytes_opened}
+use Rattle.source_files.specs.Tables.{Becomes, IsGrown, IsFound, AreFound}
 use Rattle.renamed.specs.Renamed.{Editing, edited_found, edited_from, edited_table}
 
 -- ---- what a path stands for

@@ -1,21 +1,21 @@
 -- Runs of text lines over the edited files.
 use Rattle.std.proofs.Common.{◌≡◌, ℕ, ◌+◌, ◌-◌, nat_lt, Bool, true, false, cond, List, [], ◌∷◌, length, map, drop, Result, Ok, Err, refl, ap, sym, subst, ◌∙◌}
 use Rattle.std.proofs.lemmas.List.{length-map}
-use Rattle.renamed.specs.Below.cs_base.Token.{Token}
-use Rattle.renamed.specs.Below.part_lexer.FileText.{TextValue}
-use Rattle.renamed.specs.Below.macro_body.Hides.{toks_of}
-use Rattle.renamed.specs.Below.macro_body.Macro.{Table as Macros}
-use Rattle.renamed.specs.Below.macro_body.Notes as expansion
-use Rattle.renamed.specs.Below.macro_expand.Expansion.{expansion}
-use Rattle.renamed.specs.Below.macro_expand.Renaming.{Renaming, renamed, renamed_note, renamed_expansion, AllOccur, AllRespected}
+use Rattle.cs_base.specs.Token.{Token}
+use Rattle.lexer.specs.FileText.{TextValue}
+use Rattle.macro_body.specs.Hides.{toks_of}
+use Rattle.macro_body.specs.Macro.{Table as Macros}
+use Rattle.macro_body.specs.Notes as expansion
+use Rattle.macro_expand.specs.Expansion.{expansion}
+use Rattle.macro_expand.specs.Renaming.{Renaming, renamed, renamed_note, renamed_expansion, AllOccur, AllRespected}
 use Rattle.expansion_laws.proofs.FollowsLemmas.{expansion_is_renamed}
 use Rattle.expansion_laws.proofs.RenamedLemmas.{toks_of-renamed}
-use Rattle.renamed.specs.Below.unit_steps.Expanding.{expanded_as, expanded_in, most_toks, past_limit, put_out, run_of}
-use Rattle.renamed.specs.Below.source_files.Files.{SourceFile}
-use Rattle.renamed.specs.Below.unit_steps.Notes.{Note, Happened}
-use Rattle.renamed.specs.Below.include_tree.GivenFiles.{unit_context}
-use Rattle.renamed.specs.Below.unit_steps.State.{Context, State, did, only}
-use Rattle.renamed.proofs.Below.source_files.TableLemmas.{grown_refl}
+use Rattle.unit_steps.specs.Expanding.{expanded_as, expanded_in, most_toks, past_limit, put_out, run_of}
+use Rattle.source_files.specs.Files.{SourceFile}
+use Rattle.unit_steps.specs.Notes.{Note, Happened}
+use Rattle.include_tree.specs.GivenFiles.{unit_context}
+use Rattle.unit_steps.specs.State.{Context, State, did, only}
+use Rattle.source_files.proofs.TableLemmas.{grown_refl}
 use Rattle.edited_unit_laws.specs.Lines.{Each}
 use Rattle.edited_unit_laws.specs.Keeping.{Change, KeepsNames, Fits, KeepsNote, GoesWell}
 use Rattle.edited_unit_laws.specs.Renamed.{renamed_happening}

@@ -5,28 +5,28 @@ use Rattle.std.specs.Option.{is_none}
 use Rattle.std.specs.Str.{bytes_eq}
 use Rattle.std.proofs.lemmas.Option.{none-some, same_Some}
 use Rattle.std.proofs.lemmas.Slice.Eq.{bytes_eq-Decides}
-use Rattle.renamed.specs.Below.cs_base.declared.positions.Pos.{Pos}
-use Rattle.renamed.specs.Below.cs_base.declared.tokens.Kind.TheVariants.{Other}
-use Rattle.renamed.specs.Below.cs_base.Padding.{padded}
-use Rattle.renamed.specs.Below.cs_base.Token.{Token, token}
-use Rattle.renamed.specs.Below.cs_base.Units.{UnitValue, defines_text}
-use Rattle.renamed.specs.Below.part_lexer.FileText.{file_text}
-use Rattle.renamed.specs.Below.macro_body.declared.definitions.Form.{Form}
-use Rattle.renamed.specs.Below.macro_body.declared.definitions.Form.TheVariants as form
-use Rattle.renamed.specs.Below.macro_body.declared.definitions.Definition.{Definition}
-use Rattle.renamed.specs.Below.macro_body.Defining.{first_definition, line_macro, file_macro, first_macros}
-use Rattle.renamed.specs.Below.macro_body.Macro.{Table as Macros}
-use Rattle.renamed.specs.Below.macro_expand.Renaming.{renamed_macro, KeepsBody, Keeps}
-use Rattle.renamed.specs.Below.source_files.Faults.{first_place}
-use Rattle.renamed.specs.Below.source_files.Files.{Source, Made, entry, Table, SourceFile, Carried, defines_path, asked}
-use Rattle.renamed.specs.Below.source_files.Tables.{IsGrown}
-use Rattle.renamed.specs.Below.source_files.Limits.{the_limits}
-use Rattle.renamed.specs.Below.include_tree.OpeningStep.{open_file}
-use Rattle.renamed.specs.Below.include_tree.GivenFiles.{unit_context}
-use Rattle.renamed.specs.Below.unit_steps.State.{Context, State, Did, did, Outcome, only, onward}
-use Rattle.renamed.specs.Below.include_tree.Unit.{first_state, outer_file, main_file, both_files, unit_outcome}
-use Rattle.renamed.specs.Below.include_tree.Walk.{file_items}
-use Rattle.renamed.proofs.Below.source_files.TableLemmas.{grown_refl, grown_trans, widens_asked}
+use Rattle.cs_base.specs.declared.positions.Pos.{Pos}
+use Rattle.cs_base.specs.declared.tokens.Kind.TheVariants.{Other}
+use Rattle.cs_base.specs.Padding.{padded}
+use Rattle.cs_base.specs.Token.{Token, token}
+use Rattle.cs_base.specs.Units.{UnitValue, defines_text}
+use Rattle.lexer.specs.FileText.{file_text}
+use Rattle.macro_body.specs.declared.definitions.Form.{Form}
+use Rattle.macro_body.specs.declared.definitions.Form.TheVariants as form
+use Rattle.macro_body.specs.declared.definitions.Definition.{Definition}
+use Rattle.macro_body.specs.Defining.{first_definition, line_macro, file_macro, first_macros}
+use Rattle.macro_body.specs.Macro.{Table as Macros}
+use Rattle.macro_expand.specs.Renaming.{renamed_macro, KeepsBody, Keeps}
+use Rattle.source_files.specs.Faults.{first_place}
+use Rattle.source_files.specs.Files.{Source, Made, entry, Table, SourceFile, Carried, defines_path, asked}
+use Rattle.source_files.specs.Tables.{IsGrown}
+use Rattle.source_files.specs.Limits.{the_limits}
+use Rattle.include_tree.specs.OpeningStep.{open_file}
+use Rattle.include_tree.specs.GivenFiles.{unit_context}
+use Rattle.unit_steps.specs.State.{Context, State, Did, did, Outcome, only, onward}
+use Rattle.include_tree.specs.Unit.{first_state, outer_file, main_file, both_files, unit_outcome}
+use Rattle.include_tree.specs.Walk.{file_items}
+use Rattle.source_files.proofs.TableLemmas.{grown_refl, grown_trans, widens_asked}
 use Rattle.edited_unit_laws.specs.Lines.{Each, KeepsToken}
 use Rattle.edited_unit_laws.specs.Keeping.{Change, KeepsName, KeepsNames, KeepsFiles}
 use Rattle.edited_unit_laws.specs.Renamed.{renamed_happening}

@@ -3,13 +3,13 @@ use Rattle.std.proofs.Common.{◌≡◌, ℕ, zero, suc, ◌-◌, ◌&&◌, List
 use Rattle.std.specs.Option.{option_map}
 use Rattle.std.proofs.lemmas.Bool.{cases_Bool}
 use Rattle.std.proofs.lemmas.List.{take-map, drop-map}
-use Rattle.renamed.specs.Below.cs_base.Token.{Token}
-use Rattle.renamed.specs.Below.line_shape.declared.items.Item.{Item}
-use Rattle.renamed.specs.Below.line_shape.Items.{items_of}
-use Rattle.renamed.specs.Below.line_shape.Signs.{is_name, is_open, is_close}
-use Rattle.renamed.specs.Below.macro_expand.Renaming.{Renaming, renamed}
-use Rattle.renamed.specs.Below.unit_steps.Conditions.{Piece, Plain, Asks, is_defined, in_parentheses, operand_of, onto_pieces, asks_with, pieces_from}
-use Rattle.renamed.specs.Below.include_tree.Walk.{item_text}
+use Rattle.cs_base.specs.Token.{Token}
+use Rattle.line_shape.specs.declared.items.Item.{Item}
+use Rattle.line_shape.specs.Items.{items_of}
+use Rattle.line_shape.specs.Signs.{is_name, is_open, is_close}
+use Rattle.macro_expand.specs.Renaming.{Renaming, renamed}
+use Rattle.unit_steps.specs.Conditions.{Piece, Plain, Asks, is_defined, in_parentheses, operand_of, onto_pieces, asks_with, pieces_from}
+use Rattle.include_tree.specs.Walk.{item_text}
 use Rattle.edited_unit_laws.specs.Conditions.{AllCountAlike}
 use Rattle.edited_unit_laws.specs.Lines.{Each, KeepsToken, renamed_item}
 use Rattle.edited_unit_laws.specs.UnitLines.{renamed_item_text, renamed_piece, ItemTextsAreRenamed, OperandsAreRenamed, ConditionsStay}

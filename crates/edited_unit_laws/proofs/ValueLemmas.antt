@@ -1,15 +1,15 @@
 -- Conditions whose tokens count alike.
 use Rattle.std.proofs.Common.{◌≡◌, ℕ, zero, suc, ◌+◌, true, cond, if◌then◌else◌, Option, Some, None, Result, Ok, Err, List, [], ◌∷◌, length, codes, refl, ap}
-use Rattle.renamed.specs.Below.cs_base.declared.tokens.Kind.{Kind}
-use Rattle.renamed.specs.Below.cs_base.declared.tokens.Kind.TheVariants.{Ident, Number, Char, Str, Punct, Other, Header}
-use Rattle.renamed.specs.Below.cs_base.Token.{Token}
-use Rattle.renamed.specs.Below.cond_eval.declared.faults.CondFault.{CondFault}
-use Rattle.renamed.specs.Below.cond_eval.declared.faults.CondFault.TheVariants.{Syntax}
-use Rattle.renamed.specs.Below.cond_eval.declared.operators.Operator.{Operator}
-use Rattle.renamed.specs.Below.cond_eval.declared.places.Beginning.{Beginning}
-use Rattle.renamed.specs.Below.cond_eval.declared.places.Beginning.TheVariants.{Whole, Unary, Open, Nothing}
-use Rattle.renamed.specs.Below.cond_eval.Reading.{Choice, Read, read, Rule, Expression, Operand, Inner, is_punctuator, punctuator_at, is_punct, beginning_of, beginning_at, operator_at, and_then, with_operator, closed, operand_from, operand, joined, chain, binary, branches, conditional, by_rule, enclosed, tree_of}
-use Rattle.renamed.specs.Below.cond_eval.Evaluation.{condition}
+use Rattle.cs_base.specs.declared.tokens.Kind.{Kind}
+use Rattle.cs_base.specs.declared.tokens.Kind.TheVariants.{Ident, Number, Char, Str, Punct, Other, Header}
+use Rattle.cs_base.specs.Token.{Token}
+use Rattle.unit_steps.specs.Below.cond_eval.declared.faults.CondFault.{CondFault}
+use Rattle.unit_steps.specs.Below.cond_eval.declared.faults.CondFault.TheVariants.{Syntax}
+use Rattle.unit_steps.specs.Below.cond_eval.declared.operators.Operator.{Operator}
+use Rattle.unit_steps.specs.Below.cond_eval.declared.places.Beginning.{Beginning}
+use Rattle.unit_steps.specs.Below.cond_eval.declared.places.Beginning.TheVariants.{Whole, Unary, Open, Nothing}
+use Rattle.unit_steps.specs.Below.cond_eval.Reading.{Choice, Read, read, Rule, Expression, Operand, Inner, is_punctuator, punctuator_at, is_punct, beginning_of, beginning_at, operator_at, and_then, with_operator, closed, operand_from, operand, joined, chain, binary, branches, conditional, by_rule, enclosed, tree_of}
+use Rattle.unit_steps.specs.Below.cond_eval.Evaluation.{condition}
 use Rattle.edited_unit_laws.specs.Conditions.{AllCountAlike, ConditionsCountAlike}
 use Rattle.edited_unit_laws.specs.Lines.{is_fixed}
 

@@ -1,28 +1,28 @@
 -- The items of files, in their sections, over the edited files (ISO/IEC 9899:1999, 6.10, 6.10.1).
 use Rattle.std.proofs.Common.{◌≡◌, ℕ, zero, suc, ◌+◌, Bool, true, false, not, List, [], ◌∷◌, ◌++◌, map, drop, Some, None, Ok, Err, refl, ap, sym, subst, ◌∙◌}
 use Rattle.std.proofs.lemmas.List.{map-append, drop-map}
-use Rattle.renamed.specs.Below.cs_base.declared.causes.Cause.TheVariants as cause
-use Rattle.renamed.specs.Below.cs_base.declared.positions.Pos.{Pos}
-use Rattle.renamed.specs.Below.cs_base.Token.{Token}
-use Rattle.renamed.specs.Below.part_lexer.FileText.{TextValue}
-use Rattle.renamed.specs.Below.line_shape.declared.items.ItemKind.{ItemKind}
-use Rattle.renamed.specs.Below.line_shape.declared.items.ItemKind.TheVariants as kind
-use Rattle.renamed.specs.Below.macro_body.Macro.{Table as Macros}
-use Rattle.renamed.specs.Below.macro_expand.Renaming.{renamed}
-use Rattle.renamed.specs.Below.source_files.Faults.{fault_at}
-use Rattle.renamed.specs.Below.source_files.Files.{Source, SourceFile}
-use Rattle.renamed.specs.Below.include_tree.Laws.{IfDone}
-use Rattle.renamed.specs.Below.unit_steps.Notes.{Reaches}
-use Rattle.renamed.specs.Below.unit_steps.State.{Context, State, Outcome, only, onward}
-use Rattle.renamed.specs.Below.include_tree.GivenFiles.{unit_context}
-use Rattle.renamed.specs.Below.include_tree.Including.{Inner}
-use Rattle.renamed.specs.Below.include_tree.Sections.{Group, Processed, Awaited, Over, Skipped, Section, section, are_processed, group_if, group_after, group_of_else, Turn, Opens, GoesOn, GoesLast, Ends, Stays, turn_of}
-use Rattle.renamed.specs.Below.unit_steps.Conditions.{holds}
-use Rattle.renamed.specs.Below.unit_steps.Directives.{opens_with, is_if}
-use Rattle.renamed.specs.Below.include_tree.Walk.{ItemText, item_texts, items_in, processed, Stepped, stepped, reaching, reaching_alive, go_on, opens, goes_on, in_section, turned, item_step, file_end, walk, file_items}
-use Rattle.renamed.proofs.Below.include_tree.StepLemmas.{PutsOut}
-use Rattle.renamed.proofs.Below.source_files.TableLemmas.{grown_refl}
-use Rattle.renamed.proofs.Below.include_tree.WalkLemmas.{InnerLeads, walk_leads, files_lead}
+use Rattle.cs_base.specs.declared.causes.Cause.TheVariants as cause
+use Rattle.cs_base.specs.declared.positions.Pos.{Pos}
+use Rattle.cs_base.specs.Token.{Token}
+use Rattle.lexer.specs.FileText.{TextValue}
+use Rattle.line_shape.specs.declared.items.ItemKind.{ItemKind}
+use Rattle.line_shape.specs.declared.items.ItemKind.TheVariants as kind
+use Rattle.macro_body.specs.Macro.{Table as Macros}
+use Rattle.macro_expand.specs.Renaming.{renamed}
+use Rattle.source_files.specs.Faults.{fault_at}
+use Rattle.source_files.specs.Files.{Source, SourceFile}
+use Rattle.include_tree.specs.Laws.{IfDone}
+use Rattle.unit_steps.specs.Notes.{Reaches}
+use Rattle.unit_steps.specs.State.{Context, State, Outcome, only, onward}
+use Rattle.include_tree.specs.GivenFiles.{unit_context}
+use Rattle.include_tree.specs.Including.{Inner}
+use Rattle.include_tree.specs.Sections.{Group, Processed, Awaited, Over, Skipped, Section, section, are_processed, group_if, group_after, group_of_else, Turn, Opens, GoesOn, GoesLast, Ends, Stays, turn_of}
+use Rattle.unit_steps.specs.Conditions.{holds}
+use Rattle.unit_steps.specs.Directives.{opens_with, is_if}
+use Rattle.include_tree.specs.Walk.{ItemText, item_texts, items_in, processed, Stepped, stepped, reaching, reaching_alive, go_on, opens, goes_on, in_section, turned, item_step, file_end, walk, file_items}
+use Rattle.include_tree.proofs.StepLemmas.{PutsOut}
+use Rattle.source_files.proofs.TableLemmas.{grown_refl}
+use Rattle.include_tree.proofs.WalkLemmas.{InnerLeads, walk_leads, files_lead}
 use Rattle.edited_unit_laws.specs.Lines.{Each, renamed_kind}
 use Rattle.edited_unit_laws.specs.UnitLines.{renamed_item_text}
 use Rattle.edited_unit_laws.proofs.UnitLineLemmas.{item_texts_are_renamed}

@@ -1,15 +1,15 @@
 -- A unit by itself over edited files (ISO/IEC 9899:1999, 5.1.1.2 phase 4): it begins with nothing carried, so files have
 -- other numbers than in the analysis of all units, and the change is one over these.
 use Rattle.std.specs.Prelude.{◌≡◌, ℕ, List, Some, Ok}
-use Rattle.renamed.specs.Below.cs_base.Token.{Token}
-use Rattle.renamed.specs.Below.cs_base.Units.{UnitValue}
-use Rattle.renamed.specs.Below.part_lexer.FileText.{file_text}
-use Rattle.renamed.specs.Below.source_files.Files.{Source, nothing_carried}
-use Rattle.renamed.specs.Below.source_files.Limits.{the_limits}
-use Rattle.renamed.specs.Below.unit_steps.State.{Did}
-use Rattle.renamed.specs.Below.include_tree.Preprocessed.{Preprocessed, one_unit}
-use Rattle.renamed.specs.Below.include_tree.Unit.{unit_outcome}
-use Rattle.renamed.specs.Below.ws_core.Texts.{unit_at, one_text_of}
+use Rattle.cs_base.specs.Token.{Token}
+use Rattle.cs_base.specs.Units.{UnitValue}
+use Rattle.lexer.specs.FileText.{file_text}
+use Rattle.source_files.specs.Files.{Source, nothing_carried}
+use Rattle.source_files.specs.Limits.{the_limits}
+use Rattle.unit_steps.specs.State.{Did}
+use Rattle.include_tree.specs.Preprocessed.{Preprocessed, one_unit}
+use Rattle.include_tree.specs.Unit.{unit_outcome}
+use Rattle.analysis.specs.Texts.{unit_at, one_text_of}
 use Rattle.edited_unit_laws.specs.Lines.{Each}
 use Rattle.edited_unit_laws.specs.Keeping.{Change, KeepsUnit}
 use Rattle.edited_unit_laws.specs.UnitTexts.{renamed_text, renamed_unit, MovesMacro}

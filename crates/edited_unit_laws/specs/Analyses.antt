@@ -1,16 +1,16 @@
 -- The analysis of a workspace over edited files (ISO/IEC 9899:1999, 5.1.1.2 phases 4 and 7).
 use Rattle.std.specs.Prelude.{◌≡◌, ℕ, List, map, Ok}
-use Rattle.renamed.specs.Below.cs_base.Units.{UnitValue}
-use Rattle.renamed.specs.Below.ws_file.Workspace.{WorkspaceValue}
-use Rattle.renamed.specs.Below.macro_expand.Renaming.{Renaming}
-use Rattle.renamed.specs.Below.source_files.Files.{Source, Table, Carried, nothing_carried}
-use Rattle.renamed.specs.Below.source_files.Tables.{IsGrown}
-use Rattle.renamed.specs.Below.c99_read.Reading.{read_of}
-use Rattle.renamed.specs.Below.c99_grammar.Dialects.{dialect}
-use Rattle.renamed.specs.Below.c99_grammar.Standard.{grammar}
-use Rattle.renamed.specs.Below.scope_bind.Bound.{binding_of}
-use Rattle.renamed.specs.Below.ws_core.Texts.{texts_and, texts_from}
-use Rattle.renamed.specs.Below.ws_core.Analysis.{UnitAnalysis, UnitsValue, units_and, AnalysisValue, analysed_from, analysis_of}
+use Rattle.cs_base.specs.Units.{UnitValue}
+use Rattle.ws_file.specs.Workspace.{WorkspaceValue}
+use Rattle.macro_expand.specs.Renaming.{Renaming}
+use Rattle.source_files.specs.Files.{Source, Table, Carried, nothing_carried}
+use Rattle.source_files.specs.Tables.{IsGrown}
+use Rattle.analysis.specs.Below.c99_read.Reading.{read_of}
+use Rattle.analysis.specs.Below.c99_grammar.Dialects.{dialect}
+use Rattle.analysis.specs.Below.c99_grammar.Standard.{grammar}
+use Rattle.analysis.specs.Below.scope_bind.Bound.{binding_of}
+use Rattle.analysis.specs.Texts.{texts_and, texts_from}
+use Rattle.analysis.specs.Analysis.{UnitAnalysis, UnitsValue, units_and, AnalysisValue, analysed_from, analysis_of}
 use Rattle.edited_unit_laws.specs.Lines.{Each}
 use Rattle.edited_unit_laws.specs.Edited.{edited_carried}
 use Rattle.edited_unit_laws.specs.Keeping.{Change}

@@ -1,7 +1,7 @@
 -- Controlling expressions in which identifiers are spelled otherwise (ISO/IEC 9899:1999, 6.10.1).
 use Rattle.std.specs.Prelude.{◌≡◌, true, List, [], ◌∷◌}
-use Rattle.renamed.specs.Below.cs_base.Token.{Token}
-use Rattle.renamed.specs.Below.cond_eval.Evaluation.{condition}
+use Rattle.cs_base.specs.Token.{Token}
+use Rattle.unit_steps.specs.Below.cond_eval.Evaluation.{condition}
 use Rattle.edited_unit_laws.specs.Lines.{is_fixed}
 
 -- Two tokens count alike: they are of one kind, and spelled alike unless they are identifiers or string literals.

@@ -1,5 +1,5 @@
 -- What is carried from unit to unit behind an edit (this project's).
-use Rattle.renamed.specs.Below.source_files.Files.{Carried, carried}
+use Rattle.source_files.specs.Files.{Carried, carried}
 use Rattle.renamed.specs.Renamed.{Editing, edited_table}
 
 -- what is carried from unit to unit: the tokens are as many

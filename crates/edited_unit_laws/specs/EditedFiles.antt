@@ -1,18 +1,18 @@
 -- Kept files in which the members of a class are spelled otherwise (ISO/IEC 9899:1999, 5.1.1.2 phases 1 to 3).
 use Rattle.std.specs.Prelude.{◌≡◌, ℕ, ◌≤◌, List, Some, None, length, map, slice_get}
 use Rattle.std.specs.Option.{option_map}
-use Rattle.renamed.specs.Below.cs_base.declared.positions.Part.{Part}
-use Rattle.renamed.specs.Below.cs_base.Token.{Token}
-use Rattle.renamed.specs.Below.cs_base.Limits.{most_bytes}
-use Rattle.renamed.specs.Below.part_lexer.Respelling.{KeepsPieces}
-use Rattle.renamed.specs.Below.part_lexer.Tokens.{tokens_of, firsts_of, open_comment_of}
-use Rattle.renamed.specs.Below.part_respell.Respelled.{put_of, respelled}
-use Rattle.renamed.specs.Below.line_shape.Items.{lines_of}
-use Rattle.renamed.specs.Below.macro_expand.Renaming.{renamed}
-use Rattle.renamed.specs.Below.source_files.Files.{Source, SourceFile, Entry}
-use Rattle.renamed.specs.Below.source_files.KeptFiles.{kept, kept_at}
-use Rattle.renamed.specs.Below.source_files.Tables.{AreFound}
-use Rattle.renamed.specs.Below.source_files.Sources.{source_at}
+use Rattle.cs_base.specs.declared.positions.Part.{Part}
+use Rattle.cs_base.specs.Token.{Token}
+use Rattle.cs_base.specs.Limits.{most_bytes}
+use Rattle.lexer.specs.Respelling.{KeepsPieces}
+use Rattle.lexer.specs.Tokens.{tokens_of, firsts_of, open_comment_of}
+use Rattle.part_respell.specs.Respelled.{put_of, respelled}
+use Rattle.line_shape.specs.Items.{lines_of}
+use Rattle.macro_expand.specs.Renaming.{renamed}
+use Rattle.source_files.specs.Files.{Source, SourceFile, Entry}
+use Rattle.source_files.specs.KeptFiles.{kept, kept_at}
+use Rattle.source_files.specs.Tables.{AreFound}
+use Rattle.source_files.specs.Sources.{source_at}
 use Rattle.edited_unit_laws.specs.EditedTokens.{edited_token}
 use Rattle.edited_unit_laws.specs.Lines.{Each, KeepsLine}
 use Rattle.edited_unit_laws.specs.Keeping.{Change, edited_files, Fits, KeepsFile}

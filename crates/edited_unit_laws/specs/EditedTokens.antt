@@ -1,12 +1,12 @@
 -- Files in which the members of a class are spelled otherwise (ISO/IEC 9899:1999, 5.1.1.2 phases 1 to 3).
 use Rattle.std.specs.Prelude.{ℕ, ◌≡◌, List, length, map}
 use Rattle.std.specs.Option.{option_map}
-use Rattle.renamed.specs.Below.cs_base.declared.positions.Part.{Part}
-use Rattle.renamed.specs.Below.cs_base.Token.{Token, token}
-use Rattle.renamed.specs.Below.part_lexer.Places.{pos, origins_from}
-use Rattle.renamed.specs.Below.part_lexer.Respelling.{KeepsPieces}
-use Rattle.renamed.specs.Below.part_lexer.Tokens.{tokens_of, firsts_of, open_comment_of}
-use Rattle.renamed.specs.Below.part_respell.Respelled.{put_of, respelled, spelled}
+use Rattle.cs_base.specs.declared.positions.Part.{Part}
+use Rattle.cs_base.specs.Token.{Token, token}
+use Rattle.lexer.specs.Places.{pos, origins_from}
+use Rattle.lexer.specs.Respelling.{KeepsPieces}
+use Rattle.lexer.specs.Tokens.{tokens_of, firsts_of, open_comment_of}
+use Rattle.part_respell.specs.Respelled.{put_of, respelled, spelled}
 use Rattle.renamed.specs.Renamed.{moved_to}
 
 -- A token of the file in which each member is replaced by the name, at the place to which it moves: kind, white

@@ -1,13 +1,13 @@
 -- File tokens of an analysis over edited files (this project's).
 use Rattle.std.specs.Prelude.{◌≡◌, ℕ, Some, List, codes, map, slice_get}
 use Rattle.std.specs.Str.{bytes_eq}
-use Rattle.renamed.specs.Below.cs_base.Token.{Token}
-use Rattle.renamed.specs.Below.macro_expand.Renaming.{Renaming, spelled, renamed}
-use Rattle.renamed.specs.Below.macro_body.Substitution.{digit_origins}
-use Rattle.renamed.specs.Below.unit_steps.declared.events.Event.{Event}
-use Rattle.renamed.specs.Below.source_files.Files.{Entry, entry}
-use Rattle.renamed.specs.Below.ws_core.Analysis.{UnitAnalysis, AnalysisValue}
-use Rattle.renamed.specs.Below.ws_core.FileTokens.{entry_tokens, file_tokens}
+use Rattle.cs_base.specs.Token.{Token}
+use Rattle.macro_expand.specs.Renaming.{Renaming, spelled, renamed}
+use Rattle.macro_body.specs.Substitution.{digit_origins}
+use Rattle.unit_steps.specs.declared.events.Event.{Event}
+use Rattle.source_files.specs.Files.{Entry, entry}
+use Rattle.analysis.specs.Analysis.{UnitAnalysis, AnalysisValue}
+use Rattle.analysis.specs.FileTokens.{entry_tokens, file_tokens}
 use Rattle.edited_unit_laws.specs.Lines.{Each}
 use Rattle.edited_unit_laws.specs.Keeping.{Change}
 use Rattle.edited_unit_laws.specs.Analyses.{renamed_analysis}

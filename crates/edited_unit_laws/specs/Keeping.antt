@@ -2,21 +2,21 @@
 use Rattle.std.specs.Prelude.{ℕ, ◌≡◌, ◌≤◌, true, false, List, map, Option, Some, codes}
 use Rattle.std.specs.List.{list_all}
 use Rattle.std.specs.Option.{is_none}
-use Rattle.renamed.specs.Below.cs_base.declared.positions.Pos.{Pos}
-use Rattle.renamed.specs.Below.cs_base.declared.tokens.Kind.{Kind}
-use Rattle.renamed.specs.Below.cs_base.Token.{Token}
-use Rattle.renamed.specs.Below.part_lexer.FileText.{TextValue}
-use Rattle.renamed.specs.Below.part_lexer.Places.{pos}
-use Rattle.renamed.specs.Below.line_shape.Signs.{is_name, is_identifier, is_punctuator}
-use Rattle.renamed.specs.Below.line_shape.Items.{lines_of}
-use Rattle.renamed.specs.Below.macro_body.Notes as expansion
-use Rattle.renamed.specs.Below.macro_expand.Renaming.{Renaming, spelled, renamed, Occurring, occurs, Respects}
-use Rattle.renamed.specs.Below.macro_body.Substitution.{digit_origins}
-use Rattle.renamed.specs.Below.source_files.Files.{Source, Table, SourceFile, source_file, bytes_opened}
-use Rattle.renamed.specs.Below.source_files.Tables.{AreFound}
-use Rattle.renamed.specs.Below.source_files.Limits.{the_limits}
-use Rattle.renamed.specs.Below.unit_steps.Notes.{Note, Happened, Defined, Undefined, Tested, Left, Named}
-use Rattle.renamed.specs.Below.source_files.Sources.{source_at}
+use Rattle.cs_base.specs.declared.positions.Pos.{Pos}
+use Rattle.cs_base.specs.declared.tokens.Kind.{Kind}
+use Rattle.cs_base.specs.Token.{Token}
+use Rattle.lexer.specs.FileText.{TextValue}
+use Rattle.lexer.specs.Places.{pos}
+use Rattle.line_shape.specs.Signs.{is_name, is_identifier, is_punctuator}
+use Rattle.line_shape.specs.Items.{lines_of}
+use Rattle.macro_body.specs.Notes as expansion
+use Rattle.macro_expand.specs.Renaming.{Renaming, spelled, renamed, Occurring, occurs, Respects}
+use Rattle.macro_body.specs.Substitution.{digit_origins}
+use Rattle.source_files.specs.Files.{Source, Table, SourceFile, source_file, bytes_opened}
+use Rattle.source_files.specs.Tables.{AreFound}
+use Rattle.source_files.specs.Limits.{the_limits}
+use Rattle.unit_steps.specs.Notes.{Note, Happened, Defined, Undefined, Tested, Left, Named}
+use Rattle.source_files.specs.Sources.{source_at}
 use Rattle.edited_unit_laws.specs.Lines.{Each, KeepsToken, KeepsLine}
 use Rattle.renamed.specs.Renamed.{Editing, edited_table}
 

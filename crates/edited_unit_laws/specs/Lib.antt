@@ -16,5 +16,8 @@ pub mod Analyses
 pub mod Links
 pub mod FileTokens
 pub mod Alone
--- Words of the crates below, passed on.
-pub mod Below
+pub mod ReorderedAnalyses
+pub mod Texts
+pub mod TokenRuns
+pub mod Workspaces
+pub mod Paths

@@ -2,18 +2,18 @@
 use Rattle.std.specs.Prelude.{◌≡◌, Bool, true, false, if◌then◌else◌, List, [], ◌∷◌, drop, map, codes}
 use Rattle.std.specs.Option.{option_map, option_map_or}
 use Rattle.std.specs.Str.{bytes_eq}
-use Rattle.renamed.specs.Below.cs_base.declared.tokens.Kind.{Kind}
-use Rattle.renamed.specs.Below.cs_base.declared.tokens.Kind.TheVariants.{Ident, Str}
-use Rattle.renamed.specs.Below.cs_base.Token.{Token}
-use Rattle.renamed.specs.Below.line_shape.declared.items.Item.{Item}
-use Rattle.renamed.specs.Below.line_shape.declared.items.ItemKind.{ItemKind}
-use Rattle.renamed.specs.Below.line_shape.declared.items.ItemKind.TheVariants.{Bad}
-use Rattle.renamed.specs.Below.line_shape.Signs.{is_name, is_word, is_va_args, is_hash}
-use Rattle.renamed.specs.Below.line_shape.Directives.{directive_named, is_define}
-use Rattle.renamed.specs.Below.line_shape.MacroLine.{is_function_like, before_close, params_in}
-use Rattle.renamed.specs.Below.line_shape.Items.{lines_of, items_of}
-use Rattle.renamed.specs.Below.macro_expand.Renaming.{Renaming, spelled, renamed, renamed_macro}
-use Rattle.renamed.specs.Below.macro_body.Defining.{defined_by}
+use Rattle.cs_base.specs.declared.tokens.Kind.{Kind}
+use Rattle.cs_base.specs.declared.tokens.Kind.TheVariants.{Ident, Str}
+use Rattle.cs_base.specs.Token.{Token}
+use Rattle.line_shape.specs.declared.items.Item.{Item}
+use Rattle.line_shape.specs.declared.items.ItemKind.{ItemKind}
+use Rattle.line_shape.specs.declared.items.ItemKind.TheVariants.{Bad}
+use Rattle.line_shape.specs.Signs.{is_name, is_word, is_va_args, is_hash}
+use Rattle.line_shape.specs.Directives.{directive_named, is_define}
+use Rattle.line_shape.specs.MacroLine.{is_function_like, before_close, params_in}
+use Rattle.line_shape.specs.Items.{lines_of, items_of}
+use Rattle.macro_expand.specs.Renaming.{Renaming, spelled, renamed, renamed_macro}
+use Rattle.macro_body.specs.Defining.{defined_by}
 
 -- a fact is true of each element
 abbrev pub Each : {X : Type 0} → (X → Type 0) → List X → Type 0

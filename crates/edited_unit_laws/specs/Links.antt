@@ -2,12 +2,12 @@
 use Rattle.std.specs.Prelude.{◌≡◌, List, [], ◌∷◌, ◌++◌, map}
 use Rattle.std.specs.List.{flat_map}
 use Rattle.std.specs.Str.{bytes_eq}
-use Rattle.renamed.specs.Below.cs_base.declared.tokens.Link.{Link}
-use Rattle.renamed.specs.Below.cs_base.Token.{Token}
-use Rattle.renamed.specs.Below.linkage_join.Linkage.{UnitValue as ExternalNames, names_of, links_of as external_links}
-use Rattle.renamed.specs.Below.macro_expand.Renaming.{Renaming, spelled}
-use Rattle.renamed.specs.Below.ws_core.Analysis.{AnalysisValue}
-use Rattle.renamed.specs.Below.ws_core.Links.{are_alike, names_of_units, unit_links, links_of}
+use Rattle.cs_base.specs.declared.tokens.Link.{Link}
+use Rattle.cs_base.specs.Token.{Token}
+use Rattle.analysis.specs.Below.linkage_join.Linkage.{UnitValue as ExternalNames, names_of, links_of as external_links}
+use Rattle.macro_expand.specs.Renaming.{Renaming, spelled}
+use Rattle.analysis.specs.Analysis.{AnalysisValue}
+use Rattle.analysis.specs.Links.{are_alike, names_of_units, unit_links, links_of}
 use Rattle.edited_unit_laws.specs.Lines.{Each}
 use Rattle.edited_unit_laws.specs.Keeping.{Change}
 use Rattle.edited_unit_laws.specs.UnitTexts.{renamed_link}

@@ -1,11 +1,11 @@
 -- Units under a renaming (ISO/IEC 9899:1999, 5.1.1.2 phase 4): what happens, states, and what steps give.
 use Rattle.std.specs.Prelude.{map}
-use Rattle.renamed.specs.Below.macro_body.Macro.{Table as Macros}
-use Rattle.renamed.specs.Below.macro_expand.Renaming.{Renaming, renamed, renamed_macro, renamed_note}
-use Rattle.renamed.specs.Below.unit_steps.Notes.{Note, Reaches, Happened, Defined, Undefined, Tested, Left, Linked, Answered, Named, Entered, Exited}
-use Rattle.renamed.specs.Below.include_tree.Sections.{Section, section}
-use Rattle.renamed.specs.Below.unit_steps.State.{State}
-use Rattle.renamed.specs.Below.include_tree.Walk.{Stepped, stepped}
+use Rattle.macro_body.specs.Macro.{Table as Macros}
+use Rattle.macro_expand.specs.Renaming.{Renaming, renamed, renamed_macro, renamed_note}
+use Rattle.unit_steps.specs.Notes.{Note, Reaches, Happened, Defined, Undefined, Tested, Left, Linked, Answered, Named, Entered, Exited}
+use Rattle.include_tree.specs.Sections.{Section, section}
+use Rattle.unit_steps.specs.State.{State}
+use Rattle.include_tree.specs.Walk.{Stepped, stepped}
 use Rattle.renamed.specs.Renamed.{Editing, edited_table}
 
 -- what happens, renamed: counts, and the numbers of files and items, stay

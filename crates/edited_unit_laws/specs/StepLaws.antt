@@ -1,22 +1,22 @@
 -- The steps of a unit go alike over the edited files, kind by kind (ISO/IEC 9899:1999, 6.10).
 use Rattle.std.specs.Prelude.{◌≡◌, ℕ, Bool, true, List, map}
-use Rattle.renamed.specs.Below.cs_base.declared.positions.Pos.{Pos}
-use Rattle.renamed.specs.Below.cs_base.Token.{Token}
-use Rattle.renamed.specs.Below.part_lexer.FileText.{TextValue}
-use Rattle.renamed.specs.Below.line_shape.declared.items.ItemKind.{ItemKind}
-use Rattle.renamed.specs.Below.line_shape.declared.items.ItemKind.TheVariants.{Define, Undef}
-use Rattle.renamed.specs.Below.line_shape.Directives.{takes_name}
-use Rattle.renamed.specs.Below.line_shape.Items.{line_kind}
-use Rattle.renamed.specs.Below.macro_body.Macro.{Table as Macros}
-use Rattle.renamed.specs.Below.macro_expand.Renaming.{renamed}
-use Rattle.renamed.specs.Below.unit_steps.Conditions.{holds}
-use Rattle.renamed.specs.Below.unit_steps.Directives.{operand_in, define_of, undef_of, asks_name}
-use Rattle.renamed.specs.Below.unit_steps.Expanding.{run_of}
-use Rattle.renamed.specs.Below.source_files.Files.{Source, SourceFile}
-use Rattle.renamed.specs.Below.include_tree.Including.{Inner, include_of}
-use Rattle.renamed.specs.Below.include_tree.GivenFiles.{unit_context}
-use Rattle.renamed.specs.Below.unit_steps.State.{State}
-use Rattle.renamed.specs.Below.include_tree.Walk.{file_items}
+use Rattle.cs_base.specs.declared.positions.Pos.{Pos}
+use Rattle.cs_base.specs.Token.{Token}
+use Rattle.lexer.specs.FileText.{TextValue}
+use Rattle.line_shape.specs.declared.items.ItemKind.{ItemKind}
+use Rattle.line_shape.specs.declared.items.ItemKind.TheVariants.{Define, Undef}
+use Rattle.line_shape.specs.Directives.{takes_name}
+use Rattle.line_shape.specs.Items.{line_kind}
+use Rattle.macro_body.specs.Macro.{Table as Macros}
+use Rattle.macro_expand.specs.Renaming.{renamed}
+use Rattle.unit_steps.specs.Conditions.{holds}
+use Rattle.unit_steps.specs.Directives.{operand_in, define_of, undef_of, asks_name}
+use Rattle.unit_steps.specs.Expanding.{run_of}
+use Rattle.source_files.specs.Files.{Source, SourceFile}
+use Rattle.include_tree.specs.Including.{Inner, include_of}
+use Rattle.include_tree.specs.GivenFiles.{unit_context}
+use Rattle.unit_steps.specs.State.{State}
+use Rattle.include_tree.specs.Walk.{file_items}
 use Rattle.edited_unit_laws.specs.Lines.{Each, KeepsLine}
 use Rattle.edited_unit_laws.specs.Keeping.{Change, Fits, KeepsNames, KeepsFiles}
 use Rattle.edited_unit_laws.specs.Steps.{moved, GoesAlike, IsPutOutRenamed, IsSame, with_text, ProcessAlike, InnerAlike, InnerGrows}

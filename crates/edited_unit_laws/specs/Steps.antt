@@ -1,16 +1,16 @@
 -- The steps of a unit over the files as they were, and over the edited ones (ISO/IEC 9899:1999, 6.10).
 use Rattle.std.specs.Prelude.{◌≡◌, ℕ, true, List, map, Some, None, Ok, Err}
-use Rattle.renamed.specs.Below.cs_base.Token.{Token}
-use Rattle.renamed.specs.Below.line_shape.Signs.{is_name}
-use Rattle.renamed.specs.Below.macro_body.declared.definitions.Definition.{Definition}
-use Rattle.renamed.specs.Below.macro_body.Macro.{Table as Macros}
-use Rattle.renamed.specs.Below.macro_expand.Renaming.{renamed, occurs, Keeps}
-use Rattle.renamed.specs.Below.part_lexer.FileText.{TextValue}
-use Rattle.renamed.specs.Below.source_files.Files.{SourceFile, source_file}
-use Rattle.renamed.specs.Below.include_tree.Including.{Process, Inner}
-use Rattle.renamed.specs.Below.source_files.Tables.{IsGrown}
-use Rattle.renamed.specs.Below.unit_steps.State.{State, Did, did, Outcome}
-use Rattle.renamed.specs.Below.include_tree.Walk.{Stepped}
+use Rattle.cs_base.specs.Token.{Token}
+use Rattle.line_shape.specs.Signs.{is_name}
+use Rattle.macro_body.specs.declared.definitions.Definition.{Definition}
+use Rattle.macro_body.specs.Macro.{Table as Macros}
+use Rattle.macro_expand.specs.Renaming.{renamed, occurs, Keeps}
+use Rattle.lexer.specs.FileText.{TextValue}
+use Rattle.source_files.specs.Files.{SourceFile, source_file}
+use Rattle.include_tree.specs.Including.{Process, Inner}
+use Rattle.source_files.specs.Tables.{IsGrown}
+use Rattle.unit_steps.specs.State.{State, Did, did, Outcome}
+use Rattle.include_tree.specs.Walk.{Stepped}
 use Rattle.edited_unit_laws.specs.Lines.{Each, KeepsToken}
 use Rattle.edited_unit_laws.specs.Keeping.{Change, Fits, KeepsFile, KeepsMacro, KeepsNote}
 use Rattle.edited_unit_laws.specs.Renamed.{renamed_happening, renamed_state, renamed_stepped}

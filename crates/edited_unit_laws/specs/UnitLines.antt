@@ -2,12 +2,12 @@
 -- 6.10.1).
 use Rattle.std.specs.Prelude.{ℕ, ◌≡◌, Bool, List, map}
 use Rattle.std.specs.Option.{option_map}
-use Rattle.renamed.specs.Below.cs_base.Token.{Token}
-use Rattle.renamed.specs.Below.line_shape.Items.{lines_of}
-use Rattle.renamed.specs.Below.cond_eval.Evaluation.{condition}
-use Rattle.renamed.specs.Below.macro_expand.Renaming.{Renaming, renamed}
-use Rattle.renamed.specs.Below.unit_steps.Conditions.{Piece, Plain, Asks, pieces_from}
-use Rattle.renamed.specs.Below.include_tree.Walk.{ItemText, item_texts}
+use Rattle.cs_base.specs.Token.{Token}
+use Rattle.line_shape.specs.Items.{lines_of}
+use Rattle.unit_steps.specs.Below.cond_eval.Evaluation.{condition}
+use Rattle.macro_expand.specs.Renaming.{Renaming, renamed}
+use Rattle.unit_steps.specs.Conditions.{Piece, Plain, Asks, pieces_from}
+use Rattle.include_tree.specs.Walk.{ItemText, item_texts}
 use Rattle.edited_unit_laws.specs.Lines.{Each, KeepsToken, KeepsLine, renamed_kind}
 
 -- an item with its tokens, renamed

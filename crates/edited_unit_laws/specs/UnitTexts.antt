@@ -1,21 +1,21 @@
 -- What callers see of a unit over the edited files (ISO/IEC 9899:1999, 5.1.1.2 phase 4).
 use Rattle.std.specs.Prelude.{◌≡◌, ℕ, List, Ok}
 use Rattle.std.specs.Option.{option_map}
-use Rattle.renamed.specs.Below.cs_base.declared.tokens.Link.{Link}
-use Rattle.renamed.specs.Below.cs_base.Token.{Token, origin_at}
-use Rattle.renamed.specs.Below.cs_base.Units.{UnitValue}
-use Rattle.renamed.specs.Below.part_lexer.FileText.{file_text}
-use Rattle.renamed.specs.Below.macro_body.Notes as expansion
-use Rattle.renamed.specs.Below.macro_expand.Renaming.{Renaming, renamed}
-use Rattle.renamed.specs.Below.unit_steps.declared.events.Event.{Event}
-use Rattle.renamed.specs.Below.source_files.Files.{Source, Carried}
-use Rattle.renamed.specs.Below.source_files.Tables.{IsGrown}
-use Rattle.renamed.specs.Below.source_files.Limits.{the_limits}
-use Rattle.renamed.specs.Below.unit_steps.Notes.{Note, Happened}
-use Rattle.renamed.specs.Below.unit_steps.State.{Did}
-use Rattle.renamed.specs.Below.unit_steps.Texts.{UnitTextValue}
-use Rattle.renamed.specs.Below.include_tree.Preprocessed.{Preprocessed, preprocessed}
-use Rattle.renamed.specs.Below.include_tree.Unit.{unit_outcome}
+use Rattle.cs_base.specs.declared.tokens.Link.{Link}
+use Rattle.cs_base.specs.Token.{Token, origin_at}
+use Rattle.cs_base.specs.Units.{UnitValue}
+use Rattle.lexer.specs.FileText.{file_text}
+use Rattle.macro_body.specs.Notes as expansion
+use Rattle.macro_expand.specs.Renaming.{Renaming, renamed}
+use Rattle.unit_steps.specs.declared.events.Event.{Event}
+use Rattle.source_files.specs.Files.{Source, Carried}
+use Rattle.source_files.specs.Tables.{IsGrown}
+use Rattle.source_files.specs.Limits.{the_limits}
+use Rattle.unit_steps.specs.Notes.{Note, Happened}
+use Rattle.unit_steps.specs.State.{Did}
+use Rattle.unit_steps.specs.Texts.{UnitTextValue}
+use Rattle.include_tree.specs.Preprocessed.{Preprocessed, preprocessed}
+use Rattle.include_tree.specs.Unit.{unit_outcome}
 use Rattle.edited_unit_laws.specs.Lines.{Each}
 use Rattle.edited_unit_laws.specs.Edited.{edited_carried}
 use Rattle.edited_unit_laws.specs.Keeping.{Change, KeepsUnit}

@@ -1,15 +1,15 @@
 -- Units over the edited files (ISO/IEC 9899:1999, 5.1.1.2 phase 4).
 use Rattle.std.specs.Prelude.{◌≡◌, ℕ, List, map, Ok}
-use Rattle.renamed.specs.Below.cs_base.Token.{Token}
-use Rattle.renamed.specs.Below.cs_base.Units.{UnitValue}
-use Rattle.renamed.specs.Below.part_lexer.FileText.{file_text}
-use Rattle.renamed.specs.Below.macro_body.Macro.{Table as Macros}
-use Rattle.renamed.specs.Below.macro_expand.Renaming.{renamed}
-use Rattle.renamed.specs.Below.source_files.Files.{Source, Carried}
-use Rattle.renamed.specs.Below.source_files.Tables.{IsGrown}
-use Rattle.renamed.specs.Below.source_files.Limits.{the_limits}
-use Rattle.renamed.specs.Below.unit_steps.State.{Did, did}
-use Rattle.renamed.specs.Below.include_tree.Unit.{unit_outcome}
+use Rattle.cs_base.specs.Token.{Token}
+use Rattle.cs_base.specs.Units.{UnitValue}
+use Rattle.lexer.specs.FileText.{file_text}
+use Rattle.macro_body.specs.Macro.{Table as Macros}
+use Rattle.macro_expand.specs.Renaming.{renamed}
+use Rattle.source_files.specs.Files.{Source, Carried}
+use Rattle.source_files.specs.Tables.{IsGrown}
+use Rattle.source_files.specs.Limits.{the_limits}
+use Rattle.unit_steps.specs.State.{Did, did}
+use Rattle.include_tree.specs.Unit.{unit_outcome}
 use Rattle.edited_unit_laws.specs.Edited.{edited_carried}
 use Rattle.edited_unit_laws.specs.Keeping.{Change, KeepsUnit}
 use Rattle.edited_unit_laws.specs.Renamed.{renamed_happening}

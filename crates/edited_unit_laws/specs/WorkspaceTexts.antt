@@ -1,14 +1,14 @@
 -- The units of a workspace over edited files (ISO/IEC 9899:1999, 5.1.1.2 phase 4).
 use Rattle.std.specs.Prelude.{◌≡◌, ℕ, ◌+◌, List, [], ◌∷◌, length, Ok}
-use Rattle.renamed.specs.Below.cs_base.Token.{Token}
-use Rattle.renamed.specs.Below.cs_base.Units.{UnitValue}
-use Rattle.renamed.specs.Below.part_lexer.FileText.{file_text}
-use Rattle.renamed.specs.Below.source_files.Files.{Source, Carried, carried, nothing_carried}
-use Rattle.renamed.specs.Below.source_files.Tables.{IsGrown}
-use Rattle.renamed.specs.Below.source_files.Limits.{the_limits}
-use Rattle.renamed.specs.Below.unit_steps.State.{Did}
-use Rattle.renamed.specs.Below.include_tree.Unit.{unit_outcome}
-use Rattle.renamed.specs.Below.ws_core.Texts.{TextsValue, texts_from, texts_of}
+use Rattle.cs_base.specs.Token.{Token}
+use Rattle.cs_base.specs.Units.{UnitValue}
+use Rattle.lexer.specs.FileText.{file_text}
+use Rattle.source_files.specs.Files.{Source, Carried, carried, nothing_carried}
+use Rattle.source_files.specs.Tables.{IsGrown}
+use Rattle.source_files.specs.Limits.{the_limits}
+use Rattle.unit_steps.specs.State.{Did}
+use Rattle.include_tree.specs.Unit.{unit_outcome}
+use Rattle.analysis.specs.Texts.{TextsValue, texts_from, texts_of}
 use Rattle.edited_unit_laws.specs.Lines.{Each}
 use Rattle.edited_unit_laws.specs.Edited.{edited_carried}
 use Rattle.edited_unit_laws.specs.Keeping.{Change, KeepsUnit}

@@ -3,9 +3,9 @@ use Rattle.std.proofs.Common.{◌≡◌, ℕ, zero, suc, ◌<◌, ◌&&◌, ◌|
 use Rattle.std.specs.List.{list_all}
 use Rattle.std.proofs.lemmas.Bool.{cases_Bool, and_parts, and_from}
 use Rattle.std.proofs.lemmas.Bool.Decides.{nat_tests}
-use Rattle.part_lexer.specs.Characters.{slash, is_white, is_word, is_quote}
-use Rattle.part_lexer.specs.Spelling.{may_follow, all_follow, begins_number, is_punctuator_text, punctuators_of_one, punctuators_of_two, punctuators_of_three, punctuators_of_four}
-use Rattle.part_lexer.proofs.TableLemmas.{punctuator-lacks}
+use Rattle.lexer.specs.Characters.{slash, is_white, is_word, is_quote}
+use Rattle.lexer.specs.Spelling.{may_follow, all_follow, begins_number, is_punctuator_text, punctuators_of_one, punctuators_of_two, punctuators_of_three, punctuators_of_four}
+use Rattle.lexer.proofs.TableLemmas.{punctuator-lacks}
 use Rattle.expansion_laws.proofs.FrontLemmas.{begins_token, is_dark}
 
 -- ---- characters

@@ -2,16 +2,16 @@
 use Rattle.std.proofs.Common.{◌≡◌, ℕ, zero, suc, ◌+◌, ◌<◌, ◌⊎◌, Bool, true, false, cond, List, [], ◌∷◌, ◌++◌, length, map, Option, Some, None, Result, Ok, refl, ap, sym, subst, ◌∙◌, inl, inr, arith, length-append, codes}
 use Rattle.std.specs.Option.{option_map}
 use Rattle.std.proofs.lemmas.List.{map-append, length-map}
-use Rattle.macro_expand.specs.Below.cs_base.Token.{Token}
-use Rattle.macro_expand.specs.Below.macro_body.declared.definitions.Definition.{Definition}
-use Rattle.macro_expand.specs.Below.line_shape.Signs.{is_open}
-use Rattle.macro_expand.specs.Below.macro_body.Hides.{Hidden, hidden, hide_more, in_both, unhidden}
-use Rattle.macro_expand.specs.Below.macro_body.Macro.{is_function}
+use Rattle.cs_base.specs.Token.{Token}
+use Rattle.macro_body.specs.declared.definitions.Definition.{Definition}
+use Rattle.line_shape.specs.Signs.{is_open}
+use Rattle.macro_body.specs.Hides.{Hidden, hidden, hide_more, in_both, unhidden}
+use Rattle.macro_body.specs.Macro.{is_function}
 use Rattle.macro_expand.specs.Calls.{Call, call_from, commas_of, arguments_of}
-use Rattle.macro_expand.specs.Below.macro_body.Notes.{Fault, OpenCall, WrongArguments, Replaced, Linked, Expanded, expanded, noted, onward}
+use Rattle.macro_body.specs.Notes.{Fault, OpenCall, WrongArguments, Replaced, Linked, Expanded, expanded, noted, onward}
 use Rattle.macro_expand.specs.Expansion.{Setting, Next, stays, put_for, links_name, first_notes, replaced, added_by, called_with, called, behind_name, act, macro_of, step, whole, expansion}
 use Rattle.macro_expand.specs.Renaming.{Renaming, spelled, renamed, renamed_hidden, renamed_macro, renamed_note, AllOccur, AllRespected, ExpansionIsRenamed}
-use Rattle.macro_expand.proofs.Below.macro_body.ResultLemmas.{ok_same, err_ok, onward_ok}
+use Rattle.macro_body.proofs.ResultLemmas.{ok_same, err_ok, onward_ok}
 use Rattle.macro_expand.proofs.CallLemmas.{AllWithin, none, Shorter, call_shorter, arguments_within}
 use Rattle.macro_expand.proofs.StepLemmas.{Below, put_for_puts}
 use Rattle.macro_expand.proofs.WholeLemmas.{whole_below_itself, whole_is_step}

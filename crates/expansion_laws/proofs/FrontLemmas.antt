@@ -3,16 +3,16 @@ use Rattle.std.proofs.Common.{◌≡◌, ℕ, zero, suc, ◌+◌, ◌-◌, ◌�
 use Rattle.std.specs.List.{list_all}
 use Rattle.std.proofs.lemmas.Bool.{cases_Bool, cases_eq, not-true, and_parts}
 use Rattle.std.proofs.lemmas.Bool.Decides.{nat_tests}
-use Rattle.macro_expand.specs.Below.cs_base.declared.tokens.Kind.{Kind}
-use Rattle.macro_expand.specs.Below.cs_base.declared.tokens.Kind.TheVariants.{Ident, Number, Char, Str, Punct, Header, Other}
-use Rattle.macro_expand.specs.Below.cs_base.Token.{Token}
-use Rattle.part_lexer.specs.Characters.{line_feed, carriage_return, backslash, slash, star, is_white, begins}
-use Rattle.part_lexer.specs.Spelling.{kind_of, kind_in}
-use Rattle.part_lexer.specs.Logical.{Character, new_line_length, gone_length, logical_from, logical_of, spelling, line_at}
-use Rattle.part_lexer.specs.Tokens.{longest, front_length, kind_or_other, token_piece, piece_of, expects_header, with_token, is_line_start, Found, FoundToken, file_token, found_from, found_of}
-use Rattle.part_lexer.specs.OneToken.{free_kind, only_token, one_token_of}
-use Rattle.part_lexer.proofs.LogicalLemmas.{logical_from-stays}
-use Rattle.part_lexer.proofs.KindLemmas.{kind_in-plain}
+use Rattle.cs_base.specs.declared.tokens.Kind.{Kind}
+use Rattle.cs_base.specs.declared.tokens.Kind.TheVariants.{Ident, Number, Char, Str, Punct, Header, Other}
+use Rattle.cs_base.specs.Token.{Token}
+use Rattle.lexer.specs.Characters.{line_feed, carriage_return, backslash, slash, star, is_white, begins}
+use Rattle.lexer.specs.Spelling.{kind_of, kind_in}
+use Rattle.lexer.specs.Logical.{Character, new_line_length, gone_length, logical_from, logical_of, spelling, line_at}
+use Rattle.lexer.specs.Tokens.{longest, front_length, kind_or_other, token_piece, piece_of, expects_header, with_token, is_line_start, Found, FoundToken, file_token, found_from, found_of}
+use Rattle.lexer.specs.OneToken.{free_kind, only_token, one_token_of}
+use Rattle.lexer.proofs.LogicalLemmas.{logical_from-stays}
+use Rattle.lexer.proofs.KindLemmas.{kind_in-plain}
 
 -- a text begins a token: neither white space stands first, nor a comment
 abbrev pub begins_token : List ℕ → Bool

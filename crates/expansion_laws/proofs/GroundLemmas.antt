@@ -1,13 +1,12 @@
 -- Tokens that occur, with hide sets of names of macros: what an expansion keeps of them.
 use Rattle.std.proofs.Common.{◌≡◌, ℕ, zero, suc, ◌==◌, ◌&&◌, Bool, true, false, not, cond, List, [], ◌∷◌, ◌++◌, length, map, get_or, Option, Some, subst}
 use Rattle.std.proofs.lemmas.Option.{none-some, same_Some}
-use Rattle.macro_expand.specs.Below.cs_base.Token.{Token}
-use Rattle.macro_expand.specs.Below.macro_body.declared.definitions.Definition.{Definition}
-use Rattle.macro_expand.specs.Below.macro_body.Hides.{Hidden, hides_name, in_both, lacking, with_names, hide_more}
-use Rattle.macro_expand.specs.Below.macro_body.Macro.{Table}
+use Rattle.cs_base.specs.Token.{Token}
+use Rattle.macro_body.specs.declared.definitions.Definition.{Definition}
+use Rattle.macro_body.specs.Hides.{Hidden, hides_name, in_both, lacking, with_names, hide_more}
+use Rattle.macro_body.specs.Macro.{Table, arity}
 use Rattle.macro_expand.specs.Calls.{Call, Role, Closes, Separates, Belongs, CallFrom, role_of, level_after, fewer, onto_first, with_token, with_argument, closed, call_step, call_from, completed, arguments_of, is_blank}
-use Rattle.macro_expand.specs.Below.macro_body.Macro.{arity}
-use Rattle.macro_expand.specs.Below.macro_body.Substitution.{with_gap, moved_in, argument_for}
+use Rattle.macro_body.specs.Substitution.{with_gap, moved_in, argument_for}
 use Rattle.macro_expand.specs.Renaming.{Occurring}
 use Rattle.macro_expand.specs.Laws.{AllDefined, Held}
 use Rattle.expansion_laws.proofs.RenamedLemmas.{AllOccurHidden}

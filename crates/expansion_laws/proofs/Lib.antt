@@ -23,3 +23,16 @@ mod PastedLemmas
 pub mod RenamedLemmas
 mod SimulationLemmas
 mod WorldLemmas
+pub mod PutLemmas
+pub mod SplitLemmas
+pub mod PlainLemmas
+pub mod AlikeLemmas
+pub mod PortionLemmas
+pub mod SectionLemmas
+pub mod BeforeLemmas
+pub mod MarkLemmas
+pub mod GoingLemmas
+pub mod ArrangeLemmas
+pub mod CutLemmas
+pub mod OneCutLemmas
+pub mod EndLemmas

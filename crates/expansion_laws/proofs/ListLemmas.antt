@@ -4,12 +4,12 @@ use Rattle.std.specs.Prelude.{slice_get}
 use Rattle.std.specs.List.{list_all}
 use Rattle.std.proofs.lemmas.Option.{none-some, same_Some}
 use Rattle.std.proofs.lemmas.Bool.{and_parts}
-use Rattle.macro_expand.specs.Below.cs_base.Token.{Token}
-use Rattle.macro_expand.specs.Below.macro_body.declared.definitions.Definition.{Definition}
-use Rattle.macro_expand.specs.Below.macro_body.Hides.{Hidden, hide_more, toks_of}
-use Rattle.macro_expand.specs.Below.macro_body.Macro.{arity}
+use Rattle.cs_base.specs.Token.{Token}
+use Rattle.macro_body.specs.declared.definitions.Definition.{Definition}
+use Rattle.macro_body.specs.Hides.{Hidden, hide_more, toks_of}
+use Rattle.macro_body.specs.Macro.{arity}
 use Rattle.macro_expand.specs.Calls.{Call, Role, Closes, Separates, Belongs, CallFrom, role_of, level_after, fewer, onto_first, with_token, with_argument, closed, call_step, call_from, completed, arguments_of, is_blank}
-use Rattle.macro_expand.specs.Below.macro_body.Notes.{Note}
+use Rattle.macro_body.specs.Notes.{Note}
 use Rattle.macro_expand.proofs.CallLemmas.{option_map_is, cond_has, cond_some}
 
 -- each token has it, each of these with hide sets, each of these lists

@@ -1,15 +1,15 @@
 -- What a replacement puts in, under a renaming: the renamed tokens, and renamed notes.
 use Rattle.std.proofs.Common.{◌≡◌, Bool, true, false, cond, List, [], ◌∷◌, ◌++◌, map, get_or, Result, Ok, Err, refl, ap, subst, ◌∙◌}
-use Rattle.macro_expand.specs.Below.cs_base.Token.{Token}
-use Rattle.macro_expand.specs.Below.paste_origin.Strings.{StringFault, NotAString as NoString, stringize_of, string_text, string_origins, string_token}
-use Rattle.part_lexer.specs.Spelling.{is_plain_string_text}
-use Rattle.macro_expand.specs.Below.macro_body.declared.definitions.Definition.{Definition}
-use Rattle.macro_expand.specs.Below.macro_body.Hides.{Hidden, hidden, toks_of}
-use Rattle.macro_expand.specs.Below.macro_body.Bodies.{Part, Plain, Param, Quote, Paste, chains_of}
-use Rattle.macro_expand.specs.Below.macro_body.Notes.{Fault, Note, Stringized}
-use Rattle.macro_expand.specs.Below.macro_body.Substitution.{Arguments, Made, made, put_in, string_made, operand_made, argument_for}
+use Rattle.cs_base.specs.Token.{Token}
+use Rattle.macro_body.specs.Below.paste_origin.Strings.{StringFault, NotAString as NoString, stringize_of, string_text, string_origins, string_token}
+use Rattle.lexer.specs.Spelling.{is_plain_string_text}
+use Rattle.macro_body.specs.declared.definitions.Definition.{Definition}
+use Rattle.macro_body.specs.Hides.{Hidden, hidden, toks_of}
+use Rattle.macro_body.specs.Bodies.{Part, Plain, Param, Quote, Paste, chains_of}
+use Rattle.macro_body.specs.Notes.{Fault, Note, Stringized}
+use Rattle.macro_body.specs.Substitution.{Arguments, Made, made, put_in, string_made, operand_made, argument_for}
 use Rattle.macro_expand.specs.Renaming.{renamed, renamed_hidden, renamed_note, occurs, AllOccur, KeepsBody, AllRespected}
-use Rattle.macro_expand.proofs.Below.macro_body.ResultLemmas.{ok_same, err_ok}
+use Rattle.macro_body.proofs.ResultLemmas.{ok_same, err_ok}
 use Rattle.expansion_laws.proofs.RenamedLemmas.{renamed_part, renamed_lists, renamed_arguments, toks_of-renamed, get_or-renamed, tokens_for-renamed}
 use Rattle.expansion_laws.proofs.PartLemmas.{PartOccurs as PartFits, PartsOccur as PartsFit, ChainsOccur as ChainsFit, chains_of-occur as chains_of-fit}
 use Rattle.expansion_laws.proofs.WorldLemmas.{ground, World, Good, GoodLists, Good-get_or, Good-argument_for}

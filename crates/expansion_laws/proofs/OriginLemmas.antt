@@ -2,23 +2,23 @@
 use Rattle.std.proofs.Common.{◌≡◌, ℕ, zero, suc, ◌+◌, ◌-◌, ◌<◌, ◌≤◌, ◌&&◌, Bool, true, false, not, cond, List, [], ◌∷◌, ◌++◌, length, map, get_or, Option, Some, None, Result, Ok, Err, refl, sym, subst, ◌∙◌, arith, length-append, nat_lt}
 use Rattle.std.proofs.lemmas.List.{length-map}
 use Rattle.std.proofs.lemmas.Option.{none-some}
-use Rattle.macro_expand.specs.Below.cs_base.Token.{Token}
-use Rattle.macro_expand.specs.Below.line_shape.Signs.{is_name, is_open}
-use Rattle.macro_expand.specs.Below.paste_origin.Pasting.{PasteFault, glue_of}
-use Rattle.macro_expand.specs.Below.paste_origin.Strings.{StringFault, stringize_of}
-use Rattle.macro_expand.specs.Below.macro_body.declared.definitions.Form.{Form}
-use Rattle.macro_expand.specs.Below.macro_body.declared.definitions.Form.TheVariants as form
-use Rattle.macro_expand.specs.Below.macro_body.declared.definitions.Definition.{Definition}
-use Rattle.macro_expand.specs.Below.macro_body.Hides.{Hidden, hidden, hide_more, in_both, toks_of, hides_name}
-use Rattle.macro_expand.specs.Below.macro_body.Macro.{Table, is_function}
-use Rattle.macro_expand.specs.Below.macro_body.Bodies.{Part, Plain, Param, Quote, Paste, chains_of, occurs_alone}
+use Rattle.cs_base.specs.Token.{Token}
+use Rattle.line_shape.specs.Signs.{is_name, is_open}
+use Rattle.macro_body.specs.Below.paste_origin.Pasting.{PasteFault, glue_of}
+use Rattle.macro_body.specs.Below.paste_origin.Strings.{StringFault, stringize_of}
+use Rattle.macro_body.specs.declared.definitions.Form.{Form}
+use Rattle.macro_body.specs.declared.definitions.Form.TheVariants as form
+use Rattle.macro_body.specs.declared.definitions.Definition.{Definition}
+use Rattle.macro_body.specs.Hides.{Hidden, hidden, hide_more, in_both, toks_of, hides_name}
+use Rattle.macro_body.specs.Macro.{Table, is_function}
+use Rattle.macro_body.specs.Bodies.{Part, Plain, Param, Quote, Paste, chains_of, occurs_alone}
 use Rattle.macro_expand.specs.Calls.{Call, call_from, commas_of, arguments_of}
-use Rattle.macro_expand.specs.Below.macro_body.Notes.{Fault, OpenCall, WrongArguments, TooMuchWork, TooDeep, Note, Replaced, Linked, Stringized, Pasted, Expanded, expanded, put_out, noted, onward}
-use Rattle.macro_expand.specs.Below.macro_body.Substitution.{Arguments, Made, made, made_both, with_gap, put_in, argument_for, is_alone, string_made, operand_made, operands_made, chains_made, token_pasted, pasted_behind, two_pasted, chain_pasted, chains_pasted, result_of, cost_of, line_number, path_string}
+use Rattle.macro_body.specs.Notes.{Fault, OpenCall, WrongArguments, TooMuchWork, TooDeep, Note, Replaced, Linked, Stringized, Pasted, Expanded, expanded, put_out, noted, onward}
+use Rattle.macro_body.specs.Substitution.{Arguments, Made, made, made_both, with_gap, put_in, argument_for, is_alone, string_made, operand_made, operands_made, chains_made, token_pasted, pasted_behind, two_pasted, chain_pasted, chains_pasted, result_of, cost_of, line_number, path_string}
 use Rattle.macro_expand.specs.Expansion.{Setting, Next, most_depth, one_more, stays, Full, full, with_full, without_full, alone, full_step, full_from, spent, substituted, put_for, first_notes, replaced, added_by, called_with, called, behind_name, act, macro_of, step, whole}
 use Rattle.macro_expand.specs.Renaming.{Occurring, occurs, AllOccur}
 use Rattle.macro_expand.specs.Laws.{AllDefined, Passes, AllMadePass, TokensComeFromSomewhere}
-use Rattle.macro_expand.proofs.Below.macro_body.ResultLemmas.{ok_same, err_ok, onward_ok, cond_ok, cond_ok_yes}
+use Rattle.macro_body.proofs.ResultLemmas.{ok_same, err_ok, onward_ok, cond_ok, cond_ok_yes}
 use Rattle.macro_expand.proofs.CallLemmas.{AllWithin, none, more, call_shorter, arguments_within}
 use Rattle.macro_expand.proofs.StepLemmas.{Below, put_for_puts}
 use Rattle.macro_expand.proofs.WholeLemmas.{whole_below_itself, whole_is_step}

@@ -1,10 +1,10 @@
 -- The parts of a replacement list whose tokens occur.
 use Rattle.std.proofs.Common.{◌≡◌, ℕ, Bool, true, false, cond, List, [], ◌∷◌, Option, Some, None, is_some}
-use Rattle.macro_expand.specs.Below.cs_base.Token.{Token}
-use Rattle.macro_expand.specs.Below.line_shape.Signs.{is_paste}
-use Rattle.macro_expand.specs.Below.macro_body.declared.definitions.Definition.{Definition}
-use Rattle.macro_expand.specs.Below.macro_body.Bodies.{Part, Plain, Param, Quote, Paste, quoted_parameter, param_or_plain, lone_part, quote_or, parts_from, is_operator, pasted_to, chains_in, chains_of}
-use Rattle.macro_expand.specs.Below.macro_body.Macro.{parameter_at}
+use Rattle.cs_base.specs.Token.{Token}
+use Rattle.line_shape.specs.Signs.{is_paste}
+use Rattle.macro_body.specs.declared.definitions.Definition.{Definition}
+use Rattle.macro_body.specs.Bodies.{Part, Plain, Param, Quote, Paste, quoted_parameter, param_or_plain, lone_part, quote_or, parts_from, is_operator, pasted_to, chains_in, chains_of}
+use Rattle.macro_body.specs.Macro.{parameter_at}
 use Rattle.macro_expand.specs.Renaming.{occurs, AllOccur}
 use Rattle.expansion_laws.proofs.GroundLemmas.{Ground}
 

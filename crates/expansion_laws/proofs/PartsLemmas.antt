@@ -3,16 +3,16 @@ use Rattle.std.proofs.Common.{◌≡◌, ℕ, zero, suc, ◌+◌, ◌<◌, ◌&&
 use Rattle.std.specs.Option.{option_map}
 use Rattle.std.proofs.lemmas.List.{length-map}
 use Rattle.std.proofs.lemmas.Option.{none-some, same_Some}
-use Rattle.macro_expand.specs.Below.cs_base.Token.{Token}
-use Rattle.macro_expand.specs.Below.line_shape.Signs.{is_open}
-use Rattle.macro_expand.specs.Below.macro_body.declared.definitions.Definition.{Definition}
-use Rattle.macro_expand.specs.Below.macro_body.Hides.{Hidden, hide_more}
-use Rattle.macro_expand.specs.Below.macro_body.Macro.{Table, is_function}
+use Rattle.cs_base.specs.Token.{Token}
+use Rattle.line_shape.specs.Signs.{is_open}
+use Rattle.macro_body.specs.declared.definitions.Definition.{Definition}
+use Rattle.macro_body.specs.Hides.{Hidden, hide_more}
+use Rattle.macro_body.specs.Macro.{Table, is_function}
 use Rattle.macro_expand.specs.Calls.{Call, Role, Closes, Separates, Belongs, CallFrom, role_of, level_after, fewer, with_token, with_argument, closed, call_step, call_from, commas_of, arguments_of}
-use Rattle.macro_expand.specs.Below.macro_body.Notes.{Fault, OpenCall, WrongArguments, Expanded, expanded, put_out, noted, onward}
+use Rattle.macro_body.specs.Notes.{Fault, OpenCall, WrongArguments, Expanded, expanded, put_out, noted, onward}
 use Rattle.macro_expand.specs.Expansion.{Setting, Next, one_more, stays, put_for, first_notes, replaced, added_by, called_with, called, behind_name, act, macro_of, step, whole}
 use Rattle.macro_expand.specs.Laws.{put_out_after, begins_open, is_callable, ends_callable, ExpandsInParts}
-use Rattle.macro_expand.proofs.Below.macro_body.ResultLemmas.{ok_same, err_ok, onward_ok}
+use Rattle.macro_body.proofs.ResultLemmas.{ok_same, err_ok, onward_ok}
 use Rattle.macro_expand.proofs.CallLemmas.{option_map_is, AllWithin, none, Shorter, call_shorter, arguments_within}
 use Rattle.macro_expand.proofs.StepLemmas.{put_for_puts}
 use Rattle.macro_expand.proofs.WholeLemmas.{whole_below_itself, whole_is_step}

@@ -1,9 +1,9 @@
 -- Tests that an expansion keeps.
 use Rattle.std.proofs.Common.{◌≡◌, Bool, true, false, List, refl}
-use Rattle.macro_expand.specs.Below.cs_base.Token.{Token}
-use Rattle.macro_expand.specs.Below.macro_body.Hides.{toks_of}
-use Rattle.macro_expand.specs.Below.macro_body.Notes.{Note}
-use Rattle.macro_expand.specs.Below.macro_body.Substitution.{put_in}
+use Rattle.cs_base.specs.Token.{Token}
+use Rattle.macro_body.specs.Hides.{toks_of}
+use Rattle.macro_body.specs.Notes.{Note}
+use Rattle.macro_body.specs.Substitution.{put_in}
 use Rattle.macro_expand.specs.Expansion.{Setting}
 use Rattle.expansion_laws.specs.Telling.{IsAmong}
 use Rattle.expansion_laws.specs.Passing.{Test, IsBlind, standing_at, MacrosPass, MadePass, note_passes, TestsAreKept}

@@ -1,14 +1,14 @@
 -- Chains of operands and their pasting, under a renaming.
 use Rattle.std.proofs.Common.{◌≡◌, Bool, List, [], ◌∷◌, ◌++◌, map, Result, Ok, Err, refl, ap, sym, subst, ◌∙◌}
 use Rattle.std.proofs.lemmas.List.{map-append}
-use Rattle.macro_expand.specs.Below.cs_base.Token.{Token}
-use Rattle.macro_expand.specs.Below.paste_origin.Pasting.{PasteFault, glue_of}
-use Rattle.macro_expand.specs.Below.macro_body.Hides.{Hidden, hidden, in_both}
-use Rattle.macro_expand.specs.Below.macro_body.Bodies.{Part}
-use Rattle.macro_expand.specs.Below.macro_body.Notes.{Fault, Pasted, onward}
-use Rattle.macro_expand.specs.Below.macro_body.Substitution.{Arguments, Made, made, made_both, with_gap, put_in, is_alone, operand_made, operands_made, chains_made, token_pasted, pasted_behind, two_pasted, chain_pasted, chains_pasted, result_of}
+use Rattle.cs_base.specs.Token.{Token}
+use Rattle.macro_body.specs.Below.paste_origin.Pasting.{PasteFault, glue_of}
+use Rattle.macro_body.specs.Hides.{Hidden, hidden, in_both}
+use Rattle.macro_body.specs.Bodies.{Part}
+use Rattle.macro_body.specs.Notes.{Fault, Pasted, onward}
+use Rattle.macro_body.specs.Substitution.{Arguments, Made, made, made_both, with_gap, put_in, is_alone, operand_made, operands_made, chains_made, token_pasted, pasted_behind, two_pasted, chain_pasted, chains_pasted, result_of}
 use Rattle.macro_expand.specs.Renaming.{renamed, renamed_hidden, renamed_note, AllRespected}
-use Rattle.macro_expand.proofs.Below.macro_body.ResultLemmas.{ok_same, err_ok, onward_ok}
+use Rattle.macro_body.proofs.ResultLemmas.{ok_same, err_ok, onward_ok}
 use Rattle.expansion_laws.proofs.RenamedLemmas.{renamed_part, renamed_chains, renamed_lists, renamed_arguments, with_gap-renamed, is_alone-renamed}
 use Rattle.expansion_laws.proofs.GroundLemmas.{AllDefined-in_both}
 use Rattle.expansion_laws.proofs.WorldLemmas.{World, Good, GoodLists, Good-append, Good-with_gap, in_both-renamed}

@@ -5,16 +5,16 @@ use Rattle.std.specs.List.{list_all, flat_map}
 use Rattle.std.proofs.lemmas.Grind.{flat_map-append}
 use Rattle.std.proofs.lemmas.List.Folds.{list_all-append}
 use Rattle.std.proofs.lemmas.Bool.{and_parts}
-use Rattle.macro_expand.specs.Below.cs_base.declared.tokens.Kind.{Kind}
-use Rattle.macro_expand.specs.Below.cs_base.declared.positions.Pos.{Pos}
-use Rattle.macro_expand.specs.Below.cs_base.Token.{Token}
-use Rattle.part_lexer.specs.Characters.{double_quote}
-use Rattle.part_lexer.specs.OneToken.{one_token_of}
-use Rattle.macro_expand.specs.Below.paste_origin.Pasting.{joined, pasted_as, glue_of}
-use Rattle.macro_expand.specs.Below.paste_origin.Strings.{stringize_of, spellings_of}
-use Rattle.macro_expand.specs.Below.macro_body.Hides.{toks_of}
-use Rattle.macro_expand.specs.Below.macro_body.Notes.{Note, Replaced}
-use Rattle.macro_expand.specs.Below.macro_body.Substitution.{put_in}
+use Rattle.cs_base.specs.declared.tokens.Kind.{Kind}
+use Rattle.cs_base.specs.declared.positions.Pos.{Pos}
+use Rattle.cs_base.specs.Token.{Token}
+use Rattle.lexer.specs.Characters.{double_quote}
+use Rattle.lexer.specs.OneToken.{one_token_of}
+use Rattle.macro_body.specs.Below.paste_origin.Pasting.{joined, pasted_as, glue_of}
+use Rattle.macro_body.specs.Below.paste_origin.Strings.{stringize_of, spellings_of}
+use Rattle.macro_body.specs.Hides.{toks_of}
+use Rattle.macro_body.specs.Notes.{Note, Replaced}
+use Rattle.macro_body.specs.Substitution.{put_in}
 use Rattle.macro_expand.specs.Expansion.{Setting}
 use Rattle.expansion_laws.specs.Telling.{IsAmong}
 use Rattle.expansion_laws.specs.Pieces.{IsOneOf, IsMadeOf, Characters, IsWhole, MacrosAreWhole, NoteIsWhole, TokensAreWhole, StandsWith, PlacesAreOfTheRun}

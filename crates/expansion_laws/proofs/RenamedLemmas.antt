@@ -4,14 +4,14 @@ use Rattle.std.specs.Option.{option_map}
 use Rattle.std.specs.Str.{bytes_eq}
 use Rattle.std.proofs.lemmas.List.{length-map}
 use Rattle.std.proofs.lemmas.Bool.{cases_Bool}
-use Rattle.macro_expand.specs.Below.cs_base.Token.{Token}
-use Rattle.macro_expand.specs.Below.macro_body.declared.definitions.Definition.{Definition}
-use Rattle.macro_expand.specs.Below.line_shape.Signs.{is_punctuator, is_sign, is_open, is_close, is_comma, is_hash, is_paste}
-use Rattle.macro_expand.specs.Below.macro_body.Hides.{Hidden, toks_of}
-use Rattle.macro_expand.specs.Below.macro_body.Macro.{Table, arity, is_function, parameter_at}
-use Rattle.macro_expand.specs.Below.macro_body.Bodies.{Part, Plain, Param, Quote, Paste, next_parameter, quoted_parameter, param_or_plain, lone_part, quote_or, parts_from, is_operator, pasted_to, chains_in, chains_of, is_lone, occurs_alone}
+use Rattle.cs_base.specs.Token.{Token}
+use Rattle.macro_body.specs.declared.definitions.Definition.{Definition}
+use Rattle.line_shape.specs.Signs.{is_punctuator, is_sign, is_open, is_close, is_comma, is_hash, is_paste}
+use Rattle.macro_body.specs.Hides.{Hidden, toks_of}
+use Rattle.macro_body.specs.Macro.{Table, arity, is_function, parameter_at}
+use Rattle.macro_body.specs.Bodies.{Part, Plain, Param, Quote, Paste, next_parameter, quoted_parameter, param_or_plain, lone_part, quote_or, parts_from, is_operator, pasted_to, chains_in, chains_of, is_lone, occurs_alone}
 use Rattle.macro_expand.specs.Calls.{Call, Role, Closes, Separates, Belongs, CallFrom, separates, fewer, role_of, level_after, onto_first, with_token, with_argument, call_step, call_from, commas_of, is_blank, completed, arguments_of}
-use Rattle.macro_expand.specs.Below.macro_body.Substitution.{Arguments, with_gap, moved_in, argument_for, tokens_for, part_cost, parts_cost, is_alone, chains_cost, cost_of}
+use Rattle.macro_body.specs.Substitution.{Arguments, with_gap, moved_in, argument_for, tokens_for, part_cost, parts_cost, is_alone, chains_cost, cost_of}
 use Rattle.macro_expand.specs.Renaming.{Renaming, renamed, renamed_hidden, renamed_macro, Occurring, occurs, KeepsBody, Keeps}
 
 -- Signs.

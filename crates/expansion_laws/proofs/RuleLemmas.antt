@@ -1,18 +1,18 @@
 -- What an expansion keeps true of its tokens and of what happens in it, and what is made in a replacement.
 use Rattle.std.proofs.Common.{◌≡◌, ℕ, Bool, true, false, List, [], ◌∷◌, ◌++◌, map, get_or, Option, Some, None, Result, Ok, Err, is_some, refl, subst}
-use Rattle.macro_expand.specs.Below.cs_base.Token.{Token}
-use Rattle.macro_expand.specs.Below.line_shape.Signs.{is_name, is_paste}
-use Rattle.macro_expand.specs.Below.paste_origin.Pasting.{PasteFault, glue_of}
-use Rattle.macro_expand.specs.Below.paste_origin.Strings.{StringFault, stringize_of}
-use Rattle.macro_expand.specs.Below.macro_body.declared.definitions.Form.TheVariants as form
-use Rattle.macro_expand.specs.Below.macro_body.declared.definitions.Definition.{Definition}
-use Rattle.macro_expand.specs.Below.macro_body.Hides.{Hidden, hidden, in_both, toks_of}
-use Rattle.macro_expand.specs.Below.macro_body.Macro.{parameter_at}
-use Rattle.macro_expand.specs.Below.macro_body.Bodies.{Part, Plain, Param, Quote, Paste, quoted_parameter, param_or_plain, lone_part, quote_or, parts_from, is_operator, pasted_to, chains_in, chains_of}
-use Rattle.macro_expand.specs.Below.macro_body.Notes.{Fault, Note, Replaced, Linked, Stringized, Pasted, onward}
-use Rattle.macro_expand.specs.Below.macro_body.Substitution.{Arguments, Made, made, made_both, with_gap, put_in, moved_in, argument_for, is_alone, string_made, operand_made, operands_made, chains_made, token_pasted, pasted_behind, two_pasted, chain_pasted, chains_pasted, result_of, line_number, path_string}
+use Rattle.cs_base.specs.Token.{Token}
+use Rattle.line_shape.specs.Signs.{is_name, is_paste}
+use Rattle.macro_body.specs.Below.paste_origin.Pasting.{PasteFault, glue_of}
+use Rattle.macro_body.specs.Below.paste_origin.Strings.{StringFault, stringize_of}
+use Rattle.macro_body.specs.declared.definitions.Form.TheVariants as form
+use Rattle.macro_body.specs.declared.definitions.Definition.{Definition}
+use Rattle.macro_body.specs.Hides.{Hidden, hidden, in_both, toks_of}
+use Rattle.macro_body.specs.Macro.{parameter_at}
+use Rattle.macro_body.specs.Bodies.{Part, Plain, Param, Quote, Paste, quoted_parameter, param_or_plain, lone_part, quote_or, parts_from, is_operator, pasted_to, chains_in, chains_of}
+use Rattle.macro_body.specs.Notes.{Fault, Note, Replaced, Linked, Stringized, Pasted, onward}
+use Rattle.macro_body.specs.Substitution.{Arguments, Made, made, made_both, with_gap, put_in, moved_in, argument_for, is_alone, string_made, operand_made, operands_made, chains_made, token_pasted, pasted_behind, two_pasted, chain_pasted, chains_pasted, result_of, line_number, path_string}
 use Rattle.macro_expand.specs.Expansion.{Setting, links_name}
-use Rattle.macro_expand.proofs.Below.macro_body.ResultLemmas.{ok_same, err_ok, onward_ok}
+use Rattle.macro_body.proofs.ResultLemmas.{ok_same, err_ok, onward_ok}
 use Rattle.macro_expand.proofs.CallLemmas.{cond_has}
 use Rattle.expansion_laws.proofs.ListLemmas.{AllToks, AllHidden, AllLists, AllNotes, notes_split, notes_both, hidden_both, hidden_at, hidden_toks}
 

@@ -3,13 +3,13 @@ use Rattle.std.proofs.Common.{◌≡◌, ℕ, ◌<◌, ◌&&◌, ◌||◌, ◌==
 use Rattle.std.specs.Prelude.{codes}
 use Rattle.std.specs.List.{list_all}
 use Rattle.std.proofs.lemmas.Bool.{cases_Bool, eqb-true, and_parts, and_from, not-true}
-use Rattle.macro_expand.specs.Below.cs_base.declared.tokens.Kind.{Kind}
-use Rattle.macro_expand.specs.Below.cs_base.declared.tokens.Kind.TheVariants.{Ident, Number, Char, Str, Punct, Header, Other}
-use Rattle.macro_expand.specs.Below.cs_base.Token.{has_origins}
-use Rattle.part_lexer.specs.Characters.{less_than, slash, star, double_quote, capital_l, is_white, is_nondigit, is_digit, is_word, is_quote, begins}
-use Rattle.part_lexer.specs.Spelling.{is_identifier_text, all_follow, begins_number, is_number_text, is_punctuator_text, kind_of}
-use Rattle.part_lexer.proofs.LocalLemmas.{nondigit-word}
-use Rattle.part_lexer.proofs.KindLemmas.{quote-word}
+use Rattle.cs_base.specs.declared.tokens.Kind.{Kind}
+use Rattle.cs_base.specs.declared.tokens.Kind.TheVariants.{Ident, Number, Char, Str, Punct, Header, Other}
+use Rattle.cs_base.specs.Token.{has_origins}
+use Rattle.lexer.specs.Characters.{less_than, slash, star, double_quote, capital_l, is_white, is_nondigit, is_digit, is_word, is_quote, begins}
+use Rattle.lexer.specs.Spelling.{is_identifier_text, all_follow, begins_number, is_number_text, is_punctuator_text, kind_of}
+use Rattle.lexer.proofs.LocalLemmas.{nondigit-word}
+use Rattle.lexer.proofs.KindLemmas.{quote-word}
 use Rattle.expansion_laws.specs.Spelled.{quote_first, begins_quoted, is_lone, fits}
 use Rattle.expansion_laws.proofs.FrontLemmas.{begins_token}
 use Rattle.expansion_laws.proofs.BeginLemmas.{word_dark, word_slash, begins_dark, begins_slash, token_begins, begins_each, words_begin, follow_begins, clash, punctuator_has, signs_begin}

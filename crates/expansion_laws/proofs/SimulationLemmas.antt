@@ -5,19 +5,19 @@ use Rattle.std.specs.Option.{is_none}
 use Rattle.std.specs.List.{list_all}
 use Rattle.std.specs.Fmt.{decimal}
 use Rattle.std.proofs.lemmas.List.{map-append}
-use Rattle.macro_expand.specs.Below.cs_base.Token.{Token, token}
-use Rattle.macro_expand.specs.Below.cs_base.declared.tokens.Kind.TheVariants.{Number, Str}
-use Rattle.macro_expand.specs.Below.cs_base.declared.positions.Pos.{Pos}
-use Rattle.macro_expand.specs.Below.macro_body.declared.definitions.Form.{Form}
-use Rattle.macro_expand.specs.Below.macro_body.declared.definitions.Form.TheVariants as form
-use Rattle.macro_expand.specs.Below.macro_body.declared.definitions.Definition.{Definition}
-use Rattle.macro_expand.specs.Below.macro_body.Hides.{Hidden, hidden}
-use Rattle.macro_expand.specs.Below.macro_body.Bodies.{Part, chains_of, occurs_alone}
-use Rattle.macro_expand.specs.Below.macro_body.Notes.{Fault, TooMuchWork, TooDeep, Expanded, expanded, put_out, noted, onward}
-use Rattle.macro_expand.specs.Below.macro_body.Substitution.{Arguments, Made, made, cost_of, result_of, line_number, path_string, path_text, digit_origins}
+use Rattle.cs_base.specs.Token.{Token, token}
+use Rattle.cs_base.specs.declared.tokens.Kind.TheVariants.{Number, Str}
+use Rattle.cs_base.specs.declared.positions.Pos.{Pos}
+use Rattle.macro_body.specs.declared.definitions.Form.{Form}
+use Rattle.macro_body.specs.declared.definitions.Form.TheVariants as form
+use Rattle.macro_body.specs.declared.definitions.Definition.{Definition}
+use Rattle.macro_body.specs.Hides.{Hidden, hidden}
+use Rattle.macro_body.specs.Bodies.{Part, chains_of, occurs_alone}
+use Rattle.macro_body.specs.Notes.{Fault, TooMuchWork, TooDeep, Expanded, expanded, put_out, noted, onward}
+use Rattle.macro_body.specs.Substitution.{Arguments, Made, made, cost_of, result_of, line_number, path_string, path_text, digit_origins}
 use Rattle.macro_expand.specs.Expansion.{Next, most_depth, one_more, stays, Full, full, with_full, without_full, alone, full_step, full_from, spent, substituted, put_for}
 use Rattle.macro_expand.specs.Renaming.{renamed, renamed_hidden, renamed_macro, renamed_note, renamed_expansion, occurs, AllRespected, KeepsBody}
-use Rattle.macro_expand.proofs.Below.macro_body.ResultLemmas.{ok_same, onward_ok, cond_ok, cond_ok_yes}
+use Rattle.macro_body.proofs.ResultLemmas.{ok_same, onward_ok, cond_ok, cond_ok_yes}
 use Rattle.macro_expand.proofs.CallLemmas.{AllWithin, none, more}
 use Rattle.macro_expand.proofs.StepLemmas.{Below}
 use Rattle.expansion_laws.proofs.RenamedLemmas.{renamed_chains, renamed_lists, renamed_arguments, chains_of-renamed, occurs_alone-renamed, cost_of-renamed}

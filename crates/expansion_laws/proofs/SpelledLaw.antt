@@ -6,14 +6,14 @@ use Rattle.std.proofs.lemmas.Fmt.{decimal_is_IsNumeral}
 use Rattle.std.proofs.lemmas.Str.Parse.{digit_at}
 use Rattle.std.proofs.lemmas.Bool.{ltb-true, and_parts}
 use Rattle.std.proofs.lemmas.Bool.Decides.{nat_tests}
-use Rattle.macro_expand.specs.Below.cs_base.Token.{Token}
-use Rattle.part_lexer.specs.Characters.{is_digit}
-use Rattle.part_lexer.specs.Spelling.{may_follow, all_follow, is_number_text}
-use Rattle.macro_expand.specs.Below.paste_origin.Pasting.{glue_of}
-use Rattle.macro_expand.specs.Below.paste_origin.Strings.{stringize_of}
-use Rattle.macro_expand.specs.Below.macro_body.Macro.{Table}
-use Rattle.macro_expand.specs.Below.macro_body.Notes.{Note}
-use Rattle.macro_expand.specs.Below.macro_body.Substitution.{line_number, path_string}
+use Rattle.cs_base.specs.Token.{Token}
+use Rattle.lexer.specs.Characters.{is_digit}
+use Rattle.lexer.specs.Spelling.{may_follow, all_follow, is_number_text}
+use Rattle.macro_body.specs.Below.paste_origin.Pasting.{glue_of}
+use Rattle.macro_body.specs.Below.paste_origin.Strings.{stringize_of}
+use Rattle.macro_body.specs.Macro.{Table}
+use Rattle.macro_body.specs.Notes.{Note}
+use Rattle.macro_body.specs.Substitution.{line_number, path_string}
 use Rattle.expansion_laws.specs.Passing.{IsBlind, MacrosPass, MadePass, standing_at}
 use Rattle.expansion_laws.specs.Spelled.{fits, is_spelled, MacrosAreSpelled, TokensAreSpelled}
 use Rattle.expansion_laws.proofs.ListLemmas.{toks_more, toks_pass, pass_toks}

@@ -4,13 +4,13 @@ use Rattle.std.specs.Prelude.{codes}
 use Rattle.std.proofs.lemmas.Bool.{cases_Bool, cases_lt, eqb-true, and_parts}
 use Rattle.std.proofs.lemmas.Bool.Decides.{nat_tests}
 use Rattle.std.proofs.Math.Seq.{take-append_seam}
-use Rattle.macro_expand.specs.Below.cs_base.declared.tokens.Kind.{Kind}
-use Rattle.part_lexer.specs.Characters.{carriage_return, backslash, less_than, slash, star, capital_l, is_white, is_quote, begins}
-use Rattle.part_lexer.specs.Spelling.{kind_of}
-use Rattle.part_lexer.specs.Logical.{logical_from, logical_of, gone_length, spelling}
-use Rattle.part_lexer.specs.Tokens.{piece_of, found_from, found_of}
-use Rattle.part_lexer.specs.OneToken.{one_token_of}
-use Rattle.part_lexer.proofs.LogicalLemmas.{logical_from-stays}
+use Rattle.cs_base.specs.declared.tokens.Kind.{Kind}
+use Rattle.lexer.specs.Characters.{carriage_return, backslash, less_than, slash, star, capital_l, is_white, is_quote, begins}
+use Rattle.lexer.specs.Spelling.{kind_of}
+use Rattle.lexer.specs.Logical.{logical_from, logical_of, gone_length, spelling}
+use Rattle.lexer.specs.Tokens.{piece_of, found_from, found_of}
+use Rattle.lexer.specs.OneToken.{one_token_of}
+use Rattle.lexer.proofs.LogicalLemmas.{logical_from-stays}
 use Rattle.expansion_laws.specs.Spelled.{fits}
 use Rattle.expansion_laws.proofs.FrontLemmas.{begins_token, OneFront, is_dark, stays, logical_behind, logical_plain, one_front}
 use Rattle.expansion_laws.proofs.BeginLemmas.{quote_token, begins_each, each_begins, begins_each-dark, clash, quote_slash}

@@ -1,11 +1,11 @@
 -- A string has an origin, or none, for each of its characters.
 use Rattle.std.proofs.Common.{◌≡◌, ℕ, suc, ◌+◌, Bool, true, false, if◌then◌else◌, List, [], ◌∷◌, ◌++◌, length, Option, Some, None, refl, sym, ap, ◌∙◌, length-append, arith}
 use Rattle.std.specs.List.{flat_map}
-use Rattle.macro_expand.specs.Below.cs_base.declared.positions.Pos.{Pos}
-use Rattle.macro_expand.specs.Below.cs_base.declared.tokens.Kind.{Kind}
-use Rattle.macro_expand.specs.Below.cs_base.Token.{Token}
-use Rattle.part_lexer.specs.Characters.{backslash}
-use Rattle.macro_expand.specs.Below.paste_origin.Strings.{space, needs_backslash, escaped, escaped_origins, origins_along, spelling_of, origins_of, later_spelling, later_origins, spellings_of, all_origins, string_text, string_origins}
+use Rattle.cs_base.specs.declared.positions.Pos.{Pos}
+use Rattle.cs_base.specs.declared.tokens.Kind.{Kind}
+use Rattle.cs_base.specs.Token.{Token}
+use Rattle.lexer.specs.Characters.{backslash}
+use Rattle.macro_body.specs.Below.paste_origin.Strings.{space, needs_backslash, escaped, escaped_origins, origins_along, spelling_of, origins_of, later_spelling, later_origins, spellings_of, all_origins, string_text, string_origins}
 use Rattle.expansion_laws.proofs.ListLemmas.{AllToks}
 
 -- an origin, or none, for each character

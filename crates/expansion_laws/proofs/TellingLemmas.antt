@@ -1,9 +1,9 @@
 -- What the notes of an expansion tell did happen.
 use Rattle.std.proofs.Common.{◌≡◌, ℕ, Bool, true, false, cond, List, Result, Ok, Err, refl, sym, ap}
-use Rattle.macro_expand.specs.Below.cs_base.Token.{Token}
-use Rattle.part_lexer.specs.Spelling.{is_plain_string_text}
-use Rattle.macro_expand.specs.Below.paste_origin.Strings.{StringFault, NotAString, stringize_of, string_text, string_origins, string_token}
-use Rattle.macro_expand.specs.Below.macro_body.Notes.{Note, Linked}
+use Rattle.cs_base.specs.Token.{Token}
+use Rattle.lexer.specs.Spelling.{is_plain_string_text}
+use Rattle.macro_body.specs.Below.paste_origin.Strings.{StringFault, NotAString, stringize_of, string_text, string_origins, string_token}
+use Rattle.macro_body.specs.Notes.{Note, Linked}
 use Rattle.macro_expand.specs.Expansion.{Setting}
 use Rattle.expansion_laws.specs.Telling.{StandUnderNames, AreAlike, LinksAreAlike, DidHappen, NotesAreTrue}
 use Rattle.expansion_laws.proofs.ListLemmas.{AllToks, each_tok, notes_at, all_notes}

@@ -5,13 +5,13 @@ use Rattle.std.specs.List.{list_all, list_any}
 use Rattle.std.specs.Str.{bytes_eq}
 use Rattle.std.proofs.lemmas.Bool.{cases_Bool, and_parts}
 use Rattle.std.proofs.Math.Bool.{or-true}
-use Rattle.macro_expand.proofs.Below.cs_base.FileMapLemmas.{bytes_eq-equal}
-use Rattle.macro_expand.specs.Below.cs_base.declared.tokens.Kind.{Kind}
-use Rattle.macro_expand.specs.Below.cs_base.declared.tokens.Kind.TheVariants.{Ident, Number, Char, Str, Punct, Header, Other}
-use Rattle.part_lexer.specs.Characters.{less_than, slash, star, single_quote, double_quote, capital_l, is_nondigit, is_word, is_quote, begins}
-use Rattle.part_lexer.specs.Spelling.{is_identifier_text, may_follow, all_follow, begins_number, is_number_text, is_plain_char_text, is_plain_string_text, without_prefix, is_char_text, is_string_text, is_punctuator_text, kind_of}
-use Rattle.part_lexer.proofs.TableLemmas.{punctuator-lacks, nondigit-punctuator, quote-punctuator}
-use Rattle.part_lexer.proofs.KindLemmas.{quote-word, quote-number, quote-nondigit}
+use Rattle.cs_base.proofs.FileMapLemmas.{bytes_eq-equal}
+use Rattle.cs_base.specs.declared.tokens.Kind.{Kind}
+use Rattle.cs_base.specs.declared.tokens.Kind.TheVariants.{Ident, Number, Char, Str, Punct, Header, Other}
+use Rattle.lexer.specs.Characters.{less_than, slash, star, single_quote, double_quote, capital_l, is_nondigit, is_word, is_quote, begins}
+use Rattle.lexer.specs.Spelling.{is_identifier_text, may_follow, all_follow, begins_number, is_number_text, is_plain_char_text, is_plain_string_text, without_prefix, is_char_text, is_string_text, is_punctuator_text, kind_of}
+use Rattle.lexer.proofs.TableLemmas.{punctuator-lacks, nondigit-punctuator, quote-punctuator}
+use Rattle.lexer.proofs.KindLemmas.{quote-word, quote-number, quote-nondigit}
 use Rattle.expansion_laws.specs.Spelled.{quote_first, begins_quoted, fits}
 use Rattle.expansion_laws.proofs.BeginLemmas.{quote_follow, clash, punctuator_has}
 

@@ -5,13 +5,13 @@ use Rattle.std.specs.Str.{bytes_eq}
 use Rattle.std.proofs.lemmas.Bool.Decides.{same_from_decides}
 use Rattle.std.proofs.lemmas.Option.{none-some}
 use Rattle.std.proofs.lemmas.Slice.Eq.{bytes_eq-Decides}
-use Rattle.macro_expand.specs.Below.cs_base.Token.{Token}
-use Rattle.macro_expand.specs.Below.macro_body.declared.definitions.Definition.{Definition}
-use Rattle.macro_expand.specs.Below.line_shape.Signs.{is_name}
-use Rattle.macro_expand.specs.Below.macro_body.Hides.{Hidden, hides_name, in_both, lacking, with_names, hide_more}
-use Rattle.macro_expand.specs.Below.macro_body.Macro.{Table}
+use Rattle.cs_base.specs.Token.{Token}
+use Rattle.macro_body.specs.declared.definitions.Definition.{Definition}
+use Rattle.line_shape.specs.Signs.{is_name}
+use Rattle.macro_body.specs.Hides.{Hidden, hides_name, in_both, lacking, with_names, hide_more}
+use Rattle.macro_body.specs.Macro.{Table}
 use Rattle.macro_expand.specs.Calls.{Call, call_from, arguments_of}
-use Rattle.macro_expand.specs.Below.macro_body.Substitution.{with_gap, argument_for}
+use Rattle.macro_body.specs.Substitution.{with_gap, argument_for}
 use Rattle.macro_expand.specs.Expansion.{macro_of}
 use Rattle.macro_expand.specs.Renaming.{Renaming, spelled, renamed_hidden, renamed_macro, Occurring, occurs, Keeps}
 use Rattle.expansion_laws.proofs.RenamedLemmas.{AllOccurHidden, cond_map}

@@ -2,15 +2,15 @@
 -- that are put in or made pass too, each token of the expansion passes, and each of which its notes tell.
 use Rattle.std.specs.Prelude.{◌≡◌, ℕ, ◌&&◌, Bool, true, List, Ok, Some}
 use Rattle.std.specs.List.{list_all}
-use Rattle.macro_expand.specs.Below.cs_base.Token.{Token}
-use Rattle.macro_expand.specs.Below.paste_origin.Pasting.{glue_of}
-use Rattle.macro_expand.specs.Below.paste_origin.Strings.{stringize_of}
-use Rattle.macro_expand.specs.Below.macro_body.declared.definitions.Form.TheVariants as form
-use Rattle.macro_expand.specs.Below.macro_body.declared.definitions.Definition.{Definition}
-use Rattle.macro_expand.specs.Below.macro_body.Hides.{toks_of}
-use Rattle.macro_expand.specs.Below.macro_body.Macro.{Table}
-use Rattle.macro_expand.specs.Below.macro_body.Notes.{Note, Replaced, Linked, Stringized, Pasted, Expanded}
-use Rattle.macro_expand.specs.Below.macro_body.Substitution.{line_number, path_string}
+use Rattle.cs_base.specs.Token.{Token}
+use Rattle.macro_body.specs.Below.paste_origin.Pasting.{glue_of}
+use Rattle.macro_body.specs.Below.paste_origin.Strings.{stringize_of}
+use Rattle.macro_body.specs.declared.definitions.Form.TheVariants as form
+use Rattle.macro_body.specs.declared.definitions.Definition.{Definition}
+use Rattle.macro_body.specs.Hides.{toks_of}
+use Rattle.macro_body.specs.Macro.{Table}
+use Rattle.macro_body.specs.Notes.{Note, Replaced, Linked, Stringized, Pasted, Expanded}
+use Rattle.macro_body.specs.Substitution.{line_number, path_string}
 use Rattle.macro_expand.specs.Expansion.{links_name, expansion}
 use Rattle.expansion_laws.specs.Telling.{IsAmong}
 

@@ -2,14 +2,14 @@
 -- of whole tokens of files, one behind the other, and stand where tokens of the run stand.
 use Rattle.std.specs.Prelude.{◌≡◌, ℕ, Bool, true, false, List, Ok, Some, slice_get}
 use Rattle.std.specs.List.{list_all, flat_map}
-use Rattle.macro_expand.specs.Below.cs_base.Token.{Token}
-use Rattle.part_lexer.specs.Characters.{double_quote}
-use Rattle.macro_expand.specs.Below.macro_body.declared.definitions.Form.TheVariants as form
-use Rattle.macro_expand.specs.Below.macro_body.declared.definitions.Definition.{Definition}
-use Rattle.macro_expand.specs.Below.macro_body.Hides.{toks_of}
-use Rattle.macro_expand.specs.Below.macro_body.Macro.{Table}
-use Rattle.macro_expand.specs.Below.macro_body.Notes.{Note, Replaced, Linked, Stringized, Pasted, Expanded}
-use Rattle.macro_expand.specs.Below.macro_body.Substitution.{line_number}
+use Rattle.cs_base.specs.Token.{Token}
+use Rattle.lexer.specs.Characters.{double_quote}
+use Rattle.macro_body.specs.declared.definitions.Form.TheVariants as form
+use Rattle.macro_body.specs.declared.definitions.Definition.{Definition}
+use Rattle.macro_body.specs.Hides.{toks_of}
+use Rattle.macro_body.specs.Macro.{Table}
+use Rattle.macro_body.specs.Notes.{Note, Replaced, Linked, Stringized, Pasted, Expanded}
+use Rattle.macro_body.specs.Substitution.{line_number}
 use Rattle.macro_expand.specs.Expansion.{links_name, expansion}
 use Rattle.expansion_laws.specs.Telling.{IsAmong}
 

@@ -3,14 +3,14 @@
 -- tokens make together is found to be none.
 use Rattle.std.specs.Prelude.{◌≡◌, ◌^◌, ℕ, nat_lt, ◌&&◌, ◌||◌, ◌==◌, Bool, true, false, not, is_some, List, [], ◌∷◌, Ok, Some}
 use Rattle.std.specs.List.{list_all}
-use Rattle.macro_expand.specs.Below.cs_base.declared.tokens.Kind.{Kind}
-use Rattle.macro_expand.specs.Below.cs_base.declared.tokens.Kind.TheVariants.{Ident, Number, Char, Str, Punct, Header, Other}
-use Rattle.macro_expand.specs.Below.cs_base.Token.{Token, has_origins}
-use Rattle.part_lexer.specs.Characters.{less_than, double_quote, capital_l, is_quote, is_white, is_word, begins}
-use Rattle.part_lexer.specs.Spelling.{is_identifier_text, is_number_text, is_punctuator_text, kind_of}
-use Rattle.macro_expand.specs.Below.macro_body.declared.definitions.Definition.{Definition}
-use Rattle.macro_expand.specs.Below.macro_body.Macro.{Table}
-use Rattle.macro_expand.specs.Below.macro_body.Notes.{Expanded}
+use Rattle.cs_base.specs.declared.tokens.Kind.{Kind}
+use Rattle.cs_base.specs.declared.tokens.Kind.TheVariants.{Ident, Number, Char, Str, Punct, Header, Other}
+use Rattle.cs_base.specs.Token.{Token, has_origins}
+use Rattle.lexer.specs.Characters.{less_than, double_quote, capital_l, is_quote, is_white, is_word, begins}
+use Rattle.lexer.specs.Spelling.{is_identifier_text, is_number_text, is_punctuator_text, kind_of}
+use Rattle.macro_body.specs.declared.definitions.Definition.{Definition}
+use Rattle.macro_body.specs.Macro.{Table}
+use Rattle.macro_body.specs.Notes.{Expanded}
 use Rattle.macro_expand.specs.Expansion.{links_name, expansion}
 use Rattle.expansion_laws.specs.Passing.{ExpansionPasses}
 

@@ -1,12 +1,12 @@
 -- What the notes of an expansion tell (ISO/IEC 9899:1999, 6.10.3).
 use Rattle.std.specs.Prelude.{◌≡◌, ℕ, true, List, Ok, Some, slice_get}
-use Rattle.macro_expand.specs.Below.cs_base.Token.{Token}
-use Rattle.macro_expand.specs.Below.line_shape.Signs.{is_name}
-use Rattle.macro_expand.specs.Below.paste_origin.Pasting.{glue_of}
-use Rattle.macro_expand.specs.Below.paste_origin.Strings.{stringize_of, string_origins}
-use Rattle.macro_expand.specs.Below.macro_body.declared.definitions.Definition.{Definition}
-use Rattle.macro_expand.specs.Below.macro_body.Macro.{Table}
-use Rattle.macro_expand.specs.Below.macro_body.Notes.{Note, Replaced, Linked, Stringized, Pasted, Expanded}
+use Rattle.cs_base.specs.Token.{Token}
+use Rattle.line_shape.specs.Signs.{is_name}
+use Rattle.macro_body.specs.Below.paste_origin.Pasting.{glue_of}
+use Rattle.macro_body.specs.Below.paste_origin.Strings.{stringize_of, string_origins}
+use Rattle.macro_body.specs.declared.definitions.Definition.{Definition}
+use Rattle.macro_body.specs.Macro.{Table}
+use Rattle.macro_body.specs.Notes.{Note, Replaced, Linked, Stringized, Pasted, Expanded}
 use Rattle.macro_expand.specs.Expansion.{links_name, expansion}
 
 -- the note is one of these

@@ -5,8 +5,8 @@ ghost use Rattle.cs_base.specs.Padding.{padded};
 ghost use Rattle.cs_base.specs.declared.tokens.Kind.TheVariants.{Ident, Punct};
 
 use cs_base::{Kind, Memory, Pos, Tok, Toks};
+use lexer::lex;
 use macro_expand::{Definition, Form, Macros};
-use part_lexer::lex;
 use std::alloc::Global;
 use std::test::Fail;
 

@@ -8,9 +8,9 @@ ghost use Rattle.macro_body.specs.Live.{table_of};
 ghost use Rattle.macro_body.specs.Sound.{is_traced, is_low, AllTraced};
 
 use cs_base::{Kind, Memory, Pos, Tok, Toks};
+use lexer::lex;
 use line_shape::{ItemKind, shape};
 use macro_expand::{Definition, ExpandFault, Form, Macros, Notes, Work, expand};
-use part_lexer::lex;
 use std::alloc::Global;
 
 const MOST_LINE: u32 = 1 << 22;

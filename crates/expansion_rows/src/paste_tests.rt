@@ -3,7 +3,7 @@ ghost use Rattle.std.specs.Prelude.{◌≡◌, map, IfOk};
 ghost use Rattle.paste_origin.specs.Pasting.{IsWhollyTraced};
 
 use cs_base::{Kind, Memory, Pos, Tok};
-use part_lexer::one_token;
+use lexer::one_token;
 use paste_origin::{GlueRefusal, StrRefusal, glue, stringize};
 use std::alloc::Global;
 use std::test::Fail;

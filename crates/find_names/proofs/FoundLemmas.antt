@@ -3,11 +3,11 @@ use Rattle.std.proofs.Common.{◌≡◌, ℕ, ◌+◌, ◌<◌, ◌≤◌, Bool,
 use Rattle.std.specs.Prelude.{MatchBool, IfErr, IfSome, IsErrAnd}
 use Rattle.std.proofs.lemmas.List.{take_all}
 use Rattle.cs_base.specs.declared.positions.Part.{Part}
-use Rattle.unused_names.specs.Below.ws_core.Analysis.{AnalysisValue}
-use Rattle.unused_names.specs.Below.ws_core.Parts.{AreFirsts, IsFirst, part_cmp}
-use Rattle.unused_names.specs.Below.ws_core.Spellings.{spelling_of}
-use Rattle.unused_names.specs.Below.class_marks.Keeping.{Keeps}
-use Rattle.unused_names.proofs.Below.class_marks.KeepLemmas.{keeps_all, keeps_each, keeps_more, keeps_none, keeps_same, keeps_sorted}
+use Rattle.analysis.specs.Analysis.{AnalysisValue}
+use Rattle.analysis.specs.Parts.{AreFirsts, IsFirst, part_cmp}
+use Rattle.analysis.specs.Spellings.{spelling_of}
+use Rattle.class_marks.specs.Keeping.{Keeps}
+use Rattle.class_marks.proofs.KeepLemmas.{keeps_all, keeps_each, keeps_more, keeps_none, keeps_same, keeps_sorted}
 use Rattle.query_words.specs.declared.attributes.Facts.{Facts}
 use Rattle.query_words.specs.declared.faults.QueryFault.{QueryFault}
 use Rattle.query_words.specs.declared.faults.QueryFault.TheVariants.{Bad, Deep}

@@ -9,13 +9,13 @@ use Rattle.std.proofs.lemmas.Str.{IsUtf8-from_is_utf8}
 use borrow.Author.Count.{below_more}
 use Rattle.cs_base.specs.declared.positions.Part.{Part}
 use Rattle.cs_base.specs.declared.positions.Pos.{Pos}
-use Rattle.unused_names.specs.Below.ws_core.Below.eclass_map.Positions.{holds}
+use Rattle.analysis.specs.Below.eclass_map.Positions.{holds}
 use Rattle.cs_base.proofs.FileMapLemmas.{bytes_eq-equal}
-use Rattle.unused_names.proofs.Below.ws_core.PartLemmas.{part_once}
-use Rattle.unused_names.specs.Below.include_tree.Below.source_files.Files.{Entry, Table}
-use Rattle.unused_names.specs.Below.ws_core.Analysis.{AnalysisValue}
-use Rattle.unused_names.specs.Below.ws_core.Naming.{Names, file_named, named_position}
-use Rattle.unused_names.specs.Below.ws_core.Parts.{AreMembers, IsMember}
+use Rattle.analysis.proofs.PartLemmas.{part_once}
+use Rattle.analysis.specs.Below.source_files.Files.{Entry, Table}
+use Rattle.analysis.specs.Analysis.{AnalysisValue}
+use Rattle.analysis.specs.Naming.{Names, file_named, named_position}
+use Rattle.analysis.specs.Parts.{AreMembers, IsMember}
 
 -- ---- members
 

@@ -12,15 +12,15 @@ use Rattle.std.proofs.lemmas.Option.{none-some, same_Some, slice_get-get_or, sli
 use Rattle.cs_base.specs.declared.positions.Part.{Part}
 use Rattle.cs_base.specs.declared.positions.Pos.{Pos}
 use Rattle.cs_base.specs.Token.{Token, has_origins}
-use Rattle.unused_names.specs.Below.include_tree.Below.source_files.Files.{Entry, Table, Absent, entry}
-use Rattle.unused_names.specs.Below.include_tree.Below.source_files.KeptFiles.{kept_at}
-use Rattle.unused_names.specs.Below.ws_core.Analysis.{AnalysisValue, UnitAnalysis}
-use Rattle.unused_names.specs.Below.ws_core.BroughtNumbers.{all_brought}
-use Rattle.unused_names.specs.Below.ws_core.FileTokens.{IsFileToken, file_tokens, kept_tokens, span_of, table_tokens}
-use Rattle.unused_names.proofs.Below.class_marks.AnswerLemmas.{told}
-use Rattle.unused_names.proofs.Below.class_marks.RoleLemmas.{some_passes}
+use Rattle.analysis.specs.Below.source_files.Files.{Entry, Table, Absent, entry}
+use Rattle.analysis.specs.Below.source_files.KeptFiles.{kept_at}
+use Rattle.analysis.specs.Analysis.{AnalysisValue, UnitAnalysis}
+use Rattle.analysis.specs.BroughtNumbers.{all_brought}
+use Rattle.analysis.specs.FileTokens.{IsFileToken, file_tokens, kept_tokens, span_of, table_tokens}
+use Rattle.class_marks.proofs.AnswerLemmas.{told}
+use Rattle.class_marks.proofs.RoleLemmas.{some_passes}
 use Rattle.unused_names.proofs.LineLemmas.{or_cond}
-use Rattle.unused_names.proofs.Below.ws_core.PlaceNameLemmas.{any_from}
+use Rattle.analysis.proofs.PlaceNameLemmas.{any_from}
 use Rattle.find_names.specs.FileTokens.{is_part, is_span}
 
 -- ---- tests

@@ -4,8 +4,8 @@ use Rattle.std.specs.List.{list_any}
 use Rattle.cs_base.specs.declared.positions.Part.{Part}
 use Rattle.cs_base.specs.Token.{Token}
 use Rattle.indexmap.specs.IndexSet.{IndexSet, contains_by}
-use Rattle.unused_names.specs.Below.ws_core.Analysis.{AnalysisValue}
-use Rattle.unused_names.specs.Below.ws_core.FileTokens.{file_tokens, span_of}
+use Rattle.analysis.specs.Analysis.{AnalysisValue}
+use Rattle.analysis.specs.FileTokens.{file_tokens, span_of}
 use Rattle.find_names.specs.declared.file_tokens.FileTokens.{FileTokens}
 
 -- the set has the part

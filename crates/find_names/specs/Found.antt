@@ -2,11 +2,11 @@
 use Rattle.std.specs.Prelude.{ℕ, ◌≡◌, Some, List, [], ◌∷◌, ◌++◌, Ok, Err, IfSome, codes, decimal, length, slice_get}
 use Rattle.std.specs.List.Sorted.{IsStrictlySortedBy}
 use Rattle.cs_base.specs.declared.positions.Part.{Part}
-use Rattle.unused_names.specs.Below.ws_core.Analysis.{AnalysisValue}
-use Rattle.unused_names.specs.Below.ws_core.ClassReport.{place_text}
-use Rattle.unused_names.specs.Below.ws_core.Parts.{AreMembers, IsFirst, part_cmp}
-use Rattle.unused_names.specs.Below.ws_core.Places.{place_at}
-use Rattle.unused_names.specs.Below.ws_core.Spellings.{spelling_of}
+use Rattle.analysis.specs.Analysis.{AnalysisValue}
+use Rattle.analysis.specs.ClassReport.{place_text}
+use Rattle.analysis.specs.Parts.{AreMembers, IsFirst, part_cmp}
+use Rattle.analysis.specs.Places.{place_at}
+use Rattle.analysis.specs.Spellings.{spelling_of}
 use Rattle.query_words.specs.Queries.{Query}
 use Rattle.query_words.specs.Reading.{parsed}
 use Rattle.find_names.specs.declared.refusal.FindRefusal.{FindRefusal}

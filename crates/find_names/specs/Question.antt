@@ -3,12 +3,12 @@
 use Rattle.std.specs.Prelude.{ℕ, ◌≡◌, true, Some}
 use Rattle.cs_base.specs.declared.positions.Part.{Part}
 use Rattle.cs_base.specs.declared.positions.Place.{Place}
-use Rattle.unused_names.specs.Below.ws_core.Analysis.{AnalysisValue}
-use Rattle.unused_names.specs.Below.ws_core.FileTokens.{IsFileToken}
-use Rattle.unused_names.specs.Below.ws_core.Naming.{Names}
-use Rattle.unused_names.specs.Below.ws_core.Parts.{IsMember}
-use Rattle.unused_names.specs.Below.ws_core.Places.{place_at}
-use Rattle.unused_names.specs.Below.ws_core.Spellings.{spelling_of}
+use Rattle.analysis.specs.Analysis.{AnalysisValue}
+use Rattle.analysis.specs.FileTokens.{IsFileToken}
+use Rattle.analysis.specs.Naming.{Names}
+use Rattle.analysis.specs.Parts.{IsMember}
+use Rattle.analysis.specs.Places.{place_at}
+use Rattle.analysis.specs.Spellings.{spelling_of}
 use Rattle.find_names.specs.Keywords.{is_keyword}
 
 -- the part that a place names

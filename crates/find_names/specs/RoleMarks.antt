@@ -1,12 +1,12 @@
 -- Marks on classes for each thing that a query may ask of their names.
 use Rattle.std.specs.Prelude.{Bool, List}
-use Rattle.unused_names.specs.Below.ws_core.Below.c_types.declared.entity.EntityKind.{EntityKind}
-use Rattle.unused_names.specs.Below.ws_core.Below.c_types.declared.entity.EntityKind.TheVariants as entity
-use Rattle.unused_names.specs.Below.ws_core.Analysed.{Analysed}
-use Rattle.unused_names.specs.Below.class_marks.declared.roles.Role.{Role}
-use Rattle.unused_names.specs.Below.class_marks.declared.roles.Role.TheVariants as role
-use Rattle.unused_names.specs.Below.class_marks.Marks.{AreMarked}
-use Rattle.unused_names.specs.Below.class_marks.Roles.{names_with}
+use Rattle.analysis.specs.Below.c_types.declared.entity.EntityKind.{EntityKind}
+use Rattle.analysis.specs.Below.c_types.declared.entity.EntityKind.TheVariants as entity
+use Rattle.analysis.specs.Analysed.{Analysed}
+use Rattle.class_marks.specs.declared.roles.Role.{Role}
+use Rattle.class_marks.specs.declared.roles.Role.TheVariants as role
+use Rattle.class_marks.specs.Marks.{AreMarked}
+use Rattle.class_marks.specs.Roles.{names_with}
 use Rattle.find_names.specs.declared.role_marks.KindMarks.{KindMarks}
 use Rattle.find_names.specs.declared.role_marks.RoleMarks.{RoleMarks}
 

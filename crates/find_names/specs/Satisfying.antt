@@ -1,17 +1,17 @@
 -- What attributes say of a class, and which classes satisfy a query (this project's, over ISO/IEC 9899:1999, 6.2.1 to
 -- 6.2.3 and 6.10.3).
 use Rattle.cs_base.specs.declared.positions.Part.{Part}
-use Rattle.unused_names.specs.Below.ws_core.Below.c_types.declared.entity.EntityKind.TheVariants as entity
-use Rattle.unused_names.specs.Below.ws_core.Analysis.{AnalysisValue}
-use Rattle.unused_names.specs.Below.ws_core.FileTokens.{IsFileToken}
-use Rattle.unused_names.specs.Below.ws_core.Parts.{IsMember}
-use Rattle.unused_names.specs.Below.ws_core.Spellings.{spelling_of}
+use Rattle.analysis.specs.Below.c_types.declared.entity.EntityKind.TheVariants as entity
+use Rattle.analysis.specs.Analysis.{AnalysisValue}
+use Rattle.analysis.specs.FileTokens.{IsFileToken}
+use Rattle.analysis.specs.Parts.{IsMember}
+use Rattle.analysis.specs.Spellings.{spelling_of}
 use Rattle.query_words.specs.declared.attributes.Attribute.{Attribute}
 use Rattle.query_words.specs.declared.attributes.Attribute.TheVariants.{Macro, Function, Object, Typedef, Parameter, Enumerator, Tag, Member, Label, External, ReadOnly, Unused, Cut}
 use Rattle.query_words.specs.Queries.{Query}
 use Rattle.query_words.specs.Satisfying.{Satisfies}
-use Rattle.unused_names.specs.Below.class_marks.declared.roles.Role.TheVariants as role
-use Rattle.unused_names.specs.Below.class_marks.Touching.{HasRole, IsReadOnlyClass}
+use Rattle.class_marks.specs.declared.roles.Role.TheVariants as role
+use Rattle.class_marks.specs.Touching.{HasRole, IsReadOnlyClass}
 use Rattle.unused_names.specs.Unused.{IsUnused}
 
 -- some member of the class is no whole token: the token has other parts too

@@ -1,6 +1,6 @@
 // Which attributes a class has.
 ghost use Rattle.std.specs.Prelude.{MatchBool};
-ghost use Rattle.unused_names.specs.Below.ws_core.Parts.{IsFirst, IsPart};
+ghost use Rattle.analysis.specs.Parts.{IsFirst, IsPart};
 ghost use Rattle.find_names.specs.FileTokens.{AreFileTokens};
 ghost use Rattle.find_names.specs.RoleMarks.{AreRoleMarks};
 ghost use Rattle.query_words.specs.Satisfying.{AreFacts};
@@ -8,9 +8,11 @@ ghost use Rattle.find_names.specs.Satisfying.{HasAttribute, IsCutClass};
 
 use crate::file_tokens::FileTokens;
 use crate::role_marks::RoleMarks;
+use analysis::Analysis;
+use class_marks::{has_read_only, is_marked};
 use cs_base::Part;
 use query_words::Facts;
-use unused_names::{Analysis, has_read_only, is_marked, is_unused};
+use unused_names::is_unused;
 
 // Whether some member of the class is no whole token.
 fn is_cut(a: &Analysis, tokens: &FileTokens, part: Part) -> bool

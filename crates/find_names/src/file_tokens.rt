@@ -4,14 +4,14 @@ ghost use Rattle.std.specs.List.{list_any};
 ghost use Rattle.std.specs.Option.{option_map_or};
 ghost use Rattle.cs_base.specs.Token.{has_origins};
 ghost use Rattle.cs_base.specs.declared.positions.Part.{Part};
-ghost use Rattle.unused_names.specs.Below.include_tree.Below.source_files.KeptFiles.{kept_at};
-ghost use Rattle.unused_names.specs.Below.ws_core.FileTokens.{IsFileToken, file_tokens, kept_tokens, span_of, table_tokens};
+ghost use Rattle.analysis.specs.Below.source_files.KeptFiles.{kept_at};
+ghost use Rattle.analysis.specs.FileTokens.{IsFileToken, file_tokens, kept_tokens, span_of, table_tokens};
 ghost use Rattle.find_names.specs.FileTokens.{AreFileTokens, has_span, is_span};
 
+use analysis::{Analysis, KeptFile};
 use cs_base::{Kind, Memory, Part, Pos, Tok};
 use indexmap::IndexSet;
 use std::alloc::Global;
-use unused_names::{Analysis, KeptFile};
 
 // Where a token begins, and how many characters it has.
 fn span_of(tok: &Tok) -> Part

@@ -1,7 +1,7 @@
 // The classes that satisfy a query, and their lines.
 ghost use Rattle.std.specs.Prelude.{◌≡◌, ◌<◌, ◌^◌, ◌++◌, Ok, IfErr, IfOk, IfSome, MatchBool, OnOk, length};
-ghost use Rattle.unused_names.specs.Below.ws_core.Parts.{AreMembers, IsFirst, IsPart};
-ghost use Rattle.unused_names.specs.Below.ws_core.Spellings.{spelling_of};
+ghost use Rattle.analysis.specs.Parts.{AreMembers, IsFirst, IsPart};
+ghost use Rattle.analysis.specs.Spellings.{spelling_of};
 ghost use Rattle.query_words.specs.Queries.{Query};
 ghost use Rattle.query_words.specs.Reading.{parsed};
 ghost use Rattle.find_names.specs.FileTokens.{AreFileTokens};
@@ -13,11 +13,11 @@ use crate::file_tokens::FileTokens;
 use crate::questions::is_in_question;
 use crate::refusal::FindRefusal;
 use crate::role_marks::{RoleMarks, role_marks};
+use analysis::{Analysis, push_place};
 use cs_base::{Memory, Part};
 use itoa::Buffer;
 use query_words::{Facts, satisfies};
 use std::alloc::Global;
-use unused_names::{Analysis, push_place};
 
 // Whether the class of a first member is in question and satisfies the query.
 fn is_found(

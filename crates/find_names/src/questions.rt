@@ -1,15 +1,15 @@
 // Which classes are in question.
 ghost use Rattle.std.specs.Prelude.{◌≡◌, MatchBool};
-ghost use Rattle.unused_names.specs.Below.ws_core.Naming.{Names};
-ghost use Rattle.unused_names.specs.Below.ws_core.Parts.{IsPart};
+ghost use Rattle.analysis.specs.Naming.{Names};
+ghost use Rattle.analysis.specs.Parts.{IsPart};
 ghost use Rattle.find_names.specs.FileTokens.{AreFileTokens, is_part};
 ghost use Rattle.find_names.specs.Question.{IsInQuestion, IsKeywordClass, IsNameable, IsNamed, IsWholeKeyword};
 
 use crate::file_tokens::FileTokens;
 use crate::keywords::is_keyword;
+use analysis::Analysis;
 use cs_base::Part;
 use std::str;
-use unused_names::Analysis;
 
 // The part that a place names, where its path is text.
 fn part_named(a: &Analysis, path: &[u8], line: u32, column: u32) -> Option<Part>

@@ -2,9 +2,10 @@
 ghost use Rattle.std.specs.Prelude.{IfOk};
 ghost use Rattle.find_names.specs.RoleMarks.{AreKindMarks, AreRoleMarks};
 
+use analysis::{Analysis, EntityKind};
+use class_marks::{Role, marks_of};
 use cs_base::Memory;
 use std::alloc::Global;
-use unused_names::{Analysis, EntityKind, Role, marks_of};
 
 /// Marks on the classes with an occurrence of an entity of a kind.
 #[derive(Drop)]

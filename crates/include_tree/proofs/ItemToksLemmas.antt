@@ -7,7 +7,7 @@ use Rattle.std.proofs.lemmas.Bool.{cases_Bool, and_parts}
 use Rattle.std.proofs.lemmas.Option.{slice_get-map, slice_get_read, slice_get_past, same_Some}
 use Rattle.std.proofs.lemmas.List.Elements.{All-same}
 use Rattle.cs_base.specs.Token.{Token}
-use Rattle.unit_steps.specs.Below.part_lexer.FileText.{TextValue, LexFault, file_text}
+use Rattle.source_files.specs.Below.lexer.FileText.{TextValue, LexFault, file_text}
 use Rattle.source_files.specs.Below.line_shape.declared.items.Item.{Item}
 use Rattle.source_files.specs.Below.line_shape.declared.items.ItemKind.TheVariants.{Define}
 use Rattle.source_files.specs.Below.line_shape.Signs.{is_close, is_ellipsis}

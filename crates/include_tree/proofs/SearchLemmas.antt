@@ -2,14 +2,13 @@
 use Rattle.std.proofs.Common.{◌≡◌, ℕ, nat_le, cond, Bool, true, false, List, [], ◌∷◌, Option, None, Some, Result, Ok, Err, refl, arith}
 use Rattle.cs_base.specs.declared.causes.Cause.TheVariants.{TooManyFiles, TooManyBytes}
 use Rattle.cs_base.specs.declared.positions.Place.{Place}
-use Rattle.unit_steps.specs.Below.part_lexer.FileText.{TextValue, LexFault, FileTooLarge, OpenComment}
+use Rattle.source_files.specs.Below.lexer.FileText.{TextValue, LexFault, FileTooLarge, OpenComment}
 use Rattle.source_files.specs.Limits.{Limits}
 use Rattle.source_files.specs.Files.{Source, Found, Lines, Absent, Unopened, Opened, Made, Table, SourceFile, found_at, opened, asked, number_of, files_opened}
 use Rattle.source_files.specs.Faults.{Fault, fault}
 use Rattle.unit_steps.specs.State.{Context, State}
-use Rattle.source_files.specs.Opening.{Reader}
+use Rattle.source_files.specs.Opening.{Reader, Opening, file_read, readable, first_opened, are_too_many, opened_as, opening}
 use Rattle.source_files.specs.Search.{Searched, search, search_on}
-use Rattle.source_files.specs.Opening.{Opening, file_read, readable, first_opened, are_too_many, opened_as, opening}
 use Rattle.include_tree.specs.OpeningStep.{with_opened, open_file}
 use Rattle.include_tree.specs.Laws.{IfDone, Leads}
 use Rattle.source_files.specs.Tables.{Widens}

@@ -8,7 +8,7 @@ use Rattle.cs_base.specs.declared.causes.Cause.TheVariants.{DefinedFromMacro, To
 use Rattle.cs_base.specs.declared.positions.Place.{Place}
 use Rattle.cs_base.specs.declared.positions.Pos.{Pos}
 use Rattle.cs_base.specs.Token.{Token}
-use Rattle.unit_steps.specs.Below.part_lexer.FileText.{TextValue, LexFault, FileTooLarge, OpenComment}
+use Rattle.source_files.specs.Below.lexer.FileText.{TextValue, LexFault, FileTooLarge, OpenComment}
 use Rattle.source_files.specs.Below.line_shape.Signs.{is_name}
 use Rattle.unit_steps.specs.Below.cond_eval.declared.faults.CondFault.{CondFault}
 use Rattle.unit_steps.specs.Below.cond_eval.Evaluation.{condition}
@@ -20,9 +20,8 @@ use Rattle.source_files.specs.Limits.{Limits}
 use Rattle.source_files.specs.Files.{Source, Found, Lines, Absent, Unopened, Opened, Made, Table, SourceFile, found_at, opened, asked, number_of, files_opened}
 use Rattle.source_files.specs.Faults.{Fault, fault, fault_at}
 use Rattle.unit_steps.specs.State.{Context, State, only, onward}
-use Rattle.source_files.specs.Opening.{Reader}
+use Rattle.source_files.specs.Opening.{Reader, Opening, file_read, readable, first_opened, are_too_many, opened_as, opening}
 use Rattle.source_files.specs.Search.{Searched, can_be_asked, search, search_on}
-use Rattle.source_files.specs.Opening.{Opening, file_read, readable, first_opened, are_too_many, opened_as, opening}
 use Rattle.include_tree.specs.OpeningStep.{with_opened, open_file}
 use Rattle.unit_steps.specs.Names.{with_name, spelled_in}
 use Rattle.unit_steps.specs.Expanding.{expanded_as, expanded_in, most_toks, put_out, run_of}

@@ -2,7 +2,7 @@
 use Rattle.std.proofs.Common.{◌≡◌, ℕ, zero, suc, true, false, List, [], ◌∷◌, Option, Some, None, Result, Ok, Err, refl, sym, ◌∙◌, ap, subst, inl, inr}
 use Rattle.std.specs.Prelude.{IfSome, IsSome, slice_get}
 use Rattle.std.specs.Option.{option_map, option_and_then}
-use Rattle.unit_steps.specs.Below.part_lexer.FileText.{TextValue, LexFault, file_text}
+use Rattle.source_files.specs.Below.lexer.FileText.{TextValue, LexFault, file_text}
 use Rattle.source_files.specs.Files.{Found, Entry, Table, SourceFile, source_file}
 use Rattle.source_files.specs.KeptFiles.{KeptValue, kept, kept_bytes, kept_in, kept_at}
 use Rattle.source_files.specs.Sources.{read_as, source_kept, source_at}

@@ -10,7 +10,7 @@ use Rattle.std.proofs.lemmas.Bool.{and_parts, and_from}
 use Rattle.cs_base.specs.Answer.{Gives}
 use Rattle.cs_base.specs.Token.{Token}
 use Rattle.cs_base.specs.declared.positions.Place.{Place}
-use Rattle.unit_steps.specs.Below.part_lexer.FileText.{file_text}
+use Rattle.source_files.specs.Below.lexer.FileText.{file_text}
 use Rattle.cs_base.specs.Units.{UnitValue, defines_text, IsUnit, is_unit_path, is_writable, begins_with, less_sign}
 use Rattle.source_files.specs.declared.pre_fault.PreFault.{PreFault}
 use Rattle.source_files.specs.Limits.{the_limits}
@@ -25,10 +25,9 @@ use Rattle.include_tree.specs.Including.{Process}
 use Rattle.include_tree.specs.Walk.{file_items}
 use Rattle.include_tree.specs.Unit.{first_state, outer_file, main_file}
 use Rattle.unit_steps.specs.Texts.{UnitTextValue}
-use Rattle.include_tree.specs.Preprocessed.{preprocessed_by, preprocessed}
+use Rattle.include_tree.specs.Preprocessed.{preprocessed_by, preprocessed, with_text}
 use Rattle.unit_steps.specs.Keeping.{no_text, noted_in, put_in, kept_after, put_after}
 use Rattle.source_files.specs.Answers.{fault_of}
-use Rattle.include_tree.specs.Preprocessed.{with_text}
 use Rattle.source_files.specs.Sources.{source_at, GivesOpening}
 use Rattle.include_tree.specs.GivenFiles.{unit_context}
 use Rattle.unit_steps.proofs.KeepingLemmas.{noted_in-append, noted_in-nil}

@@ -2,7 +2,7 @@
 use Rattle.std.specs.Prelude.{ℕ, ◌+◌, List, Result, Ok, Err, length}
 use Rattle.cs_base.specs.Token.{Token}
 use Rattle.cs_base.specs.Units.{UnitValue}
-use Rattle.unit_steps.specs.Below.part_lexer.FileText.{file_text}
+use Rattle.source_files.specs.Below.lexer.FileText.{file_text}
 use Rattle.source_files.specs.Limits.{the_limits}
 use Rattle.source_files.specs.Files.{Source, Carried, carried, nothing_carried}
 use Rattle.source_files.specs.Faults.{Fault}

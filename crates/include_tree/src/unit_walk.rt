@@ -2,7 +2,7 @@
 ghost use Rattle.std.specs.Prelude.{◌≡◌, None, true, IfOk, IfErr, IsSome, OnErr};
 ghost use Rattle.cs_base.specs.Answer.{Gives};
 ghost use Rattle.cs_base.specs.Units.{defines_text};
-ghost use Rattle.unit_steps.specs.Below.part_lexer.FileText.{file_text};
+ghost use Rattle.source_files.specs.Below.lexer.FileText.{file_text};
 ghost use Rattle.cs_base.specs.Outside.{ReadsOnly};
 ghost use Rattle.source_files.specs.Limits.{the_limits};
 ghost use Rattle.source_files.specs.Files.{Source, Made, defines_path, found_at, numbered, asked};
@@ -11,13 +11,12 @@ ghost use Rattle.source_files.specs.Search.{can_be_asked};
 ghost use Rattle.source_files.specs.Opening.{opening};
 ghost use Rattle.include_tree.specs.Unit.{outer_file, main_file};
 ghost use Rattle.source_files.specs.Tables.{AreFound, IsGrown, StaysHeld};
-ghost use Rattle.include_tree.specs.Preprocessed.{preprocessed};
+ghost use Rattle.include_tree.specs.Preprocessed.{preprocessed, with_text};
 ghost use Rattle.unit_steps.specs.Keeping.{put_after};
 ghost use Rattle.unit_steps.specs.Moments.{state_in, GoesOn, IsReady};
 ghost use Rattle.source_files.specs.Sources.{source_at, unit_most, GivesOpening};
 ghost use Rattle.include_tree.specs.GivenFiles.{unit_context};
 ghost use Rattle.source_files.specs.Answers.{fault_of, IsNoReadFault, reads_of, ReadsOn, Keeps};
-ghost use Rattle.include_tree.specs.Preprocessed.{with_text};
 
 use crate::settings_text::{defines_path, defines_text};
 use crate::walking::walk_file;

@@ -5,19 +5,19 @@ use Rattle.std.proofs.lemmas.Option.{slice_get_within, same_Some}
 use Rattle.cs_base.specs.declared.positions.Part.{Part}
 use Rattle.eclass_map.specs.ClassTable.{Table, HasParts, class_in, members_of}
 use Rattle.eclass_map.specs.Resized.{Resizes}
-use Rattle.kept_meaning_laws.specs.Below.part_lexer.Spelling.{is_identifier_text}
-use Rattle.kept_meaning_laws.specs.Below.renamed.Renamed.{renamed_analysis, renamed_unit_analysis, renaming_of}
-use Rattle.kept_meaning_laws.specs.Below.source_files.Files.{Table as Files}
-use Rattle.kept_meaning_laws.specs.Below.ws_file.Workspace.{WorkspaceValue}
-use Rattle.ws_core.specs.Analysed.{Analysed, analysed}
-use Rattle.ws_core.specs.Analysis.{AnalysisValue, UnitAnalysis, analysis_and}
-use Rattle.ws_core.specs.Classes.{AreItsClasses}
-use Rattle.ws_core.specs.Parts.{AreMembers, IsPart}
-use Rattle.ws_core.proofs.ClassLemmas.{part_told}
-use Rattle.kept_meaning_laws.specs.Below.no_offence_laws.Allowed.{IsAllowed}
+use Rattle.analysis.specs.Below.lexer.Spelling.{is_identifier_text}
+use Rattle.renamed.specs.Renamed.{renamed_analysis, renamed_unit_analysis, renaming_of}
+use Rattle.include_tree.specs.Below.source_files.Files.{Table as Files}
+use Rattle.ws_file.specs.Workspace.{WorkspaceValue}
+use Rattle.analysis.specs.Analysed.{Analysed, analysed}
+use Rattle.analysis.specs.Analysis.{AnalysisValue, UnitAnalysis, analysis_and}
+use Rattle.analysis.specs.Classes.{AreItsClasses}
+use Rattle.analysis.specs.Parts.{AreMembers, IsPart}
+use Rattle.analysis.proofs.ClassLemmas.{part_told}
+use Rattle.rename_meaning.specs.Allowed.{IsAllowed}
 use Rattle.part_respell.specs.Respelled.{respelled}
-use Rattle.kept_meaning_laws.specs.Below.rename_rules.First.{IsFirst, offences_of}
-use Rattle.kept_meaning_laws.proofs.FollowLinkLemmas.{classes_follow}
+use Rattle.rename_rules.specs.First.{IsFirst, offences_of}
+use Rattle.rename_meaning.proofs.FollowLinkLemmas.{classes_follow}
 use Rattle.kept_analysis.specs.declared.moves.Moves.{Moves}
 use Rattle.kept_analysis.specs.Following.{IsFollowed, IsRenamedIn, renamed_by}
 use Rattle.kept_analysis.specs.Edits.{edited_front}

@@ -4,12 +4,12 @@ use Rattle.std.specs.Prelude.{◌==◌, slice_get}
 use Rattle.std.specs.Option.{option_map, option_map_or}
 use Rattle.std.proofs.lemmas.List.{drop_more, drop_all}
 use Rattle.std.proofs.lemmas.Option.{slice_get_within, get_or_from_slice_get}
-use Rattle.kept_meaning_laws.specs.Below.part_lexer.Logical.{Character, logical_of}
-use Rattle.kept_meaning_laws.specs.Below.part_lexer.Lines.{byte_offset_of}
-use Rattle.kept_meaning_laws.specs.Below.part_lexer.Respelling.{Put, edited}
+use Rattle.analysis.specs.Below.lexer.Logical.{Character, logical_of}
+use Rattle.analysis.specs.Below.lexer.Lines.{byte_offset_of}
+use Rattle.analysis.specs.Below.lexer.Respelling.{Put, edited}
 use Rattle.part_respell.specs.Walk.{edited_at}
 use Rattle.part_respell.proofs.WalkLemmas.{edited-at}
-use Rattle.kept_meaning_laws.specs.Below.part_lexer.Places.{pos}
+use Rattle.analysis.specs.Below.lexer.Places.{pos}
 use Rattle.kept_analysis.specs.declared.moves.Moves.{Moves}
 use Rattle.kept_analysis.specs.Edits.{stands_at, IsMade}
 use Rattle.kept_analysis.specs.Moves.{editing_by, put_by}

@@ -4,12 +4,12 @@ use Rattle.std.specs.Prelude.{OnOk, slice_get, nat_lt}
 use Rattle.std.specs.Option.{option_and_then}
 use Rattle.std.proofs.lemmas.Bool.{cases_Bool}
 use Rattle.std.proofs.lemmas.Option.{none-some, same_Some}
-use Rattle.kept_meaning_laws.specs.Below.part_lexer.FileText.{TextValue, LexFault, file_text}
-use Rattle.kept_meaning_laws.specs.Below.source_files.Edited.{TooManyBytes, edited, edited_as, edited_of, with_bytes}
-use Rattle.kept_meaning_laws.specs.Below.source_files.Files.{Table, Found, Lines, Absent, Unopened, Opened, Made, entry, bytes_opened}
-use Rattle.kept_meaning_laws.specs.Below.source_files.KeptFiles.{KeptValue, kept, kept_in, kept_at}
-use Rattle.kept_meaning_laws.specs.Below.source_files.Limits.{the_limits}
-use Rattle.kept_meaning_laws.specs.Below.renamed.Renamed.{Editing}
+use Rattle.analysis.specs.Below.lexer.FileText.{TextValue, LexFault, file_text}
+use Rattle.include_tree.specs.Below.source_files.Edited.{TooManyBytes, edited, edited_as, edited_of, with_bytes}
+use Rattle.include_tree.specs.Below.source_files.Files.{Table, Found, Lines, Absent, Unopened, Opened, Made, entry, bytes_opened}
+use Rattle.include_tree.specs.Below.source_files.KeptFiles.{KeptValue, kept, kept_in, kept_at}
+use Rattle.include_tree.specs.Below.source_files.Limits.{the_limits}
+use Rattle.renamed.specs.Renamed.{Editing}
 use Rattle.kept_analysis.specs.Edits.{kept_edited, edited_one, edited_front, IsNew}
 
 -- ---- what an edit that is made gives

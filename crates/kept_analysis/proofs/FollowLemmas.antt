@@ -8,20 +8,20 @@ use Rattle.cs_base.specs.declared.positions.Part.{Part}
 use Rattle.cs_base.specs.declared.positions.Pos.{Pos}
 use Rattle.eclass_map.specs.Positions.{along, holds}
 use Rattle.eclass_map.proofs.TokenFacts.{holding, holds_from, along_of}
-use Rattle.kept_meaning_laws.specs.Below.part_lexer.Places.{pos, origins_from}
-use Rattle.kept_meaning_laws.specs.Below.part_lexer.Respelling.{Put as Putting, respell, edited}
+use Rattle.analysis.specs.Below.lexer.Places.{pos, origins_from}
+use Rattle.analysis.specs.Below.lexer.Respelling.{Put as Putting, respell, edited}
 use Rattle.part_respell.specs.Respelled.{member_over, put_in as what_in, put_at as what_at, put_for, put_of as putting, respelled}
-use Rattle.kept_meaning_laws.specs.Below.source_files.Files.{Table, Entry, Found, Lines, Absent, Unopened, Opened, Made, entry}
-use Rattle.kept_meaning_laws.specs.Below.source_files.KeptFiles.{KeptValue, kept_in, kept_at}
-use Rattle.kept_meaning_laws.specs.Below.renamed.Renamed.{Renaming, edited_found, edited_from, spell_from, trace_from, origins_for, move_to, moved_to, moved_in, renaming_of, renamed_analysis, renamed_unit_analysis}
-use Rattle.ws_core.specs.Analysed.{Analysed}
-use Rattle.ws_core.specs.Analysis.{analysis_and}
-use Rattle.ws_core.specs.Parts.{IsCharacter, IsPart}
-use Rattle.kept_meaning_laws.specs.Below.no_offence_laws.Allowed.{IsAllowed}
-use Rattle.kept_meaning_laws.proofs.Below.no_offence_laws.ListLemmas.{In, found}
-use Rattle.kept_meaning_laws.proofs.Below.no_offence_laws.NoneLemmas.{no_line, none_stand}
-use Rattle.kept_meaning_laws.proofs.KeptFileLemmas.{made_stays, respelled_same}
-use Rattle.kept_meaning_laws.proofs.OneMoveLemmas.{InText, in_text}
+use Rattle.include_tree.specs.Below.source_files.Files.{Table, Entry, Found, Lines, Absent, Unopened, Opened, Made, entry}
+use Rattle.include_tree.specs.Below.source_files.KeptFiles.{KeptValue, kept_in, kept_at}
+use Rattle.renamed.specs.Renamed.{Renaming, edited_found, edited_from, spell_from, trace_from, origins_for, move_to, moved_to, moved_in, renaming_of, renamed_analysis, renamed_unit_analysis}
+use Rattle.analysis.specs.Analysed.{Analysed}
+use Rattle.analysis.specs.Analysis.{analysis_and}
+use Rattle.analysis.specs.Parts.{IsCharacter, IsPart}
+use Rattle.rename_meaning.specs.Allowed.{IsAllowed}
+use Rattle.rename_meaning.proofs.ListLemmas.{In, found}
+use Rattle.rename_meaning.proofs.NoneLemmas.{no_line, none_stand}
+use Rattle.rename_meaning.proofs.KeptFileLemmas.{made_stays, respelled_same}
+use Rattle.rename_meaning.proofs.OneMoveLemmas.{InText, in_text}
 use Rattle.kept_analysis.specs.declared.moves.FileMove.{FileMove}
 use Rattle.kept_analysis.specs.declared.moves.Moves.{Moves}
 use Rattle.kept_analysis.specs.declared.puts.Put.{Put}

@@ -9,10 +9,10 @@ use Rattle.std.specs.declared.cmp.Ordering.{Ordering}
 use Rattle.std.specs.declared.cmp.Ordering.TheVariants.{Less}
 use Rattle.std.proofs.lemmas.Option.{none-some, same_Some}
 use Rattle.cs_base.specs.declared.positions.Part.{Part}
-use Rattle.kept_meaning_laws.specs.Below.rename_rules.First.{IsAmong}
-use Rattle.ws_core.specs.Analysis.{AnalysisValue}
-use Rattle.ws_core.specs.Parts.{AreMembers, part_cmp}
-use Rattle.ws_core.proofs.ListingLemmas.{part_cmp-total}
+use Rattle.rename_rules.specs.First.{IsAmong}
+use Rattle.analysis.specs.Analysis.{AnalysisValue}
+use Rattle.analysis.specs.Parts.{AreMembers, part_cmp}
+use Rattle.analysis.proofs.ListingLemmas.{part_cmp-total}
 
 -- ---- lists in strict order
 

@@ -7,12 +7,12 @@ use Rattle.std.proofs.lemmas.List.{get_or_append_left, length-map}
 use Rattle.std.proofs.Math.Seq.{get_or-append_seam}
 use Rattle.cs_base.specs.declared.positions.Part.{Part}
 use Rattle.cs_base.specs.declared.positions.Pos.{Pos}
-use Rattle.kept_meaning_laws.specs.Below.part_lexer.Lines.{byte_offset_of}
-use Rattle.kept_meaning_laws.specs.Below.part_lexer.Logical.{Character as ALogical, gone_length, logical_from, logical_of}
-use Rattle.kept_meaning_laws.specs.Below.part_lexer.Places.{pos}
-use Rattle.kept_meaning_laws.specs.Below.part_lexer.Respelling.{Put as Putting, respell}
+use Rattle.analysis.specs.Below.lexer.Lines.{byte_offset_of}
+use Rattle.analysis.specs.Below.lexer.Logical.{Character as ALogical, gone_length, logical_from, logical_of}
+use Rattle.analysis.specs.Below.lexer.Places.{pos}
+use Rattle.analysis.specs.Below.lexer.Respelling.{Put as Putting, respell}
 use Rattle.part_respell.specs.Respelled.{member_over, put_in as what_in, put_at as what_at, put_of as putting}
-use Rattle.kept_meaning_laws.specs.Below.renamed.Renamed.{moved_to}
+use Rattle.renamed.specs.Renamed.{moved_to}
 use Rattle.kept_analysis.specs.declared.puts.Put.{Put}
 use Rattle.kept_analysis.specs.declared.puts.Put.TheVariants.{Character, Name, Nothing}
 use Rattle.kept_analysis.specs.Moves.{text_for, size_of, put_of, put_at, ArePuts, text_in, ArePlaces}

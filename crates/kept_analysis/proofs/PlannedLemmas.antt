@@ -5,14 +5,14 @@ use Rattle.cs_base.specs.declared.positions.Part.{Part}
 use Rattle.cs_base.specs.declared.positions.Pos.{Pos}
 use Rattle.cs_base.specs.Edit.{Edit}
 use Rattle.eclass_map.specs.Positions.{holds}
-use Rattle.kept_meaning_laws.specs.Below.source_files.Files.{Source}
-use Rattle.ws_core.specs.Analysis.{AnalysisValue, analysis_of}
-use Rattle.ws_core.specs.Naming.{Names}
-use Rattle.ws_core.specs.Parts.{AreMembers}
-use Rattle.ws_core.proofs.PartLemmas.{part_once}
-use Rattle.kept_meaning_laws.specs.Below.rename_rules.Renaming.{IsRenaming}
-use Rattle.kept_meaning_laws.proofs.Below.no_offence_laws.NoneLemmas.{cleared}
-use Rattle.kept_meaning_laws.proofs.PlanLemmas.{is_plan}
+use Rattle.include_tree.specs.Below.source_files.Files.{Source}
+use Rattle.analysis.specs.Analysis.{AnalysisValue, analysis_of}
+use Rattle.analysis.specs.Naming.{Names}
+use Rattle.analysis.specs.Parts.{AreMembers}
+use Rattle.analysis.proofs.PartLemmas.{part_once}
+use Rattle.rename_rules.specs.Renaming.{IsRenaming}
+use Rattle.rename_meaning.proofs.NoneLemmas.{cleared}
+use Rattle.rename_meaning.proofs.PlanLemmas.{is_plan}
 use Rattle.kept_analysis.specs.Following.{IsFollowed}
 
 -- a place names one part

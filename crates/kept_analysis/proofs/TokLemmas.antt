@@ -9,7 +9,7 @@ use Rattle.cs_base.specs.declared.positions.Pos.{Pos}
 use Rattle.cs_base.specs.Padding.{padded}
 use Rattle.cs_base.specs.Token.{Token, IsToken, IsTraced, origin_at}
 use Rattle.cs_base.proofs.OriginLemmas.{padded_whole}
-use Rattle.kept_meaning_laws.specs.Below.part_lexer.Places.{pos, origins_from}
+use Rattle.analysis.specs.Below.lexer.Places.{pos, origins_from}
 use Rattle.kept_analysis.specs.declared.moves.Moves.{Moves}
 use Rattle.kept_analysis.specs.Moves.{put_by, move_by, spell_of, trace_of, spell_by, trace_by}
 

@@ -1,13 +1,13 @@
 -- A table of files whose kept files are edited one by one.
 use Rattle.std.specs.Prelude.{ℕ, zero, suc, ◌≡◌, ◌≤◌, ◌==◌, Bool, false, Option, Some, None, List, [], ◌∷◌, ◌++◌, drop}
 use Rattle.std.specs.Option.{option_map_or}
-use Rattle.kept_meaning_laws.specs.Below.part_lexer.Lines.{byte_offset_of}
-use Rattle.kept_meaning_laws.specs.Below.part_lexer.Logical.{logical_of}
-use Rattle.kept_meaning_laws.specs.Below.part_lexer.Respelling.{Put, edited}
+use Rattle.analysis.specs.Below.lexer.Lines.{byte_offset_of}
+use Rattle.analysis.specs.Below.lexer.Logical.{logical_of}
+use Rattle.analysis.specs.Below.lexer.Respelling.{Put, edited}
 use Rattle.part_respell.specs.Walk.{edited_at}
-use Rattle.kept_meaning_laws.specs.Below.source_files.Files.{Table, Found, Lines, Absent, Unopened, Opened, Made, entry}
-use Rattle.kept_meaning_laws.specs.Below.source_files.KeptFiles.{KeptValue}
-use Rattle.kept_meaning_laws.specs.Below.renamed.Renamed.{Editing}
+use Rattle.include_tree.specs.Below.source_files.Files.{Table, Found, Lines, Absent, Unopened, Opened, Made, entry}
+use Rattle.include_tree.specs.Below.source_files.KeptFiles.{KeptValue}
+use Rattle.renamed.specs.Renamed.{Editing}
 
 -- a kept file with its new bytes; what is not kept stays
 abbrev pub kept_edited : (List ℕ → List ℕ) → Found → Found

@@ -1,14 +1,14 @@
 -- An analysis that goes on with the files behind a renaming (this project's, over ISO/IEC 9899:1999, 5.1.1.2 phases 1 to 7).
 use Rattle.std.specs.Prelude.{ℕ, ◌≡◌, true, List, Some, None, Ok, length, map}
 use Rattle.cs_base.specs.declared.positions.Part.{Part}
-use Rattle.kept_meaning_laws.specs.Below.part_lexer.Spelling.{is_identifier_text}
-use Rattle.kept_meaning_laws.specs.Below.source_files.Files.{Source}
-use Rattle.ws_core.specs.Analysis.{AnalysisValue, analysis_and, analysis_of}
-use Rattle.ws_core.specs.Naming.{Names}
-use Rattle.ws_core.specs.Parts.{AreMembers}
+use Rattle.analysis.specs.Below.lexer.Spelling.{is_identifier_text}
+use Rattle.include_tree.specs.Below.source_files.Files.{Source}
+use Rattle.analysis.specs.Analysis.{AnalysisValue, analysis_and, analysis_of}
+use Rattle.analysis.specs.Naming.{Names}
+use Rattle.analysis.specs.Parts.{AreMembers}
 use Rattle.part_respell.specs.Respelled.{respelled}
-use Rattle.kept_meaning_laws.specs.Below.rename_rules.First.{IsFirst, offences_of}
-use Rattle.kept_meaning_laws.specs.Below.renamed.Renamed.{renamed_analysis, renamed_unit_analysis, renaming_of}
+use Rattle.rename_rules.specs.First.{IsFirst, offences_of}
+use Rattle.renamed.specs.Renamed.{renamed_analysis, renamed_unit_analysis, renaming_of}
 use Rattle.kept_analysis.specs.declared.moves.Moves.{Moves}
 use Rattle.kept_analysis.specs.Edits.{edited_front}
 use Rattle.kept_analysis.specs.Moves.{editing_by, renaming_by}

@@ -4,13 +4,13 @@ use Rattle.std.specs.Prelude.{ℕ, ◌+◌, ◌≡◌, ◌<◌, ◌≤◌, ◌�
 use Rattle.std.specs.Option.{option_map_or}
 use Rattle.cs_base.specs.declared.positions.Part.{Part}
 use Rattle.cs_base.specs.declared.positions.Pos.{Pos}
-use Rattle.kept_meaning_laws.specs.Below.part_lexer.Logical.{logical_of, spelling}
-use Rattle.kept_meaning_laws.specs.Below.part_lexer.Places.{pos, origins_from}
-use Rattle.kept_meaning_laws.specs.Below.part_lexer.Respelling.{edited}
+use Rattle.analysis.specs.Below.lexer.Logical.{logical_of, spelling}
+use Rattle.analysis.specs.Below.lexer.Places.{pos, origins_from}
+use Rattle.analysis.specs.Below.lexer.Respelling.{edited}
 use Rattle.part_respell.specs.Respelled.{member_over}
-use Rattle.kept_meaning_laws.specs.Below.source_files.Files.{Table}
-use Rattle.kept_meaning_laws.specs.Below.source_files.KeptFiles.{KeptValue, kept_at}
-use Rattle.kept_meaning_laws.specs.Below.renamed.Renamed.{Editing, Renaming, moved_to}
+use Rattle.include_tree.specs.Below.source_files.Files.{Table}
+use Rattle.include_tree.specs.Below.source_files.KeptFiles.{KeptValue, kept_at}
+use Rattle.renamed.specs.Renamed.{Editing, Renaming, moved_to}
 use Rattle.kept_analysis.specs.declared.puts.Put.{Put}
 use Rattle.kept_analysis.specs.declared.puts.Put.TheVariants.{Character, Name, Nothing}
 use Rattle.kept_analysis.specs.declared.moves.FileMove.{FileMove}

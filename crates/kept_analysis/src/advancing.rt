@@ -2,16 +2,16 @@
 ghost use Rattle.std.specs.Prelude.{ℕ, ◌≡◌, ◌<◌, IfOk, Some, length};
 ghost use Rattle.eclass_map.specs.ClassTable.{HasParts, Table, class_in, members_of};
 ghost use Rattle.eclass_map.specs.Resized.{Resizes};
-ghost use Rattle.ws_core.specs.Classes.{AreItsClasses};
+ghost use Rattle.analysis.specs.Classes.{AreItsClasses};
 ghost use Rattle.kept_analysis.specs.Following.{IsFollowed, IsRenamedIn, renamed_by};
 
 use crate::moves::{Moves, class_moves};
 use crate::renamed_files::edited_files;
 use crate::renamed_texts::renamed_units;
+use analysis::{Analysis, AnalysisParts};
 use cs_base::{Memory, Part};
 use eclass_map::Classes;
 use std::alloc::Global;
-use ws_core::{Analysis, AnalysisParts};
 
 /// The analysis of the files behind a renaming of the class of a part: of those that have this analysis, with the new name for
 /// each member. Trees and bindings stay, and class numbers too: each part moves, in its file, by the growth of the members

@@ -4,7 +4,7 @@
 //! gives the analysis of the files in which the members are spelled so. Nothing is preprocessed, read or bound again: tokens are
 //! respelled by the origins of their characters, positions move, trees and bindings stay, edited files are lexed anew, and the
 //! table of classes goes on with its numbers. That this is the analysis which the edited files have is a law of
-//! `kept_meaning_laws`. Read `specs/Following.antt`, then `advancing.rt`.
+//! `rename_meaning`. Read `specs/Following.antt`, then `advancing.rt`.
 #![tactic(auto)]
 
 mod advancing;

@@ -1,14 +1,13 @@
 // Where the characters of all files stand behind a renaming, and what stands for them.
 ghost use Rattle.std.specs.Prelude.{◌≡◌, ◌<◌, ◌+◌, ◌^◌, List, IfOk, Some, length, nat_lt, option_copied};
 ghost use Rattle.cs_base.specs.declared.positions.Part.{Part as APart};
-ghost use Rattle.kept_meaning_laws.specs.Below.source_files.KeptFiles.{kept_at};
+ghost use Rattle.include_tree.specs.Below.source_files.KeptFiles.{kept_at};
 ghost use Rattle.kept_analysis.specs.Moves.{AreMoves, AreOfFile, ArePuts, IsOf, file_at, move_by, place_in, put_in, size_of, text_in};
 
 use crate::puts::{Put, puts};
+use analysis::{Analysis, KeptFile};
 use cs_base::{Memory, Part, Pos};
-use include_tree::KeptFile;
 use std::alloc::Global;
-use ws_core::Analysis;
 
 /// Of each character of a file what stands for it, and where it stands then; and where the text ends.
 #[derive(Drop)]

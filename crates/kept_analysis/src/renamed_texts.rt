@@ -1,16 +1,15 @@
 // The texts of units as they stand behind a renaming.
 ghost use Rattle.std.specs.Prelude.{◌≡◌, IfOk, map, option_copied};
 ghost use Rattle.std.specs.Option.{option_map};
-ghost use Rattle.kept_meaning_laws.specs.Below.unit_steps.Texts.{text_of};
-ghost use Rattle.kept_meaning_laws.specs.Below.renamed.Renamed.{renamed_event, renamed_text, renamed_token, renamed_unit_analysis};
+ghost use Rattle.include_tree.specs.Below.unit_steps.Texts.{text_of};
+ghost use Rattle.renamed.specs.Renamed.{renamed_event, renamed_text, renamed_token, renamed_unit_analysis};
 ghost use Rattle.kept_analysis.specs.Moves.{move_by, renaming_by};
 
 use crate::moves::Moves;
 use crate::renamed_toks::{renamed_links, renamed_tok, renamed_toks};
+use analysis::{Event, UnitParts, UnitText};
 use cs_base::{Link, Memory, Pos, Tok};
-use include_tree::{Event, UnitText};
 use std::alloc::Global;
-use ws_core::UnitParts;
 
 /// Units, each with its text as it stands then; their trees and bindings stay.
 pub(crate) fn renamed_units(

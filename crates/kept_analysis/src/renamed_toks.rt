@@ -1,8 +1,8 @@
 // Tokens as they stand behind a renaming.
 ghost use Rattle.std.specs.Prelude.{◌≡◌, ◌++◌, ◌∷◌, [], ◌≤◌, IfOk, OnOk, Some, None, length, map};
 ghost use Rattle.cs_base.specs.Token.{IsToken, IsTraced, token};
-ghost use Rattle.kept_meaning_laws.specs.Below.part_lexer.Places.{origins_from};
-ghost use Rattle.kept_meaning_laws.specs.Below.renamed.Renamed.{renamed_token, renamed_link};
+ghost use Rattle.analysis.specs.Below.lexer.Places.{origins_from};
+ghost use Rattle.renamed.specs.Renamed.{renamed_token, renamed_link};
 ghost use Rattle.kept_analysis.specs.Moves.{put_by, renaming_by, spell_by, spell_of, trace_by, trace_of};
 
 use crate::moves::Moves;

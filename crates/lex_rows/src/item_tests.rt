@@ -1,7 +1,7 @@
 // Lines and files worked by hand from 6.10, 6.10.3 and 6.4.6.
 use cs_base::{Cause, Pos};
+use lexer::{LexRefusal, lex};
 use line_shape::{Item, ItemKind, shape};
-use part_lexer::{LexRefusal, lex};
 use std::alloc::Global;
 use std::test::Fail;
 

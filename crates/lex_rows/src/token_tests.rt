@@ -1,6 +1,6 @@
 // Token lists and places worked by hand from 5.1.1.2, 6.4, 6.4.2 to 6.4.9 and 6.10.
 use cs_base::{Kind, Pos};
-use part_lexer::*;
+use lexer::*;
 use std::test::Fail;
 
 type Row = (Kind, &'static [u8], bool, u32, u32);

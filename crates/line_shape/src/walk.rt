@@ -7,7 +7,7 @@ use crate::directive::line_kind;
 use crate::items::Item;
 use crate::signs::is_hash;
 use cs_base::{Memory, Tok};
-use part_lexer::FileText;
+use lexer::FileText;
 use std::alloc::Global;
 
 /// The items of a source file.

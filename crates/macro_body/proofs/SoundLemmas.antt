@@ -6,12 +6,11 @@ use Rattle.std.proofs.lemmas.Bool.{and_parts, and_from, or_right}
 use Rattle.std.proofs.lemmas.List.Folds.{list_all-append, list_any-append}
 use Rattle.cs_base.specs.declared.tokens.Kind.{Kind}
 use Rattle.cs_base.specs.Token.{Token}
-use Rattle.part_lexer.specs.Characters.{double_quote}
-use Rattle.part_lexer.specs.OneToken.{one_token_of}
-use Rattle.part_lexer.specs.Spelling.{is_plain_string_text}
+use Rattle.lexer.specs.Characters.{double_quote}
+use Rattle.lexer.specs.OneToken.{one_token_of}
+use Rattle.lexer.specs.Spelling.{is_plain_string_text}
 use Rattle.paste_origin.specs.Pasting.{PasteFault, joined, pasted_as, glue_of}
-use Rattle.paste_origin.specs.Strings.{NotAString as NotAString_of}
-use Rattle.paste_origin.specs.Strings.{StringFault, string_text, string_origins, string_token, stringize_of}
+use Rattle.paste_origin.specs.Strings.{NotAString as NotAString_of, StringFault, string_text, string_origins, string_token, stringize_of}
 use Rattle.macro_body.specs.Hides.{Hidden, hidden, in_both, toks_of}
 use Rattle.macro_body.specs.Bodies.{Part, Plain, Param, Quote, Paste}
 use Rattle.macro_body.specs.Notes.{Fault, NotOneToken, NotAString, Stringized, Pasted, onward}

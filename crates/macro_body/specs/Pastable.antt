@@ -3,7 +3,7 @@ use Rattle.std.specs.Prelude.{Bool, false, not, ◌&&◌, ◌||◌, ◌++◌, Op
 use Rattle.std.specs.List.{list_all}
 use Rattle.cs_base.specs.declared.tokens.Kind.{Kind}
 use Rattle.cs_base.specs.Token.{Token, has_origins}
-use Rattle.part_lexer.specs.OneToken.{one_token_of}
+use Rattle.lexer.specs.OneToken.{one_token_of}
 
 -- each character of a token has an origin
 abbrev pub is_wholly_traced : Token → Bool

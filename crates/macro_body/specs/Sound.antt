@@ -3,7 +3,7 @@ use Rattle.std.specs.Prelude.{◌≡◌, ℕ, ◌^◌, ◌+◌, ◌==◌, ◌&&�
 use Rattle.std.specs.List.{list_all, list_any}
 use Rattle.cs_base.specs.Token.{Token}
 use Rattle.cs_base.specs.Limits.{most_bytes}
-use Rattle.part_lexer.specs.Characters.{double_quote}
+use Rattle.lexer.specs.Characters.{double_quote}
 use Rattle.macro_body.specs.declared.definitions.Definition.{Definition}
 use Rattle.macro_body.specs.Hides.{Hidden}
 use Rattle.macro_body.specs.Macro.{Table}

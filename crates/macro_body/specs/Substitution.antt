@@ -7,7 +7,7 @@ use Rattle.cs_base.specs.declared.tokens.Kind.TheVariants.{Number, Str}
 use Rattle.cs_base.specs.declared.positions.Pos.{Pos}
 use Rattle.cs_base.specs.Token.{Token, token}
 use Rattle.paste_origin.specs.Pasting.{PasteFault, glue_of}
-use Rattle.part_lexer.specs.Characters.{double_quote}
+use Rattle.lexer.specs.Characters.{double_quote}
 use Rattle.paste_origin.specs.Strings.{StringFault, stringize_of, escaped}
 use Rattle.macro_body.specs.Hides.{Hidden, hidden, in_both, toks_of}
 use Rattle.macro_body.specs.Bodies.{Part, Plain, Param, Quote, Paste}

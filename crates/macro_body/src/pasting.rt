@@ -13,7 +13,7 @@ use crate::hidden::{HiddenTok, only, put_in};
 use crate::notes::Notes;
 use crate::operands::Operands;
 use cs_base::{Kind, Memory, Tok};
-use part_lexer::one_token;
+use lexer::one_token;
 use paste_origin::{GlueRefusal, glue};
 use std::alloc::Global;
 

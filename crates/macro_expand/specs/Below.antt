@@ -1,5 +1,3 @@
 -- Words of the crates below, passed on: who needs them in definitions and proofs alone lists this crate in their place.
-pub use Rattle.cs_base.specs as cs_base
-pub use Rattle.macro_body.specs.Below.line_shape as line_shape
 pub use Rattle.macro_body.specs.Below.paste_origin as paste_origin
 pub use Rattle.macro_body.specs as macro_body

@@ -2,27 +2,27 @@
 use Rattle.std.proofs.Common.{◌≡◌, ℕ, Bool, true, false, List, [], map, Result, Ok, Err, refl, sym, ap, subst}
 use Rattle.std.specs.Prelude.{◌&&◌, ◌==◌, not, codes}
 use Rattle.std.specs.Str.{bytes_eq}
-use Rattle.kept_meaning_laws.specs.Below.cs_base.declared.causes.Cause.TheVariants.{Occurs, Clash, ShadowedTypedef}
-use Rattle.kept_meaning_laws.specs.Below.cs_base.declared.tokens.Kind.TheVariants.{Ident}
-use Rattle.kept_meaning_laws.specs.Below.cs_base.Token.{Token}
-use Rattle.kept_meaning_laws.specs.Below.part_lexer.Places.{pos}
-use Rattle.kept_meaning_laws.specs.Below.part_lexer.Tokens.{file_token}
-use Rattle.kept_meaning_laws.specs.Below.part_respell.Respelled.{spelled, spelled_from}
-use Rattle.kept_meaning_laws.specs.Below.c99_tree.Tree.{Node, size_of}
-use Rattle.kept_meaning_laws.specs.Below.c99_read.Reading.{Stop, read_within, whole, take_one, at_end, enter}
-use Rattle.kept_meaning_laws.specs.Below.c99_read.State.{class_at, acted, opened, closed}
-use Rattle.kept_meaning_laws.specs.Below.c99_grammar.TokenClasses.{spelled_class, base_class}
-use Rattle.kept_meaning_laws.specs.Below.scope_bind.Named.{Fault}
-use Rattle.kept_meaning_laws.specs.Below.scope_bind.declared.bound.Name.{Name}
-use Rattle.kept_meaning_laws.specs.Below.scope_bind.Bound.{Bound, binding_of}
-use Rattle.kept_meaning_laws.specs.Below.scope_bind.Walk.{walked}
-use Rattle.kept_meaning_laws.specs.Below.rename_rules.Tokens.{holders}
-use Rattle.kept_meaning_laws.proofs.Below.no_offence_laws.ListLemmas.{In, any_at}
+use Rattle.cs_base.specs.declared.causes.Cause.TheVariants.{Occurs, Clash, ShadowedTypedef}
+use Rattle.cs_base.specs.declared.tokens.Kind.TheVariants.{Ident}
+use Rattle.cs_base.specs.Token.{Token}
+use Rattle.analysis.specs.Below.lexer.Places.{pos}
+use Rattle.analysis.specs.Below.lexer.Tokens.{file_token}
+use Rattle.part_respell.specs.Respelled.{spelled, spelled_from}
+use Rattle.analysis.specs.Below.c99_tree.Tree.{Node, size_of}
+use Rattle.analysis.specs.Below.c99_read.Reading.{Stop, read_within, whole, take_one, at_end, enter}
+use Rattle.analysis.specs.Below.c99_read.State.{class_at, acted, opened, closed}
+use Rattle.analysis.specs.Below.c99_grammar.TokenClasses.{spelled_class, base_class}
+use Rattle.analysis.specs.Below.scope_bind.Named.{Fault}
+use Rattle.analysis.specs.Below.scope_bind.declared.bound.Name.{Name}
+use Rattle.analysis.specs.Below.scope_bind.Bound.{Bound, binding_of}
+use Rattle.analysis.specs.Below.scope_bind.Walk.{walked}
+use Rattle.rename_rules.specs.Tokens.{holders}
+use Rattle.rename_meaning.proofs.ListLemmas.{In, any_at}
 use Rattle.meaning_rows.specs.Rows.{member, BreaksMeaning, IsOffence, two_objects, pasted_name, pasted_names, hidden_typedef}
 use Rattle.meaning_rows.proofs.OffenceLemmas as offences
 use Rattle.meaning_rows.proofs.RowLemmas.{breaks, its_bound}
 use Rattle.meaning_rows.proofs.RowTokens.{tree_of, bound_of, two_objects_read, pasted_names_read, hidden_typedef_read, two_objects_lexed, hidden_typedef_lexed}
-use Rattle.kept_meaning_laws.specs.Below.renamed.Renamed.{spell_from}
+use Rattle.renamed.specs.Renamed.{spell_from}
 
 -- ---- what tells bindings and trees apart
 

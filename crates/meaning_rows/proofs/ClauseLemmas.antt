@@ -1,14 +1,14 @@
 -- Where meaning is kept, each unit is read and bound as before.
 use Rattle.std.proofs.Common.{◌≡◌, List, [], ◌∷◌, map, Result, Ok, Err, refl, subst}
-use Rattle.kept_meaning_laws.specs.Below.cs_base.Answer.{result_then}
-use Rattle.kept_meaning_laws.specs.Below.macro_expand.Renaming.{Renaming}
-use Rattle.kept_meaning_laws.specs.Below.source_files.Files.{nothing_carried}
-use Rattle.kept_meaning_laws.specs.Below.ws_core.Analysis.{UnitAnalysis, UnitsValue, AnalysisValue, analysis_and, analysed_from}
-use Rattle.kept_meaning_laws.specs.Below.edited_unit_laws.Lines.{Each}
-use Rattle.kept_meaning_laws.specs.Below.edited_unit_laws.Keeping.{Change}
-use Rattle.kept_meaning_laws.specs.Below.edited_unit_laws.Analyses.{IsRead, renamed_unit_analysis, renamed_analysis, ReadsAlike}
-use Rattle.kept_meaning_laws.proofs.Below.edited_unit_laws.AnalysesLemmas.{analyses_have_texts}
-use Rattle.kept_meaning_laws.specs.KeptUnits.{change}
+use Rattle.cs_base.specs.Answer.{result_then}
+use Rattle.analysis.specs.Below.macro_expand.Renaming.{Renaming}
+use Rattle.analysis.specs.Below.source_files.Files.{nothing_carried}
+use Rattle.analysis.specs.Analysis.{UnitAnalysis, UnitsValue, AnalysisValue, analysis_and, analysed_from}
+use Rattle.edited_unit_laws.specs.Lines.{Each}
+use Rattle.edited_unit_laws.specs.Keeping.{Change}
+use Rattle.edited_unit_laws.specs.Analyses.{IsRead, renamed_unit_analysis, renamed_analysis, ReadsAlike}
+use Rattle.edited_unit_laws.proofs.AnalysesLemmas.{analyses_have_texts}
+use Rattle.rename_meaning.specs.KeptUnits.{change}
 use Rattle.meaning_rows.specs.Clause.{KeptMeaningReadsAlike}
 
 -- two answers of one call are the same

@@ -3,24 +3,24 @@ use Rattle.std.proofs.Common.{◌≡◌, ℕ, Bool, true, List, [], ◌++◌, Op
 use Rattle.std.specs.Prelude.{◌&&◌, if◌then◌else◌, slice_get}
 use Rattle.std.specs.List.{flat_map, list_any}
 use Rattle.std.specs.Option.{option_map_or, option_and_then}
-use Rattle.kept_meaning_laws.specs.Below.cs_base.declared.causes.Cause.{Cause}
-use Rattle.kept_meaning_laws.specs.Below.cs_base.declared.causes.Cause.TheVariants.{Occurs, Clash, TooLarge, ShadowedTypedef}
-use Rattle.kept_meaning_laws.specs.Below.cs_base.declared.positions.Part.{Part}
-use Rattle.kept_meaning_laws.specs.Below.cs_base.declared.positions.Pos.{Pos}
-use Rattle.kept_meaning_laws.specs.Below.cs_base.Token.{Token, has_origins}
-use Rattle.kept_meaning_laws.specs.Below.part_lexer.Tokens.{tokens_of}
-use Rattle.kept_meaning_laws.specs.Below.source_files.Files.{Entry}
-use Rattle.kept_meaning_laws.specs.Below.source_files.KeptFiles.{kept, kept_in, kept_at}
-use Rattle.kept_meaning_laws.specs.Below.scope_bind.Bound.{Bound}
-use Rattle.kept_meaning_laws.specs.Below.ws_core.Analysis.{UnitAnalysis, AnalysisValue}
-use Rattle.kept_meaning_laws.specs.Below.ws_core.FileTokens.{file_tokens}
-use Rattle.kept_meaning_laws.proofs.Below.ws_core.NamingLemmas.{in_left, in_right, in_filter, map_at}
-use Rattle.kept_meaning_laws.specs.Below.rename_rules.declared.offences.Offence.{Offence}
-use Rattle.kept_meaning_laws.specs.Below.rename_rules.First.{offence, standing, member_offences, spelling_offences, offences_of}
-use Rattle.kept_meaning_laws.specs.Below.rename_rules.Offences.{occurring_place, occurring_places, clashing_place, clashing_places, too_large_places, is_shadow, bare_place, bare_places, shadowed_places}
-use Rattle.kept_meaning_laws.specs.Below.rename_rules.Tokens.{all_file_tokens, pasted_tokens, holds_member, starts_in, holders, is_new_spelling, is_old_spelling, first_place, clashes}
-use Rattle.kept_meaning_laws.proofs.Below.no_offence_laws.ListLemmas.{In, in_flat}
-use Rattle.kept_meaning_laws.proofs.Below.no_offence_laws.MemberLemmas.{file_token, any_file_token}
+use Rattle.cs_base.specs.declared.causes.Cause.{Cause}
+use Rattle.cs_base.specs.declared.causes.Cause.TheVariants.{Occurs, Clash, TooLarge, ShadowedTypedef}
+use Rattle.cs_base.specs.declared.positions.Part.{Part}
+use Rattle.cs_base.specs.declared.positions.Pos.{Pos}
+use Rattle.cs_base.specs.Token.{Token, has_origins}
+use Rattle.analysis.specs.Below.lexer.Tokens.{tokens_of}
+use Rattle.analysis.specs.Below.source_files.Files.{Entry}
+use Rattle.analysis.specs.Below.source_files.KeptFiles.{kept, kept_in, kept_at}
+use Rattle.analysis.specs.Below.scope_bind.Bound.{Bound}
+use Rattle.analysis.specs.Analysis.{UnitAnalysis, AnalysisValue}
+use Rattle.analysis.specs.FileTokens.{file_tokens}
+use Rattle.analysis.proofs.NamingLemmas.{in_left, in_right, in_filter, map_at}
+use Rattle.rename_rules.specs.declared.offences.Offence.{Offence}
+use Rattle.rename_rules.specs.First.{offence, standing, member_offences, spelling_offences, offences_of}
+use Rattle.rename_rules.specs.Offences.{occurring_place, occurring_places, clashing_place, clashing_places, too_large_places, is_shadow, bare_place, bare_places, shadowed_places}
+use Rattle.rename_rules.specs.Tokens.{all_file_tokens, pasted_tokens, holds_member, starts_in, holders, is_new_spelling, is_old_spelling, first_place, clashes}
+use Rattle.rename_meaning.proofs.ListLemmas.{In, in_flat}
+use Rattle.rename_meaning.proofs.MemberLemmas.{file_token, any_file_token}
 use Rattle.meaning_rows.specs.Rows.{Row, IsOf}
 
 module _ (a : AnalysisValue) (members : List Part) (name : List ℕ) where

@@ -1,18 +1,18 @@
 -- An analysis of a row has the tree and the binding of its tokens; so it keeps or breaks meaning as these do.
 use Rattle.std.proofs.Common.{◌≡◌, ℕ, List, [], ◌∷◌, map, Ok, sym, subst}
-use Rattle.kept_meaning_laws.specs.Below.cs_base.declared.ws_units.Standard.{Standard}
-use Rattle.kept_meaning_laws.specs.Below.cs_base.declared.ws_units.Standard.TheVariants.{C99}
-use Rattle.kept_meaning_laws.specs.Below.cs_base.Token.{Token}
-use Rattle.kept_meaning_laws.specs.Below.macro_expand.Renaming.{Renaming, renamed}
-use Rattle.kept_meaning_laws.specs.Below.c99_tree.Tree.{Node}
-use Rattle.kept_meaning_laws.specs.Below.c99_read.Reading.{read_of}
-use Rattle.kept_meaning_laws.specs.Below.c99_grammar.Dialects.{dialect}
-use Rattle.kept_meaning_laws.specs.Below.c99_grammar.Standard.{c99, grammar}
-use Rattle.kept_meaning_laws.specs.Below.scope_bind.Bound.{Bound, binding_of}
-use Rattle.kept_meaning_laws.specs.Below.ws_core.Analysis.{UnitAnalysis, AnalysisValue}
-use Rattle.kept_meaning_laws.specs.Below.edited_unit_laws.Lines.{Each}
-use Rattle.kept_meaning_laws.specs.Below.edited_unit_laws.Analyses.{IsRead, ReadsAlike}
-use Rattle.kept_meaning_laws.specs.KeptUnits.{change}
+use Rattle.cs_base.specs.declared.ws_units.Standard.{Standard}
+use Rattle.cs_base.specs.declared.ws_units.Standard.TheVariants.{C99}
+use Rattle.cs_base.specs.Token.{Token}
+use Rattle.analysis.specs.Below.macro_expand.Renaming.{Renaming, renamed}
+use Rattle.analysis.specs.Below.c99_tree.Tree.{Node}
+use Rattle.analysis.specs.Below.c99_read.Reading.{read_of}
+use Rattle.analysis.specs.Below.c99_grammar.Dialects.{dialect}
+use Rattle.analysis.specs.Below.c99_grammar.Standard.{c99, grammar}
+use Rattle.analysis.specs.Below.scope_bind.Bound.{Bound, binding_of}
+use Rattle.analysis.specs.Analysis.{UnitAnalysis, AnalysisValue}
+use Rattle.edited_unit_laws.specs.Lines.{Each}
+use Rattle.edited_unit_laws.specs.Analyses.{IsRead, ReadsAlike}
+use Rattle.rename_meaning.specs.KeptUnits.{change}
 use Rattle.meaning_rows.specs.Rows.{Row, IsOf, member, KeepsReading, BreaksMeaning}
 use Rattle.meaning_rows.proofs.ClauseLemmas.{one_answer, kept_meaning_reads_alike}
 

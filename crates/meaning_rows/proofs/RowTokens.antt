@@ -1,18 +1,18 @@
 -- How the tokens of the rows are read and bound.
 use Rattle.std.proofs.Common.{◌≡◌, List, [], Result, Ok, Err, refl}
-use Rattle.kept_meaning_laws.specs.Below.cs_base.Token.{Token}
-use Rattle.kept_meaning_laws.specs.Below.c99_tree.declared.production.Production.TheVariants.{TranslationUnit}
-use Rattle.kept_meaning_laws.specs.Below.c99_tree.Tree.{none, Node, node_of}
-use Rattle.kept_meaning_laws.specs.Below.c99_read.Reading.{Stop, read_of, read_within, whole, take_one, at_end, enter}
-use Rattle.kept_meaning_laws.specs.Below.c99_grammar.Standard.{c99}
-use Rattle.kept_meaning_laws.specs.Below.c99_read.State.{class_at, acted, opened, closed}
-use Rattle.kept_meaning_laws.specs.Below.c99_grammar.TokenClasses.{spelled_class, base_class}
-use Rattle.kept_meaning_laws.specs.Below.part_lexer.Logical.{gone_length, logical_from, logical_of}
-use Rattle.kept_meaning_laws.specs.Below.part_lexer.Spelling.{kind_of, kind_in, is_punctuator_text}
-use Rattle.kept_meaning_laws.specs.Below.part_lexer.Tokens.{front_length, token_piece, piece_of, found_from, found_of, tokens_of}
-use Rattle.kept_meaning_laws.specs.Below.scope_bind.Named.{Fault}
-use Rattle.kept_meaning_laws.specs.Below.scope_bind.Bound.{Bound, binding_of}
-use Rattle.kept_meaning_laws.specs.Below.scope_bind.Walk.{walked}
+use Rattle.cs_base.specs.Token.{Token}
+use Rattle.analysis.specs.Below.c99_tree.declared.production.Production.TheVariants.{TranslationUnit}
+use Rattle.analysis.specs.Below.c99_tree.Tree.{none, Node, node_of}
+use Rattle.analysis.specs.Below.c99_read.Reading.{Stop, read_of, read_within, whole, take_one, at_end, enter}
+use Rattle.analysis.specs.Below.c99_grammar.Standard.{c99}
+use Rattle.analysis.specs.Below.c99_read.State.{class_at, acted, opened, closed}
+use Rattle.analysis.specs.Below.c99_grammar.TokenClasses.{spelled_class, base_class}
+use Rattle.analysis.specs.Below.lexer.Logical.{gone_length, logical_from, logical_of}
+use Rattle.analysis.specs.Below.lexer.Spelling.{kind_of, kind_in, is_punctuator_text}
+use Rattle.analysis.specs.Below.lexer.Tokens.{front_length, token_piece, piece_of, found_from, found_of, tokens_of}
+use Rattle.analysis.specs.Below.scope_bind.Named.{Fault}
+use Rattle.analysis.specs.Below.scope_bind.Bound.{Bound, binding_of}
+use Rattle.analysis.specs.Below.scope_bind.Walk.{walked}
 use Rattle.meaning_rows.specs.Rows.{two_objects, pasted_names, hidden_typedef}
 use Rattle.meaning_rows.proofs.RowLemmas.{ReadSo}
 

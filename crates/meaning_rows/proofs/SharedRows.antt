@@ -5,28 +5,28 @@ use Rattle.std.specs.List.{flat_map}
 use Rattle.std.specs.Option.{option_map, option_and_then}
 use Rattle.std.specs.Str.{bytes_eq}
 use Rattle.std.proofs.lemmas.Option.{slice_get-map}
-use Rattle.kept_meaning_laws.specs.Below.cs_base.declared.causes.Cause.TheVariants.{Clash}
-use Rattle.kept_meaning_laws.specs.Below.cs_base.declared.positions.Part.{Part}
-use Rattle.kept_meaning_laws.specs.Below.cs_base.declared.positions.Pos.{Pos}
-use Rattle.kept_meaning_laws.specs.Below.cs_base.Token.{Token}
-use Rattle.kept_meaning_laws.specs.Below.cs_base.Units.{UnitValue}
-use Rattle.kept_meaning_laws.specs.Below.part_lexer.Places.{pos}
-use Rattle.kept_meaning_laws.specs.Below.part_respell.Respelled.{respelled, spelled, spelled_from}
-use Rattle.kept_meaning_laws.specs.Below.c99_read.Reading.{read_within, whole, take_one, at_end, enter}
-use Rattle.kept_meaning_laws.specs.Below.c99_read.State.{class_at, acted, opened, closed}
-use Rattle.kept_meaning_laws.specs.Below.c99_grammar.TokenClasses.{spelled_class, base_class}
-use Rattle.kept_meaning_laws.specs.Below.scope_bind.Bound.{Bound, binding_of}
-use Rattle.kept_meaning_laws.specs.Below.scope_bind.Names.{entity_at}
-use Rattle.kept_meaning_laws.specs.Below.scope_bind.Walk.{walked}
-use Rattle.kept_meaning_laws.specs.Below.macro_expand.Renaming.{renamed}
-use Rattle.kept_meaning_laws.specs.Below.ws_core.Analysis.{UnitAnalysis, AnalysisValue}
-use Rattle.kept_meaning_laws.specs.Below.ws_core.FileTokens.{file_tokens}
-use Rattle.kept_meaning_laws.proofs.Below.ws_core.NamingLemmas.{in_left, in_right, in_filter}
-use Rattle.kept_meaning_laws.specs.Below.edited_unit_laws.Lines.{Each}
-use Rattle.kept_meaning_laws.specs.Below.edited_unit_laws.Analyses.{ReadsAlike}
-use Rattle.kept_meaning_laws.specs.Below.rename_rules.Tokens.{pasted_tokens, holds_member, holders}
-use Rattle.kept_meaning_laws.proofs.Below.no_offence_laws.ListLemmas.{In, in_flat, any_at}
-use Rattle.kept_meaning_laws.specs.Below.renamed.Renamed.{Renaming, spell_from, renaming_of, renamed_analysis, renamed_unit_analysis, ExternalName, external_name, external_if, external_at, is_one_entity, denote_one}
+use Rattle.cs_base.specs.declared.causes.Cause.TheVariants.{Clash}
+use Rattle.cs_base.specs.declared.positions.Part.{Part}
+use Rattle.cs_base.specs.declared.positions.Pos.{Pos}
+use Rattle.cs_base.specs.Token.{Token}
+use Rattle.cs_base.specs.Units.{UnitValue}
+use Rattle.analysis.specs.Below.lexer.Places.{pos}
+use Rattle.part_respell.specs.Respelled.{respelled, spelled, spelled_from}
+use Rattle.analysis.specs.Below.c99_read.Reading.{read_within, whole, take_one, at_end, enter}
+use Rattle.analysis.specs.Below.c99_read.State.{class_at, acted, opened, closed}
+use Rattle.analysis.specs.Below.c99_grammar.TokenClasses.{spelled_class, base_class}
+use Rattle.analysis.specs.Below.scope_bind.Bound.{Bound, binding_of}
+use Rattle.analysis.specs.Below.scope_bind.Names.{entity_at}
+use Rattle.analysis.specs.Below.scope_bind.Walk.{walked}
+use Rattle.analysis.specs.Below.macro_expand.Renaming.{renamed}
+use Rattle.analysis.specs.Analysis.{UnitAnalysis, AnalysisValue}
+use Rattle.analysis.specs.FileTokens.{file_tokens}
+use Rattle.analysis.proofs.NamingLemmas.{in_left, in_right, in_filter}
+use Rattle.edited_unit_laws.specs.Lines.{Each}
+use Rattle.edited_unit_laws.specs.Analyses.{ReadsAlike}
+use Rattle.rename_rules.specs.Tokens.{pasted_tokens, holds_member, holders}
+use Rattle.rename_meaning.proofs.ListLemmas.{In, in_flat, any_at}
+use Rattle.renamed.specs.Renamed.{Renaming, spell_from, renaming_of, renamed_analysis, renamed_unit_analysis, ExternalName, external_name, external_if, external_at, is_one_entity, denote_one}
 use Rattle.meaning_rows.specs.Rows.{member}
 use Rattle.meaning_rows.specs.Shared.{TwoUnits, Tokens, Has, AreOf, StandsAgainst, KeepsEachReading, BreaksSharing, KeepsDeclared, declared_name, two_names}
 use Rattle.meaning_rows.proofs.OffenceLemmas.{clashes_at, clash_stands}

@@ -1,27 +1,27 @@
 -- Worked rows: programs of one file, in which a class has one member of one character, and what its renaming does to them.
 use Rattle.std.specs.Prelude.{◌≡◌, ℕ, Bool, true, false, Some, List, [], ◌∷◌, Result, Ok, codes, slice_get}
-use Rattle.kept_meaning_laws.specs.Below.cs_base.declared.ws_units.Standard.TheVariants.{C99}
-use Rattle.kept_meaning_laws.specs.Below.cs_base.declared.causes.Cause.{Cause}
-use Rattle.kept_meaning_laws.specs.Below.cs_base.declared.positions.Part.{Part}
-use Rattle.kept_meaning_laws.specs.Below.cs_base.declared.tokens.Kind.{Kind}
-use Rattle.kept_meaning_laws.specs.Below.cs_base.declared.tokens.Kind.TheVariants.{Ident, Punct}
-use Rattle.kept_meaning_laws.specs.Below.cs_base.Token.{Token, token}
-use Rattle.kept_meaning_laws.specs.Below.cs_base.Answer.{result_then}
-use Rattle.kept_meaning_laws.specs.Below.cs_base.Units.{unit}
-use Rattle.kept_meaning_laws.specs.Below.ws_file.Workspace.{WorkspaceValue}
-use Rattle.kept_meaning_laws.specs.Below.part_lexer.FileText.{file_text}
-use Rattle.kept_meaning_laws.specs.Below.part_lexer.Places.{pos}
-use Rattle.kept_meaning_laws.specs.Below.part_lexer.Tokens.{file_token}
-use Rattle.kept_meaning_laws.specs.Below.source_files.Faults.{Fault}
-use Rattle.kept_meaning_laws.specs.Below.source_files.Files.{Source, source_of, Opened, entry, nothing_carried}
-use Rattle.kept_meaning_laws.specs.Below.source_files.Limits.{Limits, the_limits}
-use Rattle.kept_meaning_laws.specs.Below.include_tree.Preprocessed.{Preprocessed, preprocessed_by}
-use Rattle.kept_meaning_laws.specs.Below.include_tree.Unit.{unit_outcome}
-use Rattle.kept_meaning_laws.specs.Below.ws_core.Analysis.{UnitAnalysis, AnalysisValue}
-use Rattle.kept_meaning_laws.specs.Below.edited_unit_laws.Analyses.{IsRead}
-use Rattle.kept_meaning_laws.specs.Below.rename_rules.First.{IsAmong, offence, offences_of}
+use Rattle.cs_base.specs.declared.ws_units.Standard.TheVariants.{C99}
+use Rattle.cs_base.specs.declared.causes.Cause.{Cause}
+use Rattle.cs_base.specs.declared.positions.Part.{Part}
+use Rattle.cs_base.specs.declared.tokens.Kind.{Kind}
+use Rattle.cs_base.specs.declared.tokens.Kind.TheVariants.{Ident, Punct}
+use Rattle.cs_base.specs.Token.{Token, token}
+use Rattle.cs_base.specs.Answer.{result_then}
+use Rattle.cs_base.specs.Units.{unit}
+use Rattle.analysis.specs.Below.ws_file.Workspace.{WorkspaceValue}
+use Rattle.analysis.specs.Below.lexer.FileText.{file_text}
+use Rattle.analysis.specs.Below.lexer.Places.{pos}
+use Rattle.analysis.specs.Below.lexer.Tokens.{file_token}
+use Rattle.analysis.specs.Below.source_files.Faults.{Fault}
+use Rattle.analysis.specs.Below.source_files.Files.{Source, source_of, Opened, entry, nothing_carried}
+use Rattle.analysis.specs.Below.source_files.Limits.{Limits, the_limits}
+use Rattle.analysis.specs.Below.include_tree.Preprocessed.{Preprocessed, preprocessed_by}
+use Rattle.analysis.specs.Below.include_tree.Unit.{unit_outcome}
+use Rattle.analysis.specs.Analysis.{UnitAnalysis, AnalysisValue}
+use Rattle.edited_unit_laws.specs.Analyses.{IsRead}
+use Rattle.rename_rules.specs.First.{IsAmong, offence, offences_of}
 use Rattle.meaning_rows.specs.Clause.{UnitsReadAlike}
-use Rattle.kept_meaning_laws.specs.Below.renamed.Renamed.{AnalysisIsRenamed}
+use Rattle.renamed.specs.Renamed.{AnalysisIsRenamed}
 
 -- A row: the bytes of its file, which has number 2, the tokens of its unit, and those of them that were pasted.
 pub record Row : Type 0 where

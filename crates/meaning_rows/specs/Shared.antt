@@ -1,28 +1,28 @@
 -- A worked row of two units of one project over one file, in which two names of external linkage fall together.
 use Rattle.std.specs.Prelude.{◌≡◌, ℕ, Bool, true, false, Some, List, [], ◌∷◌, Result, Ok, codes, slice_get}
 use Rattle.std.specs.Str.{bytes_eq}
-use Rattle.kept_meaning_laws.specs.Below.cs_base.declared.ws_units.Setting.{Setting}
-use Rattle.kept_meaning_laws.specs.Below.cs_base.declared.ws_units.Setting.TheVariants.{Define}
-use Rattle.kept_meaning_laws.specs.Below.cs_base.declared.ws_units.Standard.TheVariants.{C99}
-use Rattle.kept_meaning_laws.specs.Below.cs_base.declared.causes.Cause.{Cause}
-use Rattle.kept_meaning_laws.specs.Below.cs_base.declared.tokens.Kind.{Kind}
-use Rattle.kept_meaning_laws.specs.Below.cs_base.declared.tokens.Kind.TheVariants.{Ident, Punct}
-use Rattle.kept_meaning_laws.specs.Below.cs_base.Token.{Token, token}
-use Rattle.kept_meaning_laws.specs.Below.cs_base.Answer.{result_then}
-use Rattle.kept_meaning_laws.specs.Below.cs_base.Units.{UnitValue, unit}
-use Rattle.kept_meaning_laws.specs.Below.ws_file.Workspace.{WorkspaceValue}
-use Rattle.kept_meaning_laws.specs.Below.part_lexer.FileText.{file_text}
-use Rattle.kept_meaning_laws.specs.Below.part_lexer.Places.{pos}
-use Rattle.kept_meaning_laws.specs.Below.part_lexer.Tokens.{file_token}
-use Rattle.kept_meaning_laws.specs.Below.source_files.Faults.{Fault}
-use Rattle.kept_meaning_laws.specs.Below.source_files.Files.{Source, source_of, Carried, Opened, entry, nothing_carried}
-use Rattle.kept_meaning_laws.specs.Below.include_tree.Preprocessed.{Preprocessed, preprocessed_by}
-use Rattle.kept_meaning_laws.specs.Below.include_tree.Unit.{unit_outcome}
-use Rattle.kept_meaning_laws.specs.Below.ws_core.Analysis.{UnitAnalysis, AnalysisValue}
-use Rattle.kept_meaning_laws.specs.Below.edited_unit_laws.Analyses.{IsRead}
-use Rattle.kept_meaning_laws.specs.Below.rename_rules.First.{IsAmong, offence, offences_of}
-use Rattle.kept_meaning_laws.specs.Below.renamed.Renamed.{AnalysisIsRenamed, ExternalNamesAreKept, denote_one, renamed_analysis, renaming_of}
-use Rattle.kept_meaning_laws.specs.Below.part_respell.Respelled.{respelled}
+use Rattle.cs_base.specs.declared.ws_units.Setting.{Setting}
+use Rattle.cs_base.specs.declared.ws_units.Setting.TheVariants.{Define}
+use Rattle.cs_base.specs.declared.ws_units.Standard.TheVariants.{C99}
+use Rattle.cs_base.specs.declared.causes.Cause.{Cause}
+use Rattle.cs_base.specs.declared.tokens.Kind.{Kind}
+use Rattle.cs_base.specs.declared.tokens.Kind.TheVariants.{Ident, Punct}
+use Rattle.cs_base.specs.Token.{Token, token}
+use Rattle.cs_base.specs.Answer.{result_then}
+use Rattle.cs_base.specs.Units.{UnitValue, unit}
+use Rattle.analysis.specs.Below.ws_file.Workspace.{WorkspaceValue}
+use Rattle.analysis.specs.Below.lexer.FileText.{file_text}
+use Rattle.analysis.specs.Below.lexer.Places.{pos}
+use Rattle.analysis.specs.Below.lexer.Tokens.{file_token}
+use Rattle.analysis.specs.Below.source_files.Faults.{Fault}
+use Rattle.analysis.specs.Below.source_files.Files.{Source, source_of, Carried, Opened, entry, nothing_carried}
+use Rattle.analysis.specs.Below.include_tree.Preprocessed.{Preprocessed, preprocessed_by}
+use Rattle.analysis.specs.Below.include_tree.Unit.{unit_outcome}
+use Rattle.analysis.specs.Analysis.{UnitAnalysis, AnalysisValue}
+use Rattle.edited_unit_laws.specs.Analyses.{IsRead}
+use Rattle.rename_rules.specs.First.{IsAmong, offence, offences_of}
+use Rattle.renamed.specs.Renamed.{AnalysisIsRenamed, ExternalNamesAreKept, denote_one, renamed_analysis, renaming_of}
+use Rattle.part_respell.specs.Respelled.{respelled}
 use Rattle.meaning_rows.specs.Clause.{UnitsReadAlike}
 use Rattle.meaning_rows.specs.Rows.{member, row_limits}
 

@@ -1,6 +1,6 @@
 // Renamings that break meaning: laws that no caller runs.
 ghost use Rattle.std.specs.Prelude.{codes};
-ghost use Rattle.kept_meaning_laws.specs.Below.cs_base.declared.causes.Cause.TheVariants.{Clash, Occurs, ShadowedTypedef};
+ghost use Rattle.cs_base.specs.declared.causes.Cause.TheVariants.{Clash, Occurs, ShadowedTypedef};
 ghost use Rattle.meaning_rows.specs.Clause.{KeptMeaningReadsAlike};
 ghost use Rattle.meaning_rows.specs.Rows.{BreaksMeaning, IsOffence, IsPreprocessed, hidden_typedef, pasted_names, two_objects};
 ghost use Rattle.meaning_rows.specs.Shared.{ArePreprocessed, BreaksSharing, KeepsEachReading, StandsAgainst, two_names};

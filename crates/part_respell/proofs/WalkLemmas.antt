@@ -9,11 +9,11 @@ use Rattle.std.proofs.lemmas.Option.{slice_get_within, get_or_from_slice_get}
 use Rattle.cs_base.specs.declared.positions.Part.{Part}
 use Rattle.eclass_map.specs.ClassTable.{nowhere}
 use Rattle.eclass_map.specs.Positions.{holds}
-use Rattle.part_lexer.specs.Logical.{Character, gone_length, logical_from, logical_of}
-use Rattle.part_lexer.specs.FileText.{TextValue, LexFault, FileTooLarge, file_text}
-use Rattle.part_lexer.specs.Lines.{byte_offset_of}
-use Rattle.part_lexer.specs.Places.{pos}
-use Rattle.part_lexer.specs.Respelling.{Put, edited_from, edited}
+use Rattle.lexer.specs.Logical.{Character, gone_length, logical_from, logical_of}
+use Rattle.lexer.specs.FileText.{TextValue, LexFault, FileTooLarge, file_text}
+use Rattle.lexer.specs.Lines.{byte_offset_of}
+use Rattle.lexer.specs.Places.{pos}
+use Rattle.lexer.specs.Respelling.{Put, edited_from, edited}
 use Rattle.part_respell.specs.Order.{AreInOrder, AreLeft}
 use Rattle.part_respell.specs.Respelled.{member_over, put_in, put_of, respelled}
 use Rattle.part_respell.specs.Walk.{edited_at, is_character, IsMade}

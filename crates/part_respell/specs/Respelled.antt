@@ -6,8 +6,8 @@ use Rattle.cs_base.specs.declared.positions.Part.{Part}
 use Rattle.cs_base.specs.declared.positions.Pos.{Pos}
 use Rattle.cs_base.specs.Token.{Token}
 use Rattle.eclass_map.specs.Positions.{holds}
-use Rattle.part_lexer.specs.Places.{pos}
-use Rattle.part_lexer.specs.Respelling.{Put, edited}
+use Rattle.lexer.specs.Places.{pos}
+use Rattle.lexer.specs.Respelling.{Put, edited}
 
 -- the member that holds a character, if one does
 abbrev pub member_over : List Part → Pos → Option Part

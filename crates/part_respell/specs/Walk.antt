@@ -2,10 +2,10 @@
 use Rattle.std.specs.Prelude.{ℕ, ◌+◌, ◌==◌, ◌≡◌, ◌≤◌, if◌then◌else◌, Bool, false, List, [], ◌∷◌, ◌++◌, drop}
 use Rattle.std.specs.Option.{option_map_or}
 use Rattle.cs_base.specs.declared.positions.Part.{Part}
-use Rattle.part_lexer.specs.Lines.{byte_offset_of}
-use Rattle.part_lexer.specs.Logical.{Character, logical_of}
-use Rattle.part_lexer.specs.Places.{pos}
-use Rattle.part_lexer.specs.Respelling.{Put}
+use Rattle.lexer.specs.Lines.{byte_offset_of}
+use Rattle.lexer.specs.Logical.{Character, logical_of}
+use Rattle.lexer.specs.Places.{pos}
+use Rattle.lexer.specs.Respelling.{Put}
 use Rattle.part_respell.specs.Order.{AreLeft}
 use Rattle.part_respell.specs.Respelled.{member_over, put_of, respelled}
 

@@ -1,14 +1,14 @@
 // The bytes of a file with the new spelling of each member, byte by byte.
 ghost use Rattle.std.specs.Prelude.{◌≡◌, ◌≤◌, ◌<◌, ◌+◌, ◌++◌, ◌∷◌, [], Ok, Some, ℕ, IfOk, OnOk, length, option_copied};
 ghost use Rattle.std.specs.Option.{option_map, option_map_or};
-ghost use Rattle.part_lexer.specs.FileText.{file_text};
-ghost use Rattle.part_lexer.specs.Places.{pos};
+ghost use Rattle.lexer.specs.FileText.{file_text};
+ghost use Rattle.lexer.specs.Places.{pos};
 ghost use Rattle.part_respell.specs.Order.{AreInOrder, AreLeft, IsUpTo};
 ghost use Rattle.part_respell.specs.Respelled.{member_over, put_in, respelled};
 ghost use Rattle.part_respell.specs.Walk.{is_character};
 
 use cs_base::{Memory, Part};
-use part_lexer::FileText;
+use lexer::FileText;
 use std::alloc::Global;
 
 // Whether the byte at an offset of a file is character `at` of its text.

@@ -5,7 +5,7 @@ use Rattle.std.specs.List.{list_all}
 use Rattle.std.proofs.lemmas.List.Folds.{list_all-append}
 use Rattle.cs_base.specs.declared.tokens.Kind.{Kind}
 use Rattle.cs_base.specs.Token.{Token, has_origins, IsTraced}
-use Rattle.part_lexer.specs.OneToken.{one_token_of}
+use Rattle.lexer.specs.OneToken.{one_token_of}
 use Rattle.paste_origin.specs.Pasting.{IsWhollyTraced, AreTraced}
 
 -- both lists pass

@@ -1,10 +1,9 @@
 -- The operator ## (ISO/IEC 9899:1999, 6.10.3.3): two preprocessing tokens become one.
-use Rattle.std.specs.Prelude.{◌++◌, Option, Some, None, Result, Ok, Err, IsTrue, IfSome}
+use Rattle.std.specs.Prelude.{◌++◌, Option, Some, None, Result, Ok, Err, IsTrue, IfSome, is_some}
 use Rattle.std.specs.List.{list_all}
-use Rattle.std.specs.Prelude.{is_some}
 use Rattle.cs_base.specs.declared.tokens.Kind.{Kind}
 use Rattle.cs_base.specs.Token.{Token, token, has_origins}
-use Rattle.part_lexer.specs.OneToken.{one_token_of}
+use Rattle.lexer.specs.OneToken.{one_token_of}
 
 -- Why two tokens are not pasted: together they are not one token.
 pub data PasteFault : Type 0 where

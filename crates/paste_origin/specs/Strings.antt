@@ -6,9 +6,9 @@ use Rattle.cs_base.specs.declared.positions.Pos.{Pos}
 use Rattle.cs_base.specs.declared.tokens.Kind.{Kind}
 use Rattle.cs_base.specs.declared.tokens.Kind.TheVariants.{Char, Str}
 use Rattle.cs_base.specs.Token.{Token, token}
-use Rattle.part_lexer.specs.Characters.{backslash, double_quote}
-use Rattle.part_lexer.specs.Places.{pos}
-use Rattle.part_lexer.specs.Spelling.{is_plain_string_text}
+use Rattle.lexer.specs.Characters.{backslash, double_quote}
+use Rattle.lexer.specs.Places.{pos}
+use Rattle.lexer.specs.Spelling.{is_plain_string_text}
 
 -- Why tokens make no string: their text is not one string literal.
 pub data StringFault : Type 0 where

@@ -7,7 +7,7 @@ ghost use Rattle.paste_origin.specs.Refusals.{paste_fault_of};
 
 use crate::glue_refusal::GlueRefusal;
 use cs_base::{Memory, Span, Tok};
-use part_lexer::one_token;
+use lexer::one_token;
 use std::alloc::Global;
 
 // The spellings of two tokens, one behind the other.

@@ -4,8 +4,8 @@ ghost use Rattle.cs_base.specs.Answer.{Gives};
 ghost use Rattle.cs_base.specs.Spans.{AreSpans, origins_by};
 ghost use Rattle.paste_origin.specs.Strings.{is_quoted as quoted, needs_backslash as backslash_needed, escaped, escaped_origins, spelling_of, origins_of, later_spelling, later_origins, spellings_of, all_origins, string_text, string_origins, stringize_of};
 ghost use Rattle.paste_origin.specs.Told.{told_so_far};
-ghost use Rattle.part_lexer.specs.Characters.{double_quote};
-ghost use Rattle.part_lexer.specs.Spelling.{closes as text_closes, is_plain_string_text};
+ghost use Rattle.lexer.specs.Characters.{double_quote};
+ghost use Rattle.lexer.specs.Spelling.{closes as text_closes, is_plain_string_text};
 ghost use Rattle.paste_origin.specs.Refusals.{string_fault_of};
 
 use crate::string_refusal::StrRefusal;

@@ -9,8 +9,8 @@ use Rattle.std.proofs.lemmas.Bool.{cases_Bool, eqb-true}
 use Rattle.std.proofs.lemmas.Cmp.{then_total, on_total, nat_list_cmp_total, nat_cmp_total}
 use Rattle.std.proofs.lemmas.List.{at_drop_more, at_drop_all}
 use Rattle.std.proofs.lemmas.Option.{slice_get-get_or}
-use Rattle.unused_names.specs.Below.include_tree.Below.source_files.Files.{Table, Entry, Absent, entry}
-use Rattle.unused_names.specs.Below.include_tree.Below.source_files.KeptFiles.{kept_in, kept_at}
+use Rattle.analysis.specs.Below.source_files.Files.{Table, Entry, Absent, entry}
+use Rattle.analysis.specs.Below.source_files.KeptFiles.{kept_in, kept_at}
 use Rattle.query_report.specs.Order.{is_source, numbers_from, path_at, file_cmp}
 use Rattle.query_report.proofs.SortLemmas.{IsStrict}
 

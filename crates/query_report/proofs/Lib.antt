@@ -3,5 +3,3 @@ pub mod SequenceLemmas
 pub mod SortLemmas
 pub mod FileLemmas
 pub mod NamedLemmas
--- Words of the crates below, passed on.
-pub mod Below

@@ -6,10 +6,10 @@ use Rattle.std.proofs.Math.Bool.{or_assoc, or-false, or-true}
 use Rattle.std.proofs.lemmas.Bool.{cases_eq, cases_lt, eq-eqb, ne_eqb}
 use Rattle.std.proofs.lemmas.List.{length-set, get_or-set_same, get_or-set_other, get_or-replicate, length-replicate}
 use Rattle.std.proofs.lemmas.Option.{slice_get_past}
-use Rattle.unused_names.specs.Below.include_tree.Below.unit_steps.declared.events.Reached.{Reached}
-use Rattle.unused_names.specs.Below.include_tree.Below.source_files.Files.{Table}
-use Rattle.unused_names.specs.Below.include_tree.Below.unit_steps.Texts.{UnitTextValue}
-use Rattle.unused_names.specs.Below.ws_core.Texts.{TextsValue}
+use Rattle.analysis.specs.Below.unit_steps.declared.events.Reached.{Reached}
+use Rattle.analysis.specs.Below.source_files.Files.{Table}
+use Rattle.analysis.specs.Below.unit_steps.Texts.{UnitTextValue}
+use Rattle.analysis.specs.Texts.{TextsValue}
 use Rattle.query_report.specs.Skipped.{is_item, reaches, is_reached}
 use Rattle.query_report.specs.Marks.{count_at, is_marked, marked, marked_by, AreBlank, AreMarked}
 

@@ -5,10 +5,10 @@ use Rattle.std.specs.Option.{option_map, option_and_then}
 use Rattle.std.specs.Str.{bytes_eq}
 use Rattle.std.proofs.lemmas.Bool.{cases_Bool}
 use Rattle.std.proofs.lemmas.Option.{slice_get_within}
-use Rattle.unused_names.specs.Below.include_tree.Below.source_files.Files.{Table, Entry}
-use Rattle.unused_names.specs.Below.include_tree.Below.source_files.KeptFiles.{kept, kept_bytes, kept_in, kept_at}
-use Rattle.unused_names.specs.Below.ws_core.Analysis.{AnalysisValue}
-use Rattle.unused_names.specs.Below.ws_core.Naming.{file_named, named_position}
+use Rattle.analysis.specs.Below.source_files.Files.{Table, Entry}
+use Rattle.analysis.specs.Below.source_files.KeptFiles.{kept, kept_bytes, kept_in, kept_at}
+use Rattle.analysis.specs.Analysis.{AnalysisValue}
+use Rattle.analysis.specs.Naming.{file_named, named_position}
 use Rattle.query_report.specs.Paths.{has_path}
 
 -- an entry of the path without a kept file of it has none

@@ -8,10 +8,10 @@ use Rattle.std.proofs.lemmas.List.{at_drop_more, at_drop_all, append-nil}
 use Rattle.cs_base.specs.declared.positions.Part.{Part}
 use Rattle.line_shape.specs.declared.items.Item.{Item}
 use Rattle.query_report.specs.declared.spans.Span.{Span}
-use Rattle.unused_names.specs.Below.include_tree.Below.source_files.KeptFiles.{KeptValue, kept_at}
-use Rattle.unused_names.specs.Below.ws_core.Analysis.{AnalysisValue}
-use Rattle.unused_names.specs.Below.ws_core.ClassReport.{part_line, part_lines}
-use Rattle.unused_names.specs.Below.ws_core.Texts.{TextsValue}
+use Rattle.analysis.specs.Below.source_files.KeptFiles.{KeptValue, kept_at}
+use Rattle.analysis.specs.Analysis.{AnalysisValue}
+use Rattle.analysis.specs.ClassReport.{part_line, part_lines}
+use Rattle.analysis.specs.Texts.{TextsValue}
 use Rattle.query_report.specs.Skipped.{ended, going_on, sequences, span_line, file_lines, is_reached, items_in, lines_in, lines_at}
 use Rattle.query_report.specs.Marks.{count_at, is_marked, AreMarked}
 

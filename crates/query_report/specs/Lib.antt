@@ -6,5 +6,3 @@ pub mod Queries
 -- What inner functions promise each other.
 pub mod Marks
 pub mod Paths
--- Words of the crates below, passed on.
-pub mod Below

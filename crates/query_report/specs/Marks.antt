@@ -2,11 +2,11 @@
 use Rattle.std.specs.Prelude.{◌≡◌, ◌<◌, ℕ, Bool, true, false, List, [], length, replicate, slice_set, slice_index_or}
 use Rattle.std.specs.List.{fold}
 use Rattle.std.specs.Option.{option_map_or}
-use Rattle.unused_names.specs.Below.include_tree.Below.unit_steps.declared.events.Reached.{Reached}
-use Rattle.unused_names.specs.Below.include_tree.Below.source_files.Files.{Table}
-use Rattle.unused_names.specs.Below.include_tree.Below.source_files.KeptFiles.{kept_at}
-use Rattle.unused_names.specs.Below.include_tree.Below.unit_steps.Texts.{UnitTextValue}
-use Rattle.unused_names.specs.Below.ws_core.Texts.{TextsValue}
+use Rattle.analysis.specs.Below.unit_steps.declared.events.Reached.{Reached}
+use Rattle.analysis.specs.Below.source_files.Files.{Table}
+use Rattle.analysis.specs.Below.source_files.KeptFiles.{kept_at}
+use Rattle.analysis.specs.Below.unit_steps.Texts.{UnitTextValue}
+use Rattle.analysis.specs.Texts.{TextsValue}
 use Rattle.query_report.specs.Skipped.{items_in, is_reached}
 
 -- how many items the kept file with a number has

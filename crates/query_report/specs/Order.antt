@@ -5,8 +5,8 @@ use Rattle.std.specs.Option.{option_map_or}
 use Rattle.std.specs.Ordering.{is_lt, nat_cmp, ordering_then}
 use Rattle.std.specs.declared.cmp.Ordering.{Ordering}
 use Rattle.cs_base.specs.Units.{less_sign, begins_with}
-use Rattle.unused_names.specs.Below.include_tree.Below.source_files.Files.{Table}
-use Rattle.unused_names.specs.Below.include_tree.Below.source_files.KeptFiles.{KeptValue, kept_in, kept_at}
+use Rattle.analysis.specs.Below.source_files.Files.{Table}
+use Rattle.analysis.specs.Below.source_files.KeptFiles.{KeptValue, kept_in, kept_at}
 
 -- a path is that of a pseudo file: it begins with `<`, and no other path does
 abbrev pub is_pseudo : List ℕ → Bool

@@ -2,7 +2,7 @@
 use Rattle.std.specs.Prelude.{ℕ, Bool, false, Option, List}
 use Rattle.std.specs.Option.{option_map_or}
 use Rattle.std.specs.Str.{bytes_eq}
-use Rattle.unused_names.specs.Below.include_tree.Below.source_files.KeptFiles.{KeptValue}
+use Rattle.analysis.specs.Below.source_files.KeptFiles.{KeptValue}
 
 -- a kept file, if there is one, has the path
 abbrev pub has_path : List ℕ → Option KeptValue → Bool

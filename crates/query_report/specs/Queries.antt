@@ -3,9 +3,9 @@ use Rattle.std.specs.Prelude.{ℕ, ◌≡◌, Option, Some, None, List, ◌++◌
 use Rattle.std.specs.List.{flat_map}
 use Rattle.cs_base.specs.declared.positions.Part.{Part}
 use Rattle.cs_base.specs.declared.positions.Pos.{Pos}
-use Rattle.unused_names.specs.Below.ws_core.Analysis.{AnalysisValue}
-use Rattle.unused_names.specs.Below.ws_core.ClassReport.{IsClassReport, part_lines, place_text}
-use Rattle.unused_names.specs.Below.ws_core.Places.{place_at}
+use Rattle.analysis.specs.Analysis.{AnalysisValue}
+use Rattle.analysis.specs.ClassReport.{IsClassReport, part_lines, place_text}
+use Rattle.analysis.specs.Places.{place_at}
 use Rattle.unused_names.specs.Unneeded.{AreUnneeded}
 use Rattle.unused_names.specs.Unused.{AreUnused}
 use Rattle.query_report.specs.declared.queries.Query.{Query}

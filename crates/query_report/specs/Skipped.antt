@@ -3,13 +3,13 @@
 use Rattle.std.specs.Prelude.{ℕ, ◌+◌, ◌==◌, ◌&&◌, Bool, true, false, Option, None, Some, Result, Ok, Err, List, [], ◌∷◌, ◌++◌, codes, decimal}
 use Rattle.std.specs.List.{flat_map, list_any}
 use Rattle.std.specs.Option.{option_map_or, option_to_list}
-use Rattle.unused_names.specs.Below.ws_core.Below.part_lexer.FileText.{TextValue, file_text}
+use Rattle.analysis.specs.Below.lexer.FileText.{TextValue, file_text}
 use Rattle.line_shape.specs.declared.items.Item.{Item}
 use Rattle.line_shape.specs.Items.{items_of}
-use Rattle.unused_names.specs.Below.include_tree.Below.unit_steps.declared.events.Reached.{Reached}
-use Rattle.unused_names.specs.Below.include_tree.Below.source_files.KeptFiles.{KeptValue, kept_at}
-use Rattle.unused_names.specs.Below.include_tree.Below.unit_steps.Texts.{UnitTextValue}
-use Rattle.unused_names.specs.Below.ws_core.Texts.{TextsValue}
+use Rattle.analysis.specs.Below.unit_steps.declared.events.Reached.{Reached}
+use Rattle.analysis.specs.Below.source_files.KeptFiles.{KeptValue, kept_at}
+use Rattle.analysis.specs.Below.unit_steps.Texts.{UnitTextValue}
+use Rattle.analysis.specs.Texts.{TextsValue}
 use Rattle.query_report.specs.declared.spans.Span.{Span}
 use Rattle.query_report.specs.Order.{file_cmp, numbers_from, in_order}
 

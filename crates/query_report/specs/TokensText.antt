@@ -2,7 +2,7 @@
 use Rattle.std.specs.Prelude.{ℕ, List, ◌++◌, codes}
 use Rattle.std.specs.List.{flat_map}
 use Rattle.cs_base.specs.Token.{Token}
-use Rattle.unused_names.specs.Below.include_tree.Below.unit_steps.Texts.{UnitTextValue}
+use Rattle.analysis.specs.Below.unit_steps.Texts.{UnitTextValue}
 
 -- the spelling of a token, on a line
 abbrev pub token_line : Token → List ℕ

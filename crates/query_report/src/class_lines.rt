@@ -1,17 +1,17 @@
 // The report `class`: the members of the class that a place names.
 ghost use Rattle.std.specs.Prelude.{◌≡◌, ◌++◌, ℕ, Err, None, Some, false, IfOk, OnOk, slice_get};
-ghost use Rattle.unused_names.specs.Below.include_tree.Below.source_files.KeptFiles.{kept_at};
-ghost use Rattle.unused_names.specs.Below.ws_core.ClassReport.{IsClassReport, part_line, part_lines};
-ghost use Rattle.unused_names.specs.Below.ws_core.Naming.{file_named};
-ghost use Rattle.unused_names.specs.Below.ws_core.Parts.{IsPart};
+ghost use Rattle.analysis.specs.Below.source_files.KeptFiles.{kept_at};
+ghost use Rattle.analysis.specs.ClassReport.{IsClassReport, part_line, part_lines};
+ghost use Rattle.analysis.specs.Naming.{file_named};
+ghost use Rattle.analysis.specs.Parts.{IsPart};
 ghost use Rattle.query_report.specs.Paths.{has_path};
 ghost use Rattle.query_report.specs.declared.queries.QueryRefusal.TheVariants.{NoName};
 
 use crate::queries::QueryRefusal;
+use analysis::{Analysis, push_place};
 use cs_base::{Memory, Part, Place};
 use std::alloc::Global;
 use std::str;
-use unused_names::{Analysis, push_place};
 
 /// The members of the class of the name at a place, each as `PATH:LINE:COL TEXT` on a line, in the order of
 /// their places.

@@ -1,12 +1,12 @@
 // Source files in the order of their paths.
 ghost use Rattle.std.specs.Prelude.{◌≡◌, ◌++◌, ◌∷◌, [], IfOk, OnOk, if◌then◌else◌};
-ghost use Rattle.unused_names.specs.Below.include_tree.Below.source_files.KeptFiles.{kept_at};
+ghost use Rattle.analysis.specs.Below.source_files.KeptFiles.{kept_at};
 ghost use Rattle.query_report.specs.Order.{is_pseudo, is_source, numbers_from, path_at, file_cmp, in_order};
 
+use analysis::Texts;
 use cs_base::Memory;
 use std::alloc::Global;
 use std::cmp::Ordering;
-use unused_names::Texts;
 
 // A path is that of a pseudo file.
 fn is_pseudo(path: &[u8]) -> bool

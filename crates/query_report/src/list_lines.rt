@@ -3,9 +3,10 @@ ghost use Rattle.std.specs.Prelude.{◌≡◌, ◌++◌, IfOk, OnOk};
 ghost use Rattle.query_report.specs.Queries.{line_of, lines_of, PrintsUnneeded, PrintsUnused};
 
 use crate::class_lines::part_lines;
+use analysis::{Analysis, push_place};
 use cs_base::{Memory, Pos};
 use std::alloc::Global;
-use unused_names::{Analysis, push_place, unneeded, unused};
+use unused_names::{unneeded, unused};
 
 /// The first member of each class that is declared and not used, each as `PATH:LINE:COL NAME` on a line.
 pub(crate) fn unused_report(alloc: Global, a: &Analysis) -> Result<Vec<u8>, Memory>

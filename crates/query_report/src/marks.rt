@@ -4,11 +4,11 @@ ghost use Rattle.std.specs.List.{fold};
 ghost use Rattle.query_report.specs.Skipped.{items_in};
 ghost use Rattle.query_report.specs.Marks.{count_at, is_marked, marked, marked_by, AreBlank, AreMarked};
 
+use analysis::{KeptFile, Reached, Texts};
 use cs_base::Memory;
 use line_shape::Item;
 use std::alloc::Global;
 use std::marker::Model;
-use unused_names::{KeptFile, Reached, Texts};
 
 /// A mark for each item of a file. Contracts see the list of them.
 #[derive(Drop)]

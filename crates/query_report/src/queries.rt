@@ -5,9 +5,9 @@ ghost use Rattle.query_report.specs.declared.queries.QueryRefusal.TheVariants.{N
 
 use crate::class_lines::class_report;
 use crate::list_lines::{includes_report, unused_report};
+use analysis::Analysis;
 use cs_base::{Memory as NoMemory, Place};
 use std::alloc::Global;
-use unused_names::Analysis;
 
 /// What a report tells.
 #[derive(Drop)]

@@ -6,9 +6,9 @@ ghost use Rattle.query_report.specs.Marks.{AreMarked};
 use crate::file_order::ordered_numbers;
 use crate::marks::{Marks, items_in, marks_of};
 use crate::spans::push_file;
+use analysis::Texts;
 use cs_base::Memory;
 use std::alloc::Global;
-use unused_names::Texts;
 
 #[tactic(auto, unfolding(crate::specs::Skipped::skipped_text))]
 /// The sequences of directive lines and runs that no unit processes, each as `PATH:FIRST-LAST` on a line, in

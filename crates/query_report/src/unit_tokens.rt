@@ -2,9 +2,9 @@
 ghost use Rattle.std.specs.Prelude.{◌≡◌, ◌++◌, IfOk, OnOk};
 ghost use Rattle.query_report.specs.TokensText.{token_line, tokens_text};
 
+use analysis::UnitText;
 use cs_base::{Memory, Tok};
 use std::alloc::Global;
-use unused_names::UnitText;
 
 /// The tokens of a unit in order, the spelling of each on a line of its own.
 pub fn print_tokens(alloc: Global, t: &UnitText) -> Result<Vec<u8>, Memory>

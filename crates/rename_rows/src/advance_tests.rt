@@ -1,17 +1,16 @@
 // Analyses that go on with the files behind a renaming, beside new analyses of these files: the classes that are asked for
 // are those worked by hand, and they, the files, the tokens and the events of units are alike in both.
 ghost use Rattle.std.specs.Prelude.{◌≡◌, IfOk, Ok, Some};
-ghost use Rattle.ws_core.specs.Analysis.{analysis_of};
-ghost use Rattle.ws_core.specs.Below.source_files.Files.{Source};
-ghost use Rattle.ws_core.specs.Naming.{Names};
+ghost use Rattle.analysis.specs.Analysis.{analysis_of};
+ghost use Rattle.analysis.specs.Below.source_files.Files.{Source};
+ghost use Rattle.analysis.specs.Naming.{Names};
 
+use analysis::{Analysis, Event, UnitText, analyse};
 use cs_base::{Link, Part, Pos, Tok};
-use include_tree::{Event, UnitText};
 use kept_analysis::advance;
-use rename_edit::plan_rename;
+use rename_plan::plan_rename;
 use std::alloc::{AllocError, Global};
 use std::test::Fail;
-use ws_core::{Analysis, analyse};
 use ws_file::read_ws;
 
 // A row: what it is about; a workspace file; the files that are held, each as `PATH:TEXT` with `@` between them; the place of

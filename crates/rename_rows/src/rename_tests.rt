@@ -1,9 +1,9 @@
 // Renamings of classes in whole workspaces, worked by hand from the definitions.
+use analysis::{Analysis, analyse};
 use cs_base::Edits;
-use rename_edit::{RenameRefusal, plan_rename};
+use rename_plan::{RenameRefusal, plan_rename};
 use std::alloc::{AllocError, Global};
 use std::test::Fail;
-use ws_core::{Analysis, analyse};
 use ws_file::read_ws;
 
 // A workspace file, the files that are held, each as `PATH:TEXT` with `@` between them, the place and the new name,

@@ -8,11 +8,11 @@ use Rattle.cs_base.specs.declared.positions.Pos.{Pos}
 use Rattle.eclass_map.specs.ClassTable.{class_in}
 use Rattle.eclass_map.specs.Positions.{holds}
 use Rattle.part_respell.specs.Respelled.{member_over}
-use Rattle.ws_core.specs.Analysed.{Analysed}
-use Rattle.ws_core.specs.Classes.{AreItsClasses}
-use Rattle.ws_core.specs.Parts.{IsCharacter, IsPart}
-use Rattle.ws_core.proofs.ClassLemmas.{walked_member, member_walked}
-use Rattle.ws_core.proofs.PartLemmas.{held_character, part_once}
+use Rattle.analysis.specs.Analysed.{Analysed}
+use Rattle.analysis.specs.Classes.{AreItsClasses}
+use Rattle.analysis.specs.Parts.{IsCharacter, IsPart}
+use Rattle.analysis.proofs.ClassLemmas.{walked_member, member_walked}
+use Rattle.analysis.proofs.PartLemmas.{held_character, part_once}
 use Rattle.rename_rules.specs.Class.{IsApart, IsClass}
 
 -- ---- members by the number of their class

@@ -8,7 +8,7 @@ use Rattle.cs_base.specs.declared.causes.Cause.{Cause}
 use Rattle.cs_base.specs.declared.positions.Pos.{Pos}
 use Rattle.std.specs.declared.cmp.Ordering.TheVariants.{Less}
 use Rattle.std.proofs.lemmas.Cmp.{then_total, on_total, nat_list_cmp_total, nat_cmp_total, tied_itself}
-use Rattle.include_tree.specs.Below.source_files.Files.{Table}
+use Rattle.analysis.specs.Below.source_files.Files.{Table}
 use Rattle.rename_rules.specs.declared.offences.Offence.{Offence}
 use Rattle.cs_base.specs.Order.{number_of}
 use Rattle.rename_rules.specs.First.{offence, offence_cmp, path_of, standing, IsAmong, IsFirst, FirstThen}

@@ -7,5 +7,3 @@ pub mod SpelledLemmas
 pub mod OccurrenceLemmas
 pub mod RunLemmas
 pub mod SizeLemmas
--- Words of the crates below, passed on.
-pub mod Below

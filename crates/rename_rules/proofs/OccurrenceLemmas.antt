@@ -9,9 +9,9 @@ use Rattle.cs_base.specs.declared.causes.Cause.TheVariants as cause
 use Rattle.cs_base.specs.declared.positions.Part.{Part}
 use Rattle.cs_base.specs.declared.positions.Pos.{Pos}
 use Rattle.cs_base.specs.Token.{Token}
-use Rattle.ws_core.specs.Below.c_types.declared.lists.Range.{Range}
-use Rattle.ws_core.specs.Analysis.{AnalysisValue, UnitAnalysis}
-use Rattle.ws_core.specs.BroughtNumbers.{all_brought}
+use Rattle.analysis.specs.Below.c_types.declared.lists.Range.{Range}
+use Rattle.analysis.specs.Analysis.{AnalysisValue, UnitAnalysis}
+use Rattle.analysis.specs.BroughtNumbers.{all_brought}
 use Rattle.rename_rules.specs.declared.offences.Offence.{Offence}
 use Rattle.rename_rules.specs.First.{offence, standing, FirstThen}
 use Rattle.rename_rules.specs.Offences.{bare_place, bare_places, hides_typedef, occurring_place, occurring_places}

@@ -11,9 +11,9 @@ use Rattle.cs_base.specs.declared.positions.Part.{Part}
 use Rattle.cs_base.specs.declared.positions.Pos.{Pos}
 use Rattle.eclass_map.specs.Positions.{along}
 use Rattle.part_respell.specs.Order.{AreInOrder}
-use Rattle.ws_core.specs.Analysis.{AnalysisValue}
-use Rattle.ws_core.specs.Parts.{IsStart, IsPart, AreMembers, part_cmp}
-use Rattle.ws_core.proofs.ListingLemmas.{in_one_file}
+use Rattle.analysis.specs.Analysis.{AnalysisValue}
+use Rattle.analysis.specs.Parts.{IsStart, IsPart, AreMembers, part_cmp}
+use Rattle.analysis.proofs.ListingLemmas.{in_one_file}
 use Rattle.rename_rules.specs.Runs.{with_member, runs, is_in, run_length, AreApart}
 use Rattle.eclass_map.proofs.PartPlaces.{same_pos}
 

@@ -9,10 +9,10 @@ use Rattle.std.proofs.lemmas.Option.{same_Some, slice_get-get_or}
 use Rattle.cs_base.specs.declared.causes.Cause.TheVariants as cause
 use Rattle.cs_base.specs.declared.positions.Part.{Part}
 use Rattle.eclass_map.specs.ClassTable.{nowhere}
-use Rattle.include_tree.specs.Below.source_files.Files.{Table, Entry, Absent, entry}
-use Rattle.include_tree.specs.Below.source_files.KeptFiles.{kept_at}
+use Rattle.analysis.specs.Below.source_files.Files.{Table, Entry, Absent, entry}
+use Rattle.analysis.specs.Below.source_files.KeptFiles.{kept_at}
 use Rattle.part_respell.specs.Order.{AreInOrder}
-use Rattle.ws_core.specs.Analysis.{AnalysisValue}
+use Rattle.analysis.specs.Analysis.{AnalysisValue}
 use Rattle.rename_rules.specs.declared.offences.Offence.{Offence}
 use Rattle.rename_rules.specs.First.{offence, standing, FirstThen}
 use Rattle.rename_rules.specs.Offences.{full_place, large_place, too_large_places}

@@ -14,11 +14,11 @@ use Rattle.cs_base.specs.declared.causes.Cause.{Cause}
 use Rattle.cs_base.specs.declared.positions.Part.{Part}
 use Rattle.cs_base.specs.declared.positions.Pos.{Pos}
 use Rattle.cs_base.specs.Token.{Token, origin_at}
-use Rattle.include_tree.specs.Below.source_files.Files.{Table, Entry, Absent, entry}
-use Rattle.include_tree.specs.Below.source_files.KeptFiles.{kept_at}
-use Rattle.ws_core.specs.Analysis.{AnalysisValue, UnitAnalysis}
-use Rattle.ws_core.specs.BroughtNumbers.{all_brought}
-use Rattle.ws_core.specs.FileTokens.{file_tokens, kept_tokens as parted_tokens, numbers_brought, table_tokens}
+use Rattle.analysis.specs.Below.source_files.Files.{Table, Entry, Absent, entry}
+use Rattle.analysis.specs.Below.source_files.KeptFiles.{kept_at}
+use Rattle.analysis.specs.Analysis.{AnalysisValue, UnitAnalysis}
+use Rattle.analysis.specs.BroughtNumbers.{all_brought}
+use Rattle.analysis.specs.FileTokens.{file_tokens, kept_tokens as parted_tokens, numbers_brought, table_tokens}
 use Rattle.rename_rules.specs.declared.offences.Offence.{Offence}
 use Rattle.rename_rules.specs.First.{offence, standing, FirstThen}
 use Rattle.rename_rules.specs.Tokens.{file_toks, holders, holds_member, kept_tokens, member_of, pasted_tokens}

@@ -5,8 +5,8 @@ use Rattle.cs_base.specs.declared.positions.Pos.{Pos}
 use Rattle.eclass_map.specs.ClassTable.{class_in}
 use Rattle.eclass_map.specs.Positions.{holds}
 use Rattle.part_respell.specs.Respelled.{member_over}
-use Rattle.ws_core.specs.Analysed.{Analysed}
-use Rattle.ws_core.specs.Parts.{AreMembers}
+use Rattle.analysis.specs.Analysed.{Analysed}
+use Rattle.analysis.specs.Parts.{AreMembers}
 
 -- The analysis, and the members of the class.
 pub record ClassValue : Type 0 where

@@ -10,9 +10,9 @@ use Rattle.cs_base.specs.declared.causes.Cause.TheVariants as cause
 use Rattle.cs_base.specs.declared.positions.Part.{Part}
 use Rattle.cs_base.specs.declared.positions.Pos.{Pos}
 use Rattle.cs_base.specs.Order.{number_of}
-use Rattle.include_tree.specs.Below.source_files.Files.{Table, lines_path}
-use Rattle.include_tree.specs.Below.source_files.KeptFiles.{KeptValue, kept_at}
-use Rattle.ws_core.specs.Analysis.{AnalysisValue}
+use Rattle.analysis.specs.Below.source_files.Files.{Table, lines_path}
+use Rattle.analysis.specs.Below.source_files.KeptFiles.{KeptValue, kept_at}
+use Rattle.analysis.specs.Analysis.{AnalysisValue}
 use Rattle.rename_rules.specs.declared.offences.Offence.{Offence}
 use Rattle.rename_rules.specs.Offences.{read_only_places, reserved_places, kept_string_places, header_places, no_identifier_places, occurring_places, clashing_places, too_large_places, shadowed_places}
 

@@ -8,5 +8,3 @@ pub mod Renaming
 pub mod Class
 pub mod Respellings
 pub mod RenamingValue
--- Words of the crates below, passed on.
-pub mod Below

@@ -9,12 +9,12 @@ use Rattle.cs_base.specs.declared.positions.Pos.{Pos}
 use Rattle.cs_base.specs.Reserved.{is_reserved_text}
 use Rattle.cs_base.specs.Token.{Token}
 use Rattle.cs_base.specs.Limits.{most_bytes_of_all}
-use Rattle.include_tree.specs.Below.line_shape.Signs.{is_name}
-use Rattle.ws_core.specs.Below.c_types.declared.lists.Range.{Range}
-use Rattle.ws_core.specs.Below.c_types.Declarations.{spelling_at}
+use Rattle.analysis.specs.Below.line_shape.Signs.{is_name}
+use Rattle.analysis.specs.Below.c_types.declared.lists.Range.{Range}
+use Rattle.analysis.specs.Below.c_types.Declarations.{spelling_at}
 use Rattle.part_respell.specs.Respelled.{spelled}
-use Rattle.ws_core.specs.Analysis.{UnitAnalysis, AnalysisValue}
-use Rattle.ws_core.specs.Places.{is_read_only}
+use Rattle.analysis.specs.Analysis.{UnitAnalysis, AnalysisValue}
+use Rattle.analysis.specs.Places.{is_read_only}
 use Rattle.rename_rules.specs.Runs.{runs, is_too_large, new_size_of_all}
 use Rattle.rename_rules.specs.Tokens.{all_file_tokens, pasted_tokens, holders, starts_in, first_place, is_new_spelling, is_old_spelling, clashes}
 

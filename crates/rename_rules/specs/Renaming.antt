@@ -4,11 +4,11 @@ use Rattle.cs_base.specs.declared.causes.Cause.{Cause}
 use Rattle.cs_base.specs.declared.positions.Part.{Part}
 use Rattle.cs_base.specs.declared.positions.Place.{Place}
 use Rattle.cs_base.specs.Edit.{Edit}
-use Rattle.ws_core.specs.Below.part_lexer.Spelling.{is_identifier_text}
-use Rattle.ws_core.specs.Analysis.{AnalysisValue}
-use Rattle.ws_core.specs.Naming.{Names}
-use Rattle.ws_core.specs.Parts.{AreMembers}
-use Rattle.ws_core.specs.Places.{place_at}
+use Rattle.analysis.specs.Below.lexer.Spelling.{is_identifier_text}
+use Rattle.analysis.specs.Analysis.{AnalysisValue}
+use Rattle.analysis.specs.Naming.{Names}
+use Rattle.analysis.specs.Parts.{AreMembers}
+use Rattle.analysis.specs.Places.{place_at}
 use Rattle.rename_rules.specs.declared.offences.Offence.{Offence}
 use Rattle.rename_rules.specs.First.{IsFirst, offences_of}
 use Rattle.rename_rules.specs.Runs.{edits_of}

@@ -6,7 +6,7 @@ use Rattle.std.specs.Str.{bytes_eq}
 use Rattle.cs_base.specs.declared.positions.Part.{Part}
 use Rattle.cs_base.specs.declared.positions.Pos.{Pos}
 use Rattle.cs_base.specs.Token.{Token}
-use Rattle.ws_core.specs.Below.c_types.declared.lists.Range.{Range}
+use Rattle.analysis.specs.Below.c_types.declared.lists.Range.{Range}
 use Rattle.part_respell.specs.Respelled.{spelled}
 use Rattle.rename_rules.specs.Offences.{is_shadow}
 use Rattle.rename_rules.specs.Tokens.{first_place}

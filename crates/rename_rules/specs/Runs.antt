@@ -6,11 +6,11 @@ use Rattle.std.specs.Option.{option_map_or}
 use Rattle.cs_base.specs.declared.positions.Part.{Part}
 use Rattle.cs_base.specs.Edit.{Edit, edit}
 use Rattle.cs_base.specs.Limits.{most_bytes, most_bytes_of_all}
-use Rattle.include_tree.specs.Below.source_files.Files.{Table}
-use Rattle.include_tree.specs.Below.source_files.KeptFiles.{KeptValue, kept_in, kept_at}
-use Rattle.include_tree.specs.PseudoFiles.{is_pseudo}
+use Rattle.analysis.specs.Below.source_files.Files.{Table}
+use Rattle.analysis.specs.Below.source_files.KeptFiles.{KeptValue, kept_in, kept_at}
+use Rattle.analysis.specs.Below.include_tree.PseudoFiles.{is_pseudo}
 use Rattle.part_respell.specs.Respelled.{respelled}
-use Rattle.ws_core.specs.Analysis.{AnalysisValue}
+use Rattle.analysis.specs.Analysis.{AnalysisValue}
 
 -- a member in front of runs: it joins the first one, if that stands in its file
 abbrev pub with_member : Part → List (List Part) → List (List Part)

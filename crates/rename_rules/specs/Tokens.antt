@@ -6,12 +6,12 @@ use Rattle.std.specs.Str.{bytes_eq}
 use Rattle.cs_base.specs.declared.positions.Part.{Part}
 use Rattle.cs_base.specs.declared.positions.Pos.{Pos}
 use Rattle.cs_base.specs.Token.{Token, origin_at}
-use Rattle.ws_core.specs.Below.part_lexer.Tokens.{tokens_of}
-use Rattle.include_tree.specs.Below.source_files.Files.{Entry, Table}
-use Rattle.include_tree.specs.Below.source_files.KeptFiles.{KeptValue, kept_in}
+use Rattle.analysis.specs.Below.lexer.Tokens.{tokens_of}
+use Rattle.analysis.specs.Below.source_files.Files.{Entry, Table}
+use Rattle.analysis.specs.Below.source_files.KeptFiles.{KeptValue, kept_in}
 use Rattle.part_respell.specs.Respelled.{member_over, spelled}
-use Rattle.ws_core.specs.Analysis.{UnitAnalysis, AnalysisValue}
-use Rattle.ws_core.specs.FileTokens.{file_tokens, numbers_brought}
+use Rattle.analysis.specs.Analysis.{UnitAnalysis, AnalysisValue}
+use Rattle.analysis.specs.FileTokens.{file_tokens, numbers_brought}
 
 -- ---- all tokens
 

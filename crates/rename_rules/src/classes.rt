@@ -8,12 +8,12 @@ ghost use Rattle.eclass_map.specs.Positions.{holds};
 ghost use Rattle.rename_rules.specs.Class.{class_over, IsApart, IsClass};
 ghost use Rattle.rename_rules.specs.Tokens.{holds_member, member_of};
 ghost use Rattle.cs_base.specs.declared.positions.Part.{Part as Member};
-ghost use Rattle.ws_core.specs.Parts.{AreMembers};
+ghost use Rattle.analysis.specs.Parts.{AreMembers};
 
+use analysis::Analysis;
 use cs_base::{Part, Pos, Tok};
 use eclass_map::{Classes, part_holds};
 use std::marker::Model;
-use ws_core::Analysis;
 
 /// A class over an analysis, by its members and its number. Contracts see the analysis and the members.
 #[derive(Drop)]
@@ -25,7 +25,7 @@ pub struct Class<'a> {
 
 impl<'a> Model for Class<'a> {
     ghost use Rattle.std.specs.Coded.{codes};
-    ghost use Rattle.ws_core.specs.Below.c99_tree.TreeCode.{node_code};
+    ghost use Rattle.analysis.specs.Below.c99_tree.TreeCode.{node_code};
     ghost use Rattle.rename_rules.specs.Class.{ClassValue, class_over, IsClass};
 
     ghost Value = { ClassValue };

@@ -2,13 +2,13 @@
 ghost use Rattle.std.specs.Prelude.{◌≡◌, ◌++◌, ◌∷◌, [], filter, IfOk, OnOk, Some};
 ghost use Rattle.std.specs.Option.{option_map_or};
 ghost use Rattle.cs_base.specs.Token.{has_origins};
-ghost use Rattle.include_tree.specs.Below.source_files.KeptFiles.{kept_at};
-ghost use Rattle.ws_core.specs.FileTokens.{kept_tokens, table_tokens};
+ghost use Rattle.analysis.specs.Below.source_files.KeptFiles.{kept_at};
+ghost use Rattle.analysis.specs.FileTokens.{kept_tokens, table_tokens};
 ghost use Rattle.rename_rules.specs.Tokens.{holders, holds_member, pasted_tokens};
 
 use crate::classes::{Class, holds_member};
+use analysis::KeptFile;
 use cs_base::{Kind, Memory, Tok};
-use include_tree::KeptFile;
 use std::alloc::Global;
 
 // Adds a token, if it holds a member.

@@ -31,10 +31,3 @@ pub use respelling_table::{Respelling, is_clash, is_new_spelling, is_old_spellin
 pub use sizes::{run_length, too_large};
 pub use spelling::spelled;
 pub use token_offences::{clashing, reserved};
-
-// Passed on to the crates above, which list this one in the place of those below.
-pub use include_tree::{Event, EventKind, KeptFile, Reached, UnitText};
-pub use scope_bind::{
-    Bound, EntityKind, Indices, List, Name, ParameterForm, ParameterList, parameter_lists,
-};
-pub use ws_core::Analysis;

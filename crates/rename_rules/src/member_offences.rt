@@ -2,7 +2,7 @@
 ghost use Rattle.std.specs.Prelude.{◌≡◌, ◌≤◌, Some, length, slice_get};
 ghost use Rattle.std.specs.List.{flat_map};
 ghost use Rattle.cs_base.specs.declared.causes.Cause.TheVariants as cause;
-ghost use Rattle.include_tree.specs.Below.line_shape.Signs.{is_name};
+ghost use Rattle.analysis.specs.Below.line_shape.Signs.{is_name};
 ghost use Rattle.rename_rules.specs.First.{standing, FirstThen};
 ghost use Rattle.rename_rules.specs.Offences.{read_only_place, read_only_places, stringized_places, header_places, no_identifier_place, no_identifier_places};
 ghost use Rattle.rename_rules.specs.Tokens.{start_of, starts_in};
@@ -11,8 +11,8 @@ ghost use Rattle.cs_base.specs.Token.{origin_at};
 use crate::classes::{Class, length, member_at};
 use crate::offences::{Offence, first_with};
 use crate::renamings::Renaming;
+use analysis::Analysis;
 use cs_base::{Cause, Kind, Part, Tok};
-use ws_core::Analysis;
 
 // A cause that stands at the member which character `k` of a token comes from.
 fn at_character(

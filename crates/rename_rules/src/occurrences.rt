@@ -3,8 +3,8 @@ ghost use Rattle.std.specs.Prelude.{[]};
 ghost use Rattle.std.specs.List.{flat_map};
 ghost use Rattle.std.specs.Option.{option_map_or};
 ghost use Rattle.cs_base.specs.declared.causes.Cause.TheVariants as cause;
-ghost use Rattle.include_tree.specs.Below.source_files.KeptFiles.{kept_at};
-ghost use Rattle.ws_core.specs.Below.part_lexer.Tokens.{tokens_of};
+ghost use Rattle.analysis.specs.Below.source_files.KeptFiles.{kept_at};
+ghost use Rattle.analysis.specs.Below.lexer.Tokens.{tokens_of};
 ghost use Rattle.rename_rules.specs.First.{standing, FirstThen};
 ghost use Rattle.rename_rules.specs.Offences.{occurring_place, occurring_places};
 ghost use Rattle.rename_rules.specs.RenamingValue.{held};
@@ -13,9 +13,8 @@ ghost use Rattle.rename_rules.specs.Tokens.{file_toks, first_place, kept_tokens,
 use crate::offences::{Offence, first_with};
 use crate::renamings::Renaming;
 use crate::respelling_table::is_new_spelling;
+use analysis::{Analysis, KeptFile};
 use cs_base::{Cause, Tok};
-use include_tree::KeptFile;
-use ws_core::Analysis;
 
 // A cause that stands where a token begins.
 pub(crate) fn at_first(

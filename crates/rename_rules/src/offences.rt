@@ -3,9 +3,9 @@ ghost use Rattle.std.specs.Prelude.{◌≡◌, ◌∷◌, [], MatchBool};
 ghost use Rattle.std.specs.declared.cmp.Ordering.TheVariants.{Less};
 ghost use Rattle.rename_rules.specs.First.{offence, offence_cmp, path_of, position_cmp, FirstThen};
 
+use analysis::Analysis;
 use cs_base::{Cause, Pos};
 use std::cmp::Ordering;
-use ws_core::Analysis;
 
 /// What stands against a renaming: a cause, at a position in a file.
 #[derive(Clone, Copy, Debug, PartialEq, Eq)]

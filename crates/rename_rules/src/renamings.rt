@@ -7,10 +7,10 @@ ghost use Rattle.rename_rules.specs.Respellings.{AreRespellings};
 use crate::classes::Class;
 use crate::held_tokens::holders;
 use crate::respelling_table::{Respelling, respellings};
+use analysis::Analysis;
 use cs_base::{Memory, Part, Tok};
 use std::alloc::Global;
 use std::marker::Model;
-use ws_core::Analysis;
 
 /// A class over an analysis and the name that it is to have, with the tokens that hold its members and with their old
 /// and new spellings. Contracts see the class and the name.
@@ -24,7 +24,7 @@ pub struct Renaming<'a> {
 
 impl<'a> Model for Renaming<'a> {
     ghost use Rattle.std.specs.Coded.{codes};
-    ghost use Rattle.ws_core.specs.Below.c99_tree.TreeCode.{node_code};
+    ghost use Rattle.analysis.specs.Below.c99_tree.TreeCode.{node_code};
     ghost use Rattle.rename_rules.specs.RenamingValue.{AreHeld, RenamingValue, renaming};
 
     ghost Value = { RenamingValue };

@@ -1,11 +1,10 @@
 // Files that would grow past the limits.
-ghost use Rattle.std.specs.Prelude.{◌≡◌, ◌≤◌, ◌<◌, ◌+◌, ◌==◌, ◌||◌, min, ℕ, IfOk, Ok, Some, length, slice_get};
-ghost use Rattle.std.specs.Prelude.{List};
+ghost use Rattle.std.specs.Prelude.{◌≡◌, ◌≤◌, ◌<◌, ◌+◌, ◌==◌, ◌||◌, min, ℕ, IfOk, Ok, Some, length, slice_get, List};
 ghost use Rattle.std.specs.List.{flat_map, prefix_len};
 ghost use Rattle.std.specs.Option.{option_map_or};
 ghost use Rattle.cs_base.specs.declared.causes.Cause.TheVariants as cause;
-ghost use Rattle.include_tree.specs.Below.source_files.KeptFiles.{kept_at};
-ghost use Rattle.include_tree.specs.PseudoFiles.{is_pseudo};
+ghost use Rattle.analysis.specs.Below.source_files.KeptFiles.{kept_at};
+ghost use Rattle.analysis.specs.Below.include_tree.PseudoFiles.{is_pseudo};
 ghost use Rattle.part_respell.specs.Order.{AreInOrder};
 ghost use Rattle.rename_rules.specs.First.{standing, FirstThen};
 ghost use Rattle.rename_rules.specs.Offences.{full_place, large_place, too_large_places};
@@ -13,11 +12,10 @@ ghost use Rattle.rename_rules.specs.Runs.{is_edited, is_in, kept_size, kept_size
 
 use crate::offences::{Offence, first_with};
 use crate::renamings::Renaming;
+use analysis::{Analysis, KeptFile};
 use cs_base::{Cause, MOST_BYTES, MOST_BYTES_OF_ALL, Memory, Part};
-use include_tree::KeptFile;
 use part_respell::respell;
 use std::alloc::Global;
-use ws_core::Analysis;
 
 // Whether this is the name of a pseudo file.
 fn is_pseudo(path: &[u8]) -> bool

@@ -13,9 +13,9 @@ use crate::offences::Offence;
 use crate::renamings::Renaming;
 use crate::respelling_table::is_clash;
 use crate::spelling::spelled;
+use analysis::Analysis;
 use cs_base::{Cause, Memory, Tok, is_reserved};
 use std::alloc::Global;
-use ws_core::Analysis;
 
 // Whether the old or the new spelling of a token is reserved.
 fn is_reserved_in(tok: &Tok, new: &[u8]) -> bool

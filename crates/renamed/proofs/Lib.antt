@@ -1,3 +1,1 @@
 mod StayLemmas
--- Words of the crates below, passed on.
-pub mod Below

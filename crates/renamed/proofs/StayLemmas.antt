@@ -1,8 +1,8 @@
 -- What stays under a renaming, list by list.
 use Rattle.std.proofs.Common.{◌≡◌, ℕ, suc, List, [], ◌∷◌, map, refl, ap}
-use Rattle.ws_core.specs.Below.cs_base.Token.{Token}
-use Rattle.ws_core.specs.Below.source_files.Files.{Table, Entry}
-use Rattle.ws_core.specs.Analysis.{UnitAnalysis}
+use Rattle.cs_base.specs.Token.{Token}
+use Rattle.analysis.specs.Below.source_files.Files.{Table, Entry}
+use Rattle.analysis.specs.Analysis.{UnitAnalysis}
 use Rattle.renamed.specs.Renamed.{Editing, renamed_token, renamed_unit_analysis, edited_from}
 use Rattle.renamed.specs.Staying.{RenamedTokensStay, EditedPathsStay, RenamedUnitsStay}
 

@@ -2,5 +2,3 @@
 pub mod Renamed
 -- What the public contracts rest on.
 pub mod Staying
--- Words of the crates below, passed on.
-pub mod Below

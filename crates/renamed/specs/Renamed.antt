@@ -3,26 +3,26 @@
 use Rattle.std.specs.Prelude.{ℕ, ◌≡◌, suc, Bool, false, ◌&&◌, if◌then◌else◌, Option, Some, None, List, [], ◌∷◌, ◌++◌, length, map, Ok, slice_get}
 use Rattle.std.specs.Option.{option_map, option_map_or, option_and_then}
 use Rattle.std.specs.Str.{bytes_eq}
-use Rattle.ws_core.specs.Below.cs_base.declared.positions.Part.{Part}
-use Rattle.ws_core.specs.Below.cs_base.declared.positions.Pos.{Pos}
-use Rattle.ws_core.specs.Below.cs_base.declared.tokens.Link.{Link}
-use Rattle.ws_core.specs.Below.cs_base.Token.{Token, token}
-use Rattle.ws_core.specs.Below.cs_base.Units.{UnitValue}
-use Rattle.ws_core.specs.Below.c_types.declared.entity.Linkage.TheVariants.{External}
-use Rattle.ws_core.specs.Below.c_types.Declarations.{is_linkage, spelling_at}
-use Rattle.ws_core.specs.Below.scope_bind.Names.{entity_at, linkage_at}
-use Rattle.ws_core.specs.Below.part_lexer.Logical.{logical_of, spelling}
-use Rattle.ws_core.specs.Below.part_lexer.Places.{pos, origins_from}
-use Rattle.ws_core.specs.Below.part_lexer.Respelling.{moved}
-use Rattle.ws_core.specs.Below.ws_file.Workspace.{WorkspaceValue}
-use Rattle.ws_core.specs.Below.source_files.Files.{Source, Table, Found, Lines, Absent, Unopened, Opened, Made, entry}
-use Rattle.ws_core.specs.Below.source_files.KeptFiles.{KeptValue, kept_at}
-use Rattle.ws_core.specs.Below.unit_steps.Notes.{link}
-use Rattle.ws_core.specs.Below.unit_steps.declared.events.Event.{Event}
-use Rattle.ws_core.specs.Below.unit_steps.Texts.{UnitTextValue, text_of}
+use Rattle.cs_base.specs.declared.positions.Part.{Part}
+use Rattle.cs_base.specs.declared.positions.Pos.{Pos}
+use Rattle.cs_base.specs.declared.tokens.Link.{Link}
+use Rattle.cs_base.specs.Token.{Token, token}
+use Rattle.cs_base.specs.Units.{UnitValue}
+use Rattle.analysis.specs.Below.c_types.declared.entity.Linkage.TheVariants.{External}
+use Rattle.analysis.specs.Below.c_types.Declarations.{is_linkage, spelling_at}
+use Rattle.analysis.specs.Below.scope_bind.Names.{entity_at, linkage_at}
+use Rattle.analysis.specs.Below.lexer.Logical.{logical_of, spelling}
+use Rattle.analysis.specs.Below.lexer.Places.{pos, origins_from}
+use Rattle.analysis.specs.Below.lexer.Respelling.{moved}
+use Rattle.ws_file.specs.Workspace.{WorkspaceValue}
+use Rattle.analysis.specs.Below.source_files.Files.{Source, Table, Found, Lines, Absent, Unopened, Opened, Made, entry}
+use Rattle.analysis.specs.Below.source_files.KeptFiles.{KeptValue, kept_at}
+use Rattle.analysis.specs.Below.unit_steps.Notes.{link}
+use Rattle.analysis.specs.Below.unit_steps.declared.events.Event.{Event}
+use Rattle.analysis.specs.Below.unit_steps.Texts.{UnitTextValue, text_of}
 use Rattle.part_respell.specs.Respelled.{put_at, put_for, put_of, respelled}
-use Rattle.ws_core.specs.Analysis.{UnitAnalysis, unit_analysis, AnalysisValue, analysis_and, analysis_of}
-use Rattle.ws_core.specs.Texts.{TextsValue, texts_and, texts_of}
+use Rattle.analysis.specs.Analysis.{UnitAnalysis, unit_analysis, AnalysisValue, analysis_and, analysis_of}
+use Rattle.analysis.specs.Texts.{TextsValue, texts_and, texts_of}
 
 -- ---- tokens
 

@@ -1,9 +1,9 @@
 -- What stays under every renaming: all but spellings, origins, positions and the bytes of files.
 use Rattle.std.specs.Prelude.{◌≡◌, List, map}
-use Rattle.ws_core.specs.Below.cs_base.Token.{Token}
-use Rattle.ws_core.specs.Below.source_files.Files.{Table}
-use Rattle.ws_core.specs.Below.unit_steps.Texts.{UnitTextValue}
-use Rattle.ws_core.specs.Analysis.{UnitAnalysis, AnalysisValue}
+use Rattle.cs_base.specs.Token.{Token}
+use Rattle.analysis.specs.Below.source_files.Files.{Table}
+use Rattle.analysis.specs.Below.unit_steps.Texts.{UnitTextValue}
+use Rattle.analysis.specs.Analysis.{UnitAnalysis, AnalysisValue}
 use Rattle.renamed.specs.Renamed.{Renaming, Editing, renamed_text, renamed_analysis, edited_table}
 
 -- Tokens, one for each: of the same kinds, with the same white space before them, on the same lines, directly there or not.

@@ -1,17 +1,17 @@
 -- A text whose names agree with the tree of another one is read to it.
 use Rattle.std.proofs.Common.{ℕ, ◌≡◌, Bool, true, List, length, Result, Ok, Err, sym, ap, subst, ◌∙◌}
-use Rattle.typedef_laws.specs.Below.tree_laws.Below.c99_grammar.declared.dialects.Dialect.{Dialect}
-use Rattle.typedef_laws.specs.Below.tree_laws.Below.cs_base.Token.{Token}
-use Rattle.typedef_laws.specs.Below.tree_laws.Below.c99_tree.Tree.{Node, node_of, lone}
-use Rattle.typedef_laws.specs.Below.tree_laws.Below.c99_tree.declared.production.Production.TheVariants.{TranslationUnit}
-use Rattle.typedef_laws.specs.Below.tree_laws.Below.c99_read.State.{base_at}
-use Rattle.typedef_laws.specs.Below.tree_laws.Below.c99_read.Reading.{Step, Stop, produce, steps_for, read_within, read_of, whole, at_first, tree_of}
-use Rattle.typedef_laws.specs.Below.tree_laws.Below.c99_grammar.Standard.{grammar}
-use Rattle.typedef_laws.specs.Below.tree_laws.Below.name_chains.Frames.{at_first as before}
-use Rattle.typedef_laws.specs.Agreeing.{agrees}
-use Rattle.typedef_laws.proofs.Outlines.{agrees_same}
-use Rattle.typedef_laws.proofs.Goes.{After}
-use Rattle.typedef_laws.proofs.Units.{unit_label}
+use Rattle.c99_grammar.specs.declared.dialects.Dialect.{Dialect}
+use Rattle.cs_base.specs.Token.{Token}
+use Rattle.c99_tree.specs.Tree.{Node, node_of, lone}
+use Rattle.c99_tree.specs.declared.production.Production.TheVariants.{TranslationUnit}
+use Rattle.c99_read.specs.State.{base_at}
+use Rattle.c99_read.specs.Reading.{Step, Stop, produce, steps_for, read_within, read_of, whole, at_first, tree_of}
+use Rattle.c99_grammar.specs.Standard.{grammar}
+use Rattle.name_chains.specs.Frames.{at_first as before}
+use Rattle.tree_laws.specs.Agreeing.{agrees}
+use Rattle.tree_laws.proofs.Outlines.{agrees_same}
+use Rattle.tree_laws.proofs.Goes.{After}
+use Rattle.tree_laws.proofs.Units.{unit_label}
 use Rattle.renamed_tree_laws.specs.Along.{all_along}
 use Rattle.renamed_tree_laws.specs.Respelled.{IsReadSo}
 use Rattle.renamed_tree_laws.proofs.RespelledTexts.{one_kind_alike}

@@ -1,26 +1,26 @@
 -- What is asked along each production of C99, where the second text's names agree with the tree.
 use Rattle.std.proofs.Common.{ℕ, zero, suc, ◌+◌, ◌≡◌, Bool, true, false, ◌&&◌, not, List, [], ◌∷◌, inl, inr, refl}
 use Rattle.std.proofs.lemmas.Bool.{false≢true, and_parts, or_cases, not-true}
-use Rattle.typedef_laws.specs.Below.tree_laws.Below.c99_grammar.declared.dialects.Dialect.{Dialect}
-use Rattle.typedef_laws.specs.Below.tree_laws.Below.cs_base.Token.{Token}
-use Rattle.typedef_laws.specs.Below.tree_laws.Below.c99_tree.declared.production.Production.{Production}
-use Rattle.typedef_laws.specs.Below.tree_laws.Below.c99_tree.declared.production.Production.TheVariants.{TranslationUnit, External, ExtRest, ExtTail, FunBody, Declaration, DeclRest, InitDecl, Sassert, Specs, Main, Mod, Qual, Word, StructSpec, SuRest, Members, Member, MemRest, Mdecl, EnumSpec, EnRest, Enumerators, Enumerator, Declarator, Pointer, Direct, Suffix, Bound, Params, Param, Pdecl, Pdirect, TypeName, Adecl, Adirect, Init, InitList, InitItem, Designator, Expr, Assign, Asgop, Cond, Lor, Land, Bor, Bxor, Band, Equal, Relate, Shift, Add, Mul, Cast, CastRest, Unary, SizeRest, SizeLit, Primary, Post, Args, Block, BlockItem, Statement, Sub, ForInit}
-use Rattle.typedef_laws.specs.Below.tree_laws.Below.c99_grammar.Items.{Item, many, own, Alternative}
-use Rattle.typedef_laws.specs.Below.tree_laws.Below.c99_grammar.Standard.{c99, grammar}
-use Rattle.typedef_laws.proofs.Below.tree_laws.Below.c99_grammar.StandardLemmas.{by_dialect}
-use Rattle.typedef_laws.specs.Below.tree_laws.Below.c99_read.Sound.{is_met, goal_has_token}
-use Rattle.typedef_laws.specs.Below.tree_laws.Below.c99_read.State.{State, base_at, opened}
-use Rattle.typedef_laws.specs.Below.tree_laws.Below.c99_read.Reading.{Goal, repeat, Step, step, read_within}
-use Rattle.typedef_laws.proofs.Below.tree_laws.Below.c99_read.Moves.{Moves}
-use Rattle.typedef_laws.specs.Below.tree_laws.Below.c_types.Trees.{is_at}
-use Rattle.typedef_laws.specs.Laws.{is_bodiless}
-use Rattle.typedef_laws.proofs.Parts.{first_body, second_body, rest_of, front_of, classes_of}
-use Rattle.typedef_laws.proofs.Rules.{labelled, is_simple, fine}
-use Rattle.typedef_laws.proofs.Goes.{After, IsIn, Goes}
-use Rattle.typedef_laws.proofs.Steps.{Reads}
-use Rattle.typedef_laws.proofs.Listing.{listing, IsOdd, more_listed}
-use Rattle.typedef_laws.proofs.Scoping.{is_whole, whole_fine}
-use Rattle.typedef_laws.proofs.Table.{is_fine, is_ok, all_ok, later_of, nth_of, listed_within, moves_within, reads_within, bodies_within}
+use Rattle.c99_grammar.specs.declared.dialects.Dialect.{Dialect}
+use Rattle.cs_base.specs.Token.{Token}
+use Rattle.c99_tree.specs.declared.production.Production.{Production}
+use Rattle.c99_tree.specs.declared.production.Production.TheVariants.{TranslationUnit, External, ExtRest, ExtTail, FunBody, Declaration, DeclRest, InitDecl, Sassert, Specs, Main, Mod, Qual, Word, StructSpec, SuRest, Members, Member, MemRest, Mdecl, EnumSpec, EnRest, Enumerators, Enumerator, Declarator, Pointer, Direct, Suffix, Bound, Params, Param, Pdecl, Pdirect, TypeName, Adecl, Adirect, Init, InitList, InitItem, Designator, Expr, Assign, Asgop, Cond, Lor, Land, Bor, Bxor, Band, Equal, Relate, Shift, Add, Mul, Cast, CastRest, Unary, SizeRest, SizeLit, Primary, Post, Args, Block, BlockItem, Statement, Sub, ForInit}
+use Rattle.c99_grammar.specs.Items.{Item, many, own, Alternative}
+use Rattle.c99_grammar.specs.Standard.{c99, grammar}
+use Rattle.c99_grammar.proofs.StandardLemmas.{by_dialect}
+use Rattle.c99_read.specs.Sound.{is_met, goal_has_token}
+use Rattle.c99_read.specs.State.{State, base_at, opened}
+use Rattle.c99_read.specs.Reading.{Goal, repeat, Step, step, read_within}
+use Rattle.c99_read.proofs.Moves.{Moves}
+use Rattle.c_types.specs.Trees.{is_at}
+use Rattle.tree_laws.specs.TypedefNames.{is_bodiless}
+use Rattle.tree_laws.proofs.Parts.{first_body, second_body, rest_of, front_of, classes_of}
+use Rattle.tree_laws.proofs.Rules.{labelled, is_simple, fine}
+use Rattle.tree_laws.proofs.Goes.{After, IsIn, Goes}
+use Rattle.tree_laws.proofs.TypedefSteps.{Reads}
+use Rattle.tree_laws.proofs.Listing.{listing, IsOdd, more_listed}
+use Rattle.tree_laws.proofs.Scoping.{is_whole, whole_fine}
+use Rattle.tree_laws.proofs.Table.{is_fine, is_ok, all_ok, later_of, nth_of, listed_within, moves_within, reads_within, bodies_within}
 use Rattle.renamed_tree_laws.specs.Along.{along_within}
 use Rattle.renamed_tree_laws.proofs.Asking.{of_token, of_node, Asks, along, Asked, asks_step, BodyAsks, fine_asks, AskedBodies, picked_asks}
 use Rattle.renamed_tree_laws.proofs.KindTokens.{primary_asks, main_asks, many_asks, list_asks as names_asks}

@@ -2,29 +2,29 @@
 -- read.
 use Rattle.std.proofs.Common.{ℕ, ◌+◌, ◌≤◌, ◌≡◌, Bool, true, false, ◌&&◌, not, if◌then◌else◌, ◌==◌, List, [], ◌∷◌, length, Ok, Err, nat_lt, refl, sym, ap, subst, ◌∙◌, arith}
 use Rattle.std.proofs.lemmas.Bool.{false≢true, and_parts, not-true, and_from}
-use Rattle.typedef_laws.specs.Below.tree_laws.Below.c99_grammar.declared.dialects.Dialect.{Dialect}
-use Rattle.typedef_laws.specs.Below.tree_laws.Below.cs_base.Token.{Token}
-use Rattle.typedef_laws.specs.Below.tree_laws.Below.c99_tree.Tree.{Forest, none, token, node, Node, node_of, leaf, inner, put, lone, collapsed}
-use Rattle.typedef_laws.specs.Below.tree_laws.Below.c99_tree.declared.production.Label.{Label}
-use Rattle.typedef_laws.specs.Below.tree_laws.Below.c99_tree.declared.production.Production.{Production}
-use Rattle.typedef_laws.specs.Below.tree_laws.Below.c99_tree.declared.production.Production.TheVariants.{Main, Params, Primary, Pdirect}
-use Rattle.typedef_laws.specs.Below.tree_laws.Below.c99_grammar.Items.{Item, one, part, end_of_text, act, ◌·◌, choice, maybe, many, deep, Test, own, Alternative}
-use Rattle.typedef_laws.specs.Below.tree_laws.Below.c99_grammar.Standard.{grammar}
-use Rattle.typedef_laws.specs.Below.tree_laws.Below.c99_read.Sound.{is_met, goal_has_token}
-use Rattle.typedef_laws.specs.Below.tree_laws.Below.c99_read.State.{State, collapses, finished, opened, closed}
-use Rattle.typedef_laws.specs.Below.tree_laws.Below.c99_read.Reading.{Goal, produce, repeat, Step, syntax, too_deep, and_then, deepest, at_end, enter, may, step, alternative, pick}
-use Rattle.typedef_laws.proofs.Below.tree_laws.Below.c99_read.Moves.{Moves}
-use Rattle.typedef_laws.specs.Below.tree_laws.Below.scope_bind.Named.{Scope}
-use Rattle.typedef_laws.specs.Below.tree_laws.Below.c_types.Trees.{is_at}
-use Rattle.typedef_laws.specs.Below.tree_laws.Below.name_chains.Entering.{scope_in}
-use Rattle.typedef_laws.specs.Laws.{is_bodiless}
-use Rattle.typedef_laws.proofs.Private.{Declaration}
-use Rattle.typedef_laws.proofs.Outline.{Outline, stepped, begun, ended, entries_in, outlined, token_agrees, node_agrees, all_agree}
-use Rattle.typedef_laws.proofs.Matching.{Matches, Bounds, IsOpen, SameOuter, outer_further, outer_open, bounds_sooner}
-use Rattle.typedef_laws.proofs.Rules.{labelled, is_quiet, fine, held_told, is_simple, simple_scope, simple_entries, plain_named, collapsed_scope, collapsed_entries}
-use Rattle.typedef_laws.proofs.Goes.{After, with_token, IsIn, Fits, Goes, Body, closed_scopes, built_is}
-use Rattle.typedef_laws.proofs.Steps.{Reads, taken, goes_step, opened_in, opened_fits}
-use Rattle.typedef_laws.proofs.Table.{Bodies}
+use Rattle.c99_grammar.specs.declared.dialects.Dialect.{Dialect}
+use Rattle.cs_base.specs.Token.{Token}
+use Rattle.c99_tree.specs.Tree.{Forest, none, token, node, Node, node_of, leaf, inner, put, lone, collapsed}
+use Rattle.c99_tree.specs.declared.production.Label.{Label}
+use Rattle.c99_tree.specs.declared.production.Production.{Production}
+use Rattle.c99_tree.specs.declared.production.Production.TheVariants.{Main, Params, Primary, Pdirect}
+use Rattle.c99_grammar.specs.Items.{Item, one, part, end_of_text, act, ◌·◌, choice, maybe, many, deep, Test, own, Alternative}
+use Rattle.c99_grammar.specs.Standard.{grammar}
+use Rattle.c99_read.specs.Sound.{is_met, goal_has_token}
+use Rattle.c99_read.specs.State.{State, collapses, finished, opened, closed}
+use Rattle.c99_read.specs.Reading.{Goal, produce, repeat, Step, syntax, too_deep, and_then, deepest, at_end, enter, may, step, alternative, pick}
+use Rattle.c99_read.proofs.Moves.{Moves}
+use Rattle.scope_bind.specs.Named.{Scope}
+use Rattle.c_types.specs.Trees.{is_at}
+use Rattle.name_chains.specs.Entering.{scope_in}
+use Rattle.tree_laws.specs.TypedefNames.{is_bodiless}
+use Rattle.tree_laws.proofs.Private.{Declaration}
+use Rattle.tree_laws.proofs.Outline.{Outline, stepped, begun, ended, entries_in, outlined, token_agrees, node_agrees, all_agree}
+use Rattle.tree_laws.proofs.Matching.{Matches, Bounds, IsOpen, SameOuter, outer_further, outer_open, bounds_sooner}
+use Rattle.tree_laws.proofs.Rules.{labelled, is_quiet, fine, held_told, is_simple, simple_scope, simple_entries, plain_named, collapsed_scope, collapsed_entries}
+use Rattle.tree_laws.proofs.Goes.{After, with_token, IsIn, Fits, Goes, Body, closed_scopes, built_is}
+use Rattle.tree_laws.proofs.TypedefSteps.{Reads, taken, goes_step, opened_in, opened_fits}
+use Rattle.tree_laws.proofs.Table.{Bodies}
 use Rattle.renamed_tree_laws.specs.Along.{along_rest, along_item, along_first}
 use Rattle.renamed_tree_laws.specs.Respelled.{is_bare_so, is_kind_so, is_node_so}
 

@@ -1,18 +1,18 @@
 -- The names that are read as no typedef names, though they are uses of nothing, are the bare names of the tree.
 use Rattle.std.proofs.Common.{ℕ, ◌+◌, ◌≡◌, Bool, true, false, ◌&&◌, if◌then◌else◌, ◌==◌, ◌%◌, List, [], ◌∷◌, ◌++◌, inl, inr, refl, ap, subst, arith}
 use Rattle.std.proofs.lemmas.Bool.{eqb-true, eq-eqb, and_parts}
-use Rattle.typedef_laws.specs.Below.tree_laws.Below.c99_grammar.declared.dialects.Dialect.{Dialect}
-use Rattle.typedef_laws.specs.Below.tree_laws.Below.cs_base.Token.{Token}
-use Rattle.typedef_laws.specs.Below.tree_laws.Below.c99_tree.Tree.{Forest, none, token, node}
-use Rattle.typedef_laws.specs.Below.tree_laws.Below.c99_tree.declared.production.Label.{Label}
-use Rattle.typedef_laws.specs.Below.tree_laws.Below.c99_tree.declared.production.Production.TheVariants.{Params, Pdirect}
-use Rattle.typedef_laws.specs.Below.tree_laws.Below.c99_tree.contracts.production.ProductionPartialEq.TheImpl.{ghosts}
-use Rattle.typedef_laws.specs.Below.tree_laws.Below.c99_tree.declared.production.Production.{Production}
-use Rattle.typedef_laws.specs.Below.tree_laws.Below.c99_grammar.Standard.{grammar}
-use Rattle.typedef_laws.specs.Below.tree_laws.Below.c99_read.State.{base_at, is_identifier}
-use Rattle.typedef_laws.specs.Below.tree_laws.Below.c_types.Trees.{is_at}
-use Rattle.typedef_laws.specs.Below.tree_laws.Below.c_types.Lists.{odd_tokens, even_tokens, name_in, bare_at, bare_in}
-use Rattle.typedef_laws.proofs.Below.tree_laws.Lookups.{false≢true, In}
+use Rattle.c99_grammar.specs.declared.dialects.Dialect.{Dialect}
+use Rattle.cs_base.specs.Token.{Token}
+use Rattle.c99_tree.specs.Tree.{Forest, none, token, node}
+use Rattle.c99_tree.specs.declared.production.Label.{Label}
+use Rattle.c99_tree.specs.declared.production.Production.TheVariants.{Params, Pdirect}
+use Rattle.c99_tree.specs.contracts.production.ProductionPartialEq.TheImpl.{ghosts}
+use Rattle.c99_tree.specs.declared.production.Production.{Production}
+use Rattle.c99_grammar.specs.Standard.{grammar}
+use Rattle.c99_read.specs.State.{base_at, is_identifier}
+use Rattle.c_types.specs.Trees.{is_at}
+use Rattle.c_types.specs.Lists.{odd_tokens, even_tokens, name_in, bare_at, bare_in}
+use Rattle.tree_laws.proofs.Lookups.{false≢true, In}
 use Rattle.renamed_tree_laws.specs.Loose.{is_enclosed, AllLoose}
 use Rattle.renamed_tree_laws.proofs.LooseNames.{more_in}
 

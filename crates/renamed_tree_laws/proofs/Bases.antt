@@ -4,16 +4,16 @@ use Rattle.std.specs.List.{list_all}
 use Rattle.std.specs.Option.{option_map_or}
 use Rattle.std.specs.Str.{bytes_eq}
 use Rattle.std.proofs.lemmas.Bool.{false≢true, and_parts, not-true}
-use Rattle.typedef_laws.specs.Below.tree_laws.Below.c99_grammar.declared.dialects.Dialect.{Dialect}
-use Rattle.typedef_laws.specs.Below.tree_laws.Below.cs_base.Token.{Token}
-use Rattle.typedef_laws.specs.Below.tree_laws.Below.cs_base.declared.tokens.Kind.{Kind}
-use Rattle.typedef_laws.specs.Below.tree_laws.Below.cs_base.declared.tokens.Kind.TheVariants as kind
-use Rattle.typedef_laws.specs.Below.tree_laws.Below.c99_grammar.declared.dialects.Dialect.TheVariants.{Gnu}
-use Rattle.typedef_laws.specs.Below.tree_laws.Below.c99_grammar.Spellings.{Spelled, keywords_of, punctuators}
-use Rattle.typedef_laws.specs.Below.tree_laws.Below.c99_grammar.Standard.{c99, grammar}
-use Rattle.typedef_laws.proofs.Below.tree_laws.Below.c99_grammar.StandardLemmas.{keywords_fit}
-use Rattle.typedef_laws.specs.Below.tree_laws.Below.c99_read.State.{base_at, is_identifier}
-use Rattle.typedef_laws.specs.Below.tree_laws.Below.c99_grammar.TokenClasses.{spelled_class, class_of_kind, base_class}
+use Rattle.c99_grammar.specs.declared.dialects.Dialect.{Dialect}
+use Rattle.cs_base.specs.Token.{Token}
+use Rattle.cs_base.specs.declared.tokens.Kind.{Kind}
+use Rattle.cs_base.specs.declared.tokens.Kind.TheVariants as kind
+use Rattle.c99_grammar.specs.declared.dialects.Dialect.TheVariants.{Gnu}
+use Rattle.c99_grammar.specs.Spellings.{Spelled, keywords_of, punctuators}
+use Rattle.c99_grammar.specs.Standard.{c99, grammar}
+use Rattle.c99_grammar.proofs.StandardLemmas.{keywords_fit}
+use Rattle.c99_read.specs.State.{base_at, is_identifier}
+use Rattle.c99_grammar.specs.TokenClasses.{spelled_class, class_of_kind, base_class}
 use Rattle.renamed_tree_laws.proofs.Private.{Class, identifier, no_class, end_class, covers}
 
 spelled_so : (P : Class → Bool) (words : List Spelled) (text : List ℕ) (other : Class) → list_all (λ w. P w.1) words ≡ true → P other ≡ true

@@ -2,18 +2,18 @@
 use Rattle.std.proofs.Common.{ℕ, ◌+◌, ◌≡◌, Bool, true, false, ◌&&◌, ◌||◌, not, if◌then◌else◌, List, [], ◌∷◌, refl, sym, ap, ◌∙◌, inl, inr}
 use Rattle.std.specs.List.{list_all, list_any}
 use Rattle.std.proofs.lemmas.Bool.{and_parts, false≢true}
-use Rattle.typedef_laws.specs.Below.tree_laws.Below.c99_grammar.declared.dialects.Dialect.{Dialect}
-use Rattle.typedef_laws.specs.Below.tree_laws.Below.cs_base.Token.{Token}
-use Rattle.typedef_laws.specs.Below.tree_laws.Below.c99_tree.declared.production.Production.{Production}
-use Rattle.typedef_laws.specs.Below.tree_laws.Below.c99_grammar.Classes.{among}
-use Rattle.typedef_laws.specs.Below.tree_laws.Below.c99_grammar.declared.classes.Class.TheVariants.{Colon}
-use Rattle.typedef_laws.specs.Below.tree_laws.Below.c99_grammar.Items.{Item, one, part, end_of_text, act, ◌·◌, choice, maybe, many, deep, Test, own, otherwise, next, next_two, Ask, is, is_not, begins, either}
-use Rattle.typedef_laws.specs.Below.tree_laws.Below.c99_grammar.Standard.{grammar}
-use Rattle.typedef_laws.specs.Below.tree_laws.Below.c99_read.State.{State, class_at, base_at}
-use Rattle.typedef_laws.specs.Below.tree_laws.Below.c99_read.Reading.{may}
-use Rattle.typedef_laws.specs.Below.tree_laws.Below.c99_grammar.Starting.{is_passed, production_starts, asks, holds, starts, is_pair}
-use Rattle.typedef_laws.proofs.Below.tree_laws.Below.c99_grammar.PairLemmas.{pairs_same}
-use Rattle.typedef_laws.proofs.Below.tree_laws.Below.c99_read.Alike.{swapped}
+use Rattle.c99_grammar.specs.declared.dialects.Dialect.{Dialect}
+use Rattle.cs_base.specs.Token.{Token}
+use Rattle.c99_tree.specs.declared.production.Production.{Production}
+use Rattle.c99_grammar.specs.Classes.{among}
+use Rattle.c99_grammar.specs.declared.classes.Class.TheVariants.{Colon}
+use Rattle.c99_grammar.specs.Items.{Item, one, part, end_of_text, act, ◌·◌, choice, maybe, many, deep, Test, own, otherwise, next, next_two, Ask, is, is_not, begins, either}
+use Rattle.c99_grammar.specs.Standard.{grammar}
+use Rattle.c99_read.specs.State.{State, class_at, base_at}
+use Rattle.c99_read.specs.Reading.{may}
+use Rattle.c99_grammar.specs.Starting.{is_passed, production_starts, asks, holds, starts, is_pair}
+use Rattle.c99_grammar.proofs.PairLemmas.{pairs_same}
+use Rattle.c99_read.proofs.Alike.{swapped}
 use Rattle.renamed_tree_laws.proofs.Private.{Class, end_class, colon, colons}
 use Rattle.renamed_tree_laws.proofs.Twins.{agree_is, blind, plain_class, alike_by, blind_same, same_class, Same}
 use Rattle.renamed_tree_laws.proofs.Moods.{Mood, any, label, calm, solid, asks_same, test_same, starts_same, joint, pair_behind, blind_pair, blind_part, each_list, each_part, decides}

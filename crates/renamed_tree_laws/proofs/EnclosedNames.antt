@@ -1,23 +1,23 @@
 -- A parameter's declarator in parentheses whose first token is an identifier begins with this name.
 use Rattle.std.proofs.Common.{ℕ, zero, suc, ◌+◌, ◌≡◌, Bool, true, false, ◌&&◌, not, if◌then◌else◌, List, [], ◌∷◌, length, Ok, Err, nat_lt, refl, sym, ap, ◌∙◌}
 use Rattle.std.proofs.lemmas.Bool.{not-true}
-use Rattle.typedef_laws.specs.Below.tree_laws.Below.c99_grammar.declared.dialects.Dialect.{Dialect}
-use Rattle.typedef_laws.specs.Below.tree_laws.Below.c99_tree.Tree.{Forest, none, token, node, Node, Part, leaf, inner, put, lone}
-use Rattle.typedef_laws.specs.Below.tree_laws.Below.c99_tree.declared.production.Label.{Label}
-use Rattle.typedef_laws.specs.Below.tree_laws.Below.c99_tree.declared.production.Production.{Production}
-use Rattle.typedef_laws.specs.Below.tree_laws.Below.c99_tree.declared.production.Production.TheVariants.{Pdecl, Pdirect}
-use Rattle.typedef_laws.specs.Below.tree_laws.Below.c99_tree.contracts.production.ProductionPartialEq.TheImpl.{ghosts}
-use Rattle.typedef_laws.specs.Below.tree_laws.Below.c99_grammar.Classes.{among}
-use Rattle.typedef_laws.specs.Below.tree_laws.Below.c99_grammar.Items.{Item, one, part, ◌·◌, deep, own, names, Action}
-use Rattle.typedef_laws.specs.Below.tree_laws.Below.c99_grammar.Standard.{c99, grammar}
-use Rattle.typedef_laws.specs.Below.tree_laws.Below.c99_read.State.{State, base_at, is_identifier, is_typedef_at, class_at, collapses, finished, acted, opened, closed}
-use Rattle.typedef_laws.specs.Below.tree_laws.Below.c99_read.Reading.{Goal, produce, Step, syntax, too_deep, and_then, deepest, take_one, enter, may, step, alternative, read_within}
-use Rattle.typedef_laws.specs.Below.tree_laws.Below.c99_grammar.Starting.{starts}
-use Rattle.typedef_laws.specs.Below.tree_laws.Below.c_types.Trees.{is_at}
-use Rattle.typedef_laws.specs.Below.tree_laws.Below.c_types.Lists.{name_in}
-use Rattle.typedef_laws.proofs.Below.tree_laws.Lookups.{false≢true}
-use Rattle.typedef_laws.proofs.Below.tree_laws.Walked.{After, with_token, after_if, kept_by_item}
-use Rattle.typedef_laws.proofs.Parts.{first_body, rest_of}
+use Rattle.c99_grammar.specs.declared.dialects.Dialect.{Dialect}
+use Rattle.c99_tree.specs.Tree.{Forest, none, token, node, Node, Part, leaf, inner, put, lone}
+use Rattle.c99_tree.specs.declared.production.Label.{Label}
+use Rattle.c99_tree.specs.declared.production.Production.{Production}
+use Rattle.c99_tree.specs.declared.production.Production.TheVariants.{Pdecl, Pdirect}
+use Rattle.c99_tree.specs.contracts.production.ProductionPartialEq.TheImpl.{ghosts}
+use Rattle.c99_grammar.specs.Classes.{among}
+use Rattle.c99_grammar.specs.Items.{Item, one, part, ◌·◌, deep, own, names, Action}
+use Rattle.c99_grammar.specs.Standard.{c99, grammar}
+use Rattle.c99_read.specs.State.{State, base_at, is_identifier, is_typedef_at, class_at, collapses, finished, acted, opened, closed}
+use Rattle.c99_read.specs.Reading.{Goal, produce, Step, syntax, too_deep, and_then, deepest, take_one, enter, may, step, alternative, read_within}
+use Rattle.c99_grammar.specs.Starting.{starts}
+use Rattle.c_types.specs.Trees.{is_at}
+use Rattle.c_types.specs.Lists.{name_in}
+use Rattle.tree_laws.proofs.Lookups.{false≢true}
+use Rattle.tree_laws.proofs.Walked.{After, with_token, after_if, kept_by_item}
+use Rattle.tree_laws.proofs.Parts.{first_body, rest_of}
 use Rattle.renamed_tree_laws.proofs.Private.{Class, identifier, typedef_name}
 use Rattle.renamed_tree_laws.proofs.Bases.{base_is}
 

@@ -1,24 +1,24 @@
 -- In each tree that is read an identifier behind the parenthesis that begins a parameter's declarator is the declared name there.
 use Rattle.std.proofs.Common.{ℕ, ◌+◌, ◌≡◌, Bool, true, false, ◌&&◌, ◌||◌, not, if◌then◌else◌, ◌==◌, List, [], ◌∷◌, Ok, Err, refl, sym, ap, subst, ◌∙◌}
 use Rattle.std.proofs.lemmas.Bool.{eqb-true, and_parts}
-use Rattle.typedef_laws.specs.Below.tree_laws.Below.c99_grammar.declared.dialects.Dialect.{Dialect}
-use Rattle.typedef_laws.specs.Below.tree_laws.Below.cs_base.Token.{Token}
-use Rattle.typedef_laws.specs.Below.tree_laws.Below.c99_tree.Tree.{Forest, none, token, node, Node, leaf, inner, put, lone, collapsed}
-use Rattle.typedef_laws.specs.Below.tree_laws.Below.c99_tree.declared.production.Label.{Label}
-use Rattle.typedef_laws.specs.Below.tree_laws.Below.c99_tree.declared.production.Production.{Production}
-use Rattle.typedef_laws.specs.Below.tree_laws.Below.c99_tree.declared.production.Production.TheVariants.{TranslationUnit, Pdirect}
-use Rattle.typedef_laws.specs.Below.tree_laws.Below.c99_tree.contracts.production.ProductionPartialEq.TheImpl.{ghosts}
-use Rattle.typedef_laws.specs.Below.tree_laws.Below.c99_grammar.Items.{Action, Alternative}
-use Rattle.typedef_laws.specs.Below.tree_laws.Below.c99_grammar.Standard.{grammar}
-use Rattle.typedef_laws.specs.Below.tree_laws.Below.c99_read.State.{State, base_at, is_identifier, collapses, finished, acted, opened, closed}
-use Rattle.typedef_laws.specs.Below.tree_laws.Below.c99_read.Reading.{produce, Step, steps_for, step, read_within, whole, at_first, tree_of, read_of}
-use Rattle.typedef_laws.specs.Below.tree_laws.Below.c_types.Lists.{name_in}
-use Rattle.typedef_laws.specs.Below.tree_laws.Below.c_types.Trees.{is_at}
-use Rattle.typedef_laws.proofs.Below.tree_laws.Lookups.{false≢true}
-use Rattle.typedef_laws.proofs.Below.tree_laws.Walked.{After, IsKept, fit_from, each_part, kept_within}
-use Rattle.typedef_laws.proofs.Rules.{labelled}
-use Rattle.typedef_laws.proofs.Below.tree_laws.NameClasses.{implied}
-use Rattle.typedef_laws.proofs.Below.tree_laws.Forms.{after_is}
+use Rattle.c99_grammar.specs.declared.dialects.Dialect.{Dialect}
+use Rattle.cs_base.specs.Token.{Token}
+use Rattle.c99_tree.specs.Tree.{Forest, none, token, node, Node, leaf, inner, put, lone, collapsed}
+use Rattle.c99_tree.specs.declared.production.Label.{Label}
+use Rattle.c99_tree.specs.declared.production.Production.{Production}
+use Rattle.c99_tree.specs.declared.production.Production.TheVariants.{TranslationUnit, Pdirect}
+use Rattle.c99_tree.specs.contracts.production.ProductionPartialEq.TheImpl.{ghosts}
+use Rattle.c99_grammar.specs.Items.{Action, Alternative}
+use Rattle.c99_grammar.specs.Standard.{grammar}
+use Rattle.c99_read.specs.State.{State, base_at, is_identifier, collapses, finished, acted, opened, closed}
+use Rattle.c99_read.specs.Reading.{produce, Step, steps_for, step, read_within, whole, at_first, tree_of, read_of}
+use Rattle.c_types.specs.Lists.{name_in}
+use Rattle.c_types.specs.Trees.{is_at}
+use Rattle.tree_laws.proofs.Lookups.{false≢true}
+use Rattle.tree_laws.proofs.Walked.{After, IsKept, fit_from, each_part, kept_within}
+use Rattle.tree_laws.proofs.Rules.{labelled}
+use Rattle.tree_laws.proofs.NameClasses.{implied}
+use Rattle.tree_laws.proofs.Forms.{after_is}
 use Rattle.renamed_tree_laws.specs.Loose.{is_enclosed}
 use Rattle.renamed_tree_laws.proofs.BareNames.{Encloses}
 use Rattle.renamed_tree_laws.proofs.EnclosedNames.{is_parenthesized, enclosed_step}

@@ -1,28 +1,28 @@
 -- Tokens whose kind is asked: primary expressions, type names, and names in an identifier list.
 use Rattle.std.proofs.Common.{ℕ, ◌+◌, ◌<◌, ◌≡◌, Bool, true, false, ◌&&◌, ◌||◌, not, if◌then◌else◌, ◌==◌, ◌%◌, List, length, Ok, Err, refl, sym, ap, subst, ◌∙◌, arith}
 use Rattle.std.proofs.lemmas.Bool.{false≢true, and_from}
-use Rattle.typedef_laws.specs.Below.tree_laws.Below.c99_grammar.declared.dialects.Dialect.{Dialect}
-use Rattle.typedef_laws.specs.Below.tree_laws.Below.cs_base.Token.{Token}
-use Rattle.typedef_laws.specs.Below.tree_laws.Below.c99_tree.Tree.{count_of}
-use Rattle.typedef_laws.specs.Below.tree_laws.Below.c99_tree.declared.production.Label.{Label}
-use Rattle.typedef_laws.specs.Below.tree_laws.Below.c99_tree.declared.production.Production.{Production}
-use Rattle.typedef_laws.specs.Below.tree_laws.Below.c99_tree.declared.production.Production.TheVariants.{Main, Mod, Params, Primary}
-use Rattle.typedef_laws.specs.Below.tree_laws.Below.c99_grammar.Classes.{among}
-use Rattle.typedef_laws.specs.Below.tree_laws.Below.c99_grammar.Items.{Item, one, part, act, ◌·◌, many, own, name}
-use Rattle.typedef_laws.specs.Below.tree_laws.Below.c99_grammar.Standard.{grammar}
-use Rattle.typedef_laws.specs.Below.tree_laws.Below.c99_read.State.{State, base_at, is_identifier, is_typedef_at, class_at, declaration, in_innermost, acted, opened}
-use Rattle.typedef_laws.specs.Below.tree_laws.Below.c99_read.Reading.{Goal, repeat, Step, and_then, take_one, may, step}
-use Rattle.typedef_laws.proofs.Private.{Class}
-use Rattle.typedef_laws.proofs.Classes.{identifiers, typedef_names}
-use Rattle.typedef_laws.proofs.Outline.{Outline, outlined, typedef_among, token_agrees}
-use Rattle.typedef_laws.proofs.Matching.{Bounds, bounds_within, bounds_sooner, same_typedef}
-use Rattle.typedef_laws.proofs.Places.{count_leaf}
-use Rattle.typedef_laws.proofs.Rules.{labelled}
-use Rattle.typedef_laws.proofs.Goes.{After, with_token, IsIn, Fits, Goes, token_goes}
-use Rattle.typedef_laws.proofs.Steps.{Reads, taken, goes_step, opened_in}
-use Rattle.typedef_laws.proofs.Taking.{if_held, some_typedef}
-use Rattle.typedef_laws.proofs.Declaring.{outer_declared}
-use Rattle.typedef_laws.proofs.Listing.{listing, IsEven, IsOdd, more_listed, comma, listed_items, Listed, listed_named, listed_goes, listed_count, listed_step, comma_goes, more_step, many_listed, even_next, odd_next}
+use Rattle.c99_grammar.specs.declared.dialects.Dialect.{Dialect}
+use Rattle.cs_base.specs.Token.{Token}
+use Rattle.c99_tree.specs.Tree.{count_of}
+use Rattle.c99_tree.specs.declared.production.Label.{Label}
+use Rattle.c99_tree.specs.declared.production.Production.{Production}
+use Rattle.c99_tree.specs.declared.production.Production.TheVariants.{Main, Mod, Params, Primary}
+use Rattle.c99_grammar.specs.Classes.{among}
+use Rattle.c99_grammar.specs.Items.{Item, one, part, act, ◌·◌, many, own, name}
+use Rattle.c99_grammar.specs.Standard.{grammar}
+use Rattle.c99_read.specs.State.{State, base_at, is_identifier, is_typedef_at, class_at, declaration, in_innermost, acted, opened}
+use Rattle.c99_read.specs.Reading.{Goal, repeat, Step, and_then, take_one, may, step}
+use Rattle.tree_laws.proofs.Private.{Class}
+use Rattle.tree_laws.proofs.TypedefClasses.{identifiers, typedef_names}
+use Rattle.tree_laws.proofs.Outline.{Outline, outlined, typedef_among, token_agrees}
+use Rattle.tree_laws.proofs.Matching.{Bounds, bounds_within, bounds_sooner, same_typedef}
+use Rattle.tree_laws.proofs.Places.{count_leaf}
+use Rattle.tree_laws.proofs.Rules.{labelled}
+use Rattle.tree_laws.proofs.Goes.{After, with_token, IsIn, Fits, Goes, token_goes}
+use Rattle.tree_laws.proofs.TypedefSteps.{Reads, taken, goes_step, opened_in}
+use Rattle.tree_laws.proofs.Taking.{if_held, some_typedef}
+use Rattle.tree_laws.proofs.Declaring.{outer_declared}
+use Rattle.tree_laws.proofs.Listing.{listing, IsEven, IsOdd, more_listed, comma, listed_items, Listed, listed_named, listed_goes, listed_count, listed_step, comma_goes, more_step, many_listed, even_next, odd_next}
 use Rattle.renamed_tree_laws.proofs.Bases.{base_so}
 use Rattle.renamed_tree_laws.specs.Along.{along_rest}
 use Rattle.renamed_tree_laws.specs.Respelled.{is_kind_so}

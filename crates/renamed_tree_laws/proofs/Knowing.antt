@@ -1,11 +1,11 @@
 -- What is known of the next token, as facts of the two lists.
 use Rattle.std.proofs.Common.{ℕ, ◌+◌, ◌≡◌, ◌⊎◌, Bool, true, false, if◌then◌else◌, List, refl, sym, ap, ◌∙◌, inl}
 use Rattle.std.proofs.lemmas.Bool.{false≢true}
-use Rattle.typedef_laws.specs.Below.tree_laws.Below.c99_grammar.declared.dialects.Dialect.{Dialect}
-use Rattle.typedef_laws.specs.Below.tree_laws.Below.cs_base.Token.{Token}
-use Rattle.typedef_laws.specs.Below.tree_laws.Below.c99_grammar.Classes.{among}
-use Rattle.typedef_laws.specs.Below.tree_laws.Below.c99_grammar.Standard.{grammar}
-use Rattle.typedef_laws.specs.Below.tree_laws.Below.c99_read.State.{base_at, is_identifier}
+use Rattle.c99_grammar.specs.declared.dialects.Dialect.{Dialect}
+use Rattle.cs_base.specs.Token.{Token}
+use Rattle.c99_grammar.specs.Classes.{among}
+use Rattle.c99_grammar.specs.Standard.{grammar}
+use Rattle.c99_read.specs.State.{base_at, is_identifier}
 use Rattle.renamed_tree_laws.specs.Respelled.{Declaration}
 use Rattle.renamed_tree_laws.proofs.Private.{identifier, colons}
 use Rattle.renamed_tree_laws.proofs.Bases.{base_is}

@@ -6,8 +6,6 @@ pub mod ReadBareNames
 pub mod RenamedTrees
 pub mod BareNames
 pub mod Enclosing
--- Words of the crates below, passed on.
-pub mod Below
 -- What the proofs of this crate rest on.
 mod Twins
 mod Moods

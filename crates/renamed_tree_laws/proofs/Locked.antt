@@ -1,19 +1,19 @@
 -- Both lists are read in step.
 use Rattle.std.proofs.Common.{ℕ, zero, suc, ◌+◌, ◌≡◌, Bool, true, false, ◌&&◌, ◌||◌, not, if◌then◌else◌, List, [], ◌∷◌, length, Option, None, Some, Ok, Err, nat_lt, ◌==◌, eq-eqb, refl, sym, ap, ap₂, subst, ◌∙◌, inl, inr}
 use Rattle.std.proofs.lemmas.Bool.{false≢true, and_parts, and_from, or_cases}
-use Rattle.typedef_laws.specs.Below.tree_laws.Below.c99_grammar.declared.dialects.Dialect.{Dialect}
-use Rattle.typedef_laws.specs.Below.tree_laws.Below.cs_base.Token.{Token}
-use Rattle.typedef_laws.specs.Below.tree_laws.Below.c99_tree.Tree.{Forest, none, token, node}
-use Rattle.typedef_laws.specs.Below.tree_laws.Below.c99_tree.declared.production.Label.{Label}
-use Rattle.typedef_laws.specs.Below.tree_laws.Below.c99_tree.declared.production.Production.{Production}
-use Rattle.typedef_laws.specs.Below.tree_laws.Below.c99_grammar.Classes.{among}
-use Rattle.typedef_laws.specs.Below.tree_laws.Below.c99_grammar.Items.{Item, one, part, end_of_text, act, ◌·◌, choice, maybe, many, deep, own, otherwise, next, next_two, Test, Ask, is, Action, scope, end, declare, name, keep, again, Alternative}
-use Rattle.typedef_laws.specs.Below.tree_laws.Below.c99_grammar.Standard.{grammar}
-use Rattle.typedef_laws.specs.Below.tree_laws.Below.c99_read.State.{State, base_at, is_identifier, class_at, last_identifier, with_declared, acted, opened, closed}
-use Rattle.typedef_laws.specs.Below.tree_laws.Below.c99_read.Reading.{Goal, produce, repeat, Step, and_then, syntax, too_deep, take_one, at_end, enter, may, step, pick, read_within}
-use Rattle.typedef_laws.specs.Below.tree_laws.Below.c99_grammar.Starting.{asks}
-use Rattle.typedef_laws.proofs.Below.tree_laws.Below.c99_read.Alike.{swapped}
-use Rattle.typedef_laws.proofs.Below.tree_laws.NameClasses.{implied}
+use Rattle.c99_grammar.specs.declared.dialects.Dialect.{Dialect}
+use Rattle.cs_base.specs.Token.{Token}
+use Rattle.c99_tree.specs.Tree.{Forest, none, token, node}
+use Rattle.c99_tree.specs.declared.production.Label.{Label}
+use Rattle.c99_tree.specs.declared.production.Production.{Production}
+use Rattle.c99_grammar.specs.Classes.{among}
+use Rattle.c99_grammar.specs.Items.{Item, one, part, end_of_text, act, ◌·◌, choice, maybe, many, deep, own, otherwise, next, next_two, Test, Ask, is, Action, scope, end, declare, name, keep, again, Alternative}
+use Rattle.c99_grammar.specs.Standard.{grammar}
+use Rattle.c99_read.specs.State.{State, base_at, is_identifier, class_at, last_identifier, with_declared, acted, opened, closed}
+use Rattle.c99_read.specs.Reading.{Goal, produce, repeat, Step, and_then, syntax, too_deep, take_one, at_end, enter, may, step, pick, read_within}
+use Rattle.c99_grammar.specs.Starting.{asks}
+use Rattle.c99_read.proofs.Alike.{swapped}
+use Rattle.tree_laws.proofs.NameClasses.{implied}
 use Rattle.renamed_tree_laws.specs.Along.{along_rest, along_item, along_first, along_within}
 use Rattle.renamed_tree_laws.proofs.Private.{Class, identifier, typedef_name, colons, parens, covers}
 use Rattle.renamed_tree_laws.proofs.Bases.{base_so}

@@ -4,18 +4,18 @@ use Rattle.std.specs.Prelude.{find, IfSome}
 use Rattle.std.specs.List.{list_any}
 use Rattle.std.specs.Option.{option_map_or}
 use Rattle.std.proofs.lemmas.Bool.{and_parts, and_from}
-use Rattle.typedef_laws.specs.Below.tree_laws.Below.c99_grammar.declared.dialects.Dialect.{Dialect}
-use Rattle.typedef_laws.specs.Below.tree_laws.Below.cs_base.Token.{Token}
-use Rattle.typedef_laws.specs.Below.tree_laws.Below.c99_tree.Tree.{Forest, none, token, node}
-use Rattle.typedef_laws.specs.Below.tree_laws.Below.c99_tree.declared.production.Label.{Label}
-use Rattle.typedef_laws.specs.Below.tree_laws.Below.c99_tree.declared.production.Production.{Production}
-use Rattle.typedef_laws.specs.Below.tree_laws.Below.c99_tree.declared.production.Production.TheVariants.{ExtRest, FunBody, InitDecl, Enumerator, Declarator, Param, Pdecl}
-use Rattle.typedef_laws.specs.Below.tree_laws.Below.c_types.declared.lists.Range.{Range}
-use Rattle.typedef_laws.specs.Below.tree_laws.Below.c_types.Trees.{last_token, name_below}
-use Rattle.typedef_laws.specs.Below.tree_laws.Below.c_types.Declarations.{alike}
-use Rattle.typedef_laws.proofs.Below.tree_laws.Lookups.{false≢true, In, find_same, found_passes, found_in, any_none}
-use Rattle.typedef_laws.specs.Below.tree_laws.RenamedNames.{StaysApart}
-use Rattle.typedef_laws.proofs.Outline.{Entry, Outline, is_listing, stepped, copies, kept_entries, entries_in, begun, named_entries, in_declaration, in_parameter, entries_after, ended, outlined, is_open, typedef_among}
+use Rattle.c99_grammar.specs.declared.dialects.Dialect.{Dialect}
+use Rattle.cs_base.specs.Token.{Token}
+use Rattle.c99_tree.specs.Tree.{Forest, none, token, node}
+use Rattle.c99_tree.specs.declared.production.Label.{Label}
+use Rattle.c99_tree.specs.declared.production.Production.{Production}
+use Rattle.c99_tree.specs.declared.production.Production.TheVariants.{ExtRest, FunBody, InitDecl, Enumerator, Declarator, Param, Pdecl}
+use Rattle.c_types.specs.declared.lists.Range.{Range}
+use Rattle.c_types.specs.Trees.{last_token, name_below}
+use Rattle.c_types.specs.Declarations.{alike}
+use Rattle.tree_laws.proofs.Lookups.{false≢true, In, find_same, found_passes, found_in, any_none}
+use Rattle.tree_laws.specs.RenamedNames.{StaysApart}
+use Rattle.tree_laws.proofs.Outline.{Entry, Outline, is_listing, stepped, copies, kept_entries, entries_in, begun, named_entries, in_declaration, in_parameter, entries_after, ended, outlined, is_open, typedef_among}
 use Rattle.renamed_tree_laws.specs.Loose.{is_hidden, StaysWhole}
 
 abbrev pub range_of : Entry → Range

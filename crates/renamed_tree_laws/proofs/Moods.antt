@@ -1,15 +1,15 @@
 -- What the table says of the next token where an item is read: how far it is known to be the same in both lists.
 use Rattle.std.proofs.Common.{ℕ, ◌+◌, Bool, true, false, ◌&&◌, ◌||◌, not, if◌then◌else◌, ◌==◌, List, [], ◌∷◌}
 use Rattle.std.specs.List.{list_all}
-use Rattle.typedef_laws.specs.Below.tree_laws.Below.c99_grammar.declared.dialects.Dialect.{Dialect}
-use Rattle.typedef_laws.specs.Below.tree_laws.Below.c99_tree.declared.production.Label.{Label}
-use Rattle.typedef_laws.specs.Below.tree_laws.Below.c99_tree.declared.production.Production.{Production}
-use Rattle.typedef_laws.specs.Below.tree_laws.Below.c99_tree.declared.production.Production.TheVariants.{ExtRest, DeclRest, InitDecl, SuRest, Members, MemRest, Mdecl, EnRest, Enumerators, Enumerator, Declarator, Direct, Pdecl, Pdirect, Cast, Unary, SizeRest, Primary, Suffix, Statement, BlockItem, Sub, Main, Params}
-use Rattle.typedef_laws.specs.Below.tree_laws.Below.c99_grammar.Classes.{among}
-use Rattle.typedef_laws.specs.Below.tree_laws.Below.c99_grammar.Items.{Item, one, part, end_of_text, act, ◌·◌, choice, maybe, many, deep, Test, own, otherwise, next, next_two, Ask, is, is_not, begins, either, scope, Alternative}
-use Rattle.typedef_laws.specs.Below.tree_laws.Below.c99_grammar.Standard.{grammar}
-use Rattle.typedef_laws.specs.Below.tree_laws.Below.c99_read.State.{is_identifier, has_name}
-use Rattle.typedef_laws.specs.Below.tree_laws.Below.c99_grammar.Starting.{is_passed, production_starts}
+use Rattle.c99_grammar.specs.declared.dialects.Dialect.{Dialect}
+use Rattle.c99_tree.specs.declared.production.Label.{Label}
+use Rattle.c99_tree.specs.declared.production.Production.{Production}
+use Rattle.c99_tree.specs.declared.production.Production.TheVariants.{ExtRest, DeclRest, InitDecl, SuRest, Members, MemRest, Mdecl, EnRest, Enumerators, Enumerator, Declarator, Direct, Pdecl, Pdirect, Cast, Unary, SizeRest, Primary, Suffix, Statement, BlockItem, Sub, Main, Params}
+use Rattle.c99_grammar.specs.Classes.{among}
+use Rattle.c99_grammar.specs.Items.{Item, one, part, end_of_text, act, ◌·◌, choice, maybe, many, deep, Test, own, otherwise, next, next_two, Ask, is, is_not, begins, either, scope, Alternative}
+use Rattle.c99_grammar.specs.Standard.{grammar}
+use Rattle.c99_read.specs.State.{is_identifier, has_name}
+use Rattle.c99_grammar.specs.Starting.{is_passed, production_starts}
 use Rattle.renamed_tree_laws.proofs.Private.{Class, identifier, typedef_name, colon, colons, parens, covers}
 use Rattle.renamed_tree_laws.proofs.Twins.{agree, blind}
 

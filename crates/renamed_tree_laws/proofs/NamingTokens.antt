@@ -1,25 +1,25 @@
 -- Names that are declared where they stand, and a parameter's declarator in parentheses.
 use Rattle.std.proofs.Common.{ℕ, ◌+◌, ◌<◌, ◌≡◌, Bool, true, false, ◌&&◌, ◌||◌, not, if◌then◌else◌, List, length, Option, None, Some, Ok, Err, refl, ap, subst, ◌∙◌, arith}
 use Rattle.std.proofs.lemmas.Bool.{and_from}
-use Rattle.typedef_laws.specs.Below.tree_laws.Below.c99_grammar.declared.dialects.Dialect.{Dialect}
-use Rattle.typedef_laws.specs.Below.tree_laws.Below.cs_base.Token.{Token}
-use Rattle.typedef_laws.specs.Below.tree_laws.Below.c99_tree.declared.production.Label.{Label}
-use Rattle.typedef_laws.specs.Below.tree_laws.Below.c99_tree.declared.production.Production.TheVariants.{InitDecl, Specs, Declarator, Enumerator, Cond, Param, Pdecl, Pdirect}
-use Rattle.typedef_laws.specs.Below.tree_laws.Below.c99_grammar.Items.{Item, one, part, act, ◌·◌, maybe, deep, own, names, declare, name}
-use Rattle.typedef_laws.specs.Below.tree_laws.Below.c99_grammar.Standard.{c99, grammar}
-use Rattle.typedef_laws.specs.Below.tree_laws.Below.c99_read.Sound.{has_token, is_low, is_met, goal_has_token}
-use Rattle.typedef_laws.specs.Below.tree_laws.Below.c99_read.State.{State, Names, base_at, is_identifier, declaration, with_declared, acted, opened}
-use Rattle.typedef_laws.specs.Below.tree_laws.Below.c99_read.Reading.{Goal, produce, Step, and_then, take_one, may, step}
-use Rattle.typedef_laws.proofs.Below.tree_laws.Below.c99_read.Moves.{Moves, Moves-step}
-use Rattle.typedef_laws.proofs.Private.{Class}
-use Rattle.typedef_laws.proofs.Parts.{first_body, rest_of}
-use Rattle.typedef_laws.proofs.Classes.{equals}
-use Rattle.typedef_laws.proofs.Outline.{Outline, begun, node_agrees}
-use Rattle.typedef_laws.proofs.Matching.{Matches, Bounds, IsOpen, SameOuter, outer_still, outer_further, outer_open, bounds_within, bounds_sooner, same_typedef}
-use Rattle.typedef_laws.proofs.Rules.{labelled, fine}
-use Rattle.typedef_laws.proofs.Goes.{After, with_token, IsIn, Goes, Makes, node_goes}
-use Rattle.typedef_laws.proofs.Steps.{Reads, Grows, taken, quiet_goes, goes_step, opened_in, opened_fits, opened_outer}
-use Rattle.typedef_laws.proofs.Declaring.{outer_declared, declared_after}
+use Rattle.c99_grammar.specs.declared.dialects.Dialect.{Dialect}
+use Rattle.cs_base.specs.Token.{Token}
+use Rattle.c99_tree.specs.declared.production.Label.{Label}
+use Rattle.c99_tree.specs.declared.production.Production.TheVariants.{InitDecl, Specs, Declarator, Enumerator, Cond, Param, Pdecl, Pdirect}
+use Rattle.c99_grammar.specs.Items.{Item, one, part, act, ◌·◌, maybe, deep, own, names, declare, name}
+use Rattle.c99_grammar.specs.Standard.{c99, grammar}
+use Rattle.c99_read.specs.Sound.{has_token, is_low, is_met, goal_has_token}
+use Rattle.c99_read.specs.State.{State, Names, base_at, is_identifier, declaration, with_declared, acted, opened}
+use Rattle.c99_read.specs.Reading.{Goal, produce, Step, and_then, take_one, may, step}
+use Rattle.c99_read.proofs.Moves.{Moves, Moves-step}
+use Rattle.tree_laws.proofs.Private.{Class}
+use Rattle.tree_laws.proofs.Parts.{first_body, rest_of}
+use Rattle.tree_laws.proofs.TypedefClasses.{equals}
+use Rattle.tree_laws.proofs.Outline.{Outline, begun, node_agrees}
+use Rattle.tree_laws.proofs.Matching.{Matches, Bounds, IsOpen, SameOuter, outer_still, outer_further, outer_open, bounds_within, bounds_sooner, same_typedef}
+use Rattle.tree_laws.proofs.Rules.{labelled, fine}
+use Rattle.tree_laws.proofs.Goes.{After, with_token, IsIn, Goes, Makes, node_goes}
+use Rattle.tree_laws.proofs.TypedefSteps.{Reads, Grows, taken, quiet_goes, goes_step, opened_in, opened_fits, opened_outer}
+use Rattle.tree_laws.proofs.Declaring.{outer_declared, declared_after}
 use Rattle.renamed_tree_laws.specs.Along.{along_rest}
 use Rattle.renamed_tree_laws.proofs.Asking.{of_token, of_node, Asks, Stays, asks_still, asks_further, asks_and_then, quiet_asks, along, Asked, asks_step, BodyAsks, asks_body, asks_named}
 

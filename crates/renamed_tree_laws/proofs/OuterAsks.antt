@@ -1,34 +1,34 @@
 -- What is asked along external definitions (6.9), and along bodies of functions (6.9.1).
 use Rattle.std.proofs.Common.{ℕ, ◌+◌, ◌<◌, ◌≡◌, Bool, true, false, ◌&&◌, if◌then◌else◌, List, [], ◌∷◌, Ok, Err, refl, sym, ap, subst, ◌∙◌, arith}
 use Rattle.std.proofs.lemmas.Bool.{and_from}
-use Rattle.typedef_laws.specs.Below.tree_laws.Below.c99_grammar.declared.dialects.Dialect.{Dialect}
-use Rattle.typedef_laws.specs.Below.tree_laws.Below.c99_grammar.declared.dialects.Dialect.TheVariants.{C99, C11}
-use Rattle.typedef_laws.specs.Below.tree_laws.Below.cs_base.Token.{Token}
-use Rattle.typedef_laws.specs.Below.tree_laws.Below.c99_tree.Tree.{Forest, Node, node_of, leaf, inner, put, collapsed}
-use Rattle.typedef_laws.specs.Below.tree_laws.Below.c99_tree.declared.production.Label.{Label}
-use Rattle.typedef_laws.specs.Below.tree_laws.Below.c99_tree.declared.production.Production.{Production}
-use Rattle.typedef_laws.specs.Below.tree_laws.Below.c99_tree.declared.production.Production.TheVariants.{External, ExtRest, ExtTail, FunBody, Sassert, Specs, Declarator, Pdirect}
-use Rattle.typedef_laws.specs.Below.tree_laws.Below.c99_grammar.Items.{Item, Alternative, part, own, end, declare, again, plain}
-use Rattle.typedef_laws.specs.Below.tree_laws.Below.c99_grammar.Grammar.{externals}
-use Rattle.typedef_laws.specs.Below.tree_laws.Below.c99_grammar.Standard.{c99, grammar}
-use Rattle.typedef_laws.specs.Below.tree_laws.Below.c99_read.State.{State, Names, head_closed, names_closed, finished, with_scope_ended, acted, opened, closed}
-use Rattle.typedef_laws.specs.Below.tree_laws.Below.c99_read.Reading.{Goal, produce, Step, syntax, and_then, take_one, may, step, alternative, pick}
-use Rattle.typedef_laws.proofs.Below.tree_laws.Below.c99_grammar.StandardLemmas.{by_dialect}
-use Rattle.typedef_laws.specs.Below.tree_laws.Below.c_types.Trees.{is_at}
-use Rattle.typedef_laws.specs.Below.tree_laws.Below.scope_bind.Named.{Scope}
-use Rattle.typedef_laws.proofs.Private.{Declaration, Class}
-use Rattle.typedef_laws.proofs.Parts.{first_body, second_body, first_test, second_test, rest_of, front_of, classes_of}
-use Rattle.typedef_laws.proofs.Outline.{Outline, begun, node_agrees, all_agree}
-use Rattle.typedef_laws.proofs.Matching.{Matches, Bounds, Within, IsOpen, bounds_sooner, bounds_within, bounds_inner, within_sooner}
-use Rattle.typedef_laws.proofs.Places.{last_leaf}
-use Rattle.typedef_laws.proofs.Rules.{labelled, is_simple, fine}
-use Rattle.typedef_laws.proofs.Goes.{After, IsIn, Fits, Goes, goes_still, goes_further, Makes, built_is}
-use Rattle.typedef_laws.proofs.Steps.{Reads, Grows, taken, goes_step, opened_in, opened_fits}
-use Rattle.typedef_laws.proofs.Listed.{head_of, outlined_scope}
-use Rattle.typedef_laws.proofs.Handing.{now, HandsOn}
-use Rattle.typedef_laws.proofs.Steady.{Steady}
-use Rattle.typedef_laws.proofs.Functions.{tail_of, Kept, is_outer, Bracketed, ended_is, body_end_state, body_back, body_outer, body_begins, outer_declarator, outer_collapses}
-use Rattle.typedef_laws.proofs.Units.{IsFresh, Tails, Defines, OuterReads, tail_back, some_length, goes as rest_goes, rest_open, tail_outer, tail_later, tail_built, names_kept, specs_goes, specs_open, specs_fresh}
+use Rattle.c99_grammar.specs.declared.dialects.Dialect.{Dialect}
+use Rattle.c99_grammar.specs.declared.dialects.Dialect.TheVariants.{C99, C11}
+use Rattle.cs_base.specs.Token.{Token}
+use Rattle.c99_tree.specs.Tree.{Forest, Node, node_of, leaf, inner, put, collapsed}
+use Rattle.c99_tree.specs.declared.production.Label.{Label}
+use Rattle.c99_tree.specs.declared.production.Production.{Production}
+use Rattle.c99_tree.specs.declared.production.Production.TheVariants.{External, ExtRest, ExtTail, FunBody, Sassert, Specs, Declarator, Pdirect}
+use Rattle.c99_grammar.specs.Items.{Item, Alternative, part, own, end, declare, again, plain}
+use Rattle.c99_grammar.specs.Grammar.{externals}
+use Rattle.c99_grammar.specs.Standard.{c99, grammar}
+use Rattle.c99_read.specs.State.{State, Names, head_closed, names_closed, finished, with_scope_ended, acted, opened, closed}
+use Rattle.c99_read.specs.Reading.{Goal, produce, Step, syntax, and_then, take_one, may, step, alternative, pick}
+use Rattle.c99_grammar.proofs.StandardLemmas.{by_dialect}
+use Rattle.c_types.specs.Trees.{is_at}
+use Rattle.scope_bind.specs.Named.{Scope}
+use Rattle.tree_laws.proofs.Private.{Declaration, Class}
+use Rattle.tree_laws.proofs.Parts.{first_body, second_body, first_test, second_test, rest_of, front_of, classes_of}
+use Rattle.tree_laws.proofs.Outline.{Outline, begun, node_agrees, all_agree}
+use Rattle.tree_laws.proofs.Matching.{Matches, Bounds, Within, IsOpen, bounds_sooner, bounds_within, bounds_inner, within_sooner}
+use Rattle.tree_laws.proofs.Places.{last_leaf}
+use Rattle.tree_laws.proofs.Rules.{labelled, is_simple, fine}
+use Rattle.tree_laws.proofs.Goes.{After, IsIn, Fits, Goes, goes_still, goes_further, Makes, built_is}
+use Rattle.tree_laws.proofs.TypedefSteps.{Reads, Grows, taken, goes_step, opened_in, opened_fits}
+use Rattle.tree_laws.proofs.Listed.{head_of, outlined_scope}
+use Rattle.tree_laws.proofs.Handing.{now, HandsOn}
+use Rattle.tree_laws.proofs.Steady.{Steady}
+use Rattle.tree_laws.proofs.Functions.{tail_of, Kept, is_outer, Bracketed, ended_is, body_end_state, body_back, body_outer, body_begins, outer_declarator, outer_collapses}
+use Rattle.tree_laws.proofs.Units.{IsFresh, Tails, Defines, OuterReads, tail_back, some_length, goes as rest_goes, rest_open, tail_outer, tail_later, tail_built, names_kept, specs_goes, specs_open, specs_fresh}
 use Rattle.renamed_tree_laws.specs.Along.{along_rest, along_first}
 use Rattle.renamed_tree_laws.proofs.Asking.{before_leaf, before_inner, of_token, of_node, Asks, asks_further, quiet_so, along, Asked, asks_step, BodyAsks, fine_asks}
 use Rattle.renamed_tree_laws.proofs.NamingTokens.{declare_asks}

@@ -1,14 +1,14 @@
 -- Classes of tokens, which the reader keeps to itself, by what gives a value of them.
 use Rattle.std.proofs.Common.{Bool, ◌&&◌, List, [], ◌∷◌, drop}
 use Rattle.std.specs.List.{list_all}
-use Rattle.typedef_laws.specs.Below.tree_laws.Below.cs_base.declared.tokens.Kind.TheVariants as kind
-use Rattle.typedef_laws.specs.Below.tree_laws.Below.c99_tree.declared.production.Production.TheVariants.{Statement, Pdirect}
-use Rattle.typedef_laws.specs.Below.tree_laws.Below.c99_grammar.declared.dialects.Dialect.TheVariants.{Gnu}
-use Rattle.typedef_laws.specs.Below.tree_laws.Below.c99_grammar.Items.{names, Test, own, next_two, Ask, is, Alternative}
-use Rattle.typedef_laws.specs.Below.tree_laws.Below.c99_grammar.Spellings.{keywords_of, punctuators}
-use Rattle.typedef_laws.specs.Below.tree_laws.Below.c99_grammar.Standard.{c99}
-use Rattle.typedef_laws.specs.Below.tree_laws.Below.c99_read.State.{base_at}
-use Rattle.typedef_laws.specs.Below.tree_laws.Below.c99_grammar.TokenClasses.{base_class, class_of_kind}
+use Rattle.cs_base.specs.declared.tokens.Kind.TheVariants as kind
+use Rattle.c99_tree.specs.declared.production.Production.TheVariants.{Statement, Pdirect}
+use Rattle.c99_grammar.specs.declared.dialects.Dialect.TheVariants.{Gnu}
+use Rattle.c99_grammar.specs.Items.{names, Test, own, next_two, Ask, is, Alternative}
+use Rattle.c99_grammar.specs.Spellings.{keywords_of, punctuators}
+use Rattle.c99_grammar.specs.Standard.{c99}
+use Rattle.c99_read.specs.State.{base_at}
+use Rattle.c99_grammar.specs.TokenClasses.{base_class, class_of_kind}
 use Rattle.renamed_tree_laws.specs.Respelled.{Given}
 
 abbrev pub Class : Type 0

@@ -2,17 +2,17 @@
 use Rattle.std.proofs.Common.{ℕ, suc, ◌≡◌, List, [], ◌∷◌, Some, Ok, slice_get, inl, inr, ap, subst}
 use Rattle.std.specs.List.{Contains}
 use Rattle.std.proofs.lemmas.Option.{slice_get_within, get_or_from_slice_get}
-use Rattle.typedef_laws.specs.Below.tree_laws.Below.c99_grammar.declared.dialects.Dialect.{Dialect}
-use Rattle.typedef_laws.specs.Below.tree_laws.Below.cs_base.Token.{Token}
-use Rattle.typedef_laws.specs.Below.tree_laws.Below.c99_tree.Tree.{Node}
-use Rattle.typedef_laws.specs.Below.tree_laws.Below.c99_read.Reading.{read_of}
-use Rattle.typedef_laws.specs.Below.tree_laws.Below.c99_grammar.Standard.{grammar}
-use Rattle.typedef_laws.specs.Below.tree_laws.Below.c_types.Declarations.{Facts}
-use Rattle.typedef_laws.specs.Below.tree_laws.Below.name_chains.Frames.{outermost}
-use Rattle.typedef_laws.specs.Below.tree_laws.Below.c_types.Lists.{bare_in}
-use Rattle.typedef_laws.specs.Below.tree_laws.Below.scope_bind.Bound.{Bound, facts_of, binding_of}
-use Rattle.typedef_laws.proofs.Below.tree_laws.Lookups.{false≢true}
-use Rattle.typedef_laws.proofs.Below.tree_laws.HeldNames.{bound_is}
+use Rattle.c99_grammar.specs.declared.dialects.Dialect.{Dialect}
+use Rattle.cs_base.specs.Token.{Token}
+use Rattle.c99_tree.specs.Tree.{Node}
+use Rattle.c99_read.specs.Reading.{read_of}
+use Rattle.c99_grammar.specs.Standard.{grammar}
+use Rattle.c_types.specs.Declarations.{Facts}
+use Rattle.name_chains.specs.Frames.{outermost}
+use Rattle.c_types.specs.Lists.{bare_in}
+use Rattle.scope_bind.specs.Bound.{Bound, facts_of, binding_of}
+use Rattle.tree_laws.proofs.Lookups.{false≢true}
+use Rattle.tree_laws.proofs.HeldNames.{bound_is}
 use Rattle.renamed_tree_laws.specs.Loose.{AllLoose}
 use Rattle.renamed_tree_laws.specs.TreesAlike.{LooseNamesAreBare}
 use Rattle.renamed_tree_laws.proofs.BareNames.{Each, loose_of_bare}

@@ -6,38 +6,38 @@ use Rattle.std.specs.Option.{option_map_or}
 use Rattle.std.specs.Str.{bytes_eq}
 use Rattle.std.proofs.lemmas.Bool.{and_parts, and_from}
 use Rattle.std.proofs.lemmas.Slice.Eq.{bytes_eq-Decides}
-use Rattle.typedef_laws.specs.Below.tree_laws.Below.c99_grammar.declared.dialects.Dialect.{Dialect}
-use Rattle.typedef_laws.specs.Below.tree_laws.Below.cs_base.Token.{Token}
-use Rattle.typedef_laws.specs.Below.tree_laws.Below.c99_tree.Tree.{Forest, none, token, node}
-use Rattle.typedef_laws.specs.Below.tree_laws.Below.c99_tree.declared.production.Label.{Label}
-use Rattle.typedef_laws.specs.Below.tree_laws.Below.c99_tree.declared.production.Production.{Production}
-use Rattle.typedef_laws.specs.Below.tree_laws.Below.c99_tree.declared.production.Production.TheVariants.{TranslationUnit, Main, Params, Primary, Pdirect}
-use Rattle.typedef_laws.specs.Below.tree_laws.Below.c99_grammar.Standard.{grammar}
-use Rattle.typedef_laws.specs.Below.tree_laws.Below.c99_read.State.{base_at, is_identifier}
-use Rattle.typedef_laws.specs.Below.tree_laws.Below.c_types.declared.lists.Range.{Range}
-use Rattle.typedef_laws.specs.Below.tree_laws.Below.scope_bind.Named.{Declaration, Frame, ordinary}
-use Rattle.typedef_laws.specs.Below.tree_laws.Below.c_types.Trees.{is_at}
-use Rattle.typedef_laws.specs.Below.tree_laws.Below.c_types.Declarations.{Facts, is_space, is_typedef_name, spelling_at, alike, visible}
-use Rattle.typedef_laws.specs.Below.tree_laws.Below.name_chains.Frames.{State, at_first as before}
-use Rattle.typedef_laws.specs.Below.tree_laws.Below.scope_bind.Ordinary.{used, is_func}
-use Rattle.typedef_laws.specs.Below.tree_laws.Below.name_chains.Entering.{entered}
-use Rattle.typedef_laws.specs.Below.tree_laws.Below.scope_bind.Roles.{role_of}
-use Rattle.typedef_laws.specs.Below.tree_laws.Below.scope_bind.Walk.{facts_at, passed, left, walked}
-use Rattle.typedef_laws.specs.Below.tree_laws.Below.scope_bind.Bound.{Bound, names_of, bound_of, range_of as range_of_declaration, typedefs_of, facts_of, binding_of}
-use Rattle.typedef_laws.specs.Below.tree_laws.Below.scope_bind.declared.bound.Name.{Name}
-use Rattle.typedef_laws.specs.Below.tree_laws.RenamedNames.{is_own_word, StaysApart}
-use Rattle.typedef_laws.proofs.Below.tree_laws.Lookups.{In, StandApart}
-use Rattle.typedef_laws.proofs.Below.tree_laws.Renaming.{Good, Kept, stand_apart}
-use Rattle.typedef_laws.proofs.Below.tree_laws.RenamedNames.{used_visible}
-use Rattle.typedef_laws.proofs.Below.tree_laws.RenamedSteps.{entered_kept, entered_same, passed_kept, passed_same, left_back, left_kept, left_same}
-use Rattle.typedef_laws.proofs.Below.tree_laws.Unnamed.{found_named}
-use Rattle.typedef_laws.proofs.Below.tree_laws.RenamedWalk.{walked_back, walked_same, names_good, no_fault}
-use Rattle.typedef_laws.specs.Agreeing.{denotes_typedef, is_read_so, is_named_so, agrees}
-use Rattle.typedef_laws.proofs.Outline.{Entry, Outline}
-use Rattle.typedef_laws.proofs.Outlines.{entry_of, entries_of, outline, denotes_among, left_same as left_outline, walked_same as walked_outline}
-use Rattle.typedef_laws.proofs.Rules.{labelled}
-use Rattle.typedef_laws.proofs.Texts.{units_agree}
-use Rattle.typedef_laws.proofs.Below.tree_laws.HeldNames.{bound_is}
+use Rattle.c99_grammar.specs.declared.dialects.Dialect.{Dialect}
+use Rattle.cs_base.specs.Token.{Token}
+use Rattle.c99_tree.specs.Tree.{Forest, none, token, node}
+use Rattle.c99_tree.specs.declared.production.Label.{Label}
+use Rattle.c99_tree.specs.declared.production.Production.{Production}
+use Rattle.c99_tree.specs.declared.production.Production.TheVariants.{TranslationUnit, Main, Params, Primary, Pdirect}
+use Rattle.c99_grammar.specs.Standard.{grammar}
+use Rattle.c99_read.specs.State.{base_at, is_identifier}
+use Rattle.c_types.specs.declared.lists.Range.{Range}
+use Rattle.scope_bind.specs.Named.{Declaration, Frame, ordinary}
+use Rattle.c_types.specs.Trees.{is_at}
+use Rattle.c_types.specs.Declarations.{Facts, is_space, is_typedef_name, spelling_at, alike, visible}
+use Rattle.name_chains.specs.Frames.{State, at_first as before}
+use Rattle.scope_bind.specs.Ordinary.{used, is_func}
+use Rattle.name_chains.specs.Entering.{entered}
+use Rattle.scope_bind.specs.Roles.{role_of}
+use Rattle.scope_bind.specs.Walk.{facts_at, passed, left, walked}
+use Rattle.scope_bind.specs.Bound.{Bound, names_of, bound_of, range_of as range_of_declaration, typedefs_of, facts_of, binding_of}
+use Rattle.scope_bind.specs.declared.bound.Name.{Name}
+use Rattle.tree_laws.specs.RenamedNames.{is_own_word, StaysApart}
+use Rattle.tree_laws.proofs.Lookups.{In, StandApart}
+use Rattle.tree_laws.proofs.Renaming.{Good, Kept, stand_apart}
+use Rattle.tree_laws.proofs.RenamedNames.{used_visible}
+use Rattle.tree_laws.proofs.RenamedSteps.{entered_kept, entered_same, passed_kept, passed_same, left_back, left_kept, left_same}
+use Rattle.tree_laws.proofs.Unnamed.{found_named}
+use Rattle.tree_laws.proofs.RenamedWalk.{walked_back, walked_same, names_good, no_fault}
+use Rattle.tree_laws.specs.Agreeing.{denotes_typedef, is_read_so, is_named_so, agrees}
+use Rattle.tree_laws.proofs.Outline.{Entry, Outline}
+use Rattle.tree_laws.proofs.Outlines.{entry_of, entries_of, outline, denotes_among, left_same as left_outline, walked_same as walked_outline}
+use Rattle.tree_laws.proofs.Rules.{labelled}
+use Rattle.tree_laws.proofs.Texts.{units_agree}
+use Rattle.tree_laws.proofs.HeldNames.{bound_is}
 use Rattle.renamed_tree_laws.specs.TreesAlike.{RenamedTextsReadAlike}
 use Rattle.renamed_tree_laws.specs.Loose.{is_listed, AllLoose, StaysWhole}
 use Rattle.renamed_tree_laws.proofs.LooseNames.{range_of, more_in, after_in, outlined_in, Covered, none_still}

@@ -1,18 +1,18 @@
 -- Texts in which names are respelled are read alike.
 use Rattle.std.proofs.Common.{ℕ, ◌+◌, ◌-◌, ◌*◌, ◌≡◌, Bool, true, false, not, if◌then◌else◌, ◌==◌, List, length, Ok, Err, refl, sym, ap, ◌∙◌}
 use Rattle.std.proofs.lemmas.Bool.{false≢true, and_parts, not-true}
-use Rattle.typedef_laws.specs.Below.tree_laws.Below.c99_grammar.declared.dialects.Dialect.{Dialect}
-use Rattle.typedef_laws.specs.Below.tree_laws.Below.cs_base.Token.{Token}
-use Rattle.typedef_laws.specs.Below.tree_laws.Below.c99_tree.Tree.{Node}
-use Rattle.typedef_laws.specs.Below.tree_laws.Below.c99_tree.declared.production.Production.{Production}
-use Rattle.typedef_laws.specs.Below.tree_laws.Below.c99_tree.declared.production.Production.TheVariants.{TranslationUnit, Main, Primary, Params, Pdirect}
-use Rattle.typedef_laws.specs.Below.tree_laws.Below.c99_grammar.Classes.{among}
-use Rattle.typedef_laws.specs.Below.tree_laws.Below.c99_grammar.First.{order}
-use Rattle.typedef_laws.specs.Below.tree_laws.Below.c99_grammar.Standard.{grammar}
-use Rattle.typedef_laws.specs.Below.tree_laws.Below.c99_read.State.{State, base_at, is_identifier, is_typedef_at, class_at}
-use Rattle.typedef_laws.specs.Below.tree_laws.Below.c99_read.Reading.{Goal, produce, Step, steps_for, read_within, whole, at_first, tree_of, read_of}
-use Rattle.typedef_laws.proofs.Below.tree_laws.Below.c99_read.Alike.{swapped}
-use Rattle.typedef_laws.proofs.Below.tree_laws.NameClasses.{implied}
+use Rattle.c99_grammar.specs.declared.dialects.Dialect.{Dialect}
+use Rattle.cs_base.specs.Token.{Token}
+use Rattle.c99_tree.specs.Tree.{Node}
+use Rattle.c99_tree.specs.declared.production.Production.{Production}
+use Rattle.c99_tree.specs.declared.production.Production.TheVariants.{TranslationUnit, Main, Primary, Params, Pdirect}
+use Rattle.c99_grammar.specs.Classes.{among}
+use Rattle.c99_grammar.specs.First.{order}
+use Rattle.c99_grammar.specs.Standard.{grammar}
+use Rattle.c99_read.specs.State.{State, base_at, is_identifier, is_typedef_at, class_at}
+use Rattle.c99_read.specs.Reading.{Goal, produce, Step, steps_for, read_within, whole, at_first, tree_of, read_of}
+use Rattle.c99_read.proofs.Alike.{swapped}
+use Rattle.tree_laws.proofs.NameClasses.{implied}
 use Rattle.renamed_tree_laws.specs.Along.{all_along}
 use Rattle.renamed_tree_laws.specs.Respelled.{is_bare_so, is_kind_so, is_named_so, is_token_so, is_node_so, IsRespelled}
 use Rattle.renamed_tree_laws.specs.ReadAlike.{RespelledTextsReadAlike, TextsOfOneKindReadAlike}

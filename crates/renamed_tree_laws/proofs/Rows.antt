@@ -1,14 +1,14 @@
 -- What is asked of short texts.
 use Rattle.std.proofs.Common.{ℕ, ◌≡◌, Bool, true, false, List, [], ◌∷◌, refl}
 use Rattle.std.specs.Prelude.{codes}
-use Rattle.typedef_laws.specs.Below.tree_laws.Below.c99_grammar.declared.dialects.Dialect.TheVariants.{C99}
-use Rattle.typedef_laws.specs.Below.tree_laws.Below.cs_base.Token.{Token}
-use Rattle.typedef_laws.specs.Below.tree_laws.Below.cs_base.declared.tokens.Kind.TheVariants.{Ident, Punct}
-use Rattle.typedef_laws.specs.Below.tree_laws.Below.c99_read.Reading.{read_within, take_one, at_end, enter}
-use Rattle.typedef_laws.specs.Below.tree_laws.Below.c99_grammar.Standard.{grammar}
-use Rattle.typedef_laws.specs.Below.tree_laws.Below.c99_read.State.{class_at, acted, opened, closed}
-use Rattle.typedef_laws.specs.Below.tree_laws.Below.c99_grammar.TokenClasses.{spelled_class, base_class}
-use Rattle.typedef_laws.proofs.Below.tree_laws.Below.c99_read.ReadRows.{tok}
+use Rattle.c99_grammar.specs.declared.dialects.Dialect.TheVariants.{C99}
+use Rattle.cs_base.specs.Token.{Token}
+use Rattle.cs_base.specs.declared.tokens.Kind.TheVariants.{Ident, Punct}
+use Rattle.c99_read.specs.Reading.{read_within, take_one, at_end, enter}
+use Rattle.c99_grammar.specs.Standard.{grammar}
+use Rattle.c99_read.specs.State.{class_at, acted, opened, closed}
+use Rattle.c99_grammar.specs.TokenClasses.{spelled_class, base_class}
+use Rattle.c99_read.proofs.ReadRows.{tok}
 use Rattle.renamed_tree_laws.specs.Along.{all_along, along_within}
 use Rattle.renamed_tree_laws.specs.Respelled.{is_kind_so, is_token_so, is_node_so}
 

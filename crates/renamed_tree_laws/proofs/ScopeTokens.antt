@@ -1,29 +1,29 @@
 -- Nodes that are scopes: blocks, parameter lists, statements and substatements (6.2.1 paragraph 4).
 use Rattle.std.proofs.Common.{ℕ, ◌+◌, ◌<◌, ◌≡◌, Bool, true, false, ◌&&◌, List, [], ◌∷◌, length, Ok, Err, inl, inr, refl, sym, ap, subst, ◌∙◌, arith}
 use Rattle.std.proofs.lemmas.Bool.{false≢true, and_parts, and_from}
-use Rattle.typedef_laws.specs.Below.tree_laws.Below.c99_grammar.declared.dialects.Dialect.{Dialect}
-use Rattle.typedef_laws.specs.Below.tree_laws.Below.cs_base.Token.{Token}
-use Rattle.typedef_laws.specs.Below.tree_laws.Below.c99_tree.Tree.{Forest, leaf, put}
-use Rattle.typedef_laws.specs.Below.tree_laws.Below.c99_tree.declared.production.Label.{Label}
-use Rattle.typedef_laws.specs.Below.tree_laws.Below.c99_tree.declared.production.Production.{Production}
-use Rattle.typedef_laws.specs.Below.tree_laws.Below.c99_tree.declared.production.Production.TheVariants.{Suffix, Pdirect, Block}
-use Rattle.typedef_laws.specs.Below.tree_laws.Below.c99_grammar.Items.{Item, one, part, end_of_text, act, ◌·◌, choice, maybe, many, deep, scope, end, declare, name, keep, again}
-use Rattle.typedef_laws.specs.Below.tree_laws.Below.c99_grammar.Standard.{grammar}
-use Rattle.typedef_laws.specs.Below.tree_laws.Below.c99_read.Sound.{has_token, is_low, is_met, goal_has_token}
-use Rattle.typedef_laws.specs.Below.tree_laws.Below.c99_read.State.{State, Names, with_scope_ended, acted, opened}
-use Rattle.typedef_laws.specs.Below.tree_laws.Below.c99_read.Reading.{Goal, Step, and_then, take_one, step}
-use Rattle.typedef_laws.proofs.Below.tree_laws.Below.c99_read.Moves.{Moves, Moves-step}
-use Rattle.typedef_laws.specs.Below.tree_laws.Below.scope_bind.Named.{Scope}
-use Rattle.typedef_laws.specs.Below.tree_laws.Below.c_types.Trees.{is_at, last_token}
-use Rattle.typedef_laws.proofs.Private.{Class}
-use Rattle.typedef_laws.proofs.Outline.{Outline, begun}
-use Rattle.typedef_laws.proofs.Matching.{Bounds, IsOpen, SameOuter, bounds_within, bounds_inner, within_sooner}
-use Rattle.typedef_laws.proofs.Places.{EndsAt, ends_none}
-use Rattle.typedef_laws.proofs.Rules.{labelled, is_quiet, fine, all_three}
-use Rattle.typedef_laws.proofs.Goes.{After, with_token, IsIn, Goes, goes_still, goes_further}
-use Rattle.typedef_laws.proofs.Steps.{Reads, taken, quiet_fits, goes_step, opened_in, opened_fits, opened_scopes}
-use Rattle.typedef_laws.proofs.ScopeNodes.{ended_scopes, renamed_to, scope_fits, scoped_scopes, scoped_in, IsScope}
-use Rattle.typedef_laws.proofs.Scoping.{is_whole, ends_fine, whole_fine, block_scope, list_scope, whole_scope, with_token_in}
+use Rattle.c99_grammar.specs.declared.dialects.Dialect.{Dialect}
+use Rattle.cs_base.specs.Token.{Token}
+use Rattle.c99_tree.specs.Tree.{Forest, leaf, put}
+use Rattle.c99_tree.specs.declared.production.Label.{Label}
+use Rattle.c99_tree.specs.declared.production.Production.{Production}
+use Rattle.c99_tree.specs.declared.production.Production.TheVariants.{Suffix, Pdirect, Block}
+use Rattle.c99_grammar.specs.Items.{Item, one, part, end_of_text, act, ◌·◌, choice, maybe, many, deep, scope, end, declare, name, keep, again}
+use Rattle.c99_grammar.specs.Standard.{grammar}
+use Rattle.c99_read.specs.Sound.{has_token, is_low, is_met, goal_has_token}
+use Rattle.c99_read.specs.State.{State, Names, with_scope_ended, acted, opened}
+use Rattle.c99_read.specs.Reading.{Goal, Step, and_then, take_one, step}
+use Rattle.c99_read.proofs.Moves.{Moves, Moves-step}
+use Rattle.scope_bind.specs.Named.{Scope}
+use Rattle.c_types.specs.Trees.{is_at, last_token}
+use Rattle.tree_laws.proofs.Private.{Class}
+use Rattle.tree_laws.proofs.Outline.{Outline, begun}
+use Rattle.tree_laws.proofs.Matching.{Bounds, IsOpen, SameOuter, bounds_within, bounds_inner, within_sooner}
+use Rattle.tree_laws.proofs.Places.{EndsAt, ends_none}
+use Rattle.tree_laws.proofs.Rules.{labelled, is_quiet, fine, all_three}
+use Rattle.tree_laws.proofs.Goes.{After, with_token, IsIn, Goes, goes_still, goes_further}
+use Rattle.tree_laws.proofs.TypedefSteps.{Reads, taken, quiet_fits, goes_step, opened_in, opened_fits, opened_scopes}
+use Rattle.tree_laws.proofs.ScopeNodes.{ended_scopes, renamed_to, scope_fits, scoped_scopes, scoped_in, IsScope}
+use Rattle.tree_laws.proofs.Scoping.{is_whole, ends_fine, whole_fine, block_scope, list_scope, whole_scope, with_token_in}
 use Rattle.renamed_tree_laws.specs.Along.{along_rest}
 use Rattle.renamed_tree_laws.proofs.Asking.{before_leaf, of_token, of_node, Asks, asks_still, asks_further, quiet_so, plain_asked, told_after, along, Asked, asks_step, BodyAsks}
 

@@ -1,13 +1,13 @@
 -- The classes of one token in two lists: they differ at most where a name counts as a typedef name in one of them.
 use Rattle.std.proofs.Common.{ℕ, ◌≡◌, Bool, true, false, ◌&&◌, ◌||◌, not, if◌then◌else◌, List, refl, sym, ap, subst, ◌∙◌}
 use Rattle.std.proofs.lemmas.Bool.{false≢true}
-use Rattle.typedef_laws.specs.Below.tree_laws.Below.c99_grammar.declared.dialects.Dialect.{Dialect}
-use Rattle.typedef_laws.specs.Below.tree_laws.Below.cs_base.Token.{Token}
-use Rattle.typedef_laws.specs.Below.tree_laws.Below.c99_grammar.Classes.{among}
-use Rattle.typedef_laws.specs.Below.tree_laws.Below.c99_grammar.Standard.{grammar}
-use Rattle.typedef_laws.specs.Below.tree_laws.Below.c99_read.State.{State, base_at, is_identifier, is_typedef_at, class_at}
-use Rattle.typedef_laws.proofs.Below.tree_laws.Below.c99_read.Alike.{swapped}
-use Rattle.typedef_laws.proofs.Below.tree_laws.NameClasses.{implied}
+use Rattle.c99_grammar.specs.declared.dialects.Dialect.{Dialect}
+use Rattle.cs_base.specs.Token.{Token}
+use Rattle.c99_grammar.specs.Classes.{among}
+use Rattle.c99_grammar.specs.Standard.{grammar}
+use Rattle.c99_read.specs.State.{State, base_at, is_identifier, is_typedef_at, class_at}
+use Rattle.c99_read.proofs.Alike.{swapped}
+use Rattle.tree_laws.proofs.NameClasses.{implied}
 use Rattle.renamed_tree_laws.specs.Respelled.{Declaration}
 use Rattle.renamed_tree_laws.proofs.Private.{Class, identifier, typedef_name, covers}
 use Rattle.renamed_tree_laws.proofs.Bases.{base_so, base_is}

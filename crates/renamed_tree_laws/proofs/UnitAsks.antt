@@ -1,27 +1,27 @@
 -- What is asked along a whole unit.
 use Rattle.std.proofs.Common.{ℕ, zero, suc, ◌≡◌, Bool, true, false, ◌&&◌, if◌then◌else◌, ◌==◌, List, [], ◌∷◌, length, Ok, Err, refl, ap, ◌∙◌, arith}
 use Rattle.std.proofs.lemmas.Bool.{and_from}
-use Rattle.typedef_laws.specs.Below.tree_laws.Below.c99_grammar.declared.dialects.Dialect.{Dialect}
-use Rattle.typedef_laws.specs.Below.tree_laws.Below.cs_base.Token.{Token}
-use Rattle.typedef_laws.specs.Below.tree_laws.Below.c99_tree.Tree.{none, node}
-use Rattle.typedef_laws.specs.Below.tree_laws.Below.c99_tree.declared.production.Production.TheVariants.{TranslationUnit, External}
-use Rattle.typedef_laws.specs.Below.tree_laws.Below.c99_grammar.Items.{Item, part, end_of_text, many, own}
-use Rattle.typedef_laws.specs.Below.tree_laws.Below.c99_grammar.Standard.{c99, grammar}
-use Rattle.typedef_laws.specs.Below.tree_laws.Below.c99_read.State.{State, base_at, opened, closed}
-use Rattle.typedef_laws.specs.Below.tree_laws.Below.c99_read.Reading.{Goal, produce, repeat, Step, syntax, at_end, at_first, and_then, may, step, alternative, read_within}
-use Rattle.typedef_laws.specs.Below.tree_laws.Below.name_chains.Frames.{at_first as before}
-use Rattle.typedef_laws.proofs.Parts.{first_body}
-use Rattle.typedef_laws.proofs.Outline.{Outline, all_agree}
-use Rattle.typedef_laws.proofs.Outlines.{outline}
-use Rattle.typedef_laws.proofs.Matching.{Bounds, outer_open, bounds_sooner}
-use Rattle.typedef_laws.proofs.Beginning.{file_bounds}
-use Rattle.typedef_laws.proofs.Goes.{After}
-use Rattle.typedef_laws.proofs.Listed.{outlined_scope}
-use Rattle.typedef_laws.proofs.Handing.{now}
-use Rattle.typedef_laws.proofs.Steady.{steady_within}
-use Rattle.typedef_laws.proofs.Declarators.{declarator_hands}
-use Rattle.typedef_laws.proofs.Table.{reads_within}
-use Rattle.typedef_laws.proofs.Units.{listed_scope, outer_within, Between, UnitGoes, unit_label, definitions_within, many_within, all_within, unit_begins, unit_still as goes_still, unit_then as goes_onward, end_goes}
+use Rattle.c99_grammar.specs.declared.dialects.Dialect.{Dialect}
+use Rattle.cs_base.specs.Token.{Token}
+use Rattle.c99_tree.specs.Tree.{none, node}
+use Rattle.c99_tree.specs.declared.production.Production.TheVariants.{TranslationUnit, External}
+use Rattle.c99_grammar.specs.Items.{Item, part, end_of_text, many, own}
+use Rattle.c99_grammar.specs.Standard.{c99, grammar}
+use Rattle.c99_read.specs.State.{State, base_at, opened, closed}
+use Rattle.c99_read.specs.Reading.{Goal, produce, repeat, Step, syntax, at_end, at_first, and_then, may, step, alternative, read_within}
+use Rattle.name_chains.specs.Frames.{at_first as before}
+use Rattle.tree_laws.proofs.Parts.{first_body}
+use Rattle.tree_laws.proofs.Outline.{Outline, all_agree}
+use Rattle.tree_laws.proofs.Outlines.{outline}
+use Rattle.tree_laws.proofs.Matching.{Bounds, outer_open, bounds_sooner}
+use Rattle.tree_laws.proofs.Beginning.{file_bounds}
+use Rattle.tree_laws.proofs.Goes.{After}
+use Rattle.tree_laws.proofs.Listed.{outlined_scope}
+use Rattle.tree_laws.proofs.Handing.{now}
+use Rattle.tree_laws.proofs.Steady.{steady_within}
+use Rattle.tree_laws.proofs.Declarators.{declarator_hands}
+use Rattle.tree_laws.proofs.Table.{reads_within}
+use Rattle.tree_laws.proofs.Units.{listed_scope, outer_within, Between, UnitGoes, unit_label, definitions_within, many_within, all_within, unit_begins, unit_still as goes_still, unit_then as goes_onward, end_goes}
 use Rattle.renamed_tree_laws.specs.Along.{along_rest, along_within}
 use Rattle.renamed_tree_laws.proofs.Asking.{of_token, of_node, along}
 use Rattle.renamed_tree_laws.proofs.AskTable.{asked_within}

@@ -1,12 +1,12 @@
 -- What is asked of each name that is read, at its moment: one walk along the reading of a text.
 use Rattle.std.specs.Prelude.{ℕ, zero, suc, ◌+◌, ◌&&◌, Bool, true, List, [], ◌∷◌, Ok, Err, if◌then◌else◌}
-use Rattle.typedef_laws.specs.Below.tree_laws.Below.cs_base.Token.{Token}
-use Rattle.typedef_laws.specs.Below.tree_laws.Below.c99_tree.declared.production.Production.{Production}
-use Rattle.typedef_laws.specs.Below.tree_laws.Below.c99_tree.declared.production.Production.TheVariants.{TranslationUnit}
-use Rattle.typedef_laws.specs.Below.tree_laws.Below.c99_grammar.Items.{Item, one, part, end_of_text, act, ◌·◌, choice, maybe, many, deep, own, Alternative}
-use Rattle.typedef_laws.specs.Below.tree_laws.Below.c99_read.State.{State, opened}
-use Rattle.typedef_laws.specs.Below.tree_laws.Below.c99_grammar.Standard.{Grammar}
-use Rattle.typedef_laws.specs.Below.tree_laws.Below.c99_read.Reading.{Goal, produce, repeat, Step, may, step, read_within, steps_for, at_first}
+use Rattle.cs_base.specs.Token.{Token}
+use Rattle.c99_tree.specs.declared.production.Production.{Production}
+use Rattle.c99_tree.specs.declared.production.Production.TheVariants.{TranslationUnit}
+use Rattle.c99_grammar.specs.Items.{Item, one, part, end_of_text, act, ◌·◌, choice, maybe, many, deep, own, Alternative}
+use Rattle.c99_read.specs.State.{State, opened}
+use Rattle.c99_grammar.specs.Standard.{Grammar}
+use Rattle.c99_read.specs.Reading.{Goal, produce, repeat, Step, may, step, read_within, steps_for, at_first}
 
 -- it is so in the state that is left, or reading has stopped
 abbrev pub along_rest : Step → (State → Bool) → Bool

@@ -4,5 +4,3 @@ pub mod Respelled
 pub mod ReadAlike
 pub mod Loose
 pub mod TreesAlike
--- Words of the crates below, passed on.
-pub mod Below

@@ -1,10 +1,10 @@
 -- What is true of the tree of a text in which names are respelled.
 use Rattle.std.specs.Prelude.{◌≡◌, List, Ok}
-use Rattle.typedef_laws.specs.Below.tree_laws.Below.c99_grammar.declared.dialects.Dialect.{Dialect}
-use Rattle.typedef_laws.specs.Below.tree_laws.Below.cs_base.Token.{Token}
-use Rattle.typedef_laws.specs.Below.tree_laws.Below.c99_tree.Tree.{Node}
-use Rattle.typedef_laws.specs.Below.tree_laws.Below.c99_read.Reading.{read_of}
-use Rattle.typedef_laws.specs.Below.tree_laws.Below.c99_grammar.Standard.{grammar}
+use Rattle.c99_grammar.specs.declared.dialects.Dialect.{Dialect}
+use Rattle.cs_base.specs.Token.{Token}
+use Rattle.c99_tree.specs.Tree.{Node}
+use Rattle.c99_read.specs.Reading.{read_of}
+use Rattle.c99_grammar.specs.Standard.{grammar}
 use Rattle.renamed_tree_laws.specs.Respelled.{IsReadSo, IsRespelled}
 
 -- a text whose names are of the kinds that another is read with is read to the same tree

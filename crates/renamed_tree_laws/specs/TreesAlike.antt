@@ -1,16 +1,16 @@
 -- What is true of a text whose names agree with the tree of another one.
 use Rattle.std.specs.Prelude.{ℕ, ◌≡◌, true, List, length, Ok}
 use Rattle.std.specs.List.{Contains}
-use Rattle.typedef_laws.specs.Below.tree_laws.Below.c99_grammar.declared.dialects.Dialect.{Dialect}
-use Rattle.typedef_laws.specs.Below.tree_laws.Below.cs_base.Token.{Token}
-use Rattle.typedef_laws.specs.Below.tree_laws.Below.c99_tree.Tree.{Node}
-use Rattle.typedef_laws.specs.Below.tree_laws.Below.c99_read.Reading.{read_of}
-use Rattle.typedef_laws.specs.Below.tree_laws.Below.c99_read.State.{base_at}
-use Rattle.typedef_laws.specs.Below.tree_laws.Below.c99_grammar.Standard.{grammar}
-use Rattle.typedef_laws.specs.Below.tree_laws.Below.scope_bind.Bound.{Bound, binding_of}
-use Rattle.typedef_laws.specs.Below.tree_laws.Below.name_chains.Frames.{at_first as before, outermost}
-use Rattle.typedef_laws.specs.Below.tree_laws.RenamedNames.{NamesAreRenamed}
-use Rattle.typedef_laws.specs.Agreeing.{agrees}
+use Rattle.c99_grammar.specs.declared.dialects.Dialect.{Dialect}
+use Rattle.cs_base.specs.Token.{Token}
+use Rattle.c99_tree.specs.Tree.{Node}
+use Rattle.c99_read.specs.Reading.{read_of}
+use Rattle.c99_read.specs.State.{base_at}
+use Rattle.c99_grammar.specs.Standard.{grammar}
+use Rattle.scope_bind.specs.Bound.{Bound, binding_of}
+use Rattle.name_chains.specs.Frames.{at_first as before, outermost}
+use Rattle.tree_laws.specs.RenamedNames.{NamesAreRenamed}
+use Rattle.tree_laws.specs.Agreeing.{agrees}
 use Rattle.renamed_tree_laws.specs.Loose.{AllLoose, StaysWhole}
 
 -- Of two texts of as many tokens, of the same classes but for typedef names, the second is read to the tree of the first

@@ -8,11 +8,11 @@
 //! a parameter's declarator. `reading.rt` says so along the reading of the first text, by the reader's own scopes:
 //! both texts are followed in step, and the table of productions says what the next token is read as
 //! (`proofs/Moods.antt`, `proofs/Table.antt`). `trees.rt` says so of the tree that was read, by what the binder's
-//! walk finds (`agrees` of the crate `typedef_laws`). Where all names of an entity are renamed together, what is left
+//! walk finds (`agrees` of the crate `tree_laws`). Where all names of an entity are renamed together, what is left
 //! are names that denote nothing, in identifier lists and behind such a parenthesis: each is one of the bare names of
 //! the binding.
 //!
-//! They are given to `kept_meaning_laws` and `reordered_reading_laws`. Their proofs cite the modules of `proofs/Lib.antt`
+//! They are given to `rename_meaning` and `reordered_text_laws`. Their proofs cite the modules of `proofs/Lib.antt`
 //! that are public; a lemma there keeps its name, and all else may change. Read `specs/Along.antt`,
 //! `specs/Respelled.antt`, `specs/ReadAlike.antt`, then `proofs/Moods.antt` and `proofs/Locked.antt`; `specs/Loose.antt`,
 //! `specs/TreesAlike.antt`, then `proofs/Asking.antt`, `proofs/RenamedTrees.antt` and `proofs/Enclosing.antt`.

@@ -4,20 +4,20 @@ use Rattle.std.specs.Option.{option_map_or}
 use Rattle.std.specs.Str.{bytes_eq}
 use Rattle.std.proofs.lemmas.Bool.{ltb-true, lt-ltb}
 use Rattle.std.proofs.lemmas.Option.{slice_get_past}
-use Rattle.renamed_tree_laws.specs.Below.tree_laws.Below.cs_base.Token.{Token}
-use Rattle.renamed_tree_laws.specs.Below.tree_laws.Below.c99_tree.Names.{latest}
-use Rattle.renamed_tree_laws.specs.Below.tree_laws.Below.c99_tree.Tree.{Forest, none, token, node, Node, node_of, leaf, inner, put, lone, collapsed}
-use Rattle.renamed_tree_laws.specs.Below.tree_laws.Below.c99_tree.declared.production.Production.{Production}
-use Rattle.renamed_tree_laws.specs.Below.tree_laws.Below.c99_tree.declared.production.Production.TheVariants.{TranslationUnit}
-use Rattle.renamed_tree_laws.specs.Below.tree_laws.Below.c99_grammar.declared.classes.Class.{Class}
-use Rattle.renamed_tree_laws.specs.Below.tree_laws.Below.c99_grammar.declared.classes.Class.TheVariants.{End, NoClass, TypedefName}
-use Rattle.renamed_tree_laws.specs.Below.tree_laws.Below.c99_grammar.Classes.{among}
-use Rattle.renamed_tree_laws.specs.Below.tree_laws.Below.c99_grammar.Items.{Item, one, part, end_of_text, act, ◌·◌, choice, maybe, many, deep, Test, own, Action, Alternative}
-use Rattle.renamed_tree_laws.specs.Below.tree_laws.Below.c99_grammar.Standard.{Grammar}
-use Rattle.renamed_tree_laws.specs.Below.tree_laws.Below.c99_grammar.Starting.{holds, starts}
-use Rattle.renamed_tree_laws.specs.Below.tree_laws.Below.c99_grammar.TokenClasses.{base_class}
-use Rattle.renamed_tree_laws.specs.Below.tree_laws.Below.c99_read.State.{State, base_at, spelling_at, is_identifier, spelled_scope, is_typedef_at, class_at, acted, opened, closed, collapses, finished}
-use Rattle.renamed_tree_laws.specs.Below.tree_laws.Below.c99_read.Reading.{Goal, produce, repeat, Step, and_then, deepest, take_one, at_end, enter, may, step, pick, run, read_within, at_first, syntax, too_deep}
+use Rattle.cs_base.specs.Token.{Token}
+use Rattle.c99_tree.specs.Names.{latest}
+use Rattle.c99_tree.specs.Tree.{Forest, none, token, node, Node, node_of, leaf, inner, put, lone, collapsed}
+use Rattle.c99_tree.specs.declared.production.Production.{Production}
+use Rattle.c99_tree.specs.declared.production.Production.TheVariants.{TranslationUnit}
+use Rattle.c99_grammar.specs.declared.classes.Class.{Class}
+use Rattle.c99_grammar.specs.declared.classes.Class.TheVariants.{End, NoClass, TypedefName}
+use Rattle.c99_grammar.specs.Classes.{among}
+use Rattle.c99_grammar.specs.Items.{Item, one, part, end_of_text, act, ◌·◌, choice, maybe, many, deep, Test, own, Action, Alternative}
+use Rattle.c99_grammar.specs.Standard.{Grammar}
+use Rattle.c99_grammar.specs.Starting.{holds, starts}
+use Rattle.c99_grammar.specs.TokenClasses.{base_class}
+use Rattle.c99_read.specs.State.{State, base_at, spelling_at, is_identifier, spelled_scope, is_typedef_at, class_at, acted, opened, closed, collapses, finished}
+use Rattle.c99_read.specs.Reading.{Goal, produce, repeat, Step, and_then, deepest, take_one, at_end, enter, may, step, pick, run, read_within, at_first, syntax, too_deep}
 use Rattle.reordered_text_laws.specs.ByClasses.{joined, untold, numbers_from, Taken, taken, behind_children, then_read, child_of, as_child, here, behind, may_read, read_one, read_end, read_item, read_first, read_goal, read_by_classes}
 use Rattle.reordered_text_laws.specs.Alone.{AreAlone, IsReadAlike, TextsAloneAreReadByClasses}
 use Rattle.reordered_text_laws.proofs.Before.{Declaration, AllIn, AllScopes, Tokens, NamesBefore, tokens_later, names_later, tokens_leaf, tokens_inner, finished_is, opened_is, closed_is, after_is}

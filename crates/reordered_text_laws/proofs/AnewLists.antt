@@ -2,19 +2,19 @@
 use Rattle.std.proofs.Common.{ℕ, ◌+◌, ◌≡◌, Bool, true, false, ◌&&◌, List, [], ◌∷◌, ◌++◌, length, Option, None, Some, nat_lt, refl, sym, ap, subst, ◌∙◌, inl, inr}
 use Rattle.std.proofs.lemmas.Bool.{false≢true, and_parts}
 use Rattle.std.proofs.lemmas.List.{append_assoc, append-nil}
-use Rattle.renamed_tree_laws.specs.Below.tree_laws.Below.c99_grammar.declared.dialects.Dialect.{Dialect}
-use Rattle.renamed_tree_laws.specs.Below.tree_laws.Below.c99_tree.Tree.{Forest, none, node}
-use Rattle.renamed_tree_laws.specs.Below.tree_laws.Below.c99_tree.declared.production.Production.{Production}
-use Rattle.renamed_tree_laws.specs.Below.tree_laws.Below.c99_tree.declared.production.Production.TheVariants.{Post, Suffix, Args, Params}
-use Rattle.renamed_tree_laws.specs.Below.tree_laws.Below.c99_grammar.declared.classes.Class.{Class}
-use Rattle.renamed_tree_laws.specs.Below.tree_laws.Below.c99_grammar.declared.classes.Class.TheVariants.{LeftParen, RightParen}
-use Rattle.renamed_tree_laws.specs.Below.tree_laws.Below.c99_grammar.Items.{Item, part, act, ◌·◌, maybe, deep, own, tok, scope, end, keep}
-use Rattle.renamed_tree_laws.specs.Below.tree_laws.Below.c99_grammar.Standard.{Grammar, grammar}
-use Rattle.renamed_tree_laws.specs.Below.tree_laws.Below.c99_read.Reading.{Goal, produce, deepest}
-use Rattle.reordered_tree_laws.specs.Below.list_cuts.Cuts.{IsOrder}
+use Rattle.c99_grammar.specs.declared.dialects.Dialect.{Dialect}
+use Rattle.c99_tree.specs.Tree.{Forest, none, node}
+use Rattle.c99_tree.specs.declared.production.Production.{Production}
+use Rattle.c99_tree.specs.declared.production.Production.TheVariants.{Post, Suffix, Args, Params}
+use Rattle.c99_grammar.specs.declared.classes.Class.{Class}
+use Rattle.c99_grammar.specs.declared.classes.Class.TheVariants.{LeftParen, RightParen}
+use Rattle.c99_grammar.specs.Items.{Item, part, act, ◌·◌, maybe, deep, own, tok, scope, end, keep}
+use Rattle.c99_grammar.specs.Standard.{Grammar, grammar}
+use Rattle.c99_read.specs.Reading.{Goal, produce, deepest}
+use Rattle.list_cuts.specs.Cuts.{IsOrder}
 use Rattle.reordered_tree_laws.specs.Reordered.{nodes_in, shuffled, is_parenthesised, is_among, permuted}
 use Rattle.reordered_text_laws.specs.ByClasses.{tokens_of, Taken, taken, behind_children, then_read, child_of, as_child, here, may_read, read_one, read_item, read_by_classes}
-use Rattle.reordered_text_laws.specs.Laws.{enclosed}
+use Rattle.reordered_text_laws.specs.ReorderedTexts.{enclosed}
 use Rattle.reordered_text_laws.proofs.Found.{stopped, found_is, branch}
 use Rattle.reordered_text_laws.proofs.Whole.{tokens_of-child}
 use Rattle.reordered_text_laws.proofs.Stops.{closes}

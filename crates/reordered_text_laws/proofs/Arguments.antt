@@ -4,20 +4,20 @@ use Rattle.std.specs.Prelude.{All, IsPermutation}
 use Rattle.std.proofs.lemmas.List.{append_assoc}
 use Rattle.std.proofs.lemmas.List.Elements.{All-nil, All-cons, All-head, All-tail}
 use Rattle.std.proofs.lemmas.List.Sorted.{All-permutation}
-use Rattle.renamed_tree_laws.specs.Below.tree_laws.Below.c99_grammar.declared.dialects.Dialect.{Dialect}
-use Rattle.renamed_tree_laws.specs.Below.tree_laws.Below.c99_tree.Tree.{Forest}
-use Rattle.renamed_tree_laws.specs.Below.tree_laws.Below.c99_tree.declared.production.Production.{Production}
-use Rattle.renamed_tree_laws.specs.Below.tree_laws.Below.c99_tree.declared.production.Production.TheVariants.{Args, Assign, Param}
-use Rattle.renamed_tree_laws.specs.Below.tree_laws.Below.c99_grammar.declared.classes.Class.{Class}
-use Rattle.renamed_tree_laws.specs.Below.tree_laws.Below.c99_grammar.declared.classes.Class.TheVariants.{Comma, RightParen}
-use Rattle.renamed_tree_laws.specs.Below.tree_laws.Below.c99_grammar.Classes.{among}
-use Rattle.renamed_tree_laws.specs.Below.tree_laws.Below.c99_grammar.Items.{Item, part, ◌·◌, many, own}
-use Rattle.renamed_tree_laws.specs.Below.tree_laws.Below.c99_grammar.Standard.{grammar}
-use Rattle.renamed_tree_laws.specs.Below.tree_laws.Below.c99_read.Reading.{Goal, produce}
-use Rattle.renamed_tree_laws.specs.Below.tree_laws.Below.c99_read.Sound.{never_empty}
+use Rattle.c99_grammar.specs.declared.dialects.Dialect.{Dialect}
+use Rattle.c99_tree.specs.Tree.{Forest}
+use Rattle.c99_tree.specs.declared.production.Production.{Production}
+use Rattle.c99_tree.specs.declared.production.Production.TheVariants.{Args, Assign, Param}
+use Rattle.c99_grammar.specs.declared.classes.Class.{Class}
+use Rattle.c99_grammar.specs.declared.classes.Class.TheVariants.{Comma, RightParen}
+use Rattle.c99_grammar.specs.Classes.{among}
+use Rattle.c99_grammar.specs.Items.{Item, part, ◌·◌, many, own}
+use Rattle.c99_grammar.specs.Standard.{grammar}
+use Rattle.c99_read.specs.Reading.{Goal, produce}
+use Rattle.c99_read.specs.Sound.{never_empty}
 use Rattle.reordered_text_laws.specs.ByClasses.{joined, tokens_of, Taken, taken, child_of, as_child, here, may_read, read_item, read_by_classes}
 use Rattle.reordered_text_laws.specs.Lists.{Others, others_of, listed, items_in, AreCommas}
-use Rattle.reordered_text_laws.specs.Laws.{ReadsAnywhere, PartsAreReadAnywhere, ItemsAreReadAnywhere, ArgumentsAreReadInAnyOrder}
+use Rattle.reordered_text_laws.specs.ReorderedTexts.{ReadsAnywhere, PartsAreReadAnywhere, ItemsAreReadAnywhere, ArgumentsAreReadInAnyOrder}
 use Rattle.reordered_text_laws.proofs.Found.{stopped, between, then_is, branch, if_yes, inner_is}
 use Rattle.reordered_text_laws.proofs.Whole.{tokens_of-joined}
 use Rattle.reordered_text_laws.proofs.Local.{goal_text, locally}

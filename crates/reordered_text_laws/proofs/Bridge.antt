@@ -1,14 +1,14 @@
 -- A text whose names agree with a tree is read to it, where the same classes are.
 use Rattle.std.proofs.Common.{ℕ, zero, suc, ◌≡◌, Bool, true, false, ◌&&◌, ◌||◌, not, List, length, refl, sym, ap, ◌∙◌, inl}
 use Rattle.std.proofs.lemmas.Bool.{or_parts}
-use Rattle.renamed_tree_laws.specs.Below.tree_laws.Below.c99_grammar.declared.dialects.Dialect.{Dialect}
-use Rattle.renamed_tree_laws.specs.Below.tree_laws.Below.cs_base.Token.{Token}
-use Rattle.renamed_tree_laws.specs.Below.tree_laws.Below.c99_tree.Tree.{Forest, none, token, node}
-use Rattle.renamed_tree_laws.specs.Below.tree_laws.Below.c99_tree.declared.production.Label.{Label}
-use Rattle.renamed_tree_laws.specs.Below.tree_laws.Below.c99_tree.declared.production.Production.TheVariants.{TranslationUnit, Main}
-use Rattle.renamed_tree_laws.specs.Below.tree_laws.Below.c99_grammar.Standard.{grammar}
-use Rattle.renamed_tree_laws.specs.Below.tree_laws.Below.c99_read.State.{base_at}
-use Rattle.renamed_tree_laws.specs.Below.tree_laws.Below.c_types.Trees.{is_at}
+use Rattle.c99_grammar.specs.declared.dialects.Dialect.{Dialect}
+use Rattle.cs_base.specs.Token.{Token}
+use Rattle.c99_tree.specs.Tree.{Forest, none, token, node}
+use Rattle.c99_tree.specs.declared.production.Label.{Label}
+use Rattle.c99_tree.specs.declared.production.Production.TheVariants.{TranslationUnit, Main}
+use Rattle.c99_grammar.specs.Standard.{grammar}
+use Rattle.c99_read.specs.State.{base_at}
+use Rattle.c_types.specs.Trees.{is_at}
 use Rattle.renamed_tree_laws.specs.TreesAlike.{AgreeingTextsReadAlike}
 use Rattle.reordered_text_laws.specs.Fronted.{fronted, used, up, dirty, has_some, labelled_as, with_front, AgreeingTextsAreRead}
 use Rattle.reordered_text_laws.proofs.FrontClasses.{base_up}

@@ -2,18 +2,18 @@
 use Rattle.std.proofs.Common.{ℕ, suc, zero, ◌+◌, ◌≡◌, ◌⊎◌, true, ◌&&◌, List, [], ◌∷◌, ◌++◌, Option, None, Some, nat_lt, sym, ap, ◌∙◌, inl, inr}
 use Rattle.std.specs.Prelude.{IsPermutation}
 use Rattle.std.proofs.lemmas.Bool.{false≢true, and_parts}
-use Rattle.renamed_tree_laws.specs.Below.tree_laws.Below.c99_grammar.declared.dialects.Dialect.{Dialect}
-use Rattle.renamed_tree_laws.specs.Below.tree_laws.Below.c99_tree.Tree.{Forest, none}
-use Rattle.renamed_tree_laws.specs.Below.tree_laws.Below.c99_tree.declared.production.Production.TheVariants.{Args, Post}
-use Rattle.renamed_tree_laws.specs.Below.tree_laws.Below.c99_grammar.declared.classes.Class.{Class}
-use Rattle.renamed_tree_laws.specs.Below.tree_laws.Below.c99_grammar.declared.classes.Class.TheVariants.{LeftBracket, LeftParen, RightParen}
-use Rattle.renamed_tree_laws.specs.Below.tree_laws.Below.c99_grammar.Classes.{among}
-use Rattle.renamed_tree_laws.specs.Below.tree_laws.Below.c99_grammar.Items.{Item, part, own}
-use Rattle.renamed_tree_laws.specs.Below.tree_laws.Below.c99_grammar.Standard.{grammar}
-use Rattle.renamed_tree_laws.specs.Below.tree_laws.Below.c99_read.Reading.{Goal, produce, deepest}
+use Rattle.c99_grammar.specs.declared.dialects.Dialect.{Dialect}
+use Rattle.c99_tree.specs.Tree.{Forest, none}
+use Rattle.c99_tree.specs.declared.production.Production.TheVariants.{Args, Post}
+use Rattle.c99_grammar.specs.declared.classes.Class.{Class}
+use Rattle.c99_grammar.specs.declared.classes.Class.TheVariants.{LeftBracket, LeftParen, RightParen}
+use Rattle.c99_grammar.specs.Classes.{among}
+use Rattle.c99_grammar.specs.Items.{Item, part, own}
+use Rattle.c99_grammar.specs.Standard.{grammar}
+use Rattle.c99_read.specs.Reading.{Goal, produce, deepest}
 use Rattle.reordered_text_laws.specs.ByClasses.{tokens_of, Taken, taken, child_of, as_child, here, may_read, read_item, read_by_classes}
 use Rattle.reordered_text_laws.specs.Lists.{Others, listed, items_in, AreCommas}
-use Rattle.reordered_text_laws.specs.Laws.{enclosed, CallsAreReadInAnyOrder}
+use Rattle.reordered_text_laws.specs.ReorderedTexts.{enclosed, CallsAreReadInAnyOrder}
 use Rattle.reordered_text_laws.proofs.Found.{stopped, found_is, branch, if_yes, if_no, inner_is}
 use Rattle.reordered_text_laws.proofs.Enclosed.{inside, enclosing, enclosed_read, Enclosed, enclosed_so}
 use Rattle.reordered_text_laws.proofs.Arguments.{arguments_in_any_order}

@@ -2,15 +2,15 @@
 use Rattle.std.proofs.Common.{ℕ, zero, suc, ◌-◌, ◌≡◌, Bool, true, false, ◌&&◌, ◌||◌, not, if◌then◌else◌, ◌==◌, List, [], ◌∷◌, ◌++◌, length, take, slice_get, Option, None, Some, unwrap_or, refl, sym, ap, ◌∙◌}
 use Rattle.std.specs.Option.{option_map_or}
 use Rattle.std.proofs.lemmas.Bool.{false≢true, or_parts}
-use Rattle.renamed_tree_laws.specs.Below.tree_laws.Below.cs_base.Token.{Token}
-use Rattle.renamed_tree_laws.specs.Below.tree_laws.Below.c99_tree.Tree.{Forest, none, token, node, Node, leaf, inner, put, lone, collapsed}
-use Rattle.renamed_tree_laws.specs.Below.tree_laws.Below.c99_tree.declared.production.Label.{Label}
-use Rattle.renamed_tree_laws.specs.Below.tree_laws.Below.c99_tree.declared.production.Production.{Production}
-use Rattle.renamed_tree_laws.specs.Below.tree_laws.Below.c99_tree.declared.production.Production.TheVariants.{Main}
-use Rattle.renamed_tree_laws.specs.Below.tree_laws.Below.c99_grammar.Items.{Action, scope, end, declare, name, keep, again}
-use Rattle.renamed_tree_laws.specs.Below.tree_laws.Below.c99_grammar.Standard.{Grammar}
-use Rattle.renamed_tree_laws.specs.Below.tree_laws.Below.c99_read.State.{State, Names, Head, base_at, is_identifier, is_declaring, has_name, name_below, last_declared, last_identifier, declaration, in_innermost, with_declared, with_scope_ended, given_names, names_after, is_declarator, collapses, with_head, head_closed, names_opened, names_closed, finished}
-use Rattle.renamed_tree_laws.specs.Below.tree_laws.Below.c_types.Trees.{is_at}
+use Rattle.cs_base.specs.Token.{Token}
+use Rattle.c99_tree.specs.Tree.{Forest, none, token, node, Node, leaf, inner, put, lone, collapsed}
+use Rattle.c99_tree.specs.declared.production.Label.{Label}
+use Rattle.c99_tree.specs.declared.production.Production.{Production}
+use Rattle.c99_tree.specs.declared.production.Production.TheVariants.{Main}
+use Rattle.c99_grammar.specs.Items.{Action, scope, end, declare, name, keep, again}
+use Rattle.c99_grammar.specs.Standard.{Grammar}
+use Rattle.c99_read.specs.State.{State, Names, Head, base_at, is_identifier, is_declaring, has_name, name_below, last_declared, last_identifier, declaration, in_innermost, with_declared, with_scope_ended, given_names, names_after, is_declarator, collapses, with_head, head_closed, names_opened, names_closed, finished}
+use Rattle.c_types.specs.Trees.{is_at}
 use Rattle.reordered_text_laws.specs.Fronted.{strays, dirty}
 use Rattle.reordered_text_laws.proofs.Before.{Declaration}
 use Rattle.reordered_text_laws.proofs.FrontNames.{IsOpen}

@@ -1,7 +1,7 @@
 -- What is so of a reading by classes that does not stop.
 use Rattle.std.proofs.Common.{ℕ, ◌≡◌, Bool, true, false, if◌then◌else◌, unwrap_or, List, Option, None, Some, refl, ap, ◌∙◌}
 use Rattle.std.proofs.lemmas.Bool.{false≢true}
-use Rattle.renamed_tree_laws.specs.Below.tree_laws.Below.c99_tree.declared.production.Production.{Production}
+use Rattle.c99_tree.specs.declared.production.Production.{Production}
 use Rattle.reordered_text_laws.specs.ByClasses.{joined, Taken, taken, behind_children, then_read, child_of, as_child}
 
 abbrev is_found : Option Taken → Bool

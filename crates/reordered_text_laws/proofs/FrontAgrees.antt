@@ -3,19 +3,19 @@ use Rattle.std.proofs.Common.{ℕ, ◌+◌, ◌≡◌, Bool, true, false, ◌&&�
 use Rattle.std.specs.Prelude.{find}
 use Rattle.std.specs.Option.{option_map_or, option_or}
 use Rattle.std.proofs.lemmas.Bool.{false≢true, and_parts, or_parts}
-use Rattle.renamed_tree_laws.specs.Below.tree_laws.Below.c99_grammar.declared.dialects.Dialect.{Dialect}
-use Rattle.renamed_tree_laws.specs.Below.tree_laws.Below.cs_base.Token.{Token}
-use Rattle.renamed_tree_laws.specs.Below.tree_laws.Below.c99_tree.Tree.{Forest, none, token, node}
-use Rattle.renamed_tree_laws.specs.Below.tree_laws.Below.c99_tree.declared.production.Label.{Label}
-use Rattle.renamed_tree_laws.specs.Below.tree_laws.Below.c99_tree.declared.production.Production.{Production}
-use Rattle.renamed_tree_laws.specs.Below.tree_laws.Below.c99_tree.declared.production.Production.TheVariants.{ExtRest, FunBody, InitDecl, Main, Params, Primary, Pdirect, Specs, Enumerator, Declarator, Param, Pdecl, Block, Suffix, Sub, Statement, Mod}
-use Rattle.renamed_tree_laws.specs.Below.tree_laws.Below.c99_grammar.Standard.{grammar}
-use Rattle.renamed_tree_laws.specs.Below.tree_laws.Below.c99_read.State.{base_at, spelling_at, is_identifier}
-use Rattle.renamed_tree_laws.specs.Below.tree_laws.Below.scope_bind.Named.{Scope}
-use Rattle.renamed_tree_laws.specs.Below.tree_laws.Below.c_types.Trees.{is_node, is_at, last_token, name_below, has_mod, first_list, has_name, holds_name, is_list}
-use Rattle.renamed_tree_laws.specs.Below.tree_laws.Below.c_types.Declarations.{alike}
-use Rattle.renamed_tree_laws.specs.Below.tree_laws.Below.name_chains.Entering.{inner, is_scoped, scope_in}
-use Rattle.renamed_tree_laws.proofs.Below.typedef_laws.Outline.{Entry, entry, Outline, added, is_listing, stepped, copies, kept_entries, entries_in, begun, named_entries, in_declaration, in_parameter, entries_after, ended, outlined, is_open, typedef_among, token_agrees, node_agrees, all_agree}
+use Rattle.c99_grammar.specs.declared.dialects.Dialect.{Dialect}
+use Rattle.cs_base.specs.Token.{Token}
+use Rattle.c99_tree.specs.Tree.{Forest, none, token, node}
+use Rattle.c99_tree.specs.declared.production.Label.{Label}
+use Rattle.c99_tree.specs.declared.production.Production.{Production}
+use Rattle.c99_tree.specs.declared.production.Production.TheVariants.{ExtRest, FunBody, InitDecl, Main, Params, Primary, Pdirect, Specs, Enumerator, Declarator, Param, Pdecl, Block, Suffix, Sub, Statement, Mod}
+use Rattle.c99_grammar.specs.Standard.{grammar}
+use Rattle.c99_read.specs.State.{base_at, spelling_at, is_identifier}
+use Rattle.scope_bind.specs.Named.{Scope}
+use Rattle.c_types.specs.Trees.{is_node, is_at, last_token, name_below, has_mod, first_list, has_name, holds_name, is_list}
+use Rattle.c_types.specs.Declarations.{alike}
+use Rattle.name_chains.specs.Entering.{inner, is_scoped, scope_in}
+use Rattle.tree_laws.proofs.Outline.{Entry, entry, Outline, added, is_listing, stepped, copies, kept_entries, entries_in, begun, named_entries, in_declaration, in_parameter, entries_after, ended, outlined, is_open, typedef_among, token_agrees, node_agrees, all_agree}
 use Rattle.reordered_text_laws.specs.Fronted.{fronted, used, up, raised, has_leaf, is_filled, has_some}
 use Rattle.reordered_text_laws.proofs.FrontNames.{up_option}
 use Rattle.reordered_text_laws.proofs.FrontClasses.{eq_up, base_up, other_way}

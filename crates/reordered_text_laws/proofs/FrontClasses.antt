@@ -4,12 +4,12 @@ use Rattle.std.proofs.Common.{ℕ, ◌≡◌, Bool, true, false, ◌&&◌, if◌
 use Rattle.std.specs.Option.{option_map_or}
 use Rattle.std.specs.Str.{bytes_eq}
 use Rattle.std.proofs.lemmas.Bool.{false≢true}
-use Rattle.renamed_tree_laws.specs.Below.tree_laws.Below.cs_base.Token.{Token}
-use Rattle.renamed_tree_laws.specs.Below.tree_laws.Below.c99_tree.Names.{latest, is_typedef}
-use Rattle.renamed_tree_laws.specs.Below.tree_laws.Below.c99_grammar.declared.classes.Class.TheVariants.{End, NoClass, Identifier, TypedefName}
-use Rattle.renamed_tree_laws.specs.Below.tree_laws.Below.c99_grammar.Standard.{Grammar}
-use Rattle.renamed_tree_laws.specs.Below.tree_laws.Below.c99_grammar.TokenClasses.{base_class}
-use Rattle.renamed_tree_laws.specs.Below.tree_laws.Below.c99_read.State.{State, base_at, spelling_at, is_identifier, spelled_scope, spelled_scopes, is_typedef_at, class_at}
+use Rattle.cs_base.specs.Token.{Token}
+use Rattle.c99_tree.specs.Names.{latest, is_typedef}
+use Rattle.c99_grammar.specs.declared.classes.Class.TheVariants.{End, NoClass, Identifier, TypedefName}
+use Rattle.c99_grammar.specs.Standard.{Grammar}
+use Rattle.c99_grammar.specs.TokenClasses.{base_class}
+use Rattle.c99_read.specs.State.{State, base_at, spelling_at, is_identifier, spelled_scope, spelled_scopes, is_typedef_at, class_at}
 use Rattle.reordered_text_laws.specs.Fronted.{fronted, used, Fits, up}
 use Rattle.reordered_text_laws.proofs.Before.{Declaration}
 use Rattle.reordered_text_laws.proofs.FrontNames.{up_in, front_one, up_scopes, IsOpen}

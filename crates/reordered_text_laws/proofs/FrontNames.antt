@@ -1,8 +1,8 @@
 -- The names that a reader has declared behind a typedef that stands in front of a text.
 use Rattle.std.proofs.Common.{ℕ, zero, suc, ◌-◌, ◌≡◌, Bool, true, false, if◌then◌else◌, ◌==◌, List, [], ◌∷◌, ◌++◌, length, take, slice_get, Option, None, Some, unwrap_or, refl, ap, ◌∙◌}
 use Rattle.std.specs.Option.{option_map_or}
-use Rattle.renamed_tree_laws.specs.Below.tree_laws.Below.c99_tree.declared.production.Production.{Production}
-use Rattle.renamed_tree_laws.specs.Below.tree_laws.Below.c99_read.State.{Names, Head, declaration, in_innermost, with_declared, with_scope_ended, given_names, is_declarator, with_head, head_closed, names_opened, names_closed}
+use Rattle.c99_tree.specs.declared.production.Production.{Production}
+use Rattle.c99_read.specs.State.{Names, Head, declaration, in_innermost, with_declared, with_scope_ended, given_names, is_declarator, with_head, head_closed, names_opened, names_closed}
 use Rattle.reordered_text_laws.specs.Fronted.{up}
 use Rattle.reordered_text_laws.proofs.Before.{Declaration}
 

@@ -1,16 +1,16 @@
 -- The whole tree agrees behind the typedef.
 use Rattle.std.proofs.Common.{ℕ, ◌+◌, ◌≡◌, Bool, false, ◌&&◌, if◌then◌else◌, List, [], length, Option, None, refl, sym, ap, ◌∙◌}
-use Rattle.renamed_tree_laws.specs.Below.tree_laws.Below.c99_grammar.declared.dialects.Dialect.{Dialect}
-use Rattle.renamed_tree_laws.specs.Below.tree_laws.Below.cs_base.Token.{Token}
-use Rattle.renamed_tree_laws.specs.Below.tree_laws.Below.c99_tree.Tree.{Forest, none, token, node}
-use Rattle.renamed_tree_laws.specs.Below.tree_laws.Below.c99_tree.declared.production.Label.{Label}
-use Rattle.renamed_tree_laws.specs.Below.tree_laws.Below.c99_tree.declared.production.Production.{Production}
-use Rattle.renamed_tree_laws.specs.Below.tree_laws.Below.c99_tree.declared.production.Production.TheVariants.{TranslationUnit, Enumerator, Declarator, Pdecl, Specs}
-use Rattle.renamed_tree_laws.specs.Below.tree_laws.Below.scope_bind.Named.{Scope}
-use Rattle.renamed_tree_laws.specs.Below.tree_laws.Below.c_types.Trees.{is_node, has_mod, first_list}
-use Rattle.renamed_tree_laws.specs.Below.tree_laws.Below.name_chains.Frames.{at_first as before}
-use Rattle.renamed_tree_laws.proofs.Below.typedef_laws.Outline.{Entry, Outline, begun, entries_after, outlined, node_agrees, all_agree}
-use Rattle.renamed_tree_laws.proofs.Below.typedef_laws.Outlines.{outline, agrees_same}
+use Rattle.c99_grammar.specs.declared.dialects.Dialect.{Dialect}
+use Rattle.cs_base.specs.Token.{Token}
+use Rattle.c99_tree.specs.Tree.{Forest, none, token, node}
+use Rattle.c99_tree.specs.declared.production.Label.{Label}
+use Rattle.c99_tree.specs.declared.production.Production.{Production}
+use Rattle.c99_tree.specs.declared.production.Production.TheVariants.{TranslationUnit, Enumerator, Declarator, Pdecl, Specs}
+use Rattle.scope_bind.specs.Named.{Scope}
+use Rattle.c_types.specs.Trees.{is_node, has_mod, first_list}
+use Rattle.name_chains.specs.Frames.{at_first as before}
+use Rattle.tree_laws.proofs.Outline.{Entry, Outline, begun, entries_after, outlined, node_agrees, all_agree}
+use Rattle.tree_laws.proofs.Outlines.{outline, agrees_same}
 use Rattle.reordered_text_laws.specs.ByClasses.{joined}
 use Rattle.reordered_text_laws.specs.Fronted.{fronted, raised, labelled_as, front_forest, AgreesBehindATypedef}
 use Rattle.reordered_text_laws.proofs.FrontAgrees.{up_outline, all_same}

@@ -1,9 +1,9 @@
 -- Trees of texts behind four tokens more.
 use Rattle.std.proofs.Common.{ℕ, zero, suc, ◌≡◌, Bool, true, false, ◌&&◌, ◌||◌, if◌then◌else◌, Some, refl, sym, ap, ◌∙◌}
-use Rattle.renamed_tree_laws.specs.Below.tree_laws.Below.c99_tree.Tree.{Forest, none, token, node, Node, node_of, leaf, inner, put, Part, lone, collapsed}
-use Rattle.renamed_tree_laws.specs.Below.tree_laws.Below.c99_tree.declared.production.Label.{Label}
-use Rattle.renamed_tree_laws.specs.Below.tree_laws.Below.c99_tree.declared.production.Production.{Production}
-use Rattle.renamed_tree_laws.specs.Below.tree_laws.Below.c99_read.State.{is_declaring, has_name, name_below, last_declared, is_typedef_word, is_main, typedef_word_in, is_typedef_part, has_typedef, collapses, finished}
+use Rattle.c99_tree.specs.Tree.{Forest, none, token, node, Node, node_of, leaf, inner, put, Part, lone, collapsed}
+use Rattle.c99_tree.specs.declared.production.Label.{Label}
+use Rattle.c99_tree.specs.declared.production.Production.{Production}
+use Rattle.c99_read.specs.State.{is_declaring, has_name, name_below, last_declared, is_typedef_word, is_main, typedef_word_in, is_typedef_part, has_typedef, collapses, finished}
 use Rattle.reordered_text_laws.specs.ByClasses.{joined}
 use Rattle.reordered_text_laws.specs.Fronted.{up, raised, strays, dirty}
 use Rattle.reordered_text_laws.proofs.FrontNames.{up_option}

@@ -1,9 +1,9 @@
 -- Which list may stand where a production or an item begins.
 use Rattle.std.proofs.Common.{if◌then◌else◌}
-use Rattle.renamed_tree_laws.specs.Below.tree_laws.Below.c99_tree.declared.production.Production.{Production}
-use Rattle.renamed_tree_laws.specs.Below.tree_laws.Below.c99_tree.declared.production.Production.TheVariants.{Suffix, Pdecl, Pdirect, Adecl, Adirect, Post}
-use Rattle.renamed_tree_laws.specs.Below.tree_laws.Below.c99_grammar.Items.{Item, one, part, end_of_text, act, ◌·◌, choice, maybe, many, deep}
-use Rattle.renamed_tree_laws.specs.Below.tree_laws.Below.c99_read.Sound.{has_token}
+use Rattle.c99_tree.specs.declared.production.Production.{Production}
+use Rattle.c99_tree.specs.declared.production.Production.TheVariants.{Suffix, Pdecl, Pdirect, Adecl, Adirect, Post}
+use Rattle.c99_grammar.specs.Items.{Item, one, part, end_of_text, act, ◌·◌, choice, maybe, many, deep}
+use Rattle.c99_read.specs.Sound.{has_token}
 use Rattle.reordered_text_laws.proofs.Near.{Front, shut, listed, called, higher}
 
 abbrev pub production_front : Production → Front

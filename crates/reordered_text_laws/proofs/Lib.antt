@@ -40,5 +40,21 @@ mod FrontNames
 mod CleanNames
 mod FrontTrees
 mod FrontGrows
--- Words of the crates below, passed on.
-pub mod Below
+mod Marks
+mod Reworded
+mod FrontKeyed
+mod PlainTexts
+mod Filled
+mod Joined
+mod PlainOrder
+pub mod EachLemmas
+pub mod MarkLemmas
+pub mod TellLemmas
+pub mod TidyLemmas
+pub mod SplitLemmas
+pub mod OfLemmas
+pub mod TreeLemmas
+pub mod SignLemmas
+pub mod RunMarkLemmas
+pub mod ClassLemmas
+pub mod PartMarks

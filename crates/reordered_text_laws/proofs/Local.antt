@@ -3,14 +3,14 @@ use Rattle.std.proofs.Common.{ℕ, suc, zero, ◌+◌, ◌≡◌, Bool, true, fa
 use Rattle.std.specs.List.{list_all}
 use Rattle.std.proofs.lemmas.Bool.{false≢true, and_parts}
 use Rattle.std.proofs.lemmas.List.{append_assoc}
-use Rattle.renamed_tree_laws.specs.Below.tree_laws.Below.c99_tree.Tree.{none, token}
-use Rattle.renamed_tree_laws.specs.Below.tree_laws.Below.c99_tree.declared.production.Production.{Production}
-use Rattle.renamed_tree_laws.specs.Below.tree_laws.Below.c99_grammar.declared.classes.Class.{Class}
-use Rattle.renamed_tree_laws.specs.Below.tree_laws.Below.c99_grammar.Classes.{among}
-use Rattle.renamed_tree_laws.specs.Below.tree_laws.Below.c99_grammar.Items.{Item, one, part, end_of_text, act, ◌·◌, choice, maybe, many, deep, own, Test, Alternative}
-use Rattle.renamed_tree_laws.specs.Below.tree_laws.Below.c99_grammar.Standard.{Grammar}
-use Rattle.renamed_tree_laws.specs.Below.tree_laws.Below.c99_read.Reading.{Goal, produce, repeat, deepest}
-use Rattle.renamed_tree_laws.specs.Below.tree_laws.Below.c99_read.Sound.{never_empty, has_token, IsSound, goal_has_token}
+use Rattle.c99_tree.specs.Tree.{none, token}
+use Rattle.c99_tree.specs.declared.production.Production.{Production}
+use Rattle.c99_grammar.specs.declared.classes.Class.{Class}
+use Rattle.c99_grammar.specs.Classes.{among}
+use Rattle.c99_grammar.specs.Items.{Item, one, part, end_of_text, act, ◌·◌, choice, maybe, many, deep, own, Test, Alternative}
+use Rattle.c99_grammar.specs.Standard.{Grammar}
+use Rattle.c99_read.specs.Reading.{Goal, produce, repeat, deepest}
+use Rattle.c99_read.specs.Sound.{never_empty, has_token, IsSound, goal_has_token}
 use Rattle.reordered_text_laws.specs.ByClasses.{joined, tokens_of, Taken, taken, then_read, as_child, may_read, read_one, read_item, read_first, read_by_classes}
 use Rattle.reordered_text_laws.proofs.Found.{stopped, found_is, between, then_is, if_yes, inner_is, same_branch}
 use Rattle.reordered_text_laws.proofs.Whole.{has_any, tokens_of-joined, tokens_of-child, whole_reading, whole_part, whole_is}

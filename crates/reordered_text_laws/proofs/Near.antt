@@ -1,12 +1,12 @@
 -- How far two texts go alike that differ by the order of items in lists: by their first two tokens, or both begin with a parenthesis.
 use Rattle.std.proofs.Common.{ℕ, ◌≡◌, ◌⊎◌, Bool, true, false, ◌&&◌, List, [], ◌∷◌, ◌++◌, refl, sym, ap, ◌∙◌, inl, inr}
 use Rattle.std.proofs.lemmas.Bool.{false≢true, and_parts}
-use Rattle.renamed_tree_laws.specs.Below.tree_laws.Below.c99_grammar.declared.classes.Class.{Class}
-use Rattle.renamed_tree_laws.specs.Below.tree_laws.Below.c99_grammar.declared.classes.Class.TheVariants.{LeftBracket, LeftParen, Star, Identifier}
-use Rattle.renamed_tree_laws.specs.Below.tree_laws.Below.c99_grammar.Classes.{among}
-use Rattle.renamed_tree_laws.specs.Below.tree_laws.Below.c99_grammar.Items.{Item, Test, own, otherwise, next, next_two, Alternative}
-use Rattle.renamed_tree_laws.specs.Below.tree_laws.Below.c99_grammar.Standard.{Grammar}
-use Rattle.renamed_tree_laws.specs.Below.tree_laws.Below.c99_grammar.Starting.{asks, holds, starts}
+use Rattle.c99_grammar.specs.declared.classes.Class.{Class}
+use Rattle.c99_grammar.specs.declared.classes.Class.TheVariants.{LeftBracket, LeftParen, Star, Identifier}
+use Rattle.c99_grammar.specs.Classes.{among}
+use Rattle.c99_grammar.specs.Items.{Item, Test, own, otherwise, next, next_two, Alternative}
+use Rattle.c99_grammar.specs.Standard.{Grammar}
+use Rattle.c99_grammar.specs.Starting.{asks, holds, starts}
 use Rattle.reordered_text_laws.specs.ByClasses.{here, behind, may_read}
 use Rattle.reordered_text_laws.specs.Lists.{EndsItem}
 use Rattle.reordered_text_laws.proofs.Whole.{has_any}

@@ -4,24 +4,24 @@ use Rattle.std.proofs.lemmas.Bool.{false≢true}
 use Rattle.std.proofs.lemmas.List.{length-map, get_or-map, get_or_default, same_lists}
 use Rattle.std.proofs.lemmas.List.Sorted.{length_permutation}
 use Rattle.std.proofs.Math.ListN as listn
-use Rattle.renamed_tree_laws.specs.Below.tree_laws.Below.c99_grammar.declared.dialects.Dialect.{Dialect}
-use Rattle.renamed_tree_laws.specs.Below.tree_laws.Below.c99_tree.Tree.{Forest, none, token, node, Node, node_of}
-use Rattle.renamed_tree_laws.specs.Below.tree_laws.Below.c99_tree.declared.production.Label.{Label}
-use Rattle.renamed_tree_laws.specs.Below.tree_laws.Below.c99_tree.declared.production.Production.TheVariants.{TranslationUnit}
-use Rattle.renamed_tree_laws.specs.Below.tree_laws.Below.c99_grammar.declared.classes.Class.{Class}
-use Rattle.renamed_tree_laws.specs.Below.tree_laws.Below.c99_grammar.Standard.{grammar}
-use Rattle.renamed_tree_laws.specs.Below.tree_laws.Below.c99_read.Reading.{produce}
-use Rattle.renamed_tree_laws.specs.Below.tree_laws.Below.c_types.Trees.{first_token}
-use Rattle.renamed_tree_laws.specs.Below.tree_laws.Below.c_types.Parameters.{ends_in_token}
-use Rattle.renamed_tree_laws.specs.Below.tree_laws.TreesOfTexts.{token_count}
-use Rattle.reordered_tree_laws.specs.Below.list_cuts.Cuts.{Cut, done, keep, list, item, numbers, IsOrder, arranged, AreOf}
-use Rattle.reordered_tree_laws.proofs.Below.list_cuts.OrderLemmas.{length-numbers, get_or-numbers}
-use Rattle.reordered_tree_laws.proofs.Below.list_cuts.CutLemmas.{length-order, arranged_permutes}
+use Rattle.c99_grammar.specs.declared.dialects.Dialect.{Dialect}
+use Rattle.c99_tree.specs.Tree.{Forest, none, token, node, Node, node_of}
+use Rattle.c99_tree.specs.declared.production.Label.{Label}
+use Rattle.c99_tree.specs.declared.production.Production.TheVariants.{TranslationUnit}
+use Rattle.c99_grammar.specs.declared.classes.Class.{Class}
+use Rattle.c99_grammar.specs.Standard.{grammar}
+use Rattle.c99_read.specs.Reading.{produce}
+use Rattle.c_types.specs.Trees.{first_token}
+use Rattle.c_types.specs.Parameters.{ends_in_token}
+use Rattle.tree_laws.specs.TreesOfTexts.{token_count}
+use Rattle.list_cuts.specs.Cuts.{Cut, done, keep, list, item, numbers, IsOrder, arranged, AreOf}
+use Rattle.list_cuts.proofs.OrderLemmas.{length-numbers, get_or-numbers}
+use Rattle.list_cuts.proofs.CutLemmas.{length-order, arranged_permutes}
 use Rattle.reordered_tree_laws.specs.Reordered.{nodes_in, refilled, no_node, picked_nodes, shuffled, is_parenthesised, is_among, permuted, leaves, numbered, reordered}
 use Rattle.reordered_tree_laws.specs.Cuts.{gap_in, cut_then, list_then, items_in, cut_in}
 use Rattle.reordered_tree_laws.proofs.SameForms.{arranged_leaves}
 use Rattle.reordered_text_laws.specs.ByClasses.{tokens_of, numbers_from, untold, Taken, taken, read_by_classes}
-use Rattle.reordered_text_laws.specs.Laws.{renumbered, renumbered_reading}
+use Rattle.reordered_text_laws.specs.ReorderedTexts.{renumbered, renumbered_reading}
 use Rattle.reordered_text_laws.specs.InOrder.{IsReadAs, ArrangedTokensAreReadInOrder}
 use Rattle.reordered_text_laws.proofs.Found.{stopped, found_is}
 use Rattle.reordered_text_laws.proofs.Whole.{has_any}

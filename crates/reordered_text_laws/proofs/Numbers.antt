@@ -1,15 +1,15 @@
 -- Tokens are read alike whatever their numbers are.
 use Rattle.std.proofs.Common.{ℕ, suc, zero, ◌+◌, ◌≡◌, Bool, true, false, ◌&&◌, if◌then◌else◌, List, [], ◌∷◌, map, Option, None, Some, nat_lt, refl, sym, ap, ◌∙◌}
-use Rattle.renamed_tree_laws.specs.Below.tree_laws.Below.c99_tree.Tree.{Forest, none, token, node, Node, node_of, inner, put, lone, collapsed}
-use Rattle.renamed_tree_laws.specs.Below.tree_laws.Below.c99_tree.declared.production.Production.{Production}
-use Rattle.renamed_tree_laws.specs.Below.tree_laws.Below.c99_grammar.declared.classes.Class.{Class}
-use Rattle.renamed_tree_laws.specs.Below.tree_laws.Below.c99_grammar.Classes.{among}
-use Rattle.renamed_tree_laws.specs.Below.tree_laws.Below.c99_grammar.Items.{Item, one, part, end_of_text, act, ◌·◌, choice, maybe, many, deep, own, Test, Alternative}
-use Rattle.renamed_tree_laws.specs.Below.tree_laws.Below.c99_grammar.Standard.{Grammar}
-use Rattle.renamed_tree_laws.specs.Below.tree_laws.Below.c99_read.Reading.{Goal, produce, repeat, deepest}
-use Rattle.renamed_tree_laws.specs.Below.tree_laws.Below.c99_read.State.{collapses, finished}
+use Rattle.c99_tree.specs.Tree.{Forest, none, token, node, Node, node_of, inner, put, lone, collapsed}
+use Rattle.c99_tree.specs.declared.production.Production.{Production}
+use Rattle.c99_grammar.specs.declared.classes.Class.{Class}
+use Rattle.c99_grammar.specs.Classes.{among}
+use Rattle.c99_grammar.specs.Items.{Item, one, part, end_of_text, act, ◌·◌, choice, maybe, many, deep, own, Test, Alternative}
+use Rattle.c99_grammar.specs.Standard.{Grammar}
+use Rattle.c99_read.specs.Reading.{Goal, produce, repeat, deepest}
+use Rattle.c99_read.specs.State.{collapses, finished}
 use Rattle.reordered_text_laws.specs.ByClasses.{joined, Taken, taken, behind_children, then_read, child_of, as_child, may_read, read_one, read_end, read_item, read_first, read_goal, read_by_classes}
-use Rattle.reordered_text_laws.specs.Laws.{renumbered, renumbered_reading, NumbersDoNotMatter}
+use Rattle.reordered_text_laws.specs.ReorderedTexts.{renumbered, renumbered_reading, NumbersDoNotMatter}
 
 module _ (m : ℕ → ℕ) where
   renumbered-joined : (a b : Forest) → renumbered m (joined a b) ≡ joined (renumbered m a) (renumbered m b)

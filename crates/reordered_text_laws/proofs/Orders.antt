@@ -2,15 +2,15 @@
 use Rattle.std.proofs.Common.{ℕ, suc, zero, ◌≡◌, Bool, true, false, if◌then◌else◌, List, [], ◌∷◌, ◌++◌, Option, None, Some, refl, sym, ap, subst, ◌∙◌, inl, inr}
 use Rattle.std.proofs.lemmas.Bool.{false≢true}
 use Rattle.std.proofs.lemmas.List.{append_assoc}
-use Rattle.renamed_tree_laws.specs.Below.tree_laws.Below.c99_tree.Tree.{Forest, none, token}
-use Rattle.renamed_tree_laws.specs.Below.tree_laws.Below.c99_tree.declared.production.Production.{Production}
-use Rattle.renamed_tree_laws.specs.Below.tree_laws.Below.c99_grammar.declared.classes.Class.{Class}
-use Rattle.renamed_tree_laws.specs.Below.tree_laws.Below.c99_grammar.declared.classes.Class.TheVariants.{Comma}
-use Rattle.renamed_tree_laws.specs.Below.tree_laws.Below.c99_grammar.Classes.{among}
-use Rattle.renamed_tree_laws.specs.Below.tree_laws.Below.c99_grammar.Items.{Item, part, ◌·◌, many, tok, Test}
-use Rattle.renamed_tree_laws.specs.Below.tree_laws.Below.c99_grammar.Standard.{Grammar}
-use Rattle.renamed_tree_laws.specs.Below.tree_laws.Below.c99_read.Reading.{Goal, produce, repeat}
-use Rattle.renamed_tree_laws.specs.Below.tree_laws.Below.c99_read.Sound.{never_empty}
+use Rattle.c99_tree.specs.Tree.{Forest, none, token}
+use Rattle.c99_tree.specs.declared.production.Production.{Production}
+use Rattle.c99_grammar.specs.declared.classes.Class.{Class}
+use Rattle.c99_grammar.specs.declared.classes.Class.TheVariants.{Comma}
+use Rattle.c99_grammar.specs.Classes.{among}
+use Rattle.c99_grammar.specs.Items.{Item, part, ◌·◌, many, tok, Test}
+use Rattle.c99_grammar.specs.Standard.{Grammar}
+use Rattle.c99_read.specs.Reading.{Goal, produce, repeat}
+use Rattle.c99_read.specs.Sound.{never_empty}
 use Rattle.reordered_text_laws.specs.ByClasses.{joined, tokens_of, Taken, taken, then_read, here, may_read, read_one, read_item, read_by_classes}
 use Rattle.reordered_text_laws.specs.Lists.{Others, others_of, AreCommas, EndsItem}
 use Rattle.reordered_text_laws.proofs.Found.{stopped, found_is, between, then_is, branch, if_yes, if_no}

@@ -2,22 +2,22 @@
 use Rattle.std.proofs.Common.{ℕ, suc, zero, ◌+◌, ◌≡◌, ◌⊎◌, Bool, true, false, ◌&&◌, ◌||◌, if◌then◌else◌, List, [], ◌∷◌, ◌++◌, length, Option, None, Some, nat_lt, refl, sym, ap, subst, ◌∙◌, inr, arith}
 use Rattle.std.proofs.lemmas.Bool.{false≢true, and_parts}
 use Rattle.std.proofs.lemmas.List.{append-nil}
-use Rattle.renamed_tree_laws.specs.Below.tree_laws.Below.c99_grammar.declared.dialects.Dialect.{Dialect}
-use Rattle.renamed_tree_laws.specs.Below.tree_laws.Below.c99_tree.Tree.{Forest, none, token, node, node_of}
-use Rattle.renamed_tree_laws.specs.Below.tree_laws.Below.c99_tree.declared.production.Label.{Label}
-use Rattle.renamed_tree_laws.specs.Below.tree_laws.Below.c99_tree.declared.production.Production.{Production}
-use Rattle.renamed_tree_laws.specs.Below.tree_laws.Below.c99_tree.declared.production.Production.TheVariants.{Params, Param, Args, Assign}
-use Rattle.renamed_tree_laws.specs.Below.tree_laws.Below.c99_grammar.declared.classes.Class.{Class}
-use Rattle.renamed_tree_laws.specs.Below.tree_laws.Below.c99_grammar.declared.classes.Class.TheVariants.{LeftBracket, LeftParen, RightParen, Star, Identifier, Comma, Ellipsis}
-use Rattle.renamed_tree_laws.specs.Below.tree_laws.Below.c99_grammar.Classes.{among, is_same}
-use Rattle.renamed_tree_laws.specs.Below.tree_laws.Below.c99_grammar.Items.{Item, one, part, end_of_text, act, ◌·◌, choice, maybe, many, deep, own, tok, name, Test, next_two, is, is_not, Alternative}
-use Rattle.renamed_tree_laws.specs.Below.tree_laws.Below.c99_grammar.Standard.{grammar}
-use Rattle.renamed_tree_laws.specs.Below.tree_laws.Below.c99_grammar.Starting.{production_starts}
-use Rattle.renamed_tree_laws.proofs.Below.tree_laws.Below.c99_grammar.StandardLemmas.{by_dialect}
-use Rattle.renamed_tree_laws.specs.Below.tree_laws.Below.c99_read.Reading.{Goal, produce, repeat, deepest}
-use Rattle.renamed_tree_laws.specs.Below.tree_laws.Below.c99_read.State.{finished}
-use Rattle.renamed_tree_laws.specs.Below.tree_laws.Below.c99_read.Sound.{never_empty}
-use Rattle.reordered_tree_laws.specs.Below.list_cuts.Cuts.{IsOrder}
+use Rattle.c99_grammar.specs.declared.dialects.Dialect.{Dialect}
+use Rattle.c99_tree.specs.Tree.{Forest, none, token, node, node_of}
+use Rattle.c99_tree.specs.declared.production.Label.{Label}
+use Rattle.c99_tree.specs.declared.production.Production.{Production}
+use Rattle.c99_tree.specs.declared.production.Production.TheVariants.{Params, Param, Args, Assign}
+use Rattle.c99_grammar.specs.declared.classes.Class.{Class}
+use Rattle.c99_grammar.specs.declared.classes.Class.TheVariants.{LeftBracket, LeftParen, RightParen, Star, Identifier, Comma, Ellipsis}
+use Rattle.c99_grammar.specs.Classes.{among, is_same}
+use Rattle.c99_grammar.specs.Items.{Item, one, part, end_of_text, act, ◌·◌, choice, maybe, many, deep, own, tok, name, Test, next_two, is, is_not, Alternative}
+use Rattle.c99_grammar.specs.Standard.{grammar}
+use Rattle.c99_grammar.specs.Starting.{production_starts}
+use Rattle.c99_grammar.proofs.StandardLemmas.{by_dialect}
+use Rattle.c99_read.specs.Reading.{Goal, produce, repeat, deepest}
+use Rattle.c99_read.specs.State.{finished}
+use Rattle.c99_read.specs.Sound.{never_empty}
+use Rattle.list_cuts.specs.Cuts.{IsOrder}
 use Rattle.reordered_tree_laws.specs.Reordered.{nodes_in, shuffled}
 use Rattle.reordered_text_laws.specs.ByClasses.{joined, tokens_of, Taken, taken, then_read, as_child, here, behind, may_read, read_item, read_first, read_by_classes}
 use Rattle.reordered_text_laws.specs.Lists.{Others, others_of, listed, listed_with, AreCommas, IsTail}

@@ -2,20 +2,20 @@
 use Rattle.std.proofs.Common.{ℕ, suc, zero, ◌≡◌, Bool, true, false, ◌&&◌, not, List, [], ◌∷◌, ◌++◌, Option, None, Some, refl, sym, ap, subst, ◌∙◌, inl, inr}
 use Rattle.std.proofs.lemmas.Bool.{false≢true}
 use Rattle.std.proofs.lemmas.List.{append_assoc}
-use Rattle.renamed_tree_laws.specs.Below.tree_laws.Below.c99_grammar.declared.dialects.Dialect.{Dialect}
-use Rattle.renamed_tree_laws.specs.Below.tree_laws.Below.c99_tree.Tree.{Forest, none, token, node}
-use Rattle.renamed_tree_laws.specs.Below.tree_laws.Below.c99_tree.declared.production.Production.TheVariants.{Params, Param}
-use Rattle.renamed_tree_laws.specs.Below.tree_laws.Below.c99_grammar.declared.classes.Class.{Class}
-use Rattle.renamed_tree_laws.specs.Below.tree_laws.Below.c99_grammar.declared.classes.Class.TheVariants.{Comma, RightParen, Ellipsis, Identifier}
-use Rattle.renamed_tree_laws.specs.Below.tree_laws.Below.c99_grammar.Classes.{among}
-use Rattle.renamed_tree_laws.specs.Below.tree_laws.Below.c99_grammar.Items.{Item, part, act, ◌·◌, maybe, many, own, tok, name, Test, next_two, is, is_not}
-use Rattle.renamed_tree_laws.specs.Below.tree_laws.Below.c99_grammar.Standard.{grammar}
-use Rattle.renamed_tree_laws.specs.Below.tree_laws.Below.c99_grammar.Starting.{production_starts}
-use Rattle.renamed_tree_laws.proofs.Below.tree_laws.Below.c99_grammar.StandardLemmas.{by_dialect}
-use Rattle.renamed_tree_laws.specs.Below.tree_laws.Below.c99_read.Reading.{Goal, produce}
+use Rattle.c99_grammar.specs.declared.dialects.Dialect.{Dialect}
+use Rattle.c99_tree.specs.Tree.{Forest, none, token, node}
+use Rattle.c99_tree.specs.declared.production.Production.TheVariants.{Params, Param}
+use Rattle.c99_grammar.specs.declared.classes.Class.{Class}
+use Rattle.c99_grammar.specs.declared.classes.Class.TheVariants.{Comma, RightParen, Ellipsis, Identifier}
+use Rattle.c99_grammar.specs.Classes.{among}
+use Rattle.c99_grammar.specs.Items.{Item, part, act, ◌·◌, maybe, many, own, tok, name, Test, next_two, is, is_not}
+use Rattle.c99_grammar.specs.Standard.{grammar}
+use Rattle.c99_grammar.specs.Starting.{production_starts}
+use Rattle.c99_grammar.proofs.StandardLemmas.{by_dialect}
+use Rattle.c99_read.specs.Reading.{Goal, produce}
 use Rattle.reordered_text_laws.specs.ByClasses.{joined, tokens_of, Taken, taken, then_read, child_of, as_child, here, behind, may_read, read_one, read_item, read_by_classes}
 use Rattle.reordered_text_laws.specs.Lists.{Others, others_of, listed_with, AreCommas, IsTail, EndsItem}
-use Rattle.reordered_text_laws.specs.Laws.{ParametersAreReadInAnyOrder}
+use Rattle.reordered_text_laws.specs.ReorderedTexts.{ParametersAreReadInAnyOrder}
 use Rattle.reordered_text_laws.proofs.Found.{stopped, found_is, between, then_is, branch, if_yes, if_no, inner_is}
 use Rattle.reordered_text_laws.proofs.Whole.{tokens_of-joined}
 use Rattle.reordered_text_laws.proofs.Orders.{steps_more, IsItem, AreItems, item_later, item_is, another, items_apart, Goes, ends_others, items_together, one_comma, comma_is}

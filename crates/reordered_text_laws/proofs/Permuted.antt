@@ -1,12 +1,12 @@
 -- Children whose lists are in a new order, one part after another.
 use Rattle.std.proofs.Common.{ℕ, suc, ◌≡◌, ◌⊎◌, Bool, true, false, ◌&&◌, if◌then◌else◌, List, [], length, refl, sym, ap, subst, ◌∙◌, inl, inr, arith}
-use Rattle.renamed_tree_laws.specs.Below.tree_laws.Below.c99_tree.Tree.{Forest, none, token, node, Node, node_of, inner, put, lone, collapsed}
-use Rattle.renamed_tree_laws.specs.Below.tree_laws.Below.c99_tree.declared.production.Label.{Label}
-use Rattle.renamed_tree_laws.specs.Below.tree_laws.Below.c99_tree.declared.production.Production.{Production}
-use Rattle.renamed_tree_laws.specs.Below.tree_laws.Below.c99_read.State.{collapses}
-use Rattle.renamed_tree_laws.specs.Below.tree_laws.Below.c_types.Trees.{first_token}
-use Rattle.renamed_tree_laws.specs.Below.tree_laws.Below.c_types.Parameters.{ends_in_token}
-use Rattle.reordered_tree_laws.specs.Below.list_cuts.Cuts.{Cut, done, count_of, AreOf, AreItemsOf}
+use Rattle.c99_tree.specs.Tree.{Forest, none, token, node, Node, node_of, inner, put, lone, collapsed}
+use Rattle.c99_tree.specs.declared.production.Label.{Label}
+use Rattle.c99_tree.specs.declared.production.Production.{Production}
+use Rattle.c99_read.specs.State.{collapses}
+use Rattle.c_types.specs.Trees.{first_token}
+use Rattle.c_types.specs.Parameters.{ends_in_token}
+use Rattle.list_cuts.specs.Cuts.{Cut, done, count_of, AreOf, AreItemsOf}
 use Rattle.reordered_tree_laws.specs.Reordered.{nodes_in, shuffled, is_parenthesised, is_among, permuted}
 use Rattle.reordered_tree_laws.specs.Cuts.{cut_then, list_then, items_in}
 use Rattle.reordered_tree_laws.proofs.Arranged.{rest_all, cut_all, items_all}

@@ -1,13 +1,13 @@
 -- Worked rows: texts as the classes of their tokens, read in two orders.
 use Rattle.std.proofs.Common.{ℕ, ◌≡◌, ◌||◌, Bool, false, ◌==◌, List, [], ◌∷◌, length, get_or, Option, None, Some, refl}
-use Rattle.renamed_tree_laws.specs.Below.tree_laws.Below.c99_grammar.declared.dialects.Dialect.TheVariants.{C99}
-use Rattle.renamed_tree_laws.specs.Below.tree_laws.Below.c99_tree.Tree.{Forest, none}
-use Rattle.renamed_tree_laws.specs.Below.tree_laws.Below.c99_tree.declared.production.Production.TheVariants.{TranslationUnit}
-use Rattle.renamed_tree_laws.specs.Below.tree_laws.Below.c99_grammar.declared.classes.Class.{Class}
-use Rattle.renamed_tree_laws.specs.Below.tree_laws.Below.c99_grammar.declared.classes.Class.TheVariants.{Typedef, Int, Return, LeftParen, RightParen, LeftBrace, RightBrace, Star, Comma, Semicolon, Identifier, Constant, NoClass}
-use Rattle.renamed_tree_laws.specs.Below.tree_laws.Below.c99_grammar.Standard.{grammar}
-use Rattle.renamed_tree_laws.specs.Below.tree_laws.Below.c99_read.Reading.{produce}
-use Rattle.reordered_tree_laws.specs.Below.list_cuts.Cuts.{done, arranged, items_of, woven, gaps_of, span_of}
+use Rattle.c99_grammar.specs.declared.dialects.Dialect.TheVariants.{C99}
+use Rattle.c99_tree.specs.Tree.{Forest, none}
+use Rattle.c99_tree.specs.declared.production.Production.TheVariants.{TranslationUnit}
+use Rattle.c99_grammar.specs.declared.classes.Class.{Class}
+use Rattle.c99_grammar.specs.declared.classes.Class.TheVariants.{Typedef, Int, Return, LeftParen, RightParen, LeftBrace, RightBrace, Star, Comma, Semicolon, Identifier, Constant, NoClass}
+use Rattle.c99_grammar.specs.Standard.{grammar}
+use Rattle.c99_read.specs.Reading.{produce}
+use Rattle.list_cuts.specs.Cuts.{done, arranged, items_of, woven, gaps_of, span_of}
 use Rattle.reordered_tree_laws.specs.Reordered.{permuted}
 use Rattle.reordered_tree_laws.specs.Cuts.{cut_then}
 use Rattle.reordered_text_laws.specs.ByClasses.{numbers_from, Taken, taken, read_by_classes}

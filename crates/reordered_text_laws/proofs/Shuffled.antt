@@ -3,11 +3,11 @@ use Rattle.std.proofs.Common.{ℕ, suc, ◌≡◌, ◌⊎◌, List, [], ◌∷�
 use Rattle.std.specs.Prelude.{IsPermutation, ◌-◌}
 use Rattle.std.proofs.lemmas.List.{length-map}
 use Rattle.std.proofs.lemmas.List.Sorted.{IsPermutation-map}
-use Rattle.renamed_tree_laws.specs.Below.tree_laws.Below.c99_tree.Tree.{Forest, none, token, node, Node}
-use Rattle.renamed_tree_laws.specs.Below.tree_laws.Below.c99_grammar.declared.classes.Class.{Class}
+use Rattle.c99_tree.specs.Tree.{Forest, none, token, node, Node}
+use Rattle.c99_grammar.specs.declared.classes.Class.{Class}
 use Rattle.reordered_tree_laws.specs.Reordered.{nodes_in, refilled, no_node, picked_nodes, shuffled}
 use Rattle.reordered_tree_laws.proofs.SameForms.{nodes_permute}
-use Rattle.reordered_tree_laws.specs.Below.list_cuts.Cuts.{IsOrder}
+use Rattle.list_cuts.specs.Cuts.{IsOrder}
 use Rattle.reordered_text_laws.specs.ByClasses.{joined}
 use Rattle.reordered_text_laws.specs.Lists.{Others, others_of, items_in, AreCommas, listed_with}
 

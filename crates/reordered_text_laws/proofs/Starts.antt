@@ -1,14 +1,14 @@
 -- What is read for a production starts it.
 use Rattle.std.proofs.Common.{ℕ, suc, zero, ◌+◌, ◌≡◌, Bool, true, false, ◌||◌, List, [], ◌∷◌, Option, Some, refl, ap, ◌∙◌}
 use Rattle.std.specs.List.{list_any}
-use Rattle.renamed_tree_laws.specs.Below.tree_laws.Below.c99_grammar.declared.dialects.Dialect.{Dialect}
-use Rattle.renamed_tree_laws.specs.Below.tree_laws.Below.c99_tree.declared.production.Production.{Production}
-use Rattle.renamed_tree_laws.specs.Below.tree_laws.Below.c99_grammar.declared.classes.Class.{Class}
-use Rattle.renamed_tree_laws.specs.Below.tree_laws.Below.c99_grammar.Items.{Alternative}
-use Rattle.renamed_tree_laws.specs.Below.tree_laws.Below.c99_grammar.Standard.{Grammar, grammar}
-use Rattle.renamed_tree_laws.specs.Below.tree_laws.Below.c99_grammar.Starting.{production_starts}
-use Rattle.renamed_tree_laws.proofs.Below.tree_laws.Below.c99_grammar.FirstLemmas.{first_sets}
-use Rattle.renamed_tree_laws.specs.Below.tree_laws.Below.c99_read.Reading.{Goal, produce}
+use Rattle.c99_grammar.specs.declared.dialects.Dialect.{Dialect}
+use Rattle.c99_tree.specs.declared.production.Production.{Production}
+use Rattle.c99_grammar.specs.declared.classes.Class.{Class}
+use Rattle.c99_grammar.specs.Items.{Alternative}
+use Rattle.c99_grammar.specs.Standard.{Grammar, grammar}
+use Rattle.c99_grammar.specs.Starting.{production_starts}
+use Rattle.c99_grammar.proofs.FirstLemmas.{first_sets}
+use Rattle.c99_read.specs.Reading.{Goal, produce}
 use Rattle.reordered_text_laws.specs.ByClasses.{Taken, here, behind, may_read, read_first, read_by_classes}
 use Rattle.reordered_text_laws.proofs.Found.{stopped, branch}
 

@@ -2,23 +2,23 @@
 use Rattle.std.proofs.Common.{ℕ, suc, zero, ◌+◌, ◌*◌, ◌-◌, ◌<◌, ◌≡◌, Bool, true, false, if◌then◌else◌, List, [], length, Option, None, Some, Ok, Err, refl, sym, ap, subst, ◌∙◌, arith, add-one}
 use Rattle.std.proofs.lemmas.Bool.{false≢true}
 use Rattle.std.proofs.Math.Path.{fun_ext}
-use Rattle.renamed_tree_laws.specs.Below.tree_laws.Below.c99_grammar.declared.dialects.Dialect.{Dialect}
-use Rattle.renamed_tree_laws.specs.Below.tree_laws.Below.cs_base.Token.{Token}
-use Rattle.renamed_tree_laws.specs.Below.tree_laws.Below.c99_tree.Tree.{Forest, none, token, node, Node, node_of, lone}
-use Rattle.renamed_tree_laws.specs.Below.tree_laws.Below.c99_tree.declared.production.Label.{Label}
-use Rattle.renamed_tree_laws.specs.Below.tree_laws.Below.c99_tree.declared.production.Production.TheVariants.{TranslationUnit, External}
-use Rattle.renamed_tree_laws.specs.Below.tree_laws.Below.c99_grammar.First.{order}
-use Rattle.renamed_tree_laws.specs.Below.tree_laws.Below.c99_grammar.Items.{Item, part, end_of_text, ◌·◌, many, own}
-use Rattle.renamed_tree_laws.specs.Below.tree_laws.Below.c99_grammar.Spellings.{Spelled}
-use Rattle.renamed_tree_laws.specs.Below.tree_laws.Below.c99_grammar.Standard.{Grammar, grammar}
-use Rattle.renamed_tree_laws.specs.Below.tree_laws.Below.c99_read.State.{State, base_at, opened, closed}
-use Rattle.renamed_tree_laws.specs.Below.tree_laws.Below.c99_read.Reading.{Goal, produce, Step, syntax, and_then, may, step, read_within, steps_for, goal_order, whole, at_first, tree_of, read_of}
-use Rattle.renamed_tree_laws.specs.Below.tree_laws.Below.c99_read.Sound.{IsSound, is_met}
-use Rattle.renamed_tree_laws.proofs.Below.tree_laws.Below.c99_read.C99Sound.{grammar-sound}
-use Rattle.renamed_tree_laws.proofs.Below.tree_laws.Below.c99_read.Moves.{Moves-read_within}
-use Rattle.renamed_tree_laws.proofs.Below.tree_laws.Below.c99_read.Suffices.{measure, run-agree, whole-runs}
-use Rattle.renamed_tree_laws.specs.Below.tree_laws.TreesOfTexts.{token_count, AreFrom}
-use Rattle.renamed_tree_laws.specs.Below.tree_laws.ReadTexts.{TokensStandInOrder}
+use Rattle.c99_grammar.specs.declared.dialects.Dialect.{Dialect}
+use Rattle.cs_base.specs.Token.{Token}
+use Rattle.c99_tree.specs.Tree.{Forest, none, token, node, Node, node_of, lone}
+use Rattle.c99_tree.specs.declared.production.Label.{Label}
+use Rattle.c99_tree.specs.declared.production.Production.TheVariants.{TranslationUnit, External}
+use Rattle.c99_grammar.specs.First.{order}
+use Rattle.c99_grammar.specs.Items.{Item, part, end_of_text, ◌·◌, many, own}
+use Rattle.c99_grammar.specs.Spellings.{Spelled}
+use Rattle.c99_grammar.specs.Standard.{Grammar, grammar}
+use Rattle.c99_read.specs.State.{State, base_at, opened, closed}
+use Rattle.c99_read.specs.Reading.{Goal, produce, Step, syntax, and_then, may, step, read_within, steps_for, goal_order, whole, at_first, tree_of, read_of}
+use Rattle.c99_read.specs.Sound.{IsSound, is_met}
+use Rattle.c99_read.proofs.C99Sound.{grammar-sound}
+use Rattle.c99_read.proofs.Moves.{Moves-read_within}
+use Rattle.c99_read.proofs.Suffices.{measure, run-agree, whole-runs}
+use Rattle.tree_laws.specs.TreesOfTexts.{token_count, AreFrom}
+use Rattle.tree_laws.specs.ReadTexts.{TokensStandInOrder}
 use Rattle.reordered_tree_laws.specs.Reordered.{permuted, numbered, reordered}
 use Rattle.reordered_text_laws.specs.Alone.{AreAlone, IsReadAlike}
 use Rattle.reordered_text_laws.specs.ByClasses.{numbers_from, untold, Taken, taken, read_item, read_by_classes}

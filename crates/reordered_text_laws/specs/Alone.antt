@@ -2,11 +2,11 @@
 -- 9899:1999, 6.7.7).
 use Rattle.std.specs.Prelude.{ℕ, ◌≡◌, ◌-◌, true, List, length, Option, None, Some, Ok, Err}
 use Rattle.std.specs.Str.{bytes_eq}
-use Rattle.renamed_tree_laws.specs.Below.tree_laws.Below.cs_base.Token.{Token}
-use Rattle.renamed_tree_laws.specs.Below.tree_laws.Below.c99_tree.declared.production.Production.TheVariants.{TranslationUnit}
-use Rattle.renamed_tree_laws.specs.Below.tree_laws.Below.c99_grammar.Standard.{Grammar}
-use Rattle.renamed_tree_laws.specs.Below.tree_laws.Below.c99_read.State.{base_at, spelling_at, is_identifier}
-use Rattle.renamed_tree_laws.specs.Below.tree_laws.Below.c99_read.Reading.{Step, produce, read_within, at_first}
+use Rattle.cs_base.specs.Token.{Token}
+use Rattle.c99_tree.specs.declared.production.Production.TheVariants.{TranslationUnit}
+use Rattle.c99_grammar.specs.Standard.{Grammar}
+use Rattle.c99_read.specs.State.{base_at, spelling_at, is_identifier}
+use Rattle.c99_read.specs.Reading.{Step, produce, read_within, at_first}
 use Rattle.reordered_text_laws.specs.ByClasses.{Taken, untold, numbers_from, read_by_classes}
 
 -- each identifier is spelled as no other token

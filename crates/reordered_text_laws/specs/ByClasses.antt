@@ -1,16 +1,16 @@
 -- Reading by the classes of tokens alone (ISO/IEC 9899:1999, Annex A.2): what a table of productions makes of tokens whose
 -- classes no declaration changes. It keeps nothing of what stood before, so what is read tells not where it began.
 use Rattle.std.specs.Prelude.{ℕ, suc, zero, ◌+◌, Bool, ◌&&◌, List, [], ◌∷◌, ◌++◌, Option, None, Some, if◌then◌else◌, nat_lt}
-use Rattle.renamed_tree_laws.specs.Below.tree_laws.Below.c99_tree.Tree.{Forest, none, token, node, node_of, inner, put}
-use Rattle.renamed_tree_laws.specs.Below.tree_laws.Below.c99_tree.declared.production.Production.{Production}
-use Rattle.renamed_tree_laws.specs.Below.tree_laws.Below.c99_grammar.declared.classes.Class.{Class}
-use Rattle.renamed_tree_laws.specs.Below.tree_laws.Below.c99_grammar.declared.classes.Class.TheVariants.{End, NoClass}
-use Rattle.renamed_tree_laws.specs.Below.tree_laws.Below.c99_grammar.Classes.{among}
-use Rattle.renamed_tree_laws.specs.Below.tree_laws.Below.c99_grammar.Items.{Item, one, part, end_of_text, act, ◌·◌, choice, maybe, many, deep, Test, own, Alternative}
-use Rattle.renamed_tree_laws.specs.Below.tree_laws.Below.c99_grammar.Standard.{Grammar}
-use Rattle.renamed_tree_laws.specs.Below.tree_laws.Below.c99_grammar.Starting.{holds, starts}
-use Rattle.renamed_tree_laws.specs.Below.tree_laws.Below.c99_read.State.{finished}
-use Rattle.renamed_tree_laws.specs.Below.tree_laws.Below.c99_read.Reading.{Goal, produce, repeat, deepest}
+use Rattle.c99_tree.specs.Tree.{Forest, none, token, node, node_of, inner, put}
+use Rattle.c99_tree.specs.declared.production.Production.{Production}
+use Rattle.c99_grammar.specs.declared.classes.Class.{Class}
+use Rattle.c99_grammar.specs.declared.classes.Class.TheVariants.{End, NoClass}
+use Rattle.c99_grammar.specs.Classes.{among}
+use Rattle.c99_grammar.specs.Items.{Item, one, part, end_of_text, act, ◌·◌, choice, maybe, many, deep, Test, own, Alternative}
+use Rattle.c99_grammar.specs.Standard.{Grammar}
+use Rattle.c99_grammar.specs.Starting.{holds, starts}
+use Rattle.c99_read.specs.State.{finished}
+use Rattle.c99_read.specs.Reading.{Goal, produce, repeat, deepest}
 
 -- ---- Children
 

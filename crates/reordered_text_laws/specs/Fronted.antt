@@ -2,23 +2,23 @@
 -- were keywords (ISO/IEC 9899:1999, 6.7.7).
 use Rattle.std.specs.Prelude.{ℕ, suc, ◌≡◌, ◌⊎◌, Bool, true, false, ◌&&◌, ◌||◌, not, List, [], ◌∷◌, length, Ok, codes}
 use Rattle.std.specs.Str.{bytes_eq}
-use Rattle.renamed_tree_laws.specs.Below.tree_laws.Below.c99_grammar.declared.dialects.Dialect.{Dialect}
-use Rattle.renamed_tree_laws.specs.Below.tree_laws.Below.c99_grammar.declared.dialects.Dialect.TheVariants.{C99, C11, Gnu}
-use Rattle.renamed_tree_laws.specs.Below.tree_laws.Below.cs_base.Token.{Token}
-use Rattle.renamed_tree_laws.specs.Below.tree_laws.Below.cs_base.declared.tokens.Kind.{Kind}
-use Rattle.renamed_tree_laws.specs.Below.tree_laws.Below.cs_base.declared.tokens.Kind.TheVariants.{Ident, Punct}
-use Rattle.renamed_tree_laws.specs.Below.tree_laws.Below.c99_tree.Tree.{Forest, none, token, node, Node, node_of}
-use Rattle.renamed_tree_laws.specs.Below.tree_laws.Below.c99_tree.declared.production.Label.{Label}
-use Rattle.renamed_tree_laws.specs.Below.tree_laws.Below.c99_tree.declared.production.Production.{Production}
-use Rattle.renamed_tree_laws.specs.Below.tree_laws.Below.c99_tree.declared.production.Production.TheVariants.{TranslationUnit, External, ExtRest, ExtTail, Specs, Main, Mod, Word, Declarator, Direct}
-use Rattle.renamed_tree_laws.specs.Below.tree_laws.Below.c99_grammar.declared.classes.Class.TheVariants.{Identifier, TypedefName}
-use Rattle.renamed_tree_laws.specs.Below.tree_laws.Below.c99_grammar.Spellings.{Spelled}
-use Rattle.renamed_tree_laws.specs.Below.tree_laws.Below.c99_grammar.Standard.{Grammar, grammar}
-use Rattle.renamed_tree_laws.specs.Below.tree_laws.Below.c99_read.State.{base_at, spelling_at, is_identifier}
-use Rattle.renamed_tree_laws.specs.Below.tree_laws.Below.c99_read.Reading.{read_of}
-use Rattle.renamed_tree_laws.specs.Below.tree_laws.Below.c_types.Trees.{is_at}
-use Rattle.renamed_tree_laws.specs.Below.tree_laws.Below.name_chains.Frames.{at_first as before}
-use Rattle.renamed_tree_laws.specs.Below.typedef_laws.Agreeing.{agrees}
+use Rattle.c99_grammar.specs.declared.dialects.Dialect.{Dialect}
+use Rattle.c99_grammar.specs.declared.dialects.Dialect.TheVariants.{C99, C11, Gnu}
+use Rattle.cs_base.specs.Token.{Token}
+use Rattle.cs_base.specs.declared.tokens.Kind.{Kind}
+use Rattle.cs_base.specs.declared.tokens.Kind.TheVariants.{Ident, Punct}
+use Rattle.c99_tree.specs.Tree.{Forest, none, token, node, Node, node_of}
+use Rattle.c99_tree.specs.declared.production.Label.{Label}
+use Rattle.c99_tree.specs.declared.production.Production.{Production}
+use Rattle.c99_tree.specs.declared.production.Production.TheVariants.{TranslationUnit, External, ExtRest, ExtTail, Specs, Main, Mod, Word, Declarator, Direct}
+use Rattle.c99_grammar.specs.declared.classes.Class.TheVariants.{Identifier, TypedefName}
+use Rattle.c99_grammar.specs.Spellings.{Spelled}
+use Rattle.c99_grammar.specs.Standard.{Grammar, grammar}
+use Rattle.c99_read.specs.State.{base_at, spelling_at, is_identifier}
+use Rattle.c99_read.specs.Reading.{read_of}
+use Rattle.c_types.specs.Trees.{is_at}
+use Rattle.name_chains.specs.Frames.{at_first as before}
+use Rattle.tree_laws.specs.Agreeing.{agrees}
 use Rattle.reordered_text_laws.specs.ByClasses.{joined}
 use Rattle.reordered_text_laws.specs.InOrder.{with_words}
 

@@ -1,16 +1,16 @@
 -- What is read is read with all its lists in a new order (ISO/IEC 9899:1999, 6.5.2.2 and 6.7.5.3).
 use Rattle.std.specs.Prelude.{ℕ, ◌≡◌, Bool, false, List, [], ◌++◌, length, get_or, Some, Ok}
-use Rattle.renamed_tree_laws.specs.Below.tree_laws.Below.c99_grammar.declared.dialects.Dialect.{Dialect}
-use Rattle.renamed_tree_laws.specs.Below.tree_laws.Below.cs_base.Token.{Token}
-use Rattle.renamed_tree_laws.specs.Below.tree_laws.Below.c99_tree.Tree.{none, node, Node}
-use Rattle.renamed_tree_laws.specs.Below.tree_laws.Below.c99_tree.declared.production.Production.{Production}
-use Rattle.renamed_tree_laws.specs.Below.tree_laws.Below.c99_tree.declared.production.Production.TheVariants.{TranslationUnit}
-use Rattle.renamed_tree_laws.specs.Below.tree_laws.Below.c99_grammar.declared.classes.Class.{Class}
-use Rattle.renamed_tree_laws.specs.Below.tree_laws.Below.c99_grammar.Spellings.{Spelled}
-use Rattle.renamed_tree_laws.specs.Below.tree_laws.Below.c99_grammar.Standard.{Grammar, grammar}
-use Rattle.renamed_tree_laws.specs.Below.tree_laws.Below.c99_read.State.{base_at}
-use Rattle.renamed_tree_laws.specs.Below.tree_laws.Below.c99_read.Reading.{produce, read_of}
-use Rattle.reordered_tree_laws.specs.Below.list_cuts.Cuts.{done, IsOrder, arranged, AreOf}
+use Rattle.c99_grammar.specs.declared.dialects.Dialect.{Dialect}
+use Rattle.cs_base.specs.Token.{Token}
+use Rattle.c99_tree.specs.Tree.{none, node, Node}
+use Rattle.c99_tree.specs.declared.production.Production.{Production}
+use Rattle.c99_tree.specs.declared.production.Production.TheVariants.{TranslationUnit}
+use Rattle.c99_grammar.specs.declared.classes.Class.{Class}
+use Rattle.c99_grammar.specs.Spellings.{Spelled}
+use Rattle.c99_grammar.specs.Standard.{Grammar, grammar}
+use Rattle.c99_read.specs.State.{base_at}
+use Rattle.c99_read.specs.Reading.{produce, read_of}
+use Rattle.list_cuts.specs.Cuts.{done, IsOrder, arranged, AreOf}
 use Rattle.reordered_tree_laws.specs.Reordered.{permuted, reordered}
 use Rattle.reordered_tree_laws.specs.Cuts.{cut_then, cut_in}
 use Rattle.reordered_text_laws.specs.Alone.{AreAlone}

@@ -1,9 +1,13 @@
 -- What the public contracts rest on.
 pub mod ByClasses
 pub mod Lists
-pub mod Laws
+pub mod ReorderedTexts
 pub mod Alone
 pub mod InOrder
 pub mod Fronted
--- Words of the crates below, passed on.
-pub mod Below
+pub mod Joined
+pub mod Marks
+pub mod MarkedCuts
+pub mod Trees
+pub mod Runs
+pub mod Classes

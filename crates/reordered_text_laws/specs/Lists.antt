@@ -1,8 +1,8 @@
 -- Items with commas between them (ISO/IEC 9899:1999, 6.5.2 and 6.7.5): what stands below a list of arguments or parameters.
 use Rattle.std.specs.Prelude.{ℕ, ◌≡◌, ◌⊎◌, List, [], ◌∷◌, map}
-use Rattle.renamed_tree_laws.specs.Below.tree_laws.Below.c99_tree.Tree.{Forest, none, token}
-use Rattle.renamed_tree_laws.specs.Below.tree_laws.Below.c99_grammar.declared.classes.Class.{Class}
-use Rattle.renamed_tree_laws.specs.Below.tree_laws.Below.c99_grammar.declared.classes.Class.TheVariants.{Comma, RightParen, Ellipsis}
+use Rattle.c99_tree.specs.Tree.{Forest, none, token}
+use Rattle.c99_grammar.specs.declared.classes.Class.{Class}
+use Rattle.c99_grammar.specs.declared.classes.Class.TheVariants.{Comma, RightParen, Ellipsis}
 use Rattle.reordered_text_laws.specs.ByClasses.{joined}
 
 -- items behind their commas, each of which is told by its number

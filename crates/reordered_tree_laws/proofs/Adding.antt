@@ -5,25 +5,25 @@ use Rattle.std.specs.Option.{option_map_or}
 use Rattle.std.specs.Str.{bytes_eq}
 use Rattle.std.proofs.lemmas.Bool.{false≢true, cases_Bool, and_parts, eqb-true}
 use Rattle.std.proofs.lemmas.List.Folds.{list_any-append}
-use Rattle.tree_laws.specs.Below.cs_base.Token.{Token}
-use Rattle.tree_laws.specs.Below.c99_tree.Tree.{Forest, none, token, node}
-use Rattle.tree_laws.specs.Below.c99_tree.declared.production.Label.{Label}
-use Rattle.tree_laws.specs.Below.c99_tree.declared.production.Production.{Production}
-use Rattle.tree_laws.specs.Below.c99_tree.declared.production.Production.TheVariants.{ExtRest, InitDecl, FunBody, Main, Params, Primary, Post, Designator, SuRest, EnRest, Members, MemRest, Mdecl, Enumerators, Enumerator, Declarator, Param, Pdecl, Statement}
-use Rattle.tree_laws.specs.Below.c99_tree.contracts.production.ProductionPartialEq.TheImpl.{ghosts}
-use Rattle.tree_laws.specs.Below.c_types.declared.entity.EntityKind.TheVariants.{Typedef, Parameter, Enumerator as Constant}
-use Rattle.tree_laws.specs.Below.c_types.Types.{CType, arithmetic, adjusted, union, structure, is_unknown, target_of}
-use Rattle.tree_laws.specs.Below.c_types.Trees.{has_node, name_below, last_token, declarator_type}
-use Rattle.tree_laws.specs.Below.c_types.Tags.{number_in, renumbered, is_same_tag, tag_entity, is_declaring, tag_declaration, tag_named, prior_tag, with_tag_after, with_tag, is_complete, is_sort, enumeration_used}
-use Rattle.tree_laws.specs.Below.c_types.Declarations.{Facts, spelling_at, is_in, has_linkage, with_fault, with_use, with_declaration, with_begun, with_complete, visible, in_scope, anywhere, linked, is_mixed}
-use Rattle.tree_laws.specs.Below.name_chains.Frames.{State}
-use Rattle.tree_laws.specs.Below.name_chains.Members.{with_silent, member_declaration, unnamed_declaration, lifted, found_of, with_member, with_lifted, with_anonymous, member_at, member_used_as, member_used}
-use Rattle.tree_laws.specs.Below.name_chains.Entering.{owner_in, facts_in, found_in, entered}
-use Rattle.tree_laws.specs.Below.scope_bind.Named.{Cause, Declaration, Declared, Body, Frame, Scope, undeclared, redeclared, tag_redefined, mixed_linkage, no_member, designator_after_elision, ordinary, tags, members}
-use Rattle.tree_laws.specs.Below.scope_bind.Ordinary.{is_again, entity_of, is_listed, declaration_of, declared, used_as, used, is_func, plain_name, with_parameter}
-use Rattle.tree_laws.specs.Below.scope_bind.Roles.{role_if, role_of}
-use Rattle.tree_laws.specs.Below.scope_bind.Expressions.{found_after}
-use Rattle.tree_laws.specs.Below.scope_bind.Walk.{facts_at, found_at, passed, declared_in, parameter_in, facts_after, left, walked}
+use Rattle.cs_base.specs.Token.{Token}
+use Rattle.c99_tree.specs.Tree.{Forest, none, token, node}
+use Rattle.c99_tree.specs.declared.production.Label.{Label}
+use Rattle.c99_tree.specs.declared.production.Production.{Production}
+use Rattle.c99_tree.specs.declared.production.Production.TheVariants.{ExtRest, InitDecl, FunBody, Main, Params, Primary, Post, Designator, SuRest, EnRest, Members, MemRest, Mdecl, Enumerators, Enumerator, Declarator, Param, Pdecl, Statement}
+use Rattle.c99_tree.specs.contracts.production.ProductionPartialEq.TheImpl.{ghosts}
+use Rattle.c_types.specs.declared.entity.EntityKind.TheVariants.{Typedef, Parameter, Enumerator as Constant}
+use Rattle.c_types.specs.Types.{CType, arithmetic, adjusted, union, structure, is_unknown, target_of}
+use Rattle.c_types.specs.Trees.{has_node, name_below, last_token, declarator_type}
+use Rattle.c_types.specs.Tags.{number_in, renumbered, is_same_tag, tag_entity, is_declaring, tag_declaration, tag_named, prior_tag, with_tag_after, with_tag, is_complete, is_sort, enumeration_used}
+use Rattle.c_types.specs.Declarations.{Facts, spelling_at, is_in, has_linkage, with_fault, with_use, with_declaration, with_begun, with_complete, visible, in_scope, anywhere, linked, is_mixed}
+use Rattle.name_chains.specs.Frames.{State}
+use Rattle.name_chains.specs.Members.{with_silent, member_declaration, unnamed_declaration, lifted, found_of, with_member, with_lifted, with_anonymous, member_at, member_used_as, member_used}
+use Rattle.name_chains.specs.Entering.{owner_in, facts_in, found_in, entered}
+use Rattle.scope_bind.specs.Named.{Cause, Declaration, Declared, Body, Frame, Scope, undeclared, redeclared, tag_redefined, mixed_linkage, no_member, designator_after_elision, ordinary, tags, members}
+use Rattle.scope_bind.specs.Ordinary.{is_again, entity_of, is_listed, declaration_of, declared, used_as, used, is_func, plain_name, with_parameter}
+use Rattle.scope_bind.specs.Roles.{role_if, role_of}
+use Rattle.scope_bind.specs.Expressions.{found_after}
+use Rattle.scope_bind.specs.Walk.{facts_at, found_at, passed, declared_in, parameter_in, facts_after, left, walked}
 use Rattle.reordered_tree_laws.specs.Beside.{is_beside, seen_of}
 use Rattle.reordered_tree_laws.specs.Adding.{is_untagged, is_tagged, has_no_list, names_foreign, is_adding_token, is_adding_declarator, is_adding_parameter, is_adding_node, within_of, is_adding, IsAddingFrame, PartsAddBeside}
 

@@ -2,7 +2,7 @@
 use Rattle.std.proofs.Common.{ℕ, suc, ◌+◌, ◌-◌, ◌≡◌, Bool, true, false, List, [], ◌∷◌, ◌++◌, length, take, drop, map, get_or, refl, sym, ap, ◌∙◌, arith, length-append, append-nil, append_assoc}
 use Rattle.std.proofs.lemmas.List.{length-map, drop-drop}
 use Rattle.std.proofs.Math.ListN as listn
-use Rattle.tree_laws.specs.Below.c99_tree.Tree.{Forest, none, token, node, Node}
+use Rattle.c99_tree.specs.Tree.{Forest, none, token, node, Node}
 use Rattle.list_cuts.specs.Cuts.{Cut, done, count_of, span_of, picked, woven, gaps_of, arranged, items_of, AreOf, AreItemsOf}
 use Rattle.tree_laws.specs.TreesOfTexts.{token_count}
 use Rattle.reordered_tree_laws.specs.Reordered.{nodes_in, refilled, no_node, picked_nodes, shuffled, is_among, permuted, leaves}

@@ -5,11 +5,11 @@ use Rattle.std.specs.List.{All, list_any}
 use Rattle.std.proofs.lemmas.Bool.{or_parts, or_from}
 use Rattle.std.proofs.lemmas.List.Elements.{All-cons, All-head, All-tail}
 use Rattle.std.proofs.lemmas.List.Folds.{list_any-append}
-use Rattle.tree_laws.specs.Below.c_types.Faults.{first_fault}
-use Rattle.tree_laws.specs.Below.c_types.Declarations.{Facts, is_in, with_fault, with_occurrence, with_declaration, with_begun, with_complete}
-use Rattle.tree_laws.specs.Below.name_chains.Members.{with_silent}
-use Rattle.tree_laws.specs.Below.scope_bind.Labels.{with_jump}
-use Rattle.tree_laws.specs.Below.scope_bind.Named.{Cause, Declaration, Occurrence}
+use Rattle.c_types.specs.Faults.{first_fault}
+use Rattle.c_types.specs.Declarations.{Facts, is_in, with_fault, with_occurrence, with_declaration, with_begun, with_complete}
+use Rattle.name_chains.specs.Members.{with_silent}
+use Rattle.scope_bind.specs.Labels.{with_jump}
+use Rattle.scope_bind.specs.Named.{Cause, Declaration, Occurrence}
 use Rattle.reordered_tree_laws.specs.Beside.{is_beside, beside_of, seen_of, IsOwnDeclaration, AreBeside}
 
 -- ---- Lists without some of their elements

@@ -6,20 +6,20 @@ use Rattle.std.specs.List.{All}
 use Rattle.std.specs.Option.{option_map_or}
 use Rattle.std.proofs.lemmas.Bool.{cases_Bool, eqb-true}
 use Rattle.std.proofs.lemmas.List.Elements.{All-nil, All-head, All-tail, All-push, All-same, All-filter}
-use Rattle.tree_laws.specs.Below.cs_base.Token.{Token}
-use Rattle.tree_laws.specs.Below.c99_tree.Tree.{Forest}
-use Rattle.tree_laws.specs.Below.c_types.declared.declarations.Space.TheVariants.{Ordinary, Tags, Members, Inner, Unnamed, Labels}
-use Rattle.tree_laws.specs.Below.c_types.declared.frames.Position.{Position}
-use Rattle.tree_laws.specs.Below.c_types.declared.frames.Position.TheVariants.{Numbered, Lost, Beyond}
-use Rattle.tree_laws.specs.Below.c_types.Types.{CType, arithmetic, unknown, is_record, is_unknown, is_array, inner_of}
-use Rattle.tree_laws.specs.Below.c_types.Trees.{last_token, declarator_type}
-use Rattle.tree_laws.specs.Below.c_types.Tags.{number_in}
-use Rattle.tree_laws.specs.Below.c_types.Declarations.{Facts, is_space, is_named, alike, with_fault, with_declaration, anywhere}
-use Rattle.tree_laws.specs.Below.name_chains.Places.{is_member_of}
-use Rattle.tree_laws.specs.Below.name_chains.Members.{member_declaration, is_known, members_of, is_found_in, lifted, found_of, unnamed_declaration, with_silent, with_member, with_lifted, member_at, member_used_as, member_used, member_type}
-use Rattle.tree_laws.specs.Below.name_chains.Initializers.{member_place, is_union_base, next_member, is_lost, next_place, is_inner, number_before, designated_type, position_of, designated_position}
-use Rattle.tree_laws.specs.Below.scope_bind.Named.{Space, Declaration, Occurrence, Body, Frame, no_member, redeclared, designator_after_elision, members, labels}
-use Rattle.tree_laws.specs.Below.scope_bind.Labels.{label_declaration, with_label}
+use Rattle.cs_base.specs.Token.{Token}
+use Rattle.c99_tree.specs.Tree.{Forest}
+use Rattle.c_types.specs.declared.declarations.Space.TheVariants.{Ordinary, Tags, Members, Inner, Unnamed, Labels}
+use Rattle.c_types.specs.declared.frames.Position.{Position}
+use Rattle.c_types.specs.declared.frames.Position.TheVariants.{Numbered, Lost, Beyond}
+use Rattle.c_types.specs.Types.{CType, arithmetic, unknown, is_record, is_unknown, is_array, inner_of}
+use Rattle.c_types.specs.Trees.{last_token, declarator_type}
+use Rattle.c_types.specs.Tags.{number_in}
+use Rattle.c_types.specs.Declarations.{Facts, is_space, is_named, alike, with_fault, with_declaration, anywhere}
+use Rattle.name_chains.specs.Places.{is_member_of}
+use Rattle.name_chains.specs.Members.{member_declaration, is_known, members_of, is_found_in, lifted, found_of, unnamed_declaration, with_silent, with_member, with_lifted, member_at, member_used_as, member_used, member_type}
+use Rattle.name_chains.specs.Initializers.{member_place, is_union_base, next_member, is_lost, next_place, is_inner, number_before, designated_type, position_of, designated_position}
+use Rattle.scope_bind.specs.Named.{Space, Declaration, Occurrence, Body, Frame, no_member, redeclared, designator_after_elision, members, labels}
+use Rattle.scope_bind.specs.Labels.{label_declaration, with_label}
 use Rattle.reordered_tree_laws.specs.Beside.{is_beside, seen_of, IsOwn, IsOwnDeclaration, IsOwnFrame, AreBeside}
 use Rattle.reordered_tree_laws.proofs.Beside.{filter_others, IsUnasked, found_same, found_own, unasked, filtered_same, fault_beside, occurrence_beside, silent_beside, declaration_beside}
 use Rattle.reordered_tree_laws.proofs.OwnTypes.{own_if, own_declarator}

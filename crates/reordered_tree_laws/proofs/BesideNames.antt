@@ -4,16 +4,16 @@ use Rattle.std.specs.Prelude.{IfSome}
 use Rattle.std.specs.List.{list_any}
 use Rattle.std.specs.Option.{option_map_or}
 use Rattle.std.proofs.lemmas.Bool.{and_from, and_parts}
-use Rattle.tree_laws.specs.Below.cs_base.Token.{Token}
-use Rattle.tree_laws.specs.Below.c99_tree.Tree.{Forest}
-use Rattle.tree_laws.specs.Below.c_types.declared.entity.EntityKind.{EntityKind}
-use Rattle.tree_laws.specs.Below.c_types.declared.entity.EntityKind.TheVariants.{Typedef, Parameter}
-use Rattle.tree_laws.specs.Below.c_types.Types.{CType, arithmetic, array, adjusted}
-use Rattle.tree_laws.specs.Below.c_types.Trees.{last_token, declarator_type}
-use Rattle.tree_laws.specs.Below.c_types.Tags.{number_in, renumbered, is_same_tag, tag_entity, is_declaring, tag_declaration, tag_named, is_prior_tag, with_tag_after, prior_tag, with_tag, tag_type, is_complete, is_sort, enumeration_used}
-use Rattle.tree_laws.specs.Below.c_types.Declarations.{Facts, is_live, is_named, with_fault, with_use, with_declaration, with_begun, visible, in_scope, linked}
-use Rattle.tree_laws.specs.Below.scope_bind.Named.{Declaration, Declared, Occurrence, Frame, Scope, undeclared, redeclared, tag_redefined, ordinary, tags}
-use Rattle.tree_laws.specs.Below.scope_bind.Ordinary.{is_again, linked_entity, entity_of, declaration_of, declared, used_as, used, used_type, plain_name, with_parameter}
+use Rattle.cs_base.specs.Token.{Token}
+use Rattle.c99_tree.specs.Tree.{Forest}
+use Rattle.c_types.specs.declared.entity.EntityKind.{EntityKind}
+use Rattle.c_types.specs.declared.entity.EntityKind.TheVariants.{Typedef, Parameter}
+use Rattle.c_types.specs.Types.{CType, arithmetic, array, adjusted}
+use Rattle.c_types.specs.Trees.{last_token, declarator_type}
+use Rattle.c_types.specs.Tags.{number_in, renumbered, is_same_tag, tag_entity, is_declaring, tag_declaration, tag_named, is_prior_tag, with_tag_after, prior_tag, with_tag, tag_type, is_complete, is_sort, enumeration_used}
+use Rattle.c_types.specs.Declarations.{Facts, is_live, is_named, with_fault, with_use, with_declaration, with_begun, visible, in_scope, linked}
+use Rattle.scope_bind.specs.Named.{Declaration, Declared, Occurrence, Frame, Scope, undeclared, redeclared, tag_redefined, ordinary, tags}
+use Rattle.scope_bind.specs.Ordinary.{is_again, linked_entity, entity_of, declaration_of, declared, used_as, used, used_type, plain_name, with_parameter}
 use Rattle.tree_laws.proofs.Lookups.{any_same}
 use Rattle.reordered_tree_laws.specs.Beside.{is_free_tag, is_free_use, is_free_name, IsOwn, IsOwnDeclaration, IsOwnFrame, AreBeside}
 use Rattle.reordered_tree_laws.proofs.Beside.{IsUnasked, found_same, found_own, fault_beside, occurrence_beside, declaration_beside, begun_beside}

@@ -2,24 +2,24 @@
 use Rattle.std.proofs.Common.{ℕ, ◌+◌, ◌≡◌, Bool, true, false, ◌&&◌, if◌then◌else◌, ◌==◌, ◌%◌, List, Option, refl, ap, ◌∙◌}
 use Rattle.std.specs.Prelude.{codes}
 use Rattle.std.proofs.lemmas.Bool.{false≢true}
-use Rattle.tree_laws.specs.Below.cs_base.Token.{Token}
-use Rattle.tree_laws.specs.Below.c99_tree.Tree.{Forest}
-use Rattle.tree_laws.specs.Below.c99_tree.declared.production.Label.{Label}
-use Rattle.tree_laws.specs.Below.c99_tree.declared.production.Production.{Production}
-use Rattle.tree_laws.specs.Below.c99_tree.declared.production.Production.TheVariants.{ExtRest, ExtTail, Main, Params, Statement, FunBody, InitDecl, Specs, Members, MemRest, Mdecl, SuRest, EnRest, Enumerators, Enumerator, Declarator, Param, Pdecl, Init, InitItem, Designator, CastRest, SizeLit, Primary, Post}
-use Rattle.tree_laws.specs.Below.c_types.declared.entity.EntityKind.TheVariants.{Parameter, Enumerator as Constant}
-use Rattle.tree_laws.specs.Below.c_types.Types.{arithmetic, array, structure, union, called, inner_of, is_array, is_unknown, unknown, target_of}
-use Rattle.tree_laws.specs.Below.c_types.Trees.{is_node, name_below, last_token}
-use Rattle.tree_laws.specs.Below.c_types.Tags.{number_in, tag_type}
-use Rattle.tree_laws.specs.Below.c_types.Declarations.{Facts, spelling_at}
-use Rattle.tree_laws.specs.Below.name_chains.Frames.{State, state}
-use Rattle.tree_laws.specs.Below.name_chains.Members.{with_anonymous}
-use Rattle.tree_laws.specs.Below.name_chains.Initializers.{next_place}
-use Rattle.tree_laws.specs.Below.name_chains.Entering.{owner_in, given_in, facts_in, found_in, frame_in, entered}
-use Rattle.tree_laws.specs.Below.scope_bind.Named.{Declaration, Occurrence, Body, Frame, Role}
-use Rattle.tree_laws.specs.Below.scope_bind.Ordinary.{is_func, used_type}
-use Rattle.tree_laws.specs.Below.scope_bind.Roles.{role_if, role_of}
-use Rattle.tree_laws.specs.Below.scope_bind.Walk.{facts_at, found_at, position_at, passed_as, declared_in, parameter_in, facts_after, frame_after}
+use Rattle.cs_base.specs.Token.{Token}
+use Rattle.c99_tree.specs.Tree.{Forest}
+use Rattle.c99_tree.specs.declared.production.Label.{Label}
+use Rattle.c99_tree.specs.declared.production.Production.{Production}
+use Rattle.c99_tree.specs.declared.production.Production.TheVariants.{ExtRest, ExtTail, Main, Params, Statement, FunBody, InitDecl, Specs, Members, MemRest, Mdecl, SuRest, EnRest, Enumerators, Enumerator, Declarator, Param, Pdecl, Init, InitItem, Designator, CastRest, SizeLit, Primary, Post}
+use Rattle.c_types.specs.declared.entity.EntityKind.TheVariants.{Parameter, Enumerator as Constant}
+use Rattle.c_types.specs.Types.{arithmetic, array, structure, union, called, inner_of, is_array, is_unknown, unknown, target_of}
+use Rattle.c_types.specs.Trees.{is_node, name_below, last_token}
+use Rattle.c_types.specs.Tags.{number_in, tag_type}
+use Rattle.c_types.specs.Declarations.{Facts, spelling_at}
+use Rattle.name_chains.specs.Frames.{State, state}
+use Rattle.name_chains.specs.Members.{with_anonymous}
+use Rattle.name_chains.specs.Initializers.{next_place}
+use Rattle.name_chains.specs.Entering.{owner_in, given_in, facts_in, found_in, frame_in, entered}
+use Rattle.scope_bind.specs.Named.{Declaration, Occurrence, Body, Frame, Role}
+use Rattle.scope_bind.specs.Ordinary.{is_func, used_type}
+use Rattle.scope_bind.specs.Roles.{role_if, role_of}
+use Rattle.scope_bind.specs.Walk.{facts_at, found_at, position_at, passed_as, declared_in, parameter_in, facts_after, frame_after}
 use Rattle.std.specs.Str.{bytes_eq}
 use Rattle.reordered_tree_laws.specs.Beside.{is_free_tag, is_free_use, is_free_name, is_free_token, is_free_node, is_free_parameter, is_free_declarator, IsOwn, IsOwnFrame, AreBeside, StandBeside}
 use Rattle.reordered_tree_laws.proofs.Beside.{complete_beside, jump_beside}

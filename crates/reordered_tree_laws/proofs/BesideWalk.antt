@@ -1,13 +1,13 @@
 -- A part of a unit binds alike whatever stands beside it.
 use Rattle.std.proofs.Common.{ℕ, ◌+◌, ◌≡◌, Bool, true, false, ◌&&◌, not, List, refl, sym, subst}
 use Rattle.std.proofs.lemmas.Bool.{and_parts}
-use Rattle.tree_laws.specs.Below.cs_base.Token.{Token}
-use Rattle.tree_laws.specs.Below.c99_tree.Tree.{Forest, none, token, node}
-use Rattle.tree_laws.specs.Below.c99_tree.declared.production.Label.{Label}
-use Rattle.tree_laws.specs.Below.name_chains.Frames.{State, state}
-use Rattle.tree_laws.specs.Below.name_chains.Entering.{scope_in, entered}
-use Rattle.tree_laws.specs.Below.scope_bind.Named.{Declaration, Occurrence}
-use Rattle.tree_laws.specs.Below.scope_bind.Walk.{passed, left, walked}
+use Rattle.cs_base.specs.Token.{Token}
+use Rattle.c99_tree.specs.Tree.{Forest, none, token, node}
+use Rattle.c99_tree.specs.declared.production.Label.{Label}
+use Rattle.name_chains.specs.Frames.{State, state}
+use Rattle.name_chains.specs.Entering.{scope_in, entered}
+use Rattle.scope_bind.specs.Named.{Declaration, Occurrence}
+use Rattle.scope_bind.specs.Walk.{passed, left, walked}
 use Rattle.reordered_tree_laws.specs.Beside.{is_free_token, is_free_node, is_apart, StandBeside, PartsBindAlike}
 use Rattle.reordered_tree_laws.proofs.BesideNames.{not_false}
 use Rattle.reordered_tree_laws.proofs.BesideSteps.{passed_beside, entered_beside, after_beside, frame_own}

@@ -1,7 +1,7 @@
 -- Items of a list bind alike without those before them.
 use Rattle.std.proofs.Common.{false, refl, sym, subst}
-use Rattle.tree_laws.specs.Below.c_types.Declarations.{Facts}
-use Rattle.tree_laws.specs.Below.name_chains.Frames.{state}
+use Rattle.c_types.specs.Declarations.{Facts}
+use Rattle.name_chains.specs.Frames.{state}
 use Rattle.reordered_tree_laws.specs.Beside.{beside_of, AreBeside}
 use Rattle.reordered_tree_laws.specs.Adding.{ItemsBindAlike}
 use Rattle.reordered_tree_laws.proofs.Adding.{parts_add_beside}

@@ -29,4 +29,62 @@ pub mod MovedHeads
 pub mod MovedOrders
 pub mod MovedUnits
 pub mod OnlyAdding
-pub mod Below
+pub mod Quiet
+pub mod Owned
+pub mod AddsAlike
+pub mod Spread
+pub mod SiblingsApart
+mod Signs
+pub mod ListForms
+mod ListSteps
+pub mod SiblingsBeside
+pub mod RangesBehind
+pub mod Checks
+pub mod ItemsStay
+pub mod ItemsMoved
+pub mod ItemForms
+pub mod Answered
+pub mod OutlineSteps
+pub mod Longer
+pub mod Within
+pub mod Chains
+pub mod Bags
+pub mod Answering
+pub mod Placing
+pub mod Ready
+pub mod NamesGo
+pub mod NamesWalk
+pub mod Tested
+pub mod Unseen
+pub mod Agreeing
+pub mod AgreeingNew
+pub mod AgreeSteps
+pub mod AgreeWalk
+pub mod NamesAgree
+pub mod TextsAgree
+pub mod Heads
+pub mod ReadHeads
+pub mod BareTrees
+pub mod ReadNames
+mod NameRows
+-- What the proof rests on, lowest first.
+mod Stacks
+mod TwoOrders
+mod Growth
+mod NodesPass
+mod Low
+mod ListWalk
+mod Spots
+mod ToldTwice
+mod NamesNear
+mod ListEnter
+mod OldItems
+mod NewPlaces
+mod NewForms
+mod ItemGoes
+mod NewItems
+mod Picked
+mod ReorderedBind
+mod BehindLists
+mod ListGoes
+mod ListsGo

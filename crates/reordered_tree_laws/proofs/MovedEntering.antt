@@ -4,19 +4,19 @@ use Rattle.std.specs.Prelude.{nat_lt, codes}
 use Rattle.std.specs.Option.{option_map}
 use Rattle.std.specs.Str.{bytes_eq}
 use Rattle.std.proofs.lemmas.Bool.{false≢true, cases_Bool, eqb-true, eq-eqb, ltb-true, ltb-false, lt-ltb, le-ltb}
-use Rattle.tree_laws.specs.Below.cs_base.Token.{Token}
-use Rattle.tree_laws.specs.Below.c99_tree.Tree.{Forest}
-use Rattle.tree_laws.specs.Below.c99_tree.declared.production.Label.{Label}
-use Rattle.tree_laws.specs.Below.c99_tree.declared.production.Production.{Production}
-use Rattle.tree_laws.specs.Below.c99_tree.declared.production.Production.TheVariants.{External, ExtTail, FunBody, Declaration as DeclarationNode, Specs, Main, StructSpec, SuRest, Members, EnRest, Enumerators, Suffix, Init, InitList, InitItem, Designator, CastRest, SizeLit, Primary, Post, Block, Statement, Sub}
-use Rattle.tree_laws.specs.Below.c_types.declared.frames.Position.{Position}
-use Rattle.tree_laws.specs.Below.c_types.Types.{CType, arithmetic, array, unknown, inner_of, is_array, is_unknown, called, structure, union, enumeration}
-use Rattle.tree_laws.specs.Below.c_types.Trees.{is_list, last_token, first_token, has_node}
-use Rattle.tree_laws.specs.Below.c_types.Declarations.{Facts, spelling_at}
-use Rattle.tree_laws.specs.Below.name_chains.Frames.{state}
-use Rattle.tree_laws.specs.Below.name_chains.Initializers.{next_place}
-use Rattle.tree_laws.specs.Below.name_chains.Entering.{inner, is_scoped, scope_in, body_in, listing_in, alone_in, owner_in, given_in, position_in, with_kept, facts_in, found_in, frame_in, entered}
-use Rattle.tree_laws.specs.Below.scope_bind.Named.{Body, Frame, Scope}
+use Rattle.cs_base.specs.Token.{Token}
+use Rattle.c99_tree.specs.Tree.{Forest}
+use Rattle.c99_tree.specs.declared.production.Label.{Label}
+use Rattle.c99_tree.specs.declared.production.Production.{Production}
+use Rattle.c99_tree.specs.declared.production.Production.TheVariants.{External, ExtTail, FunBody, Declaration as DeclarationNode, Specs, Main, StructSpec, SuRest, Members, EnRest, Enumerators, Suffix, Init, InitList, InitItem, Designator, CastRest, SizeLit, Primary, Post, Block, Statement, Sub}
+use Rattle.c_types.specs.declared.frames.Position.{Position}
+use Rattle.c_types.specs.Types.{CType, arithmetic, array, unknown, inner_of, is_array, is_unknown, called, structure, union, enumeration}
+use Rattle.c_types.specs.Trees.{is_list, last_token, first_token, has_node}
+use Rattle.c_types.specs.Declarations.{Facts, spelling_at}
+use Rattle.name_chains.specs.Frames.{state}
+use Rattle.name_chains.specs.Initializers.{next_place}
+use Rattle.name_chains.specs.Entering.{inner, is_scoped, scope_in, body_in, listing_in, alone_in, owner_in, given_in, position_in, with_kept, facts_in, found_in, frame_in, entered}
+use Rattle.scope_bind.specs.Named.{Body, Frame, Scope}
 use Rattle.reordered_tree_laws.specs.Premises.{stands_in}
 use Rattle.reordered_tree_laws.specs.Moving.{moved_type, moved_body, moved_frame, IsAhead, GoTogether, StatesGo, AreMovedTexts}
 use Rattle.reordered_tree_laws.proofs.MovedFacts.{same_number, number_moved}

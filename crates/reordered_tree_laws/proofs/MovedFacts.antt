@@ -6,17 +6,17 @@ use Rattle.std.specs.Str.{bytes_eq}
 use Rattle.std.proofs.lemmas.Bool.{false≢true, cases_Bool, eqb-true, eq-eqb}
 use Rattle.std.proofs.lemmas.List.{map-append}
 use Rattle.std.proofs.lemmas.List.Folds.{list_any-append}
-use Rattle.tree_laws.specs.Below.cs_base.Token.{Token}
-use Rattle.tree_laws.specs.Below.c_types.Faults.{first_fault, comes_first}
-use Rattle.tree_laws.specs.Below.c_types.Types.{CType}
-use Rattle.tree_laws.specs.Below.c_types.Tags.{number_in, base_number}
-use Rattle.tree_laws.specs.Below.c_types.declared.types.Base.{Base}
-use Rattle.tree_laws.specs.Below.c_types.declared.types.Base.TheVariants.{Arithmetic, Nothing, Structure, Union, Enumeration, Unknown}
-use Rattle.tree_laws.specs.Below.c_types.declared.declarations.Space.TheVariants.{Ordinary, Tags, Members, Inner, Unnamed, Labels}
-use Rattle.tree_laws.specs.Below.c_types.Declarations.{Facts, alike, is_named, is_space, is_live, is_in, has_linkage, spelling_at, with_fault, with_occurrence, with_declaration, with_begun, with_complete}
-use Rattle.tree_laws.specs.Below.name_chains.Members.{with_silent}
-use Rattle.tree_laws.specs.Below.scope_bind.Labels.{with_jump}
-use Rattle.tree_laws.specs.Below.scope_bind.Named.{Cause, Fault, Space, Declaration, Occurrence, ordinary, tags, members, labels}
+use Rattle.cs_base.specs.Token.{Token}
+use Rattle.c_types.specs.Faults.{first_fault, comes_first}
+use Rattle.c_types.specs.Types.{CType}
+use Rattle.c_types.specs.Tags.{number_in, base_number}
+use Rattle.c_types.specs.declared.types.Base.{Base}
+use Rattle.c_types.specs.declared.types.Base.TheVariants.{Arithmetic, Nothing, Structure, Union, Enumeration, Unknown}
+use Rattle.c_types.specs.declared.declarations.Space.TheVariants.{Ordinary, Tags, Members, Inner, Unnamed, Labels}
+use Rattle.c_types.specs.Declarations.{Facts, alike, is_named, is_space, is_live, is_in, has_linkage, spelling_at, with_fault, with_occurrence, with_declaration, with_begun, with_complete}
+use Rattle.name_chains.specs.Members.{with_silent}
+use Rattle.scope_bind.specs.Labels.{with_jump}
+use Rattle.scope_bind.specs.Named.{Cause, Fault, Space, Declaration, Occurrence, ordinary, tags, members, labels}
 use Rattle.reordered_tree_laws.specs.Ranges.{has_range}
 use Rattle.reordered_tree_laws.specs.Moving.{moved_base, moved_type, moved_space, moved_occurrence, IsMoved, AreMoved, AreToldAlike, Mark, named, tagged, joined, owned, labelled, placed, is_owned, has_mark, is_of_list, Question, whole, living, listed, answers, moved_mark, moved_question, IsAhead, IsAsked, GoTogether, AreMovedTexts}
 use Rattle.reordered_tree_laws.proofs.MovedLists.{find_both, filter_both, any_both, moved_more, AreFound, found_moved, filter_moved, any_moved}

@@ -5,14 +5,14 @@ use Rattle.std.specs.Prelude.{nat_lt, IsPermutation}
 use Rattle.std.specs.Option.{option_or, option_map_or}
 use Rattle.std.proofs.lemmas.Bool.{false≢true, cases_Bool, ltb-true, ltb-false, and_parts, and_from}
 use Rattle.std.proofs.lemmas.List.Sorted.{length_permutation}
-use Rattle.tree_laws.specs.Below.c99_tree.Tree.{Forest, none, token, node, Node}
-use Rattle.tree_laws.specs.Below.c99_tree.declared.production.Label.{Label}
-use Rattle.tree_laws.specs.Below.c99_tree.declared.production.Production.{Production}
-use Rattle.tree_laws.specs.Below.c99_tree.declared.production.Production.TheVariants.{Declarator, Args, Params}
-use Rattle.tree_laws.specs.Below.c99_tree.contracts.production.ProductionPartialEq.TheImpl.{ghosts}
-use Rattle.tree_laws.specs.Below.c_types.Trees.{is_node, is_list, last_token, first_list}
-use Rattle.tree_laws.specs.Below.name_chains.Entering.{scope_in}
-use Rattle.tree_laws.specs.Below.scope_bind.Named.{Scope}
+use Rattle.c99_tree.specs.Tree.{Forest, none, token, node, Node}
+use Rattle.c99_tree.specs.declared.production.Label.{Label}
+use Rattle.c99_tree.specs.declared.production.Production.{Production}
+use Rattle.c99_tree.specs.declared.production.Production.TheVariants.{Declarator, Args, Params}
+use Rattle.c99_tree.specs.contracts.production.ProductionPartialEq.TheImpl.{ghosts}
+use Rattle.c_types.specs.Trees.{is_node, is_list, last_token, first_list}
+use Rattle.name_chains.specs.Entering.{scope_in}
+use Rattle.scope_bind.specs.Named.{Scope}
 use Rattle.tree_laws.specs.TreesOfTexts.{token_count, AreFrom, begins_with_token}
 use Rattle.list_cuts.specs.Cuts.{Cut, done, arranged, IsOrder, AreOf}
 use Rattle.list_cuts.proofs.CutLemmas.{arranged_permutes}

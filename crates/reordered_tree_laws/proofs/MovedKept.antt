@@ -4,10 +4,10 @@ use Rattle.std.specs.Prelude.{filter, filter_map, find, nat_lt}
 use Rattle.std.specs.List.{cons_option}
 use Rattle.std.specs.Option.{option_map}
 use Rattle.std.proofs.lemmas.Bool.{and_parts}
-use Rattle.tree_laws.specs.Below.cs_base.Token.{Token}
-use Rattle.tree_laws.specs.Below.c_types.Declarations.{Facts}
-use Rattle.tree_laws.specs.Below.name_chains.Entering.{is_member, kept_here, with_kept}
-use Rattle.tree_laws.specs.Below.scope_bind.Named.{Declaration}
+use Rattle.cs_base.specs.Token.{Token}
+use Rattle.c_types.specs.Declarations.{Facts}
+use Rattle.name_chains.specs.Entering.{is_member, kept_here, with_kept}
+use Rattle.scope_bind.specs.Named.{Declaration}
 use Rattle.reordered_tree_laws.specs.Moving.{IsMoved, AreMoved, AreToldAlike, Mark, named, tagged, joined, owned, labelled, placed, has_mark, is_of_list, Question, whole, living, listed, answers, moved_mark, moved_question, IsAhead, IsAsked, GoTogether, AreMovedTexts}
 use Rattle.reordered_tree_laws.proofs.MovedLists.{append_moved}
 use Rattle.reordered_tree_laws.proofs.MovedFacts.{same_number}

@@ -2,27 +2,27 @@
 use Rattle.std.proofs.Common.{ℕ, ◌+◌, ◌≡◌, Bool, true, false, ◌&&◌, not, if◌then◌else◌, ◌==◌, List, Option, None, Some, refl, sym, ap, subst, ◌∙◌, arith}
 use Rattle.std.specs.Prelude.{is_some}
 use Rattle.std.specs.Option.{option_map}
-use Rattle.tree_laws.specs.Below.cs_base.Token.{Token}
-use Rattle.tree_laws.specs.Below.c99_tree.Tree.{Forest}
-use Rattle.tree_laws.specs.Below.c99_tree.declared.production.Label.{Label}
-use Rattle.tree_laws.specs.Below.c99_tree.declared.production.Production.{Production}
-use Rattle.tree_laws.specs.Below.c99_tree.declared.production.Production.TheVariants.{ExtRest, FunBody, InitDecl, Specs, Members, MemRest, Mdecl, Enumerators, Enumerator, Declarator, Param, Pdecl, InitList, InitItem, Designator}
-use Rattle.tree_laws.specs.Below.c_types.declared.entity.EntityKind.TheVariants.{Enumerator as Constant}
-use Rattle.tree_laws.specs.Below.c_types.declared.entity.Linkage.TheVariants.{Absent}
-use Rattle.tree_laws.specs.Below.c_types.declared.frames.Position.{Position}
-use Rattle.tree_laws.specs.Below.c_types.declared.frames.Position.TheVariants.{Lost}
-use Rattle.tree_laws.specs.Below.c_types.declared.frames.Words.{Words}
-use Rattle.tree_laws.specs.Below.c_types.Types.{CType, arithmetic, is_record, is_array, is_arithmetic, inner_of}
-use Rattle.tree_laws.specs.Below.c_types.Tags.{number_in}
-use Rattle.tree_laws.specs.Below.c_types.Trees.{is_node, words_of, name_below, last_token, declarator_type, first_list, is_text}
-use Rattle.tree_laws.specs.Below.c_types.Declarations.{Facts, anywhere, with_fault, with_declaration, with_complete}
-use Rattle.tree_laws.specs.Below.name_chains.Frames.{State, state}
-use Rattle.tree_laws.specs.Below.name_chains.Members.{member_declaration, with_member, with_anonymous}
-use Rattle.tree_laws.specs.Below.name_chains.Initializers.{is_part, behind, after_designator, position_after}
-use Rattle.tree_laws.specs.Below.scope_bind.Named.{Body, Frame, redeclared, members}
-use Rattle.tree_laws.specs.Below.scope_bind.Ordinary.{declared, new_object, with_object, new_parameter, with_parameter}
-use Rattle.tree_laws.specs.Below.scope_bind.Expressions.{found_after}
-use Rattle.tree_laws.specs.Below.scope_bind.Walk.{declared_in, parameter_in, facts_after, kept_after, frame_after, left}
+use Rattle.cs_base.specs.Token.{Token}
+use Rattle.c99_tree.specs.Tree.{Forest}
+use Rattle.c99_tree.specs.declared.production.Label.{Label}
+use Rattle.c99_tree.specs.declared.production.Production.{Production}
+use Rattle.c99_tree.specs.declared.production.Production.TheVariants.{ExtRest, FunBody, InitDecl, Specs, Members, MemRest, Mdecl, Enumerators, Enumerator, Declarator, Param, Pdecl, InitList, InitItem, Designator}
+use Rattle.c_types.specs.declared.entity.EntityKind.TheVariants.{Enumerator as Constant}
+use Rattle.c_types.specs.declared.entity.Linkage.TheVariants.{Absent}
+use Rattle.c_types.specs.declared.frames.Position.{Position}
+use Rattle.c_types.specs.declared.frames.Position.TheVariants.{Lost}
+use Rattle.c_types.specs.declared.frames.Words.{Words}
+use Rattle.c_types.specs.Types.{CType, arithmetic, is_record, is_array, is_arithmetic, inner_of}
+use Rattle.c_types.specs.Tags.{number_in}
+use Rattle.c_types.specs.Trees.{is_node, words_of, name_below, last_token, declarator_type, first_list, is_text}
+use Rattle.c_types.specs.Declarations.{Facts, anywhere, with_fault, with_declaration, with_complete}
+use Rattle.name_chains.specs.Frames.{State, state}
+use Rattle.name_chains.specs.Members.{member_declaration, with_member, with_anonymous}
+use Rattle.name_chains.specs.Initializers.{is_part, behind, after_designator, position_after}
+use Rattle.scope_bind.specs.Named.{Body, Frame, redeclared, members}
+use Rattle.scope_bind.specs.Ordinary.{declared, new_object, with_object, new_parameter, with_parameter}
+use Rattle.scope_bind.specs.Expressions.{found_after}
+use Rattle.scope_bind.specs.Walk.{declared_in, parameter_in, facts_after, kept_after, frame_after, left}
 use Rattle.reordered_tree_laws.specs.Seen.{are_parts}
 use Rattle.reordered_tree_laws.specs.Moving.{moved_type, moved_body, moved_frame, GoTogether, FramesGo, StatesGo, AreMovedTexts}
 use Rattle.reordered_tree_laws.proofs.MovedFacts.{number_moved, complete_moves}

@@ -4,7 +4,7 @@ use mathlib.Core.List.{reverse-cons}
 use Rattle.std.specs.Prelude.{find, filter, slice_get}
 use Rattle.std.specs.List.{list_any}
 use Rattle.std.specs.Option.{option_map_or}
-use Rattle.tree_laws.specs.Below.scope_bind.Named.{Declaration}
+use Rattle.scope_bind.specs.Named.{Declaration}
 use Rattle.reordered_tree_laws.specs.Moving.{IsMoved, AreMoved}
 
 -- ---- Two tests, one after the other

@@ -3,19 +3,19 @@ use Rattle.std.proofs.Common.{ℕ, ◌+◌, ◌≡◌, Bool, true, false, ◌&&�
 use Rattle.std.specs.Prelude.{filter, is_some, slice_get}
 use Rattle.std.specs.Option.{option_map, option_map_or}
 use Rattle.std.proofs.lemmas.Bool.{false≢true}
-use Rattle.tree_laws.specs.Below.cs_base.Token.{Token}
-use Rattle.tree_laws.specs.Below.c_types.declared.declarations.Space.TheVariants.{Ordinary, Tags, Members, Inner, Unnamed, Labels}
-use Rattle.tree_laws.specs.Below.c_types.declared.frames.Position.{Position}
-use Rattle.tree_laws.specs.Below.c_types.declared.frames.Position.TheVariants.{Numbered, Lost, Beyond}
-use Rattle.tree_laws.specs.Below.c_types.Types.{CType, arithmetic, unknown, is_record, is_unknown, is_array, inner_of}
-use Rattle.tree_laws.specs.Below.c_types.Tags.{number_in}
-use Rattle.tree_laws.specs.Below.c_types.Declarations.{Facts, is_space, is_named, is_in, alike, with_fault, with_declaration, anywhere}
-use Rattle.tree_laws.specs.Below.name_chains.Places.{is_place_in, is_member_of}
-use Rattle.tree_laws.specs.Below.name_chains.Entering.{is_member}
-use Rattle.tree_laws.specs.Below.name_chains.Members.{member_declaration, is_known, members_of, is_found_in, lifted, found_of, unnamed_declaration, with_silent, with_lifted, member_at, member_used_as, member_used, member_type}
-use Rattle.tree_laws.specs.Below.name_chains.Initializers.{member_place, is_union_base, next_member, is_lost, next_place, is_inner, number_before, designated_type, position_of, designated_position}
-use Rattle.tree_laws.specs.Below.scope_bind.Named.{Space, Declaration, Body, Frame, no_member, no_label, redeclared, designator_after_elision, members, labels}
-use Rattle.tree_laws.specs.Below.scope_bind.Labels.{label_declaration, with_label, jump_to, with_jumps, with_labels}
+use Rattle.cs_base.specs.Token.{Token}
+use Rattle.c_types.specs.declared.declarations.Space.TheVariants.{Ordinary, Tags, Members, Inner, Unnamed, Labels}
+use Rattle.c_types.specs.declared.frames.Position.{Position}
+use Rattle.c_types.specs.declared.frames.Position.TheVariants.{Numbered, Lost, Beyond}
+use Rattle.c_types.specs.Types.{CType, arithmetic, unknown, is_record, is_unknown, is_array, inner_of}
+use Rattle.c_types.specs.Tags.{number_in}
+use Rattle.c_types.specs.Declarations.{Facts, is_space, is_named, is_in, alike, with_fault, with_declaration, anywhere}
+use Rattle.name_chains.specs.Places.{is_place_in, is_member_of}
+use Rattle.name_chains.specs.Entering.{is_member}
+use Rattle.name_chains.specs.Members.{member_declaration, is_known, members_of, is_found_in, lifted, found_of, unnamed_declaration, with_silent, with_lifted, member_at, member_used_as, member_used, member_type}
+use Rattle.name_chains.specs.Initializers.{member_place, is_union_base, next_member, is_lost, next_place, is_inner, number_before, designated_type, position_of, designated_position}
+use Rattle.scope_bind.specs.Named.{Space, Declaration, Body, Frame, no_member, no_label, redeclared, designator_after_elision, members, labels}
+use Rattle.scope_bind.specs.Labels.{label_declaration, with_label, jump_to, with_jumps, with_labels}
 use Rattle.reordered_tree_laws.specs.Ranges.{has_range}
 use Rattle.reordered_tree_laws.specs.Moving.{moved_space, moved_type, moved_body, moved_frame, IsMoved, AreMoved, owned, labelled, is_owned, whole, GoTogether, AreMovedTexts}
 use Rattle.reordered_tree_laws.proofs.MovedLists.{AreFound, reverse_moved, at_moved}

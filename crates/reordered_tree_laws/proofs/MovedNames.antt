@@ -4,18 +4,18 @@ use Rattle.std.specs.Prelude.{nat_lt, codes}
 use Rattle.std.specs.Option.{option_map, option_map_or}
 use Rattle.std.specs.Str.{bytes_eq}
 use Rattle.std.proofs.lemmas.Bool.{eqb-true, lt-ltb, le-ltb}
-use Rattle.tree_laws.specs.Below.cs_base.Token.{Token}
-use Rattle.tree_laws.specs.Below.c_types.declared.entity.EntityKind.{EntityKind}
-use Rattle.tree_laws.specs.Below.c_types.declared.entity.EntityKind.TheVariants.{Typedef, Parameter}
-use Rattle.tree_laws.specs.Below.c_types.declared.entity.Linkage.{Linkage}
-use Rattle.tree_laws.specs.Below.c_types.declared.entity.Linkage.TheVariants.{External, Absent}
-use Rattle.tree_laws.specs.Below.c_types.Types.{CType, arithmetic, array, adjusted, is_function}
-use Rattle.tree_laws.specs.Below.c_types.Tags.{number_in, renumbered, is_sort, is_same_tag, tag_entity, is_declaring, tag_declaration, tag_named, prior_tag, with_tag_after, with_tag, tag_type, is_complete, enumeration_used}
-use Rattle.tree_laws.specs.Below.c_types.Declarations.{Facts, has_linkage, is_linkage, is_typedef_name, is_in, is_live, is_named, spelling_at, with_fault, with_use, with_declaration, with_begun, visible, in_scope, linked, is_mixed}
-use Rattle.tree_laws.specs.Below.name_chains.Entering.{is_member}
-use Rattle.tree_laws.specs.Below.scope_bind.Named.{Declaration, Declared, Body, Frame, Scope, undeclared, redeclared, tag_redefined, mixed_linkage, ordinary, tags}
-use Rattle.tree_laws.specs.Below.scope_bind.Linkage.{prior_linkage, follows_prior, own_linkage}
-use Rattle.tree_laws.specs.Below.scope_bind.Ordinary.{is_again, linked_entity, entity_of, is_listed, declaration_of, declared_faults, declared, used_as, used, used_type, is_func, plain_name, new_parameter, new_kind, new_type, new_linkage, new_object}
+use Rattle.cs_base.specs.Token.{Token}
+use Rattle.c_types.specs.declared.entity.EntityKind.{EntityKind}
+use Rattle.c_types.specs.declared.entity.EntityKind.TheVariants.{Typedef, Parameter}
+use Rattle.c_types.specs.declared.entity.Linkage.{Linkage}
+use Rattle.c_types.specs.declared.entity.Linkage.TheVariants.{External, Absent}
+use Rattle.c_types.specs.Types.{CType, arithmetic, array, adjusted, is_function}
+use Rattle.c_types.specs.Tags.{number_in, renumbered, is_sort, is_same_tag, tag_entity, is_declaring, tag_declaration, tag_named, prior_tag, with_tag_after, with_tag, tag_type, is_complete, enumeration_used}
+use Rattle.c_types.specs.Declarations.{Facts, has_linkage, is_linkage, is_typedef_name, is_in, is_live, is_named, spelling_at, with_fault, with_use, with_declaration, with_begun, visible, in_scope, linked, is_mixed}
+use Rattle.name_chains.specs.Entering.{is_member}
+use Rattle.scope_bind.specs.Named.{Declaration, Declared, Body, Frame, Scope, undeclared, redeclared, tag_redefined, mixed_linkage, ordinary, tags}
+use Rattle.scope_bind.specs.Linkage.{prior_linkage, follows_prior, own_linkage}
+use Rattle.scope_bind.specs.Ordinary.{is_again, linked_entity, entity_of, is_listed, declaration_of, declared_faults, declared, used_as, used, used_type, is_func, plain_name, new_parameter, new_kind, new_type, new_linkage, new_object}
 use Rattle.reordered_tree_laws.specs.Moving.{moved_type, moved_body, moved_frame, IsMoved, named, tagged, joined, living, whole, IsAhead, GoTogether, AreMovedTexts}
 use Rattle.reordered_tree_laws.proofs.MovedLists.{and_true, and_three, AreFound, told_moved}
 use Rattle.reordered_tree_laws.proofs.MovedFacts.{IsTimed, same_number, number_moved, asked_found, asked_any, fault_moves, occurrence_moves, begun_moves, declaration_moves}

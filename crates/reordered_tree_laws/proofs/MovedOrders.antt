@@ -4,18 +4,18 @@ use Rattle.std.specs.Prelude.{nat_lt}
 use Rattle.std.specs.Option.{option_map}
 use Rattle.std.proofs.lemmas.Bool.{false≢true, cases_Bool, ltb-true, ltb-false, and_parts}
 use Rattle.std.proofs.lemmas.List.Sorted.{sum_by-IsPermutation}
-use Rattle.tree_laws.specs.Below.cs_base.Token.{Token}
-use Rattle.tree_laws.specs.Below.c99_tree.Tree.{Forest, none, token, node}
-use Rattle.tree_laws.specs.Below.c99_tree.declared.production.Label.{Label}
-use Rattle.tree_laws.specs.Below.c99_tree.declared.production.Production.{Production}
-use Rattle.tree_laws.specs.Below.c99_tree.declared.production.Production.TheVariants.{MemRest, Enumerator, Declarator, Pdecl, Args, Params, Post, Suffix}
-use Rattle.tree_laws.specs.Below.c99_tree.contracts.production.ProductionPartialEq.TheImpl.{ghosts}
-use Rattle.tree_laws.specs.Below.c_types.Trees.{is_node, first_token, first_list}
-use Rattle.tree_laws.specs.Below.c_types.Parameters.{ends_in_token}
-use Rattle.tree_laws.specs.Below.name_chains.Frames.{State, state}
-use Rattle.tree_laws.specs.Below.name_chains.Entering.{scope_in, entered}
-use Rattle.tree_laws.specs.Below.scope_bind.Named.{Frame}
-use Rattle.tree_laws.specs.Below.scope_bind.Walk.{passed, left, walked}
+use Rattle.cs_base.specs.Token.{Token}
+use Rattle.c99_tree.specs.Tree.{Forest, none, token, node}
+use Rattle.c99_tree.specs.declared.production.Label.{Label}
+use Rattle.c99_tree.specs.declared.production.Production.{Production}
+use Rattle.c99_tree.specs.declared.production.Production.TheVariants.{MemRest, Enumerator, Declarator, Pdecl, Args, Params, Post, Suffix}
+use Rattle.c99_tree.specs.contracts.production.ProductionPartialEq.TheImpl.{ghosts}
+use Rattle.c_types.specs.Trees.{is_node, first_token, first_list}
+use Rattle.c_types.specs.Parameters.{ends_in_token}
+use Rattle.name_chains.specs.Frames.{State, state}
+use Rattle.name_chains.specs.Entering.{scope_in, entered}
+use Rattle.scope_bind.specs.Named.{Frame}
+use Rattle.scope_bind.specs.Walk.{passed, left, walked}
 use Rattle.tree_laws.specs.TreesOfTexts.{token_count, AreFrom, begins_with_token, has_form, have_forms}
 use Rattle.tree_laws.proofs.Renaming.{Good}
 use Rattle.tree_laws.proofs.RenamedWalk.{walked_back}

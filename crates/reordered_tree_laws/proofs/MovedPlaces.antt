@@ -6,9 +6,9 @@ use Rattle.std.proofs.lemmas.Bool.{cases_Bool, eqb-true, eqb-false, eq-eqb, ltb-
 use Rattle.std.proofs.lemmas.List.{length-map, get_or-map}
 use Rattle.std.proofs.lemmas.List.Sums.{sum_by-cons}
 use Rattle.std.proofs.lemmas.List.Sorted.{sum_by-IsPermutation, length_permutation}
-use Rattle.tree_laws.specs.Below.cs_base.Token.{Token}
-use Rattle.tree_laws.specs.Below.c99_tree.Tree.{Forest, none, token, node, Node}
-use Rattle.tree_laws.specs.Below.c_types.Declarations.{spelling_at}
+use Rattle.cs_base.specs.Token.{Token}
+use Rattle.c99_tree.specs.Tree.{Forest, none, token, node, Node}
+use Rattle.c_types.specs.Declarations.{spelling_at}
 use Rattle.tree_laws.specs.TreesOfTexts.{token_count, AreFrom, IsTreeOf}
 use Rattle.list_cuts.specs.Cuts.{Cut, numbers, IsOrder, AreOf, arranged, moved}
 use Rattle.list_cuts.proofs.OrderLemmas.{length-numbers}

@@ -3,14 +3,14 @@ use Rattle.std.proofs.Common.{ℕ, ◌≡◌, Bool, true, false, cond, if◌then
 use Rattle.std.specs.Prelude.{find, filter}
 use Rattle.std.specs.Option.{option_map, option_map_or, option_and_then}
 use mathlib.Core.List.{reverse-reverse}
-use Rattle.tree_laws.specs.Below.cs_base.Token.{Token}
-use Rattle.tree_laws.specs.Below.c_types.declared.entity.EntityKind.TheVariants.{Object}
-use Rattle.tree_laws.specs.Below.c_types.declared.entity.Linkage.TheVariants.{Absent}
-use Rattle.tree_laws.specs.Below.c_types.Declarations.{Facts}
-use Rattle.tree_laws.specs.Below.scope_bind.declared.bound.Name.{Name}
-use Rattle.tree_laws.specs.Below.scope_bind.Named.{Declaration, Occurrence}
-use Rattle.tree_laws.specs.Below.scope_bind.Bound.{declaration_at, name_of, names_of}
-use Rattle.tree_laws.specs.Below.scope_bind.Names.{name_at, entity_at, declares_at, kind_at, linkage_at}
+use Rattle.cs_base.specs.Token.{Token}
+use Rattle.c_types.specs.declared.entity.EntityKind.TheVariants.{Object}
+use Rattle.c_types.specs.declared.entity.Linkage.TheVariants.{Absent}
+use Rattle.c_types.specs.Declarations.{Facts}
+use Rattle.scope_bind.specs.declared.bound.Name.{Name}
+use Rattle.scope_bind.specs.Named.{Declaration, Occurrence}
+use Rattle.scope_bind.specs.Bound.{declaration_at, name_of, names_of}
+use Rattle.scope_bind.specs.Names.{name_at, entity_at, declares_at, kind_at, linkage_at}
 use Rattle.reordered_tree_laws.specs.Moving.{AreToldAlike, moved_occurrence, GoTogether, AreMovedTexts}
 use Rattle.reordered_tree_laws.proofs.MovedFacts.{same_number}
 

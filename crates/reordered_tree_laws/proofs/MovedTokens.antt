@@ -2,20 +2,20 @@
 use Rattle.std.proofs.Common.{ℕ, ◌+◌, ◌≡◌, Bool, true, false, ◌&&◌, if◌then◌else◌, ◌==◌, List, Option, refl, sym, ap, subst, ◌∙◌, arith}
 use Rattle.std.specs.Prelude.{◌%◌}
 use Rattle.std.specs.Option.{option_map}
-use Rattle.tree_laws.specs.Below.cs_base.Token.{Token}
-use Rattle.tree_laws.specs.Below.c99_tree.declared.production.Production.{Production}
-use Rattle.tree_laws.specs.Below.c99_tree.declared.production.Production.TheVariants.{Main, Params, Statement, SuRest, EnRest, Designator, Primary, Post}
-use Rattle.tree_laws.specs.Below.c_types.declared.entity.EntityKind.TheVariants.{Parameter}
-use Rattle.tree_laws.specs.Below.c_types.declared.entity.Linkage.TheVariants.{Absent}
-use Rattle.tree_laws.specs.Below.c_types.declared.frames.Position.{Position}
-use Rattle.tree_laws.specs.Below.c_types.Types.{CType, arithmetic, is_unknown, target_of}
-use Rattle.tree_laws.specs.Below.c_types.Declarations.{Facts}
-use Rattle.tree_laws.specs.Below.name_chains.Frames.{State, state}
-use Rattle.tree_laws.specs.Below.name_chains.Members.{member_used, member_type}
-use Rattle.tree_laws.specs.Below.scope_bind.Named.{Frame, Role}
-use Rattle.tree_laws.specs.Below.scope_bind.Ordinary.{is_func}
-use Rattle.tree_laws.specs.Below.scope_bind.Roles.{role_if, role_of}
-use Rattle.tree_laws.specs.Below.scope_bind.Walk.{facts_at, found_at, position_at, passed_as, passed}
+use Rattle.cs_base.specs.Token.{Token}
+use Rattle.c99_tree.specs.declared.production.Production.{Production}
+use Rattle.c99_tree.specs.declared.production.Production.TheVariants.{Main, Params, Statement, SuRest, EnRest, Designator, Primary, Post}
+use Rattle.c_types.specs.declared.entity.EntityKind.TheVariants.{Parameter}
+use Rattle.c_types.specs.declared.entity.Linkage.TheVariants.{Absent}
+use Rattle.c_types.specs.declared.frames.Position.{Position}
+use Rattle.c_types.specs.Types.{CType, arithmetic, is_unknown, target_of}
+use Rattle.c_types.specs.Declarations.{Facts}
+use Rattle.name_chains.specs.Frames.{State, state}
+use Rattle.name_chains.specs.Members.{member_used, member_type}
+use Rattle.scope_bind.specs.Named.{Frame, Role}
+use Rattle.scope_bind.specs.Ordinary.{is_func}
+use Rattle.scope_bind.specs.Roles.{role_if, role_of}
+use Rattle.scope_bind.specs.Walk.{facts_at, found_at, position_at, passed_as, passed}
 use Rattle.reordered_tree_laws.specs.Moving.{moved_type, moved_frame, GoTogether, FramesGo, StatesGo, AreMovedTexts}
 use Rattle.reordered_tree_laws.proofs.MovedFacts.{further, further_ahead, jump_moves}
 use Rattle.reordered_tree_laws.proofs.MovedTypes.{target_moved, unknown_same}

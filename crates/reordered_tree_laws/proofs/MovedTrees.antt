@@ -3,14 +3,14 @@ use Rattle.std.proofs.Common.{ℕ, ◌+◌, ◌<◌, ◌≤◌, ◌≡◌, Bool,
 use Rattle.std.specs.Option.{option_map, option_or}
 use Rattle.std.proofs.lemmas.Bool.{cases_Bool, eqb-true, eqb-false, ltb-true, ltb-false}
 use Rattle.std.specs.Prelude.{nat_lt}
-use Rattle.tree_laws.specs.Below.cs_base.Token.{Token}
-use Rattle.tree_laws.specs.Below.c99_tree.Tree.{Forest, none, token, node}
-use Rattle.tree_laws.specs.Below.c99_tree.declared.production.Label.{Label}
-use Rattle.tree_laws.specs.Below.c99_tree.declared.production.Production.{Production}
-use Rattle.tree_laws.specs.Below.c99_tree.declared.production.Production.TheVariants.{Main, StructSpec, Pointer, Suffix, Mod, SuRest}
-use Rattle.tree_laws.specs.Below.c_types.declared.frames.Words.{Words}
-use Rattle.tree_laws.specs.Below.c_types.Types.{CType, pointer, array, function}
-use Rattle.tree_laws.specs.Below.c_types.Trees.{is_node, is_at, is_list, last_token, first_token, has_node, has_mod, has_at, has_untagged, is_anonymous, words_of, is_one, is_lone_main, is_bare, holds_name, has_name, name_below, suffixed, declarator_type, first_list, is_text}
+use Rattle.cs_base.specs.Token.{Token}
+use Rattle.c99_tree.specs.Tree.{Forest, none, token, node}
+use Rattle.c99_tree.specs.declared.production.Label.{Label}
+use Rattle.c99_tree.specs.declared.production.Production.{Production}
+use Rattle.c99_tree.specs.declared.production.Production.TheVariants.{Main, StructSpec, Pointer, Suffix, Mod, SuRest}
+use Rattle.c_types.specs.declared.frames.Words.{Words}
+use Rattle.c_types.specs.Types.{CType, pointer, array, function}
+use Rattle.c_types.specs.Trees.{is_node, is_at, is_list, last_token, first_token, has_node, has_mod, has_at, has_untagged, is_anonymous, words_of, is_one, is_lone_main, is_bare, holds_name, has_name, name_below, suffixed, declarator_type, first_list, is_text}
 use Rattle.tree_laws.specs.TreesOfTexts.{token_count, AreFrom}
 use Rattle.reordered_tree_laws.specs.Reordered.{numbered}
 use Rattle.reordered_tree_laws.specs.Seen.{are_parts}

@@ -3,20 +3,20 @@ use Rattle.std.proofs.Common.{ℕ, ◌≡◌, Bool, true, false, ◌&&◌, ◌||
 use Rattle.std.specs.Prelude.{codes}
 use Rattle.std.specs.Str.{bytes_eq}
 use Rattle.std.proofs.lemmas.Bool.{false≢true}
-use Rattle.tree_laws.specs.Below.cs_base.Token.{Token}
-use Rattle.tree_laws.specs.Below.c99_tree.Tree.{Forest, none, token, node}
-use Rattle.tree_laws.specs.Below.c99_tree.declared.production.Label.{Label}
-use Rattle.tree_laws.specs.Below.c99_tree.declared.production.Production.{Production}
-use Rattle.tree_laws.specs.Below.c99_tree.declared.production.Production.TheVariants.{Expr, Assign, Cond, Add, Cast, CastRest, Unary, SizeRest, SizeLit, Primary, Post, TypeName, Specs, Main, StructSpec, Word, ExtRest, InitDecl, Declarator, Init, InitItem, Designator, Pointer, Suffix}
-use Rattle.tree_laws.specs.Below.c_types.declared.types.Base.{Base}
-use Rattle.tree_laws.specs.Below.c_types.declared.types.Base.TheVariants.{Arithmetic, Nothing, Structure, Union, Enumeration, Unknown}
-use Rattle.tree_laws.specs.Below.c_types.Types.{CType, arithmetic, nothing, pointer, array, function, inner_of, target_of, adjusted, subscripted, result_of, called, pointed_to, sum_type, chosen, is_pointing, is_array, is_function, begins_pointer, is_record, is_nothing, is_arithmetic, is_unknown, is_plain, is_record_base, is_nothing_base, is_arithmetic_base, is_unknown_base}
-use Rattle.tree_laws.specs.Below.c_types.Tags.{base_renumbered, renumbered, is_base_sort, is_sort}
-use Rattle.tree_laws.specs.Below.c_types.Trees.{is_node, is_at, suffixed, declarator_type}
-use Rattle.tree_laws.specs.Below.c_types.Declarations.{spelling_at}
-use Rattle.tree_laws.specs.Below.name_chains.Initializers.{is_union_base}
-use Rattle.tree_laws.specs.Below.scope_bind.Named.{Frame}
-use Rattle.tree_laws.specs.Below.scope_bind.Expressions.{is_sign, prefixed, found_after}
+use Rattle.cs_base.specs.Token.{Token}
+use Rattle.c99_tree.specs.Tree.{Forest, none, token, node}
+use Rattle.c99_tree.specs.declared.production.Label.{Label}
+use Rattle.c99_tree.specs.declared.production.Production.{Production}
+use Rattle.c99_tree.specs.declared.production.Production.TheVariants.{Expr, Assign, Cond, Add, Cast, CastRest, Unary, SizeRest, SizeLit, Primary, Post, TypeName, Specs, Main, StructSpec, Word, ExtRest, InitDecl, Declarator, Init, InitItem, Designator, Pointer, Suffix}
+use Rattle.c_types.specs.declared.types.Base.{Base}
+use Rattle.c_types.specs.declared.types.Base.TheVariants.{Arithmetic, Nothing, Structure, Union, Enumeration, Unknown}
+use Rattle.c_types.specs.Types.{CType, arithmetic, nothing, pointer, array, function, inner_of, target_of, adjusted, subscripted, result_of, called, pointed_to, sum_type, chosen, is_pointing, is_array, is_function, begins_pointer, is_record, is_nothing, is_arithmetic, is_unknown, is_plain, is_record_base, is_nothing_base, is_arithmetic_base, is_unknown_base}
+use Rattle.c_types.specs.Tags.{base_renumbered, renumbered, is_base_sort, is_sort}
+use Rattle.c_types.specs.Trees.{is_node, is_at, suffixed, declarator_type}
+use Rattle.c_types.specs.Declarations.{spelling_at}
+use Rattle.name_chains.specs.Initializers.{is_union_base}
+use Rattle.scope_bind.specs.Named.{Frame}
+use Rattle.scope_bind.specs.Expressions.{is_sign, prefixed, found_after}
 use Rattle.reordered_tree_laws.specs.Moving.{moved_base, moved_type, moved_frame, AreMovedTexts}
 
 module _ (m : ℕ → ℕ) where

@@ -6,15 +6,15 @@ use Rattle.std.specs.Option.{option_map}
 use Rattle.std.proofs.lemmas.Bool.{cases_Bool, ltb-false, ltb-true, lt-ltb, and_from}
 use Rattle.std.proofs.lemmas.List.{length-map}
 use Rattle.std.proofs.lemmas.List.Elements.{All-nil, All-cons, All-head, All-tail}
-use Rattle.tree_laws.specs.Below.cs_base.Token.{Token}
-use Rattle.tree_laws.specs.Below.c99_tree.Tree.{Forest, Node}
-use Rattle.tree_laws.specs.Below.c_types.Declarations.{Facts, alike}
-use Rattle.tree_laws.specs.Below.name_chains.Frames.{State, outermost, at_first}
-use Rattle.tree_laws.specs.Below.scope_bind.declared.bound.Name.{Name}
-use Rattle.tree_laws.specs.Below.scope_bind.Named.{Fault}
-use Rattle.tree_laws.specs.Below.scope_bind.Bound.{Bound, names_of, bound_of, bound_unless, facts_of, binding_of}
-use Rattle.tree_laws.specs.Below.scope_bind.Names.{entity_at, declares_at, kind_at, linkage_at}
-use Rattle.tree_laws.specs.Below.scope_bind.Walk.{walked}
+use Rattle.cs_base.specs.Token.{Token}
+use Rattle.c99_tree.specs.Tree.{Forest, Node}
+use Rattle.c_types.specs.Declarations.{Facts, alike}
+use Rattle.name_chains.specs.Frames.{State, outermost, at_first}
+use Rattle.scope_bind.specs.declared.bound.Name.{Name}
+use Rattle.scope_bind.specs.Named.{Fault}
+use Rattle.scope_bind.specs.Bound.{Bound, names_of, bound_of, bound_unless, facts_of, binding_of}
+use Rattle.scope_bind.specs.Names.{entity_at, declares_at, kind_at, linkage_at}
+use Rattle.scope_bind.specs.Walk.{walked}
 use Rattle.tree_laws.specs.TreesOfTexts.{token_count}
 use Rattle.tree_laws.specs.RenamedNames.{StaysApart}
 use Rattle.tree_laws.proofs.HeldNames.{spelled_as_entities, bound_is}

@@ -2,17 +2,17 @@
 use Rattle.std.proofs.Common.{ℕ, ◌+◌, ◌≤◌, ◌≡◌, Bool, true, false, ◌&&◌, ◌||◌, not, if◌then◌else◌, ◌==◌, List, Option, Some, inl, inr, refl, sym, ap, subst, ◌∙◌, arith}
 use Rattle.std.specs.Prelude.{nat_lt}
 use Rattle.std.proofs.lemmas.Bool.{false≢true, cases_Bool, ltb-true, ltb-false, and_parts, or_left, or_right}
-use Rattle.tree_laws.specs.Below.cs_base.Token.{Token}
-use Rattle.tree_laws.specs.Below.c99_tree.Tree.{Forest, none, token, node}
-use Rattle.tree_laws.specs.Below.c99_tree.declared.production.Label.{Label}
-use Rattle.tree_laws.specs.Below.c99_tree.declared.production.Production.{Production}
-use Rattle.tree_laws.specs.Below.c99_tree.declared.production.Production.TheVariants.{FunBody, Specs, MemRest, Enumerator, Declarator, Pdecl, SuRest, EnRest, TypeName, Unary, Add}
-use Rattle.tree_laws.specs.Below.c99_tree.contracts.production.ProductionPartialEq.TheImpl.{ghosts}
-use Rattle.tree_laws.specs.Below.c_types.Trees.{is_node, is_at, holds_name, name_below}
-use Rattle.tree_laws.specs.Below.name_chains.Frames.{State, state}
-use Rattle.tree_laws.specs.Below.name_chains.Entering.{scope_in, entered}
-use Rattle.tree_laws.specs.Below.scope_bind.Named.{Frame, Scope}
-use Rattle.tree_laws.specs.Below.scope_bind.Walk.{passed, left, walked}
+use Rattle.cs_base.specs.Token.{Token}
+use Rattle.c99_tree.specs.Tree.{Forest, none, token, node}
+use Rattle.c99_tree.specs.declared.production.Label.{Label}
+use Rattle.c99_tree.specs.declared.production.Production.{Production}
+use Rattle.c99_tree.specs.declared.production.Production.TheVariants.{FunBody, Specs, MemRest, Enumerator, Declarator, Pdecl, SuRest, EnRest, TypeName, Unary, Add}
+use Rattle.c99_tree.specs.contracts.production.ProductionPartialEq.TheImpl.{ghosts}
+use Rattle.c_types.specs.Trees.{is_node, is_at, holds_name, name_below}
+use Rattle.name_chains.specs.Frames.{State, state}
+use Rattle.name_chains.specs.Entering.{scope_in, entered}
+use Rattle.scope_bind.specs.Named.{Frame, Scope}
+use Rattle.scope_bind.specs.Walk.{passed, left, walked}
 use Rattle.tree_laws.specs.TreesOfTexts.{token_count, AreFrom, begins_with_token, has_form, have_forms}
 use Rattle.reordered_tree_laws.specs.Reordered.{is_among, numbered}
 use Rattle.reordered_tree_laws.specs.Seen.{are_parts}

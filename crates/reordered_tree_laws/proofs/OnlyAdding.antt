@@ -4,24 +4,24 @@ use Rattle.std.specs.Prelude.{◌%◌, is_some}
 use Rattle.std.specs.Option.{option_map_or}
 use Rattle.std.proofs.lemmas.Bool.{false≢true, and_parts}
 use Rattle.std.proofs.lemmas.List.Elements.{All-nil, All-cons, All-append}
-use Rattle.tree_laws.specs.Below.cs_base.Token.{Token}
-use Rattle.tree_laws.specs.Below.c99_tree.Tree.{Forest, none, token, node}
-use Rattle.tree_laws.specs.Below.c99_tree.declared.production.Label.{Label}
-use Rattle.tree_laws.specs.Below.c99_tree.declared.production.Production.{Production}
-use Rattle.tree_laws.specs.Below.c99_tree.declared.production.Production.TheVariants.{ExtRest, InitDecl, FunBody, Main, Params, Primary, Post, Designator, SuRest, EnRest, Members, MemRest, Mdecl, Enumerators, Enumerator, Declarator, Param, Pdecl, Statement}
-use Rattle.tree_laws.specs.Below.c_types.declared.entity.EntityKind.TheVariants.{Typedef, Parameter, Enumerator as Constant}
-use Rattle.tree_laws.specs.Below.c_types.Faults.{first_fault, comes_first}
-use Rattle.tree_laws.specs.Below.c_types.Types.{CType, arithmetic, adjusted, is_unknown, target_of}
-use Rattle.tree_laws.specs.Below.c_types.Trees.{name_below, has_name, holds_name, last_token, declarator_type}
-use Rattle.tree_laws.specs.Below.c_types.Tags.{number_in, renumbered, is_same_tag, tag_entity, is_declaring, tag_declaration, tag_named, prior_tag, with_tag, is_complete, is_sort, enumeration_used}
-use Rattle.tree_laws.specs.Below.c_types.Declarations.{Facts, has_linkage, with_fault, with_use, with_occurrence, with_declaration, with_begun, with_complete, visible, in_scope, anywhere, linked, is_mixed}
-use Rattle.tree_laws.specs.Below.name_chains.Frames.{State}
-use Rattle.tree_laws.specs.Below.name_chains.Entering.{facts_in, entered}
-use Rattle.tree_laws.specs.Below.name_chains.Members.{with_silent, member_declaration, unnamed_declaration, lifted, found_of, with_member, with_lifted, with_anonymous, member_at, member_used_as, member_used}
-use Rattle.tree_laws.specs.Below.scope_bind.Named.{Cause, Fault, Declaration, Declared, Occurrence, Body, Frame, Scope, undeclared, redeclared, tag_redefined, mixed_linkage, no_member, designator_after_elision, ordinary, tags, members}
-use Rattle.tree_laws.specs.Below.scope_bind.Ordinary.{is_again, entity_of, is_listed, declaration_of, declared, used_as, used, is_func, plain_name, with_parameter}
-use Rattle.tree_laws.specs.Below.scope_bind.Roles.{role_if, role_of}
-use Rattle.tree_laws.specs.Below.scope_bind.Walk.{facts_at, passed, declared_in, parameter_in, facts_after, left, walked}
+use Rattle.cs_base.specs.Token.{Token}
+use Rattle.c99_tree.specs.Tree.{Forest, none, token, node}
+use Rattle.c99_tree.specs.declared.production.Label.{Label}
+use Rattle.c99_tree.specs.declared.production.Production.{Production}
+use Rattle.c99_tree.specs.declared.production.Production.TheVariants.{ExtRest, InitDecl, FunBody, Main, Params, Primary, Post, Designator, SuRest, EnRest, Members, MemRest, Mdecl, Enumerators, Enumerator, Declarator, Param, Pdecl, Statement}
+use Rattle.c_types.specs.declared.entity.EntityKind.TheVariants.{Typedef, Parameter, Enumerator as Constant}
+use Rattle.c_types.specs.Faults.{first_fault, comes_first}
+use Rattle.c_types.specs.Types.{CType, arithmetic, adjusted, is_unknown, target_of}
+use Rattle.c_types.specs.Trees.{name_below, has_name, holds_name, last_token, declarator_type}
+use Rattle.c_types.specs.Tags.{number_in, renumbered, is_same_tag, tag_entity, is_declaring, tag_declaration, tag_named, prior_tag, with_tag, is_complete, is_sort, enumeration_used}
+use Rattle.c_types.specs.Declarations.{Facts, has_linkage, with_fault, with_use, with_occurrence, with_declaration, with_begun, with_complete, visible, in_scope, anywhere, linked, is_mixed}
+use Rattle.name_chains.specs.Frames.{State}
+use Rattle.name_chains.specs.Entering.{facts_in, entered}
+use Rattle.name_chains.specs.Members.{with_silent, member_declaration, unnamed_declaration, lifted, found_of, with_member, with_lifted, with_anonymous, member_at, member_used_as, member_used}
+use Rattle.scope_bind.specs.Named.{Cause, Fault, Declaration, Declared, Occurrence, Body, Frame, Scope, undeclared, redeclared, tag_redefined, mixed_linkage, no_member, designator_after_elision, ordinary, tags, members}
+use Rattle.scope_bind.specs.Ordinary.{is_again, entity_of, is_listed, declaration_of, declared, used_as, used, is_func, plain_name, with_parameter}
+use Rattle.scope_bind.specs.Roles.{role_if, role_of}
+use Rattle.scope_bind.specs.Walk.{facts_at, passed, declared_in, parameter_in, facts_after, left, walked}
 use Rattle.tree_laws.specs.TreesOfTexts.{token_count, AreFrom, begins_with_token, has_form, have_forms}
 use Rattle.reordered_tree_laws.specs.Adding.{has_no_list, within_of, is_adding_token, is_adding_declarator, is_adding_node, is_adding, IsNamedIn, IsAddedIn, PartsOnlyAdd}
 

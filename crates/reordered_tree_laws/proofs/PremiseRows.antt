@@ -3,14 +3,14 @@
 use Rattle.std.proofs.Common.{ℕ, ◌≡◌, Bool, true, false, ◌&&◌, ◌||◌, not, ◌==◌, List, length, Ok, Err, refl}
 use Rattle.std.specs.Prelude.{Result}
 use Rattle.std.specs.List.{list_all}
-use Rattle.tree_laws.specs.Below.cs_base.Token.{Token}
-use Rattle.tree_laws.specs.Below.c99_tree.Tree.{Node}
-use Rattle.tree_laws.specs.Below.c_types.declared.declarations.Fault.{Fault}
-use Rattle.tree_laws.specs.Below.c_types.Declarations.{is_in}
-use Rattle.tree_laws.specs.Below.name_chains.Frames.{outermost}
-use Rattle.tree_laws.specs.Below.scope_bind.declared.bound.Name.{Name}
-use Rattle.tree_laws.specs.Below.scope_bind.Bound.{Bound, binding_of}
-use Rattle.tree_laws.specs.Below.scope_bind.Walk.{walked}
+use Rattle.cs_base.specs.Token.{Token}
+use Rattle.c99_tree.specs.Tree.{Node}
+use Rattle.c_types.specs.declared.declarations.Fault.{Fault}
+use Rattle.c_types.specs.Declarations.{is_in}
+use Rattle.name_chains.specs.Frames.{outermost}
+use Rattle.scope_bind.specs.declared.bound.Name.{Name}
+use Rattle.scope_bind.specs.Bound.{Bound, binding_of}
+use Rattle.scope_bind.specs.Walk.{walked}
 use Rattle.reordered_tree_laws.specs.Premises.{is_fit, lists_pass, is_item, are_apart, tags_in}
 use Rattle.reordered_tree_laws.proofs.Rows.{kept-text, kept-tree, nested-text, nested-tree, prototypes-text, prototypes-tree, body-text, body-tree, tag-text, tag-tree, typedefs-text, typedefs-tree}
 

@@ -5,24 +5,24 @@ use Rattle.std.specs.List.{All, cons_option}
 use Rattle.std.specs.Option.{option_map_or}
 use Rattle.std.proofs.lemmas.Bool.{false≢true, and_parts}
 use Rattle.std.proofs.lemmas.List.Elements.{All-nil, All-cons, All-weaker, All-append}
-use Rattle.tree_laws.specs.Below.cs_base.Token.{Token}
-use Rattle.tree_laws.specs.Below.c99_tree.Tree.{Forest, none, token, node}
-use Rattle.tree_laws.specs.Below.c99_tree.declared.production.Label.{Label}
-use Rattle.tree_laws.specs.Below.c99_tree.declared.production.Production.{Production}
-use Rattle.tree_laws.specs.Below.c99_tree.declared.production.Production.TheVariants.{ExtRest, InitDecl, FunBody, Main, Params, Primary, Post, Designator, SuRest, EnRest, Members, MemRest, Mdecl, Enumerators, Enumerator, Declarator, Param, Pdecl, Statement, Block, Suffix, Sub}
-use Rattle.tree_laws.specs.Below.c_types.declared.entity.EntityKind.TheVariants.{Typedef, Parameter, Enumerator as Constant}
-use Rattle.tree_laws.specs.Below.c_types.Types.{CType, arithmetic, adjusted, is_unknown, target_of}
-use Rattle.tree_laws.specs.Below.c_types.Trees.{is_list, name_below, has_name, holds_name, last_token, declarator_type}
-use Rattle.tree_laws.specs.Below.c_types.Tags.{number_in, renumbered, is_same_tag, tag_entity, is_declaring, tag_declaration, tag_named, prior_tag, with_tag, is_complete, is_sort, enumeration_used}
-use Rattle.tree_laws.specs.Below.c_types.Declarations.{Facts, has_linkage, with_fault, with_use, with_declaration, with_begun, visible, in_scope, anywhere, linked, is_mixed}
-use Rattle.tree_laws.specs.Below.name_chains.Frames.{State}
-use Rattle.tree_laws.specs.Below.name_chains.Members.{with_silent, member_declaration, unnamed_declaration, lifted, found_of, with_member, with_lifted, with_anonymous, member_at, member_used_as, member_used}
-use Rattle.tree_laws.specs.Below.name_chains.Entering.{inner, is_scoped, is_member, scope_in, kept_here, with_kept, facts_in, entered}
-use Rattle.tree_laws.specs.Below.scope_bind.Named.{Cause, Declaration, Declared, Body, Frame, Scope, undeclared, redeclared, tag_redefined, mixed_linkage, designator_after_elision, ordinary, tags, members, labels}
-use Rattle.tree_laws.specs.Below.scope_bind.Ordinary.{is_again, entity_of, is_listed, declaration_of, declared, used_as, used, is_func, plain_name, with_parameter, new_object, with_object}
-use Rattle.tree_laws.specs.Below.scope_bind.Labels.{label_declaration, with_label, jump_to, with_jumps, with_labels}
-use Rattle.tree_laws.specs.Below.scope_bind.Roles.{role_if, role_of}
-use Rattle.tree_laws.specs.Below.scope_bind.Walk.{facts_at, passed, declared_in, parameter_in, facts_after, left, walked}
+use Rattle.cs_base.specs.Token.{Token}
+use Rattle.c99_tree.specs.Tree.{Forest, none, token, node}
+use Rattle.c99_tree.specs.declared.production.Label.{Label}
+use Rattle.c99_tree.specs.declared.production.Production.{Production}
+use Rattle.c99_tree.specs.declared.production.Production.TheVariants.{ExtRest, InitDecl, FunBody, Main, Params, Primary, Post, Designator, SuRest, EnRest, Members, MemRest, Mdecl, Enumerators, Enumerator, Declarator, Param, Pdecl, Statement, Block, Suffix, Sub}
+use Rattle.c_types.specs.declared.entity.EntityKind.TheVariants.{Typedef, Parameter, Enumerator as Constant}
+use Rattle.c_types.specs.Types.{CType, arithmetic, adjusted, is_unknown, target_of}
+use Rattle.c_types.specs.Trees.{is_list, name_below, has_name, holds_name, last_token, declarator_type}
+use Rattle.c_types.specs.Tags.{number_in, renumbered, is_same_tag, tag_entity, is_declaring, tag_declaration, tag_named, prior_tag, with_tag, is_complete, is_sort, enumeration_used}
+use Rattle.c_types.specs.Declarations.{Facts, has_linkage, with_fault, with_use, with_declaration, with_begun, visible, in_scope, anywhere, linked, is_mixed}
+use Rattle.name_chains.specs.Frames.{State}
+use Rattle.name_chains.specs.Members.{with_silent, member_declaration, unnamed_declaration, lifted, found_of, with_member, with_lifted, with_anonymous, member_at, member_used_as, member_used}
+use Rattle.name_chains.specs.Entering.{inner, is_scoped, is_member, scope_in, kept_here, with_kept, facts_in, entered}
+use Rattle.scope_bind.specs.Named.{Cause, Declaration, Declared, Body, Frame, Scope, undeclared, redeclared, tag_redefined, mixed_linkage, designator_after_elision, ordinary, tags, members, labels}
+use Rattle.scope_bind.specs.Ordinary.{is_again, entity_of, is_listed, declaration_of, declared, used_as, used, is_func, plain_name, with_parameter, new_object, with_object}
+use Rattle.scope_bind.specs.Labels.{label_declaration, with_label, jump_to, with_jumps, with_labels}
+use Rattle.scope_bind.specs.Roles.{role_if, role_of}
+use Rattle.scope_bind.specs.Walk.{facts_at, passed, declared_in, parameter_in, facts_after, left, walked}
 use Rattle.tree_laws.specs.TreesOfTexts.{token_count, AreFrom, begins_with_token, has_form, have_forms}
 use Rattle.reordered_tree_laws.specs.Ranges.{has_range, IsAdded, IsFine, RangesEndWithScopes}
 

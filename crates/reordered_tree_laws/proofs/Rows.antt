@@ -2,16 +2,16 @@
 use Rattle.std.proofs.Common.{ℕ, ◌≡◌, Bool, true, false, ◌||◌, ◌==◌, List, [], ◌∷◌, length, Option, None, Some, Ok, refl}
 use Rattle.std.specs.Prelude.{Result, codes}
 use Rattle.std.specs.List.{list_all}
-use Rattle.tree_laws.specs.Below.cs_base.Token.{Token}
-use Rattle.tree_laws.specs.Below.cs_base.declared.tokens.Kind.{Kind}
-use Rattle.tree_laws.specs.Below.cs_base.declared.tokens.Kind.TheVariants.{Ident, Number, Punct}
-use Rattle.tree_laws.specs.Below.c99_tree.Tree.{Forest, none, token, node, Node, node_of}
-use Rattle.tree_laws.specs.Below.c99_tree.declared.production.Production.{Production}
-use Rattle.tree_laws.specs.Below.c99_tree.declared.production.Production.TheVariants.{TranslationUnit, External, ExtRest, ExtTail, FunBody, Specs, Main, Mod, Word, StructSpec, SuRest, Members, Member as MemberNode, Mdecl, Declarator, Pointer, Direct, Suffix, Bound as BoundNode, Params, Param, Pdecl, Pdirect, TypeName, Adecl, Adirect, Init, Cast, CastRest, Unary, SizeRest, Primary, Post, Args, BlockItem, Statement}
-use Rattle.tree_laws.specs.Below.c_types.declared.declarations.Fault.{Fault}
-use Rattle.tree_laws.specs.Below.scope_bind.Bound.{Bound, binding_of}
-use Rattle.tree_laws.specs.Below.scope_bind.Names.{entity_at}
-use Rattle.tree_laws.specs.Below.scope_bind.Walk.{walked}
+use Rattle.cs_base.specs.Token.{Token}
+use Rattle.cs_base.specs.declared.tokens.Kind.{Kind}
+use Rattle.cs_base.specs.declared.tokens.Kind.TheVariants.{Ident, Number, Punct}
+use Rattle.c99_tree.specs.Tree.{Forest, none, token, node, Node, node_of}
+use Rattle.c99_tree.specs.declared.production.Production.{Production}
+use Rattle.c99_tree.specs.declared.production.Production.TheVariants.{TranslationUnit, External, ExtRest, ExtTail, FunBody, Specs, Main, Mod, Word, StructSpec, SuRest, Members, Member as MemberNode, Mdecl, Declarator, Pointer, Direct, Suffix, Bound as BoundNode, Params, Param, Pdecl, Pdirect, TypeName, Adecl, Adirect, Init, Cast, CastRest, Unary, SizeRest, Primary, Post, Args, BlockItem, Statement}
+use Rattle.c_types.specs.declared.declarations.Fault.{Fault}
+use Rattle.scope_bind.specs.Bound.{Bound, binding_of}
+use Rattle.scope_bind.specs.Names.{entity_at}
+use Rattle.scope_bind.specs.Walk.{walked}
 use Rattle.list_cuts.specs.Cuts.{numbers, arranged, items_of, woven, gaps_of, span_of, moved}
 use Rattle.reordered_tree_laws.specs.Reordered.{reordered}
 use Rattle.reordered_tree_laws.specs.Cuts.{cut_in}

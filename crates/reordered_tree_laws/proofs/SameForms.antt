@@ -4,12 +4,12 @@ use Rattle.std.specs.Prelude.{IsPermutation}
 use Rattle.std.specs.List.{list_any}
 use Rattle.std.proofs.lemmas.List.{length-map, get_or-map, get_or_default, same_lists}
 use Rattle.std.proofs.lemmas.List.Sorted.{IsPermutation-map, list_any-IsPermutation, length_permutation}
-use Rattle.tree_laws.specs.Below.c99_tree.Tree.{Forest, none, token, node, Node}
-use Rattle.tree_laws.specs.Below.c99_tree.declared.production.Label.{Label}
-use Rattle.tree_laws.specs.Below.c99_tree.declared.production.Production.{Production}
-use Rattle.tree_laws.specs.Below.c99_tree.declared.production.Production.TheVariants.{FunBody, Enumerator, Declarator}
-use Rattle.tree_laws.specs.Below.c_types.Trees.{is_node}
-use Rattle.tree_laws.specs.Below.c_types.Lists.{is_declaring}
+use Rattle.c99_tree.specs.Tree.{Forest, none, token, node, Node}
+use Rattle.c99_tree.specs.declared.production.Label.{Label}
+use Rattle.c99_tree.specs.declared.production.Production.{Production}
+use Rattle.c99_tree.specs.declared.production.Production.TheVariants.{FunBody, Enumerator, Declarator}
+use Rattle.c_types.specs.Trees.{is_node}
+use Rattle.c_types.specs.Lists.{is_declaring}
 use Rattle.list_cuts.specs.Cuts.{Cut, done, numbers, IsOrder, arranged, AreOf, AreItemsOf}
 use Rattle.list_cuts.proofs.OrderLemmas.{length-numbers, get_or-numbers}
 use Rattle.list_cuts.proofs.CutLemmas.{length-order, arranged_permutes}

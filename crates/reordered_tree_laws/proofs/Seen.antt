@@ -1,14 +1,14 @@
 -- Declarations do not see the order of the items of lists.
 use Rattle.std.proofs.Common.{ℕ, ◌≡◌, Bool, true, false, ◌&&◌, ◌||◌, if◌then◌else◌, ◌==◌, List, [], ◌∷◌, Some, refl, sym, ap, ◌∙◌}
 use Rattle.std.proofs.lemmas.Bool.{false≢true, and_parts}
-use Rattle.tree_laws.specs.Below.c99_tree.Tree.{Forest, none, token, node, Node}
-use Rattle.tree_laws.specs.Below.c99_tree.declared.production.Label.{Label}
-use Rattle.tree_laws.specs.Below.c99_tree.declared.production.Production.{Production}
-use Rattle.tree_laws.specs.Below.c99_tree.declared.production.Production.TheVariants.{Declarator, Direct, Pdecl, Pdirect, Adecl, Adirect, Pointer, Suffix, Main, StructSpec, SuRest, Mod}
-use Rattle.tree_laws.specs.Below.c_types.declared.frames.Words.{Words}
-use Rattle.tree_laws.specs.Below.c_types.Types.{CType, pointer, array, function}
-use Rattle.tree_laws.specs.Below.c_types.Trees.{is_node, is_at, last_token, first_token, has_node, has_mod, has_at, has_untagged, is_anonymous, words_of, is_one, is_lone_main, is_bare, holds_name, has_name, name_below, suffixed, declarator_type, is_text}
-use Rattle.tree_laws.specs.Below.c_types.Parameters.{ends_in_token}
+use Rattle.c99_tree.specs.Tree.{Forest, none, token, node, Node}
+use Rattle.c99_tree.specs.declared.production.Label.{Label}
+use Rattle.c99_tree.specs.declared.production.Production.{Production}
+use Rattle.c99_tree.specs.declared.production.Production.TheVariants.{Declarator, Direct, Pdecl, Pdirect, Adecl, Adirect, Pointer, Suffix, Main, StructSpec, SuRest, Mod}
+use Rattle.c_types.specs.declared.frames.Words.{Words}
+use Rattle.c_types.specs.Types.{CType, pointer, array, function}
+use Rattle.c_types.specs.Trees.{is_node, is_at, last_token, first_token, has_node, has_mod, has_at, has_untagged, is_anonymous, words_of, is_one, is_lone_main, is_bare, holds_name, has_name, name_below, suffixed, declarator_type, is_text}
+use Rattle.c_types.specs.Parameters.{ends_in_token}
 use Rattle.reordered_tree_laws.specs.Reordered.{nodes_in, refilled, picked_nodes, shuffled, is_parenthesised, is_among, permuted}
 use Rattle.reordered_tree_laws.specs.Seen.{is_part, are_parts, NewOrdersAreNotSeen}
 

@@ -2,18 +2,18 @@
 use Rattle.std.specs.Prelude.{ℕ, ◌≡◌, Bool, true, false, ◌&&◌, ◌||◌, not, List, ◌+◌, ◌<◌, ◌≤◌, ◌++◌, is_some}
 use Rattle.std.specs.List.{All}
 use Rattle.std.specs.Option.{option_map_or}
-use Rattle.tree_laws.specs.Below.cs_base.Token.{Token}
-use Rattle.tree_laws.specs.Below.c99_tree.Tree.{Forest, none, token, node}
-use Rattle.tree_laws.specs.Below.c99_tree.declared.production.Label.{Label}
-use Rattle.tree_laws.specs.Below.c99_tree.declared.production.Production.{Production}
-use Rattle.tree_laws.specs.Below.c99_tree.declared.production.Production.TheVariants.{ExtRest, InitDecl, FunBody, SuRest, EnRest, Members, MemRest, Mdecl, Enumerators, Declarator, Param, Pdecl, Statement}
-use Rattle.tree_laws.specs.Below.c_types.Trees.{is_at, has_node, name_below}
-use Rattle.tree_laws.specs.Below.c_types.Tags.{number_in}
-use Rattle.tree_laws.specs.Below.c_types.Declarations.{Facts, has_linkage}
-use Rattle.tree_laws.specs.Below.name_chains.Entering.{is_member}
-use Rattle.tree_laws.specs.Below.name_chains.Frames.{State, state}
-use Rattle.tree_laws.specs.Below.scope_bind.Named.{Declaration, Occurrence, Frame}
-use Rattle.tree_laws.specs.Below.scope_bind.Walk.{walked}
+use Rattle.cs_base.specs.Token.{Token}
+use Rattle.c99_tree.specs.Tree.{Forest, none, token, node}
+use Rattle.c99_tree.specs.declared.production.Label.{Label}
+use Rattle.c99_tree.specs.declared.production.Production.{Production}
+use Rattle.c99_tree.specs.declared.production.Production.TheVariants.{ExtRest, InitDecl, FunBody, SuRest, EnRest, Members, MemRest, Mdecl, Enumerators, Declarator, Param, Pdecl, Statement}
+use Rattle.c_types.specs.Trees.{is_at, has_node, name_below}
+use Rattle.c_types.specs.Tags.{number_in}
+use Rattle.c_types.specs.Declarations.{Facts, has_linkage}
+use Rattle.name_chains.specs.Entering.{is_member}
+use Rattle.name_chains.specs.Frames.{State, state}
+use Rattle.scope_bind.specs.Named.{Declaration, Occurrence, Frame}
+use Rattle.scope_bind.specs.Walk.{walked}
 use Rattle.tree_laws.specs.TreesOfTexts.{token_count, AreFrom, have_forms}
 use Rattle.reordered_tree_laws.specs.Beside.{beside_of, seen_of, is_apart, IsOwnDeclaration, IsOwnFrame, AreBeside, StandBeside}
 

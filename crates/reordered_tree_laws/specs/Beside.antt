@@ -2,20 +2,20 @@
 use Rattle.std.specs.Prelude.{ℕ, ◌+◌, ◌≡◌, ◌==◌, Bool, true, false, ◌&&◌, not, if◌then◌else◌, ◌%◌, List, ◌++◌, filter}
 use Rattle.std.specs.List.{All, list_any}
 use Rattle.std.specs.Option.{option_map_or}
-use Rattle.tree_laws.specs.Below.cs_base.Token.{Token}
-use Rattle.tree_laws.specs.Below.c99_tree.Tree.{Forest, none, token, node}
-use Rattle.tree_laws.specs.Below.c99_tree.declared.production.Label.{Label}
-use Rattle.tree_laws.specs.Below.c99_tree.declared.production.Production.{Production}
-use Rattle.tree_laws.specs.Below.c99_tree.declared.production.Production.TheVariants.{ExtRest, FunBody, InitDecl, Main, Enumerator, Declarator, Params, Param, Pdecl, Primary, SuRest, EnRest}
-use Rattle.tree_laws.specs.Below.c_types.declared.declarations.Space.TheVariants.{Ordinary as ordinary, Tags as tags, Members as members, Inner as inner, Unnamed as unnamed, Labels as labels}
-use Rattle.tree_laws.specs.Below.c_types.Types.{CType}
-use Rattle.tree_laws.specs.Below.c_types.Tags.{number_in}
-use Rattle.tree_laws.specs.Below.c_types.Trees.{name_below, last_token}
-use Rattle.tree_laws.specs.Below.c_types.Declarations.{Facts, is_in, is_named, is_live}
-use Rattle.tree_laws.specs.Below.name_chains.Frames.{State}
-use Rattle.tree_laws.specs.Below.name_chains.Entering.{scope_in}
-use Rattle.tree_laws.specs.Below.scope_bind.Named.{Space, Declaration, Occurrence, Frame, Scope}
-use Rattle.tree_laws.specs.Below.scope_bind.Walk.{walked}
+use Rattle.cs_base.specs.Token.{Token}
+use Rattle.c99_tree.specs.Tree.{Forest, none, token, node}
+use Rattle.c99_tree.specs.declared.production.Label.{Label}
+use Rattle.c99_tree.specs.declared.production.Production.{Production}
+use Rattle.c99_tree.specs.declared.production.Production.TheVariants.{ExtRest, FunBody, InitDecl, Main, Enumerator, Declarator, Params, Param, Pdecl, Primary, SuRest, EnRest}
+use Rattle.c_types.specs.declared.declarations.Space.TheVariants.{Ordinary as ordinary, Tags as tags, Members as members, Inner as inner, Unnamed as unnamed, Labels as labels}
+use Rattle.c_types.specs.Types.{CType}
+use Rattle.c_types.specs.Tags.{number_in}
+use Rattle.c_types.specs.Trees.{name_below, last_token}
+use Rattle.c_types.specs.Declarations.{Facts, is_in, is_named, is_live}
+use Rattle.name_chains.specs.Frames.{State}
+use Rattle.name_chains.specs.Entering.{scope_in}
+use Rattle.scope_bind.specs.Named.{Space, Declaration, Occurrence, Frame, Scope}
+use Rattle.scope_bind.specs.Walk.{walked}
 
 -- ---- What stands beside
 

@@ -1,6 +1,6 @@
 -- The lists of a tree among its tokens: the cut by which these change places (this project's).
 use Rattle.std.specs.Prelude.{ℕ, ◌+◌, Bool, true, false}
-use Rattle.tree_laws.specs.Below.c99_tree.Tree.{Forest, none, token, node, Node}
+use Rattle.c99_tree.specs.Tree.{Forest, none, token, node, Node}
 use Rattle.list_cuts.specs.Cuts.{Cut, done, keep, list, Items, ended, item}
 use Rattle.tree_laws.specs.TreesOfTexts.{token_count}
 use Rattle.reordered_tree_laws.specs.Reordered.{is_among}

@@ -1,12 +1,12 @@
 -- What a text whose lists are in a new order binds, where each list by itself does: the rest of the unit goes along
 -- (this project's, over ISO/IEC 9899:1999, 6.2.1).
 use Rattle.std.specs.Prelude.{ℕ, ◌+◌, ◌≡◌, Bool, true, false, List, length, map, None, Ok}
-use Rattle.tree_laws.specs.Below.cs_base.Token.{Token}
-use Rattle.tree_laws.specs.Below.c99_tree.Tree.{Forest, none, token, node, Node}
-use Rattle.tree_laws.specs.Below.c99_tree.declared.production.Label.{Label}
-use Rattle.tree_laws.specs.Below.name_chains.Frames.{State, outermost}
-use Rattle.tree_laws.specs.Below.scope_bind.Bound.{Bound, binding_of}
-use Rattle.tree_laws.specs.Below.scope_bind.Walk.{walked}
+use Rattle.cs_base.specs.Token.{Token}
+use Rattle.c99_tree.specs.Tree.{Forest, none, token, node, Node}
+use Rattle.c99_tree.specs.declared.production.Label.{Label}
+use Rattle.name_chains.specs.Frames.{State, outermost}
+use Rattle.scope_bind.specs.Bound.{Bound, binding_of}
+use Rattle.scope_bind.specs.Walk.{walked}
 use Rattle.tree_laws.specs.TreesOfTexts.{token_count, AreFrom, IsTreeOf}
 use Rattle.list_cuts.specs.Cuts.{IsOrder, AreOf, arranged, moved}
 use Rattle.reordered_tree_laws.specs.Reordered.{is_among, permuted, numbered, reordered}

@@ -1,6 +1,6 @@
 -- What is true of a tree in which the items of lists stand in another order: laws that callers' proofs cite.
 use Rattle.std.specs.Prelude.{ℕ, ◌≡◌, Bool, false, List, length}
-use Rattle.tree_laws.specs.Below.c99_tree.Tree.{Node}
+use Rattle.c99_tree.specs.Tree.{Node}
 use Rattle.list_cuts.specs.Cuts.{IsOrder, arranged, AreOf}
 use Rattle.tree_laws.specs.TreesOfTexts.{IsTreeOf}
 use Rattle.reordered_tree_laws.specs.Reordered.{permuted, leaves, reordered}

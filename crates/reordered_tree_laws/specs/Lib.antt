@@ -9,5 +9,10 @@ pub mod Ranges
 pub mod Premises
 pub mod Moving
 pub mod Gathering
--- Words of the crates below, passed on.
-pub mod Below
+pub mod Lasting
+pub mod Owned
+pub mod Siblings
+pub mod Spread
+pub mod Going
+pub mod BareNames
+pub mod ReorderedNames

@@ -2,17 +2,17 @@
 -- is the same, at the moved places (this project's, over ISO/IEC 9899:1999, 6.2.1 to 6.2.3).
 use Rattle.std.specs.Prelude.{ℕ, ◌+◌, ◌≤◌, ◌≡◌, ◌==◌, ◌⊎◌, Bool, true, false, ◌&&◌, not, nat_lt, List, [], ◌∷◌, filter, find, map, is_some, Option, None, Some}
 use Rattle.std.specs.Option.{option_map}
-use Rattle.tree_laws.specs.Below.cs_base.Token.{Token}
-use Rattle.tree_laws.specs.Below.c_types.declared.types.Base.{Base}
-use Rattle.tree_laws.specs.Below.c_types.declared.types.Base.TheVariants.{Structure, Union, Enumeration}
-use Rattle.tree_laws.specs.Below.c_types.declared.declarations.Space.TheVariants.{Ordinary, Tags, Members, Inner, Unnamed, Labels}
-use Rattle.tree_laws.specs.Below.c_types.Types.{CType}
-use Rattle.tree_laws.specs.Below.c_types.Declarations.{Facts, has_linkage, is_in, is_live, is_named, is_space, spelling_at}
-use Rattle.tree_laws.specs.Below.name_chains.Entering.{is_member}
-use Rattle.tree_laws.specs.Below.name_chains.Frames.{State}
-use Rattle.tree_laws.specs.Below.scope_bind.Named.{Space, Declaration, Occurrence, Body, Frame, ordinary, tags, labels}
-use Rattle.tree_laws.specs.Below.c99_tree.Tree.{Forest, none, token, node}
-use Rattle.tree_laws.specs.Below.scope_bind.Walk.{walked}
+use Rattle.cs_base.specs.Token.{Token}
+use Rattle.c_types.specs.declared.types.Base.{Base}
+use Rattle.c_types.specs.declared.types.Base.TheVariants.{Structure, Union, Enumeration}
+use Rattle.c_types.specs.declared.declarations.Space.TheVariants.{Ordinary, Tags, Members, Inner, Unnamed, Labels}
+use Rattle.c_types.specs.Types.{CType}
+use Rattle.c_types.specs.Declarations.{Facts, has_linkage, is_in, is_live, is_named, is_space, spelling_at}
+use Rattle.name_chains.specs.Entering.{is_member}
+use Rattle.name_chains.specs.Frames.{State}
+use Rattle.scope_bind.specs.Named.{Space, Declaration, Occurrence, Body, Frame, ordinary, tags, labels}
+use Rattle.c99_tree.specs.Tree.{Forest, none, token, node}
+use Rattle.scope_bind.specs.Walk.{walked}
 use Rattle.tree_laws.specs.TreesOfTexts.{token_count, AreFrom, have_forms}
 use Rattle.reordered_tree_laws.specs.Reordered.{numbered}
 use Rattle.reordered_tree_laws.specs.Premises.{is_fit}

@@ -3,20 +3,20 @@
 use Rattle.std.specs.Prelude.{ℕ, ◌+◌, ◌<◌, ◌≡◌, ◌==◌, Bool, true, false, ◌&&◌, ◌||◌, not, nat_lt, if◌then◌else◌, List, [], ◌∷◌, ◌++◌, length, map, Option, None, Ok}
 use Rattle.std.specs.List.{All, list_all, list_any}
 use Rattle.std.specs.Option.{option_map, option_map_or}
-use Rattle.tree_laws.specs.Below.cs_base.Token.{Token}
-use Rattle.tree_laws.specs.Below.c99_tree.Tree.{Forest, none, token, node, Node}
-use Rattle.tree_laws.specs.Below.c99_tree.declared.production.Label.{Label}
-use Rattle.tree_laws.specs.Below.c99_tree.declared.production.Production.{Production}
-use Rattle.tree_laws.specs.Below.c99_tree.declared.production.Production.TheVariants.{FunBody, Specs, Main, SuRest, EnRest, MemRest, Enumerator, Declarator, Params, Param, Pdecl, TypeName, Add, Unary, Primary, Args, Statement, Sub, Assign, Cond, Lor, Land, Bor, Bxor, Band, Equal, Relate, Shift, Mul, Cast, Block}
-use Rattle.tree_laws.specs.Below.c_types.Trees.{is_node, is_at, is_list, has_mod, name_below, first_list}
-use Rattle.tree_laws.specs.Below.c_types.Lists.{bare_at, bare_in}
-use Rattle.tree_laws.specs.Below.c_types.Declarations.{alike, is_in}
-use Rattle.tree_laws.specs.Below.name_chains.Entering.{scope_in}
-use Rattle.tree_laws.specs.Below.name_chains.Frames.{outermost}
-use Rattle.tree_laws.specs.Below.scope_bind.Named.{Scope}
-use Rattle.tree_laws.specs.Below.scope_bind.declared.bound.Name.{Name}
-use Rattle.tree_laws.specs.Below.scope_bind.Bound.{Bound, binding_of}
-use Rattle.tree_laws.specs.Below.scope_bind.Names.{entity_at, declares_at, kind_at, linkage_at}
+use Rattle.cs_base.specs.Token.{Token}
+use Rattle.c99_tree.specs.Tree.{Forest, none, token, node, Node}
+use Rattle.c99_tree.specs.declared.production.Label.{Label}
+use Rattle.c99_tree.specs.declared.production.Production.{Production}
+use Rattle.c99_tree.specs.declared.production.Production.TheVariants.{FunBody, Specs, Main, SuRest, EnRest, MemRest, Enumerator, Declarator, Params, Param, Pdecl, TypeName, Add, Unary, Primary, Args, Statement, Sub, Assign, Cond, Lor, Land, Bor, Bxor, Band, Equal, Relate, Shift, Mul, Cast, Block}
+use Rattle.c_types.specs.Trees.{is_node, is_at, is_list, has_mod, name_below, first_list}
+use Rattle.c_types.specs.Lists.{bare_at, bare_in}
+use Rattle.c_types.specs.Declarations.{alike, is_in}
+use Rattle.name_chains.specs.Entering.{scope_in}
+use Rattle.name_chains.specs.Frames.{outermost}
+use Rattle.scope_bind.specs.Named.{Scope}
+use Rattle.scope_bind.specs.declared.bound.Name.{Name}
+use Rattle.scope_bind.specs.Bound.{Bound, binding_of}
+use Rattle.scope_bind.specs.Names.{entity_at, declares_at, kind_at, linkage_at}
 use Rattle.tree_laws.specs.TreesOfTexts.{IsTreeOf, begins_with_token}
 use Rattle.list_cuts.specs.Cuts.{IsOrder, AreOf, arranged, moved}
 use Rattle.reordered_tree_laws.specs.Reordered.{nodes_in, is_among, reordered}

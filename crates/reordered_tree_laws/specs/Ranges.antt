@@ -1,12 +1,12 @@
 -- Where the ranges of declarations begin and end that a part of a unit adds (ISO/IEC 9899:1999, 6.2.1 paragraph 4).
 use Rattle.std.specs.Prelude.{ℕ, ◌+◌, ◌≤◌, ◌≡◌, Bool, true, false, List, ◌⊎◌}
 use Rattle.std.specs.List.{All}
-use Rattle.tree_laws.specs.Below.cs_base.Token.{Token}
-use Rattle.tree_laws.specs.Below.c99_tree.Tree.{Forest}
-use Rattle.tree_laws.specs.Below.c_types.declared.declarations.Space.TheVariants.{Ordinary as ordinary, Tags as tags}
-use Rattle.tree_laws.specs.Below.name_chains.Frames.{State}
-use Rattle.tree_laws.specs.Below.scope_bind.Named.{Space, Declaration}
-use Rattle.tree_laws.specs.Below.scope_bind.Walk.{walked}
+use Rattle.cs_base.specs.Token.{Token}
+use Rattle.c99_tree.specs.Tree.{Forest}
+use Rattle.c_types.specs.declared.declarations.Space.TheVariants.{Ordinary as ordinary, Tags as tags}
+use Rattle.name_chains.specs.Frames.{State}
+use Rattle.scope_bind.specs.Named.{Space, Declaration}
+use Rattle.scope_bind.specs.Walk.{walked}
 use Rattle.tree_laws.specs.TreesOfTexts.{token_count, AreFrom, have_forms}
 
 -- an ordinary identifier or a tag, whose range is asked for

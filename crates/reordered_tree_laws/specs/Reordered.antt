@@ -1,11 +1,11 @@
 -- A tree in which the items of some lists stand in another order (this project's): the parameters of parameter lists and
 -- the arguments of calls change places (ISO/IEC 9899:1999, 6.7.5.3 and 6.5.2.2), and all else stays where it is.
 use Rattle.std.specs.Prelude.{ℕ, ◌+◌, ◌-◌, Bool, false, ◌&&◌, ◌||◌, List, [], ◌∷◌, ◌++◌, map, get_or, if◌then◌else◌}
-use Rattle.tree_laws.specs.Below.c99_tree.Tree.{Forest, none, token, node, Node, node_of}
-use Rattle.tree_laws.specs.Below.c99_tree.declared.production.Label.{Label}
-use Rattle.tree_laws.specs.Below.c99_tree.declared.production.Production.TheVariants.{Post, Args}
-use Rattle.tree_laws.specs.Below.c_types.Trees.{is_at, is_list, first_token}
-use Rattle.tree_laws.specs.Below.c_types.Parameters.{ends_in_token}
+use Rattle.c99_tree.specs.Tree.{Forest, none, token, node, Node, node_of}
+use Rattle.c99_tree.specs.declared.production.Label.{Label}
+use Rattle.c99_tree.specs.declared.production.Production.TheVariants.{Post, Args}
+use Rattle.c_types.specs.Trees.{is_at, is_list, first_token}
+use Rattle.c_types.specs.Parameters.{ends_in_token}
 use Rattle.tree_laws.specs.TreesOfTexts.{token_count}
 
 -- ---- Children in another order

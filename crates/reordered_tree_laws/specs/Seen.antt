@@ -1,11 +1,11 @@
 -- What declarations see of some children: not the order of the items of lists in them (ISO/IEC 9899:1999, 6.7, 6.7.5).
 use Rattle.std.specs.Prelude.{ℕ, ◌≡◌, Bool, true, false, ◌&&◌, ◌||◌, List}
-use Rattle.tree_laws.specs.Below.c99_tree.Tree.{Forest, none, token, node}
-use Rattle.tree_laws.specs.Below.c99_tree.declared.production.Label.{Label}
-use Rattle.tree_laws.specs.Below.c99_tree.declared.production.Production.{Production}
-use Rattle.tree_laws.specs.Below.c99_tree.declared.production.Production.TheVariants.{Declarator, Direct, Pdecl, Pdirect, Adecl, Adirect, Pointer, Suffix}
-use Rattle.tree_laws.specs.Below.c_types.Types.{CType}
-use Rattle.tree_laws.specs.Below.c_types.Trees.{is_node, last_token, first_token, has_node, words_of, is_bare, name_below, declarator_type, is_text}
+use Rattle.c99_tree.specs.Tree.{Forest, none, token, node}
+use Rattle.c99_tree.specs.declared.production.Label.{Label}
+use Rattle.c99_tree.specs.declared.production.Production.{Production}
+use Rattle.c99_tree.specs.declared.production.Production.TheVariants.{Declarator, Direct, Pdecl, Pdirect, Adecl, Adirect, Pointer, Suffix}
+use Rattle.c_types.specs.Types.{CType}
+use Rattle.c_types.specs.Trees.{is_node, last_token, first_token, has_node, words_of, is_bare, name_below, declarator_type, is_text}
 use Rattle.reordered_tree_laws.specs.Reordered.{permuted}
 
 -- a declarator, or a part of one in which its name may stand

@@ -4,7 +4,7 @@ use Rattle.std.specs.Prelude.{IfSome, IsSome, OnOk, OnErr, Result, Ok, Err}
 use Rattle.std.specs.Option.{option_map, option_and_then}
 use Rattle.std.proofs.lemmas.Bool.{lt-ltb, le-ltb}
 use Rattle.std.proofs.lemmas.List.{length-set, set-get_or}
-use Rattle.part_lexer.specs.FileText.{LexFault, file_text}
+use Rattle.lexer.specs.FileText.{LexFault, file_text}
 use Rattle.source_files.specs.Limits.{the_limits}
 use Rattle.std.proofs.lemmas.Option.{slice_get_past, slice_get-get_or}
 use Rattle.source_files.specs.declared.slot.Slot.{Slot}

@@ -7,8 +7,8 @@ use Rattle.std.proofs.lemmas.Bool.Decides.{leb_tells}
 use Rattle.cs_base.specs.declared.causes.Cause.TheVariants.{TooManyFiles, TooManyBytes}
 use Rattle.cs_base.specs.declared.positions.Place.{Place}
 use Rattle.cs_base.proofs.FileMapLemmas.{bytes_eq-same}
-use Rattle.part_lexer.specs.FileText.{TextValue, LexFault, FileTooLarge, OpenComment, file_text, text_or_open}
-use Rattle.part_lexer.specs.Tokens.{open_comment_of}
+use Rattle.lexer.specs.FileText.{TextValue, LexFault, FileTooLarge, OpenComment, file_text, text_or_open}
+use Rattle.lexer.specs.Tokens.{open_comment_of}
 use Rattle.source_files.specs.Limits.{the_limits}
 use Rattle.source_files.specs.Files.{Found, Lines, Absent, Unopened, Opened, Made, Table, number_of, found_at, opened, files_opened, bytes_opened, one_more, more_bytes, opened_bytes}
 use Rattle.source_files.specs.Faults.{Fault, fault}

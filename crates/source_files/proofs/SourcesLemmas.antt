@@ -8,7 +8,7 @@ use Rattle.std.proofs.lemmas.Option.{same_Some}
 use Rattle.cs_base.specs.declared.causes.Cause.TheVariants.{MissingFile, TooManyFiles, TooManyBytes}
 use Rattle.cs_base.specs.declared.positions.Place.{Place}
 use Rattle.cs_base.proofs.FileMapLemmas.{bytes_eq-equal, bytes_eq-same}
-use Rattle.part_lexer.specs.FileText.{TextValue, LexFault, FileTooLarge, OpenComment, file_text}
+use Rattle.lexer.specs.FileText.{TextValue, LexFault, FileTooLarge, OpenComment, file_text}
 use Rattle.source_files.specs.declared.pre_fault.PreFault.{PreFault}
 use Rattle.source_files.specs.Limits.{the_limits}
 use Rattle.source_files.specs.Files.{Found, Lines, Absent, Unopened, Opened, Made, entry, Table, SourceFile, source_file, number_of, found_at, numbered, opened, files_opened, Source, Carried}

@@ -3,7 +3,7 @@ use Rattle.std.specs.Prelude.{◌≡◌, ℕ, true, is_some, List, Option, Some,
 use Rattle.cs_base.specs.Outside.{FileMap, ReadEnd, NoneFailed, FailedAt, MayHaveFailed}
 use Rattle.source_files.specs.declared.pre_fault.PreFault.{PreFault}
 use Rattle.source_files.specs.declared.pre_fault.PreFault.TheVariants as answer
-use Rattle.part_lexer.specs.FileText.{TextValue}
+use Rattle.lexer.specs.FileText.{TextValue}
 use Rattle.source_files.specs.Opening.{Opening}
 use Rattle.source_files.specs.Files.{Source, source_file, Table, Carried, found_at}
 use Rattle.source_files.specs.Faults.{Fault, fault}

@@ -1,8 +1,8 @@
 -- A kept file that gets other bytes, as an edit of it does.
 use Rattle.std.specs.Prelude.{ℕ, zero, suc, ◌+◌, ◌-◌, nat_lt, if◌then◌else◌, List, [], ◌∷◌, Option, Some, None, Result, Ok, Err, slice_get, length}
 use Rattle.std.specs.Option.{option_map, option_and_then}
-use Rattle.part_lexer.specs.FileText.{TextValue, LexFault, file_text}
-use Rattle.part_lexer.specs.Refusal.{fault_of as lex_fault_of}
+use Rattle.lexer.specs.FileText.{TextValue, LexFault, file_text}
+use Rattle.lexer.specs.Refusal.{fault_of as lex_fault_of}
 use Rattle.source_files.specs.declared.edit_refusal.EditRefusal.{EditRefusal}
 use Rattle.source_files.specs.declared.edit_refusal.EditRefusal.TheVariants as refusal
 use Rattle.source_files.specs.Limits.{the_limits}

@@ -3,7 +3,7 @@ use Rattle.std.specs.Prelude.{ℕ, List, unwrap_or}
 use Rattle.cs_base.specs.declared.causes.Cause.{Cause}
 use Rattle.cs_base.specs.declared.positions.Place.{Place}
 use Rattle.cs_base.specs.declared.positions.Pos.{Pos}
-use Rattle.part_lexer.specs.FileText.{place_at}
+use Rattle.lexer.specs.FileText.{place_at}
 use Rattle.source_files.specs.Files.{SourceFile}
 
 -- The first fault of a unit: a path, a line and a column, and a cause.

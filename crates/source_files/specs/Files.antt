@@ -5,7 +5,7 @@ use Rattle.std.specs.Fmt.{decimal}
 use Rattle.std.specs.List.{position_or_len}
 use Rattle.std.specs.Str.{bytes_eq}
 use Rattle.cs_base.specs.Outside.{FileMap, bytes_at}
-use Rattle.part_lexer.specs.FileText.{TextValue}
+use Rattle.lexer.specs.FileText.{TextValue}
 
 -- What a path holds: its bytes, or none where it is not there.
 abbrev pub Source : Type 0

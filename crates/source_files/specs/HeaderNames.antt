@@ -4,7 +4,7 @@ use Rattle.std.specs.Option.{option_map}
 use Rattle.cs_base.specs.declared.tokens.Kind.{Kind}
 use Rattle.cs_base.specs.declared.tokens.Kind.TheVariants as kind
 use Rattle.cs_base.specs.Token.{Token}
-use Rattle.part_lexer.specs.Characters.{begins, double_quote}
+use Rattle.lexer.specs.Characters.{begins, double_quote}
 use Rattle.line_shape.specs.Signs.{is_sign}
 use Rattle.source_files.specs.Search.{Header, header}
 

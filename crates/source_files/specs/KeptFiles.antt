@@ -1,7 +1,7 @@
 -- Files that are kept: what contracts see of a `KeptFile`, and which number has one.
 use Rattle.std.specs.Prelude.{◌≡◌, ℕ, Option, Some, None, Ok, List, slice_get}
 use Rattle.std.specs.Option.{option_map, option_and_then}
-use Rattle.part_lexer.specs.FileText.{TextValue, file_text}
+use Rattle.lexer.specs.FileText.{TextValue, file_text}
 use Rattle.line_shape.specs.declared.items.Item.{Item}
 use Rattle.line_shape.specs.Items.{items_of}
 use Rattle.source_files.specs.Files.{Found, Opened, Made, Entry, Table}

@@ -2,7 +2,7 @@
 use Rattle.std.specs.Prelude.{ℕ, ◌+◌, Bool, true, false, not, ◌&&◌, nat_le, nat_lt, if◌then◌else◌, Option, None, Some, List, Result, Ok, Err, length}
 use Rattle.cs_base.specs.declared.causes.Cause.TheVariants as cause
 use Rattle.cs_base.specs.declared.positions.Place.{Place}
-use Rattle.part_lexer.specs.FileText.{TextValue, LexFault, FileTooLarge, OpenComment}
+use Rattle.lexer.specs.FileText.{TextValue, LexFault, FileTooLarge, OpenComment}
 use Rattle.source_files.specs.Limits.{Limits}
 use Rattle.source_files.specs.Files.{Found, Lines, Absent, Unopened, Opened, Made, Table, SourceFile, source_file, number_of, found_at, opened, files_opened, bytes_opened}
 use Rattle.source_files.specs.Faults.{Fault, fault, place_of}

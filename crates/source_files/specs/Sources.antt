@@ -1,7 +1,7 @@
 -- Source files that are kept, as they are opened.
 use Rattle.std.specs.Prelude.{◌≡◌, ℕ, ◌-◌, min, Option, Some, None, List, Result, Ok, Err, IfSome}
 use Rattle.std.specs.Option.{option_and_then}
-use Rattle.part_lexer.specs.FileText.{TextValue, LexFault, file_text}
+use Rattle.lexer.specs.FileText.{TextValue, LexFault, file_text}
 use Rattle.cs_base.specs.declared.causes.Cause.TheVariants.{MissingFile}
 use Rattle.cs_base.specs.declared.positions.Place.{Place}
 use Rattle.cs_base.specs.Limits.{most_tokens, most_tokens_of_all}

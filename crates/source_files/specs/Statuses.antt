@@ -1,6 +1,6 @@
 -- How it stands with the file of a path, as contracts see it.
 use Rattle.std.specs.Prelude.{◌≡◌, ℕ, Bool, true, false, List, Option, Some, None, Ok, length}
-use Rattle.part_lexer.specs.FileText.{TextValue, file_text}
+use Rattle.lexer.specs.FileText.{TextValue, file_text}
 use Rattle.source_files.specs.declared.status.Status.{Status}
 use Rattle.source_files.specs.declared.status.Status.TheVariants as status
 use Rattle.source_files.specs.Files.{Found, Lines, Absent, Unopened, Opened, Made, Table, number_of, found_at}

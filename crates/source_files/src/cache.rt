@@ -2,8 +2,8 @@
 ghost use Rattle.std.specs.Prelude.{◌≡◌, ◌⊎◌, ◌≤◌, ◌<◌, ◌+◌, ℕ, false, MatchBool, None, Err, IfErr, IfSome, IsSome, OnErr, option_copied, not, IfOk, OnOk, length, slice_get};
 ghost use Rattle.std.specs.Option.{option_map};
 ghost use Rattle.std.specs.Str.{bytes_eq};
-ghost use Rattle.part_lexer.specs.FileText.{file_text};
-ghost use Rattle.part_lexer.specs.Refusal.{fault_of as lex_fault_of};
+ghost use Rattle.lexer.specs.FileText.{file_text};
+ghost use Rattle.lexer.specs.Refusal.{fault_of as lex_fault_of};
 ghost use Rattle.cs_base.specs.Outside.{ReadsOnly};
 ghost use Rattle.cs_base.specs.Limits.{most_bytes, most_bytes_of_all};
 ghost use Rattle.source_files.specs.Limits.{the_limits};
@@ -23,7 +23,7 @@ use crate::kept_file::KeptFile;
 use crate::pre_fault::{PreFault, fault_at, fault_there};
 use crate::status::{Status, is_there, status_of};
 use cs_base::{Cause, Files, MOST_BYTES, MOST_BYTES_OF_ALL, MOST_FILES, Place};
-use part_lexer::LexRefusal;
+use lexer::LexRefusal;
 use std::alloc::Global;
 use std::marker::Model;
 

@@ -1,5 +1,5 @@
 // Why a kept file does not get other bytes.
-use part_lexer::LexRefusal;
+use lexer::LexRefusal;
 
 /// What `Cache::edit` answers where it leaves a file as it is, in the order in which it looks.
 #[derive(Drop)]

@@ -2,8 +2,8 @@
 ghost use Rattle.std.specs.Prelude.{◌≡◌, ◌∷◌, [], false, None, is_some, IfSome, OnOk, OnErr, IsSome, option_copied, length, slice_get, true, Err, IfErr, is_ok};
 ghost use Rattle.std.specs.Option.{option_map};
 ghost use Rattle.std.specs.Str.{bytes_eq, is_utf8};
-ghost use Rattle.part_lexer.specs.FileText.{file_text};
-ghost use Rattle.part_lexer.specs.Refusal.{fault_of};
+ghost use Rattle.lexer.specs.FileText.{file_text};
+ghost use Rattle.lexer.specs.Refusal.{fault_of};
 ghost use Rattle.source_files.specs.Files.{lines_path, Lines, entry, found_at, number_of, number_at, numbered, opened};
 ghost use Rattle.source_files.specs.Edited.{edited, size_at};
 ghost use Rattle.source_files.specs.KeptFiles.{kept_at};
@@ -14,7 +14,7 @@ use crate::kept_file::KeptFile;
 use crate::slot::Slot;
 use cs_base::Memory;
 use indexmap::IndexSet;
-use part_lexer::LexRefusal;
+use lexer::LexRefusal;
 use std::alloc::Global;
 use std::marker::Model;
 

@@ -2,7 +2,7 @@
 ghost use Rattle.std.specs.Prelude.{◌≡◌, ◌++◌, ◌&&◌, not, false, None, Some, IfOk, MatchOption};
 ghost use Rattle.std.specs.List.{list_any};
 ghost use Rattle.std.specs.Option.{option_map};
-ghost use Rattle.part_lexer.specs.Characters.{begins, double_quote};
+ghost use Rattle.lexer.specs.Characters.{begins, double_quote};
 ghost use Rattle.source_files.specs.Search.{header};
 ghost use Rattle.source_files.specs.HeaderNames.{is_header, is_string, inside, header_in, is_greater, before_greater, gap_text, spaced, spelled, header_of_string, header_of_signs, header_of_toks};
 

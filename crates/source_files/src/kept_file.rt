@@ -1,13 +1,13 @@
 // A source file that is kept: its number, its path, its bytes, its text and its items.
 ghost use Rattle.std.specs.Prelude.{◌≡◌, true, Ok, Err, IfOk, IfErr, IfSome, OnOk, OnErr, is_ok};
-ghost use Rattle.part_lexer.specs.FileText.{TextValue, file_text};
-ghost use Rattle.part_lexer.specs.Refusal.{fault_of};
+ghost use Rattle.lexer.specs.FileText.{TextValue, file_text};
+ghost use Rattle.lexer.specs.Refusal.{fault_of};
 ghost use Rattle.line_shape.specs.Items.{items_of};
 ghost use Rattle.source_files.specs.KeptFiles.{kept};
 
 use cs_base::{Memory, Text};
+use lexer::{FileText, LexRefusal, lex};
 use line_shape::{Item, shape};
-use part_lexer::{FileText, LexRefusal, lex};
 use std::alloc::Global;
 use std::marker::Model;
 

@@ -1,7 +1,7 @@
 // Opening a file of a unit.
 ghost use Rattle.std.specs.Prelude.{◌≡◌, false, IfOk, IfErr, IsSome};
 ghost use Rattle.std.specs.Str.{bytes_eq};
-ghost use Rattle.part_lexer.specs.FileText.{file_text};
+ghost use Rattle.lexer.specs.FileText.{file_text};
 ghost use Rattle.source_files.specs.Limits.{the_limits};
 ghost use Rattle.source_files.specs.Files.{lines_path};
 ghost use Rattle.source_files.specs.Faults.{first_place};

@@ -2,11 +2,11 @@
 ghost use Rattle.std.specs.Prelude.{◌≡◌, true, IfErr, IfSome, IsSome, Err, OnOk, OnErr, is_ok, length, option_copied};
 ghost use Rattle.std.specs.Option.{option_map};
 ghost use Rattle.source_files.specs.Files.{opened_bytes};
-ghost use Rattle.part_lexer.specs.FileText.{file_text};
-ghost use Rattle.part_lexer.specs.Refusal.{fault_of};
+ghost use Rattle.lexer.specs.FileText.{file_text};
+ghost use Rattle.lexer.specs.Refusal.{fault_of};
 
 use crate::kept_file::KeptFile;
-use part_lexer::LexRefusal;
+use lexer::LexRefusal;
 use std::alloc::Global;
 use std::mem;
 

@@ -1,9 +1,9 @@
 // New orders of parameters in small workspaces: the files with each list in the new order, or why it is refused.
+use analysis::{Analysis, analyse};
 use cs_base::Edits;
 use std::alloc::{AllocError, Global};
 use std::test::Fail;
 use template_rules::{TemplateRefusal, plan_template};
-use ws_core::{Analysis, analyse};
 use ws_file::read_ws;
 
 // Rows, `%` between them, of which each field stands behind a `$`: a workspace file; the files that are held, each as

@@ -6,9 +6,9 @@ use Rattle.std.specs.Option.{option_map_or}
 use Rattle.std.proofs.lemmas.Bool.{and_parts, eqb-true}
 use Rattle.cs_base.specs.declared.positions.Part.{Part}
 use Rattle.cs_base.specs.Token.{Token}
-use Rattle.rename_rules.specs.Below.include_tree.Below.unit_steps.declared.events.Reached.{Reached}
+use Rattle.analysis.specs.Below.unit_steps.declared.events.Reached.{Reached}
 use Rattle.c_types.specs.declared.lists.List.{List as NameList}
-use Rattle.rename_rules.specs.Below.ws_core.Analysis.{UnitAnalysis, AnalysisValue}
+use Rattle.analysis.specs.Analysis.{UnitAnalysis, AnalysisValue}
 use Rattle.template_rules.specs.declared.list_macros.Asked.{Asked}
 use Rattle.template_rules.specs.declared.list_macros.Asked.TheVariants as asked
 use Rattle.template_rules.specs.declared.unit_functions.UnitFunctions.{UnitFunctions}

@@ -2,7 +2,7 @@
 use Rattle.std.proofs.Common.{◌≡◌, ℕ, ◌+◌, ◌<◌, ◌≤◌, List, [], ◌∷◌, ◌++◌, length, take, get_or, Option, Some, refl, sym, ap, ◌∙◌}
 use Rattle.std.specs.List.{flat_map}
 use Rattle.std.proofs.lemmas.List.{get_or_default, take_all}
-use Rattle.rename_rules.specs.Below.include_tree.Below.source_files.Files.{Table}
+use Rattle.analysis.specs.Below.source_files.Files.{Table}
 use Rattle.template_rules.specs.declared.counting.Declarator.{Declarator}
 use Rattle.template_rules.specs.Lists.{sooner, soonest}
 use Rattle.template_rules.proofs.StepLemmas.{flat_map-more}

@@ -9,8 +9,8 @@ use Rattle.std.proofs.lemmas.Map.Views.{any-filter_same}
 use Rattle.cs_base.specs.declared.positions.Part.{Part}
 use Rattle.cs_base.specs.Token.{Token}
 use Rattle.c_types.specs.declared.lists.List.{List as NameList}
-use Rattle.rename_rules.specs.Below.scope_bind.declared.bound.Name.{Name}
-use Rattle.rename_rules.specs.Below.scope_bind.Names.{entity_at}
+use Rattle.analysis.specs.Below.scope_bind.declared.bound.Name.{Name}
+use Rattle.analysis.specs.Below.scope_bind.Names.{entity_at}
 use Rattle.template_rules.specs.declared.unit_functions.UnitFunctions.{UnitFunctions}
 use Rattle.template_rules.specs.Functions.{origin_of, is_function, is_list_of, names_function, AreFunctionsOf}
 use Rattle.template_rules.specs.Lists.{some_mark}

@@ -7,11 +7,11 @@ use Rattle.std.proofs.lemmas.Bool.{true≢false, and_parts, and_from, or_parts, 
 use Rattle.std.proofs.lemmas.Option.{slice_get-get_or, slice_get_within}
 use Rattle.cs_base.specs.declared.positions.Part.{Part}
 use Rattle.cs_base.specs.Token.{Token}
-use Rattle.rename_rules.specs.Below.include_tree.Below.unit_steps.declared.events.Reached.{Reached}
-use Rattle.rename_rules.specs.Below.include_tree.Below.unit_steps.Texts.{UnitTextValue}
+use Rattle.analysis.specs.Below.unit_steps.declared.events.Reached.{Reached}
+use Rattle.analysis.specs.Below.unit_steps.Texts.{UnitTextValue}
 use Rattle.c_types.specs.declared.lists.List.{List as NameList}
-use Rattle.rename_rules.specs.Below.scope_bind.Bound.{Bound}
-use Rattle.rename_rules.specs.Below.ws_core.Analysis.{UnitAnalysis}
+use Rattle.analysis.specs.Below.scope_bind.Bound.{Bound}
+use Rattle.analysis.specs.Analysis.{UnitAnalysis}
 use Rattle.list_cuts.specs.Cuts.{numbers}
 use Rattle.rename_rules.specs.Class.{ClassValue}
 use Rattle.template_rules.specs.declared.item_units.ItemUnits.{ItemUnits}

@@ -12,4 +12,3 @@ pub mod NumberLemmas
 pub mod OddLemmas
 pub mod ListLemmas
 pub mod PlanLemmas
-pub mod Below

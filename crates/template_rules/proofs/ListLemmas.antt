@@ -11,11 +11,11 @@ use Rattle.cs_base.specs.Edit.{Edit, edit}
 use Rattle.cs_base.specs.Token.{Token}
 use Rattle.edited_files.specs.Edited.{with_edit, with_each}
 use Rattle.list_cuts.specs.declared.spans.Span.{Span}
-use Rattle.rename_rules.specs.Below.include_tree.Below.source_files.Files.{Table, Entry, Absent, entry}
-use Rattle.rename_rules.specs.Below.include_tree.Below.source_files.KeptFiles.{KeptValue, kept_at}
-use Rattle.rename_rules.specs.Below.include_tree.Below.unit_steps.Texts.{UnitTextValue}
-use Rattle.rename_rules.specs.Below.scope_bind.Bound.{Bound}
-use Rattle.rename_rules.specs.Below.ws_core.Analysis.{UnitAnalysis, AnalysisValue}
+use Rattle.analysis.specs.Below.source_files.Files.{Table, Entry, Absent, entry}
+use Rattle.analysis.specs.Below.source_files.KeptFiles.{KeptValue, kept_at}
+use Rattle.analysis.specs.Below.unit_steps.Texts.{UnitTextValue}
+use Rattle.analysis.specs.Below.scope_bind.Bound.{Bound}
+use Rattle.analysis.specs.Analysis.{UnitAnalysis, AnalysisValue}
 use Rattle.template_rules.specs.declared.file_lists.FoundList.{FoundList}
 use Rattle.template_rules.specs.FileLists.{all_found, function_list, unit_found, marks_in, with_list, with_lists, item_between, items_of, new_bytes, edit_for, edit_in, edits_from, edits_of}
 use Rattle.template_rules.proofs.PlanLemmas.{edit_for-some}

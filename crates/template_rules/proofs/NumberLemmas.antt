@@ -6,7 +6,7 @@ use Rattle.std.proofs.lemmas.List.Folds.{list_any_more, list_all_more, list_any_
 use Rattle.std.proofs.Math.Bool.{or-false}
 use Rattle.cs_base.specs.declared.causes.Cause.{Cause}
 use Rattle.cs_base.specs.declared.positions.Pos.{Pos}
-use Rattle.rename_rules.specs.Below.include_tree.Below.source_files.Files.{Table}
+use Rattle.analysis.specs.Below.source_files.Files.{Table}
 use Rattle.rename_rules.specs.declared.offences.Offence.{Offence}
 use Rattle.rename_rules.specs.First.{standing, FirstThen}
 use Rattle.rename_rules.proofs.FirstLemmas.{then_none, then_next, then_all}

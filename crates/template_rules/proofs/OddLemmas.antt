@@ -9,13 +9,13 @@ use Rattle.std.proofs.lemmas.List.{at_drop_more, at_drop_all}
 use Rattle.std.proofs.lemmas.Option.{slice_get-get_or}
 use Rattle.cs_base.specs.declared.positions.Pos.{Pos}
 use Rattle.cs_base.specs.Token.{Token}
-use Rattle.rename_rules.specs.Below.ws_core.Below.part_lexer.Characters.{line_feed}
-use Rattle.rename_rules.specs.Below.ws_core.Below.part_lexer.Logical.{Character, character, logical_from, logical_of}
-use Rattle.rename_rules.specs.Below.ws_core.Below.part_lexer.Lines.{byte_offset_of}
-use Rattle.rename_rules.specs.Below.ws_core.Below.part_lexer.GoneTable.{going}
-use Rattle.rename_rules.proofs.Below.include_tree.Below.part_lexer.GoneLemmas.{logical_from-going, logical_from-empty}
-use Rattle.rename_rules.specs.Below.include_tree.Below.source_files.Files.{Table, Entry, Absent, entry}
-use Rattle.rename_rules.specs.Below.include_tree.Below.source_files.KeptFiles.{kept_at}
+use Rattle.analysis.specs.Below.lexer.Characters.{line_feed}
+use Rattle.analysis.specs.Below.lexer.Logical.{Character, character, logical_from, logical_of}
+use Rattle.analysis.specs.Below.lexer.Lines.{byte_offset_of}
+use Rattle.analysis.specs.Below.lexer.GoneTable.{going}
+use Rattle.analysis.proofs.Below.lexer.GoneLemmas.{logical_from-going, logical_from-empty}
+use Rattle.analysis.specs.Below.source_files.Files.{Table, Entry, Absent, entry}
+use Rattle.analysis.specs.Below.source_files.KeptFiles.{kept_at}
 use Rattle.rename_rules.specs.Tokens.{file_toks, kept_tokens}
 use Rattle.template_rules.specs.LineOffences.{is_line_feed_at, line_begin}
 

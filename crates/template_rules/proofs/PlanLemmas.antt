@@ -8,13 +8,12 @@ use Rattle.std.proofs.lemmas.Bool.{and_parts, eqb-true}
 use Rattle.std.proofs.lemmas.Str.{IsUtf8-from_is_utf8}
 use Rattle.cs_base.specs.declared.positions.Part.{Part}
 use Rattle.cs_base.specs.Edit.{Edit, edit}
-use Rattle.list_cuts.specs.Cuts.{IsOrder}
+use Rattle.list_cuts.specs.Cuts.{IsOrder, numbers}
 use Rattle.list_cuts.specs.Orders.{is_order, has_number}
-use Rattle.list_cuts.specs.Cuts.{numbers}
-use Rattle.rename_rules.specs.Below.include_tree.Below.source_files.Files.{Entry, Table}
-use Rattle.rename_rules.specs.Below.include_tree.Below.source_files.KeptFiles.{KeptValue, kept, kept_bytes, kept_in, kept_at}
-use Rattle.rename_rules.specs.Below.include_tree.Below.source_files.Tables.{paths_in, AreText}
-use Rattle.rename_rules.specs.Below.ws_core.Analysis.{AnalysisValue}
+use Rattle.analysis.specs.Below.source_files.Files.{Entry, Table}
+use Rattle.analysis.specs.Below.source_files.KeptFiles.{KeptValue, kept, kept_bytes, kept_in, kept_at}
+use Rattle.analysis.specs.Below.source_files.Tables.{paths_in, AreText}
+use Rattle.analysis.specs.Analysis.{AnalysisValue}
 use Rattle.rename_rules.specs.declared.offences.Offence.{Offence}
 use Rattle.rename_rules.specs.First.{IsFirst, FirstThen}
 use Rattle.rename_rules.specs.Renaming.{GivesOne}

@@ -3,7 +3,7 @@ use Rattle.std.proofs.Common.{◌≡◌, ℕ, ◌+◌, ◌<◌, ◌≤◌, List,
 use Rattle.std.specs.List.{flat_map}
 use Rattle.std.proofs.lemmas.Grind.{flat_map-append}
 use Rattle.std.proofs.lemmas.List.{get_or_default, take_more, take_all}
-use Rattle.rename_rules.specs.Below.include_tree.Below.source_files.Files.{Table}
+use Rattle.analysis.specs.Below.source_files.Files.{Table}
 use Rattle.rename_rules.specs.declared.offences.Offence.{Offence}
 use Rattle.rename_rules.specs.First.{FirstThen}
 use Rattle.rename_rules.proofs.FirstLemmas.{then_both}

@@ -11,10 +11,10 @@ use Rattle.cs_base.specs.declared.causes.Cause.{Cause}
 use Rattle.cs_base.specs.declared.causes.Cause.TheVariants as cause
 use Rattle.cs_base.specs.declared.positions.Pos.{Pos}
 use Rattle.c_types.specs.declared.lists.List.{List as NameList}
-use Rattle.rename_rules.specs.Below.include_tree.Below.source_files.Files.{Table}
-use Rattle.rename_rules.specs.Below.include_tree.Below.unit_steps.declared.events.Event.{Event}
-use Rattle.rename_rules.specs.Below.scope_bind.declared.bound.Name.{Name}
-use Rattle.rename_rules.specs.Below.scope_bind.Names.{entity_at}
+use Rattle.analysis.specs.Below.source_files.Files.{Table}
+use Rattle.analysis.specs.Below.unit_steps.declared.events.Event.{Event}
+use Rattle.analysis.specs.Below.scope_bind.declared.bound.Name.{Name}
+use Rattle.analysis.specs.Below.scope_bind.Names.{entity_at}
 use Rattle.rename_rules.specs.declared.offences.Offence.{Offence}
 use Rattle.rename_rules.specs.First.{offence, standing, IsAmong, IsFirst, FirstThen}
 use Rattle.rename_rules.proofs.FirstLemmas.{then_none}

@@ -2,9 +2,9 @@
 -- reached an item.
 use Rattle.std.specs.Prelude.{ℕ, ◌≡◌, ◌==◌, ◌≤◌, ◌<◌, Bool, true, Some, List, slice_get}
 use Rattle.std.specs.List.{list_any}
-use Rattle.rename_rules.specs.Below.include_tree.Below.unit_steps.declared.events.Reached.{Reached}
+use Rattle.analysis.specs.Below.unit_steps.declared.events.Reached.{Reached}
 use Rattle.c_types.specs.declared.lists.List.{List as NameList}
-use Rattle.rename_rules.specs.Below.ws_core.Analysis.{UnitAnalysis}
+use Rattle.analysis.specs.Analysis.{UnitAnalysis}
 use Rattle.template_rules.specs.declared.item_units.ItemUnits.{ItemUnits}
 use Rattle.template_rules.specs.declared.list_macros.Asked.{Asked}
 use Rattle.template_rules.specs.declared.list_macros.Asked.TheVariants as asked

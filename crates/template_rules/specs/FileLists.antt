@@ -11,12 +11,12 @@ use Rattle.c_types.specs.declared.lists.List.{List as NameList}
 use Rattle.edited_files.specs.Edited.{with_each}
 use Rattle.list_cuts.specs.declared.spans.Span.{Span}
 use Rattle.list_cuts.specs.Spans.{all_rearranged}
-use Rattle.rename_rules.specs.Below.ws_core.Below.part_lexer.Lines.{byte_offset_of}
-use Rattle.rename_rules.specs.Below.ws_core.Below.part_lexer.Tokens.{tokens_of}
-use Rattle.rename_rules.specs.Below.scope_bind.declared.bound.Name.{Name}
-use Rattle.rename_rules.specs.Below.include_tree.Below.source_files.Files.{Table}
-use Rattle.rename_rules.specs.Below.include_tree.Below.source_files.KeptFiles.{KeptValue, kept_in}
-use Rattle.rename_rules.specs.Below.ws_core.Analysis.{UnitAnalysis, AnalysisValue}
+use Rattle.analysis.specs.Below.lexer.Lines.{byte_offset_of}
+use Rattle.analysis.specs.Below.lexer.Tokens.{tokens_of}
+use Rattle.analysis.specs.Below.scope_bind.declared.bound.Name.{Name}
+use Rattle.analysis.specs.Below.source_files.Files.{Table}
+use Rattle.analysis.specs.Below.source_files.KeptFiles.{KeptValue, kept_in}
+use Rattle.analysis.specs.Analysis.{UnitAnalysis, AnalysisValue}
 use Rattle.template_rules.specs.declared.file_lists.FoundList.{FoundList}
 use Rattle.template_rules.specs.Functions.{origin_of, place_of, names_function}
 use Rattle.template_rules.specs.Lists.{separators}

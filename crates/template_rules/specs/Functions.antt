@@ -7,10 +7,10 @@ use Rattle.cs_base.specs.declared.positions.Part.{Part}
 use Rattle.cs_base.specs.declared.positions.Pos.{Pos}
 use Rattle.cs_base.specs.Token.{Token, origin_at}
 use Rattle.c_types.specs.declared.lists.List.{List as NameList}
-use Rattle.rename_rules.specs.Below.scope_bind.declared.bound.Name.{Name}
-use Rattle.rename_rules.specs.Below.scope_bind.Bound.{is_function_name}
-use Rattle.rename_rules.specs.Below.scope_bind.Names.{entity_at}
-use Rattle.rename_rules.specs.Below.ws_core.Analysis.{UnitAnalysis, AnalysisValue}
+use Rattle.analysis.specs.Below.scope_bind.declared.bound.Name.{Name}
+use Rattle.analysis.specs.Below.scope_bind.Bound.{is_function_name}
+use Rattle.analysis.specs.Below.scope_bind.Names.{entity_at}
+use Rattle.analysis.specs.Analysis.{UnitAnalysis, AnalysisValue}
 use Rattle.rename_rules.specs.Tokens.{holds_member}
 
 -- ---- tokens

@@ -5,10 +5,10 @@ use Rattle.std.specs.List.{flat_map}
 use Rattle.cs_base.specs.declared.causes.Cause.TheVariants as cause
 use Rattle.cs_base.specs.declared.positions.Part.{Part}
 use Rattle.cs_base.specs.Token.{Token}
-use Rattle.rename_rules.specs.Below.include_tree.Below.unit_steps.declared.events.Event.{Event}
+use Rattle.analysis.specs.Below.unit_steps.declared.events.Event.{Event}
 use Rattle.c_types.specs.declared.lists.List.{List as NameList}
-use Rattle.rename_rules.specs.Below.scope_bind.declared.bound.Name.{Name}
-use Rattle.rename_rules.specs.Below.ws_core.Analysis.{UnitAnalysis, AnalysisValue}
+use Rattle.analysis.specs.Below.scope_bind.declared.bound.Name.{Name}
+use Rattle.analysis.specs.Analysis.{UnitAnalysis, AnalysisValue}
 use Rattle.rename_rules.specs.declared.offences.Offence.{Offence}
 use Rattle.rename_rules.specs.First.{standing}
 use Rattle.template_rules.specs.Functions.{names_function}

@@ -14,5 +14,3 @@ pub mod Asking
 pub mod Template
 -- What contracts see of answers.
 pub mod Refusals
--- Words of the crates below, passed on.
-pub mod Below

@@ -7,12 +7,12 @@ use Rattle.cs_base.specs.declared.positions.Pos.{Pos}
 use Rattle.cs_base.specs.declared.tokens.Kind.{Kind}
 use Rattle.cs_base.specs.declared.tokens.Kind.TheVariants.{Other}
 use Rattle.cs_base.specs.Token.{Token}
-use Rattle.rename_rules.specs.Below.ws_core.Below.part_lexer.Characters.{line_feed}
-use Rattle.rename_rules.specs.Below.ws_core.Below.part_lexer.Logical.{Character, logical_of}
-use Rattle.rename_rules.specs.Below.include_tree.Below.source_files.Files.{Table}
-use Rattle.rename_rules.specs.Below.include_tree.Below.source_files.KeptFiles.{KeptValue, kept_at}
+use Rattle.analysis.specs.Below.lexer.Characters.{line_feed}
+use Rattle.analysis.specs.Below.lexer.Logical.{Character, logical_of}
+use Rattle.analysis.specs.Below.source_files.Files.{Table}
+use Rattle.analysis.specs.Below.source_files.KeptFiles.{KeptValue, kept_at}
 use Rattle.c_types.specs.declared.lists.List.{List as NameList}
-use Rattle.rename_rules.specs.Below.include_tree.Below.unit_steps.Texts.{UnitTextValue}
+use Rattle.analysis.specs.Below.unit_steps.Texts.{UnitTextValue}
 use Rattle.list_cuts.specs.Cuts.{numbers}
 use Rattle.rename_rules.specs.Tokens.{kept_tokens}
 use Rattle.template_rules.specs.Functions.{origin_of}

@@ -13,9 +13,9 @@ use Rattle.c_types.specs.declared.parameters.ParameterForm.{ParameterForm}
 use Rattle.c_types.specs.declared.parameters.ParameterForm.TheVariants.{Empty as empty, Identifiers as identifiers, Types as types, Ellipsis as ellipsis}
 use Rattle.c_types.specs.declared.parameters.ParameterList.{ParameterList}
 use Rattle.c_types.specs.Parameters.{parameters_in}
-use Rattle.rename_rules.specs.Below.scope_bind.declared.bound.Name.{Name}
-use Rattle.rename_rules.specs.Below.include_tree.Below.source_files.Files.{Table}
-use Rattle.rename_rules.specs.Below.ws_core.Analysis.{UnitAnalysis, AnalysisValue}
+use Rattle.analysis.specs.Below.scope_bind.declared.bound.Name.{Name}
+use Rattle.analysis.specs.Below.source_files.Files.{Table}
+use Rattle.analysis.specs.Analysis.{UnitAnalysis, AnalysisValue}
 use Rattle.rename_rules.specs.First.{position_cmp}
 use Rattle.template_rules.specs.declared.counting.Declarator.{Declarator}
 use Rattle.template_rules.specs.Functions.{place_of, declares_function}

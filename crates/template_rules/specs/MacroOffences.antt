@@ -7,16 +7,16 @@ use Rattle.std.specs.Str.{bytes_eq}
 use Rattle.cs_base.specs.declared.positions.Part.{Part}
 use Rattle.cs_base.specs.declared.positions.Pos.{Pos}
 use Rattle.cs_base.specs.Token.{Token}
-use Rattle.rename_rules.specs.Below.include_tree.Below.line_shape.Signs.{is_name}
-use Rattle.rename_rules.specs.Below.include_tree.Below.unit_steps.declared.events.Event.{Event}
-use Rattle.rename_rules.specs.Below.include_tree.Below.unit_steps.declared.events.EventKind.{EventKind}
-use Rattle.rename_rules.specs.Below.include_tree.Below.unit_steps.declared.events.EventKind.TheVariants as kind
-use Rattle.rename_rules.specs.Below.include_tree.Below.unit_steps.declared.events.Reached.{Reached}
+use Rattle.analysis.specs.Below.line_shape.Signs.{is_name}
+use Rattle.analysis.specs.Below.unit_steps.declared.events.Event.{Event}
+use Rattle.analysis.specs.Below.unit_steps.declared.events.EventKind.{EventKind}
+use Rattle.analysis.specs.Below.unit_steps.declared.events.EventKind.TheVariants as kind
+use Rattle.analysis.specs.Below.unit_steps.declared.events.Reached.{Reached}
 use Rattle.c_types.specs.declared.lists.List.{List as NameList}
-use Rattle.rename_rules.specs.Below.include_tree.Below.unit_steps.Texts.{UnitTextValue}
-use Rattle.rename_rules.specs.Below.scope_bind.declared.bound.Name.{Name}
-use Rattle.rename_rules.specs.Below.scope_bind.Bound.{Bound}
-use Rattle.rename_rules.specs.Below.ws_core.Analysis.{UnitAnalysis, AnalysisValue}
+use Rattle.analysis.specs.Below.unit_steps.Texts.{UnitTextValue}
+use Rattle.analysis.specs.Below.scope_bind.declared.bound.Name.{Name}
+use Rattle.analysis.specs.Below.scope_bind.Bound.{Bound}
+use Rattle.analysis.specs.Analysis.{UnitAnalysis, AnalysisValue}
 use Rattle.rename_rules.specs.Tokens.{holds_member, first_place}
 use Rattle.list_cuts.specs.Cuts.{numbers}
 use Rattle.template_rules.specs.Functions.{origin_of, place_of, names_function}

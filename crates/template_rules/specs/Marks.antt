@@ -7,13 +7,13 @@ use Rattle.cs_base.specs.declared.causes.Cause.TheVariants as cause
 use Rattle.cs_base.specs.declared.positions.Part.{Part}
 use Rattle.cs_base.specs.declared.positions.Pos.{Pos}
 use Rattle.cs_base.specs.Token.{Token}
-use Rattle.rename_rules.specs.Below.include_tree.Below.unit_steps.declared.events.Reached.{Reached}
+use Rattle.analysis.specs.Below.unit_steps.declared.events.Reached.{Reached}
 use Rattle.c_types.specs.declared.lists.List.{List as NameList}
 use Rattle.c_types.specs.declared.parameters.ParameterList.{ParameterList}
 use Rattle.c_types.specs.Parameters.{parameters_in}
-use Rattle.rename_rules.specs.Below.scope_bind.declared.bound.Name.{Name}
-use Rattle.rename_rules.specs.Below.ws_core.Analysis.{UnitAnalysis, AnalysisValue}
-use Rattle.rename_rules.specs.Below.ws_core.Places.{is_read_only}
+use Rattle.analysis.specs.Below.scope_bind.declared.bound.Name.{Name}
+use Rattle.analysis.specs.Analysis.{UnitAnalysis, AnalysisValue}
+use Rattle.analysis.specs.Places.{is_read_only}
 use Rattle.rename_rules.specs.declared.offences.Offence.{Offence}
 use Rattle.rename_rules.specs.First.{standing}
 use Rattle.template_rules.specs.Functions.{origin_of, place_of, names_function}

@@ -11,8 +11,8 @@ use Rattle.c_types.specs.declared.parameters.ParameterForm.{ParameterForm}
 use Rattle.c_types.specs.declared.parameters.ParameterForm.TheVariants.{Types as types}
 use Rattle.c_types.specs.declared.parameters.ParameterList.{ParameterList}
 use Rattle.c_types.specs.Parameters.{parameters_in}
-use Rattle.rename_rules.specs.Below.scope_bind.declared.bound.Name.{Name}
-use Rattle.rename_rules.specs.Below.ws_core.Analysis.{UnitAnalysis, AnalysisValue}
+use Rattle.analysis.specs.Below.scope_bind.declared.bound.Name.{Name}
+use Rattle.analysis.specs.Analysis.{UnitAnalysis, AnalysisValue}
 use Rattle.rename_rules.specs.declared.offences.Offence.{Offence}
 use Rattle.rename_rules.specs.First.{standing}
 use Rattle.template_rules.specs.Functions.{holds_at, place_of, declares_function}

@@ -8,9 +8,9 @@ use Rattle.cs_base.specs.declared.positions.Pos.{Pos}
 use Rattle.c_types.specs.declared.lists.List.{List as NameList}
 use Rattle.c_types.specs.declared.parameters.ParameterList.{ParameterList}
 use Rattle.c_types.specs.Parameters.{parameters_in}
-use Rattle.rename_rules.specs.Below.scope_bind.Bound.{Bound}
-use Rattle.rename_rules.specs.Below.include_tree.Below.unit_steps.Texts.{UnitTextValue}
-use Rattle.rename_rules.specs.Below.ws_core.Analysis.{UnitAnalysis, AnalysisValue}
+use Rattle.analysis.specs.Below.scope_bind.Bound.{Bound}
+use Rattle.analysis.specs.Below.unit_steps.Texts.{UnitTextValue}
+use Rattle.analysis.specs.Analysis.{UnitAnalysis, AnalysisValue}
 use Rattle.rename_rules.specs.declared.offences.Offence.{Offence}
 use Rattle.rename_rules.specs.First.{standing}
 use Rattle.template_rules.specs.Functions.{names_function}

@@ -14,7 +14,7 @@ use Rattle.c_types.specs.declared.lists.List.{List as NameList}
 use Rattle.c_types.specs.declared.parameters.ParameterList.{ParameterList}
 use Rattle.c_types.specs.Declarations.{spelling_at, is_in}
 use Rattle.c_types.specs.Trees.{is_node, first_list}
-use Rattle.rename_rules.specs.Below.scope_bind.declared.bound.Name.{Name}
+use Rattle.analysis.specs.Below.scope_bind.declared.bound.Name.{Name}
 use Rattle.list_cuts.specs.Cuts.{numbers}
 use Rattle.template_rules.specs.Functions.{place_of}
 use Rattle.template_rules.specs.Lists.{parameters_at, separators}

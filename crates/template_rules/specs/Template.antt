@@ -6,10 +6,10 @@ use Rattle.cs_base.specs.declared.positions.Part.{Part}
 use Rattle.cs_base.specs.declared.positions.Place.{Place}
 use Rattle.cs_base.specs.Edit.{Edit}
 use Rattle.list_cuts.specs.Orders.{is_order}
-use Rattle.rename_rules.specs.Below.ws_core.Analysis.{AnalysisValue}
-use Rattle.rename_rules.specs.Below.ws_core.Naming.{Names}
-use Rattle.rename_rules.specs.Below.ws_core.Parts.{AreMembers}
-use Rattle.rename_rules.specs.Below.ws_core.Places.{place_at}
+use Rattle.analysis.specs.Analysis.{AnalysisValue}
+use Rattle.analysis.specs.Naming.{Names}
+use Rattle.analysis.specs.Parts.{AreMembers}
+use Rattle.analysis.specs.Places.{place_at}
 use Rattle.rename_rules.specs.declared.offences.Offence.{Offence}
 use Rattle.rename_rules.specs.First.{IsFirst}
 use Rattle.template_rules.specs.FileLists.{edits_of}

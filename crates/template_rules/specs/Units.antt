@@ -1,7 +1,7 @@
 -- What inner functions promise each other of the units of an analysis, and of the functions there that a class names.
 use Rattle.std.specs.Prelude.{ℕ, ◌≡◌, ◌==◌, not, Bool, Some, List, ◌++◌, length, slice_get}
 use Rattle.std.specs.List.{flat_map}
-use Rattle.rename_rules.specs.Below.ws_core.Analysis.{UnitAnalysis}
+use Rattle.analysis.specs.Analysis.{UnitAnalysis}
 use Rattle.template_rules.specs.declared.unit_functions.UnitFunctions.{UnitFunctions}
 use Rattle.template_rules.specs.declared.file_lists.FoundList.{FoundList}
 use Rattle.rename_rules.specs.Class.{ClassValue}

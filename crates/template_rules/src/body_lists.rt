@@ -9,10 +9,11 @@ ghost use Rattle.rename_rules.specs.First.{standing, FirstThen};
 ghost use Rattle.template_rules.specs.ScopeOffences.{begins_body, body_list, body_lists_in, body_place, is_inside};
 
 use crate::places::at_token;
-use c_types::{Part as Child, child_at, first_list, is_node};
+use analysis::Analysis;
+use c_types::{List, Part as Child, child_at, first_list, is_node};
 use c99_tree::{Production, Tree};
 use cs_base::{Cause, Memory, Tok};
-use rename_rules::{Analysis, List, Offence};
+use rename_rules::Offence;
 use std::alloc::Global;
 
 // Whether what follows a declarator begins with a body.

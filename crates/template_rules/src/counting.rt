@@ -7,8 +7,10 @@ ghost use Rattle.std.specs.Option.{option_copied};
 use crate::functions::Functions;
 use crate::places::origin_of;
 use crate::unit_functions::{UnitFunctions, declares_function};
+use analysis::{Analysis, Name};
+use c_types::{List, ParameterForm, ParameterList};
 use cs_base::Pos;
-use rename_rules::{Analysis, List, Name, ParameterForm, ParameterList, compare};
+use rename_rules::compare;
 use std::cmp::Ordering;
 
 /// A declarator of a function: where its name stands, and how many parameters it has.

@@ -10,8 +10,10 @@ ghost use Rattle.template_rules.specs.ScopeOffences.{is_ordinary, uses_ordinary,
 
 use crate::counting::parameters_at;
 use crate::places::at_token;
+use analysis::{Analysis, Name};
+use c_types::{EntityKind, List, ParameterList};
 use cs_base::{Cause, Tok};
-use rename_rules::{Analysis, EntityKind, List, Name, Offence, ParameterList};
+use rename_rules::Offence;
 
 fn is_ordinary(kind: EntityKind) -> bool
     ensures { result ≡ is_ordinary kind }

@@ -3,16 +3,17 @@ ghost use Rattle.std.specs.Prelude.{◌≡◌, [], length, IfOk, IsUtf8, OnOk};
 ghost use Rattle.std.specs.Option.{option_map_or};
 ghost use Rattle.edited_files.specs.Edited.{with_each};
 ghost use Rattle.list_cuts.specs.Cuts.{IsOrder};
-ghost use Rattle.rename_rules.specs.Below.include_tree.Below.source_files.KeptFiles.{kept_at};
-ghost use Rattle.rename_rules.specs.Below.include_tree.Below.source_files.Tables.{AreText};
+ghost use Rattle.analysis.specs.Below.source_files.KeptFiles.{kept_at};
+ghost use Rattle.analysis.specs.Below.source_files.Tables.{AreText};
 ghost use Rattle.template_rules.specs.FileLists.{new_bytes, edit_for, edit_in, edits_of};
 
 use crate::file_lists::{FoundList, found_lists, lists_in, spans_of};
 use crate::functions::Functions;
+use analysis::{Analysis, KeptFile};
+use c_types::Indices;
 use cs_base::{Edits, Memory};
 use edited_files::TextEdits;
 use list_cuts::arrange;
-use rename_rules::{Analysis, Indices, KeptFile};
 use std::alloc::Global;
 
 // The bytes of a file with the items of these lists in the new order.

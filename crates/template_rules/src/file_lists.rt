@@ -2,7 +2,7 @@
 ghost use Rattle.std.specs.Prelude.{◌≡◌, ◌+◌, ◌-◌, ◌<◌, ◌^◌, ◌++◌, ◌∷◌, [], if◌then◌else◌, map, slice_get, IfOk, OnOk};
 ghost use Rattle.std.specs.List.{flat_map};
 ghost use Rattle.std.specs.Option.{option_map_or};
-ghost use Rattle.rename_rules.specs.Below.ws_core.Below.part_lexer.Tokens.{tokens_of};
+ghost use Rattle.analysis.specs.Below.lexer.Tokens.{tokens_of};
 ghost use Rattle.template_rules.specs.FileLists.{characters_of, found_in, function_list, all_found, marks_in, begin_of, place_for, begins_at, with_list, with_lists, lists_in, begun_by, begun_before, byte_in, first_byte, end_byte, item_between, items_of};
 ghost use Rattle.template_rules.specs.Lists.{separators};
 ghost use Rattle.template_rules.specs.Units.{found_of};
@@ -10,9 +10,10 @@ ghost use Rattle.template_rules.specs.Units.{found_of};
 use crate::functions::Functions;
 use crate::places::origin_of;
 use crate::unit_functions::{UnitFunctions, names_function};
+use analysis::KeptFile;
+use c_types::{Indices, List};
 use cs_base::{Memory, Pos, Tok};
 use list_cuts::{ListSpans, Span};
-use rename_rules::{Indices, KeptFile, List};
 use std::alloc::Global;
 
 /// A list of a function: its file, and there the characters of its parentheses and of the commas between its items.

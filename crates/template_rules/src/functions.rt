@@ -1,14 +1,16 @@
 // The functions that a class names.
 ghost use Rattle.std.specs.Prelude.{◌≡◌, ◌==◌, ◌||◌, ◌&&◌, ◌-◌, ◌≤◌, ℕ, IfOk, OnOk, length};
 ghost use Rattle.std.specs.List.{list_any};
-ghost use Rattle.rename_rules.specs.Below.scope_bind.Bound.{is_function_name};
+ghost use Rattle.analysis.specs.Below.scope_bind.Bound.{is_function_name};
 ghost use Rattle.rename_rules.specs.Class.{class_over, IsClass};
 ghost use Rattle.template_rules.specs.Functions.{holds_at, is_named, has_function, AreFunctionsOf};
 ghost use Rattle.template_rules.specs.Units.{AreUnits, IsUnitAt, has_some};
 
 use crate::unit_functions::{UnitFunctions, has, push_named};
+use analysis::{Analysis, Name};
+use c_types::{EntityKind, Indices, parameter_lists};
 use cs_base::{Memory, Part, Tok};
-use rename_rules::{Analysis, Class, EntityKind, Indices, Name, holds_member, parameter_lists};
+use rename_rules::{Class, holds_member};
 use std::alloc::Global;
 use std::marker::Model;
 

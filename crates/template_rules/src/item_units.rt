@@ -7,7 +7,8 @@ ghost use Rattle.template_rules.specs.Asking.{NoneBefore, NoneFrom, AreWithin};
 use crate::functions::Functions;
 use crate::list_macros::item_of;
 use crate::unit_functions::{UnitFunctions, names_function};
-use rename_rules::{List, Reached};
+use analysis::Reached;
+use c_types::List;
 
 /// An item, and between which units, from 0, stand all that reached it.
 #[derive(Clone, Copy, Debug, PartialEq, Eq)]

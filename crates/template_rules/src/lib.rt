@@ -39,4 +39,3 @@ pub use macro_names::at_macro_names;
 pub use names::at_names;
 pub use plan::plan_template;
 pub use refusals::TemplateRefusal;
-pub use rename_rules::{Analysis, Offence};

@@ -12,8 +12,10 @@ use crate::functions::Functions;
 use crate::macro_names::is_replacing;
 use crate::places::at_token;
 use crate::unit_functions::UnitFunctions;
+use analysis::{Analysis, Event, Name};
+use c_types::{EntityKind, List};
 use cs_base::{Cause, Tok};
-use rename_rules::{Analysis, EntityKind, Event, List, Name, Offence, first_with};
+use rename_rules::{Offence, first_with};
 
 // Whether an event replaces `__LINE__` by the number of its line.
 fn is_line_number(event: &Event) -> bool

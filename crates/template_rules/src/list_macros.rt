@@ -13,8 +13,10 @@ use crate::functions::Functions;
 use crate::item_units::{ItemUnits, is_between, is_item};
 use crate::places::{at_token, origin_of};
 use crate::unit_functions::{UnitFunctions, names_function};
+use analysis::Reached;
+use c_types::List;
 use cs_base::{Cause, Pos, Tok};
-use rename_rules::{List, Offence, Reached};
+use rename_rules::Offence;
 
 fn is_direct_at(toks: &[Tok], k: u32) -> bool
     ensures { result ≡ is_direct_at toks.now k }

@@ -11,8 +11,10 @@ use crate::counting::{arguments_of, parameters_of};
 use crate::functions::Functions;
 use crate::places::{at_token, origin_of};
 use crate::unit_functions::{UnitFunctions, names_function};
+use analysis::{Analysis, Reached};
+use c_types::List;
 use cs_base::{Cause, Tok};
-use rename_rules::{Analysis, List, Offence, Reached, first_with};
+use rename_rules::{Offence, first_with};
 
 // `ReadOnly` at a list.
 fn read_only_at(a: &Analysis, toks: &[Tok], list: &List, first: Option<Offence>) -> Option<Offence>

@@ -12,8 +12,10 @@ use crate::item_units::{ItemUnits, all_units, units_at};
 use crate::list_macros::macro_at;
 use crate::odd_tokens::{odd_tokens, odds_at};
 use crate::unit_functions::{UnitFunctions, names_function};
+use analysis::UnitText;
+use c_types::List;
 use cs_base::{Memory, Pos};
-use rename_rules::{List, Offence, UnitText};
+use rename_rules::Offence;
 use std::alloc::Global;
 
 // `InMacro` and `OddToken` at a list.

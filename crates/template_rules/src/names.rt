@@ -9,8 +9,10 @@ use crate::counting::parameters_at;
 use crate::functions::{Functions, holds_at};
 use crate::places::at_token;
 use crate::unit_functions::{UnitFunctions, declares_function};
+use analysis::{Analysis, Name};
+use c_types::{List, ParameterForm, ParameterList};
 use cs_base::Cause;
-use rename_rules::{Analysis, List, Name, Offence, ParameterForm, ParameterList};
+use rename_rules::Offence;
 
 fn is_prototype(form: ParameterForm) -> bool
     ensures { result ≡ is_prototype form }

@@ -4,7 +4,7 @@ ghost use Rattle.std.specs.List.{flat_map, list_any};
 ghost use Rattle.std.specs.Option.{option_map_or};
 ghost use Rattle.cs_base.specs.declared.causes.Cause.TheVariants as cause;
 ghost use Rattle.list_cuts.specs.Cuts.{numbers};
-ghost use Rattle.rename_rules.specs.Below.include_tree.Below.source_files.KeptFiles.{kept_at};
+ghost use Rattle.analysis.specs.Below.source_files.KeptFiles.{kept_at};
 ghost use Rattle.rename_rules.specs.First.{standing, FirstThen};
 ghost use Rattle.rename_rules.specs.Tokens.{file_toks};
 ghost use Rattle.template_rules.specs.LineOffences.{is_line_feed_at, line_begin, is_odd, odd_position, odd_positions, is_on_line, is_token_on, is_by_list, is_among_lines, is_among_list, is_odd_by, odd_place, odd_places};
@@ -12,8 +12,10 @@ ghost use Rattle.template_rules.specs.LineOffences.{is_line_feed_at, line_begin,
 use crate::list_macros::is_direct;
 use crate::list_marks::is_across;
 use crate::places::origin_of;
+use analysis::{Analysis, KeptFile, UnitText};
+use c_types::List;
 use cs_base::{Cause, Kind, Memory, Pos, Tok};
-use rename_rules::{Analysis, KeptFile, List, Offence, UnitText, first_with};
+use rename_rules::{Offence, first_with};
 use std::alloc::Global;
 
 fn is_line_feed_at(file: &KeptFile, at: u32) -> bool

@@ -3,8 +3,9 @@ ghost use Rattle.std.specs.Prelude.{◌≡◌};
 ghost use Rattle.rename_rules.specs.First.{standing, FirstThen};
 ghost use Rattle.template_rules.specs.Functions.{origin_of, place_of};
 
+use analysis::Analysis;
 use cs_base::{Cause, Pos, Tok};
-use rename_rules::{Analysis, Offence, first_with};
+use rename_rules::{Offence, first_with};
 
 /// Where the first character of token `k` comes from.
 pub(crate) fn origin_of(toks: &[Tok], k: u32) -> Option<Pos>

@@ -4,7 +4,7 @@ ghost use Rattle.list_cuts.specs.Cuts.{IsOrder};
 ghost use Rattle.rename_rules.specs.Class.{IsClass};
 ghost use Rattle.rename_rules.specs.First.{IsFirst};
 ghost use Rattle.rename_rules.specs.Renaming.{GivesOne};
-ghost use Rattle.rename_rules.specs.Below.ws_core.Parts.{IsPart};
+ghost use Rattle.analysis.specs.Parts.{IsPart};
 ghost use Rattle.template_rules.specs.Lists.{count_of};
 ghost use Rattle.template_rules.specs.Offences.{offences_of};
 ghost use Rattle.template_rules.specs.Refusals.{refusal_of};
@@ -19,9 +19,10 @@ use crate::list_rules::at_lists;
 use crate::macro_names::at_macro_names;
 use crate::names::at_names;
 use crate::refusals::{TemplateRefusal, refused};
+use analysis::Analysis;
 use cs_base::{Edits, Memory, Part};
 use list_cuts::is_order;
-use rename_rules::{Analysis, Offence};
+use rename_rules::Offence;
 use std::alloc::Global;
 
 /// The edits that put the parameters of the functions which a place names into a new order, with the arguments of their

@@ -1,11 +1,12 @@
 // Why a new order is refused.
 ghost use Rattle.std.specs.Prelude.{◌≡◌, IfOk, IfSome};
-ghost use Rattle.rename_rules.specs.Below.ws_core.Places.{place_at};
+ghost use Rattle.analysis.specs.Places.{place_at};
 ghost use Rattle.template_rules.specs.Refusals.{refusal_of};
 ghost use Rattle.template_rules.specs.Template.{refused_for};
 
+use analysis::Analysis;
 use cs_base::{Cause, Memory as NoMemory, Place, Pos, Text};
-use rename_rules::{Analysis, Offence};
+use rename_rules::Offence;
 use std::alloc::Global;
 
 /// What `plan_template` answers where it gives no edits, in the order in which it looks.

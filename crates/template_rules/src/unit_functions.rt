@@ -3,12 +3,14 @@ ghost use Rattle.std.specs.Prelude.{◌≡◌, ◌==◌, ◌++◌, ◌∷◌, []
 ghost use Rattle.std.specs.List.{list_any};
 ghost use Rattle.std.specs.Option.{option_map_or};
 ghost use Rattle.c_types.specs.Parameters.{parameters_in};
-ghost use Rattle.rename_rules.specs.Below.scope_bind.Names.{entity_at};
+ghost use Rattle.analysis.specs.Below.scope_bind.Names.{entity_at};
 ghost use Rattle.template_rules.specs.Functions.{names_function, declares_function, is_list_of, AreFunctionsOf};
 
+use analysis::{Bound, Name, UnitText};
+use c_types::{Indices, List, ParameterList};
 use c99_tree::Tree;
 use cs_base::Memory;
-use rename_rules::{Bound, Class, Indices, List, Name, ParameterList, UnitText};
+use rename_rules::Class;
 
 /// A unit of an analysis: its text, what its identifiers denote, and its tree; the functions that a class names, each
 /// by the first token that declares it; the parameter lists of the unit's

@@ -34,5 +34,53 @@ pub mod Forms
 pub mod NameClasses
 mod NamePlaces
 mod NameTable
--- Words of the crates below, passed on.
-pub mod Below
+mod Moves
+mod Walking
+mod Grown
+mod Sorted
+mod Once
+mod Finish
+mod ToldSteps
+mod ToldLists
+mod ToldWalk
+pub mod Private
+pub mod Parts
+pub mod Outline
+pub mod Outlines
+pub mod Matching
+pub mod TypedefClasses
+pub mod Places
+pub mod Rules
+pub mod Goes
+pub mod TypedefSteps
+pub mod Taking
+pub mod Declaring
+pub mod Listing
+pub mod ScopeNodes
+pub mod Scoping
+mod Enumerating
+mod Parentheses
+pub mod Table
+mod Owned
+mod Twins
+pub mod Listed
+mod Heads
+pub mod Handing
+pub mod Declarators
+pub mod Steady
+pub mod Functions
+pub mod Beginning
+pub mod Units
+pub mod Texts
+mod Standing
+mod StandardClasses
+mod StandardTrees
+mod StandardSteps
+mod Lines
+mod Rows
+mod Back
+mod Narrowing
+mod Asked
+mod Lists
+mod Walk
+mod Binding

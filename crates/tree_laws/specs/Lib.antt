@@ -4,5 +4,8 @@ pub mod BoundNames
 pub mod RenamedNames
 pub mod Shapes
 pub mod ReadTexts
--- Words of the crates below, passed on.
-pub mod Below
+pub mod Told
+pub mod ToldNames
+pub mod Agreeing
+pub mod TypedefNames
+pub mod Narrowed

@@ -4,21 +4,21 @@ use Rattle.std.specs.List.{list_any}
 use Rattle.std.specs.Option.{option_map}
 use Rattle.std.proofs.lemmas.Bool.{cases_Bool}
 use Rattle.std.proofs.lemmas.Option.{none-some, same_Some}
-use Rattle.include_tree.specs.Below.cs_base.declared.causes.Cause.TheVariants.{DefinedFromMacro}
-use Rattle.include_tree.specs.Below.cs_base.declared.positions.Pos.{Pos}
-use Rattle.include_tree.specs.Below.cs_base.Token.{Token}
-use Rattle.include_tree.specs.Below.line_shape.Signs.{is_name, is_open, is_close}
-use Rattle.include_tree.specs.Below.cond_eval.declared.faults.CondFault.{CondFault}
-use Rattle.include_tree.specs.Below.cond_eval.Evaluation.{condition}
-use Rattle.include_tree.specs.Below.source_files.Faults.{fault_at}
-use Rattle.include_tree.specs.Below.source_files.Files.{SourceFile, Table}
-use Rattle.include_tree.specs.Below.unit_steps.Notes.{Note, Answered}
-use Rattle.include_tree.specs.Below.unit_steps.State.{State, Did, onward}
-use Rattle.include_tree.specs.Below.unit_steps.Names.{name_links, with_name}
-use Rattle.include_tree.specs.Below.unit_steps.Expanding.{expanded_in}
-use Rattle.include_tree.specs.Below.unit_steps.Conditions.{Piece, Plain, Asks, is_defined, in_parentheses, operand_of, onto_pieces, asks_with, pieces_from, answer_for, is_macro, test_notes, answered, left_over, valued, judged, asked_pieces, holds}
-use Rattle.include_tree.specs.Below.source_files.Tables.{IsGrown}
-use Rattle.include_tree.proofs.Below.source_files.TableLemmas.{grown_refl, grown_trans}
+use Rattle.cs_base.specs.declared.causes.Cause.TheVariants.{DefinedFromMacro}
+use Rattle.cs_base.specs.declared.positions.Pos.{Pos}
+use Rattle.cs_base.specs.Token.{Token}
+use Rattle.line_shape.specs.Signs.{is_name, is_open, is_close}
+use Rattle.unit_steps.specs.Below.cond_eval.declared.faults.CondFault.{CondFault}
+use Rattle.unit_steps.specs.Below.cond_eval.Evaluation.{condition}
+use Rattle.source_files.specs.Faults.{fault_at}
+use Rattle.source_files.specs.Files.{SourceFile, Table}
+use Rattle.unit_steps.specs.Notes.{Note, Answered}
+use Rattle.unit_steps.specs.State.{State, Did, onward}
+use Rattle.unit_steps.specs.Names.{name_links, with_name}
+use Rattle.unit_steps.specs.Expanding.{expanded_in}
+use Rattle.unit_steps.specs.Conditions.{Piece, Plain, Asks, is_defined, in_parentheses, operand_of, onto_pieces, asks_with, pieces_from, answer_for, is_macro, test_notes, answered, left_over, valued, judged, asked_pieces, holds}
+use Rattle.source_files.specs.Tables.{IsGrown}
+use Rattle.source_files.proofs.TableLemmas.{grown_refl, grown_trans}
 use Rattle.expansion_laws.proofs.ListLemmas.{AllToks}
 use Rattle.unit_laws.proofs.DoneLemmas.{AllIn, all_split, all_both, UnitRules, NotedSo, NameHas, StateHas, Done, done_more, done_onward, done_test}
 use Rattle.unit_laws.proofs.NamingLemmas.{name_grown, name_links_so, with_name_has}

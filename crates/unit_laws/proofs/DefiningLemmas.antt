@@ -6,21 +6,21 @@ use Rattle.std.specs.Str.{bytes_eq}
 use Rattle.std.proofs.lemmas.Bool.{cases_Bool}
 use Rattle.std.proofs.lemmas.Option.{none-some, same_Some}
 use Rattle.std.proofs.lemmas.Slice.Eq.{bytes_eq-Decides}
-use Rattle.include_tree.specs.Below.cs_base.declared.positions.Pos.{Pos}
-use Rattle.include_tree.specs.Below.cs_base.Token.{Token}
-use Rattle.include_tree.specs.Below.line_shape.declared.items.ItemKind.{ItemKind}
-use Rattle.include_tree.specs.Below.line_shape.Signs.{is_name}
-use Rattle.include_tree.specs.Below.line_shape.Directives.{takes_name}
-use Rattle.include_tree.specs.Below.line_shape.Items.{line_kind}
-use Rattle.include_tree.specs.Below.line_shape.MacroLine.{MacroParts, macro_of}
-use Rattle.include_tree.specs.Below.macro_body.declared.definitions.Form.TheVariants as form
-use Rattle.include_tree.specs.Below.macro_body.declared.definitions.Definition.{Definition}
-use Rattle.include_tree.specs.Below.macro_body.Defining.{form_of, definition_of, defined_by}
-use Rattle.include_tree.specs.Below.source_files.Files.{SourceFile, Table}
-use Rattle.include_tree.specs.Below.unit_steps.Notes.{Note}
-use Rattle.include_tree.specs.Below.unit_steps.State.{State}
-use Rattle.include_tree.specs.Below.unit_steps.Names.{spelled_in, linked_with, name_links, parameter_named, definition_links}
-use Rattle.include_tree.specs.Below.unit_steps.Directives.{operand_in, after_define, defined_as, define_of, undefined_as, undef_of, asks_name}
+use Rattle.cs_base.specs.declared.positions.Pos.{Pos}
+use Rattle.cs_base.specs.Token.{Token}
+use Rattle.line_shape.specs.declared.items.ItemKind.{ItemKind}
+use Rattle.line_shape.specs.Signs.{is_name}
+use Rattle.line_shape.specs.Directives.{takes_name}
+use Rattle.line_shape.specs.Items.{line_kind}
+use Rattle.line_shape.specs.MacroLine.{MacroParts, macro_of}
+use Rattle.macro_body.specs.declared.definitions.Form.TheVariants as form
+use Rattle.macro_body.specs.declared.definitions.Definition.{Definition}
+use Rattle.macro_body.specs.Defining.{form_of, definition_of, defined_by}
+use Rattle.source_files.specs.Files.{SourceFile, Table}
+use Rattle.unit_steps.specs.Notes.{Note}
+use Rattle.unit_steps.specs.State.{State}
+use Rattle.unit_steps.specs.Names.{spelled_in, linked_with, name_links, parameter_named, definition_links}
+use Rattle.unit_steps.specs.Directives.{operand_in, after_define, defined_as, define_of, undefined_as, undef_of, asks_name}
 use Rattle.expansion_laws.proofs.ListLemmas.{AllToks}
 use Rattle.unit_laws.proofs.DoneLemmas.{AllIn, all_both, NotedSo, NameHas, MacroHas, StateHas, Done}
 use Rattle.unit_laws.proofs.PartLemmas.{directive_name, PartsHave, macro_has, spelled_has}

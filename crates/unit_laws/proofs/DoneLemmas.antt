@@ -1,27 +1,27 @@
 -- What is true of a unit at each moment, and of what its steps give.
 use Rattle.std.proofs.Common.{◌≡◌, ℕ, Bool, true, false, cond, List, [], ◌∷◌, ◌++◌, Some, Ok, Err, codes}
 use Rattle.std.specs.Prelude.{slice_get}
-use Rattle.include_tree.specs.Below.cs_base.declared.positions.Pos.{Pos}
-use Rattle.include_tree.specs.Below.cs_base.Token.{Token}
-use Rattle.include_tree.specs.Below.line_shape.Directives.{is_include}
-use Rattle.include_tree.specs.Below.line_shape.Signs.{is_name}
-use Rattle.include_tree.specs.Below.paste_origin.Pasting.{glue_of}
-use Rattle.include_tree.specs.Below.paste_origin.Strings.{stringize_of}
-use Rattle.include_tree.specs.Below.macro_body.declared.definitions.Form.TheVariants as form
-use Rattle.include_tree.specs.Below.macro_body.declared.definitions.Definition.{Definition}
-use Rattle.include_tree.specs.Below.macro_body.Notes as expansion
-use Rattle.include_tree.specs.Below.macro_body.Substitution.{put_in, line_number, path_string}
-use Rattle.include_tree.specs.Below.macro_body.Defining.{line_macro}
-use Rattle.include_tree.specs.Below.macro_expand.Expansion.{links_name}
-use Rattle.include_tree.specs.Below.source_files.Faults.{Fault}
-use Rattle.include_tree.specs.Below.source_files.Files.{SourceFile, Table}
-use Rattle.include_tree.specs.Below.unit_steps.Notes.{Note, Reaches, Happened, Defined, Undefined, Tested, Left, Linked, Answered, Named, Entered, Exited}
-use Rattle.include_tree.specs.Below.unit_steps.State.{State, Did, Outcome, only, noted, onward}
-use Rattle.include_tree.specs.Below.unit_steps.Conditions.{answer_for}
-use Rattle.include_tree.specs.Below.source_files.Tables.{IsGrown}
-use Rattle.include_tree.specs.Below.source_files.Sources.{source_at}
+use Rattle.cs_base.specs.declared.positions.Pos.{Pos}
+use Rattle.cs_base.specs.Token.{Token}
+use Rattle.line_shape.specs.Directives.{is_include}
+use Rattle.line_shape.specs.Signs.{is_name}
+use Rattle.macro_body.specs.Below.paste_origin.Pasting.{glue_of}
+use Rattle.macro_body.specs.Below.paste_origin.Strings.{stringize_of}
+use Rattle.macro_body.specs.declared.definitions.Form.TheVariants as form
+use Rattle.macro_body.specs.declared.definitions.Definition.{Definition}
+use Rattle.macro_body.specs.Notes as expansion
+use Rattle.macro_body.specs.Substitution.{put_in, line_number, path_string}
+use Rattle.macro_body.specs.Defining.{line_macro}
+use Rattle.macro_expand.specs.Expansion.{links_name}
+use Rattle.source_files.specs.Faults.{Fault}
+use Rattle.source_files.specs.Files.{SourceFile, Table}
+use Rattle.unit_steps.specs.Notes.{Note, Reaches, Happened, Defined, Undefined, Tested, Left, Linked, Answered, Named, Entered, Exited}
+use Rattle.unit_steps.specs.State.{State, Did, Outcome, only, noted, onward}
+use Rattle.unit_steps.specs.Conditions.{answer_for}
+use Rattle.source_files.specs.Tables.{IsGrown}
+use Rattle.source_files.specs.Sources.{source_at}
 use Rattle.include_tree.specs.Walk.{ItemText, items_in}
-use Rattle.include_tree.proofs.Below.source_files.TableLemmas.{grown_refl, grown_trans}
+use Rattle.source_files.proofs.TableLemmas.{grown_refl, grown_trans}
 use Rattle.expansion_laws.specs.Telling.{AreAlike, IsPasted}
 use Rattle.expansion_laws.proofs.ListLemmas.{AllToks}
 use Rattle.unit_laws.specs.UnitItems.{taken}

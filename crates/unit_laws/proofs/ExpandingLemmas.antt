@@ -1,14 +1,14 @@
 -- Expansions in a unit: what is true of what they give.
 use Rattle.std.proofs.Common.{◌≡◌, ℕ, ◌+◌, ◌-◌, Bool, true, List, [], ◌∷◌, length, map, drop, Some, Result, Ok, Err, nat_lt, refl, sym, subst}
-use Rattle.include_tree.specs.Below.cs_base.Token.{Token}
-use Rattle.include_tree.specs.Below.macro_body.declared.definitions.Definition.{Definition}
-use Rattle.include_tree.specs.Below.macro_body.Notes as expansion
-use Rattle.include_tree.specs.Below.macro_expand.Expansion.{Setting, expansion}
-use Rattle.include_tree.specs.Below.source_files.Files.{SourceFile, Table}
-use Rattle.include_tree.specs.Below.unit_steps.Notes.{Note, Happened}
-use Rattle.include_tree.specs.Below.unit_steps.State.{Context, State, only}
-use Rattle.include_tree.specs.Below.unit_steps.Expanding.{expanded_as, expanded_in, most_toks, past_limit, put_out, run_of}
-use Rattle.include_tree.proofs.Below.source_files.TableLemmas.{grown_refl}
+use Rattle.cs_base.specs.Token.{Token}
+use Rattle.macro_body.specs.declared.definitions.Definition.{Definition}
+use Rattle.macro_body.specs.Notes as expansion
+use Rattle.macro_expand.specs.Expansion.{Setting, expansion}
+use Rattle.source_files.specs.Files.{SourceFile, Table}
+use Rattle.unit_steps.specs.Notes.{Note, Happened}
+use Rattle.unit_steps.specs.State.{Context, State, only}
+use Rattle.unit_steps.specs.Expanding.{expanded_as, expanded_in, most_toks, past_limit, put_out, run_of}
+use Rattle.source_files.proofs.TableLemmas.{grown_refl}
 use Rattle.expansion_laws.proofs.ListLemmas.{AllToks, AllNotes, toks_more, hidden_toks}
 use Rattle.expansion_laws.proofs.RuleLemmas.{Rules, HasPutIn}
 use Rattle.expansion_laws.proofs.ClosureLemmas.{expansion_keeps}

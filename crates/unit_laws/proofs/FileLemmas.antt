@@ -3,18 +3,18 @@ use Rattle.std.proofs.Common.{◌≡◌, ℕ, zero, suc, ◌+◌, ◌-◌, ◌�
 use Rattle.std.specs.List.{list_all}
 use Rattle.std.proofs.lemmas.Bool.{cases_Bool, lt-ltb, and_parts}
 use Rattle.std.proofs.Math.Bool.{or-true}
-use Rattle.include_tree.specs.Below.cs_base.declared.tokens.Kind.{Kind}
-use Rattle.include_tree.specs.Below.cs_base.declared.tokens.Kind.TheVariants.{Header, Other}
-use Rattle.include_tree.specs.Below.part_lexer.Characters.{less_than, double_quote, line_feed, slash, star, is_white, begins}
-use Rattle.include_tree.specs.Below.part_lexer.Spelling.{is_header_text, kind_of, kind_in}
-use Rattle.include_tree.specs.Below.part_lexer.Logical.{Character, logical_of, spelling, line_at}
-use Rattle.include_tree.specs.Below.part_lexer.Tokens.{Found, longest, front_length, kind_or_other, comment_end, comment_or_open, token_piece, piece_of, expects_header, piece_at, piece_length, leaves_gap, line_front_after, found_in, found_from, found_of, tokens_in, tokens_of}
-use Rattle.include_tree.specs.Below.part_lexer.FileText.{TextValue, file_text}
-use Rattle.include_tree.proofs.Below.source_files.OpeningLemmas.{readable-small}
+use Rattle.cs_base.specs.declared.tokens.Kind.{Kind}
+use Rattle.cs_base.specs.declared.tokens.Kind.TheVariants.{Header, Other}
+use Rattle.lexer.specs.Characters.{less_than, double_quote, line_feed, slash, star, is_white, begins}
+use Rattle.lexer.specs.Spelling.{is_header_text, kind_of, kind_in}
+use Rattle.lexer.specs.Logical.{Character, logical_of, spelling, line_at}
+use Rattle.lexer.specs.Tokens.{Found, longest, front_length, kind_or_other, comment_end, comment_or_open, token_piece, piece_of, expects_header, piece_at, piece_length, leaves_gap, line_front_after, found_in, found_from, found_of, tokens_in, tokens_of}
+use Rattle.lexer.specs.FileText.{TextValue, file_text}
+use Rattle.source_files.proofs.OpeningLemmas.{readable-small}
 use Rattle.expansion_laws.specs.Spelled.{fits, is_lone, is_spelled}
 use Rattle.expansion_laws.proofs.TextKindLemmas.{kind_fits}
-use Rattle.include_tree.proofs.Below.part_lexer.TextLemmas.{file_text-toks}
-use Rattle.include_tree.proofs.Below.unit_steps.FileToksLemmas.{logical_from-before, line-low}
+use Rattle.lexer.proofs.TextLemmas.{file_text-toks}
+use Rattle.unit_steps.proofs.FileToksLemmas.{logical_from-before, line-low}
 
 -- ---- the front of a text
 

@@ -1,26 +1,26 @@
 -- Included files, entered and left: what is true of what they give.
 use Rattle.std.proofs.Common.{◌≡◌, ℕ, Bool, true, false, cond, List, [], ◌∷◌, drop, Option, Some, None, Ok, Err, refl}
-use Rattle.include_tree.specs.Below.cs_base.declared.positions.Place.{Place}
-use Rattle.include_tree.specs.Below.cs_base.declared.positions.Pos.{Pos}
-use Rattle.include_tree.specs.Below.cs_base.Token.{Token}
-use Rattle.include_tree.specs.Below.part_lexer.FileText.{file_text}
-use Rattle.include_tree.specs.Below.source_files.Limits.{the_limits}
-use Rattle.include_tree.specs.Below.source_files.Faults.{place_in}
-use Rattle.include_tree.specs.Below.source_files.Files.{Source, SourceFile, Table}
-use Rattle.include_tree.specs.Below.unit_steps.Notes.{Note, Entered, Exited}
-use Rattle.include_tree.specs.Below.unit_steps.State.{Context, context, State, did, Outcome, only, onward}
-use Rattle.include_tree.specs.Below.source_files.Search.{Header, Searched, candidates_of, search}
-use Rattle.include_tree.specs.Below.source_files.Opening.{Opening, opening}
+use Rattle.cs_base.specs.declared.positions.Place.{Place}
+use Rattle.cs_base.specs.declared.positions.Pos.{Pos}
+use Rattle.cs_base.specs.Token.{Token}
+use Rattle.lexer.specs.FileText.{file_text}
+use Rattle.source_files.specs.Limits.{the_limits}
+use Rattle.source_files.specs.Faults.{place_in}
+use Rattle.source_files.specs.Files.{Source, SourceFile, Table}
+use Rattle.unit_steps.specs.Notes.{Note, Entered, Exited}
+use Rattle.unit_steps.specs.State.{Context, context, State, did, Outcome, only, onward}
+use Rattle.source_files.specs.Search.{Header, Searched, candidates_of, search}
+use Rattle.source_files.specs.Opening.{Opening, opening}
 use Rattle.include_tree.specs.OpeningStep.{with_opened, open_file}
-use Rattle.include_tree.specs.Below.unit_steps.Expanding.{expanded_in}
+use Rattle.unit_steps.specs.Expanding.{expanded_in}
 use Rattle.include_tree.specs.Including.{open_searched, open_header, Process, Inner, entered, included, include_of}
-use Rattle.include_tree.specs.Below.unit_steps.IncludeNames.{header_or, computed_header, header_named}
-use Rattle.include_tree.specs.Below.source_files.HeaderNames.{is_header, header_in, header_of_toks}
-use Rattle.include_tree.specs.Below.source_files.Tables.{IsGrown}
-use Rattle.include_tree.specs.Below.source_files.Sources.{source_at}
-use Rattle.include_tree.proofs.Below.source_files.TableLemmas.{grown_refl, grown_trans}
+use Rattle.unit_steps.specs.IncludeNames.{header_or, computed_header, header_named}
+use Rattle.source_files.specs.HeaderNames.{is_header, header_in, header_of_toks}
+use Rattle.source_files.specs.Tables.{IsGrown}
+use Rattle.source_files.specs.Sources.{source_at}
+use Rattle.source_files.proofs.TableLemmas.{grown_refl, grown_trans}
 use Rattle.include_tree.proofs.SearchLemmas.{search_wide}
-use Rattle.include_tree.proofs.Below.source_files.SourcesLemmas.{opening-as}
+use Rattle.source_files.proofs.SourcesLemmas.{opening-as}
 use Rattle.include_tree.proofs.StayingLemmas.{source-grown}
 use Rattle.expansion_laws.proofs.ListLemmas.{AllToks}
 use Rattle.unit_laws.specs.UnitItems.{expanded_name}

@@ -10,6 +10,11 @@ pub mod NameLemmas
 pub mod TokenLemmas
 pub mod ToldLemmas
 pub mod UseLemmas
+pub mod EditedLemmas
+pub mod ReorderedPartLemmas
+pub mod ReorderedFileLemmas
+pub mod ReorderedUnitLemmas
+pub mod TokenRunLemmas
 -- What the proofs of this crate rest on.
 mod ExpandingLemmas
 mod NamingLemmas
@@ -21,3 +26,11 @@ mod TestLemmas
 mod FileLemmas
 mod ReplacedLemmas
 mod StepLemmas
+mod ReorderedStepLemmas
+mod OpenLemmas
+mod LineLemmas
+mod RunLemmas
+mod ReorderedWalkLemmas
+mod SignLemmas
+mod ReorderedLemmas
+mod SliceLemmas

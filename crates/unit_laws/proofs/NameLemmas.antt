@@ -5,13 +5,13 @@ use Rattle.std.specs.List.{list_all}
 use Rattle.std.proofs.lemmas.List.{append-nil}
 use Rattle.std.proofs.lemmas.Option.{none-some, same_Some}
 use Rattle.std.proofs.lemmas.Bool.{and_parts}
-use Rattle.include_tree.specs.Below.cs_base.declared.tokens.Kind.{Kind}
-use Rattle.include_tree.specs.Below.cs_base.declared.tokens.Kind.TheVariants.{Ident, Number, Char, Str, Punct, Header, Other}
-use Rattle.include_tree.specs.Below.cs_base.Token.{Token}
-use Rattle.include_tree.specs.Below.part_lexer.Characters.{is_word}
-use Rattle.include_tree.specs.Below.line_shape.Signs.{is_identifier, is_name}
-use Rattle.include_tree.specs.Below.source_files.Files.{Table}
-use Rattle.include_tree.specs.Below.unit_steps.Texts.{UnitTextValue}
+use Rattle.cs_base.specs.declared.tokens.Kind.{Kind}
+use Rattle.cs_base.specs.declared.tokens.Kind.TheVariants.{Ident, Number, Char, Str, Punct, Header, Other}
+use Rattle.cs_base.specs.Token.{Token}
+use Rattle.lexer.specs.Characters.{is_word}
+use Rattle.line_shape.specs.Signs.{is_identifier, is_name}
+use Rattle.source_files.specs.Files.{Table}
+use Rattle.unit_steps.specs.Texts.{UnitTextValue}
 use Rattle.expansion_laws.specs.Pieces.{IsOneOf, IsMadeOf, IsWhole, AreWhole}
 use Rattle.expansion_laws.specs.Spelled.{fits, is_spelled}
 use Rattle.expansion_laws.proofs.ListLemmas.{toks_at, toks_pass}

@@ -1,10 +1,10 @@
 -- Names that are processed: their links, and the state behind them.
 use Rattle.std.proofs.Common.{◌≡◌, Bool, true, false, cond, List, [], ◌∷◌, ◌++◌, Option, Some, None, is_some, refl}
-use Rattle.include_tree.specs.Below.cs_base.Token.{Token}
-use Rattle.include_tree.specs.Below.unit_steps.State.{State}
-use Rattle.include_tree.specs.Below.unit_steps.Names.{spelled_in, linked_with, name_links, with_name}
-use Rattle.include_tree.specs.Below.source_files.Tables.{IsGrown}
-use Rattle.include_tree.proofs.Below.source_files.TableLemmas.{grown_refl}
+use Rattle.cs_base.specs.Token.{Token}
+use Rattle.unit_steps.specs.State.{State}
+use Rattle.unit_steps.specs.Names.{spelled_in, linked_with, name_links, with_name}
+use Rattle.source_files.specs.Tables.{IsGrown}
+use Rattle.source_files.proofs.TableLemmas.{grown_refl}
 use Rattle.unit_laws.proofs.DoneLemmas.{AllIn, all_both, NotedSo, NameHas, StateHas}
 use Rattle.unit_laws.proofs.PartLemmas.{spelled_has}
 

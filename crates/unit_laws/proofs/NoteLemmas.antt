@@ -3,15 +3,15 @@ use Rattle.std.proofs.Common.{◌≡◌, ℕ, zero, suc, Bool, List, [], ◌∷�
 use Rattle.std.specs.Prelude.{slice_get}
 use Rattle.std.specs.List.{flat_map}
 use Rattle.std.proofs.lemmas.Option.{none-some, same_Some}
-use Rattle.include_tree.specs.Below.cs_base.declared.positions.Pos.{Pos}
-use Rattle.include_tree.specs.Below.cs_base.declared.tokens.Link.{Link}
-use Rattle.include_tree.specs.Below.cs_base.Token.{Token, origin_at}
-use Rattle.include_tree.specs.Below.macro_body.Notes as expansion
-use Rattle.include_tree.specs.Below.unit_steps.declared.events.Event.{Event}
-use Rattle.include_tree.specs.Below.unit_steps.declared.events.EventKind.{EventKind}
-use Rattle.include_tree.specs.Below.unit_steps.declared.events.EventKind.TheVariants as kind
-use Rattle.include_tree.specs.Below.unit_steps.Notes.{Note, Reaches, Happened, Defined, Undefined, Tested, Left, Linked, Answered, Named, Entered, Exited, links_of, links_then, pasted_of, pasted_then, stringized_of, stringized_then, header_of, answers_of, events_of, events_then, named_event, file_event, before_in}
-use Rattle.include_tree.specs.Below.unit_steps.Texts.{UnitTextValue, unit_text}
+use Rattle.cs_base.specs.declared.positions.Pos.{Pos}
+use Rattle.cs_base.specs.declared.tokens.Link.{Link}
+use Rattle.cs_base.specs.Token.{Token, origin_at}
+use Rattle.macro_body.specs.Notes as expansion
+use Rattle.unit_steps.specs.declared.events.Event.{Event}
+use Rattle.unit_steps.specs.declared.events.EventKind.{EventKind}
+use Rattle.unit_steps.specs.declared.events.EventKind.TheVariants as kind
+use Rattle.unit_steps.specs.Notes.{Note, Reaches, Happened, Defined, Undefined, Tested, Left, Linked, Answered, Named, Entered, Exited, links_of, links_then, pasted_of, pasted_then, stringized_of, stringized_then, header_of, answers_of, events_of, events_then, named_event, file_event, before_in}
+use Rattle.unit_steps.specs.Texts.{UnitTextValue, unit_text}
 use Rattle.expansion_laws.specs.Telling.{AreAlike}
 use Rattle.expansion_laws.proofs.ListLemmas.{AllToks, toks_more}
 use Rattle.unit_laws.specs.UnitLinks.{IsIn}

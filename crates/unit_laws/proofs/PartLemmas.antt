@@ -5,25 +5,25 @@ use Rattle.std.specs.Str.{bytes_eq}
 use Rattle.std.proofs.lemmas.Bool.{cases_Bool}
 use Rattle.std.proofs.lemmas.Option.{none-some, same_Some}
 use Rattle.std.proofs.lemmas.Slice.Eq.{bytes_eq-Decides}
-use Rattle.include_tree.specs.Below.cs_base.declared.causes.Cause.{Cause}
-use Rattle.include_tree.specs.Below.cs_base.declared.positions.Pos.{Pos}
-use Rattle.include_tree.specs.Below.cs_base.Token.{Token}
-use Rattle.include_tree.specs.Below.line_shape.declared.items.Item.{Item}
-use Rattle.include_tree.specs.Below.line_shape.declared.items.ItemKind.{ItemKind}
-use Rattle.include_tree.specs.Below.line_shape.declared.items.ItemKind.TheVariants as kind
-use Rattle.include_tree.specs.Below.line_shape.declared.items.ItemKind.TheVariants.{Run, Bad}
-use Rattle.include_tree.specs.Below.line_shape.Signs.{is_name, is_hash, is_close}
-use Rattle.include_tree.specs.Below.line_shape.Directives.{directive_named, takes_name, is_run, nests_when_bad}
-use Rattle.include_tree.specs.Below.line_shape.BadLines.{cause_on}
-use Rattle.include_tree.specs.Below.line_shape.Items.{onto_lines, lines_of, line_kind, named_kind, kind_unless, directive_kind, Piece, piece, onto_pieces, pieces_of, item_of, items_from, items_of}
-use Rattle.include_tree.specs.Below.line_shape.MacroLine.{MacroParts, macro, before_close, behind_close, is_function_like, is_parameter_list, params_in, function_macro, macro_of}
-use Rattle.include_tree.proofs.Below.macro_expand.CallLemmas.{cond_has}
-use Rattle.include_tree.proofs.Below.macro_expand.TracedLemmas.{IsLine, lines-items_of}
-use Rattle.include_tree.specs.Below.source_files.Files.{SourceFile, Table}
-use Rattle.include_tree.specs.Below.source_files.HeaderNames.{is_header}
-use Rattle.include_tree.specs.Below.source_files.Sources.{source_at}
+use Rattle.cs_base.specs.declared.causes.Cause.{Cause}
+use Rattle.cs_base.specs.declared.positions.Pos.{Pos}
+use Rattle.cs_base.specs.Token.{Token}
+use Rattle.line_shape.specs.declared.items.Item.{Item}
+use Rattle.line_shape.specs.declared.items.ItemKind.{ItemKind}
+use Rattle.line_shape.specs.declared.items.ItemKind.TheVariants as kind
+use Rattle.line_shape.specs.declared.items.ItemKind.TheVariants.{Run, Bad}
+use Rattle.line_shape.specs.Signs.{is_name, is_hash, is_close}
+use Rattle.line_shape.specs.Directives.{directive_named, takes_name, is_run, nests_when_bad}
+use Rattle.line_shape.specs.BadLines.{cause_on}
+use Rattle.line_shape.specs.Items.{onto_lines, lines_of, line_kind, named_kind, kind_unless, directive_kind, Piece, piece, onto_pieces, pieces_of, item_of, items_from, items_of}
+use Rattle.line_shape.specs.MacroLine.{MacroParts, macro, before_close, behind_close, is_function_like, is_parameter_list, params_in, function_macro, macro_of}
+use Rattle.macro_expand.proofs.CallLemmas.{cond_has}
+use Rattle.macro_expand.proofs.TracedLemmas.{IsLine, lines-items_of}
+use Rattle.source_files.specs.Files.{SourceFile, Table}
+use Rattle.source_files.specs.HeaderNames.{is_header}
+use Rattle.source_files.specs.Sources.{source_at}
 use Rattle.include_tree.specs.Walk.{ItemText, item_text, item_texts, items_in}
-use Rattle.include_tree.specs.Below.unit_steps.Names.{spelled_in}
+use Rattle.unit_steps.specs.Names.{spelled_in}
 use Rattle.expansion_laws.proofs.ListLemmas.{AllToks}
 use Rattle.unit_laws.specs.UnitItems.{expanded_name, taken}
 use Rattle.unit_laws.proofs.DoneLemmas.{AllIn, all_both, NameHas, PlaceHas, TakenHas}

@@ -2,18 +2,18 @@
 use Rattle.std.proofs.Common.{◌≡◌, ℕ, zero, suc, ◌+◌, Bool, false, List, [], ◌∷◌, ◌++◌, length, Some, refl, sym, subst}
 use Rattle.std.specs.Prelude.{slice_get}
 use Rattle.std.proofs.lemmas.Option.{none-some, same_Some}
-use Rattle.include_tree.specs.Below.cs_base.declared.positions.Pos.{Pos}
-use Rattle.include_tree.specs.Below.cs_base.declared.tokens.Kind.TheVariants.{Ident}
-use Rattle.include_tree.specs.Below.cs_base.Token.{Token, token}
-use Rattle.include_tree.specs.Below.part_lexer.Characters.{double_quote}
-use Rattle.include_tree.specs.Below.unit_steps.declared.events.Reached.{Reached}
-use Rattle.include_tree.specs.Below.source_files.Files.{Table, SourceFile}
-use Rattle.include_tree.specs.Below.unit_steps.Notes.{Note, Reaches, reached, reached_of, events_of}
-use Rattle.include_tree.specs.Below.unit_steps.Conditions.{answer_for}
-use Rattle.include_tree.specs.Below.source_files.Sources.{source_at}
-use Rattle.include_tree.specs.Below.unit_steps.Texts.{UnitTextValue, reached_in, unit_text}
+use Rattle.cs_base.specs.declared.positions.Pos.{Pos}
+use Rattle.cs_base.specs.declared.tokens.Kind.TheVariants.{Ident}
+use Rattle.cs_base.specs.Token.{Token, token}
+use Rattle.lexer.specs.Characters.{double_quote}
+use Rattle.unit_steps.specs.declared.events.Reached.{Reached}
+use Rattle.source_files.specs.Files.{Table, SourceFile}
+use Rattle.unit_steps.specs.Notes.{Note, Reaches, reached, reached_of, events_of}
+use Rattle.unit_steps.specs.Conditions.{answer_for}
+use Rattle.source_files.specs.Sources.{source_at}
+use Rattle.unit_steps.specs.Texts.{UnitTextValue, reached_in, unit_text}
 use Rattle.include_tree.specs.Walk.{ItemText, items_in}
-use Rattle.include_tree.specs.Below.macro_body.Substitution.{put_in}
+use Rattle.macro_body.specs.Substitution.{put_in}
 use Rattle.expansion_laws.specs.Pieces.{Characters, IsWhole, AreWhole}
 use Rattle.expansion_laws.proofs.ListLemmas.{toks_at, each_tok}
 use Rattle.expansion_laws.proofs.PiecesLemmas.{whole_as, pasted_whole, string_whole, quoted_fails}

@@ -1,20 +1,20 @@
 -- Names that an expansion replaces are linked with the names of their macros.
 use Rattle.std.proofs.Common.{◌≡◌, ℕ, zero, suc, ◌+◌, ◌-◌, Bool, true, false, cond, List, [], ◌∷◌, ◌++◌, length, map, Option, Some, None, Result, Ok, refl, subst, nat_lt}
 use Rattle.std.proofs.lemmas.Option.{none-some}
-use Rattle.include_tree.specs.Below.cs_base.Token.{Token}
-use Rattle.include_tree.specs.Below.line_shape.Signs.{is_name, is_open}
-use Rattle.include_tree.specs.Below.macro_body.declared.definitions.Form.{Form}
-use Rattle.include_tree.specs.Below.macro_body.declared.definitions.Form.TheVariants as form
-use Rattle.include_tree.specs.Below.macro_body.declared.definitions.Definition.{Definition}
-use Rattle.include_tree.specs.Below.macro_body.Hides.{Hidden, hidden, hide_more, unhidden}
-use Rattle.include_tree.specs.Below.macro_body.Live.{no_macro}
-use Rattle.include_tree.specs.Below.macro_body.Macro.{Table, is_function}
-use Rattle.include_tree.specs.Below.macro_body.Bodies.{Part, chains_of, occurs_alone}
-use Rattle.include_tree.specs.Below.macro_expand.Calls.{Call, call_from, commas_of, arguments_of}
-use Rattle.include_tree.specs.Below.macro_body.Notes.{Fault, OpenCall, WrongArguments, TooMuchWork, TooDeep, Note, Replaced, Linked, Stringized, Pasted, Expanded, expanded, put_out, noted, onward}
-use Rattle.include_tree.specs.Below.macro_body.Substitution.{Arguments, Made, made, result_of, cost_of, line_number, path_string}
-use Rattle.include_tree.specs.Below.macro_expand.Expansion.{Setting, Next, most_depth, one_more, stays, Full, full, with_full, without_full, alone, full_step, full_from, spent, substituted, put_for, links_name, first_notes, replaced, added_by, called_with, called, behind_name, act, macro_of, step, steps, whole, expansion}
-use Rattle.include_tree.proofs.Below.macro_body.ResultLemmas.{ok_same, err_ok, onward_ok, cond_ok, cond_ok_yes}
+use Rattle.cs_base.specs.Token.{Token}
+use Rattle.line_shape.specs.Signs.{is_name, is_open}
+use Rattle.macro_body.specs.declared.definitions.Form.{Form}
+use Rattle.macro_body.specs.declared.definitions.Form.TheVariants as form
+use Rattle.macro_body.specs.declared.definitions.Definition.{Definition}
+use Rattle.macro_body.specs.Hides.{Hidden, hidden, hide_more, unhidden}
+use Rattle.macro_body.specs.Live.{no_macro}
+use Rattle.macro_body.specs.Macro.{Table, is_function}
+use Rattle.macro_body.specs.Bodies.{Part, chains_of, occurs_alone}
+use Rattle.macro_expand.specs.Calls.{Call, call_from, commas_of, arguments_of}
+use Rattle.macro_body.specs.Notes.{Fault, OpenCall, WrongArguments, TooMuchWork, TooDeep, Note, Replaced, Linked, Stringized, Pasted, Expanded, expanded, put_out, noted, onward}
+use Rattle.macro_body.specs.Substitution.{Arguments, Made, made, result_of, cost_of, line_number, path_string}
+use Rattle.macro_expand.specs.Expansion.{Setting, Next, most_depth, one_more, stays, Full, full, with_full, without_full, alone, full_step, full_from, spent, substituted, put_for, links_name, first_notes, replaced, added_by, called_with, called, behind_name, act, macro_of, step, steps, whole, expansion}
+use Rattle.macro_body.proofs.ResultLemmas.{ok_same, err_ok, onward_ok, cond_ok, cond_ok_yes}
 use Rattle.expansion_laws.proofs.ListLemmas.{AllHidden, AllLists, AllNotes, notes_split, notes_both}
 use Rattle.expansion_laws.proofs.RuleLemmas.{Rules, HasPutIn, chains_of_have, result_kept}
 use Rattle.expansion_laws.proofs.TellingLemmas.{Any, any_toks}

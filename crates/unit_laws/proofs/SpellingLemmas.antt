@@ -4,13 +4,13 @@ use Rattle.std.specs.List.{list_all}
 use Rattle.std.specs.Option.{option_and_then}
 use Rattle.std.proofs.lemmas.Option.{none-some, same_Some}
 use Rattle.std.proofs.lemmas.Bool.{and_parts}
-use Rattle.include_tree.specs.Below.cs_base.Token.{Token}
-use Rattle.include_tree.specs.Below.part_lexer.FileText.{TextValue, LexFault, file_text}
-use Rattle.include_tree.specs.Below.source_files.Files.{SourceFile, Table, source_file}
-use Rattle.include_tree.specs.Below.source_files.KeptFiles.{KeptValue, kept_at}
-use Rattle.include_tree.specs.Below.unit_steps.Notes.{Note}
-use Rattle.include_tree.specs.Below.source_files.Sources.{read_as, source_kept}
-use Rattle.include_tree.specs.Below.unit_steps.Conditions.{answer_for}
+use Rattle.cs_base.specs.Token.{Token}
+use Rattle.lexer.specs.FileText.{TextValue, LexFault, file_text}
+use Rattle.source_files.specs.Files.{SourceFile, Table, source_file}
+use Rattle.source_files.specs.KeptFiles.{KeptValue, kept_at}
+use Rattle.unit_steps.specs.Notes.{Note}
+use Rattle.source_files.specs.Sources.{read_as, source_kept}
+use Rattle.unit_steps.specs.Conditions.{answer_for}
 use Rattle.expansion_laws.specs.Spelled.{fits, is_spelled}
 use Rattle.expansion_laws.proofs.ListLemmas.{toks_pass, pass_toks}
 use Rattle.expansion_laws.proofs.SpelledLaw.{standing_spelled, pasted_spelled, string_spelled, number_spelled, path_spelled}

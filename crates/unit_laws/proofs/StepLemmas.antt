@@ -3,45 +3,45 @@ use Rattle.std.proofs.Common.{◌≡◌, ℕ, zero, suc, ◌+◌, ◌-◌, Bool,
 use Rattle.std.specs.Prelude.{slice_get}
 use Rattle.std.specs.List.{list_any}
 use Rattle.std.proofs.lemmas.Bool.{cases_Bool}
-use Rattle.include_tree.specs.Below.cs_base.declared.causes.Cause.TheVariants as cause
-use Rattle.include_tree.specs.Below.cs_base.declared.positions.Place.{Place}
-use Rattle.include_tree.specs.Below.cs_base.declared.positions.Pos.{Pos}
-use Rattle.include_tree.specs.Below.cs_base.Token.{Token}
-use Rattle.include_tree.specs.Below.cs_base.Units.{UnitValue}
-use Rattle.include_tree.specs.Below.part_lexer.FileText.{file_text}
-use Rattle.include_tree.specs.Below.line_shape.declared.items.ItemKind.{ItemKind}
-use Rattle.include_tree.specs.Below.line_shape.declared.items.ItemKind.TheVariants as kind
-use Rattle.include_tree.specs.Below.line_shape.Directives.{is_define}
-use Rattle.include_tree.specs.Below.line_shape.Signs.{is_name}
-use Rattle.include_tree.specs.Below.macro_body.declared.definitions.Definition.{Definition}
-use Rattle.include_tree.specs.Below.macro_body.Defining.{defined_by}
-use Rattle.include_tree.specs.Below.macro_body.Notes as expansion
-use Rattle.include_tree.specs.Below.macro_expand.Expansion.{expansion}
-use Rattle.include_tree.specs.Below.cond_eval.declared.faults.CondFault.{CondFault}
-use Rattle.include_tree.specs.Below.cond_eval.Evaluation.{condition}
-use Rattle.include_tree.specs.Below.source_files.Limits.{the_limits}
-use Rattle.include_tree.specs.Below.source_files.Faults.{Fault, fault_at, place_in, first_place}
-use Rattle.include_tree.specs.Below.source_files.Files.{Source, SourceFile, Table, Carried, defines_path, asked}
-use Rattle.include_tree.specs.Below.unit_steps.Notes.{Note, Reaches, Happened, Undefined, Left, Answered, Named, Entered, Exited}
-use Rattle.include_tree.specs.Below.unit_steps.Names.{spelled_in, name_links, with_name}
-use Rattle.include_tree.specs.Below.unit_steps.State.{Context, context, State, Did, did, Outcome, only, noted, onward}
-use Rattle.include_tree.specs.Below.source_files.Search.{Header, Searched, candidates_of, search}
-use Rattle.include_tree.specs.Below.source_files.Opening.{Opening, opening}
+use Rattle.cs_base.specs.declared.causes.Cause.TheVariants as cause
+use Rattle.cs_base.specs.declared.positions.Place.{Place}
+use Rattle.cs_base.specs.declared.positions.Pos.{Pos}
+use Rattle.cs_base.specs.Token.{Token}
+use Rattle.cs_base.specs.Units.{UnitValue}
+use Rattle.lexer.specs.FileText.{file_text}
+use Rattle.line_shape.specs.declared.items.ItemKind.{ItemKind}
+use Rattle.line_shape.specs.declared.items.ItemKind.TheVariants as kind
+use Rattle.line_shape.specs.Directives.{is_define}
+use Rattle.line_shape.specs.Signs.{is_name}
+use Rattle.macro_body.specs.declared.definitions.Definition.{Definition}
+use Rattle.macro_body.specs.Defining.{defined_by}
+use Rattle.macro_body.specs.Notes as expansion
+use Rattle.macro_expand.specs.Expansion.{expansion}
+use Rattle.unit_steps.specs.Below.cond_eval.declared.faults.CondFault.{CondFault}
+use Rattle.unit_steps.specs.Below.cond_eval.Evaluation.{condition}
+use Rattle.source_files.specs.Limits.{the_limits}
+use Rattle.source_files.specs.Faults.{Fault, fault_at, place_in, first_place}
+use Rattle.source_files.specs.Files.{Source, SourceFile, Table, Carried, defines_path, asked}
+use Rattle.unit_steps.specs.Notes.{Note, Reaches, Happened, Undefined, Left, Answered, Named, Entered, Exited}
+use Rattle.unit_steps.specs.Names.{spelled_in, name_links, with_name}
+use Rattle.unit_steps.specs.State.{Context, context, State, Did, did, Outcome, only, noted, onward}
+use Rattle.source_files.specs.Search.{Header, Searched, candidates_of, search}
+use Rattle.source_files.specs.Opening.{Opening, opening}
 use Rattle.include_tree.specs.OpeningStep.{with_opened, open_file}
-use Rattle.include_tree.specs.Below.unit_steps.Expanding.{expanded_as, expanded_in, most_toks, past_limit, put_out, run_of}
-use Rattle.include_tree.specs.Below.unit_steps.Conditions.{Piece, Plain, Asks, is_defined, pieces_from, answer_for, is_macro, test_notes, answered, left_over, valued, judged, asked_pieces, holds}
-use Rattle.include_tree.specs.Below.unit_steps.Directives.{operand_in, define_notes, after_define, defined_as, after_undef, undefined_as, asks_name, opens_with, is_if}
+use Rattle.unit_steps.specs.Expanding.{expanded_as, expanded_in, most_toks, past_limit, put_out, run_of}
+use Rattle.unit_steps.specs.Conditions.{Piece, Plain, Asks, is_defined, pieces_from, answer_for, is_macro, test_notes, answered, left_over, valued, judged, asked_pieces, holds}
+use Rattle.unit_steps.specs.Directives.{operand_in, define_notes, after_define, defined_as, after_undef, undefined_as, asks_name, opens_with, is_if}
 use Rattle.include_tree.specs.Including.{open_searched, open_header, Process, Inner, entered, included, include_of}
-use Rattle.include_tree.specs.Below.unit_steps.IncludeNames.{header_or, computed_header, header_named}
-use Rattle.include_tree.specs.Below.source_files.HeaderNames.{is_header, header_in, header_of_toks}
-use Rattle.include_tree.specs.Below.source_files.Tables.{IsGrown}
+use Rattle.unit_steps.specs.IncludeNames.{header_or, computed_header, header_named}
+use Rattle.source_files.specs.HeaderNames.{is_header, header_in, header_of_toks}
+use Rattle.source_files.specs.Tables.{IsGrown}
 use Rattle.include_tree.specs.Sections.{Group, Processed, Awaited, Over, Skipped, Section, section, are_processed, group_if, group_after, group_of_else, Turn, Opens, GoesOn, GoesLast, Ends, Stays, turn_of}
-use Rattle.include_tree.specs.Below.source_files.Sources.{source_at}
+use Rattle.source_files.specs.Sources.{source_at}
 use Rattle.include_tree.specs.Unit.{first_state, outer_file, main_file, both_files, unit_outcome}
 use Rattle.include_tree.specs.Walk.{ItemText, items_in, processed, Stepped, stepped, reaching, reaching_alive, go_on, opens, goes_on, in_section, turned, item_step, file_end, walk, file_items}
-use Rattle.include_tree.proofs.Below.source_files.TableLemmas.{grown_refl, grown_trans, widens_asked}
+use Rattle.source_files.proofs.TableLemmas.{grown_refl, grown_trans, widens_asked}
 use Rattle.include_tree.proofs.SearchLemmas.{search_wide}
-use Rattle.include_tree.proofs.Below.source_files.SourcesLemmas.{opening-as}
+use Rattle.source_files.proofs.SourcesLemmas.{opening-as}
 use Rattle.include_tree.proofs.StayingLemmas.{source-grown}
 
 -- ---- rules

@@ -1,10 +1,10 @@
 -- Tests that a unit keeps.
 use Rattle.std.proofs.Common.{◌≡◌, true, false, List, sym, subst}
-use Rattle.include_tree.specs.Below.cs_base.Token.{Token}
-use Rattle.include_tree.specs.Below.source_files.Files.{Table}
-use Rattle.include_tree.specs.Below.unit_steps.Notes.{Note}
-use Rattle.include_tree.specs.Below.unit_steps.Conditions.{answer_for}
-use Rattle.include_tree.specs.Below.unit_steps.Texts.{UnitTextValue, unit_text}
+use Rattle.cs_base.specs.Token.{Token}
+use Rattle.source_files.specs.Files.{Table}
+use Rattle.unit_steps.specs.Notes.{Note}
+use Rattle.unit_steps.specs.Conditions.{answer_for}
+use Rattle.unit_steps.specs.Texts.{UnitTextValue, unit_text}
 use Rattle.expansion_laws.specs.Passing.{Test, IsBlind, standing_at, MadePass}
 use Rattle.expansion_laws.proofs.ListLemmas.{toks_at, toks_pass, pass_toks}
 use Rattle.unit_laws.specs.UnitLinks.{IsIn}

@@ -1,20 +1,20 @@
 -- The text that a unit without a fault gives.
 use Rattle.std.proofs.Common.{◌≡◌, ℕ, ◌+◌, Bool, List, length, Result, Ok, Err, refl, ap, subst, codes}
 use Rattle.std.specs.List.{flat_map}
-use Rattle.include_tree.specs.Below.cs_base.Token.{Token, origin_at}
-use Rattle.include_tree.specs.Below.cs_base.Units.{UnitValue}
-use Rattle.include_tree.specs.Below.part_lexer.FileText.{file_text}
-use Rattle.include_tree.specs.Below.macro_body.Notes as expansion
-use Rattle.include_tree.specs.Below.macro_body.Defining.{line_macro}
-use Rattle.include_tree.specs.Below.unit_steps.declared.events.Event.{Event}
-use Rattle.include_tree.specs.Below.unit_steps.declared.events.EventKind.TheVariants as kind
-use Rattle.include_tree.specs.Below.source_files.Limits.{the_limits}
-use Rattle.include_tree.specs.Below.source_files.Faults.{Fault}
-use Rattle.include_tree.specs.Below.source_files.Files.{Source, Carried, carried}
-use Rattle.include_tree.specs.Below.unit_steps.Notes.{Note, Happened, Answered, answers_of, events_of, named_event, before_in}
-use Rattle.include_tree.specs.Below.unit_steps.State.{Did, Outcome}
+use Rattle.cs_base.specs.Token.{Token, origin_at}
+use Rattle.cs_base.specs.Units.{UnitValue}
+use Rattle.lexer.specs.FileText.{file_text}
+use Rattle.macro_body.specs.Notes as expansion
+use Rattle.macro_body.specs.Defining.{line_macro}
+use Rattle.unit_steps.specs.declared.events.Event.{Event}
+use Rattle.unit_steps.specs.declared.events.EventKind.TheVariants as kind
+use Rattle.source_files.specs.Limits.{the_limits}
+use Rattle.source_files.specs.Faults.{Fault}
+use Rattle.source_files.specs.Files.{Source, Carried, carried}
+use Rattle.unit_steps.specs.Notes.{Note, Happened, Answered, answers_of, events_of, named_event, before_in}
+use Rattle.unit_steps.specs.State.{Did, Outcome}
 use Rattle.include_tree.specs.Unit.{unit_outcome}
-use Rattle.include_tree.specs.Below.unit_steps.Texts.{UnitTextValue, unit_text}
+use Rattle.unit_steps.specs.Texts.{UnitTextValue, unit_text}
 use Rattle.include_tree.specs.Preprocessed.{Preprocessed, preprocessed_by, preprocessed}
 use Rattle.expansion_laws.specs.Pieces.{IsOneOf}
 use Rattle.unit_laws.specs.UnitLinks.{IsIn}

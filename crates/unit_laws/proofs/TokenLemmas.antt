@@ -1,12 +1,12 @@
 -- Links, whole tokens and places of units.
 use Rattle.std.proofs.Common.{◌≡◌, false, List, refl, sym, ◌∙◌, subst}
-use Rattle.include_tree.specs.Below.cs_base.Token.{Token}
-use Rattle.include_tree.specs.Below.part_lexer.Characters.{double_quote}
-use Rattle.include_tree.specs.Below.macro_body.Substitution.{put_in, line_number, path_string}
-use Rattle.include_tree.specs.Below.source_files.Files.{Table}
-use Rattle.include_tree.specs.Below.unit_steps.Notes.{Note}
-use Rattle.include_tree.specs.Below.unit_steps.Conditions.{answer_for}
-use Rattle.include_tree.specs.Below.unit_steps.Texts.{UnitTextValue, unit_text}
+use Rattle.cs_base.specs.Token.{Token}
+use Rattle.lexer.specs.Characters.{double_quote}
+use Rattle.macro_body.specs.Substitution.{put_in, line_number, path_string}
+use Rattle.source_files.specs.Files.{Table}
+use Rattle.unit_steps.specs.Notes.{Note}
+use Rattle.unit_steps.specs.Conditions.{answer_for}
+use Rattle.unit_steps.specs.Texts.{UnitTextValue, unit_text}
 use Rattle.expansion_laws.specs.Pieces.{Characters, IsWhole}
 use Rattle.expansion_laws.proofs.ListLemmas.{toks_at, each_tok}
 use Rattle.expansion_laws.proofs.PiecesLemmas.{whole_as, pasted_whole, string_whole, quoted_fails}

@@ -6,34 +6,34 @@ use Rattle.std.specs.Option.{is_none, option_map}
 use Rattle.std.specs.Str.{bytes_eq}
 use Rattle.std.proofs.lemmas.Bool.{cases_Bool, both_ways, or_left, or_right}
 use Rattle.std.proofs.lemmas.Option.{none-some, same_Some}
-use Rattle.include_tree.proofs.Below.cs_base.FileMapLemmas.{bytes_eq-equal, bytes_eq-same}
-use Rattle.include_tree.specs.Below.cs_base.declared.positions.Pos.{Pos}
-use Rattle.include_tree.specs.Below.cs_base.declared.tokens.Link.{Link}
-use Rattle.include_tree.specs.Below.cs_base.Token.{Token, origin_at}
-use Rattle.include_tree.specs.Below.cs_base.Units.{UnitValue}
-use Rattle.include_tree.specs.Below.part_lexer.FileText.{file_text}
-use Rattle.include_tree.specs.Below.line_shape.MacroLine.{MacroParts, macro_of}
-use Rattle.include_tree.specs.Below.line_shape.Signs.{is_name}
-use Rattle.include_tree.specs.Below.macro_body.declared.definitions.Definition.{Definition}
-use Rattle.include_tree.specs.Below.macro_body.Defining.{form_of, definition_of, defined_by, line_macro, file_macro, first_macros}
-use Rattle.include_tree.specs.Below.macro_body.Live.{no_macro, with_macro}
-use Rattle.include_tree.specs.Below.macro_body.Macro.{Table as Macros}
-use Rattle.include_tree.specs.Below.macro_body.Notes as expansion
-use Rattle.include_tree.specs.Below.macro_expand.Expansion.{links_name, expansion}
-use Rattle.include_tree.specs.Below.unit_steps.declared.events.Event.{Event}
-use Rattle.include_tree.specs.Below.unit_steps.declared.events.EventKind.{EventKind}
-use Rattle.include_tree.specs.Below.unit_steps.declared.events.EventKind.TheVariants as kind
-use Rattle.include_tree.specs.Below.source_files.Files.{Source, Table, Carried}
-use Rattle.include_tree.specs.Below.unit_steps.Names.{spelled_in, linked_with, name_links, with_name, parameter_named, definition_links}
-use Rattle.include_tree.specs.Below.unit_steps.Notes.{Note, Reaches, Happened, Defined, Undefined, Tested, Left, Linked, Answered, Named, Entered, Exited, link, links_then, links_of, named_event, file_event, before_in, events_then, events_of}
-use Rattle.include_tree.specs.Below.unit_steps.State.{State, Did}
-use Rattle.include_tree.specs.Below.unit_steps.Directives.{define_notes, after_define, after_undef}
-use Rattle.include_tree.specs.Below.unit_steps.Conditions.{test_notes}
-use Rattle.include_tree.specs.Below.source_files.Limits.{the_limits}
-use Rattle.include_tree.specs.Below.unit_steps.Texts.{unit_text, UnitTextValue}
+use Rattle.cs_base.proofs.FileMapLemmas.{bytes_eq-equal, bytes_eq-same}
+use Rattle.cs_base.specs.declared.positions.Pos.{Pos}
+use Rattle.cs_base.specs.declared.tokens.Link.{Link}
+use Rattle.cs_base.specs.Token.{Token, origin_at}
+use Rattle.cs_base.specs.Units.{UnitValue}
+use Rattle.lexer.specs.FileText.{file_text}
+use Rattle.line_shape.specs.MacroLine.{MacroParts, macro_of}
+use Rattle.line_shape.specs.Signs.{is_name}
+use Rattle.macro_body.specs.declared.definitions.Definition.{Definition}
+use Rattle.macro_body.specs.Defining.{form_of, definition_of, defined_by, line_macro, file_macro, first_macros}
+use Rattle.macro_body.specs.Live.{no_macro, with_macro}
+use Rattle.macro_body.specs.Macro.{Table as Macros}
+use Rattle.macro_body.specs.Notes as expansion
+use Rattle.macro_expand.specs.Expansion.{links_name, expansion}
+use Rattle.unit_steps.specs.declared.events.Event.{Event}
+use Rattle.unit_steps.specs.declared.events.EventKind.{EventKind}
+use Rattle.unit_steps.specs.declared.events.EventKind.TheVariants as kind
+use Rattle.source_files.specs.Files.{Source, Table, Carried}
+use Rattle.unit_steps.specs.Names.{spelled_in, linked_with, name_links, with_name, parameter_named, definition_links}
+use Rattle.unit_steps.specs.Notes.{Note, Reaches, Happened, Defined, Undefined, Tested, Left, Linked, Answered, Named, Entered, Exited, link, links_then, links_of, named_event, file_event, before_in, events_then, events_of}
+use Rattle.unit_steps.specs.State.{State, Did}
+use Rattle.unit_steps.specs.Directives.{define_notes, after_define, after_undef}
+use Rattle.unit_steps.specs.Conditions.{test_notes}
+use Rattle.source_files.specs.Limits.{the_limits}
+use Rattle.unit_steps.specs.Texts.{unit_text, UnitTextValue}
 use Rattle.include_tree.specs.Preprocessed.{Preprocessed}
 use Rattle.include_tree.specs.Unit.{unit_outcome}
-use Rattle.include_tree.proofs.Below.source_files.TableLemmas.{grown_refl}
+use Rattle.source_files.proofs.TableLemmas.{grown_refl}
 use Rattle.expansion_laws.proofs.ListLemmas.{AllNotes}
 use Rattle.unit_laws.specs.UnitLinks.{IsIn}
 use Rattle.unit_laws.proofs.DoneLemmas.{AllIn, all_split, all_both}

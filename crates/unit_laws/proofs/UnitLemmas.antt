@@ -3,21 +3,21 @@ use Rattle.std.proofs.Common.{◌≡◌, ℕ, ◌-◌, Bool, true, false, cond, 
 use Rattle.std.specs.Str.{bytes_eq}
 use Rattle.std.proofs.lemmas.Option.{none-some, same_Some}
 use Rattle.std.proofs.lemmas.Slice.Eq.{bytes_eq-Decides}
-use Rattle.include_tree.specs.Below.cs_base.Token.{Token}
-use Rattle.include_tree.specs.Below.cs_base.Units.{UnitValue}
-use Rattle.include_tree.specs.Below.part_lexer.FileText.{file_text}
-use Rattle.include_tree.specs.Below.macro_body.declared.definitions.Definition.{Definition}
-use Rattle.include_tree.specs.Below.macro_body.Defining.{line_macro, file_macro, first_macros}
-use Rattle.include_tree.specs.Below.macro_body.Live.{no_macro, with_macro}
-use Rattle.include_tree.specs.Below.source_files.Limits.{the_limits}
-use Rattle.include_tree.specs.Below.source_files.Faults.{first_place}
-use Rattle.include_tree.specs.Below.source_files.Files.{Source, Table, Carried, defines_path, asked}
-use Rattle.include_tree.specs.Below.unit_steps.Notes.{Note}
-use Rattle.include_tree.specs.Below.unit_steps.State.{Context, context, State, Did, Outcome, only, onward}
+use Rattle.cs_base.specs.Token.{Token}
+use Rattle.cs_base.specs.Units.{UnitValue}
+use Rattle.lexer.specs.FileText.{file_text}
+use Rattle.macro_body.specs.declared.definitions.Definition.{Definition}
+use Rattle.macro_body.specs.Defining.{line_macro, file_macro, first_macros}
+use Rattle.macro_body.specs.Live.{no_macro, with_macro}
+use Rattle.source_files.specs.Limits.{the_limits}
+use Rattle.source_files.specs.Faults.{first_place}
+use Rattle.source_files.specs.Files.{Source, Table, Carried, defines_path, asked}
+use Rattle.unit_steps.specs.Notes.{Note}
+use Rattle.unit_steps.specs.State.{Context, context, State, Did, Outcome, only, onward}
 use Rattle.include_tree.specs.OpeningStep.{open_file}
 use Rattle.include_tree.specs.Walk.{file_items}
 use Rattle.include_tree.specs.Unit.{first_state, outer_file, main_file, both_files, unit_outcome}
-use Rattle.include_tree.proofs.Below.source_files.TableLemmas.{grown_refl, widens_asked}
+use Rattle.source_files.proofs.TableLemmas.{grown_refl, widens_asked}
 use Rattle.expansion_laws.proofs.ListLemmas.{AllToks}
 use Rattle.unit_laws.proofs.DoneLemmas.{AllIn, UnitRules, NotedSo, MacroHas, Done, done_more, done_onward}
 use Rattle.unit_laws.proofs.IncludeLemmas.{FileIs, grown_done, open_done}

@@ -1,23 +1,23 @@
 -- The items of files: what is true of what they give.
 use Rattle.std.proofs.Common.{◌≡◌, ℕ, zero, suc, ◌+◌, Bool, true, false, not, cond, List, [], ◌∷◌, ◌++◌, take, drop, Some, None, Err, refl, subst, arith}
 use Rattle.std.specs.Prelude.{slice_get}
-use Rattle.include_tree.specs.Below.cs_base.declared.causes.Cause.TheVariants as cause
-use Rattle.include_tree.specs.Below.cs_base.declared.positions.Pos.{Pos}
-use Rattle.include_tree.specs.Below.cs_base.Token.{Token}
-use Rattle.include_tree.specs.Below.part_lexer.FileText.{file_text}
-use Rattle.include_tree.specs.Below.line_shape.declared.items.ItemKind.{ItemKind}
-use Rattle.include_tree.specs.Below.line_shape.declared.items.ItemKind.TheVariants as kind
-use Rattle.include_tree.specs.Below.line_shape.Directives.{is_run, is_include}
-use Rattle.include_tree.specs.Below.line_shape.Items.{line_kind}
-use Rattle.include_tree.specs.Below.source_files.Limits.{the_limits}
-use Rattle.include_tree.specs.Below.source_files.Faults.{fault_at}
-use Rattle.include_tree.specs.Below.source_files.Files.{Source, SourceFile, Table}
-use Rattle.include_tree.specs.Below.unit_steps.Notes.{Note, Reaches}
-use Rattle.include_tree.specs.Below.unit_steps.State.{Context, context, State, Outcome, only, onward}
+use Rattle.cs_base.specs.declared.causes.Cause.TheVariants as cause
+use Rattle.cs_base.specs.declared.positions.Pos.{Pos}
+use Rattle.cs_base.specs.Token.{Token}
+use Rattle.lexer.specs.FileText.{file_text}
+use Rattle.line_shape.specs.declared.items.ItemKind.{ItemKind}
+use Rattle.line_shape.specs.declared.items.ItemKind.TheVariants as kind
+use Rattle.line_shape.specs.Directives.{is_run, is_include}
+use Rattle.line_shape.specs.Items.{line_kind}
+use Rattle.source_files.specs.Limits.{the_limits}
+use Rattle.source_files.specs.Faults.{fault_at}
+use Rattle.source_files.specs.Files.{Source, SourceFile, Table}
+use Rattle.unit_steps.specs.Notes.{Note, Reaches}
+use Rattle.unit_steps.specs.State.{Context, context, State, Outcome, only, onward}
 use Rattle.include_tree.specs.Including.{Inner}
 use Rattle.include_tree.specs.Sections.{Group, Processed, Awaited, Over, Skipped, Section, section, are_processed, group_if, group_after, group_of_else, Turn, Opens, GoesOn, GoesLast, Ends, Stays, turn_of}
-use Rattle.include_tree.specs.Below.unit_steps.Conditions.{holds}
-use Rattle.include_tree.specs.Below.unit_steps.Directives.{opens_with, is_if}
+use Rattle.unit_steps.specs.Conditions.{holds}
+use Rattle.unit_steps.specs.Directives.{opens_with, is_if}
 use Rattle.include_tree.specs.Walk.{ItemText, items_in, processed, Stepped, stepped, reaching, reaching_alive, go_on, opens, goes_on, in_section, turned, item_step, file_end, walk, file_items}
 use Rattle.expansion_laws.proofs.ListLemmas.{AllToks, each_tok}
 use Rattle.unit_laws.specs.UnitItems.{expanded_name, taken}

@@ -7,3 +7,8 @@ pub mod UnitSpelling
 pub mod UnitNames
 pub mod ToldNames
 pub mod Uses
+pub mod Edited
+pub mod Walking
+pub mod Reordered
+pub mod Files
+pub mod TokenRuns

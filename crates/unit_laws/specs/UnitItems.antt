@@ -2,16 +2,16 @@
 -- items that it reached, one behind the other, or of a number that was brought; the words of directives are none of
 -- these.
 use Rattle.std.specs.Prelude.{ℕ, ◌≡◌, if◌then◌else◌, Bool, true, false, List, [], ◌∷◌, Some, Ok, take, drop, slice_get}
-use Rattle.include_tree.specs.Below.cs_base.Token.{Token}
-use Rattle.include_tree.specs.Below.cs_base.Units.{UnitValue}
-use Rattle.include_tree.specs.Below.part_lexer.Characters.{double_quote}
-use Rattle.include_tree.specs.Below.line_shape.declared.items.ItemKind.{ItemKind}
-use Rattle.include_tree.specs.Below.line_shape.declared.items.ItemKind.TheVariants as kind
-use Rattle.include_tree.specs.Below.unit_steps.declared.events.Reached.{Reached}
-use Rattle.include_tree.specs.Below.source_files.Files.{Source, SourceFile, Table, Carried}
-use Rattle.include_tree.specs.Below.source_files.HeaderNames.{is_header}
-use Rattle.include_tree.specs.Below.source_files.Sources.{source_at}
-use Rattle.include_tree.specs.Below.unit_steps.Texts.{UnitTextValue}
+use Rattle.cs_base.specs.Token.{Token}
+use Rattle.cs_base.specs.Units.{UnitValue}
+use Rattle.lexer.specs.Characters.{double_quote}
+use Rattle.line_shape.specs.declared.items.ItemKind.{ItemKind}
+use Rattle.line_shape.specs.declared.items.ItemKind.TheVariants as kind
+use Rattle.unit_steps.specs.declared.events.Reached.{Reached}
+use Rattle.source_files.specs.Files.{Source, SourceFile, Table, Carried}
+use Rattle.source_files.specs.HeaderNames.{is_header}
+use Rattle.source_files.specs.Sources.{source_at}
+use Rattle.unit_steps.specs.Texts.{UnitTextValue}
 use Rattle.include_tree.specs.Preprocessed.{Preprocessed, preprocessed}
 use Rattle.include_tree.specs.Walk.{ItemText, items_in}
 use Rattle.expansion_laws.specs.Pieces.{Characters, AreWhole}

@@ -1,8 +1,8 @@
 -- The links of a unit (this project's, over ISO/IEC 9899:1999, 6.10.1, 6.10.3 and 6.10.3.5).
 use Rattle.std.specs.Prelude.{◌≡◌, ℕ, List, Ok, Some, slice_get}
-use Rattle.include_tree.specs.Below.cs_base.declared.tokens.Link.{Link}
-use Rattle.include_tree.specs.Below.cs_base.Units.{UnitValue}
-use Rattle.include_tree.specs.Below.source_files.Files.{Source, Carried}
+use Rattle.cs_base.specs.declared.tokens.Link.{Link}
+use Rattle.cs_base.specs.Units.{UnitValue}
+use Rattle.source_files.specs.Files.{Source, Carried}
 use Rattle.include_tree.specs.Preprocessed.{Preprocessed, preprocessed}
 use Rattle.expansion_laws.specs.Telling.{AreAlike}
 

@@ -1,15 +1,15 @@
 -- Identifiers of a unit (ISO/IEC 9899:1999, 6.4.2): they are made of identifiers and pp-numbers of kept files
 -- and of numbers that the unit brought, each whole, one behind the other (this project's).
 use Rattle.std.specs.Prelude.{◌≡◌, ℕ, true, List, Some, Ok}
-use Rattle.include_tree.specs.Below.cs_base.declared.tokens.Link.{Link}
-use Rattle.include_tree.specs.Below.cs_base.Token.{Token, has_origins}
-use Rattle.include_tree.specs.Below.cs_base.Units.{UnitValue}
-use Rattle.include_tree.specs.Below.line_shape.Signs.{is_name}
-use Rattle.include_tree.specs.Below.macro_body.Substitution.{line_number}
-use Rattle.include_tree.specs.Below.unit_steps.declared.events.Event.{Event}
-use Rattle.include_tree.specs.Below.source_files.Files.{Source, SourceFile, Table, Carried}
-use Rattle.include_tree.specs.Below.source_files.Sources.{source_at}
-use Rattle.include_tree.specs.Below.unit_steps.Texts.{UnitTextValue}
+use Rattle.cs_base.specs.declared.tokens.Link.{Link}
+use Rattle.cs_base.specs.Token.{Token, has_origins}
+use Rattle.cs_base.specs.Units.{UnitValue}
+use Rattle.line_shape.specs.Signs.{is_name}
+use Rattle.macro_body.specs.Substitution.{line_number}
+use Rattle.unit_steps.specs.declared.events.Event.{Event}
+use Rattle.source_files.specs.Files.{Source, SourceFile, Table, Carried}
+use Rattle.source_files.specs.Sources.{source_at}
+use Rattle.unit_steps.specs.Texts.{UnitTextValue}
 use Rattle.include_tree.specs.Preprocessed.{Preprocessed, preprocessed}
 use Rattle.expansion_laws.specs.Pieces.{IsOneOf, IsMadeOf}
 use Rattle.unit_laws.specs.UnitLinks.{IsIn}

@@ -1,13 +1,13 @@
 -- The tokens of a unit are spelled as their kinds say (ISO/IEC 9899:1999, 6.4).
 use Rattle.std.specs.Prelude.{◌≡◌, ℕ, true, Some, Ok}
 use Rattle.std.specs.List.{list_all}
-use Rattle.include_tree.specs.Below.cs_base.declared.tokens.Link.{Link}
-use Rattle.include_tree.specs.Below.cs_base.Token.{Token}
-use Rattle.include_tree.specs.Below.cs_base.Units.{UnitValue}
-use Rattle.include_tree.specs.Below.unit_steps.declared.events.Event.{Event}
-use Rattle.include_tree.specs.Below.source_files.Files.{Source, SourceFile, Table, Carried}
-use Rattle.include_tree.specs.Below.source_files.Sources.{source_at}
-use Rattle.include_tree.specs.Below.unit_steps.Texts.{UnitTextValue}
+use Rattle.cs_base.specs.declared.tokens.Link.{Link}
+use Rattle.cs_base.specs.Token.{Token}
+use Rattle.cs_base.specs.Units.{UnitValue}
+use Rattle.unit_steps.specs.declared.events.Event.{Event}
+use Rattle.source_files.specs.Files.{Source, SourceFile, Table, Carried}
+use Rattle.source_files.specs.Sources.{source_at}
+use Rattle.unit_steps.specs.Texts.{UnitTextValue}
 use Rattle.include_tree.specs.Preprocessed.{Preprocessed, preprocessed}
 use Rattle.expansion_laws.specs.Spelled.{is_spelled}
 use Rattle.unit_laws.specs.UnitLinks.{IsIn}

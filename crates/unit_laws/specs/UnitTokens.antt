@@ -2,17 +2,17 @@
 -- tokens of kept files, one behind the other, or of a number that was brought, and stand where tokens of
 -- kept files stand.
 use Rattle.std.specs.Prelude.{◌≡◌, ℕ, false, List, None, Some, Ok, codes}
-use Rattle.include_tree.specs.Below.cs_base.declared.positions.Pos.{Pos}
-use Rattle.include_tree.specs.Below.cs_base.declared.tokens.Link.{Link}
-use Rattle.include_tree.specs.Below.cs_base.Token.{Token}
-use Rattle.include_tree.specs.Below.cs_base.Units.{UnitValue}
-use Rattle.include_tree.specs.Below.part_lexer.Characters.{double_quote}
-use Rattle.include_tree.specs.Below.macro_body.Substitution.{line_number}
-use Rattle.include_tree.specs.Below.unit_steps.declared.events.Event.{Event}
-use Rattle.include_tree.specs.Below.unit_steps.declared.events.EventKind.TheVariants as kind
-use Rattle.include_tree.specs.Below.source_files.Files.{Source, SourceFile, Table, Carried}
-use Rattle.include_tree.specs.Below.source_files.Sources.{source_at}
-use Rattle.include_tree.specs.Below.unit_steps.Texts.{UnitTextValue}
+use Rattle.cs_base.specs.declared.positions.Pos.{Pos}
+use Rattle.cs_base.specs.declared.tokens.Link.{Link}
+use Rattle.cs_base.specs.Token.{Token}
+use Rattle.cs_base.specs.Units.{UnitValue}
+use Rattle.lexer.specs.Characters.{double_quote}
+use Rattle.macro_body.specs.Substitution.{line_number}
+use Rattle.unit_steps.specs.declared.events.Event.{Event}
+use Rattle.unit_steps.specs.declared.events.EventKind.TheVariants as kind
+use Rattle.source_files.specs.Files.{Source, SourceFile, Table, Carried}
+use Rattle.source_files.specs.Sources.{source_at}
+use Rattle.unit_steps.specs.Texts.{UnitTextValue}
 use Rattle.include_tree.specs.Preprocessed.{Preprocessed, preprocessed}
 use Rattle.expansion_laws.specs.Pieces.{IsOneOf, Characters, IsWhole, AreWhole, StandsWith}
 use Rattle.unit_laws.specs.UnitLinks.{IsIn}

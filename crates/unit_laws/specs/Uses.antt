@@ -1,18 +1,18 @@
 -- Items that a unit reached, and uses of parameters in their definitions (ISO/IEC 9899:1999, 6.10.3).
 use Rattle.std.specs.Prelude.{◌≡◌, ℕ, Some, Ok, slice_get}
 use Rattle.std.specs.List.{flat_map}
-use Rattle.include_tree.specs.Below.cs_base.declared.tokens.Link.{Link}
-use Rattle.include_tree.specs.Below.cs_base.Units.{UnitValue}
-use Rattle.include_tree.specs.Below.line_shape.declared.items.ItemKind.TheVariants.{Define}
-use Rattle.include_tree.specs.Below.macro_body.declared.definitions.Definition.{Definition}
-use Rattle.include_tree.specs.Below.macro_body.Defining.{defined_by}
-use Rattle.include_tree.specs.Below.unit_steps.declared.events.Reached.{Reached}
-use Rattle.include_tree.specs.Below.source_files.Files.{Source, SourceFile, Table, Carried}
-use Rattle.include_tree.specs.Below.source_files.Tables.{IsGrown}
-use Rattle.include_tree.specs.Below.unit_steps.Names.{definition_links}
-use Rattle.include_tree.specs.Below.unit_steps.Notes.{links_of}
-use Rattle.include_tree.specs.Below.source_files.Sources.{source_at}
-use Rattle.include_tree.specs.Below.unit_steps.Texts.{UnitTextValue}
+use Rattle.cs_base.specs.declared.tokens.Link.{Link}
+use Rattle.cs_base.specs.Units.{UnitValue}
+use Rattle.line_shape.specs.declared.items.ItemKind.TheVariants.{Define}
+use Rattle.macro_body.specs.declared.definitions.Definition.{Definition}
+use Rattle.macro_body.specs.Defining.{defined_by}
+use Rattle.unit_steps.specs.declared.events.Reached.{Reached}
+use Rattle.source_files.specs.Files.{Source, SourceFile, Table, Carried}
+use Rattle.source_files.specs.Tables.{IsGrown}
+use Rattle.unit_steps.specs.Names.{definition_links}
+use Rattle.unit_steps.specs.Notes.{links_of}
+use Rattle.source_files.specs.Sources.{source_at}
+use Rattle.unit_steps.specs.Texts.{UnitTextValue}
 use Rattle.include_tree.specs.Preprocessed.{Preprocessed, preprocessed}
 use Rattle.include_tree.specs.Walk.{ItemText, items_in}
 use Rattle.unit_laws.specs.UnitLinks.{IsIn}

@@ -8,7 +8,7 @@ use Rattle.std.proofs.lemmas.Option.{same_Some}
 use Rattle.cs_base.specs.declared.tokens.Kind.TheVariants.{Number}
 use Rattle.cs_base.specs.Token.{Token, token}
 use Rattle.cs_base.specs.Padding.{padded}
-use Rattle.source_files.specs.Below.part_lexer.Places.{pos}
+use Rattle.source_files.specs.Below.lexer.Places.{pos}
 use Rattle.macro_expand.specs.Below.macro_body.Sound.{is_traced, is_low}
 use Rattle.unit_steps.specs.declared.progress.Progress.{Progress}
 use Rattle.source_files.specs.Files.{Table}

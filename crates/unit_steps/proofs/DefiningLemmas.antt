@@ -6,7 +6,7 @@ use Rattle.std.proofs.lemmas.List.{append-nil, take_all}
 use Rattle.std.proofs.lemmas.List.Concat.{flat_map-append}
 use Rattle.cs_base.specs.Token.{Token}
 use Rattle.cs_base.specs.declared.positions.Pos.{Pos}
-use Rattle.macro_expand.specs.Below.line_shape.Signs.{is_name}
+use Rattle.source_files.specs.Below.line_shape.Signs.{is_name}
 use Rattle.macro_expand.specs.Below.macro_body.declared.definitions.Definition.{Definition}
 use Rattle.macro_expand.specs.Below.macro_body.Macro.{Table as Macros}
 use Rattle.macro_expand.specs.Below.macro_body.Live.{Entries, table_of, with_macro, without_macro}

@@ -3,16 +3,16 @@ use Rattle.std.proofs.Common.{◌≡◌, ℕ, zero, suc, ◌+◌, ◌-◌, ◌�
 use Rattle.std.specs.List.{list_all}
 use Rattle.std.proofs.lemmas.Bool.{cases_Bool, lt-ltb, ltb-true, and_parts}
 use Rattle.cs_base.specs.Token.{Token}
-use Rattle.source_files.specs.Below.part_lexer.Places.{origins_from}
-use Rattle.source_files.specs.Below.part_lexer.Logical.{Character, gone_length, logical_from, logical_of, spelling, line_at}
-use Rattle.source_files.specs.Below.part_lexer.Characters.{line_feed, slash, star, is_white, begins}
-use Rattle.source_files.specs.Below.part_lexer.Tokens.{Found, front_length, comment_end, comment_or_open, token_piece, piece_of, expects_header, piece_at, piece_length, leaves_gap, line_front_after, found_in, found_from, found_of, tokens_in, tokens_of}
-use Rattle.source_files.specs.Below.part_lexer.FileText.{TextValue, file_text}
-use Rattle.source_files.proofs.Below.part_lexer.OriginLemmas.{origins_from-traced}
-use Rattle.source_files.proofs.Below.part_lexer.ScanLemmas.{line_at-bound}
+use Rattle.source_files.specs.Below.lexer.Places.{origins_from}
+use Rattle.source_files.specs.Below.lexer.Logical.{Character, gone_length, logical_from, logical_of, spelling, line_at}
+use Rattle.source_files.specs.Below.lexer.Characters.{line_feed, slash, star, is_white, begins}
+use Rattle.source_files.specs.Below.lexer.Tokens.{Found, front_length, comment_end, comment_or_open, token_piece, piece_of, expects_header, piece_at, piece_length, leaves_gap, line_front_after, found_in, found_from, found_of, tokens_in, tokens_of}
+use Rattle.source_files.specs.Below.lexer.FileText.{TextValue, file_text}
+use Rattle.source_files.proofs.Below.lexer.OriginLemmas.{origins_from-traced}
+use Rattle.source_files.proofs.Below.lexer.ScanLemmas.{line_at-bound}
 use Rattle.macro_expand.specs.Below.macro_body.Sound.{is_traced, is_low}
 use Rattle.source_files.proofs.OpeningLemmas.{readable-small}
-use Rattle.source_files.proofs.Below.part_lexer.TextLemmas.{file_text-toks}
+use Rattle.source_files.proofs.Below.lexer.TextLemmas.{file_text-toks}
 
 abbrev is_sound : Token → Bool
 is_sound t = is_traced t && is_low t

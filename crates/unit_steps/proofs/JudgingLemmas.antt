@@ -8,7 +8,7 @@ use Rattle.std.proofs.lemmas.Option.{same_Some}
 use Rattle.cs_base.specs.declared.causes.Cause.TheVariants as cause
 use Rattle.cs_base.specs.declared.positions.Pos.{Pos}
 use Rattle.cs_base.specs.Token.{Token}
-use Rattle.macro_expand.specs.Below.line_shape.Signs.{is_name}
+use Rattle.source_files.specs.Below.line_shape.Signs.{is_name}
 use Rattle.cond_eval.specs.declared.faults.CondFault.{CondFault}
 use Rattle.cond_eval.specs.Evaluation.{condition}
 use Rattle.unit_steps.specs.declared.events.EventKind.TheVariants as kind

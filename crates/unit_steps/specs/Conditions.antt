@@ -7,8 +7,8 @@ use Rattle.cs_base.specs.declared.causes.Cause.TheVariants as cause
 use Rattle.cs_base.specs.declared.positions.Pos.{Pos}
 use Rattle.cs_base.specs.declared.tokens.Kind.TheVariants.{Number}
 use Rattle.cs_base.specs.Token.{Token, token}
-use Rattle.source_files.specs.Below.part_lexer.Places.{pos}
-use Rattle.macro_expand.specs.Below.line_shape.Signs.{is_name, is_word, is_open, is_close}
+use Rattle.source_files.specs.Below.lexer.Places.{pos}
+use Rattle.source_files.specs.Below.line_shape.Signs.{is_name, is_word, is_open, is_close}
 use Rattle.cond_eval.specs.declared.faults.CondFault.{CondFault}
 use Rattle.cond_eval.specs.declared.faults.CondFault.TheVariants as refused
 use Rattle.cond_eval.specs.Evaluation.{condition}

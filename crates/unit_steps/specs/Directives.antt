@@ -3,8 +3,8 @@ use Rattle.std.specs.Prelude.{Bool, true, false, not, Option, Some, None, List, 
 use Rattle.cs_base.specs.declared.causes.Cause.TheVariants.{BadDirective}
 use Rattle.cs_base.specs.declared.positions.Pos.{Pos}
 use Rattle.cs_base.specs.Token.{Token}
-use Rattle.macro_expand.specs.Below.line_shape.declared.items.ItemKind.{ItemKind}
-use Rattle.macro_expand.specs.Below.line_shape.declared.items.ItemKind.TheVariants.{If, Ifdef, Ifndef}
+use Rattle.source_files.specs.Below.line_shape.declared.items.ItemKind.{ItemKind}
+use Rattle.source_files.specs.Below.line_shape.declared.items.ItemKind.TheVariants.{If, Ifdef, Ifndef}
 use Rattle.macro_expand.specs.Below.macro_body.declared.definitions.Definition.{Definition}
 use Rattle.macro_expand.specs.Below.macro_body.Live.{with_macro, without_macro}
 use Rattle.macro_expand.specs.Below.macro_body.Defining.{defined_by}

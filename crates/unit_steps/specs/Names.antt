@@ -4,7 +4,7 @@ use Rattle.std.specs.Prelude.{ℕ, is_some, if◌then◌else◌, Option, Some, N
 use Rattle.std.specs.List.{flat_map}
 use Rattle.std.specs.Str.{bytes_eq}
 use Rattle.cs_base.specs.Token.{Token}
-use Rattle.macro_expand.specs.Below.line_shape.Signs.{is_name}
+use Rattle.source_files.specs.Below.line_shape.Signs.{is_name}
 use Rattle.macro_expand.specs.Below.macro_body.declared.definitions.Definition.{Definition}
 use Rattle.unit_steps.specs.Notes.{Note, Linked}
 use Rattle.unit_steps.specs.State.{State}

@@ -4,7 +4,7 @@ ghost use Rattle.std.specs.List.{list_all, list_any};
 ghost use Rattle.std.specs.Option.{option_map};
 ghost use Rattle.cs_base.specs.Answer.{Gives};
 ghost use Rattle.cs_base.specs.Token.{Token};
-ghost use Rattle.macro_expand.specs.Below.line_shape.Signs.{is_open, is_name, is_close};
+ghost use Rattle.source_files.specs.Below.line_shape.Signs.{is_open, is_name, is_close};
 ghost use Rattle.macro_expand.specs.Below.macro_body.Sound.{is_traced, is_low};
 ghost use Rattle.source_files.specs.Files.{Table};
 ghost use Rattle.unit_steps.specs.State.{onward};

@@ -2,8 +2,8 @@
 ghost use Rattle.std.specs.Prelude.{◌≡◌, ◌&&◌, not, IsTrue, IfOk, OnOk, Some, cond, drop, option_copied, IfErr};
 ghost use Rattle.std.specs.List.{flat_map, list_all};
 ghost use Rattle.cs_base.specs.Answer.{Gives};
-ghost use Rattle.macro_expand.specs.Below.line_shape.declared.items.ItemKind.TheVariants.{Define};
-ghost use Rattle.macro_expand.specs.Below.line_shape.Items.{line_kind};
+ghost use Rattle.source_files.specs.Below.line_shape.declared.items.ItemKind.TheVariants.{Define};
+ghost use Rattle.source_files.specs.Below.line_shape.Items.{line_kind};
 ghost use Rattle.macro_expand.specs.Below.macro_body.declared.definitions.Definition.{Definition as Macro};
 ghost use Rattle.macro_expand.specs.Below.macro_body.Sound.{is_traced, is_low};
 ghost use Rattle.macro_expand.specs.Below.macro_body.Defining.{defined_by};

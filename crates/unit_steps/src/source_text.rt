@@ -1,6 +1,6 @@
 // A source file that is processed, as it is lent.
 ghost use Rattle.std.specs.Prelude.{◌≡◌, IfSome, IsSome, unwrap_or};
-ghost use Rattle.source_files.specs.Below.part_lexer.FileText.{place_at};
+ghost use Rattle.source_files.specs.Below.lexer.FileText.{place_at};
 ghost use Rattle.macro_expand.specs.Below.macro_body.Faults.{fault_of as expand_fault_of};
 ghost use Rattle.source_files.specs.Faults.{fault_at};
 ghost use Rattle.unit_steps.specs.Expanding.{expansion_fault};

@@ -5,9 +5,9 @@ use Rattle.std.specs.Option.{option_map_or}
 use Rattle.std.proofs.lemmas.Bool.{cases_Bool}
 use Rattle.std.proofs.lemmas.List.{at_drop_more, at_drop_all}
 use Rattle.std.proofs.lemmas.Option.{same_Some}
-use Rattle.class_marks.specs.Below.include_tree.Below.unit_steps.declared.events.Event.{Event}
-use Rattle.class_marks.specs.Below.include_tree.Below.unit_steps.declared.events.EventKind.{EventKind}
-use Rattle.class_marks.specs.Below.include_tree.Below.unit_steps.declared.events.EventKind.TheVariants as kind
+use Rattle.analysis.specs.Below.unit_steps.declared.events.Event.{Event}
+use Rattle.analysis.specs.Below.unit_steps.declared.events.EventKind.{EventKind}
+use Rattle.analysis.specs.Below.unit_steps.declared.events.EventKind.TheVariants as kind
 use Rattle.unused_names.specs.Inclusions.{end_from, open_behind}
 
 end_step : (events : List Event) (number inner : ℕ) (e : Event) → number < length events → e ≡ get_or events number e

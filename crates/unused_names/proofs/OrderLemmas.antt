@@ -18,7 +18,7 @@ use Rattle.std.proofs.lemmas.Option.{slice_get_within, slice_get-get_or, get_or_
 use denote.Param.Members.{Mut}
 use denote.Ref.{Bor}
 use Rattle.cs_base.specs.declared.positions.Pos.{Pos}
-use Rattle.class_marks.specs.Below.include_tree.Below.source_files.Files.{Table}
+use Rattle.analysis.specs.Below.source_files.Files.{Table}
 use Rattle.unused_names.specs.Lines.{HaveSame, is_position}
 use Rattle.unused_names.specs.Order.{path_of, position_cmp}
 use Rattle.unused_names.proofs.LineLemmas.{position_itself, position_same}

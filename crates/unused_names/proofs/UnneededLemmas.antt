@@ -5,10 +5,10 @@ use Rattle.std.proofs.lemmas.Bool.{cases_Bool, cases_lt}
 use Rattle.std.proofs.lemmas.List.Kept.{IsStrictlySortedBy-filter}
 use Rattle.std.proofs.lemmas.Option.{same_Some, slice_get_within}
 use Rattle.cs_base.specs.declared.positions.Pos.{Pos}
-use Rattle.class_marks.specs.Below.include_tree.Below.unit_steps.Texts.{UnitTextValue}
-use Rattle.class_marks.specs.Below.scope_bind.declared.bound.Name.{Name}
-use Rattle.class_marks.specs.Below.ws_core.Analysis.{UnitAnalysis, AnalysisValue}
-use Rattle.class_marks.specs.Below.ws_core.Places.{is_read_only}
+use Rattle.analysis.specs.Below.unit_steps.Texts.{UnitTextValue}
+use Rattle.analysis.specs.Below.scope_bind.declared.bound.Name.{Name}
+use Rattle.analysis.specs.Analysis.{UnitAnalysis, AnalysisValue}
+use Rattle.analysis.specs.Places.{is_read_only}
 use Rattle.unused_names.specs.Inclusions.{end_of, tokens_before}
 use Rattle.unused_names.specs.LastUses.{MeansBehind}
 use Rattle.unused_names.specs.Lines.{LinesValue, Meets, AreLines, HaveSame, is_chosen}

@@ -5,7 +5,7 @@ use Rattle.std.specs.Cmp.Lexicographic.{bytes_decides}
 use Rattle.std.proofs.lemmas.Bool.{cases_Bool}
 use Rattle.std.proofs.lemmas.Option.{same_Some, slice_get_within}
 use borrow.Author.Count.{below_more}
-use Rattle.class_marks.specs.Below.include_tree.Below.unit_steps.declared.events.Event.{Event}
+use Rattle.analysis.specs.Below.unit_steps.declared.events.Event.{Event}
 use Rattle.unused_names.specs.LastUses.{Asks, TellsLast, AreLast, MeansBehind}
 use Rattle.unused_names.specs.Unneeded.{asks_meaning, gives_meaning, name_of}
 

@@ -2,10 +2,10 @@
 -- the included file and its end.
 use Rattle.std.specs.Prelude.{ℕ, ◌+◌, ◌-◌, ◌==◌, if◌then◌else◌, ◌≡◌, ◌≤◌, ◌<◌, Bool, true, false, Option, Some, None, List, [], ◌∷◌, drop, length, slice_get}
 use Rattle.std.specs.Option.{option_map_or}
-use Rattle.class_marks.specs.Below.include_tree.Below.unit_steps.declared.events.Event.{Event}
-use Rattle.class_marks.specs.Below.include_tree.Below.unit_steps.declared.events.EventKind.{EventKind}
-use Rattle.class_marks.specs.Below.include_tree.Below.unit_steps.declared.events.EventKind.TheVariants as kind
-use Rattle.class_marks.specs.Below.include_tree.Below.unit_steps.Texts.{UnitTextValue}
+use Rattle.analysis.specs.Below.unit_steps.declared.events.Event.{Event}
+use Rattle.analysis.specs.Below.unit_steps.declared.events.EventKind.{EventKind}
+use Rattle.analysis.specs.Below.unit_steps.declared.events.EventKind.TheVariants as kind
+use Rattle.analysis.specs.Below.unit_steps.Texts.{UnitTextValue}
 
 -- the items of an included file begin
 abbrev pub is_enter : EventKind → Bool

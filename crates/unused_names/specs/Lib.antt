@@ -7,5 +7,3 @@ pub mod Unused
 pub mod Spans
 pub mod LastUses
 pub mod Lines
--- Words of the crates below, passed on.
-pub mod Below

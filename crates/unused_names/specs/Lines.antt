@@ -2,10 +2,10 @@
 use Rattle.std.specs.Prelude.{ℕ, ◌≡◌, ◌<◌, ◌⊎◌, ◌&&◌, ◌||◌, not, nat_eq, Bool, true, false, Some, List, [], ◌∷◌, ◌++◌, slice_get}
 use Rattle.cs_base.specs.declared.positions.Pos.{Pos}
 use Rattle.indexmap.specs.IndexSet.{IndexSet, contains_by}
-use Rattle.class_marks.specs.Below.include_tree.Below.unit_steps.Texts.{UnitTextValue}
-use Rattle.class_marks.specs.Below.scope_bind.declared.bound.Name.{Name}
-use Rattle.class_marks.specs.Below.ws_core.Analysis.{UnitAnalysis, AnalysisValue}
-use Rattle.class_marks.specs.Below.ws_core.Places.{is_read_only}
+use Rattle.analysis.specs.Below.unit_steps.Texts.{UnitTextValue}
+use Rattle.analysis.specs.Below.scope_bind.declared.bound.Name.{Name}
+use Rattle.analysis.specs.Analysis.{UnitAnalysis, AnalysisValue}
+use Rattle.analysis.specs.Places.{is_read_only}
 use Rattle.unused_names.specs.Unneeded.{Includes, IsUnneeded}
 
 -- The lines that were met, and which of them some inclusion needs.

@@ -5,8 +5,8 @@ use Rattle.std.specs.Option.{option_map_or}
 use Rattle.std.specs.Ordering.{nat_cmp, ordering_then}
 use Rattle.std.specs.declared.cmp.Ordering.{Ordering}
 use Rattle.cs_base.specs.declared.positions.Pos.{Pos}
-use Rattle.class_marks.specs.Below.include_tree.Below.source_files.Files.{Table}
-use Rattle.class_marks.specs.Below.include_tree.Below.source_files.KeptFiles.{KeptValue, kept_at}
+use Rattle.analysis.specs.Below.source_files.Files.{Table}
+use Rattle.analysis.specs.Below.source_files.KeptFiles.{KeptValue, kept_at}
 
 -- the path of the kept file with a number
 abbrev pub path_of : Table → ℕ → List ℕ

@@ -1,7 +1,7 @@
 -- The first and the last occurrence of each entity of a unit.
 use Rattle.std.specs.Prelude.{ℕ, ◌≡◌, ◌≤◌, ◌<◌, Option, None, Some, List, length, slice_index_or}
-use Rattle.class_marks.specs.Below.scope_bind.declared.bound.Name.{Name}
-use Rattle.class_marks.specs.Below.scope_bind.Names.{entity_at}
+use Rattle.analysis.specs.Below.scope_bind.declared.bound.Name.{Name}
+use Rattle.analysis.specs.Below.scope_bind.Names.{entity_at}
 use Rattle.unused_names.specs.declared.spans.Span.{Span}
 
 abbrev pub span : ℕ → ℕ → Span

@@ -4,14 +4,14 @@ use Rattle.std.specs.List.Sorted.{IsStrictlySortedBy}
 use Rattle.std.specs.Option.{option_map_or}
 use Rattle.cs_base.specs.declared.positions.Pos.{Pos}
 use Rattle.cs_base.specs.Token.{Token}
-use Rattle.class_marks.specs.Below.include_tree.Below.unit_steps.declared.events.Event.{Event}
-use Rattle.class_marks.specs.Below.include_tree.Below.unit_steps.declared.events.EventKind.{EventKind}
-use Rattle.class_marks.specs.Below.include_tree.Below.unit_steps.declared.events.EventKind.TheVariants as kind
-use Rattle.class_marks.specs.Below.include_tree.Below.unit_steps.Texts.{UnitTextValue}
-use Rattle.class_marks.specs.Below.scope_bind.declared.bound.Name.{Name}
-use Rattle.class_marks.specs.Below.scope_bind.Names.{entity_at}
-use Rattle.class_marks.specs.Below.ws_core.Analysis.{UnitAnalysis, AnalysisValue}
-use Rattle.class_marks.specs.Below.ws_core.Places.{is_read_only}
+use Rattle.analysis.specs.Below.unit_steps.declared.events.Event.{Event}
+use Rattle.analysis.specs.Below.unit_steps.declared.events.EventKind.{EventKind}
+use Rattle.analysis.specs.Below.unit_steps.declared.events.EventKind.TheVariants as kind
+use Rattle.analysis.specs.Below.unit_steps.Texts.{UnitTextValue}
+use Rattle.analysis.specs.Below.scope_bind.declared.bound.Name.{Name}
+use Rattle.analysis.specs.Below.scope_bind.Names.{entity_at}
+use Rattle.analysis.specs.Analysis.{UnitAnalysis, AnalysisValue}
+use Rattle.analysis.specs.Places.{is_read_only}
 use Rattle.unused_names.specs.Inclusions.{end_of, Begins, Brings}
 use Rattle.unused_names.specs.Order.{position_cmp}
 

@@ -3,9 +3,9 @@ use Rattle.std.specs.Prelude.{ℕ, ◌≡◌, false, Some, List, codes, slice_ge
 use Rattle.std.specs.List.Sorted.{IsStrictlySortedBy}
 use Rattle.std.specs.Str.{bytes_eq}
 use Rattle.cs_base.specs.declared.positions.Part.{Part}
-use Rattle.class_marks.specs.Below.ws_core.Analysis.{AnalysisValue}
-use Rattle.class_marks.specs.Below.ws_core.Parts.{IsFirst, part_cmp}
-use Rattle.class_marks.specs.Below.ws_core.Spellings.{spelling_of}
+use Rattle.analysis.specs.Analysis.{AnalysisValue}
+use Rattle.analysis.specs.Parts.{IsFirst, part_cmp}
+use Rattle.analysis.specs.Spellings.{spelling_of}
 use Rattle.class_marks.specs.declared.roles.Role.TheVariants.{Declares, Uses}
 use Rattle.class_marks.specs.Touching.{HasRole, IsReadOnlyClass}
 

@@ -2,7 +2,7 @@
 ghost use Rattle.std.specs.Prelude.{◌≡◌, ◌+◌, ◌^◌, ◌<◌, ◌≤◌, length};
 ghost use Rattle.unused_names.specs.Inclusions.{end_of, is_enter, open_behind, tokens_before};
 
-use class_marks::{Event, EventKind, UnitText};
+use analysis::{Event, EventKind, UnitText};
 
 /// Whether the items of an included file begin.
 pub(crate) fn is_enter(kind: EventKind) -> bool

@@ -3,7 +3,7 @@ ghost use Rattle.std.specs.Prelude.{◌≡◌, ◌≤◌, ◌<◌, ◌+◌, ℕ,
 ghost use Rattle.unused_names.specs.LastUses.{last_at, AreLast, MeansBehind};
 ghost use Rattle.unused_names.specs.Unneeded.{asks_meaning, gives_meaning, name_of};
 
-use class_marks::{Event, EventKind};
+use analysis::{Event, EventKind};
 use cs_base::Memory;
 use indexmap::IndexMap;
 use std::alloc::Global;

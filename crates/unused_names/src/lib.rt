@@ -19,9 +19,5 @@ mod spans;
 mod unneeded_lines;
 mod unused_classes;
 
-pub use class_marks::{
-    Analysis, EntityKind, KeptFile, Reached, Role, Texts, UnitText, has_read_only, is_marked,
-    marks_of, push_place,
-};
 pub use unneeded_lines::unneeded;
 pub use unused_classes::{is_unused, unused};

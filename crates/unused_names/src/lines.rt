@@ -9,7 +9,7 @@ ghost use Rattle.unused_names.specs.Unneeded.{IsUnneeded};
 use crate::inclusions::{end_of, is_enter, tokens_before};
 use crate::last_uses::{LastUses, any_means_behind};
 use crate::spans::{Span, any_reaches_out, count_of, spans};
-use class_marks::{Analysis, Bound, UnitText};
+use analysis::{Analysis, Bound, UnitText};
 use cs_base::{Memory, Pos};
 use indexmap::IndexSet;
 use std::alloc::Global;

@@ -3,7 +3,7 @@ ghost use Rattle.std.specs.Prelude.{◌≡◌};
 ghost use Rattle.std.specs.Ordering.{nat_cmp, ordering_then};
 ghost use Rattle.unused_names.specs.Order.{path_of, position_cmp};
 
-use class_marks::Analysis;
+use analysis::Analysis;
 use cs_base::Pos;
 use std::cmp::Ordering;
 

@@ -2,7 +2,7 @@
 ghost use Rattle.std.specs.Prelude.{◌≡◌, ◌≤◌, ◌<◌, ◌+◌, ℕ, None, Some, IfOk, OnOk, MatchBool, length, slice_index_or, slice_set};
 ghost use Rattle.unused_names.specs.Spans.{span_with, AreSpans, ReachesOut, TellsSpan};
 
-use class_marks::Bound;
+use analysis::Bound;
 use cs_base::{Memory, Tok};
 use std::alloc::Global;
 

@@ -7,7 +7,7 @@ ghost use Rattle.unused_names.specs.Unneeded.{AreUnneeded};
 
 use crate::lines::Lines;
 use crate::order::compare;
-use class_marks::Analysis;
+use analysis::Analysis;
 use cs_base::{Memory, Pos};
 use std::alloc::Global;
 

@@ -1,13 +1,14 @@
 // Names that are declared and not used.
 ghost use Rattle.std.specs.Prelude.{◌≡◌, IfOk, MatchBool, codes};
 ghost use Rattle.std.specs.Str.{bytes_eq};
-ghost use Rattle.class_marks.specs.Below.ws_core.Parts.{IsFirst, IsPart};
+ghost use Rattle.analysis.specs.Parts.{IsFirst, IsPart};
 ghost use Rattle.class_marks.specs.Marks.{AreMarked};
 ghost use Rattle.class_marks.specs.Roles.{names_with};
 ghost use Rattle.unused_names.specs.Unused.{AreUnused, IsDeclaredAlone, IsUnused};
 ghost use Rattle.class_marks.specs.declared.roles.Role.TheVariants as role;
 
-use class_marks::{Analysis, Role, has_read_only, is_marked, marks_of};
+use analysis::Analysis;
+use class_marks::{Role, has_read_only, is_marked, marks_of};
 use cs_base::{Memory, Part};
 use std::alloc::Global;
 

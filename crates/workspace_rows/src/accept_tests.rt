@@ -1,9 +1,9 @@
 // Workspaces over files in memory, and the first fault of their units or what is accepted; worked by hand.
 use crate::rows::{cut, number};
 use crate::workspaces::{held, show_fault, workspace};
+use analysis::{Analysis, analyse};
 use std::alloc::{AllocError, Global};
 use std::test::Fail;
-use ws_core::{Analysis, analyse};
 
 // A row: the number of the read that fails, 0 for none; a workspace file; the files that are held, each as `PATH:TEXT`
 // with `@` between them; and what is shown.

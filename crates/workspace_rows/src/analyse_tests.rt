@@ -1,10 +1,10 @@
 // The classes of names in whole workspaces, worked by hand from the definitions.
 use crate::rows::{cut, number};
 use crate::workspaces::analysed;
+use analysis::Analysis;
 use cs_base::Pos;
 use std::alloc::{AllocError, Global};
 use std::test::Fail;
-use ws_core::Analysis;
 
 // A row: a workspace file; the files that are held, each as `PATH:TEXT` with `@` between them; the places that are asked
 // for, one a line; and of each the class of the part that it names, or a dash where it names none.

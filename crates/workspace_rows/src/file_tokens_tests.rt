@@ -1,10 +1,10 @@
 // The file tokens of small workspaces, worked by hand.
 use crate::rows::cut;
 use crate::workspaces::workspace;
+use analysis::{Analysis, analyse};
 use cs_base::{MemFiles, Pos};
 use std::alloc::{AllocError, Global};
 use std::test::Fail;
-use ws_core::{Analysis, analyse};
 
 // A row: the text of the file of the only unit; the numbers that it brings, each with its character; and where the parts
 // of the pseudo file of lines and those of the file begin, each with its length.

@@ -1,11 +1,11 @@
 // The classes of small workspaces, worked by hand.
 use crate::rows::cut;
 use crate::workspaces::analysed;
+use analysis::Analysis;
 use cs_base::{Part, Pos};
 use eclass_map::Classes;
 use std::alloc::{AllocError, Global};
 use std::test::Fail;
-use ws_core::Analysis;
 
 // A row: a workspace file; the files that are held, each as `PATH:TEXT` with `@` between them; and each part whose class
 // has a part before it, with the first of these.

@@ -1,8 +1,8 @@
 // Parts in the order of the paths of their files; worked by hand.
 use crate::workspaces::analysed;
+use analysis::Analysis;
 use std::alloc::{AllocError, Global};
 use std::test::Fail;
-use ws_core::Analysis;
 
 // The files in which the first members of classes stand, in order; a file once where several stand in a row.
 fn shown(alloc: Global, a: &Analysis) -> Result<Vec<u8>, AllocError> {

@@ -1,6 +1,7 @@
 // The workspaces, preprocessed.
 use crate::rows::cut;
 use crate::text_rows::ROWS;
+use analysis::{Texts, texts};
 use cs_base::{Link, Tok};
 use include_tree::{Event, EventKind, Reached, UnitText};
 use row_tools::held;
@@ -8,7 +9,6 @@ use std::alloc::Global;
 use std::fmt::Write;
 use std::str;
 use std::test::Fail;
-use ws_core::{Texts, texts};
 use ws_file::read_ws;
 
 // The items that each pseudo file begins with, and their events.

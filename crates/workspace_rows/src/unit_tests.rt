@@ -1,10 +1,10 @@
 // Workspaces over files in memory, and what their units are preprocessed to; worked by hand.
 use crate::rows::{cut, number};
 use crate::workspaces::{held, show_fault, workspace};
+use analysis::{Texts, one_text, texts};
 use include_tree::UnitText;
 use std::alloc::{AllocError, Global};
 use std::test::Fail;
-use ws_core::{Texts, one_text, texts};
 
 // A row: the number of the read that fails, 0 for none; a workspace file; the files that are held, each as `PATH:TEXT`
 // with `@` between them; and what is shown.

@@ -1,8 +1,8 @@
 // Workspaces in memory, and their first faults as text.
+use analysis::{AnalyseFault, Analysis, analyse};
 use cs_base::{MemFiles, Memory};
 use std::alloc::{AllocError, Global};
 use std::test::Fail;
-use ws_core::{AnalyseFault, Analysis, analyse};
 use ws_file::{Workspace, read_ws};
 
 /// The files of a text, and the call that fails; 0 is none.

@@ -2,7 +2,7 @@
 ghost use Rattle.std.specs.Prelude.{◌≡◌, ◌≤◌, ◌+◌, true, false, None, is_some, IfOk, IfErr, IsSome};
 ghost use Rattle.std.specs.Str.{bytes_eq, is_utf8};
 ghost use Rattle.cs_base.specs.Limits.{most_tokens, most_tokens_of_all};
-ghost use Rattle.part_lexer.specs.FileText.{file_text};
+ghost use Rattle.lexer.specs.FileText.{file_text};
 ghost use Rattle.source_files.specs.Limits.{the_limits};
 ghost use Rattle.source_files.specs.Files.{Made, lines_path, carried, found_at, numbered};
 ghost use Rattle.source_files.specs.Faults.{first_place};

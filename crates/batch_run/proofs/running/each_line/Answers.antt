@@ -1,6 +1,6 @@
 use Rattle.std.proofs.Common.{◌≡◌, ◌+◌, ◌++◌, ◌∷◌, [], List, take, sym, ap, subst, ◌∙◌}
 use Rattle.std.proofs.lemmas.Grind.{take_at_read}
-use Rattle.batch_file.specs.Line.{LineValue}
+use Rattle.batch_run.specs.Line.{LineValue}
 use Rattle.batch_run.specs.Stepping.{RunTo}
 use Rattle.batch_run.proofs.RunLemmas.{run_more, run_none, run_ready}
 use Rattle.batch_run.proofs.running.each_line.Goals as goal

@@ -1,6 +1,6 @@
 use Rattle.std.proofs.Common.{subst}
-use Rattle.ws_core.specs.Below.source_files.Files.{Table}
-use Rattle.ws_core.specs.Below.source_files.Tables.{AreFound}
+use Rattle.analysis.specs.Below.source_files.Files.{Table}
+use Rattle.analysis.specs.Below.source_files.Tables.{AreFound}
 use Rattle.batch_run.proofs.EndLemmas.{told_runs, end_reads}
 use Rattle.batch_run.proofs.running.run_batch.Goals as goal
 

@@ -1,7 +1,7 @@
 use Rattle.std.proofs.Common.{Some, None, Ok, refl, sym, ◌∙◌}
 use Rattle.std.proofs.lemmas.Option.{none-some}
-use Rattle.ws_core.specs.Analysis.{AnalysisValue}
-use Rattle.ws_core.specs.Naming.{Names}
+use Rattle.analysis.specs.Analysis.{AnalysisValue}
+use Rattle.analysis.specs.Naming.{Names}
 use Rattle.batch_run.specs.declared.stepping.Batching.{Batching}
 use Rattle.batch_run.proofs.RenamedLemmas.{Accepted, IsPlanned, accepted, line_is_followed}
 use Rattle.batch_run.proofs.StepLemmas.{accepted_steps}

@@ -1,5 +1,5 @@
 use Rattle.std.proofs.Common.{true, Err, refl}
-use Rattle.rename_edit.specs.Refusals.{refusal_of}
+use Rattle.rename_plan.specs.Refusals.{refusal_of}
 use Rattle.batch_run.specs.declared.stepping.Batching.{Batching}
 use Rattle.batch_run.specs.Stepping.{IsAnswered}
 use Rattle.batch_run.proofs.StepLemmas.{refused_steps, told, named}

@@ -1,6 +1,6 @@
 use Rattle.std.proofs.Common.{rules, ◌≡◌, ◌++◌, List, ap, ◌∙◌}
-use Rattle.ws_core.specs.Analysis.{UnitAnalysis}
-use Rattle.call_graphs.specs.declared.nodes.Node.{Node}
+use Rattle.analysis.specs.Analysis.{UnitAnalysis}
+use Rattle.calls_of.specs.declared.nodes.Node.{Node}
 use Rattle.calls_of.specs.Calls.{Call}
 use Rattle.calls_of.specs.InUnits.{owner_by, first_by}
 use Rattle.calls_of.proofs.UnitLemmas.{part-of, unit-calls, unit-nodes}

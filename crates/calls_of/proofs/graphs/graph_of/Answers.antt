@@ -1,5 +1,5 @@
 use Rattle.std.proofs.Common.{◌<◌, ◌^◌, ◌∙◌, List, length, subst}
-use Rattle.call_graphs.specs.declared.nodes.Node.{Node}
+use Rattle.calls_of.specs.declared.nodes.Node.{Node}
 use Rattle.calls_of.specs.Calls.{Call}
 use Rattle.calls_of.specs.Numbers.{AreCalls}
 use Rattle.calls_of.proofs.CallLemmas.{is-graph}

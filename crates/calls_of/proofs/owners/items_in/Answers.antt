@@ -1,7 +1,7 @@
 use Rattle.std.proofs.Common.{◌∙◌, ap, List}
 use Rattle.cs_base.specs.Token.{Token}
 use Rattle.line_shape.specs.Items.{items_of}
-use Rattle.ws_core.proofs.ProcessedLemmas.{text_told}
+use Rattle.analysis.proofs.ProcessedLemmas.{text_told}
 use Rattle.calls_of.proofs.owners.items_in.Goals as goal
 
 pub returns : goal.returns

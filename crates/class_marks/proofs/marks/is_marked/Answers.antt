@@ -1,7 +1,7 @@
 use Rattle.std.proofs.Common.{◌≡◌, Some, sym, ◌∙◌}
 use Rattle.std.proofs.lemmas.Option.{none-some}
 use Rattle.eclass_map.specs.ClassTable.{class_in}
-use Rattle.ws_core.proofs.ClassLemmas.{part_held}
+use Rattle.analysis.proofs.ClassLemmas.{part_held}
 use Rattle.class_marks.specs.Touching.{HasRole}
 use Rattle.class_marks.proofs.AnswerLemmas.{told}
 use Rattle.class_marks.proofs.RoleLemmas.{marked_role, role_marked}

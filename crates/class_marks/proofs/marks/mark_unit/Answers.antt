@@ -1,7 +1,7 @@
 use Rattle.std.proofs.Common.{List, ap, ◌∙◌}
 use Rattle.std.specs.List.{flat_map}
 use Rattle.cs_base.specs.Token.{Token}
-use Rattle.include_tree.specs.Below.unit_steps.declared.events.Event.{Event}
+use Rattle.analysis.specs.Below.unit_steps.declared.events.Event.{Event}
 use Rattle.class_marks.specs.Marks.{with_tokens}
 use Rattle.class_marks.specs.Roles.{event_name, tokens_with}
 use Rattle.class_marks.proofs.MarkLemmas.{both_lists}

@@ -3,11 +3,11 @@ use Rattle.std.specs.List.{flat_map}
 use Rattle.std.proofs.lemmas.List.{take_all}
 use Rattle.cs_base.specs.declared.positions.Part.{Part}
 use Rattle.eclass_map.specs.ClassTable.{Table, class_in}
-use Rattle.scope_bind.specs.Bound.{Bound}
-use Rattle.scope_bind.specs.declared.bound.Name.{Name}
-use Rattle.include_tree.specs.Below.unit_steps.Texts.{UnitTextValue}
-use Rattle.ws_core.proofs.OneUnitLemmas.{bound_of_unit, unit_of_text}
-use Rattle.ws_core.specs.Analysis.{UnitAnalysis}
+use Rattle.analysis.specs.Below.scope_bind.Bound.{Bound}
+use Rattle.analysis.specs.Below.scope_bind.declared.bound.Name.{Name}
+use Rattle.analysis.specs.Below.unit_steps.Texts.{UnitTextValue}
+use Rattle.analysis.proofs.OneUnitLemmas.{bound_of_unit, unit_of_text}
+use Rattle.analysis.specs.Analysis.{UnitAnalysis}
 use Rattle.class_marks.specs.Marks.{with_tokens}
 use Rattle.class_marks.specs.Roles.{names_in, names_with}
 use Rattle.class_marks.proofs.MarkLemmas.{are_marked, list_step}

@@ -1,6 +1,6 @@
 use Rattle.std.proofs.Common.{◌≡◌, take}
 use Rattle.std.specs.List.{flat_map}
-use Rattle.ws_core.specs.Analysis.{UnitAnalysis}
+use Rattle.analysis.specs.Analysis.{UnitAnalysis}
 use Rattle.class_marks.specs.Marks.{with_tokens}
 use Rattle.class_marks.specs.Roles.{names_in}
 use Rattle.class_marks.proofs.marks.marks_of.Given as goal

@@ -1,6 +1,6 @@
 use Rattle.std.proofs.Common.{◌≡◌, ℕ, ◌<◌, Some, false, slice_get}
 use Rattle.cs_base.specs.declared.positions.Part.{Part}
-use Rattle.ws_core.specs.Places.{is_read_only}
+use Rattle.analysis.specs.Places.{is_read_only}
 use Rattle.class_marks.proofs.read_only.has_read_only.Given as goal
 
 abbrev pub invariant-loop-member : goal.invariant-loop-member

@@ -1,11 +1,11 @@
 use Rattle.std.proofs.Common.{◌≡◌, ℕ, List, Option, Some, Result, Ok, Err, sym, subst}
 use Rattle.std.specs.Prelude.{IfSome}
 use Rattle.cs_base.specs.Outside.{FileMap, FilesTold, NoneFailed}
-use Rattle.batch_file.specs.Line.{LineValue}
+use Rattle.batch_run.specs.Line.{LineValue}
 use Rattle.batch_run.specs.declared.running.Batched.{Batched}
 use Rattle.batch_run.specs.Running.{Runs}
 use Rattle.ws_file.specs.Workspace.{WorkspaceValue}
-use Rattle.ws_core.specs.declared.analyse_fault.AnalyseFault.{AnalyseFault}
+use Rattle.analysis.specs.declared.analyse_fault.AnalyseFault.{AnalyseFault}
 use Rattle.command_words.specs.Request.{BatchValue, batch_asked}
 use Rattle.command_words.specs.Asking.{batch_value}
 use Rattle.cscout_run.specs.Answer.{Answer, IsBatchAnswer, IsRequestAnswer, batch_at, workspace_at}

@@ -2,9 +2,9 @@ use Rattle.std.proofs.Common.{◌≡◌, ◌∙◌, ℕ, Some, ap, subst}
 use Rattle.cs_base.specs.Outside.{FileMap}
 use Rattle.cs_base.specs.World.{World}
 use Rattle.ws_file.specs.Workspace.{WorkspaceValue, IsWorkspace}
-use Rattle.ws_core.specs.Below.source_files.Files.{source_of}
-use Rattle.ws_core.specs.Analysis.{analysis_of}
-use Rattle.batch_run.proofs.Below.analysis_laws.CountLemmas.{tokens_are_few}
+use Rattle.analysis.specs.Below.source_files.Files.{source_of}
+use Rattle.analysis.specs.Analysis.{analysis_of}
+use Rattle.analysis.proofs.CountLemmas.{tokens_are_few}
 use Rattle.generated.specs.Generated.{generated_files, workspace_path}
 use Rattle.cscout_run.specs.Answer.{Answer, IsOverWorkspace, IsSizeAnswer, workspace_at}
 use Rattle.cscout_run.specs.Steps.{Prepares}

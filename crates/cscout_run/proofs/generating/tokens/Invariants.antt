@@ -1,5 +1,5 @@
 use Rattle.std.proofs.Common.{◌≡◌, ◌+◌, drop}
-use Rattle.batch_run.specs.Below.analysis_laws.Counts.{tokens_in}
+use Rattle.analysis.specs.Counts.{tokens_in}
 use Rattle.cscout_run.proofs.generating.tokens.Given as goal
 
 abbrev pub invariant-loop-k : goal.invariant-loop-k

@@ -1,6 +1,6 @@
 use Rattle.std.proofs.Common.{List, ℕ, subst, sym}
 use Rattle.std.specs.Prelude.{IsUtf8}
-use Rattle.batch_file.proofs.WordLemmas.{IsUtf8-normal_path_of}
+use Rattle.batch_run.proofs.WordLemmas.{IsUtf8-normal_path_of}
 use Rattle.cscout_run.proofs.preparing.planned.Goals as goal
 
 pub path_text-requires : goal.path_text-requires

@@ -1,6 +1,6 @@
 use Rattle.std.proofs.Common.{◌≡◌, ◌∙◌, ℕ, List, Some, refl, ap, subst}
 use Rattle.cs_base.specs.Paths.{normal_path_of}
-use Rattle.ws_core.specs.ClassReport.{IsClassReport}
+use Rattle.analysis.specs.ClassReport.{IsClassReport}
 use Rattle.cscout_run.proofs.reporting.class_of_name.Goals as goal
 
 pub returns-in-Ok-clause-answer : goal.returns-in-Ok-clause-answer

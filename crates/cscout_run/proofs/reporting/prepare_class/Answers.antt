@@ -1,6 +1,6 @@
 use Rattle.std.proofs.Common.{Err, refl, sym, subst}
-use Rattle.ws_core.specs.Analysis.{analysis_of}
-use Rattle.ws_core.specs.Below.source_files.Files.{source_of}
+use Rattle.analysis.specs.Analysis.{analysis_of}
+use Rattle.analysis.specs.Below.source_files.Files.{source_of}
 use Rattle.cs_base.specs.Outside.{FileMap}
 use Rattle.ws_file.specs.Workspace.{WorkspaceValue}
 use Rattle.cscout_run.specs.declared.stops.Stop.{Stop}

@@ -1,6 +1,6 @@
 use Rattle.std.proofs.Common.{List, ℕ, subst, sym}
 use Rattle.std.specs.Prelude.{IsUtf8}
-use Rattle.batch_file.proofs.WordLemmas.{IsUtf8-normal_path_of}
+use Rattle.batch_run.proofs.WordLemmas.{IsUtf8-normal_path_of}
 use Rattle.command_words.specs.Asking.{template_value}
 use Rattle.cscout_run.proofs.TemplateLemmas.{template_stops}
 use Rattle.cscout_run.proofs.templates.reordered.Goals as goal

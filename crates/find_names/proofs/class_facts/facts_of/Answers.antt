@@ -1,6 +1,6 @@
 use Rattle.std.specs.Prelude.{MatchBool}
-use Rattle.unused_names.specs.Below.ws_core.Below.c_types.declared.entity.EntityKind.TheVariants as entity
-use Rattle.unused_names.specs.Below.class_marks.declared.roles.Role.TheVariants as role
+use Rattle.analysis.specs.Below.c_types.declared.entity.EntityKind.TheVariants as entity
+use Rattle.class_marks.specs.declared.roles.Role.TheVariants as role
 use Rattle.query_words.specs.declared.attributes.Attribute.{Attribute}
 use Rattle.query_words.specs.declared.attributes.Attribute.TheVariants.{Macro, Function, Object, Typedef, Parameter, Enumerator, Tag, Member, Label, External, ReadOnly, Unused, Cut}
 use Rattle.query_words.specs.declared.attributes.Facts.{Facts}

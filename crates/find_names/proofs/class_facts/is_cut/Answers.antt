@@ -1,6 +1,6 @@
 use Rattle.std.proofs.Common.{◌<◌, ℕ, length, arith}
 use Rattle.cs_base.specs.declared.positions.Part.{Part}
-use Rattle.unused_names.specs.Below.ws_core.FileTokens.{IsFileToken}
+use Rattle.analysis.specs.FileTokens.{IsFileToken}
 use Rattle.find_names.proofs.QuestionLemmas.{member_at, none_at_all, none_more}
 use Rattle.find_names.proofs.class_facts.is_cut.Goals as goal
 

@@ -1,5 +1,5 @@
 use Rattle.cs_base.specs.declared.positions.Part.{Part}
-use Rattle.unused_names.specs.Below.ws_core.FileTokens.{IsFileToken}
+use Rattle.analysis.specs.FileTokens.{IsFileToken}
 use Rattle.find_names.proofs.QuestionLemmas.{NoneBefore}
 use Rattle.find_names.proofs.class_facts.is_cut.Given as goal
 

@@ -1,4 +1,4 @@
-use Rattle.unused_names.proofs.Below.class_marks.AnswerLemmas.{if_ok_then}
+use Rattle.class_marks.proofs.AnswerLemmas.{if_ok_then}
 use Rattle.find_names.proofs.found_classes.find.Goals as goal
 
 pub returns-clause-answer : goal.returns-clause-answer

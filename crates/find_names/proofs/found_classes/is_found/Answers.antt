@@ -1,5 +1,5 @@
 use Rattle.std.proofs.Common.{sym, ◌∙◌}
-use Rattle.unused_names.proofs.Below.class_marks.AnswerLemmas.{told_false, told_true}
+use Rattle.class_marks.proofs.AnswerLemmas.{told_false, told_true}
 use Rattle.find_names.specs.Found.{IsFound}
 use Rattle.find_names.specs.Question.{IsInQuestion}
 use Rattle.find_names.proofs.QuestionLemmas.{told_of}

@@ -1,6 +1,6 @@
 use Rattle.std.proofs.Common.{refl}
 use Rattle.std.proofs.lemmas.Option.{slice_get-get_or}
-use Rattle.unused_names.proofs.Below.class_marks.AnswerLemmas.{told_false, told_true}
+use Rattle.class_marks.proofs.AnswerLemmas.{told_false, told_true}
 use Rattle.find_names.specs.Found.{PrintsLine}
 use Rattle.find_names.proofs.FoundLemmas.{shown_all, shown_more, shown_none, shown_same}
 use Rattle.find_names.proofs.found_classes.lines.Goals as goal

@@ -1,10 +1,10 @@
 use Rattle.std.proofs.Common.{◌≡◌, None, true, sym, ◌∙◌, subst}
 use Rattle.cs_base.specs.declared.positions.Part.{Part}
 use Rattle.cs_base.specs.declared.positions.Place.{Place}
-use Rattle.unused_names.specs.Below.ws_core.Analysis.{AnalysisValue}
-use Rattle.unused_names.specs.Below.ws_core.Naming.{Names}
-use Rattle.unused_names.specs.Below.ws_core.Places.{place_at}
-use Rattle.unused_names.proofs.Below.class_marks.AnswerLemmas.{told}
+use Rattle.analysis.specs.Analysis.{AnalysisValue}
+use Rattle.analysis.specs.Naming.{Names}
+use Rattle.analysis.specs.Places.{place_at}
+use Rattle.class_marks.proofs.AnswerLemmas.{told}
 use Rattle.find_names.specs.FileTokens.{is_part}
 use Rattle.find_names.specs.Question.{IsNamed, NamesPart}
 use Rattle.find_names.proofs.QuestionLemmas.{named_never, named_once}

@@ -1,5 +1,5 @@
 use Rattle.std.proofs.Common.{sym, ◌∙◌}
-use Rattle.unused_names.proofs.Below.class_marks.AnswerLemmas.{told}
+use Rattle.class_marks.proofs.AnswerLemmas.{told}
 use Rattle.find_names.specs.Question.{IsWholeKeyword}
 use Rattle.find_names.proofs.questions.is_whole_keyword.Goals as goal
 

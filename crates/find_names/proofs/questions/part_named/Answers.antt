@@ -1,5 +1,5 @@
 use Rattle.std.proofs.Common.{List, ℕ, subst}
-use Rattle.unused_names.specs.Below.ws_core.Naming.{Names}
+use Rattle.analysis.specs.Naming.{Names}
 use Rattle.find_names.proofs.QuestionLemmas.{text_alone}
 use Rattle.find_names.proofs.questions.part_named.Goals as goal
 

@@ -6,9 +6,8 @@ use Rattle.include_tree.specs.Unit.{main_file}
 use Rattle.unit_steps.specs.Keeping.{put_after}
 use Rattle.unit_steps.specs.Moments.{state_in}
 use Rattle.source_files.specs.Answers.{fault_of}
-use Rattle.include_tree.specs.Preprocessed.{with_text}
+use Rattle.include_tree.specs.Preprocessed.{with_text, preprocessed}
 use Rattle.unit_steps.specs.Texts.{UnitTextValue}
-use Rattle.include_tree.specs.Preprocessed.{preprocessed}
 use Rattle.include_tree.specs.GivenFiles.{unit_context}
 use Rattle.source_files.proofs.TableLemmas.{grown_refl, stays-refl, earlier_found, reads-trans}
 use Rattle.include_tree.proofs.UnitLemmas.{with_defines, unit-done, unit-first_refused, unit-next_refused}

@@ -1,7 +1,7 @@
 use Rattle.std.proofs.Common.{◌≡◌, ℕ, length, ap, sym, ◌∙◌, Some}
 use Rattle.eclass_map.specs.ClassTable.{Table, class_in}
 use Rattle.eclass_map.specs.Resized.{Resizes}
-use Rattle.ws_core.specs.Analysed.{Analysed}
+use Rattle.analysis.specs.Analysed.{Analysed}
 use Rattle.kept_analysis.specs.Following.{IsRenamedIn, renamed_by}
 use Rattle.kept_analysis.proofs.AdvanceLemmas.{if_ok, name_some, part_is, members_held, own_follows, renamed_in, moved_for}
 use Rattle.kept_analysis.proofs.advancing.advance.Goals as goal

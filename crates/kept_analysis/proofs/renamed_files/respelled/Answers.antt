@@ -1,5 +1,5 @@
 use Rattle.std.proofs.Common.{ℕ, List, refl, sym, ap, ◌∙◌}
-use Rattle.kept_meaning_laws.specs.Below.part_lexer.Places.{pos}
+use Rattle.analysis.specs.Below.lexer.Places.{pos}
 use Rattle.kept_analysis.specs.Edits.{stands_at}
 use Rattle.kept_analysis.specs.Moves.{put_by}
 use Rattle.kept_analysis.proofs.ByteLemmas.{editing_is, made_none, made_end, made_character, made_other}

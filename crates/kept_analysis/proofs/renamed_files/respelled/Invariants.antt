@@ -1,4 +1,4 @@
-use Rattle.kept_meaning_laws.specs.Below.part_lexer.Places.{pos}
+use Rattle.analysis.specs.Below.lexer.Places.{pos}
 use Rattle.kept_analysis.specs.Edits.{IsMade}
 use Rattle.kept_analysis.specs.Moves.{put_by}
 use Rattle.kept_analysis.proofs.renamed_files.respelled.Given as goal

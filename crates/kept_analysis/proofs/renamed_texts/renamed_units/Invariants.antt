@@ -1,5 +1,5 @@
 use Rattle.std.proofs.Common.{◌≡◌, map}
-use Rattle.kept_meaning_laws.specs.Below.renamed.Renamed.{renamed_unit_analysis}
+use Rattle.renamed.specs.Renamed.{renamed_unit_analysis}
 use Rattle.kept_analysis.specs.Moves.{renaming_by}
 use Rattle.kept_analysis.proofs.renamed_texts.renamed_units.Given as goal
 

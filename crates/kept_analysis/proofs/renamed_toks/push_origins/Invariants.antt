@@ -1,5 +1,5 @@
 use Rattle.std.proofs.Common.{◌≡◌, ◌++◌}
-use Rattle.kept_meaning_laws.specs.Below.part_lexer.Places.{origins_from}
+use Rattle.analysis.specs.Below.lexer.Places.{origins_from}
 use Rattle.kept_analysis.proofs.renamed_toks.push_origins.Given as goal
 
 abbrev pub invariant-loop-k : goal.invariant-loop-k

@@ -1,5 +1,5 @@
 use Rattle.std.proofs.Common.{◌≡◌, map, take}
-use Rattle.kept_meaning_laws.specs.Below.renamed.Renamed.{renamed_token}
+use Rattle.renamed.specs.Renamed.{renamed_token}
 use Rattle.kept_analysis.specs.Moves.{renaming_by}
 use Rattle.kept_analysis.proofs.renamed_toks.renamed_toks.Given as goal
 

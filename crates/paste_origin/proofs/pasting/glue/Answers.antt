@@ -3,7 +3,7 @@ use Rattle.cs_base.specs.declared.spans.Span.{Span}
 use Rattle.cs_base.specs.declared.tokens.Kind.{Kind}
 use Rattle.cs_base.specs.Spans.{origins_by}
 use Rattle.cs_base.specs.Token.{Token, token}
-use Rattle.part_lexer.specs.OneToken.{one_token_of}
+use Rattle.lexer.specs.OneToken.{one_token_of}
 use Rattle.paste_origin.specs.Pasting.{glue_of, pasted_as}
 use Rattle.paste_origin.proofs.pasting.glue.Goals as goal
 

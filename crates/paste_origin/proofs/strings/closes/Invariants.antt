@@ -1,6 +1,6 @@
 use Rattle.std.proofs.Common.{◌≡◌, false, drop, length}
-use Rattle.part_lexer.specs.Characters.{double_quote}
-use Rattle.part_lexer.specs.Spelling.{closes}
+use Rattle.lexer.specs.Characters.{double_quote}
+use Rattle.lexer.specs.Spelling.{closes}
 use Rattle.paste_origin.proofs.strings.closes.Given as goal
 
 -- the characters that are left close as all do

@@ -1,5 +1,5 @@
 use Rattle.std.proofs.Common.{◌≡◌, ◌<◌, ℕ, false}
-use Rattle.unused_names.specs.Below.include_tree.Below.source_files.KeptFiles.{kept_at}
+use Rattle.analysis.specs.Below.source_files.KeptFiles.{kept_at}
 use Rattle.query_report.specs.Paths.{has_path}
 use Rattle.query_report.proofs.class_lines.is_kept.Given as goal
 

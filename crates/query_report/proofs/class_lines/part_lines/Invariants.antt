@@ -1,5 +1,5 @@
 use Rattle.std.proofs.Common.{◌≡◌, ◌++◌, drop}
-use Rattle.unused_names.specs.Below.ws_core.ClassReport.{part_lines}
+use Rattle.analysis.specs.ClassReport.{part_lines}
 use Rattle.query_report.proofs.class_lines.part_lines.Given as goal
 
 abbrev pub invariant-loop-part : goal.invariant-loop-part

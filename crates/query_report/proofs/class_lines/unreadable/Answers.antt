@@ -1,5 +1,5 @@
 use Rattle.std.proofs.Common.{◌≡◌, List, ℕ, None, subst}
-use Rattle.unused_names.specs.Below.ws_core.Naming.{file_named}
+use Rattle.analysis.specs.Naming.{file_named}
 use Rattle.query_report.proofs.NamedLemmas.{unnamed}
 use Rattle.query_report.proofs.class_lines.unreadable.Goals as goal
 

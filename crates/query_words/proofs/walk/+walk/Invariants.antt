@@ -1,7 +1,6 @@
 use Rattle.std.proofs.Common.{◌+◌, ◌*◌, ◌≤◌, length}
-use Rattle.query_words.specs.Queries.{value}
+use Rattle.query_words.specs.Queries.{value, Both, Either}
 use Rattle.query_words.specs.Reading.{both, either, enclosed, negation, ampersand, bar}
-use Rattle.query_words.specs.Queries.{Both, Either}
 use Rattle.query_words.proofs.WalkLemmas.{GoesOn}
 use Rattle.query_words.proofs.walk.+walk.Given as goal
 

@@ -1,15 +1,15 @@
 use Rattle.std.proofs.Common.{ap, length, refl, sym, ◌∙◌, arith}
 use Rattle.std.specs.List.{flat_map}
 use Rattle.cs_base.specs.declared.causes.Cause.TheVariants as cause
-use Rattle.include_tree.specs.Below.unit_steps.Texts.{UnitTextValue}
-use Rattle.scope_bind.specs.Bound.{Bound}
-use Rattle.ws_core.specs.Analysed.{Analysed}
-use Rattle.ws_core.specs.Analysis.{UnitAnalysis}
+use Rattle.analysis.specs.Below.unit_steps.Texts.{UnitTextValue}
+use Rattle.analysis.specs.Below.scope_bind.Bound.{Bound}
+use Rattle.analysis.specs.Analysed.{Analysed}
+use Rattle.analysis.specs.Analysis.{UnitAnalysis}
 use Rattle.rename_rules.specs.Offences.{bare_places, shadowed_places}
 use Rattle.rename_rules.specs.RenamingValue.{held}
 use Rattle.rename_rules.proofs.FirstLemmas.{then_none, then_all}
 use Rattle.rename_rules.proofs.OccurrenceLemmas.{bare_unit}
-use Rattle.ws_core.proofs.OneUnitLemmas.{bound_of_unit, unit_of_text}
+use Rattle.analysis.proofs.OneUnitLemmas.{bound_of_unit, unit_of_text}
 use Rattle.rename_rules.proofs.UnitLemmas.{unit_next}
 use Rattle.rename_rules.proofs.bare_offences.shadowed.Goals as goal
 

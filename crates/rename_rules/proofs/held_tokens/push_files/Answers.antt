@@ -1,7 +1,7 @@
 use Rattle.std.proofs.Common.{◌++◌, length, ap, arith}
-use Rattle.ws_core.specs.Analysed.{Analysed}
+use Rattle.analysis.specs.Analysed.{Analysed}
 use Rattle.std.specs.Prelude.{filter}
-use Rattle.ws_core.specs.FileTokens.{table_tokens}
+use Rattle.analysis.specs.FileTokens.{table_tokens}
 use Rattle.rename_rules.specs.Tokens.{holds_member}
 use Rattle.rename_rules.proofs.UnitLemmas.{held_files_more, held_files_all}
 use Rattle.rename_rules.proofs.held_tokens.push_files.Goals as goal

@@ -1,6 +1,6 @@
 use Rattle.std.proofs.Common.{◌≡◌, ◌++◌, drop}
 use Rattle.std.specs.Prelude.{filter}
-use Rattle.ws_core.specs.FileTokens.{table_tokens}
+use Rattle.analysis.specs.FileTokens.{table_tokens}
 use Rattle.rename_rules.specs.Tokens.{holds_member}
 use Rattle.rename_rules.proofs.held_tokens.push_files.Given as goal
 

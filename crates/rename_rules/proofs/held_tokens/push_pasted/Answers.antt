@@ -1,9 +1,9 @@
 use Rattle.std.proofs.Common.{length, ap, arith}
-use Rattle.ws_core.specs.Analysed.{Analysed}
-use Rattle.ws_core.specs.Analysis.{UnitAnalysis}
+use Rattle.analysis.specs.Analysed.{Analysed}
+use Rattle.analysis.specs.Analysis.{UnitAnalysis}
 use Rattle.rename_rules.specs.Tokens.{holds_member, pasted_tokens}
 use Rattle.std.proofs.lemmas.List.{take_all}
-use Rattle.ws_core.proofs.OneUnitLemmas.{unit_of_text}
+use Rattle.analysis.proofs.OneUnitLemmas.{unit_of_text}
 use Rattle.rename_rules.proofs.UnitLemmas.{held_units_more}
 use Rattle.rename_rules.proofs.held_tokens.push_pasted.Goals as goal
 

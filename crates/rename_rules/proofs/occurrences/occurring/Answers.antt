@@ -1,5 +1,5 @@
 use Rattle.std.proofs.Common.{refl, ap, ◌∙◌}
-use Rattle.ws_core.specs.Analysed.{Analysed}
+use Rattle.analysis.specs.Analysed.{Analysed}
 use Rattle.rename_rules.specs.RenamingValue.{held}
 use Rattle.rename_rules.proofs.OccurrenceLemmas.{all_occurring}
 use Rattle.rename_rules.proofs.occurrences.occurring.Goals as goal

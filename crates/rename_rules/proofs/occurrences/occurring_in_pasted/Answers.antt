@@ -1,12 +1,12 @@
 use Rattle.std.proofs.Common.{arith}
 use Rattle.std.proofs.lemmas.List.{take_all}
 use Rattle.cs_base.specs.declared.causes.Cause.TheVariants as cause
-use Rattle.ws_core.specs.Analysis.{UnitAnalysis}
+use Rattle.analysis.specs.Analysis.{UnitAnalysis}
 use Rattle.rename_rules.specs.Offences.{occurring_place}
 use Rattle.rename_rules.specs.Tokens.{pasted_tokens}
 use Rattle.rename_rules.specs.RenamingValue.{held}
 use Rattle.rename_rules.proofs.FirstLemmas.{then_none}
-use Rattle.ws_core.proofs.OneUnitLemmas.{unit_of_text}
+use Rattle.analysis.proofs.OneUnitLemmas.{unit_of_text}
 use Rattle.rename_rules.proofs.UnitLemmas.{unit_tokens_next}
 use Rattle.rename_rules.proofs.occurrences.occurring_in_pasted.Goals as goal
 

@@ -1,4 +1,4 @@
-use Rattle.part_lexer.specs.FileText.{file_text}
+use Rattle.lexer.specs.FileText.{file_text}
 use Rattle.source_files.specs.Limits.{the_limits}
 use Rattle.source_files.specs.Opening.{opening}
 use Rattle.source_files.proofs.SourcesLemmas.{gives-opening, opens-there, opens-wide}

@@ -1,5 +1,5 @@
 use Rattle.std.proofs.Common.{◌≡◌, ℕ, List, Ok, refl}
-use Rattle.part_lexer.specs.FileText.{TextValue, file_text}
+use Rattle.lexer.specs.FileText.{TextValue, file_text}
 use Rattle.source_files.specs.declared.slot.Slot.TheVariants as slot
 use Rattle.source_files.specs.declared.status.Status.TheVariants as status
 use Rattle.source_files.specs.Files.{Table}

@@ -1,5 +1,5 @@
 use Rattle.std.proofs.Common.{arith, length, ap, sym, ◌∙◌, [], List}
-use Rattle.rename_rules.specs.Below.ws_core.Analysed.{Analysed}
+use Rattle.analysis.specs.Analysed.{Analysed}
 use Rattle.edited_files.specs.Edited.{with_each}
 use Rattle.template_rules.specs.declared.file_lists.FoundList.{FoundList}
 use Rattle.template_rules.specs.FileLists.{edits_of, edits_from}

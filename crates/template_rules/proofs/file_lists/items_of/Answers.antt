@@ -1,6 +1,6 @@
 use Rattle.std.proofs.Common.{◌≡◌, ◌+◌, ◌-◌, ◌≤◌, ◌++◌, List, [], length, drop, sym, ap, ◌∙◌, append-nil, arith}
 use Rattle.list_cuts.specs.declared.spans.Span.{Span}
-use Rattle.rename_rules.specs.Below.ws_core.Below.part_lexer.Tokens.{tokens_of}
+use Rattle.analysis.specs.Below.lexer.Tokens.{tokens_of}
 use Rattle.template_rules.specs.FileLists.{items_of}
 use Rattle.template_rules.proofs.ListLemmas.{items_end}
 use Rattle.template_rules.proofs.file_lists.items_of.Goals as goal

@@ -1,5 +1,5 @@
 use Rattle.std.proofs.Common.{◌≡◌, ◌+◌, ◌++◌, ◌≤◌, ◌-◌, drop, length}
-use Rattle.rename_rules.specs.Below.ws_core.Below.part_lexer.Tokens.{tokens_of}
+use Rattle.analysis.specs.Below.lexer.Tokens.{tokens_of}
 use Rattle.template_rules.specs.FileLists.{items_of}
 use Rattle.template_rules.proofs.file_lists.items_of.Given as goal
 

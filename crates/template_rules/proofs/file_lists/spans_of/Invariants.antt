@@ -1,6 +1,6 @@
 use Rattle.std.proofs.Common.{◌≡◌, take}
 use Rattle.std.specs.Prelude.{map}
-use Rattle.rename_rules.specs.Below.ws_core.Below.part_lexer.Tokens.{tokens_of}
+use Rattle.analysis.specs.Below.lexer.Tokens.{tokens_of}
 use Rattle.template_rules.specs.FileLists.{items_of}
 use Rattle.template_rules.proofs.file_lists.spans_of.Given as goal
 

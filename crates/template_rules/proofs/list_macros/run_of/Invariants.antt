@@ -1,6 +1,6 @@
 use Rattle.std.proofs.Common.{◌≡◌, take}
 use Rattle.std.specs.Prelude.{count_by, nat_le}
-use Rattle.rename_rules.specs.Below.include_tree.Below.unit_steps.declared.events.Reached.{Reached}
+use Rattle.analysis.specs.Below.unit_steps.declared.events.Reached.{Reached}
 use Rattle.template_rules.proofs.list_macros.run_of.Given as goal
 
 abbrev pub invariant-loop-item : goal.invariant-loop-item

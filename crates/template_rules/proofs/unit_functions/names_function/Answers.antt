@@ -1,5 +1,5 @@
 use Rattle.std.proofs.Common.{◌∙◌}
-use Rattle.rename_rules.specs.Below.scope_bind.Names.{entity_at}
+use Rattle.analysis.specs.Below.scope_bind.Names.{entity_at}
 use Rattle.template_rules.proofs.FoundLemmas.{named_at}
 use Rattle.template_rules.proofs.unit_functions.names_function.Goals as goal
 

@@ -1,5 +1,5 @@
 use Rattle.std.proofs.Common.{◌≡◌, ◌∙◌, List, ℕ, ◌<◌, ◌≤◌, ap, subst}
-use Rattle.class_marks.specs.Below.include_tree.Below.unit_steps.declared.events.Event.{Event}
+use Rattle.analysis.specs.Below.unit_steps.declared.events.Event.{Event}
 use Rattle.unused_names.specs.Inclusions.{end_of}
 use Rattle.unused_names.specs.LastUses.{MeansBehind}
 use Rattle.unused_names.specs.Spans.{ReachesOut}

@@ -2,7 +2,7 @@ use Rattle.std.proofs.Common.{◌≡◌, List, [], refl, subst, rules}
 use Rattle.std.proofs.lemmas.List.{take_all}
 use Rattle.std.proofs.lemmas.Option.{slice_get-get_or}
 use Rattle.cs_base.specs.declared.positions.Part.{Part}
-use Rattle.class_marks.specs.Below.ws_core.Parts.{part_cmp}
+use Rattle.analysis.specs.Parts.{part_cmp}
 use Rattle.class_marks.specs.Keeping.{Keeps}
 use Rattle.unused_names.specs.Unused.{IsUnused}
 use Rattle.class_marks.proofs.KeepLemmas.{keeps_all, keeps_each, keeps_more, keeps_none, keeps_same, keeps_sorted}

@@ -1,7 +1,7 @@
 use Rattle.std.proofs.Common.{◌≡◌, List, ℕ, sym, ap, ◌∙◌}
 use Rattle.std.specs.Prelude.{codes}
 use Rattle.std.specs.Str.{bytes_eq}
-use Rattle.class_marks.specs.Below.ws_core.Spellings.{spelling_of}
+use Rattle.analysis.specs.Spellings.{spelling_of}
 use Rattle.unused_names.specs.Unused.{IsUnused}
 use Rattle.class_marks.proofs.AnswerLemmas.{told_not}
 use Rattle.unused_names.proofs.unused_classes.is_unused.Goals as goal

@@ -1,7 +1,7 @@
 use Rattle.std.proofs.Common.{rules, ◌≡◌, List, ℕ, Bor, None, ap, ◌∙◌}
 use Rattle.std.specs.Option.{option_copied}
-use Rattle.ws_core.specs.Below.linkage_join.Firsts.{first_at}
-use Rattle.ws_core.proofs.Below.linkage_join.FirstsLemmas.{option_copied-cond}
+use Rattle.analysis.specs.Below.linkage_join.Firsts.{first_at}
+use Rattle.analysis.proofs.Below.linkage_join.FirstsLemmas.{option_copied-cond}
 use Rattle.calls_of.proofs.ExternalLemmas.{adds-put}
 use Rattle.calls_of.proofs.firsts.Firsts.keep.Goals as goal
 

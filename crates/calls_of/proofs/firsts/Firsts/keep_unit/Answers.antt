@@ -1,5 +1,5 @@
-use Rattle.ws_core.specs.Below.linkage_join.Firsts.{first_at}
-use Rattle.ws_core.specs.Links.{external_names_from}
+use Rattle.analysis.specs.Below.linkage_join.Firsts.{first_at}
+use Rattle.analysis.specs.Links.{external_names_from}
 use Rattle.calls_of.proofs.ExternalLemmas.{adds-next, adds-all}
 use Rattle.calls_of.proofs.firsts.Firsts.keep_unit.Goals as goal
 

@@ -1,6 +1,6 @@
 use Rattle.std.proofs.Common.{drop}
-use Rattle.ws_core.specs.Below.linkage_join.Firsts.{first_at}
-use Rattle.ws_core.specs.Links.{external_names_from}
+use Rattle.analysis.specs.Below.linkage_join.Firsts.{first_at}
+use Rattle.analysis.specs.Links.{external_names_from}
 use Rattle.calls_of.proofs.ExternalLemmas.{AddsTo}
 use Rattle.calls_of.proofs.firsts.Firsts.keep_unit.Given as goal
 

@@ -1,7 +1,7 @@
 use Rattle.std.proofs.Common.{◌<◌, ◌≤◌, length, min, arith}
-use Rattle.ws_core.specs.Below.linkage_join.Firsts.{first_at}
-use Rattle.ws_core.specs.Links.{names_of_units}
-use Rattle.ws_core.proofs.OneUnitLemmas.{unit_of_text, bound_of_unit}
+use Rattle.analysis.specs.Below.linkage_join.Firsts.{first_at}
+use Rattle.analysis.specs.Links.{names_of_units}
+use Rattle.analysis.proofs.OneUnitLemmas.{unit_of_text, bound_of_unit}
 use Rattle.calls_of.proofs.ExternalLemmas.{units-next, units-all}
 use Rattle.calls_of.proofs.firsts.Firsts.keep_units.Goals as goal
 

@@ -1,6 +1,6 @@
 use Rattle.std.proofs.Common.{drop}
-use Rattle.ws_core.specs.Below.linkage_join.Firsts.{first_at}
-use Rattle.ws_core.specs.Links.{names_of_units}
+use Rattle.analysis.specs.Below.linkage_join.Firsts.{first_at}
+use Rattle.analysis.specs.Links.{names_of_units}
 use Rattle.calls_of.proofs.ExternalLemmas.{UnitsTo}
 use Rattle.calls_of.proofs.firsts.Firsts.keep_units.Given as goal
 

@@ -2,8 +2,8 @@ use Rattle.std.proofs.Common.{List, Option, sym, ap, ◌∙◌}
 use Rattle.std.specs.Option.{option_or}
 use Rattle.cs_base.specs.Token.{Token}
 use Rattle.cs_base.specs.Units.{UnitValue}
-use Rattle.ws_core.specs.Below.linkage_join.Linkage.{first_spelled, names_of}
-use Rattle.ws_core.specs.Links.{names_of_units}
+use Rattle.analysis.specs.Below.linkage_join.Linkage.{first_spelled, names_of}
+use Rattle.analysis.specs.Links.{names_of_units}
 use Rattle.calls_of.proofs.firsts.Firsts.of.Goals as goal
 
 pub returns : goal.returns

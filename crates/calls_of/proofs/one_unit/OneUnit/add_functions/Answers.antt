@@ -1,8 +1,7 @@
 use Rattle.calls_of.proofs.ListLemmas.{flat-more, numbers-more}
-use Rattle.std.proofs.Common.{refl}
+use Rattle.std.proofs.Common.{refl, ◌+◌}
 use Rattle.calls_of.specs.InUnits.{function_named}
 use Rattle.std.specs.List.{range_with_len}
-use Rattle.std.proofs.Common.{◌+◌}
 use Rattle.calls_of.proofs.one_unit.OneUnit.add_functions.Goals as goal
 
 pub loop-k-preserved : goal.loop-k-preserved

@@ -1,6 +1,6 @@
 use Rattle.std.proofs.Common.{rules, ◌≡◌, None, ap, ◌∙◌}
 use Rattle.std.specs.Option.{option_copied}
-use Rattle.ws_core.proofs.Below.linkage_join.FirstsLemmas.{option_copied-cond}
+use Rattle.analysis.proofs.Below.linkage_join.FirstsLemmas.{option_copied-cond}
 use Rattle.calls_of.specs.Owners.{owner_at}
 use Rattle.calls_of.proofs.OwnerLemmas.{owner_with-put}
 use Rattle.calls_of.proofs.owners.Owners.keep_at.Goals as goal

@@ -1,6 +1,6 @@
 use Rattle.std.proofs.Common.{◌||◌, arith}
 use Rattle.std.specs.List.{list_any}
-use Rattle.unused_names.specs.Below.ws_core.FileTokens.{table_tokens}
+use Rattle.analysis.specs.FileTokens.{table_tokens}
 use Rattle.find_names.specs.FileTokens.{has_span, is_span}
 use Rattle.find_names.proofs.TokenLemmas.{files_all, files_more}
 use Rattle.find_names.proofs.file_tokens.FileTokens.push_files.Goals as goal

@@ -1,7 +1,7 @@
 use Rattle.std.proofs.Common.{◌≡◌, ◌||◌, take, drop}
 use Rattle.std.specs.List.{list_any}
 use Rattle.cs_base.specs.declared.positions.Part.{Part}
-use Rattle.unused_names.specs.Below.ws_core.FileTokens.{table_tokens}
+use Rattle.analysis.specs.FileTokens.{table_tokens}
 use Rattle.find_names.specs.FileTokens.{has_span, is_span}
 use Rattle.find_names.proofs.file_tokens.FileTokens.push_files.Given as goal
 

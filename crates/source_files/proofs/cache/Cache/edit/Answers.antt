@@ -1,7 +1,7 @@
 use Rattle.std.proofs.Common.{◌≡◌, ◌≤◌, ℕ, length, arith, rules, subst, sym, ap, ◌∙◌, Ok, Option}
 use Rattle.std.specs.Prelude.{IfSome}
-use Rattle.part_lexer.specs.FileText.{file_text}
-use Rattle.part_lexer.specs.Refusal.{fault_of as lex_fault_of}
+use Rattle.lexer.specs.FileText.{file_text}
+use Rattle.lexer.specs.Refusal.{fault_of as lex_fault_of}
 use Rattle.source_files.specs.Files.{bytes_opened}
 use Rattle.source_files.specs.Edited.{bytes_with, edited, edited_as, size_at}
 use Rattle.source_files.proofs.OpeningLemmas.{ok_value}

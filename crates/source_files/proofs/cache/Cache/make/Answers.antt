@@ -1,6 +1,6 @@
 use Rattle.std.proofs.Common.{◌≡◌, None, Ok, refl, sym, ◌∙◌, ap, subst}
-use Rattle.part_lexer.specs.FileText.{file_text}
-use Rattle.part_lexer.specs.Refusal.{fault_of as lex_fault_of}
+use Rattle.lexer.specs.FileText.{file_text}
+use Rattle.lexer.specs.Refusal.{fault_of as lex_fault_of}
 use Rattle.source_files.specs.Limits.{the_limits}
 use Rattle.source_files.specs.Files.{Made, found_at, numbered}
 use Rattle.source_files.specs.Faults.{first_place}

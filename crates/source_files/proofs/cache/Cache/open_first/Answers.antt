@@ -1,13 +1,13 @@
 use Rattle.std.proofs.Common.{◌≤◌, ◌^◌, Ok, sym, ◌∙◌, ap, arith}
 use Rattle.cs_base.specs.declared.causes.Cause.TheVariants.{TooManyBytes}
-use Rattle.part_lexer.specs.Refusal.{fault_of as lex_fault_of}
+use Rattle.lexer.specs.Refusal.{fault_of as lex_fault_of}
 use Rattle.source_files.specs.Files.{found_at, opened}
 use Rattle.source_files.specs.Faults.{fault}
 use Rattle.source_files.specs.Answers.{fault_of}
 use Rattle.source_files.specs.Opening.{file_read}
 use Rattle.source_files.specs.FileTableFields.{unread_bytes}
 use Rattle.source_files.specs.Statuses.{IsUnread}
-use Rattle.part_lexer.specs.FileText.{file_text}
+use Rattle.lexer.specs.FileText.{file_text}
 use Rattle.source_files.proofs.OpeningLemmas.{named_fault, refused_fault, ok_value, unread-small, cache-opened, opening-read, opening-much}
 use Rattle.source_files.proofs.cache.Cache.open_first.Goals as goal
 

@@ -1,6 +1,6 @@
 use Rattle.std.proofs.Common.{◌≡◌, ℕ, length, ap, subst, arith}
-use Rattle.class_marks.specs.Below.scope_bind.Bound.{Bound}
-use Rattle.class_marks.proofs.Below.ws_core.OneUnitLemmas.{bound_of_unit, unit_of_text}
+use Rattle.analysis.specs.Below.scope_bind.Bound.{Bound}
+use Rattle.analysis.proofs.OneUnitLemmas.{bound_of_unit, unit_of_text}
 use Rattle.unused_names.specs.Lines.{AreLines, lines_in}
 use Rattle.unused_names.proofs.LineLemmas.{end_of_unit, no_lines}
 use Rattle.unused_names.proofs.lines.Lines.of.Goals as goal

@@ -1,5 +1,5 @@
 use Rattle.std.proofs.Common.{◌≡◌, ◌∙◌, ◌+◌, length, ap, subst, ℕ, List, arith}
-use Rattle.class_marks.specs.Below.include_tree.Below.unit_steps.declared.events.Event.{Event}
+use Rattle.analysis.specs.Below.unit_steps.declared.events.Event.{Event}
 use Rattle.unused_names.specs.Lines.{GoOn, lines_in}
 use Rattle.unused_names.proofs.LineLemmas.{go_on_both, go_on_none}
 use Rattle.unused_names.proofs.lines.Lines.push_unit.Goals as goal

@@ -1,0 +1,34 @@
+pub mod CarryLemmas
+pub mod AnswerLemmas
+pub mod TextsLemmas
+pub mod UnitsLemmas
+pub mod ClassLemmas
+pub mod PartLemmas
+pub mod OneUnitLemmas
+pub mod NamingLemmas
+pub mod TokenPlaceLemmas
+pub mod TokenSearchLemmas
+pub mod NameableLemmas
+pub mod MarkLemmas
+pub mod ProcessedLemmas
+pub mod JoinLemmas
+pub mod KnownLemmas
+pub mod FirstLemmas
+pub mod ExternalLemmas
+pub mod PushedLemmas
+pub mod AddingLemmas
+pub mod NumberLemmas
+pub mod FileTokenLemmas
+pub mod SegmentLemmas
+pub mod ListingLemmas
+pub mod PlaceNameLemmas
+pub mod PositionLemmas
+pub mod SpellingLemmas
+pub mod JoinedLemmas
+-- For the crates of laws above.
+pub mod MadeLemmas
+pub mod CountLemmas
+pub mod ReadLemmas
+pub mod OnceLemmas
+-- Words of the crates below, passed on.
+pub mod Below

@@ -1,0 +1,177 @@
+// A workspace whose units are accepted: preprocessed, read and bound.
+ghost use Rattle.std.specs.Prelude.{◌≡◌, ◌≤◌, length, option_copied, slice_get};
+ghost use Rattle.std.specs.Option.{option_map};
+ghost use Rattle.cs_base.specs.Limits.{most_units};
+ghost use Rattle.include_tree.specs.Below.source_files.KeptFiles.{kept_at};
+ghost use Rattle.include_tree.specs.Below.source_files.Tables.{AreText, BeginsWithLines, HasEachOnce};
+
+use c99_tree::Tree;
+use cs_base::Standard;
+use include_tree::{Cache, KeptFile, UnitText};
+use scope_bind::Bound;
+use std::marker::Model;
+use ws_file::Workspace;
+
+/// A unit that is accepted: its standard, its text, its tree, and what its identifiers denote.
+#[derive(Drop)]
+pub struct UnitParts {
+    standard: Standard,
+    text: UnitText,
+    tree: Tree,
+    bound: Bound,
+}
+
+impl Model for UnitParts {
+    ghost use Rattle.std.specs.Coded.{codes};
+    ghost use Rattle.c99_tree.specs.TreeCode.{node_code};
+    ghost use Rattle.analysis.specs.Analysis.{UnitAnalysis, unit_analysis};
+
+    ghost Value = { UnitAnalysis };
+
+    ghost coded = { Prim.hlevel (codes, node_code) };
+
+    ghost view = { λ u. unit_analysis u.standard u.text u.tree u.bound };
+}
+
+impl UnitParts {
+    ghost use Rattle.analysis.specs.Analysis.{unit_analysis};
+
+    pub(crate) fn new(standard: Standard, text: UnitText, tree: Tree, bound: Bound) -> UnitParts
+        ensures { result ≡ unit_analysis standard text tree bound }
+    {
+        UnitParts {
+            standard,
+            text,
+            tree,
+            bound,
+        }
+    }
+
+    /// The text of the unit.
+    pub fn text(&self) -> &UnitText
+        ensures { result.now ≡ self.now.text }
+    {
+        &self.text
+    }
+
+    /// The same unit with another text: its standard, its tree, and what its identifiers denote, stay.
+    pub fn with_text(self, text: UnitText) -> UnitParts
+        ensures { result ≡ unit_analysis self.standard text self.tree self.bound }
+    {
+        let UnitParts {
+            standard,
+            tree,
+            bound,
+            ..
+        } = self;
+        UnitParts {
+            standard,
+            text,
+            tree,
+            bound,
+        }
+    }
+
+    pub(crate) fn tree(&self) -> &Tree
+        ensures { result.now ≡ self.now.tree }
+    {
+        &self.tree
+    }
+
+    pub(crate) fn bound(&self) -> &Bound
+        ensures { result.now ≡ self.now.bound }
+    {
+        &self.bound
+    }
+}
+
+/// A workspace, its units in order, and the files that were read for them.
+#[derive(Drop)]
+pub(crate) struct Accepted {
+    workspace: Workspace,
+    units: Vec<UnitParts>,
+    cache: Cache,
+}
+
+impl Model for Accepted {
+    ghost use Rattle.std.specs.Prelude.{◌≤◌, length};
+    ghost use Rattle.cs_base.specs.Limits.{most_units};
+    ghost use Rattle.std.specs.Coded.{codes};
+    ghost use Rattle.c99_tree.specs.TreeCode.{node_code};
+    ghost use Rattle.analysis.specs.Analysis.{AnalysisValue, analysis_and};
+
+    ghost Value = { AnalysisValue };
+
+    ghost coded = { Prim.hlevel (codes, node_code) };
+
+    ghost view = { λ a. analysis_and a.workspace a.units.items a.cache.table };
+
+    ghost invariant = { λ a. length a.units.items ≤ most_units };
+}
+
+impl Accepted {
+    ghost use Rattle.analysis.specs.Analysis.{analysis_and};
+
+    pub(crate) fn new(workspace: Workspace, units: Vec<UnitParts>, cache: Cache) -> Accepted
+        requires few { length units.items ≤ most_units }
+        ensures { result ≡ analysis_and workspace units.items cache.table }
+    {
+        Accepted {
+            workspace,
+            units,
+            cache,
+        }
+    }
+
+    /// The workspace, the units and the files, each as it is.
+    pub(crate) fn into_parts(self) -> (Workspace, Vec<UnitParts>, Cache)
+        ensures answer { analysis_and result.0 result.1.items result.2.table ≡ self }
+        ensures few { length result.1.items ≤ most_units }
+    {
+        let Accepted {
+            workspace,
+            units,
+            cache,
+        } = self;
+        (workspace, units, cache)
+    }
+
+    pub(crate) fn workspace(&self) -> &Workspace
+        ensures { result.now ≡ self.now.workspace }
+    {
+        &self.workspace
+    }
+
+    /// The units in order.
+    pub(crate) fn units(&self) -> &[UnitParts]
+        ensures answer { result.now ≡ self.now.units }
+        ensures few { length self.now.units ≤ most_units }
+    {
+        self.units.as_slice()
+    }
+
+    /// How many numbers of files are given: those from 0 to before this one. Each is that of a path of its own,
+    /// which is text, and the first that of the pseudo file of lines.
+    pub(crate) fn files(&self) -> u32
+        ensures answer { result ≡ length self.now.table }
+        ensures once { HasEachOnce self.now.table }
+        ensures text { AreText self.now.table }
+        ensures lines { BeginsWithLines self.now.table }
+    {
+        self.cache.numbers()
+    }
+
+    /// The kept file with this number.
+    pub(crate) fn file(&self, number: u32) -> Option<&KeptFile>
+        ensures { option_copied result ≡ kept_at self.now.table number }
+    {
+        self.cache.file(number)
+    }
+
+    /// The path that has this number, also one without a kept file.
+    pub(crate) fn path(&self, number: u32) -> Option<&[u8]>
+        ensures { option_copied result ≡ option_map (λ e. e.path) (slice_get self.now.table number) }
+    {
+        self.cache.path(number)
+    }
+}

@@ -1,0 +1,141 @@
+// A unit that is preprocessed, read and bound; and its refusals.
+ghost use Rattle.std.specs.Prelude.{◌≡◌, IfErr};
+ghost use Rattle.std.specs.Option.{option_map};
+ghost use Rattle.cs_base.specs.Answer.{Gives, result_map_err};
+ghost use Rattle.c99_read.specs.Answer.{stop_of};
+ghost use Rattle.c99_read.specs.Reading.{read_of};
+ghost use Rattle.c99_read.specs.Below.c99_grammar.Dialects.{dialect};
+ghost use Rattle.c99_read.specs.Below.c99_grammar.Standard.{grammar};
+ghost use Rattle.scope_bind.specs.Causes.{cause_of, index_of};
+ghost use Rattle.c_types.specs.Faults.{fault_of as name_fault_of};
+ghost use Rattle.analysis.specs.Texts.{unit_fault};
+ghost use Rattle.analysis.specs.Answers.{fault_of};
+ghost use Rattle.analysis.specs.Analysis.{read_unit, bound_unit};
+ghost use Rattle.analysis.specs.Accepting.{told_of_stop, told_fault, MayTell, IsNoReadFault};
+
+use crate::accepted::UnitParts;
+use crate::analyse_fault::AnalyseFault;
+use crate::fault_places::place_of_index;
+use c99_read::{Dialect, ReadRefusal, read};
+use c99_tree::Tree;
+use cs_base::{Cause, Standard, Tok};
+use include_tree::{Cache, UnitText};
+use scope_bind::{BindRefusal, bind};
+use std::alloc::Global;
+
+/// Reads by this standard and binds unit `number` of this path, whose text this is, or names its fault. The cache has the
+/// files that the text comes from.
+pub(crate) fn read_text(
+    alloc: Global,
+    cache: &Cache,
+    number: u32,
+    standard: Standard,
+    path: &[u8],
+    text: UnitText,
+) -> Result<UnitParts, AnalyseFault>
+    ensures answer { Gives (λ u. u) fault_of result (result_map_err (unit_fault number) (read_unit standard cache.now.table path.now text)) }
+    ensures no_read { IfErr result IsNoReadFault }
+{
+    match read_toks(alloc, text.toks(), standard) {
+        Ok(tree) => bind_text(alloc, cache, number, standard, path, text, tree),
+        Err(refusal) => Err(refused(
+            alloc,
+            cache,
+            number,
+            path,
+            text.toks(),
+            told_of_stop(refusal),
+        )),
+    }
+}
+
+// The tree of the tokens; 2^32 of them and more want too much memory.
+fn read_toks(alloc: Global, toks: &[Tok], standard: Standard) -> Result<Tree, ReadRefusal>
+    ensures { Gives (λ tree. tree) stop_of result (read_of (grammar (dialect standard)) toks.now) }
+{
+    if toks.len() > u32::MAX as usize {
+        return Err(ReadRefusal::Memory);
+    }
+    read(alloc, toks, Dialect::of(standard))
+}
+
+// The same for a unit whose tokens have this tree.
+fn bind_text(
+    alloc: Global,
+    cache: &Cache,
+    number: u32,
+    standard: Standard,
+    path: &[u8],
+    text: UnitText,
+    tree: Tree,
+) -> Result<UnitParts, AnalyseFault>
+    ensures answer { Gives (λ u. u) fault_of result (result_map_err (unit_fault number) (bound_unit standard cache.now.table path.now text tree)) }
+    ensures no_read { IfErr result IsNoReadFault }
+{
+    match bind(alloc, text.toks(), &tree) {
+        Ok(bound) => Ok(UnitParts::new(standard, text, tree, bound)),
+        Err(refusal) => Err(refused(
+            alloc,
+            cache,
+            number,
+            path,
+            text.toks(),
+            told_of_name(refusal),
+        )),
+    }
+}
+
+// Why the reader refused, and at which token: none where it was memory.
+fn told_of_stop(refusal: ReadRefusal) -> Option<(u32, Cause)>
+    ensures { result ≡ option_map told_of_stop (stop_of refusal) }
+{
+    match refusal {
+        ReadRefusal::Syntax { index } => Some((index, Cause::Syntax)),
+        ReadRefusal::TooDeep { index } => Some((index, Cause::TooDeep)),
+        ReadRefusal::Memory => None,
+    }
+}
+
+// Why the binder refused, and at which token: none where it was memory.
+fn told_of_name(refusal: BindRefusal) -> Option<(u32, Cause)>
+    ensures { result ≡ option_map (λ f. (index_of f, cause_of f)) (name_fault_of refusal) }
+{
+    match refusal {
+        BindRefusal::Undeclared { index } => Some((index, Cause::Undeclared)),
+        BindRefusal::NoMember { index } => Some((index, Cause::NoMember)),
+        BindRefusal::NoLabel { index } => Some((index, Cause::NoLabel)),
+        BindRefusal::Redeclared { index } => Some((index, Cause::Redeclared)),
+        BindRefusal::TagRedefined { index } => Some((index, Cause::TagRedefined)),
+        BindRefusal::MixedLinkage { index } => Some((index, Cause::MixedLinkage)),
+        BindRefusal::DesignatorAfterElision { index } => Some((
+            index,
+            Cause::DesignatorAfterElision,
+        )),
+        BindRefusal::Memory => None,
+    }
+}
+
+// The fault of the unit, which stands at a token; none was told where memory ran out.
+fn refused(
+    alloc: Global,
+    cache: &Cache,
+    number: u32,
+    path: &[u8],
+    toks: &[Tok],
+    told: Option<(u32, Cause)>,
+) -> AnalyseFault
+    ensures answer { MayTell result (option_map (told_fault number cache.now.table path.now toks.now) told) }
+    ensures no_read { IsNoReadFault result }
+{
+    match told {
+        Some((index, cause)) => match place_of_index(alloc, cache, path, toks, index) {
+            Ok(place) => AnalyseFault::WorkspaceFault {
+                unit: number,
+                place,
+                cause,
+            },
+            Err(_) => AnalyseFault::Memory,
+        },
+        None => AnalyseFault::Memory,
+    }
+}

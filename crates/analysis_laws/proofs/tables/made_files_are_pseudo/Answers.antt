@@ -1,5 +1,0 @@
-use Rattle.analysis_laws.proofs.MadeLemmas.{made_files_pseudo}
-use Rattle.analysis_laws.proofs.tables.made_files_are_pseudo.Goals as goal
-
-pub returns : goal.returns
-returns c = made_files_pseudo

@@ -1,5 +1,0 @@
-use Rattle.analysis_laws.proofs.OnceLemmas.{paths_once}
-use Rattle.analysis_laws.proofs.tables.paths_stand_once.Goals as goal
-
-pub returns : goal.returns
-returns c = paths_once

@@ -1,5 +1,0 @@
-use Rattle.arranged_file_laws.proofs.MayLaw.{files_may_move}
-use Rattle.arranged_file_laws.proofs.laws.files_may_move.Goals as goal
-
-pub returns : goal.returns
-returns c = files_may_move

@@ -1,5 +1,0 @@
-use Rattle.arranged_file_laws.proofs.Numbers.{numbers_do_not_matter}
-use Rattle.arranged_file_laws.proofs.laws.numbers_do_not_matter.Goals as goal
-
-pub returns : goal.returns
-returns c = numbers_do_not_matter

@@ -1,5 +1,0 @@
-use Rattle.arranged_laws.proofs.EndLemmas.{first_stays, last_stays, expansions_end_alike}
-use Rattle.arranged_laws.proofs.laws.ends_stay.Goals as goal
-
-pub returns : goal.returns
-returns c = record { first = first_stays; last = last_stays; tests = expansions_end_alike }

@@ -1,8 +1,0 @@
-use Rattle.arranged_laws.proofs.PortionLemmas.{portions_compose, portions_move}
-use Rattle.arranged_laws.proofs.laws.portions_compose.Goals as goal
-
-pub returns : goal.returns
-returns c = record {
-  portions = portions_compose c.expansion_goes_part_by_part.ensures.parts;
-  moves = portions_move c.expansion_goes_part_by_part.ensures.parts;
-}

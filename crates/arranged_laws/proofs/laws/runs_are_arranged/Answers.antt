@@ -1,5 +1,0 @@
-use Rattle.arranged_laws.proofs.ArrangeLemmas.{runs_are_arranged}
-use Rattle.arranged_laws.proofs.laws.runs_are_arranged.Goals as goal
-
-pub returns : goal.returns
-returns c = record { arranged = runs_are_arranged c.expansion_goes_part_by_part.ensures.parts }

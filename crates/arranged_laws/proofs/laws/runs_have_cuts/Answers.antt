@@ -1,6 +1,0 @@
-use Rattle.arranged_laws.proofs.CutLemmas.{runs_have_cuts}
-use Rattle.arranged_laws.proofs.OneCutLemmas.{cuts_are_one}
-use Rattle.arranged_laws.proofs.laws.runs_have_cuts.Goals as goal
-
-pub returns : goal.returns
-returns c = record { cuts = runs_have_cuts; one = cuts_are_one }

@@ -1,3 +1,0 @@
--- Lemmas of the crates below, passed on in the same way.
-pub use Rattle.list_cuts.proofs as list_cuts
-pub use Rattle.part_lexer.proofs as part_lexer

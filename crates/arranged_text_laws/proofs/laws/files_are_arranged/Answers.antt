@@ -1,5 +1,0 @@
-use Rattle.arranged_text_laws.proofs.FileLemmas.{files_are_arranged}
-use Rattle.arranged_text_laws.proofs.laws.files_are_arranged.Goals as goal
-
-pub returns : goal.returns
-returns c = files_are_arranged

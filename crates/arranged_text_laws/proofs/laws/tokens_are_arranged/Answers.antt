@@ -1,5 +1,0 @@
-use Rattle.arranged_text_laws.proofs.TokenLaw.{tokens_of_files_are_arranged}
-use Rattle.arranged_text_laws.proofs.laws.tokens_are_arranged.Goals as goal
-
-pub returns : goal.returns
-returns c = tokens_of_files_are_arranged

@@ -1,5 +1,0 @@
-use Rattle.bound_name_laws.proofs.ToldWalk.{identifiers_told}
-use Rattle.bound_name_laws.proofs.laws.identifiers_are_told.Goals as goal
-
-pub returns : goal.returns
-returns c = identifiers_told c.each_token_is_one_name.ensures

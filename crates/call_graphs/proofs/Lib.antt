@@ -1,4 +1,0 @@
-pub mod ListLemmas
-pub mod EdgeLemmas
-pub mod WalkLemmas
-pub mod OrderLemmas

@@ -1,7 +1,0 @@
-use Rattle.std.proofs.Common.{◌≡◌}
-use Rattle.call_graphs.specs.Graph.{numbers_of}
-use Rattle.call_graphs.specs.Walking.{is_marked}
-use Rattle.call_graphs.proofs.marks.Marks.numbers.Given as goal
-
-abbrev pub invariant-loop-node : goal.invariant-loop-node
-invariant-loop-node l = l.numbers.items ≡ numbers_of (is_marked l.self) l.node

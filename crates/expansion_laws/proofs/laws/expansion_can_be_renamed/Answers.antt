@@ -1,5 +1,0 @@
-use Rattle.expansion_laws.proofs.FollowsLemmas.{expansion_is_renamed}
-use Rattle.expansion_laws.proofs.laws.expansion_can_be_renamed.Goals as goal
-
-pub returns : goal.returns
-returns c = record { renames = expansion_is_renamed }

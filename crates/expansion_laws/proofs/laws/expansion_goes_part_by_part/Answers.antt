@@ -1,5 +1,0 @@
-use Rattle.expansion_laws.proofs.PartsLemmas.{expands_in_parts}
-use Rattle.expansion_laws.proofs.laws.expansion_goes_part_by_part.Goals as goal
-
-pub returns : goal.returns
-returns c = record { parts = expands_in_parts }

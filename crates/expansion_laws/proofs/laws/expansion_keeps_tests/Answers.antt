@@ -1,5 +1,0 @@
-use Rattle.expansion_laws.proofs.PassingLemmas.{tests_are_kept}
-use Rattle.expansion_laws.proofs.laws.expansion_keeps_tests.Goals as goal
-
-pub returns : goal.returns
-returns c = record { tests = tests_are_kept }

@@ -1,5 +1,0 @@
-use Rattle.kept_meaning_laws.proofs.ReadLemmas.{edited_files_have_renamed_analysis, units_read_as_before}
-use Rattle.kept_meaning_laws.proofs.meaning.units_read_as_before.Goals as goal
-
-pub returns : goal.returns
-returns c = record { reads = units_read_as_before; analysis = edited_files_have_renamed_analysis }

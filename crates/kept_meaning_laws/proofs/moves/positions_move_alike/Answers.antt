@@ -1,5 +1,0 @@
-use Rattle.kept_meaning_laws.proofs.OneMoveLemmas.{parts_move_alike, tokens_move_alike}
-use Rattle.kept_meaning_laws.proofs.moves.positions_move_alike.Goals as goal
-
-pub returns : goal.returns
-returns c = record { parts = parts_move_alike; tokens = tokens_move_alike }

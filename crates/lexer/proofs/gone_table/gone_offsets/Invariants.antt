@@ -1,0 +1,12 @@
+use Rattle.std.proofs.Common.{◌≡◌, ◌+◌, ◌++◌, ◌≤◌, length}
+use Rattle.lexer.specs.GoneTable.{gone_from, gone_of}
+use Rattle.lexer.proofs.gone_table.gone_offsets.Given as goal
+
+abbrev pub invariant-loop-rest : goal.invariant-loop-rest
+invariant-loop-rest l =
+    (l.gone.items ++ gone_from l.skip l.at l.rest ≡ gone_of l.bytes)
+    × (l.at + length l.rest ≡ length l.bytes)
+    × (l.skip ≤ length l.rest)
+
+abbrev pub decreases-loop-rest : goal.decreases-loop-rest
+decreases-loop-rest l = length l.rest

@@ -1,6 +1,0 @@
-pub mod EachLemmas
-pub mod MarkLemmas
-pub mod TellLemmas
-pub mod TidyLemmas
-pub mod SplitLemmas
-pub mod OfLemmas

@@ -1,5 +1,0 @@
-use Rattle.marked_cuts.proofs.TidyLemmas.{cuts_are_tidied, tidied_cuts_arrange}
-use Rattle.marked_cuts.proofs.laws.cuts_are_tidied.Goals as goal
-
-pub returns : goal.returns
-returns g c = record { tidied = cuts_are_tidied; arranged = tidied_cuts_arrange }

@@ -1,3 +1,0 @@
--- What the public contracts rest on.
-pub mod Marks
-pub mod Laws

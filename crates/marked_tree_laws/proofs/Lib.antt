@@ -1,6 +1,0 @@
-pub mod TreeLemmas
-pub mod SignLemmas
-pub mod RunMarkLemmas
-pub mod ClassLemmas
-pub mod PartMarks
-pub mod Below

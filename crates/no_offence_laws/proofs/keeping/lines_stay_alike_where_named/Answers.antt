@@ -1,5 +1,0 @@
-use Rattle.no_offence_laws.proofs.AlikeLineLemmas.{lines_stay_alike_where_named}
-use Rattle.no_offence_laws.proofs.keeping.lines_stay_alike_where_named.Goals as goal
-
-pub returns : goal.returns
-returns c = lines_stay_alike_where_named

@@ -1,5 +1,0 @@
-use Rattle.no_offence_laws.proofs.RenamingLemmas.{renamings_spell, edited_files_are_renamed}
-use Rattle.no_offence_laws.proofs.premises.edited_files_are_renamed.Goals as goal
-
-pub returns : goal.returns
-returns c = record { spells = renamings_spell; files = edited_files_are_renamed c.edited_files_keep_tokens.ensures }

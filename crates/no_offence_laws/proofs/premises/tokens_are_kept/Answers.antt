@@ -1,5 +1,0 @@
-use Rattle.no_offence_laws.proofs.KeptTokenLemmas.{tokens_are_kept, pasted_tokens_are_kept}
-use Rattle.no_offence_laws.proofs.premises.tokens_are_kept.Goals as goal
-
-pub returns : goal.returns
-returns c = record { files = tokens_are_kept; pasted = pasted_tokens_are_kept }

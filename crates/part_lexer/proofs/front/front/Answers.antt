@@ -1,6 +1,0 @@
-use Rattle.part_lexer.specs.Walk.{spelled}
-use Rattle.part_lexer.proofs.KindLemmas.{front_of-front}
-use Rattle.part_lexer.proofs.front.front.Goals as goal
-
-pub returns : goal.returns
-returns c = rw c.read_front.ensures (front_of-front c.args.header c.args.first (spelled c.args.after.now))

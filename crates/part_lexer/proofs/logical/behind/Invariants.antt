@@ -1,5 +1,0 @@
-use Rattle.part_lexer.specs.Walk.{Passes}
-use Rattle.part_lexer.proofs.logical.behind.Given as goal
-
-abbrev pub invariant-loop-k : goal.invariant-loop-k
-invariant-loop-k l = Passes l.k l.bytes l.rest

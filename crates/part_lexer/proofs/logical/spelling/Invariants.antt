@@ -1,6 +1,0 @@
-use Rattle.std.proofs.Common.{◌≡◌, ◌++◌, ◌-◌, take}
-use Rattle.part_lexer.specs.Walk.{spelled}
-use Rattle.part_lexer.proofs.logical.spelling.Given as goal
-
-abbrev pub invariant-loop-k : goal.invariant-loop-k
-invariant-loop-k l = l.text.items ++ take (l.n - l.k) (spelled l.rest) ≡ take l.n (spelled l.bytes)

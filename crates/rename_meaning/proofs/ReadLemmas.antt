@@ -1,0 +1,59 @@
+-- The renamed tokens of each unit are read and bound as before.
+use Rattle.std.proofs.Common.{◌≡◌, ℕ, true, List, map}
+use Rattle.cs_base.specs.declared.positions.Part.{Part}
+use Rattle.cs_base.specs.Token.{Token}
+use Rattle.unit_steps.specs.Below.macro_expand.Renaming.{Renaming, renamed}
+use Rattle.c99_grammar.specs.Dialects.{dialect}
+use Rattle.c99_grammar.specs.Standard.{grammar}
+use Rattle.c99_read.specs.State.{base_at, is_identifier}
+use Rattle.name_chains.specs.Frames.{outermost}
+use Rattle.tree_laws.proofs.NamesRead.{names_are_read}
+use Rattle.renamed_tree_laws.specs.Loose.{StaysWhole}
+use Rattle.renamed_tree_laws.proofs.ReadBareNames.{bare_names_are_loose}
+use Rattle.renamed_tree_laws.proofs.RenamedTrees.{renamed_alike}
+use Rattle.edited_unit_laws.specs.Analyses.{ReadsAlike}
+use Rattle.analysis.specs.Analysed.{Analysed}
+use Rattle.analysis.specs.Analysis.{UnitAnalysis}
+use Rattle.rename_meaning.specs.Allowed.{IsAllowed}
+use Rattle.rename_meaning.specs.KeptTokens.{Spells}
+use Rattle.rename_meaning.specs.Renamings.{KeepsUnedited}
+use Rattle.rename_meaning.proofs.KeptTokenLemmas.{each_of}
+use Rattle.rename_meaning.proofs.ListLemmas.{In}
+use Rattle.rename_meaning.proofs.RenamingLemmas.{renamings_spell}
+use Rattle.rename_meaning.proofs.UneditedLemmas.{renamings_keep_unedited}
+use Rattle.rename_meaning.proofs.BoundUnitLemmas.{names_bind_as_before, units_are_renamed_whole}
+use Rattle.rename_meaning.proofs.ReadUnitLemmas.{unit_read_so}
+use Rattle.rename_meaning.specs.KeptUnits.{change}
+use Rattle.rename_meaning.proofs.KeptUnitLemmas.{analysis_is_renamed_where_named}
+use Rattle.rename_meaning.specs.ReadUnits.{UnitsReadAsBefore, EditedFilesHaveRenamedAnalysis}
+use Rattle.rename_meaning.proofs.BareLemmas.{bare_stays}
+use Rattle.rename_meaning.proofs.ClassLemmas.{bases_kept}
+use Rattle.rename_meaning.proofs.LooseLemmas.{loose_named, loose_all}
+
+module _ (a : Analysed) (members : List Part) (name : List ℕ) (r : Renaming) (h : IsAllowed a members name) (spells : Spells members name r)
+    (keeps : KeepsUnedited r) where
+  unit_reads : (u : UnitAnalysis) → In u a.value.units → ReadsAlike r u
+  unit_reads u i =
+      let is = unit_read_so h.source h.workspace a.value h.accepted u i in
+      let old : List Token = u.text.toks in
+      let new : List Token = map (renamed r) u.text.toks in
+      let Named : ℕ → Type 0 = λ k. is_identifier (base_at (grammar (dialect u.standard)) old k) ≡ true in
+      let named = loose_named (dialect u.standard) old (outermost 0).label 0 u.tree.under (names_are_read (dialect u.standard) old u.tree is.reads) in
+      let whole = bare_names_are_loose (dialect u.standard) old u.tree u.bound is.reads is.binds (λ x. Named x → StaysWhole old new u.bound.typedefs x)
+      (λ k x at. bare_stays a members name r h spells keeps u i x (k, at)) in
+      let loose = loose_all (dialect u.standard) old Named (StaysWhole old new u.bound.typedefs) (outermost 0).label 0 u.tree.under named whole in
+      record {
+        reads = renamed_alike (dialect u.standard) old new u.tree u.bound is.reads is.binds (units_are_renamed_whole a members name r h spells keeps u i)
+            (bases_kept a members name r h spells keeps u i) loose;
+        binds = names_bind_as_before a members name r h spells keeps u i;
+      }
+
+pub units_read_as_before : UnitsReadAsBefore
+units_read_as_before = λ a members name h. each_of (ReadsAlike (change a.value members name).renaming) a.value.units (λ u i.
+    let keeps = renamings_keep_unedited a members name u.text h in
+    unit_reads a members name (change a.value members name).renaming h (renamings_spell a.value members name u.text)
+    (record { untraced = keeps.untraced; numbers = keeps.numbers; still = keeps.still }) u i)
+
+pub edited_files_have_renamed_analysis : EditedFilesHaveRenamedAnalysis
+edited_files_have_renamed_analysis = λ a members name path line column h workspace once named new holds.
+    analysis_is_renamed_where_named a members name path line column h workspace once named new holds (units_read_as_before a members name h)

@@ -1,0 +1,5 @@
+use Rattle.rename_meaning.proofs.TextLemmas.{respelled_files_have_renamed_analysis}
+use Rattle.rename_meaning.proofs.sources.respelled_files_have_renamed_analysis.Goals as goal
+
+pub returns : goal.returns
+returns c = respelled_files_have_renamed_analysis

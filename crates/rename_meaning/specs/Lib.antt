@@ -1,0 +1,22 @@
+-- What the public contracts rest on.
+pub mod Allowed
+pub mod KeptFiles
+pub mod NamedClasses
+pub mod Spellings
+pub mod KeptTokens
+pub mod KeptLines
+pub mod Occurring
+pub mod Renamings
+pub mod MadeTokens
+pub mod ToldNames
+pub mod ReachedLines
+pub mod Limits
+pub mod KeptUnits
+pub mod KeptFileTokens
+pub mod BoundUnits
+pub mod KeptLinks
+pub mod OneMove
+pub mod ReadUnits
+pub mod EditedSource
+pub mod RenamedSource
+pub mod Plans

@@ -1,0 +1,25 @@
+use Rattle.cs_base.specs.declared.causes.Cause.TheVariants as cause
+use Rattle.std.proofs.Common.{◌++◌, None}
+use Rattle.rename_rules.specs.First.{member_offences, standing}
+use Rattle.rename_rules.specs.Offences.{read_only_places, reserved_places, kept_string_places, header_places, no_identifier_places}
+use Rattle.rename_rules.proofs.FirstLemmas.{then_both}
+use Rattle.rename_plan.proofs.plan.member_offences.Goals as goal
+
+pub returns : goal.returns
+unfolding member_offences
+returns c =
+    let class = c.args.renaming.now.class in
+    let a = class.analysis.value in
+    let ms = class.members in
+    let name = c.args.renaming.now.name in
+    let s1 = standing cause.ReadOnly (read_only_places a ms) in
+    let s2 = standing cause.Reserved (reserved_places a ms name) in
+    let s3 = standing cause.Stringized (kept_string_places a ms c.args.strings) in
+    let s4 = standing cause.HeaderName (header_places a ms) in
+    let s5 = standing cause.NotIdentifier (no_identifier_places a ms) in
+    let t = a.table in
+    then_both t (s1 ++ s2 ++ s3 ++ s4) s5 None _ _
+    (then_both t (s1 ++ s2 ++ s3) s4 None _ _
+    (then_both t (s1 ++ s2) s3 None _ _ (then_both t s1 s2 None _ _ c.read_only-kept.ensures c.in_ok-words.ensures) c.of_strings-made.ensures)
+    c.header_names-headers.ensures)
+    c.no_identifiers.ensures

@@ -1,0 +1,180 @@
+// The edits of a renaming, or its first refusal.
+ghost use Rattle.std.specs.Prelude.{◌≡◌, None, IfOk};
+ghost use Rattle.rename_meaning.specs.Plans.{RenamesOver};
+ghost use Rattle.rename_rules.specs.Class.{IsClass};
+ghost use Rattle.cs_base.specs.declared.causes.Cause.TheVariants.{Stringized as stringized_cause};
+ghost use Rattle.rename_rules.specs.First.{member_offences, offences_of, spelling_offences, standing, FirstThen, IsFirst};
+ghost use Rattle.rename_rules.specs.Offences.{kept_string_places};
+ghost use Rattle.rename_rules.specs.Renaming.{GivesOne, IsClassRenamed, IsRenamed, IsRenaming};
+ghost use Rattle.rename_rules.specs.Runs.{edits_of};
+ghost use Rattle.analysis.specs.Parts.{IsPart};
+ghost use Rattle.rename_plan.specs.Refusals.{refusal_of};
+
+use crate::edits::edit_files;
+use crate::refusals::{RenameRefusal, refused};
+use analysis::Analysis;
+use cs_base::{Edits, Memory, Part};
+use lexer::is_identifier;
+use rename_rules::{
+    Offence, Renaming, clashing, header_names, no_identifiers, occurring, read_only, reserved,
+    shadowed, stringized, too_large,
+};
+use std::alloc::Global;
+
+/// The edits that rename the class of the part which a place names, or the first refusal. Lines and columns count
+/// from 1. `strings` says that strings which `#` makes may follow the renaming.
+pub fn plan_rename(
+    alloc: Global,
+    a: &Analysis,
+    path: &str,
+    line: u32,
+    column: u32,
+    name: &[u8],
+    strings: bool,
+) -> Result<Edits, RenameRefusal>
+    ensures answer { GivesOne (λ edits. edits) refusal_of result (IsRenaming a.now.value path.now line column name.now strings) }
+    // Over each source with this analysis, once the edits are made, the workspace means what it meant.
+    ensures meaning { IfOk result (λ edits. RenamesOver a.now.value.workspace a.now.value path.now line column name.now edits) }
+{
+    // The classes are those of the links, and the workspace is one that lines make.
+    let _classes = a.classes();
+    let ws = a.workspace();
+    let _units = ws.units();
+    plan_named(alloc, a, path, line, column, name, strings)
+}
+
+// The same, by what is looked at: the name, the place, the offences.
+fn plan_named(
+    alloc: Global,
+    a: &Analysis,
+    path: &str,
+    line: u32,
+    column: u32,
+    name: &[u8],
+    strings: bool,
+) -> Result<Edits, RenameRefusal>
+    ensures { GivesOne (λ edits. edits) refusal_of result (IsRenaming a.now.value path.now line column name.now strings) }
+{
+    if !is_identifier(name) {
+        return Err(RenameRefusal::BadName);
+    }
+    match a.part_at(path, line, column) {
+        Some(part) => plan_part(alloc, a, part, name, strings),
+        None => Err(RenameRefusal::NoName),
+    }
+}
+
+// The same for the class of a part.
+fn plan_part(
+    alloc: Global,
+    a: &Analysis,
+    part: Part,
+    name: &[u8],
+    strings: bool,
+) -> Result<Edits, RenameRefusal>
+    requires { IsPart a.now.value part }
+    ensures { GivesOne (λ edits. edits) refusal_of result (IsClassRenamed a.now.value part name.now strings) }
+{
+    match a.classes().class_of(part) {
+        Some(number) => plan_class(alloc, a, a.members(part), number, name, strings),
+        // Each part has a class.
+        None => Err(RenameRefusal::Memory),
+    }
+}
+
+// The same for the class with these members and this number.
+fn plan_class(
+    alloc: Global,
+    a: &Analysis,
+    members: &[Part],
+    number: u32,
+    name: &[u8],
+    strings: bool,
+) -> Result<Edits, RenameRefusal>
+    requires { IsClass a.now members.now number }
+    ensures { GivesOne (λ edits. edits) refusal_of result (IsRenamed a.now.value members.now name.now strings) }
+{
+    let renaming = Renaming::new(alloc, a, members, number, name)?;
+    plan_renaming(alloc, &renaming, strings)
+}
+
+// The same for the class and its new name.
+fn plan_renaming(
+    alloc: Global,
+    renaming: &Renaming<'_>,
+    strings: bool,
+) -> Result<Edits, RenameRefusal>
+    ensures { GivesOne (λ edits. edits) refusal_of result
+        (IsRenamed renaming.now.class.analysis.value renaming.now.class.members renaming.now.name strings) }
+{
+    match first_offence(alloc, renaming, strings)? {
+        Some(offence) => Err(refused(alloc, renaming.class().analysis(), offence)),
+        None => Ok(class_edits(alloc, renaming)?),
+    }
+}
+
+// The edits of a class against which nothing stands.
+fn class_edits(alloc: Global, renaming: &Renaming<'_>) -> Result<Edits, Memory>
+    ensures { IfOk result (λ e. e ≡ edits_of renaming.now.class.analysis.value renaming.now.class.members renaming.now.name) }
+{
+    let class = renaming.class();
+    let a = class.analysis();
+    let _files = a.files();
+    edit_files(alloc, a, class.members(), renaming.name())
+}
+
+// The first offence, if one stands.
+fn first_offence(
+    alloc: Global,
+    renaming: &Renaming<'_>,
+    strings: bool,
+) -> Result<Option<Offence>, Memory>
+    ensures { IfOk result (IsFirst renaming.now.class.analysis.value.table
+        (offences_of renaming.now.class.analysis.value renaming.now.class.members renaming.now.name strings)) }
+{
+    let at_members = member_offences(alloc, renaming, strings)?;
+    spelling_offences(alloc, renaming, at_members)
+}
+
+// The first of those at members and the tokens that hold them.
+fn member_offences(
+    alloc: Global,
+    renaming: &Renaming<'_>,
+    strings: bool,
+) -> Result<Option<Offence>, Memory>
+    ensures { IfOk result (FirstThen renaming.now.class.analysis.value.table
+        (member_offences renaming.now.class.analysis.value renaming.now.class.members renaming.now.name strings) None) }
+{
+    let kept = read_only(renaming, None);
+    let words = reserved(alloc, renaming, kept)?;
+    let made = of_strings(renaming, strings, words);
+    let headers = header_names(renaming, made);
+    Ok(no_identifiers(renaming, headers))
+}
+
+// The first of these and of those of strings that must stay.
+fn of_strings(renaming: &Renaming<'_>, strings: bool, first: Option<Offence>) -> Option<Offence>
+    ensures { FirstThen renaming.now.class.analysis.value.table (standing stringized_cause
+        (kept_string_places renaming.now.class.analysis.value renaming.now.class.members strings)) first result }
+{
+    if strings {
+        first
+    } else {
+        stringized(renaming, first)
+    }
+}
+
+// The first of these and of those of new spellings among all others.
+fn spelling_offences(
+    alloc: Global,
+    renaming: &Renaming<'_>,
+    first: Option<Offence>,
+) -> Result<Option<Offence>, Memory>
+    ensures { IfOk result (FirstThen renaming.now.class.analysis.value.table
+        (spelling_offences renaming.now.class.analysis.value renaming.now.class.members renaming.now.name) first) }
+{
+    let words = occurring(renaming, first);
+    let pairs = clashing(alloc, renaming, words)?;
+    let sizes = too_large(alloc, renaming, pairs)?;
+    Ok(shadowed(renaming, sizes))
+}

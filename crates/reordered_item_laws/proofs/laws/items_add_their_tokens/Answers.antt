@@ -1,5 +1,0 @@
-use Rattle.reordered_item_laws.proofs.Spread.{items_add_their_tokens}
-use Rattle.reordered_item_laws.proofs.laws.items_add_their_tokens.Goals as goal
-
-pub returns : goal.returns
-returns c = items_add_their_tokens

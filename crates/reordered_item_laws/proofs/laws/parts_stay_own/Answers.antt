@@ -1,5 +1,0 @@
-use Rattle.reordered_item_laws.proofs.Owned.{parts_stay_own}
-use Rattle.reordered_item_laws.proofs.laws.parts_stay_own.Goals as goal
-
-pub returns : goal.returns
-returns c = parts_stay_own

@@ -1,5 +1,0 @@
-use Rattle.reordered_item_laws.proofs.SiblingsBeside.{wholes_are_clear}
-use Rattle.reordered_item_laws.proofs.laws.wholes_are_clear.Goals as goal
-
-pub returns : goal.returns
-returns c = wholes_are_clear

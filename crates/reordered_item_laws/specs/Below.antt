@@ -1,4 +1,0 @@
--- Words of the crates below, passed on: who needs them in definitions and proofs alone lists this crate in their place.
-pub use Rattle.reordered_tree_laws.specs.Below.list_cuts as list_cuts
-pub use Rattle.reordered_tree_laws.specs as reordered_tree_laws
-pub use Rattle.reordered_tree_laws.specs.Below.tree_laws as tree_laws

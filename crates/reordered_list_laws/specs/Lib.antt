@@ -1,4 +1,0 @@
--- What the public contracts rest on.
-pub mod Going
--- Words of the crates below, passed on.
-pub mod Below

@@ -1,5 +1,0 @@
-use Rattle.reordered_reading_laws.proofs.PlainOrder.{plain_tokens}
-use Rattle.reordered_reading_laws.proofs.laws.plain_tokens_stand_in_order.Goals as goal
-
-pub returns : goal.returns
-returns c = record { tokens = plain_tokens }

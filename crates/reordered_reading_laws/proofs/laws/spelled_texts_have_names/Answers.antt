@@ -1,5 +1,0 @@
-use Rattle.reordered_reading_laws.proofs.PlainOrder.{spelled_texts}
-use Rattle.reordered_reading_laws.proofs.laws.spelled_texts_have_names.Goals as goal
-
-pub returns : goal.returns
-returns c = record { names = spelled_texts }

@@ -1,5 +1,0 @@
-use Rattle.reordered_text_laws.proofs.Numbers.{numbers_do_not_matter}
-use Rattle.reordered_text_laws.proofs.laws.numbers_do_not_matter.Goals as goal
-
-pub returns : goal.returns
-returns c = record { numbers = numbers_do_not_matter }

@@ -1,5 +1,0 @@
-use Rattle.reordered_tree_laws.proofs.BesideWalk.{parts_bind_alike}
-use Rattle.reordered_tree_laws.proofs.laws.parts_bind_alike.Goals as goal
-
-pub returns : goal.returns
-returns c = parts_bind_alike

@@ -1,5 +1,0 @@
-use Rattle.reordered_tree_laws.proofs.Ranges.{ranges_end_with_scopes}
-use Rattle.reordered_tree_laws.proofs.laws.ranges_end_with_scopes.Goals as goal
-
-pub returns : goal.returns
-returns c = ranges_end_with_scopes

@@ -1,5 +1,0 @@
-use Rattle.reordered_unit_laws.proofs.FileLemmas.{items_are_alike, texts_stay, runs_stand_in_files}
-use Rattle.reordered_unit_laws.proofs.laws.files_stand.Goals as goal
-
-pub returns : goal.returns
-returns c = record { items = items_are_alike; stay = texts_stay; runs = runs_stand_in_files c.runs_have_cuts.ensures.one }

@@ -1,5 +1,0 @@
-use Rattle.reordered_unit_laws.proofs.TokenRunLemmas.{unit_tokens_are_of_runs}
-use Rattle.reordered_unit_laws.proofs.laws.tokens_are_of_runs.Goals as goal
-
-pub returns : goal.returns
-returns c = unit_tokens_are_of_runs

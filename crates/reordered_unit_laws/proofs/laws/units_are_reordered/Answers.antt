@@ -1,7 +1,0 @@
-use Rattle.reordered_unit_laws.proofs.ReorderedLemmas.{units_are_reordered}
-use Rattle.reordered_unit_laws.proofs.laws.units_are_reordered.Goals as goal
-
-pub returns : goal.returns
-returns c = record {
-  reordered = units_are_reordered c.runs_are_arranged.ensures.arranged c.runs_have_cuts.ensures.cuts c.notes_tell_what_happened.ensures.notes;
-}

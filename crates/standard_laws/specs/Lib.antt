@@ -1,2 +1,0 @@
--- What the public contract rests on.
-pub mod Narrowed

@@ -1,2 +1,0 @@
--- Words of the crates below, passed on.
-pub mod Below

@@ -1,0 +1,224 @@
+-- The units of an analysis: they are read and bound, and their identifiers come from files.
+use mathlib.Core.List.{reverse-cons}
+use Rattle.std.proofs.Common.{◌≡◌, ℕ, zero, suc, ◌+◌, ◌≤◌, not, if◌then◌else◌, Bool, true, false, List, [], ◌∷◌, length, Option, None, Some, Ok, refl, sym, ap, subst, ◌∙◌, arith}
+use Rattle.std.specs.Prelude.{◌==◌, ◌++◌, slice_get, find, reverse, option_map}
+use Rattle.std.specs.List.{list_all, All}
+use Rattle.std.specs.Str.{bytes_eq}
+use Rattle.std.specs.Option.{option_map_or, option_and_then}
+use Rattle.std.proofs.lemmas.Bool.{and_parts, both_ways, eqb-true}
+use Rattle.std.proofs.lemmas.Option.{same_Some}
+use Rattle.std.proofs.lemmas.List.Elements.{All-head, All-tail}
+use Rattle.cs_base.specs.declared.positions.Pos.{Pos}
+use Rattle.cs_base.specs.declared.tokens.Kind.{Kind}
+use Rattle.cs_base.specs.declared.tokens.Kind.TheVariants as kind
+use Rattle.c99_grammar.specs.declared.dialects.Dialect.{Dialect}
+use Rattle.cs_base.specs.declared.ws_units.Standard.{Standard}
+use Rattle.cs_base.specs.Token.{Token, origin_at}
+use Rattle.cs_base.specs.Units.{UnitValue}
+use Rattle.lexer.specs.Spelling.{is_identifier_text}
+use Rattle.line_shape.specs.Signs.{is_name}
+use Rattle.line_shape.specs.Signs as signs
+use Rattle.expansion_laws.specs.Spelled.{fits, is_spelled}
+use Rattle.ws_file.specs.Workspace.{WorkspaceValue}
+use Rattle.source_files.specs.Faults.{Fault}
+use Rattle.source_files.specs.Files.{Source, Table, Carried, nothing_carried}
+use Rattle.unit_steps.specs.Texts.{UnitTextValue}
+use Rattle.c99_grammar.specs.Spellings.{Spelled, punctuators}
+use Rattle.c99_grammar.specs.Dialects.{dialect}
+use Rattle.c99_grammar.specs.Standard.{grammar}
+use Rattle.c99_grammar.specs.TokenClasses.{spelled_class, class_of_kind, base_class}
+use Rattle.c99_read.specs.Reading.{read_of}
+use Rattle.c99_read.specs.State.{base_at, is_identifier}
+use Rattle.scope_bind.specs.Bound.{binding_of}
+use Rattle.scope_bind.specs.Names.{entity_at}
+use Rattle.scope_bind.specs.declared.bound.Name.{Name}
+use Rattle.tree_laws.proofs.HeldNames.{bound_names_pass}
+use Rattle.tree_laws.proofs.NamesRead.{names_are_read}
+use Rattle.tree_laws.proofs.OfTexts.{trees_of_texts}
+use Rattle.analysis.specs.Analysis.{UnitAnalysis, UnitsValue, AnalysisValue, analysis_and, with_unit, unit_read, analysed_from, analysis_of, read_unit, bound_unit, unit_analysis}
+use Rattle.analysis.specs.Texts.{UnitFault, unit_fault, unit_with}
+use Rattle.lexer.proofs.FitLemmas.{identifier-words}
+use Rattle.analysis.proofs.NamingLemmas.{split_at}
+use Rattle.expansion_laws.proofs.ListLemmas.{toks_at}
+use Rattle.rename_meaning.proofs.ListLemmas.{In, found}
+use Rattle.rename_meaning.proofs.TracedLemmas.{AreChained, Traced}
+use Rattle.rename_meaning.proofs.UnitsLemmas.{ok_same, done_first, unmapped, unit_is, unit_spelled, unit_traced}
+use Rattle.template_rules.specs.Functions.{origin_of}
+
+-- ---- lists
+
+pub all_of_in : {X : Type 0} (P : X → Type 0) (xs : List X) → All P xs → (x : X) → In x xs → P x
+all_of_in {X = X} P xs all x i = by xs i.0 all i.1
+  where
+    by : (ys : List X) (k : ℕ) → All P ys → slice_get ys k ≡ Some x → P x
+    by [] k h e = absurd (cc)
+    by (y ∷ ys) zero h e = subst P (same_Some y x e) (All-head P y ys h)
+    by (y ∷ ys) (suc k) h e = by ys k (All-tail P y ys h) e
+
+pub in_reverse : {X : Type 0} (x : X) (xs : List X) → In x (reverse xs) → In x xs
+in_reverse x [] i = i
+in_reverse {X = X} x (y ∷ xs) i =
+    let j : In x (reverse xs ++ y ∷ []) = subst (λ (ys : List X). In x ys) (reverse-cons y xs) i in
+    split_at (In x (y ∷ xs)) x (reverse xs) (y ∷ []) j.0 j.1 (λ k. let n = in_reverse x xs k in (suc n.0, n.1)) (λ k. only k.0 k.1)
+  where
+    only : (k : ℕ) → slice_get (y ∷ []) k ≡ Some x → In x (y ∷ xs)
+    only zero e = (0, e)
+    only (suc k) e = absurd (cc)
+
+-- what a token is bound to, it is by a name
+pub bound_name : (names : List Name) (k e : ℕ) → entity_at names k ≡ Some e → (n : Name) × In n names × (n.index ≡ k) × (n.entity ≡ e)
+bound_name names k e at = by (find (λ (n : Name). n.index == k) (reverse names)) refl at
+  where
+    by : (o : Option Name) → find (λ (n : Name). n.index == k) (reverse names) ≡ o → option_map (λ (n : Name). n.entity) o ≡ Some e
+        → (n : Name) × In n names × (n.index ≡ k) × (n.entity ≡ e)
+    by None is f = absurd (cc)
+    by (Some n) is f =
+        let r = found (λ (m : Name). m.index == k) (reverse names) n is in
+        (n, in_reverse n names r.0, eqb-true n.index k r.1, same_Some n.entity e f)
+
+-- ---- reading and binding
+
+-- The tokens of a unit are read to its tree (Annex A), and bound so (6.2).
+pub record IsReadSo (u : UnitAnalysis) : Type 0 where
+  pub reads : read_of (grammar (dialect u.standard)) u.text.toks ≡ Ok u.tree
+  pub binds : binding_of u.text.toks u.tree ≡ Ok u.bound
+
+one_read : (standard : Standard) (table : Table) (path : List ℕ) (text : UnitTextValue) (u : UnitAnalysis) → read_unit standard table path text ≡ Ok u → IsReadSo u
+one_read standard table path text u e =
+    let r = done_first {E = Fault} _ (bound_unit standard table path text) u e in
+    let b = done_first {E = Fault} _ (λ bound. Ok (unit_analysis standard text r.0 bound)) u r.2 in
+    let own : IsReadSo (unit_analysis standard text r.0 b.0) = record {
+      reads = unmapped (read_of (grammar (dialect standard)) text.toks) _ r.0 r.1;
+      binds = unmapped (binding_of text.toks r.0) _ b.0 b.1;
+    } in
+    subst IsReadSo (ok_same {E = Fault} (unit_analysis standard text r.0 b.0) u b.2) own
+
+units_read : (source : Source) (number : ℕ) (units : List UnitValue) (before : Carried) (v : UnitsValue)
+    → analysed_from source number units before ≡ Ok v → (u : UnitAnalysis) → In u v.units → IsReadSo u
+unfolding analysed_from
+units_read source number [] before v e =
+    let same = ok_same {E = UnitFault} _ v e in
+    let P : UnitsValue → Type 0 = λ w. (u : UnitAnalysis) → In u w.units → IsReadSo u in
+    subst P same (λ u i. absurd (let at = i.1 in cc))
+units_read source number (unit ∷ units) before v e =
+    let p = done_first (unit_with source number unit before) _ v e in
+    let u = done_first (unit_read unit.standard number unit.path p.0) _ v p.2 in
+    let later = done_first (analysed_from source (number + 1) units p.0.after) _ v u.2 in
+    let first = one_read unit.standard p.0.after.table unit.path p.0.text u.0 (unmapped (read_unit unit.standard p.0.after.table unit.path p.0.text) (unit_fault number) u.0 u.1) in
+    let rest = units_read source (number + 1) units p.0.after later.0 later.1 in
+    let same = ok_same {E = UnitFault} (with_unit u.0 later.0) v later.2 in
+    let P : UnitsValue → Type 0 = λ w. (x : UnitAnalysis) → In x w.units → IsReadSo x in
+    subst P same (λ x i. first_or u.0 later.0.units x i.0 i.1 first rest)
+  where
+    first_or : (one : UnitAnalysis) (others : List UnitAnalysis) (x : UnitAnalysis) (k : ℕ) → slice_get (one ∷ others) k ≡ Some x → IsReadSo one
+        → ((y : UnitAnalysis) → In y others → IsReadSo y) → IsReadSo x
+    first_or one others x zero at here rest = subst IsReadSo (same_Some one x at) here
+    first_or one others x (suc k) at here rest = rest x (k, at)
+
+pub unit_read_so : (source : Source) (ws : WorkspaceValue) (a : AnalysisValue) → analysis_of source ws ≡ Ok a → (u : UnitAnalysis) → In u a.units → IsReadSo u
+unit_read_so source ws a e =
+    let all = done_first (analysed_from source 1 ws.units nothing_carried) _ a e in
+    let same = ok_same {E = UnitFault} (analysis_and ws all.0.units all.0.table) a all.2 in
+    let P : AnalysisValue → Type 0 = λ b. (u : UnitAnalysis) → In u b.units → IsReadSo u in
+    subst P same (units_read source 1 ws.units nothing_carried all.0 all.1)
+
+-- ---- classes of tokens
+
+sign_class : (words : List Spelled) (text : List ℕ) (other : _) → list_all (λ w. not (is_identifier w.1)) words ≡ true → is_identifier other ≡ false
+    → is_identifier (spelled_class words text other) ≡ false
+unfolding spelled_class
+sign_class [] text other all last = last
+sign_class (w ∷ words) text other all last =
+    let both = and_parts (not (is_identifier w.1)) (list_all (λ v. not (is_identifier v.1)) words) all in
+    by (bytes_eq text w.0) both.0 (sign_class words text other both.1 last)
+  where
+    not_true : (b : Bool) → not b ≡ true → b ≡ false
+    not_true true k = absurd (cc)
+    not_true false k = refl
+
+    by : (c : Bool) → not (is_identifier w.1) ≡ true → is_identifier (spelled_class words text other) ≡ false
+        → is_identifier (if c then w.1 else spelled_class words text other) ≡ false
+    by true k m = not_true (is_identifier w.1) k
+    by false k m = m
+
+kind_named : (std : Dialect) (k : Kind) (text : List ℕ) → is_identifier (class_of_kind (grammar std) k text) ≡ true → signs.is_identifier k ≡ true
+kind_named std kind.Ident text h = refl
+kind_named std kind.Punct text h = absurd (both_ways (is_identifier (class_of_kind (grammar std) kind.Punct text)) (sign_class punctuators text _ refl refl) h)
+kind_named std kind.Number text h = absurd (both_ways (is_identifier (class_of_kind (grammar std) kind.Number text)) refl h)
+kind_named std kind.Char text h = absurd (both_ways (is_identifier (class_of_kind (grammar std) kind.Char text)) refl h)
+kind_named std kind.Str text h = absurd (both_ways (is_identifier (class_of_kind (grammar std) kind.Str text)) refl h)
+kind_named std kind.Header text h = absurd (both_ways (is_identifier (class_of_kind (grammar std) kind.Header text)) refl h)
+kind_named std kind.Other text h = absurd (both_ways (is_identifier (class_of_kind (grammar std) kind.Other text)) refl h)
+
+class_named : (std : Dialect) (t : Token) → is_identifier (base_class (grammar std) t) ≡ true → is_name t ≡ true
+unfolding base_class
+class_named std t h = kind_named std t.kind t.text h
+
+-- an identifier, as reading sees it, is one
+pub named_token : (std : Dialect) (toks : List Token) (k : ℕ) → is_identifier (base_at (grammar std) toks k) ≡ true → (t : Token) × (slice_get toks k ≡ Some t) × (is_name t ≡ true)
+named_token std toks k h = by (slice_get toks k) (k == length toks) refl h
+  where
+    by : (o : Option Token) (c : Bool) → slice_get toks k ≡ o
+        → is_identifier (option_map_or (base_class (grammar std)) o (if c then base_at (grammar std) [] 0 else base_at (grammar std) [] 1)) ≡ true
+        → (t : Token) × (slice_get toks k ≡ Some t) × (is_name t ≡ true)
+    by None true at is = absurd (both_ways (is_identifier (base_at (grammar std) [] 0)) refl is)
+    by None false at is = absurd (both_ways (is_identifier (base_at (grammar std) [] 1)) refl is)
+    by (Some t) c at is = (t, at, class_named std t is)
+
+-- ---- identifiers come from files
+
+some_text : (text : List ℕ) → is_identifier_text text ≡ true → 1 ≤ length text
+some_text [] h = absurd (cc)
+some_text (c ∷ text) h = omega arith
+
+first_some : (a : AnalysisValue) (os : List (Option Pos)) → AreChained a os → 1 ≤ length os
+    → (p : Pos) × (option_and_then (λ (o : Option Pos). o) (slice_get os 0) ≡ Some p)
+first_some a [] chained some = absurd (omega (arith, some))
+first_some a (None ∷ os) chained some = absurd chained
+first_some a (Some p ∷ os) chained some = (p, refl)
+
+spelled_at : (p : Token → Bool) (ts : List Token) (t : Token) (k : ℕ) → list_all p ts ≡ true → slice_get ts k ≡ Some t → p t ≡ true
+spelled_at p [] t k all at = absurd (cc)
+spelled_at p (s ∷ ts) t zero all at = subst (λ (x : Token). p x ≡ true) (same_Some s t at) (and_parts (p s) (list_all p ts) all).0
+spelled_at p (s ∷ ts) t (suc k) all at = spelled_at p ts t k (and_parts (p s) (list_all p ts) all).1 at
+
+named_fits : (k : Kind) (text : List ℕ) → signs.is_identifier k ≡ true → fits k text ≡ true → is_identifier_text text ≡ true
+named_fits kind.Ident text h fit = fit
+named_fits _ text h fit = absurd (cc)
+
+module _ (source : Source) (ws : WorkspaceValue) (a : AnalysisValue) (analysed : analysis_of source ws ≡ Ok a) (u : UnitAnalysis) (i : In u a.units) where
+  -- the first character of an identifier has an origin
+  pub token_placed : (k : ℕ) (t : Token) → slice_get u.text.toks k ≡ Some t → is_name t ≡ true → (p : Pos) × (origin_of u.text.toks k ≡ Some p)
+  token_placed k t at named =
+      let unit = unit_is source ws a analysed u i in
+      let spelled = spelled_at is_spelled u.text.toks t k (unit_spelled a u i unit).toks at in
+      let identifier = named_fits t.kind t.text named (and_parts (fits t.kind t.text) _ spelled).0 in
+      let traced : Traced a t = toks_at (Traced a) u.text.toks (unit_traced a u i unit).toks t k at in
+      let each = traced.each in
+      let some = some_text t.text identifier in
+      let first = first_some a t.origins (traced.chained (identifier-words t.text identifier)) (omega (arith, each, some)) in
+      (first.0, ap (λ (o : Option Token). option_and_then (λ (x : Token). origin_at x 0) o) at ∙ first.1)
+
+  pub identifier_placed : (k : ℕ) → is_identifier (base_at (grammar (dialect u.standard)) u.text.toks k) ≡ true → (p : Pos) × (origin_of u.text.toks k ≡ Some p)
+  identifier_placed k h =
+      let t = named_token (dialect u.standard) u.text.toks k h in
+      token_placed k t.0 t.1 t.2
+
+  pub read_so : IsReadSo u
+  read_so = unit_read_so source ws a analysed u i
+
+  -- so it is with each name
+  pub name_placed : (n : Name) → In n u.bound.names → (p : Pos) × (origin_of u.text.toks n.index ≡ Some p)
+  name_placed n j =
+      let read = read_so in
+      let test : ℕ → Bool = λ k. is_identifier (base_at (grammar (dialect u.standard)) u.text.toks k) in
+      let pass = bound_names_pass test u.text.toks u.tree u.bound (trees_of_texts (dialect u.standard) u.text.toks u.tree read.reads)
+      (names_are_read (dialect u.standard) u.text.toks u.tree read.reads) read.binds in
+      identifier_placed n.index (all_of_in (λ (m : Name). (test m.index ≡ true) × (test m.entity ≡ true)) u.bound.names pass n j).0
+
+  -- and with what denotes an entity
+  pub entity_placed : (k e : ℕ) → entity_at u.bound.names k ≡ Some e → (p : Pos) × (origin_of u.text.toks k ≡ Some p)
+  entity_placed k e at =
+      let n = bound_name u.bound.names k e at in
+      let p = name_placed n.0 n.1 in
+      (p.0, ap (λ (j : ℕ). origin_of u.text.toks j) (sym n.2) ∙ p.1)

@@ -1,5 +1,0 @@
-use Rattle.template_meaning_laws.proofs.Prototypes.{declarators_have_prototypes}
-use Rattle.template_meaning_laws.proofs.laws.declarators_have_prototypes.Goals as goal
-
-pub returns : goal.returns
-returns c = declarators_have_prototypes c.read_lists_stand_in_order.ensures.parameters c.identifiers_are_told.ensures

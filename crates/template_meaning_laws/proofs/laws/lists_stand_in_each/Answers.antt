@@ -1,5 +1,0 @@
-use Rattle.template_meaning_laws.proofs.Again.{lists_stand_in_each}
-use Rattle.template_meaning_laws.proofs.laws.lists_stand_in_each.Goals as goal
-
-pub returns : goal.returns
-returns c = lists_stand_in_each

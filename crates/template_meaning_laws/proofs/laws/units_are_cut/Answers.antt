@@ -1,5 +1,0 @@
-use Rattle.template_meaning_laws.proofs.UnitCut.{units_are_cut}
-use Rattle.template_meaning_laws.proofs.laws.units_are_cut.Goals as goal
-
-pub returns : goal.returns
-returns c = units_are_cut c.read_lists_stand_in_order.ensures.parameters

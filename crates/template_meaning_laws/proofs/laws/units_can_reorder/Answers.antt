@@ -1,5 +1,0 @@
-use Rattle.template_meaning_laws.proofs.CanReorder.{units_can_reorder}
-use Rattle.template_meaning_laws.proofs.laws.units_can_reorder.Goals as goal
-
-pub returns : goal.returns
-returns c = units_can_reorder c.read_lists_stand_in_order.ensures.parameters c.identifiers_are_told.ensures

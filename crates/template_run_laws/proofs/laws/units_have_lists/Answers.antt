@@ -1,5 +1,0 @@
-use Rattle.template_run_laws.proofs.UnitMarks.{units_have_lists}
-use Rattle.template_run_laws.proofs.laws.units_have_lists.Goals as goal
-
-pub returns : goal.returns
-returns c = record { lists = units_have_lists c.read_lists_stand_in_order.ensures.parameters c.units_are_cut.ensures }

@@ -1,8 +1,0 @@
-use Rattle.typedef_laws.proofs.Texts.{units_agree, parts_agree}
-use Rattle.typedef_laws.proofs.laws.names_are_read_as_they_are_bound.Goals as goal
-
-pub returns-clause-units : goal.returns-clause-units
-returns-clause-units c = units_agree
-
-pub returns-clause-parts : goal.returns-clause-parts
-returns-clause-parts c = parts_agree

@@ -1,9 +1,0 @@
-use Rattle.std.proofs.Common.{◌≡◌, ◌++◌, drop, length}
-use Rattle.ws_core.specs.Links.{external_names_from}
-use Rattle.ws_core.proofs.external_names.external_names.Given as goal
-
-abbrev pub invariant-loop-k : goal.invariant-loop-k
-invariant-loop-k l = record {
-  counted : l.count ≡ length l.toks;
-  rest : l.all.items ++ external_names_from l.bound.names l.k (drop l.k l.toks) ≡ external_names_from l.bound.names 0 l.toks;
-}

@@ -1,8 +1,0 @@
-use Rattle.std.proofs.Common.{drop}
-use Rattle.std.specs.List.{flat_map}
-use Rattle.ws_core.specs.Joins.{Awaits}
-use Rattle.ws_core.specs.Links.{unit_links}
-use Rattle.ws_core.proofs.linking.join_units.Given as goal
-
-abbrev pub invariant-loop-unit : goal.invariant-loop-unit
-invariant-loop-unit l = Awaits (flat_map unit_links (drop l.unit-index l.units)) (flat_map unit_links l.units) l.initial.classes l.classes

@@ -1,6 +1,0 @@
-use Rattle.ws_core.specs.BroughtNumbers.{AreNumbers}
-use Rattle.ws_core.proofs.number_order.one_by_one.Given as goal
-
--- of the numbers so far
-abbrev pub invariant-loop-tok : goal.invariant-loop-tok
-invariant-loop-tok l = AreNumbers l.yielded l.numbers.items
