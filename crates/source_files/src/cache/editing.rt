@@ -4,8 +4,9 @@ ghost use Rattle.cs_base.specs.Answer.{Gives};
 ghost use Rattle.source_files.specs.Edited.{bytes_with as all_with, edit_fault_of, edited_of};
 ghost use Rattle.source_files.specs.KeptFiles.{kept_at};
 
-use super::{Cache, MOST_BYTES};
+use super::Cache;
 use crate::edit_refusal::EditRefusal;
+use cs_base::MOST_BYTES_OF_ALL;
 use std::alloc::Global;
 
 impl Cache {
@@ -21,7 +22,7 @@ impl Cache {
         ensures unchanged { OnErr result (self.new ≡ self.old) }
     {
         let all = bytes_with(self.bytes, self.table.opened_size(number), bytes.len());
-        if all > MOST_BYTES {
+        if all > MOST_BYTES_OF_ALL {
             return Err(EditRefusal::TooManyBytes);
         }
         match self.table.edit(alloc, number, bytes) {

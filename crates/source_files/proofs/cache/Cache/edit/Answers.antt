@@ -19,14 +19,14 @@ counted : (all new : ℕ) (told at : Option ℕ) (opened len size : ℕ) → new
 counted all new told at opened len size is a t l =
     is ∙ ap (λ (n : ℕ). bytes_with n told len) a ∙ ap (λ (o : Option ℕ). bytes_with opened o len) t ∙ ap (bytes_with opened at) l
 
-pub returns-then-all-gt-MOST_BYTES-clause-answer : goal.returns-then-all-gt-MOST_BYTES-clause-answer
-returns-then-all-gt-MOST_BYTES-clause-answer c =
+pub returns-then-all-gt-MOST_BYTES_OF_ALL-clause-answer : goal.returns-then-all-gt-MOST_BYTES_OF_ALL-clause-answer
+returns-then-all-gt-MOST_BYTES_OF_ALL-clause-answer c =
     let size : c.len.result ≡ length c.args.bytes.items = search rules in
     let with : c.bytes_with-all.result ≡ bytes_with (bytes_opened c.self.inside.table) (size_at c.self.inside.table c.args.number) (length c.args.bytes.items) =
     counted c.self.inside.bytes c.bytes_with-all.result c.opened_size.result (size_at c.self.inside.table c.args.number) (bytes_opened c.self.inside.table)
     c.len.result (length c.args.bytes.items) c.bytes_with-all.ensures c.self.invariant.measured c.opened_size.ensures size in
     rw (← c.self.view_is)
-    (edit-much c.self.inside.table c.args.number c.args.bytes.items c.bytes_with-all.result with (omega (arith, c.if-all-gt-MOST_BYTES.true)))
+    (edit-much c.self.inside.table c.args.number c.args.bytes.items c.bytes_with-all.result with (omega (arith, c.if-all-gt-MOST_BYTES_OF_ALL.true)))
 
 pub invariant_of-self : goal.invariant_of-self
 invariant_of-self c =
@@ -35,7 +35,7 @@ invariant_of-self c =
     c.bytes_with-all.ensures ∙ ap (λ (o : Option ℕ). bytes_with c.self.inside.bytes o c.len.result) c.opened_size.ensures
     ∙ ap (bytes_with c.self.inside.bytes (size_at c.self.inside.table c.args.number)) size in
     cache-edited c.self.inside.table c.edit.new.self c.args.number c.args.bytes.items c.self.inside.files c.self.inside.bytes c.bytes_with-all.result
-    c.self.inside.toks c.self.invariant c.in-Ok.ensures.ok with (omega (arith, c.if-all-gt-MOST_BYTES.false))
+    c.self.inside.toks c.self.invariant c.in-Ok.ensures.ok with (omega (arith, c.if-all-gt-MOST_BYTES_OF_ALL.false))
 
 pub returns-in-Ok-clause-answer : goal.returns-in-Ok-clause-answer
 returns-in-Ok-clause-answer c =
@@ -45,7 +45,7 @@ returns-in-Ok-clause-answer c =
     c.len.result (length c.args.bytes.items) c.bytes_with-all.ensures c.self.invariant.measured c.opened_size.ensures size in
     let text = ok_value (file_text c.args.number c.args.bytes.items) c.in-Ok.ensures.readable in
     rw (← c.self.view_is)
-    (edit-fits c.self.inside.table c.args.number c.args.bytes.items c.bytes_with-all.result with (omega (arith, c.if-all-gt-MOST_BYTES.false))
+    (edit-fits c.self.inside.table c.args.number c.args.bytes.items c.bytes_with-all.result with (omega (arith, c.if-all-gt-MOST_BYTES_OF_ALL.false))
     ∙ ap (edited_as (edited c.args.number c.args.bytes.items c.self.inside.table)) text.1 ∙ ap (λ t. Ok t) (sym c.in-Ok.ensures.ok))
 
 pub returns-in-Err-clause-answer : goal.returns-in-Err-clause-answer
@@ -56,5 +56,5 @@ returns-in-Err-clause-answer c =
     c.len.result (length c.args.bytes.items) c.bytes_with-all.ensures c.self.invariant.measured c.opened_size.ensures size in
     rw (← c.self.view_is)
     (edit-refused (lex_fault_of c.in-Err.refusal) c.self.inside.table c.args.number c.args.bytes.items
-    (edit-fits c.self.inside.table c.args.number c.args.bytes.items c.bytes_with-all.result with (omega (arith, c.if-all-gt-MOST_BYTES.false)))
+    (edit-fits c.self.inside.table c.args.number c.args.bytes.items c.bytes_with-all.result with (omega (arith, c.if-all-gt-MOST_BYTES_OF_ALL.false)))
     c.in-Err.ensures.refused)
