@@ -30,7 +30,7 @@ use Rattle.reordered_text_laws.proofs.FrontAgrees.{up_outline}
 use Rattle.reordered_text_laws.proofs.FrontClasses.{base_up, other_way}
 use Rattle.reordered_text_laws.proofs.FrontOutlines.{start, front_agrees, any_place}
 use Rattle.reordered_text_laws.proofs.FrontSteps.{lt_up}
-use Rattle.reordered_text_laws.proofs.Marks.{AllAt, Told}
+use Rattle.reordered_text_laws.proofs.MarkedTokens.{AllAt, Told}
 use Rattle.reordered_text_laws.proofs.Reworded.{keyed, length-keyed, keyed_used, keyed_apart, named_within}
 
 no_case : (b : Bool) → (b ≡ true → ⊥) → b ≡ false

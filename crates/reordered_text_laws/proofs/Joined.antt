@@ -40,7 +40,7 @@ use Rattle.reordered_text_laws.proofs.Bridge.{and_false, classes_behind, agreein
 use Rattle.reordered_text_laws.proofs.Filled.{filled_unit}
 use Rattle.reordered_text_laws.proofs.FrontKeyed.{AllNodes, Known, Enclosed, own_apart, used_at, front_keyed}
 use Rattle.reordered_text_laws.proofs.FrontTop.{front_kept, front_gone}
-use Rattle.reordered_text_laws.proofs.Marks.{AllAt, all_map, all_both, all_within, permuted_at, numbered_at, Placed, placed_all, marks, Told, told_from, none_dirty}
+use Rattle.reordered_text_laws.proofs.MarkedTokens.{AllAt, all_map, all_both, all_within, permuted_at, numbered_at, Placed, placed_all, marks, Told, told_from, none_dirty}
 use Rattle.reordered_text_laws.proofs.PlainTexts.{plain, length-plain, plain_base, plain_full, plain_agrees, NamedAt}
 use Rattle.reordered_text_laws.proofs.Reworded.{typed_words, keyed, length-keyed, keyed_base, keyed_typed, keyed_alone, keyed_fits, named_within}
 use Rattle.reordered_text_laws.proofs.TextsInOrder.{classes_of}

@@ -40,7 +40,7 @@ mod FrontNames
 mod CleanNames
 mod FrontTrees
 mod FrontGrows
-mod Marks
+mod MarkedTokens
 mod Reworded
 mod FrontKeyed
 mod PlainTexts

@@ -23,7 +23,7 @@ use Rattle.tree_laws.proofs.Outlines.{outline, agrees_same}
 use Rattle.reordered_text_laws.specs.Fronted.{used, labelled_as}
 use Rattle.reordered_text_laws.proofs.FrontClasses.{other_way}
 use Rattle.reordered_text_laws.proofs.FrontKeyed.{typed_place, primary_place, listed_place}
-use Rattle.reordered_text_laws.proofs.Marks.{AllAt}
+use Rattle.reordered_text_laws.proofs.MarkedTokens.{AllAt}
 use Rattle.reordered_text_laws.proofs.Reworded.{class_is, zeros, length-zeros, same_length, bytes_in, bytes_of, reworded, length-reworded, base_same, got_some, got_none, base_some, base_none, end_other, spelled_some, spelled_none, each_token, none_behind, not_both, filled_text}
 
 no_case : (b : Bool) → (b ≡ true → ⊥) → b ≡ false

@@ -35,7 +35,7 @@ use Rattle.reordered_tree_laws.proofs.Placing.{under_of}
 use Rattle.reordered_tree_laws.proofs.Ready.{IsReady, IsReadyNode, IsAnItem, an_item, item_bodiless, ready_token}
 use Rattle.reordered_tree_laws.proofs.NamesGo.{items_scope, listed_in}
 use Rattle.reordered_tree_laws.proofs.Tested.{is_tested, Tested, TestedNode, opened_count, tested_within}
-use Rattle.reordered_tree_laws.proofs.Agreeing.{SeenAlike, seen_more, token_same, node_same, HasOwnTests}
+use Rattle.reordered_tree_laws.proofs.AgreeingLemmas.{SeenAlike, seen_more, token_same, node_same, HasOwnTests}
 
 -- a list's items in the outline of its node
 pub list_begun : (i first : ℕ) (q : Label) (u : Forest) (o : Outline) → (ghosts.eq q.production Args || (ghosts.eq q.production Params && not (q.alternative == 1))) ≡ true

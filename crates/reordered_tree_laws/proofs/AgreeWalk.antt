@@ -33,7 +33,7 @@ use Rattle.reordered_tree_laws.proofs.Ready.{IsReady, IsReadyNode, IsReadyList, 
 use Rattle.reordered_tree_laws.proofs.NamesGo.{unlisted, items_body, listed_in}
 use Rattle.reordered_tree_laws.proofs.Tested.{Tested, TestedNode, tested_both, tested_within, IsIn}
 use Rattle.reordered_tree_laws.proofs.Unseen.{all_imp, all_both, tested_all, bare_nodes, pairs_clear, each_clear, IsSameOrClear}
-use Rattle.reordered_tree_laws.proofs.Agreeing.{list_test, SeenAlike, seen_more, IsUnseenOld, HasOwnTests, AgreesOld, old_pass}
+use Rattle.reordered_tree_laws.proofs.AgreeingLemmas.{list_test, SeenAlike, seen_more, IsUnseenOld, HasOwnTests, AgreesOld, old_pass}
 use Rattle.reordered_tree_laws.proofs.AgreeingNew.{ItemAgrees, IsFine, IsUnseenNew, new_pass}
 use Rattle.reordered_tree_laws.proofs.AgreeSteps.{list_begun, tested_nodes, own_items, IsStaticItem, static_items, IsPlainBoth}
 

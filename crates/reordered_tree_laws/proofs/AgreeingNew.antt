@@ -27,7 +27,7 @@ use Rattle.reordered_tree_laws.proofs.Answering.{end_of, IsOldItem, unanswered, 
 use Rattle.reordered_tree_laws.proofs.Placing.{under_of, reordered_node, placed_at, IsPlaced, AreItemsPlaced, IsCounted, nodes_placed, ItemGoes}
 use Rattle.reordered_tree_laws.proofs.Tested.{TestedNode, node_imp, node_both, IsIn}
 use Rattle.reordered_tree_laws.proofs.Unseen.{all_imp, IsSameOrClear, hidden_new}
-use Rattle.reordered_tree_laws.proofs.Agreeing.{item_agrees, items_test, SeenAlike, seen_more, HasOwnTests, AgreesOld, nothing_more}
+use Rattle.reordered_tree_laws.proofs.AgreeingLemmas.{item_agrees, items_test, SeenAlike, seen_more, HasOwnTests, AgreesOld, nothing_more}
 
 module _ (m : ℕ → ℕ) (old new : List Token) (law : AreMovedTexts m old new) (order : List ℕ) (lists : ℕ → Bool) (is : IsOrder (length order) order) (s : Dialect)
     (b c : Outline) (zs ws : List Entry) (end from : ℕ) (empty : c.entries ≡ []) (depth : c.scope.depth ≡ b.scope.depth) where

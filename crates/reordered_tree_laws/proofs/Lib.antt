@@ -8,7 +8,7 @@ mod BesideSteps
 pub mod BesideWalk
 pub mod Seen
 pub mod Adding
-mod Items
+mod ItemLemmas
 pub mod Rows
 mod PremiseRows
 pub mod Ranges
@@ -56,7 +56,7 @@ pub mod NamesGo
 pub mod NamesWalk
 pub mod Tested
 pub mod Unseen
-pub mod Agreeing
+pub mod AgreeingLemmas
 pub mod AgreeingNew
 pub mod AgreeSteps
 pub mod AgreeWalk

@@ -29,7 +29,7 @@ use Rattle.reordered_tree_laws.proofs.Ready.{IsReady, IsReadyNode, IsReadyItems,
 use Rattle.reordered_tree_laws.proofs.NamesGo.{deeper, listed_in, node_begins, node_ends, in_parentheses, listed_along}
 use Rattle.reordered_tree_laws.proofs.NamesWalk.{list_ready, item_names, node_inside}
 use Rattle.reordered_tree_laws.proofs.Tested.{Tested}
-use Rattle.reordered_tree_laws.proofs.Agreeing.{list_test, SeenAlike}
+use Rattle.reordered_tree_laws.proofs.AgreeingLemmas.{list_test, SeenAlike}
 use Rattle.reordered_tree_laws.proofs.AgreeingNew.{ItemAgrees}
 use Rattle.reordered_tree_laws.proofs.AgreeSteps.{IsPlainBoth, plain_old, plain_new, token_tests, node_tests}
 use Rattle.reordered_tree_laws.proofs.AgreeWalk.{emptied, list_agrees}

@@ -25,7 +25,7 @@ use Rattle.reordered_tree_laws.proofs.Answered.{none_go}
 use Rattle.reordered_tree_laws.proofs.OutlineSteps.{OutlinesGo}
 use Rattle.reordered_tree_laws.proofs.Ready.{IsReady}
 use Rattle.reordered_tree_laws.proofs.Unseen.{tested_all}
-use Rattle.reordered_tree_laws.proofs.Agreeing.{SeenAlike}
+use Rattle.reordered_tree_laws.proofs.AgreeingLemmas.{SeenAlike}
 use Rattle.reordered_tree_laws.proofs.NamesAgree.{agree_names}
 
 pub reordered_names_agree : ReorderedNamesAgree
