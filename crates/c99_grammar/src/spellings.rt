@@ -1,10 +1,10 @@
 // Which class a token has by its spelling and a dialect: keywords (6.4.1) and punctuators (6.4.6).
-ghost use Rattle.std.specs.Prelude.{◌≡◌, ◌++◌, map};
+ghost use Rattle.std.specs.Prelude.{◌≡◌, ◌<◌, ◌++◌, List, map};
 ghost use Rattle.std.specs.Str.{bytes_eq};
-ghost use Rattle.c99_grammar.specs.Words.{spelled_of};
+ghost use Rattle.c99_grammar.specs.Words.{spelled_of, row_of, row_at, AreRows};
 ghost use Rattle.c99_grammar.specs.TokenClasses.{spelled_class, base_class};
 ghost use Rattle.c99_grammar.specs.Standard.{grammar};
-ghost use Rattle.c99_grammar.specs.Spellings.{keywords, keywords_added, keywords_of};
+ghost use Rattle.c99_grammar.specs.Spellings.{Spelled, keywords, keywords_added, keywords_of};
 ghost use Rattle.c99_grammar.specs.declared.classes.Class.TheVariants.{Identifier};
 
 use crate::classes::Class;
@@ -18,407 +18,103 @@ pub(crate) struct Word {
     class: Class,
 }
 
+/// Words by row: a word stands in the row that the first character of its spelling gives (`row_of`).
+type Rows = [&'static [Word]; 32];
+
+// Words as data: each spelling before its class.
+macro_rules! words {
+    ($($text:literal $class:ident),*) => {
+        [$(Word { text: $text, class: Class::$class }),*]
+    };
+}
+
 // The keywords of C99.
-static KEYWORDS: [Word; 37] = [
-    Word {
-        text: b"auto",
-        class: Class::Auto,
-    },
-    Word {
-        text: b"break",
-        class: Class::Break,
-    },
-    Word {
-        text: b"case",
-        class: Class::Case,
-    },
-    Word {
-        text: b"char",
-        class: Class::Char,
-    },
-    Word {
-        text: b"const",
-        class: Class::Const,
-    },
-    Word {
-        text: b"continue",
-        class: Class::Continue,
-    },
-    Word {
-        text: b"default",
-        class: Class::Default,
-    },
-    Word {
-        text: b"do",
-        class: Class::Do,
-    },
-    Word {
-        text: b"double",
-        class: Class::Double,
-    },
-    Word {
-        text: b"else",
-        class: Class::Else,
-    },
-    Word {
-        text: b"enum",
-        class: Class::Enum,
-    },
-    Word {
-        text: b"extern",
-        class: Class::Extern,
-    },
-    Word {
-        text: b"float",
-        class: Class::Float,
-    },
-    Word {
-        text: b"for",
-        class: Class::For,
-    },
-    Word {
-        text: b"goto",
-        class: Class::Goto,
-    },
-    Word {
-        text: b"if",
-        class: Class::If,
-    },
-    Word {
-        text: b"inline",
-        class: Class::Inline,
-    },
-    Word {
-        text: b"int",
-        class: Class::Int,
-    },
-    Word {
-        text: b"long",
-        class: Class::Long,
-    },
-    Word {
-        text: b"register",
-        class: Class::Register,
-    },
-    Word {
-        text: b"restrict",
-        class: Class::Restrict,
-    },
-    Word {
-        text: b"return",
-        class: Class::Return,
-    },
-    Word {
-        text: b"short",
-        class: Class::Short,
-    },
-    Word {
-        text: b"signed",
-        class: Class::Signed,
-    },
-    Word {
-        text: b"sizeof",
-        class: Class::Sizeof,
-    },
-    Word {
-        text: b"static",
-        class: Class::Static,
-    },
-    Word {
-        text: b"struct",
-        class: Class::Struct,
-    },
-    Word {
-        text: b"switch",
-        class: Class::Switch,
-    },
-    Word {
-        text: b"typedef",
-        class: Class::Typedef,
-    },
-    Word {
-        text: b"union",
-        class: Class::Union,
-    },
-    Word {
-        text: b"unsigned",
-        class: Class::Unsigned,
-    },
-    Word {
-        text: b"void",
-        class: Class::Void,
-    },
-    Word {
-        text: b"volatile",
-        class: Class::Volatile,
-    },
-    Word {
-        text: b"while",
-        class: Class::While,
-    },
-    Word {
-        text: b"_Bool",
-        class: Class::BoolWord,
-    },
-    Word {
-        text: b"_Complex",
-        class: Class::ComplexWord,
-    },
-    Word {
-        text: b"_Imaginary",
-        class: Class::ImaginaryWord,
-    },
+static KEYWORDS: Rows = [
+    &words![],
+    &words![b"auto" Auto],
+    &words![b"break" Break],
+    &words![b"case" Case, b"char" Char, b"const" Const, b"continue" Continue],
+    &words![b"default" Default, b"do" Do, b"double" Double],
+    &words![b"else" Else, b"enum" Enum, b"extern" Extern],
+    &words![b"float" Float, b"for" For],
+    &words![b"goto" Goto],
+    &words![],
+    &words![b"if" If, b"inline" Inline, b"int" Int],
+    &words![],
+    &words![],
+    &words![b"long" Long],
+    &words![],
+    &words![],
+    &words![],
+    &words![],
+    &words![],
+    &words![b"register" Register, b"restrict" Restrict, b"return" Return],
+    &words![
+        b"short" Short, b"signed" Signed, b"sizeof" Sizeof, b"static" Static, b"struct" Struct,
+        b"switch" Switch
+    ],
+    &words![b"typedef" Typedef],
+    &words![b"union" Union, b"unsigned" Unsigned],
+    &words![b"void" Void, b"volatile" Volatile],
+    &words![b"while" While],
+    &words![],
+    &words![],
+    &words![],
+    &words![],
+    &words![],
+    &words![],
+    &words![],
+    &words![b"_Bool" BoolWord, b"_Complex" ComplexWord, b"_Imaginary" ImaginaryWord],
 ];
 
-// Those that C11 adds.
-static KEYWORDS_ADDED: [Word; 7] = [
-    Word {
-        text: b"_Alignas",
-        class: Class::Alignas,
-    },
-    Word {
-        text: b"_Alignof",
-        class: Class::Alignof,
-    },
-    Word {
-        text: b"_Atomic",
-        class: Class::Atomic,
-    },
-    Word {
-        text: b"_Generic",
-        class: Class::Generic,
-    },
-    Word {
-        text: b"_Noreturn",
-        class: Class::Noreturn,
-    },
-    Word {
-        text: b"_Static_assert",
-        class: Class::StaticAssert,
-    },
-    Word {
-        text: b"_Thread_local",
-        class: Class::ThreadLocal,
-    },
+// The row of what begins with an underscore.
+const UNDERSCORED: usize = (b'_' % 32) as usize;
+
+// Those that C11 adds: each begins with an underscore.
+static KEYWORDS_ADDED: [Word; 7] = words![
+    b"_Alignas" Alignas, b"_Alignof" Alignof, b"_Atomic" Atomic, b"_Generic" Generic, b"_Noreturn" Noreturn,
+    b"_Static_assert" StaticAssert, b"_Thread_local" ThreadLocal
 ];
 
-static PUNCTUATORS: [Word; 54] = [
-    Word {
-        text: b"[",
-        class: Class::LeftBracket,
-    },
-    Word {
-        text: b"]",
-        class: Class::RightBracket,
-    },
-    Word {
-        text: b"(",
-        class: Class::LeftParen,
-    },
-    Word {
-        text: b")",
-        class: Class::RightParen,
-    },
-    Word {
-        text: b"{",
-        class: Class::LeftBrace,
-    },
-    Word {
-        text: b"}",
-        class: Class::RightBrace,
-    },
-    Word {
-        text: b".",
-        class: Class::Dot,
-    },
-    Word {
-        text: b"->",
-        class: Class::Arrow,
-    },
-    Word {
-        text: b"++",
-        class: Class::PlusPlus,
-    },
-    Word {
-        text: b"--",
-        class: Class::MinusMinus,
-    },
-    Word {
-        text: b"&",
-        class: Class::Amp,
-    },
-    Word {
-        text: b"*",
-        class: Class::Star,
-    },
-    Word {
-        text: b"+",
-        class: Class::Plus,
-    },
-    Word {
-        text: b"-",
-        class: Class::Minus,
-    },
-    Word {
-        text: b"~",
-        class: Class::Tilde,
-    },
-    Word {
-        text: b"!",
-        class: Class::Bang,
-    },
-    Word {
-        text: b"/",
-        class: Class::Slash,
-    },
-    Word {
-        text: b"%",
-        class: Class::Percent,
-    },
-    Word {
-        text: b"<<",
-        class: Class::ShiftLeft,
-    },
-    Word {
-        text: b">>",
-        class: Class::ShiftRight,
-    },
-    Word {
-        text: b"<",
-        class: Class::Less,
-    },
-    Word {
-        text: b">",
-        class: Class::Greater,
-    },
-    Word {
-        text: b"<=",
-        class: Class::LessEq,
-    },
-    Word {
-        text: b">=",
-        class: Class::GreaterEq,
-    },
-    Word {
-        text: b"==",
-        class: Class::EqEq,
-    },
-    Word {
-        text: b"!=",
-        class: Class::BangEq,
-    },
-    Word {
-        text: b"^",
-        class: Class::Caret,
-    },
-    Word {
-        text: b"|",
-        class: Class::Bar,
-    },
-    Word {
-        text: b"&&",
-        class: Class::AmpAmp,
-    },
-    Word {
-        text: b"||",
-        class: Class::BarBar,
-    },
-    Word {
-        text: b"?",
-        class: Class::Question,
-    },
-    Word {
-        text: b":",
-        class: Class::Colon,
-    },
-    Word {
-        text: b";",
-        class: Class::Semicolon,
-    },
-    Word {
-        text: b"...",
-        class: Class::Ellipsis,
-    },
-    Word {
-        text: b"=",
-        class: Class::Eq,
-    },
-    Word {
-        text: b"*=",
-        class: Class::StarEq,
-    },
-    Word {
-        text: b"/=",
-        class: Class::SlashEq,
-    },
-    Word {
-        text: b"%=",
-        class: Class::PercentEq,
-    },
-    Word {
-        text: b"+=",
-        class: Class::PlusEq,
-    },
-    Word {
-        text: b"-=",
-        class: Class::MinusEq,
-    },
-    Word {
-        text: b"<<=",
-        class: Class::ShiftLeftEq,
-    },
-    Word {
-        text: b">>=",
-        class: Class::ShiftRightEq,
-    },
-    Word {
-        text: b"&=",
-        class: Class::AmpEq,
-    },
-    Word {
-        text: b"^=",
-        class: Class::CaretEq,
-    },
-    Word {
-        text: b"|=",
-        class: Class::BarEq,
-    },
-    Word {
-        text: b",",
-        class: Class::Comma,
-    },
-    Word {
-        text: b"#",
-        class: Class::Hash,
-    },
-    Word {
-        text: b"##",
-        class: Class::HashHash,
-    },
-    Word {
-        text: b"<:",
-        class: Class::LeftBracket,
-    },
-    Word {
-        text: b":>",
-        class: Class::RightBracket,
-    },
-    Word {
-        text: b"<%",
-        class: Class::LeftBrace,
-    },
-    Word {
-        text: b"%>",
-        class: Class::RightBrace,
-    },
-    Word {
-        text: b"%:",
-        class: Class::Hash,
-    },
-    Word {
-        text: b"%:%:",
-        class: Class::HashHash,
-    },
+static PUNCTUATORS: Rows = [
+    &words![],
+    &words![b"!" Bang, b"!=" BangEq],
+    &words![],
+    &words![b"#" Hash, b"##" HashHash],
+    &words![],
+    &words![b"%" Percent, b"%=" PercentEq, b"%>" RightBrace, b"%:" Hash, b"%:%:" HashHash],
+    &words![b"&" Amp, b"&&" AmpAmp, b"&=" AmpEq],
+    &words![],
+    &words![b"(" LeftParen],
+    &words![b")" RightParen],
+    &words![b"*" Star, b"*=" StarEq],
+    &words![b"++" PlusPlus, b"+" Plus, b"+=" PlusEq],
+    &words![b"," Comma],
+    &words![b"->" Arrow, b"--" MinusMinus, b"-" Minus, b"-=" MinusEq],
+    &words![b"." Dot, b"..." Ellipsis],
+    &words![b"/" Slash, b"/=" SlashEq],
+    &words![],
+    &words![],
+    &words![],
+    &words![],
+    &words![],
+    &words![],
+    &words![],
+    &words![],
+    &words![],
+    &words![],
+    &words![b":" Colon, b":>" RightBracket],
+    &words![b"[" LeftBracket, b"{" LeftBrace, b";" Semicolon],
+    &words![
+        b"<<" ShiftLeft, b"<" Less, b"<=" LessEq, b"|" Bar, b"||" BarBar, b"<<=" ShiftLeftEq, b"|=" BarEq,
+        b"<:" LeftBracket, b"<%" LeftBrace
+    ],
+    &words![b"]" RightBracket, b"}" RightBrace, b"==" EqEq, b"=" Eq],
+    &words![
+        b"~" Tilde, b">>" ShiftRight, b">" Greater, b">=" GreaterEq, b"^" Caret, b">>=" ShiftRightEq,
+        b"^=" CaretEq
+    ],
+    &words![b"?" Question],
 ];
 
 fn is_spelled(text: &[u8], spelling: &[u8]) -> bool
@@ -429,7 +125,7 @@ fn is_spelled(text: &[u8], spelling: &[u8]) -> bool
 
 #[tactic(auto, unfolding(crate::specs::TokenClasses::spelled_class))]
 // The class of the first of these words that is spelled so, or the other one.
-fn spelled(words: &[Word], text: &[u8], other: Class) -> Class
+fn first_spelled(words: &[Word], text: &[u8], other: Class) -> Class
     ensures { result ≡ spelled_class (map spelled_of words.now) text.now other }
 {
     match words {
@@ -438,9 +134,46 @@ fn spelled(words: &[Word], text: &[u8], other: Class) -> Class
             if is_spelled(text, word.text) {
                 word.class
             } else {
-                spelled(more, text, other)
+                first_spelled(more, text, other)
             }
         }
+    }
+}
+
+// The row in which a spelling stands: the last five bits of its first character.
+fn row_of(text: &[u8]) -> usize
+    ensures below { result < 32 }
+    ensures answer { result ≡ row_of text.now }
+{
+    match text {
+        [] => 0,
+        [first, ..] => usize::from(*first % 32),
+    }
+}
+
+// The class of the word that is spelled so in the row where the spelling stands, or the other one.
+fn spelled_in_row(rows: &Rows, text: &[u8], other: Class) -> Class
+    ensures { result ≡ spelled_class (row_at rows.now (row_of text.now)) text.now other }
+{
+    first_spelled(rows[row_of(text)], text, other)
+}
+
+// The class of the word that is spelled so among those that stand in rows, or the other one.
+fn spelled(rows: &Rows, text: &[u8], other: Class) -> Class
+    ensures { (words : List Spelled) → AreRows rows.now words → result ≡ spelled_class words text.now other }
+{
+    spelled_in_row(rows, text, other)
+}
+
+// The class of an identifier by the words alone that C11 adds.
+fn added_class(text: &[u8]) -> Class
+    ensures { result ≡ spelled_class keywords_added text.now Identifier }
+{
+    let row = row_of(text);
+    if row == UNDERSCORED {
+        first_spelled(&KEYWORDS_ADDED, text, Class::Identifier)
+    } else {
+        Class::Identifier
     }
 }
 
@@ -448,7 +181,7 @@ fn spelled(words: &[Word], text: &[u8], other: Class) -> Class
 fn word_class_of_c11(text: &[u8]) -> Class
     ensures { result ≡ spelled_class (keywords ++ keywords_added) text.now Identifier }
 {
-    let other = spelled(&KEYWORDS_ADDED, text, Class::Identifier);
+    let other = added_class(text);
     spelled(&KEYWORDS, text, other)
 }
 

@@ -1,4 +1,4 @@
-use Rattle.std.proofs.Common.{sym, ap, ◌∙◌}
+use Rattle.std.proofs.Common.{refl, sym, ap, ◌∙◌}
 use Rattle.c99_grammar.specs.Spellings.{keywords_of, punctuators}
 use Rattle.c99_grammar.specs.TokenClasses.{spelled_class, base_class, class_of_kind}
 use Rattle.c99_grammar.specs.Standard.{grammar}
@@ -15,6 +15,6 @@ returns-in-Ident c =
 pub returns-in-Punct : goal.returns-in-Punct
 unfolding base_class
 returns-in-Punct c =
-    c.spelled.ensures
+    c.spelled.ensures punctuators refl
     ∙ ap (λ t. spelled_class punctuators t NoClass) c.text-in-Punct.ensures.answer
     ∙ ap (λ k. class_of_kind (grammar c.args.dialect) k c.args.tok.now.text) (sym c.in-Punct.is ∙ c.kind.ensures)
