@@ -1,9 +1,14 @@
 # Completion of cscout for bash. scripts/install puts it where bash looks; else source this file.
 _cscout() {
-  local word=${COMP_WORDS[COMP_CWORD]} command=${COMP_WORDS[2]} words
-  case $COMP_CWORD in
+  local word=${COMP_WORDS[COMP_CWORD]} at=$COMP_CWORD words
+  # cscout-dry-run has the program in front
+  [ "${COMP_WORDS[0]##*/}" = cscout ] || at=$((at - 1))
+  local command=${COMP_WORDS[2 + COMP_CWORD - at]}
+  case $at in
+    0) mapfile -t COMPREPLY < <(compgen -c -- "$word") ;;
     1)
-      words='--help --version generate'
+      words=
+      [ "$at" != "$COMP_CWORD" ] || words='--help --version generate'
       mapfile -t COMPREPLY < <(compgen -W "$words" -- "$word"; compgen -f -X '!*.cs' -- "$word"; compgen -d -S / -- "$word")
       ;;
     2)
@@ -23,4 +28,4 @@ _cscout() {
     7) [ "$command" != rename ] || mapfile -t COMPREPLY < <(compgen -W strings -- "$word") ;;
   esac
 }
-complete -o filenames -o nospace -F _cscout cscout
+complete -o filenames -o nospace -F _cscout cscout cscout-dry-run
