@@ -5,8 +5,8 @@ ghost use Rattle.calls_of.specs.Graphs.{IsGraphOf};
 ghost use Rattle.calls_of.specs.Numbers.{AreCalls};
 
 use crate::call::NamedCall;
+use crate::call_graph::Graph;
 use crate::found::all_found;
-use crate::graph::Graph;
 use crate::known::Known;
 use crate::named::Named;
 use crate::nodes::Edge;

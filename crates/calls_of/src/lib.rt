@@ -16,14 +16,15 @@
 //! `callers` looks at each edge once.
 //!
 //! Nothing is refused; what wants memory answers `Memory`. Read `specs/Graph.antt` and `specs/Reaching.antt`, then
-//! `graph.rt`; `specs/Bodies.antt`, `specs/Calls.antt` and `specs/Graphs.antt`, then `unit_calls.rt` and `graphs.rt`.
+//! `call_graph.rt`; `specs/Bodies.antt`, `specs/Calls.antt` and `specs/Graphs.antt`, then `unit_calls.rt` and
+//! `graphs.rt`.
 #![tactic(auto)]
 
 mod bodies;
 mod call;
+mod call_graph;
 mod firsts;
 mod found;
-mod graph;
 mod graphs;
 mod known;
 mod marks;
@@ -38,7 +39,7 @@ mod printing;
 mod unit_calls;
 mod walk;
 
-pub use graph::Graph;
+pub use call_graph::Graph;
 pub use graphs::graph;
 pub use nodes::{Edge, Node, NodeKind};
 pub use printing::print_calls;

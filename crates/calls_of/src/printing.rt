@@ -2,7 +2,7 @@
 ghost use Rattle.std.specs.Prelude.{◌≡◌, ◌++◌, IfOk, OnOk};
 ghost use Rattle.calls_of.specs.Graphs.{calls_text, edge_line, node_text, numbered_text};
 
-use crate::graph::Graph;
+use crate::call_graph::Graph;
 use crate::nodes::{Edge, Node};
 use analysis::{Analysis, push_place};
 use cs_base::Memory;

@@ -5,7 +5,7 @@ use Rattle.calls_of.specs.declared.nodes.Edge.{Edge}
 use Rattle.calls_of.specs.Graph.{is_edge, numbers_of, callers_of}
 use Rattle.calls_of.specs.Walking.{is_marked, marked_numbers}
 use Rattle.calls_of.proofs.GraphListLemmas.{numbers-agree}
-use Rattle.calls_of.proofs.graph.Graph.callers.Goals as goal
+use Rattle.calls_of.proofs.call_graph.Graph.callers.Goals as goal
 
 pub returns : goal.returns
 returns c =

@@ -6,7 +6,7 @@ use Rattle.calls_of.specs.Reaching.{Lists, Reaches}
 use Rattle.calls_of.proofs.GraphListLemmas.{ok-then}
 use Rattle.calls_of.proofs.GraphOrderLemmas.{fold-own}
 use Rattle.calls_of.proofs.WalkLemmas.{Grown, IsWalk, walk-begins, walk-goes, walk-less, walk-ends, walk-parts, grown}
-use Rattle.calls_of.proofs.graph.Graph.reachable.Goals as goal
+use Rattle.calls_of.proofs.call_graph.Graph.reachable.Goals as goal
 
 pub loop-from-init : goal.loop-from-init
 loop-from-init c =

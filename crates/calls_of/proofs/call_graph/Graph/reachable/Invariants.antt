@@ -1,6 +1,6 @@
 use Rattle.std.proofs.Common.{◌+◌, length}
 use Rattle.calls_of.proofs.WalkLemmas.{IsWalk, unmarked}
-use Rattle.calls_of.proofs.graph.Graph.reachable.Given as goal
+use Rattle.calls_of.proofs.call_graph.Graph.reachable.Given as goal
 
 abbrev pub invariant-loop-from : goal.invariant-loop-from
 invariant-loop-from l = IsWalk l.self.edges (length l.self.nodes) l.node l.walk

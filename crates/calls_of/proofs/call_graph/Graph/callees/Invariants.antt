@@ -2,7 +2,7 @@ use Rattle.std.proofs.Common.{◌≡◌, ℕ, ◌<◌, length, take}
 use Rattle.std.specs.Prelude.{◌==◌}
 use Rattle.std.specs.List.{list_any}
 use Rattle.calls_of.specs.Walking.{is_marked}
-use Rattle.calls_of.proofs.graph.Graph.callees.Given as goal
+use Rattle.calls_of.proofs.call_graph.Graph.callees.Given as goal
 
 abbrev pub invariant-loop-edge : goal.invariant-loop-edge
 invariant-loop-edge l = (length l.marks ≡ length l.self.nodes)

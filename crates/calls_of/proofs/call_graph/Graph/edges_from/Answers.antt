@@ -6,7 +6,7 @@ use Rattle.std.proofs.lemmas.List.{take_all}
 use Rattle.calls_of.specs.declared.nodes.Edge.{Edge}
 use Rattle.calls_of.specs.Graph.{are_in_order, edges_of}
 use Rattle.calls_of.proofs.GraphOrderLemmas.{callers-rise, rise-drop, edges-between}
-use Rattle.calls_of.proofs.graph.Graph.edges_from.Goals as goal
+use Rattle.calls_of.proofs.call_graph.Graph.edges_from.Goals as goal
 
 pub returns : goal.returns
 returns c =

@@ -1,7 +1,7 @@
 use Rattle.std.proofs.Common.{◌≡◌, ℕ, ◌<◌, length, take}
 use Rattle.calls_of.specs.Graph.{is_edge}
 use Rattle.calls_of.specs.Walking.{is_marked}
-use Rattle.calls_of.proofs.graph.Graph.callers.Given as goal
+use Rattle.calls_of.proofs.call_graph.Graph.callers.Given as goal
 
 abbrev pub invariant-loop-edge : goal.invariant-loop-edge
 invariant-loop-edge l = (length l.marks ≡ length l.self.nodes)

@@ -7,7 +7,7 @@ use Rattle.calls_of.specs.Graph.{is_edge, edges_of, numbers_of, callees_of}
 use Rattle.calls_of.specs.Walking.{is_marked, marked_numbers}
 use Rattle.calls_of.proofs.GraphOrderLemmas.{any-own}
 use Rattle.calls_of.proofs.GraphListLemmas.{numbers-agree}
-use Rattle.calls_of.proofs.graph.Graph.callees.Goals as goal
+use Rattle.calls_of.proofs.call_graph.Graph.callees.Goals as goal
 
 pub returns : goal.returns
 returns c =
