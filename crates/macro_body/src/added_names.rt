@@ -83,6 +83,10 @@ fn joined(
     ensures known { both.new ≡ with_names last.new names.now }
     ensures answer { IfOk result (λ h. h ≡ with_names hides names.now) }
 {
+    // A set without names is not kept, since it would push out the last one.
+    if hides.is_empty() {
+        return names.copy(alloc);
+    }
     if hides.is_same(last) {
         return both.copy(alloc);
     }

@@ -60,8 +60,8 @@ impl HideSet {
         })
     }
 
-    // Whether the set is known to have no names.
-    fn is_empty(&self) -> bool
+    /// Whether the set is known to have no names.
+    pub(crate) fn is_empty(&self) -> bool
         ensures { OnTrue result (self.now ≡ []) }
     {
         match (&self.full, &self.last) {
@@ -111,9 +111,10 @@ impl HideSet {
     fn listed(&self, alloc: Global) -> Result<Vec<Tok>, Memory>
         ensures { IfOk result (λ all. spellings all.items ≡ self.now) }
     {
-        let mut all = Vec::new(alloc);
+        let last = names_in(&self.last);
+        let mut all = Vec::with_capacity(alloc, last.len() + 1)?;
         push_parts(&mut all, parts_in(&self.full))?;
-        push_shared(&mut all, names_in(&self.last))?;
+        push_shared(&mut all, last)?;
         Ok(all)
     }
 
