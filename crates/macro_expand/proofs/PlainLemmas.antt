@@ -1,5 +1,6 @@
 -- A run expanded token by token: what is put out has no hide sets.
-use Rattle.std.proofs.Common.{◌≡◌, ℕ, ◌+◌, ◌≤◌, List, [], ◌∷◌, ◌++◌, length, Option, Some, None, option_to_list, Result, Ok, Err, IfOk, refl, sym, ap, subst, ◌∙◌, append_assoc, length-append, arith}
+use Rattle.std.proofs.Common.{◌≡◌, ℕ, ◌+◌, ◌≤◌, List, [], ◌∷◌, ◌++◌, length, true, Option, Some, None, option_to_list, Result, Ok, Err, IfOk, refl, sym, ap, subst, ◌∙◌, append_assoc, length-append, arith}
+use Rattle.std.proofs.lemmas.Bool.{and_parts}
 use Rattle.std.proofs.lemmas.List.{append-nil, map-append, length-map}
 use Rattle.cs_base.specs.Answer.{Gives}
 use Rattle.cs_base.specs.Token.{Token}
@@ -8,22 +9,19 @@ use Rattle.macro_body.specs.Faults.{fault_of}
 use Rattle.macro_body.specs.Hides.{Hidden, hidden, toks_of, unhidden}
 use Rattle.macro_body.specs.Macro.{Table}
 use Rattle.macro_body.specs.Notes.{Fault, Expanded}
+use Rattle.macro_body.specs.Sound.{is_sound, all_sound}
 use Rattle.macro_body.specs.Kept.{Kept, kept_with, finished, expanded_kept}
 use Rattle.macro_body.proofs.KeptLemmas.{kept_with-nil}
-use Rattle.macro_expand.specs.Expansion.{Setting, whole, expansion}
-use Rattle.macro_expand.specs.Following.{IsTaken}
-use Rattle.macro_expand.specs.Going.{before_behind}
-use Rattle.macro_expand.proofs.GoingLemmas.{Ending, whole-nothing}
+use Rattle.macro_expand.specs.Expansion.{Setting, one_more, macro_of, whole, expansion}
+use Rattle.macro_expand.specs.Following.{IsTaken, IsPlain}
+use Rattle.macro_expand.specs.Going.{before_behind, plain}
+use Rattle.macro_expand.proofs.GoingLemmas.{whole-nothing}
 use Rattle.macro_expand.proofs.CallLemmas.{nothing_taken}
+use Rattle.macro_expand.proofs.TurnLemmas.{stays-goes}
 
 -- what an expansion comes to without hide sets
 abbrev pub PlainEnding : Type 0
 PlainEnding = Result (List Token × ℕ × Kept) Fault
-
--- an ending without hide sets behind tokens that were put out before
-abbrev pub plain : List Token → Ending → PlainEnding
-plain out (Ok v) = Ok (out ++ toks_of v.0, v.1, v.2)
-plain out (Err f) = Err f
 
 pub plain-expanded : (k : Kept) (r : Result Expanded Fault) → plain [] (finished k [] r) ≡ expanded_kept k r
 plain-expanded k (Ok e) = refl
@@ -45,6 +43,30 @@ plain-turn set depth before before2 first stayed ts rest rest2 out out2 work wor
     ∙ ap (λ (xs : List Token). plain xs (finished k2 [] (whole set depth (before_behind stayed depth before) rest2 work2))) pushed
     ∙ plain-finished k2 out (option_to_list stayed) (whole set depth (before_behind stayed depth before) rest2 work2)
     ∙ ap (plain out) (sym goes) ∙ ap (λ (xs : List Hidden). plain out (finished k [] (whole set depth before xs work))) (sym split) ∙ so_far
+
+-- a token that no macro replaces is put out
+pub plain-stays : (set : Setting) (depth before before2 : ℕ) (t : Token) (ts rest : List Hidden) (out out2 : List Token) (work : ℕ) (k : Kept) (all : PlainEnding)
+    → depth ≡ 0 → ts ≡ hidden t [] ∷ rest → macro_of set.table (hidden t []) ≡ None → before2 ≡ before + 1 → out2 ≡ out ++ t ∷ []
+    → plain out (finished k [] (whole set depth before ts work)) ≡ all → plain out2 (finished k [] (whole set depth before2 rest work)) ≡ all
+plain-stays set depth before before2 t ts rest out out2 work k all outermost split none counted pushed so_far =
+    plain-turn set depth before before2 (hidden t []) (Some (hidden t [])) ts rest rest out out2 work work k k all
+    split (stays-goes set depth before (hidden t []) rest work k none)
+    (counted ∙ sym (ap (λ (d : ℕ). one_more d before) outermost)) pushed so_far
+
+-- what was taken, where something was
+pub plain_taken : (table : Table) (o : Option Token) (t : Token) (ts rest : List Hidden) → o ≡ Some t → IsPlain table o ts rest
+    → (ts ≡ hidden t [] ∷ rest) × (macro_of table (hidden t []) ≡ None)
+plain_taken table o t ts rest is taken =
+    let P : Option Token → Type 0 = λ v. IsPlain table v ts rest in subst P is taken
+
+-- where nothing was, nothing changed
+pub plain_left : (table : Table) (o : Option Token) (ts rest : List Hidden) → o ≡ None → IsPlain table o ts rest → ts ≡ rest
+plain_left table o ts rest is taken =
+    let P : Option Token → Type 0 = λ v. IsPlain table v ts rest in subst P is taken
+
+pub sound_behind : (t : Token) (ts rest : List Hidden) → ts ≡ hidden t [] ∷ rest → all_sound ts ≡ true → all_sound rest ≡ true
+sound_behind t ts rest split sound =
+    (and_parts (is_sound (hidden t [])) (all_sound rest) (sym (ap all_sound split) ∙ sound)).1
 
 pub plain-fault : (set : Setting) (depth before : ℕ) (first : Hidden) (ts rest : List Hidden) (out : List Token) (work : ℕ) (k : Kept) (all : PlainEnding)
     → ts ≡ first ∷ rest → plain out (finished k [] (whole set depth before ts work)) ≡ all

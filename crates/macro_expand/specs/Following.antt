@@ -1,7 +1,10 @@
 -- What follows in an expansion, token by token.
 use Rattle.std.specs.Prelude.{◌≡◌, List, [], ◌∷◌, Option, Some, None}
 use Rattle.macro_expand.specs.declared.calls.CallToks.{CallToks}
-use Rattle.macro_body.specs.Hides.{Hidden}
+use Rattle.cs_base.specs.Token.{Token}
+use Rattle.macro_body.specs.Hides.{Hidden, hidden}
+use Rattle.macro_body.specs.Macro.{Table}
+use Rattle.macro_expand.specs.Expansion.{macro_of}
 use Rattle.macro_expand.specs.declared.calls.CallRole.{CallRole}
 use Rattle.macro_expand.specs.declared.calls.CallRole.TheVariants as role
 use Rattle.macro_expand.specs.Calls.{Call, Role, Closes, Separates, Belongs}
@@ -15,6 +18,11 @@ first_of (t ∷ ts) = Some t
 abbrev pub IsTaken : Option Hidden → List Hidden → List Hidden → Type 0
 IsTaken None before after = (before ≡ []) × (after ≡ [])
 IsTaken (Some t) before after = before ≡ t ∷ after
+
+-- a token that no macro replaces was taken from the front, or nothing changed
+abbrev pub IsPlain : Table → Option Token → List Hidden → List Hidden → Type 0
+IsPlain table None before after = before ≡ after
+IsPlain table (Some t) before after = (before ≡ hidden t [] ∷ after) × (macro_of table (hidden t []) ≡ None)
 
 -- a call that was taken, and what follows it
 abbrev pub call_before : Option CallToks → List Hidden → Option Call

@@ -5,7 +5,7 @@ use Rattle.cs_base.specs.Token.{Token}
 use Rattle.macro_body.specs.declared.definitions.Definition.{Definition}
 use Rattle.macro_expand.specs.declared.context.Context.{Context}
 use Rattle.macro_body.specs.declared.fault.ExpandFault.{ExpandFault}
-use Rattle.macro_body.specs.Hides.{Hidden, hidden}
+use Rattle.macro_body.specs.Hides.{Hidden, hidden, toks_of}
 use Rattle.macro_body.specs.Live.{table_of}
 use Rattle.macro_expand.specs.Calls.{Call, arguments_of}
 use Rattle.macro_body.specs.Notes.{Fault, OpenCall, WrongArguments, TooMuchWork, Expanded, expanded, noted, onward}
@@ -25,6 +25,11 @@ whole_in cx before ts work = whole (setting_of cx) cx.depth before ts work
 abbrev pub before_behind : Option Hidden → ℕ → ℕ → ℕ
 before_behind None depth before = before
 before_behind (Some t) depth before = one_more depth before
+
+-- an ending without hide sets behind tokens that were put out before
+abbrev pub plain : List Token → Result (List Hidden × ℕ × Kept) Fault → Result (List Token × ℕ × Kept) Fault
+plain out (Ok v) = Ok (out ++ toks_of v.0, v.1, v.2)
+plain out (Err fault) = Err fault
 
 -- What is left comes to what all comes to; or there is a fault, and all comes to it.
 abbrev pub GoesOn : {X Y : Type 0} → Result X ExpandFault → Result Y Fault → (X → Result Y Fault) → Type 0

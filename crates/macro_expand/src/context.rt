@@ -46,11 +46,13 @@ impl<'a> Context<'a> {
         ensures traced { IfSome result (λ m. IsTrue (list_all is_traced m.now.body)) }
     {
         let name = t.tok();
-        if is_name(name) && !t.hides().contains(name.text()) {
-            let macros = self.macros;
-            macros.find(name.text())
-        } else {
-            None
+        if !is_name(name) {
+            return None;
+        }
+        let macros = self.macros;
+        match macros.find(name.text()) {
+            Some(m) if !t.hides().contains(name.text()) => Some(m),
+            _ => None,
         }
     }
 }

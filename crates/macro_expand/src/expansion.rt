@@ -1,17 +1,17 @@
 // Expansion of a list of tokens (6.10.3.4): the first name that can be replaced is replaced, and its
 // result is scanned again together with what follows.
-ghost use Rattle.std.specs.Prelude.{◌≡◌, ◌+◌, ◌≤◌, ◌<◌, ◌^◌, ◌++◌, ◌∷◌, [], ◌&&◌, true, false, length, option_to_list, Some, IfOk, IfSome, OnOk, IsTrue};
+ghost use Rattle.std.specs.Prelude.{◌≡◌, ℕ, ◌+◌, ◌≤◌, ◌<◌, ◌^◌, ◌++◌, ◌∷◌, [], ◌&&◌, true, false, length, option_to_list, Some, IfOk, IfSome, OnOk, IsTrue};
 ghost use Rattle.std.specs.List.{list_all};
 ghost use Rattle.cs_base.specs.Answer.{Gives};
 ghost use Rattle.macro_body.specs.Hides.{toks_of};
 ghost use Rattle.macro_body.specs.Macro.{is_function};
 ghost use Rattle.macro_body.specs.Live.{table_of};
 ghost use Rattle.macro_expand.specs.Expansion.{macro_of, expansion};
-ghost use Rattle.macro_body.specs.Kept.{finished, expanded_kept};
+ghost use Rattle.macro_body.specs.Kept.{Kept, finished, expanded_kept};
 ghost use Rattle.macro_body.specs.Faults.{fault_of};
 ghost use Rattle.macro_expand.specs.Laws.{begins_open};
 ghost use Rattle.macro_body.specs.Sound.{is_traced, is_low, is_sound, all_sound, AllTraced};
-ghost use Rattle.macro_expand.specs.Going.{setting_of, whole_in, before_behind, GoesOn};
+ghost use Rattle.macro_expand.specs.Going.{setting_of, whole_in, before_behind, plain, GoesOn};
 
 use crate::call_reading::{CallRead, begins_open, read_call};
 use crate::context::Context;
@@ -77,14 +77,36 @@ impl<'a> Context<'a> {
         ensures answer { Gives (λ v. (v.items, work.new.left, notes.new)) fault_of result
             (expanded_kept notes.old (whole_in self.now 0 rest.entry work.old.left)) }
     {
-        let mut before = 0;
         let mut out = Vec::new(self.alloc);
+        let mut before = self.plain_run(0, &mut rest, &mut out)?;
         'toks: while let Some(first) = rest.take()? {
             let stayed = self.next_token(before, first, &mut rest, work, notes)?;
             before = behind(self.depth, before, &stayed);
             put_out_plain(&mut out, stayed)?;
+            before = self.plain_run(before, &mut rest, &mut out)?;
         }
         Ok(out)
+    }
+
+    // Puts out the tokens before the first that may be replaced or that something was put before, where so many
+    // were put out; and gives how many are then.
+    fn plain_run(&self, before: u32, rest: &mut Rest, out: &mut Vec<Tok>) -> Result<u32, Memory>
+        requires outermost { self.now.depth ≡ 0 }
+        requires fits { before + length rest.old < 2 ^ 32 }
+        ensures sound { OnOk result (IsTrue (all_sound rest.old) → IsTrue (all_sound rest.new)) }
+        ensures counted { IfOk result (λ after. after + length rest.new ≡ before + length rest.old) }
+        ensures shorter { OnOk result (length rest.new ≤ length rest.old) }
+        ensures few { OnOk result (length out.new.items + length rest.new ≡ length out.old.items + length rest.old) }
+        ensures answer { IfOk result (λ after. (kept : Kept) (left : ℕ) →
+            plain out.new.items (finished kept [] (whole_in self.now after rest.new left))
+            ≡ plain out.old.items (finished kept [] (whole_in self.now before rest.old left))) }
+    {
+        let mut before = before;
+        'toks: while let Some(tok) = rest.take_plain(self.macros)? {
+            out.push(tok)?;
+            before += 1;
+        }
+        Ok(before)
     }
 
     #[cycle(expansion)]

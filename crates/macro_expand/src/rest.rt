@@ -1,11 +1,13 @@
 // What follows in an expansion.
-ghost use Rattle.std.specs.Prelude.{◌≡◌, ◌++◌, [], List, map, reverse, option_copied, option_map, IfOk};
+ghost use Rattle.std.specs.Prelude.{◌≡◌, ◌&&◌, ◌++◌, [], List, map, reverse, is_some, option_copied, option_map, IfOk};
+ghost use Rattle.macro_body.specs.Live.{table_of};
+ghost use Rattle.macro_body.specs.Below.line_shape.Signs.{is_name};
 ghost use Rattle.macro_body.specs.Hides.{Hidden, hidden, hide_more};
 ghost use Rattle.macro_expand.specs.Frames.{AreFilled, rest_of, rests_above, lent_toks, IsRaised};
-ghost use Rattle.macro_expand.specs.Following.{first_of, IsTaken};
+ghost use Rattle.macro_expand.specs.Following.{first_of, IsTaken, IsPlain};
 
 use cs_base::{Memory, Tok};
-use macro_body::{AddedNames, HiddenTok, HideSet, shared};
+use macro_body::{AddedNames, HiddenTok, HideSet, Macros, is_name, shared};
 use std::alloc::Global;
 use std::marker::Model;
 use std::mem;
@@ -46,6 +48,29 @@ impl<'a> Lent<'a> {
             Lent::Argument([]) => Ok(None),
         }
     }
+
+    // The next token of a run, which is taken away here, where no macro has its name.
+    fn take_plain(&mut self, macros: &Macros) -> Result<Option<Tok>, Memory>
+        ensures { IfOk result (λ taken. IsPlain (table_of macros.now) taken (lent_toks self.old) (lent_toks self.new)) }
+    {
+        match *self {
+            Lent::Run([first, rest @ ..]) => {
+                if is_macro(first, macros) {
+                    return Ok(None);
+                }
+                *self = Lent::Run(rest);
+                Ok(Some(shared(first)?))
+            }
+            _ => Ok(None),
+        }
+    }
+}
+
+// Whether a token is the name of a macro.
+fn is_macro(tok: &Tok, macros: &Macros) -> bool
+    ensures { result ≡ (is_name tok.now && is_some (table_of macros.now tok.now.text)) }
+{
+    is_name(tok) && macros.find(tok.text()).is_some()
 }
 
 /// What is left of a result that was put before what followed: the next token is kept at the end. The
@@ -115,6 +140,16 @@ impl<'a> Rest<'a> {
             Some(tok) => Ok(Some(self.names.added_to(tok)?)),
             None => self.lent.take(self.alloc),
         }
+    }
+
+    /// The next token, taken away, where nothing was put before it and no macro has its name.
+    pub fn take_plain(&mut self, macros: &Macros) -> Result<Option<Tok>, Memory>
+        ensures { IfOk result (λ taken. IsPlain (table_of macros.now) taken self.old self.new) }
+    {
+        if !self.toks.is_empty() || !self.below.is_empty() {
+            return Ok(None);
+        }
+        self.lent.take_plain(macros)
     }
 
     /// Puts tokens before all others, to which further names are not available.

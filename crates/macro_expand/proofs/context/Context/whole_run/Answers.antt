@@ -1,4 +1,4 @@
-use Rattle.std.proofs.Common.{◌∙◌, [], ◌∷◌, sym, arith}
+use Rattle.std.proofs.Common.{◌∙◌, ◌+◌, [], ◌∷◌, length, sym, ap, arith}
 use Rattle.std.proofs.lemmas.Result.{err_from_is_err_and}
 use Rattle.macro_body.specs.Kept.{finished, expanded_kept}
 use Rattle.macro_expand.specs.Expansion.{whole}
@@ -14,21 +14,33 @@ toks-preserved c =
     let kept = c.toks.invariant in
     let shorter = c.in_ok-stayed.ensures.shorter in
     let less = c.in_ok-stayed.ensures.falls in
+    let more = c.in_ok-before-2.ensures in
+    let counted = more.counted in
+    let put = more.few in
     let taken = taken_is c.in_ok-first.field-0 c.in-Some.first c.toks.rest c.take.new.self c.in-Some.is c.in_ok-first.ensures in
+    let fits = turn_fits c.in_ok-stayed.stayed c.args.self.now.depth c.toks.before c.behind-before.result c.toks.work.left c.next_token.new.work.left c.in-Some.first c.toks.rest
+    c.take.new.self c.next_token.new.rest c.behind-before.ensures taken shorter kept.fits in
+    let few = plain-few c.in_ok-stayed.stayed c.toks.work.left c.next_token.new.work.left _ c.in-Some.first c.toks.rest c.take.new.self c.next_token.new.rest
+    c.toks.out.items c.put_out_plain.new.out.items c.in_ok-put_out_plain.ensures taken shorter kept.few in
     record {
       same =
-          plain-turn (setting_of c.args.self.now) c.args.self.now.depth c.toks.before c.behind-before.result c.in-Some.first c.in_ok-stayed.stayed c.toks.rest c.take.new.self c.next_token.new.rest
+          more.answer c.next_token.new.notes c.next_token.new.work.left
+          ∙ plain-turn (setting_of c.args.self.now) c.args.self.now.depth c.toks.before c.behind-before.result c.in-Some.first c.in_ok-stayed.stayed c.toks.rest c.take.new.self c.next_token.new.rest
           c.toks.out.items c.put_out_plain.new.out.items c.toks.work.left c.next_token.new.work.left c.toks.notes c.next_token.new.notes _
           taken c.in_ok-stayed.ensures.answer c.behind-before.ensures c.in_ok-put_out_plain.ensures kept.same;
-      fits =
-          turn_fits c.in_ok-stayed.stayed c.args.self.now.depth c.toks.before c.behind-before.result c.toks.work.left c.next_token.new.work.left c.in-Some.first c.toks.rest
-          c.take.new.self c.next_token.new.rest c.behind-before.ensures taken shorter kept.fits;
+      fits = omega (arith, fits, counted);
       falls = omega (arith, less);
-      few =
-          plain-few c.in_ok-stayed.stayed c.toks.work.left c.next_token.new.work.left _ c.in-Some.first c.toks.rest c.take.new.self c.next_token.new.rest
-          c.toks.out.items c.put_out_plain.new.out.items c.in_ok-put_out_plain.ensures taken shorter kept.few;
-      sound = c.in_ok-stayed.ensures.sound;
+      few = omega (arith, few, put);
+      sound = more.sound c.in_ok-stayed.ensures.sound;
     }
+
+pub toks-smaller : goal.toks-smaller
+toks-smaller c =
+    let taken = taken_is c.in_ok-first.field-0 c.in-Some.first c.toks.rest c.take.new.self c.in-Some.is c.in_ok-first.ensures in
+    let len = ap length taken in
+    let shorter = c.in_ok-stayed.ensures.shorter in
+    let less = c.in_ok-before-2.ensures.shorter in
+    omega (arith, len, shorter, less)
 
 pub returns-in_err-stayed-clause-answer : goal.returns-in_err-stayed-clause-answer
 returns-in_err-stayed-clause-answer c =
