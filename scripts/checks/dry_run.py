@@ -180,7 +180,7 @@ def hold_corpus(held, r, count, corpus):
 
 # ---- rows
 
-OUT = "which lies outside of this folder or behind a link"
+OUT = "has a place that would change: a path from / on"
 # Of a row: what it is, the files of a folder `in` and what lies beside it, the words, and what dry-run says where it gives no answer.
 ROWS = [
     ("a header above is read", {"in/a.c": '#include "../up/h.h"\nint x = 1 + UP;\n', "up/h.h": "#define UP 2\n", "in/w.cs": "file a.c\nreadonly ../\n"},
@@ -253,6 +253,15 @@ def hold_odd_words(held):
         run = ran([held.tried, *words], folder)
         if run.returncode != status or said not in run.stdout + run.stderr:
             held.differs(words, f"status {run.returncode}, {run.stdout}, {run.stderr}")
+    os.environ["TMPDIR"] = folder
+    hold_room = held.tried, held.program, "w.cs", "rename", "true.c", "1", "5", "y"
+    run = ran(hold_room, folder)
+    del os.environ["TMPDIR"]
+    if run.returncode != 1 or run.stderr != b"cscout: refused: no name\n":
+        held.differs(["a room in the folder"], f"status {run.returncode}, {run.stdout}, {run.stderr}")
+    if set(before) != set(state(folder)):
+        held.differs(["a room in the folder"], "something stays")
+    before = state(folder)
     dry = held.dry(folder, ["w.cs", "rename", "a.c", "1", "5", "y"])
     if dry.returncode or not dry.stdout.endswith(b"--- a.c\n+++ a.c\n@@ -1,1 +1,1 @@\n-int x;\n+int y;\n"):
         held.differs(["a link"], f"{dry.stdout}, {dry.stderr}")

@@ -247,9 +247,19 @@ def hold_outside(held):
         got = sorted(it["uri"] for it in found) if isinstance(found, list) else found
         held.hold("references", spelled, got, sorted([uri_of(folder, "a.c"), uri_of(folder, "../up/h.h")]))
         found = wire.ask("textDocument/rename", textDocument={"uri": uri_of(folder, "a.c")}, position={"line": 1, "character": 8}, newName="z")
-        held.hold("refusals", spelled, "which lies outside of this folder" in found.get("message", ""), True)
+        held.hold("refusals", spelled, "has a place that would change: a path from / on" in found.get("message", ""), True)
         held.hold("ends", spelled, wire.end(), 0)
         held.hold("untouched folders", folder, state(os.path.dirname(folder)), before)
+    # The folder itself, from / on; through a link to it; and a link to a folder below it.
+    for files, here, path in (({"a.c": "int x;\n", "w.cs": "file @/a.c\n"}, "", "a.c"), ({"a.c": "int x;\n", "w.cs": "file a.c\n", "../l": "-> in \u00fc"}, "../l", "a.c"),
+                              ({"d/a.c": "int x;\n", "w.cs": "file d/a.c\n", "l": "-> d"}, "", "l/a.c"),
+                              ({"d/a.c": "int x;\n", "w.cs": "file l/a.c\n", "l": "-> d"}, "", "l/a.c")):
+        folder = held.folder(files)
+        wire = held.begun(folder)
+        uri = uri_of(folder, os.path.join(here, path))
+        found = wire.ask("textDocument/references", textDocument={"uri": uri}, position={"line": 0, "character": 4})
+        held.hold("references", (files, path), [it["uri"] for it in found] if isinstance(found, list) else found, [uri])
+        held.hold("ends", path, wire.end(), 0)
 
 
 def hold_messages(held):

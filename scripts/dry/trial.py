@@ -41,12 +41,13 @@ def program_of(word):
 
 
 class Mirror:
-    """The folder HERE once more, at `folder`; `behind` are the paths below it that are links to folders, or cannot be listed."""
+    """The folder HERE once more, at `folder`; `behind` are the paths below it that are links to folders, cannot be listed, or
+    are git's own."""
 
     def __init__(self, here, room):
         if here == "/":
             raise Refused("not in the folder /")
-        self.folder, self.behind = room + here, []
+        self.room, self.folder, self.behind = room, room + here, []
         below = here
         while below != "/":
             below, name = os.path.split(below)
@@ -71,7 +72,9 @@ class Mirror:
                 for it in found:
                     path = os.path.join(below, it.name)
                     at = os.path.join(self.folder, path)
-                    if it.is_dir(follow_symlinks=False) and os.access(it.path, os.R_OK | os.X_OK):
+                    if it.path == self.room:
+                        continue
+                    if it.is_dir(follow_symlinks=False) and it.name != ".git" and os.access(it.path, os.R_OK | os.X_OK):
                         os.mkdir(at)
                         left.append(path)
                     elif not it.is_dir() and it.name.endswith(BESIDE):
@@ -128,8 +131,8 @@ def tried_in(room, program, workspace, text, words, stdin):
     # a batch prints its refusals on the output
     for path in READ_ONLY.findall(run.stdout) + READ_ONLY.findall(run.stderr):
         if path.startswith(outside) and not path.startswith(kept):
-            raise Refused(f"the command looks at {os.fsdecode(path)} for a change, which lies outside of this folder or behind a link; "
-                          "where it does not change files of that path, a line `readonly PREFIX` of the workspace file says so")
+            raise Refused(f"{os.fsdecode(path)} has a place that would change: a path from / on, by `..` or through a link to a folder is "
+                          "read, and no change of it is tried; a `readonly` line of the workspace file says that it stays")
     message = run.stderr.replace(os.fsencode(at), os.fsencode(workspace)) if run.returncode in (3, 4) else run.stderr
     return Trial(run.returncode, run.stdout, message, edits_of(mirror, here, run.stdout))
 

@@ -20,7 +20,7 @@ class Paths:
         said = os.environ.get("PWD", "")
         self.tops = [said] if os.path.isabs(said) and os.path.realpath(said) == self.top else []
         self.tops.append(self.top)
-        self.outside, self.known = folders_outside(workspace), {}
+        self.named, self.known = named_folders(workspace), {}
 
     def path_of(self, uri):
         """The path that the workspace has for a file."""
@@ -31,23 +31,16 @@ class Paths:
         if found.scheme != "file" or found.netloc not in ("", "localhost") or not found.path.startswith("/"):
             raise Fault(INVALID_PARAMS, f"{uri} names no file")
         at = os.path.normpath(os.fsdecode(urllib.parse.unquote_to_bytes(found.path)))
-        path = self._below(at) or self._below(os.path.join(os.path.realpath(os.path.dirname(at)), os.path.basename(at))) or self._outside(at)
+        path = self._spelled(at)
         self.known[path] = uri
         return path
 
-    def _below(self, at):
-        for top in self.tops:
-            if at.startswith(top.rstrip("/") + "/"):
-                return os.path.relpath(at, top)
-        return None
-
-    def _outside(self, at):
-        """A path that leads out of the folder, spelled as a line of the workspace spells the folder of it."""
-        relative = os.path.relpath(at, self.top)
-        for folder in self.outside:
-            if (relative + "/").startswith(folder + "/"):
-                return relative
-        return at
+    def _spelled(self, at):
+        """Relative to the folder, or from / on, as a line of the workspace spells the folder that has it."""
+        true = os.path.join(os.path.realpath(os.path.dirname(at)), os.path.basename(at))
+        below = [os.path.relpath(it, top) for it in (at, true) for top in self.tops if it.startswith(top.rstrip("/") + "/")]
+        named = [it for it in [*below, os.path.relpath(true, self.top), at, true] if any(is_below(it, folder) for folder in self.named)]
+        return (named + below + [at])[0]
 
     def uri_of(self, path):
         """The URI by which the editor named the file, where it did."""
@@ -55,19 +48,20 @@ class Paths:
         return self.known.get(path) or "file://" + urllib.parse.quote(os.fsencode(at))
 
 
-def folders_outside(workspace):
-    """The folders above this one that lines of the workspace name by `..`."""
+def is_below(path, folder):
+    if folder == ".":
+        return not path.startswith(("/", "../"))
+    return path.startswith(folder.rstrip("/") + "/")
+
+
+def named_folders(workspace):
+    """The folders that lines of the workspace name, or have files in."""
     try:
         with open(workspace, encoding="utf-8", errors="surrogateescape") as file:
             text = file.read()
     except OSError:
-        return []
-    found = []
-    for kind, path in NAMED_LINE.findall(text):
-        folder = os.path.normpath(path if kind == "ipath" else os.path.dirname(path) or ".")
-        if folder.startswith(".."):
-            found.append(folder)
-    return found
+        return set()
+    return {os.path.normpath(path if kind == "ipath" else os.path.dirname(path) or ".") for kind, path in NAMED_LINE.findall(text)}
 
 
 def letters_of(line):
