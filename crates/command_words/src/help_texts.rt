@@ -29,8 +29,8 @@ cscout WS find QUERY
     word: name=PATTERN and attributes (macro, function, object, typedef, parameter, enumerator, tag,
     member, label, external, readonly, unused, cut), joined by |, &, ! and parentheses
 cscout WS batch FILE
-    runs the lines of FILE, each `rename PATH LINE COL NAME`, in order: each on the files as the
-    lines before left them. A refused line changes nothing. Files are written once, at the end.
+    runs the lines of FILE, each `rename PATH LINE COL NAME [strings]`, in order: each on the files as
+    the lines before left them. A refused line changes nothing. Files are written once, at the end.
 cscout generate N
     makes a workspace of N units in memory, from 1 to 1024, analyses it and renames a name of it
 cscout --help
