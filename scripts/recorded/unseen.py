@@ -7,6 +7,9 @@ import subprocess
 MARKER = re.compile(r'# (\d+) "((?:[^"\\]|\\.)*)"')
 DROPPED = re.compile(r"\b(__attribute__|__attribute|__asm__|__asm|asm|_Alignas)\b(\s*(?:volatile|__volatile__|goto|inline)\b)*\s*\(")
 WORD = re.compile(r'"(?:[^"\\]|\\.)*"|\'(?:[^\'\\]|\\.)*\'|\b\d\w*|[A-Za-z_]\w*')
+# Attributes whose numbers count the parameters of a function.
+COUNTING = re.compile(r"\b(?:__)?(?:access|alloc_align|alloc_size|fd_arg|fd_arg_read|fd_arg_write|format|format_arg|nonnull"
+                      r"|null_terminated_string_arg)(?:__)?\s*\(([^()]*)\)")
 # What attributes are called, and the words that stand in them.
 ATTRIBUTES = set("""access alias aligned alloc_align alloc_size always_inline artificial assume_aligned bounded btf_tag cdecl
  cleanup cold common const constructor copy deprecated designated_init destructor diagnose_if dllexport dllimport error externally_visible
@@ -70,16 +73,20 @@ def _operand(text, at):
 
 
 def dropped_names(text):
-    """Line, word and name for each name that stands in an operand that the kit's define lines drop."""
+    """Line, word and name for each name that stands in an operand that the kit's define lines drop; and for each number there that
+    counts the parameters of a function."""
     text = without_comments(text)
     for found in DROPPED.finditer(text):
         operand = _operand(text, found.end() - 1)
         before = text[text.rfind("\n", 0, found.start()) + 1:found.start()]
         if re.match(r"\s*#\s*(define|undef|ifdef|ifndef|if|elif)\b", before):
             continue
+        counts = [it.span(1) for it in COUNTING.finditer(operand)]
         for word in WORD.finditer(operand):
             name = word.group(0)
             plain = name.strip("_")
-            if name[0] in "\"'" or name[0].isdigit() or plain in ATTRIBUTES or not plain:
+            if name[0].isdigit() and not any(first <= word.start() < end for first, end in counts):
+                continue
+            if name[0] in "\"'" or plain in ATTRIBUTES or not plain:
                 continue
             yield text.count("\n", 0, found.end() + word.start()) + 1, found.group(1), name
