@@ -1,0 +1,1 @@
+int a; int f(void) { return a + a; }

@@ -1,0 +1,1 @@
+int alphabet; int b; int delta;

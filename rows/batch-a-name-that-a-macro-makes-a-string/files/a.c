@@ -1,0 +1,4 @@
+#define S(v) put(#v, v)
+int put(char *s, int n);
+int c;
+int r(void) { return S(c); }

@@ -1,0 +1,1 @@
+int b; int a; int d;

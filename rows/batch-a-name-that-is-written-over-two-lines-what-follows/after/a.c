@@ -1,0 +1,2 @@
+int letters\
+; int d;

@@ -1,0 +1,2 @@
+int al\
+pha; int b;

@@ -1,0 +1,1 @@
+int alpha; int b; int d;

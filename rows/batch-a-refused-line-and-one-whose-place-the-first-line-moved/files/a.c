@@ -1,0 +1,1 @@
+int a; int b; int d;

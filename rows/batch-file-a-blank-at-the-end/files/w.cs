@@ -1,0 +1,4 @@
+file a.c
+file b.c
+file é.c
+file b/c.c

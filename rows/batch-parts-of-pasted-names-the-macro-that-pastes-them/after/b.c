@@ -1,0 +1,2 @@
+#include "h.h"
+int sum(void) { return PICK(beginning) * PICK(s); }

@@ -1,0 +1,2 @@
+#include "h.h"
+int sum(void) { return N(first) * N(last); }

@@ -1,0 +1,4 @@
+#define S(v) put(#v, v)
+int put(char *s, int n);
+int counter, key;
+int result(void) { return S(counter) + S(key); }

@@ -1,0 +1,6 @@
+int n;
+#if 0
+int n;
+#else
+int m;
+#endif

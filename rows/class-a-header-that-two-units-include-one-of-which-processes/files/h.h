@@ -1,0 +1,4 @@
+#ifdef A
+int x;
+#endif
+int y;

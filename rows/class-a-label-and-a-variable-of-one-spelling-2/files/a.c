@@ -1,0 +1,2 @@
+int l;
+int f(void) { goto l; l: return l; }

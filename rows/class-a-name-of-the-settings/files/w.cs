@@ -1,0 +1,2 @@
+define W 1
+file a.c

@@ -1,0 +1,3 @@
+int a\
+b;
+int c = ab;

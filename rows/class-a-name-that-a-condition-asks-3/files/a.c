@@ -1,0 +1,6 @@
+#define D
+#if defined D && !defined(E)
+int x;
+#endif
+#ifdef E
+#endif

@@ -1,0 +1,3 @@
+#define M n
+int n;
+int k = M;

@@ -1,0 +1,3 @@
+int na\
+me;
+int k = sizeof name;

@@ -1,0 +1,2 @@
+#define M(p) p + other
+int other;

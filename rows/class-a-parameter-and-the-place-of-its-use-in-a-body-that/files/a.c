@@ -1,0 +1,3 @@
+#define ID(p) p
+int q;
+int r = sizeof ID(q);

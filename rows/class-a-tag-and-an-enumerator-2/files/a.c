@@ -1,0 +1,2 @@
+enum e { e } v = e;
+enum e w;

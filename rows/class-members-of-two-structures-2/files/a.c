@@ -1,0 +1,3 @@
+struct s { int m; } x;
+struct t { int m; } y;
+int k = sizeof x.m + sizeof y.m;

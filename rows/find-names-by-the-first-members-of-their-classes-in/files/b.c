@@ -1,0 +1,2 @@
+#include "lib/h.h"
+int b;

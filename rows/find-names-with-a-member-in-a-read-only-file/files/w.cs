@@ -1,0 +1,3 @@
+file b.c
+file a.c
+readonly lib/

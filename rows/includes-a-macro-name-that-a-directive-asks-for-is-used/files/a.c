@@ -1,0 +1,4 @@
+#include "h.h"
+#ifdef A
+int x;
+#endif

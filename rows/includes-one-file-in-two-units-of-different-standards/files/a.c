@@ -1,0 +1,5 @@
+#if __STDC_VERSION__ >= 201112L
+_Static_assert(sizeof(int) > 0, "s");
+#endif
+extern int n;
+int g(void) { return n; }

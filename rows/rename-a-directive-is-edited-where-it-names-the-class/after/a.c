@@ -1,0 +1,3 @@
+int z;
+#define X z
+int *p = &X;

@@ -1,0 +1,3 @@
+int x;
+#define X x
+int *p = &X;

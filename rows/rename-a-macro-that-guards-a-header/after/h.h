@@ -1,0 +1,4 @@
+#ifndef GUARD
+#define GUARD
+extern int n;
+#endif

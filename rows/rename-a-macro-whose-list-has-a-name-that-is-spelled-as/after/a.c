@@ -1,0 +1,3 @@
+int foo;
+#define m (4 + foo)
+int y = m;

@@ -1,0 +1,2 @@
+readonly inc/
+file a.c

@@ -1,0 +1,3 @@
+int v\
+;
+int k = __LINE__;

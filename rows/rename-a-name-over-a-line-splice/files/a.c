@@ -1,0 +1,3 @@
+int lo\
+ng_name;
+int k = __LINE__;

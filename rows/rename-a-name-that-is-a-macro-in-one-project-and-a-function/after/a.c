@@ -1,0 +1,6 @@
+#ifdef FAST
+#define take(p) (p)
+#else
+int take(int p);
+#endif
+int h(int k) { return take(k); }

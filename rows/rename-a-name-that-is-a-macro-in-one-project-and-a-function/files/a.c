@@ -1,0 +1,6 @@
+#ifdef FAST
+#define get(p) (p)
+#else
+int get(int p);
+#endif
+int h(int k) { return get(k); }

@@ -1,0 +1,3 @@
+int v;
+#define foo (4 + v)
+int y = foo;

@@ -1,0 +1,3 @@
+int foo;
+#define foo (4 + foo)
+int y = foo;

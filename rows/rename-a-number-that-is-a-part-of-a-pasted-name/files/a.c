@@ -1,0 +1,3 @@
+#define N(d) v##d
+int v1;
+int w = N(1);

@@ -1,0 +1,3 @@
+#define NAME(x) <x.h>
+#include NAME(sys)
+int q;

@@ -1,0 +1,2 @@
+ipath inc
+file a.c

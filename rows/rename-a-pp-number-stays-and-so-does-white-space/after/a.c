@@ -1,0 +1,2 @@
+int  b=0x1;
+	extern int b ;

@@ -1,0 +1,2 @@
+int  aa=0x1;
+	extern int aa ;

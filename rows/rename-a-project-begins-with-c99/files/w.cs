@@ -1,0 +1,3 @@
+standard c11
+project p
+file a.c

@@ -1,0 +1,4 @@
+#define S(x) x, #x
+int m;
+int a[] = { S(m), S(m - '\n') };
+char *u = "m";

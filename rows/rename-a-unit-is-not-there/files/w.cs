@@ -1,0 +1,2 @@
+file a.c
+file no.c

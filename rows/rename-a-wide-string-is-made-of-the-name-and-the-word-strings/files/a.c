@@ -1,0 +1,4 @@
+void *q = L"m";
+#define W(x) (x, L ## #x)
+int n;
+int z = sizeof W(n);

@@ -1,0 +1,2 @@
+standard c17
+file a.c

@@ -1,0 +1,2 @@
+typedef int t;
+void f(int t) { int g(t); }

@@ -1,0 +1,4 @@
+int x;
+#if 0
+int fresh;
+#endif

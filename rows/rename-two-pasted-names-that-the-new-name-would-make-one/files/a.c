@@ -1,0 +1,3 @@
+#define B(x) int x##a; int a##x;
+B(foo)
+int y = fooa;

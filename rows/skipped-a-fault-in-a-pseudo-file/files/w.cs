@@ -1,0 +1,3 @@
+file a.c
+define A(
+file a.c

@@ -1,0 +1,4 @@
+#if 0
+#if 1
+#endif
+#endif

@@ -1,0 +1,5 @@
+#ifdef Z
+z
+
+z
+#endif

@@ -1,0 +1,4 @@
+#include "Z.h"
+#if 0
+b
+#endif

@@ -1,0 +1,5 @@
+#include "h.h"
+#ifdef A
+wrong
+#endif
+int b;

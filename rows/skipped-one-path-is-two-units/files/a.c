@@ -1,0 +1,4 @@
+#ifdef N
+N
+#endif
+x

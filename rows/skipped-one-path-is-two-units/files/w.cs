@@ -1,0 +1,3 @@
+file a.c
+define N 2
+file a.c

@@ -1,0 +1,5 @@
+#ifdef A
+int one;
+#else
+int two;
+#endif

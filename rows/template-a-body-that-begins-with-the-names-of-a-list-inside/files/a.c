@@ -1,0 +1,2 @@
+int f(int a, int b);
+int x[f(sizeof(int (*)(int t)), sizeof(int (*)(int u)))] { return t; }

@@ -1,0 +1,3 @@
+int f(int a, int b);
+#define ADD f
+int s(void) { return ADD(1, 2); }

@@ -1,0 +1,5 @@
+int f(int b, int a);
+void h(void) {
+#include "t.inc"
+#include "t.inc"
+}

@@ -1,0 +1,5 @@
+int f(int a, int b);
+void h(void) {
+#include "t.inc"
+#include "t.inc"
+}

@@ -1,0 +1,3 @@
+#define IGN(x)
+int f(int a, int b);
+int r(void) { return f(2, 1) IGN('); }

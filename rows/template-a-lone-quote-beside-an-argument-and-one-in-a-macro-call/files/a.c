@@ -1,0 +1,3 @@
+#define IGN(x) 1
+int f(int a, int b);
+int r(void) { return f('2', IGN(')); }

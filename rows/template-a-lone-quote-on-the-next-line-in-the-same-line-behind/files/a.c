@@ -1,0 +1,4 @@
+#define IGN(x)
+int f(int a, int b);
+int r(void) { return f(2, 1);
+ IGN(') }

@@ -1,0 +1,2 @@
+enum { n };
+int f(int b[n + 1], int a);

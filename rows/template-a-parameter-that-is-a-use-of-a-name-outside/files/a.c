@@ -1,0 +1,2 @@
+enum { n };
+int f(int a, int b[n + 1]);

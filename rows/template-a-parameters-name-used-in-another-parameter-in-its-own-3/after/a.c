@@ -1,0 +1,1 @@
+int f(int (*b)(int c, int d[sizeof c]), int a);

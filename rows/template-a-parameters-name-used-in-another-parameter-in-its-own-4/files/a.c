@@ -1,0 +1,2 @@
+typedef int T;
+int f(int T, int b(int (T)));

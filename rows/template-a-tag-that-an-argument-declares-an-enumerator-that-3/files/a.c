@@ -1,0 +1,1 @@
+int f(typedef int a, typedef int a);

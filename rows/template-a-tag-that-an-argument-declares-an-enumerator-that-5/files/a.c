@@ -1,0 +1,1 @@
+int f(int __func__, int b);

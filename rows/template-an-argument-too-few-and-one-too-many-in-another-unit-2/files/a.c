@@ -1,0 +1,2 @@
+#include "h.h"
+int f(int x, int y) { return x; }

@@ -1,0 +1,2 @@
+int f(int a, int b);
+int t(void) { return f(1); }

@@ -1,0 +1,2 @@
+#include "h.h"
+int f(int a, char *b) { return f(a, b); }

@@ -1,0 +1,4 @@
+int f(int a, int b);
+void h(void) {
+#include "t.inc"
+}

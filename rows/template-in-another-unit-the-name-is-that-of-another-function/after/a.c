@@ -1,0 +1,4 @@
+int f(int b, int a);
+void h(void) {
+#include "t.inc"
+}

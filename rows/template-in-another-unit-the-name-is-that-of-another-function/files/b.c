@@ -1,0 +1,4 @@
+static int f(int a, int b) { return a; }
+void k(void) {
+#include "t.inc"
+}

@@ -1,0 +1,2 @@
+int f(a, b) int a, b; { return a; }
+int v(void) { return f(1, 2); }

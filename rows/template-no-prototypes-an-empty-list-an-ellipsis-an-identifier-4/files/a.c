@@ -1,0 +1,3 @@
+typedef int t(int, int);
+t f;
+int f(int a, int b);

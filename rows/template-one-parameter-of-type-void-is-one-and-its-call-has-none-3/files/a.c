@@ -1,0 +1,2 @@
+#include "inc/h.h"
+int v(void) { return f(1, 2); }

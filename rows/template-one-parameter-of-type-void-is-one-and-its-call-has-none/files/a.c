@@ -1,0 +1,2 @@
+int f(void);
+int v(void) { return f(); }

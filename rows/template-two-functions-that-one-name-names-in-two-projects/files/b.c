@@ -1,0 +1,2 @@
+#include "h.h"
+int f(int x, char *y) { return f(1, y); }

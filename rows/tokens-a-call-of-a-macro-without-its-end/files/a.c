@@ -1,0 +1,2 @@
+#define F(x) x
+int y = F(1

@@ -1,0 +1,2 @@
+ipath inc
+file src/a.c

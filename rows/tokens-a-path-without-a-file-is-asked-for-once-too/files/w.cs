@@ -1,0 +1,3 @@
+ipath i
+file a.c
+file b.c

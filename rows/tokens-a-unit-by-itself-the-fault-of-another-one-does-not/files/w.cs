@@ -1,0 +1,2 @@
+file no.c
+file a.c

@@ -1,0 +1,3 @@
+#include "h.h"
+int a;
+#define A 1

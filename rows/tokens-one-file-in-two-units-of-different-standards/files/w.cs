@@ -1,0 +1,3 @@
+file a.c
+standard c11
+file a.c

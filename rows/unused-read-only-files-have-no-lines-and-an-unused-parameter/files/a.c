@@ -1,0 +1,3 @@
+#include "h.h"
+int f(int p) { return 0; }
+int x;

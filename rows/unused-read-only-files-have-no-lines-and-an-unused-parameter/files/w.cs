@@ -1,0 +1,2 @@
+readonly h
+file a.c

@@ -1,0 +1,1 @@
+files a.c

@@ -1,0 +1,2 @@
+project p
+fle a.c

@@ -1,0 +1,1 @@
+Standard c11

@@ -1,0 +1,1 @@
+standardc11

@@ -1,0 +1,1 @@
+standards c11
