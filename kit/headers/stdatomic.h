@@ -53,7 +53,7 @@ typedef struct {
     _Bool __val;
 } atomic_flag;
 
-#define ATOMIC_VAR_INIT(VALUE) (VALUE)
+#define ATOMIC_VAR_INIT(__value) (__value)
 #define ATOMIC_FLAG_INIT { 0 }
 #define ATOMIC_BOOL_LOCK_FREE 2
 #define ATOMIC_CHAR_LOCK_FREE 2
@@ -65,37 +65,39 @@ typedef struct {
 #define ATOMIC_LONG_LOCK_FREE 2
 #define ATOMIC_LLONG_LOCK_FREE 2
 #define ATOMIC_POINTER_LOCK_FREE 2
-#define kill_dependency(VALUE) (VALUE)
+#define kill_dependency(__value) (__value)
 
-#define atomic_init(P, VALUE) ((void)(*(P) = (VALUE)))
-#define atomic_is_lock_free(P) ((void)(P), 1)
-#define atomic_thread_fence(ORDER) ((void)(ORDER))
-#define atomic_signal_fence(ORDER) ((void)(ORDER))
-#define atomic_load(P) (*(P))
-#define atomic_load_explicit(P, ORDER) ((void)(ORDER), *(P))
-#define atomic_store(P, VALUE) ((void)(*(P) = (VALUE)))
-#define atomic_store_explicit(P, VALUE, ORDER) ((void)(ORDER), (void)(*(P) = (VALUE)))
-#define atomic_exchange(P, VALUE) (*(P) = (VALUE))
-#define atomic_exchange_explicit(P, VALUE, ORDER) ((void)(ORDER), *(P) = (VALUE))
-#define atomic_compare_exchange_strong(P, E, VALUE) (*(P) == *(E) ? (*(P) = (VALUE), 1) : (*(E) = *(P), 0))
-#define atomic_compare_exchange_strong_explicit(P, E, VALUE, ORDER, OTHER) \
-    ((void)(ORDER), (void)(OTHER), *(P) == *(E) ? (*(P) = (VALUE), 1) : (*(E) = *(P), 0))
-#define atomic_compare_exchange_weak(P, E, VALUE) (*(P) == *(E) ? (*(P) = (VALUE), 1) : (*(E) = *(P), 0))
-#define atomic_compare_exchange_weak_explicit(P, E, VALUE, ORDER, OTHER) \
-    ((void)(ORDER), (void)(OTHER), *(P) == *(E) ? (*(P) = (VALUE), 1) : (*(E) = *(P), 0))
-#define atomic_fetch_add(P, VALUE) (*(P) += (VALUE))
-#define atomic_fetch_add_explicit(P, VALUE, ORDER) ((void)(ORDER), *(P) += (VALUE))
-#define atomic_fetch_sub(P, VALUE) (*(P) -= (VALUE))
-#define atomic_fetch_sub_explicit(P, VALUE, ORDER) ((void)(ORDER), *(P) -= (VALUE))
-#define atomic_fetch_or(P, VALUE) (*(P) |= (VALUE))
-#define atomic_fetch_or_explicit(P, VALUE, ORDER) ((void)(ORDER), *(P) |= (VALUE))
-#define atomic_fetch_xor(P, VALUE) (*(P) ^= (VALUE))
-#define atomic_fetch_xor_explicit(P, VALUE, ORDER) ((void)(ORDER), *(P) ^= (VALUE))
-#define atomic_fetch_and(P, VALUE) (*(P) &= (VALUE))
-#define atomic_fetch_and_explicit(P, VALUE, ORDER) ((void)(ORDER), *(P) &= (VALUE))
-#define atomic_flag_test_and_set(P) ((P)->__val = 1)
-#define atomic_flag_test_and_set_explicit(P, ORDER) ((void)(ORDER), (P)->__val = 1)
-#define atomic_flag_clear(P) ((void)((P)->__val = 0))
-#define atomic_flag_clear_explicit(P, ORDER) ((void)(ORDER), (void)((P)->__val = 0))
+#define atomic_init(__p, __value) ((void)(*(__p) = (__value)))
+#define atomic_is_lock_free(__p) ((void)(__p), 1)
+#define atomic_thread_fence(__order) ((void)(__order))
+#define atomic_signal_fence(__order) ((void)(__order))
+#define atomic_load(__p) (*(__p))
+#define atomic_load_explicit(__p, __order) ((void)(__order), *(__p))
+#define atomic_store(__p, __value) ((void)(*(__p) = (__value)))
+#define atomic_store_explicit(__p, __value, __order) ((void)(__order), (void)(*(__p) = (__value)))
+#define atomic_exchange(__p, __value) (*(__p) = (__value))
+#define atomic_exchange_explicit(__p, __value, __order) ((void)(__order), *(__p) = (__value))
+#define atomic_compare_exchange_strong(__p, __e, __value) \
+    (*(__p) == *(__e) ? (*(__p) = (__value), 1) : (*(__e) = *(__p), 0))
+#define atomic_compare_exchange_strong_explicit(__p, __e, __value, __order, __other) \
+    ((void)(__order), (void)(__other), *(__p) == *(__e) ? (*(__p) = (__value), 1) : (*(__e) = *(__p), 0))
+#define atomic_compare_exchange_weak(__p, __e, __value) \
+    (*(__p) == *(__e) ? (*(__p) = (__value), 1) : (*(__e) = *(__p), 0))
+#define atomic_compare_exchange_weak_explicit(__p, __e, __value, __order, __other) \
+    ((void)(__order), (void)(__other), *(__p) == *(__e) ? (*(__p) = (__value), 1) : (*(__e) = *(__p), 0))
+#define atomic_fetch_add(__p, __value) (*(__p) += (__value))
+#define atomic_fetch_add_explicit(__p, __value, __order) ((void)(__order), *(__p) += (__value))
+#define atomic_fetch_sub(__p, __value) (*(__p) -= (__value))
+#define atomic_fetch_sub_explicit(__p, __value, __order) ((void)(__order), *(__p) -= (__value))
+#define atomic_fetch_or(__p, __value) (*(__p) |= (__value))
+#define atomic_fetch_or_explicit(__p, __value, __order) ((void)(__order), *(__p) |= (__value))
+#define atomic_fetch_xor(__p, __value) (*(__p) ^= (__value))
+#define atomic_fetch_xor_explicit(__p, __value, __order) ((void)(__order), *(__p) ^= (__value))
+#define atomic_fetch_and(__p, __value) (*(__p) &= (__value))
+#define atomic_fetch_and_explicit(__p, __value, __order) ((void)(__order), *(__p) &= (__value))
+#define atomic_flag_test_and_set(__p) ((__p)->__val = 1)
+#define atomic_flag_test_and_set_explicit(__p, __order) ((void)(__order), (__p)->__val = 1)
+#define atomic_flag_clear(__p) ((void)((__p)->__val = 0))
+#define atomic_flag_clear_explicit(__p, __order) ((void)(__order), (void)((__p)->__val = 0))
 
 #endif

@@ -2,6 +2,7 @@
 
 import fnmatch
 import os
+import re
 
 from compiler import head_and_body
 from options import Odd
@@ -110,7 +111,7 @@ def settings_of(entry, answer, kit, standard, added, dropped):
             result[name_of(head)] = (head, body)
     for head, body in answer.macros:
         if not kit.leaves_out(name_of(head)):
-            take("define", f"{head} {body}")
+            take("define", " ".join(own_parameters(head, body)))
     strict = any(head == "__STRICT_ANSI__" for head, _ in answer.macros)
     for text in kit.words(answer.library, standard, strict):
         take("define", text)
@@ -123,6 +124,15 @@ def settings_of(entry, answer, kit, standard, added, dropped):
     for kind, text in added:
         take(kind, text)
     return result
+
+
+def own_parameters(head, body):
+    """A macro of the compiler with parameters in its own names: a name of the program may be spelled as they were."""
+    name, bracket, rest = head.partition("(")
+    for word in re.findall(r"\w+", rest) if bracket else []:
+        if not word.startswith("__"):
+            head, body = (re.sub(rf"\b{word}\b", "__" + word, text) for text in (head, body))
+    return name + head[len(name):], body
 
 
 def shared_directories(entry, answer):

@@ -12,18 +12,19 @@ typedef struct {
     __cpu_mask __bits[__CPU_SETSIZE / __NCPUBITS];
 } cpu_set_t;
 
-#define __CPUELT(cpu) ((cpu) / __NCPUBITS)
-#define __CPUMASK(cpu) ((__cpu_mask)1 << ((cpu) % __NCPUBITS))
-#define __CPU_ZERO_S(size, set) ((void)(size), (void)((set)->__bits[0] = 0))
-#define __CPU_SET_S(cpu, size, set) ((void)(size), (set)->__bits[__CPUELT(cpu)] |= __CPUMASK(cpu))
-#define __CPU_CLR_S(cpu, size, set) ((void)(size), (set)->__bits[__CPUELT(cpu)] &= ~__CPUMASK(cpu))
-#define __CPU_ISSET_S(cpu, size, set) ((void)(size), ((set)->__bits[__CPUELT(cpu)] & __CPUMASK(cpu)) != 0)
-#define __CPU_COUNT_S(size, set) __sched_cpucount(size, set)
-#define __CPU_EQUAL_S(size, set, other) ((void)(size), (set)->__bits[0] == (other)->__bits[0])
-#define __CPU_OP_S(size, to, set, other, op) ((void)(size), (to)->__bits[0] = (set)->__bits[0] op (other)->__bits[0], (to))
-#define __CPU_ALLOC_SIZE(count) ((((count) + __NCPUBITS - 1) / __NCPUBITS) * sizeof(__cpu_mask))
-#define __CPU_ALLOC(count) __sched_cpualloc(count)
-#define __CPU_FREE(set) __sched_cpufree(set)
+#define __CPUELT(__cpu) ((__cpu) / __NCPUBITS)
+#define __CPUMASK(__cpu) ((__cpu_mask)1 << ((__cpu) % __NCPUBITS))
+#define __CPU_ZERO_S(__size, __set) ((void)(__size), (void)((__set)->__bits[0] = 0))
+#define __CPU_SET_S(__cpu, __size, __set) ((void)(__size), (__set)->__bits[__CPUELT(__cpu)] |= __CPUMASK(__cpu))
+#define __CPU_CLR_S(__cpu, __size, __set) ((void)(__size), (__set)->__bits[__CPUELT(__cpu)] &= ~__CPUMASK(__cpu))
+#define __CPU_ISSET_S(__cpu, __size, __set) ((void)(__size), ((__set)->__bits[__CPUELT(__cpu)] & __CPUMASK(__cpu)) != 0)
+#define __CPU_COUNT_S(__size, __set) __sched_cpucount(__size, __set)
+#define __CPU_EQUAL_S(__size, __set, __other) ((void)(__size), (__set)->__bits[0] == (__other)->__bits[0])
+#define __CPU_OP_S(__size, __to, __set, __other, __op) \
+    ((void)(__size), (__to)->__bits[0] = (__set)->__bits[0] __op (__other)->__bits[0], (__to))
+#define __CPU_ALLOC_SIZE(__count) ((((__count) + __NCPUBITS - 1) / __NCPUBITS) * sizeof(__cpu_mask))
+#define __CPU_ALLOC(__count) __sched_cpualloc(__count)
+#define __CPU_FREE(__set) __sched_cpufree(__set)
 
 extern int __sched_cpucount(size_t __setsize, const cpu_set_t *__setp);
 extern cpu_set_t *__sched_cpualloc(size_t __count);

@@ -5,7 +5,7 @@
 #define CSCOUT_LINUX_STDDEF_H
 
 #define __always_inline inline
-#define __struct_group(TAG, NAME, ATTRS, ...) __VA_ARGS__
-#define __DECLARE_FLEX_ARRAY(TYPE, NAME) TYPE NAME[]
+#define __struct_group(__tag, __name, __attrs, ...) __VA_ARGS__
+#define __DECLARE_FLEX_ARRAY(__type, __name) __type __name[]
 
 #endif

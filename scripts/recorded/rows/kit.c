@@ -26,6 +26,7 @@ static _Atomic int count;
 extern int renamed(int) __asm__("other" "_name");
 extern int renamed_too(int) asm("other_name");
 extern int renamed_last(int) __asm("other_name");
+_Pragma("GCC diagnostic ignored \"-Wunused, none\"")
 _Noreturn void leave(void);
 static __inline__ const char *text(const char *__restrict__ s, char *__restrict t) { return t ? s : t; }
 static __inline int number(__const int n, __volatile__ int m, __signed__ char c) { return n + m + c; }
@@ -78,6 +79,15 @@ int words(struct wanted *p, struct wanted *q, struct wanted *r)
     if (__real__ turned > 1 || __imag__ turned > 1)
         __builtin_unreachable();
     return size + strlen(__FUNCTION__) + strlen(__PRETTY_FUNCTION__);
+}
+
+int assembler(struct wanted *p, int n)
+{
+    int m;
+    __asm__("" : "=r" (m), "+r" (n) : "r" (1), "r" (2) : "memory", "cc");
+    asm("" : : "r" (m), "r" (n));
+    __asm("");
+    return m + n + p->wanted;
 }
 
 int numbers(struct wanted *p)
