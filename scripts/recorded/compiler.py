@@ -1,6 +1,7 @@
 """What a compiler says of itself: where it looks for headers, and which macros it defines."""
 
 import os
+import re
 import subprocess
 
 from options import Odd
@@ -56,6 +57,23 @@ def head_and_body(text):
     return text[:end], text[end:].strip()
 
 
+def own_parameters(head, body):
+    """The macro with parameters whose names begin with `__`, and with `...` for the named rest of GNU C: so that no name of the
+    program is one of them."""
+    name, bracket, rest = head.partition("(")
+    if not bracket:
+        return head, body
+    parts = re.split(r'("(?:[^"\\]|\\.)*"|\'(?:[^\'\\]|\\.)*\')', body)
+    words = [word.strip() for word in rest.rstrip(")").split(",")]
+    for n, word in enumerate(words):
+        plain = word.removesuffix("...").strip()
+        words[n] = "..." if word.endswith("...") else "__" + plain.removeprefix("__") if plain else ""
+        if plain:
+            own = "__VA_ARGS__" if word.endswith("...") else words[n]
+            parts[::2] = [re.sub(rf"\b{re.escape(plain)}\b", own, part) for part in parts[::2]]
+    return f"{name}({','.join(words)})", "".join(parts)
+
+
 def _macros(said):
     lines = [line[len("#define "):] for line in said.splitlines() if line.startswith("#define ")]
     return [head_and_body(line) for line in lines]
@@ -74,6 +92,17 @@ class Compilers:
         if key not in self.known:
             self.known[key] = self._ask(compiler, directory, options)
         return self.known[key]
+
+    def system(self, compiler, directory, options):
+        """The directories that the compiler has where the command names none."""
+        words, plain = list(options), []
+        while words:
+            word = words.pop(0)
+            if word in ("-iquote", "-isystem", "-idirafter"):
+                words.pop(0)
+            elif not word.startswith("-I"):
+                plain.append(word)
+        return self.ask(compiler, directory, plain).angle
 
     def _ask(self, compiler, directory, options):
         answer = _run([compiler, *options, "-E", "-dM", "-v", "-x", "c", "/dev/null"], directory)

@@ -1,10 +1,13 @@
 """Small records, odd and broken, and what the import makes of them; and pairs of texts, with what differs between their objects.
 
 Each row: what it shows; files beside a.c; the record (entries, to which `directory` and `file` a.c are added where they do not say
-it, or a text); the words of the command; the status; the lines of the workspace without what compiler and kit bring; and what is
-said, `@AT@` standing for the folder."""
+it, or a text); the words of the command; the status; the lines of the workspace without what compiler and kit bring, and the files
+that are written; and what is said, `@AT@` standing for the folder."""
+
+from wrapper import FIRST
 
 ONE = "import: 1 units of 1 files\n"
+WRAPPED = "import: {} of them begin with what -include names, by files below {}/ that are written for it\n"
 PLAIN = "project default\nfile a.c"
 
 
@@ -29,8 +32,43 @@ ODD = [
      "project default\ndefine A 1\nfile a.c", ONE),
     ("include paths in the compiler's order", {"i/x.h": "", "q/x.h": "", "s/x.h": "", "l/x.h": ""},
      [cc("-isystem", "s", "-idirafter", "l", "-iquoteq", "-I", "i", "-I./i/../i", "-Inowhere")], ["c.json"], 0,
-     "readonly s/\nproject default\nipath q\nipath i\nipath s\nipath l\nfile a.c",
+     "readonly s/\nproject default\nipath q\nipath i\nipath s\nipath l\nfile a.c", ONE),
+    ("a directory of -iquote whose header <..> must not find", {"a.c": "#include <x.h>\n", "i/x.h": "", "q/x.h": ""},
+     [cc("-iquote", "q", "-I", "i")], ["c.json"], 0, "project default\nipath i\nipath q\nfile a.c", ONE),
+    ("a directory of -iquote beside another", {"a.c": "#include \"x.h\"\n", "i/x.h": "", "q/x.h": ""},
+     [cc("-iquote", "q", "-I", "i")], ["c.json"], 0, "project default\nipath q\nipath i\nfile a.c", ONE),
+    ("one header by both kinds of lines", {"a.c": "#include <x.h>\n#include \"x.h\"\n", "i/x.h": "", "q/x.h": ""},
+     [cc("-iquote", "q", "-I", "i")], ["c.json"], 0, "project default\nipath q\nipath i\nfile a.c",
      "import: a.c: q/x.h is found by #include <..> too, and the compiler takes another file\n" + ONE),
+    ("what comes before the file", {"d/x.h": "", "i/y.h": "", "i/x.h": "", "m.h": ""},
+     [{"directory": "@AT@/d", "file": "../a.c", "arguments": ["cc", "-I../i", "-include", "x.h", "-imacros", "../m.h", "-includey.h", "-c",
+                                                              "../a.c"]}], ["c.json"], 0,
+     "readonly cscout-units/\nproject default\nipath i\nfile cscout-units/a.c\n-- cscout-units/a.c\n"
+     '#include "../m.h"\n#include "../d/x.h"\n#include "../i/y.h"\n#include "../a.c"',
+     "import: a.c: -imacros ../m.h is read whole: what it declares is seen too\n" + ONE + WRAPPED.format(1, "cscout-units")),
+    ("a file for each list of what comes before", {"x.h": "", "y.h": ""},
+     [cc("-include", "x.h"), cc("-include", "y.h", "-DA"), cc("-include", "x.h", "-DB"), cc("-DC")], ["c.json"], 0,
+     "readonly cscout-units/\nproject default\nfile cscout-units/a.c\ndefine A 1\nfile cscout-units/a-2.c\nundefine A\ndefine B 1\n"
+     "file cscout-units/a.c\nundefine B\ndefine C 1\nfile a.c\n-- cscout-units/a-2.c\n#include \"../y.h\"\n#include \"../a.c\"\n"
+     "-- cscout-units/a.c\n#include \"../x.h\"\n#include \"../a.c\"", "import: 4 units of 1 files\n" + WRAPPED.format(3, "cscout-units")),
+    ("where these files are written", {"x.h": "", "gen/mine.c": "int mine;\n"}, [cc("-include", "x.h")], ["--wrappers", "gen/units", "c.json"], 0,
+     "readonly gen/units/\nproject default\nfile gen/units/a.c\n-- gen/units/a.c\n#include \"../../x.h\"\n#include \"../../a.c\"",
+     ONE + WRAPPED.format(1, "gen/units")),
+    ("a file of an earlier import", {"x.h": "", "cscout-units/a.c": FIRST + "#include \"../gone.c\"\n"}, [cc("-include", "x.h")], ["c.json"],
+     0, "readonly cscout-units/\nproject default\nfile cscout-units/a.c\n-- cscout-units/a.c\n#include \"../x.h\"\n#include \"../a.c\"",
+     ONE + WRAPPED.format(1, "cscout-units")),
+    ("macros that the build alone has", {"a.c": "#include \"x.h\"\nint f(const char *s, ...) PRINTS(1, 2);\nint g(void) { PASS(1); }\n"
+                                               "#ifdef TESTED\n#endif\nint h(void) { return BOTH; }\n"
+                                               "char *said = \"QUOTED\";\n#ifndef swap\nstatic int swap(int n)\n{ return n; }\n#endif\n"
+                                               "int k(void) { return swap(1); }\n",
+                                        "x.h": "#ifdef __GNUC__\n#define PRINTS(a, b) __attribute__((format(printf, a, b)))\n"
+                                               "#define PASS(x...) ({ f(x); })\n#define TESTED 1\n#define UNUSED 1\n#define BOTH 1\n"
+                                               "#define QUOTED 1\n#define swap(x) (x)\n"
+                                               "#else\n#define BOTH 2\n#endif\n"}, [cc()], ["c.json"], 0, PLAIN,
+     "import: x.h:2: the macro PRINTS is there in the build alone, and --define 'PRINTS(__a,__b) __attribute__((format(printf, __a, __b)))' "
+     "gives it to the workspace\nimport: x.h:3: the macro PASS is there in the build alone, and its body is GNU C\n" + ONE),
+    ("a macro that is given", {"a.c": "#include \"x.h\"\nint f(int) ONE;\n", "x.h": "#ifdef __GNUC__\n#define ONE __attribute__((pure))\n#endif\n"},
+     [cc()], ["--define", "ONE", "c.json"], 0, "project default\ndefine ONE\nfile a.c", ONE),
     ("a folder of its own for each command", {"d/b.c": "", "h/y.h": ""},
      [{"directory": "@AT@/d", "file": "b.c", "arguments": ["cc", "-I../h", "-I.", "-c", "b.c"]}], ["c.json"], 0,
      "project default\nipath h\nipath d\nfile d/b.c", ONE),
@@ -55,10 +93,10 @@ ODD = [
      ["--project", "test=t/*", "--project=main=a.c", "c.json"], 0,
      "project main\nfile a.c\nproject test\nfile t/b.c\nproject default\nfile d.c", "import: 3 units of 3 files\n"),
     ("what is left out is told", {"b.cc": "", "s.S": "", "x.h": "", "g.c": ""},
-     [cc("-include", "x.h", "-D_FORTIFY_SOURCE=2"), {"file": "b.cc", "arguments": ["c++", "-c", "b.cc"]},
+     [cc("-include-pch", "x.pch", "-D_FORTIFY_SOURCE=2"), {"file": "b.cc", "arguments": ["c++", "-c", "b.cc"]},
       {"file": "s.S", "arguments": ["cc", "-c", "s.S"]}, {"file": "g.c", "arguments": ["g++", "-c", "g.c"]}], ["c.json"], 0, PLAIN,
      "import: b.cc: left out: C++\nimport: s.S: left out: assembler\nimport: g.c: left out: C++\n"
-     "import: a.c: -include x.h is left out: a unit begins with its own file, so what it brings is not seen\n"
+     "import: a.c: -include-pch x.pch is left out: it names no text, so what it brings is not seen\n"
      "import: a.c: -D_FORTIFY_SOURCE is left out: kit/left-out-of-commands says why\n" + ONE),
     ("a word that is nothing", {}, [cc("-DA", "-frandom-seed=x", "y")], ["c.json"], 0, "project default\ndefine A 1\nfile a.c",
      "import: a.c: y is no option and no file, and is passed over\n" + ONE),
@@ -128,7 +166,22 @@ BROKEN = [
     broken("a compiler in a folder that is gone", [{"arguments": ["tools/cc", "-c", "a.c"]}], "import: no compiler @AT@/tools/cc\n"),
     broken("a compiler that does nothing", [{"arguments": ["true", "-c", "a.c"]}],
            "import: c.json: entry 1: true prints no macros with -E -dM\n"),
-    broken("no record is named", None, "import: no record is named\n", [], 2),
+    by_entry("a file before the own that is gone", cc("-include", "gone.h"), ": -include gone.h is a file that is not there"),
+    broken("a file that no import has written", [cc("-include", "x.h")],
+           "import: cscout-units/a.c is there, and no import has written it: name another folder with --wrappers DIR\n",
+           files={"x.h": "", "cscout-units/a.c": "int mine;\n"}),
+    broken("a link in its place", [cc("-include", "x.h")],
+           "import: cscout-units/a.c is there, and no import has written it: name another folder with --wrappers DIR\n",
+           files={"x.h": "", "mine.c": FIRST, "cscout-units/a.c": "-> ../mine.c"}),
+    broken("a link in place of the folder", [cc("-include", "x.h")],
+           "import: cscout-units is no folder of its own: name another with --wrappers DIR\n",
+           files={"x.h": "", "d/mine.c": "", "cscout-units": "-> d"}),
+    broken("a folder for these files that is not below the root", [cc("-include", "x.h")], "import: --wrappers wants a folder below the root\n",
+           ["--wrappers", "..", "c.json"], 2),
+    broken("no unit below the root", [{"directory": "@AT@/build", "file": "../src/a.c", "arguments": ["cc", "-I../inc", "-c", "../src/a.c"]}],
+           "import: no unit lies below @AT@/build, so all would be read-only: run it in @AT@, or give --root @AT@\n",
+           ["--root", "build", "c.json"], files={"src/a.c": "", "inc/x.h": "", "build/made": ""}),
+    broken("no record is named", None, "import: no record is named: import [OPTION..] COMPILE_COMMANDS.json >w.cs\n", [], 2),
     broken("two records", [cc()], "import: one record is taken, and d.json is a second\n", ["c.json", "d.json"], 2),
     broken("no such option", [cc()], "import: --paint is no option\n", ["--paint", "red", "c.json"], 2),
     broken("an option at the end", [cc()], "import: --root wants a word behind it\n", ["c.json", "--root"], 2),

@@ -70,11 +70,12 @@ class Options:
     """What a command asks for.
 
     `asking` are the options under which the compiler is asked for its directories and macros, `settings` the pairs
-    ("define" or "undefine", text) of `-D` and `-U` in their order, `inputs` the words that are no options, each with the
-    language that `-x` gives it, `without` what is left out, each with the reason, `output` the word of `-o`."""
+    ("define" or "undefine", text) of `-D` and `-U` in their order, `included` the options `-include` and `-imacros` with
+    their files, `system` and `after` the directories of `-isystem` and `-idirafter`, `inputs` the words that are no options,
+    each with the language that `-x` gives it, `without` what is left out, each with the reason, `output` the word of `-o`."""
 
     def __init__(self, words, directory):
-        self.asking, self.settings, self.inputs, self.without, self.system = [], [], [], [], []
+        self.asking, self.settings, self.inputs, self.without, self.included, self.system, self.after = [], [], [], [], [], [], []
         self.output, self.links, language = None, True, "none"
         words = spread(words, directory)
         while words:
@@ -109,8 +110,10 @@ class Options:
             self.settings.append(("undefine", _name(value, "-U")))
         elif option == "-o":
             self.output = value
-        elif option in ("-include", "-imacros", "-include-pch"):
-            self.without.append((f"{option} {value}", "a unit begins with its own file, so what it brings is not seen"))
+        elif option in ("-include", "-imacros"):
+            self.included.append((option, value))
+        elif option == "-include-pch":
+            self.without.append((f"{option} {value}", "it names no text, so what it brings is not seen"))
         elif option == "-I" and value == "-":
             raise Odd("-I- is not taken: name the directories with -iquote")
         elif option in ("-traditional", "-traditional-cpp", "-fpreprocessed", "-fdirectives-only"):
@@ -121,6 +124,8 @@ class Options:
             elif not option.startswith(DONE_WITHOUT):
                 if option == "-isystem":
                     self.system.append(value)
+                elif option == "-idirafter":
+                    self.after.append(value)
                 if value is None:
                     self.asking.append(option)
                 elif option in ("-I", "-F", "-B"):

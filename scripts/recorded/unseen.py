@@ -72,21 +72,21 @@ def _operand(text, at):
     return text[at + 1:]
 
 
-def dropped_names(text):
-    """Line, word and name for each name that stands in an operand that the kit's define lines drop; and for each number there that
-    counts the parameters of a function."""
+def dropped_names(text, everything=False):
+    """Line, word and name for each name that stands in an operand that the kit's define lines drop, and for each number there that
+    counts the parameters of a function; with `everything` words of attributes too, and operands in directives, and no numbers."""
     text = without_comments(text)
     for found in DROPPED.finditer(text):
         operand = _operand(text, found.end() - 1)
         before = text[text.rfind("\n", 0, found.start()) + 1:found.start()]
-        if re.match(r"\s*#\s*(define|undef|ifdef|ifndef|if|elif)\b", before):
+        if not everything and re.match(r"\s*#\s*(define|undef|ifdef|ifndef|if|elif)\b", before):
             continue
         counts = [it.span(1) for it in COUNTING.finditer(operand)]
         for word in WORD.finditer(operand):
             name = word.group(0)
             plain = name.strip("_")
-            if name[0].isdigit() and not any(first <= word.start() < end for first, end in counts):
+            if name[0].isdigit() and (everything or not any(first <= word.start() < end for first, end in counts)):
                 continue
-            if name[0] in "\"'" or plain in ATTRIBUTES or not plain:
+            if name[0] in "\"'" or not everything and (plain in ATTRIBUTES or not plain):
                 continue
             yield text.count("\n", 0, found.end() + word.start()) + 1, found.group(1), name

@@ -2,10 +2,10 @@
 
 import fnmatch
 import os
-import re
 
-from compiler import head_and_body
+from compiler import head_and_body, own_parameters
 from options import Odd
+from record import Refused
 
 MOST_UNITS = 1024
 MOST_BYTES = 1 << 22
@@ -63,10 +63,11 @@ class Kit:
 
 
 class Unit:
-    """A unit: its project, file, include paths, and what its settings come to, each macro's head by its name."""
+    """A unit: its project, file, include paths, and what its settings come to, each macro's head by its name. `source` is the
+    file that the record names, also where the unit's file includes it."""
 
-    def __init__(self, project, path, folders, settings):
-        self.project, self.path, self.folders, self.settings = project, path, tuple(folders), settings
+    def __init__(self, project, path, folders, settings, source):
+        self.project, self.path, self.folders, self.settings, self.source = project, path, tuple(folders), settings, source
 
     def key(self):
         return self.project, self.path, self.folders, tuple(sorted(self.settings.items()))
@@ -86,17 +87,21 @@ def _folder(name):
     return name or "."
 
 
-def folders_of(entry, answer, root, kit, standard):
-    """The include paths: what `-iquote` and `-I` name, then the kit's stand-ins, then the others of the compiler's list,
-    its own last."""
+def folders_of(entry, answer, root, kept, system, behind):
+    """The include paths: what `-iquote` names without the directories `behind`, and `-I`, then the folders `kept` of stand-ins,
+    then the others of the compiler's list, its own behind the system's, what `-idirafter` names beside the directories `system`,
+    which it has anyway, and at last those `behind`."""
     def named(folder):
         return _folder(root.folder(os.path.join(entry.directory, folder)))
     given = {named(word[2:]) for word in entry.options.asking if word.startswith("-I") and len(word) > 2}
+    last = {named(folder) for folder in entry.options.after} - {named(folder) for folder in system}
     angle = [named(folder) for folder in answer.angle if folder not in answer.own]
     front = next((n for n, folder in enumerate(angle) if folder not in given), len(angle))
-    kept = [_folder(root.below(folder)) for folder in kit.folders(answer.library, standard, answer.machine)]
+    back = max(front, max((n + 1 for n, folder in enumerate(angle) if folder not in last), default=0))
     own = [named(folder) for folder in answer.angle if folder in answer.own]
-    return list(dict.fromkeys([named(f) for f in answer.quote] + angle[:front] + kept + angle[front:] + own))
+    order = [named(folder) for folder in answer.quote if folder not in behind] + angle[:front]
+    order += [*map(_folder, kept), *angle[front:back], *own, *angle[back:], *map(named, behind)]
+    return list(dict.fromkeys(order))
 
 
 def settings_of(entry, answer, kit, standard, added, dropped):
@@ -126,25 +131,34 @@ def settings_of(entry, answer, kit, standard, added, dropped):
     return result
 
 
-def own_parameters(head, body):
-    """A macro of the compiler with parameters in its own names: a name of the program may be spelled as they were."""
-    name, bracket, rest = head.partition("(")
-    for word in re.findall(r"\w+", rest) if bracket else []:
-        if not word.startswith("__"):
-            head, body = (re.sub(rf"\b{word}\b", "__" + word, text) for text in (head, body))
-    return name + head[len(name):], body
-
-
-def shared_directories(entry, answer):
-    """Headers of `-iquote` directories that `<..>` would find there and the compiler does not: the workspace's include
-    paths serve both kinds of include lines."""
-    found = []
+def quote_directories(entry, answer, files):
+    """The `-iquote` directories that go behind all others, and the headers of which another than the compiler's is found. The
+    workspace has one list for `"x.h"` and `<x.h>`: so a directory that has a header of the name of one that the unit takes from
+    elsewhere goes last, but where the unit takes such a header from it too."""
+    def below(path, folder):
+        name = os.path.relpath(path, folder)
+        return None if name.startswith("..") else name
+    behind, other = [], []
+    angle = [os.path.realpath(os.path.join(entry.directory, folder)) for folder in answer.angle]
     for folder in answer.quote:
-        at = os.path.join(entry.directory, folder)
-        for name in sorted(os.listdir(at)) if os.path.isdir(at) else []:
-            if name.endswith(".h") and any(os.path.isfile(os.path.join(entry.directory, other, name)) for other in answer.angle):
-                found.append(os.path.join(folder, name))
-    return found
+        at = os.path.realpath(os.path.join(entry.directory, folder))
+        beside = [name for where in angle if where != at for path in files for name in [below(path, where)]
+                  if name and os.path.isfile(os.path.join(at, name)) and os.path.join(at, name) != path]
+        taken = [name for path in files for name in [below(path, at)]
+                 if name and any(where != at and os.path.isfile(os.path.join(where, name)) for where in angle)]
+        if beside and not taken:
+            behind.append(folder)
+        other += [os.path.join(folder, name) for name in beside if taken]
+    return behind, sorted(set(other))
+
+
+def looked_for(paths, workspace):
+    """Refused where none of the units' files is in this folder."""
+    if any(os.path.isfile(path) for path in paths):
+        return
+    there = os.path.dirname(os.path.abspath(workspace))
+    found = any(os.path.isfile(os.path.join(there, path)) for path in paths)
+    raise Refused(f"no file of {workspace} is here: run it in {there if found else 'the folder that its paths are relative to'}")
 
 
 def _define(head, body):

@@ -1,0 +1,1 @@
+#error the folder of -idirafter comes behind all others
