@@ -9,12 +9,11 @@ import tempfile
 from concurrent.futures import ThreadPoolExecutor
 
 from compiler import head_and_body, own_parameters
+from hints import GNU_BODY
 from unseen import dropped_names
 
 MARKER = re.compile(r'^# (\d+) "((?:[^"\\]|\\.)*)".*$', re.M)
 STRING = re.compile(r'"(?:[^"\\\n]|\\.)*"|\'(?:[^\'\\\n]|\\.)*\'')
-# What the body of a macro has that is GNU C.
-GNU_BODY = re.compile(r"\(\s*\{|\b(__)?typeof(__)?\b|##\s*__VA_ARGS__|\b__auto_type\b|\b__label__\b|\?\s*:|\bvolatile\s*\(")
 # By what a file asks for a compiler or a library that the workspace is not: without one of them it is the same to both.
 ASKING = re.compile(r"__GNU|__clang|__has_|__STDC|__OPTIMIZE|__llvm|__glibc|__GLIBC|__VERSION__|__SSE|__AVX|__ARM|__MMX|__BMI|__GCC")
 # How many lines with assembler are told one by one.

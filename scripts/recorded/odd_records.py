@@ -1,4 +1,5 @@
-"""Small records, odd and broken, and what the import makes of them; and pairs of texts, with what differs between their objects.
+"""Small records, odd and broken, and what the import makes of them; pairs of texts, with what differs between their objects; and
+bad words and files of the other scripts, with what they say.
 
 Each row: what it shows; files beside a.c; the record (entries, to which `directory` and `file` a.c are added where they do not say
 it, or a text); the words of the command; the status; the lines of the workspace without what compiler and kit bring, and the files
@@ -206,4 +207,25 @@ JUDGED = [
     ("int a[2]; int f(void) { return a[0] - a[1]; }", "int a[2]; int f(void) { return a[1] - a[0]; }", "the relocations differ"),
     ("char *s = \"names\";", "char *s = \"nexts\";", None),
     ("char *s = \"names\";", "char *s = \"namet\";", "section .rodata.str1.1 differs"),
+]
+
+ACCEPTED = "accepted-units PROGRAM WORKSPACE [--list] [--leave-out]\n"
+UNSEEN = "unseen PROGRAM WORKSPACE COMPILE_COMMANDS.JSON [--without PATTERN]..\n"
+ELSEWHERE = "no file of within/w.cs is here: run it in @AT@/within\n"
+NO_JSON = "a.json: not JSON: Expecting property name enclosed in double quotes: line 1 column 3 (char 2)\n"
+BAD_INPUT = [
+    ("accepted-units", [], ACCEPTED),
+    ("accepted-units", ["PROGRAM", "--list"], ACCEPTED),
+    ("accepted-units", ["PROGRAM", "gone.cs"], "accepted-units: gone.cs: No such file or directory\n"),
+    ("accepted-units", ["./gone", "within/w.cs"], "accepted-units: " + ELSEWHERE),
+    ("accepted-units", ["./gone", "here.cs"], "accepted-units: @AT@/gone: No such file or directory\n"),
+    ("accepted-units", ["PROGRAM", "none.cs"], "accepted-units: none.cs has no units\n"),
+    ("accepted-units", ["PROGRAM", "within/w.cs"], "accepted-units: " + ELSEWHERE),
+    ("accepted-units", ["PROGRAM", "no.cs", "--leave-out"],
+     "accepted-units: no file of no.cs is here: run it in the folder that its paths are relative to\n"),
+    ("unseen", [], UNSEEN),
+    ("unseen", ["PROGRAM", "within/w.cs", "a.json"], "unseen: " + NO_JSON),
+    ("unseen", ["PROGRAM", "within/w.cs", "gone.json"], "unseen: " + ELSEWHERE),
+    ("import-rows", [], "import-rows PROGRAM CORPUS [--make]\n"),
+    ("try-headers", [], "try-headers PROGRAM COMPILER PACKAGE.. [--standard c11] [--no-kit]\n"),
 ]

@@ -1,0 +1,3 @@
+#include "common.h"
+#include "made.h"
+int absent(void) { return add(MADE); }

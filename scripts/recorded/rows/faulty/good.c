@@ -1,0 +1,8 @@
+#include "common.h"
+struct total kept;
+int add(int value)
+{
+    int local = value;
+    kept.sum += local;
+    return kept.count++;
+}

@@ -1,0 +1,2 @@
+#include "common.h"
+int logged(void) { return LOG("start"); }

@@ -1,0 +1,2 @@
+int mixed(void);
+static int mixed(void) { return 1; }

@@ -1,0 +1,1 @@
+int opened(int a) { return TWICE(a;

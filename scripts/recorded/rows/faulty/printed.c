@@ -1,0 +1,2 @@
+#include "common.h"
+int printed(int value) PRINTED;
