@@ -71,36 +71,36 @@ class Object:
             yield self._unpack(form, at)
 
 
-def alike(before, after, old, new):
-    """Whether the two texts are the same but for places where the one has the old name and the other the new one."""
+def alike(before, after, pairs):
+    """Whether the two texts are the same but for places where the one has the old name of a pair and the other its new one."""
     if len(before) != len(after):
         return False
     at = 0
     while before[at:] != after[at:]:
         at = next(n for n in range(at, len(before)) if before[n] != after[n])
-        # The difference may begin behind the names' first characters, where these are the same.
-        start = next((n for n in range(max(0, at - len(old) + 1), at + 1)
-                      if before[n:n + len(old)] == old and after[n:n + len(new)] == new), None)
-        if start is None:
+        # The difference may begin behind the names' first characters, where these are the same; the longest name that fits is taken.
+        ends = [n + len(old) for old, new in pairs for n in range(max(0, at - len(old) + 1), at + 1)
+                if before[n:n + len(old)] == old and after[n:n + len(new)] == new]
+        if not ends:
             return False
-        at = start + len(old)
+        at = max(ends)
     return True
 
 
-def difference(before, after, old, new):
-    """What differs first between two objects, under the renaming of `old` to `new`, which are equally long; None where nothing
-    does."""
+def difference(before, after, pairs):
+    """What differs first between two objects, under the renamings of `pairs`, each of two names that are equally long; None where
+    nothing does."""
     if [section[:4] for section in before.sections] != [section[:4] for section in after.sections]:
         return "the sections differ"
     for one, other in zip(before.sections, after.sections):
-        if not alike(one[4], other[4], old, new):
+        if not alike(one[4], other[4], pairs):
             return f"section {one[0].decode()} differs"
     if before.relocations != after.relocations:
         return "the relocations differ"
     if len(before.symbols) != len(after.symbols):
         return "the number of symbols differs"
     for one, other in zip(before.symbols, after.symbols):
-        if one[1:] != other[1:] or not alike(one[0], other[0], old, new):
+        if one[1:] != other[1:] or not alike(one[0], other[0], pairs):
             return f"symbol {one[0].decode(errors='replace')} is {other[0].decode(errors='replace')}"
     return None
 

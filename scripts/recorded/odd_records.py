@@ -206,6 +206,10 @@ JUDGED = [
     ("int f(void) { return 1; }", "int f(void) { return 1; } int g;", "the sections differ"),
     ("int a[2]; int f(void) { return a[0] - a[1]; }", "int a[2]; int f(void) { return a[1] - a[0]; }", "the relocations differ"),
     ("char *s = \"names\";", "char *s = \"nexts\";", None),
+    ("int name, first;", "int next, other;", None),
+    ("char *s = \"name first name\";", "char *s = \"next other next\";", None),
+    ("char *s = \"name first name\";", "char *s = \"next other nert\";", "section .rodata.str1.1 differs"),
+    ("int name; int first(void) { return name; }", "int other; int next(void) { return other; }", "symbol first is next"),
     ("char *s = \"names\";", "char *s = \"namet\";", "section .rodata.str1.1 differs"),
 ]
 
@@ -226,6 +230,10 @@ BAD_INPUT = [
     ("unseen", [], UNSEEN),
     ("unseen", ["PROGRAM", "within/w.cs", "a.json"], "unseen: " + NO_JSON),
     ("unseen", ["PROGRAM", "within/w.cs", "gone.json"], "unseen: " + ELSEWHERE),
+    ("judge-renames", [], "judge-renames PROGRAM COMPILE_COMMANDS.JSON [COUNT] "),
+    ("judge-renames", ["PROGRAM", "a.json"], "judge-renames: " + NO_JSON),
+    ("judge-renames", ["PROGRAM", "gone.json"], "import: no compiler no-such-cc\njudge-renames: no workspace\n"),
+    ("judge-renames", ["PROGRAM", "none.json"], "judge-renames: none.json: No such file or directory\n"),
     ("import-rows", [], "import-rows PROGRAM CORPUS [--make]\n"),
     ("try-headers", [], "try-headers PROGRAM COMPILER PACKAGE.. [--standard c11] [--no-kit]\n"),
 ]
