@@ -1,20 +1,23 @@
 -- Marks on classes, set one after another, and what they say in the end.
-use Rattle.std.proofs.Common.{◌≡◌, ℕ, zero, suc, ◌+◌, ◌<◌, ◌≤◌, Bool, true, false, ◌||◌, List, [], ◌∷◌, ◌++◌, Option, Some, None, length, get_or, take, drop, slice_get, refl, sym, ap, ◌∙◌, ⊎_elim}
+use Rattle.std.proofs.Common.{◌≡◌, ℕ, zero, suc, ◌+◌, ◌-◌, ◌<◌, ◌≤◌, Bool, true, false, ◌||◌, List, [], ◌∷◌, ◌++◌, Option, Some, None, length, get_or, take, drop, slice_get, refl, sym, ap, ◌∙◌, ⊎_elim, arith}
 use Rattle.std.specs.Prelude.{◌==◌, if◌then◌else◌, replicate, slice_index_or}
 use Rattle.std.specs.List.{fold, flat_map, list_any}
-use Rattle.std.specs.Option.{option_map_or, option_and_then}
+use Rattle.std.specs.Option.{IfSome, option_map, option_map_or, option_and_then}
 use Rattle.std.proofs.Math.Bool.{or_assoc, or-false, or-true}
-use Rattle.std.proofs.lemmas.Bool.{cases_eq, eq-eqb, ne_eqb}
+use Rattle.std.proofs.lemmas.Bool.{cases_eq, eq-eqb, false≢true, ne_eqb}
 use Rattle.std.proofs.lemmas.Grind.{fold-append, flat_map-append}
-use Rattle.std.proofs.lemmas.List.{append-nil, at_drop_more, at_drop_all, length-set, get_or-set_same, get_or-set_other, take_more}
+use Rattle.std.proofs.lemmas.List.{append-nil, at_drop_more, at_drop_all, length-set, get_or-set_same, get_or-set_other, set-set, take_more}
 use Rattle.std.proofs.lemmas.Option.{slice_get_within, slice_get-get_or, get_or_from_slice_get}
 use Rattle.cs_base.specs.declared.positions.Pos.{Pos}
 use Rattle.cs_base.specs.declared.positions.Part.{Part}
 use Rattle.cs_base.specs.Token.{Token, origin_at}
-use Rattle.eclass_map.specs.ClassTable.{Table, class_in}
+use Rattle.eclass_map.specs.ClassTable.{Table, Spot, HasParts, class_in, label, part_from}
+use Rattle.eclass_map.specs.Positions.{holds}
+use Rattle.eclass_map.proofs.TokenFacts.{holding, along_of}
+use Rattle.eclass_map.proofs.PartLaws.{class_in_is}
 use Rattle.analysis.specs.Below.scope_bind.declared.bound.Name.{Name}
 use Rattle.class_marks.specs.declared.roles.Role.{Role}
-use Rattle.class_marks.specs.Marks.{class_at, mark_class, with_character, with_token, with_tokens, is_class, touches, AreMarked}
+use Rattle.class_marks.specs.Marks.{class_at, is_within, IsMarkedPart, mark_class, with_character, with_token, with_tokens, is_class, touches, AreMarked}
 use Rattle.class_marks.specs.Roles.{token_has, tokens_with}
 
 -- ---- one class
@@ -25,6 +28,33 @@ class-marked marks d c within =
     (λ (e : d ≡ c). rw (e, get_or-set_same marks c true false within, eq-eqb c c refl) (sym (or-true (get_or marks c false))))
     (λ (ne : d ≡ c → ⊥). rw (get_or-set_other marks d c true false (λ q. ne (sym q)), ne_eqb d c ne) (sym (or-false (get_or marks c false))))
     (cases_eq d c)
+
+-- a class that was just marked is marked
+pub marked_again : (marks : List Bool) (c : ℕ) → mark_class (mark_class marks c) c ≡ mark_class marks c
+marked_again marks c = set-set marks c true true
+
+-- ---- characters of one part
+
+-- each character of a part has its class
+within_class : (t : Table) (part : Part) (c : ℕ) (p : Pos) → HasParts t → class_in t part ≡ Some c → holds part p ≡ true → class_at t (Some p) ≡ Some c
+within_class t part c p parts class held =
+    let h = holding part p held in
+    let o = p.at - part.start.at in
+    let from = h.from in
+    let begin : p.at - o ≡ part.start.at = omega (arith, from) in
+    let len = (class_in_is t part c class).len in
+    let file = sym h.file in
+    let there : label t p ≡ Some (record { class = c; offset = o }) = ap (label t) (sym (along_of part p h)) ∙ parts.spots part c o class h.less in
+    let same : part_from t p (record { class = c; offset = o }) ≡ part = λ i. record { start = record { file = file i; at = begin i }; len = len i } in
+    ap (λ (l : Option Spot). option_and_then (class_in t) (option_map (part_from t p) l)) there ∙ ap (class_in t) same ∙ class
+
+-- so where it is marked, nothing is left to be marked
+pub marked_within : (t : Table) (marks : List Bool) (part : Option Part) (origin : Option Pos) → IfSome part (IsMarkedPart t marks) → is_within part origin ≡ true
+    → marks ≡ with_character t marks origin
+marked_within t marks None origin known within = absurd (false≢true within)
+marked_within t marks (Some part) None known within = absurd (false≢true within)
+marked_within t marks (Some part) (Some p) known within =
+    sym (ap (λ (found : Option ℕ). option_map_or (mark_class marks) found marks) (within_class t part known.1 p known.0 known.2 within) ∙ known.3)
 
 module _ (classes : Table) where
   -- ---- one character

@@ -5,7 +5,8 @@ use Rattle.std.specs.Option.{option_map_or, option_and_then}
 use Rattle.cs_base.specs.declared.positions.Part.{Part}
 use Rattle.cs_base.specs.declared.positions.Pos.{Pos}
 use Rattle.cs_base.specs.Token.{Token}
-use Rattle.eclass_map.specs.ClassTable.{Table, class_in, part_of}
+use Rattle.eclass_map.specs.ClassTable.{Table, HasParts, class_in, part_of}
+use Rattle.eclass_map.specs.Positions.{holds}
 
 -- the class of the part that a character comes from
 abbrev pub class_at : Table → Option Pos → Option ℕ
@@ -17,6 +18,16 @@ mark_class marks c = slice_set marks c true
 
 abbrev pub with_character : Table → List Bool → Option Pos → List Bool
 with_character classes marks origin = option_map_or (mark_class marks) (class_at classes origin) marks
+
+-- the character comes from the part
+abbrev pub is_within : Option Part → Option Pos → Bool
+is_within (Some part) (Some p) = holds part p
+is_within _ _ = false
+
+-- a part whose class is marked, of a table that tells the parts
+abbrev pub IsMarkedPart : Table → List Bool → Part → Type 0
+IsMarkedPart classes marks part =
+    HasParts classes × (c : ℕ) × (class_in classes part ≡ Some c) × (mark_class marks c ≡ marks)
 
 -- the marks with those of the classes of a token
 abbrev pub with_token : Table → List Bool → Token → List Bool

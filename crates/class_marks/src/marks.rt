@@ -1,13 +1,14 @@
 // Marks on classes, set where a name touches them.
-ghost use Rattle.std.specs.Prelude.{◌≡◌, ◌<◌, ◌∷◌, [], ℕ, Some, IfOk, OnOk, MatchBool, length, false, slice_index_or, option_copied, if◌then◌else◌};
+ghost use Rattle.std.specs.Prelude.{◌≡◌, ◌<◌, ◌∷◌, [], ℕ, Some, IfOk, IfSome, OnOk, MatchBool, length, false, slice_index_or, option_copied, if◌then◌else◌};
 ghost use Rattle.std.specs.List.{flat_map};
 ghost use Rattle.std.specs.Option.{option_map_or};
 ghost use Rattle.cs_base.specs.declared.positions.Part.{Part};
 ghost use Rattle.eclass_map.specs.ClassTable.{class_in};
+ghost use Rattle.eclass_map.specs.Positions.{holds};
 ghost use Rattle.analysis.specs.Parts.{IsPart};
 ghost use Rattle.class_marks.specs.declared.roles.Role.{Role};
 ghost use Rattle.class_marks.specs.Touching.{HasRole};
-ghost use Rattle.class_marks.specs.Marks.{AreMarked, class_at, mark_class, with_character, with_token, with_tokens};
+ghost use Rattle.class_marks.specs.Marks.{AreMarked, IsMarkedPart, is_within, mark_class, with_character, with_token, with_tokens};
 ghost use Rattle.class_marks.specs.Roles.{event_name, names_in, names_with, tokens_with};
 
 use crate::roles::{Role, event_has, token_has};
@@ -15,16 +16,6 @@ use analysis::{Analysis, Bound, Event, UnitText};
 use cs_base::{Memory, Part, Pos, Tok};
 use eclass_map::Classes;
 use std::alloc::Global;
-
-// The class of the part that a character comes from.
-fn class_at(classes: &Classes, origin: Option<Pos>) -> Option<u32>
-    ensures { result ≡ class_at classes.now origin }
-{
-    match classes.part_at(origin?) {
-        Some(part) => classes.class_of(part),
-        None => None,
-    }
-}
 
 // Marks a class.
 fn mark_class(marks: &mut Vec<bool>, class: u32)
@@ -35,12 +26,49 @@ fn mark_class(marks: &mut Vec<bool>, class: u32)
     }
 }
 
-// Marks the class of a character.
-fn mark_character(marks: &mut Vec<bool>, classes: &Classes, origin: Option<Pos>)
-    ensures { marks.new.items ≡ with_character classes.now marks.old.items origin }
+// Marks the class of a character; and gives the part that it comes from.
+fn mark_character(marks: &mut Vec<bool>, classes: &Classes, origin: Option<Pos>) -> Option<Part>
+    ensures answer { marks.new.items ≡ with_character classes.now marks.old.items origin }
+    ensures part { IfSome result (IsMarkedPart classes.now marks.new.items) }
 {
-    if let Some(class) = class_at(classes, origin) {
-        mark_class(marks, class);
+    let part = classes.part_at(origin?)?;
+    let class = classes.class_of(part)?;
+    mark_class(marks, class);
+    Some(part)
+}
+
+// The part holds the position.
+fn holds(part: Part, pos: Pos) -> bool
+    ensures { result ≡ holds part pos }
+{
+    part.start.file == pos.file && part.start.at <= pos.at && pos.at - part.start.at < part.len
+}
+
+// The character comes from the part.
+fn is_within(part: Option<Part>, origin: Option<Pos>) -> bool
+    ensures { result ≡ is_within part origin }
+{
+    match (part, origin) {
+        (Some(part), Some(pos)) => holds(part, pos),
+        _ => false,
+    }
+}
+
+// Marks the class of the next character, which is marked already where it comes from this part.
+fn mark_next(
+    marks: &mut Vec<bool>,
+    classes: &Classes,
+    part: Option<Part>,
+    origin: Option<Pos>,
+) -> Option<Part>
+    requires { IfSome part (IsMarkedPart classes.now marks.old.items) }
+    ensures answer { marks.new.items ≡ with_character classes.now marks.old.items origin }
+    ensures part { IfSome result (IsMarkedPart classes.now marks.new.items) }
+{
+    if is_within(part, origin) {
+        part
+    } else {
+        mark_character(marks, classes, origin)
     }
 }
 
@@ -56,8 +84,9 @@ fn mark_token(marks: &mut Vec<bool>, classes: &Classes, tok: &Tok)
     ensures { marks.new.items ≡ with_token classes.now marks.old.items tok.now }
 {
     let count = length(tok);
+    let mut part = None;
     for k in 0..count {
-        mark_character(marks, classes, tok.origins(k));
+        part = mark_next(marks, classes, part, tok.origins(k));
     }
 }
 
