@@ -1,7 +1,7 @@
 -- Spellings that no name may take or lose (ISO/IEC 9899:1999, 6.4.1, 6.4.2.2, 6.10.1, 6.10.3, 6.10.8,
 -- and the keywords more of ISO/IEC 9899:2011, 6.4.1).
-use Rattle.std.specs.Prelude.{ℕ, Bool, ◌||◌, List, [], ◌∷◌, codes}
-use Rattle.std.specs.List.{list_any}
+use Rattle.std.specs.Prelude.{ℕ, Bool, ◌||◌, List, [], ◌∷◌, codes, eqb}
+use Rattle.std.specs.List.{list_any, starts_with}
 use Rattle.std.specs.Str.{bytes_eq}
 
 -- keyword (6.4.1), from `auto` to `if`
@@ -48,3 +48,50 @@ is_reserved_text text =
     || list_any (bytes_eq text) keywords_to_end
     || list_any (bytes_eq text) keywords_of_c11
     || list_any (bytes_eq text) given_names
+
+-- words of gcc for what no standard has
+abbrev pub own_words_of_gnu : List (List ℕ)
+own_words_of_gnu =
+    codes "asm" ∷ codes "__asm" ∷ codes "__asm__" ∷ codes "typeof" ∷ codes "__typeof" ∷ codes "__typeof__"
+    ∷ codes "__attribute__" ∷ codes "__attribute" ∷ codes "__extension__" ∷ codes "__label__" ∷ codes "__auto_type"
+    ∷ codes "__real__" ∷ codes "__real" ∷ codes "__imag__" ∷ codes "__imag" ∷ codes "__builtin_va_arg"
+    ∷ codes "__builtin_convertvector" ∷ codes "__builtin_offsetof" ∷ codes "__builtin_types_compatible_p" ∷ []
+
+-- words of gcc that mean what a keyword of the standard means
+abbrev pub other_words_of_gnu : List (List ℕ)
+other_words_of_gnu =
+    codes "__const" ∷ codes "__const__" ∷ codes "__volatile" ∷ codes "__volatile__" ∷ codes "__restrict"
+    ∷ codes "__restrict__" ∷ codes "__inline" ∷ codes "__inline__" ∷ codes "__signed" ∷ codes "__signed__"
+    ∷ codes "__complex" ∷ codes "__complex__" ∷ codes "__alignof" ∷ codes "__alignof__" ∷ codes "__thread" ∷ []
+
+-- types that gcc has by a word
+abbrev pub types_of_gnu : List (List ℕ)
+types_of_gnu =
+    codes "__int128" ∷ codes "__int128_t" ∷ codes "__uint128_t" ∷ codes "_Float16" ∷ codes "_Float32"
+    ∷ codes "_Float64" ∷ codes "_Float128" ∷ codes "_Float32x" ∷ codes "_Float64x" ∷ codes "__float80"
+    ∷ codes "__float128" ∷ codes "__ibm128" ∷ codes "_Decimal32" ∷ codes "_Decimal64" ∷ codes "_Decimal128"
+    ∷ codes "__builtin_va_list" ∷ []
+
+-- a word of gcc that no standard has. `unfoldable`, since the table would stand in every goal above.
+unfoldable pub is_word_of_gnu : List ℕ → Bool
+is_word_of_gnu text =
+    list_any (bytes_eq text) own_words_of_gnu
+    || list_any (bytes_eq text) other_words_of_gnu
+    || list_any (bytes_eq text) types_of_gnu
+
+-- names that gcc gives the meaning of `__func__` (6.4.2.2)
+abbrev pub function_names_of_gnu : List (List ℕ)
+function_names_of_gnu = codes "__FUNCTION__" ∷ codes "__PRETTY_FUNCTION__" ∷ []
+
+-- what the names of functions begin with that gcc has without a declaration
+abbrev pub builtin_prefixes : List (List ℕ)
+builtin_prefixes = codes "__builtin_" ∷ codes "__sync_" ∷ codes "__atomic_" ∷ []
+
+-- the name of a function that gcc may have without a declaration
+abbrev pub is_builtin_name : List ℕ → Bool
+is_builtin_name text = list_any (starts_with eqb text) builtin_prefixes
+
+-- A spelling that is reserved more where a unit of the workspace is of GNU C.
+unfoldable pub is_reserved_by_gnu : List ℕ → Bool
+is_reserved_by_gnu text =
+    is_word_of_gnu text || list_any (bytes_eq text) function_names_of_gnu || is_builtin_name text

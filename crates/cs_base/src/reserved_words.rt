@@ -1,8 +1,9 @@
-// Spellings that no name may take or lose (ISO/IEC 9899:1999, 6.4.1, 6.4.2.2, 6.10.8, 6.10.9; ISO/IEC 9899:2011, 6.4.1).
-ghost use Rattle.std.specs.Prelude.{◌≡◌};
-ghost use Rattle.std.specs.List.{list_any};
+// Spellings that no name may take or lose (ISO/IEC 9899:1999, 6.4.1, 6.4.2.2, 6.10.8, 6.10.9; ISO/IEC 9899:2011, 6.4.1),
+// and those that GNU C has more.
+ghost use Rattle.std.specs.Prelude.{◌≡◌, eqb};
+ghost use Rattle.std.specs.List.{list_any, starts_with};
 ghost use Rattle.std.specs.Str.{bytes_eq};
-ghost use Rattle.cs_base.specs.Reserved.{is_reserved_text, keywords_to_if, keywords_to_struct, keywords_to_end, keywords_of_c11, given_names};
+ghost use Rattle.cs_base.specs.Reserved.{is_reserved_text, keywords_to_if, keywords_to_struct, keywords_to_end, keywords_of_c11, given_names, own_words_of_gnu, other_words_of_gnu, types_of_gnu, is_word_of_gnu, function_names_of_gnu, builtin_prefixes, is_builtin_name, is_reserved_by_gnu};
 
 #[tactic(auto, unfolding(crate::specs::Reserved::is_reserved_text))]
 /// Whether the spelling is a keyword or a name that the implementation gives a meaning.
@@ -130,4 +131,119 @@ fn is_given_name(text: &[u8]) -> bool
             b"__has_include_next",
         ],
     )
+}
+
+fn is_own_word_of_gnu(text: &[u8]) -> bool
+    ensures { result ≡ list_any (bytes_eq text.now) own_words_of_gnu }
+{
+    is_one_of(
+        text,
+        &[
+            b"asm",
+            b"__asm",
+            b"__asm__",
+            b"typeof",
+            b"__typeof",
+            b"__typeof__",
+            b"__attribute__",
+            b"__attribute",
+            b"__extension__",
+            b"__label__",
+            b"__auto_type",
+            b"__real__",
+            b"__real",
+            b"__imag__",
+            b"__imag",
+            b"__builtin_va_arg",
+            b"__builtin_convertvector",
+            b"__builtin_offsetof",
+            b"__builtin_types_compatible_p",
+        ],
+    )
+}
+
+fn is_other_word_of_gnu(text: &[u8]) -> bool
+    ensures { result ≡ list_any (bytes_eq text.now) other_words_of_gnu }
+{
+    is_one_of(
+        text,
+        &[
+            b"__const",
+            b"__const__",
+            b"__volatile",
+            b"__volatile__",
+            b"__restrict",
+            b"__restrict__",
+            b"__inline",
+            b"__inline__",
+            b"__signed",
+            b"__signed__",
+            b"__complex",
+            b"__complex__",
+            b"__alignof",
+            b"__alignof__",
+            b"__thread",
+        ],
+    )
+}
+
+fn is_type_of_gnu(text: &[u8]) -> bool
+    ensures { result ≡ list_any (bytes_eq text.now) types_of_gnu }
+{
+    is_one_of(
+        text,
+        &[
+            b"__int128",
+            b"__int128_t",
+            b"__uint128_t",
+            b"_Float16",
+            b"_Float32",
+            b"_Float64",
+            b"_Float128",
+            b"_Float32x",
+            b"_Float64x",
+            b"__float80",
+            b"__float128",
+            b"__ibm128",
+            b"_Decimal32",
+            b"_Decimal64",
+            b"_Decimal128",
+            b"__builtin_va_list",
+        ],
+    )
+}
+
+#[tactic(auto, unfolding(crate::specs::Reserved::is_word_of_gnu))]
+/// Whether the spelling is a word of GNU C that no standard has.
+pub fn is_word_of_gnu(text: &[u8]) -> bool
+    ensures { result ≡ is_word_of_gnu text.now }
+{
+    is_own_word_of_gnu(text) || is_other_word_of_gnu(text) || is_type_of_gnu(text)
+}
+
+fn is_function_name_of_gnu(text: &[u8]) -> bool
+    ensures { result ≡ list_any (bytes_eq text.now) function_names_of_gnu }
+{
+    is_one_of(text, &[b"__FUNCTION__", b"__PRETTY_FUNCTION__"])
+}
+
+fn begins_with_one_of(text: &[u8], words: &[&[u8]]) -> bool
+    ensures { result ≡ list_any (λ word. starts_with eqb text.now word.now) words.now }
+{
+    words.iter().any(|word| text.starts_with(word))
+}
+
+/// Whether it begins as the names of functions do that GNU C has without a declaration.
+pub fn is_builtin_name(text: &[u8]) -> bool
+    ensures { result ≡ is_builtin_name text.now }
+{
+    begins_with_one_of(text, &[b"__builtin_", b"__sync_", b"__atomic_"])
+}
+
+#[tactic(auto, unfolding(crate::specs::Reserved::is_reserved_by_gnu))]
+/// Whether the spelling is reserved more where a unit of the workspace is of GNU C.
+pub fn is_reserved_by_gnu(text: &[u8]) -> bool
+    ensures { result ≡ is_reserved_by_gnu text.now }
+{
+    is_word_of_gnu(text) || is_function_name_of_gnu(text) || is_builtin_name(text)
 }

@@ -11,11 +11,27 @@ pub enum Setting {
     Undefine(Text),
 }
 
-/// The standard that a unit is read by: ISO/IEC 9899:1999 or 9899:2011.
+/// The standard that a unit is read by: ISO/IEC 9899:1999 or 9899:2011, or one of these with what gcc has more.
 #[derive(Clone, Copy, Debug, PartialEq, Eq)]
 pub enum Standard {
     C99,
     C11,
+    Gnu99,
+    Gnu11,
+}
+
+impl Standard {
+    ghost use Rattle.cs_base.specs.Units.{is_gnu};
+
+    /// C as gcc has it, with more than the standard.
+    pub fn is_gnu(self) -> bool
+        ensures { result ≡ is_gnu self }
+    {
+        match self {
+            Standard::C99 | Standard::C11 => false,
+            Standard::Gnu99 | Standard::Gnu11 => true,
+        }
+    }
 }
 
 /// A unit of a workspace. Contracts see the record of its parts.
@@ -23,8 +39,10 @@ pub enum Standard {
 pub struct Unit {
     project: Text,
     path: Text,
+    qpath: Vec<Text>,
     ipath: Vec<Text>,
     settings: Vec<Setting>,
+    includes: Vec<Text>,
     standard: Standard,
 }
 
@@ -33,9 +51,9 @@ impl Model for Unit {
 
     ghost Value = { UnitValue };
 
-    ghost view = { λ u. unit u.project u.path u.ipath.items u.settings.items u.standard };
+    ghost view = { λ u. unit u.project u.path u.qpath.items u.ipath.items u.settings.items u.includes.items u.standard };
 
-    ghost invariant = { λ u. IsUnit (unit u.project u.path u.ipath.items u.settings.items u.standard) };
+    ghost invariant = { λ u. IsUnit (unit u.project u.path u.qpath.items u.ipath.items u.settings.items u.includes.items u.standard) };
 }
 
 impl Unit {
@@ -45,18 +63,22 @@ impl Unit {
     pub fn new(
         project: Text,
         path: Text,
+        qpath: Vec<Text>,
         ipath: Vec<Text>,
         settings: Vec<Setting>,
+        includes: Vec<Text>,
         standard: Standard,
     ) -> Unit
-        requires sound { IsUnit (unit project path ipath.items settings.items standard) }
-        ensures answer { result ≡ unit project path ipath.items settings.items standard }
+        requires sound { IsUnit (unit project path qpath.items ipath.items settings.items includes.items standard) }
+        ensures answer { result ≡ unit project path qpath.items ipath.items settings.items includes.items standard }
     {
         Unit {
             project,
             path,
+            qpath,
             ipath,
             settings,
+            includes,
             standard,
         }
     }
@@ -78,6 +100,14 @@ impl Unit {
         &self.path
     }
 
+    /// The directories that includes of quoted names alone are looked for in, in order, before those of `ipath`.
+    pub fn qpath(&self) -> &[Text]
+        ensures answer { result.now ≡ self.now.qpath }
+        ensures sound { IsUnit self.now }
+    {
+        self.qpath.as_slice()
+    }
+
     /// The directories that its includes are looked for in, in order.
     pub fn ipath(&self) -> &[Text]
         ensures answer { result.now ≡ self.now.ipath }
@@ -92,6 +122,14 @@ impl Unit {
         ensures sound { IsUnit self.now }
     {
         self.settings.as_slice()
+    }
+
+    /// The files that are included before its own, in order.
+    pub fn includes(&self) -> &[Text]
+        ensures answer { result.now ≡ self.now.includes }
+        ensures sound { IsUnit self.now }
+    {
+        self.includes.as_slice()
     }
 
     /// The standard that it is read by.
