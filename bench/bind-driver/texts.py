@@ -55,8 +55,12 @@ def preprocessed(corpus, name):
         rest = rest.strip()
         if word == "project":
             options = []
+        elif word == "qpath":
+            options.append("-iquote" + rest)
         elif word == "ipath":
             options.append("-I" + rest)
+        elif word == "include":
+            options += ["-include", rest]
         elif word == "define":
             head, _, body = rest.partition(" ")
             options.append(f"-D{head}={body.strip()}")

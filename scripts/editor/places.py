@@ -8,7 +8,7 @@ import urllib.parse
 from messages import INVALID_PARAMS, Fault
 
 WORD = re.compile(rb"[A-Za-z0-9_]+")
-NAMED_LINE = re.compile(r"^[ \t\r]*(file|ipath)[ \t\r]+(.+?)[ \t\r]*$", re.M)
+NAMED_LINE = re.compile(r"^[ \t\r]*(file|include|[iq]path)[ \t\r]+(.+?)[ \t\r]*$", re.M)
 
 
 class Paths:
@@ -61,7 +61,7 @@ def named_folders(workspace):
             text = file.read()
     except OSError:
         return set()
-    return {os.path.normpath(path if kind == "ipath" else os.path.dirname(path) or ".") for kind, path in NAMED_LINE.findall(text)}
+    return {os.path.normpath(path if kind.endswith("path") else os.path.dirname(path) or ".") for kind, path in NAMED_LINE.findall(text)}
 
 
 def letters_of(line):

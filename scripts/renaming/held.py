@@ -68,7 +68,8 @@ def told(outcome):
 
 def options_of(unit):
     """The options of gcc that say what the settings of a unit say."""
-    options = [b"-I" + (folder or b".") for folder in unit.ipath]
+    options = [b"-iquote" + (folder or b".") for folder in unit.qpath] + [b"-I" + (folder or b".") for folder in unit.ipath]
+    options += [word for line in unit.includes for word in (b"-include", line[len(b'#include "'):-1])]
     for line in unit.settings:
         if line.startswith(b"#undef "):
             options.append(b"-U" + line[len(b"#undef "):])

@@ -43,7 +43,7 @@ unfolding preprocessed
 unit_counted source number unit before p few none e =
     counted_by before.toks (unit_outcome the_limits file_text source number unit before) p few
     (few_done (unit_outcome the_limits file_text source number unit before) _ _
-    (λ toks t (ends : UnitEnds (context source file_text unit.ipath the_limits before.toks) before.table (length toks) t). ends.few)
+    (λ toks t (ends : UnitEnds (context source file_text unit the_limits before.toks) before.table (length toks) t). ends.few)
     (units_end the_limits file_text source number unit before none)) e
 
 -- a unit that is read and bound keeps its text

@@ -4,7 +4,7 @@ use Rattle.std.specs.Str.{bytes_eq}
 use Rattle.std.proofs.lemmas.Bool.{cases_Bool}
 use Rattle.cs_base.specs.Answer.{result_then, result_map_err}
 use Rattle.cs_base.specs.Token.{Token}
-use Rattle.cs_base.specs.Units.{UnitValue, defines_text}
+use Rattle.cs_base.specs.Units.{UnitValue, defines_of}
 use Rattle.lexer.specs.FileText.{file_text}
 use Rattle.ws_file.specs.Workspace.{WorkspaceValue}
 use Rattle.include_tree.specs.Below.source_files.Faults.{Fault, first_place}
@@ -70,9 +70,9 @@ main_made ctx path s h =
 unit_made : (limits : Limits) (reader : Reader) (source : Source) (number : ℕ) (unit : UnitValue) (before : Carried)
     → MadeArePseudo before.table → IfDone (Stays {A = List Token} MadeArePseudo) (unit_outcome limits reader source number unit before)
 unit_made limits reader source number unit before h =
-    let ctx : Context = context source reader unit.ipath limits before.toks in
+    let ctx : Context = context source reader unit limits before.toks in
     let s : State = first_state limits number unit before.table in
-    let first = made-push (defines_path number) (Made (defines_text unit.standard unit.settings)) before.table refl h in
+    let first = made-push (defines_path number) (Made (defines_of unit)) before.table refl h in
     onward_done (Stays {A = List Token} MadeArePseudo) (Stays {A = List Token} MadeArePseudo) (outer_file ctx (defines_path number) s) _ (outer_made ctx (defines_path number) s first)
     (λ toks t g. onward_done (Stays {A = List Token} MadeArePseudo) (Stays {A = List Token} MadeArePseudo) (main_file ctx unit.path t) _ (main_made ctx unit.path t g)
     (λ more u f. f))

@@ -33,7 +33,7 @@ unfolding preprocessed
 unit_once source number unit before p once none e =
     once_by before.toks (unit_outcome the_limits file_text source number unit before) p
     (few_done (unit_outcome the_limits file_text source number unit before) _ _
-    (λ toks t (ends : UnitEnds (context source file_text unit.ipath the_limits before.toks) before.table (length toks) t). (let w = ends.table in w.once once))
+    (λ toks t (ends : UnitEnds (context source file_text unit the_limits before.toks) before.table (length toks) t). (let w = ends.table in w.once once))
     (units_end the_limits file_text source number unit before none)) e
 
 units_once : (source : Source) (number : ℕ) (units : List UnitValue) (before : Carried) (v : UnitsValue) → All IsUnit units

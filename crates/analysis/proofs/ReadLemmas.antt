@@ -8,7 +8,7 @@ use Rattle.std.proofs.lemmas.Option.{none-some, same_Some}
 use Rattle.cs_base.specs.declared.causes.Cause.TheVariants as cause
 use Rattle.cs_base.specs.declared.positions.Place.{Place}
 use Rattle.cs_base.specs.Token.{Token}
-use Rattle.cs_base.specs.Units.{UnitValue, IsUnit, defines_text}
+use Rattle.cs_base.specs.Units.{UnitValue, IsUnit, defines_of}
 use Rattle.cs_base.proofs.FileMapLemmas.{bytes_eq-equal}
 use Rattle.lexer.specs.FileText.{TextValue, LexFault, FileTooLarge, OpenComment, file_text}
 use Rattle.include_tree.specs.Below.source_files.Faults.{Fault, fault, first_place}
@@ -155,9 +155,9 @@ outer_opens ctx path s real made =
 unit_opens : (limits : Limits) (reader : Reader) (source : Source) (number : ℕ) (unit : UnitValue) (before : Carried) → is_pseudo unit.path ≡ false
     → MadeArePseudo before.table → IfDone (Stays {A = List Token} (IsOpened unit.path)) (unit_outcome limits reader source number unit before)
 unit_opens limits reader source number unit before real h =
-    let ctx : Context = context source reader unit.ipath limits before.toks in
+    let ctx : Context = context source reader unit limits before.toks in
     let s : State = first_state limits number unit before.table in
-    let first = made-push (defines_path number) (Made (defines_text unit.standard unit.settings)) before.table refl h in
+    let first = made-push (defines_path number) (Made (defines_of unit)) before.table refl h in
     onward_done (Stays {A = List Token} MadeArePseudo) (Stays {A = List Token} (IsOpened unit.path)) (outer_file ctx (defines_path number) s) _ (outer_made ctx (defines_path number) s first)
     (λ toks t g. onward_done (Stays {A = List Token} (IsOpened unit.path)) (Stays {A = List Token} (IsOpened unit.path)) (main_file ctx unit.path t) _
     (outer_opens ctx unit.path (record t { table = asked ctx.source unit.path t.table }) real (asked_made unit.path (ctx.source unit.path) t.table (found_at unit.path t.table) g))
@@ -174,9 +174,9 @@ outer_keeps ctx path other s h =
 unit_keeps : (path : List ℕ) (limits : Limits) (reader : Reader) (source : Source) (number : ℕ) (unit : UnitValue) (before : Carried)
     → IsOpened path before.table → IfDone (Stays {A = List Token} (IsOpened path)) (unit_outcome limits reader source number unit before)
 unit_keeps path limits reader source number unit before h =
-    let ctx : Context = context source reader unit.ipath limits before.toks in
+    let ctx : Context = context source reader unit limits before.toks in
     let s : State = first_state limits number unit before.table in
-    let first = opened-push path (defines_path number) (Made (defines_text unit.standard unit.settings)) before.table h in
+    let first = opened-push path (defines_path number) (Made (defines_of unit)) before.table h in
     onward_done (Stays {A = List Token} (IsOpened path)) (Stays {A = List Token} (IsOpened path)) (outer_file ctx (defines_path number) s) _ (outer_keeps ctx path (defines_path number) s first)
     (λ toks t g. onward_done (Stays {A = List Token} (IsOpened path)) (Stays {A = List Token} (IsOpened path)) (main_file ctx unit.path t) _
     (outer_keeps ctx path unit.path (record t { table = asked ctx.source unit.path t.table }) (opened_asked path unit.path (ctx.source unit.path) t.table (found_at unit.path t.table) g))

@@ -184,5 +184,5 @@ searched_settles ctx file at s found (Some path) h = open_settles ctx (place_in 
 pub header_settles : (ctx : Context) (file : SourceFile) (at : Pos) (header : Header) (s : State) → AreSettled s.table
     → IfDone (Stays {A = SourceFile} AreSettled) (open_header ctx file at header s)
 header_settles ctx file at header s h =
-    let found : Searched = search ctx.source (candidates_of header file.path ctx.ipath) s.table in
-    searched_settles ctx file at s found found.path (search_settles ctx.source (candidates_of header file.path ctx.ipath) s.table h)
+    let found : Searched = search ctx.source (candidates_of header file.path ctx.unit) s.table in
+    searched_settles ctx file at s found found.path (search_settles ctx.source (candidates_of header file.path ctx.unit) s.table h)

@@ -4,7 +4,7 @@ use Rattle.cs_base.specs.declared.positions.Pos.{Pos}
 use Rattle.cs_base.specs.Token.{Token}
 use Rattle.analysis.specs.Below.line_shape.declared.items.ItemKind.{ItemKind}
 use Rattle.analysis.specs.Below.line_shape.declared.items.ItemKind.TheVariants as kind
-use Rattle.cs_base.specs.Units.{UnitValue, defines_text}
+use Rattle.cs_base.specs.Units.{UnitValue, defines_of}
 use Rattle.analysis.specs.Below.source_files.Limits.{Limits}
 use Rattle.analysis.specs.Below.source_files.Files.{Source, SourceFile, Made, Carried, defines_path, asked}
 use Rattle.analysis.specs.Below.source_files.Opening.{Reader}
@@ -195,9 +195,9 @@ outer_settles ctx path s h =
 pub unit_settles : (limits : Limits) (reader : Reader) (source : Source) (number : ℕ) (unit : UnitValue) (before : Carried) → AreSettled before.table
     → IfDone (Stays {A = List Token} AreSettled) (unit_outcome limits reader source number unit before)
 unit_settles limits reader source number unit before h =
-    let ctx : Context = context source reader unit.ipath limits before.toks in
+    let ctx : Context = context source reader unit limits before.toks in
     let s : State = first_state limits number unit before.table in
-    let made = settled_push (defines_path number) (Made (defines_text unit.standard unit.settings)) before.table tt h in
+    let made = settled_push (defines_path number) (Made (defines_of unit)) before.table tt h in
     onward_done (Stays {A = List Token} AreSettled) (Stays {A = List Token} AreSettled) (outer_file ctx (defines_path number) s) _
     (outer_settles ctx (defines_path number) s (but_all (defines_path number) s.table made))
     (λ toks t g. onward_done (Stays {A = List Token} AreSettled) (Stays {A = List Token} AreSettled) (main_file ctx unit.path t) _

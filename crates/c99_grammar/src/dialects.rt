@@ -20,7 +20,7 @@ impl Dialect {
     {
         match standard {
             Standard::C99 => Dialect::C99,
-            Standard::C11 => Dialect::C11,
+            Standard::C11 | Standard::Gnu99 | Standard::Gnu11 => Dialect::C11,
         }
     }
 }

@@ -1,6 +1,6 @@
 -- Spellings that no name may take or lose (ISO/IEC 9899:1999, 6.4.1, 6.4.2.2, 6.10.1, 6.10.3, 6.10.8,
 -- and the keywords more of ISO/IEC 9899:2011, 6.4.1).
-use Rattle.std.specs.Prelude.{ℕ, Bool, ◌||◌, List, [], ◌∷◌, codes, eqb}
+use Rattle.std.specs.Prelude.{ℕ, Bool, ◌&&◌, ◌||◌, List, [], ◌∷◌, codes, eqb}
 use Rattle.std.specs.List.{list_any, starts_with}
 use Rattle.std.specs.Str.{bytes_eq}
 
@@ -79,19 +79,19 @@ is_word_of_gnu text =
     || list_any (bytes_eq text) other_words_of_gnu
     || list_any (bytes_eq text) types_of_gnu
 
--- names that gcc gives the meaning of `__func__` (6.4.2.2)
-abbrev pub function_names_of_gnu : List (List ℕ)
-function_names_of_gnu = codes "__FUNCTION__" ∷ codes "__PRETTY_FUNCTION__" ∷ []
+-- a name that gcc gives the meaning of `__func__` (6.4.2.2)
+abbrev pub is_function_word : List ℕ → Bool
+is_function_word text = list_any (bytes_eq text) (codes "__FUNCTION__" ∷ codes "__PRETTY_FUNCTION__" ∷ [])
 
--- what the names of functions begin with that gcc has without a declaration
-abbrev pub builtin_prefixes : List (List ℕ)
-builtin_prefixes = codes "__builtin_" ∷ codes "__sync_" ∷ codes "__atomic_" ∷ []
-
--- the name of a function that gcc may have without a declaration
-abbrev pub is_builtin_name : List ℕ → Bool
-is_builtin_name text = list_any (starts_with eqb text) builtin_prefixes
+-- a name that begins as those of the functions do that gcc has without a declaration
+abbrev pub is_built_in : List ℕ → Bool
+is_built_in text =
+    list_any (starts_with eqb text) (codes "__builtin_" ∷ codes "__sync_" ∷ codes "__atomic_" ∷ [])
 
 -- A spelling that is reserved more where a unit of the workspace is of GNU C.
 unfoldable pub is_reserved_by_gnu : List ℕ → Bool
-is_reserved_by_gnu text =
-    is_word_of_gnu text || list_any (bytes_eq text) function_names_of_gnu || is_builtin_name text
+is_reserved_by_gnu text = is_word_of_gnu text || is_function_word text || is_built_in text
+
+-- A spelling that is reserved in a workspace; `gnu` says whether one of its units is of GNU C.
+abbrev pub is_reserved_in : Bool → List ℕ → Bool
+is_reserved_in gnu text = is_reserved_text text || gnu && is_reserved_by_gnu text

@@ -40,7 +40,9 @@ pub use no_memory::Memory;
 pub use outside::{Files, Got, Put, Sink, Wrote};
 pub use paths::normal_path;
 pub use positions::{Part, Place, Pos};
-pub use reserved_words::{is_builtin_name, is_reserved, is_reserved_by_gnu, is_word_of_gnu};
+pub use reserved_words::{
+    is_built_in, is_function_word, is_reserved, is_reserved_by_gnu, is_reserved_in, is_word_of_gnu,
+};
 pub use spans::Span;
 pub use step_count::Steps;
 pub use texts::Text;

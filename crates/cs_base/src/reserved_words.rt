@@ -3,7 +3,7 @@
 ghost use Rattle.std.specs.Prelude.{◌≡◌, eqb};
 ghost use Rattle.std.specs.List.{list_any, starts_with};
 ghost use Rattle.std.specs.Str.{bytes_eq};
-ghost use Rattle.cs_base.specs.Reserved.{is_reserved_text, keywords_to_if, keywords_to_struct, keywords_to_end, keywords_of_c11, given_names, own_words_of_gnu, other_words_of_gnu, types_of_gnu, is_word_of_gnu, function_names_of_gnu, builtin_prefixes, is_builtin_name, is_reserved_by_gnu};
+ghost use Rattle.cs_base.specs.Reserved.{is_reserved_text, keywords_to_if, keywords_to_struct, keywords_to_end, keywords_of_c11, given_names, own_words_of_gnu, other_words_of_gnu, types_of_gnu, is_word_of_gnu, is_function_word, is_built_in, is_reserved_by_gnu, is_reserved_in};
 
 #[tactic(auto, unfolding(crate::specs::Reserved::is_reserved_text))]
 /// Whether the spelling is a keyword or a name that the implementation gives a meaning.
@@ -221,8 +221,9 @@ pub fn is_word_of_gnu(text: &[u8]) -> bool
     is_own_word_of_gnu(text) || is_other_word_of_gnu(text) || is_type_of_gnu(text)
 }
 
-fn is_function_name_of_gnu(text: &[u8]) -> bool
-    ensures { result ≡ list_any (bytes_eq text.now) function_names_of_gnu }
+/// Whether GNU C gives the name the meaning of `__func__`.
+pub fn is_function_word(text: &[u8]) -> bool
+    ensures { result ≡ is_function_word text.now }
 {
     is_one_of(text, &[b"__FUNCTION__", b"__PRETTY_FUNCTION__"])
 }
@@ -234,8 +235,8 @@ fn begins_with_one_of(text: &[u8], words: &[&[u8]]) -> bool
 }
 
 /// Whether it begins as the names of functions do that GNU C has without a declaration.
-pub fn is_builtin_name(text: &[u8]) -> bool
-    ensures { result ≡ is_builtin_name text.now }
+pub fn is_built_in(text: &[u8]) -> bool
+    ensures { result ≡ is_built_in text.now }
 {
     begins_with_one_of(text, &[b"__builtin_", b"__sync_", b"__atomic_"])
 }
@@ -245,5 +246,12 @@ pub fn is_builtin_name(text: &[u8]) -> bool
 pub fn is_reserved_by_gnu(text: &[u8]) -> bool
     ensures { result ≡ is_reserved_by_gnu text.now }
 {
-    is_word_of_gnu(text) || is_function_name_of_gnu(text) || is_builtin_name(text)
+    is_word_of_gnu(text) || is_function_word(text) || is_built_in(text)
+}
+
+/// Whether the spelling is reserved in a workspace; `gnu` says whether one of its units is of GNU C.
+pub fn is_reserved_in(gnu: bool, text: &[u8]) -> bool
+    ensures { result ≡ is_reserved_in gnu text.now }
+{
+    is_reserved(text) || gnu && is_reserved_by_gnu(text)
 }

@@ -9,6 +9,7 @@ use Rattle.cs_base.specs.declared.positions.Pos.{Pos}
 use Rattle.cs_base.specs.declared.tokens.Kind.{Kind}
 use Rattle.cs_base.specs.declared.tokens.Kind.TheVariants.{Ident, Number, Char, Str, Punct, Other, Header as HeaderName}
 use Rattle.cs_base.specs.Token.{Token}
+use Rattle.cs_base.specs.Units.{UnitValue}
 use Rattle.lexer.specs.FileText.{TextValue}
 use Rattle.line_shape.specs.Signs.{is_punctuator, is_sign}
 use Rattle.macro_body.specs.Macro.{Table as Macros}
@@ -144,16 +145,16 @@ module _ (c : Change) (names : KeepsNames c) where
 
   -- ---- the file takes the place of the line
 
-  module _ (source : Source) (files : KeepsFiles c source) (old : Source) (ipath : List (List ℕ)) (earlier : ℕ) where
+  module _ (source : Source) (files : KeepsFiles c source) (old : Source) (unit : UnitValue) (earlier : ℕ) where
     entered-grows : (process : Process) → ProcessGrows process → (at : Pos) (file : SourceFile) (s : State) → Grows s (entered process at file s)
     entered-grows process grows at file s =
         noted-grows s (Entered at file.number s.before ∷ []) (onward (process file s) (λ toks t. Ok (did toks (Exited at file.number t.before ∷ []) t)))
         (onward-grows s (process file s) (λ toks t. Ok (did toks (Exited at file.number t.before ∷ []) t)) (grows file s) (λ toks t. grown_refl t.table))
 
-    included-grows : (inner : Inner) → InnerGrows inner → (file : SourceFile) (at : Pos) (h : Header) (s : State) → Grows s (included (unit_context old ipath earlier) inner file at h s)
+    included-grows : (inner : Inner) → InnerGrows inner → (file : SourceFile) (at : Pos) (h : Header) (s : State) → Grows s (included (unit_context old unit earlier) inner file at h s)
     included-grows None grows file at h s = tt
     included-grows (Some process) grows file at h s =
-        onward-grows s (open_header (unit_context old ipath earlier) file at h s) (entered process at) (header-grows old ipath earlier file at h s)
+        onward-grows s (open_header (unit_context old unit earlier) file at h s) (entered process at) (header-grows old unit earlier file at h s)
         (λ f t. entered-grows process grows at f t)
 
     entered-alike : (process process2 : Process) → ProcessGrows process → ProcessAlike c process process2 → (at : Pos) (file : SourceFile) (k : KeepsFile c file) (macros : Macros) (s : State)
@@ -169,26 +170,26 @@ module _ (c : Change) (names : KeepsNames c) where
         (λ toks new_toks t macros2 v. alike-did c (IsPutOutRenamed c) macros2 macros2 t t toks new_toks (Exited at file.number t.before ∷ []) v (λ kept told. kept)))
 
     included-alike : (inner inner2 : Inner) → InnerGrows inner → InnerAlike c inner inner2 → (file : SourceFile) (text : TextValue) (at : Pos) (h : Header) (macros : Macros) (s : State)
-        → GoesAlike c (IsPutOutRenamed c) macros s (included (unit_context old ipath earlier) inner file at h s)
-        (included (unit_context source ipath earlier) inner2 (with_text file text) (c.renaming.move at) h (moved c macros s))
+        → GoesAlike c (IsPutOutRenamed c) macros s (included (unit_context old unit earlier) inner file at h s)
+        (included (unit_context source unit earlier) inner2 (with_text file text) (c.renaming.move at) h (moved c macros s))
     included-alike None inner2 grows alike file text at h macros s = tt
     included-alike (Some process) None grows alike file text at h macros s = absurd alike
     included-alike (Some process) (Some process2) grows alike file text at h macros s =
-        alike-onward c (OpensAlike c) (IsPutOutRenamed c) macros s (open_header (unit_context old ipath earlier) file at h s)
-        (open_header (unit_context source ipath earlier) (with_text file text) (c.renaming.move at) h (moved c macros s)) (entered process at) (entered process2 (c.renaming.move at))
-        (λ f t. entered-grows process grows at f t) (header-alike c source files old ipath earlier file text at (c.renaming.move at) h macros s)
+        alike-onward c (OpensAlike c) (IsPutOutRenamed c) macros s (open_header (unit_context old unit earlier) file at h s)
+        (open_header (unit_context source unit earlier) (with_text file text) (c.renaming.move at) h (moved c macros s)) (entered process at) (entered process2 (c.renaming.move at))
+        (λ f t. entered-grows process grows at f t) (header-alike c source files old unit earlier file text at (c.renaming.move at) h macros s)
         (λ f new t macros2 v.
         subst (λ (g : SourceFile). GoesAlike c (IsPutOutRenamed c) macros2 t (entered process at f t) (entered process2 (c.renaming.move at) g (moved c macros2 t))) (sym v.1)
         (entered-alike process process2 grows alike at f v.0 macros2 t))
 
     pub include-alike : (inner inner2 : Inner) → InnerGrows inner → InnerAlike c inner inner2 → (file : SourceFile) (text : TextValue) (at : Pos) (toks : List Token) (macros : Macros) (s : State) → Each (Fits c) toks
-        → GoesAlike c (IsPutOutRenamed c) macros s (include_of (unit_context old ipath earlier) inner file at toks s)
-        (include_of (unit_context source ipath earlier) inner2 (with_text file text) (c.renaming.move at) (map (renamed c.renaming) toks) (moved c macros s))
+        → GoesAlike c (IsPutOutRenamed c) macros s (include_of (unit_context old unit earlier) inner file at toks s)
+        (include_of (unit_context source unit earlier) inner2 (with_text file text) (c.renaming.move at) (map (renamed c.renaming) toks) (moved c macros s))
     include-alike inner inner2 grows alike file text at toks macros s h =
         rw (drop-map (renamed c.renaming) 2 toks)
         (alike-onward c (IsSame {A = Header}) (IsPutOutRenamed c) macros s (header_named file at (drop 2 toks) s) (header_named (with_text file text) (c.renaming.move at) (map (renamed c.renaming) (drop 2 toks)) (moved c macros s))
-        (included (unit_context old ipath earlier) inner file at) (included (unit_context source ipath earlier) inner2 (with_text file text) (c.renaming.move at))
+        (included (unit_context old unit earlier) inner file at) (included (unit_context source unit earlier) inner2 (with_text file text) (c.renaming.move at))
         (λ g t. included-grows inner grows file at g t) (named-alike file text at (c.renaming.move at) (drop 2 toks) macros s (each-drop (Fits c) 2 toks h))
         (λ g g2 t macros2 v.
-        subst (λ (x : Header). GoesAlike c (IsPutOutRenamed c) macros2 t (included (unit_context old ipath earlier) inner file at g t) (included (unit_context source ipath earlier) inner2 (with_text file text) (c.renaming.move at) x (moved c macros2 t))) (sym v)
+        subst (λ (x : Header). GoesAlike c (IsPutOutRenamed c) macros2 t (included (unit_context old unit earlier) inner file at g t) (included (unit_context source unit earlier) inner2 (with_text file text) (c.renaming.move at) x (moved c macros2 t))) (sym v)
         (included-alike inner inner2 grows alike file text at g macros2 t)))

@@ -6,6 +6,7 @@ use Rattle.std.proofs.lemmas.Bool.{le-ltb}
 use Rattle.cs_base.specs.declared.causes.Cause.TheVariants.{TooManyFiles, TooManyBytes}
 use Rattle.cs_base.specs.declared.positions.Place.{Place}
 use Rattle.cs_base.specs.declared.positions.Pos.{Pos}
+use Rattle.cs_base.specs.Units.{UnitValue}
 use Rattle.lexer.specs.FileText.{TextValue, LexFault, FileTooLarge, OpenComment, file_text}
 use Rattle.macro_body.specs.Macro.{Table as Macros}
 use Rattle.source_files.specs.Faults.{Fault, fault, place_in}
@@ -136,20 +137,20 @@ opened-grows : (place : Place) (path : List ℕ) (s : State) (o : Opening) → o
 opened-grows place path s (Err found) is source = tt
 opened-grows place path s (Ok r) is source = ((opening-as s.table r.1 place path r.0 is).widens source).grown
 
-pub open-grows : (old : Source) (ipath : List (List ℕ)) (earlier : ℕ) (place : Place) (path : List ℕ) (s : State) → Grows s (open_file (unit_context old ipath earlier) place path s)
-open-grows old ipath earlier place path s = opened-grows place path s (opening the_limits file_text place path s.table) refl old
+pub open-grows : (old : Source) (unit : UnitValue) (earlier : ℕ) (place : Place) (path : List ℕ) (s : State) → Grows s (open_file (unit_context old unit earlier) place path s)
+open-grows old unit earlier place path s = opened-grows place path s (opening the_limits file_text place path s.table) refl old
 
-searched-grows : (old : Source) (ipath : List (List ℕ)) (earlier : ℕ) (file : SourceFile) (at : Pos) (s : State) (found : Searched) (o : Option (List ℕ))
-    → Grows (record s { table = found.table }) (open_searched (unit_context old ipath earlier) file at s found o)
-searched-grows old ipath earlier file at s found None = tt
-searched-grows old ipath earlier file at s found (Some path) = open-grows old ipath earlier (place_in file at) path (record s { table = found.table })
+searched-grows : (old : Source) (unit : UnitValue) (earlier : ℕ) (file : SourceFile) (at : Pos) (s : State) (found : Searched) (o : Option (List ℕ))
+    → Grows (record s { table = found.table }) (open_searched (unit_context old unit earlier) file at s found o)
+searched-grows old unit earlier file at s found None = tt
+searched-grows old unit earlier file at s found (Some path) = open-grows old unit earlier (place_in file at) path (record s { table = found.table })
 
-pub header-grows : (old : Source) (ipath : List (List ℕ)) (earlier : ℕ) (file : SourceFile) (at : Pos) (h : Header) (s : State)
-    → Grows s (open_header (unit_context old ipath earlier) file at h s)
-header-grows old ipath earlier file at h s =
-    let found : Searched = search old (candidates_of h file.path ipath) s.table in
-    later-grows s (record s { table = found.table }) (open_searched (unit_context old ipath earlier) file at s found found.path)
-    (search_wide old (candidates_of h file.path ipath) s.table).grown (searched-grows old ipath earlier file at s found found.path)
+pub header-grows : (old : Source) (unit : UnitValue) (earlier : ℕ) (file : SourceFile) (at : Pos) (h : Header) (s : State)
+    → Grows s (open_header (unit_context old unit earlier) file at h s)
+header-grows old unit earlier file at h s =
+    let found : Searched = search old (candidates_of h file.path unit) s.table in
+    later-grows s (record s { table = found.table }) (open_searched (unit_context old unit earlier) file at s found found.path)
+    (search_wide old (candidates_of h file.path unit) s.table).grown (searched-grows old unit earlier file at s found found.path)
 
 module _ (c : Change) (source : Source) (files : KeepsFiles c source) where
   -- the edited file that is kept under a number has the text that is kept
@@ -252,9 +253,9 @@ module _ (c : Change) (source : Source) (files : KeepsFiles c source) where
         kept = with_table macros s r.1 kept;
       }
 
-  pub open-alike : (old new : Source) (ipath : List (List ℕ)) (earlier : ℕ) (place place2 : Place) (path : List ℕ) (macros : Macros) (s : State)
-      → GoesAlike c (OpensAlike c) macros s (open_file (unit_context old ipath earlier) place path s) (open_file (unit_context new ipath earlier) place2 path (moved c macros s))
-  open-alike old new ipath earlier place place2 path macros s = opened-by place place2 path macros s (opening the_limits file_text place path s.table) refl
+  pub open-alike : (old new : Source) (unit : UnitValue) (earlier : ℕ) (place place2 : Place) (path : List ℕ) (macros : Macros) (s : State)
+      → GoesAlike c (OpensAlike c) macros s (open_file (unit_context old unit earlier) place path s) (open_file (unit_context new unit earlier) place2 path (moved c macros s))
+  open-alike old new unit earlier place place2 path macros s = opened-by place place2 path macros s (opening the_limits file_text place path s.table) refl
 
   -- a step behind a table that has grown, and that is edited
   pub alike-table : {A : Type 0} (V : A → A → Type 0) (macros : Macros) (s : State) (t : Table) (m new : Outcome A)
@@ -262,24 +263,24 @@ module _ (c : Change) (source : Source) (files : KeepsFiles c source) where
   alike-table V macros s t (Err found) new h = tt
   alike-table V macros s t (Ok d) new h = λ reach kept told. h reach (with_table macros s t kept) told
 
-  searched-alike : (old : Source) (ipath : List (List ℕ)) (earlier : ℕ) (file : SourceFile) (text : TextValue) (at at2 : Pos) (macros : Macros) (s : State) (found : Searched) (o : Option (List ℕ))
-      → GoesAlike c (OpensAlike c) macros s (open_searched (unit_context old ipath earlier) file at s found o)
-      (open_searched (unit_context source ipath earlier) (with_text file text) at2 (moved c macros s) (anew c.editing found) o)
-  searched-alike old ipath earlier file text at at2 macros s found None = tt
-  searched-alike old ipath earlier file text at at2 macros s found (Some path) =
-      alike-table (OpensAlike c) macros s found.table (open_file (unit_context old ipath earlier) (place_in file at) path (record s { table = found.table }))
-      (open_file (unit_context source ipath earlier) (place_in (with_text file text) at2) path (moved c macros (record s { table = found.table })))
-      (open-alike old source ipath earlier (place_in file at) (place_in (with_text file text) at2) path macros (record s { table = found.table }))
+  searched-alike : (old : Source) (unit : UnitValue) (earlier : ℕ) (file : SourceFile) (text : TextValue) (at at2 : Pos) (macros : Macros) (s : State) (found : Searched) (o : Option (List ℕ))
+      → GoesAlike c (OpensAlike c) macros s (open_searched (unit_context old unit earlier) file at s found o)
+      (open_searched (unit_context source unit earlier) (with_text file text) at2 (moved c macros s) (anew c.editing found) o)
+  searched-alike old unit earlier file text at at2 macros s found None = tt
+  searched-alike old unit earlier file text at at2 macros s found (Some path) =
+      alike-table (OpensAlike c) macros s found.table (open_file (unit_context old unit earlier) (place_in file at) path (record s { table = found.table }))
+      (open_file (unit_context source unit earlier) (place_in (with_text file text) at2) path (moved c macros (record s { table = found.table })))
+      (open-alike old source unit earlier (place_in file at) (place_in (with_text file text) at2) path macros (record s { table = found.table }))
 
-  pub header-alike : (old : Source) (ipath : List (List ℕ)) (earlier : ℕ) (file : SourceFile) (text : TextValue) (at at2 : Pos) (h : Header) (macros : Macros) (s : State)
-      → GoesAlike c (OpensAlike c) macros s (open_header (unit_context old ipath earlier) file at h s)
-      (open_header (unit_context source ipath earlier) (with_text file text) at2 h (moved c macros s))
-  header-alike old ipath earlier file text at at2 h macros s =
-      let found : Searched = search old (candidates_of h file.path ipath) s.table in
-      alike-reach c (OpensAlike c) macros s found.table (open_searched (unit_context old ipath earlier) file at s found found.path)
-      (open_header (unit_context source ipath earlier) (with_text file text) at2 h (moved c macros s))
-      (searched-grows old ipath earlier file at s found found.path)
+  pub header-alike : (old : Source) (unit : UnitValue) (earlier : ℕ) (file : SourceFile) (text : TextValue) (at at2 : Pos) (h : Header) (macros : Macros) (s : State)
+      → GoesAlike c (OpensAlike c) macros s (open_header (unit_context old unit earlier) file at h s)
+      (open_header (unit_context source unit earlier) (with_text file text) at2 h (moved c macros s))
+  header-alike old unit earlier file text at at2 h macros s =
+      let found : Searched = search old (candidates_of h file.path unit) s.table in
+      alike-reach c (OpensAlike c) macros s found.table (open_searched (unit_context old unit earlier) file at s found found.path)
+      (open_header (unit_context source unit earlier) (with_text file text) at2 h (moved c macros s))
+      (searched-grows old unit earlier file at s found found.path)
       (λ reach.
-      subst (λ (d : Searched). GoesAlike c (OpensAlike c) macros s (open_searched (unit_context old ipath earlier) file at s found found.path) (open_searched (unit_context source ipath earlier) (with_text file text) at2 (moved c macros s) d d.path))
-      (sym (search-edited old source c.editing (candidates_of h file.path ipath) s.table c.files reach files.found))
-      (searched-alike old ipath earlier file text at at2 macros s found found.path))
+      subst (λ (d : Searched). GoesAlike c (OpensAlike c) macros s (open_searched (unit_context old unit earlier) file at s found found.path) (open_searched (unit_context source unit earlier) (with_text file text) at2 (moved c macros s) d d.path))
+      (sym (search-edited old source c.editing (candidates_of h file.path unit) s.table c.files reach files.found))
+      (searched-alike old unit earlier file text at at2 macros s found found.path))

@@ -18,8 +18,8 @@ pub conditions_go_alike : ConditionsGoAlike
 conditions_go_alike = λ c names file text at at2 toks macros s h. holds-alike c names file text at at2 toks macros s h
 
 pub inclusions_go_alike : InclusionsGoAlike
-inclusions_go_alike = λ c names old new files ipath earlier inner inner2 grows alike file text at toks macros s h.
-    include-alike c names new files old ipath earlier inner inner2 grows alike file text at toks macros s h
+inclusions_go_alike = λ c names old new files unit earlier inner inner2 grows alike file text at toks macros s h.
+    include-alike c names new files old unit earlier inner inner2 grows alike file text at toks macros s h
 
 pub files_go_alike : FilesGoAlike
-files_go_alike = λ c names old new files ipath earlier room. files-alike c names new files old ipath earlier room
+files_go_alike = λ c names old new files unit earlier room. files-alike c names new files old unit earlier room

@@ -115,4 +115,4 @@ module _ (c : Change) (names : KeepsNames c) where
       (λ out new t macros2 v. put-alike ctx ctx2 file text out new macros2 t most v.0)
 
 pub texts_are_renamed : RunsGoAlike
-texts_are_renamed = λ c names old new ipath earlier file text toks macros s h. run-alike c names (unit_context old ipath earlier) (unit_context new ipath earlier) file text toks macros s refl h
+texts_are_renamed = λ c names old new unit earlier file text toks macros s h. run-alike c names (unit_context old unit earlier) (unit_context new unit earlier) file text toks macros s refl h

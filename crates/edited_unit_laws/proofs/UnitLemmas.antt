@@ -9,7 +9,7 @@ use Rattle.cs_base.specs.declared.positions.Pos.{Pos}
 use Rattle.cs_base.specs.declared.tokens.Kind.TheVariants.{Other}
 use Rattle.cs_base.specs.Padding.{padded}
 use Rattle.cs_base.specs.Token.{Token, token}
-use Rattle.cs_base.specs.Units.{UnitValue, defines_text}
+use Rattle.cs_base.specs.Units.{UnitValue, defines_of}
 use Rattle.lexer.specs.FileText.{file_text}
 use Rattle.macro_body.specs.declared.definitions.Form.{Form}
 use Rattle.macro_body.specs.declared.definitions.Form.TheVariants as form
@@ -106,7 +106,7 @@ first-kept c names number unit t = record {
 
 first-moved : (c : Change) (number : ℕ) (unit : UnitValue) (t : Table) → first_state the_limits number unit (edited_table c.editing t) ≡ moved c first_macros (first_state the_limits number unit t)
 first-moved c number unit t =
-    ap (λ (x : Table). record (moved c first_macros (first_state the_limits number unit t)) { table = x }) (sym (push-edited c.editing 0 (defines_path number) (Made (defines_text unit.standard unit.settings)) t))
+    ap (λ (x : Table). record (moved c first_macros (first_state the_limits number unit t)) { table = x }) (sym (push-edited c.editing 0 (defines_path number) (Made (defines_of unit)) t))
 
 -- ---- the files of a unit
 
@@ -114,29 +114,29 @@ first-moved c number unit t =
 abbrev room : ℕ
 room = the_limits.open_files - 1
 
-outer-grows : (old : Source) (ipath : List (List ℕ)) (earlier : ℕ) (path : List ℕ) (s : State) → Grows s (outer_file (unit_context old ipath earlier) path s)
-outer-grows old ipath earlier path s =
-    onward-grows s (open_file (unit_context old ipath earlier) (first_place path) path s) (file_items (unit_context old ipath earlier) room)
-    (open-grows old ipath earlier (first_place path) path s) (λ f t. files-grow (unit_context old ipath earlier) room f t)
+outer-grows : (old : Source) (unit : UnitValue) (earlier : ℕ) (path : List ℕ) (s : State) → Grows s (outer_file (unit_context old unit earlier) path s)
+outer-grows old unit earlier path s =
+    onward-grows s (open_file (unit_context old unit earlier) (first_place path) path s) (file_items (unit_context old unit earlier) room)
+    (open-grows old unit earlier (first_place path) path s) (λ f t. files-grow (unit_context old unit earlier) room f t)
 
 -- the state once the unit's file is asked for
 abbrev at_main : Source → List ℕ → State → State
 at_main old path s = record s { table = asked old path s.table }
 
-main-grows : (old : Source) (ipath : List (List ℕ)) (earlier : ℕ) (path : List ℕ) (s : State) → Grows s (main_file (unit_context old ipath earlier) path s)
-main-grows old ipath earlier path s =
-    later-grows s (at_main old path s) (outer_file (unit_context old ipath earlier) path (at_main old path s)) (widens_asked old path s.table).grown
-    (outer-grows old ipath earlier path (at_main old path s))
+main-grows : (old : Source) (unit : UnitValue) (earlier : ℕ) (path : List ℕ) (s : State) → Grows s (main_file (unit_context old unit earlier) path s)
+main-grows old unit earlier path s =
+    later-grows s (at_main old path s) (outer_file (unit_context old unit earlier) path (at_main old path s)) (widens_asked old path s.table).grown
+    (outer-grows old unit earlier path (at_main old path s))
 
-rest-grows : (old : Source) (ipath : List (List ℕ)) (earlier : ℕ) (path : List ℕ) (toks : List Token) (s : State)
-    → Grows s (onward (main_file (unit_context old ipath earlier) path s) (λ more u. only (toks ++ more) u))
-rest-grows old ipath earlier path toks s =
-    onward-grows s (main_file (unit_context old ipath earlier) path s) (λ more u. only (toks ++ more) u) (main-grows old ipath earlier path s) (λ more u. grown_refl u.table)
+rest-grows : (old : Source) (unit : UnitValue) (earlier : ℕ) (path : List ℕ) (toks : List Token) (s : State)
+    → Grows s (onward (main_file (unit_context old unit earlier) path s) (λ more u. only (toks ++ more) u))
+rest-grows old unit earlier path toks s =
+    onward-grows s (main_file (unit_context old unit earlier) path s) (λ more u. only (toks ++ more) u) (main-grows old unit earlier path s) (λ more u. grown_refl u.table)
 
-both-grow : (old : Source) (ipath : List (List ℕ)) (earlier : ℕ) (defines path : List ℕ) (s : State) → Grows s (both_files (unit_context old ipath earlier) defines path s)
-both-grow old ipath earlier defines path s =
-    onward-grows s (outer_file (unit_context old ipath earlier) defines s) (λ toks t. onward (main_file (unit_context old ipath earlier) path t) (λ more u. only (toks ++ more) u))
-    (outer-grows old ipath earlier defines s) (λ toks t. rest-grows old ipath earlier path toks t)
+both-grow : (old : Source) (unit : UnitValue) (earlier : ℕ) (defines path : List ℕ) (s : State) → Grows s (both_files (unit_context old unit earlier) defines path s)
+both-grow old unit earlier defines path s =
+    onward-grows s (outer_file (unit_context old unit earlier) defines s) (λ toks t. onward (main_file (unit_context old unit earlier) path t) (λ more u. only (toks ++ more) u))
+    (outer-grows old unit earlier defines s) (λ toks t. rest-grows old unit earlier path toks t)
 
 -- the table of a unit only grows
 pub unit-grows : (old : Source) (number : ℕ) (unit : UnitValue) (before : Carried) (d : Did (List Token)) → unit_outcome the_limits file_text old number unit before ≡ Ok d
@@ -144,28 +144,28 @@ pub unit-grows : (old : Source) (number : ℕ) (unit : UnitValue) (before : Carr
 unit-grows old number unit before d is =
     let s : State = first_state the_limits number unit before.table in
     let grown : IsGrown s.table d.state.table =
-    subst (λ (m : Outcome (List Token)). Grows s m) is (both-grow old unit.ipath before.toks (defines_path number) unit.path s) in
-    grown_trans before.table s.table d.state.table (grown-push before.table (entry (defines_path number) (Made (defines_text unit.standard unit.settings)))) grown
+    subst (λ (m : Outcome (List Token)). Grows s m) is (both-grow old unit before.toks (defines_path number) unit.path s) in
+    grown_trans before.table s.table d.state.table (grown-push before.table (entry (defines_path number) (Made (defines_of unit)))) grown
 
-module _ (c : Change) (names : KeepsNames c) (source : Source) (files : KeepsFiles c source) (old : Source) (ipath : List (List ℕ)) (earlier : ℕ) where
+module _ (c : Change) (names : KeepsNames c) (source : Source) (files : KeepsFiles c source) (old : Source) (unit : UnitValue) (earlier : ℕ) where
   abbrev ctx : Context
-  ctx = unit_context old ipath earlier
+  ctx = unit_context old unit earlier
 
   abbrev ctx2 : Context
-  ctx2 = unit_context source ipath earlier
+  ctx2 = unit_context source unit earlier
 
   outer-alike : (path : List ℕ) (macros : Macros) (s : State) → GoesAlike c (IsPutOutRenamed c) macros s (outer_file ctx path s) (outer_file ctx2 path (moved c macros s))
   outer-alike path macros s =
       alike-onward c (OpensAlike c) (IsPutOutRenamed c) macros s (open_file ctx (first_place path) path s) (open_file ctx2 (first_place path) path (moved c macros s))
       (file_items ctx room) (file_items ctx2 room) (λ f t. files-grow ctx room f t)
-      (open-alike c source files old source ipath earlier (first_place path) (first_place path) path macros s)
+      (open-alike c source files old source unit earlier (first_place path) (first_place path) path macros s)
       (λ f new t macros2 v.
       subst (λ (g : SourceFile). GoesAlike c (IsPutOutRenamed c) macros2 t (file_items ctx room f t) (file_items ctx2 room g (moved c macros2 t))) (sym v.1)
-      (files-alike c names source files old ipath earlier room f v.0 macros2 t))
+      (files-alike c names source files old unit earlier room f v.0 macros2 t))
 
   main-alike : (path : List ℕ) (macros : Macros) (s : State) → GoesAlike c (IsPutOutRenamed c) macros s (main_file ctx path s) (main_file ctx2 path (moved c macros s))
   main-alike path macros s =
-      alike-reach c (IsPutOutRenamed c) macros s (asked old path s.table) (outer_file ctx path (at_main old path s)) (main_file ctx2 path (moved c macros s)) (outer-grows old ipath earlier path (at_main old path s))
+      alike-reach c (IsPutOutRenamed c) macros s (asked old path s.table) (outer_file ctx path (at_main old path s)) (main_file ctx2 path (moved c macros s)) (outer-grows old unit earlier path (at_main old path s))
       (λ reach.
       subst (λ (t : Table). GoesAlike c (IsPutOutRenamed c) macros s (outer_file ctx path (at_main old path s)) (outer_file ctx2 path (record (moved c macros s) { table = t })))
       (sym (asked-edited old source c.editing path s.table c.files reach files.found))
@@ -176,15 +176,15 @@ module _ (c : Change) (names : KeepsNames c) (source : Source) (files : KeepsFil
   files_of-alike defines path macros s =
       alike-onward c (IsPutOutRenamed c) (IsPutOutRenamed c) macros s (outer_file ctx defines s) (outer_file ctx2 defines (moved c macros s))
       (λ toks t. onward (main_file ctx path t) (λ more u. only (toks ++ more) u)) (λ toks t. onward (main_file ctx2 path t) (λ more u. only (toks ++ more) u))
-      (λ toks t. rest-grows old ipath earlier path toks t)
+      (λ toks t. rest-grows old unit earlier path toks t)
       (outer-alike defines macros s)
-      (λ toks toks2 t macros2 v. both-alike c names source files old ipath earlier toks toks2 macros2 t (main_file ctx path t) (main_file ctx2 path (moved c macros2 t)) v (main-alike path macros2 t))
+      (λ toks toks2 t macros2 v. both-alike c names source files old unit earlier toks toks2 macros2 t (main_file ctx path t) (main_file ctx2 path (moved c macros2 t)) v (main-alike path macros2 t))
 
 pub units_are_renamed : UnitsAreRenamed
 units_are_renamed = λ c old new number unit before d is reach keeps.
     let s : State = first_state the_limits number unit before.table in
-    let cx2 : Context = unit_context new unit.ipath before.toks in
-    let all = files_of-alike c keeps.names new keeps.files old unit.ipath before.toks (defines_path number) unit.path first_macros s in
+    let cx2 : Context = unit_context new unit before.toks in
+    let all = files_of-alike c keeps.names new keeps.files old unit before.toks (defines_path number) unit.path first_macros s in
     let done : GoesAlike c (IsPutOutRenamed c) first_macros s (Ok d) (both_files cx2 (defines_path number) unit.path (moved c first_macros s)) =
     subst (λ (m : Outcome (List Token)). GoesAlike c (IsPutOutRenamed c) first_macros s m (both_files cx2 (defines_path number) unit.path (moved c first_macros s))) is all in
     let f : Follows c (IsPutOutRenamed c) d (both_files cx2 (defines_path number) unit.path (moved c first_macros s)) = done reach (first-kept c keeps.names number unit before.table) keeps.notes in (

@@ -4,6 +4,7 @@ use Rattle.std.proofs.lemmas.List.{map-append, drop-map}
 use Rattle.cs_base.specs.declared.causes.Cause.TheVariants as cause
 use Rattle.cs_base.specs.declared.positions.Pos.{Pos}
 use Rattle.cs_base.specs.Token.{Token}
+use Rattle.cs_base.specs.Units.{UnitValue}
 use Rattle.lexer.specs.FileText.{TextValue}
 use Rattle.line_shape.specs.declared.items.ItemKind.{ItemKind}
 use Rattle.line_shape.specs.declared.items.ItemKind.TheVariants as kind
@@ -89,12 +90,12 @@ inner-grows : (ctx : Context) (inner : Inner) → InnerLeads ctx inner → Inner
 inner-grows ctx None h = tt
 inner-grows ctx (Some process) h = λ file s. leads-grow ctx s (process file s) (h file s)
 
-module _ (c : Change) (names : KeepsNames c) (source : Source) (files : KeepsFiles c source) (old : Source) (ipath : List (List ℕ)) (earlier : ℕ) where
+module _ (c : Change) (names : KeepsNames c) (source : Source) (files : KeepsFiles c source) (old : Source) (unit : UnitValue) (earlier : ℕ) where
   abbrev ctx : Context
-  ctx = unit_context old ipath earlier
+  ctx = unit_context old unit earlier
 
   abbrev ctx2 : Context
-  ctx2 = unit_context source ipath earlier
+  ctx2 = unit_context source unit earlier
 
   nothing-alike : (macros : Macros) (s : State) → GoesAlike c (IsPutOutRenamed c) macros s (only [] s) (only [] (moved c macros s))
   nothing-alike macros s = alike-only c (IsPutOutRenamed c) macros s [] [] refl
@@ -110,7 +111,7 @@ module _ (c : Change) (names : KeepsNames c) (source : Source) (files : KeepsFil
   processed-alike inner inner2 grows alike file text kind.Undef at toks macros s h =
       undef-alike c names file (with_text file text) at (c.renaming.move at) toks macros s h.toks (h.line refl).0
   processed-alike inner inner2 grows alike file text kind.Include at toks macros s h =
-      include-alike c names source files old ipath earlier inner inner2 grows alike file text at toks macros s h.toks
+      include-alike c names source files old unit earlier inner inner2 grows alike file text at toks macros s h.toks
   processed-alike inner inner2 grows alike file text kind.Error at toks macros s h = tt
   processed-alike inner inner2 grows alike file text (kind.Bad cause place nests) at toks macros s h = tt
   processed-alike inner inner2 grows alike file text kind.If at toks macros s h = nothing-alike macros s

@@ -2,6 +2,7 @@
 use Rattle.std.specs.Prelude.{◌≡◌, ℕ, Bool, true, List, map}
 use Rattle.cs_base.specs.declared.positions.Pos.{Pos}
 use Rattle.cs_base.specs.Token.{Token}
+use Rattle.cs_base.specs.Units.{UnitValue}
 use Rattle.lexer.specs.FileText.{TextValue}
 use Rattle.line_shape.specs.declared.items.ItemKind.{ItemKind}
 use Rattle.line_shape.specs.declared.items.ItemKind.TheVariants.{Define, Undef}
@@ -25,10 +26,10 @@ use Rattle.edited_unit_laws.specs.Steps.{moved, GoesAlike, IsPutOutRenamed, IsSa
 
 -- A run of renamed tokens gives the renamed tokens.
 abbrev pub RunsGoAlike : Type 0
-RunsGoAlike = (c : Change) → KeepsNames c → (old new : Source) (ipath : List (List ℕ)) (earlier : ℕ) (file : SourceFile) (text : TextValue) (toks : List Token) (macros : Macros) (s : State)
+RunsGoAlike = (c : Change) → KeepsNames c → (old new : Source) (unit : UnitValue) (earlier : ℕ) (file : SourceFile) (text : TextValue) (toks : List Token) (macros : Macros) (s : State)
     → Each (Fits c) toks
-    → GoesAlike c (IsPutOutRenamed c) macros s (run_of (unit_context old ipath earlier) file toks s)
-    (run_of (unit_context new ipath earlier) (with_text file text) (map (renamed c.renaming) toks) (moved c macros s))
+    → GoesAlike c (IsPutOutRenamed c) macros s (run_of (unit_context old unit earlier) file toks s)
+    (run_of (unit_context new unit earlier) (with_text file text) (map (renamed c.renaming) toks) (moved c macros s))
 
 -- ---- definitions (6.10.3, 6.10.3.5)
 
@@ -61,14 +62,14 @@ ConditionsGoAlike = (c : Change) → KeepsNames c → (file : SourceFile) (text 
 
 -- A renamed include line brings the edited file of the same path.
 abbrev pub InclusionsGoAlike : Type 0
-InclusionsGoAlike = (c : Change) → KeepsNames c → (old new : Source) → KeepsFiles c new → (ipath : List (List ℕ)) (earlier : ℕ) (inner inner2 : Inner) → InnerGrows inner → InnerAlike c inner inner2
+InclusionsGoAlike = (c : Change) → KeepsNames c → (old new : Source) → KeepsFiles c new → (unit : UnitValue) (earlier : ℕ) (inner inner2 : Inner) → InnerGrows inner → InnerAlike c inner inner2
     → (file : SourceFile) (text : TextValue) (at : Pos) (toks : List Token) (macros : Macros) (s : State) → Each (Fits c) toks
-    → GoesAlike c (IsPutOutRenamed c) macros s (include_of (unit_context old ipath earlier) inner file at toks s)
-    (include_of (unit_context new ipath earlier) inner2 (with_text file text) (c.renaming.move at) (map (renamed c.renaming) toks) (moved c macros s))
+    → GoesAlike c (IsPutOutRenamed c) macros s (include_of (unit_context old unit earlier) inner file at toks s)
+    (include_of (unit_context new unit earlier) inner2 (with_text file text) (c.renaming.move at) (map (renamed c.renaming) toks) (moved c macros s))
 
 -- ---- files
 
 -- The items of an edited file give the renamed tokens, whatever files they include.
 abbrev pub FilesGoAlike : Type 0
-FilesGoAlike = (c : Change) → KeepsNames c → (old new : Source) → KeepsFiles c new → (ipath : List (List ℕ)) (earlier room : ℕ)
-    → ProcessAlike c (file_items (unit_context old ipath earlier) room) (file_items (unit_context new ipath earlier) room)
+FilesGoAlike = (c : Change) → KeepsNames c → (old new : Source) → KeepsFiles c new → (unit : UnitValue) (earlier room : ℕ)
+    → ProcessAlike c (file_items (unit_context old unit earlier) room) (file_items (unit_context new unit earlier) room)

@@ -1,11 +1,12 @@
-// Keywords of the standards of a workspace's units (ISO/IEC 9899:1999, 6.4.1; ISO/IEC 9899:2011, 6.4.1).
+// Keywords of the standards of a workspace's units (ISO/IEC 9899:1999, 6.4.1; ISO/IEC 9899:2011, 6.4.1); GNU C has the
+// words of both, and more.
 ghost use Rattle.std.specs.Prelude.{◌≡◌, ◌||◌};
 ghost use Rattle.std.specs.List.{list_any};
 ghost use Rattle.std.specs.Str.{bytes_eq};
 ghost use Rattle.cs_base.specs.Reserved.{keywords_of_c11, keywords_to_end, keywords_to_if, keywords_to_struct};
 ghost use Rattle.find_names.specs.Keywords.{is_keyword, is_keyword_of, is_old_keyword};
 
-use cs_base::{Standard, Unit};
+use cs_base::{Standard, Unit, is_word_of_gnu};
 
 fn is_one_of(text: &[u8], words: &[&[u8]]) -> bool
     ensures { result ≡ list_any (λ word. bytes_eq text.now word.now) words.now }
@@ -111,6 +112,9 @@ fn is_keyword_of(text: &[u8], standard: Standard) -> bool
     match standard {
         Standard::C99 => is_old_keyword(text),
         Standard::C11 => is_old_keyword(text) || is_of_c11(text),
+        Standard::Gnu99 | Standard::Gnu11 => {
+            is_old_keyword(text) || is_of_c11(text) || is_word_of_gnu(text)
+        }
     }
 }
 

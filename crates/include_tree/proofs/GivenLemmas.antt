@@ -3,6 +3,7 @@ use Rattle.std.proofs.Common.{◌≡◌, ℕ, List, Option, None, Some, Result, 
 use Rattle.std.specs.Prelude.{IfSome}
 use Rattle.cs_base.specs.declared.positions.Place.{Place}
 use Rattle.cs_base.specs.declared.positions.Pos.{Pos}
+use Rattle.cs_base.specs.Units.{UnitValue}
 use Rattle.source_files.specs.Below.lexer.FileText.{file_text}
 use Rattle.source_files.specs.declared.pre_fault.PreFault.{PreFault}
 use Rattle.source_files.specs.Limits.{the_limits}
@@ -30,27 +31,27 @@ other-table : (s : State) (t : Table) (m : Opening) → with_opened (record s { 
 other-table s t (Ok r) = refl
 other-table s t (Err f) = refl
 
-searched-step : (source : Source) (ipath : List (List ℕ)) (earlier : ℕ) (file : SourceFile) (at : Pos) (s : State) (found : Searched) (o : Option (List ℕ))
-    → open_searched (unit_context source ipath earlier) file at s found o ≡ with_opened s (opening_searched (place_in file at) found o)
-searched-step source ipath earlier file at s found None = refl
-searched-step source ipath earlier file at s found (Some path) =
+searched-step : (source : Source) (unit : UnitValue) (earlier : ℕ) (file : SourceFile) (at : Pos) (s : State) (found : Searched) (o : Option (List ℕ))
+    → open_searched (unit_context source unit earlier) file at s found o ≡ with_opened s (opening_searched (place_in file at) found o)
+searched-step source unit earlier file at s found None = refl
+searched-step source unit earlier file at s found (Some path) =
     other-table s found.table (opening the_limits file_text (place_in file at) path found.table)
 
 -- the file of a header, by what the search for its paths opens
-pub header-file : (r : Result ℕ PreFault) (t v : Table) (source : Source) (ipath : List (List ℕ)) (earlier : ℕ) (file : SourceFile) (at : Pos) (h : Header) (s : State) → s.table ≡ t
-    → GivesOpening r (opening_found (place_in file at) (search source (candidates_of h file.path ipath) t)) v
-    → GivesFile r (open_header (unit_context source ipath earlier) file at h s) v s
-header-file r t v source ipath earlier file at h s is gives =
-    rw (searched-step source ipath earlier file at s (search source (candidates_of h file.path ipath) s.table) (search source (candidates_of h file.path ipath) s.table).path)
+pub header-file : (r : Result ℕ PreFault) (t v : Table) (source : Source) (unit : UnitValue) (earlier : ℕ) (file : SourceFile) (at : Pos) (h : Header) (s : State) → s.table ≡ t
+    → GivesOpening r (opening_found (place_in file at) (search source (candidates_of h file.path unit) t)) v
+    → GivesFile r (open_header (unit_context source unit earlier) file at h s) v s
+header-file r t v source unit earlier file at h s is gives =
+    rw (searched-step source unit earlier file at s (search source (candidates_of h file.path unit) s.table) (search source (candidates_of h file.path unit) s.table).path)
     (gives-file r _ v s (rw (← is) at gives))
 
 -- the file of a header, by what an include line asks for
-pub header-asked : (r : Result ℕ PreFault) (t v : Table) (source : Source) (ipath : List (List ℕ)) (earlier : ℕ) (o : Option SourceFile) (at : Pos) (h : Header) (paths : List (List ℕ)) (place : Place)
-    → IfSome o (λ file. paths ≡ candidates_of h file.path ipath) → IfSome o (λ file. place ≡ place_in file at)
+pub header-asked : (r : Result ℕ PreFault) (t v : Table) (source : Source) (unit : UnitValue) (earlier : ℕ) (o : Option SourceFile) (at : Pos) (h : Header) (paths : List (List ℕ)) (place : Place)
+    → IfSome o (λ file. paths ≡ candidates_of h file.path unit) → IfSome o (λ file. place ≡ place_in file at)
     → GivesOpening r (opening_found place (search source paths t)) v
-    → IfSome o (λ file. (s : State) → s.table ≡ t → GivesFile r (open_header (unit_context source ipath earlier) file at h s) v s)
-header-asked r t v source ipath earlier None at h paths place asks stands gives = tt
-header-asked r t v source ipath earlier (Some file) at h paths place asks stands gives = λ s is.
-    header-file r t v source ipath earlier file at h s is
+    → IfSome o (λ file. (s : State) → s.table ≡ t → GivesFile r (open_header (unit_context source unit earlier) file at h s) v s)
+header-asked r t v source unit earlier None at h paths place asks stands gives = tt
+header-asked r t v source unit earlier (Some file) at h paths place asks stands gives = λ s is.
+    header-file r t v source unit earlier file at h s is
     (subst (λ (ps : List (List ℕ)). GivesOpening r (opening_found (place_in file at) (search source ps t)) v) asks
     (subst (λ (p : Place). GivesOpening r (opening_found p (search source paths t)) v) stands gives))

@@ -5,7 +5,7 @@ use Rattle.std.specs.Fmt.{decimal}
 use Rattle.std.proofs.lemmas.Bool.{cases_Bool}
 use Rattle.std.proofs.lemmas.Fmt.{decimal_injective}
 use Rattle.std.proofs.lemmas.List.{append_cancel_left, append_cancel_right}
-use Rattle.cs_base.specs.Units.{UnitValue, defines_text}
+use Rattle.cs_base.specs.Units.{UnitValue, defines_of}
 use Rattle.cs_base.proofs.FileMapLemmas.{bytes_eq-equal}
 use Rattle.source_files.specs.Limits.{Limits}
 use Rattle.source_files.specs.Files.{Source, Found, Made, Entry, Table, Carried, found_at, found_in, numbered, opened, defines_path}
@@ -90,8 +90,8 @@ pub others_stay : (limits : Limits) (reader : Reader) (source : Source) (number 
     → found_at (defines_path other) before.table ≡ None
     → IfDone (λ toks t. found_at (defines_path other) t.table ≡ None) (unit_outcome limits reader source number unit before)
 others_stay limits reader source number other unit before real few few2 apart none =
-    let ctx : Context = context source reader unit.ipath limits before.toks in
+    let ctx : Context = context source reader unit limits before.toks in
     let s : State = first_state limits number unit before.table in
     both_files_stay ctx (Lacks (defines_path other)) (pseudo_stable source (defines_path other) refl) (defines_path number) unit.path s real
-    (lacks-push (defines_path other) (defines_path number) (Made (defines_text unit.standard unit.settings)) before.table
+    (lacks-push (defines_path other) (defines_path number) (Made (defines_of unit)) before.table
     (defines-apart other number few2 few apart) none)

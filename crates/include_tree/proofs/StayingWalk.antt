@@ -55,10 +55,10 @@ open_searched_stays ctx J k file at s found (Some path) h =
 open_header_stays : (ctx : Context) (J : Table → Type 0) → IsStable ctx.source J → (file : SourceFile) (at : Pos) (header : Header) (s : State) → J s.table
     → IfDone (Stays {A = SourceFile} J) (open_header ctx file at header s)
 open_header_stays ctx J k file at header s h =
-    let found : Searched = search ctx.source (candidates_of header file.path ctx.ipath) s.table in
+    let found : Searched = search ctx.source (candidates_of header file.path ctx.unit) s.table in
     open_searched_stays ctx J k file at s found found.path
-    (search_stays ctx.source J k (candidates_of header file.path ctx.ipath) s.table
-    (list_all-filtered can_be_asked (map (λ (directory : List ℕ). joined_path_of directory header.name) (directories_for header file.path ctx.ipath))) h)
+    (search_stays ctx.source J k (candidates_of header file.path ctx.unit) s.table
+    (list_all-filtered can_be_asked (map (λ (directory : List ℕ). joined_path_of directory header.name) (directories_for header file.path ctx.unit))) h)
 
 -- what is known of the items of included files
 abbrev pub ProcessStays : (Table → Type 0) → Process → Type 0

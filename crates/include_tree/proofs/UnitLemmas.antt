@@ -11,7 +11,7 @@ use Rattle.cs_base.specs.Answer.{Gives}
 use Rattle.cs_base.specs.Token.{Token}
 use Rattle.cs_base.specs.declared.positions.Place.{Place}
 use Rattle.source_files.specs.Below.lexer.FileText.{file_text}
-use Rattle.cs_base.specs.Units.{UnitValue, defines_text, IsUnit, is_unit_path, is_writable, begins_with, less_sign}
+use Rattle.cs_base.specs.Units.{UnitValue, defines_of, IsUnit, is_unit_path, is_writable, begins_with, less_sign}
 use Rattle.source_files.specs.declared.pre_fault.PreFault.{PreFault}
 use Rattle.source_files.specs.Limits.{the_limits}
 use Rattle.source_files.specs.Files.{Source, Found, Made, Table, Carried, carried, lines_path, defines_path, numbered, asked}
@@ -73,15 +73,14 @@ outer-gives {X} view r k n m u s next opens walked =
     ap (λ (o : Opening). kept_after k (with_opened s o)) opens.2 ∙ ap (λ (t : UnitTextValue). Ok (opens.0, record s { table = u }, t)) (noted_in-nil k) in
     subst (λ (o : Result (State × UnitTextValue) Fault). Gives view fault_of r o) (sym (put-onward k k (with_opened s m) next opens.0 (record s { table = u }) opened)) here
 
--- the same with what the program knows of the directories and of the tokens before
+-- the same with what the program knows of the tokens before
 pub outer-walked : {X : Type 0} (source : Source) (view : X → State × UnitTextValue) (r : Result X PreFault) (k : UnitTextValue) (n room : ℕ) (m : Opening) (u : Table)
-    (s : State) (ipath ipath2 : List (List ℕ)) (toks toks2 : ℕ) → ipath2 ≡ ipath → toks2 ≡ toks → GivesOpening (Ok n) m u
-    → IfSome (source_at u n) (λ file. Gives view fault_of r (put_after k (file_items (unit_context source ipath2 toks2) room file (record s { table = u }))))
-    → Gives view fault_of r (put_after k (onward (with_opened s m) (file_items (unit_context source ipath toks) room)))
-outer-walked {X} source view r k n room m u s ipath ipath2 toks toks2 ipath_is toks_is opens walked =
-    outer-gives view r k n m u s (file_items (unit_context source ipath toks) room) opens
-    (subst (λ (p : List (List ℕ)). IfSome (source_at u n) (λ file. Gives view fault_of r (put_after k (file_items (unit_context source p toks) room file (record s { table = u }))))) ipath_is
-    (subst (λ (j : ℕ). IfSome (source_at u n) (λ file. Gives view fault_of r (put_after k (file_items (unit_context source ipath2 j) room file (record s { table = u }))))) toks_is walked))
+    (s : State) (unit : UnitValue) (toks toks2 : ℕ) → toks2 ≡ toks → GivesOpening (Ok n) m u
+    → IfSome (source_at u n) (λ file. Gives view fault_of r (put_after k (file_items (unit_context source unit toks2) room file (record s { table = u }))))
+    → Gives view fault_of r (put_after k (onward (with_opened s m) (file_items (unit_context source unit toks) room)))
+outer-walked {X} source view r k n room m u s unit toks toks2 toks_is opens walked =
+    outer-gives view r k n m u s (file_items (unit_context source unit toks) room) opens
+    (subst (λ (j : ℕ). IfSome (source_at u n) (λ file. Gives view fault_of r (put_after k (file_items (unit_context source unit j) room file (record s { table = u }))))) toks_is walked)
 
 refused-fault : (k : UnitTextValue) (m : Opening) (s : State) (next : Process) (o : Option Fault) → IfSome o (λ f. ◌≡◌ {A = Opening} m (Err f))
     → IfSome o (λ f. put_after k (onward (with_opened s m) next) ≡ Err f)
@@ -96,7 +95,7 @@ outer-refused k e m u s next h = refused-fault k m s next (fault_of e) h
 -- ---- the pseudo file of a unit
 
 abbrev pub with_defines : ℕ → UnitValue → Table → Table
-with_defines number unit t = numbered (defines_path number) (Made (defines_text unit.standard unit.settings)) t
+with_defines number unit t = numbered (defines_path number) (Made (defines_of unit)) t
 
 abbrev pub defines_opening : ℕ → UnitValue → Table → Opening
 defines_opening number unit t = opening the_limits file_text (first_place (defines_path number)) (defines_path number) (with_defines number unit t)
@@ -106,10 +105,10 @@ abbrev pub main_opening : List ℕ → Table → Source → Opening
 main_opening path t source = opening the_limits file_text (first_place path) path (asked source path t)
 
 -- what is opened at another path or in another table is the same
-pub gives-made : (r : Result ℕ PreFault) (v t : Table) (path path2 text : List ℕ) (number : ℕ) (unit : UnitValue) → path ≡ defines_path number → path2 ≡ path → text ≡ defines_text unit.standard unit.settings
+pub gives-made : (r : Result ℕ PreFault) (v t : Table) (path path2 text : List ℕ) (number : ℕ) (unit : UnitValue) → path ≡ defines_path number → path2 ≡ path → text ≡ defines_of unit
     → GivesOpening r (opening the_limits file_text (first_place path2) path2 (numbered path2 (Made text) t)) v → GivesOpening r (defines_opening number unit t) v
 gives-made r v t path path2 text number unit is same text_is h =
-    subst (λ (p : List ℕ). GivesOpening r (opening the_limits file_text (first_place p) p (numbered p (Made (defines_text unit.standard unit.settings)) t)) v) (same ∙ is)
+    subst (λ (p : List ℕ). GivesOpening r (opening the_limits file_text (first_place p) p (numbered p (Made (defines_of unit)) t)) v) (same ∙ is)
     (subst (λ (x : List ℕ). GivesOpening r (opening the_limits file_text (first_place path2) path2 (numbered path2 (Made x) t)) v) text_is h)
 
 pub gives-main : (source : Source) (r : Result ℕ PreFault) (v t u : Table) (path : List ℕ) (place : Place) → place ≡ first_place path
@@ -132,10 +131,10 @@ by-refused earlier (Err g) f h = ap (λ (x : Fault). Err x) (put_fault g f h)
 
 -- the steps of the two files, the first of which begins with this text
 abbrev pub FirstGives : Source → ℕ → UnitValue → ℕ → State → UnitTextValue → Result (State × UnitTextValue) Fault → Type 0
-FirstGives source number unit earlier s k r = put_after k (outer_file (unit_context source unit.ipath earlier) (defines_path number) s) ≡ r
+FirstGives source number unit earlier s k r = put_after k (outer_file (unit_context source unit earlier) (defines_path number) s) ≡ r
 
 abbrev pub NextGives : Source → UnitValue → ℕ → State → UnitTextValue → Result (State × UnitTextValue) Fault → Type 0
-NextGives source unit earlier t k r = put_after k (main_file (unit_context source unit.ipath earlier) unit.path t) ≡ r
+NextGives source unit earlier t k r = put_after k (main_file (unit_context source unit earlier) unit.path t) ≡ r
 
 module _ (number : ℕ) (unit : UnitValue) (before : Carried) (s : State) (k : UnitTextValue)
     (begun : s ≡ first_state the_limits number unit before.table) (nothing : k ≡ no_text) where
@@ -150,7 +149,7 @@ module _ (number : ℕ) (unit : UnitValue) (before : Carried) (s : State) (k : U
       → preprocessed source number unit before ≡ Ok (with_text after k3)
   unfolding preprocessed
   unit-done source t u k2 k3 after h j is =
-      by-done before.toks _ u k3 (put-both no_text k2 _ (main_file (unit_context source unit.ipath before.toks) unit.path) t (first source (Ok (t, k2)) h) ∙ j)
+      by-done before.toks _ u k3 (put-both no_text k2 _ (main_file (unit_context source unit before.toks) unit.path) t (first source (Ok (t, k2)) h) ∙ j)
       ∙ ap (λ (c : Carried). Ok (with_text c k3)) (sym is)
 
   -- there is a fault in the first
@@ -166,7 +165,7 @@ module _ (number : ℕ) (unit : UnitValue) (before : Carried) (s : State) (k : U
   unfolding preprocessed
   unit-next_refused source None t k2 h j = tt
   unit-next_refused source (Some f) t k2 h j =
-      by-refused before.toks _ f (put-both no_text k2 _ (main_file (unit_context source unit.ipath before.toks) unit.path) t (first source (Ok (t, k2)) h) ∙ j)
+      by-refused before.toks _ f (put-both no_text k2 _ (main_file (unit_context source unit before.toks) unit.path) t (first source (Ok (t, k2)) h) ∙ j)
 
 -- ---- paths
 

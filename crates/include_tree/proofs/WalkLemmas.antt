@@ -2,7 +2,7 @@
 use Rattle.std.proofs.Common.{◌≡◌, ℕ, zero, suc, ◌+◌, ◌-◌, ◌≤◌, Bool, true, false, List, [], ◌∷◌, ◌++◌, length, Option, None, Some, Ok, Err, refl, sym, arith, length-append, drop, not}
 use Rattle.cs_base.specs.declared.positions.Pos.{Pos}
 use Rattle.cs_base.specs.Token.{Token}
-use Rattle.cs_base.specs.Units.{UnitValue, defines_text}
+use Rattle.cs_base.specs.Units.{UnitValue, defines_of}
 use Rattle.source_files.specs.Below.line_shape.declared.items.ItemKind.{ItemKind}
 use Rattle.source_files.specs.Below.line_shape.declared.items.ItemKind.TheVariants as kind
 use Rattle.source_files.specs.Limits.{Limits}
@@ -63,8 +63,8 @@ open_searched_leads ctx file at s found (Some path) h =
 
 open_header_leads : (ctx : Context) (file : SourceFile) (at : Pos) (h : Header) (s : State) → IfDone (Behind {A = SourceFile} ctx s) (open_header ctx file at h s)
 open_header_leads ctx file at h s =
-    let found : Searched = search ctx.source (candidates_of h file.path ctx.ipath) s.table in
-    open_searched_leads ctx file at s found found.path (search_wide ctx.source (candidates_of h file.path ctx.ipath) s.table)
+    let found : Searched = search ctx.source (candidates_of h file.path ctx.unit) s.table in
+    open_searched_leads ctx file at s found found.path (search_wide ctx.source (candidates_of h file.path ctx.unit) s.table)
 
 -- what is known of the items of included files
 abbrev pub ProcessLeads : Context → Process → Type 0
@@ -242,10 +242,10 @@ unit_ended ctx before s none work wide (Err found) h = tt
 
 pub units_end : (limits : Limits) (reader : Reader) (source : Source) (number : ℕ) (unit : UnitValue) (before : Carried)
     → found_at (defines_path number) before.table ≡ None
-    → IfDone (λ toks t. UnitEnds (context source reader unit.ipath limits before.toks) before.table (length toks) t)
+    → IfDone (λ toks t. UnitEnds (context source reader unit limits before.toks) before.table (length toks) t)
     (unit_outcome limits reader source number unit before)
 units_end limits reader source number unit before none =
-    let ctx : Context = context source reader unit.ipath limits before.toks in
+    let ctx : Context = context source reader unit limits before.toks in
     let s : State = first_state limits number unit before.table in
-    unit_ended ctx before.table s refl (omega arith) (widens_push source (defines_path number) (Made (defines_text unit.standard unit.settings)) before.table none tt)
+    unit_ended ctx before.table s refl (omega arith) (widens_push source (defines_path number) (Made (defines_of unit)) before.table none tt)
     (unit_outcome limits reader source number unit before) (both_files_lead ctx (defines_path number) unit.path s)

@@ -3,6 +3,7 @@ use Rattle.std.proofs.Common.{◌≡◌, ℕ, ◌+◌, ◌-◌, ◌<◌, ◌≤�
 use Rattle.std.specs.Prelude.{IfSome, slice_get}
 use Rattle.cs_base.specs.Answer.{Gives}
 use Rattle.cs_base.specs.declared.positions.Pos.{Pos}
+use Rattle.cs_base.specs.Units.{UnitValue}
 use Rattle.source_files.specs.declared.pre_fault.PreFault.{PreFault}
 use Rattle.unit_steps.specs.declared.progress.Progress.{Progress}
 use Rattle.include_tree.specs.declared.item_steps.IncludeLine.{IncludeLine}
@@ -40,15 +41,15 @@ gives-along r s k x y is h = subst (λ (z : Result (State × UnitTextValue) Faul
 -- ---- an item
 
 -- an item that is no include line, or whose own part has a fault
-pub item-told : (source : Source) (q : Option SourceFile) (ipath : List (List ℕ)) (toks most room k : ℕ) (sections more : List Section) (s t : State) (text new : UnitTextValue)
+pub item-told : (source : Source) (q : Option SourceFile) (unit : UnitValue) (toks most room k : ℕ) (sections more : List Section) (s t : State) (text new : UnitTextValue)
     (r : Result (Option IncludeLine) PreFault) → most ≡ unit_most toks
     → ((ctx : Context) (inner : Inner) → most_toks ctx ≡ most
     → IfSome q (λ file. IfSome (slice_get (items_in file) k) (λ i. GivesItem ctx inner file r more t new (stepped_after text (item_step ctx inner file k i sections s)))))
     → IfSome q (λ file. IfSome (slice_get (items_in file) k) (λ i.
-    GivesItem (unit_context source ipath toks) (inner_in (unit_context source ipath toks) room) file r more t new
-    (stepped_after text (item_step (unit_context source ipath toks) (inner_in (unit_context source ipath toks) room) file k i sections s))))
-item-told source q ipath toks most room k sections more s t text new r limit h =
-    h (unit_context source ipath toks) (inner_in (unit_context source ipath toks) room) (sym limit)
+    GivesItem (unit_context source unit toks) (inner_in (unit_context source unit toks) room) file r more t new
+    (stepped_after text (item_step (unit_context source unit toks) (inner_in (unit_context source unit toks) room) file k i sections s))))
+item-told source q unit toks most room k sections more s t text new r limit h =
+    h (unit_context source unit toks) (inner_in (unit_context source unit toks) room) (sym limit)
 
 item-of : (ctx : Context) (inner : Inner) (file : SourceFile) (z : Option ItemText) (k : ℕ) (sections more : List Section) (s t u : State) (text new newer : UnitTextValue)
     (line : IncludeLine) (r : Result (Unit {0}) PreFault)
@@ -60,30 +61,30 @@ item-of ctx inner file (Some i) k sections more s t u text new newer line r h g 
     gives-sections r more u newer (put_after new (included ctx inner file line.at line.header t)) (stepped_after text (item_step ctx inner file k i sections s)) h g
 
 -- an include line whose file took its place
-pub item-included : (source : Source) (q : Option SourceFile) (ipath : List (List ℕ)) (toks most room k : ℕ) (sections more : List Section) (s t u : State) (text new newer : UnitTextValue)
+pub item-included : (source : Source) (q : Option SourceFile) (unit : UnitValue) (toks most room k : ℕ) (sections more : List Section) (s t u : State) (text new newer : UnitTextValue)
     (line : IncludeLine) (r : Result (Unit {0}) PreFault) → most ≡ unit_most toks
     → ((ctx : Context) (inner : Inner) → most_toks ctx ≡ most
     → IfSome q (λ file. IfSome (slice_get (items_in file) k) (λ i. GivesItem ctx inner file (Ok (Some line)) more t new (stepped_after text (item_step ctx inner file k i sections s)))))
     → IfSome q (λ file. Gives (λ _. (u, newer)) fault_of r
-    (put_after new (included (unit_context source ipath toks) (inner_in (unit_context source ipath toks) room) file line.at line.header t)))
+    (put_after new (included (unit_context source unit toks) (inner_in (unit_context source unit toks) room) file line.at line.header t)))
     → IfSome q (λ file. IfSome (slice_get (items_in file) k) (λ i. Gives (λ _. (more, u, newer)) fault_of r
-    (stepped_after text (item_step (unit_context source ipath toks) (inner_in (unit_context source ipath toks) room) file k i sections s))))
-item-included source None ipath toks most room k sections more s t u text new newer line r limit h g = tt
-item-included source (Some file) ipath toks most room k sections more s t u text new newer line r limit h g =
-    item-of (unit_context source ipath toks) (inner_in (unit_context source ipath toks) room) file (slice_get (items_in file) k) k sections more s t u text new newer line r
-    (h (unit_context source ipath toks) (inner_in (unit_context source ipath toks) room) (sym limit)) g
+    (stepped_after text (item_step (unit_context source unit toks) (inner_in (unit_context source unit toks) room) file k i sections s))))
+item-included source None unit toks most room k sections more s t u text new newer line r limit h g = tt
+item-included source (Some file) unit toks most room k sections more s t u text new newer line r limit h g =
+    item-of (unit_context source unit toks) (inner_in (unit_context source unit toks) room) file (slice_get (items_in file) k) k sections more s t u text new newer line r
+    (h (unit_context source unit toks) (inner_in (unit_context source unit toks) room) (sym limit)) g
 
 -- ---- an include line
 
-pub include-fault : (source : Source) (q : Option SourceFile) (ipath : List (List ℕ)) (toks room : ℕ) (at : Pos) (h : Header) (s : State) (k : UnitTextValue) (e : PreFault) (table : Table)
+pub include-fault : (source : Source) (q : Option SourceFile) (unit : UnitValue) (toks room : ℕ) (at : Pos) (h : Header) (s : State) (k : UnitTextValue) (e : PreFault) (table : Table)
     → 0 < room
-    → IfSome q (λ file. (t : State) → t.table ≡ s.table → GivesFile (Err e) (open_header (unit_context source ipath toks) file at h t) table t)
+    → IfSome q (λ file. (t : State) → t.table ≡ s.table → GivesFile (Err e) (open_header (unit_context source unit toks) file at h t) table t)
     → IfSome q (λ file. IfSome (fault_of e) (λ f.
-    put_after k (included (unit_context source ipath toks) (inner_in (unit_context source ipath toks) room) file at h s) ≡ Err f))
-include-fault source None ipath toks room at h s k e table some g = tt
-include-fault source (Some file) ipath toks room at h s k e table some g =
-    fault_on (fault_of e) (open_header (unit_context source ipath toks) file at h s) (put_after k (included (unit_context source ipath toks) (inner_in (unit_context source ipath toks) room) file at h s))
-    (g s refl) (λ f is. included-fault (unit_context source ipath toks) room file at h s k f some is)
+    put_after k (included (unit_context source unit toks) (inner_in (unit_context source unit toks) room) file at h s) ≡ Err f))
+include-fault source None unit toks room at h s k e table some g = tt
+include-fault source (Some file) unit toks room at h s k e table some g =
+    fault_on (fault_of e) (open_header (unit_context source unit toks) file at h s) (put_after k (included (unit_context source unit toks) (inner_in (unit_context source unit toks) room) file at h s))
+    (g s refl) (λ f is. included-fault (unit_context source unit toks) room file at h s k f some is)
 
 open-of : (ctx : Context) (room : ℕ) (file : SourceFile) (at : Pos) (h : Header) (s u : State) (k new : UnitTextValue) (table : Table) (n : ℕ) (r : Result (Unit {0}) PreFault) → 0 < room
     → GivesFile (Ok n) (open_header ctx file at h s) table s
@@ -94,67 +95,67 @@ open-of ctx room file at h s u k new table n r some g e =
     (included-open ctx room file at h s k g.0 (record s { table = table }) some g.2)
     (subst (λ (o : Option SourceFile). IfSome o (λ inner. Gives (λ _. (u, new)) fault_of r (put_after k (entered (file_items ctx (room - 1)) at inner (record s { table = table }))))) g.1 e)
 
-pub include-open : (source : Source) (q : Option SourceFile) (ipath : List (List ℕ)) (toks toks1 room : ℕ) (at : Pos) (h : Header) (s u : State) (k new : UnitTextValue) (table : Table) (n : ℕ)
+pub include-open : (source : Source) (q : Option SourceFile) (unit : UnitValue) (toks toks1 room : ℕ) (at : Pos) (h : Header) (s u : State) (k new : UnitTextValue) (table : Table) (n : ℕ)
     (r : Result (Unit {0}) PreFault) → 0 < room → toks1 ≡ toks
-    → IfSome q (λ file. (t : State) → t.table ≡ s.table → GivesFile (Ok n) (open_header (unit_context source ipath toks) file at h t) table t)
+    → IfSome q (λ file. (t : State) → t.table ≡ s.table → GivesFile (Ok n) (open_header (unit_context source unit toks) file at h t) table t)
     → IfSome (source_at table n) (λ inner. Gives (λ _. (u, new)) fault_of r
-    (put_after k (entered (file_items (unit_context source ipath toks1) (room - 1)) at inner (record s { table = table }))))
+    (put_after k (entered (file_items (unit_context source unit toks1) (room - 1)) at inner (record s { table = table }))))
     → IfSome q (λ file. Gives (λ _. (u, new)) fault_of r
-    (put_after k (included (unit_context source ipath toks) (inner_in (unit_context source ipath toks) room) file at h s)))
-include-open source None ipath toks toks1 room at h s u k new table n r some count g e = tt
-include-open source (Some file) ipath toks toks1 room at h s u k new table n r some count g e =
-    open-of (unit_context source ipath toks) room file at h s u k new table n r some (g s refl)
+    (put_after k (included (unit_context source unit toks) (inner_in (unit_context source unit toks) room) file at h s)))
+include-open source None unit toks toks1 room at h s u k new table n r some count g e = tt
+include-open source (Some file) unit toks toks1 room at h s u k new table n r some count g e =
+    open-of (unit_context source unit toks) room file at h s u k new table n r some (g s refl)
     (subst (λ (c : ℕ). IfSome (source_at table n) (λ inner. Gives (λ _. (u, new)) fault_of r
-    (put_after k (entered (file_items (unit_context source ipath c) (room - 1)) at inner (record s { table = table }))))) count e)
+    (put_after k (entered (file_items (unit_context source unit c) (room - 1)) at inner (record s { table = table }))))) count e)
 
 -- ---- a file that is entered and left
 
-module _ (ipath : List (List ℕ)) (toks room : ℕ) (table : Table) (n : ℕ) (at : Pos) (p0 p1 : Progress)
+module _ (unit : UnitValue) (toks room : ℕ) (table : Table) (n : ℕ) (at : Pos) (p0 p1 : Progress)
     (enters : p1 ≡ record p0 { text = noted_in p0.text (Entered at n (length p0.text.toks) ∷ []) }) where
   enter-of : (source : Source) (file : SourceFile) (x : Result (State × UnitTextValue) Fault)
-      → put_after p1.text (file_items (unit_context source ipath toks) room file (state_in table p1)) ≡ x
-      → put_after (noted_in p0.text (Entered at n (length p0.text.toks) ∷ [])) (file_items (unit_context source ipath toks) room file (state_in table p0)) ≡ x
+      → put_after p1.text (file_items (unit_context source unit toks) room file (state_in table p1)) ≡ x
+      → put_after (noted_in p0.text (Entered at n (length p0.text.toks) ∷ [])) (file_items (unit_context source unit toks) room file (state_in table p0)) ≡ x
   enter-of source file x h =
-      subst (λ (p : Progress). put_after p.text (file_items (unit_context source ipath toks) room file (state_in table p)) ≡ x) enters h
+      subst (λ (p : Progress). put_after p.text (file_items (unit_context source unit toks) room file (state_in table p)) ≡ x) enters h
 
   pub enter-done : (source : Source) (table2 : Table) (p2 p3 : Progress) → p3 ≡ record p2 { text = noted_in p2.text (Exited at n (length p2.text.toks) ∷ []) }
-      → IfSome (source_at table n) (λ file. put_after p1.text (file_items (unit_context source ipath toks) room file (state_in table p1)) ≡ Ok (state_in table2 p2, p2.text))
-      → IfSome (source_at table n) (λ file. put_after p0.text (entered (file_items (unit_context source ipath toks) room) at file (state_in table p0)) ≡ Ok (state_in table2 p3, p3.text))
+      → IfSome (source_at table n) (λ file. put_after p1.text (file_items (unit_context source unit toks) room file (state_in table p1)) ≡ Ok (state_in table2 p2, p2.text))
+      → IfSome (source_at table n) (λ file. put_after p0.text (entered (file_items (unit_context source unit toks) room) at file (state_in table p0)) ≡ Ok (state_in table2 p3, p3.text))
   enter-done source table2 p2 p3 leaves h =
-      some_at (source_at table n) (λ file. put_after p1.text (file_items (unit_context source ipath toks) room file (state_in table p1)) ≡ Ok (state_in table2 p2, p2.text))
-      (λ file. put_after p0.text (entered (file_items (unit_context source ipath toks) room) at file (state_in table p0)) ≡ Ok (state_in table2 p3, p3.text)) h
-      (λ file is e. entered-done (file_items (unit_context source ipath toks) room) at file n (state_in table p0) (state_in table2 p2) p0.text p2.text (source-number table n file is)
+      some_at (source_at table n) (λ file. put_after p1.text (file_items (unit_context source unit toks) room file (state_in table p1)) ≡ Ok (state_in table2 p2, p2.text))
+      (λ file. put_after p0.text (entered (file_items (unit_context source unit toks) room) at file (state_in table p0)) ≡ Ok (state_in table2 p3, p3.text)) h
+      (λ file is e. entered-done (file_items (unit_context source unit toks) room) at file n (state_in table p0) (state_in table2 p2) p0.text p2.text (source-number table n file is)
       (enter-of source file (Ok (state_in table2 p2, p2.text)) e) ∙ ap (λ (p : Progress). Ok (state_in table2 p, p.text)) (sym leaves))
 
   pub enter-fault : (source : Source) (found : Option Fault)
-      → IfSome (source_at table n) (λ file. IfSome found (λ f. put_after p1.text (file_items (unit_context source ipath toks) room file (state_in table p1)) ≡ Err f))
-      → IfSome (source_at table n) (λ file. IfSome found (λ f. put_after p0.text (entered (file_items (unit_context source ipath toks) room) at file (state_in table p0)) ≡ Err f))
+      → IfSome (source_at table n) (λ file. IfSome found (λ f. put_after p1.text (file_items (unit_context source unit toks) room file (state_in table p1)) ≡ Err f))
+      → IfSome (source_at table n) (λ file. IfSome found (λ f. put_after p0.text (entered (file_items (unit_context source unit toks) room) at file (state_in table p0)) ≡ Err f))
   enter-fault source found h =
-      some_at (source_at table n) (λ file. IfSome found (λ f. put_after p1.text (file_items (unit_context source ipath toks) room file (state_in table p1)) ≡ Err f))
-      (λ file. IfSome found (λ f. put_after p0.text (entered (file_items (unit_context source ipath toks) room) at file (state_in table p0)) ≡ Err f)) h
-      (λ file is e. fault_on found (put_after p1.text (file_items (unit_context source ipath toks) room file (state_in table p1)))
-      (put_after p0.text (entered (file_items (unit_context source ipath toks) room) at file (state_in table p0))) e
-      (λ f same. entered-fault (file_items (unit_context source ipath toks) room) at file n (state_in table p0) p0.text f (source-number table n file is) (enter-of source file (Err f) same)))
+      some_at (source_at table n) (λ file. IfSome found (λ f. put_after p1.text (file_items (unit_context source unit toks) room file (state_in table p1)) ≡ Err f))
+      (λ file. IfSome found (λ f. put_after p0.text (entered (file_items (unit_context source unit toks) room) at file (state_in table p0)) ≡ Err f)) h
+      (λ file is e. fault_on found (put_after p1.text (file_items (unit_context source unit toks) room file (state_in table p1)))
+      (put_after p0.text (entered (file_items (unit_context source unit toks) room) at file (state_in table p0))) e
+      (λ f same. entered-fault (file_items (unit_context source unit toks) room) at file n (state_in table p0) p0.text f (source-number table n file is) (enter-of source file (Err f) same)))
 
 -- ---- the items of a file
 
-module _ (source : Source) (q : Option SourceFile) (ipath : List (List ℕ)) (toks room : ℕ) (start : State) (before : UnitTextValue) where
+module _ (source : Source) (q : Option SourceFile) (unit : UnitValue) (toks room : ℕ) (start : State) (before : UnitTextValue) where
   -- what the items of a file give all together, and from number k on
   abbrev pub all_of : SourceFile → Result (State × UnitTextValue) Fault
-  all_of file = put_after before (file_items (unit_context source ipath toks) room file start)
+  all_of file = put_after before (file_items (unit_context source unit toks) room file start)
 
   abbrev pub rest_of : SourceFile → ℕ → List Section → State → UnitTextValue → Result (State × UnitTextValue) Fault
   rest_of file k sections s text =
-      put_after text (walk (unit_context source ipath toks) (inner_in (unit_context source ipath toks) room) file k (drop k (items_in file)) sections s)
+      put_after text (walk (unit_context source unit toks) (inner_in (unit_context source unit toks) room) file k (drop k (items_in file)) sections s)
 
   abbrev pub item_of : SourceFile → ℕ → ℕ → ItemText → List Section → State → UnitTextValue → Result (List Section × State × UnitTextValue) Fault
   item_of file count k i sections s text =
-      stepped_after text (item_step (unit_context source ipath count) (inner_in (unit_context source ipath count) room) file k i sections s)
+      stepped_after text (item_step (unit_context source unit count) (inner_in (unit_context source unit count) room) file k i sections s)
 
   pub walk-starts : (sections : List Section) → sections ≡ [] → IfSome q (λ file. all_of file ≡ rest_of file 0 sections start before)
   walk-starts sections none =
       some_all q (λ file. all_of file ≡ rest_of file 0 sections start before)
-      (λ file. ap (put_after before) (items-walk (unit_context source ipath toks) room file start)
+      (λ file. ap (put_after before) (items-walk (unit_context source unit toks) room file start)
       ∙ ap (λ (xs : List Section). rest_of file 0 xs start before) (sym none))
 
   module _ (q1 : Option SourceFile) (toks1 n k : ℕ) (sections : List Section) (s : State) (text : UnitTextValue)
@@ -176,7 +177,7 @@ module _ (source : Source) (q : Option SourceFile) (ipath : List (List ℕ)) (to
         (λ file. IfSome (slice_get (items_in file) k) (λ i. item_of file toks k i sections s text ≡ Ok (more, t, new)))
         (λ file. all_of file ≡ rest_of file (k + 1) more t new) rest count
         (item-here (λ (x : Result (List Section × State × UnitTextValue) Fault). x ≡ Ok (more, t, new)) h)
-        (λ file x c y. x ∙ some-more (unit_context source ipath toks) (inner_in (unit_context source ipath toks) room) file k (items_in file) sections s text more t new (omega (arith, c, within)) y)
+        (λ file x c y. x ∙ some-more (unit_context source unit toks) (inner_in (unit_context source unit toks) room) file k (items_in file) sections s text more t new (omega (arith, c, within)) y)
 
     pub walk-faulted : (found : Option Fault)
         → IfSome q1 (λ file. IfSome (slice_get (items_in file) k) (λ i. IfSome found (λ f. item_of file toks1 k i sections s text ≡ Err f)))
@@ -187,7 +188,7 @@ module _ (source : Source) (q : Option SourceFile) (ipath : List (List ℕ)) (to
         (λ file. IfSome found (λ f. all_of file ≡ Err f)) rest count
         (item-here (λ (x : Result (List Section × State × UnitTextValue) Fault). IfSome found (λ f. x ≡ Err f)) h)
         (λ file x c y. fault_on found (rest_of file k sections s text) (all_of file)
-        (some-fault (unit_context source ipath toks) (inner_in (unit_context source ipath toks) room) file k (items_in file) sections s text found (omega (arith, c, within)) y)
+        (some-fault (unit_context source unit toks) (inner_in (unit_context source unit toks) room) file k (items_in file) sections s text found (omega (arith, c, within)) y)
         (λ f is. x ∙ is))
 
   pub walk-ends : (q1 : Option SourceFile) (n k : ℕ) (sections : List Section) (s : State) (text : UnitTextValue) (r : Result (Unit {0}) PreFault) → q1 ≡ q
@@ -200,4 +201,4 @@ module _ (source : Source) (q : Option SourceFile) (ipath : List (List ℕ)) (to
       (λ file. (t : State) (x : UnitTextValue) → Gives (λ _. (t, x)) fault_of r (put_after x (file_end file sections t))) (λ file. Gives (λ _. (s, text)) fault_of r (all_of file)) rest count
       (subst (λ (x : Option SourceFile). IfSome x (λ file. (t : State) (y : UnitTextValue) → Gives (λ _. (t, y)) fault_of r (put_after y (file_end file sections t)))) same end)
       (λ file x c y. gives-along r s text (put_after text (file_end file sections s)) (all_of file)
-      (x ∙ walk-end (unit_context source ipath toks) (inner_in (unit_context source ipath toks) room) file k (items_in file) sections s text (omega (arith, c, past))) (y s text))
+      (x ∙ walk-end (unit_context source unit toks) (inner_in (unit_context source unit toks) room) file k (items_in file) sections s text (omega (arith, c, past))) (y s text))

@@ -8,10 +8,9 @@ use Rattle.unit_steps.specs.State.{Context, context, State, did, Outcome}
 use Rattle.source_files.specs.Answers.{fault_of}
 use Rattle.source_files.specs.Sources.{source_at}
 
--- What stays the same in a unit over this source, with these include directories, behind so many tokens of
--- other units.
-abbrev pub unit_context : Source → List (List ℕ) → ℕ → Context
-unit_context source ipath earlier = context source file_text ipath the_limits earlier
+-- What stays the same in this unit over this source, behind so many tokens of other units.
+abbrev pub unit_context : Source → UnitValue → ℕ → Context
+unit_context source unit earlier = context source file_text unit the_limits earlier
 
 -- A step opened a file: its number is told, and it is kept; or the fault of the step, which yields to want of
 -- memory and a failed read.

@@ -22,7 +22,7 @@ open_found ctx file at s found = open_searched ctx file at s found found.path
 
 abbrev pub open_header : Context → SourceFile → Pos → Header → State → Outcome SourceFile
 open_header ctx file at h s =
-    open_found ctx file at s (search ctx.source (candidates_of h file.path ctx.ipath) s.table)
+    open_found ctx file at s (search ctx.source (candidates_of h file.path ctx.unit) s.table)
 
 -- What the items of a file give. None where no further file may be open.
 abbrev pub Process : Type 0

@@ -48,5 +48,5 @@ pub record UnitEnds (ctx : Context) (before : Table) (toks : ℕ) (t : State) : 
 abbrev pub UnitsEnd : Type 0
 UnitsEnd = (limits : Limits) (reader : Reader) (source : Source) (number : ℕ) (unit : UnitValue) (before : Carried)
     → found_at (defines_path number) before.table ≡ None
-    → IfDone (λ toks t. UnitEnds (context source reader unit.ipath limits before.toks) before.table (length toks) t)
+    → IfDone (λ toks t. UnitEnds (context source reader unit limits before.toks) before.table (length toks) t)
     (unit_outcome limits reader source number unit before)

@@ -1,7 +1,7 @@
 -- A translation unit, preprocessed (ISO/IEC 9899:1999, 5.1.1.2 phase 4).
 use Rattle.std.specs.Prelude.{ℕ, ◌-◌, List, [], ◌++◌}
 use Rattle.cs_base.specs.Token.{Token}
-use Rattle.cs_base.specs.Units.{UnitValue, defines_text}
+use Rattle.cs_base.specs.Units.{UnitValue, defines_of}
 use Rattle.unit_steps.specs.Below.macro_body.Defining.{first_macros}
 use Rattle.source_files.specs.Limits.{Limits}
 use Rattle.source_files.specs.Files.{Source, Made, Table, Carried, defines_path, numbered, asked}
@@ -14,7 +14,7 @@ use Rattle.include_tree.specs.Walk.{file_items}
 -- The state at the beginning of a unit (6.10.8). The pseudo file of its settings gets a number.
 abbrev pub first_state : Limits → ℕ → UnitValue → Table → State
 first_state limits number unit table = record {
-  table = numbered (defines_path number) (Made (defines_text unit.standard unit.settings)) table;
+  table = numbered (defines_path number) (Made (defines_of unit)) table;
   macros = first_macros;
   work = limits.work;
   names = [];
@@ -38,5 +38,5 @@ both_files ctx defines path s =
 -- unit `number`, with what is carried from the units before
 abbrev pub unit_outcome : Limits → Reader → Source → ℕ → UnitValue → Carried → Outcome (List Token)
 unit_outcome limits reader source number unit before =
-    both_files (context source reader unit.ipath limits before.toks) (defines_path number) unit.path
+    both_files (context source reader unit limits before.toks) (defines_path number) unit.path
     (first_state limits number unit before.table)

@@ -13,7 +13,7 @@ ghost use Rattle.source_files.specs.Sources.{source_kept, source_at, GivesOpenin
 ghost use Rattle.include_tree.specs.GivenFiles.{unit_context, GivesFile};
 
 use crate::item_toks::source_of;
-use cs_base::{Cause, Files, Memory, Place, Pos, Text, Tok};
+use cs_base::{Cause, Files, Memory, Place, Pos, Text, Tok, Unit};
 use source_files::{
     Cache, Header, KeptFile, PreFault, candidates_of, fault_there, header_in, header_of_toks,
     is_header, open_file, search,
@@ -32,18 +32,18 @@ struct Asked {
 fn asked_by(
     alloc: Global,
     file: &KeptFile,
-    ipath: &[Text],
+    unit: &Unit,
     at: Pos,
     header: &Header,
 ) -> Result<Asked, Memory>
     ensures can { IfOk result (λ a. list_all can_be_asked a.paths.items ≡ true) }
-    ensures paths { IfOk result (λ a. IfSome (source_kept file.now) (λ source. a.paths.items ≡ candidates_of header.now source.path ipath.now)) }
+    ensures paths { IfOk result (λ a. IfSome (source_kept file.now) (λ source. a.paths.items ≡ candidates_of header.now source.path unit.now)) }
     ensures place { IfOk result (λ a. IfSome (source_kept file.now) (λ source. a.place ≡ place_in source at)) }
 {
     let source = source_of(file);
     let (line, column) = source.line_column(at);
     Ok(Asked {
-        paths: candidates_of(alloc, header, source.path, ipath)?,
+        paths: candidates_of(alloc, header, source.path, unit)?,
         place: Place {
             path: Text::new(alloc, source.path)?,
             line,
@@ -56,18 +56,18 @@ fn asked_by(
 fn asked_in(
     alloc: Global,
     cache: &Cache,
-    ipath: &[Text],
+    unit: &Unit,
     number: u32,
     at: Pos,
     header: &Header,
 ) -> Result<Asked, Memory>
     requires kept { IsSome (source_at cache.now.table number) }
     ensures can { IfOk result (λ a. list_all can_be_asked a.paths.items ≡ true) }
-    ensures paths { IfOk result (λ a. IfSome (source_at cache.now.table number) (λ source. a.paths.items ≡ candidates_of header.now source.path ipath.now)) }
+    ensures paths { IfOk result (λ a. IfSome (source_at cache.now.table number) (λ source. a.paths.items ≡ candidates_of header.now source.path unit.now)) }
     ensures place { IfOk result (λ a. IfSome (source_at cache.now.table number) (λ source. a.place ≡ place_in source at)) }
 {
     match cache.file(number) {
-        Some(file) => asked_by(alloc, file, ipath, at, header),
+        Some(file) => asked_by(alloc, file, unit, at, header),
         None => unreachable!(),
     }
 }
@@ -99,19 +99,19 @@ pub(crate) fn open_header<F: Files>(
     alloc: Global,
     cache: &mut Cache,
     files: &mut F,
-    ipath: &[Text],
+    unit: &Unit,
     number: u32,
     at: Pos,
     header: &Header,
 ) -> Result<u32, PreFault>
     requires kept { IsSome (source_at cache.old.table number) }
     ensures answer { (source : Source) → AreFound source cache.new.table → IfSome (source_at cache.old.table number) (λ file. (s : State) → s.table ≡ cache.old.table →
-        GivesFile result (open_header (unit_context source ipath.now cache.old.toks) file at header.now s) cache.new.table s) }
+        GivesFile result (open_header (unit_context source unit.now cache.old.toks) file at header.now s) cache.new.table s) }
     ensures there { IfOk result (λ n. IsSome (source_at cache.new.table n)) }
     ensures reads { ReadsOn (F.told files.old).held cache.old cache.new }
     ensures faults { ReadsOnly (F.told files.old) (F.told files.new) (reads_of result) }
 {
-    match asked_in(alloc, cache, ipath, number, at, header) {
+    match asked_in(alloc, cache, unit, number, at, header) {
         Ok(asked) => open_asked(alloc, cache, files, &asked),
         Err(_) => Err(PreFault::Memory),
     }

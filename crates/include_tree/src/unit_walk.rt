@@ -1,7 +1,7 @@
 // A unit, preprocessed (5.1.1.2 phase 4).
 ghost use Rattle.std.specs.Prelude.{◌≡◌, None, true, IfOk, IfErr, IsSome, OnErr};
 ghost use Rattle.cs_base.specs.Answer.{Gives};
-ghost use Rattle.cs_base.specs.Units.{defines_text};
+ghost use Rattle.cs_base.specs.Units.{defines_of};
 ghost use Rattle.source_files.specs.Below.lexer.FileText.{file_text};
 ghost use Rattle.cs_base.specs.Outside.{ReadsOnly};
 ghost use Rattle.source_files.specs.Limits.{the_limits};
@@ -31,7 +31,7 @@ const MOST_INSIDE: u32 = 199;
 // The number of the pseudo file of the unit, which is made unless its path was met.
 fn make_defines(alloc: Global, cache: &mut Cache, unit: &Unit, number: u32) -> Result<u32, PreFault>
     ensures answer { found_at (defines_path number) cache.old.table ≡ None → GivesOpening result (opening the_limits file_text (first_place (defines_path number)) (defines_path number)
-        (numbered (defines_path number) (Made (defines_text unit.now.standard unit.now.settings)) cache.old.table)) cache.new.table }
+        (numbered (defines_path number) (Made (defines_of unit.now)) cache.old.table)) cache.new.table }
     ensures there { IfOk result (λ n. IsSome (source_at cache.new.table n)) }
     ensures keeps { Keeps cache.old cache.new }
     ensures no_read { IfErr result IsNoReadFault }
@@ -41,7 +41,7 @@ fn make_defines(alloc: Global, cache: &mut Cache, unit: &Unit, number: u32) -> R
         let place = first_place(alloc, &path)?;
         return open_file(alloc, cache, &path, &place);
     }
-    let text = defines_text(alloc, unit.standard(), unit.settings())?;
+    let text = defines_text(alloc, unit)?;
     cache.make(alloc, &path, text)
 }
 
@@ -56,14 +56,14 @@ fn walk_defines<F: Files>(
 ) -> Result<(), PreFault>
     requires ready { IsReady p.old (unit_most cache.old.toks) }
     ensures answer { found_at (defines_path number) cache.old.table ≡ None → (source : Source) → AreFound source cache.new.table →
-        Gives (λ _. (state_in cache.new.table p.new, p.new.text)) fault_of result (put_after p.old.text (outer_file (unit_context source unit.now.ipath cache.old.toks) (defines_path number)
-        (state_in (numbered (defines_path number) (Made (defines_text unit.now.standard unit.now.settings)) cache.old.table) p.old))) }
+        Gives (λ _. (state_in cache.new.table p.new, p.new.text)) fault_of result (put_after p.old.text (outer_file (unit_context source unit.now cache.old.toks) (defines_path number)
+        (state_in (numbered (defines_path number) (Made (defines_of unit.now)) cache.old.table) p.old))) }
     ensures goes_on { GoesOn p.old p.new result }
     ensures reads { ReadsOn (F.told files.old).held cache.old cache.new }
     ensures faults { ReadsOnly (F.told files.old) (F.told files.new) (reads_of result) }
 {
     match make_defines(alloc, cache, unit, number) {
-        Ok(defines) => walk_file(alloc, cache, files, p, unit.ipath(), defines, MOST_INSIDE),
+        Ok(defines) => walk_file(alloc, cache, files, p, unit, defines, MOST_INSIDE),
         Err(fault) => Err(fault),
     }
 }
@@ -101,13 +101,13 @@ fn walk_main<F: Files>(
 ) -> Result<(), PreFault>
     requires ready { IsReady p.old (unit_most cache.old.toks) }
     ensures answer { (source : Source) → AreFound source cache.new.table → Gives (λ _. (state_in cache.new.table p.new, p.new.text)) fault_of result
-        (put_after p.old.text (main_file (unit_context source unit.now.ipath cache.old.toks) unit.now.path (state_in cache.old.table p.old))) }
+        (put_after p.old.text (main_file (unit_context source unit.now cache.old.toks) unit.now.path (state_in cache.old.table p.old))) }
     ensures goes_on { GoesOn p.old p.new result }
     ensures reads { ReadsOn (F.told files.old).held cache.old cache.new }
     ensures faults { ReadsOnly (F.told files.old) (F.told files.new) (reads_of result) }
 {
     match open_main(alloc, cache, files, unit.path().bytes()) {
-        Ok(main) => walk_file(alloc, cache, files, p, unit.ipath(), main, MOST_INSIDE),
+        Ok(main) => walk_file(alloc, cache, files, p, unit, main, MOST_INSIDE),
         Err(fault) => Err(fault),
     }
 }

@@ -21,7 +21,7 @@ use crate::including::open_header;
 use crate::item_steps::{IncludeLine, item_step};
 use crate::item_toks::{item_at, source_of};
 use crate::sections::Sections;
-use cs_base::{Cause, Files, Memory, Pos, Text};
+use cs_base::{Cause, Files, Memory, Pos, Unit};
 use source_files::{Cache, Header, KeptFile, PreFault};
 use std::alloc::Global;
 use unit_steps::Progress;
@@ -98,7 +98,7 @@ pub(crate) fn walk_file<F: Files>(
     cache: &mut Cache,
     files: &mut F,
     p: &mut Progress,
-    ipath: &[Text],
+    unit: &Unit,
     number: u32,
     room: u32,
 ) -> Result<(), PreFault>
@@ -106,7 +106,7 @@ pub(crate) fn walk_file<F: Files>(
     requires ready { IsReady p.old (unit_most cache.old.toks) }
     ensures answer { (source : Source) → AreFound source cache.new.table → IfSome (source_at cache.old.table number) (λ file.
         Gives (λ _. (state_in cache.new.table p.new, p.new.text)) fault_of result
-        (put_after p.old.text (file_items (unit_context source ipath.now cache.old.toks) room file (state_in cache.old.table p.old)))) }
+        (put_after p.old.text (file_items (unit_context source unit.now cache.old.toks) room file (state_in cache.old.table p.old)))) }
     ensures goes_on { GoesOn p.old p.new result }
     ensures reads { ReadsOn (F.told files.old).held cache.old cache.new }
     ensures faults { ReadsOnly (F.told files.old) (F.told files.new) (reads_of result) }
@@ -114,17 +114,7 @@ pub(crate) fn walk_file<F: Files>(
     let mut sections = Sections::new(alloc);
     let count = item_count(cache, number)?;
     for k in 0..count {
-        match walk_item(
-            alloc,
-            cache,
-            files,
-            p,
-            ipath,
-            number,
-            room,
-            k,
-            &mut sections,
-        ) {
+        match walk_item(alloc, cache, files, p, unit, number, room, k, &mut sections) {
             Ok(()) => {}
             Err(fault) => return Err(fault),
         }
@@ -139,7 +129,7 @@ fn walk_item<F: Files>(
     cache: &mut Cache,
     files: &mut F,
     p: &mut Progress,
-    ipath: &[Text],
+    unit: &Unit,
     number: u32,
     room: u32,
     k: u32,
@@ -149,7 +139,7 @@ fn walk_item<F: Files>(
     requires ready { IsReady p.old (unit_most cache.old.toks) }
     ensures answer { (source : Source) → AreFound source cache.new.table → IfSome (source_at cache.old.table number) (λ file. IfSome (slice_get (items_in file) k) (λ i.
         Gives (λ _. (sections.new, state_in cache.new.table p.new, p.new.text)) fault_of result
-        (stepped_after p.old.text (item_step (unit_context source ipath.now cache.old.toks) (inner_in (unit_context source ipath.now cache.old.toks) room) file k i sections.old (state_in cache.old.table p.old))))) }
+        (stepped_after p.old.text (item_step (unit_context source unit.now cache.old.toks) (inner_in (unit_context source unit.now cache.old.toks) room) file k i sections.old (state_in cache.old.table p.old))))) }
     ensures goes_on { GoesOn p.old p.new result }
     ensures reads { ReadsOn (F.told files.old).held cache.old cache.new }
     ensures faults { ReadsOnly (F.told files.old) (F.told files.new) (reads_of result) }
@@ -160,7 +150,7 @@ fn walk_item<F: Files>(
             cache,
             files,
             p,
-            ipath,
+            unit,
             number,
             room,
             line.at,
@@ -178,7 +168,7 @@ fn include_file<F: Files>(
     cache: &mut Cache,
     files: &mut F,
     p: &mut Progress,
-    ipath: &[Text],
+    unit: &Unit,
     number: u32,
     room: u32,
     at: Pos,
@@ -188,7 +178,7 @@ fn include_file<F: Files>(
     requires ready { IsReady p.old (unit_most cache.old.toks) }
     ensures answer { (source : Source) → AreFound source cache.new.table → IfSome (source_at cache.old.table number) (λ file.
         Gives (λ _. (state_in cache.new.table p.new, p.new.text)) fault_of result
-        (put_after p.old.text (included (unit_context source ipath.now cache.old.toks) (inner_in (unit_context source ipath.now cache.old.toks) room) file at header.now (state_in cache.old.table p.old)))) }
+        (put_after p.old.text (included (unit_context source unit.now cache.old.toks) (inner_in (unit_context source unit.now cache.old.toks) room) file at header.now (state_in cache.old.table p.old)))) }
     ensures goes_on { GoesOn p.old p.new result }
     ensures reads { ReadsOn (F.told files.old).held cache.old cache.new }
     ensures faults { ReadsOnly (F.told files.old) (F.told files.new) (reads_of result) }
@@ -196,8 +186,8 @@ fn include_file<F: Files>(
     if room == 0 {
         return Err(fault_in(alloc, cache, number, at, Cause::IncludeDepth));
     }
-    match open_header(alloc, cache, files, ipath, number, at, header) {
-        Ok(inner) => enter_file(alloc, cache, files, p, ipath, inner, room - 1, at),
+    match open_header(alloc, cache, files, unit, number, at, header) {
+        Ok(inner) => enter_file(alloc, cache, files, p, unit, inner, room - 1, at),
         Err(fault) => Err(fault),
     }
 }
@@ -209,7 +199,7 @@ fn enter_file<F: Files>(
     cache: &mut Cache,
     files: &mut F,
     p: &mut Progress,
-    ipath: &[Text],
+    unit: &Unit,
     number: u32,
     room: u32,
     at: Pos,
@@ -218,13 +208,13 @@ fn enter_file<F: Files>(
     requires ready { IsReady p.old (unit_most cache.old.toks) }
     ensures answer { (source : Source) → AreFound source cache.new.table → IfSome (source_at cache.old.table number) (λ file.
         Gives (λ _. (state_in cache.new.table p.new, p.new.text)) fault_of result
-        (put_after p.old.text (entered (file_items (unit_context source ipath.now cache.old.toks) room) at file (state_in cache.old.table p.old)))) }
+        (put_after p.old.text (entered (file_items (unit_context source unit.now cache.old.toks) room) at file (state_in cache.old.table p.old)))) }
     ensures goes_on { GoesOn p.old p.new result }
     ensures reads { ReadsOn (F.told files.old).held cache.old cache.new }
     ensures faults { ReadsOnly (F.told files.old) (F.told files.new) (reads_of result) }
 {
     p.enter(at, number)?;
-    match walk_file(alloc, cache, files, p, ipath, number, room) {
+    match walk_file(alloc, cache, files, p, unit, number, room) {
         Ok(()) => {}
         Err(fault) => return Err(fault),
     }

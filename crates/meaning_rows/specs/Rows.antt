@@ -57,7 +57,7 @@ row_limits = record the_limits { work = 100 }
 -- the unit of the row, preprocessed within them
 abbrev pub row_unit : Row → Result Preprocessed Fault
 row_unit r =
-    preprocessed_by 0 (unit_outcome row_limits file_text (source_of ((codes "a.c", r.bytes) ∷ [])) 1 (unit (codes "rows") (codes "a.c") [] [] C99) nothing_carried)
+    preprocessed_by 0 (unit_outcome row_limits file_text (source_of ((codes "a.c", r.bytes) ∷ [])) 1 (unit (codes "rows") (codes "a.c") [] [] [] [] C99) nothing_carried)
 
 -- It has the tokens of the row, and its file the number 2.
 pub record IsPreprocessed (r : Row) : Type 0 where

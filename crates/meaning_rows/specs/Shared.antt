@@ -64,7 +64,7 @@ pub record AreOf (r : TwoUnits) (a : AnalysisValue) : Type 0 where
 -- a unit of the file with these settings, preprocessed within the limits of rows
 abbrev unit_with : TwoUnits → ℕ → List Setting → Carried → Result Preprocessed Fault
 unit_with r number settings before =
-    preprocessed_by 0 (unit_outcome row_limits file_text (source_of ((codes "a.c", r.bytes) ∷ [])) number (unit (codes "rows") (codes "a.c") [] settings C99) before)
+    preprocessed_by 0 (unit_outcome row_limits file_text (source_of ((codes "a.c", r.bytes) ∷ [])) number (unit (codes "rows") (codes "a.c") [] [] settings [] C99) before)
 
 abbrev tokens_of : Result Preprocessed Fault → Result Tokens Fault
 tokens_of m = result_then (λ (p : Preprocessed). Ok (tokens p.text.toks p.text.pasted)) m

@@ -8,7 +8,7 @@ use Rattle.std.proofs.lemmas.List.Elements.{All-head, All-tail}
 use Rattle.std.proofs.lemmas.Option.{same_Some}
 use Rattle.cs_base.proofs.FileMapLemmas.{bytes_eq-equal}
 use Rattle.cs_base.specs.Token.{Token}
-use Rattle.cs_base.specs.Units.{UnitValue, IsUnit, defines_text}
+use Rattle.cs_base.specs.Units.{UnitValue, IsUnit, defines_of}
 use Rattle.lexer.specs.FileText.{file_text}
 use Rattle.ws_file.specs.Workspace.{WorkspaceValue, IsWorkspace}
 use Rattle.source_files.specs.Faults.{Fault, first_place}
@@ -44,10 +44,10 @@ AllPaths K [] = Unit {0}
 AllPaths K (unit ∷ units) = K unit.path × AllPaths K units
 
 module _ (source : Source) (J : Table → Type 0) (K : List ℕ → Type 0) (rules : TableRules source J K) where
-  outer_stays : (reader : Reader) (ipath : List (List ℕ)) (limits : Limits) (earlier : ℕ) (path : List ℕ) (s : State) → J s.table
-      → IfDone (Stays {A = List Token} J) (outer_file (context source reader ipath limits earlier) path s)
-  outer_stays reader ipath limits earlier path s h =
-      let ctx : Context = context source reader ipath limits earlier in
+  outer_stays : (reader : Reader) (unit : UnitValue) (limits : Limits) (earlier : ℕ) (path : List ℕ) (s : State) → J s.table
+      → IfDone (Stays {A = List Token} J) (outer_file (context source reader unit limits earlier) path s)
+  outer_stays reader unit limits earlier path s h =
+      let ctx : Context = context source reader unit limits earlier in
       onward_done (Stays {A = SourceFile} J) (Stays {A = List Token} J) (open_file ctx (first_place path) path s) (file_items ctx (ctx.limits.open_files - 1))
       (open_file_stays ctx J rules.stable (first_place path) path s h)
       (λ f t g. files_stay ctx J rules.stable (ctx.limits.open_files - 1) f t g)
@@ -55,12 +55,12 @@ module _ (source : Source) (J : Table → Type 0) (K : List ℕ → Type 0) (rul
   unit_stays : (limits : Limits) (reader : Reader) (number : ℕ) (unit : UnitValue) (before : Carried) → K unit.path → J before.table
       → IfDone (Stays {A = List Token} J) (unit_outcome limits reader source number unit before)
   unit_stays limits reader number unit before own h =
-      let ctx : Context = context source reader unit.ipath limits before.toks in
+      let ctx : Context = context source reader unit limits before.toks in
       let s : State = first_state limits number unit before.table in
-      let first = rules.made before.table (defines_path number) (defines_text unit.standard unit.settings) h in
-      onward_done (Stays {A = List Token} J) (Stays {A = List Token} J) (outer_file ctx (defines_path number) s) _ (outer_stays reader unit.ipath limits before.toks (defines_path number) s first)
+      let first = rules.made before.table (defines_path number) (defines_of unit) h in
+      onward_done (Stays {A = List Token} J) (Stays {A = List Token} J) (outer_file ctx (defines_path number) s) _ (outer_stays reader unit limits before.toks (defines_path number) s first)
       (λ toks t g. onward_done (Stays {A = List Token} J) (Stays {A = List Token} J) (main_file ctx unit.path t) _
-      (outer_stays reader unit.ipath limits before.toks unit.path (record t { table = asked source unit.path t.table }) (rules.main t.table unit.path own g)) (λ more u f. f))
+      (outer_stays reader unit limits before.toks unit.path (record t { table = asked source unit.path t.table }) (rules.main t.table unit.path own g)) (λ more u f. f))
 
   after_by : (before : Carried) (o : Outcome (List Token)) (p : Preprocessed) → IfDone (Stays {A = List Token} J) o → preprocessed_by before.toks o ≡ Ok p → J p.after.table
   after_by before (Ok d) p h e =

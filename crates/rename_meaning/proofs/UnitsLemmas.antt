@@ -7,7 +7,7 @@ use Rattle.std.proofs.lemmas.Option.{same_Some}
 use Rattle.cs_base.specs.declared.ws_units.Standard.{Standard}
 use Rattle.cs_base.specs.Answer.{result_then, result_map_err}
 use Rattle.cs_base.specs.Token.{Token}
-use Rattle.cs_base.specs.Units.{UnitValue, defines_text}
+use Rattle.cs_base.specs.Units.{UnitValue, defines_of}
 use Rattle.lexer.specs.FileText.{file_text}
 use Rattle.std.specs.Fmt.{decimal}
 use Rattle.cs_base.specs.declared.positions.Pos.{Pos}
@@ -88,9 +88,9 @@ unit_grown : (limits : Limits) (reader : Reader) (source : Source) (number : ℕ
     → IfDone (Stays {A = List Token} (IsGrown before.table)) (unit_outcome limits reader source number unit before)
 unit_grown limits reader source number unit before =
     let J : Table → Type 0 = IsGrown before.table in
-    let ctx : Context = context source reader unit.ipath limits before.toks in
+    let ctx : Context = context source reader unit limits before.toks in
     let s : State = first_state limits number unit before.table in
-    let first = grown_push before.table (defines_path number) (Made (defines_text unit.standard unit.settings)) in
+    let first = grown_push before.table (defines_path number) (Made (defines_of unit)) in
     onward_done (Stays {A = List Token} J) (Stays {A = List Token} J) (outer_file ctx (defines_path number) s) _ (outer_grown before.table ctx (defines_path number) s first)
     (λ toks t g. onward_done (Stays {A = List Token} J) (Stays {A = List Token} J) (main_file ctx unit.path t) _ (main_grown before.table ctx unit.path t g)
     (λ more u f. f))

@@ -8,6 +8,7 @@ use Rattle.std.proofs.lemmas.List.Folds.{list_any_at}
 use Rattle.std.proofs.lemmas.Str.{IsUtf8-from_is_utf8}
 use Rattle.source_files.specs.Search.{Header, is_slash, or_root, directory_of, directories_for, can_be_asked, candidates_of}
 use Rattle.cs_base.specs.Paths.{joined_path_of}
+use Rattle.cs_base.specs.Units.{UnitValue}
 
 pub no_text : (path : List ℕ) → (IsUtf8 path → ⊥) → false ≡ is_utf8 path
 no_text path h = elim (cases_Bool (is_utf8 path)) [
@@ -44,5 +45,5 @@ list_all-filter p (path ∷ paths) = elim (cases_Bool (p path)) [
 ]
 
 -- the paths that are asked for can be asked for
-pub list_all-candidates : (h : Header) (path : List ℕ) (ipath : List (List ℕ)) → list_all can_be_asked (candidates_of h path ipath) ≡ true
-list_all-candidates h path ipath = list_all-filter can_be_asked (map (λ directory. joined_path_of directory h.name) (directories_for h path ipath))
+pub list_all-candidates : (h : Header) (path : List ℕ) (unit : UnitValue) → list_all can_be_asked (candidates_of h path unit) ≡ true
+list_all-candidates h path unit = list_all-filter can_be_asked (map (λ directory. joined_path_of directory h.name) (directories_for h path unit))

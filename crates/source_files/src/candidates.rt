@@ -5,7 +5,7 @@ ghost use Rattle.cs_base.specs.Paths.{is_absolute, joined_path_of};
 ghost use Rattle.source_files.specs.Search.{directory_of, or_root, can_be_asked, candidates_of};
 
 use crate::header::Header;
-use cs_base::{Memory, Text, normal_path};
+use cs_base::{Memory, Text, Unit, normal_path};
 use std::alloc::Global;
 use std::str;
 
@@ -111,19 +111,20 @@ fn add_candidates(
     Ok(())
 }
 
-// The paths that are asked for, in order.
+// The paths that are asked for by a file of this unit, in order.
 pub fn candidates_of(
     alloc: Global,
     header: &Header,
     path: &[u8],
-    ipath: &[Text],
+    unit: &Unit,
 ) -> Result<Vec<Text>, Memory>
-    ensures { IfOk result (λ all. all.items ≡ candidates_of header.now path.now ipath.now) }
+    ensures { IfOk result (λ all. all.items ≡ candidates_of header.now path.now unit.now) }
 {
     let mut all = Vec::new(alloc);
     if header.quoted() {
         add_candidate(alloc, &mut all, directory_of(path), header.name())?;
+        add_candidates(alloc, &mut all, unit.qpath(), header.name())?;
     }
-    add_candidates(alloc, &mut all, ipath, header.name())?;
+    add_candidates(alloc, &mut all, unit.ipath(), header.name())?;
     Ok(all)
 }

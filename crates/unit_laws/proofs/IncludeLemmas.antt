@@ -3,6 +3,7 @@ use Rattle.std.proofs.Common.{◌≡◌, ℕ, Bool, true, false, cond, List, [],
 use Rattle.cs_base.specs.declared.positions.Place.{Place}
 use Rattle.cs_base.specs.declared.positions.Pos.{Pos}
 use Rattle.cs_base.specs.Token.{Token}
+use Rattle.cs_base.specs.Units.{UnitValue}
 use Rattle.lexer.specs.FileText.{file_text}
 use Rattle.source_files.specs.Limits.{the_limits}
 use Rattle.source_files.specs.Faults.{place_in}
@@ -35,10 +36,10 @@ Any a = Unit {0}
 abbrev pub FileIs : Table → SourceFile → Type 0
 FileIs table file = source_at table file.number ≡ Some file
 
-module _ (P : Token → Type 0) (M : Note → Type 0) (table : Table) (rules : UnitRules P M table) (source : Source) (ipath : List (List ℕ)) (earlier : ℕ) where
+module _ (P : Token → Type 0) (M : Note → Type 0) (table : Table) (rules : UnitRules P M table) (source : Source) (unit : UnitValue) (earlier : ℕ) where
   -- what stays the same
   abbrev pub ctx : Context
-  ctx = context source file_text ipath the_limits earlier
+  ctx = context source file_text unit the_limits earlier
 
   with_table : (s : State) (t : Table) → StateHas P s → StateHas P (record s { table = t })
   with_table s t has = record { macros = has.macros; names = has.names }
@@ -68,8 +69,8 @@ module _ (P : Token → Type 0) (M : Note → Type 0) (table : Table) (rules : U
 
   header_done : (file : SourceFile) (at : Pos) (h : Header) (s : State) → Done P M table (Unit {0}) (FileIs table) s (open_header ctx file at h s)
   header_done file at h s =
-      let found : Searched = search source (candidates_of h file.path ipath) s.table in
-      searched_done file at s found found.path (search_wide source (candidates_of h file.path ipath) s.table).grown
+      let found : Searched = search source (candidates_of h file.path unit) s.table in
+      searched_done file at s found found.path (search_wide source (candidates_of h file.path unit) s.table).grown
 
   or_done : (pre : Type 0) (file : SourceFile) (at : Pos) (toks : List Token) (s : State) (o : Option Header) → (pre → AllToks P toks)
       → Done P M table pre (Any {A = Header}) s (header_or file at toks s o)

@@ -7,6 +7,7 @@ use Rattle.std.proofs.lemmas.Option.{none-some, same_Some}
 use Rattle.cs_base.specs.declared.causes.Cause.TheVariants as cause
 use Rattle.cs_base.specs.declared.positions.Pos.{Pos}
 use Rattle.cs_base.specs.Token.{Token}
+use Rattle.cs_base.specs.Units.{UnitValue}
 use Rattle.unit_steps.specs.Below.cond_eval.declared.faults.CondFault.{CondFault}
 use Rattle.unit_steps.specs.Below.cond_eval.Evaluation.{condition}
 use Rattle.line_shape.specs.Signs.{is_name}
@@ -338,7 +339,7 @@ module _ (w : World) where
   InnerGoes (Some process) (Some process2) = ProcessGoes process process2
   InnerGoes _ _ = ⊥
 
-  module _ (keeps : KeepsTexts w.edit w.old) (ipath : List (List ℕ)) (earlier : ℕ) where
+  module _ (keeps : KeepsTexts w.edit w.old) (unit : UnitValue) (earlier : ℕ) where
     entered_goes : (process process2 : Process) → ProcessGoes process process2 → (at : Pos) (file : SourceFile) (text : TextValue) → AreItemsAlike (items_in file) (text_items text)
         → (s : State) → IsEdited w.edit w.old s.table file text → Goes w itself Put s (entered process at file s) (entered process2 at (with_text file text) (edited_state w.edit s))
     entered_goes process process2 goes at file text items s edited =
@@ -348,20 +349,20 @@ module _ (w : World) where
         (λ a. refl) (λ b x y v. v) (λ t. refl) (λ t b. ((tt, tt), (tt, tt))) (goes file text items s edited))
 
     included_goes : (inner inner2 : Inner) → InnerGoes inner inner2 → (file : SourceFile) (text : TextValue) (at : Pos) (h : Header) (s : State)
-        → Goes w itself Put s (included (ctx w keeps ipath earlier) inner file at h s) (included (ctx2 w keeps ipath earlier) inner2 (with_text file text) at h (edited_state w.edit s))
+        → Goes w itself Put s (included (ctx w keeps unit earlier) inner file at h s) (included (ctx2 w keeps unit earlier) inner2 (with_text file text) at h (edited_state w.edit s))
     included_goes None None goes file text at h s = tt
     included_goes None (Some process2) goes file text at h s = tt
     included_goes (Some process) None goes file text at h s = absurd goes
     included_goes (Some process) (Some process2) goes file text at h s =
-        still_then w (FileGoes w) itself Put s (open_header (ctx w keeps ipath earlier) file at h s) (open_header (ctx2 w keeps ipath earlier) (with_text file text) at h (edited_state w.edit s))
-        (entered process at) (entered process2 at) (header_goes w keeps ipath earlier file text at h s)
+        still_then w (FileGoes w) itself Put s (open_header (ctx w keeps unit earlier) file at h s) (open_header (ctx2 w keeps unit earlier) (with_text file text) at h (edited_state w.edit s))
+        (entered process at) (entered process2 at) (header_goes w keeps unit earlier file text at h s)
         (λ f f2 t r. subst (λ (g : SourceFile). Goes w itself Put t (entered process at f t) (entered process2 at g (edited_state w.edit t))) (sym r.1)
         (entered_goes process process2 goes at f r.0 r.2 t r.3))
 
     pub include_goes : (inner inner2 : Inner) → InnerGoes inner inner2 → (file : SourceFile) (text : TextValue) (at : Pos) (toks : List Token) (s : State)
-        → Goes w itself Put s (include_of (ctx w keeps ipath earlier) inner file at toks s) (include_of (ctx2 w keeps ipath earlier) inner2 (with_text file text) at toks (edited_state w.edit s))
+        → Goes w itself Put s (include_of (ctx w keeps unit earlier) inner file at toks s) (include_of (ctx2 w keeps unit earlier) inner2 (with_text file text) at toks (edited_state w.edit s))
     include_goes inner inner2 goes file text at toks s =
         still_then w Same itself Put s (header_named file at (drop 2 toks) s) (header_named (with_text file text) at (drop 2 toks) (edited_state w.edit s))
-        (included (ctx w keeps ipath earlier) inner file at) (included (ctx2 w keeps ipath earlier) inner2 (with_text file text) at) (named_goes file text at (drop 2 toks) s)
-        (λ h h2 t r. subst (λ (x : Header). Goes w itself Put t (included (ctx w keeps ipath earlier) inner file at h t) (included (ctx2 w keeps ipath earlier) inner2 (with_text file text) at x (edited_state w.edit t))) (sym r)
+        (included (ctx w keeps unit earlier) inner file at) (included (ctx2 w keeps unit earlier) inner2 (with_text file text) at) (named_goes file text at (drop 2 toks) s)
+        (λ h h2 t r. subst (λ (x : Header). Goes w itself Put t (included (ctx w keeps unit earlier) inner file at h t) (included (ctx2 w keeps unit earlier) inner2 (with_text file text) at x (edited_state w.edit t))) (sym r)
         (included_goes inner inner2 goes file text at h t))

@@ -5,6 +5,7 @@ use Rattle.std.specs.Option.{option_map}
 use Rattle.cs_base.specs.declared.causes.Cause.TheVariants.{TooManyFiles, TooManyBytes}
 use Rattle.cs_base.specs.declared.positions.Place.{Place}
 use Rattle.cs_base.specs.declared.positions.Pos.{Pos}
+use Rattle.cs_base.specs.Units.{UnitValue}
 use Rattle.lexer.specs.FileText.{TextValue, LexFault, FileTooLarge, OpenComment, file_text}
 use Rattle.source_files.specs.Faults.{Fault, fault, place_in}
 use Rattle.source_files.specs.Files.{Found, Lines, Absent, Unopened, Opened, Made, entry, Table, SourceFile, source_file, number_of, found_at, opened, files_opened, bytes_opened}
@@ -178,12 +179,12 @@ opened_goes w place path s (Ok r) new is h = λ fits.
       quiet = λ b. (tt, tt);
     }
 
-module _ (w : World) (keeps : KeepsTexts w.edit w.old) (ipath : List (List ℕ)) (earlier : ℕ) where
+module _ (w : World) (keeps : KeepsTexts w.edit w.old) (unit : UnitValue) (earlier : ℕ) where
   abbrev pub ctx : Context
-  ctx = unit_context w.old ipath earlier
+  ctx = unit_context w.old unit earlier
 
   abbrev pub ctx2 : Context
-  ctx2 = unit_context w.new ipath earlier
+  ctx2 = unit_context w.new unit earlier
 
   pub open_goes : (place place2 : Place) (path : List ℕ) (s : State) → Still w (FileGoes w) s (open_file ctx place path s) (open_file ctx2 place2 path (edited_state w.edit s))
   open_goes place place2 path s =
@@ -213,7 +214,7 @@ module _ (w : World) (keeps : KeepsTexts w.edit w.old) (ipath : List (List ℕ))
   pub header_goes : (file : SourceFile) (text : TextValue) (at : Pos) (h : Header) (s : State)
       → Still w (FileGoes w) s (open_header ctx file at h s) (open_header ctx2 (with_text file text) at h (edited_state w.edit s))
   header_goes file text at h s =
-      let paths : List (List ℕ) = candidates_of h file.path ipath in
+      let paths : List (List ℕ) = candidates_of h file.path unit in
       let d : Searched = search w.old paths s.table in
       subst (λ (x : Searched). Still w (FileGoes w) s (open_searched ctx file at s d d.path) (open_searched ctx2 (with_text file text) at (edited_state w.edit s) x x.path))
       (sym (search_edited w.edit w.old w.new w.news paths s.table))

@@ -7,7 +7,7 @@ use Rattle.std.proofs.lemmas.Option.{none-some, same_Some}
 use Rattle.std.proofs.lemmas.Slice.Eq.{bytes_eq-Decides}
 use Rattle.std.proofs.lemmas.List.{map-append, nil_from_length, length-map}
 use Rattle.cs_base.specs.Token.{Token}
-use Rattle.cs_base.specs.Units.{UnitValue, defines_text}
+use Rattle.cs_base.specs.Units.{UnitValue, defines_of}
 use Rattle.macro_body.specs.declared.definitions.Form.TheVariants as form
 use Rattle.macro_body.specs.declared.definitions.Definition.{Definition}
 use Rattle.macro_body.specs.Defining.{line_macro, file_macro, first_macros}
@@ -39,14 +39,14 @@ use Rattle.unit_laws.proofs.ReorderedWalkLemmas.{goes_more, goes_map, files_go}
 abbrev room : ℕ
 room = the_limits.open_files - 1
 
-module _ (w : World) (runs : RunsToo w) (keeps : KeepsTexts w.edit w.old) (ipath : List (List ℕ)) (earlier : ℕ) where
-  outer_goes : (path : List ℕ) (s : State) → Goes w itself w.V s (outer_file (ctx w keeps ipath earlier) path s) (outer_file (ctx2 w keeps ipath earlier) path (edited_state w.edit s))
+module _ (w : World) (runs : RunsToo w) (keeps : KeepsTexts w.edit w.old) (unit : UnitValue) (earlier : ℕ) where
+  outer_goes : (path : List ℕ) (s : State) → Goes w itself w.V s (outer_file (ctx w keeps unit earlier) path s) (outer_file (ctx2 w keeps unit earlier) path (edited_state w.edit s))
   outer_goes path s =
-      still_then w (FileGoes w) itself w.V s (open_file (ctx w keeps ipath earlier) (first_place path) path s) (open_file (ctx2 w keeps ipath earlier) (first_place path) path (edited_state w.edit s))
-      (file_items (ctx w keeps ipath earlier) room) (file_items (ctx2 w keeps ipath earlier) room) (open_goes w keeps ipath earlier (first_place path) (first_place path) path s)
+      still_then w (FileGoes w) itself w.V s (open_file (ctx w keeps unit earlier) (first_place path) path s) (open_file (ctx2 w keeps unit earlier) (first_place path) path (edited_state w.edit s))
+      (file_items (ctx w keeps unit earlier) room) (file_items (ctx2 w keeps unit earlier) room) (open_goes w keeps unit earlier (first_place path) (first_place path) path s)
       (λ f f2 t r.
-      subst (λ (g : SourceFile). Goes w itself w.V t (file_items (ctx w keeps ipath earlier) room f t) (file_items (ctx2 w keeps ipath earlier) room g (edited_state w.edit t))) (sym r.1)
-      (files_go w runs keeps ipath earlier room f r.0 r.2 t r.3))
+      subst (λ (g : SourceFile). Goes w itself w.V t (file_items (ctx w keeps unit earlier) room f t) (file_items (ctx2 w keeps unit earlier) room g (edited_state w.edit t))) (sym r.1)
+      (files_go w runs keeps unit earlier room f r.0 r.2 t r.3))
 
   -- a step from another table
   table_goes : (s : State) (t : Table) (m new : Outcome (List Token)) → Widens w.old s.table t → Goes w itself w.V (record s { table = t }) m new → Goes w itself w.V s m new
@@ -63,18 +63,18 @@ module _ (w : World) (runs : RunsToo w) (keeps : KeepsTexts w.edit w.old) (ipath
         too = λ within. let x = k.too within in record { value = x.value; notes = x.notes; is = x.is; goes = x.goes };
       }
 
-  main_goes : (path : List ℕ) (s : State) → Goes w itself w.V s (main_file (ctx w keeps ipath earlier) path s) (main_file (ctx2 w keeps ipath earlier) path (edited_state w.edit s))
+  main_goes : (path : List ℕ) (s : State) → Goes w itself w.V s (main_file (ctx w keeps unit earlier) path s) (main_file (ctx2 w keeps unit earlier) path (edited_state w.edit s))
   main_goes path s =
-      subst (λ (t : Table). Goes w itself w.V s (main_file (ctx w keeps ipath earlier) path s) (outer_file (ctx2 w keeps ipath earlier) path (record (edited_state w.edit s) { table = t })))
+      subst (λ (t : Table). Goes w itself w.V s (main_file (ctx w keeps unit earlier) path s) (outer_file (ctx2 w keeps unit earlier) path (record (edited_state w.edit s) { table = t })))
       (sym (asked_edited w.edit w.old w.new w.news path s.table))
-      (table_goes s (asked w.old path s.table) (main_file (ctx w keeps ipath earlier) path s) (outer_file (ctx2 w keeps ipath earlier) path (edited_state w.edit (record s { table = asked w.old path s.table })))
+      (table_goes s (asked w.old path s.table) (main_file (ctx w keeps unit earlier) path s) (outer_file (ctx2 w keeps unit earlier) path (edited_state w.edit (record s { table = asked w.old path s.table })))
       (widens_asked w.old path s.table) (outer_goes path (record s { table = asked w.old path s.table })))
 
-  files_of_goes : (defines path : List ℕ) (s : State) → Goes w itself w.V s (both_files (ctx w keeps ipath earlier) defines path s) (both_files (ctx2 w keeps ipath earlier) defines path (edited_state w.edit s))
+  files_of_goes : (defines path : List ℕ) (s : State) → Goes w itself w.V s (both_files (ctx w keeps unit earlier) defines path s) (both_files (ctx2 w keeps unit earlier) defines path (edited_state w.edit s))
   files_of_goes defines path s =
-      goes_more w itself (λ x y. Unit {0}) (λ x. tt) s (outer_file (ctx w keeps ipath earlier) defines s) (outer_file (ctx2 w keeps ipath earlier) defines (edited_state w.edit s))
-      (λ toks t. main_file (ctx w keeps ipath earlier) path t) (λ toks t. main_file (ctx2 w keeps ipath earlier) path t)
-      (goes_map w itself w.V (λ b x y. Unit {0} × w.V b x y) s (outer_file (ctx w keeps ipath earlier) defines s) (outer_file (ctx2 w keeps ipath earlier) defines (edited_state w.edit s))
+      goes_more w itself (λ x y. Unit {0}) (λ x. tt) s (outer_file (ctx w keeps unit earlier) defines s) (outer_file (ctx2 w keeps unit earlier) defines (edited_state w.edit s))
+      (λ toks t. main_file (ctx w keeps unit earlier) path t) (λ toks t. main_file (ctx2 w keeps unit earlier) path t)
+      (goes_map w itself w.V (λ b x y. Unit {0} × w.V b x y) s (outer_file (ctx w keeps unit earlier) defines s) (outer_file (ctx2 w keeps unit earlier) defines (edited_state w.edit s))
       (λ b x y v. (tt, v)) (outer_goes defines s))
       (λ x y t r grown. main_goes path t)
 
@@ -82,7 +82,7 @@ module _ (w : World) (runs : RunsToo w) (keeps : KeepsTexts w.edit w.old) (ipath
 
 first_edited : (edit : Edit) (number : ℕ) (unit : UnitValue) (t : Table) → first_state the_limits number unit (edited_files edit t) ≡ edited_state edit (first_state the_limits number unit t)
 first_edited edit number unit t =
-    ap (λ (u : Table). record (first_state the_limits number unit t) { table = u }) (sym (numbered_edited edit (defines_path number) (Made (defines_text unit.standard unit.settings)) t))
+    ap (λ (u : Table). record (first_state the_limits number unit t) { table = u }) (sym (numbered_edited edit (defines_path number) (Made (defines_of unit)) t))
 
 -- `__LINE__` alone stands for the number of a line at first
 first_by : (name : List ℕ) (m : Definition) (a b : Bool) → bytes_eq name (codes "__LINE__") ≡ b → cond a (Some file_macro) (cond b (Some line_macro) None) ≡ Some m → m.form ≡ form.Line
@@ -108,11 +108,11 @@ pub unit_goes : (w : World) → RunsToo w → KeepsTexts w.edit w.old → (numbe
     → unit_outcome the_limits file_text w.old number unit before ≡ Ok d → AreFound w.old before.table → d.notes ≡ w.told → d.value ≡ w.all → d.state.table ≡ w.files → UnitToo w number unit before d
 unit_goes w runs keeps number unit before d is found told all files =
     let s : State = first_state the_limits number unit before.table in
-    let goes = files_of_goes w runs keeps unit.ipath before.toks (defines_path number) unit.path s in
-    let new : Outcome (List Token) = both_files (ctx2 w keeps unit.ipath before.toks) (defines_path number) unit.path (edited_state w.edit s) in
+    let goes = files_of_goes w runs keeps unit before.toks (defines_path number) unit.path s in
+    let new : Outcome (List Token) = both_files (ctx2 w keeps unit before.toks) (defines_path number) unit.path (edited_state w.edit s) in
     let done : Goes w itself w.V s (Ok d) new = subst (λ (m : Outcome (List Token)). Goes w itself w.V s m new) is goes in
     let k : PutsToo w itself w.V s d new =
-    done (found_more w.old (defines_path number) (defines_text unit.standard unit.settings) before.table found, first_lines) in
+    done (found_more w.old (defines_path number) (defines_of unit) before.table found, first_lines) in
     let count = k.counted in
     let last : d.state.before ≡ length w.all = (let same : d.state.before ≡ length d.value = omega (arith, count) in same) ∙ ap length all in
     let x = k.too (record {
@@ -129,10 +129,10 @@ unit_goes w runs keeps number unit before d is found told all files =
     record {
       toks = x.value;
       notes = x.notes;
-      is = ap (both_files (ctx2 w keeps unit.ipath before.toks) (defines_path number) unit.path) (first_edited w.edit number unit before.table) ∙ x.is;
+      is = ap (both_files (ctx2 w keeps unit before.toks) (defines_path number) unit.path) (first_edited w.edit number unit before.table) ∙ x.is;
       goes = x.goes;
       found = k.fits.0;
-      grown = grown_trans before.table s.table d.state.table (grown_more before.table (entry (defines_path number) (Made (defines_text unit.standard unit.settings)) ∷ [])) k.grown;
+      grown = grown_trans before.table s.table d.state.table (grown_more before.table (entry (defines_path number) (Made (defines_of unit)) ∷ [])) k.grown;
     }
 
 -- ---- along the cut

@@ -5,6 +5,7 @@ use Rattle.std.proofs.lemmas.Bool.{cases_Bool}
 use Rattle.cs_base.specs.declared.causes.Cause.TheVariants as cause
 use Rattle.cs_base.specs.declared.positions.Pos.{Pos}
 use Rattle.cs_base.specs.Token.{Token}
+use Rattle.cs_base.specs.Units.{UnitValue}
 use Rattle.line_shape.specs.Directives.{is_run}
 use Rattle.line_shape.specs.declared.items.ItemKind.{ItemKind}
 use Rattle.line_shape.specs.declared.items.ItemKind.TheVariants as kind
@@ -128,16 +129,16 @@ items_here all from i is h = let same : from + 0 ≡ from = omega arith in subst
 items_all : (all : List ItemText) → ItemsAt all 0 all
 items_all all = λ m i at. let same : 0 + m ≡ m = omega arith in rw same at
 
-module _ (w : World) (runs : RunsToo w) (keeps : KeepsTexts w.edit w.old) (ipath : List (List ℕ)) (earlier : ℕ) where
+module _ (w : World) (runs : RunsToo w) (keeps : KeepsTexts w.edit w.old) (unit : UnitValue) (earlier : ℕ) where
   nothing_goes : (s : State) → Goes w itself w.V s (only [] s) (only [] (edited_state w.edit s))
   nothing_goes s = goes_only w itself w.V s [] [] (w.v_none s.before) refl
 
   processed_same : (inner inner2 : Inner) → InnerGoes w inner inner2 → (file : SourceFile) (text : TextValue) (k : ItemKind) (at : Pos) (toks : List Token) (s : State) → is_run k ≡ false
-      → Goes w itself w.V s (processed (ctx w keeps ipath earlier) inner file k at toks s) (processed (ctx2 w keeps ipath earlier) inner2 (with_text file text) k at toks (edited_state w.edit s))
+      → Goes w itself w.V s (processed (ctx w keeps unit earlier) inner file k at toks s) (processed (ctx2 w keeps unit earlier) inner2 (with_text file text) k at toks (edited_state w.edit s))
   processed_same inner inner2 goes file text kind.Run at toks s other = absurd cc
   processed_same inner inner2 goes file text kind.Define at toks s other = define_goes w file (with_text file text) at toks s
   processed_same inner inner2 goes file text kind.Undef at toks s other = undef_goes w file (with_text file text) at toks s
-  processed_same inner inner2 goes file text kind.Include at toks s other = include_goes w keeps ipath earlier inner inner2 goes file text at toks s
+  processed_same inner inner2 goes file text kind.Include at toks s other = include_goes w keeps unit earlier inner inner2 goes file text at toks s
   processed_same inner inner2 goes file text kind.Error at toks s other = tt
   processed_same inner inner2 goes file text (kind.Bad c place nests) at toks s other = tt
   processed_same inner inner2 goes file text kind.If at toks s other = nothing_goes s
@@ -251,7 +252,7 @@ module _ (w : World) (runs : RunsToo w) (keeps : KeepsTexts w.edit w.old) (ipath
 
   -- an item that is no run
   turned_same : (inner inner2 : Inner) → InnerGoes w inner inner2 → (file : SourceFile) (text : TextValue) (k : ℕ) (i : ItemText) (sections : List Section) (s : State) → is_run i.kind ≡ false → (turn : Turn)
-      → Goes w step_toks (StepGoes w) s (turned (ctx w keeps ipath earlier) inner file k i sections s turn) (turned (ctx2 w keeps ipath earlier) inner2 (with_text file text) k i sections (edited_state w.edit s) turn)
+      → Goes w step_toks (StepGoes w) s (turned (ctx w keeps unit earlier) inner file k i sections s turn) (turned (ctx2 w keeps unit earlier) inner2 (with_text file text) k i sections (edited_state w.edit s) turn)
   turned_same inner inner2 goes file text k i sections s other Opens = opens_goes file text k i sections s
   turned_same inner inner2 goes file text k i sections s other GoesOn =
       in_section_goes file text i GoesOn sections s (λ open_ around. goes_on file k i open_ around s open_.group)
@@ -265,34 +266,34 @@ module _ (w : World) (runs : RunsToo w) (keeps : KeepsTexts w.edit w.old) (ipath
       (λ open_ around. reaching_alive (with_text file text) k open_.group (edited_state w.edit s) (only (stepped [] around) (edited_state w.edit s)))
       (λ o around. alive_goes file text k o.group s around)
   turned_same inner inner2 goes file text k i sections s other Stays =
-      stays_goes file text k sections s (processed (ctx w keeps ipath earlier) inner file i.kind i.at i.toks s) (processed (ctx2 w keeps ipath earlier) inner2 (with_text file text) i.kind i.at i.toks (edited_state w.edit s))
+      stays_goes file text k sections s (processed (ctx w keeps unit earlier) inner file i.kind i.at i.toks s) (processed (ctx2 w keeps unit earlier) inner2 (with_text file text) i.kind i.at i.toks (edited_state w.edit s))
       (processed_same inner inner2 goes file text i.kind i.at i.toks s other)
 
   item_goes : (inner inner2 : Inner) → InnerGoes w inner inner2 → (file : SourceFile) (text : TextValue) (k : ℕ) (i j : ItemText) → IsItemAlike i j
       → slice_get (items_in file) k ≡ Some i → slice_get (text_items text) k ≡ Some j → (sections : List Section) (s : State) → IsEdited w.edit w.old s.table file text
-      → Goes w step_toks (StepGoes w) s (item_step (ctx w keeps ipath earlier) inner file k i sections s) (item_step (ctx2 w keeps ipath earlier) inner2 (with_text file text) k j sections (edited_state w.edit s))
+      → Goes w step_toks (StepGoes w) s (item_step (ctx w keeps unit earlier) inner file k i sections s) (item_step (ctx2 w keeps unit earlier) inner2 (with_text file text) k j sections (edited_state w.edit s))
   item_goes inner inner2 goes file text k i j alike at at2 sections s edited = elim (cases_Bool (is_run i.kind)) [
     | inl is ↦
         let k1 : i.kind ≡ kind.Run = run_is i.kind is in
         let k2 : j.kind ≡ kind.Run = alike.0 ∙ k1 in
-        subst (λ (x : ItemKind). Goes w step_toks (StepGoes w) s (step_of x) (turned (ctx2 w keeps ipath earlier) inner2 (with_text file text) k j sections (edited_state w.edit s) (turn_of j.kind))) (sym k1)
+        subst (λ (x : ItemKind). Goes w step_toks (StepGoes w) s (step_of x) (turned (ctx2 w keeps unit earlier) inner2 (with_text file text) k j sections (edited_state w.edit s) (turn_of j.kind))) (sym k1)
         (subst (λ (y : ItemKind). Goes w step_toks (StepGoes w) s (step_of kind.Run) (step2_of y)) (sym k2)
         (goes_cond w step_toks (StepGoes w) s (are_processed sections)
-        (reaching file k false s (onward (processed (ctx w keeps ipath earlier) inner file kind.Run i.at i.toks s) (λ toks t. only (stepped toks sections) t))) (only (stepped [] sections) s)
+        (reaching file k false s (onward (processed (ctx w keeps unit earlier) inner file kind.Run i.at i.toks s) (λ toks t. only (stepped toks sections) t))) (only (stepped [] sections) s)
         (reaching (with_text file text) k false (edited_state w.edit s)
-        (onward (processed (ctx2 w keeps ipath earlier) inner2 (with_text file text) kind.Run j.at j.toks (edited_state w.edit s)) (λ toks t. only (stepped toks sections) t)))
+        (onward (processed (ctx2 w keeps unit earlier) inner2 (with_text file text) kind.Run j.at j.toks (edited_state w.edit s)) (λ toks t. only (stepped toks sections) t)))
         (only (stepped [] sections) (edited_state w.edit s))
-        (run_goes w runs ipath earlier file text k i j at at2 k1 sections s edited) (only_goes s sections)))
+        (run_goes w runs unit earlier file text k i j at at2 k1 sections s edited) (only_goes s sections)))
     | inr other ↦
-        subst (λ (x : ItemText). Goes w step_toks (StepGoes w) s (item_step (ctx w keeps ipath earlier) inner file k i sections s) (item_step (ctx2 w keeps ipath earlier) inner2 (with_text file text) k x sections (edited_state w.edit s)))
+        subst (λ (x : ItemText). Goes w step_toks (StepGoes w) s (item_step (ctx w keeps unit earlier) inner file k i sections s) (item_step (ctx2 w keeps unit earlier) inner2 (with_text file text) k x sections (edited_state w.edit s)))
         (sym (alike.1 other)) (turned_same inner inner2 goes file text k i sections s other (turn_of i.kind))
   ]
     where
       step_of : ItemKind → Outcome Stepped
-      step_of x = turned (ctx w keeps ipath earlier) inner file k (record { kind = x; at = i.at; toks = i.toks }) sections s (turn_of x)
+      step_of x = turned (ctx w keeps unit earlier) inner file k (record { kind = x; at = i.at; toks = i.toks }) sections s (turn_of x)
 
       step2_of : ItemKind → Outcome Stepped
-      step2_of y = turned (ctx2 w keeps ipath earlier) inner2 (with_text file text) k (record { kind = y; at = j.at; toks = j.toks }) sections (edited_state w.edit s) (turn_of y)
+      step2_of y = turned (ctx2 w keeps unit earlier) inner2 (with_text file text) k (record { kind = y; at = j.at; toks = j.toks }) sections (edited_state w.edit s) (turn_of y)
 
   -- ---- all items
 
@@ -302,25 +303,25 @@ module _ (w : World) (runs : RunsToo w) (keeps : KeepsTexts w.edit w.old) (ipath
 
   walk_goes : (inner inner2 : Inner) → InnerGoes w inner inner2 → (file : SourceFile) (text : TextValue) (k : ℕ) (is js : List ItemText) → AreItemsAlike is js
       → ItemsAt (items_in file) k is → ItemsAt (text_items text) k js → (sections : List Section) (s : State) → IsEdited w.edit w.old s.table file text
-      → Goes w itself w.V s (walk (ctx w keeps ipath earlier) inner file k is sections s) (walk (ctx2 w keeps ipath earlier) inner2 (with_text file text) k js sections (edited_state w.edit s))
+      → Goes w itself w.V s (walk (ctx w keeps unit earlier) inner file k is sections s) (walk (ctx2 w keeps unit earlier) inner2 (with_text file text) k js sections (edited_state w.edit s))
   unfolding walk
   walk_goes inner inner2 goes file text k [] [] alike at at2 sections s edited = end_goes file text sections s
   walk_goes inner inner2 goes file text k [] (j ∷ js) alike at at2 sections s edited = absurd alike
   walk_goes inner inner2 goes file text k (i ∷ is) [] alike at at2 sections s edited = absurd alike
   walk_goes inner inner2 goes file text k (i ∷ is) (j ∷ js) alike at at2 sections s edited =
-      goes_more w step_toks (λ d e. e.sections ≡ d.sections) (λ d. refl) s (item_step (ctx w keeps ipath earlier) inner file k i sections s)
-      (item_step (ctx2 w keeps ipath earlier) inner2 (with_text file text) k j sections (edited_state w.edit s))
-      (λ d t. walk (ctx w keeps ipath earlier) inner file (k + 1) is d.sections t) (λ d t. walk (ctx2 w keeps ipath earlier) inner2 (with_text file text) (k + 1) js d.sections t)
+      goes_more w step_toks (λ d e. e.sections ≡ d.sections) (λ d. refl) s (item_step (ctx w keeps unit earlier) inner file k i sections s)
+      (item_step (ctx2 w keeps unit earlier) inner2 (with_text file text) k j sections (edited_state w.edit s))
+      (λ d t. walk (ctx w keeps unit earlier) inner file (k + 1) is d.sections t) (λ d t. walk (ctx2 w keeps unit earlier) inner2 (with_text file text) (k + 1) js d.sections t)
       (item_goes inner inner2 goes file text k i j alike.0 (items_here (items_in file) k i is at) (items_here (text_items text) k j js at2) sections s edited)
       (λ d e t same grown.
-      subst (λ (x : List Section). Goes w itself w.V t (walk (ctx w keeps ipath earlier) inner file (k + 1) is d.sections t) (walk (ctx2 w keeps ipath earlier) inner2 (with_text file text) (k + 1) js x (edited_state w.edit t))) (sym same)
+      subst (λ (x : List Section). Goes w itself w.V t (walk (ctx w keeps unit earlier) inner file (k + 1) is d.sections t) (walk (ctx2 w keeps unit earlier) inner2 (with_text file text) (k + 1) js x (edited_state w.edit t))) (sym same)
       (walk_goes inner inner2 goes file text (k + 1) is js alike.1 (items_more (items_in file) k i is at) (items_more (text_items text) k j js at2) d.sections t
       (edited_grown w.edit w.old s.table t.table file text grown edited)))
 
-  pub files_go : (room : ℕ) → ProcessGoes w (file_items (ctx w keeps ipath earlier) room) (file_items (ctx2 w keeps ipath earlier) room)
+  pub files_go : (room : ℕ) → ProcessGoes w (file_items (ctx w keeps unit earlier) room) (file_items (ctx2 w keeps unit earlier) room)
   unfolding file_items
   files_go zero file text items s edited =
       walk_goes None None tt file text 0 (items_in file) (text_items text) items (items_all (items_in file)) (items_all (text_items text)) [] s edited
   files_go (suc room) file text items s edited =
-      walk_goes (Some (file_items (ctx w keeps ipath earlier) room)) (Some (file_items (ctx2 w keeps ipath earlier) room)) (files_go room) file text 0 (items_in file) (text_items text) items
+      walk_goes (Some (file_items (ctx w keeps unit earlier) room)) (Some (file_items (ctx2 w keeps unit earlier) room)) (files_go room) file text 0 (items_in file) (text_items text) items
       (items_all (items_in file)) (items_all (text_items text)) [] s edited

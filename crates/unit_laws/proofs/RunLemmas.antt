@@ -3,6 +3,7 @@ use Rattle.std.proofs.Common.{◌≡◌, ◌≤◌, ℕ, ◌+◌, ◌-◌, Bool,
 use Rattle.std.specs.Prelude.{slice_get}
 use Rattle.std.proofs.lemmas.List.{length-map}
 use Rattle.cs_base.specs.Token.{Token}
+use Rattle.cs_base.specs.Units.{UnitValue}
 use Rattle.line_shape.specs.declared.items.ItemKind.TheVariants.{Run}
 use Rattle.macro_body.specs.Hides.{toks_of}
 use Rattle.macro_body.specs.Notes as expansion
@@ -41,12 +42,12 @@ StepGoes w b d e = (e.sections ≡ d.sections) × w.V b d.toks e.toks
 abbrev pub step_toks : Stepped → List Token
 step_toks d = d.toks
 
-module _ (w : World) (runs : RunsToo w) (ipath : List (List ℕ)) (earlier : ℕ) where
+module _ (w : World) (runs : RunsToo w) (unit : UnitValue) (earlier : ℕ) where
   abbrev one : Context
-  one = unit_context w.old ipath earlier
+  one = unit_context w.old unit earlier
 
   abbrev two : Context
-  two = unit_context w.new ipath earlier
+  two = unit_context w.new unit earlier
 
   -- the item is reached, and its tokens are put out
   pub run_goes : (file : SourceFile) (text : TextValue) (k : ℕ) (i j : ItemText) → slice_get (items_in file) k ≡ Some i → slice_get (text_items text) k ≡ Some j

@@ -245,10 +245,10 @@ module _ (R : State → List Note → State → Type 0) (table : Table) (rules :
 
   -- ---- files
 
-  module _ (source : Source) (ipath : List (List ℕ)) (earlier : ℕ) where
+  module _ (source : Source) (unit : UnitValue) (earlier : ℕ) where
     -- what stays the same
     abbrev ctx : Context
-    ctx = context source file_text ipath the_limits earlier
+    ctx = context source file_text unit the_limits earlier
 
     opened_goes : (pre : Type 0) (place : Place) (path : List ℕ) (s : State) (o : Opening) → opening the_limits file_text place path s.table ≡ o
         → Goes pre (FileIs table) s (with_opened s o)
@@ -278,8 +278,8 @@ module _ (R : State → List Note → State → Type 0) (table : Table) (rules :
 
     header_goes : (pre : Type 0) (file : SourceFile) (at : Pos) (h : Header) (s : State) → Goes pre (FileIs table) s (open_header ctx file at h s)
     header_goes pre file at h s =
-        let found : Searched = search source (candidates_of h file.path ipath) s.table in
-        searched_goes pre file at s found found.path (search_wide source (candidates_of h file.path ipath) s.table).grown
+        let found : Searched = search source (candidates_of h file.path unit) s.table in
+        searched_goes pre file at s found found.path (search_wide source (candidates_of h file.path unit) s.table).grown
 
     or_goes : (pre : Type 0) (file : SourceFile) (at : Pos) (toks : List Token) (s : State) (o : Option Header) → GoesAny pre s (header_or file at toks s o)
     or_goes pre file at toks s None = tt
@@ -565,5 +565,5 @@ unit_goes R source number unit before d table is grown rules =
     let s : State = first_state the_limits number unit before.table in
     let all : GoesAny R table rules {A = List Token} (Unit {0}) s (Ok d) =
     subst (λ (o : Outcome (List Token)). GoesAny R table rules {A = List Token} (Unit {0}) s o) is
-    (both_files_go R table rules source unit.ipath before.toks (defines_path number) unit.path s) in
+    (both_files_go R table rules source unit before.toks (defines_path number) unit.path s) in
     (all.1 tt grown).1

@@ -39,27 +39,27 @@ first_macros_have P name m e =
     cond_file P name m (bytes_eq name file_macro.name.text) (with_macro line_macro no_macro name)
     (λ k. cond_line P name m (bytes_eq name line_macro.name.text) (λ same. (bytes_eq-Decides name line_macro.name.text).0 same) k) e
 
-module _ (P : Token → Type 0) (M : Note → Type 0) (table : Table) (rules : UnitRules P M table) (source : Source) (ipath : List (List ℕ)) (earlier : ℕ) where
-  outer_done : (pre : Type 0) (path : List ℕ) (s : State) → Done P M table pre (AllToks P) s (outer_file (context source file_text ipath the_limits earlier) path s)
+module _ (P : Token → Type 0) (M : Note → Type 0) (table : Table) (rules : UnitRules P M table) (source : Source) (unit : UnitValue) (earlier : ℕ) where
+  outer_done : (pre : Type 0) (path : List ℕ) (s : State) → Done P M table pre (AllToks P) s (outer_file (context source file_text unit the_limits earlier) path s)
   outer_done pre path s =
-      let cx : Context = context source file_text ipath the_limits earlier in
+      let cx : Context = context source file_text unit the_limits earlier in
       done_onward P M table pre (FileIs table) (AllToks P) s (open_file cx (first_place path) path s) (file_items cx (cx.limits.open_files - 1))
-      (done_more P M table (Unit {0}) pre (FileIs table) (FileIs table) s (open_file cx (first_place path) path s) (λ p. tt) (λ a p h. h) (open_done P M table rules source ipath earlier (first_place path) path s))
+      (done_more P M table (Unit {0}) pre (FileIs table) (FileIs table) s (open_file cx (first_place path) path s) (λ p. tt) (λ a p h. h) (open_done P M table rules source unit earlier (first_place path) path s))
       (λ f t. done_more P M table (FileIs table f) (pre × FileIs table f) (AllToks P) (AllToks P) t (file_items cx (cx.limits.open_files - 1) f t) (λ p. p.1) (λ a p h. h)
-      (files_done P M table rules source ipath earlier (cx.limits.open_files - 1) f t))
+      (files_done P M table rules source unit earlier (cx.limits.open_files - 1) f t))
 
-  main_done : (pre : Type 0) (path : List ℕ) (s : State) → Done P M table pre (AllToks P) s (main_file (context source file_text ipath the_limits earlier) path s)
+  main_done : (pre : Type 0) (path : List ℕ) (s : State) → Done P M table pre (AllToks P) s (main_file (context source file_text unit the_limits earlier) path s)
   main_done pre path s =
-      grown_done P M table rules source ipath earlier pre (AllToks P) s (asked source path s.table)
-      (outer_file (context source file_text ipath the_limits earlier) path (record s { table = asked source path s.table })) (widens_asked source path s.table).grown
+      grown_done P M table rules source unit earlier pre (AllToks P) s (asked source path s.table)
+      (outer_file (context source file_text unit the_limits earlier) path (record s { table = asked source path s.table })) (widens_asked source path s.table).grown
       (outer_done pre path (record s { table = asked source path s.table }))
 
-  both_files_done : (defines path : List ℕ) (s : State) → Done P M table (Unit {0}) (AllToks P) s (both_files (context source file_text ipath the_limits earlier) defines path s)
+  both_files_done : (defines path : List ℕ) (s : State) → Done P M table (Unit {0}) (AllToks P) s (both_files (context source file_text unit the_limits earlier) defines path s)
   both_files_done defines path s =
-      let cx : Context = context source file_text ipath the_limits earlier in
+      let cx : Context = context source file_text unit the_limits earlier in
       done_onward P M table (Unit {0}) (AllToks P) (AllToks P) s (outer_file cx defines s) (λ toks t. onward (main_file cx path t) (λ more u. only (toks ++ more) u))
       (outer_done (Unit {0}) defines s)
-      (λ toks t. both_done P M table rules source ipath earlier (Unit {0} × AllToks P toks) toks t (main_file cx path t) (λ p. p.1) (main_done (Unit {0} × AllToks P toks) path t))
+      (λ toks t. both_done P M table rules source unit earlier (Unit {0} × AllToks P toks) toks t (main_file cx path t) (λ p. p.1) (main_done (Unit {0} × AllToks P toks) path t))
 
 -- A unit without a fault: where the rules hold of its notes and of the table behind it, its tokens have P, and
 -- those of its notes.
@@ -68,6 +68,6 @@ pub unit_has : (P : Token → Type 0) (M : Note → Type 0) (source : Source) (n
 unit_has P M source number unit before d is rules told =
     let s : State = first_state the_limits number unit before.table in
     let done : Done P M d.state.table (Unit {0}) (AllToks P) s (Ok d) =
-    subst (λ (o : Outcome (List Token)). Done P M d.state.table (Unit {0}) (AllToks P) s o) is (both_files_done P M d.state.table rules source unit.ipath before.toks (defines_path number) unit.path s) in
+    subst (λ (o : Outcome (List Token)). Done P M d.state.table (Unit {0}) (AllToks P) s o) is (both_files_done P M d.state.table rules source unit before.toks (defines_path number) unit.path s) in
     let r = done.1 tt (grown_refl d.state.table) (record { macros = first_macros_have P; names = tt }) told in
     (r.0, r.2)

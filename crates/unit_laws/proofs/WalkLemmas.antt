@@ -4,6 +4,7 @@ use Rattle.std.specs.Prelude.{slice_get}
 use Rattle.cs_base.specs.declared.causes.Cause.TheVariants as cause
 use Rattle.cs_base.specs.declared.positions.Pos.{Pos}
 use Rattle.cs_base.specs.Token.{Token}
+use Rattle.cs_base.specs.Units.{UnitValue}
 use Rattle.lexer.specs.FileText.{file_text}
 use Rattle.line_shape.specs.declared.items.ItemKind.{ItemKind}
 use Rattle.line_shape.specs.declared.items.ItemKind.TheVariants as kind
@@ -34,10 +35,10 @@ AnyTok t = Unit {0}
 abbrev SteppedHas : (Token → Type 0) → Stepped → Type 0
 SteppedHas P d = AllToks P d.toks
 
-module _ (P : Token → Type 0) (M : Note → Type 0) (table : Table) (rules : UnitRules P M table) (source : Source) (ipath : List (List ℕ)) (earlier : ℕ) where
+module _ (P : Token → Type 0) (M : Note → Type 0) (table : Table) (rules : UnitRules P M table) (source : Source) (unit : UnitValue) (earlier : ℕ) where
   -- what stays the same
   abbrev ctx : Context
-  ctx = context source file_text ipath the_limits earlier
+  ctx = context source file_text unit the_limits earlier
 
   -- ---- items
 
@@ -62,7 +63,7 @@ module _ (P : Token → Type 0) (M : Note → Type 0) (table : Table) (rules : U
   nothing_done : (pre : Type 0) (s : State) → Done P M table pre (AllToks P) s (only [] s)
   nothing_done pre s = done_only P M table pre (AllToks P) s [] (λ p. tt)
 
-  processed_done : (inner : Inner) → InnerDone P M table rules source ipath earlier inner → (file : SourceFile) (k : ItemKind) (at : Pos) (toks : List Token) (s : State)
+  processed_done : (inner : Inner) → InnerDone P M table rules source unit earlier inner → (file : SourceFile) (k : ItemKind) (at : Pos) (toks : List Token) (s : State)
       → Done P M table (KindHas k false at toks) (AllToks P) s (processed ctx inner file k at toks s)
   processed_done inner known file kind.Run at toks s =
       done_more P M table (AllToks P toks) (KindHas kind.Run false at toks) (AllToks P) (AllToks P) s (processed ctx inner file kind.Run at toks s) (λ p. p.0) (λ a p k. k) (run_done P M table rules ctx file toks s)
@@ -73,7 +74,7 @@ module _ (P : Token → Type 0) (M : Note → Type 0) (table : Table) (rules : U
       done_more P M table (AllToks P (take 1 (drop 2 toks)) × (line_kind toks ≡ kind.Undef)) (KindHas kind.Undef false at toks) (AllToks P) (AllToks P) s (processed ctx inner file kind.Undef at toks s)
       (λ p. (p.0, p.1 refl)) (λ a p k. k) (undef_done P M table kind.Undef file at toks s refl)
   processed_done inner known file kind.Include at toks s =
-      done_more P M table (AllToks P (expanded_name (drop 2 toks)) × PlaceHas P at) (KindHas kind.Include false at toks) (AllToks P) (AllToks P) s (processed ctx inner file kind.Include at toks s) (λ p. (p.0, p.2 refl)) (λ a p k. k) (include_done P M table rules source ipath earlier inner known file at toks s)
+      done_more P M table (AllToks P (expanded_name (drop 2 toks)) × PlaceHas P at) (KindHas kind.Include false at toks) (AllToks P) (AllToks P) s (processed ctx inner file kind.Include at toks s) (λ p. (p.0, p.2 refl)) (λ a p k. k) (include_done P M table rules source unit earlier inner known file at toks s)
   processed_done inner known file kind.Error at toks s = tt
   processed_done inner known file (kind.Bad c place nests) at toks s = tt
   processed_done inner known file kind.If at toks s = nothing_done (KindHas kind.If false at toks) s
@@ -206,7 +207,7 @@ module _ (P : Token → Type 0) (M : Note → Type 0) (table : Table) (rules : U
       done_onward P M table pre (AllToks P) (SteppedHas P) s m (λ toks t. only (stepped toks sections) t) h
       (λ toks t. only_done (pre × AllToks P toks) t (stepped toks sections) (λ p. p.1))
 
-  turned_done : (inner : Inner) → InnerDone P M table rules source ipath earlier inner → (file : SourceFile) (k : ℕ) (i : ItemText) (sections : List Section) (s : State) (turn : Turn) → turn_of i.kind ≡ turn
+  turned_done : (inner : Inner) → InnerDone P M table rules source unit earlier inner → (file : SourceFile) (k : ℕ) (i : ItemText) (sections : List Section) (s : State) (turn : Turn) → turn_of i.kind ≡ turn
       → Done P M table (IsItem file k i) (SteppedHas P) s (turned ctx inner file k i sections s turn)
   turned_done inner known file k i sections s Opens turn = opens_done file k i sections s
   turned_done inner known file k i sections s GoesOn turn =
@@ -258,7 +259,7 @@ module _ (P : Token → Type 0) (M : Note → Type 0) (table : Table) (rules : U
         subst (λ (n : ℕ). slice_get (items_in file) n ≡ Some x) same (h.at (suc j) x e);
   }
 
-  walk_done : (inner : Inner) → InnerDone P M table rules source ipath earlier inner → (file : SourceFile) (k : ℕ) (items : List ItemText) (sections : List Section) (s : State)
+  walk_done : (inner : Inner) → InnerDone P M table rules source unit earlier inner → (file : SourceFile) (k : ℕ) (items : List ItemText) (sections : List Section) (s : State)
       → Done P M table (AreItems file k items) (AllToks P) s (walk ctx inner file k items sections s)
   unfolding walk
   walk_done inner known file k [] sections s = end_done (AreItems file k []) file sections s
@@ -277,12 +278,12 @@ module _ (P : Token → Type 0) (M : Note → Type 0) (table : Table) (rules : U
     at = λ j i e. let same : j ≡ 0 + j = omega arith in subst (λ (n : ℕ). slice_get (items_in file) n ≡ Some i) same e;
   }
 
-  file_done : (inner : Inner) → InnerDone P M table rules source ipath earlier inner → (file : SourceFile) (s : State) → Done P M table (FileIs table file) (AllToks P) s (walk ctx inner file 0 (items_in file) [] s)
+  file_done : (inner : Inner) → InnerDone P M table rules source unit earlier inner → (file : SourceFile) (s : State) → Done P M table (FileIs table file) (AllToks P) s (walk ctx inner file 0 (items_in file) [] s)
   file_done inner known file s =
       done_more P M table (AreItems file 0 (items_in file)) (FileIs table file) (AllToks P) (AllToks P) s (walk ctx inner file 0 (items_in file) [] s)
       (λ p. all_items file p) (λ a p h. h) (walk_done inner known file 0 (items_in file) [] s)
 
-  pub files_done : (room : ℕ) → ProcessDone P M table rules source ipath earlier (file_items ctx room)
+  pub files_done : (room : ℕ) → ProcessDone P M table rules source unit earlier (file_items ctx room)
   unfolding file_items
   files_done zero file s = file_done None tt file s
   files_done (suc room) file s = file_done (Some (file_items ctx room)) (files_done room) file s

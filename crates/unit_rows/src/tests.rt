@@ -39,6 +39,8 @@ fn unit(alloc: Global) -> Result<Unit, Memory> {
         path,
         Vec::new(alloc),
         Vec::new(alloc),
+        Vec::new(alloc),
+        Vec::new(alloc),
         Standard::C99,
     ))
 }

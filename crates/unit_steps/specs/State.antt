@@ -2,6 +2,7 @@
 -- 5.1.1.2 phase 4).
 use Rattle.std.specs.Prelude.{ℕ, List, [], ◌++◌, Result, Ok, Err}
 use Rattle.cs_base.specs.Token.{Token}
+use Rattle.cs_base.specs.Units.{UnitValue}
 use Rattle.macro_expand.specs.Below.macro_body.Macro.{Table as Macros}
 use Rattle.source_files.specs.Files.{Source, Table}
 use Rattle.source_files.specs.Limits.{Limits}
@@ -9,18 +10,18 @@ use Rattle.source_files.specs.Opening.{Reader}
 use Rattle.source_files.specs.Faults.{Fault}
 use Rattle.unit_steps.specs.Notes.{Note}
 
--- What stays the same: what files hold, how they are read, the directories that includes are looked for
--- in, the limits, and how many tokens the units before had.
+-- What stays the same: what files hold, how they are read, the unit, the limits, and how many tokens the units
+-- before had.
 pub record Context : Type 0 where
   pub source : Source
   pub reader : Reader
-  pub ipath : List (List ℕ)
+  pub unit : UnitValue
   pub limits : Limits
   pub earlier : ℕ
 
-abbrev pub context : Source → Reader → List (List ℕ) → Limits → ℕ → Context
-context source reader ipath limits earlier =
-    record { source = source; reader = reader; ipath = ipath; limits = limits; earlier = earlier }
+abbrev pub context : Source → Reader → UnitValue → Limits → ℕ → Context
+context source reader unit limits earlier =
+    record { source = source; reader = reader; unit = unit; limits = limits; earlier = earlier }
 
 -- What changes: the table of files, the macros that are defined, the work that is left, the first name of
 -- each spelling among those that later ones are linked with, and how many tokens were put out.

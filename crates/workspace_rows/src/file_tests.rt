@@ -24,7 +24,8 @@ const LINES: &str = "\
     standard c99\nfile a.c$project default\nfile a.c\n%\
     standard\tc11 \nipath i\ndefine A\nfile a.c\nstandard c99\nfile a.c\nfile b.c$project default\nstandard c11\nipath i\ndefine A\nfile a.c\nproject default\nipath i\ndefine A\nfile a.c\nproject default\nipath i\ndefine A\nfile b.c\n%\
     standard c11\nproject p\nfile a.c\nstandard c11\nfile a.c\nfile b.c$project p\nfile a.c\nproject p\nstandard c11\nfile a.c\nproject p\nstandard c11\nfile b.c\n%\
-    project p\nstandard c11\nreadonly r\nfile a.c$readonly r\nproject p\nstandard c11\nfile a.c\n";
+    project p\nstandard c11\nreadonly r\nfile a.c$readonly r\nproject p\nstandard c11\nfile a.c\n%\
+    include ./i//x.h\nipath j\nqpath k/../q\nqpath .\ninclude y z.h\ndefine A\nfile a.c\nproject p\nfile a.c$project default\nqpath q\nqpath .\nipath j\ndefine A\ninclude i/x.h\ninclude y z.h\nfile a.c\nproject p\nfile a.c\n";
 
 // Workspace files, each with the line that is refused.
 const BAD_LINES: &str = "\
@@ -63,6 +64,17 @@ const BAD_LINES: &str = "\
     file a /.$bad 1%\
     ipath ./ a$bad 1%\
     ipath b\\/.$bad 1%\
+    qpath$bad 1%\
+    qpath ./ a$bad 1%\
+    qpath b\\/.$bad 1%\
+    include$bad 1%\
+    include .$bad 1%\
+    include a\"b.h$bad 1%\
+    include <x>$bad 1%\
+    include ./ a$bad 1%\
+    include a /.$bad 1%\
+    includes a.h$bad 1%\
+    standard gnu17$bad 1%\
     file a\\$bad 1%\
     define f(x) x\\ $bad 1%\
     # x\\$bad 1%\
@@ -82,7 +94,9 @@ const SETTINGS: &str = "\
     define A$65389$fits%\
     define A$65390$bad 2%\
     undefine A$65390$fits%\
-    undefine A$65391$bad 2";
+    undefine A$65391$bad 2%\
+    include A$65386$fits%\
+    include A$65387$bad 2";
 
 // What follows 1,024 units, and what is refused.
 const BEHIND: &str = "\
@@ -214,12 +228,12 @@ fn a_copy_is_printed_alike(rt: HostRuntime) -> Result<(), Fail> {
     let alloc = rt.alloc();
     let ws = read_ws(
         alloc,
-        b"readonly r\ndefine A 1\nundefine B\nipath .\nfile a.c\nstandard c11\nfile a.c",
+        b"readonly r\ndefine A 1\nundefine B\nipath .\nqpath q\ninclude b.h\nfile a.c\nstandard c11\nfile a.c",
     )?;
     let copy = ws.copy(alloc)?;
     let text = print_ws(alloc, &copy)?;
     let want =
-        "readonly r\nproject default\nipath .\ndefine A 1\nundefine B\nfile a.c\nproject default\nstandard c11\nipath .\ndefine A 1\nundefine B\nfile a.c\n";
+        "readonly r\nproject default\nqpath q\nipath .\ndefine A 1\nundefine B\ninclude b.h\nfile a.c\nproject default\nstandard c11\nqpath q\nipath .\ndefine A 1\nundefine B\ninclude b.h\nfile a.c\n";
     assert_eq!(rt; text.as_slice(), want.as_bytes());
     Ok(())
 }

@@ -1,18 +1,17 @@
 -- What stays true of a reading as lines are taken.
-use Rattle.std.proofs.Common.{◌≡◌, ℕ, Bool, true, false, ◌||◌, ◌==◌, List, [], ◌∷◌, ◌++◌, IsTrue, refl, ◌∙◌, arith}
+use Rattle.std.proofs.Common.{◌≡◌, ℕ, Bool, true, false, not, ◌||◌, ◌==◌, List, [], ◌∷◌, ◌++◌, IsTrue, refl, ap, ◌∙◌, arith}
 use Rattle.std.specs.Prelude.{codes}
 use Rattle.std.specs.List.{list_all}
 use Rattle.std.specs.Str.{bytes_eq}
 use Rattle.std.proofs.lemmas.List.Folds.{list_all-append}
 use Rattle.std.proofs.lemmas.List.Elements.{All-append}
 use Rattle.std.proofs.lemmas.Bool.{or_parts, and_from}
-use Rattle.cs_base.specs.declared.ws_units.Setting.{Setting}
-use Rattle.cs_base.specs.declared.ws_units.Standard.{Standard}
 use Rattle.cs_base.specs.Paths.{normal_path_of, is_normal}
-use Rattle.cs_base.specs.Units.{UnitValue, unit, IsUnit, less_sign, begins_with, has_bad_ends, is_writable, is_project, is_directory, is_unit_path, defines_fit}
+use Rattle.cs_base.specs.Units.{UnitValue, unit, IsUnit, quote, less_sign, begins_with, has_bad_ends, is_writable, is_project, is_directory, is_unit_path, is_include, defines_fit}
 use Rattle.cs_base.proofs.NormalPaths.{is_normal-normal_path_of}
 use Rattle.cs_base.proofs.UnitLemmas.{is_utf8-ascii, is_writable-normal_path_of}
-use Rattle.ws_file.specs.Reading.{reading, at_first, is_bad_path}
+use Rattle.ws_file.specs.Workspace.{is_said}
+use Rattle.ws_file.specs.Reading.{Reading, at_first, is_bad_path, is_bad_include}
 use Rattle.ws_file.specs.Taking.{IsReading}
 
 list_all-push : {X : Type 0} (p : X → Bool) (xs : List X) (x : X) → list_all p xs ≡ true → p x ≡ true → list_all p (xs ++ x ∷ []) ≡ true
@@ -25,10 +24,14 @@ is_project-default = rw (is_utf8-ascii (codes "default") refl) refl
 pub IsReading-first : IsReading at_first
 IsReading-first = record {
   is_named = is_project-default;
+  are_quoted_directories = refl;
   are_directories = refl;
   are_settings = refl;
+  are_includes = refl;
   are_units = λ k d h. absurd (omega arith);
+  are_said = refl;
   are_prefixes = refl;
+  is_said_too = refl;
 }
 
 pub is_directory-normal : (path : List ℕ) → IsTrue (is_writable path) → has_bad_ends (normal_path_of path) ≡ false
@@ -46,35 +49,85 @@ is_unit_path-normal path h good =
     let real = (or_parts (bytes_eq place []) (begins_with (λ b. b == less_sign) place) front).1 in
     and_from _ _ (and_from _ _ (is_directory-normal path h ends) (rw some refl)) (rw real refl)
 
-pub IsReading-directory : (project : List ℕ) (ipath : List (List ℕ)) (settings : List Setting) (units : List UnitValue) (readonly : List (List ℕ)) (standard : Standard)
-    (directory : List ℕ) → IsReading (reading project ipath settings units readonly standard) → IsTrue (is_directory directory)
-    → IsReading (reading project (ipath ++ directory ∷ []) settings units readonly standard)
-IsReading-directory project ipath settings units readonly standard directory r h = record {
-  is_named = r.is_named;
-  are_directories = list_all-push is_directory ipath directory r.are_directories h;
-  are_settings = r.are_settings;
-  are_units = r.are_units;
-  are_prefixes = r.are_prefixes;
+pub is_include-normal : (path : List ℕ) → IsTrue (is_writable path) → is_bad_include (normal_path_of path) ≡ false
+    → IsTrue (is_include (normal_path_of path))
+is_include-normal path h good =
+    let place = normal_path_of path in
+    let parts = or_parts (is_bad_path place) (not (list_all (λ b. not (b == quote)) place)) good in
+    and_from _ _ (is_unit_path-normal path h parts.0) (unquoted (list_all (λ b. not (b == quote)) place) parts.1)
+  where
+    unquoted : (b : Bool) → not b ≡ false → b ≡ true
+    unquoted true e = refl
+    unquoted false e = cc
+
+pub IsReading-directory : (r : Reading) (directory : List ℕ) → IsReading r → IsTrue (is_directory directory)
+    → IsReading (record r { ipath = r.ipath ++ directory ∷ [] })
+IsReading-directory r directory k h = record {
+  is_named = k.is_named;
+  are_quoted_directories = k.are_quoted_directories;
+  are_directories = list_all-push is_directory r.ipath directory k.are_directories h;
+  are_settings = k.are_settings;
+  are_includes = k.are_includes;
+  are_units = k.are_units;
+  are_said = k.are_said;
+  are_prefixes = k.are_prefixes;
+  is_said_too = k.is_said_too;
 }
 
-pub IsReading-unit : (project : List ℕ) (ipath : List (List ℕ)) (settings : List Setting) (units : List UnitValue) (readonly : List (List ℕ)) (standard : Standard)
-    (u : UnitValue) → IsReading (reading project ipath settings units readonly standard) → IsUnit u
-    → IsReading (reading project ipath settings (units ++ u ∷ []) readonly standard)
-IsReading-unit project ipath settings units readonly standard u r h = record {
-  is_named = r.is_named;
-  are_directories = r.are_directories;
-  are_settings = r.are_settings;
-  are_units = All-append IsUnit units (u ∷ []) r.are_units (λ k d below. let first : k ≡ 0 = omega arith in rw first h);
-  are_prefixes = r.are_prefixes;
+pub IsReading-quoted : (r : Reading) (directory : List ℕ) → IsReading r → IsTrue (is_directory directory)
+    → IsReading (record r { qpath = r.qpath ++ directory ∷ [] })
+IsReading-quoted r directory k h = record {
+  is_named = k.is_named;
+  are_quoted_directories = list_all-push is_directory r.qpath directory k.are_quoted_directories h;
+  are_directories = k.are_directories;
+  are_settings = k.are_settings;
+  are_includes = k.are_includes;
+  are_units = k.are_units;
+  are_said = k.are_said;
+  are_prefixes = k.are_prefixes;
+  is_said_too = k.is_said_too;
 }
 
-pub IsUnit-reading : (project : List ℕ) (ipath : List (List ℕ)) (settings : List Setting) (units : List UnitValue) (readonly : List (List ℕ)) (standard : Standard)
-    (path : List ℕ) → IsReading (reading project ipath settings units readonly standard) → IsTrue (is_unit_path path) → IsTrue (defines_fit standard settings)
-    → IsUnit (unit project path ipath settings standard)
-IsUnit-reading project ipath settings units readonly standard path r h fits = record {
-  is_named = r.is_named;
+pub IsReading-include : (r : Reading) (path : List ℕ) → IsReading r → IsTrue (is_include path)
+    → IsReading (record r { includes = r.includes ++ path ∷ [] })
+IsReading-include r path k h = record {
+  is_named = k.is_named;
+  are_quoted_directories = k.are_quoted_directories;
+  are_directories = k.are_directories;
+  are_settings = k.are_settings;
+  are_includes = list_all-push is_include r.includes path k.are_includes h;
+  are_units = k.are_units;
+  are_said = k.are_said;
+  are_prefixes = k.are_prefixes;
+  is_said_too = k.is_said_too;
+}
+
+pub IsReading-unit : (r : Reading) (u : UnitValue) → IsReading r → IsUnit u → u.standard ≡ r.standard
+    → IsReading (record r { units = r.units ++ u ∷ [] })
+IsReading-unit r u k h same = record {
+  is_named = k.is_named;
+  are_quoted_directories = k.are_quoted_directories;
+  are_directories = k.are_directories;
+  are_settings = k.are_settings;
+  are_includes = k.are_includes;
+  are_units = All-append IsUnit r.units (u ∷ []) k.are_units (λ i d below. let first : i ≡ 0 = omega arith in rw first h);
+  are_said = list_all-push (λ (v : UnitValue). is_said v.standard) r.units u k.are_said (ap is_said same ∙ k.is_said_too);
+  are_prefixes = k.are_prefixes;
+  is_said_too = k.is_said_too;
+}
+
+-- the unit of this path that has what is in force
+abbrev pub unit_in : Reading → List ℕ → UnitValue
+unit_in r path = unit r.project path r.qpath r.ipath r.settings r.includes r.standard
+
+pub IsUnit-reading : (r : Reading) (path : List ℕ) → IsReading r → IsTrue (is_unit_path path)
+    → IsTrue (defines_fit r.standard r.settings r.includes) → IsUnit (unit_in r path)
+IsUnit-reading r path k h fits = record {
+  is_named = k.is_named;
   is_placed = h;
-  are_directories = r.are_directories;
-  are_settings = r.are_settings;
+  are_quoted_directories = k.are_quoted_directories;
+  are_directories = k.are_directories;
+  are_settings = k.are_settings;
+  are_includes = k.are_includes;
   fits = fits;
 }

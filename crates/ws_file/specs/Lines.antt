@@ -4,7 +4,7 @@ use Rattle.std.specs.List.{before_first, onto_first}
 use Rattle.std.specs.Str.{bytes_eq}
 use Rattle.cs_base.specs.Units.{line_feed, is_blank}
 use Rattle.ws_file.specs.declared.words.LineWord.{LineWord}
-use Rattle.ws_file.specs.declared.words.LineWord.TheVariants.{Project, Standard, Ipath, Readonly, Define, Undefine, File, Other}
+use Rattle.ws_file.specs.declared.words.LineWord.TheVariants.{Project, Standard, Qpath, Ipath, Readonly, Define, Undefine, Include, File, Other}
 
 -- the lines of a file: each ends before a line feed, or at the end of the file where a byte is left
 abbrev pub lines_of : List ℕ → List (List ℕ)
@@ -37,8 +37,10 @@ unfoldable pub line_word : List ℕ → LineWord
 line_word word =
     if bytes_eq word (codes "project") then Project
     else (if bytes_eq word (codes "standard") then Standard
+    else (if bytes_eq word (codes "qpath") then Qpath
     else (if bytes_eq word (codes "ipath") then Ipath
     else (if bytes_eq word (codes "readonly") then Readonly
     else (if bytes_eq word (codes "define") then Define
     else (if bytes_eq word (codes "undefine") then Undefine
-    else (if bytes_eq word (codes "file") then File else Other))))))
+    else (if bytes_eq word (codes "include") then Include
+    else (if bytes_eq word (codes "file") then File else Other))))))))

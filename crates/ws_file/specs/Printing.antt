@@ -5,7 +5,7 @@ use Rattle.std.specs.Str.{bytes_eq}
 use Rattle.cs_base.specs.declared.ws_units.Setting.{Setting}
 use Rattle.cs_base.specs.declared.ws_units.Setting.TheVariants.{Define, Undefine}
 use Rattle.cs_base.specs.declared.ws_units.Standard.{Standard}
-use Rattle.cs_base.specs.declared.ws_units.Standard.TheVariants.{C99, C11}
+use Rattle.cs_base.specs.declared.ws_units.Standard.TheVariants.{C99, C11, Gnu99, Gnu11}
 use Rattle.cs_base.specs.Units.{UnitValue, ended_line}
 use Rattle.ws_file.specs.Workspace.{WorkspaceValue}
 
@@ -21,6 +21,12 @@ project_line name = codes "project " ++ name
 abbrev pub standard_lines : Standard → List (List ℕ)
 standard_lines C99 = []
 standard_lines C11 = codes "standard c11" ∷ []
+standard_lines Gnu99 = codes "standard gnu99" ∷ []
+standard_lines Gnu11 = codes "standard gnu11" ∷ []
+
+-- the line of a directory of quoted names; the empty one is `.`
+abbrev pub qpath_line : List ℕ → List ℕ
+qpath_line directory = codes "qpath " ++ (if bytes_eq directory [] then codes "." else directory)
 
 -- the line of a directory; the empty one is `.`
 abbrev pub ipath_line : List ℕ → List ℕ
@@ -31,15 +37,20 @@ abbrev pub define_line : Setting → List ℕ
 define_line (Define rest) = codes "define " ++ rest
 define_line (Undefine name) = codes "undefine " ++ name
 
+-- the line of a file that is included before the unit's own
+abbrev pub included_line : List ℕ → List ℕ
+included_line path = codes "include " ++ path
+
 -- the line of a unit's path
 abbrev pub file_line : List ℕ → List ℕ
 file_line path = codes "file " ++ path
 
--- the lines of a unit: its project, standard, include paths and settings, and then its path
+-- the lines of a unit: its project, standard, include paths, settings and first includes, and then its path
 unfoldable pub unit_lines : UnitValue → List (List ℕ)
 unit_lines u =
     project_line u.project
-    ∷ (standard_lines u.standard ++ (map ipath_line u.ipath ++ (map define_line u.settings ++ file_line u.path ∷ [])))
+    ∷ (standard_lines u.standard ++ (map qpath_line u.qpath ++ (map ipath_line u.ipath
+    ++ (map define_line u.settings ++ (map included_line u.includes ++ file_line u.path ∷ [])))))
 
 -- the lines of a workspace: its prefixes, and then its units
 unfoldable pub workspace_lines : WorkspaceValue → List (List ℕ)

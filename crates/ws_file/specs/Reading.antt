@@ -7,66 +7,78 @@ use Rattle.cs_base.specs.declared.ws_units.Setting.TheVariants as setting
 use Rattle.cs_base.specs.declared.ws_units.Standard.{Standard as Language}
 use Rattle.cs_base.specs.declared.ws_units.Standard.TheVariants.{C99, C11}
 use Rattle.cs_base.specs.Paths.{normal_path_of}
-use Rattle.cs_base.specs.Units.{UnitValue, unit, backslash, less_sign, is_blank, begins_with, ends_with, has_bad_ends, is_nondigit, is_identifier, defines_fit}
+use Rattle.cs_base.specs.Units.{UnitValue, unit, backslash, quote, less_sign, is_blank, begins_with, ends_with, has_bad_ends, is_nondigit, is_identifier, defines_fit}
 use Rattle.cs_base.specs.Limits.{most_bytes, most_units}
 use Rattle.ws_file.specs.declared.words.LineWord.{LineWord}
-use Rattle.ws_file.specs.declared.words.LineWord.TheVariants.{Project, Standard, Ipath, Readonly, Define, Undefine, File, Other}
+use Rattle.ws_file.specs.declared.words.LineWord.TheVariants.{Project, Standard, Qpath, Ipath, Readonly, Define, Undefine, Include, File, Other}
 use Rattle.ws_file.specs.Workspace.{WorkspaceValue, workspace}
 use Rattle.ws_file.specs.Lines.{lines_of, trimmed, first_word, rest_of, line_word}
 
--- What the lines read so far say: the project, include paths and settings of the next units, the units
+-- What the lines read so far say: the project, include paths, settings and first includes of the next units, the units
 -- in order, the prefixes of read-only paths, and the standard of the next units.
 pub record Reading : Type 0 where
   pub project : List ℕ
+  pub qpath : List (List ℕ)
   pub ipath : List (List ℕ)
   pub settings : List Setting
+  pub includes : List (List ℕ)
   pub units : List UnitValue
   pub readonly : List (List ℕ)
   pub standard : Language
 
 -- a reading of these parts
-abbrev pub reading : List ℕ → List (List ℕ) → List Setting → List UnitValue → List (List ℕ) → Language → Reading
-reading project ipath settings units readonly standard = record {
+abbrev pub reading : List ℕ → List (List ℕ) → List (List ℕ) → List Setting → List (List ℕ) → List UnitValue → List (List ℕ) → Language → Reading
+reading project qpath ipath settings includes units readonly standard = record {
   project = project;
+  qpath = qpath;
   ipath = ipath;
   settings = settings;
+  includes = includes;
   units = units;
   readonly = readonly;
   standard = standard;
 }
 
+-- behind a line of a project: no include path, no setting and no first include yet, and C99
+abbrev pub project_begun : List ℕ → List UnitValue → List (List ℕ) → Reading
+project_begun name units readonly = reading name [] [] [] [] units readonly C99
+
 -- before the first line
 abbrev pub at_first : Reading
-at_first = reading (codes "default") [] [] [] [] C99
+at_first = project_begun (codes "default") [] []
 
--- `project NAME`, one word: later units belong to it, with no include path and no setting yet, and are of C99
+-- `project NAME`, one word: later units belong to it
 abbrev pub with_project : List ℕ → Reading → Option Reading
 with_project name r =
-    if list_all (λ b. not (is_blank b)) name then Some (reading name [] [] r.units r.readonly C99) else None
+    if list_all (λ b. not (is_blank b)) name then Some (project_begun name r.units r.readonly) else None
 
 -- a standard that holds for later units of the project
 abbrev pub of_standard : Language → Reading → Reading
-of_standard s r = reading r.project r.ipath r.settings r.units r.readonly s
+of_standard s r = record r { standard = s }
 
--- `standard c99` or `standard c11`
+-- `standard c99` or `standard c11`; no line says yet that a unit is of GNU C
 abbrev pub with_standard : List ℕ → Reading → Option Reading
 with_standard name r =
     if bytes_eq name (codes "c99") then Some (of_standard C99 r)
     else (if bytes_eq name (codes "c11") then Some (of_standard C11 r) else None)
 
+-- `qpath DIR`: a directory for quoted names alone
+abbrev pub with_quoted_directory : List ℕ → Reading → Option Reading
+with_quoted_directory directory r =
+    if has_bad_ends directory then None else Some (record r { qpath = r.qpath ++ directory ∷ [] })
+
 -- `ipath DIR`
 abbrev pub with_directory : List ℕ → Reading → Option Reading
 with_directory directory r =
-    if has_bad_ends directory then None
-    else Some (reading r.project (r.ipath ++ directory ∷ []) r.settings r.units r.readonly r.standard)
+    if has_bad_ends directory then None else Some (record r { ipath = r.ipath ++ directory ∷ [] })
 
 -- `readonly PREFIX`
 abbrev pub with_prefix : List ℕ → Reading → Option Reading
-with_prefix prefix r = Some (reading r.project r.ipath r.settings r.units (r.readonly ++ prefix ∷ []) r.standard)
+with_prefix prefix r = Some (record r { readonly = r.readonly ++ prefix ∷ [] })
 
 -- a setting that holds in later units of the project
 abbrev pub with_setting : Setting → Reading → Reading
-with_setting s r = reading r.project r.ipath (r.settings ++ s ∷ []) r.units r.readonly r.standard
+with_setting s r = record r { settings = r.settings ++ s ∷ [] }
 
 -- `define REST`
 abbrev pub with_define : List ℕ → Reading → Option Reading
@@ -82,20 +94,31 @@ with_undefine name r =
 abbrev pub is_bad_path : List ℕ → Bool
 is_bad_path path = bytes_eq path [] || begins_with (λ b. b == less_sign) path || has_bad_ends path
 
+-- a path that no include line can name: one that no unit may have, or with a quote in it
+abbrev pub is_bad_include : List ℕ → Bool
+is_bad_include path = is_bad_path path || not (list_all (λ b. not (b == quote)) path)
+
+-- `include PATH`: a file that is included before the own ones of later units of the project
+abbrev pub with_include : List ℕ → Reading → Option Reading
+with_include path r =
+    if is_bad_include path then None else Some (record r { includes = r.includes ++ path ∷ [] })
+
 -- `file PATH`: a unit with what is in force
 abbrev pub with_unit : List ℕ → Reading → Option Reading
 with_unit path r =
-    if is_bad_path path || not (defines_fit r.standard r.settings) then None
-    else Some (reading r.project r.ipath r.settings (r.units ++ unit r.project path r.ipath r.settings r.standard ∷ []) r.readonly r.standard)
+    if is_bad_path path || not (defines_fit r.standard r.settings r.includes) then None
+    else Some (record r { units = r.units ++ unit r.project path r.qpath r.ipath r.settings r.includes r.standard ∷ [] })
 
 -- a line of this word and rest; none where it is bad
 unfoldable pub with_word : LineWord → List ℕ → Reading → Option Reading
 with_word Project rest r = with_project rest r
 with_word Standard rest r = with_standard rest r
+with_word Qpath rest r = with_quoted_directory (normal_path_of rest) r
 with_word Ipath rest r = with_directory (normal_path_of rest) r
 with_word Readonly rest r = with_prefix rest r
 with_word Define rest r = with_define rest r
 with_word Undefine rest r = with_undefine rest r
+with_word Include rest r = with_include (normal_path_of rest) r
 with_word File rest r = with_unit (normal_path_of rest) r
 with_word Other rest r = None
 

@@ -1,10 +1,11 @@
 -- What the reader's steps promise each other.
-use Rattle.std.specs.Prelude.{◌≡◌, ℕ, Bool, true, false, not, ◌==◌, ◌+◌, ◌-◌, List, [], ◌∷◌, Option, None, Some, IsTrue, All, length, nat_le, if◌then◌else◌}
+use Rattle.std.specs.Prelude.{◌≡◌, ℕ, Bool, true, false, not, ◌==◌, ◌+◌, List, [], ◌∷◌, Option, None, Some, IsTrue, All, length, if◌then◌else◌}
 use Rattle.std.specs.List.{list_all}
 use Rattle.std.specs.Str.{is_utf8}
 use Rattle.cs_base.specs.declared.ws_units.Setting.{Setting}
-use Rattle.cs_base.specs.Units.{IsUnit, line_feed, is_blank, begins_with, ends_with, is_project, is_directory, is_setting, setting_line}
-use Rattle.ws_file.specs.Workspace.{is_prefix}
+use Rattle.cs_base.specs.declared.ws_units.Standard.{Standard}
+use Rattle.cs_base.specs.Units.{UnitValue, IsUnit, line_feed, is_blank, begins_with, ends_with, is_gnu, is_project, is_directory, is_setting, is_include, setting_line, include_line}
+use Rattle.ws_file.specs.Workspace.{is_prefix, is_said}
 use Rattle.ws_file.specs.Reading.{Reading}
 
 -- The line was taken, and this is the reading after it; or it is bad.
@@ -15,10 +16,14 @@ Takes expected false now = expected ≡ None
 -- What is true of every reading.
 pub record IsReading (r : Reading) : Type 0 where
   pub is_named : IsTrue (is_project r.project)
+  pub are_quoted_directories : IsTrue (list_all is_directory r.qpath)
   pub are_directories : IsTrue (list_all is_directory r.ipath)
   pub are_settings : IsTrue (list_all is_setting r.settings)
+  pub are_includes : IsTrue (list_all is_include r.includes)
   pub are_units : All IsUnit r.units
+  pub are_said : IsTrue (list_all (λ (u : UnitValue). is_said u.standard) r.units)
   pub are_prefixes : IsTrue (list_all is_prefix r.readonly)
+  pub is_said_too : IsTrue (is_said r.standard)
 
 abbrev pub is_no_feed : ℕ → Bool
 is_no_feed b = not (b == line_feed)
@@ -38,8 +43,15 @@ pub record IsTrimmed (text : List ℕ) : Type 0 where
 abbrev pub setting_len : Setting → ℕ
 setting_len s = length (setting_line s) + 1
 
--- the settings' lines fit into this many bytes
-abbrev pub fit_into : ℕ → List Setting → Bool
-fit_into room [] = true
-fit_into room (s ∷ settings) =
-    if nat_le (setting_len s) room then fit_into (room - setting_len s) settings else false
+-- the bytes of the include line of a file, with its line feed
+abbrev pub include_len : List ℕ → ℕ
+include_len path = length (include_line path) + 1
+
+-- these lengths of all together
+abbrev pub lengths : {X : Type 0} → (X → ℕ) → List X → ℕ
+lengths len [] = 0
+lengths len (x ∷ xs) = len x + lengths len xs
+
+-- the bytes of the lines that a unit of this standard has before its settings
+abbrev pub fixed_len : Standard → ℕ
+fixed_len standard = if is_gnu standard then 243 else 137

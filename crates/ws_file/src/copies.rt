@@ -44,10 +44,12 @@ fn copied_unit(alloc: Global, unit: &Unit) -> Result<Unit, Memory>
 {
     let project = copied_text(alloc, unit.project())?;
     let path = copied_text(alloc, unit.path())?;
+    let qpath = copied_texts(alloc, unit.qpath())?;
     let ipath = copied_texts(alloc, unit.ipath())?;
     let settings = copied_settings(alloc, unit.settings())?;
+    let includes = copied_texts(alloc, unit.includes())?;
     let standard = unit.standard();
-    Ok(Unit::new(project, path, ipath, settings, standard))
+    Ok(Unit::new(project, path, qpath, ipath, settings, includes, standard))
 }
 
 pub fn copied_units(alloc: Global, units: &[Unit]) -> Result<Vec<Unit>, Memory>

@@ -4,7 +4,7 @@ ghost use Rattle.std.specs.List.{flat_map};
 ghost use Rattle.cs_base.specs.Units.{ended_line};
 ghost use Rattle.cs_base.specs.Limits.{most_bytes};
 ghost use Rattle.ws_file.specs.Reading.{workspace_of};
-ghost use Rattle.ws_file.specs.Printing.{readonly_line, standard_lines, ipath_line, define_line, unit_lines, lines_text, workspace_text};
+ghost use Rattle.ws_file.specs.Printing.{readonly_line, standard_lines, qpath_line, ipath_line, define_line, included_line, unit_lines, lines_text, workspace_text};
 
 use crate::text_tests::is_text;
 use crate::workspaces::Workspace;
@@ -45,8 +45,10 @@ fn add_unit(text: &mut Vec<u8>, unit: &Unit) -> Result<(), Memory>
 {
     add_line(text, b"project ", unit.project().bytes())?;
     add_standard(text, unit.standard())?;
+    add_quoted_directories(text, unit.qpath())?;
     add_directories(text, unit.ipath())?;
     add_settings(text, unit.settings())?;
+    add_includes(text, unit.includes())?;
     add_line(text, b"file ", unit.path().bytes())
 }
 
@@ -56,7 +58,27 @@ fn add_standard(text: &mut Vec<u8>, standard: Standard) -> Result<(), Memory>
     match standard {
         Standard::C99 => Ok(()),
         Standard::C11 => add_line(text, b"standard ", b"c11"),
+        Standard::Gnu99 => add_line(text, b"standard ", b"gnu99"),
+        Standard::Gnu11 => add_line(text, b"standard ", b"gnu11"),
     }
+}
+
+fn add_quoted_directories(text: &mut Vec<u8>, directories: &[Text]) -> Result<(), Memory>
+    ensures { OnOk result (text.new.items ≡ text.old.items ++ lines_text (map qpath_line directories.now)) }
+{
+    for directory in directories {
+        add_quoted_directory(text, directory.bytes())?;
+    }
+    Ok(())
+}
+
+fn add_quoted_directory(text: &mut Vec<u8>, directory: &[u8]) -> Result<(), Memory>
+    ensures { OnOk result (text.new.items ≡ text.old.items ++ ended_line (qpath_line directory.now)) }
+{
+    if is_text(directory, b"") {
+        return add_line(text, b"qpath ", b".");
+    }
+    add_line(text, b"qpath ", directory)
 }
 
 fn add_directories(text: &mut Vec<u8>, directories: &[Text]) -> Result<(), Memory>
@@ -93,6 +115,15 @@ fn add_setting(text: &mut Vec<u8>, setting: &Setting) -> Result<(), Memory>
         Setting::Define(rest) => add_line(text, b"define ", rest.bytes()),
         Setting::Undefine(name) => add_line(text, b"undefine ", name.bytes()),
     }
+}
+
+fn add_includes(text: &mut Vec<u8>, includes: &[Text]) -> Result<(), Memory>
+    ensures { OnOk result (text.new.items ≡ text.old.items ++ lines_text (map included_line includes.now)) }
+{
+    for path in includes {
+        add_line(text, b"include ", path.bytes())?;
+    }
+    Ok(())
 }
 
 fn add_line(text: &mut Vec<u8>, word: &[u8], rest: &[u8]) -> Result<(), Memory>

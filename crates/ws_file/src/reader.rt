@@ -7,8 +7,8 @@ ghost use Rattle.ws_file.specs.declared.words.LineWord.{LineWord};
 use crate::copies::{copied_settings, copied_text, copied_texts};
 use crate::line_parts::{trimmed, word_and_rest};
 use crate::text_tests::{
-    begins_with_nondigit, defines_fit, ends_with_backslash, has_bad_ends, is_bad_path, is_comment,
-    is_identifier, is_one_word, is_text, is_utf8,
+    begins_with_nondigit, defines_fit, ends_with_backslash, has_bad_ends, is_bad_include,
+    is_bad_path, is_comment, is_identifier, is_one_word, is_text, is_utf8,
 };
 use crate::words::{LineWord, word_of};
 use crate::workspaces::Workspace;
@@ -20,8 +20,10 @@ use std::marker::Model;
 #[derive(Drop)]
 pub struct Reader {
     project: Text,
+    qpath: Vec<Text>,
     ipath: Vec<Text>,
     settings: Vec<Setting>,
+    includes: Vec<Text>,
     units: Vec<Unit>,
     readonly: Vec<Text>,
     standard: Standard,
@@ -33,15 +35,15 @@ impl Model for Reader {
 
     ghost Value = { Reading };
 
-    ghost view = { λ r. reading r.project r.ipath.items r.settings.items r.units.items r.readonly.items r.standard };
+    ghost view = { λ r. reading r.project r.qpath.items r.ipath.items r.settings.items r.includes.items r.units.items r.readonly.items r.standard };
 
-    ghost invariant = { λ r. IsReading (reading r.project r.ipath.items r.settings.items r.units.items r.readonly.items r.standard) };
+    ghost invariant = { λ r. IsReading (reading r.project r.qpath.items r.ipath.items r.settings.items r.includes.items r.units.items r.readonly.items r.standard) };
 }
 
 impl Reader {
     ghost use Rattle.cs_base.specs.Paths.{normal_path_of};
     ghost use Rattle.ws_file.specs.Workspace.{workspace};
-    ghost use Rattle.ws_file.specs.Reading.{at_first, with_project, with_standard, with_directory, with_prefix, with_define, with_undefine, with_unit, with_word, with_text, with_line};
+    ghost use Rattle.ws_file.specs.Reading.{at_first, with_project, with_standard, with_quoted_directory, with_directory, with_prefix, with_define, with_undefine, with_include, with_unit, with_word, with_text, with_line};
     ghost use Rattle.ws_file.specs.Taking.{Takes, IsTrimmed, has_no_feed};
 
     /// Before the first line.
@@ -50,8 +52,10 @@ impl Reader {
     {
         Ok(Reader {
             project: Text::new(alloc, b"default")?,
+            qpath: Vec::new(alloc),
             ipath: Vec::new(alloc),
             settings: Vec::new(alloc),
+            includes: Vec::new(alloc),
             units: Vec::new(alloc),
             readonly: Vec::new(alloc),
             standard: Standard::C99,
@@ -72,8 +76,10 @@ impl Reader {
     {
         let Reader {
             project: _,
+            qpath: _,
             ipath: _,
             settings: _,
+            includes: _,
             units,
             readonly,
             standard: _,
@@ -91,8 +97,10 @@ impl Reader {
             return Ok(false);
         }
         self.project = Text::new(alloc, name)?;
+        self.qpath.clear();
         self.ipath.clear();
         self.settings.clear();
+        self.includes.clear();
         self.standard = Standard::C99;
         Ok(true)
     }
@@ -110,6 +118,19 @@ impl Reader {
         } else {
             false
         }
+    }
+
+    // `qpath DIR`.
+    fn take_quoted_directory(&mut self, alloc: Global, path: &[u8]) -> Result<bool, Memory>
+        requires writable { IsTrue (is_writable path.now) }
+        ensures { IfOk result (λ taken. Takes (with_quoted_directory (normal_path_of path.now) self.old) taken self.new) }
+    {
+        let directory = normal_path(alloc, path)?;
+        if has_bad_ends(directory.bytes()) {
+            return Ok(false);
+        }
+        self.qpath.push(directory)?;
+        Ok(true)
     }
 
     // `ipath DIR`.
@@ -160,20 +181,45 @@ impl Reader {
         Ok(true)
     }
 
+    // `include PATH`.
+    fn take_include(&mut self, alloc: Global, path: &[u8]) -> Result<bool, Memory>
+        requires writable { IsTrue (is_writable path.now) }
+        ensures { IfOk result (λ taken. Takes (with_include (normal_path_of path.now) self.old) taken self.new) }
+    {
+        let path = normal_path(alloc, path)?;
+        if is_bad_include(path.bytes()) {
+            return Ok(false);
+        }
+        self.includes.push(path)?;
+        Ok(true)
+    }
+
     // `file PATH`.
     fn take_unit(&mut self, alloc: Global, path: &[u8]) -> Result<bool, Memory>
         requires writable { IsTrue (is_writable path.now) }
         ensures { IfOk result (λ taken. Takes (with_unit (normal_path_of path.now) self.old) taken self.new) }
     {
         let path = normal_path(alloc, path)?;
-        if is_bad_path(path.bytes()) || !defines_fit(self.standard, self.settings.as_slice()) {
+        let settings = self.settings.as_slice();
+        let includes = self.includes.as_slice();
+        if is_bad_path(path.bytes()) || !defines_fit(self.standard, settings, includes) {
             return Ok(false);
         }
         let project = copied_text(alloc, &self.project)?;
+        let qpath = copied_texts(alloc, self.qpath.as_slice())?;
         let ipath = copied_texts(alloc, self.ipath.as_slice())?;
         let settings = copied_settings(alloc, self.settings.as_slice())?;
-        self.units
-            .push(Unit::new(project, path, ipath, settings, self.standard))?;
+        let includes = copied_texts(alloc, self.includes.as_slice())?;
+        let unit = Unit::new(
+            project,
+            path,
+            qpath,
+            ipath,
+            settings,
+            includes,
+            self.standard,
+        );
+        self.units.push(unit)?;
         Ok(true)
     }
 
@@ -187,10 +233,12 @@ impl Reader {
         match word {
             LineWord::Project => self.take_project(alloc, rest),
             LineWord::Standard => Ok(self.take_standard(rest)),
+            LineWord::Qpath => self.take_quoted_directory(alloc, rest),
             LineWord::Ipath => self.take_directory(alloc, rest),
             LineWord::Readonly => self.take_prefix(alloc, rest),
             LineWord::Define => self.take_define(alloc, rest),
             LineWord::Undefine => self.take_undefine(alloc, rest),
+            LineWord::Include => self.take_include(alloc, rest),
             LineWord::File => self.take_unit(alloc, rest),
             LineWord::Other => Ok(false),
         }

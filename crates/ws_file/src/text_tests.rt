@@ -1,14 +1,15 @@
 // Tests of texts.
-ghost use Rattle.std.specs.Prelude.{◌≡◌, ◌==◌, ◌-◌, ◌≤◌, ◌||◌, not};
+ghost use Rattle.std.specs.Prelude.{◌≡◌, ◌==◌, ◌-◌, ◌≤◌, ◌||◌, not, nat_le};
 ghost use Rattle.std.specs.Option.{SomeIff};
 ghost use Rattle.std.specs.List.{list_all};
 ghost use Rattle.std.specs.Char.{is_ascii_digit};
 ghost use Rattle.std.specs.Str.{bytes_eq, is_utf8};
-ghost use Rattle.cs_base.specs.Units.{backslash, less_sign, begins_with, ends_with, has_bad_ends, is_blank, is_nondigit, is_identifier, defines_fit};
-ghost use Rattle.ws_file.specs.Reading.{number_sign, is_bad_path, is_comment};
-ghost use Rattle.ws_file.specs.Taking.{setting_len, fit_into};
+ghost use Rattle.cs_base.specs.Limits.{most_defines};
+ghost use Rattle.cs_base.specs.Units.{backslash, quote, less_sign, begins_with, ends_with, has_bad_ends, is_blank, is_nondigit, is_identifier, defines_fit};
+ghost use Rattle.ws_file.specs.Reading.{number_sign, is_bad_path, is_bad_include, is_comment};
+ghost use Rattle.ws_file.specs.Taking.{setting_len, include_len, lengths, fixed_len};
 
-use cs_base::{Setting, Standard};
+use cs_base::{Setting, Standard, Text};
 use std::str;
 
 /// A space, a tab or a carriage return.
@@ -72,6 +73,19 @@ pub fn is_bad_path(path: &[u8]) -> bool
     is_text(path, b"") || begins_with_byte(path, b'<') || has_bad_ends(path)
 }
 
+/// A path that no include line can name.
+pub fn is_bad_include(path: &[u8]) -> bool
+    ensures { result ≡ is_bad_include path.now }
+{
+    is_bad_path(path) || !has_no_quote(path)
+}
+
+fn has_no_quote(path: &[u8]) -> bool
+    ensures { result ≡ list_all (λ b. not (b == quote)) path.now }
+{
+    path.iter().all(|b| *b != b'"')
+}
+
 /// A line that says nothing.
 pub fn is_comment(text: &[u8]) -> bool
     ensures { result ≡ is_comment text.now }
@@ -132,21 +146,46 @@ pub fn is_text(text: &[u8], other: &[u8]) -> bool
     text == other
 }
 
-// What 2^16 bytes leave to the settings' lines of a pseudo file.
-const ROOM: usize = 65536 - 137;
-
-/// The pseudo file of the settings has no more than 2^16 bytes; by each standard it is as long.
-pub fn defines_fit(_standard: Standard, settings: &[Setting]) -> bool
-    ensures { result ≡ defines_fit _standard settings.now }
+// What 2^16 bytes leave to a unit of this standard behind the fixed lines of its pseudo file.
+fn room_of(standard: Standard) -> usize
+    ensures { result ≡ most_defines - fixed_len standard }
 {
-    let mut room = ROOM;
-    for setting in settings {
-        match room_after(room, setting) {
-            Some(left) => room = left,
-            None => return false,
-        }
+    if standard.is_gnu() {
+        65536 - 243
+    } else {
+        65536 - 137
     }
-    true
+}
+
+/// The pseudo file of the settings and first includes has no more than 2^16 bytes.
+pub fn defines_fit(standard: Standard, settings: &[Setting], includes: &[Text]) -> bool
+    ensures { result ≡ defines_fit standard settings.now includes.now }
+{
+    match room_after_settings(room_of(standard), settings) {
+        Some(room) => includes_fit(room, includes),
+        None => false,
+    }
+}
+
+// The include lines of these files fit into the room.
+fn includes_fit(room: usize, includes: &[Text]) -> bool
+    ensures { result ≡ nat_le (lengths include_len includes.now) room }
+{
+    match room_after_includes(room, includes) {
+        Some(_) => true,
+        None => false,
+    }
+}
+
+// The room that is left behind the settings' lines.
+fn room_after_settings(room: usize, settings: &[Setting]) -> Option<usize>
+    ensures { SomeIff result (lengths setting_len settings.now ≤ room) (room - lengths setting_len settings.now) }
+{
+    let mut left = room;
+    for setting in settings {
+        left = room_after(left, setting)?;
+    }
+    Some(left)
 }
 
 // The room that is left behind the setting's line.
@@ -158,4 +197,22 @@ fn room_after(room: usize, setting: &Setting) -> Option<usize>
         Setting::Undefine(name) => room.checked_sub(8)?.checked_sub(name.bytes().len())?,
     };
     Some(left)
+}
+
+// The room that is left behind the include lines of these files.
+fn room_after_includes(room: usize, includes: &[Text]) -> Option<usize>
+    ensures { SomeIff result (lengths include_len includes.now ≤ room) (room - lengths include_len includes.now) }
+{
+    let mut left = room;
+    for path in includes {
+        left = room_after_include(left, path.bytes())?;
+    }
+    Some(left)
+}
+
+// The room that is left behind the include line of a file.
+fn room_after_include(room: usize, path: &[u8]) -> Option<usize>
+    ensures { SomeIff result (include_len path.now ≤ room) (room - include_len path.now) }
+{
+    room.checked_sub(12)?.checked_sub(path.len())
 }

@@ -9,10 +9,12 @@ use crate::text_tests::is_text;
 pub enum LineWord {
     Project,
     Standard,
+    Qpath,
     Ipath,
     Readonly,
     Define,
     Undefine,
+    Include,
     File,
     Other,
 }
@@ -26,6 +28,8 @@ pub fn word_of(word: &[u8]) -> LineWord
         LineWord::Project
     } else if is_text(word, b"standard") {
         LineWord::Standard
+    } else if is_text(word, b"qpath") {
+        LineWord::Qpath
     } else if is_text(word, b"ipath") {
         LineWord::Ipath
     } else if is_text(word, b"readonly") {
@@ -34,6 +38,8 @@ pub fn word_of(word: &[u8]) -> LineWord
         LineWord::Define
     } else if is_text(word, b"undefine") {
         LineWord::Undefine
+    } else if is_text(word, b"include") {
+        LineWord::Include
     } else if is_text(word, b"file") {
         LineWord::File
     } else {

@@ -1,11 +1,12 @@
-use Rattle.std.proofs.Common.{sym, ◌∙◌}
-use Rattle.include_tree.proofs.SettingsLemmas.{settings-none, settings-more}
+use Rattle.std.proofs.Common.{◌≡◌, ◌++◌, map, ◌∙◌, rules}
+use Rattle.std.specs.List.{flat_map}
+use Rattle.cs_base.specs.Units.{fixed_lines, ended_line, setting_line, include_line}
+use Rattle.include_tree.proofs.SettingsLemmas.{defines-parts}
 use Rattle.include_tree.proofs.settings_text.defines_text.Goals as goal
 
-pub loop-setting-init : goal.loop-setting-init
-loop-setting-init c = c.in_ok-text.ensures ∙ sym (settings-none c.args.standard)
-
-pub loop-setting-preserved : goal.loop-setting-preserved
-loop-setting-preserved c =
-    settings-more c.args.standard c.args.settings.now c.loop-setting.setting-index c.setting-item.result c.loop-setting.text.items c.push_line.new.text.items
-    c.loop-setting-test.true c.setting-item.is c.loop-setting.invariant c.in_ok-push_line.ensures
+pub returns : goal.returns
+returns c =
+    let u = c.args.unit.now in
+    let parts : c.push_includes.new.text.items
+    ≡ (flat_map ended_line (fixed_lines u.standard) ++ flat_map ended_line (map setting_line u.settings)) ++ flat_map ended_line (map include_line u.includes) = search rules in
+    parts ∙ defines-parts u.standard u.settings u.includes

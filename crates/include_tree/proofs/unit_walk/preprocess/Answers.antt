@@ -31,7 +31,7 @@ returns-in-Err-walk_main-clause-answer g c = λ none source found.
     (c.in-Ok.ensures.state (with_defines c.args.number c.args.unit.now c.args.cache.now.table)) c.in-Ok.ensures.text source (fault_of c.in-Err-walk_main.fault)
     (state_in c.walk_defines.new.cache.table c.walk_defines.new.p) c.walk_defines.new.p.text
     (c.in-Ok-walk_defines.ensures.answer none source (earlier_found source c.walk_defines.new.cache.table c.walk_main.new.cache.table c.in-Err-walk_main.ensures.reads.grown found))
-    (subst (λ (n : ℕ). IfSome (fault_of c.in-Err-walk_main.fault) (λ f. put_after c.walk_defines.new.p.text (main_file (unit_context source c.args.unit.now.ipath n) c.args.unit.now.path (state_in c.walk_defines.new.cache.table c.walk_defines.new.p)) ≡ Err f))
+    (subst (λ (n : ℕ). IfSome (fault_of c.in-Err-walk_main.fault) (λ f. put_after c.walk_defines.new.p.text (main_file (unit_context source c.args.unit.now n) c.args.unit.now.path (state_in c.walk_defines.new.cache.table c.walk_defines.new.p)) ≡ Err f))
     c.in-Ok-walk_defines.ensures.reads.counted (c.in-Err-walk_main.ensures.answer source found))
 
 pub returns-in-Err-walk_main-clause-found : goal.returns-in-Err-walk_main-clause-found
@@ -68,7 +68,7 @@ returns-clause-answer g c = λ none source found.
     (c.in-Ok.ensures.state (with_defines c.args.number c.args.unit.now c.args.cache.now.table)) c.in-Ok.ensures.text source
     (state_in c.walk_defines.new.cache.table c.walk_defines.new.p) (state_in c.walk_main.new.cache.table c.walk_main.new.p) c.walk_defines.new.p.text c.walk_main.new.p.text c.count.new.self
     (c.in-Ok-walk_defines.ensures.answer none source (earlier_found source c.walk_defines.new.cache.table c.walk_main.new.cache.table c.in-Ok-walk_main.ensures.reads.grown walked))
-    (subst (λ (n : ℕ). put_after c.walk_defines.new.p.text (main_file (unit_context source c.args.unit.now.ipath n) c.args.unit.now.path (state_in c.walk_defines.new.cache.table c.walk_defines.new.p)) ≡ Ok (state_in c.walk_main.new.cache.table c.walk_main.new.p, c.walk_main.new.p.text))
+    (subst (λ (n : ℕ). put_after c.walk_defines.new.p.text (main_file (unit_context source c.args.unit.now n) c.args.unit.now.path (state_in c.walk_defines.new.cache.table c.walk_defines.new.p)) ≡ Ok (state_in c.walk_main.new.cache.table c.walk_main.new.p, c.walk_main.new.p.text))
     c.in-Ok-walk_defines.ensures.reads.counted (c.in-Ok-walk_main.ensures.answer source walked))
     (c.count.ensures ∙ ap (λ (n : ℕ). carried c.walk_main.new.cache.table (c.walk_main.new.cache.toks + n)) c.before-2.ensures
     ∙ ap (λ (n : ℕ). carried c.walk_main.new.cache.table (n + length c.walk_main.new.p.text.toks)) (c.in-Ok-walk_main.ensures.reads.counted ∙ c.in-Ok-walk_defines.ensures.reads.counted)))

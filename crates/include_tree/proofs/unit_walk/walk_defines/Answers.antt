@@ -10,8 +10,8 @@ pub returns-in-Ok-clause-answer : goal.returns-in-Ok-clause-answer
 returns-in-Ok-clause-answer g c = λ none source found.
     outer-walked source (λ _. (state_in c.walk_file.new.cache.table c.walk_file.new.p, c.walk_file.new.p.text)) c.walk_file.result
     c.args.p.now.text c.in-Ok.defines 199 (defines_opening c.args.number c.args.unit.now c.args.cache.now.table) c.make_defines.new.cache.table
-    (state_in (with_defines c.args.number c.args.unit.now c.args.cache.now.table) c.args.p.now) c.args.unit.now.ipath c.ipath.result.now c.args.cache.now.toks c.make_defines.new.cache.toks
-    c.ipath.ensures.answer c.in-Ok.ensures.keeps.counted (c.in-Ok.ensures.answer none) (c.walk_file.ensures.answer source found)
+    (state_in (with_defines c.args.number c.args.unit.now c.args.cache.now.table) c.args.p.now) c.args.unit.now c.args.cache.now.toks c.make_defines.new.cache.toks
+    c.in-Ok.ensures.keeps.counted (c.in-Ok.ensures.answer none) (c.walk_file.ensures.answer source found)
 
 pub returns-in-Ok-clause-reads : goal.returns-in-Ok-clause-reads
 returns-in-Ok-clause-reads g c =
@@ -21,7 +21,7 @@ returns-in-Ok-clause-reads g c =
 pub returns-in-Err-clause-answer : goal.returns-in-Err-clause-answer
 returns-in-Err-clause-answer g c = λ none source found.
     outer-refused c.args.p.now.text c.in-Err.fault (defines_opening c.args.number c.args.unit.now c.args.cache.now.table) c.make_defines.new.cache.table
-    (state_in (with_defines c.args.number c.args.unit.now c.args.cache.now.table) c.args.p.now) (file_items (unit_context source c.args.unit.now.ipath c.args.cache.now.toks) 199)
+    (state_in (with_defines c.args.number c.args.unit.now c.args.cache.now.table) c.args.p.now) (file_items (unit_context source c.args.unit.now c.args.cache.now.toks) 199)
     (c.in-Err.ensures.answer none)
 
 pub returns-in-Err-clause-reads : goal.returns-in-Err-clause-reads

@@ -21,8 +21,8 @@ returns-in-Ok-clause-answer g c =
     λ source found.
     outer-walked source (λ _. (state_in c.walk_file.new.cache.table c.walk_file.new.p, c.walk_file.new.p.text)) c.walk_file.result
     c.args.p.now.text c.in-Ok.main 199 (main_opening c.args.unit.now.path c.args.cache.now.table source) c.open_main.new.cache.table
-    (state_in (asked source c.args.unit.now.path c.args.cache.now.table) c.args.p.now) c.args.unit.now.ipath c.ipath.result.now c.args.cache.now.toks c.open_main.new.cache.toks
-    c.ipath.ensures.answer c.in-Ok.ensures.reads.counted
+    (state_in (asked source c.args.unit.now.path c.args.cache.now.table) c.args.p.now) c.args.unit.now c.args.cache.now.toks c.open_main.new.cache.toks
+    c.in-Ok.ensures.reads.counted
     (opens source (earlier_found source c.open_main.new.cache.table c.walk_file.new.cache.table c.walk_file.ensures.reads.grown found)) (c.walk_file.ensures.answer source found)
 
 pub returns-in-Err-clause-answer : goal.returns-in-Err-clause-answer
@@ -30,5 +30,5 @@ returns-in-Err-clause-answer g c =
     let opens = rw (c.bytes.ensures ∙ c.path.ensures.answer) at c.in-Err.ensures.answer in
     λ source found.
     outer-refused c.args.p.now.text c.in-Err.fault (main_opening c.args.unit.now.path c.args.cache.now.table source) c.open_main.new.cache.table
-    (state_in (asked source c.args.unit.now.path c.args.cache.now.table) c.args.p.now) (file_items (unit_context source c.args.unit.now.ipath c.args.cache.now.toks) 199)
+    (state_in (asked source c.args.unit.now.path c.args.cache.now.table) c.args.p.now) (file_items (unit_context source c.args.unit.now c.args.cache.now.toks) 199)
     (opens source found)

@@ -14,21 +14,21 @@ use Rattle.include_tree.proofs.walking.+walk.Goals as goal
 pub walk_item-returns-in-Ok-None-clause-answer : goal.walk_item-returns-in-Ok-None-clause-answer
 walk_item-returns-in-Ok-None-clause-answer g t c =
     λ source found.
-    item-told source (source_at c.args.cache.now.table c.args.number) c.args.ipath.now c.args.cache.now.toks c.args.p.now.most c.args.room c.args.k
+    item-told source (source_at c.args.cache.now.table c.args.number) c.args.unit.now c.args.cache.now.toks c.args.p.now.most c.args.room c.args.k
     c.args.sections.now c.next_item.new.sections (state_in c.args.cache.now.table c.args.p.now) (state_in c.args.cache.now.table c.next_item.new.p) c.args.p.now.text
     c.next_item.new.p.text (Ok None) c.requires.ready.limited (rw c.in-Ok-None.field-0-is at c.in-Ok-None.ensures.answer)
 
 pub walk_item-returns-in-Err-clause-answer : goal.walk_item-returns-in-Err-clause-answer
 walk_item-returns-in-Err-clause-answer g t c =
     λ source found.
-    item-told source (source_at c.args.cache.now.table c.args.number) c.args.ipath.now c.args.cache.now.toks c.args.p.now.most c.args.room c.args.k
+    item-told source (source_at c.args.cache.now.table c.args.number) c.args.unit.now c.args.cache.now.toks c.args.p.now.most c.args.room c.args.k
     c.args.sections.now c.next_item.new.sections (state_in c.args.cache.now.table c.args.p.now) (state_in c.args.cache.now.table c.next_item.new.p) c.args.p.now.text
     c.next_item.new.p.text (Err c.in-Err.fault) c.requires.ready.limited c.in-Err.ensures.answer
 
 pub walk_item-returns-in-Ok-Some-clause-answer : goal.walk_item-returns-in-Ok-Some-clause-answer
 walk_item-returns-in-Ok-Some-clause-answer g t c =
     λ source found.
-    item-included source (source_at c.args.cache.now.table c.args.number) c.args.ipath.now c.args.cache.now.toks c.args.p.now.most c.args.room c.args.k
+    item-included source (source_at c.args.cache.now.table c.args.number) c.args.unit.now c.args.cache.now.toks c.args.p.now.most c.args.room c.args.k
     c.args.sections.now c.next_item.new.sections (state_in c.args.cache.now.table c.args.p.now) (state_in c.args.cache.now.table c.next_item.new.p)
     (state_in c.include_file.new.cache.table c.include_file.new.p) c.args.p.now.text c.next_item.new.p.text c.include_file.new.p.text c.in-Ok-Some.line c.include_file.result
     c.requires.ready.limited (rw c.in-Ok-Some.field-0-is at c.in-Ok-Some.ensures.answer) (c.include_file.ensures.answer source found)
@@ -39,14 +39,14 @@ pub include_file-returns-in-Err-clause-answer : goal.include_file-returns-in-Err
 include_file-returns-in-Err-clause-answer g t c =
     let some : 0 < c.args.room = omega arith in
     λ source found.
-    include-fault source (source_at c.args.cache.now.table c.args.number) c.args.ipath.now c.args.cache.now.toks c.args.room c.args.at c.args.header.now
+    include-fault source (source_at c.args.cache.now.table c.args.number) c.args.unit.now c.args.cache.now.toks c.args.room c.args.at c.args.header.now
     (state_in c.args.cache.now.table c.args.p.now) c.args.p.now.text c.in-Err.fault c.open_header.new.cache.table some (c.in-Err.ensures.answer source found)
 
 pub include_file-returns-in-Ok-clause-answer : goal.include_file-returns-in-Ok-clause-answer
 include_file-returns-in-Ok-clause-answer g t c =
     let some : 0 < c.args.room = omega arith in
     λ source found.
-    include-open source (source_at c.args.cache.now.table c.args.number) c.args.ipath.now c.args.cache.now.toks
+    include-open source (source_at c.args.cache.now.table c.args.number) c.args.unit.now c.args.cache.now.toks
     c.open_header.new.cache.toks c.args.room c.args.at c.args.header.now (state_in c.args.cache.now.table c.args.p.now) (state_in c.enter_file.new.cache.table c.enter_file.new.p)
     c.args.p.now.text c.enter_file.new.p.text c.open_header.new.cache.table c.in-Ok.inner c.enter_file.result some c.in-Ok.ensures.reads.counted
     (c.in-Ok.ensures.answer source (earlier_found source c.open_header.new.cache.table c.enter_file.new.cache.table c.enter_file.ensures.reads.grown found))
@@ -57,13 +57,13 @@ include_file-returns-in-Ok-clause-answer g t c =
 pub enter_file-returns-clause-answer : goal.enter_file-returns-clause-answer
 enter_file-returns-clause-answer g t c =
     λ source found.
-    enter-done c.args.ipath.now c.args.cache.now.toks c.args.room c.args.cache.now.table c.args.number c.args.at c.args.p.now c.enter.new.self c.in_ok-enter.ensures.noted
+    enter-done c.args.unit.now c.args.cache.now.toks c.args.room c.args.cache.now.table c.args.number c.args.at c.args.p.now c.enter.new.self c.in_ok-enter.ensures.noted
     source c.walk_file.new.cache.table c.walk_file.new.p c.leave.new.self c.in_ok-leave.ensures.noted (c.in-Ok.ensures.answer source found)
 
 pub enter_file-returns-in-Err-clause-answer : goal.enter_file-returns-in-Err-clause-answer
 enter_file-returns-in-Err-clause-answer g t c =
     λ source found.
-    enter-fault c.args.ipath.now c.args.cache.now.toks c.args.room c.args.cache.now.table c.args.number c.args.at c.args.p.now c.enter.new.self c.in_ok-enter.ensures.noted
+    enter-fault c.args.unit.now c.args.cache.now.toks c.args.room c.args.cache.now.table c.args.number c.args.at c.args.p.now c.enter.new.self c.in_ok-enter.ensures.noted
     source (fault_of c.in-Err.fault) (c.in-Err.ensures.answer source found)
 
 -- ---- the items of a file
@@ -72,7 +72,7 @@ pub walk_file-loop-k-init : goal.walk_file-loop-k-init
 walk_file-loop-k-init g t c =
     record {
       told = refl;
-      answer = λ source found. walk-starts source (source_at c.args.cache.now.table c.args.number) c.args.ipath.now c.args.cache.now.toks c.args.room
+      answer = λ source found. walk-starts source (source_at c.args.cache.now.table c.args.number) c.args.unit.now c.args.cache.now.toks c.args.room
           (state_in c.args.cache.now.table c.args.p.now) c.args.p.now.text c.new-sections.result c.new-sections.ensures;
       same = refl;
       able = c.requires.ready.able;
@@ -87,7 +87,7 @@ walk_file-loop-k-preserved g t c =
     record {
       told = c.in-Ok.ensures.faults.told ∙ i.told;
       answer = λ source found.
-          walk-goes source (source_at c.args.cache.now.table c.args.number) c.args.ipath.now c.args.cache.now.toks c.args.room
+          walk-goes source (source_at c.args.cache.now.table c.args.number) c.args.unit.now c.args.cache.now.toks c.args.room
           (state_in c.args.cache.now.table c.args.p.now) c.args.p.now.text (source_at c.loop-k.cache.table c.args.number) c.loop-k.cache.toks
           c.in_ok-count.count c.loop-k.k c.loop-k.sections (state_in c.loop-k.cache.table c.loop-k.p) c.loop-k.p.text i.same i.cache.counted c.in_ok-count.ensures c.loop-k-test.true
           (i.answer source (earlier_found source c.loop-k.cache.table c.walk_item.new.cache.table c.in-Ok.ensures.reads.grown found))
@@ -102,7 +102,7 @@ pub walk_file-returns-in-Err-clause-answer : goal.walk_file-returns-in-Err-claus
 walk_file-returns-in-Err-clause-answer g t c =
     let i = c.loop-k.invariant in
     λ source found.
-    walk-faulted source (source_at c.args.cache.now.table c.args.number) c.args.ipath.now c.args.cache.now.toks c.args.room
+    walk-faulted source (source_at c.args.cache.now.table c.args.number) c.args.unit.now c.args.cache.now.toks c.args.room
     (state_in c.args.cache.now.table c.args.p.now) c.args.p.now.text (source_at c.loop-k.cache.table c.args.number) c.loop-k.cache.toks
     c.in_ok-count.count c.loop-k.k c.loop-k.sections (state_in c.loop-k.cache.table c.loop-k.p) c.loop-k.p.text i.same i.cache.counted c.in_ok-count.ensures c.loop-k-test.true
     (i.answer source (earlier_found source c.loop-k.cache.table c.walk_item.new.cache.table c.in-Err.ensures.reads.grown found))
@@ -112,7 +112,7 @@ pub walk_file-returns-clause-answer : goal.walk_file-returns-clause-answer
 walk_file-returns-clause-answer g t c =
     let i = c.loop-k.invariant in
     λ source found.
-    walk-ends source (source_at c.args.cache.now.table c.args.number) c.args.ipath.now c.args.cache.now.toks c.args.room
+    walk-ends source (source_at c.args.cache.now.table c.args.number) c.args.unit.now c.args.cache.now.toks c.args.room
     (state_in c.args.cache.now.table c.args.p.now) c.args.p.now.text (source_at c.loop-k.cache.table c.args.number) c.in_ok-count.count c.loop-k.k c.loop-k.sections
     (state_in c.loop-k.cache.table c.loop-k.p) c.loop-k.p.text c.file_end.result i.same c.in_ok-count.ensures c.loop-k-test.false (i.answer source found) c.file_end.ensures.answer
 

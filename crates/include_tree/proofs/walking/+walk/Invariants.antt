@@ -29,8 +29,8 @@ abbrev pub invariant-walk_file-loop-k : goal.invariant-walk_file-loop-k
 invariant-walk_file-loop-k g l = record {
   told : g.F.Files.told l.files ≡ g.F.Files.told l.fn.files;
   answer : (source : Source) → AreFound source l.cache.table → IfSome (source_at l.fn.cache.table l.number) (λ file.
-      put_after l.fn.p.text (file_items (unit_context source l.ipath l.fn.cache.toks) l.room file (state_in l.fn.cache.table l.fn.p))
-      ≡ put_after l.p.text (walk (unit_context source l.ipath l.fn.cache.toks) (inner_in (unit_context source l.ipath l.fn.cache.toks) l.room) file l.k
+      put_after l.fn.p.text (file_items (unit_context source l.unit l.fn.cache.toks) l.room file (state_in l.fn.cache.table l.fn.p))
+      ≡ put_after l.p.text (walk (unit_context source l.unit l.fn.cache.toks) (inner_in (unit_context source l.unit l.fn.cache.toks) l.room) file l.k
       (drop l.k (items_in file)) l.sections (state_in l.cache.table l.p)));
   same : source_at l.cache.table l.number ≡ source_at l.fn.cache.table l.number;
   able : IsAble l.p;

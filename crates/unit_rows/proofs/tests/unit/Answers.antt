@@ -14,19 +14,24 @@ placed : is_unit_path (codes "a.c") ≡ true
 unfolding is_writable kept_of normal_path_of
 placed = rw (is_utf8-ascii (codes "a.c") refl) refl
 
-alone : IsUnit (unit (codes "p") (codes "a.c") [] [] C99)
+alone : IsUnit (unit (codes "p") (codes "a.c") [] [] [] [] C99)
 unfolding fixed_lines defines_text defines_fit
-alone = record { is_named = named; is_placed = placed; are_directories = refl; are_settings = refl; fits = refl }
+alone = record {
+  is_named = named;
+  is_placed = placed;
+  are_quoted_directories = refl;
+  are_directories = refl;
+  are_settings = refl;
+  are_includes = refl;
+  fits = refl;
+}
 
-unit-is : (project path : List ℕ) (ipath : List (List ℕ)) (settings : List Setting) → project ≡ codes "p" → path ≡ codes "a.c" → ipath ≡ [] → settings ≡ []
-    → IsUnit (unit project path ipath settings C99)
-unit-is project path ipath settings p q r s =
-    subst (λ (x : List ℕ). IsUnit (unit x path ipath settings C99)) (sym p)
-    (subst (λ (x : List ℕ). IsUnit (unit (codes "p") x ipath settings C99)) (sym q)
-    (subst (λ (x : List (List ℕ)). IsUnit (unit (codes "p") (codes "a.c") x settings C99)) (sym r)
-    (subst (λ (x : List Setting). IsUnit (unit (codes "p") (codes "a.c") [] x C99)) (sym s) alone)))
+unit-is : (project path : List ℕ) (qpath ipath : List (List ℕ)) (settings : List Setting) (includes : List (List ℕ)) → project ≡ codes "p" → path ≡ codes "a.c"
+    → qpath ≡ [] → ipath ≡ [] → settings ≡ [] → includes ≡ [] → IsUnit (unit project path qpath ipath settings includes C99)
+unit-is project path qpath ipath settings includes p q r s t v = rw (p, q, r, s, t, v) alone
 
-pub new-requires-5 : goal.new-requires-5
-new-requires-5 c = record {
-  sound = unit-is c.in_ok-project.project c.in_ok-path.path c.new-3.result.items c.new-4.result.items c.in_ok-project.ensures c.in_ok-path.ensures c.new-3.ensures.items c.new-4.ensures.items;
+pub new-requires-7 : goal.new-requires-7
+new-requires-7 c = record {
+  sound = unit-is c.in_ok-project.project c.in_ok-path.path c.new-3.result.items c.new-4.result.items c.new-5.result.items c.new-6.result.items
+      c.in_ok-project.ensures c.in_ok-path.ensures c.new-3.ensures.items c.new-4.ensures.items c.new-5.ensures.items c.new-6.ensures.items;
 }

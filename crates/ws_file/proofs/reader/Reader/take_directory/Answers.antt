@@ -1,15 +1,15 @@
 use Rattle.std.proofs.Common.{◌≡◌, ◌++◌, ◌∷◌, [], false, rules}
 use Rattle.cs_base.specs.Paths.{normal_path_of}
 use Rattle.cs_base.specs.Units.{has_bad_ends}
+use Rattle.ws_file.specs.Reading.{reading}
 use Rattle.ws_file.proofs.ReadingLemmas.{IsReading-directory, is_directory-normal}
 use Rattle.ws_file.proofs.reader.Reader.take_directory.Goals as goal
 
 pub invariant_of-self-2 : goal.invariant_of-self-2
 invariant_of-self-2 c =
     let r = c.self.inside in
+    let now = reading r.project r.qpath.items r.ipath.items r.settings.items r.includes.items r.units.items r.readonly.items r.standard in
     let path = c.args.path.now in
     let pushed : c.push.new.self.items ≡ r.ipath.items ++ normal_path_of path ∷ [] = search rules in
     let good : has_bad_ends (normal_path_of path) ≡ false = search rules in
-    rw pushed
-    (IsReading-directory r.project r.ipath.items r.settings.items r.units.items r.readonly.items r.standard (normal_path_of path)
-    c.self.invariant (is_directory-normal path c.requires.writable good))
+    rw pushed (IsReading-directory now (normal_path_of path) c.self.invariant (is_directory-normal path c.requires.writable good))

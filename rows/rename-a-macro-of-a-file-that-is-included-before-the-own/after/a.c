@@ -1,0 +1,4 @@
+#ifdef DUO
+int q = DUO;
+#endif
+int r;

@@ -1,0 +1,2 @@
+#define DUO (ONE + 1)
+#include "q.h"

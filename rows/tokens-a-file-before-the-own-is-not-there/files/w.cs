@@ -1,0 +1,3 @@
+define A
+include no.h
+file a.c

@@ -1,0 +1,4 @@
+#ifdef TWO
+int q = TWO;
+#endif
+int r;

@@ -1,0 +1,2 @@
+#define TWO (ONE + 1)
+#include "q.h"

@@ -1,0 +1,5 @@
+include pre/p.h
+define ONE 1
+file a.c
+project other
+file a.c

@@ -1,0 +1,3 @@
+qpath q
+ipath i
+file a.c

@@ -1,0 +1,2 @@
+qpath
+file a.c

@@ -1,0 +1,2 @@
+standard gnu17
+file a.c
