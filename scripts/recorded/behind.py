@@ -72,8 +72,8 @@ def of_workspace(entry, unit, root, standard):
         settings.write("".join(f"#define {head} {body}\n" for head, body in unit.settings.values()))
         settings.flush()
         words = [compiler, "-E", "-dD", "-w", "-undef", "-nostdinc", f"-std={standard}", "-imacros", settings.name]
-        for folder in unit.folders:
-            words += ["-I", folder]
+        for option, named in zip(("-iquote", "-I", "-include"), unit.places):
+            words += [word for name in named for word in (option, name)]
         return Text(_said([*words, "-x", "c", unit.path], root.path), root, root.path)
 
 

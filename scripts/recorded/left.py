@@ -1,11 +1,9 @@
 """Units that are left out of a workspace, and the names in them that others have too."""
 
-import os
 import re
 import subprocess
 
 from unseen import without_comments
-from wrapper import FIRST
 
 NAME = re.compile(r'"(?:[^"\\\n]|\\.)*"|\'(?:[^\'\\\n]|\\.)*\'|\.?\d(?:[eEpP][-+]|[\w.])*|([A-Za-z_]\w*)')
 # Names that reach past one file, in files that may be changed.
@@ -20,16 +18,6 @@ def without_files(text, faults):
         left.append(lines[number].split(None, 1)[1].strip())
         lines[number] = f"# left out, {fault}: {lines[number].strip()}"
     return "\n".join(lines) + "\n", sorted(set(left))
-
-
-def _sources(path):
-    """The file of a unit, or those that it includes where the import has written it."""
-    with open(path, encoding="utf-8", errors="replace") as file:
-        text = file.read()
-    if not text.startswith(FIRST):
-        return [path]
-    names = re.findall(r'(?m)^#include "(.*)"$', text)
-    return [os.path.normpath(os.path.join(os.path.dirname(path), name)) for name in names[-1:]]
 
 
 def _found(program, workspace, query):
@@ -47,10 +35,8 @@ def shared_names(program, workspace, left):
     known |= {name for path, name in _found(program, workspace, INNER) if path not in units}
     for path in left:
         try:
-            names = set()
-            for source in _sources(path):
-                with open(source, encoding="latin-1") as file:
-                    names |= {found.group(1) for found in NAME.finditer(without_comments(file.read())) if found.group(1)}
+            with open(path, encoding="latin-1") as file:
+                names = {found.group(1) for found in NAME.finditer(without_comments(file.read())) if found.group(1)}
         except OSError:
             continue
         yield path, sorted(names & known)

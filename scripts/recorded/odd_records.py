@@ -5,10 +5,7 @@ Each row: what it shows; files beside a.c; the record (entries, to which `direct
 it, or a text); the words of the command; the status; the lines of the workspace without what compiler and kit bring, and the files
 that are written; and what is said, `@AT@` standing for the folder."""
 
-from wrapper import FIRST
-
 ONE = "import: 1 units of 1 files\n"
-WRAPPED = "import: {} of them begin with what -include names, by files below {}/ that are written for it\n"
 PLAIN = "project default\nfile a.c"
 
 
@@ -33,31 +30,18 @@ ODD = [
      "project default\ndefine A 1\nfile a.c", ONE),
     ("include paths in the compiler's order", {"i/x.h": "", "q/x.h": "", "s/x.h": "", "l/x.h": ""},
      [cc("-isystem", "s", "-idirafter", "l", "-iquoteq", "-I", "i", "-I./i/../i", "-Inowhere")], ["c.json"], 0,
-     "readonly s/\nproject default\nipath q\nipath i\nipath s\nipath l\nfile a.c", ONE),
-    ("a directory of -iquote whose header <..> must not find", {"a.c": "#include <x.h>\n", "i/x.h": "", "q/x.h": ""},
-     [cc("-iquote", "q", "-I", "i")], ["c.json"], 0, "project default\nipath i\nipath q\nfile a.c", ONE),
-    ("a directory of -iquote beside another", {"a.c": "#include \"x.h\"\n", "i/x.h": "", "q/x.h": ""},
-     [cc("-iquote", "q", "-I", "i")], ["c.json"], 0, "project default\nipath q\nipath i\nfile a.c", ONE),
-    ("one header by both kinds of lines", {"a.c": "#include <x.h>\n#include \"x.h\"\n", "i/x.h": "", "q/x.h": ""},
-     [cc("-iquote", "q", "-I", "i")], ["c.json"], 0, "project default\nipath q\nipath i\nfile a.c",
-     "import: a.c: q/x.h is found by #include <..> too, and the compiler takes another file\n" + ONE),
+     "readonly s/\nproject default\nqpath q\nipath i\nipath s\nipath l\nfile a.c", ONE),
+    ("directories of quoted names alone", {"a.c": "#include <x.h>\n#include \"x.h\"\n", "i/x.h": "", "q/x.h": ""},
+     [cc("-iquote", "q", "-I", "i", "-iquoter", "-iquote", "./q")], ["c.json"], 0, "project default\nqpath q\nipath i\nfile a.c", ONE),
     ("what comes before the file", {"d/x.h": "", "i/y.h": "", "i/x.h": "", "m.h": ""},
      [{"directory": "@AT@/d", "file": "../a.c", "arguments": ["cc", "-I../i", "-include", "x.h", "-imacros", "../m.h", "-includey.h", "-c",
                                                               "../a.c"]}], ["c.json"], 0,
-     "readonly cscout-units/\nproject default\nipath i\nfile cscout-units/a.c\n-- cscout-units/a.c\n"
-     '#include "../m.h"\n#include "../d/x.h"\n#include "../i/y.h"\n#include "../a.c"',
-     "import: a.c: -imacros ../m.h is read whole: what it declares is seen too\n" + ONE + WRAPPED.format(1, "cscout-units")),
-    ("a file for each list of what comes before", {"x.h": "", "y.h": ""},
+     "project default\nipath i\ninclude m.h\ninclude d/x.h\ninclude i/y.h\nfile a.c",
+     "import: a.c: -imacros ../m.h is read whole: what it declares is seen too\n" + ONE),
+    ("a heading for each list of what comes before", {"x.h": "", "y.h": ""},
      [cc("-include", "x.h"), cc("-include", "y.h", "-DA"), cc("-include", "x.h", "-DB"), cc("-DC")], ["c.json"], 0,
-     "readonly cscout-units/\nproject default\nfile cscout-units/a.c\ndefine A 1\nfile cscout-units/a-2.c\nundefine A\ndefine B 1\n"
-     "file cscout-units/a.c\nundefine B\ndefine C 1\nfile a.c\n-- cscout-units/a-2.c\n#include \"../y.h\"\n#include \"../a.c\"\n"
-     "-- cscout-units/a.c\n#include \"../x.h\"\n#include \"../a.c\"", "import: 4 units of 1 files\n" + WRAPPED.format(3, "cscout-units")),
-    ("where these files are written", {"x.h": "", "gen/mine.c": "int mine;\n"}, [cc("-include", "x.h")], ["--wrappers", "gen/units", "c.json"], 0,
-     "readonly gen/units/\nproject default\nfile gen/units/a.c\n-- gen/units/a.c\n#include \"../../x.h\"\n#include \"../../a.c\"",
-     ONE + WRAPPED.format(1, "gen/units")),
-    ("a file of an earlier import", {"x.h": "", "cscout-units/a.c": FIRST + "#include \"../gone.c\"\n"}, [cc("-include", "x.h")], ["c.json"],
-     0, "readonly cscout-units/\nproject default\nfile cscout-units/a.c\n-- cscout-units/a.c\n#include \"../x.h\"\n#include \"../a.c\"",
-     ONE + WRAPPED.format(1, "cscout-units")),
+     "project default\ninclude x.h\nfile a.c\ndefine B 1\nfile a.c\nproject default\ninclude y.h\ndefine A 1\nfile a.c\n"
+     "project default\ndefine C 1\nfile a.c", "import: 4 units of 1 files\n"),
     ("macros that the build alone has", {"a.c": "#include \"x.h\"\nint f(const char *s, ...) PRINTS(1, 2);\nint g(void) { PASS(1); }\n"
                                                "#ifdef TESTED\n#endif\nint h(void) { return BOTH; }\n"
                                                "char *said = \"QUOTED\";\n#ifndef swap\nstatic int swap(int n)\n{ return n; }\n#endif\n"
@@ -168,17 +152,8 @@ BROKEN = [
     broken("a compiler that does nothing", [{"arguments": ["true", "-c", "a.c"]}],
            "import: c.json: entry 1: true prints no macros with -E -dM\n"),
     by_entry("a file before the own that is gone", cc("-include", "gone.h"), ": -include gone.h is a file that is not there"),
-    broken("a file that no import has written", [cc("-include", "x.h")],
-           "import: cscout-units/a.c is there, and no import has written it: name another folder with --wrappers DIR\n",
-           files={"x.h": "", "cscout-units/a.c": "int mine;\n"}),
-    broken("a link in its place", [cc("-include", "x.h")],
-           "import: cscout-units/a.c is there, and no import has written it: name another folder with --wrappers DIR\n",
-           files={"x.h": "", "mine.c": FIRST, "cscout-units/a.c": "-> ../mine.c"}),
-    broken("a link in place of the folder", [cc("-include", "x.h")],
-           "import: cscout-units is no folder of its own: name another with --wrappers DIR\n",
-           files={"x.h": "", "d/mine.c": "", "cscout-units": "-> d"}),
-    broken("a folder for these files that is not below the root", [cc("-include", "x.h")], "import: --wrappers wants a folder below the root\n",
-           ["--wrappers", "..", "c.json"], 2),
+    by_entry("a file before the own that no include line can say", cc("-include", "x\"y.h"), ": 'x\"y.h' is a path that an include line cannot say",
+             files={"x\"y.h": ""}),
     broken("no unit below the root", [{"directory": "@AT@/build", "file": "../src/a.c", "arguments": ["cc", "-I../inc", "-c", "../src/a.c"]}],
            "import: no unit lies below @AT@/build, so all would be read-only: run it in @AT@, or give --root @AT@\n",
            ["--root", "build", "c.json"], files={"src/a.c": "", "inc/x.h": "", "build/made": ""}),

@@ -63,14 +63,15 @@ class Kit:
 
 
 class Unit:
-    """A unit: its project, file, include paths, and what its settings come to, each macro's head by its name. `source` is the
-    file that the record names, also where the unit's file includes it."""
+    """A unit: its project, file, include paths of quoted names alone and of all, the files that come before its own, and what its
+    settings come to, each macro's head by its name."""
 
-    def __init__(self, project, path, folders, settings, source):
-        self.project, self.path, self.folders, self.settings, self.source = project, path, tuple(folders), settings, source
+    def __init__(self, project, path, quoted, folders, included, settings):
+        self.project, self.path, self.settings = project, path, settings
+        self.places = tuple(quoted), tuple(folders), tuple(included)
 
     def key(self):
-        return self.project, self.path, self.folders, tuple(sorted(self.settings.items()))
+        return self.project, self.path, self.places, tuple(sorted(self.settings.items()))
 
 
 def name_of(head):
@@ -87,10 +88,10 @@ def _folder(name):
     return name or "."
 
 
-def folders_of(entry, answer, root, kept, system, behind):
-    """The include paths: what `-iquote` names without the directories `behind`, and `-I`, then the folders `kept` of stand-ins,
-    then the others of the compiler's list, its own behind the system's, what `-idirafter` names beside the directories `system`,
-    which it has anyway, and at last those `behind`."""
+def folders_of(entry, answer, root, kept, system):
+    """The include paths of quoted names alone, which `-iquote` names, and those of all: what `-I` names, then the folders `kept` of
+    stand-ins, then the others of the compiler's list, its own behind the system's, and at last what `-idirafter` names beside the
+    directories `system`, which it has anyway."""
     def named(folder):
         return _folder(root.folder(os.path.join(entry.directory, folder)))
     given = {named(word[2:]) for word in entry.options.asking if word.startswith("-I") and len(word) > 2}
@@ -99,9 +100,25 @@ def folders_of(entry, answer, root, kept, system, behind):
     front = next((n for n, folder in enumerate(angle) if folder not in given), len(angle))
     back = max(front, max((n + 1 for n, folder in enumerate(angle) if folder not in last), default=0))
     own = [named(folder) for folder in answer.angle if folder in answer.own]
-    order = [named(folder) for folder in answer.quote if folder not in behind] + angle[:front]
-    order += [*map(_folder, kept), *angle[front:back], *own, *angle[back:], *map(named, behind)]
-    return list(dict.fromkeys(order))
+    order = [*angle[:front], *map(_folder, kept), *angle[front:back], *own, *angle[back:]]
+    return list(dict.fromkeys(map(named, answer.quote))), list(dict.fromkeys(order))
+
+
+def included_files(entry, answer, root):
+    """The files of `-imacros` and then those of `-include`, as the workspace names them: each is looked for in the folder of the
+    command, and then where a quoted name is."""
+    folders = [entry.directory, *(os.path.join(entry.directory, folder) for folder in [*answer.quote, *answer.angle])]
+    found = []
+    for option in "-imacros", "-include":
+        for name in (value for kind, value in entry.options.included if kind == option):
+            at = next((path for path in (os.path.join(folder, name) for folder in folders) if os.path.isfile(path)), None)
+            if at is None:
+                raise Odd(f"{option} {name} is a file that is not there")
+            path = root.file(at)
+            if any(sign in path for sign in '"\n') or path != path.strip() or path.endswith("\\"):
+                raise Odd(f"{path!r} is a path that an include line cannot say")
+            found.append(path)
+    return found
 
 
 def settings_of(entry, answer, kit, standard, added, dropped):
@@ -131,27 +148,6 @@ def settings_of(entry, answer, kit, standard, added, dropped):
     return result
 
 
-def quote_directories(entry, answer, files):
-    """The `-iquote` directories that go behind all others, and the headers of which another than the compiler's is found. The
-    workspace has one list for `"x.h"` and `<x.h>`: so a directory that has a header of the name of one that the unit takes from
-    elsewhere goes last, but where the unit takes such a header from it too."""
-    def below(path, folder):
-        name = os.path.relpath(path, folder)
-        return None if name.startswith("..") else name
-    behind, other = [], []
-    angle = [os.path.realpath(os.path.join(entry.directory, folder)) for folder in answer.angle]
-    for folder in answer.quote:
-        at = os.path.realpath(os.path.join(entry.directory, folder))
-        beside = [name for where in angle if where != at for path in files for name in [below(path, where)]
-                  if name and os.path.isfile(os.path.join(at, name)) and os.path.join(at, name) != path]
-        taken = [name for path in files for name in [below(path, at)]
-                 if name and any(where != at and os.path.isfile(os.path.join(where, name)) for where in angle)]
-        if beside and not taken:
-            behind.append(folder)
-        other += [os.path.join(folder, name) for name in beside if taken]
-    return behind, sorted(set(other))
-
-
 def looked_for(paths, workspace):
     """Refused where none of the units' files is in this folder."""
     if any(os.path.isfile(path) for path in paths):
@@ -166,13 +162,16 @@ def _define(head, body):
 
 
 class _Heading:
-    """One `project` line with what stands below it: the include paths, the settings that all share, and the units."""
+    """One `project` line with what stands below it: the include paths, the first includes, the settings that all share, and the
+    units."""
 
-    def __init__(self, project, folders, units, standard):
+    def __init__(self, project, places, units, standard):
+        quoted, folders, included = places
         self.lines = [f"project {project}"]
         if standard != "c99":
             self.lines.append(f"standard {standard}")
-        self.lines += [f"ipath {folder}" for folder in folders]
+        self.lines += [f"qpath {folder}" for folder in quoted] + [f"ipath {folder}" for folder in folders]
+        self.lines += [f"include {path}" for path in included]
         first = units[0].settings
         self.shared = {name: macro for name, macro in first.items() if all(u.settings.get(name) == macro for u in units)}
         self.lines += [_define(*macro) for macro in self.shared.values()]
@@ -200,19 +199,19 @@ class _Heading:
 
 
 def text_of(units, readonly, standard):
-    """The workspace file: units of one project and one list of include paths below one heading, those of one setting
+    """The workspace file: units of one project, one list of include paths and of first includes below one heading, those of one setting
     beside each other, all in the order in which each first came."""
     groups = {}
     for unit in units:
-        groups.setdefault((unit.project, unit.folders), {}).setdefault(unit.key()[3], []).append(unit)
+        groups.setdefault((unit.project, unit.places), {}).setdefault(unit.key()[3], []).append(unit)
     lines = ["# made by scripts/import out of a recorded build"] + [f"readonly {prefix}" for prefix in readonly]
     ordered = {}
-    for project, folders in groups:
-        ordered.setdefault(project, []).append(folders)
+    for project, places in groups:
+        ordered.setdefault(project, []).append(places)
     for project, lists in ordered.items():
-        for folders in lists:
-            together = [unit for alike in groups[project, folders].values() for unit in alike]
-            heading = _Heading(project, folders, together, standard)
+        for places in lists:
+            together = [unit for alike in groups[project, places].values() for unit in alike]
+            heading = _Heading(project, places, together, standard)
             for unit in together:
                 heading.add(unit)
             lines += heading.lines

@@ -1,5 +1,4 @@
-use Rattle.std.proofs.Common.{sym, ◌∙◌, ap, ◌-◌, arith}
-use Rattle.cs_base.specs.Limits.{most_defines}
+use Rattle.std.proofs.Common.{sym, ◌∙◌, arith}
 use Rattle.ws_file.proofs.SizeLemmas.{settings_pass, includes_decide}
 use Rattle.ws_file.proofs.text_tests.defines_fit.Goals as goal
 
