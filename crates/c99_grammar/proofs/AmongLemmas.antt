@@ -2,9 +2,9 @@
 use Rattle.std.proofs.Common.{◌≡◌, Bool, true, false, ◌||◌, List, [], ◌∷◌, ◌++◌, refl, sym, ap, ◌∙◌}
 use Rattle.std.proofs.Math.Bool.{or_assoc}
 use Rattle.c99_grammar.specs.declared.classes.Class.{Class}
-use Rattle.c99_grammar.specs.declared.classes.Class.TheVariants.{Auto, Break, Case, Char, Const, Continue, Default, Do, Double, Else, Enum, Extern, Float, For, Goto, If, Inline, Int, Long, Register, Restrict, Return, Short, Signed, Sizeof, Static, Struct, Switch, Typedef, Union, Unsigned, Void, Volatile, While, BoolWord, ComplexWord, ImaginaryWord, Alignas, Alignof, Atomic, Generic, Noreturn, StaticAssert, ThreadLocal, LeftBracket, RightBracket, LeftParen, RightParen, LeftBrace, RightBrace, Dot, Arrow, PlusPlus, MinusMinus, Amp, Star, Plus, Minus, Tilde, Bang, Slash, Percent, ShiftLeft, ShiftRight, Less, Greater, LessEq, GreaterEq, EqEq, BangEq, Caret, Bar, AmpAmp, BarBar, Question, Colon, Semicolon, Ellipsis, Eq, StarEq, SlashEq, PercentEq, PlusEq, MinusEq, ShiftLeftEq, ShiftRightEq, AmpEq, CaretEq, BarEq, Comma, Hash, HashHash, Identifier, TypedefName, Constant, CharConstant, StringLiteral, End, NoClass}
+use Rattle.c99_grammar.specs.declared.classes.Class.TheVariants.{Auto, Break, Case, Char, Const, Continue, Default, Do, Double, Else, Enum, Extern, Float, For, Goto, If, Inline, Int, Long, Register, Restrict, Return, Short, Signed, Sizeof, Static, Struct, Switch, Typedef, Union, Unsigned, Void, Volatile, While, BoolWord, ComplexWord, ImaginaryWord, Alignas, Alignof, Atomic, Generic, Noreturn, StaticAssert, ThreadLocal, AsmWord, TypeofWord, AttributeWord, ExtensionWord, LocalLabelWord, AutoTypeWord, RealPartWord, VaArgWord, OffsetofWord, TypesCompatibleWord, LeftBracket, RightBracket, LeftParen, RightParen, LeftBrace, RightBrace, Dot, Arrow, PlusPlus, MinusMinus, Amp, Star, Plus, Minus, Tilde, Bang, Slash, Percent, ShiftLeft, ShiftRight, Less, Greater, LessEq, GreaterEq, EqEq, BangEq, Caret, Bar, AmpAmp, BarBar, Question, Colon, Semicolon, Ellipsis, Eq, StarEq, SlashEq, PercentEq, PlusEq, MinusEq, ShiftLeftEq, ShiftRightEq, AmpEq, CaretEq, BarEq, Comma, Hash, HashHash, Identifier, TypedefName, Constant, CharConstant, StringLiteral, End, NoClass}
 use Rattle.c99_grammar.specs.Classes.{among, is_same}
-use Rattle.c99_grammar.specs.declared.dialects.Dialect.TheVariants.{C99, C11, Gnu}
+use Rattle.c99_grammar.specs.declared.dialects.Edition.TheVariants.{C99, C11}
 use Rattle.c99_grammar.specs.First.{every, by_c11}
 
 pub among-append : (xs ys : List Class) (c : Class) → (among xs c || among ys c) ≡ among (xs ++ ys) c
@@ -24,14 +24,10 @@ pub among-none : (classes : List Class) (c : Class) → false ≡ among (by_c11 
 among-none [] c = refl
 among-none (x ∷ classes) c = refl
 
--- C11 and GNU C add all
+-- C11 adds all
 pub among-all : (classes : List Class) (c : Class) → among classes c ≡ among (by_c11 classes C11) c
 among-all [] c = refl
 among-all (x ∷ classes) c = refl
-
-pub among-gnu : (classes : List Class) (c : Class) → among classes c ≡ among (by_c11 classes Gnu) c
-among-gnu [] c = refl
-among-gnu (x ∷ classes) c = refl
 
 pub among-every : (c : Class) → true ≡ among every c
 among-every Auto = refl
@@ -78,6 +74,16 @@ among-every Generic = refl
 among-every Noreturn = refl
 among-every StaticAssert = refl
 among-every ThreadLocal = refl
+among-every AsmWord = refl
+among-every TypeofWord = refl
+among-every AttributeWord = refl
+among-every ExtensionWord = refl
+among-every LocalLabelWord = refl
+among-every AutoTypeWord = refl
+among-every RealPartWord = refl
+among-every VaArgWord = refl
+among-every OffsetofWord = refl
+among-every TypesCompatibleWord = refl
 among-every LeftBracket = refl
 among-every RightBracket = refl
 among-every LeftParen = refl

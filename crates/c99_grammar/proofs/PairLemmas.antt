@@ -1,7 +1,8 @@
 -- Pairs of a class and of what is asked of the class behind it.
-use Rattle.std.proofs.Common.{◌≡◌, Bool, true, false, ◌&&◌, ◌||◌, List, [], ◌∷◌, refl, ap, ◌∙◌}
+use Rattle.std.proofs.Common.{◌≡◌, Bool, true, false, ◌&&◌, ◌||◌, List, [], ◌∷◌, ◌++◌, refl, ap, ◌∙◌}
 use Rattle.std.specs.List.{list_all, list_any}
 use Rattle.std.proofs.lemmas.Bool.{and_parts, or_parts}
+use Rattle.std.proofs.Math.Bool.{or_assoc}
 use Rattle.c99_grammar.specs.declared.classes.Class.{Class}
 use Rattle.c99_grammar.specs.Classes.{among}
 use Rattle.c99_grammar.specs.Items.{Ask}
@@ -28,3 +29,11 @@ module _ (g : Grammar) where
       let parts = and_parts (P x) (list_all P pairs) h in
       ap (λ b. b || list_any (λ y. is_pair g y c' d') pairs) (f x parts.0)
       ∙ ap (λ b. is_pair g x c d || b) (pairs_same P c d c' d' f pairs parts.1)
+
+  -- a pair of one list or of the other
+  pub pairs_append : (xs ys : List (Class × Ask)) (c d : Class)
+      → (list_any (λ x. is_pair g x c d) xs || list_any (λ x. is_pair g x c d) ys) ≡ list_any (λ x. is_pair g x c d) (xs ++ ys)
+  pairs_append [] ys c d = refl
+  pairs_append (x ∷ xs) ys c d =
+      or_assoc (is_pair g x c d) (list_any (λ y. is_pair g y c d) xs) (list_any (λ y. is_pair g y c d) ys)
+      ∙ ap (λ b. is_pair g x c d || b) (pairs_append xs ys c d)

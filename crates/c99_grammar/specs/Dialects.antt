@@ -2,11 +2,17 @@
 use Rattle.cs_base.specs.declared.ws_units.Standard.{Standard}
 use Rattle.cs_base.specs.declared.ws_units.Standard.TheVariants as standard
 use Rattle.c99_grammar.specs.declared.dialects.Dialect.{Dialect}
-use Rattle.c99_grammar.specs.declared.dialects.Dialect.TheVariants.{C99, C11}
+use Rattle.c99_grammar.specs.declared.dialects.Dialect.TheVariants.{Iso}
+use Rattle.c99_grammar.specs.declared.dialects.Edition.{Edition}
+use Rattle.c99_grammar.specs.declared.dialects.Edition.TheVariants.{C99, C11}
 
--- C99 and C11 have each its own, and GNU C is read by that of C11 so far. No standard has that of gcc yet, which is `Gnu`.
+-- the edition of ISO/IEC 9899 that a standard follows: GNU C has the words of the later one also in `gnu99`
+abbrev pub edition : Standard → Edition
+edition standard.C99 = C99
+edition standard.C11 = C11
+edition standard.Gnu99 = C11
+edition standard.Gnu11 = C11
+
+-- Each standard is read by the grammar of its edition, those of GNU C too so far. None has that of gcc yet, which is `Gnu`.
 abbrev pub dialect : Standard → Dialect
-dialect standard.C99 = C99
-dialect standard.C11 = C11
-dialect standard.Gnu99 = C11
-dialect standard.Gnu11 = C11
+dialect s = Iso (edition s)

@@ -1,11 +1,11 @@
 -- With which classes each production starts. That these are the right ones is checked against the table.
 use Rattle.std.specs.Prelude.{ℕ, List, [], ◌∷◌, ◌++◌}
-use Rattle.c99_grammar.specs.declared.dialects.Dialect.{Dialect}
-use Rattle.c99_grammar.specs.declared.dialects.Dialect.TheVariants.{C99, C11, Gnu}
+use Rattle.c99_grammar.specs.declared.dialects.Edition.{Edition}
+use Rattle.c99_grammar.specs.declared.dialects.Edition.TheVariants.{C99, C11}
 use Rattle.c99_tree.specs.declared.production.Production.{Production}
-use Rattle.c99_tree.specs.declared.production.Production.TheVariants.{TranslationUnit, External, ExtRest, ExtTail, FunBody, Declaration, DeclRest, InitDecl, Sassert, Specs, Main, Mod, Qual, Word, StructSpec, SuRest, Members, Member, MemRest, Mdecl, EnumSpec, EnRest, Enumerators, Enumerator, Declarator, Pointer, Direct, Suffix, Bound, Params, Param, Pdecl, Pdirect, TypeName, Adecl, Adirect, Init, InitList, InitItem, Designator, Expr, Assign, Asgop, Cond, Lor, Land, Bor, Bxor, Band, Equal, Relate, Shift, Add, Mul, Cast, CastRest, Unary, SizeRest, SizeLit, Primary, Post, Args, Block, BlockItem, Statement, Sub, ForInit}
+use Rattle.c99_tree.specs.declared.production.Production.TheVariants.{TranslationUnit, External, ExtRest, ExtTail, FunBody, Declaration, DeclRest, InitDecl, Sassert, Specs, Main, Mod, Qual, Word, StructSpec, SuRest, Members, Member, MemRest, Mdecl, EnumSpec, EnRest, Enumerators, Enumerator, Declarator, Pointer, Direct, Suffix, Bound, Params, Param, Pdecl, Pdirect, TypeName, Adecl, Adirect, Init, InitList, InitItem, Designator, Expr, Assign, Asgop, Cond, Lor, Land, Bor, Bxor, Band, Equal, Relate, Shift, Add, Mul, Cast, CastRest, Unary, SizeRest, SizeLit, Primary, Post, Args, Block, BlockItem, Statement, Sub, ForInit, AutoDecl, Attr, AttrItem, AttrWord, AsmName, Operand, Association, MemberPath, AsmPart, AsmOperand}
 use Rattle.c99_grammar.specs.declared.classes.Class.{Class}
-use Rattle.c99_grammar.specs.declared.classes.Class.TheVariants.{Auto, Break, Case, Char, Const, Continue, Default, Do, Double, Else, Enum, Extern, Float, For, Goto, If, Inline, Int, Long, Register, Restrict, Return, Short, Signed, Sizeof, Static, Struct, Switch, Typedef, Union, Unsigned, Void, Volatile, While, BoolWord, ComplexWord, ImaginaryWord, Alignas, Alignof, Atomic, Generic, Noreturn, StaticAssert, ThreadLocal, LeftBracket, RightBracket, LeftParen, RightParen, LeftBrace, RightBrace, Dot, Arrow, PlusPlus, MinusMinus, Amp, Star, Plus, Minus, Tilde, Bang, Slash, Percent, ShiftLeft, ShiftRight, Less, Greater, LessEq, GreaterEq, EqEq, BangEq, Caret, Bar, AmpAmp, BarBar, Question, Colon, Semicolon, Ellipsis, Eq, StarEq, SlashEq, PercentEq, PlusEq, MinusEq, ShiftLeftEq, ShiftRightEq, AmpEq, CaretEq, BarEq, Comma, Hash, HashHash, Identifier, TypedefName, Constant, CharConstant, StringLiteral, End, NoClass}
+use Rattle.c99_grammar.specs.declared.classes.Class.TheVariants.{Auto, Break, Case, Char, Const, Continue, Default, Do, Double, Else, Enum, Extern, Float, For, Goto, If, Inline, Int, Long, Register, Restrict, Return, Short, Signed, Sizeof, Static, Struct, Switch, Typedef, Union, Unsigned, Void, Volatile, While, BoolWord, ComplexWord, ImaginaryWord, Alignas, Alignof, Atomic, Generic, Noreturn, StaticAssert, ThreadLocal, AsmWord, TypeofWord, AttributeWord, ExtensionWord, LocalLabelWord, AutoTypeWord, RealPartWord, VaArgWord, OffsetofWord, TypesCompatibleWord, LeftBracket, RightBracket, LeftParen, RightParen, LeftBrace, RightBrace, Dot, Arrow, PlusPlus, MinusMinus, Amp, Star, Plus, Minus, Tilde, Bang, Slash, Percent, ShiftLeft, ShiftRight, Less, Greater, LessEq, GreaterEq, EqEq, BangEq, Caret, Bar, AmpAmp, BarBar, Question, Colon, Semicolon, Ellipsis, Eq, StarEq, SlashEq, PercentEq, PlusEq, MinusEq, ShiftLeftEq, ShiftRightEq, AmpEq, CaretEq, BarEq, Comma, Hash, HashHash, Identifier, TypedefName, Constant, CharConstant, StringLiteral, End, NoClass}
 use Rattle.c99_grammar.specs.Items.{Ask, is}
 
 abbrev pub specifiers : List Class
@@ -67,7 +67,8 @@ every =
     Extern ∷ Float ∷ For ∷ Goto ∷ If ∷ Inline ∷ Int ∷ Long ∷ Register ∷ Restrict ∷ Return ∷
     Short ∷ Signed ∷ Sizeof ∷ Static ∷ Struct ∷ Switch ∷ Typedef ∷ Union ∷ Unsigned ∷ Void ∷
     Volatile ∷ While ∷ BoolWord ∷ ComplexWord ∷ ImaginaryWord ∷ Alignas ∷ Alignof ∷ Atomic ∷ Generic ∷ Noreturn ∷
-    StaticAssert ∷ ThreadLocal ∷ LeftBracket ∷ RightBracket ∷
+    StaticAssert ∷ ThreadLocal ∷ AsmWord ∷ TypeofWord ∷ AttributeWord ∷ ExtensionWord ∷ LocalLabelWord ∷ AutoTypeWord ∷
+    RealPartWord ∷ VaArgWord ∷ OffsetofWord ∷ TypesCompatibleWord ∷ LeftBracket ∷ RightBracket ∷
     LeftParen ∷ RightParen ∷ LeftBrace ∷ RightBrace ∷ Dot ∷ Arrow ∷ PlusPlus ∷ MinusMinus ∷ Amp
     ∷ Star ∷ Plus ∷ Minus ∷ Tilde ∷ Bang ∷ Slash ∷ Percent ∷ ShiftLeft ∷ ShiftRight ∷ Less ∷
     Greater ∷ LessEq ∷ GreaterEq ∷ EqEq ∷ BangEq ∷ Caret ∷ Bar ∷ AmpAmp ∷ BarBar ∷ Question ∷
@@ -75,7 +76,7 @@ every =
     ShiftLeftEq ∷ ShiftRightEq ∷ AmpEq ∷ CaretEq ∷ BarEq ∷ Comma ∷ Hash ∷ HashHash ∷ Identifier
     ∷ TypedefName ∷ Constant ∷ CharConstant ∷ StringLiteral ∷ End ∷ NoClass ∷ []
 
--- with which classes a production starts by each dialect
+-- with which classes a production starts by each edition
 abbrev pub shared : Production → List Class
 shared TranslationUnit = Semicolon ∷ End ∷ specifiers
 shared External = members
@@ -144,6 +145,7 @@ shared BlockItem = specifiers ++ statements
 shared Statement = statements
 shared Sub = statements
 shared ForInit = specifiers ++ (Semicolon ∷ expressions)
+shared _ = []
 
 -- specifiers that C11 adds (6.7.4)
 abbrev pub specifiers_added : List Class
@@ -172,15 +174,14 @@ added BlockItem = declarations_added
 added ForInit = declarations_added
 added _ = []
 
--- These by C11 and by GNU C, and none by C99. The list decides first, so that nothing added is nothing for any dialect.
-abbrev pub by_c11 : List Class → Dialect → List Class
+-- These by C11, and none by C99. The list decides first, so that nothing added is nothing for any edition.
+abbrev pub by_c11 : List Class → Edition → List Class
 by_c11 [] s = []
 by_c11 (c ∷ classes) C99 = []
 by_c11 (c ∷ classes) C11 = c ∷ classes
-by_c11 (c ∷ classes) Gnu = c ∷ classes
 
 -- with which classes a production starts
-abbrev pub first : Production → Dialect → List Class
+abbrev pub first : Production → Edition → List Class
 first p s = shared p ++ by_c11 (added p) s
 
 -- the colon that makes a label of the name before it (6.8.1)
@@ -188,7 +189,7 @@ abbrev pub before_colon : List (Class × Ask)
 before_colon = (TypedefName, is (Colon ∷ [])) ∷ []
 
 -- with which classes it starts where what stands behind is so, beside those
-abbrev pub pairs : Production → Dialect → List (Class × Ask)
+abbrev pub pairs : Production → Edition → List (Class × Ask)
 pairs Statement s = before_colon
 pairs Sub s = before_colon
 pairs _ s = []
@@ -262,3 +263,13 @@ order BlockItem = 17
 order Statement = 16
 order Sub = 17
 order ForInit = 16
+order AutoDecl = 0
+order Attr = 0
+order AttrItem = 1
+order AttrWord = 0
+order AsmName = 0
+order Operand = 0
+order Association = 4
+order MemberPath = 0
+order AsmPart = 0
+order AsmOperand = 0

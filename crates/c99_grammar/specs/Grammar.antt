@@ -1,17 +1,17 @@
 -- The grammars of C99 and C11 as data (ISO/IEC 9899:1999 and 9899:2011, Annex A.2): each production with its alternatives.
 -- Differs: it is wider in places, and each construct that may nest is marked `deep`. docs/PROFILE.md
 -- says where. The productions have the names that the labels of trees give them, and those of no alternative are not
--- of that dialect. The dialects differ in the rows that have a definition of their own; GNU C has the rows of C11.
+-- of that edition. The editions differ in the rows that have a definition of their own; `GnuGrammar` has those of GNU C.
 use Rattle.std.specs.Prelude.{List, [], ◌∷◌}
-use Rattle.c99_grammar.specs.declared.dialects.Dialect.{Dialect}
-use Rattle.c99_grammar.specs.declared.dialects.Dialect.TheVariants.{C99, C11, Gnu}
+use Rattle.c99_grammar.specs.declared.dialects.Edition.{Edition}
+use Rattle.c99_grammar.specs.declared.dialects.Edition.TheVariants.{C99, C11}
 use Rattle.c99_tree.specs.declared.production.Production.{Production}
 use Rattle.c99_tree.specs.declared.production.Production.TheVariants.{TranslationUnit, External, ExtRest, ExtTail, FunBody, Declaration, DeclRest, InitDecl, Sassert, Specs, Main, Mod, Qual, Word, StructSpec, SuRest, Members, Member, MemRest, Mdecl, EnumSpec, EnRest, Enumerators, Enumerator, Declarator, Pointer, Direct, Suffix, Bound, Params, Param, Pdecl, Pdirect, TypeName, Adecl, Adirect, Init, InitList, InitItem, Designator, Expr, Assign, Asgop, Cond, Lor, Land, Bor, Bxor, Band, Equal, Relate, Shift, Add, Mul, Cast, CastRest, Unary, SizeRest, SizeLit, Primary, Post, Args, Block, BlockItem, Statement, Sub, ForInit}
 use Rattle.c99_grammar.specs.declared.classes.Class.TheVariants.{Auto, Break, Case, Char, Const, Continue, Default, Do, Double, Else, Enum, Extern, Float, For, Goto, If, Inline, Int, Long, Register, Restrict, Return, Short, Signed, Sizeof, Static, Struct, Switch, Typedef, Union, Unsigned, Void, Volatile, While, BoolWord, ComplexWord, ImaginaryWord, Alignas, Alignof, Atomic, Generic, Noreturn, StaticAssert, ThreadLocal, LeftBracket, RightBracket, LeftParen, RightParen, LeftBrace, RightBrace, Dot, Arrow, PlusPlus, MinusMinus, Amp, Star, Plus, Minus, Tilde, Bang, Slash, Percent, ShiftLeft, ShiftRight, Less, Greater, LessEq, GreaterEq, EqEq, BangEq, Caret, Bar, AmpAmp, BarBar, Question, Colon, Semicolon, Ellipsis, Eq, StarEq, SlashEq, PercentEq, PlusEq, MinusEq, ShiftLeftEq, ShiftRightEq, AmpEq, CaretEq, BarEq, Comma, Identifier, TypedefName, Constant, CharConstant, StringLiteral}
 use Rattle.c99_grammar.specs.Items.{one, part, end_of_text, act, ◌·◌, choice, maybe, many, deep, tok, any_name, some, names, own, otherwise, next, next_two, is, is_not, begins, either, scope, end, declare, name, keep, again, Alternative, plain, when}
 
 -- external-declaration (6.9; C11 6.7.10)
-abbrev pub externals : Dialect → List Alternative
+abbrev pub externals : Edition → List Alternative
 externals C99 =
     plain (tok Semicolon) ∷
     plain (part Specs · part ExtRest) ∷ []
@@ -19,33 +19,23 @@ externals C11 =
     plain (tok Semicolon) ∷
     plain (part Sassert) ∷
     plain (part Specs · part ExtRest) ∷ []
-externals Gnu =
-    plain (tok Semicolon) ∷
-    plain (part Sassert) ∷
-    plain (part Specs · part ExtRest) ∷ []
 
 -- declaration (6.7; C11 6.7.10)
-abbrev pub declarations : Dialect → List Alternative
+abbrev pub declarations : Edition → List Alternative
 declarations C99 = plain (part Specs · part DeclRest) ∷ []
 declarations C11 =
     plain (part Sassert) ∷
     plain (part Specs · part DeclRest) ∷ []
-declarations Gnu =
-    plain (part Sassert) ∷
-    plain (part Specs · part DeclRest) ∷ []
 
 -- static_assert-declaration (C11 6.7.10)
-abbrev pub static_assertions : Dialect → List Alternative
+abbrev pub static_assertions : Edition → List Alternative
 static_assertions C99 = []
 static_assertions C11 =
     plain (tok StaticAssert · tok LeftParen · deep (part Cond) · tok Comma · some (tok StringLiteral) · tok RightParen ·
     tok Semicolon) ∷ []
-static_assertions Gnu =
-    plain (tok StaticAssert · tok LeftParen · deep (part Cond) · tok Comma · some (tok StringLiteral) · tok RightParen ·
-    tok Semicolon) ∷ []
 
 -- storage-class-specifier, function-specifier and type-qualifier (6.7.1, 6.7.3, 6.7.4; C11 6.7.4)
-abbrev pub modifiers : Dialect → List Alternative
+abbrev pub modifiers : Edition → List Alternative
 modifiers C99 =
     plain (tok Typedef) ∷
     plain (tok Extern) ∷
@@ -63,18 +53,9 @@ modifiers C11 =
     plain (tok Inline) ∷
     plain (tok Noreturn) ∷
     plain (part Qual) ∷ []
-modifiers Gnu =
-    plain (tok Typedef) ∷
-    plain (tok Extern) ∷
-    plain (tok Static) ∷
-    plain (tok Auto) ∷
-    plain (tok Register) ∷
-    plain (tok Inline) ∷
-    plain (tok Noreturn) ∷
-    plain (part Qual) ∷ []
 
 -- struct-declaration (6.7.2.1; C11 6.7.10)
-abbrev pub member_lines : Dialect → List Alternative
+abbrev pub member_lines : Edition → List Alternative
 member_lines C99 =
     plain (tok Semicolon) ∷
     plain (part Specs · part Mdecl · many own (tok Comma · part Mdecl) · tok Semicolon) ∷ []
@@ -82,23 +63,16 @@ member_lines C11 =
     plain (tok Semicolon) ∷
     plain (part Sassert) ∷
     plain (part Specs · part MemRest) ∷ []
-member_lines Gnu =
-    plain (tok Semicolon) ∷
-    plain (part Sassert) ∷
-    plain (part Specs · part MemRest) ∷ []
 
 -- what follows the specifiers of members; a lone `;` makes an anonymous member (C11 6.7.2.1 paragraphs 2 and 13)
-abbrev pub member_rests : Dialect → List Alternative
+abbrev pub member_rests : Edition → List Alternative
 member_rests C99 = []
 member_rests C11 =
     plain (tok Semicolon) ∷
     plain (part Mdecl · many own (tok Comma · part Mdecl) · tok Semicolon) ∷ []
-member_rests Gnu =
-    plain (tok Semicolon) ∷
-    plain (part Mdecl · many own (tok Comma · part Mdecl) · tok Semicolon) ∷ []
 
--- The production decides first, so that a row of all dialects is the same for any dialect.
-abbrev pub table : Production → Dialect → List Alternative
+-- The production decides first, so that a row of both editions is the same for any edition.
+abbrev pub table : Production → Edition → List Alternative
 -- ---- External definitions (6.9)
 table TranslationUnit s = plain (many own (part External) · end_of_text) ∷ []
 table External s = externals s
@@ -304,3 +278,5 @@ table ForInit s =
     plain (part Declaration) ∷
     plain (tok Semicolon) ∷
     plain (deep (part Expr) · tok Semicolon) ∷ []
+-- ---- Productions of GNU C alone
+table _ s = []

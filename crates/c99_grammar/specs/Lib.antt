@@ -4,7 +4,9 @@ pub mod Dialects
 pub mod Spellings
 pub mod Items
 pub mod Grammar
+pub mod GnuGrammar
 pub mod First
+pub mod GnuFirst
 pub mod TokenClasses
 pub mod Starting
 pub mod Standard

@@ -1,16 +1,33 @@
 // Which grammar reads the C of a standard.
 ghost use Rattle.std.specs.Prelude.{◌≡◌};
-ghost use Rattle.c99_grammar.specs.Dialects.{dialect};
+ghost use Rattle.c99_grammar.specs.Dialects.{dialect, edition};
 
 use cs_base::Standard;
 
-/// A grammar of C: that of ISO/IEC 9899:1999, that of ISO/IEC 9899:2011, or that of gcc, which is the same whatever
-/// edition of the standard it follows.
+/// An edition of ISO/IEC 9899.
 #[derive(Clone, Copy, Debug, PartialEq, Eq)]
-pub enum Dialect {
+pub enum Edition {
     C99,
     C11,
+}
+
+/// A grammar of C: that of an edition of ISO/IEC 9899, or that of gcc, which is the same whatever edition it follows.
+#[derive(Clone, Copy, Debug, PartialEq, Eq)]
+pub enum Dialect {
+    Iso(Edition),
     Gnu,
+}
+
+impl Edition {
+    // The one that a standard follows.
+    fn of(standard: Standard) -> Edition
+        ensures { result ≡ edition standard }
+    {
+        match standard {
+            Standard::C99 => Edition::C99,
+            Standard::C11 | Standard::Gnu99 | Standard::Gnu11 => Edition::C11,
+        }
+    }
 }
 
 impl Dialect {
@@ -18,9 +35,6 @@ impl Dialect {
     pub fn of(standard: Standard) -> Dialect
         ensures { result ≡ dialect standard }
     {
-        match standard {
-            Standard::C99 => Dialect::C99,
-            Standard::C11 | Standard::Gnu99 | Standard::Gnu11 => Dialect::C11,
-        }
+        Dialect::Iso(Edition::of(standard))
     }
 }

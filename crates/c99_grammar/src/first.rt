@@ -3,15 +3,17 @@ ghost use Rattle.std.specs.Prelude.{◌≡◌, ◌∷◌};
 ghost use Rattle.c99_tree.specs.declared.production.Production.TheVariants.{TranslationUnit, ExtRest, FunBody, Sassert, Main, StructSpec, SuRest, MemRest, Mdecl, EnumSpec, Enumerators, Pointer, Direct, Suffix, Params, Pdecl, Pdirect, Adecl, Designator, SizeLit, Primary, Post, BlockItem, ForInit};
 ghost use Rattle.c99_grammar.specs.Classes.{among};
 ghost use Rattle.c99_grammar.specs.First.{shared, added, by_c11, first, expressions, specifiers_added, declarations_added};
+ghost use Rattle.c99_grammar.specs.Standard.{grammar};
 ghost use Rattle.c99_grammar.specs.declared.classes.Class.TheVariants.{Semicolon};
 
 use crate::classes::Class;
-use crate::dialects::Dialect;
+use crate::dialects::{Dialect, Edition};
 use crate::first_sets::{
     starts_assignment, starts_declarator, starts_every, starts_expression, starts_initializer,
     starts_initializer_item, starts_member, starts_modifier, starts_qualifier, starts_specifier,
     starts_statement, starts_word,
 };
+use crate::gnu_first::starts_by_gnu;
 use c99_tree::Production;
 
 fn starts_translation_unit(class: Class) -> bool
@@ -305,8 +307,8 @@ fn starts_for_init(class: Class) -> bool
     starts_specifier(class) || starts_expression_line(class)
 }
 
-// The production starts with the class by each dialect.
-fn starts_by_each(production: Production, class: Class) -> bool
+/// The production starts with the class by each edition.
+pub(crate) fn starts_by_each(production: Production, class: Class) -> bool
     ensures { result ≡ among (shared production) class }
 {
     match production {
@@ -377,6 +379,7 @@ fn starts_by_each(production: Production, class: Class) -> bool
         Production::Statement => starts_statement(class),
         Production::Sub => starts_statement(class),
         Production::ForInit => starts_for_init(class),
+        _ => false,
     }
 }
 
@@ -412,8 +415,8 @@ fn starts_member_rest(class: Class) -> bool
     )
 }
 
-// The production starts with the class by C11 and not by C99.
-fn starts_added(production: Production, class: Class) -> bool
+/// The production starts with the class by C11 and not by C99.
+pub(crate) fn starts_added(production: Production, class: Class) -> bool
     ensures { result ≡ among (added production) class }
 {
     match production {
@@ -436,20 +439,29 @@ fn starts_added(production: Production, class: Class) -> bool
     }
 }
 
-// The production starts with the class by the dialect, and not by C99.
-fn starts_by(production: Production, class: Class, dialect: Dialect) -> bool
-    ensures { result ≡ among (by_c11 (added production) dialect) class }
+// The production starts with the class by the edition, and not by C99.
+fn starts_by(production: Production, class: Class, edition: Edition) -> bool
+    ensures { result ≡ among (by_c11 (added production) edition) class }
 {
-    match dialect {
-        Dialect::C99 => false,
-        Dialect::C11 => starts_added(production, class),
-        Dialect::Gnu => starts_added(production, class),
+    match edition {
+        Edition::C99 => false,
+        Edition::C11 => starts_added(production, class),
     }
+}
+
+// The production starts with the class by the edition.
+fn starts_by_edition(production: Production, class: Class, edition: Edition) -> bool
+    ensures { result ≡ among (first production edition) class }
+{
+    starts_by_each(production, class) || starts_by(production, class, edition)
 }
 
 /// The production starts with the class by the dialect.
 pub(crate) fn starts_with(production: Production, class: Class, dialect: Dialect) -> bool
-    ensures { result ≡ among (first production dialect) class }
+    ensures { result ≡ among ((grammar dialect).first production) class }
 {
-    starts_by_each(production, class) || starts_by(production, class, dialect)
+    match dialect {
+        Dialect::Iso(edition) => starts_by_edition(production, class, edition),
+        Dialect::Gnu => starts_by_gnu(production, class),
+    }
 }

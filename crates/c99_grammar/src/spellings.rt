@@ -4,11 +4,11 @@ ghost use Rattle.std.specs.Str.{bytes_eq};
 ghost use Rattle.c99_grammar.specs.Words.{spelled_of, row_of, row_at, AreRows};
 ghost use Rattle.c99_grammar.specs.TokenClasses.{spelled_class, base_class};
 ghost use Rattle.c99_grammar.specs.Standard.{grammar};
-ghost use Rattle.c99_grammar.specs.Spellings.{Spelled, keywords, keywords_added, keywords_of};
+ghost use Rattle.c99_grammar.specs.Spellings.{Spelled, keywords, keywords_added, keywords_of, gnu_keywords};
 ghost use Rattle.c99_grammar.specs.declared.classes.Class.TheVariants.{Identifier};
 
 use crate::classes::Class;
-use crate::dialects::Dialect;
+use crate::dialects::{Dialect, Edition};
 use cs_base::{Kind, Tok};
 
 /// A spelling and its class.
@@ -74,6 +74,58 @@ const UNDERSCORED: usize = (b'_' % 32) as usize;
 static KEYWORDS_ADDED: [Word; 7] = words![
     b"_Alignas" Alignas, b"_Alignof" Alignof, b"_Atomic" Atomic, b"_Generic" Generic, b"_Noreturn" Noreturn,
     b"_Static_assert" StaticAssert, b"_Thread_local" ThreadLocal
+];
+
+// Words that GNU C has beside the keywords of C99: keywords of C11, its own, and other spellings of words of C.
+static WORDS_OF_GNU: Rows = [
+    &words![],
+    &words![b"asm" AsmWord],
+    &words![],
+    &words![],
+    &words![],
+    &words![],
+    &words![],
+    &words![],
+    &words![],
+    &words![],
+    &words![],
+    &words![],
+    &words![],
+    &words![],
+    &words![],
+    &words![],
+    &words![],
+    &words![],
+    &words![],
+    &words![],
+    &words![b"typeof" TypeofWord],
+    &words![],
+    &words![],
+    &words![],
+    &words![],
+    &words![],
+    &words![],
+    &words![],
+    &words![],
+    &words![],
+    &words![],
+    &words![
+        b"_Alignas" Alignas, b"_Alignof" Alignof, b"_Atomic" Atomic, b"_Generic" Generic,
+        b"_Noreturn" Noreturn, b"_Static_assert" StaticAssert, b"_Thread_local" ThreadLocal, b"__asm" AsmWord,
+        b"__asm__" AsmWord, b"__typeof" TypeofWord, b"__typeof__" TypeofWord, b"__attribute__" AttributeWord,
+        b"__attribute" AttributeWord, b"__extension__" ExtensionWord, b"__label__" LocalLabelWord,
+        b"__auto_type" AutoTypeWord, b"__real__" RealPartWord, b"__real" RealPartWord,
+        b"__imag__" RealPartWord, b"__imag" RealPartWord, b"__builtin_va_arg" VaArgWord,
+        b"__builtin_convertvector" VaArgWord, b"__builtin_offsetof" OffsetofWord,
+        b"__builtin_types_compatible_p" TypesCompatibleWord, b"__const" Const, b"__const__" Const,
+        b"__volatile" Volatile, b"__volatile__" Volatile, b"__restrict" Restrict, b"__restrict__" Restrict,
+        b"__inline" Inline, b"__inline__" Inline, b"__signed" Signed, b"__signed__" Signed,
+        b"__complex" ComplexWord, b"__complex__" ComplexWord, b"__alignof" Alignof, b"__alignof__" Alignof,
+        b"__thread" ThreadLocal, b"__int128" Int, b"__int128_t" Int, b"__uint128_t" Int, b"_Float16" Float,
+        b"_Float32" Float, b"_Float64" Float, b"_Float128" Float, b"_Float32x" Float, b"_Float64x" Float,
+        b"__float80" Float, b"__float128" Float, b"__ibm128" Float, b"_Decimal32" Float, b"_Decimal64" Float,
+        b"_Decimal128" Float, b"__builtin_va_list" Float
+    ],
 ];
 
 static PUNCTUATORS: Rows = [
@@ -185,14 +237,31 @@ fn word_class_of_c11(text: &[u8]) -> Class
     spelled(&KEYWORDS, text, other)
 }
 
+// .. and where those of GNU C are.
+fn word_class_of_gnu(text: &[u8]) -> Class
+    ensures { result ≡ spelled_class gnu_keywords text.now Identifier }
+{
+    let other = spelled(&WORDS_OF_GNU, text, Class::Identifier);
+    spelled(&KEYWORDS, text, other)
+}
+
+// The class of an identifier by an edition.
+fn word_class_by_edition(text: &[u8], edition: Edition) -> Class
+    ensures { result ≡ spelled_class (keywords_of edition) text.now Identifier }
+{
+    match edition {
+        Edition::C99 => spelled(&KEYWORDS, text, Class::Identifier),
+        Edition::C11 => word_class_of_c11(text),
+    }
+}
+
 // The class of an identifier by a dialect.
 fn word_class(text: &[u8], dialect: Dialect) -> Class
-    ensures { result ≡ spelled_class (keywords_of dialect) text.now Identifier }
+    ensures { result ≡ spelled_class (grammar dialect).keywords text.now Identifier }
 {
     match dialect {
-        Dialect::C99 => spelled(&KEYWORDS, text, Class::Identifier),
-        Dialect::C11 => word_class_of_c11(text),
-        Dialect::Gnu => word_class_of_c11(text),
+        Dialect::Iso(edition) => word_class_by_edition(text, edition),
+        Dialect::Gnu => word_class_of_gnu(text),
     }
 }
 

@@ -6,7 +6,6 @@ use Rattle.c99_grammar.specs.declared.dialects.Dialect.{Dialect}
 use Rattle.c99_tree.specs.Tree.{Node, node_of, none}
 use Rattle.c99_tree.specs.declared.production.Production.{Production}
 use Rattle.c99_tree.specs.declared.production.Production.TheVariants.{Declarator, Specs}
-use Rattle.c99_grammar.specs.Grammar.{table}
 use Rattle.c99_grammar.specs.Items.{Item, one, part, end_of_text, act, choice, deep, many, maybe, ◌·◌, own, otherwise, next, next_two, Test, Alternative}
 use Rattle.c99_grammar.specs.Standard.{Grammar, grammar}
 use Rattle.c99_read.specs.declared.faults.ReadRefusal.{ReadRefusal}
@@ -44,16 +43,16 @@ ReadsNode-alike (Err (refusal.TooDeep i)) old new read read' alike m = λ b. sym
 ReadsNode-alike (Err refusal.Memory) old new read read' alike m = m
 
 module _ (std : Dialect) where
-  pub node-chosen : (depth : ℕ) (p : Production) (c : Choice) (r : Result Node ReadRefusal) (s new : State) → chosen (grammar std) s 1 (table p std) ≡ Some c
+  pub node-chosen : (depth : ℕ) (p : Production) (c : Choice) (r : Result Node ReadRefusal) (s new : State) → chosen (grammar std) s 1 ((grammar std).table p) ≡ Some c
       → ReadsNode r s new (alternative (grammar std) (whole (grammar std)) depth p c.number c.body)
       → ReadsNode r s new (whole (grammar std) depth (produce p))
   node-chosen depth p c r s new e m =
       ReadsNode-alike r s new _ _
-      (λ b. read-chosen std depth p (with_built s b) c (chosen-elsewhere (grammar std) s b 1 (table p std) ∙ e)) m
+      (λ b. read-chosen std depth p (with_built s b) c (chosen-elsewhere (grammar std) s b 1 ((grammar std).table p) ∙ e)) m
 
-  pub node-none : (depth : ℕ) (p : Production) (s : State) → chosen (grammar std) s 1 (table p std) ≡ None
+  pub node-none : (depth : ℕ) (p : Production) (s : State) → chosen (grammar std) s 1 ((grammar std).table p) ≡ None
       → (b : Node) → whole (grammar std) depth (produce p) (with_built s b) ≡ Err (syntax s.at)
-  node-none depth p s e = λ b. read-none std depth p (with_built s b) (chosen-elsewhere (grammar std) s b 1 (table p std) ∙ e)
+  node-none depth p s e = λ b. read-none std depth p (with_built s b) (chosen-elsewhere (grammar std) s b 1 ((grammar std).table p) ∙ e)
 
 -- what a production's node is, as a child of the open node
 pub node-pushed : (n : Node) (s new : State) (read : State → Step) → ReadsNode (Ok n) s new read → read s ≡ Ok (with_built new (behind new.built n))

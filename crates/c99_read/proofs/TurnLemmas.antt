@@ -4,7 +4,6 @@ use Rattle.std.proofs.lemmas.Bool.{and_parts}
 use Rattle.std.proofs.lemmas.List.{drop_more, drop_all}
 use Rattle.c99_grammar.specs.declared.dialects.Dialect.{Dialect}
 use Rattle.c99_tree.specs.declared.production.Production.{Production}
-use Rattle.c99_grammar.specs.Grammar.{table}
 use Rattle.c99_grammar.specs.Items.{Item, Test, many, Alternative}
 use Rattle.c99_grammar.specs.ItemsOf.{alternative_of, test_of, item_of}
 use Rattle.c99_read.specs.Choosing.{Choice, chosen, chosen_read}
@@ -52,14 +51,14 @@ module _ (std : Dialect) where
       chosen-if (may (grammar std) a.test a.body s) depth p (record { number = n; body = a.body }) (chosen (grammar std) s (n + 1) more) s _
       (chosen-picked depth p (n + 1) more s)
 
-  chosen-whole : (depth : ℕ) (p : Production) (s : State) → whole (grammar std) depth (produce p) s ≡ chosen_read (grammar std) depth p (chosen (grammar std) s 1 (table p std)) s
-  chosen-whole depth p s = produced depth p s ∙ chosen-picked depth p 1 (table p std) s
+  chosen-whole : (depth : ℕ) (p : Production) (s : State) → whole (grammar std) depth (produce p) s ≡ chosen_read (grammar std) depth p (chosen (grammar std) s 1 ((grammar std).table p)) s
+  chosen-whole depth p s = produced depth p s ∙ chosen-picked depth p 1 ((grammar std).table p) s
 
-  pub read-chosen : (depth : ℕ) (p : Production) (s : State) (c : Choice) → chosen (grammar std) s 1 (table p std) ≡ Some c
+  pub read-chosen : (depth : ℕ) (p : Production) (s : State) (c : Choice) → chosen (grammar std) s 1 ((grammar std).table p) ≡ Some c
       → alternative (grammar std) (whole (grammar std)) depth p c.number c.body s ≡ whole (grammar std) depth (produce p) s
   read-chosen depth p s c e = sym (chosen-whole depth p s ∙ ap (λ o. chosen_read (grammar std) depth p o s) e)
 
-  pub read-none : (depth : ℕ) (p : Production) (s : State) → chosen (grammar std) s 1 (table p std) ≡ None → whole (grammar std) depth (produce p) s ≡ Err (syntax s.at)
+  pub read-none : (depth : ℕ) (p : Production) (s : State) → chosen (grammar std) s 1 ((grammar std).table p) ≡ None → whole (grammar std) depth (produce p) s ≡ Err (syntax s.at)
   read-none depth p s e = chosen-whole depth p s ∙ ap (λ o. chosen_read (grammar std) depth p o s) e
 
   -- one row of the code's table, and those behind it

@@ -1,48 +1,48 @@
 -- How the productions stand over one another: what a production reads at its own depth has a lower level.
 use Rattle.std.specs.Prelude.{ℕ, ◌+◌, ◌≡◌, Bool, true, ◌&&◌, nat_lt, max}
 use Rattle.c99_tree.specs.declared.production.Production.{Production}
-use Rattle.c99_tree.specs.declared.production.Production.TheVariants.{TranslationUnit, External, ExtRest, ExtTail, FunBody, Declaration, DeclRest, InitDecl, Sassert, Specs, Main, Mod, Qual, Word, StructSpec, SuRest, Members, Member, MemRest, Mdecl, EnumSpec, EnRest, Enumerators, Enumerator, Declarator, Pointer, Direct, Suffix, Bound, Params, Param, Pdecl, Pdirect, TypeName, Adecl, Adirect, Init, InitList, InitItem, Designator, Expr, Assign, Asgop, Cond, Lor, Land, Bor, Bxor, Band, Equal, Relate, Shift, Add, Mul, Cast, CastRest, Unary, SizeRest, SizeLit, Primary, Post, Args, Block, BlockItem, Statement, Sub, ForInit}
+use Rattle.c99_tree.specs.declared.production.Production.TheVariants.{TranslationUnit, External, ExtRest, ExtTail, FunBody, Declaration, DeclRest, InitDecl, Sassert, Specs, Main, Mod, Qual, Word, StructSpec, SuRest, Members, Member, MemRest, Mdecl, EnumSpec, EnRest, Enumerators, Enumerator, Declarator, Pointer, Direct, Suffix, Bound, Params, Param, Pdecl, Pdirect, TypeName, Adecl, Adirect, Init, InitList, InitItem, Designator, Expr, Assign, Asgop, Cond, Lor, Land, Bor, Bxor, Band, Equal, Relate, Shift, Add, Mul, Cast, CastRest, Unary, SizeRest, SizeLit, Primary, Post, Args, Block, BlockItem, Statement, Sub, ForInit, AutoDecl, Attr, AttrItem, AttrWord, AsmName, Operand, Association, MemberPath, AsmPart, AsmOperand}
 use Rattle.c99_grammar.specs.Items.{Item, one, part, end_of_text, act, ◌·◌, choice, maybe, many, deep}
 use Rattle.c99_read.specs.Reading.{repeat}
 use Rattle.c99_read.specs.Sound.{is_low, is_met}
 
 abbrev pub level_of : Production → ℕ
-level_of TranslationUnit = 11
-level_of External = 10
-level_of ExtRest = 9
-level_of ExtTail = 8
-level_of FunBody = 7
-level_of Declaration = 6
-level_of DeclRest = 5
-level_of InitDecl = 4
+level_of TranslationUnit = 12
+level_of External = 11
+level_of ExtRest = 10
+level_of ExtTail = 9
+level_of FunBody = 8
+level_of Declaration = 7
+level_of DeclRest = 6
+level_of InitDecl = 5
 level_of Sassert = 0
-level_of Specs = 3
-level_of Main = 2
-level_of Mod = 1
+level_of Specs = 5
+level_of Main = 4
+level_of Mod = 3
 level_of Qual = 0
 level_of Word = 0
-level_of StructSpec = 1
+level_of StructSpec = 3
 level_of SuRest = 0
-level_of Members = 7
-level_of Member = 6
-level_of MemRest = 5
-level_of Mdecl = 4
-level_of EnumSpec = 1
+level_of Members = 8
+level_of Member = 7
+level_of MemRest = 6
+level_of Mdecl = 5
+level_of EnumSpec = 3
 level_of EnRest = 0
-level_of Enumerators = 1
-level_of Enumerator = 0
-level_of Declarator = 3
-level_of Pointer = 1
-level_of Direct = 2
+level_of Enumerators = 4
+level_of Enumerator = 3
+level_of Declarator = 4
+level_of Pointer = 3
+level_of Direct = 3
 level_of Suffix = 1
 level_of Bound = 17
-level_of Params = 5
-level_of Param = 4
-level_of Pdecl = 3
-level_of Pdirect = 2
-level_of TypeName = 4
-level_of Adecl = 3
-level_of Adirect = 2
+level_of Params = 7
+level_of Param = 6
+level_of Pdecl = 4
+level_of Pdirect = 3
+level_of TypeName = 6
+level_of Adecl = 4
+level_of Adirect = 3
 level_of Init = 17
 level_of InitList = 19
 level_of InitItem = 18
@@ -66,14 +66,24 @@ level_of CastRest = 1
 level_of Unary = 3
 level_of SizeRest = 2
 level_of SizeLit = 1
-level_of Primary = 0
+level_of Primary = 1
 level_of Post = 0
 level_of Args = 17
 level_of Block = 0
-level_of BlockItem = 9
-level_of Statement = 8
+level_of BlockItem = 10
+level_of Statement = 9
 level_of Sub = 0
-level_of ForInit = 7
+level_of ForInit = 8
+level_of AutoDecl = 3
+level_of Attr = 2
+level_of AttrItem = 1
+level_of AttrWord = 0
+level_of AsmName = 0
+level_of Operand = 0
+level_of Association = 0
+level_of MemberPath = 0
+level_of AsmPart = 1
+level_of AsmOperand = 0
 
 -- above the level of each production that the item reads at its own depth
 abbrev pub height : Item → ℕ

@@ -1,5 +1,7 @@
 -- The productions of expressions that are an operand and what an operator joins to it (ISO/IEC 9899:1999, 6.5.5 to 6.5.17).
 use Rattle.std.specs.Prelude.{Bool, true, false, List, [], ◌∷◌}
+use Rattle.c99_grammar.specs.declared.dialects.Dialect.{Dialect}
+use Rattle.c99_grammar.specs.declared.dialects.Dialect.TheVariants.{Iso, Gnu}
 use Rattle.c99_tree.specs.declared.production.Production.{Production}
 use Rattle.c99_tree.specs.declared.production.Production.TheVariants.{Expr, Assign, Asgop, Cond, Lor, Land, Bor, Bxor, Band, Equal, Relate, Shift, Add, Mul, Cast}
 use Rattle.c99_grammar.specs.declared.classes.Class.{Class}
@@ -58,8 +60,13 @@ abbrev pub is_assign : Production → Bool
 is_assign Assign = true
 is_assign _ = false
 
+-- the second operand of a conditional expression (6.5.15), which may be missing in GNU C
+abbrev pub second_operand : Dialect → Item
+second_operand (Iso e) = deep (part Expr)
+second_operand Gnu = maybe (deep (part Expr))
+
 -- what may follow the first operand
-abbrev pub rest_of : Production → Item
-rest_of Assign = maybe (part Asgop · deep (part Assign))
-rest_of Cond = maybe (tok Question · deep (part Expr) · tok Colon · deep (part Cond))
-rest_of p = many own (one (signs p) · part (operand_of p))
+abbrev pub rest_of : Production → Dialect → Item
+rest_of Assign d = maybe (part Asgop · deep (part Assign))
+rest_of Cond d = maybe (tok Question · second_operand d · tok Colon · deep (part Cond))
+rest_of p d = many own (one (signs p) · part (operand_of p))

@@ -30,7 +30,7 @@ mod parts;
 mod reader;
 mod reading;
 
-pub use c99_grammar::{Dialect, first_sets_are_the_tables};
+pub use c99_grammar::{Dialect, Edition, first_sets_are_the_tables};
 use c99_tree::{Production, Tree};
 use cs_base::Tok;
 pub use faults::ReadRefusal;

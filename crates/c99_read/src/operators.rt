@@ -152,10 +152,11 @@ pub(crate) fn is_assign(production: Production) -> bool
     matches!(production, Production::Assign)
 }
 
+#[tactic(auto, using(crate::proofs::OperatorLemmas::only_row))]
 /// What may follow the first operand, as the table has it.
 pub(crate) fn rest_of(production: Production, dialect: Dialect) -> &'static Item
     requires { is_binary production ≡ true }
-    ensures { item_of result.now ≡ rest_of production }
+    ensures { item_of result.now ≡ rest_of production dialect }
 {
     let rows = alternatives(production, dialect);
     match &rows[0].body {

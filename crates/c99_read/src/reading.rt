@@ -2,7 +2,6 @@
 ghost use Rattle.std.specs.Prelude.{◌≡◌, ◌≤◌, ◌<◌, ◌+◌, true, Ok};
 ghost use Rattle.std.specs.Option.{option_map};
 ghost use Rattle.c99_read.specs.Answer.{IsBegun, Reads, ReadsNode};
-ghost use Rattle.c99_grammar.specs.Grammar.{table};
 ghost use Rattle.c99_grammar.specs.Items.{choice, deep, many, maybe, own, part, ◌·◌};
 ghost use Rattle.c99_grammar.specs.ItemsOf.{action_of, item_of, test_of};
 ghost use Rattle.c99_read.specs.Choosing.{choice_of, chosen};
@@ -123,7 +122,7 @@ impl<'a> Reader<'a> {
         ensures by { self.new.dialect ≡ dialect }
         ensures answer { (s : State) → IsBegun begun s
             → ReadsNode (Ok first) s self.old.state (whole (grammar dialect) depth (produce (operand_of production)))
-            → ReadsNode result s self.new.state (alternative (grammar dialect) (whole (grammar dialect)) depth production 1 (part (operand_of production) · rest_of production)) }
+            → ReadsNode result s self.new.state (alternative (grammar dialect) (whole (grammar dialect)) depth production 1 (part (operand_of production) · rest_of production dialect)) }
     {
         let outer = self.wrap(production, 1, begun, first, dialect)?;
         self.item(depth, rest_of(production, dialect), dialect)?;
@@ -134,7 +133,7 @@ impl<'a> Reader<'a> {
     fn goes_on(&self, production: Production, dialect: Dialect) -> bool
         requires by { self.now.dialect ≡ dialect }
         requires binary { is_binary production ≡ true }
-        ensures { result ≡ may (grammar dialect) own (rest_of production) self.now.state }
+        ensures { result ≡ may (grammar dialect) own (rest_of production dialect) self.now.state }
     {
         if is_assign(production) {
             self.begins(Production::Asgop, dialect)
@@ -146,7 +145,7 @@ impl<'a> Reader<'a> {
     // The first alternative that may be read here.
     fn chosen(&self, production: Production, dialect: Dialect) -> Option<Chosen>
         requires by { self.now.dialect ≡ dialect }
-        ensures { option_map choice_of result ≡ chosen (grammar dialect) self.now.state 1 (table production dialect) }
+        ensures { option_map choice_of result ≡ chosen (grammar dialect) self.now.state 1 ((grammar dialect).table production) }
     {
         let rows = alternatives(production, dialect);
         let count = rows.len();

@@ -1,6 +1,7 @@
 // The labels of nodes.
 
-/// A production of the grammar (ISO/IEC 9899:1999 and 9899:2011, Annex A): the kind of a node.
+/// A production of the grammar (ISO/IEC 9899:1999 and 9899:2011, Annex A): the kind of a node. The last ten are those
+/// of GNU C; of them an association is one of `_Generic` (C11 6.5.1.1).
 #[derive(Clone, Copy, Debug, PartialEq, Eq)]
 pub enum Production {
     TranslationUnit,
@@ -70,6 +71,16 @@ pub enum Production {
     Statement,
     Sub,
     ForInit,
+    AutoDecl,
+    Attr,
+    AttrItem,
+    AttrWord,
+    AsmName,
+    Operand,
+    Association,
+    MemberPath,
+    AsmPart,
+    AsmOperand,
 }
 
 /// The label of a node: its production, and the number of the alternative from 1.

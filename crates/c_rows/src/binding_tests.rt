@@ -2,7 +2,7 @@
 use crate::entity_rows::BOUND;
 use crate::fault_rows::FAULTS;
 use crate::list_rows::{KINDS, LISTS, PARAMETERS};
-use c99_read::{Dialect, read};
+use c99_read::{Dialect, Edition, read};
 use c99_tree::Tree;
 use cs_base::Tok;
 use lexer::lex;
@@ -166,20 +166,35 @@ fn differing(
 
 /// The first row whose entities or fault are others by C11, or nothing.
 pub(crate) fn bound_by_c11(alloc: Global, rows: &[(&[u8], &str)]) -> Result<String, Fail> {
-    differing(alloc, Asked::Entities, rows, Dialect::C11)
+    differing(alloc, Asked::Entities, rows, Dialect::Iso(Edition::C11))
 }
 
 #[test]
 fn worked_programs(rt: HostRuntime) -> Result<(), Fail> {
-    let entities = differing(rt.alloc(), Asked::Entities, &BOUND, Dialect::C99)?;
+    let entities = differing(
+        rt.alloc(),
+        Asked::Entities,
+        &BOUND,
+        Dialect::Iso(Edition::C99),
+    )?;
     assert_eq!(rt; entities.as_str(), "", "BOUND");
-    let faults = differing(rt.alloc(), Asked::Entities, &FAULTS, Dialect::C99)?;
+    let faults = differing(
+        rt.alloc(),
+        Asked::Entities,
+        &FAULTS,
+        Dialect::Iso(Edition::C99),
+    )?;
     assert_eq!(rt; faults.as_str(), "", "FAULTS");
-    let kinds = differing(rt.alloc(), Asked::Kinds, &KINDS, Dialect::C99)?;
+    let kinds = differing(rt.alloc(), Asked::Kinds, &KINDS, Dialect::Iso(Edition::C99))?;
     assert_eq!(rt; kinds.as_str(), "", "KINDS");
-    let lists = differing(rt.alloc(), Asked::Lists, &LISTS, Dialect::C99)?;
+    let lists = differing(rt.alloc(), Asked::Lists, &LISTS, Dialect::Iso(Edition::C99))?;
     assert_eq!(rt; lists.as_str(), "", "LISTS");
-    let parameters = differing(rt.alloc(), Asked::Parameters, &PARAMETERS, Dialect::C99)?;
+    let parameters = differing(
+        rt.alloc(),
+        Asked::Parameters,
+        &PARAMETERS,
+        Dialect::Iso(Edition::C99),
+    )?;
     assert_eq!(rt; parameters.as_str(), "", "PARAMETERS");
     Ok(())
 }

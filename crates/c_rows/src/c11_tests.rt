@@ -1,14 +1,14 @@
 // Worked programs of C11, beside what C99 makes of them. The trees and the places are those of the grammar's rules,
 // worked outside.
 use crate::reading_tests::written;
-use c99_read::{Dialect, ReadRefusal, read};
+use c99_read::{Dialect, Edition, ReadRefusal, read};
 use c99_tree::Tree;
 use cs_base::Memory;
 use row_tools::toks;
 use std::alloc::Global;
 use std::test::Fail;
 
-// A program, and what reading it gives by C99 and by C11. GNU C has the words and rows of C11 so far.
+// A program, and what reading it gives by C99 and by C11.
 const BY_EACH: [(&[u8], &str, &str); 35] = [
     (
         b"_Static_assert ( 1 , \"s\" ) ;",
@@ -155,8 +155,8 @@ const TREES: [(&[u8], &str); 3] = [
     ),
 ];
 
-// The answer for a text by a dialect, of fewer than 2^32 tokens.
-fn answer(
+/// The answer for a text by a dialect, of fewer than 2^32 tokens.
+pub(crate) fn answer(
     alloc: Global,
     text: &[u8],
     dialect: Dialect,
@@ -169,8 +169,8 @@ fn answer(
     })
 }
 
-// What the tables say of it: it is read, or why it is not.
-fn said(alloc: Global, text: &[u8], dialect: Dialect) -> Result<String, Fail> {
+/// What the tables say of it: it is read, or why it is not.
+pub(crate) fn said(alloc: Global, text: &[u8], dialect: Dialect) -> Result<String, Fail> {
     match answer(alloc, text, dialect)? {
         Some(Ok(_)) => Ok(format!(in alloc; "read")?),
         Some(Err(refusal)) => Ok(format!(in alloc; "{refusal}")?),
@@ -179,14 +179,12 @@ fn said(alloc: Global, text: &[u8], dialect: Dialect) -> Result<String, Fail> {
 }
 
 #[test]
-fn programs_are_read_by_each_dialect(rt: HostRuntime) -> Result<(), Fail> {
+fn programs_are_read_by_each_edition(rt: HostRuntime) -> Result<(), Fail> {
     for (k, (text, by_c99, by_c11)) in BY_EACH.iter().enumerate() {
-        let found = said(rt.alloc(), text, Dialect::C99)?;
+        let found = said(rt.alloc(), text, Dialect::Iso(Edition::C99))?;
         assert_eq!(rt; found.as_str(), *by_c99, "BY_EACH, number {k} by C99");
-        let found = said(rt.alloc(), text, Dialect::C11)?;
+        let found = said(rt.alloc(), text, Dialect::Iso(Edition::C11))?;
         assert_eq!(rt; found.as_str(), *by_c11, "BY_EACH, number {k} by C11");
-        let found = said(rt.alloc(), text, Dialect::Gnu)?;
-        assert_eq!(rt; found.as_str(), *by_c11, "BY_EACH, number {k} by GNU C");
     }
     Ok(())
 }
@@ -194,7 +192,7 @@ fn programs_are_read_by_each_dialect(rt: HostRuntime) -> Result<(), Fail> {
 #[test]
 fn programs_of_c11_have_their_trees(rt: HostRuntime) -> Result<(), Fail> {
     for (k, (text, expected)) in TREES.iter().enumerate() {
-        match answer(rt.alloc(), text, Dialect::C11)? {
+        match answer(rt.alloc(), text, Dialect::Iso(Edition::C11))? {
             Some(Ok(tree)) => {
                 let found = written(rt.alloc(), &tree)?;
                 assert_eq!(rt; found.as_str(), *expected, "TREES, number {k}");

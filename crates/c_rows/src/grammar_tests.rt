@@ -1,12 +1,12 @@
 // The classes of tokens (6.4.1, 6.4.6), and what starts with them (Annex A.2).
-use c99_grammar::{Class, Dialect, alternatives, base_class, production_starts};
+use c99_grammar::{Class, Dialect, Edition, alternatives, base_class, production_starts};
 use c99_tree::Production;
 use row_tools::toks;
 use std::test::Fail;
 
 const WORDS: &[u8] = b"int x _Bool _Noreturn _Generic u8 1 'c' \"s\" -> <: %:%: #";
 
-// Their classes by C99 and by C11. GNU C has the words of C11 so far.
+// Their classes by C99 and by C11.
 const CLASSES: [(Class, Class); 13] = [
     (Class::Int, Class::Int),
     (Class::Identifier, Class::Identifier),
@@ -29,15 +29,53 @@ fn tokens_have_their_classes(rt: HostRuntime) -> Result<(), Fail> {
     assert_eq!(rt; toks.len(), CLASSES.len());
     for k in 0..toks.len() {
         assert!(rt;
-            base_class(&toks[k], Dialect::C99) == CLASSES[k].0,
+            base_class(&toks[k], Dialect::Iso(Edition::C99)) == CLASSES[k].0,
             "{k} by C99"
         );
         assert!(rt;
-            base_class(&toks[k], Dialect::C11) == CLASSES[k].1,
+            base_class(&toks[k], Dialect::Iso(Edition::C11)) == CLASSES[k].1,
             "{k} by C11"
         );
+    }
+    Ok(())
+}
+
+const WORDS_OF_GNU: &[u8] =
+    b"int asm __asm__ typeof __attribute__ __extension__ __label__ __auto_type __imag__ __builtin_va_arg \
+    __builtin_offsetof __builtin_types_compatible_p __const __inline __int128 _Float64x __thread _Generic __foo x [";
+
+// .. by GNU C.
+const CLASSES_OF_GNU: [Class; 21] = [
+    Class::Int,
+    Class::AsmWord,
+    Class::AsmWord,
+    Class::TypeofWord,
+    Class::AttributeWord,
+    Class::ExtensionWord,
+    Class::LocalLabelWord,
+    Class::AutoTypeWord,
+    Class::RealPartWord,
+    Class::VaArgWord,
+    Class::OffsetofWord,
+    Class::TypesCompatibleWord,
+    Class::Const,
+    Class::Inline,
+    Class::Int,
+    Class::Float,
+    Class::ThreadLocal,
+    Class::Generic,
+    Class::Identifier,
+    Class::Identifier,
+    Class::LeftBracket,
+];
+
+#[test]
+fn tokens_of_gnu_have_their_classes(rt: HostRuntime) -> Result<(), Fail> {
+    let toks = toks(rt.alloc(), WORDS_OF_GNU)?;
+    assert_eq!(rt; toks.len(), CLASSES_OF_GNU.len());
+    for k in 0..toks.len() {
         assert!(rt;
-            base_class(&toks[k], Dialect::Gnu) == CLASSES[k].1,
+            base_class(&toks[k], Dialect::Gnu) == CLASSES_OF_GNU[k],
             "{k} by GNU C"
         );
     }
@@ -74,7 +112,50 @@ const STARTS: [(Production, Class, Class, bool); 7] = [
 fn productions_start_as_the_rows_say(rt: HostRuntime) -> Result<(), Fail> {
     for (production, class, behind, want) in STARTS {
         assert_eq!(rt;
-            production_starts(production, class, behind, Dialect::C11),
+            production_starts(production, class, behind, Dialect::Iso(Edition::C11)),
+            want
+        );
+    }
+    Ok(())
+}
+
+// .. by GNU C.
+const STARTS_OF_GNU: [(Production, Class, Class, bool); 8] = [
+    (
+        Production::Specs,
+        Class::LeftBracket,
+        Class::LeftBracket,
+        true,
+    ),
+    (
+        Production::Suffix,
+        Class::LeftBracket,
+        Class::LeftBracket,
+        false,
+    ),
+    (
+        Production::Suffix,
+        Class::LeftBracket,
+        Class::Constant,
+        true,
+    ),
+    (Production::Main, Class::Atomic, Class::LeftParen, true),
+    (Production::Qual, Class::Atomic, Class::LeftParen, false),
+    (Production::InitItem, Class::TypedefName, Class::Colon, true),
+    (Production::Cast, Class::ExtensionWord, Class::Int, true),
+    (
+        Production::Declarator,
+        Class::AttributeWord,
+        Class::LeftParen,
+        false,
+    ),
+];
+
+#[test]
+fn productions_of_gnu_start_as_the_rows_say(rt: HostRuntime) -> Result<(), Fail> {
+    for (production, class, behind, want) in STARTS_OF_GNU {
+        assert_eq!(rt;
+            production_starts(production, class, behind, Dialect::Gnu),
             want
         );
     }
@@ -83,10 +164,27 @@ fn productions_start_as_the_rows_say(rt: HostRuntime) -> Result<(), Fail> {
 
 #[test]
 fn productions_have_their_alternatives(rt: HostRuntime) -> Result<(), Fail> {
-    assert_eq!(rt; alternatives(Production::Statement, Dialect::C99).len(), 15);
-    assert_eq!(rt; alternatives(Production::Sassert, Dialect::C99).len(), 0);
-    assert_eq!(rt; alternatives(Production::Sassert, Dialect::C11).len(), 1);
-    assert_eq!(rt; alternatives(Production::Mod, Dialect::C11).len(), 8);
-    assert_eq!(rt; alternatives(Production::Mod, Dialect::Gnu).len(), 8);
+    assert_eq!(rt;
+        alternatives(Production::Statement, Dialect::Iso(Edition::C99)).len(),
+        15
+    );
+    assert_eq!(rt;
+        alternatives(Production::Sassert, Dialect::Iso(Edition::C99)).len(),
+        0
+    );
+    assert_eq!(rt;
+        alternatives(Production::Sassert, Dialect::Iso(Edition::C11)).len(),
+        1
+    );
+    assert_eq!(rt;
+        alternatives(Production::Mod, Dialect::Iso(Edition::C11)).len(),
+        8
+    );
+    assert_eq!(rt;
+        alternatives(Production::Attr, Dialect::Iso(Edition::C11)).len(),
+        0
+    );
+    assert_eq!(rt; alternatives(Production::Mod, Dialect::Gnu).len(), 11);
+    assert_eq!(rt; alternatives(Production::Expr, Dialect::Gnu).len(), 1);
     Ok(())
 }

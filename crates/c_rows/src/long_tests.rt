@@ -1,5 +1,5 @@
 // Texts that are long and not deep, read and bound in the stack of a test.
-use c99_read::{Dialect, read};
+use c99_read::{Dialect, Edition, read};
 use lexer::lex;
 use scope_bind::bind;
 use std::alloc::Global;
@@ -42,7 +42,7 @@ fn answer(alloc: Global, text: &[u8]) -> Result<String, Fail> {
     if toks.len() > 1000000 {
         return Ok(format!(in alloc; "too long")?);
     }
-    match read(alloc, toks, Dialect::C99) {
+    match read(alloc, toks, Dialect::Iso(Edition::C99)) {
         Ok(tree) => match bind(alloc, toks, &tree) {
             Ok(bound) => Ok(format!(in alloc; "{}", bound.names().len())?),
             Err(refusal) => Ok(format!(in alloc; "{refusal}")?),

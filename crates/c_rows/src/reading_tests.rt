@@ -1,5 +1,5 @@
 // Worked programs and faults. The trees and the places are those of the grammar's rules, worked outside.
-use c99_read::{Dialect, ReadRefusal, read};
+use c99_read::{Dialect, Edition, ReadRefusal, read};
 use c99_tree::{Child, Tree};
 use cs_base::Memory;
 use row_tools::toks;
@@ -122,7 +122,7 @@ const TREES: [(&[u8], &str); 6] = [
 fn answer(alloc: Global, text: &[u8]) -> Result<Option<Result<Tree, ReadRefusal>>, Memory> {
     let toks = toks(alloc, text)?;
     Ok(if toks.len() <= u32::MAX as usize {
-        Some(read(alloc, &toks, Dialect::C99))
+        Some(read(alloc, &toks, Dialect::Iso(Edition::C99)))
     } else {
         None
     })

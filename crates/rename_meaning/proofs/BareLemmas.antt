@@ -29,8 +29,8 @@ use Rattle.rename_meaning.proofs.ListLemmas.{In, cons_nil, flat_nil, any_at}
 use Rattle.rename_meaning.proofs.NoneLemmas.{NoneStand, none_stand, holder}
 use Rattle.rename_meaning.proofs.OccurringLemmas.{name_like, parted_one, like_spelled}
 use Rattle.rename_meaning.proofs.TracedLemmas.{AreChained}
-use Rattle.c99_grammar.specs.Dialects.{dialect}
-use Rattle.c99_grammar.specs.Standard.{grammar}
+use Rattle.c99_grammar.specs.Dialects.{edition}
+use Rattle.c99_grammar.specs.Standard.{iso}
 use Rattle.c99_read.specs.State.{base_at, is_identifier}
 use Rattle.rename_meaning.proofs.LinkedNameLemmas.{named_token}
 use Rattle.rename_meaning.proofs.NamedLemmas.{NameAt, OtherAt, alike_from, whole, old_identifier, old_at, new_at, look}
@@ -169,8 +169,8 @@ module _ (a : Analysed) (members : List Part) (name : List ℕ) (r : Renaming) (
       name_stays k n n.token.text own free ∙ sym there
 
   -- a bare name stays with all tokens of its spelling, where a typedef name of this spelling is hidden
-  pub bare_stays : (k : ℕ) → In k u.bound.bare → is_identifier (base_at (grammar (dialect u.standard)) old k) ≡ true → StaysWhole old new u.bound.typedefs k
+  pub bare_stays : (k : ℕ) → In k u.bound.bare → is_identifier (base_at (iso (edition u.standard)) old k) ≡ true → StaysWhole old new u.bound.typedefs k
   bare_stays k bare named = λ hidden j both.
-      let t = named_token (dialect u.standard) old k named in
+      let t = named_token (edition u.standard) old k named in
       let same : spelling_at old k ≡ spelling_at old j = bytes_eq-equal (spelling_at old k) (spelling_at old j) both in
       alike_from (spelling_at new k) (spelling_at new j) (whole_name k j (record { token = t.0; there = t.1; named = t.2 }) bare hidden same)

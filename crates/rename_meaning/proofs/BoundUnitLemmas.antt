@@ -6,8 +6,8 @@ use Rattle.cs_base.proofs.FileMapLemmas.{bytes_eq-equal}
 use Rattle.cs_base.specs.Token.{Token}
 use Rattle.line_shape.specs.Signs.{is_name}
 use Rattle.unit_steps.specs.Below.macro_expand.Renaming.{Renaming, renamed}
-use Rattle.c99_grammar.specs.Dialects.{dialect}
-use Rattle.c99_grammar.specs.Standard.{grammar}
+use Rattle.c99_grammar.specs.Dialects.{edition}
+use Rattle.c99_grammar.specs.Standard.{iso}
 use Rattle.c99_read.specs.State.{base_at, is_identifier}
 use Rattle.scope_bind.specs.declared.bound.Name.{Name}
 use Rattle.c_types.specs.Declarations.{spelling_at, alike}
@@ -53,12 +53,12 @@ module _ (a : Analysed) (members : List Part) (name : List ℕ) (r : Renaming) (
   name_bound : (n : Name) → In n names → BoundAt n.index n.entity
   name_bound n j =
       let is = is_read in
-      let one = all_at (λ (m : Name). (is_identifier (base_at (grammar (dialect u.standard)) toks m.index) ≡ true) × (is_identifier (base_at (grammar (dialect u.standard)) toks m.entity) ≡ true)) names
-      (all_listed _ names (names_identify (dialect u.standard) toks u.tree u.bound is.reads is.binds)) n j in
+      let one = all_at (λ (m : Name). (is_identifier (base_at (iso (edition u.standard)) toks m.index) ≡ true) × (is_identifier (base_at (iso (edition u.standard)) toks m.entity) ≡ true)) names
+      (all_listed _ names (names_identify (edition u.standard) toks u.tree u.bound is.reads is.binds)) n j in
       let entity = all_at (λ (m : Name). (entity_at names m.index ≡ Some m.entity) × (entity_at names m.entity ≡ Some m.entity)) names
-      (all_listed _ names (entities_named (dialect u.standard) toks u.tree u.bound is.reads is.binds)) n j in
+      (all_listed _ names (entities_named (edition u.standard) toks u.tree u.bound is.reads is.binds)) n j in
       let same = all_at (λ (m : Name). alike toks m.index m.entity ≡ true) names (all_listed _ names (spelled_as_entities toks u.tree u.bound is.binds)) n j in
-      let t = named_token (dialect u.standard) toks n.index one.0 in
+      let t = named_token (edition u.standard) toks n.index one.0 in
       record {
         token = t.0;
         there = t.1;
@@ -96,7 +96,7 @@ module _ (a : Analysed) (members : List Part) (name : List ℕ) (r : Renaming) (
       let is = is_read in
       let b = name_bound n j in
       let entity = all_at (λ (m : Name). (entity_at names m.index ≡ Some m.entity) × (entity_at names m.entity ≡ Some m.entity)) names
-      (all_listed _ names (entities_named (dialect u.standard) toks u.tree u.bound is.reads is.binds)) n j in
+      (all_listed _ names (entities_named (edition u.standard) toks u.tree u.bound is.reads is.binds)) n j in
       let c = token_bound n.entity n.entity entity.1 in
       let f = first_bound names n.entity toks n.index b.token b.there b.entity in
       alike_from (spelling_at (map (renamed r) toks) n.index) (spelling_at (map (renamed r) toks) n.entity)

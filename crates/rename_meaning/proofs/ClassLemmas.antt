@@ -6,8 +6,8 @@ use Rattle.std.specs.Option.{option_map_or}
 use Rattle.std.specs.Str.{bytes_eq}
 use Rattle.std.proofs.lemmas.Bool.{cases_Bool, both_ways, and_parts}
 use Rattle.std.proofs.lemmas.Option.{slice_get-map}
-use Rattle.c99_grammar.specs.declared.dialects.Dialect.{Dialect}
-use Rattle.c99_grammar.specs.declared.dialects.Dialect.TheVariants.{C99, C11, Gnu}
+use Rattle.c99_grammar.specs.declared.dialects.Edition.{Edition}
+use Rattle.c99_grammar.specs.declared.dialects.Edition.TheVariants.{C99, C11}
 use Rattle.cs_base.specs.declared.positions.Part.{Part}
 use Rattle.cs_base.specs.declared.tokens.Kind.{Kind}
 use Rattle.cs_base.specs.declared.tokens.Kind.TheVariants as kind
@@ -17,8 +17,8 @@ use Rattle.line_shape.specs.Signs as signs
 use Rattle.unit_steps.specs.Below.macro_expand.Renaming.{Renaming, renamed}
 use Rattle.unit_steps.specs.Below.macro_expand.Renaming as macros
 use Rattle.c99_grammar.specs.Spellings.{Spelled, keywords_of}
-use Rattle.c99_grammar.specs.Dialects.{dialect}
-use Rattle.c99_grammar.specs.Standard.{grammar}
+use Rattle.c99_grammar.specs.Dialects.{edition}
+use Rattle.c99_grammar.specs.Standard.{iso}
 use Rattle.c99_read.specs.State.{base_at}
 use Rattle.c99_grammar.specs.TokenClasses.{spelled_class, class_of_kind, base_class}
 use Rattle.renamed_tree_laws.proofs.Private.{Class, identifier, no_class, end_class}
@@ -37,11 +37,10 @@ abbrev is_kept : Spelled → Bool
 is_kept s = is_reserved_text s.0
 
 -- each keyword is reserved (6.4.1)
-keywords_reserved : (std : Dialect) → list_all is_kept (keywords_of std) ≡ true
+keywords_reserved : (std : Edition) → list_all is_kept (keywords_of std) ≡ true
 unfolding is_reserved_text
 keywords_reserved C99 = refl
 keywords_reserved C11 = refl
-keywords_reserved Gnu = refl
 
 module _ (x y : List ℕ) (same : (word : List ℕ) → is_reserved_text word ≡ true → bytes_eq x word ≡ bytes_eq y word) where
   -- two texts that are the same reserved words, or none, are of one class
@@ -53,10 +52,10 @@ module _ (x y : List ℕ) (same : (word : List ℕ) → is_reserved_text word �
       ap (λ (b : Bool). if b then s.1 else spelled_class words x other) (same s.0 both.0)
       ∙ ap (λ (c : Class). if bytes_eq y s.0 then s.1 else c) (spelled_alike words other both.1)
 
-kind_alike : (std : Dialect) (k : Kind) (x y : List ℕ) → (signs.is_identifier k ≡ true → (word : List ℕ) → is_reserved_text word ≡ true → bytes_eq x word ≡ bytes_eq y word)
-    → (signs.is_identifier k ≡ false → x ≡ y) → class_of_kind (grammar std) k x ≡ class_of_kind (grammar std) k y
+kind_alike : (std : Edition) (k : Kind) (x y : List ℕ) → (signs.is_identifier k ≡ true → (word : List ℕ) → is_reserved_text word ≡ true → bytes_eq x word ≡ bytes_eq y word)
+    → (signs.is_identifier k ≡ false → x ≡ y) → class_of_kind (iso std) k x ≡ class_of_kind (iso std) k y
 kind_alike std kind.Ident x y named other = spelled_alike x y (named refl) (keywords_of std) identifier (keywords_reserved std)
-kind_alike std k x y named other = ap (class_of_kind (grammar std) k) (other refl)
+kind_alike std k x y named other = ap (class_of_kind (iso std) k) (other refl)
 
 -- ---- classes of the tokens of a unit
 
@@ -68,20 +67,20 @@ module _ (a : Analysed) (members : List Part) (name : List ℕ) (r : Renaming) (
   abbrev new : List Token
   new = map (renamed r) u.text.toks
 
-  class_kept : (t : Token) → In t old → base_class (grammar (dialect u.standard)) t ≡ base_class (grammar (dialect u.standard)) (renamed r t)
+  class_kept : (t : Token) → In t old → base_class (iso (edition u.standard)) t ≡ base_class (iso (edition u.standard)) (renamed r t)
   unfolding base_class
   class_kept t j =
       let kept = tokens_kept a members name r h spells keeps u i t j in
       elim (cases_Bool (signs.is_name t)) [
         | inl named ↦
-            kind_alike (dialect u.standard) t.kind t.text (macros.spelled r t)
+            kind_alike (edition u.standard) t.kind t.text (macros.spelled r t)
             (λ is word reserved. sym (reserved_same a members name r h spells keeps u i t j named word reserved)) (λ other. absurd (both_ways (signs.is_name t) other named))
         | inr other ↦ elim (kept.stays other) [
-          | inl same ↦ ap (class_of_kind (grammar (dialect u.standard)) t.kind) (sym same)
+          | inl same ↦ ap (class_of_kind (iso (edition u.standard)) t.kind) (sym same)
           | inr q ↦
               let kind = q.kind in
-              ap (λ (k : Kind). class_of_kind (grammar (dialect u.standard)) k t.text) kind
-              ∙ ap (λ (k : Kind). class_of_kind (grammar (dialect u.standard)) k (macros.spelled r t)) (sym kind)
+              ap (λ (k : Kind). class_of_kind (iso (edition u.standard)) k t.text) kind
+              ∙ ap (λ (k : Kind). class_of_kind (iso (edition u.standard)) k (macros.spelled r t)) (sym kind)
         ]
       ]
 
@@ -89,14 +88,14 @@ module _ (a : Analysed) (members : List Part) (name : List ℕ) (r : Renaming) (
   behind k n = if k == n then end_class else no_class
 
   abbrev class_of : ℕ → Option Token → Class
-  class_of k o = option_map_or (base_class (grammar (dialect u.standard))) o (behind k (length old))
+  class_of k o = option_map_or (base_class (iso (edition u.standard))) o (behind k (length old))
 
   -- token k is of the class that it had, and as many tokens stand there
-  pub bases_kept : (k : ℕ) → base_at (grammar (dialect u.standard)) old k ≡ base_at (grammar (dialect u.standard)) new k
+  pub bases_kept : (k : ℕ) → base_at (iso (edition u.standard)) old k ≡ base_at (iso (edition u.standard)) new k
   bases_kept k =
       by (slice_get old k) refl
       ∙ sym (ap (class_of k) (slice_get-map (renamed r) old k))
-      ∙ sym (ap (λ n. option_map_or (base_class (grammar (dialect u.standard))) (slice_get new k) (behind k n)) (as_long a members name r h spells keeps u i))
+      ∙ sym (ap (λ n. option_map_or (base_class (iso (edition u.standard))) (slice_get new k) (behind k n)) (as_long a members name r h spells keeps u i))
     where
       by : (o : Option Token) → slice_get old k ≡ o → class_of k (slice_get old k) ≡ class_of k (option_map (renamed r) (slice_get old k))
       by None e = ap (class_of k) e ∙ sym (ap (λ (o : Option Token). class_of k (option_map (renamed r) o)) e)

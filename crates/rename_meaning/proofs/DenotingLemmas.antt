@@ -9,7 +9,7 @@ use Rattle.cs_base.proofs.FileMapLemmas.{bytes_eq-equal, bytes_eq-same}
 use Rattle.cs_base.specs.declared.positions.Part.{Part}
 use Rattle.cs_base.specs.Token.{Token}
 use Rattle.cs_base.specs.Units.{UnitValue}
-use Rattle.c99_grammar.specs.Dialects.{dialect}
+use Rattle.c99_grammar.specs.Dialects.{edition}
 use Rattle.analysis.specs.Below.linkage_join.Linkage.{UnitValue as ExternalNames, names_of}
 use Rattle.unit_steps.specs.Below.macro_expand.Renaming.{Renaming, renamed}
 use Rattle.unit_steps.specs.Below.macro_expand.Renaming as macros
@@ -194,7 +194,7 @@ module _ (a : Analysed) (members : List Part) (name : List ℕ) (h : IsAllowed a
     name_has_entity n j =
         let is = unit_read_so h.source h.workspace a.value h.accepted u i in
         let entity = all_at (λ (m : Name). (entity_at u.bound.names m.index ≡ Some m.entity) × (entity_at u.bound.names m.entity ≡ Some m.entity)) u.bound.names
-        (all_listed _ u.bound.names (entities_named (dialect u.standard) u.text.toks u.tree u.bound is.reads is.binds)) n j in
+        (all_listed _ u.bound.names (entities_named (edition u.standard) u.text.toks u.tree u.bound is.reads is.binds)) n j in
         let same = all_at (λ (m : Name). alike u.text.toks m.index m.entity ≡ true) u.bound.names
         (all_listed _ u.bound.names (spelled_as_entities u.text.toks u.tree u.bound is.binds)) n j in
         record {

@@ -8,7 +8,7 @@ use Rattle.std.specs.Str.{bytes_eq}
 use Rattle.std.proofs.lemmas.Bool.{cases_Bool, both_ways, and_parts, and_from, eqb-true, eq-eqb}
 use Rattle.std.proofs.lemmas.List.Elements.{All-nil, All-cons, All-head, All-tail}
 use Rattle.std.proofs.lemmas.Option.{same_Some}
-use Rattle.c99_grammar.specs.declared.dialects.Dialect.{Dialect}
+use Rattle.c99_grammar.specs.declared.dialects.Edition.{Edition}
 use Rattle.cs_base.specs.declared.tokens.Kind.{Kind}
 use Rattle.cs_base.specs.declared.tokens.Kind.TheVariants as kind
 use Rattle.cs_base.specs.declared.tokens.Link.{Link}
@@ -17,7 +17,7 @@ use Rattle.line_shape.specs.Signs.{is_name}
 use Rattle.line_shape.specs.Signs as signs
 use Rattle.analysis.specs.Below.linkage_join.Linkage.{link_to, links_of as external_links}
 use Rattle.c99_grammar.specs.Spellings.{Spelled, punctuators}
-use Rattle.c99_grammar.specs.Standard.{grammar}
+use Rattle.c99_grammar.specs.Standard.{iso}
 use Rattle.c99_read.specs.State.{base_at, is_identifier}
 use Rattle.c99_grammar.specs.TokenClasses.{spelled_class, class_of_kind, base_class}
 use Rattle.scope_bind.specs.declared.bound.Name.{Name}
@@ -192,26 +192,26 @@ sign_class (w ∷ words) text other all last =
     by true k m = not_true (is_identifier w.1) k
     by false k m = m
 
-kind_named : (std : Dialect) (k : Kind) (text : List ℕ) → is_identifier (class_of_kind (grammar std) k text) ≡ true → signs.is_identifier k ≡ true
+kind_named : (std : Edition) (k : Kind) (text : List ℕ) → is_identifier (class_of_kind (iso std) k text) ≡ true → signs.is_identifier k ≡ true
 kind_named std kind.Ident text h = refl
-kind_named std kind.Punct text h = absurd (both_ways (is_identifier (class_of_kind (grammar std) kind.Punct text)) (sign_class punctuators text _ refl refl) h)
-kind_named std kind.Number text h = absurd (both_ways (is_identifier (class_of_kind (grammar std) kind.Number text)) refl h)
-kind_named std kind.Char text h = absurd (both_ways (is_identifier (class_of_kind (grammar std) kind.Char text)) refl h)
-kind_named std kind.Str text h = absurd (both_ways (is_identifier (class_of_kind (grammar std) kind.Str text)) refl h)
-kind_named std kind.Header text h = absurd (both_ways (is_identifier (class_of_kind (grammar std) kind.Header text)) refl h)
-kind_named std kind.Other text h = absurd (both_ways (is_identifier (class_of_kind (grammar std) kind.Other text)) refl h)
+kind_named std kind.Punct text h = absurd (both_ways (is_identifier (class_of_kind (iso std) kind.Punct text)) (sign_class punctuators text _ refl refl) h)
+kind_named std kind.Number text h = absurd (both_ways (is_identifier (class_of_kind (iso std) kind.Number text)) refl h)
+kind_named std kind.Char text h = absurd (both_ways (is_identifier (class_of_kind (iso std) kind.Char text)) refl h)
+kind_named std kind.Str text h = absurd (both_ways (is_identifier (class_of_kind (iso std) kind.Str text)) refl h)
+kind_named std kind.Header text h = absurd (both_ways (is_identifier (class_of_kind (iso std) kind.Header text)) refl h)
+kind_named std kind.Other text h = absurd (both_ways (is_identifier (class_of_kind (iso std) kind.Other text)) refl h)
 
-class_named : (std : Dialect) (t : Token) → is_identifier (base_class (grammar std) t) ≡ true → is_name t ≡ true
+class_named : (std : Edition) (t : Token) → is_identifier (base_class (iso std) t) ≡ true → is_name t ≡ true
 unfolding base_class
 class_named std t h = kind_named std t.kind t.text h
 
 -- an identifier, as reading sees it, is one
-pub named_token : (std : Dialect) (toks : List Token) (k : ℕ) → is_identifier (base_at (grammar std) toks k) ≡ true → (t : Token) × (slice_get toks k ≡ Some t) × (is_name t ≡ true)
+pub named_token : (std : Edition) (toks : List Token) (k : ℕ) → is_identifier (base_at (iso std) toks k) ≡ true → (t : Token) × (slice_get toks k ≡ Some t) × (is_name t ≡ true)
 named_token std toks k h = by (slice_get toks k) (k == length toks) refl h
   where
     by : (o : Option Token) (c : Bool) → slice_get toks k ≡ o
-        → is_identifier (option_map_or (base_class (grammar std)) o (if c then base_at (grammar std) [] 0 else base_at (grammar std) [] 1)) ≡ true
+        → is_identifier (option_map_or (base_class (iso std)) o (if c then base_at (iso std) [] 0 else base_at (iso std) [] 1)) ≡ true
         → (t : Token) × (slice_get toks k ≡ Some t) × (is_name t ≡ true)
-    by None true at is = absurd (both_ways (is_identifier (base_at (grammar std) [] 0)) refl is)
-    by None false at is = absurd (both_ways (is_identifier (base_at (grammar std) [] 1)) refl is)
+    by None true at is = absurd (both_ways (is_identifier (base_at (iso std) [] 0)) refl is)
+    by None false at is = absurd (both_ways (is_identifier (base_at (iso std) [] 1)) refl is)
     by (Some t) c at is = (t, at, class_named std t is)

@@ -14,8 +14,8 @@ use Rattle.line_shape.specs.Signs.{is_name}
 use Rattle.analysis.specs.Below.linkage_join.Linkage.{UnitValue as ExternalNames, links_of as external_links}
 use Rattle.unit_steps.specs.Below.macro_expand.Renaming.{Renaming}
 use Rattle.unit_steps.specs.Below.macro_expand.Renaming as macros
-use Rattle.c99_grammar.specs.Dialects.{dialect}
-use Rattle.c99_grammar.specs.Standard.{grammar}
+use Rattle.c99_grammar.specs.Dialects.{edition}
+use Rattle.c99_grammar.specs.Standard.{iso}
 use Rattle.c99_read.specs.State.{base_at, is_identifier}
 use Rattle.c_types.specs.declared.entity.Linkage.{Linkage}
 use Rattle.c_types.specs.declared.entity.Linkage.TheVariants.{External, Internal, Absent}
@@ -164,9 +164,9 @@ module _ (a : Analysed) (members : List Part) (name : List ℕ) (r : Renaming) (
     bound_token k e bound =
         let is = is_read in
         let n = bound_name u.bound.names k e bound in
-        let one = all_at (λ (m : Name). (is_identifier (base_at (grammar (dialect u.standard)) u.text.toks m.index) ≡ true) × (is_identifier (base_at (grammar (dialect u.standard)) u.text.toks m.entity) ≡ true)) u.bound.names
-        (all_listed _ u.bound.names (names_identify (dialect u.standard) u.text.toks u.tree u.bound is.reads is.binds)) n.0 n.1 in
-        let token = named_token (dialect u.standard) u.text.toks n.0.index one.0 in
+        let one = all_at (λ (m : Name). (is_identifier (base_at (iso (edition u.standard)) u.text.toks m.index) ≡ true) × (is_identifier (base_at (iso (edition u.standard)) u.text.toks m.entity) ≡ true)) u.bound.names
+        (all_listed _ u.bound.names (names_identify (edition u.standard) u.text.toks u.tree u.bound is.reads is.binds)) n.0 n.1 in
+        let token = named_token (edition u.standard) u.text.toks n.0.index one.0 in
         let there : slice_get u.text.toks k ≡ Some token.0 = ap (slice_get u.text.toks) (sym n.2) ∙ token.1 in
         record { token = token.0; there = there; named = (told_tok token.0 (k, there), token.2) }
 
@@ -189,7 +189,7 @@ module _ (a : Analysed) (members : List Part) (name : List ℕ) (r : Renaming) (
         alike_from (spelling_at u.text.toks x.place) (spelling_at u.text.toks y.place)
         (spelled_there x.place t x.there ∙ (same ∙ sym (spelled_there y.place w y.there))) in
         let place : x.place ≡ y.place =
-        linked_once u.text.toks u.tree u.bound (trees_of_texts (dialect u.standard) u.text.toks u.tree is.reads) is.binds x.place y.place x.links y.links texts in
+        linked_once u.text.toks u.tree u.bound (trees_of_texts (edition u.standard) u.text.toks u.tree is.reads) is.binds x.place y.place x.links y.links texts in
         ap (macros.spelled r) (same_Some t w (sym x.there ∙ (ap (slice_get u.text.toks) place ∙ y.there)))
 
   -- ---- links

@@ -1,13 +1,13 @@
 -- Names that are read as no typedef names, though they are uses of nothing, are identifiers (ISO/IEC 9899:1999, 6.7.5.3).
 use Rattle.std.proofs.Common.{◌≡◌, ℕ, ◌+◌, ◌==◌, ◌%◌, ◌&&◌, ◌||◌, Bool, true, false, not, List, refl}
 use Rattle.std.proofs.lemmas.Bool.{and_parts, or_left}
-use Rattle.c99_grammar.specs.declared.dialects.Dialect.{Dialect}
+use Rattle.c99_grammar.specs.declared.dialects.Edition.{Edition}
 use Rattle.cs_base.specs.Token.{Token}
 use Rattle.c99_tree.specs.Tree.{Forest, none, token, node}
 use Rattle.c99_tree.specs.declared.production.Label.{Label}
 use Rattle.c99_tree.specs.declared.production.Production.{Production}
 use Rattle.c99_tree.specs.declared.production.Production.TheVariants.{Enumerator, Params, Pdirect}
-use Rattle.c99_grammar.specs.Standard.{grammar}
+use Rattle.c99_grammar.specs.Standard.{iso}
 use Rattle.c99_read.specs.State.{base_at, is_identifier}
 use Rattle.c_types.specs.Trees.{is_node, is_at, has_name}
 use Rattle.scope_bind.specs.Named.{is_plain_role}
@@ -27,9 +27,9 @@ place_passes : (place test : Bool) → place ≡ true → (not place || test) �
 place_passes true test is h = h
 place_passes false test is h = absurd (cc)
 
-module _ (std : Dialect) (toks : List Token) where
+module _ (std : Edition) (toks : List Token) where
   abbrev test : ℕ → Bool
-  test i = is_identifier (base_at (grammar std) toks i)
+  test i = is_identifier (base_at (iso std) toks i)
 
   abbrev Named : ℕ → Type 0
   Named i = test i ≡ true

@@ -3,8 +3,8 @@ use Rattle.std.proofs.Common.{◌≡◌, ℕ, true, List, map}
 use Rattle.cs_base.specs.declared.positions.Part.{Part}
 use Rattle.cs_base.specs.Token.{Token}
 use Rattle.unit_steps.specs.Below.macro_expand.Renaming.{Renaming, renamed}
-use Rattle.c99_grammar.specs.Dialects.{dialect}
-use Rattle.c99_grammar.specs.Standard.{grammar}
+use Rattle.c99_grammar.specs.Dialects.{edition}
+use Rattle.c99_grammar.specs.Standard.{iso}
 use Rattle.c99_read.specs.State.{base_at, is_identifier}
 use Rattle.name_chains.specs.Frames.{outermost}
 use Rattle.tree_laws.proofs.NamesRead.{names_are_read}
@@ -37,13 +37,13 @@ module _ (a : Analysed) (members : List Part) (name : List ℕ) (r : Renaming) (
       let is = unit_read_so h.source h.workspace a.value h.accepted u i in
       let old : List Token = u.text.toks in
       let new : List Token = map (renamed r) u.text.toks in
-      let Named : ℕ → Type 0 = λ k. is_identifier (base_at (grammar (dialect u.standard)) old k) ≡ true in
-      let named = loose_named (dialect u.standard) old (outermost 0).label 0 u.tree.under (names_are_read (dialect u.standard) old u.tree is.reads) in
-      let whole = bare_names_are_loose (dialect u.standard) old u.tree u.bound is.reads is.binds (λ x. Named x → StaysWhole old new u.bound.typedefs x)
+      let Named : ℕ → Type 0 = λ k. is_identifier (base_at (iso (edition u.standard)) old k) ≡ true in
+      let named = loose_named (edition u.standard) old (outermost 0).label 0 u.tree.under (names_are_read (edition u.standard) old u.tree is.reads) in
+      let whole = bare_names_are_loose (edition u.standard) old u.tree u.bound is.reads is.binds (λ x. Named x → StaysWhole old new u.bound.typedefs x)
       (λ k x at. bare_stays a members name r h spells keeps u i x (k, at)) in
-      let loose = loose_all (dialect u.standard) old Named (StaysWhole old new u.bound.typedefs) (outermost 0).label 0 u.tree.under named whole in
+      let loose = loose_all (edition u.standard) old Named (StaysWhole old new u.bound.typedefs) (outermost 0).label 0 u.tree.under named whole in
       record {
-        reads = renamed_alike (dialect u.standard) old new u.tree u.bound is.reads is.binds (units_are_renamed_whole a members name r h spells keeps u i)
+        reads = renamed_alike (edition u.standard) old new u.tree u.bound is.reads is.binds (units_are_renamed_whole a members name r h spells keeps u i)
             (bases_kept a members name r h spells keeps u i) loose;
         binds = names_bind_as_before a members name r h spells keeps u i;
       }

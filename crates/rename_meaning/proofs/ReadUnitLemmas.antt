@@ -9,8 +9,8 @@ use Rattle.source_files.specs.Faults.{Fault}
 use Rattle.source_files.specs.Files.{Source, Table, Carried, nothing_carried}
 use Rattle.unit_steps.specs.Texts.{UnitTextValue}
 use Rattle.c99_read.specs.Reading.{read_of}
-use Rattle.c99_grammar.specs.Dialects.{dialect}
-use Rattle.c99_grammar.specs.Standard.{grammar}
+use Rattle.c99_grammar.specs.Dialects.{edition}
+use Rattle.c99_grammar.specs.Standard.{iso}
 use Rattle.scope_bind.specs.Bound.{binding_of}
 use Rattle.analysis.specs.Analysis.{UnitAnalysis, UnitsValue, AnalysisValue, analysis_and, with_unit, unit_read, analysed_from, analysis_of, read_unit, bound_unit, unit_analysis}
 use Rattle.analysis.specs.Texts.{UnitFault, unit_fault, unit_with}
@@ -19,7 +19,7 @@ use Rattle.rename_meaning.proofs.UnitsLemmas.{ok_same, done_first, unmapped}
 
 -- The tokens of a unit are read to its tree (Annex A), and bound so (6.2).
 pub record IsReadSo (u : UnitAnalysis) : Type 0 where
-  pub reads : read_of (grammar (dialect u.standard)) u.text.toks ≡ Ok u.tree
+  pub reads : read_of (iso (edition u.standard)) u.text.toks ≡ Ok u.tree
   pub binds : binding_of u.text.toks u.tree ≡ Ok u.bound
 
 one_read : (standard : Standard) (table : Table) (path : List ℕ) (text : UnitTextValue) (u : UnitAnalysis) → read_unit standard table path text ≡ Ok u → IsReadSo u
@@ -27,7 +27,7 @@ one_read standard table path text u e =
     let r = done_first {E = Fault} _ (bound_unit standard table path text) u e in
     let b = done_first {E = Fault} _ (λ bound. Ok (unit_analysis standard text r.0 bound)) u r.2 in
     let own : IsReadSo (unit_analysis standard text r.0 b.0) = record {
-      reads = unmapped (read_of (grammar (dialect standard)) text.toks) _ r.0 r.1;
+      reads = unmapped (read_of (iso (edition standard)) text.toks) _ r.0 r.1;
       binds = unmapped (binding_of text.toks r.0) _ b.0 b.1;
     } in
     subst IsReadSo (ok_same {E = Fault} (unit_analysis standard text r.0 b.0) u b.2) own

@@ -1,13 +1,13 @@
 -- What is asked along each production of C99, where the second text's names agree with the tree.
 use Rattle.std.proofs.Common.{ℕ, zero, suc, ◌+◌, ◌≡◌, Bool, true, false, ◌&&◌, not, List, [], ◌∷◌, inl, inr, refl}
 use Rattle.std.proofs.lemmas.Bool.{false≢true, and_parts, or_cases, not-true}
-use Rattle.c99_grammar.specs.declared.dialects.Dialect.{Dialect}
+use Rattle.c99_grammar.specs.declared.dialects.Edition.{Edition}
 use Rattle.cs_base.specs.Token.{Token}
 use Rattle.c99_tree.specs.declared.production.Production.{Production}
-use Rattle.c99_tree.specs.declared.production.Production.TheVariants.{TranslationUnit, External, ExtRest, ExtTail, FunBody, Declaration, DeclRest, InitDecl, Sassert, Specs, Main, Mod, Qual, Word, StructSpec, SuRest, Members, Member, MemRest, Mdecl, EnumSpec, EnRest, Enumerators, Enumerator, Declarator, Pointer, Direct, Suffix, Bound, Params, Param, Pdecl, Pdirect, TypeName, Adecl, Adirect, Init, InitList, InitItem, Designator, Expr, Assign, Asgop, Cond, Lor, Land, Bor, Bxor, Band, Equal, Relate, Shift, Add, Mul, Cast, CastRest, Unary, SizeRest, SizeLit, Primary, Post, Args, Block, BlockItem, Statement, Sub, ForInit}
+use Rattle.c99_tree.specs.declared.production.Production.TheVariants.{TranslationUnit, External, ExtRest, ExtTail, FunBody, Declaration, DeclRest, InitDecl, Sassert, Specs, Main, Mod, Qual, Word, StructSpec, SuRest, Members, Member, MemRest, Mdecl, EnumSpec, EnRest, Enumerators, Enumerator, Declarator, Pointer, Direct, Suffix, Bound, Params, Param, Pdecl, Pdirect, TypeName, Adecl, Adirect, Init, InitList, InitItem, Designator, Expr, Assign, Asgop, Cond, Lor, Land, Bor, Bxor, Band, Equal, Relate, Shift, Add, Mul, Cast, CastRest, Unary, SizeRest, SizeLit, Primary, Post, Args, Block, BlockItem, Statement, Sub, ForInit, AutoDecl, Attr, AttrItem, AttrWord, AsmName, Operand, Association, MemberPath, AsmPart, AsmOperand}
 use Rattle.c99_grammar.specs.Items.{Item, many, own, Alternative}
-use Rattle.c99_grammar.specs.Standard.{c99, grammar}
-use Rattle.c99_grammar.proofs.StandardLemmas.{by_dialect}
+use Rattle.c99_grammar.specs.Standard.{c99, iso}
+use Rattle.c99_grammar.proofs.StandardLemmas.{by_edition}
 use Rattle.c99_read.specs.Sound.{is_met, goal_has_token}
 use Rattle.c99_read.specs.State.{State, base_at, opened}
 use Rattle.c99_read.specs.Reading.{Goal, repeat, Step, step, read_within}
@@ -31,13 +31,13 @@ whole_plain : (p : Production) (n : ℕ) → is_whole p n ≡ true → is_at (la
 whole_plain Pdirect n h = absurd (false≢true h)
 whole_plain _ n h = refl
 
-module _ (std : Dialect) where
-  module _ (a b : List Token) (same : (k : ℕ) → base_at (grammar std) a k ≡ base_at (grammar std) b k) where
+module _ (std : Edition) where
+  module _ (a b : List Token) (same : (k : ℕ) → base_at (iso std) a k ≡ base_at (iso std) b k) where
     module _ (below : ℕ → Goal → State → Step) (along_below : ℕ → Goal → State → Bool) (reads : Reads std a below) (asked : Asked std a b below along_below)
         (moves : (depth : ℕ) (goal : Goal) (s : State) → is_met goal ≡ true → Moves (goal_has_token goal) s (below depth goal s)) (depth : ℕ) where
       -- what is asked along one alternative
       abbrev AlongBody : Production → ℕ → Item → State → Type 0
-      AlongBody p n body s = After (BodyAsks std a b p n (of_node std a b p n s && along std a b below along_below depth body (opened p n s)) s) (step (grammar std) below depth body (opened p n s))
+      AlongBody p n body s = After (BodyAsks std a b p n (of_node std a b p n s && along std a b below along_below depth body (opened p n s)) s) (step (iso std) below depth body (opened p n s))
 
       ok_fine : (p : Production) (n : ℕ) (x : Alternative) (s : State) → is_fine p n x ≡ true → AlongBody p n x.body s
       ok_fine p n x s k =
@@ -78,7 +78,7 @@ module _ (std : Dialect) where
       module _ (again : (depth first : ℕ) (s : State) → IsOdd s → After (Goes std a listing first s) (below depth (repeat own more_listed) s))
           (again_asks : (depth first : ℕ) (s : State) → IsOdd s → IsIn listing first s
           → After (Asks std a b listing (along_below depth (repeat own more_listed) s) s) (below depth (repeat own more_listed) s)) where
-        asked_of : (p : Production) (s : State) → is_bodiless p ≡ true → AllAsked p 1 ((grammar std).table p) s
+        asked_of : (p : Production) (s : State) → is_bodiless p ≡ true → AllAsked p 1 ((iso std).table p) s
         asked_of TranslationUnit s h = absurd (false≢true h)
         asked_of External s h = absurd (false≢true h)
         asked_of ExtRest s h = absurd (false≢true h)
@@ -113,18 +113,18 @@ module _ (std : Dialect) where
             (λ m. ok_asked Pdirect 3 (nth_of 2 (c99.table Pdirect)) s refl, tt),
           ),
         )
-        asked_of Declaration s h = ok_asks Declaration 1 ((grammar std).table Declaration) s (by_dialect (λ v. all_ok Declaration 1 ((grammar v).table Declaration) ≡ true) refl refl refl std)
+        asked_of Declaration s h = ok_asks Declaration 1 ((iso std).table Declaration) s (by_edition (λ v. all_ok Declaration 1 ((iso v).table Declaration) ≡ true) refl refl std)
         asked_of DeclRest s h = ok_asks DeclRest 1 (c99.table DeclRest) s refl
-        asked_of Sassert s h = ok_asks Sassert 1 ((grammar std).table Sassert) s (by_dialect (λ v. all_ok Sassert 1 ((grammar v).table Sassert) ≡ true) refl refl refl std)
+        asked_of Sassert s h = ok_asks Sassert 1 ((iso std).table Sassert) s (by_edition (λ v. all_ok Sassert 1 ((iso v).table Sassert) ≡ true) refl refl std)
         asked_of Specs s h = ok_asks Specs 1 (c99.table Specs) s refl
-        asked_of Mod s h = ok_asks Mod 1 ((grammar std).table Mod) s (by_dialect (λ v. all_ok Mod 1 ((grammar v).table Mod) ≡ true) refl refl refl std)
+        asked_of Mod s h = ok_asks Mod 1 ((iso std).table Mod) s (by_edition (λ v. all_ok Mod 1 ((iso v).table Mod) ≡ true) refl refl std)
         asked_of Qual s h = ok_asks Qual 1 (c99.table Qual) s refl
         asked_of Word s h = ok_asks Word 1 (c99.table Word) s refl
         asked_of StructSpec s h = ok_asks StructSpec 1 (c99.table StructSpec) s refl
         asked_of SuRest s h = ok_asks SuRest 1 (c99.table SuRest) s refl
         asked_of Members s h = ok_asks Members 1 (c99.table Members) s refl
-        asked_of Member s h = ok_asks Member 1 ((grammar std).table Member) s (by_dialect (λ v. all_ok Member 1 ((grammar v).table Member) ≡ true) refl refl refl std)
-        asked_of MemRest s h = ok_asks MemRest 1 ((grammar std).table MemRest) s (by_dialect (λ v. all_ok MemRest 1 ((grammar v).table MemRest) ≡ true) refl refl refl std)
+        asked_of Member s h = ok_asks Member 1 ((iso std).table Member) s (by_edition (λ v. all_ok Member 1 ((iso v).table Member) ≡ true) refl refl std)
+        asked_of MemRest s h = ok_asks MemRest 1 ((iso std).table MemRest) s (by_edition (λ v. all_ok MemRest 1 ((iso v).table MemRest) ≡ true) refl refl std)
         asked_of Mdecl s h = ok_asks Mdecl 1 (c99.table Mdecl) s refl
         asked_of EnumSpec s h = ok_asks EnumSpec 1 (c99.table EnumSpec) s refl
         asked_of EnRest s h = ok_asks EnRest 1 (c99.table EnRest) s refl
@@ -166,27 +166,37 @@ module _ (std : Dialect) where
         asked_of Statement s h = ok_asks Statement 1 (c99.table Statement) s refl
         asked_of Sub s h = ok_asks Sub 1 (c99.table Sub) s refl
         asked_of ForInit s h = ok_asks ForInit 1 (c99.table ForInit) s refl
+        asked_of AutoDecl s h = ok_asks AutoDecl 1 (c99.table AutoDecl) s refl
+        asked_of Attr s h = ok_asks Attr 1 (c99.table Attr) s refl
+        asked_of AttrItem s h = ok_asks AttrItem 1 (c99.table AttrItem) s refl
+        asked_of AttrWord s h = ok_asks AttrWord 1 (c99.table AttrWord) s refl
+        asked_of AsmName s h = ok_asks AsmName 1 (c99.table AsmName) s refl
+        asked_of Operand s h = ok_asks Operand 1 (c99.table Operand) s refl
+        asked_of Association s h = ok_asks Association 1 (c99.table Association) s refl
+        asked_of MemberPath s h = ok_asks MemberPath 1 (c99.table MemberPath) s refl
+        asked_of AsmPart s h = ok_asks AsmPart 1 (c99.table AsmPart) s refl
+        asked_of AsmOperand s h = ok_asks AsmOperand 1 (c99.table AsmOperand) s refl
 
     -- ---- Reading, with so many steps inside each other
 
     abbrev pub along_fuel : ℕ → ℕ → Goal → State → Bool
-    along_fuel fuel = along_within (grammar std) (of_token std a b) (of_node std a b) fuel
+    along_fuel fuel = along_within (iso std) (of_token std a b) (of_node std a b) fuel
 
     listed_asks : (fuel depth first : ℕ) (s : State) → IsOdd s → IsIn listing first s
-        → After (Asks std a b listing (along_fuel fuel depth (repeat own more_listed) s) s) (read_within (grammar std) fuel depth (repeat own more_listed) s)
+        → After (Asks std a b listing (along_fuel fuel depth (repeat own more_listed) s) s) (read_within (iso std) fuel depth (repeat own more_listed) s)
     unfolding read_within along_within
     listed_asks zero depth first s odd i = tt
     listed_asks (suc fuel) depth first s odd i =
-        (many_asks std) a b same (read_within (grammar std) fuel) (along_fuel fuel) (λ d f s' o. listed_within std a fuel d f s' o) (λ d f s' o i'. listed_asks fuel d f s' o i') first depth s odd i
+        (many_asks std) a b same (read_within (iso std) fuel) (along_fuel fuel) (λ d f s' o. listed_within std a fuel d f s' o) (λ d f s' o i'. listed_asks fuel d f s' o i') first depth s odd i
 
-    pub asked_within : (fuel : ℕ) → Asked std a b (read_within (grammar std) fuel) (along_fuel fuel)
+    pub asked_within : (fuel : ℕ) → Asked std a b (read_within (iso std) fuel) (along_fuel fuel)
     unfolding read_within along_within
     asked_within zero = record { made = λ depth p l s h. tt; more = λ depth t item l first s h i. tt }
     asked_within (suc fuel) = record {
       made = λ depth p l s h.
-          (picked_asks std) a b (read_within (grammar std) fuel) (along_fuel fuel) (reads_within std a fuel) (asked_within fuel) (moves_within std a fuel) depth p 1 ((grammar std).table p) s l
+          (picked_asks std) a b (read_within (iso std) fuel) (along_fuel fuel) (reads_within std a fuel) (asked_within fuel) (moves_within std a fuel) depth p 1 ((iso std).table p) s l
           (bodies_within std a fuel depth p s h)
-          (asked_of (read_within (grammar std) fuel) (along_fuel fuel) (reads_within std a fuel) (asked_within fuel) (moves_within std a fuel) depth
+          (asked_of (read_within (iso std) fuel) (along_fuel fuel) (reads_within std a fuel) (asked_within fuel) (moves_within std a fuel) depth
           (λ d f s' o. listed_within std a fuel d f s' o) (λ d f s' o i'. listed_asks fuel d f s' o i') p s h);
-      more = λ depth t item l first s h i. asks_step std a b (read_within (grammar std) fuel) (along_fuel fuel) (reads_within std a fuel) (asked_within fuel) (many t item) l first depth s h i;
+      more = λ depth t item l first s h i. asks_step std a b (read_within (iso std) fuel) (along_fuel fuel) (reads_within std a fuel) (asked_within fuel) (many t item) l first depth s h i;
     }

@@ -2,14 +2,14 @@
 -- read.
 use Rattle.std.proofs.Common.{ℕ, ◌+◌, ◌≤◌, ◌≡◌, Bool, true, false, ◌&&◌, not, if◌then◌else◌, ◌==◌, List, [], ◌∷◌, length, Ok, Err, nat_lt, refl, sym, ap, subst, ◌∙◌, arith}
 use Rattle.std.proofs.lemmas.Bool.{false≢true, and_parts, not-true, and_from}
-use Rattle.c99_grammar.specs.declared.dialects.Dialect.{Dialect}
+use Rattle.c99_grammar.specs.declared.dialects.Edition.{Edition}
 use Rattle.cs_base.specs.Token.{Token}
 use Rattle.c99_tree.specs.Tree.{Forest, none, token, node, Node, node_of, leaf, inner, put, lone, collapsed}
 use Rattle.c99_tree.specs.declared.production.Label.{Label}
 use Rattle.c99_tree.specs.declared.production.Production.{Production}
 use Rattle.c99_tree.specs.declared.production.Production.TheVariants.{Main, Params, Primary, Pdirect}
 use Rattle.c99_grammar.specs.Items.{Item, one, part, end_of_text, act, ◌·◌, choice, maybe, many, deep, Test, own, Alternative}
-use Rattle.c99_grammar.specs.Standard.{grammar}
+use Rattle.c99_grammar.specs.Standard.{iso}
 use Rattle.c99_read.specs.Sound.{is_met, goal_has_token}
 use Rattle.c99_read.specs.State.{State, collapses, finished, opened, closed}
 use Rattle.c99_read.specs.Reading.{Goal, produce, repeat, Step, syntax, too_deep, and_then, deepest, at_end, enter, may, step, alternative, pick}
@@ -36,7 +36,7 @@ pub both_after : (P Q : State → Type 0) (r : Step) → After P r → After Q r
 both_after P Q (Err stop) m m' = tt
 both_after P Q (Ok s) m m' = (m, m')
 
-module _ (std : Dialect) where
+module _ (std : Edition) where
   -- ---- Children that agree did so with one less
 
   module _ (b : List Token) where
@@ -164,7 +164,7 @@ module _ (std : Dialect) where
     module _ (below : ℕ → Goal → State → Step) (along_below : ℕ → Goal → State → Bool) where
       -- what is asked along the reading of an item
       abbrev pub along : ℕ → Item → State → Bool
-      along depth item s = along_item (grammar std) of_token of_node below along_below depth item s
+      along depth item s = along_item (iso std) of_token of_node below along_below depth item s
 
       -- what is asked along the reading of productions and repetitions
       pub record Asked : Type 0 where
@@ -192,51 +192,51 @@ module _ (std : Dialect) where
             by false = tt
 
         pub asks_step : (item : Item) (l : Label) (first depth : ℕ) (s : State) → fine l item ≡ true → IsIn l first s
-            → After (Asks l (along depth item s) s) (step (grammar std) below depth item s)
+            → After (Asks l (along depth item s) s) (step (iso std) below depth item s)
         asks_step (one classes) l first depth s h i = taken std (Asks l (of_token s) s) classes s (λ c more. quiet_asks l first s h i)
         asks_step (part p) l first depth s h i = asked.made depth p l s (held_told l.production p h)
         asks_step end_of_text l first depth s h i = end_asks l s
         asks_step (act x) l first depth s h i = absurd (false≢true h)
         asks_step (x · y) l first depth s h i =
             let both = and_parts (fine l x) (fine l y) h in
-            asks_then l first s (along depth x s) (along depth y) (step (grammar std) below depth x s) (step (grammar std) below depth y) i
+            asks_then l first s (along depth x s) (along depth y) (step (iso std) below depth x s) (step (iso std) below depth y) i
             (goes_step std a below reads x l first depth s both.0 i) (asks_step x l first depth s both.0 i)
             (λ s' i'. goes_step std a below reads y l first depth s' both.1 i') (λ s' i'. asks_step y l first depth s' both.1 i')
         asks_step (choice x y) l first depth s h i =
             let both = and_parts (fine l x) (fine l y) h in
-            by (may (grammar std) own x s) (may (grammar std) own y s) (asks_step x l first depth s both.0 i) (asks_step y l first depth s both.1 i)
+            by (may (iso std) own x s) (may (iso std) own y s) (asks_step x l first depth s both.0 i) (asks_step y l first depth s both.1 i)
           where
-            by : (c d : Bool) → After (Asks l (along depth x s) s) (step (grammar std) below depth x s) → After (Asks l (along depth y s) s) (step (grammar std) below depth y s)
+            by : (c d : Bool) → After (Asks l (along depth x s) s) (step (iso std) below depth x s) → After (Asks l (along depth y s) s) (step (iso std) below depth y s)
                 → After (Asks l (if c then along depth x s else along depth y s) s)
-                (if c then step (grammar std) below depth x s else (if d then step (grammar std) below depth y s else Err (syntax s.at)))
+                (if c then step (iso std) below depth x s else (if d then step (iso std) below depth y s else Err (syntax s.at)))
             by true d m m' = m
             by false true m m' = m'
             by false false m m' = tt
-        asks_step (maybe x) l first depth s h i = by (may (grammar std) own x s) (asks_step x l first depth s h i)
+        asks_step (maybe x) l first depth s h i = by (may (iso std) own x s) (asks_step x l first depth s h i)
           where
-            by : (c : Bool) → After (Asks l (along depth x s) s) (step (grammar std) below depth x s)
-                → After (Asks l (if c then along depth x s else true) s) (if c then step (grammar std) below depth x s else Ok s)
+            by : (c : Bool) → After (Asks l (along depth x s) s) (step (iso std) below depth x s)
+                → After (Asks l (if c then along depth x s else true) s) (if c then step (iso std) below depth x s else Ok s)
             by true m = m
             by false m = asks_still l s
         asks_step (many t x) l first depth s h i =
-            by (may (grammar std) t x s)
-            (asks_then l first s (along depth x s) (along_below depth (repeat t x)) (step (grammar std) below depth x s) (below depth (repeat t x)) i
+            by (may (iso std) t x s)
+            (asks_then l first s (along depth x s) (along_below depth (repeat t x)) (step (iso std) below depth x s) (below depth (repeat t x)) i
             (goes_step std a below reads x l first depth s h i) (asks_step x l first depth s h i)
             (λ s' i'. reads.more depth t x l first s' h i') (λ s' i'. asked.more depth t x l first s' h i'))
           where
-            by : (c : Bool) → After (Asks l (along depth x s && along_rest (step (grammar std) below depth x s) (along_below depth (repeat t x))) s)
-                (and_then (step (grammar std) below depth x s) (below depth (repeat t x)))
-                → After (Asks l (if c then along depth x s && along_rest (step (grammar std) below depth x s) (along_below depth (repeat t x)) else true) s)
-                (if c then and_then (step (grammar std) below depth x s) (below depth (repeat t x)) else Ok s)
+            by : (c : Bool) → After (Asks l (along depth x s && along_rest (step (iso std) below depth x s) (along_below depth (repeat t x))) s)
+                (and_then (step (iso std) below depth x s) (below depth (repeat t x)))
+                → After (Asks l (if c then along depth x s && along_rest (step (iso std) below depth x s) (along_below depth (repeat t x)) else true) s)
+                (if c then and_then (step (iso std) below depth x s) (below depth (repeat t x)) else Ok s)
             by true m = m
             by false m = asks_still l s
         asks_step (deep x) l first depth s h i =
-            by (enter depth (may (grammar std) own x s) s) (entered_same depth (may (grammar std) own x s) s) (asks_step x l first (depth + 1) s h i)
+            by (enter depth (may (iso std) own x s) s) (entered_same depth (may (iso std) own x s) s) (asks_step x l first (depth + 1) s h i)
           where
-            by : (r : Step) → After (λ s'. s' ≡ s) r → After (Asks l (along (depth + 1) x s) s) (step (grammar std) below (depth + 1) x s)
-                → After (Asks l (along (depth + 1) x s) s) (and_then r (step (grammar std) below (depth + 1) x))
+            by : (r : Step) → After (λ s'. s' ≡ s) r → After (Asks l (along (depth + 1) x s) s) (step (iso std) below (depth + 1) x s)
+                → After (Asks l (along (depth + 1) x s) s) (and_then r (step (iso std) below (depth + 1) x))
             by (Err stop) e m = tt
-            by (Ok s') e m = subst (λ y. After (Asks l (along (depth + 1) x s) s) (step (grammar std) below (depth + 1) x y)) (sym e) m
+            by (Ok s') e m = subst (λ y. After (Asks l (along (depth + 1) x s) s) (step (iso std) below (depth + 1) x y)) (sym e) m
 
     -- ---- Nodes
 
@@ -322,9 +322,9 @@ module _ (std : Dialect) where
     module _ (below : ℕ → Goal → State → Step) (along_below : ℕ → Goal → State → Bool) (reads : Reads std a below) (asked : Asked below along_below) where
       pub fine_asks : (depth : ℕ) (p : Production) (n : ℕ) (body : Item) (s : State) → is_simple p n ≡ true → is_at (labelled p n) Pdirect 2 ≡ false
           → fine (labelled p n) body ≡ true
-          → After (BodyAsks p n (of_node p n s && along below along_below depth body (opened p n s)) s) (step (grammar std) below depth body (opened p n s))
+          → After (BodyAsks p n (of_node p n s && along below along_below depth body (opened p n s)) s) (step (iso std) below depth body (opened p n s))
       fine_asks depth p n body s simple named h =
-          by (step (grammar std) below depth body (opened p n s)) (asks_step below along_below reads asked body (labelled p n) s.at depth (opened p n s) h (opened_in std a p n s))
+          by (step (iso std) below depth body (opened p n s)) (asks_step below along_below reads asked body (labelled p n) s.at depth (opened p n s) h (opened_in std a p n s))
         where
           by : (r : Step) → After (Asks (labelled p n) (along below along_below depth body (opened p n s)) (opened p n s)) r
               → After (BodyAsks p n (of_node p n s && along below along_below depth body (opened p n s)) s) r
@@ -336,24 +336,24 @@ module _ (std : Dialect) where
         abbrev pub AskedBodies : Production → ℕ → List Alternative → State → Type 0
         AskedBodies p n [] s = Unit {0}
         AskedBodies p n (x ∷ more) s =
-            (may (grammar std) x.test x.body s ≡ true
-            → After (BodyAsks p n (of_node p n s && along below along_below depth x.body (opened p n s)) s) (step (grammar std) below depth x.body (opened p n s)))
+            (may (iso std) x.test x.body s ≡ true
+            → After (BodyAsks p n (of_node p n s && along below along_below depth x.body (opened p n s)) s) (step (iso std) below depth x.body (opened p n s)))
             × AskedBodies p (n + 1) more s
 
         pub picked_asks : (p : Production) (n : ℕ) (alternatives : List Alternative) (s : State) (l : Label) → Bodies std a below reads moves depth p n alternatives s
             → AskedBodies p n alternatives s
-            → After (Asks l (along_first (grammar std) of_token of_node below along_below depth p n alternatives s) s) (pick (grammar std) below depth p n alternatives s)
+            → After (Asks l (along_first (iso std) of_token of_node below along_below depth p n alternatives s) s) (pick (iso std) below depth p n alternatives s)
         picked_asks p n [] s l h k = tt
         picked_asks p n (x ∷ more) s l h k =
-            by (may (grammar std) x.test x.body s) (λ m. closing (step (grammar std) below depth x.body (opened p n s)) (h.0 m) (k.0 m)) (picked_asks p (n + 1) more s l h.1 k.1)
+            by (may (iso std) x.test x.body s) (λ m. closing (step (iso std) below depth x.body (opened p n s)) (h.0 m) (k.0 m)) (picked_asks p (n + 1) more s l h.1 k.1)
           where
             closing : (r : Step) → After (Body std a p n s) r → After (BodyAsks p n (of_node p n s && along below along_below depth x.body (opened p n s)) s) r → After (Asks l (of_node p n s && along below along_below depth x.body (opened p n s)) s) (and_then r (λ s'. Ok (closed p s s')))
             closing (Err stop) body m = tt
             closing (Ok s') body m = closed_asks p n (of_node p n s && along below along_below depth x.body (opened p n s)) s s' body.inside m l
 
-            by : (c : Bool) → (c ≡ true → After (Asks l (of_node p n s && along below along_below depth x.body (opened p n s)) s) (alternative (grammar std) below depth p n x.body s))
-                → After (Asks l (along_first (grammar std) of_token of_node below along_below depth p (n + 1) more s) s) (pick (grammar std) below depth p (n + 1) more s)
-                → After (Asks l (if c then (of_node p n s && along below along_below depth x.body (opened p n s)) else along_first (grammar std) of_token of_node below along_below depth p (n + 1) more s) s)
-                (if c then alternative (grammar std) below depth p n x.body s else pick (grammar std) below depth p (n + 1) more s)
+            by : (c : Bool) → (c ≡ true → After (Asks l (of_node p n s && along below along_below depth x.body (opened p n s)) s) (alternative (iso std) below depth p n x.body s))
+                → After (Asks l (along_first (iso std) of_token of_node below along_below depth p (n + 1) more s) s) (pick (iso std) below depth p (n + 1) more s)
+                → After (Asks l (if c then (of_node p n s && along below along_below depth x.body (opened p n s)) else along_first (iso std) of_token of_node below along_below depth p (n + 1) more s) s)
+                (if c then alternative (iso std) below depth p n x.body s else pick (iso std) below depth p (n + 1) more s)
             by true m m' = m refl
             by false m m' = m'

@@ -1,14 +1,14 @@
 -- The names that are read as no typedef names, though they are uses of nothing, are the bare names of the tree.
 use Rattle.std.proofs.Common.{ℕ, ◌+◌, ◌≡◌, Bool, true, false, ◌&&◌, if◌then◌else◌, ◌==◌, ◌%◌, List, [], ◌∷◌, ◌++◌, inl, inr, refl, ap, subst, arith}
 use Rattle.std.proofs.lemmas.Bool.{eqb-true, eq-eqb, and_parts}
-use Rattle.c99_grammar.specs.declared.dialects.Dialect.{Dialect}
+use Rattle.c99_grammar.specs.declared.dialects.Edition.{Edition}
 use Rattle.cs_base.specs.Token.{Token}
 use Rattle.c99_tree.specs.Tree.{Forest, none, token, node}
 use Rattle.c99_tree.specs.declared.production.Label.{Label}
 use Rattle.c99_tree.specs.declared.production.Production.TheVariants.{Params, Pdirect}
 use Rattle.c99_tree.specs.contracts.production.ProductionPartialEq.TheImpl.{ghosts}
 use Rattle.c99_tree.specs.declared.production.Production.{Production}
-use Rattle.c99_grammar.specs.Standard.{grammar}
+use Rattle.c99_grammar.specs.Standard.{iso}
 use Rattle.c99_read.specs.State.{base_at, is_identifier}
 use Rattle.c_types.specs.Trees.{is_at}
 use Rattle.c_types.specs.Lists.{odd_tokens, even_tokens, name_in, bare_at, bare_in}
@@ -31,7 +31,7 @@ no_list : (p : Production) → ghosts.eq p Pdirect ≡ true → ghosts.eq p Para
 no_list Params h = absurd (false≢true h)
 no_list _ h = refl
 
-module _ (std : Dialect) where
+module _ (std : Edition) where
   -- each name directly behind the parenthesis that begins a parameter's declarator is the declared name there
   abbrev pub Encloses : List Token → Forest → Type 0
   Encloses toks none = Unit {0}
@@ -53,7 +53,7 @@ module _ (std : Dialect) where
     enclosed_at : (l : Label) (first : ℕ) (under : Forest) → Each P (bare_at l under) → (is_enclosed std toks l first ≡ true → name_in under ≡ (first + 1) ∷ [])
         → is_enclosed std toks l first ≡ true → P (first + 1)
     enclosed_at l first under all named h =
-        let at : is_at l Pdirect 2 ≡ true = (and_parts (is_at l Pdirect 2) (is_identifier (base_at (grammar std) toks (first + 1))) h).0 in
+        let at : is_at l Pdirect 2 ≡ true = (and_parts (is_at l Pdirect 2) (is_identifier (base_at (iso std) toks (first + 1))) h).0 in
         let other : is_at l Params 1 ≡ false = ap (λ c. c && (l.alternative == 1)) (no_list l.production ((and_parts (ghosts.eq l.production Pdirect) (l.alternative == 2) at).0)) in
         let names : Each P (if is_at l Pdirect 2 then name_in under else []) =
         subst (λ c. Each P (if c then even_tokens under else (if is_at l Pdirect 2 then name_in under else []))) other all in

@@ -1,7 +1,7 @@
 -- In each tree that is read an identifier behind the parenthesis that begins a parameter's declarator is the declared name there.
 use Rattle.std.proofs.Common.{ℕ, ◌+◌, ◌≡◌, Bool, true, false, ◌&&◌, ◌||◌, not, if◌then◌else◌, ◌==◌, List, [], ◌∷◌, Ok, Err, refl, sym, ap, subst, ◌∙◌}
 use Rattle.std.proofs.lemmas.Bool.{eqb-true, and_parts}
-use Rattle.c99_grammar.specs.declared.dialects.Dialect.{Dialect}
+use Rattle.c99_grammar.specs.declared.dialects.Edition.{Edition}
 use Rattle.cs_base.specs.Token.{Token}
 use Rattle.c99_tree.specs.Tree.{Forest, none, token, node, Node, leaf, inner, put, lone, collapsed}
 use Rattle.c99_tree.specs.declared.production.Label.{Label}
@@ -9,7 +9,7 @@ use Rattle.c99_tree.specs.declared.production.Production.{Production}
 use Rattle.c99_tree.specs.declared.production.Production.TheVariants.{TranslationUnit, Pdirect}
 use Rattle.c99_tree.specs.contracts.production.ProductionPartialEq.TheImpl.{ghosts}
 use Rattle.c99_grammar.specs.Items.{Action, Alternative}
-use Rattle.c99_grammar.specs.Standard.{grammar}
+use Rattle.c99_grammar.specs.Standard.{iso}
 use Rattle.c99_read.specs.State.{State, base_at, is_identifier, collapses, finished, acted, opened, closed}
 use Rattle.c99_read.specs.Reading.{produce, Step, steps_for, step, read_within, whole, at_first, tree_of, read_of}
 use Rattle.c_types.specs.Lists.{name_in}
@@ -44,13 +44,13 @@ second_is p n e =
     let alternative : n ≡ 2 = eqb-true n 2 ((and_parts (ghosts.eq p Pdirect) (n == 2) e).1) in
     ap (λ q. labelled q n) production ∙ ap (λ k. labelled Pdirect k) alternative
 
-module _ (std : Dialect) where
-  table_fits : (p : Production) → fit_from (fits p) 1 ((grammar std).table p) ≡ true
+module _ (std : Edition) where
+  table_fits : (p : Production) → fit_from (fits p) 1 ((iso std).table p) ≡ true
   table_fits p = by (ghosts.eq p Pdirect) refl
     where
-      by : (c : Bool) → ghosts.eq p Pdirect ≡ c → fit_from (fits p) 1 ((grammar std).table p) ≡ true
-      by true e = ap (λ q. fit_from (fits q) 1 ((grammar std).table q)) (direct_is p e)
-      by false e = other_fits p 1 ((grammar std).table p) e
+      by : (c : Bool) → ghosts.eq p Pdirect ≡ c → fit_from (fits p) 1 ((iso std).table p) ≡ true
+      by true e = ap (λ q. fit_from (fits q) 1 ((iso std).table q)) (direct_is p e)
+      by false e = other_fits p 1 ((iso std).table p) e
 
   -- ---- All nodes
 
@@ -90,11 +90,11 @@ module _ (std : Dialect) where
       first : s'.built.first ≡ s.built.first
       goes_on : s.toks ≡ toks → Encloses std toks s.built.under → Encloses std toks s'.built.under
 
-    acted_keeps : (a : Action) (s : State) → Keeps s (acted (grammar std) a s)
+    acted_keeps : (a : Action) (s : State) → Keeps s (acted (iso std) a s)
     unfolding acted
     acted_keeps a s = record { text = refl; label = refl; first = refl; goes_on = λ e w. w }
 
-    keeps_kept : IsKept (grammar std) Keeps
+    keeps_kept : IsKept (iso std) Keeps
     keeps_kept = record {
       still = λ s. record { text = refl; label = refl; first = refl; goes_on = λ e w. w };
       further = λ s s' s'' k k'. record {
@@ -109,18 +109,18 @@ module _ (std : Dialect) where
 
     -- an alternative that is read encloses its name
     own_name : (fuel depth : ℕ) (p : Production) (n : ℕ) (a : Alternative) (s s' : State) → fits p n a ≡ true
-        → step (grammar std) (read_within (grammar std) fuel) depth a.body (opened p n s) ≡ Ok s' → s.toks ≡ toks → is_enclosed std toks (labelled p n) s.at ≡ true
+        → step (iso std) (read_within (iso std) fuel) depth a.body (opened p n s) ≡ Ok s' → s.toks ≡ toks → is_enclosed std toks (labelled p n) s.at ≡ true
         → name_in s'.built.under ≡ (s.at + 1) ∷ []
     own_name fuel depth p n a s s' fit is_read e h =
         let at : is_at (labelled p n) Pdirect 2 ≡ true = (and_parts (is_at (labelled p n) Pdirect 2) _ h).0 in
-        let named : is_identifier (base_at (grammar std) s.toks (s.at + 1)) ≡ true =
-        subst (λ ts. is_identifier (base_at (grammar std) ts (s.at + 1)) ≡ true) (sym e) ((and_parts (is_at (labelled p n) Pdirect 2) _ h).1) in
-        let here : step (grammar std) (read_within (grammar std) fuel) depth a.body (opened Pdirect 2 s) ≡ Ok s' =
-        ap (λ (l : Label). step (grammar std) (read_within (grammar std) fuel) depth a.body (opened l.production l.alternative s)) (sym (second_is p n at)) ∙ is_read in
+        let named : is_identifier (base_at (iso std) s.toks (s.at + 1)) ≡ true =
+        subst (λ ts. is_identifier (base_at (iso std) ts (s.at + 1)) ≡ true) (sym e) ((and_parts (is_at (labelled p n) Pdirect 2) _ h).1) in
+        let here : step (iso std) (read_within (iso std) fuel) depth a.body (opened Pdirect 2 s) ≡ Ok s' =
+        ap (λ (l : Label). step (iso std) (read_within (iso std) fuel) depth a.body (opened l.production l.alternative s)) (sym (second_is p n at)) ∙ is_read in
         after_is (λ r. name_in r.built.under ≡ (s.at + 1) ∷ []) _ s' here (enclosed_step std fuel depth a.body s (implied _ _ fit at) named)
 
     node_keeps : (fuel depth : ℕ) (p : Production) (n : ℕ) (a : Alternative) (s s' : State) → fits p n a ≡ true
-        → step (grammar std) (read_within (grammar std) fuel) depth a.body (opened p n s) ≡ Ok s' → Keeps (opened p n s) s' → Keeps s (closed p s s')
+        → step (iso std) (read_within (iso std) fuel) depth a.body (opened p n s) ≡ Ok s' → Keeps (opened p n s) s' → Keeps s (closed p s s')
     unfolding opened closed
     node_keeps fuel depth p n a s s' fit is_read m =
         let own : s.toks ≡ toks → is_enclosed std toks s'.built.label s'.built.first ≡ true → name_in s'.built.under ≡ (s'.built.first + 1) ∷ [] =
@@ -132,9 +132,9 @@ module _ (std : Dialect) where
           goes_on = λ e w. encloses_inner s.built.under (finished p s'.built) w (enclosing_finished p s'.built (own e, m.goes_on e tt));
         }
 
-    keeps_within : (fuel : ℕ) → After (Keeps (at_first toks)) (read_within (grammar std) fuel 0 (produce TranslationUnit) (at_first toks))
+    keeps_within : (fuel : ℕ) → After (Keeps (at_first toks)) (read_within (iso std) fuel 0 (produce TranslationUnit) (at_first toks))
     keeps_within fuel =
-        kept_within (grammar std) Keeps keeps_kept (λ p. true) fits
+        kept_within (iso std) Keeps keeps_kept (λ p. true) fits
         (record {
           fit = table_fits;
           inside = λ p n a fit of_ok. each_part a.body;
@@ -144,7 +144,7 @@ module _ (std : Dialect) where
 
     -- ---- A whole unit
 
-    unit_keeps : After (Keeps (at_first toks)) (whole (grammar std) 0 (produce TranslationUnit) (at_first toks))
+    unit_keeps : After (Keeps (at_first toks)) (whole (iso std) 0 (produce TranslationUnit) (at_first toks))
     unfolding whole
     unit_keeps = keeps_within (steps_for (produce TranslationUnit) (at_first toks))
 
@@ -162,5 +162,5 @@ module _ (std : Dialect) where
     tree_encloses (Err stop) tree keeps e = absurd (cc)
 
     -- each tree that is read encloses its names
-    pub read_encloses : (tree : Node) → read_of (grammar std) toks ≡ Ok tree → Encloses std toks tree.under
-    read_encloses tree e = tree_encloses (whole (grammar std) 0 (produce TranslationUnit) (at_first toks)) tree unit_keeps e
+    pub read_encloses : (tree : Node) → read_of (iso std) toks ≡ Ok tree → Encloses std toks tree.under
+    read_encloses tree e = tree_encloses (whole (iso std) 0 (produce TranslationUnit) (at_first toks)) tree unit_keeps e

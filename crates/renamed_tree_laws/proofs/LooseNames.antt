@@ -4,7 +4,7 @@ use Rattle.std.specs.Prelude.{find, IfSome}
 use Rattle.std.specs.List.{list_any}
 use Rattle.std.specs.Option.{option_map_or}
 use Rattle.std.proofs.lemmas.Bool.{and_parts, and_from}
-use Rattle.c99_grammar.specs.declared.dialects.Dialect.{Dialect}
+use Rattle.c99_grammar.specs.declared.dialects.Edition.{Edition}
 use Rattle.cs_base.specs.Token.{Token}
 use Rattle.c99_tree.specs.Tree.{Forest, none, token, node}
 use Rattle.c99_tree.specs.declared.production.Label.{Label}
@@ -67,7 +67,7 @@ outlined_in e (node l first under rest) o w =
     (after_in e l.production first o l under (outlined under (begun l first under o)).entries
     (outlined_in e under (begun l first under o) (begun_in e l.production first under o.kept o.scope.depth o.entries w)))
 
-module _ (std : Dialect) where
+module _ (std : Edition) where
   pub any_in : {X : Type 0} (p : X → Bool) (xs : List X) (x : X) → In x xs → p x ≡ true → list_any p xs ≡ true
   any_in p xs x w h = by (list_any p xs) refl
     where

@@ -1,13 +1,13 @@
 -- What the table says of the next token where an item is read: how far it is known to be the same in both lists.
 use Rattle.std.proofs.Common.{ℕ, ◌+◌, Bool, true, false, ◌&&◌, ◌||◌, not, if◌then◌else◌, ◌==◌, List, [], ◌∷◌}
 use Rattle.std.specs.List.{list_all}
-use Rattle.c99_grammar.specs.declared.dialects.Dialect.{Dialect}
+use Rattle.c99_grammar.specs.declared.dialects.Edition.{Edition}
 use Rattle.c99_tree.specs.declared.production.Label.{Label}
 use Rattle.c99_tree.specs.declared.production.Production.{Production}
 use Rattle.c99_tree.specs.declared.production.Production.TheVariants.{ExtRest, DeclRest, InitDecl, SuRest, Members, MemRest, Mdecl, EnRest, Enumerators, Enumerator, Declarator, Direct, Pdecl, Pdirect, Cast, Unary, SizeRest, Primary, Suffix, Statement, BlockItem, Sub, Main, Params}
 use Rattle.c99_grammar.specs.Classes.{among}
 use Rattle.c99_grammar.specs.Items.{Item, one, part, end_of_text, act, ◌·◌, choice, maybe, many, deep, Test, own, otherwise, next, next_two, Ask, is, is_not, begins, either, scope, Alternative}
-use Rattle.c99_grammar.specs.Standard.{grammar}
+use Rattle.c99_grammar.specs.Standard.{iso}
 use Rattle.c99_read.specs.State.{is_identifier, has_name}
 use Rattle.c99_grammar.specs.Starting.{is_passed, production_starts}
 use Rattle.renamed_tree_laws.proofs.Private.{Class, identifier, typedef_name, colon, colons, parens, covers}
@@ -173,18 +173,18 @@ second_where false asked t body = true
 second_where true true t body = is_bare_test t
 second_where true false t body = second_known body
 
-module _ (std : Dialect) where
+module _ (std : Edition) where
   -- ---- Tests
 
   -- before a colon the production does not tell a typedef name from another
   abbrev pub joint : Production → Bool
-  joint p = agree (production_starts (grammar std) p identifier colon) (production_starts (grammar std) p typedef_name colon)
+  joint p = agree (production_starts (iso std) p identifier colon) (production_starts (iso std) p typedef_name colon)
 
   -- how lists of classes are seen: `sees` of the first token, and `parts` of a production that may start with it
   abbrev pub asks_same : (List Class → Bool) → Ask → Bool
   asks_same sees (is L) = sees L
   asks_same sees (is_not L) = sees L
-  asks_same sees (begins p) = sees ((grammar std).first p)
+  asks_same sees (begins p) = sees ((iso std).first p)
   asks_same sees (either a b) = asks_same sees a && asks_same sees b
 
   abbrev pub test_same : (List Class → Bool) → Test → Bool → Bool
@@ -209,13 +209,13 @@ module _ (std : Dialect) where
   pair_behind x = asks_same blind x.1
 
   abbrev pub each_part : Production → Bool
-  each_part p = list_all pair_behind ((grammar std).pairs p)
+  each_part p = list_all pair_behind ((iso std).pairs p)
 
   abbrev pub blind_pair : Class × Ask → Bool
   blind_pair x = blind (x.0 ∷ []) && pair_behind x
 
   abbrev pub blind_part : Production → Bool
-  blind_part p = blind ((grammar std).first p) && list_all blind_pair ((grammar std).pairs p)
+  blind_part p = blind ((iso std).first p) && list_all blind_pair ((iso std).pairs p)
 
   -- the test has the same answer in both lists, where so much is known
   abbrev pub decides : Mood → Test → Item → Bool
@@ -256,4 +256,4 @@ module _ (std : Dialect) where
   are_known p n (a ∷ more) = is_known p n a && are_known p (n + 1) more
 
   abbrev pub is_production_known : Production → Bool
-  is_production_known p = are_known p 1 ((grammar std).table p) && decided (is_second p) (start_mood p) ((grammar std).table p)
+  is_production_known p = are_known p 1 ((iso std).table p) && decided (is_second p) (start_mood p) ((iso std).table p)

@@ -1,8 +1,8 @@
 -- What is asked along external definitions (6.9), and along bodies of functions (6.9.1).
 use Rattle.std.proofs.Common.{ℕ, ◌+◌, ◌<◌, ◌≡◌, Bool, true, false, ◌&&◌, if◌then◌else◌, List, [], ◌∷◌, Ok, Err, refl, sym, ap, subst, ◌∙◌, arith}
 use Rattle.std.proofs.lemmas.Bool.{and_from}
-use Rattle.c99_grammar.specs.declared.dialects.Dialect.{Dialect}
-use Rattle.c99_grammar.specs.declared.dialects.Dialect.TheVariants.{C99, C11}
+use Rattle.c99_grammar.specs.declared.dialects.Edition.{Edition}
+use Rattle.c99_grammar.specs.declared.dialects.Edition.TheVariants.{C99, C11}
 use Rattle.cs_base.specs.Token.{Token}
 use Rattle.c99_tree.specs.Tree.{Forest, Node, node_of, leaf, inner, put, collapsed}
 use Rattle.c99_tree.specs.declared.production.Label.{Label}
@@ -10,10 +10,10 @@ use Rattle.c99_tree.specs.declared.production.Production.{Production}
 use Rattle.c99_tree.specs.declared.production.Production.TheVariants.{External, ExtRest, ExtTail, FunBody, Sassert, Specs, Declarator, Pdirect}
 use Rattle.c99_grammar.specs.Items.{Item, Alternative, part, own, end, declare, again, plain}
 use Rattle.c99_grammar.specs.Grammar.{externals}
-use Rattle.c99_grammar.specs.Standard.{c99, grammar}
+use Rattle.c99_grammar.specs.Standard.{c99, iso}
 use Rattle.c99_read.specs.State.{State, Names, head_closed, names_closed, finished, with_scope_ended, acted, opened, closed}
 use Rattle.c99_read.specs.Reading.{Goal, produce, Step, syntax, and_then, take_one, may, step, alternative, pick}
-use Rattle.c99_grammar.proofs.StandardLemmas.{by_dialect}
+use Rattle.c99_grammar.proofs.StandardLemmas.{by_edition}
 use Rattle.c_types.specs.Trees.{is_at}
 use Rattle.scope_bind.specs.Named.{Scope}
 use Rattle.tree_laws.proofs.Private.{Declaration, Class}
@@ -33,7 +33,7 @@ use Rattle.renamed_tree_laws.specs.Along.{along_rest, along_first}
 use Rattle.renamed_tree_laws.proofs.Asking.{before_leaf, before_inner, of_token, of_node, Asks, asks_further, quiet_so, along, Asked, asks_step, BodyAsks, fine_asks}
 use Rattle.renamed_tree_laws.proofs.NamingTokens.{declare_asks}
 
-module _ (std : Dialect) where
+module _ (std : Edition) where
   module _ (a b : List Token) where
     -- what is known of the outline in these scopes, where the second text's names agree with a node, tells what was asked
     abbrev pub Told : List (List Declaration) → (Outline → Type 0) → Production → ℕ → Bool → State → State → Type 0
@@ -99,13 +99,13 @@ module _ (std : Dialect) where
       asks : Asks std a b body_label v s ends.last_one
 
     body_end : (first : ℕ) (right : List Class) (s : State) → IsIn body_label first s
-        → After (BodyEnds first (of_token std a b (acted (grammar std) end s)) s) (take_one (grammar std) right (acted (grammar std) end s))
+        → After (BodyEnds first (of_token std a b (acted (iso std) end s)) s) (take_one (iso std) right (acted (iso std) end s))
     unfolding acted
     body_end first right s i =
-        (taken std) (BodyEnds first (of_token std a b (acted (grammar std) end s)) s) right (acted (grammar std) end s)
+        (taken std) (BodyEnds first (of_token std a b (acted (iso std) end s)) s) right (acted (iso std) end s)
         (λ c more. record {
           ends = record { last_one = s; goes = goes_still std a body_label first s; more = more; same = refl };
-          asks = λ o ends bounds f agree. (agree, quiet_so std a b body_label first (acted (grammar std) end s) refl (record { label = i.label; begins = i.begins }));
+          asks = λ o ends bounds f agree. (agree, quiet_so std a b body_label first (acted (iso std) end s) refl (record { label = i.label; begins = i.begins }));
         })
 
     body_then : (first : ℕ) (s : State) (v : Bool) (w : State → Bool) (r : Step) (next_step : State → Step) → IsIn body_label first s
@@ -169,12 +169,12 @@ module _ (std : Dialect) where
       asks = λ o ends t op bounds m near kept agree. (k (begun (labelled ExtTail 1) s.at s'.built.under o) ends t op bounds m near kept agree).1;
     }
 
-    ended_in : (s : State) → IsIn (labelled ExtTail 2) s.at (acted (grammar std) end (opened ExtTail 2 s))
+    ended_in : (s : State) → IsIn (labelled ExtTail 2) s.at (acted (iso std) end (opened ExtTail 2 s))
     unfolding acted opened
     ended_in s = record { label = refl; begins = refl }
 
-    tail_second : (v : Bool) (s s' : State) → Goes std a (labelled ExtTail 2) s.at (acted (grammar std) end (opened ExtTail 2 s)) s'
-        → Asks std a b (labelled ExtTail 2) v (acted (grammar std) end (opened ExtTail 2 s)) s'
+    tail_second : (v : Bool) (s s' : State) → Goes std a (labelled ExtTail 2) s.at (acted (iso std) end (opened ExtTail 2 s)) s'
+        → Asks std a b (labelled ExtTail 2) v (acted (iso std) end (opened ExtTail 2 s)) s'
         → OpenAsks (tail_of s.names.scopes) (Kept (head_of std s.names.scopes)) ExtTail 2 v s s'
     unfolding acted opened
     tail_second v s s' g k = record {
@@ -199,10 +199,10 @@ module _ (std : Dialect) where
     -- ---- A declarator and what follows it
 
     module _ (s s1 s' : State) (m : Makes std a Declarator (opened ExtRest 2 s) s1) (grows : Grows Declarator (opened ExtRest 2 s) s1)
-        (h : HandsOn std a Declarator (opened ExtRest 2 s) s1) (e : Tails std a ExtTail (acted (grammar std) again (acted (grammar std) declare s1)) s') (v w : Bool)
-        (k : Asks std a b (labelled ExtRest 2) v (opened ExtRest 2 s) s1) (k' : TailAsks w (acted (grammar std) again (acted (grammar std) declare s1)) s') where
+        (h : HandsOn std a Declarator (opened ExtRest 2 s) s1) (e : Tails std a ExtTail (acted (iso std) again (acted (iso std) declare s1)) s') (v w : Bool)
+        (k : Asks std a b (labelled ExtRest 2) v (opened ExtRest 2 s) s1) (k' : TailAsks w (acted (iso std) again (acted (iso std) declare s1)) s') where
       abbrev declared_state : State
-      declared_state = acted (grammar std) declare s1
+      declared_state = acted (iso std) declare s1
 
       goes : Goes std a (labelled ExtRest 2) s.at (opened ExtRest 2 s) declared_state
       goes = rest_goes std a s s1 s' m grows h e
@@ -277,7 +277,7 @@ module _ (std : Dialect) where
       along_here item s = along std a b below along_below depth item s
 
       abbrev along_all : Production → State → Bool
-      along_all p s = along_first (grammar std) (of_token std a b) (of_node std a b) below along_below depth p 1 ((grammar std).table p) s
+      along_all p s = along_first (iso std) (of_token std a b) (of_node std a b) below along_below depth p 1 ((iso std).table p) s
 
       abbrev body_items : Item
       body_items = first_body (c99.table FunBody)
@@ -291,25 +291,25 @@ module _ (std : Dialect) where
       abbrev block_items : Item
       block_items = front_of (rest_of (rest_of body_items))
 
-      body_steps : (s : State) → After (BodyEnds s.at (along_here body_items (opened FunBody 1 s)) (opened FunBody 1 s)) (step (grammar std) below depth body_items (opened FunBody 1 s))
+      body_steps : (s : State) → After (BodyEnds s.at (along_here body_items (opened FunBody 1 s)) (opened FunBody 1 s)) (step (iso std) below depth body_items (opened FunBody 1 s))
       body_steps s =
           body_then s.at (opened FunBody 1 s) (along_here first_items (opened FunBody 1 s)) (along_here (rest_of body_items))
-          (step (grammar std) below depth first_items (opened FunBody 1 s)) (step (grammar std) below depth (rest_of body_items)) (opened_in std a FunBody 1 s)
+          (step (iso std) below depth first_items (opened FunBody 1 s)) (step (iso std) below depth (rest_of body_items)) (opened_in std a FunBody 1 s)
           (goes_step std a below reads first_items body_label s.at depth (opened FunBody 1 s) refl (opened_in std a FunBody 1 s))
           (asks_step std a b below along_below reads asked first_items body_label s.at depth (opened FunBody 1 s) refl (opened_in std a FunBody 1 s))
-          (λ s1 i1. body_then s.at s1 (along_here brace s1) (along_here (rest_of (rest_of body_items))) (step (grammar std) below depth brace s1) (step (grammar std) below depth (rest_of (rest_of body_items))) i1
+          (λ s1 i1. body_then s.at s1 (along_here brace s1) (along_here (rest_of (rest_of body_items))) (step (iso std) below depth brace s1) (step (iso std) below depth (rest_of (rest_of body_items))) i1
           (goes_step std a below reads brace body_label s.at depth s1 refl i1) (asks_step std a b below along_below reads asked brace body_label s.at depth s1 refl i1)
-          (λ s2 i2. body_then s.at s2 (along_here block_items s2) (along_here (rest_of (rest_of (rest_of body_items)))) (step (grammar std) below depth block_items s2)
-          (step (grammar std) below depth (rest_of (rest_of (rest_of body_items)))) i2
+          (λ s2 i2. body_then s.at s2 (along_here block_items s2) (along_here (rest_of (rest_of (rest_of body_items)))) (step (iso std) below depth block_items s2)
+          (step (iso std) below depth (rest_of (rest_of (rest_of body_items)))) i2
           (goes_step std a below reads block_items body_label s.at depth s2 refl i2) (asks_step std a b below along_below reads asked block_items body_label s.at depth s2 refl i2)
           (λ s3 i3. body_end s.at (classes_of (rest_of (rest_of (rest_of (rest_of body_items))))) s3 i3)))
 
-      pub body_made : (s : State) → After (TailAsks (along_all FunBody s) s) (pick (grammar std) below depth FunBody 1 (c99.table FunBody) s)
+      pub body_made : (s : State) → After (TailAsks (along_all FunBody s) s) (pick (iso std) below depth FunBody 1 (c99.table FunBody) s)
       body_made s =
-          either (tail_of s.names.scopes) (Kept (head_of std s.names.scopes)) (of_node std a b FunBody 1 s && along_here body_items (opened FunBody 1 s)) true s (may (grammar std) own body_items s)
-          (alternative (grammar std) below depth FunBody 1 body_items s) (Err (syntax s.at))
-          (opens_node (tail_of s.names.scopes) (Kept (head_of std s.names.scopes)) FunBody 1 (along_here body_items (opened FunBody 1 s)) s (step (grammar std) below depth body_items (opened FunBody 1 s)) refl
-          (by (step (grammar std) below depth body_items (opened FunBody 1 s)) (body_steps s)))
+          either (tail_of s.names.scopes) (Kept (head_of std s.names.scopes)) (of_node std a b FunBody 1 s && along_here body_items (opened FunBody 1 s)) true s (may (iso std) own body_items s)
+          (alternative (iso std) below depth FunBody 1 body_items s) (Err (syntax s.at))
+          (opens_node (tail_of s.names.scopes) (Kept (head_of std s.names.scopes)) FunBody 1 (along_here body_items (opened FunBody 1 s)) s (step (iso std) below depth body_items (opened FunBody 1 s)) refl
+          (by (step (iso std) below depth body_items (opened FunBody 1 s)) (body_steps s)))
           tt
         where
           by : (r : Step) → After (BodyEnds s.at (along_here body_items (opened FunBody 1 s)) (opened FunBody 1 s)) r
@@ -320,21 +320,21 @@ module _ (std : Dialect) where
       abbrev tail_items : Item
       tail_items = second_body (c99.table ExtTail)
 
-      pub tail_made : (s : State) → After (TailAsks (along_all ExtTail s) s) (pick (grammar std) below depth ExtTail 1 (c99.table ExtTail) s)
+      pub tail_made : (s : State) → After (TailAsks (along_all ExtTail s) s) (pick (iso std) below depth ExtTail 1 (c99.table ExtTail) s)
       tail_made s =
           either (tail_of s.names.scopes) (Kept (head_of std s.names.scopes)) (along_below depth (produce FunBody) (opened ExtTail 1 s))
-          (if may (grammar std) (second_test (c99.table ExtTail)) tail_items s then along_here (rest_of tail_items) (acted (grammar std) end (opened ExtTail 2 s)) else true) s
-          (may (grammar std) (first_test (c99.table ExtTail)) (part FunBody) s)
-          (alternative (grammar std) below depth ExtTail 1 (part FunBody) s) (if may (grammar std) (second_test (c99.table ExtTail)) tail_items s then alternative (grammar std) below depth ExtTail 2 tail_items s else Err (syntax s.at))
+          (if may (iso std) (second_test (c99.table ExtTail)) tail_items s then along_here (rest_of tail_items) (acted (iso std) end (opened ExtTail 2 s)) else true) s
+          (may (iso std) (first_test (c99.table ExtTail)) (part FunBody) s)
+          (alternative (iso std) below depth ExtTail 1 (part FunBody) s) (if may (iso std) (second_test (c99.table ExtTail)) tail_items s then alternative (iso std) below depth ExtTail 2 tail_items s else Err (syntax s.at))
           (opens_node (tail_of s.names.scopes) (Kept (head_of std s.names.scopes)) ExtTail 1 (along_below depth (produce FunBody) (opened ExtTail 1 s)) s (below depth (produce FunBody) (opened ExtTail 1 s)) refl
           (first (below depth (produce FunBody) (opened ExtTail 1 s)) (outer.bodies depth (opened ExtTail 1 s)) (outer_asked.bodies depth (opened ExtTail 1 s))))
-          (either (tail_of s.names.scopes) (Kept (head_of std s.names.scopes)) (along_here (rest_of tail_items) (acted (grammar std) end (opened ExtTail 2 s))) true s (may (grammar std) (second_test (c99.table ExtTail)) tail_items s)
-          (alternative (grammar std) below depth ExtTail 2 tail_items s) (Err (syntax s.at))
-          (opens_node (tail_of s.names.scopes) (Kept (head_of std s.names.scopes)) ExtTail 2 (along_here (rest_of tail_items) (acted (grammar std) end (opened ExtTail 2 s))) s
-          (step (grammar std) below depth (rest_of tail_items) (acted (grammar std) end (opened ExtTail 2 s))) refl
-          (second (step (grammar std) below depth (rest_of tail_items) (acted (grammar std) end (opened ExtTail 2 s)))
-          (goes_step std a below reads (rest_of tail_items) (labelled ExtTail 2) s.at depth (acted (grammar std) end (opened ExtTail 2 s)) refl (ended_in s))
-          (asks_step std a b below along_below reads asked (rest_of tail_items) (labelled ExtTail 2) s.at depth (acted (grammar std) end (opened ExtTail 2 s)) refl (ended_in s))))
+          (either (tail_of s.names.scopes) (Kept (head_of std s.names.scopes)) (along_here (rest_of tail_items) (acted (iso std) end (opened ExtTail 2 s))) true s (may (iso std) (second_test (c99.table ExtTail)) tail_items s)
+          (alternative (iso std) below depth ExtTail 2 tail_items s) (Err (syntax s.at))
+          (opens_node (tail_of s.names.scopes) (Kept (head_of std s.names.scopes)) ExtTail 2 (along_here (rest_of tail_items) (acted (iso std) end (opened ExtTail 2 s))) s
+          (step (iso std) below depth (rest_of tail_items) (acted (iso std) end (opened ExtTail 2 s))) refl
+          (second (step (iso std) below depth (rest_of tail_items) (acted (iso std) end (opened ExtTail 2 s)))
+          (goes_step std a below reads (rest_of tail_items) (labelled ExtTail 2) s.at depth (acted (iso std) end (opened ExtTail 2 s)) refl (ended_in s))
+          (asks_step std a b below along_below reads asked (rest_of tail_items) (labelled ExtTail 2) s.at depth (acted (iso std) end (opened ExtTail 2 s)) refl (ended_in s))))
           tt)
         where
           first : (r : Step) → After (Tails std a FunBody (opened ExtTail 1 s)) r → After (TailAsks (along_below depth (produce FunBody) (opened ExtTail 1 s)) (opened ExtTail 1 s)) r
@@ -342,11 +342,11 @@ module _ (std : Dialect) where
           first (Err stop) e k = tt
           first (Ok s') e k = tail_first (along_below depth (produce FunBody) (opened ExtTail 1 s)) s s' e k
 
-          second : (r : Step) → After (Goes std a (labelled ExtTail 2) s.at (acted (grammar std) end (opened ExtTail 2 s))) r
-              → After (Asks std a b (labelled ExtTail 2) (along_here (rest_of tail_items) (acted (grammar std) end (opened ExtTail 2 s))) (acted (grammar std) end (opened ExtTail 2 s))) r
-              → After (OpenAsks (tail_of s.names.scopes) (Kept (head_of std s.names.scopes)) ExtTail 2 (along_here (rest_of tail_items) (acted (grammar std) end (opened ExtTail 2 s))) s) r
+          second : (r : Step) → After (Goes std a (labelled ExtTail 2) s.at (acted (iso std) end (opened ExtTail 2 s))) r
+              → After (Asks std a b (labelled ExtTail 2) (along_here (rest_of tail_items) (acted (iso std) end (opened ExtTail 2 s))) (acted (iso std) end (opened ExtTail 2 s))) r
+              → After (OpenAsks (tail_of s.names.scopes) (Kept (head_of std s.names.scopes)) ExtTail 2 (along_here (rest_of tail_items) (acted (iso std) end (opened ExtTail 2 s))) s) r
           second (Err stop) g k = tt
-          second (Ok s') g k = tail_second (along_here (rest_of tail_items) (acted (grammar std) end (opened ExtTail 2 s))) s s' g k
+          second (Ok s') g k = tail_second (along_here (rest_of tail_items) (acted (iso std) end (opened ExtTail 2 s))) s s' g k
 
       abbrev semicolon_rest : Item
       semicolon_rest = first_body (c99.table ExtRest)
@@ -355,9 +355,9 @@ module _ (std : Dialect) where
       rest_items = second_body (c99.table ExtRest)
 
       abbrev behind_declarator : State → State
-      behind_declarator s1 = acted (grammar std) again (acted (grammar std) declare s1)
+      behind_declarator s1 = acted (iso std) again (acted (iso std) declare s1)
 
-      rest_body : (s : State) → After (OpenAsks s.names.scopes (IsFresh s) ExtRest 2 (along_here rest_items (opened ExtRest 2 s)) s) (step (grammar std) below depth rest_items (opened ExtRest 2 s))
+      rest_body : (s : State) → After (OpenAsks s.names.scopes (IsFresh s) ExtRest 2 (along_here rest_items (opened ExtRest 2 s)) s) (step (iso std) below depth rest_items (opened ExtRest 2 s))
       rest_body s =
           by (below depth (produce Declarator) (opened ExtRest 2 s)) (reads.made depth Declarator (opened ExtRest 2 s) refl) (hands depth (opened ExtRest 2 s))
           (asked.made depth Declarator (labelled ExtRest 2) (opened ExtRest 2 s) refl)
@@ -374,22 +374,22 @@ module _ (std : Dialect) where
               → After (HandsOn std a Declarator (opened ExtRest 2 s)) r
               → After (Asks std a b (labelled ExtRest 2) (along_below depth (produce Declarator) (opened ExtRest 2 s)) (opened ExtRest 2 s)) r
               → After (OpenAsks s.names.scopes (IsFresh s) ExtRest 2 (along_below depth (produce Declarator) (opened ExtRest 2 s) && along_rest r (along_here (rest_of rest_items))) s)
-              (and_then r (step (grammar std) below depth (rest_of rest_items)))
+              (and_then r (step (iso std) below depth (rest_of rest_items)))
           by (Err stop) m h k = tt
           by (Ok s1) m h k =
               onward s1 m.0 m.1 h k (below depth (produce ExtTail) (behind_declarator s1)) (outer.tails depth (behind_declarator s1)) (outer_asked.tails depth (behind_declarator s1))
 
-      pub rest_made : (s : State) → After (DefinitionAsks (along_all ExtRest s) s) (pick (grammar std) below depth ExtRest 1 (c99.table ExtRest) s)
+      pub rest_made : (s : State) → After (DefinitionAsks (along_all ExtRest s) s) (pick (iso std) below depth ExtRest 1 (c99.table ExtRest) s)
       rest_made s =
-          either s.names.scopes (IsFresh s) (along_here semicolon_rest (opened ExtRest 1 s)) (if may (grammar std) own rest_items s then along_here rest_items (opened ExtRest 2 s) else true) s
-          (may (grammar std) own semicolon_rest s) (alternative (grammar std) below depth ExtRest 1 semicolon_rest s)
-          (if may (grammar std) own rest_items s then alternative (grammar std) below depth ExtRest 2 rest_items s else Err (syntax s.at))
-          (opens_node s.names.scopes (IsFresh s) ExtRest 1 (along_here semicolon_rest (opened ExtRest 1 s)) s (step (grammar std) below depth semicolon_rest (opened ExtRest 1 s)) refl
-          (plain_opens (IsFresh s) ExtRest 1 (along_here semicolon_rest (opened ExtRest 1 s)) s (step (grammar std) below depth semicolon_rest (opened ExtRest 1 s)) (λ o. refl)
+          either s.names.scopes (IsFresh s) (along_here semicolon_rest (opened ExtRest 1 s)) (if may (iso std) own rest_items s then along_here rest_items (opened ExtRest 2 s) else true) s
+          (may (iso std) own semicolon_rest s) (alternative (iso std) below depth ExtRest 1 semicolon_rest s)
+          (if may (iso std) own rest_items s then alternative (iso std) below depth ExtRest 2 rest_items s else Err (syntax s.at))
+          (opens_node s.names.scopes (IsFresh s) ExtRest 1 (along_here semicolon_rest (opened ExtRest 1 s)) s (step (iso std) below depth semicolon_rest (opened ExtRest 1 s)) refl
+          (plain_opens (IsFresh s) ExtRest 1 (along_here semicolon_rest (opened ExtRest 1 s)) s (step (iso std) below depth semicolon_rest (opened ExtRest 1 s)) (λ o. refl)
           (goes_step std a below reads semicolon_rest (labelled ExtRest 1) s.at depth (opened ExtRest 1 s) refl (opened_in std a ExtRest 1 s))
           (fine_asks std a b below along_below reads asked depth ExtRest 1 semicolon_rest s refl refl refl)))
-          (either s.names.scopes (IsFresh s) (along_here rest_items (opened ExtRest 2 s)) true s (may (grammar std) own rest_items s) (alternative (grammar std) below depth ExtRest 2 rest_items s) (Err (syntax s.at))
-          (opens_node s.names.scopes (IsFresh s) ExtRest 2 (along_here rest_items (opened ExtRest 2 s)) s (step (grammar std) below depth rest_items (opened ExtRest 2 s)) refl (rest_body s))
+          (either s.names.scopes (IsFresh s) (along_here rest_items (opened ExtRest 2 s)) true s (may (iso std) own rest_items s) (alternative (iso std) below depth ExtRest 2 rest_items s) (Err (syntax s.at))
+          (opens_node s.names.scopes (IsFresh s) ExtRest 2 (along_here rest_items (opened ExtRest 2 s)) s (step (iso std) below depth rest_items (opened ExtRest 2 s)) refl (rest_body s))
           tt)
 
       abbrev semicolon_external : Item
@@ -402,7 +402,7 @@ module _ (std : Dialect) where
       unfolding opened
       opened_start n s = refl
 
-      external_body : (n : ℕ) (s : State) → After (OpenAsks s.names.scopes (IsFresh s) External n (along_here external_items (opened External n s)) s) (step (grammar std) below depth external_items (opened External n s))
+      external_body : (n : ℕ) (s : State) → After (OpenAsks s.names.scopes (IsFresh s) External n (along_here external_items (opened External n s)) s) (step (iso std) below depth external_items (opened External n s))
       external_body n s =
           by (below depth (produce Specs) (opened External n s)) (reads.made depth Specs (opened External n s) refl) (steady depth (produce Specs) (opened External n s))
           (asked.made depth Specs (labelled External n) (opened External n s) refl)
@@ -419,47 +419,47 @@ module _ (std : Dialect) where
               → After (Steady (opened External n s)) r
               → After (Asks std a b (labelled External n) (along_below depth (produce Specs) (opened External n s)) (opened External n s)) r
               → After (OpenAsks s.names.scopes (IsFresh s) External n (along_below depth (produce Specs) (opened External n s) && along_rest r (along_here (part ExtRest))) s)
-              (and_then r (step (grammar std) below depth (part ExtRest)))
+              (and_then r (step (iso std) below depth (part ExtRest)))
           by (Err stop) m w k = tt
           by (Ok s1) m w k =
               onward s1 m.0 (subst (λ x. x < s1.at) (opened_start n s) (m.1 refl)) w k (below depth (produce ExtRest) s1) (outer.rests depth s1) (outer_asked.rests depth s1)
 
       -- where nothing else stands in a definition than what such nodes have
       plain_external : (n : ℕ) (item : Item) (s : State) → is_simple External n ≡ true → is_at (labelled External n) Pdirect 2 ≡ false → fine (labelled External n) item ≡ true
-          → After (DefinitionAsks (along_here item (opened External n s)) s) (alternative (grammar std) below depth External n item s)
+          → After (DefinitionAsks (along_here item (opened External n s)) s) (alternative (iso std) below depth External n item s)
       plain_external n item s simple other is_fine =
-          opens_node s.names.scopes (IsFresh s) External n (along_here item (opened External n s)) s (step (grammar std) below depth item (opened External n s)) refl
-          (plain_opens (IsFresh s) External n (along_here item (opened External n s)) s (step (grammar std) below depth item (opened External n s)) (λ o. refl)
+          opens_node s.names.scopes (IsFresh s) External n (along_here item (opened External n s)) s (step (iso std) below depth item (opened External n s)) refl
+          (plain_opens (IsFresh s) External n (along_here item (opened External n s)) s (step (iso std) below depth item (opened External n s)) (λ o. refl)
           (goes_step std a below reads item (labelled External n) s.at depth (opened External n s) is_fine (opened_in std a External n s))
           (fine_asks std a b below along_below reads asked depth External n item s simple other is_fine))
 
       abbrev along_rows : ℕ → List Alternative → State → Bool
-      along_rows n rows s = along_first (grammar std) (of_token std a b) (of_node std a b) below along_below depth External n rows s
+      along_rows n rows s = along_first (iso std) (of_token std a b) (of_node std a b) below along_below depth External n rows s
 
-      specs_external : (n : ℕ) (s : State) → After (DefinitionAsks (along_rows n (plain external_items ∷ []) s) s) (pick (grammar std) below depth External n (plain external_items ∷ []) s)
+      specs_external : (n : ℕ) (s : State) → After (DefinitionAsks (along_rows n (plain external_items ∷ []) s) s) (pick (iso std) below depth External n (plain external_items ∷ []) s)
       specs_external n s =
-          either s.names.scopes (IsFresh s) (along_here external_items (opened External n s)) true s (may (grammar std) own external_items s) (alternative (grammar std) below depth External n external_items s) (Err (syntax s.at))
-          (opens_node s.names.scopes (IsFresh s) External n (along_here external_items (opened External n s)) s (step (grammar std) below depth external_items (opened External n s)) refl (external_body n s))
+          either s.names.scopes (IsFresh s) (along_here external_items (opened External n s)) true s (may (iso std) own external_items s) (alternative (iso std) below depth External n external_items s) (Err (syntax s.at))
+          (opens_node s.names.scopes (IsFresh s) External n (along_here external_items (opened External n s)) s (step (iso std) below depth external_items (opened External n s)) refl (external_body n s))
           tt
 
       -- where an assertion may stand for a definition (C11 6.7.10)
-      asserted_external : (s : State) → After (DefinitionAsks (along_rows 1 (externals C11) s) s) (pick (grammar std) below depth External 1 (externals C11) s)
+      asserted_external : (s : State) → After (DefinitionAsks (along_rows 1 (externals C11) s) s) (pick (iso std) below depth External 1 (externals C11) s)
       asserted_external s =
           either s.names.scopes (IsFresh s) (along_here semicolon_external (opened External 1 s)) (along_rows 2 (plain (part Sassert) ∷ (plain external_items ∷ [])) s) s
-          (may (grammar std) own semicolon_external s) (alternative (grammar std) below depth External 1 semicolon_external s)
-          (pick (grammar std) below depth External 2 (plain (part Sassert) ∷ (plain external_items ∷ [])) s)
+          (may (iso std) own semicolon_external s) (alternative (iso std) below depth External 1 semicolon_external s)
+          (pick (iso std) below depth External 2 (plain (part Sassert) ∷ (plain external_items ∷ [])) s)
           (plain_external 1 semicolon_external s refl refl refl)
           (either s.names.scopes (IsFresh s) (along_here (part Sassert) (opened External 2 s)) (along_rows 3 (plain external_items ∷ []) s) s
-          (may (grammar std) own (part Sassert) s) (alternative (grammar std) below depth External 2 (part Sassert) s)
-          (pick (grammar std) below depth External 3 (plain external_items ∷ []) s)
+          (may (iso std) own (part Sassert) s) (alternative (iso std) below depth External 2 (part Sassert) s)
+          (pick (iso std) below depth External 3 (plain external_items ∷ []) s)
           (plain_external 2 (part Sassert) s refl refl refl) (specs_external 3 s))
 
-      pub external_made : (s : State) → After (DefinitionAsks (along_all External s) s) (pick (grammar std) below depth External 1 ((grammar std).table External) s)
+      pub external_made : (s : State) → After (DefinitionAsks (along_all External s) s) (pick (iso std) below depth External 1 ((iso std).table External) s)
       external_made s =
-          by_dialect (λ v. After (DefinitionAsks (along_rows 1 (externals v) s) s) (pick (grammar std) below depth External 1 (externals v) s))
+          by_edition (λ v. After (DefinitionAsks (along_rows 1 (externals v) s) s) (pick (iso std) below depth External 1 (externals v) s))
           (either s.names.scopes (IsFresh s) (along_here semicolon_external (opened External 1 s)) (along_rows 2 (plain external_items ∷ []) s) s
-          (may (grammar std) own semicolon_external s) (alternative (grammar std) below depth External 1 semicolon_external s)
-          (pick (grammar std) below depth External 2 (plain external_items ∷ []) s)
+          (may (iso std) own semicolon_external s) (alternative (iso std) below depth External 1 semicolon_external s)
+          (pick (iso std) below depth External 2 (plain external_items ∷ []) s)
           (plain_external 1 semicolon_external s refl refl refl) (specs_external 2 s))
-          (asserted_external s) (asserted_external s)
+          (asserted_external s)
           std

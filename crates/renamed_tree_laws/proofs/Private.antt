@@ -3,7 +3,7 @@ use Rattle.std.proofs.Common.{Bool, ◌&&◌, List, [], ◌∷◌, drop}
 use Rattle.std.specs.List.{list_all}
 use Rattle.cs_base.specs.declared.tokens.Kind.TheVariants as kind
 use Rattle.c99_tree.specs.declared.production.Production.TheVariants.{Statement, Pdirect}
-use Rattle.c99_grammar.specs.declared.dialects.Dialect.TheVariants.{Gnu}
+use Rattle.c99_grammar.specs.declared.dialects.Edition.TheVariants.{C11}
 use Rattle.c99_grammar.specs.Items.{names, Test, own, next_two, Ask, is, Alternative}
 use Rattle.c99_grammar.specs.Spellings.{keywords_of, punctuators}
 use Rattle.c99_grammar.specs.Standard.{c99}
@@ -66,5 +66,5 @@ parens = asked_first (second_test (c99.table Pdirect))
 -- it is so of each class that tokens have by themselves
 abbrev pub covers : (Class → Bool) → Bool
 covers P =
-    list_all (λ w. P w.1) (keywords_of Gnu) && (list_all (λ w. P w.1) punctuators && (P identifier && (P no_class && (P end_class &&
+    list_all (λ w. P w.1) (keywords_of C11) && (list_all (λ w. P w.1) punctuators && (P identifier && (P no_class && (P end_class &&
     (P (class_of_kind c99 kind.Number []) && (P (class_of_kind c99 kind.Char []) && P (class_of_kind c99 kind.Str [])))))))

@@ -2,11 +2,11 @@
 use Rattle.std.proofs.Common.{ℕ, suc, ◌≡◌, List, [], ◌∷◌, Some, Ok, slice_get, inl, inr, ap, subst}
 use Rattle.std.specs.List.{Contains}
 use Rattle.std.proofs.lemmas.Option.{slice_get_within, get_or_from_slice_get}
-use Rattle.c99_grammar.specs.declared.dialects.Dialect.{Dialect}
+use Rattle.c99_grammar.specs.declared.dialects.Edition.{Edition}
 use Rattle.cs_base.specs.Token.{Token}
 use Rattle.c99_tree.specs.Tree.{Node}
 use Rattle.c99_read.specs.Reading.{read_of}
-use Rattle.c99_grammar.specs.Standard.{grammar}
+use Rattle.c99_grammar.specs.Standard.{iso}
 use Rattle.c_types.specs.Declarations.{Facts}
 use Rattle.name_chains.specs.Frames.{outermost}
 use Rattle.c_types.specs.Lists.{bare_in}
@@ -23,11 +23,11 @@ each_got P [] all x w = absurd w
 each_got P (y ∷ xs) all x (inl s) = all 0 x (ap Some s)
 each_got P (y ∷ xs) all x (inr w) = each_got P xs (λ k z e. all (suc k) z e) x w
 
-module _ (std : Dialect) where
+module _ (std : Edition) where
   -- what is so of each bare name is so of each loose name
   abbrev pub BareNamesAreLoose : Type 1
   BareNamesAreLoose =
-      (toks : List Token) (tree : Node) (b : Bound) → read_of (grammar std) toks ≡ Ok tree → binding_of toks tree ≡ Ok b → (P : ℕ → Type 0)
+      (toks : List Token) (tree : Node) (b : Bound) → read_of (iso std) toks ≡ Ok tree → binding_of toks tree ≡ Ok b → (P : ℕ → Type 0)
       → ((k x : ℕ) → slice_get b.bare k ≡ Some x → P x) → AllLoose std toks P (outermost 0).label 0 tree.under
 
   pub bare_names_are_loose : BareNamesAreLoose

@@ -6,13 +6,13 @@ use Rattle.std.specs.Option.{option_map_or}
 use Rattle.std.specs.Str.{bytes_eq}
 use Rattle.std.proofs.lemmas.Bool.{and_parts, and_from}
 use Rattle.std.proofs.lemmas.Slice.Eq.{bytes_eq-Decides}
-use Rattle.c99_grammar.specs.declared.dialects.Dialect.{Dialect}
+use Rattle.c99_grammar.specs.declared.dialects.Edition.{Edition}
 use Rattle.cs_base.specs.Token.{Token}
 use Rattle.c99_tree.specs.Tree.{Forest, none, token, node}
 use Rattle.c99_tree.specs.declared.production.Label.{Label}
 use Rattle.c99_tree.specs.declared.production.Production.{Production}
 use Rattle.c99_tree.specs.declared.production.Production.TheVariants.{TranslationUnit, Main, Params, Primary, Pdirect}
-use Rattle.c99_grammar.specs.Standard.{grammar}
+use Rattle.c99_grammar.specs.Standard.{iso}
 use Rattle.c99_read.specs.State.{base_at, is_identifier}
 use Rattle.c_types.specs.declared.lists.Range.{Range}
 use Rattle.scope_bind.specs.Named.{Declaration, Frame, ordinary}
@@ -91,10 +91,10 @@ entry_apart a b x (d ∷ ds) apart w = by (is_space d.space ordinary) refl w (λ
     by true here (inr v) later = later v
     by false here v later = later v
 
-module _ (std : Dialect) where
+module _ (std : Edition) where
   module _ (a b : List Token)
       (words : (word : List ℕ) (k : ℕ) → is_own_word word ≡ true → bytes_eq (spelling_at b k) word ≡ bytes_eq (spelling_at a k) word)
-      (same : (k : ℕ) → base_at (grammar std) a k ≡ base_at (grammar std) b k) (typedefs : List Range) where
+      (same : (k : ℕ) → base_at (iso std) a k ≡ base_at (iso std) b k) (typedefs : List Range) where
     abbrev Stays : ℕ → Type 0
     Stays i = StaysWhole a b typedefs i
 
@@ -156,11 +156,11 @@ module _ (std : Dialect) where
       bare_case true stays h = none_kept k facts covered (stays refl) h
       bare_case false stays h = refl
 
-      named_case : (c : Bool) → ((c && is_identifier (base_at (grammar std) a k)) ≡ true → Stays k)
-          → (if c then not (is_identifier (base_at (grammar std) a k)) || not (denotes_typedef a k facts) else true) ≡ true
-          → (if c then not (is_identifier (base_at (grammar std) b k)) || not (denotes_typedef b k facts) else true) ≡ true
+      named_case : (c : Bool) → ((c && is_identifier (base_at (iso std) a k)) ≡ true → Stays k)
+          → (if c then not (is_identifier (base_at (iso std) a k)) || not (denotes_typedef a k facts) else true) ≡ true
+          → (if c then not (is_identifier (base_at (iso std) b k)) || not (denotes_typedef b k facts) else true) ≡ true
       named_case true stays h =
-          ap (λ x. not (is_identifier x) || not (denotes_typedef b k facts)) (sym (same k)) ∙ bare_case (is_identifier (base_at (grammar std) a k)) stays h
+          ap (λ x. not (is_identifier x) || not (denotes_typedef b k facts)) (sym (same k)) ∙ bare_case (is_identifier (base_at (iso std) a k)) stays h
       named_case false stays h = refl
 
     -- ---- The walk

@@ -1,11 +1,11 @@
 -- What is asked of short texts.
 use Rattle.std.proofs.Common.{ℕ, ◌≡◌, Bool, true, false, List, [], ◌∷◌, refl}
 use Rattle.std.specs.Prelude.{codes}
-use Rattle.c99_grammar.specs.declared.dialects.Dialect.TheVariants.{C99}
+use Rattle.c99_grammar.specs.declared.dialects.Edition.TheVariants.{C99}
 use Rattle.cs_base.specs.Token.{Token}
 use Rattle.cs_base.specs.declared.tokens.Kind.TheVariants.{Ident, Punct}
 use Rattle.c99_read.specs.Reading.{read_within, take_one, at_end, enter}
-use Rattle.c99_grammar.specs.Standard.{grammar}
+use Rattle.c99_grammar.specs.Standard.{iso}
 use Rattle.c99_read.specs.State.{class_at, acted, opened, closed}
 use Rattle.c99_grammar.specs.TokenClasses.{spelled_class, base_class}
 use Rattle.c99_read.proofs.ReadRows.{tok}
@@ -39,7 +39,7 @@ old_style name label use_ =
 
 abbrev names_so : List Token → List Token → Bool
 names_so a b =
-    all_along (grammar C99) (λ s. is_token_so C99 a b s.built.label.production s.built.label.alternative s.names.scopes s.at)
+    all_along (iso C99) (λ s. is_token_so C99 a b s.built.label.production s.built.label.alternative s.names.scopes s.at)
     (λ p n s. is_node_so C99 b p n s.names.scopes s.at) a
 
 -- the member is another name; the use is not
@@ -77,7 +77,7 @@ list-taken = refl
 -- the same, asked by kinds alone
 abbrev kinds_so : List Token → List Token → Bool
 kinds_so a b =
-    all_along (grammar C99) (λ s. is_kind_so C99 b s.built.label.production s.built.label.alternative s.names.scopes s.at)
+    all_along (iso C99) (λ s. is_kind_so C99 b s.built.label.production s.built.label.alternative s.names.scopes s.at)
     (λ p n s. is_node_so C99 b p n s.names.scopes s.at) a
 
 pub members-apart-kinds : kinds_so (members (codes "T") (codes "T") (codes "T")) (members (codes "T") (codes "U") (codes "U")) ≡ true

@@ -1,12 +1,12 @@
 -- What is asked along a whole unit.
 use Rattle.std.proofs.Common.{ℕ, zero, suc, ◌≡◌, Bool, true, false, ◌&&◌, if◌then◌else◌, ◌==◌, List, [], ◌∷◌, length, Ok, Err, refl, ap, ◌∙◌, arith}
 use Rattle.std.proofs.lemmas.Bool.{and_from}
-use Rattle.c99_grammar.specs.declared.dialects.Dialect.{Dialect}
+use Rattle.c99_grammar.specs.declared.dialects.Edition.{Edition}
 use Rattle.cs_base.specs.Token.{Token}
 use Rattle.c99_tree.specs.Tree.{none, node}
 use Rattle.c99_tree.specs.declared.production.Production.TheVariants.{TranslationUnit, External}
 use Rattle.c99_grammar.specs.Items.{Item, part, end_of_text, many, own}
-use Rattle.c99_grammar.specs.Standard.{c99, grammar}
+use Rattle.c99_grammar.specs.Standard.{c99, iso}
 use Rattle.c99_read.specs.State.{State, base_at, opened, closed}
 use Rattle.c99_read.specs.Reading.{Goal, produce, repeat, Step, syntax, at_end, at_first, and_then, may, step, alternative, read_within}
 use Rattle.name_chains.specs.Frames.{at_first as before}
@@ -27,26 +27,26 @@ use Rattle.renamed_tree_laws.proofs.Asking.{of_token, of_node, along}
 use Rattle.renamed_tree_laws.proofs.AskTable.{asked_within}
 use Rattle.renamed_tree_laws.proofs.OuterAsks.{DefinitionAsks, OuterAsked, body_made, tail_made, rest_made, external_made}
 
-module _ (std : Dialect) where
-  module _ (a b : List Token) (same : (k : ℕ) → base_at (grammar std) a k ≡ base_at (grammar std) b k) where
+module _ (std : Edition) where
+  module _ (a b : List Token) (same : (k : ℕ) → base_at (iso std) a k ≡ base_at (iso std) b k) where
     abbrev along_steps : ℕ → ℕ → Goal → State → Bool
-    along_steps fuel = along_within (grammar std) (of_token std a b) (of_node std a b) fuel
+    along_steps fuel = along_within (iso std) (of_token std a b) (of_node std a b) fuel
 
-    outer_asked : (fuel : ℕ) → OuterAsked std a b (read_within (grammar std) fuel) (along_steps fuel)
+    outer_asked : (fuel : ℕ) → OuterAsked std a b (read_within (iso std) fuel) (along_steps fuel)
     unfolding read_within along_within
     outer_asked zero = record { bodies = λ depth s. tt; tails = λ depth s. tt; rests = λ depth s. tt; definitions = λ depth s. tt }
     outer_asked (suc fuel) = record {
       bodies = λ depth s.
-          (body_made std) a b (read_within (grammar std) fuel) (along_steps fuel) (reads_within std a fuel) (asked_within std a b same fuel) (outer_within std a fuel) (outer_asked fuel)
+          (body_made std) a b (read_within (iso std) fuel) (along_steps fuel) (reads_within std a fuel) (asked_within std a b same fuel) (outer_within std a fuel) (outer_asked fuel)
           (declarator_hands std a fuel) (steady_within std fuel) depth s;
       tails = λ depth s.
-          (tail_made std) a b (read_within (grammar std) fuel) (along_steps fuel) (reads_within std a fuel) (asked_within std a b same fuel) (outer_within std a fuel) (outer_asked fuel)
+          (tail_made std) a b (read_within (iso std) fuel) (along_steps fuel) (reads_within std a fuel) (asked_within std a b same fuel) (outer_within std a fuel) (outer_asked fuel)
           (declarator_hands std a fuel) (steady_within std fuel) depth s;
       rests = λ depth s.
-          (rest_made std) a b (read_within (grammar std) fuel) (along_steps fuel) (reads_within std a fuel) (asked_within std a b same fuel) (outer_within std a fuel) (outer_asked fuel)
+          (rest_made std) a b (read_within (iso std) fuel) (along_steps fuel) (reads_within std a fuel) (asked_within std a b same fuel) (outer_within std a fuel) (outer_asked fuel)
           (declarator_hands std a fuel) (steady_within std fuel) depth s;
       definitions = λ depth s.
-          (external_made std) a b (read_within (grammar std) fuel) (along_steps fuel) (reads_within std a fuel) (asked_within std a b same fuel) (outer_within std a fuel) (outer_asked fuel)
+          (external_made std) a b (read_within (iso std) fuel) (along_steps fuel) (reads_within std a fuel) (asked_within std a b same fuel) (outer_within std a fuel) (outer_asked fuel)
           (declarator_hands std a fuel) (steady_within std fuel) depth s;
     }
 
@@ -80,8 +80,8 @@ module _ (std : Dialect) where
         let scope : here.scope ≡ o.scope = outlined_scope s.built.under o in
         k o ends f.fits.text f.fits.opens bounds f.fits.matches f.fits.near (f.heads, λ list h. listed_scope here o list here.entries scope ∙ f.past list h) agree)
 
-    definitions_ask : (fuel depth : ℕ) (s : State) → After (UnitAsks (along_steps fuel depth (produce External) s) s) (read_within (grammar std) fuel depth (produce External) s)
-    definitions_ask fuel depth s = by (read_within (grammar std) fuel depth (produce External) s) ((outer_asked fuel).definitions depth s)
+    definitions_ask : (fuel depth : ℕ) (s : State) → After (UnitAsks (along_steps fuel depth (produce External) s) s) (read_within (iso std) fuel depth (produce External) s)
+    definitions_ask fuel depth s = by (read_within (iso std) fuel depth (produce External) s) ((outer_asked fuel).definitions depth s)
       where
         by : (r : Step) → After (DefinitionAsks std a b (along_steps fuel depth (produce External) s) s) r → After (UnitAsks (along_steps fuel depth (produce External) s) s) r
         by (Err stop) k = tt
@@ -94,15 +94,15 @@ module _ (std : Dialect) where
     again_if v s true r m = m
     again_if v s false r m = unit_still s
 
-    many_ask : (fuel depth : ℕ) (s : State) → After (UnitAsks (along_steps fuel depth (repeat own (part External)) s) s) (read_within (grammar std) fuel depth (repeat own (part External)) s)
+    many_ask : (fuel depth : ℕ) (s : State) → After (UnitAsks (along_steps fuel depth (repeat own (part External)) s) s) (read_within (iso std) fuel depth (repeat own (part External)) s)
     unfolding read_within along_within
     many_ask zero depth s = tt
     many_ask (suc fuel) depth s =
-        again_if (along_steps fuel depth (produce External) s && along_rest (read_within (grammar std) fuel depth (produce External) s) (along_steps fuel depth (repeat own (part External)))) s
-        (may (grammar std) own (part External) s)
-        (and_then (read_within (grammar std) fuel depth (produce External) s) (read_within (grammar std) fuel depth (repeat own (part External))))
-        (unit_then (along_steps fuel depth (produce External) s) (along_steps fuel depth (repeat own (part External))) s (read_within (grammar std) fuel depth (produce External) s)
-        (read_within (grammar std) fuel depth (repeat own (part External))) (definitions_within std a fuel depth s) (definitions_ask fuel depth s) (many_within std a fuel depth) (many_ask fuel depth))
+        again_if (along_steps fuel depth (produce External) s && along_rest (read_within (iso std) fuel depth (produce External) s) (along_steps fuel depth (repeat own (part External)))) s
+        (may (iso std) own (part External) s)
+        (and_then (read_within (iso std) fuel depth (produce External) s) (read_within (iso std) fuel depth (repeat own (part External))))
+        (unit_then (along_steps fuel depth (produce External) s) (along_steps fuel depth (repeat own (part External))) s (read_within (iso std) fuel depth (produce External) s)
+        (read_within (iso std) fuel depth (repeat own (part External))) (definitions_within std a fuel depth s) (definitions_ask fuel depth s) (many_within std a fuel depth) (many_ask fuel depth))
 
     end_asks : (s : State) → After (UnitAsks true s) (at_end s)
     unfolding at_end
@@ -120,21 +120,21 @@ module _ (std : Dialect) where
 
     -- all definitions, and the end of the text
     all_ask : (fuel depth : ℕ) (s : State)
-        → After (UnitAsks (along std a b (read_within (grammar std) fuel) (along_steps fuel) depth unit_items s) s) (step (grammar std) (read_within (grammar std) fuel) depth unit_items s)
+        → After (UnitAsks (along std a b (read_within (iso std) fuel) (along_steps fuel) depth unit_items s) s) (step (iso std) (read_within (iso std) fuel) depth unit_items s)
     all_ask fuel depth s =
-        unit_then (along std a b (read_within (grammar std) fuel) (along_steps fuel) depth definitions_item s) (along std a b (read_within (grammar std) fuel) (along_steps fuel) depth end_of_text) s
-        (step (grammar std) (read_within (grammar std) fuel) depth definitions_item s) at_end
-        (goes_if (may (grammar std) own (part External) s) (and_then (read_within (grammar std) fuel depth (produce External) s) (read_within (grammar std) fuel depth (repeat own (part External))))
-        (goes_then (read_within (grammar std) fuel depth (produce External) s) (definitions_within std a fuel depth s)))
-        (again_if (along_steps fuel depth (produce External) s && along_rest (read_within (grammar std) fuel depth (produce External) s) (along_steps fuel depth (repeat own (part External)))) s
-        (may (grammar std) own (part External) s)
-        (and_then (read_within (grammar std) fuel depth (produce External) s) (read_within (grammar std) fuel depth (repeat own (part External))))
-        (unit_then (along_steps fuel depth (produce External) s) (along_steps fuel depth (repeat own (part External))) s (read_within (grammar std) fuel depth (produce External) s)
-        (read_within (grammar std) fuel depth (repeat own (part External))) (definitions_within std a fuel depth s) (definitions_ask fuel depth s) (many_within std a fuel depth) (many_ask fuel depth)))
+        unit_then (along std a b (read_within (iso std) fuel) (along_steps fuel) depth definitions_item s) (along std a b (read_within (iso std) fuel) (along_steps fuel) depth end_of_text) s
+        (step (iso std) (read_within (iso std) fuel) depth definitions_item s) at_end
+        (goes_if (may (iso std) own (part External) s) (and_then (read_within (iso std) fuel depth (produce External) s) (read_within (iso std) fuel depth (repeat own (part External))))
+        (goes_then (read_within (iso std) fuel depth (produce External) s) (definitions_within std a fuel depth s)))
+        (again_if (along_steps fuel depth (produce External) s && along_rest (read_within (iso std) fuel depth (produce External) s) (along_steps fuel depth (repeat own (part External)))) s
+        (may (iso std) own (part External) s)
+        (and_then (read_within (iso std) fuel depth (produce External) s) (read_within (iso std) fuel depth (repeat own (part External))))
+        (unit_then (along_steps fuel depth (produce External) s) (along_steps fuel depth (repeat own (part External))) s (read_within (iso std) fuel depth (produce External) s)
+        (read_within (iso std) fuel depth (repeat own (part External))) (definitions_within std a fuel depth s) (definitions_ask fuel depth s) (many_within std a fuel depth) (many_ask fuel depth)))
         (end_goes std a) end_asks
       where
-        goes_then : (r : Step) → After (UnitGoes std a s) r → After (UnitGoes std a s) (and_then r (read_within (grammar std) fuel depth (repeat own (part External))))
-        goes_then r g = goes_onward std a s r (read_within (grammar std) fuel depth (repeat own (part External))) g (many_within std a fuel depth)
+        goes_then : (r : Step) → After (UnitGoes std a s) r → After (UnitGoes std a s) (and_then r (read_within (iso std) fuel depth (repeat own (part External))))
+        goes_then r g = goes_onward std a s r (read_within (iso std) fuel depth (repeat own (part External))) g (many_within std a fuel depth)
 
         goes_if : (c : Bool) (r : Step) → After (UnitGoes std a s) r → After (UnitGoes std a s) (if c then r else Ok s)
         goes_if true r m = m
@@ -167,25 +167,25 @@ module _ (std : Dialect) where
       pub built : s.built ≡ record (at_first a).built { under = node (unit_label std a) 0 last_one.built.under none }
       pub told : all_agree std b last_one.built.under (outline (before (length a))) ≡ true → v ≡ true
 
-    pub unit_asks : (fuel : ℕ) → After (UnitTold (along_steps fuel 0 (produce TranslationUnit) (at_first a))) (read_within (grammar std) fuel 0 (produce TranslationUnit) (at_first a))
+    pub unit_asks : (fuel : ℕ) → After (UnitTold (along_steps fuel 0 (produce TranslationUnit) (at_first a))) (read_within (iso std) fuel 0 (produce TranslationUnit) (at_first a))
     unfolding read_within along_within
     unit_asks zero = tt
-    unit_asks (suc fuel) = choose (may (grammar std) own unit_items (at_first a))
+    unit_asks (suc fuel) = choose (may (iso std) own unit_items (at_first a))
       where
         by : (r : Step) → After (UnitGoes std a (opened TranslationUnit 1 (at_first a))) r
-            → After (UnitAsks (along std a b (read_within (grammar std) fuel) (along_steps fuel) 0 unit_items (opened TranslationUnit 1 (at_first a))) (opened TranslationUnit 1 (at_first a))) r
-            → After (UnitTold (along std a b (read_within (grammar std) fuel) (along_steps fuel) 0 unit_items (opened TranslationUnit 1 (at_first a)))) (and_then r (λ s'. Ok (closed TranslationUnit (at_first a) s')))
+            → After (UnitAsks (along std a b (read_within (iso std) fuel) (along_steps fuel) 0 unit_items (opened TranslationUnit 1 (at_first a))) (opened TranslationUnit 1 (at_first a))) r
+            → After (UnitTold (along std a b (read_within (iso std) fuel) (along_steps fuel) 0 unit_items (opened TranslationUnit 1 (at_first a)))) (and_then r (λ s'. Ok (closed TranslationUnit (at_first a) s')))
         by (Err stop) g k = tt
         by (Ok s') g k = record {
           last_one = s';
           built = closed_unit s' g;
-          told = unit_told (along std a b (read_within (grammar std) fuel) (along_steps fuel) 0 unit_items (opened TranslationUnit 1 (at_first a))) s' g k;
+          told = unit_told (along std a b (read_within (iso std) fuel) (along_steps fuel) 0 unit_items (opened TranslationUnit 1 (at_first a))) s' g k;
         }
 
         choose : (c : Bool)
-            → After (UnitTold (if c then along std a b (read_within (grammar std) fuel) (along_steps fuel) 0 unit_items (opened TranslationUnit 1 (at_first a)) else true))
-            (if c then alternative (grammar std) (read_within (grammar std) fuel) 0 TranslationUnit 1 unit_items (at_first a) else Err (syntax 0))
+            → After (UnitTold (if c then along std a b (read_within (iso std) fuel) (along_steps fuel) 0 unit_items (opened TranslationUnit 1 (at_first a)) else true))
+            (if c then alternative (iso std) (read_within (iso std) fuel) 0 TranslationUnit 1 unit_items (at_first a) else Err (syntax 0))
         choose true =
-            by (step (grammar std) (read_within (grammar std) fuel) 0 unit_items (opened TranslationUnit 1 (at_first a))) (all_within std a fuel 0 (opened TranslationUnit 1 (at_first a)))
+            by (step (iso std) (read_within (iso std) fuel) 0 unit_items (opened TranslationUnit 1 (at_first a))) (all_within std a fuel 0 (opened TranslationUnit 1 (at_first a)))
             (all_ask fuel 0 (opened TranslationUnit 1 (at_first a)))
         choose false = tt

@@ -3,13 +3,13 @@ use Rattle.std.proofs.Common.{ℕ, suc, ◌+◌, ◌≤◌, ◌≡◌, Bool, tru
 use Rattle.std.specs.List.{list_all}
 use Rattle.std.proofs.lemmas.Bool.{false≢true, and_parts, and_from}
 use Rattle.std.proofs.lemmas.List.{append_assoc}
-use Rattle.c99_grammar.specs.declared.dialects.Dialect.{Dialect}
+use Rattle.c99_grammar.specs.declared.dialects.Edition.{Edition}
 use Rattle.c99_tree.specs.Tree.{Forest, none, token}
 use Rattle.c99_tree.specs.declared.production.Production.{Production}
 use Rattle.c99_grammar.specs.declared.classes.Class.{Class}
 use Rattle.c99_grammar.specs.Classes.{among}
 use Rattle.c99_grammar.specs.Items.{Item, one, part, end_of_text, act, ◌·◌, choice, maybe, many, deep, own, Test, Alternative}
-use Rattle.c99_grammar.specs.Standard.{Grammar, grammar}
+use Rattle.c99_grammar.specs.Standard.{Grammar, iso}
 use Rattle.c99_read.specs.Reading.{Goal, produce, repeat, deepest}
 use Rattle.c99_read.specs.Sound.{never_empty, has_token}
 use Rattle.reordered_tree_laws.specs.Reordered.{is_among, permuted}
@@ -33,9 +33,9 @@ Sometime r t = (n : ℕ) × (r n ≡ Some t)
 abbrev pub Grows : (ℕ → List ℕ → Option Taken) → Type 0
 Grows again = (n m : ℕ) (xs : List ℕ) (t : Taken) → n ≤ m → again n xs ≡ Some t → again m xs ≡ Some t
 
-module _ (s : Dialect) (class_of : ℕ → Class) (order : List ℕ) (lists : ℕ → Bool) where
+module _ (s : Edition) (class_of : ℕ → Class) (order : List ℕ) (lists : ℕ → Bool) where
   abbrev g : Grammar
-  g = grammar s
+  g = iso s
 
   abbrev reads : ℕ → ℕ → Goal → List ℕ → Option Taken
   reads = read_by_classes g class_of

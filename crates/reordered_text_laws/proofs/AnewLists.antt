@@ -2,14 +2,14 @@
 use Rattle.std.proofs.Common.{ℕ, ◌+◌, ◌≡◌, Bool, true, false, ◌&&◌, List, [], ◌∷◌, ◌++◌, length, Option, None, Some, nat_lt, refl, sym, ap, subst, ◌∙◌, inl, inr}
 use Rattle.std.proofs.lemmas.Bool.{false≢true, and_parts}
 use Rattle.std.proofs.lemmas.List.{append_assoc, append-nil}
-use Rattle.c99_grammar.specs.declared.dialects.Dialect.{Dialect}
+use Rattle.c99_grammar.specs.declared.dialects.Edition.{Edition}
 use Rattle.c99_tree.specs.Tree.{Forest, none, node}
 use Rattle.c99_tree.specs.declared.production.Production.{Production}
 use Rattle.c99_tree.specs.declared.production.Production.TheVariants.{Post, Suffix, Args, Params}
 use Rattle.c99_grammar.specs.declared.classes.Class.{Class}
 use Rattle.c99_grammar.specs.declared.classes.Class.TheVariants.{LeftParen, RightParen}
 use Rattle.c99_grammar.specs.Items.{Item, part, act, ◌·◌, maybe, deep, own, tok, scope, end, keep}
-use Rattle.c99_grammar.specs.Standard.{Grammar, grammar}
+use Rattle.c99_grammar.specs.Standard.{Grammar, iso}
 use Rattle.c99_read.specs.Reading.{Goal, produce, deepest}
 use Rattle.list_cuts.specs.Cuts.{IsOrder}
 use Rattle.reordered_tree_laws.specs.Reordered.{nodes_in, shuffled, is_parenthesised, is_among, permuted}
@@ -60,9 +60,9 @@ then_same (Some t) f h e = ap (behind_children t.read) (e t.left)
 abbrev pub parameter_list : Item
 parameter_list = tok LeftParen · act scope · maybe (deep (part Params)) · act end · act keep · tok RightParen
 
-module _ (s : Dialect) (class_of : ℕ → Class) (order : List ℕ) (lists : ℕ → Bool) (is_order : IsOrder (length order) order) where
+module _ (s : Edition) (class_of : ℕ → Class) (order : List ℕ) (lists : ℕ → Bool) (is_order : IsOrder (length order) order) where
   abbrev g : Grammar
-  g = grammar s
+  g = iso s
 
   abbrev reads : ℕ → ℕ → Goal → List ℕ → Option Taken
   reads = read_by_classes g class_of

@@ -2,14 +2,14 @@
 use Rattle.std.proofs.Common.{ℕ, suc, zero, ◌+◌, ◌≡◌, ◌⊎◌, true, ◌&&◌, List, [], ◌∷◌, ◌++◌, Option, None, Some, nat_lt, sym, ap, ◌∙◌, inl, inr}
 use Rattle.std.specs.Prelude.{IsPermutation}
 use Rattle.std.proofs.lemmas.Bool.{false≢true, and_parts}
-use Rattle.c99_grammar.specs.declared.dialects.Dialect.{Dialect}
+use Rattle.c99_grammar.specs.declared.dialects.Edition.{Edition}
 use Rattle.c99_tree.specs.Tree.{Forest, none}
 use Rattle.c99_tree.specs.declared.production.Production.TheVariants.{Args, Post}
 use Rattle.c99_grammar.specs.declared.classes.Class.{Class}
 use Rattle.c99_grammar.specs.declared.classes.Class.TheVariants.{LeftBracket, LeftParen, RightParen}
 use Rattle.c99_grammar.specs.Classes.{among}
 use Rattle.c99_grammar.specs.Items.{Item, part, own}
-use Rattle.c99_grammar.specs.Standard.{grammar}
+use Rattle.c99_grammar.specs.Standard.{iso}
 use Rattle.c99_read.specs.Reading.{Goal, produce, deepest}
 use Rattle.reordered_text_laws.specs.ByClasses.{tokens_of, Taken, taken, child_of, as_child, here, may_read, read_item, read_by_classes}
 use Rattle.reordered_text_laws.specs.Lists.{Others, listed, items_in, AreCommas}
@@ -18,12 +18,12 @@ use Rattle.reordered_text_laws.proofs.Found.{stopped, found_is, branch, if_yes, 
 use Rattle.reordered_text_laws.proofs.Enclosed.{inside, enclosing, enclosed_read, Enclosed, enclosed_so}
 use Rattle.reordered_text_laws.proofs.Arguments.{arguments_in_any_order}
 
-module _ (s : Dialect) (class_of : ℕ → Class) where
+module _ (s : Edition) (class_of : ℕ → Class) where
   abbrev reads : ℕ → ℕ → Goal → List ℕ → Option Taken
-  reads = read_by_classes (grammar s) class_of
+  reads = read_by_classes (iso s) class_of
 
   abbrev item_read : ℕ → ℕ → Item → List ℕ → Option Taken
-  item_read fuel = read_item (grammar s) class_of (reads fuel)
+  item_read fuel = read_item (iso s) class_of (reads fuel)
 
   abbrev body : Item
   body = enclosing s class_of Args
@@ -56,10 +56,10 @@ module _ (s : Dialect) (class_of : ℕ → Class) where
   -- arguments between them, or none
   inside_so : (fuel depth : ℕ) (t u : Taken) → taken (child_of Post 2 u.read) u.left ≡ t → Call fuel depth u → Ordered depth t
   inside_so fuel depth t u whole call =
-      branch {P = Ordered depth t} (may_read (grammar s) class_of own (inside s class_of Args) call.from) (item_read fuel depth (inside s class_of Args) call.from) (Some (taken none call.from)) call.list
+      branch {P = Ordered depth t} (may_read (iso s) class_of own (inside s class_of Args) call.from) (item_read fuel depth (inside s class_of Args) call.from) (Some (taken none call.from)) call.list
       (λ c e.
-      branch {P = Ordered depth t} (may_read (grammar s) class_of own (part Args) call.from && nat_lt depth deepest) (reads fuel (depth + 1) (produce Args) call.from) None call.list
-      (λ d e'. with_list (and_parts (may_read (grammar s) class_of own (part Args) call.from) (nat_lt depth deepest) d).1 e')
+      branch {P = Ordered depth t} (may_read (iso s) class_of own (part Args) call.from && nat_lt depth deepest) (reads fuel (depth + 1) (produce Args) call.from) None call.list
+      (λ d e'. with_list (and_parts (may_read (iso s) class_of own (part Args) call.from) (nat_lt depth deepest) d).1 e')
       (λ d e'. absurd (stopped call.list e')) e)
       (λ c e. inl (call.opening, (call.closing, is ∙ ap (λ f. child_of Post 2 (enclosed call.opening f call.closing)) (ap (λ (w : Taken). w.read) (sym (found_is (taken none call.from) call.list e))))))
       call.reads_list
@@ -69,7 +69,7 @@ module _ (s : Dialect) (class_of : ℕ → Class) where
 
       with_list : nat_lt depth deepest ≡ true → reads fuel (depth + 1) (produce Args) call.from ≡ Some call.list → Ordered depth t
       with_list less e =
-          let f = arguments_in_any_order s class_of fuel (depth + 1) call.from call.list e (ap (here (grammar s) class_of) call.behind_list ∙ call.is_close) in
+          let f = arguments_in_any_order s class_of fuel (depth + 1) call.from call.list e (ap (here (iso s) class_of) call.behind_list ∙ call.is_close) in
           inr (
             call.opening,
             (
@@ -91,13 +91,13 @@ module _ (s : Dialect) (class_of : ℕ → Class) where
             ),
           )
 
-  found : (fuel depth : ℕ) (xs : List ℕ) (t : Taken) → reads (suc fuel) depth (produce Post) xs ≡ Some t → here (grammar s) class_of xs ≡ LeftParen → Ordered depth t
+  found : (fuel depth : ℕ) (xs : List ℕ) (t : Taken) → reads (suc fuel) depth (produce Post) xs ≡ Some t → here (iso s) class_of xs ≡ LeftParen → Ordered depth t
   unfolding read_by_classes
   found fuel depth xs t e begun =
-      branch {P = Ordered depth t} (among (LeftBracket ∷ []) (here (grammar s) class_of xs)) _ _ t
+      branch {P = Ordered depth t} (among (LeftBracket ∷ []) (here (iso s) class_of xs)) _ _ t
       (λ c e'. absurd (false≢true (sym (ap (among (LeftBracket ∷ [])) begun) ∙ c)))
       (λ c e'.
-      branch {P = Ordered depth t} (among (LeftParen ∷ []) (here (grammar s) class_of xs)) (as_child Post 2 (item_read fuel depth body xs)) _ t
+      branch {P = Ordered depth t} (among (LeftParen ∷ []) (here (iso s) class_of xs)) (as_child Post 2 (item_read fuel depth body xs)) _ t
       (λ d e''.
       let m = inner_is Post 2 (item_read fuel depth body xs) t e'' in
       inside_so fuel depth t m.inside m.whole (enclosed_so s class_of Args fuel depth xs m.inside m.reads))

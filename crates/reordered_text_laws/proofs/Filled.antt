@@ -2,14 +2,14 @@
 use Rattle.std.proofs.Common.{ℕ, suc, zero, ◌+◌, ◌≡◌, Bool, true, false, ◌&&◌, ◌||◌, not, if◌then◌else◌, List, [], ◌∷◌, ◌++◌, Option, None, Some, nat_lt, refl, sym, ap, subst, ◌∙◌}
 use Rattle.std.specs.List.{list_all}
 use Rattle.std.proofs.lemmas.Bool.{false≢true, and_parts, and_from}
-use Rattle.c99_grammar.specs.declared.dialects.Dialect.{Dialect}
+use Rattle.c99_grammar.specs.declared.dialects.Edition.{Edition}
 use Rattle.c99_tree.specs.Tree.{Forest, none, token, node, Node, node_of, lone, collapsed}
 use Rattle.c99_tree.specs.declared.production.Production.{Production}
 use Rattle.c99_tree.specs.declared.production.Production.TheVariants.{TranslationUnit, External}
 use Rattle.c99_grammar.specs.declared.classes.Class.{Class}
 use Rattle.c99_grammar.specs.Classes.{among}
 use Rattle.c99_grammar.specs.Items.{Item, one, part, end_of_text, act, ◌·◌, choice, maybe, many, deep, own, Alternative}
-use Rattle.c99_grammar.specs.Standard.{Grammar, grammar}
+use Rattle.c99_grammar.specs.Standard.{Grammar, iso}
 use Rattle.c99_read.specs.Reading.{Goal, produce, repeat, deepest}
 use Rattle.c99_read.specs.State.{collapses}
 use Rattle.c99_read.specs.Sound.{never_empty, has_token, is_sound}
@@ -157,17 +157,17 @@ abbrev under_of : Forest → Forest
 under_of (node l first under rest) = under
 under_of f = f
 
-filled_by : (s : Dialect) (class_of : ℕ → Class) (count : ℕ) (tree : Node) (steps : ℕ)
-    → read_by_classes (grammar s) class_of steps 0 (produce TranslationUnit) (numbers_from 0 count) ≡ Some (taken (untold (node tree.label tree.first tree.under none)) [])
+filled_by : (s : Edition) (class_of : ℕ → Class) (count : ℕ) (tree : Node) (steps : ℕ)
+    → read_by_classes (iso s) class_of steps 0 (produce TranslationUnit) (numbers_from 0 count) ≡ Some (taken (untold (node tree.label tree.first tree.under none)) [])
     → is_filled tree.under ≡ true
 unfolding read_by_classes
 filled_by s class_of count tree zero e = absurd (stopped (taken (untold (node tree.label tree.first tree.under none)) []) e)
 filled_by s class_of count tree (suc fuel) e =
     let unit = unit_so s class_of fuel 0 (numbers_from 0 count) (taken (untold (node tree.label tree.first tree.under none)) []) e in
     let definitions : Item = many own (part External) in
-    let r : Option Taken = read_item (grammar s) class_of (read_by_classes (grammar s) class_of fuel) 0 definitions (numbers_from 0 count) in
-    let filled : Filled r = filled_item (grammar s) (tells s) class_of fuel (fills_all (grammar s) (tells s) class_of fuel) definitions 0 (numbers_from 0 count) refl in
+    let r : Option Taken = read_item (iso s) class_of (read_by_classes (iso s) class_of fuel) 0 definitions (numbers_from 0 count) in
+    let filled : Filled r = filled_item (iso s) (tells s) class_of fuel (fills_all (iso s) (tells s) class_of fuel) definitions 0 (numbers_from 0 count) refl in
     sym (filled_untold tree.under) ∙ (ap (λ f. is_filled (under_of f)) unit.is ∙ filled_is r unit.defs unit.reads_defs filled)
 
-pub filled_unit : (s : Dialect) (class_of : ℕ → Class) (count : ℕ) (tree : Node) → IsReadAs s class_of count tree → is_filled tree.under ≡ true
+pub filled_unit : (s : Edition) (class_of : ℕ → Class) (count : ℕ) (tree : Node) → IsReadAs s class_of count tree → is_filled tree.under ≡ true
 filled_unit s class_of count tree so = filled_by s class_of count tree so.0 so.1

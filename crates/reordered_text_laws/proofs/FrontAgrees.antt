@@ -3,13 +3,13 @@ use Rattle.std.proofs.Common.{ℕ, ◌+◌, ◌≡◌, Bool, true, false, ◌&&�
 use Rattle.std.specs.Prelude.{find}
 use Rattle.std.specs.Option.{option_map_or, option_or}
 use Rattle.std.proofs.lemmas.Bool.{false≢true, and_parts, or_parts}
-use Rattle.c99_grammar.specs.declared.dialects.Dialect.{Dialect}
+use Rattle.c99_grammar.specs.declared.dialects.Edition.{Edition}
 use Rattle.cs_base.specs.Token.{Token}
 use Rattle.c99_tree.specs.Tree.{Forest, none, token, node}
 use Rattle.c99_tree.specs.declared.production.Label.{Label}
 use Rattle.c99_tree.specs.declared.production.Production.{Production}
 use Rattle.c99_tree.specs.declared.production.Production.TheVariants.{ExtRest, FunBody, InitDecl, Main, Params, Primary, Pdirect, Specs, Enumerator, Declarator, Param, Pdecl, Block, Suffix, Sub, Statement, Mod}
-use Rattle.c99_grammar.specs.Standard.{grammar}
+use Rattle.c99_grammar.specs.Standard.{iso}
 use Rattle.c99_read.specs.State.{base_at, spelling_at, is_identifier}
 use Rattle.scope_bind.specs.Named.{Scope}
 use Rattle.c_types.specs.Trees.{is_node, is_at, last_token, name_below, has_mod, first_list, has_name, holds_name, is_list}
@@ -267,7 +267,7 @@ module _ (end : ℕ) where
     abbrev meets : List Token → ℕ → Entry → Bool
     meets toks i e = alike toks i e.name_at && is_open i e
 
-    typedef_up : (std : Dialect) (i : ℕ) (es : List Entry) → used z i ≡ false → typedef_among std (fronted z) (up i) (up_entries es) ≡ typedef_among std z i es
+    typedef_up : (std : Edition) (i : ℕ) (es : List Entry) → used z i ≡ false → typedef_among std (fronted z) (up i) (up_entries es) ≡ typedef_among std z i es
     typedef_up std i [] plain =
         ap (λ b. option_map_or (λ (e : Entry). e.typedef) (if b && is_open (up i) front_entry then Some front_entry else None) false) (other_way (spelling_at z i) plain)
     typedef_up std i (e ∷ es) plain =
@@ -283,24 +283,24 @@ module _ (end : ℕ) where
     if_same : (c x y : Bool) → x ≡ y → (if c then x else true) ≡ (if c then y else true)
     if_same c x y e = ap (λ v. if c then v else true) e
 
-    token_same : (std : Dialect) (p : Production) (a k i : ℕ) (es : List Entry) → used z i ≡ false
+    token_same : (std : Edition) (p : Production) (a k i : ℕ) (es : List Entry) → used z i ≡ false
         → token_agrees std (fronted z) p a k (up i) (up_entries es) ≡ token_agrees std z p a k i es
     token_same std Main a k i es h = if_same ((a == 4) && (k == 0)) _ _ (typedef_up std i es h)
     token_same std Primary a k i es h = if_same (a == 1) _ _ (ap not (typedef_up std i es h))
     token_same std Params a k i es h = if_same ((a == 1) && (k % 2 == 0)) _ _ (ap not (typedef_up std i es h))
     token_same std _ a k i es h = refl
 
-    module _ (std : Dialect) (named : (k : ℕ) → is_identifier (base_at (grammar std) z k) ≡ true → used z k ≡ false) where
+    module _ (std : Edition) (named : (k : ℕ) → is_identifier (base_at (iso std) z k) ≡ true → used z k ≡ false) where
       node_same : (l : Label) (first : ℕ) (es : List Entry) → node_agrees std (fronted z) l (up first) (up_entries es) ≡ node_agrees std z l first es
       node_same l first es =
-          ap (λ k. if is_at l Pdirect 2 then not (is_identifier (base_at (grammar std) (fronted z) k)) || not (typedef_among std (fronted z) k (up_entries es)) else true) (one_up first)
-          ∙ (ap (λ c. if is_at l Pdirect 2 then not (is_identifier c) || not (typedef_among std (fronted z) (up (first + 1)) (up_entries es)) else true) (base_up z (grammar std) (first + 1))
-          ∙ if_same (is_at l Pdirect 2) _ _ (by (is_identifier (base_at (grammar std) z (first + 1))) refl))
+          ap (λ k. if is_at l Pdirect 2 then not (is_identifier (base_at (iso std) (fronted z) k)) || not (typedef_among std (fronted z) k (up_entries es)) else true) (one_up first)
+          ∙ (ap (λ c. if is_at l Pdirect 2 then not (is_identifier c) || not (typedef_among std (fronted z) (up (first + 1)) (up_entries es)) else true) (base_up z (iso std) (first + 1))
+          ∙ if_same (is_at l Pdirect 2) _ _ (by (is_identifier (base_at (iso std) z (first + 1))) refl))
         where
-          by : (c : Bool) → is_identifier (base_at (grammar std) z (first + 1)) ≡ c
-              → (not (is_identifier (base_at (grammar std) z (first + 1))) || not (typedef_among std (fronted z) (up (first + 1)) (up_entries es)))
-              ≡ (not (is_identifier (base_at (grammar std) z (first + 1))) || not (typedef_among std z (first + 1) es))
-          by true e = ap (λ b. not (is_identifier (base_at (grammar std) z (first + 1))) || not b) (typedef_up std (first + 1) es (named (first + 1) e))
+          by : (c : Bool) → is_identifier (base_at (iso std) z (first + 1)) ≡ c
+              → (not (is_identifier (base_at (iso std) z (first + 1))) || not (typedef_among std (fronted z) (up (first + 1)) (up_entries es)))
+              ≡ (not (is_identifier (base_at (iso std) z (first + 1))) || not (typedef_among std z (first + 1) es))
+          by true e = ap (λ b. not (is_identifier (base_at (iso std) z (first + 1))) || not b) (typedef_up std (first + 1) es (named (first + 1) e))
           by false e =
               ap (λ c. not c || not (typedef_among std (fronted z) (up (first + 1)) (up_entries es))) e
               ∙ sym (ap (λ c. not c || not (typedef_among std z (first + 1) es)) e)

@@ -6,13 +6,13 @@ use Rattle.std.specs.Option.{option_map_or}
 use Rattle.std.specs.Str.{bytes_eq}
 use Rattle.std.proofs.lemmas.Bool.{false≢true, and_parts, and_from, eqb-true, ltb-true, lt-ltb}
 use Rattle.std.proofs.lemmas.Slice.Eq.{bytes_eq-Decides}
-use Rattle.c99_grammar.specs.declared.dialects.Dialect.{Dialect}
+use Rattle.c99_grammar.specs.declared.dialects.Edition.{Edition}
 use Rattle.cs_base.specs.Token.{Token}
 use Rattle.c99_tree.specs.Tree.{Forest, none, token, node, Node}
 use Rattle.c99_tree.specs.declared.production.Label.{Label}
 use Rattle.c99_tree.specs.declared.production.Production.{Production}
 use Rattle.c99_tree.specs.declared.production.Production.TheVariants.{TranslationUnit, ExtRest, FunBody, InitDecl, Main, Params, Primary, Pdirect, Enumerator, Declarator, Param, Pdecl}
-use Rattle.c99_grammar.specs.Standard.{grammar}
+use Rattle.c99_grammar.specs.Standard.{iso}
 use Rattle.c99_read.specs.State.{base_at, spelling_at, is_identifier}
 use Rattle.scope_bind.specs.Named.{is_plain_role}
 use Rattle.scope_bind.specs.Roles.{role_if, role_of}
@@ -66,12 +66,12 @@ AllNodes N none = Unit {0}
 AllNodes N (token i rest) = AllNodes N rest
 AllNodes N (node m first under rest) = N m first × (AllNodes N under × AllNodes N rest)
 
-module _ (s : Dialect) (q : ℕ → Bool) (old : List Token) where
+module _ (s : Edition) (q : ℕ → Bool) (old : List Token) where
   abbrev u : List Token
   u = keyed s q old
 
   abbrev named : ℕ → Bool
-  named i = is_identifier (base_at (grammar s) old i)
+  named i = is_identifier (base_at (iso s) old i)
 
   -- A token is marked where it is a type name by itself, and is an identifier where a name stands.
   abbrev pub Known : Label → ℕ → ℕ → Type 0
@@ -185,9 +185,9 @@ module _ (s : Dialect) (q : ℕ → Bool) (old : List Token) where
 
   node_so : (m : Label) (first : ℕ) (all : List Entry) → Enclosed m first → Behind first all → node_agrees s (fronted u) m (up first) all ≡ true
   node_so m first all h b =
-      ap (λ k. if is_at m Pdirect 2 then not (is_identifier (base_at (grammar s) (fronted u) k)) || not (typedefs_at k all) else true) (one_up first)
-      ∙ (ap (λ c. if is_at m Pdirect 2 then not (is_identifier c) || not (typedefs (first + 1) all) else true) (base_up u (grammar s) (first + 1))
-      ∙ if_true (is_at m Pdirect 2) _ (λ c. by (is_identifier (base_at (grammar s) u (first + 1))) (λ n. h (and_from (is_at m Pdirect 2) _ c n))))
+      ap (λ k. if is_at m Pdirect 2 then not (is_identifier (base_at (iso s) (fronted u) k)) || not (typedefs_at k all) else true) (one_up first)
+      ∙ (ap (λ c. if is_at m Pdirect 2 then not (is_identifier c) || not (typedefs (first + 1) all) else true) (base_up u (iso s) (first + 1))
+      ∙ if_true (is_at m Pdirect 2) _ (λ c. by (is_identifier (base_at (iso s) u (first + 1))) (λ n. h (and_from (is_at m Pdirect 2) _ c n))))
     where
       typedefs_at : ℕ → List Entry → Bool
       typedefs_at k es = option_map_or (λ (e : Entry). e.typedef) (find (λ e. alike (fronted u) k e.name_at && is_open k e) es) false

@@ -1,6 +1,6 @@
 -- The whole tree agrees behind the typedef.
 use Rattle.std.proofs.Common.{ℕ, ◌+◌, ◌≡◌, Bool, false, ◌&&◌, if◌then◌else◌, List, [], length, Option, None, refl, sym, ap, ◌∙◌}
-use Rattle.c99_grammar.specs.declared.dialects.Dialect.{Dialect}
+use Rattle.c99_grammar.specs.declared.dialects.Edition.{Edition}
 use Rattle.cs_base.specs.Token.{Token}
 use Rattle.c99_tree.specs.Tree.{Forest, none, token, node}
 use Rattle.c99_tree.specs.declared.production.Label.{Label}
@@ -26,7 +26,7 @@ after_same Pdecl first l f xs es m k sc typedef kept = refl
 after_same Enumerator first l f xs es m k sc typedef kept = refl
 after_same _ first l f xs es m k sc typedef kept = refl
 
-module _ (std : Dialect) (toks : List Token) where
+module _ (std : Edition) (toks : List Token) where
   -- how many definitions stand before is not asked
   pub any_place : (f : Forest) (es : List Entry) (m k : ℕ) (sc : Scope) (typedef : Bool) (kept : Option ℕ)
       → all_agree std toks f (between es m sc typedef kept) ≡ all_agree std toks f (between es k sc typedef kept)
@@ -44,7 +44,7 @@ abbrev pub start : ℕ → Outline
 start n = between [] 0 (record { depth = 0; to = n }) false None
 
 -- the typedef by itself
-pub front_agrees : (s : Dialect) (z : List Token) (f : Forest) → all_agree s (fronted z) (joined (front_forest s) f) (outline (before (length (fronted z))))
+pub front_agrees : (s : Edition) (z : List Token) (f : Forest) → all_agree s (fronted z) (joined (front_forest s) f) (outline (before (length (fronted z))))
     ≡ all_agree s (fronted z) f (record (up_outline (length z) (start (length z))) { nth = 1 })
 front_agrees s z f = refl
 

@@ -3,26 +3,26 @@ use Rattle.std.proofs.Common.{ℕ, zero, suc, ◌+◌, ◌*◌, ◌<◌, ◌≡�
 use Rattle.std.specs.Prelude.{Result}
 use Rattle.std.specs.List.{list_all}
 use Rattle.std.proofs.lemmas.Bool.{false≢true, lt-ltb}
-use Rattle.c99_grammar.specs.declared.dialects.Dialect.{Dialect}
-use Rattle.c99_grammar.specs.declared.dialects.Dialect.TheVariants.{C99, C11, Gnu}
+use Rattle.c99_grammar.specs.declared.dialects.Edition.{Edition}
+use Rattle.c99_grammar.specs.declared.dialects.Edition.TheVariants.{C99, C11}
 use Rattle.cs_base.specs.Token.{Token}
 use Rattle.c99_tree.specs.Tree.{Forest, none, token, node, Node, node_of, leaf, put}
 use Rattle.c99_tree.specs.declared.production.Label.{Label}
 use Rattle.c99_tree.specs.declared.production.Production.{Production}
-use Rattle.c99_tree.specs.declared.production.Production.TheVariants.{TranslationUnit, External, ExtRest, ExtTail, FunBody, Declaration, DeclRest, InitDecl, Sassert, Specs, Main, Mod, Qual, Word, StructSpec, SuRest, Members, Member, MemRest, Mdecl, EnumSpec, EnRest, Enumerators, Enumerator, Declarator, Pointer, Direct, Suffix, Bound, Params, Param, Pdecl, Pdirect, TypeName, Adecl, Adirect, Init, InitList, InitItem, Designator, Expr, Assign, Asgop, Cond, Lor, Land, Bor, Bxor, Band, Equal, Relate, Shift, Add, Mul, Cast, CastRest, Unary, SizeRest, SizeLit, Primary, Post, Args, Block, BlockItem, Statement, Sub, ForInit}
+use Rattle.c99_tree.specs.declared.production.Production.TheVariants.{TranslationUnit, External, ExtRest, ExtTail, FunBody, Declaration, DeclRest, InitDecl, Sassert, Specs, Main, Mod, Qual, Word, StructSpec, SuRest, Members, Member, MemRest, Mdecl, EnumSpec, EnRest, Enumerators, Enumerator, Declarator, Pointer, Direct, Suffix, Bound, Params, Param, Pdecl, Pdirect, TypeName, Adecl, Adirect, Init, InitList, InitItem, Designator, Expr, Assign, Asgop, Cond, Lor, Land, Bor, Bxor, Band, Equal, Relate, Shift, Add, Mul, Cast, CastRest, Unary, SizeRest, SizeLit, Primary, Post, Args, Block, BlockItem, Statement, Sub, ForInit, AutoDecl, Attr, AttrItem, AttrWord, AsmName, Operand, Association, MemberPath, AsmPart, AsmOperand}
 use Rattle.c99_grammar.specs.declared.classes.Class.{Class}
 use Rattle.c99_grammar.specs.declared.classes.Class.TheVariants.{Typedef, Int, Semicolon, End}
 use Rattle.c99_grammar.specs.Classes.{among}
 use Rattle.c99_grammar.specs.First.{order}
 use Rattle.c99_grammar.specs.Items.{Item, part, end_of_text, ◌·◌, choice, many, own, declare, again, names}
 use Rattle.c99_grammar.specs.Spellings.{Spelled}
-use Rattle.c99_grammar.specs.Standard.{Grammar, grammar}
+use Rattle.c99_grammar.specs.Standard.{Grammar, iso}
 use Rattle.c99_grammar.specs.TokenClasses.{base_class, spelled_class}
-use Rattle.c99_grammar.proofs.StandardLemmas.{by_dialect}
+use Rattle.c99_grammar.proofs.StandardLemmas.{by_edition}
 use Rattle.c99_read.specs.State.{State, declaration, class_at, acted, opened, closed}
 use Rattle.c99_read.specs.Reading.{Goal, produce, repeat, Step, Stop, syntax, and_then, take_one, at_end, may, step, read_within, at_first, tree_of, read_of}
 use Rattle.c99_read.specs.Sound.{IsSound}
-use Rattle.c99_read.proofs.C99Sound.{grammar-sound}
+use Rattle.c99_read.proofs.C99Sound.{iso-sound}
 use Rattle.reordered_text_laws.specs.ByClasses.{joined}
 use Rattle.reordered_text_laws.specs.InOrder.{with_words}
 use Rattle.reordered_text_laws.proofs.Permuted.{labelled}
@@ -32,27 +32,27 @@ use Rattle.reordered_text_laws.proofs.FrontTrees.{behind_four, dirty-raised, dir
 use Rattle.reordered_text_laws.proofs.FrontGrows.{grown_end}
 use Rattle.reordered_text_laws.proofs.FrontSteps.{acts, is_main_one, Beside, Went, Sim, sim_then, end_same, turns_same}
 
-module _ (std : Dialect) where
-  quiet : (p : Production) → list_all (λ a. not (is_main_one p && acts a.body)) ((grammar std).table p) ≡ true
+module _ (std : Edition) where
+  quiet : (p : Production) → list_all (λ a. not (is_main_one p && acts a.body)) ((iso std).table p) ≡ true
   quiet TranslationUnit = refl
-  quiet External = by_dialect (λ s. list_all (λ a. not (is_main_one External && acts a.body)) ((grammar s).table External) ≡ true) refl refl refl std
+  quiet External = by_edition (λ s. list_all (λ a. not (is_main_one External && acts a.body)) ((iso s).table External) ≡ true) refl refl std
   quiet ExtRest = refl
   quiet ExtTail = refl
   quiet FunBody = refl
-  quiet Declaration = by_dialect (λ s. list_all (λ a. not (is_main_one Declaration && acts a.body)) ((grammar s).table Declaration) ≡ true) refl refl refl std
+  quiet Declaration = by_edition (λ s. list_all (λ a. not (is_main_one Declaration && acts a.body)) ((iso s).table Declaration) ≡ true) refl refl std
   quiet DeclRest = refl
   quiet InitDecl = refl
-  quiet Sassert = by_dialect (λ s. list_all (λ a. not (is_main_one Sassert && acts a.body)) ((grammar s).table Sassert) ≡ true) refl refl refl std
+  quiet Sassert = by_edition (λ s. list_all (λ a. not (is_main_one Sassert && acts a.body)) ((iso s).table Sassert) ≡ true) refl refl std
   quiet Specs = refl
   quiet Main = refl
-  quiet Mod = by_dialect (λ s. list_all (λ a. not (is_main_one Mod && acts a.body)) ((grammar s).table Mod) ≡ true) refl refl refl std
+  quiet Mod = by_edition (λ s. list_all (λ a. not (is_main_one Mod && acts a.body)) ((iso s).table Mod) ≡ true) refl refl std
   quiet Qual = refl
   quiet Word = refl
   quiet StructSpec = refl
   quiet SuRest = refl
   quiet Members = refl
-  quiet Member = by_dialect (λ s. list_all (λ a. not (is_main_one Member && acts a.body)) ((grammar s).table Member) ≡ true) refl refl refl std
-  quiet MemRest = by_dialect (λ s. list_all (λ a. not (is_main_one MemRest && acts a.body)) ((grammar s).table MemRest) ≡ true) refl refl refl std
+  quiet Member = by_edition (λ s. list_all (λ a. not (is_main_one Member && acts a.body)) ((iso s).table Member) ≡ true) refl refl std
+  quiet MemRest = by_edition (λ s. list_all (λ a. not (is_main_one MemRest && acts a.body)) ((iso s).table MemRest) ≡ true) refl refl std
   quiet Mdecl = refl
   quiet EnumSpec = refl
   quiet EnRest = refl
@@ -101,6 +101,16 @@ module _ (std : Dialect) where
   quiet Statement = refl
   quiet Sub = refl
   quiet ForInit = refl
+  quiet AutoDecl = refl
+  quiet Attr = refl
+  quiet AttrItem = refl
+  quiet AttrWord = refl
+  quiet AsmName = refl
+  quiet Operand = refl
+  quiet Association = refl
+  quiet MemberPath = refl
+  quiet AsmPart = refl
+  quiet AsmOperand = refl
 
 -- ---- What stands in front
 
@@ -108,7 +118,7 @@ abbrev at_unit : List Token → State
 at_unit toks = opened TranslationUnit 1 (at_first toks)
 
 -- the state behind it
-abbrev behind_front : Dialect → List Token → State
+abbrev behind_front : Edition → List Token → State
 behind_front s z = record {
   toks = fronted z;
   at = 4;
@@ -159,9 +169,9 @@ less_further n = suc (suc (suc (up (up n))))
 
 -- ---- .. in parts
 
-module _ (r : Dialect) (w : ℕ) (z : List Token) where
+module _ (r : Edition) (w : ℕ) (z : List Token) where
   abbrev reads : ℕ → Goal → State → Step
-  reads n goal s = read_within (grammar r) n 0 goal s
+  reads n goal s = read_within (iso r) n 0 goal s
 
   abbrev a_state : ℕ → Bool → Label → ℕ → Forest → State
   a_state at near l first under = record {
@@ -212,10 +222,10 @@ module _ (r : Dialect) (w : ℕ) (z : List Token) where
   abbrev with_token : State → State
   with_token x = record x { at = x.at + 1; built = record x.built { under = put x.built.under (leaf x.at) } }
 
-  taken_so : (L : List Class) (x : State) → nat_lt x.at (length x.toks) ≡ true → among L (class_at (grammar r) x x.at) ≡ true → take_one (grammar r) L x ≡ Ok (with_token x)
+  taken_so : (L : List Class) (x : State) → nat_lt x.at (length x.toks) ≡ true → among L (class_at (iso r) x x.at) ≡ true → take_one (iso r) L x ≡ Ok (with_token x)
   unfolding take_one
   taken_so L x e k =
-      ap (λ b. if b && among L (class_at (grammar r) x x.at) then Ok (with_token x) else Err (syntax x.at)) e
+      ap (λ b. if b && among L (class_at (iso r) x x.at) then Ok (with_token x) else Err (syntax x.at)) e
       ∙ ap (λ b. if b then Ok (with_token x) else Err (syntax x.at)) k
 
   abbrev in_mod : State
@@ -261,49 +271,49 @@ module _ (r : Dialect) (w : ℕ) (z : List Token) where
       ≡ and_then (and_then (and_then (reads n (produce Mod) in_specs) (reads n (repeat own (part Mod)))) (reads n (produce Main))) (λ s'. Ok (closed Specs (in_front w z) s'))
 
   abbrev PartOf_word_typedef : Type 0
-  PartOf_word_typedef = (n : ℕ) → reads (suc n) (produce Mod) in_specs ≡ and_then (take_one (grammar r) (Typedef ∷ []) in_mod) (λ s'. Ok (closed Mod in_specs s'))
+  PartOf_word_typedef = (n : ℕ) → reads (suc n) (produce Mod) in_specs ≡ and_then (take_one (iso r) (Typedef ∷ []) in_mod) (λ s'. Ok (closed Mod in_specs s'))
 
   abbrev PartOf_is_typedef : Type 0
-  PartOf_is_typedef = among (Typedef ∷ []) (class_at (grammar r) in_mod 0) ≡ true
+  PartOf_is_typedef = among (Typedef ∷ []) (class_at (iso r) in_mod 0) ≡ true
 
   abbrev PartOf_no_more : Type 0
   PartOf_no_more = (n : ℕ) → reads (suc n) (repeat own (part Mod)) behind_mod ≡ Ok behind_mod
 
   abbrev PartOf_main : Type 0
   PartOf_main = (n : ℕ) → reads (suc n) (produce Main) behind_mod
-      ≡ and_then (and_then (reads n (produce Word) in_main) (step (grammar r) (read_within (grammar r) n) 0 (many own (choice (part Word) (part Mod))))) (λ s'. Ok (closed Main behind_mod s'))
+      ≡ and_then (and_then (reads n (produce Word) in_main) (step (iso r) (read_within (iso r) n) 0 (many own (choice (part Word) (part Mod))))) (λ s'. Ok (closed Main behind_mod s'))
 
   abbrev PartOf_word_int : Type 0
-  PartOf_word_int = (n : ℕ) → reads (suc n) (produce Word) in_main ≡ and_then (take_one (grammar r) (Int ∷ []) in_word) (λ s'. Ok (closed Word in_main s'))
+  PartOf_word_int = (n : ℕ) → reads (suc n) (produce Word) in_main ≡ and_then (take_one (iso r) (Int ∷ []) in_word) (λ s'. Ok (closed Word in_main s'))
 
   abbrev PartOf_is_int : Type 0
-  PartOf_is_int = among (Int ∷ []) (class_at (grammar r) in_word 1) ≡ true
+  PartOf_is_int = among (Int ∷ []) (class_at (iso r) in_word 1) ≡ true
 
   abbrev PartOf_no_word : Type 0
-  PartOf_no_word = (n : ℕ) → step (grammar r) (read_within (grammar r) n) 0 (many own (choice (part Word) (part Mod))) in_main_behind ≡ Ok in_main_behind
+  PartOf_no_word = (n : ℕ) → step (iso r) (read_within (iso r) n) 0 (many own (choice (part Word) (part Mod))) in_main_behind ≡ Ok in_main_behind
 
   abbrev PartOf_rest : Type 0
   PartOf_rest = (n : ℕ) → reads (suc n) (produce ExtRest) (behind_specs w z)
-      ≡ and_then (and_then (reads n (produce Declarator) in_rest) (λ s'. reads n (produce ExtTail) (acted (grammar r) again (acted (grammar r) declare s')))) (λ s'. Ok (closed ExtRest (behind_specs w z) s'))
+      ≡ and_then (and_then (reads n (produce Declarator) in_rest) (λ s'. reads n (produce ExtTail) (acted (iso r) again (acted (iso r) declare s')))) (λ s'. Ok (closed ExtRest (behind_specs w z) s'))
 
   abbrev PartOf_declarator : Type 0
   PartOf_declarator = (n : ℕ) → reads (suc n) (produce Declarator) in_rest ≡ and_then (reads n (produce Direct) in_declarator) (λ s'. Ok (closed Declarator in_rest s'))
 
   abbrev PartOf_direct : Type 0
   PartOf_direct = (n : ℕ) → reads (suc n) (produce Direct) in_declarator
-      ≡ and_then (and_then (take_one (grammar r) names in_direct) (step (grammar r) (read_within (grammar r) n) 0 (many own (part Suffix)))) (λ s'. Ok (closed Direct in_declarator s'))
+      ≡ and_then (and_then (take_one (iso r) names in_direct) (step (iso r) (read_within (iso r) n) 0 (many own (part Suffix)))) (λ s'. Ok (closed Direct in_declarator s'))
 
   abbrev PartOf_is_name : Type 0
-  PartOf_is_name = among names (class_at (grammar r) in_direct 2) ≡ true
+  PartOf_is_name = among names (class_at (iso r) in_direct 2) ≡ true
 
   abbrev PartOf_no_suffix : Type 0
-  PartOf_no_suffix = (n : ℕ) → step (grammar r) (read_within (grammar r) n) 0 (many own (part Suffix)) (with_token in_direct) ≡ Ok (with_token in_direct)
+  PartOf_no_suffix = (n : ℕ) → step (iso r) (read_within (iso r) n) 0 (many own (part Suffix)) (with_token in_direct) ≡ Ok (with_token in_direct)
 
   abbrev PartOf_tail : Type 0
-  PartOf_tail = (n : ℕ) → reads (suc n) (produce ExtTail) declared_name ≡ and_then (take_one (grammar r) (Semicolon ∷ []) in_tail) (λ s'. Ok (closed ExtTail declared_name s'))
+  PartOf_tail = (n : ℕ) → reads (suc n) (produce ExtTail) declared_name ≡ and_then (take_one (iso r) (Semicolon ∷ []) in_tail) (λ s'. Ok (closed ExtTail declared_name s'))
 
   abbrev PartOf_is_end : Type 0
-  PartOf_is_end = among (Semicolon ∷ []) (class_at (grammar r) in_tail 3) ≡ true
+  PartOf_is_end = among (Semicolon ∷ []) (class_at (iso r) in_tail 3) ≡ true
 
   record Parts : Type 0 where
     specs : PartOf_specs
@@ -340,14 +350,14 @@ module _ (r : Dialect) (w : ℕ) (z : List Token) where
     unfolding closed
     main_read n =
         main (suc n)
-        ∙ (ap (λ x. and_then (and_then x (step (grammar r) (read_within (grammar r) (suc n)) 0 (many own (choice (part Word) (part Mod))))) (λ s'. Ok (closed Main behind_mod s'))) (word_read n)
+        ∙ (ap (λ x. and_then (and_then x (step (iso r) (read_within (iso r) (suc n)) 0 (many own (choice (part Word) (part Mod))))) (λ s'. Ok (closed Main behind_mod s'))) (word_read n)
         ∙ ap (λ x. and_then x (λ s'. Ok (closed Main behind_mod s'))) (no_word (suc n)))
 
     direct_read : (n : ℕ) → reads (suc n) (produce Direct) in_declarator ≡ Ok (named_state 3 (labelled Declarator 1) (node (labelled Direct 1) 2 (token 2 none) none))
     unfolding closed
     direct_read n =
         direct n
-        ∙ (ap (λ x. and_then (and_then x (step (grammar r) (read_within (grammar r) n) 0 (many own (part Suffix)))) (λ s'. Ok (closed Direct in_declarator s'))) (taken_so names in_direct (less_up 2 (omega arith)) is_name)
+        ∙ (ap (λ x. and_then (and_then x (step (iso r) (read_within (iso r) n) 0 (many own (part Suffix)))) (λ s'. Ok (closed Direct in_declarator s'))) (taken_so names in_direct (less_up 2 (omega arith)) is_name)
         ∙ ap (λ x. and_then x (λ s'. Ok (closed Direct in_declarator s'))) (no_suffix n))
 
     name_read : (n : ℕ) → reads (suc (suc n)) (produce Declarator) in_rest ≡ Ok behind_name
@@ -372,7 +382,7 @@ module _ (r : Dialect) (w : ℕ) (z : List Token) where
     rest_read n =
         let k : ℕ = suc (up (up n)) in
         rest (suc k)
-        ∙ (ap (λ x. and_then (and_then x (λ s'. reads (suc k) (produce ExtTail) (acted (grammar r) again (acted (grammar r) declare s')))) (λ s'. Ok (closed ExtRest (behind_specs w z) s'))) (name_read (up (up n)))
+        ∙ (ap (λ x. and_then (and_then x (λ s'. reads (suc k) (produce ExtTail) (acted (iso r) again (acted (iso r) declare s')))) (λ s'. Ok (closed ExtRest (behind_specs w z) s'))) (name_read (up (up n)))
         ∙ ap (λ x. and_then x (λ s'. Ok (closed ExtRest (behind_specs w z) s'))) (tail_read k))
 
 specs_part_99 : (z : List Token) → PartOf_specs C99 2 z
@@ -438,10 +448,10 @@ is_end_99 z = refl
 parts_99 : (z : List Token) → Parts C99 2 z
 parts_99 z = record { specs = specs_part_99 z; word_typedef = word_typedef_99 z; is_typedef = is_typedef_99 z; no_more = no_more_99 z; main = main_99 z; word_int = word_int_99 z; is_int = is_int_99 z; no_word = no_word_99 z; rest = rest_part_99 z; declarator = declarator_99 z; direct = direct_99 z; is_name = is_name_99 z; no_suffix = no_suffix_99 z; tail = tail_99 z; is_end = is_end_99 z }
 
-specs_99 : (z : List Token) (n : ℕ) → read_within (grammar C99) (less_further n) 0 (produce Specs) (in_front 2 z) ≡ Ok (behind_specs 2 z)
+specs_99 : (z : List Token) (n : ℕ) → read_within (iso C99) (less_further n) 0 (produce Specs) (in_front 2 z) ≡ Ok (behind_specs 2 z)
 specs_99 z n = specs_read C99 2 z (parts_99 z) n
 
-rest_99 : (z : List Token) (n : ℕ) → read_within (grammar C99) (less_further n) 0 (produce ExtRest) (behind_specs 2 z) ≡ Ok (behind_rest 2 z)
+rest_99 : (z : List Token) (n : ℕ) → read_within (iso C99) (less_further n) 0 (produce ExtRest) (behind_specs 2 z) ≡ Ok (behind_rest 2 z)
 rest_99 z n = rest_read C99 2 z (parts_99 z) n
 
 specs_part_11 : (z : List Token) → PartOf_specs C11 3 z
@@ -507,95 +517,21 @@ is_end_11 z = refl
 parts_11 : (z : List Token) → Parts C11 3 z
 parts_11 z = record { specs = specs_part_11 z; word_typedef = word_typedef_11 z; is_typedef = is_typedef_11 z; no_more = no_more_11 z; main = main_11 z; word_int = word_int_11 z; is_int = is_int_11 z; no_word = no_word_11 z; rest = rest_part_11 z; declarator = declarator_11 z; direct = direct_11 z; is_name = is_name_11 z; no_suffix = no_suffix_11 z; tail = tail_11 z; is_end = is_end_11 z }
 
-specs_11 : (z : List Token) (n : ℕ) → read_within (grammar C11) (less_further n) 0 (produce Specs) (in_front 3 z) ≡ Ok (behind_specs 3 z)
+specs_11 : (z : List Token) (n : ℕ) → read_within (iso C11) (less_further n) 0 (produce Specs) (in_front 3 z) ≡ Ok (behind_specs 3 z)
 specs_11 z n = specs_read C11 3 z (parts_11 z) n
 
-rest_11 : (z : List Token) (n : ℕ) → read_within (grammar C11) (less_further n) 0 (produce ExtRest) (behind_specs 3 z) ≡ Ok (behind_rest 3 z)
+rest_11 : (z : List Token) (n : ℕ) → read_within (iso C11) (less_further n) 0 (produce ExtRest) (behind_specs 3 z) ≡ Ok (behind_rest 3 z)
 rest_11 z n = rest_read C11 3 z (parts_11 z) n
 
-specs_part_gnu : (z : List Token) → PartOf_specs Gnu 3 z
-unfolding read_within class_at acted opened base_class spelled_class
-specs_part_gnu z = λ n. refl
-
-word_typedef_gnu : (z : List Token) → PartOf_word_typedef Gnu 3 z
-unfolding read_within class_at acted opened base_class spelled_class
-word_typedef_gnu z = λ n. refl
-
-is_typedef_gnu : (z : List Token) → PartOf_is_typedef Gnu 3 z
-unfolding read_within class_at acted opened base_class spelled_class
-is_typedef_gnu z = refl
-
-no_more_gnu : (z : List Token) → PartOf_no_more Gnu 3 z
-unfolding read_within class_at acted opened base_class spelled_class
-no_more_gnu z = λ n. refl
-
-main_gnu : (z : List Token) → PartOf_main Gnu 3 z
-unfolding read_within class_at acted opened base_class spelled_class
-main_gnu z = λ n. refl
-
-word_int_gnu : (z : List Token) → PartOf_word_int Gnu 3 z
-unfolding read_within class_at acted opened base_class spelled_class
-word_int_gnu z = λ n. refl
-
-is_int_gnu : (z : List Token) → PartOf_is_int Gnu 3 z
-unfolding read_within class_at acted opened base_class spelled_class
-is_int_gnu z = refl
-
-no_word_gnu : (z : List Token) → PartOf_no_word Gnu 3 z
-unfolding read_within class_at acted opened base_class spelled_class
-no_word_gnu z = λ n. refl
-
-rest_part_gnu : (z : List Token) → PartOf_rest Gnu 3 z
-unfolding read_within class_at acted opened base_class spelled_class
-rest_part_gnu z = λ n. refl
-
-declarator_gnu : (z : List Token) → PartOf_declarator Gnu 3 z
-unfolding read_within class_at acted opened base_class spelled_class
-declarator_gnu z = λ n. refl
-
-direct_gnu : (z : List Token) → PartOf_direct Gnu 3 z
-unfolding read_within class_at acted opened base_class spelled_class
-direct_gnu z = λ n. refl
-
-is_name_gnu : (z : List Token) → PartOf_is_name Gnu 3 z
-unfolding read_within class_at acted opened base_class spelled_class
-is_name_gnu z = refl
-
-no_suffix_gnu : (z : List Token) → PartOf_no_suffix Gnu 3 z
-unfolding read_within class_at acted opened base_class spelled_class
-no_suffix_gnu z = λ n. refl
-
-tail_gnu : (z : List Token) → PartOf_tail Gnu 3 z
-unfolding read_within class_at acted opened base_class spelled_class
-tail_gnu z = λ n. refl
-
-is_end_gnu : (z : List Token) → PartOf_is_end Gnu 3 z
-unfolding read_within class_at acted opened base_class spelled_class
-is_end_gnu z = refl
-
-parts_gnu : (z : List Token) → Parts Gnu 3 z
-parts_gnu z = record { specs = specs_part_gnu z; word_typedef = word_typedef_gnu z; is_typedef = is_typedef_gnu z; no_more = no_more_gnu z; main = main_gnu z; word_int = word_int_gnu z; is_int = is_int_gnu z; no_word = no_word_gnu z; rest = rest_part_gnu z; declarator = declarator_gnu z; direct = direct_gnu z; is_name = is_name_gnu z; no_suffix = no_suffix_gnu z; tail = tail_gnu z; is_end = is_end_gnu z }
-
-specs_gnu : (z : List Token) (n : ℕ) → read_within (grammar Gnu) (less_further n) 0 (produce Specs) (in_front 3 z) ≡ Ok (behind_specs 3 z)
-specs_gnu z n = specs_read Gnu 3 z (parts_gnu z) n
-
-rest_gnu : (z : List Token) (n : ℕ) → read_within (grammar Gnu) (less_further n) 0 (produce ExtRest) (behind_specs 3 z) ≡ Ok (behind_rest 3 z)
-rest_gnu z n = rest_read Gnu 3 z (parts_gnu z) n
-
-definition_99 : (z : List Token) (n : ℕ) → read_within (grammar C99) (suc n) 0 (produce External) (at_unit (fronted z))
-    ≡ and_then (and_then (read_within (grammar C99) n 0 (produce Specs) (in_front 2 z)) (read_within (grammar C99) n 0 (produce ExtRest))) (λ s'. Ok (closed External (at_unit (fronted z)) s'))
+definition_99 : (z : List Token) (n : ℕ) → read_within (iso C99) (suc n) 0 (produce External) (at_unit (fronted z))
+    ≡ and_then (and_then (read_within (iso C99) n 0 (produce Specs) (in_front 2 z)) (read_within (iso C99) n 0 (produce ExtRest))) (λ s'. Ok (closed External (at_unit (fronted z)) s'))
 unfolding read_within class_at opened base_class spelled_class
 definition_99 z n = refl
 
-definition_11 : (z : List Token) (n : ℕ) → read_within (grammar C11) (suc n) 0 (produce External) (at_unit (fronted z))
-    ≡ and_then (and_then (read_within (grammar C11) n 0 (produce Specs) (in_front 3 z)) (read_within (grammar C11) n 0 (produce ExtRest))) (λ s'. Ok (closed External (at_unit (fronted z)) s'))
+definition_11 : (z : List Token) (n : ℕ) → read_within (iso C11) (suc n) 0 (produce External) (at_unit (fronted z))
+    ≡ and_then (and_then (read_within (iso C11) n 0 (produce Specs) (in_front 3 z)) (read_within (iso C11) n 0 (produce ExtRest))) (λ s'. Ok (closed External (at_unit (fronted z)) s'))
 unfolding read_within class_at opened base_class spelled_class
 definition_11 z n = refl
-
-definition_gnu : (z : List Token) (n : ℕ) → read_within (grammar Gnu) (suc n) 0 (produce External) (at_unit (fronted z))
-    ≡ and_then (and_then (read_within (grammar Gnu) n 0 (produce Specs) (in_front 3 z)) (read_within (grammar Gnu) n 0 (produce ExtRest))) (λ s'. Ok (closed External (at_unit (fronted z)) s'))
-unfolding read_within class_at opened base_class spelled_class
-definition_gnu z n = refl
 
 done_99 : (z : List Token) (r q : Step) → r ≡ Ok (behind_specs 2 z) → q ≡ Ok (behind_rest 2 z) → (f : State → Step) → f (behind_specs 2 z) ≡ q
     → and_then (and_then r f) (λ s'. Ok (closed External (at_unit (fronted z)) s')) ≡ Ok (behind_front C99 z)
@@ -607,20 +543,13 @@ done_11 : (z : List Token) (r q : Step) → r ≡ Ok (behind_specs 3 z) → q �
 unfolding closed opened
 done_11 z r q e k f h = ap (λ x. and_then (and_then x f) (λ s'. Ok (closed External (at_unit (fronted z)) s'))) e ∙ ap (λ x. and_then x (λ s'. Ok (closed External (at_unit (fronted z)) s'))) (h ∙ k)
 
-done_gnu : (z : List Token) (r q : Step) → r ≡ Ok (behind_specs 3 z) → q ≡ Ok (behind_rest 3 z) → (f : State → Step) → f (behind_specs 3 z) ≡ q
-    → and_then (and_then r f) (λ s'. Ok (closed External (at_unit (fronted z)) s')) ≡ Ok (behind_front Gnu z)
-unfolding closed opened
-done_gnu z r q e k f h = ap (λ x. and_then (and_then x f) (λ s'. Ok (closed External (at_unit (fronted z)) s'))) e ∙ ap (λ x. and_then x (λ s'. Ok (closed External (at_unit (fronted z)) s'))) (h ∙ k)
-
-front_read : (s : Dialect) (z : List Token) (n : ℕ) → read_within (grammar s) (further n) 0 (produce External) (at_unit (fronted z)) ≡ Ok (behind_front s z)
+front_read : (s : Edition) (z : List Token) (n : ℕ) → read_within (iso s) (further n) 0 (produce External) (at_unit (fronted z)) ≡ Ok (behind_front s z)
 front_read s z n =
-    by_dialect (λ r. read_within (grammar r) (further n) 0 (produce External) (at_unit (fronted z)) ≡ Ok (behind_front r z))
-    (definition_99 z (less_further n) ∙ done_99 z (read_within (grammar C99) (less_further n) 0 (produce Specs) (in_front 2 z)) (read_within (grammar C99) (less_further n) 0 (produce ExtRest) (behind_specs 2 z))
-    (specs_99 z n) (rest_99 z n) (read_within (grammar C99) (less_further n) 0 (produce ExtRest)) refl)
-    (definition_11 z (less_further n) ∙ done_11 z (read_within (grammar C11) (less_further n) 0 (produce Specs) (in_front 3 z)) (read_within (grammar C11) (less_further n) 0 (produce ExtRest) (behind_specs 3 z))
-    (specs_11 z n) (rest_11 z n) (read_within (grammar C11) (less_further n) 0 (produce ExtRest)) refl)
-    (definition_gnu z (less_further n) ∙ done_gnu z (read_within (grammar Gnu) (less_further n) 0 (produce Specs) (in_front 3 z)) (read_within (grammar Gnu) (less_further n) 0 (produce ExtRest) (behind_specs 3 z))
-    (specs_gnu z n) (rest_gnu z n) (read_within (grammar Gnu) (less_further n) 0 (produce ExtRest)) refl)
+    by_edition (λ r. read_within (iso r) (further n) 0 (produce External) (at_unit (fronted z)) ≡ Ok (behind_front r z))
+    (definition_99 z (less_further n) ∙ done_99 z (read_within (iso C99) (less_further n) 0 (produce Specs) (in_front 2 z)) (read_within (iso C99) (less_further n) 0 (produce ExtRest) (behind_specs 2 z))
+    (specs_99 z n) (rest_99 z n) (read_within (iso C99) (less_further n) 0 (produce ExtRest)) refl)
+    (definition_11 z (less_further n) ∙ done_11 z (read_within (iso C11) (less_further n) 0 (produce Specs) (in_front 3 z)) (read_within (iso C11) (less_further n) 0 (produce ExtRest) (behind_specs 3 z))
+    (specs_11 z n) (rest_11 z n) (read_within (iso C11) (less_further n) 0 (produce ExtRest)) refl)
     s
 
 -- ---- Trees
@@ -652,7 +581,7 @@ lowered-raised none = refl
 lowered-raised (token i rest) = ap (token i) (lowered-raised rest)
 lowered-raised (node l first under rest) = ap (λ f. node l first f (lowered (raised rest))) (lowered-raised under) ∙ ap (node l first under) (lowered-raised rest)
 
-behind_is : (s : Dialect) (f h : Forest) → joined (front_forest s) (raised f) ≡ joined (front_forest s) (raised h) → f ≡ h
+behind_is : (s : Edition) (f h : Forest) → joined (front_forest s) (raised f) ≡ joined (front_forest s) (raised h) → f ≡ h
 behind_is s f h e = sym (lowered-raised f) ∙ (ap (λ k. lowered (rest_of k)) e ∙ lowered-raised h)
 
 or_right : (x y : Bool) → y ≡ true → (x || y) ≡ true
@@ -674,12 +603,12 @@ ends_so t t' e = by (t.at == length t.toks) refl e
 
 -- ---- The text
 
-module _ (s : Dialect) (words : List Spelled) (z : List Token) (fits : (k : ℕ) → Fits z (grammar s) (with_words words (grammar s)) k) where
+module _ (s : Edition) (words : List Spelled) (z : List Token) (fits : (k : ℕ) → Fits z (iso s) (with_words words (iso s)) k) where
   abbrev g : Grammar
-  g = grammar s
+  g = iso s
 
   abbrev h : Grammar
-  h = with_words words (grammar s)
+  h = with_words words (iso s)
 
   abbrev definitions : Item
   definitions = many own (part External)
@@ -714,11 +643,11 @@ module _ (s : Dialect) (words : List Spelled) (z : List Token) (fits : (k : ℕ)
 
   begun_unit : may g own unit (at_first (fronted z)) ≡ true
   unfolding class_at base_class spelled_class
-  begun_unit = by_dialect (λ r. may (grammar r) own unit (at_first (fronted z)) ≡ true) refl refl refl s
+  begun_unit = by_edition (λ r. may (iso r) own unit (at_first (fronted z)) ≡ true) refl refl s
 
   begun_first : may g own (part External) (at_unit (fronted z)) ≡ true
   unfolding class_at base_class spelled_class opened
-  begun_first = by_dialect (λ r. may (grammar r) own (part External) (at_unit (fronted z)) ≡ true) refl refl refl s
+  begun_first = by_edition (λ r. may (iso r) own (part External) (at_unit (fronted z)) ≡ true) refl refl s
 
   if_yes : (c : Bool) (r r' : Step) → c ≡ true → (if c then r else r') ≡ r
   if_yes c r r' e = ap (λ x. if x then r else r') e
@@ -759,10 +688,10 @@ module _ (s : Dialect) (words : List Spelled) (z : List Token) (fits : (k : ℕ)
       (λ s'. grown_end (behind_four (used z)) g s') (λ t'. grown_end (used z) h t') (λ s' t' b e. end_same z g words fits (front_forest s) s' t' b)
 
   sound : IsSound h
-  sound = record { sound = (grammar-sound s).sound }
+  sound = record { sound = (iso-sound s).sound }
 
   text_up : read_of g (fronted z) ≡ tree_of (done_up rest_up)
-  text_up = ap tree_of (sym (settles g (grammar-sound s) (suc steps) 0 (produce TranslationUnit) (at_first (fronted z)) refl (omega arith)) ∙ read_up)
+  text_up = ap tree_of (sym (settles g (iso-sound s) (suc steps) 0 (produce TranslationUnit) (at_first (fronted z)) refl (omega arith)) ∙ read_up)
 
   text_plain : read_of h z ≡ tree_of (if may h own unit (at_first z) then done rest else Err (syntax 0))
   text_plain = ap tree_of (sym (settles h sound steps 0 (produce TranslationUnit) (at_first z) refl (omega arith)) ∙ read_plain)

@@ -3,7 +3,7 @@
 use Rattle.std.proofs.Common.{ℕ, suc, ◌+◌, ◌<◌, ◌≡◌, Bool, true, false, ◌&&◌, ◌||◌, not, if◌then◌else◌, List, [], ◌∷◌, ◌++◌, length, get_or, Ok, refl, sym, ap, subst, ◌∙◌, arith, inl}
 use Rattle.std.proofs.lemmas.Bool.{false≢true, and_parts}
 use Rattle.std.proofs.lemmas.List.{append-nil, append_assoc}
-use Rattle.c99_grammar.specs.declared.dialects.Dialect.{Dialect}
+use Rattle.c99_grammar.specs.declared.dialects.Edition.{Edition}
 use Rattle.cs_base.specs.Token.{Token}
 use Rattle.c99_tree.specs.Tree.{Forest, none, token, node, Node, node_of}
 use Rattle.c99_tree.specs.declared.production.Label.{Label}
@@ -11,7 +11,7 @@ use Rattle.c99_tree.specs.declared.production.Production.{Production}
 use Rattle.c99_tree.specs.declared.production.Production.TheVariants.{TranslationUnit, Main, Pdirect}
 use Rattle.c99_grammar.specs.declared.classes.Class.{Class}
 use Rattle.c99_grammar.specs.declared.classes.Class.TheVariants.{TypedefName}
-use Rattle.c99_grammar.specs.Standard.{grammar}
+use Rattle.c99_grammar.specs.Standard.{iso}
 use Rattle.c99_read.specs.State.{base_at, is_identifier}
 use Rattle.c99_read.specs.Reading.{read_of}
 use Rattle.c_types.specs.Lists.{name_in}
@@ -105,7 +105,7 @@ name_told q (token p (node m first (node o begin (token i list) rest) more)) l k
         subst (λ j. q j ≡ false) is (h.1.0.0.0 ∙ direct_apart o.production o.alternative at)
     by false at same = absurd (cc)
 
-module _ (s : Dialect) (q : ℕ → Bool) (old : List Token) where
+module _ (s : Edition) (q : ℕ → Bool) (old : List Token) where
   abbrev u : List Token
   u = keyed s q old
 
@@ -118,7 +118,7 @@ module _ (s : Dialect) (q : ℕ → Bool) (old : List Token) where
   all_enclosed (node m first under rest) l k h e = (
     λ enclosed.
         let here : is_enclosed s old m first ≡ true = ap (λ c. is_at m Pdirect 2 && is_identifier c) (sym (keyed_base s q old (first + 1))) ∙ enclosed in
-        own_apart s q old (first + 1) (and_parts (is_at m Pdirect 2) (is_identifier (base_at (grammar s) old (first + 1))) here).1
+        own_apart s q old (first + 1) (and_parts (is_at m Pdirect 2) (is_identifier (base_at (iso s) old (first + 1))) here).1
         (name_told q under m 0 (first + 1) (told_of under m 0 h.0) (e.0 here)),
     (all_enclosed under m 0 h.0 e.1.0, all_enclosed rest l (k + 1) h.1 e.1.1),
   )
@@ -134,7 +134,7 @@ module _ (s : Dialect) (q : ℕ → Bool) (old : List Token) where
 
   -- ---- From the first text to the one with keywords
 
-  module _ (alike : AgreeingTextsReadAlike) (tree : Node) (full : NamesAreSpelled s old) (read : read_of (grammar s) old ≡ Ok tree) where
+  module _ (alike : AgreeingTextsReadAlike) (tree : Node) (full : NamesAreSpelled s old) (read : read_of (iso s) old ≡ Ok tree) where
     abbrev old_plain : List Token
     old_plain = plain s old
 
@@ -142,16 +142,16 @@ module _ (s : Dialect) (q : ℕ → Bool) (old : List Token) where
     of_text = trees_of_texts s old tree read
 
     pub old_named : AllAt (NamedAt s old full) unit_label 0 tree.under
-    old_named = names_all (λ i. is_identifier (base_at (grammar s) old i)) tree.under unit_label 0 (names_are_read s old tree read)
+    old_named = names_all (λ i. is_identifier (base_at (iso s) old i)) tree.under unit_label 0 (names_are_read s old tree read)
 
     pub old_within : AllAt (λ l k i. i < length old) unit_label 0 tree.under
     old_within = all_within (length old) tree.under unit_label 0 0 of_text.tokens (let all : token_count tree.under ≡ length old = of_text.all in omega (arith, all))
 
-    plain_read : read_of (grammar s) old_plain ≡ Ok tree
+    plain_read : read_of (iso s) old_plain ≡ Ok tree
     plain_read =
         alike s old old_plain tree (sym (length-plain s old)) (λ k. sym (plain_base s old k)) read (plain_agrees s old full tree.under old_named ∙ units_agree s old tree read)
 
-    plain_fits : (k : ℕ) → Fits old_plain (grammar s) (with_words (grammar s).keywords (grammar s)) k
+    plain_fits : (k : ℕ) → Fits old_plain (iso s) (with_words (iso s).keywords (iso s)) k
     plain_fits k = inl (refl, λ n. plain_full s old full k (named_within s q old k (ap is_identifier (sym (plain_base s old k)) ∙ n)))
 
     plain_clean : dirty (used old_plain) unit_label tree.under ≡ false
@@ -160,26 +160,26 @@ module _ (s : Dialect) (q : ℕ → Bool) (old : List Token) where
         (all_map (λ l k i. i < length old) (λ l k i. strays (used old_plain) l i ≡ false) (λ l k i lt. and_false (not (is_at l Main 4)) (used old_plain i) (plain_full s old full i lt))
         tree.under unit_label 0 old_within)
 
-    plain_front : read_of (grammar s) (fronted old_plain) ≡ Ok (with_front s tree)
-    plain_front = front_kept s (grammar s).keywords old_plain plain_fits tree plain_clean plain_read
+    plain_front : read_of (iso s) (fronted old_plain) ≡ Ok (with_front s tree)
+    plain_front = front_kept s (iso s).keywords old_plain plain_fits tree plain_clean plain_read
 
     module _ (told : AllAt (Told q) unit_label 0 tree.under) where
       known : AllAt (Known s q old) unit_label 0 tree.under
       known = all_both _ _ tree.under unit_label 0 (all_both (Told q) (NamedAt s old full) tree.under unit_label 0 told old_named) old_within
 
-      keyed_front : read_of (grammar s) (fronted u) ≡ Ok (with_front s tree)
+      keyed_front : read_of (iso s) (fronted u) ≡ Ok (with_front s tree)
       keyed_front =
           alike s (fronted old_plain) (fronted u) (with_front s tree) (ap (λ n. up n) (length-plain s old ∙ sym (length-keyed s q old)))
           (classes_behind s old_plain u (λ k. plain_base s old k ∙ sym (keyed_base s q old k)) (length-plain s old ∙ sym (length-keyed s q old))) plain_front
           (front_keyed s q old tree of_text.tokens of_text.forms known (all_enclosed tree.under unit_label 0 known (read_encloses s old tree read)))
 
-      pub keyed_read : read_of (with_words (typed_words s) (grammar s)) u ≡ Ok (node_of tree.label 0 tree.under)
+      pub keyed_read : read_of (with_words (typed_words s) (iso s)) u ≡ Ok (node_of tree.label 0 tree.under)
       keyed_read = front_gone s (typed_words s) u (keyed_fits s q old) (node_of tree.label 0 tree.under) (keyed_clean tree.under known) refl keyed_front
 
 -- ---- In the new order
 
-module _ (alike : AgreeingTextsReadAlike) (in_order : TextsAloneAreReadInOrder) (s : Dialect) (n : ℕ) (order : List ℕ) (lists : ℕ → Bool) (old new : List Token) (tree : Node)
-    (old_full : NamesAreSpelled s old) (new_full : NamesAreSpelled s new) (tokens : AreTokensInOrder s order lists tree old new) (read : read_of (grammar s) old ≡ Ok tree)
+module _ (alike : AgreeingTextsReadAlike) (in_order : TextsAloneAreReadInOrder) (s : Edition) (n : ℕ) (order : List ℕ) (lists : ℕ → Bool) (old new : List Token) (tree : Node)
+    (old_full : NamesAreSpelled s old) (new_full : NamesAreSpelled s new) (tokens : AreTokensInOrder s order lists tree old new) (read : read_of (iso s) old ≡ Ok tree)
     (is : IsOrder n order) (all : AreOf n (cut_in lists tree)) where
   abbrev arranged_tokens : List ℕ
   arranged_tokens = arranged order (cut_in lists tree) (numbers_from 0 (length old))
@@ -241,15 +241,15 @@ module _ (alike : AgreeingTextsReadAlike) (in_order : TextsAloneAreReadInOrder) 
   abbrev new_keyed : List Token
   new_keyed = keyed s new_typed new
 
-  keyed_classes : (k : ℕ) → base_at (with_words (typed_words s) (grammar s)) new_keyed k
-      ≡ base_at (with_words (typed_words s) (grammar s)) old_keyed (get_or (arranged order (cut_in lists tree) (numbers_from 0 (length old_keyed))) k k)
+  keyed_classes : (k : ℕ) → base_at (with_words (typed_words s) (iso s)) new_keyed k
+      ≡ base_at (with_words (typed_words s) (iso s)) old_keyed (get_or (arranged order (cut_in lists tree) (numbers_from 0 (length old_keyed))) k k)
   keyed_classes k =
       keyed_typed s new_typed new k
       ∙ (ap (λ (c : Class). if is_identifier c && typed (place k) then TypedefName else c) (tokens.1 k)
       ∙ (sym (keyed_typed s typed old (place k))
-      ∙ ap (λ m. base_at (with_words (typed_words s) (grammar s)) old_keyed (get_or (arranged order (cut_in lists tree) (numbers_from 0 m)) k k)) (sym (length-keyed s typed old))))
+      ∙ ap (λ m. base_at (with_words (typed_words s) (iso s)) old_keyed (get_or (arranged order (cut_in lists tree) (numbers_from 0 m)) k k)) (sym (length-keyed s typed old))))
 
-  keyed_in_order : read_of (with_words (typed_words s) (grammar s)) new_keyed ≡ Ok new_tree
+  keyed_in_order : read_of (with_words (typed_words s) (iso s)) new_keyed ≡ Ok new_tree
   keyed_in_order =
       in_order s (typed_words s) n order lists old_keyed new_keyed (node_of tree.label 0 tree.under) (keyed_alone s typed old) (keyed_alone s new_typed new)
       (length-keyed s new_typed new ∙ (tokens.0 ∙ sym (length-keyed s typed old))) keyed_classes (keyed_read s typed old alike tree old_full read told) is all
@@ -259,18 +259,18 @@ module _ (alike : AgreeingTextsReadAlike) (in_order : TextsAloneAreReadInOrder) 
   abbrev new_plain : List Token
   new_plain = plain s new
 
-  new_read : agrees s new new_tree.under (before (length new)) ≡ true → read_of (grammar s) new ≡ Ok new_tree
+  new_read : agrees s new new_tree.under (before (length new)) ≡ true → read_of (iso s) new ≡ Ok new_tree
   new_read agree =
-      let plain_named : (k : ℕ) → is_identifier (base_at (grammar s) new_plain k) ≡ true → used new_plain k ≡ false =
+      let plain_named : (k : ℕ) → is_identifier (base_at (iso s) new_plain k) ≡ true → used new_plain k ≡ false =
       (λ k e. plain_full s new new_full k (named_within s new_typed new k (ap is_identifier (sym (plain_base s new k)) ∙ e))) in
       let none : has_some (used new_plain) new_tree.under ≡ false =
       none_some (used new_plain) new_tree.under unit_label 0
       (all_map (λ l k i. i < length new) (λ l k i. used new_plain i ≡ false) (λ l k i lt. plain_full s new new_full i lt) new_tree.under unit_label 0 new_within) in
       let so = classes_of s (typed_words s) new_keyed (keyed_alone s new_typed new) new_tree keyed_in_order in
-      let read_plain : read_of (grammar s) new_plain ≡ Ok new_tree =
+      let read_plain : read_of (iso s) new_plain ≡ Ok new_tree =
       agreeing_read alike s (typed_words s) new_keyed new_plain new_tree (keyed_fits s new_typed new) (keyed_clean s new_typed new new_tree.under new_known) refl keyed_in_order
       (length-keyed s new_typed new ∙ sym (length-plain s new)) (λ k. keyed_base s new_typed new k ∙ sym (plain_base s new k)) plain_named
-      (filled_unit s (base_at (with_words (typed_words s) (grammar s)) new_keyed) (length new_keyed) new_tree so) none
+      (filled_unit s (base_at (with_words (typed_words s) (iso s)) new_keyed) (length new_keyed) new_tree so) none
       (plain_agrees s new new_full new_tree.under new_named ∙ agree) in
       alike s new_plain new new_tree (length-plain s new) (plain_base s new) read_plain agree
 

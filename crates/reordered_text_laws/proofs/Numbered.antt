@@ -4,12 +4,12 @@ use Rattle.std.proofs.lemmas.Bool.{false≢true}
 use Rattle.std.proofs.lemmas.List.{length-map, get_or-map, get_or_default, same_lists}
 use Rattle.std.proofs.lemmas.List.Sorted.{length_permutation}
 use Rattle.std.proofs.Math.ListN as listn
-use Rattle.c99_grammar.specs.declared.dialects.Dialect.{Dialect}
+use Rattle.c99_grammar.specs.declared.dialects.Edition.{Edition}
 use Rattle.c99_tree.specs.Tree.{Forest, none, token, node, Node, node_of}
 use Rattle.c99_tree.specs.declared.production.Label.{Label}
 use Rattle.c99_tree.specs.declared.production.Production.TheVariants.{TranslationUnit}
 use Rattle.c99_grammar.specs.declared.classes.Class.{Class}
-use Rattle.c99_grammar.specs.Standard.{grammar}
+use Rattle.c99_grammar.specs.Standard.{iso}
 use Rattle.c99_read.specs.Reading.{produce}
 use Rattle.c_types.specs.Trees.{first_token}
 use Rattle.c_types.specs.Parameters.{ends_in_token}
@@ -250,12 +250,12 @@ nothing_mapped : (m : ℕ → ℕ) (xs : List ℕ) → map m xs ≡ [] → xs �
 nothing_mapped m [] e = refl
 nothing_mapped m (x ∷ xs) e = absurd (false≢true (sym (ap has_any e)))
 
-module _ (s : Dialect) (class_of : ℕ → Class) (n count : ℕ) (order : List ℕ) (lists : ℕ → Bool) (tree : Node) (is_order : IsOrder n order) (all : AreOf n (cut_in lists tree)) where
+module _ (s : Edition) (class_of : ℕ → Class) (n count : ℕ) (order : List ℕ) (lists : ℕ → Bool) (tree : Node) (is_order : IsOrder n order) (all : AreOf n (cut_in lists tree)) where
   abbrev place : ℕ → ℕ
   place k = get_or (arranged order (cut_in lists tree) (numbers_from 0 count)) k k
 
   abbrev reads : (ℕ → Class) → ℕ → List ℕ → Option Taken
-  reads c steps xs = read_by_classes (grammar s) c steps 0 (produce TranslationUnit) xs
+  reads c steps xs = read_by_classes (iso s) c steps 0 (produce TranslationUnit) xs
 
   abbrev new_under : Forest
   new_under = permuted order lists false tree.under
@@ -280,7 +280,7 @@ module _ (s : Dialect) (class_of : ℕ → Class) (n count : ℕ) (order : List 
 
     old_tokens : leaves tree.under ≡ numbers_from 0 count
     old_tokens =
-        sym ((goal_text (grammar s) ending (tells s) class_of steps 0 (produce TranslationUnit) (numbers_from 0 count) (taken old_unit []) e).0
+        sym ((goal_text (iso s) ending (tells s) class_of steps 0 (produce TranslationUnit) (numbers_from 0 count) (taken old_unit []) e).0
         ∙ (append-nil (tokens_of old_unit) ∙ (append-nil (tokens_of (untold tree.under)) ∙ (tokens-untold tree.under ∙ tokens-leaves tree.under))))
 
     long : length order ≡ n
@@ -304,7 +304,7 @@ module _ (s : Dialect) (class_of : ℕ → Class) (n count : ℕ) (order : List 
         → Read_so k
     numbered_so k t f h =
         let left : t.left ≡ [] = nothing_mapped place t.left (ap (λ (w : Taken). w.left) h) in
-        let text = (goal_text (grammar s) ending (tells s) (λ i. class_of (place i)) k 0 (produce TranslationUnit) (numbers_from 0 count) t f).0 in
+        let text = (goal_text (iso s) ending (tells s) (λ i. class_of (place i)) k 0 (produce TranslationUnit) (numbers_from 0 count) t f).0 in
         let run = run_of t.read 0 count t.left (sym text) in
         let read : t.read ≡ node tree.label 0 (untold (numbered 0 new_under)) none =
         sym (retold-runs 0 t.read run.runs) ∙ (sym (retold-renumbered place 0 t.read) ∙ (ap (λ (w : Taken). retold 0 w.read) h
@@ -322,7 +322,7 @@ module _ (s : Dialect) (class_of : ℕ → Class) (n count : ℕ) (order : List 
         placed (arranged order (cut_in lists tree) (numbers_from 0 count)) count as_long ∙ sym new_tokens in (
           r.0,
           read_so r.0 (reads (λ i. class_of (place i)) r.0 (numbers_from 0 count)) refl
-              (sym (numbers_do_not_matter (grammar s) class_of place r.0 0 (produce TranslationUnit) (numbers_from 0 count)) ∙ (ap (reads class_of r.0) text ∙ r.1)),
+              (sym (numbers_do_not_matter (iso s) class_of place r.0 0 (produce TranslationUnit) (numbers_from 0 count)) ∙ (ap (reads class_of r.0) text ∙ r.1)),
         )
 
 pub arranged_in_order : ArrangedTokensAreReadInOrder

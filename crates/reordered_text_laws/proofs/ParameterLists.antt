@@ -2,7 +2,7 @@
 use Rattle.std.proofs.Common.{ℕ, suc, zero, ◌+◌, ◌≡◌, ◌⊎◌, Bool, true, false, ◌&&◌, ◌||◌, if◌then◌else◌, List, [], ◌∷◌, ◌++◌, length, Option, None, Some, nat_lt, refl, sym, ap, subst, ◌∙◌, inr, arith}
 use Rattle.std.proofs.lemmas.Bool.{false≢true, and_parts}
 use Rattle.std.proofs.lemmas.List.{append-nil}
-use Rattle.c99_grammar.specs.declared.dialects.Dialect.{Dialect}
+use Rattle.c99_grammar.specs.declared.dialects.Edition.{Edition}
 use Rattle.c99_tree.specs.Tree.{Forest, none, token, node, node_of}
 use Rattle.c99_tree.specs.declared.production.Label.{Label}
 use Rattle.c99_tree.specs.declared.production.Production.{Production}
@@ -11,9 +11,9 @@ use Rattle.c99_grammar.specs.declared.classes.Class.{Class}
 use Rattle.c99_grammar.specs.declared.classes.Class.TheVariants.{LeftBracket, LeftParen, RightParen, Star, Identifier, Comma, Ellipsis}
 use Rattle.c99_grammar.specs.Classes.{among, is_same}
 use Rattle.c99_grammar.specs.Items.{Item, one, part, end_of_text, act, ◌·◌, choice, maybe, many, deep, own, tok, name, Test, next_two, is, is_not, Alternative}
-use Rattle.c99_grammar.specs.Standard.{grammar}
+use Rattle.c99_grammar.specs.Standard.{iso}
 use Rattle.c99_grammar.specs.Starting.{production_starts}
-use Rattle.c99_grammar.proofs.StandardLemmas.{by_dialect}
+use Rattle.c99_grammar.proofs.StandardLemmas.{by_edition}
 use Rattle.c99_read.specs.Reading.{Goal, produce, repeat, deepest}
 use Rattle.c99_read.specs.State.{finished}
 use Rattle.c99_read.specs.Sound.{never_empty}
@@ -67,12 +67,12 @@ flat _ = true
 both_empty : (f h : Forest) → nodes_in f ≡ [] → nodes_in h ≡ [] → nodes_in (joined f h) ≡ []
 both_empty f h e e' = nodes-joined f h ∙ (ap (λ ns. ns ++ nodes_in h) e ∙ e')
 
-module _ (s : Dialect) (class_of : ℕ → Class) where
+module _ (s : Edition) (class_of : ℕ → Class) where
   abbrev reads : ℕ → ℕ → Goal → List ℕ → Option Taken
-  reads = read_by_classes (grammar s) class_of
+  reads = read_by_classes (iso s) class_of
 
   abbrev item_read : ℕ → ℕ → Item → List ℕ → Option Taken
-  item_read fuel = read_item (grammar s) class_of (reads fuel)
+  item_read fuel = read_item (iso s) class_of (reads fuel)
 
   abbrev Empty : Taken → Type 0
   Empty t = nodes_in t.read ≡ []
@@ -99,19 +99,19 @@ module _ (s : Dialect) (class_of : ℕ → Class) where
         empty_then (item_read fuel depth a xs) (item_read fuel depth b) t e (λ u f. flat_item a depth xs u both.0 f) (λ u v f. flat_item b depth u.left v both.1 f)
     flat_item (choice a b) depth xs t h e =
         let both = and_parts (flat a) (flat b) h in
-        branch {P = Empty t} (may_read (grammar s) class_of own a xs) (item_read fuel depth a xs) (if may_read (grammar s) class_of own b xs then item_read fuel depth b xs else None) t
+        branch {P = Empty t} (may_read (iso s) class_of own a xs) (item_read fuel depth a xs) (if may_read (iso s) class_of own b xs then item_read fuel depth b xs else None) t
         (λ c f. flat_item a depth xs t both.0 f)
         (λ c f.
-        branch {P = Empty t} (may_read (grammar s) class_of own b xs) (item_read fuel depth b xs) None t (λ d f'. flat_item b depth xs t both.1 f') (λ d f'. absurd (stopped t f')) f)
+        branch {P = Empty t} (may_read (iso s) class_of own b xs) (item_read fuel depth b xs) None t (λ d f'. flat_item b depth xs t both.1 f') (λ d f'. absurd (stopped t f')) f)
         e
     flat_item (maybe a) depth xs t h e =
-        branch {P = Empty t} (may_read (grammar s) class_of own a xs) (item_read fuel depth a xs) (Some (taken none xs)) t (λ c f. flat_item a depth xs t h f) (λ c f. empty_still xs t f) e
+        branch {P = Empty t} (may_read (iso s) class_of own a xs) (item_read fuel depth a xs) (Some (taken none xs)) t (λ c f. flat_item a depth xs t h f) (λ c f. empty_still xs t f) e
     flat_item (many q a) depth xs t h e =
-        branch {P = Empty t} (may_read (grammar s) class_of q a xs) (then_read (item_read fuel depth a xs) (reads fuel depth (repeat q a))) (Some (taken none xs)) t
+        branch {P = Empty t} (may_read (iso s) class_of q a xs) (then_read (item_read fuel depth a xs) (reads fuel depth (repeat q a))) (Some (taken none xs)) t
         (λ c f. empty_then (item_read fuel depth a xs) (reads fuel depth (repeat q a)) t f (λ u f'. flat_item a depth xs u h f') (λ u v f'. repeats depth q a u.left v h f'))
         (λ c f. empty_still xs t f) e
     flat_item (deep a) depth xs t h e =
-        branch {P = Empty t} (may_read (grammar s) class_of own a xs && nat_lt depth deepest) (item_read fuel (depth + 1) a xs) None t (λ c f. flat_item a (depth + 1) xs t h f)
+        branch {P = Empty t} (may_read (iso s) class_of own a xs && nat_lt depth deepest) (item_read fuel (depth + 1) a xs) None t (λ c f. flat_item a (depth + 1) xs t h f)
         (λ c f. absurd (stopped t f)) e
 
   flat_repeat : (fuel depth : ℕ) (q : Test) (a : Item) (xs : List ℕ) (t : Taken) → flat a ≡ true → reads fuel depth (repeat q a) xs ≡ Some t → Empty t
@@ -122,20 +122,20 @@ module _ (s : Dialect) (class_of : ℕ → Class) where
   -- ---- Items are nodes
 
   node_first : (below : ℕ → Goal → List ℕ → Option Taken) (p : Production) (alternatives : List Alternative) (depth n : ℕ) (xs : List ℕ) (t : Taken)
-      → read_first (grammar s) class_of below depth p n alternatives xs ≡ Some t → IsNode t.read
+      → read_first (iso s) class_of below depth p n alternatives xs ≡ Some t → IsNode t.read
   node_first below p [] depth n xs t e = absurd (stopped t e)
   node_first below p (a ∷ more) depth n xs t e =
-      branch {P = IsNode t.read} (may_read (grammar s) class_of a.test a.body xs) (as_child p n (read_item (grammar s) class_of below depth a.body xs))
-      (read_first (grammar s) class_of below depth p (n + 1) more xs) t
+      branch {P = IsNode t.read} (may_read (iso s) class_of a.test a.body xs) (as_child p n (read_item (iso s) class_of below depth a.body xs))
+      (read_first (iso s) class_of below depth p (n + 1) more xs) t
       (λ c f.
-      let m = inner_is p n (read_item (grammar s) class_of below depth a.body xs) t f in
+      let m = inner_is p n (read_item (iso s) class_of below depth a.body xs) t f in
       subst (λ (w : Taken). IsNode w.read) m.whole (finished p (node_of (labelled p n) 0 m.inside.read), refl))
       (λ c f. node_first below p more depth (n + 1) xs t f) e
 
   node_read : (fuel depth : ℕ) (p : Production) (xs : List ℕ) (t : Taken) → reads fuel depth (produce p) xs ≡ Some t → IsNode t.read
   unfolding read_by_classes
   node_read zero depth p xs t e = absurd (stopped t e)
-  node_read (suc fuel) depth p xs t e = node_first (reads fuel) p ((grammar s).table p) depth 1 xs t e
+  node_read (suc fuel) depth p xs t e = node_first (reads fuel) p ((iso s).table p) depth 1 xs t e
 
   -- ---- Lists of parameters
 
@@ -149,15 +149,15 @@ module _ (s : Dialect) (class_of : ℕ → Class) where
   no_case true f = absurd (f refl)
   no_case false f = refl
 
-  plain_not : (c d : Class) → among (LeftBracket ∷ LeftParen ∷ Star ∷ Identifier ∷ []) c ≡ true → production_starts (grammar s) Params c d ≡ true
+  plain_not : (c d : Class) → among (LeftBracket ∷ LeftParen ∷ Star ∷ Identifier ∷ []) c ≡ true → production_starts (iso s) Params c d ≡ true
       → among (Identifier ∷ []) c ≡ false → ⊥
-  plain_not LeftBracket d e h k = false≢true (by_dialect (λ r. false ≡ production_starts (grammar r) Params LeftBracket d) refl refl refl s ∙ h)
-  plain_not LeftParen d e h k = false≢true (by_dialect (λ r. false ≡ production_starts (grammar r) Params LeftParen d) refl refl refl s ∙ h)
-  plain_not Star d e h k = false≢true (by_dialect (λ r. false ≡ production_starts (grammar r) Params Star d) refl refl refl s ∙ h)
+  plain_not LeftBracket d e h k = false≢true (by_edition (λ r. false ≡ production_starts (iso r) Params LeftBracket d) refl refl s ∙ h)
+  plain_not LeftParen d e h k = false≢true (by_edition (λ r. false ≡ production_starts (iso r) Params LeftParen d) refl refl s ∙ h)
+  plain_not Star d e h k = false≢true (by_edition (λ r. false ≡ production_starts (iso r) Params Star d) refl refl s ∙ h)
   plain_not Identifier d e h k = false≢true (sym k)
   plain_not _ d e h k = false≢true e
 
-  plain_params : (c d : Class) → production_starts (grammar s) Params c d ≡ true → among (Identifier ∷ []) c ≡ false → Plain c
+  plain_params : (c d : Class) → production_starts (iso s) Params c d ≡ true → among (Identifier ∷ []) c ≡ false → Plain c
   plain_params c d h k = no_case (among (LeftBracket ∷ LeftParen ∷ Star ∷ Identifier ∷ []) c) (λ e. plain_not c d e h k)
 
   last_of : (a b c d : Bool) → (a || (b || (c || (d || false)))) ≡ false → (d || false) ≡ false
@@ -172,27 +172,27 @@ module _ (s : Dialect) (class_of : ℕ → Class) where
   -- which of the two lists was read
   pub data Made (xs : List ℕ) (t : Taken) : Type 0 where
     names : (f : Forest) → t.read ≡ a_list Params 1 f → nodes_in f ≡ [] → Made xs t
-    types : (f : Forest) → t.read ≡ a_list Params 2 f → Plain (here (grammar s) class_of xs) → Made xs t
+    types : (f : Forest) → t.read ≡ a_list Params 2 f → Plain (here (iso s) class_of xs) → Made xs t
 
   pub params_made : (fuel depth : ℕ) (xs : List ℕ) (t : Taken) → reads fuel depth (produce Params) xs ≡ Some t → Made xs t
   unfolding read_by_classes
   params_made zero depth xs t e = absurd (stopped t e)
   params_made (suc fuel) depth xs t e =
-      branch {P = Made xs t} (may_read (grammar s) class_of own listing xs) (as_child Params 1 (item_read fuel depth listing xs)) _ t
+      branch {P = Made xs t} (may_read (iso s) class_of own listing xs) (as_child Params 1 (item_read fuel depth listing xs)) _ t
       (λ c f.
       let m = inner_is Params 1 (item_read fuel depth listing xs) t f in
       names m.inside.read (ap (λ (w : Taken). w.read) (sym m.whole)) (flat_item fuel (flat_repeat fuel) listing depth xs m.inside refl m.reads))
       (λ c f.
-      branch {P = Made xs t} (may_read (grammar s) class_of own typing xs) (as_child Params 2 (item_read fuel depth typing xs)) None t
+      branch {P = Made xs t} (may_read (iso s) class_of own typing xs) (as_child Params 2 (item_read fuel depth typing xs)) None t
       (λ d f'.
       let m = inner_is Params 2 (item_read fuel depth typing xs) t f' in
       types m.inside.read (ap (λ (w : Taken). w.read) (sym m.whole))
-      (plain_params (here (grammar s) class_of xs) (behind (grammar s) class_of xs) (starts_so s class_of (suc fuel) depth Params xs t e) c))
+      (plain_params (here (iso s) class_of xs) (behind (iso s) class_of xs) (starts_so s class_of (suc fuel) depth Params xs t e) c))
       (λ d f'. absurd (stopped t f')) f)
       e
 
   -- a list that has types is no list of names
-  pub types_so : (xs : List ℕ) (t : Taken) (f : Forest) → Made xs t → t.read ≡ a_list Params 2 f → Plain (here (grammar s) class_of xs)
+  pub types_so : (xs : List ℕ) (t : Taken) (f : Forest) → Made xs t → t.read ≡ a_list Params 2 f → Plain (here (iso s) class_of xs)
   types_so xs t f (names h eq empty) e =
       absurd (let two : 2 ≡ 1 = ap (λ (k : Forest). (label_of (labelled Params 0) k).alternative) (sym e ∙ eq) in omega (arith, two))
   types_so xs t f (types h eq plain) e = plain
@@ -207,12 +207,12 @@ module _ (s : Dialect) (class_of : ℕ → Class) where
   tail_empty (node l first under rest) h = absurd h
 
   module _ (q : Production) (closes : ending q ≡ true) (never : never_empty q ≡ true) where
-    item_node : (fuel depth : ℕ) (f : Forest) (zs : List ℕ) → here (grammar s) class_of zs ≡ RightParen
-        → IsItem (grammar s) ending (tells s) class_of q closes never fuel depth f → IsNode f
+    item_node : (fuel depth : ℕ) (f : Forest) (zs : List ℕ) → here (iso s) class_of zs ≡ RightParen
+        → IsItem (iso s) ending (tells s) class_of q closes never fuel depth f → IsNode f
     item_node fuel depth f zs end item = node_read fuel depth q (tokens_of f ++ zs) (taken f zs) (item zs (inr end))
 
-    items_nodes : (fuel depth : ℕ) (more : Others) (zs : List ℕ) → here (grammar s) class_of zs ≡ RightParen
-        → AreItems (grammar s) ending (tells s) class_of q closes never fuel depth more → AllNodes more
+    items_nodes : (fuel depth : ℕ) (more : Others) (zs : List ℕ) → here (iso s) class_of zs ≡ RightParen
+        → AreItems (iso s) ending (tells s) class_of q closes never fuel depth more → AllNodes more
     items_nodes fuel depth [] zs end items = tt
     items_nodes fuel depth (x ∷ more) zs end items = (item_node fuel depth x.1 zs end items.0, items_nodes fuel depth more zs end items.1)
 
@@ -220,7 +220,7 @@ module _ (s : Dialect) (class_of : ℕ → Class) where
     -- a list is read with its items in the new order
     abbrev pub Ordered : Production → ℕ → Type 0
     Ordered q k =
-        (fuel depth : ℕ) (xs : List ℕ) (t : Taken) (f : Forest) → reads fuel depth (produce q) xs ≡ Some t → here (grammar s) class_of t.left ≡ RightParen → t.read ≡ a_list q k f
+        (fuel depth : ℕ) (xs : List ℕ) (t : Taken) (f : Forest) → reads fuel depth (produce q) xs ≡ Some t → here (iso s) class_of t.left ≡ RightParen → t.read ≡ a_list q k f
         → (length (nodes_in f) ≡ length order) ⊎ (length (nodes_in f) ≡ 0)
         → Sometime (λ n. reads n depth (produce q) (tokens_of (shuffled order f) ++ t.left)) (taken (a_list q k (shuffled order f)) t.left)
 
@@ -235,7 +235,7 @@ module _ (s : Dialect) (class_of : ℕ → Class) where
 
     pub args_ordered : Ordered Args 1
     args_ordered fuel depth xs t f e end eq full =
-        let found = args_found s class_of fuel depth xs t end (one_more (grammar s) class_of fuel depth (produce Args) xs t e) in
+        let found = args_found s class_of fuel depth xs t end (one_more (iso s) class_of fuel depth (produce Args) xs t e) in
         let first : Forest = found.0 in
         let more : Others = found.1.0 in
         let commas : AreCommas class_of more = found.1.1.1.0 in
@@ -249,11 +249,11 @@ module _ (s : Dialect) (class_of : ℕ → Class) where
         ordered_by Args 1 (suc (steps_more fuel w.others)) depth f (listed w.other w.others) t.left same
         (args_together s class_of fuel depth w.other w.others t.left again.0 again.1 w.commas end)
 
-    typed_ordered : (fuel depth : ℕ) (xs : List ℕ) (t : Taken) (f : Forest) → reads fuel depth (produce Params) xs ≡ Some t → here (grammar s) class_of t.left ≡ RightParen
-        → t.read ≡ a_list Params 2 f → Many f → Plain (here (grammar s) class_of xs)
+    typed_ordered : (fuel depth : ℕ) (xs : List ℕ) (t : Taken) (f : Forest) → reads fuel depth (produce Params) xs ≡ Some t → here (iso s) class_of t.left ≡ RightParen
+        → t.read ≡ a_list Params 2 f → Many f → Plain (here (iso s) class_of xs)
         → Sometime (λ n. reads n depth (produce Params) (tokens_of (shuffled order f) ++ t.left)) (taken (a_list Params 2 (shuffled order f)) t.left)
     typed_ordered fuel depth xs t f e end eq full plain =
-        let found = params_found s class_of fuel depth xs t end (not_listing (here (grammar s) class_of xs) plain) (one_more (grammar s) class_of fuel depth (produce Params) xs t e) in
+        let found = params_found s class_of fuel depth xs t end (not_listing (here (iso s) class_of xs) plain) (one_more (iso s) class_of fuel depth (produce Params) xs t e) in
         let first : Forest = found.0 in
         let more : Others = found.1.0 in
         let tail : Forest = found.1.1.0 in
@@ -272,6 +272,6 @@ module _ (s : Dialect) (class_of : ℕ → Class) where
     types_ordered fuel depth xs t f e end eq full = typed_ordered fuel depth xs t f e end eq full (types_so xs t f (params_made fuel depth xs t e) eq)
 
     -- the one list of arguments
-    pub args_made : (fuel depth : ℕ) (xs : List ℕ) (t : Taken) → here (grammar s) class_of t.left ≡ RightParen → reads fuel depth (produce Args) xs ≡ Some t → (f : Forest) × (t.read ≡ a_list Args 1 f)
+    pub args_made : (fuel depth : ℕ) (xs : List ℕ) (t : Taken) → here (iso s) class_of t.left ≡ RightParen → reads fuel depth (produce Args) xs ≡ Some t → (f : Forest) × (t.read ≡ a_list Args 1 f)
     args_made fuel depth xs t end e =
-        let found = args_found s class_of fuel depth xs t end (one_more (grammar s) class_of fuel depth (produce Args) xs t e) in (listed found.0 found.1.0, found.1.1.0)
+        let found = args_found s class_of fuel depth xs t end (one_more (iso s) class_of fuel depth (produce Args) xs t e) in (listed found.0 found.1.0, found.1.1.0)

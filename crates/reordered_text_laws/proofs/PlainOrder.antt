@@ -7,7 +7,7 @@ use Rattle.std.proofs.lemmas.Bool.{false≢true, and_parts, not-true}
 use Rattle.std.proofs.lemmas.List.{length-map}
 use Rattle.std.proofs.lemmas.List.Sorted.{length_permutation}
 use Rattle.std.proofs.lemmas.Option.{slice_get-map, slice_get_past, slice_get_cases, get_or_from_slice_get, unwrap_or-slice_get}
-use Rattle.c99_grammar.specs.declared.dialects.Dialect.{Dialect}
+use Rattle.c99_grammar.specs.declared.dialects.Edition.{Edition}
 use Rattle.cs_base.specs.declared.tokens.Kind.{Kind}
 use Rattle.cs_base.specs.declared.tokens.Kind.TheVariants.{Ident, Number, Char, Str, Punct, Header, Other}
 use Rattle.cs_base.specs.Token.{Token}
@@ -15,7 +15,7 @@ use Rattle.c99_tree.specs.Tree.{Node}
 use Rattle.c99_grammar.specs.declared.classes.Class.{Class}
 use Rattle.c99_grammar.specs.declared.classes.Class.TheVariants.{End, NoClass}
 use Rattle.c99_grammar.specs.Spellings.{Spelled, punctuators}
-use Rattle.c99_grammar.specs.Standard.{Grammar, grammar}
+use Rattle.c99_grammar.specs.Standard.{Grammar, iso}
 use Rattle.c99_grammar.specs.TokenClasses.{spelled_class, class_of_kind, base_class}
 use Rattle.c99_read.specs.State.{base_at, spelling_at, is_identifier}
 use Rattle.list_cuts.specs.Cuts.{Cut, IsOrder, arranged, AreOf}
@@ -106,7 +106,7 @@ class_plain : (g : Grammar) (t : Token) → base_class g t ≡ class_of_kind g (
 unfolding base_class
 class_plain g t = refl
 
-module _ (s : Dialect) (n : ℕ) (order : List ℕ) (lists : ℕ → Bool) (old new : List Token) (tree : Node) (is : IsOrder n order) (all : AreOf n (cut_in lists tree))
+module _ (s : Edition) (n : ℕ) (order : List ℕ) (lists : ℕ → Bool) (old new : List Token) (tree : Node) (is : IsOrder n order) (all : AreOf n (cut_in lists tree))
     (same : plains new ≡ arranged order (cut_in lists tree) (plains old)) where
   abbrev there : ℕ → ℕ
   there k = get_or (arranged order (cut_in lists tree) (numbers_from 0 (length old))) k k
@@ -121,7 +121,7 @@ module _ (s : Dialect) (n : ℕ) (order : List ℕ) (lists : ℕ → Bool) (old 
       ∙ (length_permutation (plains old) (arranged order (cut_in lists tree) (plains old)) (arranged_permutes n order (cut_in lists tree) (plains old) is all) ∙ length-plains old))
 
   abbrev Alike : ℕ → ℕ → Type 0
-  Alike k j = (base_at (grammar s) new k ≡ base_at (grammar s) old j) × (spelling_at new k ≡ spelling_at old j)
+  Alike k j = (base_at (iso s) new k ≡ base_at (iso s) old j) × (spelling_at new k ≡ spelling_at old j)
 
   alike_there : (k : ℕ) → Alike k (there k)
   alike_there k =
@@ -135,15 +135,15 @@ module _ (s : Dialect) (n : ℕ) (order : List ℕ) (lists : ℕ → Bool) (old 
           let t = plain_some new k h.0 (ap (λ xs. slice_get xs k) same ∙ h.1.0) in
           let u = plain_some old at h.0 h.1.1 in
           let is_same : plain_of t.0 ≡ plain_of u.0 = t.1.1 ∙ sym u.1.1 in (
-            base_some (grammar s) new k t.0 t.1.0
-                ∙ (class_plain (grammar s) t.0 ∙ (ap (λ (p : Kind × List ℕ). class_of_kind (grammar s) p.0 p.1) is_same ∙ (sym (class_plain (grammar s) u.0) ∙ sym (base_some (grammar s) old at u.0 u.1.0)))),
+            base_some (iso s) new k t.0 t.1.0
+                ∙ (class_plain (iso s) t.0 ∙ (ap (λ (p : Kind × List ℕ). class_of_kind (iso s) p.0 p.1) is_same ∙ (sym (class_plain (iso s) u.0) ∙ sym (base_some (iso s) old at u.0 u.1.0)))),
             spelled_some new k t.0 t.1.0 ∙ (ap (λ (p : Kind × List ℕ). p.1) is_same ∙ sym (spelled_some old at u.0 u.1.0)),
           )
       by (inr h) =
           let none_new : slice_get new k ≡ None = plain_none new k (ap (λ xs. slice_get xs k) same ∙ h.0) in
           let none_old : slice_get old k ≡ None = plain_none old k h.1.1 in
           subst (λ j. Alike k j) (sym h.1.0) (
-            base_none (grammar s) new k none_new ∙ (ap (λ m. if k == m then End else NoClass) long ∙ sym (base_none (grammar s) old k none_old)),
+            base_none (iso s) new k none_new ∙ (ap (λ m. if k == m then End else NoClass) long ∙ sym (base_none (iso s) old k none_old)),
             spelled_none new k none_new ∙ sym (spelled_none old k none_old),
           )
 
@@ -181,11 +181,11 @@ spelled_other (w ∷ words) text other all e =
     by false h k = k
 
 -- an identifier that is spelled as one has a first character
-named_text : (s : Dialect) (t : Token) → is_identifier (base_class (grammar s) t) ≡ true → fits t.kind t.text ≡ true → bytes_eq [] t.text ≡ false
+named_text : (s : Edition) (t : Token) → is_identifier (base_class (iso s) t) ≡ true → fits t.kind t.text ≡ true → bytes_eq [] t.text ≡ false
 unfolding base_class
 named_text s t = by t.kind t.text
   where
-    by : (k : Kind) (w : List ℕ) → is_identifier (class_of_kind (grammar s) k w) ≡ true → fits k w ≡ true → bytes_eq [] w ≡ false
+    by : (k : Kind) (w : List ℕ) → is_identifier (class_of_kind (iso s) k w) ≡ true → fits k w ≡ true → bytes_eq [] w ≡ false
     by k (c ∷ w) e h = refl
     by Ident [] e h = absurd (false≢true h)
     by Punct [] e h = absurd (not_both (is_identifier (spelled_class punctuators [] NoClass)) e (spelled_other punctuators [] NoClass refl refl))
@@ -197,6 +197,6 @@ named_text s t = by t.kind t.text
 
 pub spelled_texts : SpelledTextsHaveNames
 spelled_texts s toks all k e =
-    each_token toks k (λ f. absurd (not_both _ e (ap is_identifier (base_none (grammar s) toks k f) ∙ end_other (k == length toks))))
+    each_token toks k (λ f. absurd (not_both _ e (ap is_identifier (base_none (iso s) toks k f) ∙ end_other (k == length toks))))
     (λ t f. ap (bytes_eq []) (spelled_some toks k t f)
-    ∙ named_text s t (ap is_identifier (sym (base_some (grammar s) toks k t f)) ∙ e) (and_parts (fits t.kind t.text) _ (all_spelled toks k t f all)).0)
+    ∙ named_text s t (ap is_identifier (sym (base_some (iso s) toks k t f)) ∙ e) (and_parts (fits t.kind t.text) _ (all_spelled toks k t f all)).0)

@@ -4,13 +4,13 @@ use Rattle.std.specs.Prelude.{find}
 use Rattle.std.specs.Option.{option_map_or}
 use Rattle.std.specs.Str.{bytes_eq}
 use Rattle.std.proofs.lemmas.Slice.Eq.{bytes_eq-Decides}
-use Rattle.c99_grammar.specs.declared.dialects.Dialect.{Dialect}
+use Rattle.c99_grammar.specs.declared.dialects.Edition.{Edition}
 use Rattle.cs_base.specs.Token.{Token}
 use Rattle.c99_tree.specs.Tree.{Forest, none, token, node}
 use Rattle.c99_tree.specs.declared.production.Label.{Label}
 use Rattle.c99_tree.specs.declared.production.Production.{Production}
 use Rattle.c99_tree.specs.declared.production.Production.TheVariants.{TranslationUnit, Main, Params, Primary, Pdirect}
-use Rattle.c99_grammar.specs.Standard.{grammar}
+use Rattle.c99_grammar.specs.Standard.{iso}
 use Rattle.c99_grammar.specs.TokenClasses.{base_class}
 use Rattle.c99_read.specs.State.{base_at, spelling_at, is_identifier}
 use Rattle.c_types.specs.Trees.{is_at}
@@ -30,33 +30,33 @@ no_case : (b : Bool) → (b ≡ true → ⊥) → b ≡ false
 no_case true f = absurd (f refl)
 no_case false f = refl
 
-module _ (s : Dialect) (toks : List Token) where
+module _ (s : Edition) (toks : List Token) where
   -- other tokens are spelled by zeros where they had the empty word
   abbrev pub plain : List Token
   plain = reworded s (bytes_in toks) (λ k t. t) toks
 
   abbrev named : ℕ → Bool
-  named i = is_identifier (base_at (grammar s) toks i)
+  named i = is_identifier (base_at (iso s) toks i)
 
   pub length-plain : length plain ≡ length toks
   length-plain = length-reworded s (bytes_in toks) (λ k t. t) toks 0
 
-  pub plain_base : (k : ℕ) → base_at (grammar s) plain k ≡ base_at (grammar s) toks k
-  plain_base k = base_same s (bytes_in toks) (λ k t. t) toks (λ k t e. class_is (base_class (grammar s) t) e) k
+  pub plain_base : (k : ℕ) → base_at (iso s) plain k ≡ base_at (iso s) toks k
+  plain_base k = base_same s (bytes_in toks) (λ k t. t) toks (λ k t e. class_is (base_class (iso s) t) e) k
 
   abbrev plain_token : Token → Token
-  plain_token t = if is_identifier (base_class (grammar s) t) then t else (if bytes_eq [] t.text then record t { text = zeros (suc (bytes_in toks)) } else t)
+  plain_token t = if is_identifier (base_class (iso s) t) then t else (if bytes_eq [] t.text then record t { text = zeros (suc (bytes_in toks)) } else t)
 
   plain_some : (k : ℕ) (t : Token) → slice_get toks k ≡ Some t → spelling_at plain k ≡ (plain_token t).text
   plain_some k t e = spelled_some plain k (plain_token t) (got_some s (bytes_in toks) (λ k t. t) toks k t e)
 
-  name_at : (k : ℕ) (t : Token) → slice_get toks k ≡ Some t → named k ≡ is_identifier (base_class (grammar s) t)
-  name_at k t e = ap is_identifier (base_some (grammar s) toks k t e)
+  name_at : (k : ℕ) (t : Token) → slice_get toks k ≡ Some t → named k ≡ is_identifier (base_class (iso s) t)
+  name_at k t e = ap is_identifier (base_some (iso s) toks k t e)
 
   -- an identifier keeps its spelling
   name_spelled : (k : ℕ) → named k ≡ true → spelling_at plain k ≡ spelling_at toks k
   name_spelled k n =
-      each_token toks k (λ e. absurd (not_both _ n (ap is_identifier (base_none (grammar s) toks k e) ∙ end_other (k == length toks))))
+      each_token toks k (λ e. absurd (not_both _ n (ap is_identifier (base_none (iso s) toks k e) ∙ end_other (k == length toks))))
       (λ t e. plain_some k t e
       ∙ (ap (λ b. (if b then t else (if bytes_eq [] t.text then record t { text = zeros (suc (bytes_in toks)) } else t)).text) (sym (name_at k t e) ∙ n)
       ∙ sym (spelled_some toks k t e)))
@@ -65,7 +65,7 @@ module _ (s : Dialect) (toks : List Token) where
     pub plain_full : (k : ℕ) → k < length toks → used plain k ≡ false
     plain_full k lt =
         each_token toks k (λ e. absurd (none_behind toks k e lt))
-        (λ t e. ap (bytes_eq []) (plain_some k t e) ∙ by t (is_identifier (base_class (grammar s) t)) (λ n. ap (bytes_eq []) (sym (spelled_some toks k t e)) ∙ full k (name_at k t e ∙ n)))
+        (λ t e. ap (bytes_eq []) (plain_some k t e) ∙ by t (is_identifier (base_class (iso s) t)) (λ n. ap (bytes_eq []) (sym (spelled_some toks k t e)) ∙ full k (name_at k t e ∙ n)))
       where
         by : (t : Token) (c : Bool) → (c ≡ true → bytes_eq [] t.text ≡ false)
             → bytes_eq [] (if c then t else (if bytes_eq [] t.text then record t { text = zeros (suc (bytes_in toks)) } else t)).text ≡ false
@@ -78,7 +78,7 @@ module _ (s : Dialect) (toks : List Token) where
         ap (λ w. bytes_eq w (spelling_at plain j)) (name_spelled i n)
         ∙ each_token toks j (λ e. ap (bytes_eq (spelling_at toks i)) (spelled_none plain j (got_none s (bytes_in toks) (λ k t. t) toks j e) ∙ sym (spelled_none toks j e)))
         (λ t e. ap (bytes_eq (spelling_at toks i)) (plain_some j t e)
-        ∙ (by t (is_identifier (base_class (grammar s) t)) (bytes_eq [] t.text) refl ∙ ap (bytes_eq (spelling_at toks i)) (sym (spelled_some toks j t e))))
+        ∙ (by t (is_identifier (base_class (iso s) t)) (bytes_eq [] t.text) refl ∙ ap (bytes_eq (spelling_at toks i)) (sym (spelled_some toks j t e))))
       where
         few : length (spelling_at toks i) ≤ bytes_in toks
         few =

@@ -6,17 +6,17 @@ use Rattle.std.specs.Str.{bytes_eq}
 use Rattle.std.proofs.lemmas.Bool.{false≢true}
 use Rattle.std.proofs.lemmas.Option.{slice_get_within}
 use Rattle.std.proofs.lemmas.Slice.Eq.{bytes_eq-Decides}
-use Rattle.c99_grammar.specs.declared.dialects.Dialect.{Dialect}
+use Rattle.c99_grammar.specs.declared.dialects.Edition.{Edition}
 use Rattle.cs_base.specs.Token.{Token}
 use Rattle.cs_base.specs.declared.tokens.Kind.{Kind}
 use Rattle.cs_base.specs.declared.tokens.Kind.TheVariants.{Ident, Punct}
 use Rattle.c99_grammar.specs.declared.classes.Class.{Class}
 use Rattle.c99_grammar.specs.declared.classes.Class.TheVariants.{Identifier, TypedefName, End, NoClass}
 use Rattle.c99_grammar.specs.Spellings.{Spelled}
-use Rattle.c99_grammar.specs.Standard.{Grammar, grammar}
+use Rattle.c99_grammar.specs.Standard.{Grammar, iso}
 use Rattle.c99_grammar.specs.TokenClasses.{spelled_class, class_of_kind, base_class}
 use Rattle.c99_read.specs.State.{base_at, spelling_at, is_identifier}
-use Rattle.c99_grammar.proofs.StandardLemmas.{by_dialect}
+use Rattle.c99_grammar.proofs.StandardLemmas.{by_edition}
 use Rattle.reordered_text_laws.specs.Alone.{AreAlone}
 use Rattle.reordered_text_laws.specs.Fronted.{used, Fits}
 use Rattle.reordered_text_laws.specs.InOrder.{with_words}
@@ -52,12 +52,12 @@ bytes_of (x ∷ toks) (suc k) t e = (let few : length t.text ≤ bytes_in toks =
 -- ---- Texts
 
 -- what stands for an identifier is given, with its number; another token that is spelled by the empty word gets one of zeros
-module _ (s : Dialect) (m : ℕ) (word : ℕ → Token → Token) where
+module _ (s : Edition) (m : ℕ) (word : ℕ → Token → Token) where
   abbrev pub with_text : List ℕ → Token → Token
   with_text w t = record t { text = w }
 
   abbrev pub reworded_token : ℕ → Token → Token
-  reworded_token k t = if is_identifier (base_class (grammar s) t) then word k t else (if bytes_eq [] t.text then with_text (zeros (suc m)) t else t)
+  reworded_token k t = if is_identifier (base_class (iso s) t) then word k t else (if bytes_eq [] t.text then with_text (zeros (suc m)) t else t)
 
   abbrev pub reworded_from : ℕ → List Token → List Token
   reworded_from j [] = []
@@ -100,41 +100,41 @@ if_so c x y e = ap (λ b. if b then x else y) e
 if_not : {A : Type 0} (c : Bool) (x y : A) → c ≡ false → (if c then x else y) ≡ y
 if_not c x y e = ap (λ b. if b then x else y) e
 
-empty_name : (s : Dialect) → spelled_class (grammar s).keywords [] Identifier ≡ Identifier
+empty_name : (s : Edition) → spelled_class (iso s).keywords [] Identifier ≡ Identifier
 unfolding spelled_class
-empty_name s = by_dialect (λ s. spelled_class (grammar s).keywords [] Identifier ≡ Identifier) refl refl refl s
+empty_name s = by_edition (λ s. spelled_class (iso s).keywords [] Identifier ≡ Identifier) refl refl s
 
-zero_name : (s : Dialect) (w : List ℕ) → spelled_class (grammar s).keywords (0 ∷ w) Identifier ≡ Identifier
+zero_name : (s : Edition) (w : List ℕ) → spelled_class (iso s).keywords (0 ∷ w) Identifier ≡ Identifier
 unfolding spelled_class
-zero_name s w = by_dialect (λ s. spelled_class (grammar s).keywords (0 ∷ w) Identifier ≡ Identifier) refl refl refl s
+zero_name s w = by_edition (λ s. spelled_class (iso s).keywords (0 ∷ w) Identifier ≡ Identifier) refl refl s
 
-module _ (s : Dialect) where
+module _ (s : Edition) where
   -- a token that is no identifier has its class with zeros too, where it had the empty word
-  zeros_class : (k : Kind) (w : List ℕ) → is_identifier (class_of_kind (grammar s) k []) ≡ false → class_of_kind (grammar s) k (0 ∷ w) ≡ class_of_kind (grammar s) k []
+  zeros_class : (k : Kind) (w : List ℕ) → is_identifier (class_of_kind (iso s) k []) ≡ false → class_of_kind (iso s) k (0 ∷ w) ≡ class_of_kind (iso s) k []
   unfolding spelled_class
   zeros_class Ident w e = absurd (not_both _ (ap is_identifier (empty_name s)) e)
   zeros_class Punct w e = refl
   zeros_class _ w e = refl
 
-  other_class : (m : ℕ) (t : Token) → is_identifier (base_class (grammar s) t) ≡ false
-      → base_class (grammar s) (if bytes_eq [] t.text then record t { text = zeros (suc m) } else t) ≡ base_class (grammar s) t
+  other_class : (m : ℕ) (t : Token) → is_identifier (base_class (iso s) t) ≡ false
+      → base_class (iso s) (if bytes_eq [] t.text then record t { text = zeros (suc m) } else t) ≡ base_class (iso s) t
   unfolding base_class
   other_class m t e = by (bytes_eq [] t.text) refl
     where
       by : (b : Bool) → bytes_eq [] t.text ≡ b
-          → class_of_kind (grammar s) (if b then record t { text = zeros (suc m) } else t).kind (if b then record t { text = zeros (suc m) } else t).text ≡ class_of_kind (grammar s) t.kind t.text
+          → class_of_kind (iso s) (if b then record t { text = zeros (suc m) } else t).kind (if b then record t { text = zeros (suc m) } else t).text ≡ class_of_kind (iso s) t.kind t.text
       by true f =
           let none : t.text ≡ [] = sym ((bytes_eq-Decides [] t.text).0 f) in
-          zeros_class t.kind (zeros m) (ap (λ w. is_identifier (class_of_kind (grammar s) t.kind w)) (sym none) ∙ e) ∙ ap (class_of_kind (grammar s) t.kind) (sym none)
+          zeros_class t.kind (zeros m) (ap (λ w. is_identifier (class_of_kind (iso s) t.kind w)) (sym none) ∙ e) ∙ ap (class_of_kind (iso s) t.kind) (sym none)
       by false f = refl
 
-  token_class : (m : ℕ) (word : ℕ → Token → Token) → ((k : ℕ) (t : Token) → is_identifier (base_class (grammar s) t) ≡ true → base_class (grammar s) (word k t) ≡ Identifier)
-      → (k : ℕ) (t : Token) → base_class (grammar s) (reworded_token s m word k t) ≡ base_class (grammar s) t
-  token_class m word words k t = by (is_identifier (base_class (grammar s) t)) refl
+  token_class : (m : ℕ) (word : ℕ → Token → Token) → ((k : ℕ) (t : Token) → is_identifier (base_class (iso s) t) ≡ true → base_class (iso s) (word k t) ≡ Identifier)
+      → (k : ℕ) (t : Token) → base_class (iso s) (reworded_token s m word k t) ≡ base_class (iso s) t
+  token_class m word words k t = by (is_identifier (base_class (iso s) t)) refl
     where
-      by : (c : Bool) → is_identifier (base_class (grammar s) t) ≡ c
-          → base_class (grammar s) (if c then word k t else (if bytes_eq [] t.text then record t { text = zeros (suc m) } else t)) ≡ base_class (grammar s) t
-      by true e = words k t e ∙ sym (class_is (base_class (grammar s) t) e)
+      by : (c : Bool) → is_identifier (base_class (iso s) t) ≡ c
+          → base_class (iso s) (if c then word k t else (if bytes_eq [] t.text then record t { text = zeros (suc m) } else t)) ≡ base_class (iso s) t
+      by true e = words k t e ∙ sym (class_is (base_class (iso s) t) e)
       by false e = other_class m t e
 
 -- a token of the text, or none
@@ -150,7 +150,7 @@ none_behind [] k e lt = omega (arith, lt)
 none_behind (t ∷ toks) zero e lt = false≢true (sym (ap (λ o. option_map_or (λ (x : Token). true) o false) e))
 none_behind (t ∷ toks) (suc k) e lt = none_behind toks k e (omega (arith, lt))
 
-module _ (s : Dialect) (m : ℕ) (word : ℕ → Token → Token) (toks : List Token) where
+module _ (s : Edition) (m : ℕ) (word : ℕ → Token → Token) (toks : List Token) where
   abbrev pub reworded : List Token
   reworded = reworded_from s m word 0 toks
 
@@ -163,12 +163,12 @@ module _ (s : Dialect) (m : ℕ) (word : ℕ → Token → Token) (toks : List T
   pub got_none : (k : ℕ) → slice_get toks k ≡ None → slice_get reworded k ≡ None
   got_none k e = got k ∙ ap (option_map (reworded_token s m word k)) e
 
-  pub base_same : ((k : ℕ) (t : Token) → is_identifier (base_class (grammar s) t) ≡ true → base_class (grammar s) (word k t) ≡ Identifier)
-      → (k : ℕ) → base_at (grammar s) reworded k ≡ base_at (grammar s) toks k
+  pub base_same : ((k : ℕ) (t : Token) → is_identifier (base_class (iso s) t) ≡ true → base_class (iso s) (word k t) ≡ Identifier)
+      → (k : ℕ) → base_at (iso s) reworded k ≡ base_at (iso s) toks k
   base_same words k =
       each_token toks k
-      (λ e. base_none (grammar s) reworded k (got_none k e) ∙ (ap (λ n. if k == n then End else NoClass) (length-reworded s m word toks 0) ∙ sym (base_none (grammar s) toks k e)))
-      (λ t e. base_some (grammar s) reworded k (reworded_token s m word k t) (got_some k t e) ∙ (token_class s m word words k t ∙ sym (base_some (grammar s) toks k t e)))
+      (λ e. base_none (iso s) reworded k (got_none k e) ∙ (ap (λ n. if k == n then End else NoClass) (length-reworded s m word toks 0) ∙ sym (base_none (iso s) toks k e)))
+      (λ t e. base_some (iso s) reworded k (reworded_token s m word k t) (got_some k t e) ∙ (token_class s m word words k t ∙ sym (base_some (iso s) toks k t e)))
 
 pub filled_text : (m : ℕ) (t : Token) → bytes_eq [] (if bytes_eq [] t.text then record t { text = zeros (suc m) } else t).text ≡ false
 filled_text m t = by (bytes_eq [] t.text) refl
@@ -180,15 +180,15 @@ filled_text m t = by (bytes_eq [] t.text) refl
 -- ---- A word for each identifier
 
 -- the grammar in which the empty word is a typedef name
-abbrev pub typed_words : Dialect → List Spelled
-typed_words s = ([], TypedefName) ∷ (grammar s).keywords
+abbrev pub typed_words : Edition → List Spelled
+typed_words s = ([], TypedefName) ∷ (iso s).keywords
 
-module _ (s : Dialect) (q : ℕ → Bool) (toks : List Token) where
+module _ (s : Edition) (q : ℕ → Bool) (toks : List Token) where
   abbrev g : Grammar
-  g = grammar s
+  g = iso s
 
   abbrev h : Grammar
-  h = with_words (typed_words s) (grammar s)
+  h = with_words (typed_words s) (iso s)
 
   abbrev m : ℕ
   m = bytes_in toks
@@ -207,7 +207,7 @@ module _ (s : Dialect) (q : ℕ → Bool) (toks : List Token) where
   unfolding base_class
   own_class k t e = by (q k)
     where
-      by : (c : Bool) → spelled_class (grammar s).keywords (if c then [] else zeros (suc (m + suc k))) Identifier ≡ Identifier
+      by : (c : Bool) → spelled_class (iso s).keywords (if c then [] else zeros (suc (m + suc k))) Identifier ≡ Identifier
       by true = empty_name s
       by false = zero_name s (zeros (m + suc k))
 
@@ -219,7 +219,7 @@ module _ (s : Dialect) (q : ℕ → Bool) (toks : List Token) where
   full_class t e = by t.kind
     where
       by : (k : Kind) → class_of_kind h k t.text ≡ class_of_kind g k t.text
-      by Ident = if_not (bytes_eq t.text []) TypedefName (spelled_class (grammar s).keywords t.text Identifier) (other_way t.text e)
+      by Ident = if_not (bytes_eq t.text []) TypedefName (spelled_class (iso s).keywords t.text Identifier) (other_way t.text e)
       by _ = refl
 
   abbrev as_typed : Bool → Class → Class

@@ -1,11 +1,11 @@
 -- Worked rows: texts as the classes of their tokens, read in two orders.
 use Rattle.std.proofs.Common.{ℕ, ◌≡◌, ◌||◌, Bool, false, ◌==◌, List, [], ◌∷◌, length, get_or, Option, None, Some, refl}
-use Rattle.c99_grammar.specs.declared.dialects.Dialect.TheVariants.{C99}
+use Rattle.c99_grammar.specs.declared.dialects.Edition.TheVariants.{C99}
 use Rattle.c99_tree.specs.Tree.{Forest, none}
 use Rattle.c99_tree.specs.declared.production.Production.TheVariants.{TranslationUnit}
 use Rattle.c99_grammar.specs.declared.classes.Class.{Class}
 use Rattle.c99_grammar.specs.declared.classes.Class.TheVariants.{Typedef, Int, Return, LeftParen, RightParen, LeftBrace, RightBrace, Star, Comma, Semicolon, Identifier, Constant, NoClass}
-use Rattle.c99_grammar.specs.Standard.{grammar}
+use Rattle.c99_grammar.specs.Standard.{iso}
 use Rattle.c99_read.specs.Reading.{produce}
 use Rattle.list_cuts.specs.Cuts.{done, arranged, items_of, woven, gaps_of, span_of}
 use Rattle.reordered_tree_laws.specs.Reordered.{permuted}
@@ -13,7 +13,7 @@ use Rattle.reordered_tree_laws.specs.Cuts.{cut_then}
 use Rattle.reordered_text_laws.specs.ByClasses.{numbers_from, Taken, taken, read_by_classes}
 
 abbrev reading : List Class → List ℕ → Option Taken
-reading text xs = read_by_classes (grammar C99) (λ k. get_or text k NoClass) 64 0 (produce TranslationUnit) xs
+reading text xs = read_by_classes (iso C99) (λ k. get_or text k NoClass) 64 0 (produce TranslationUnit) xs
 
 abbrev read_so : Option Taken → Forest
 read_so (Some t) = t.read

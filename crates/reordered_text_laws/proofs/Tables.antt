@@ -1,13 +1,13 @@
--- In the table of each dialect items of lists end before a comma and before the parenthesis that ends the list alike.
+-- In the table of each edition items of lists end before a comma and before the parenthesis that ends the list alike.
 use Rattle.std.proofs.Common.{◌≡◌, Bool, true, false, refl}
 use Rattle.std.specs.List.{list_all}
 use Rattle.std.proofs.lemmas.Bool.{false≢true}
-use Rattle.c99_grammar.specs.declared.dialects.Dialect.{Dialect}
+use Rattle.c99_grammar.specs.declared.dialects.Edition.{Edition}
 use Rattle.c99_tree.specs.declared.production.Production.{Production}
-use Rattle.c99_tree.specs.declared.production.Production.TheVariants.{TranslationUnit, External, ExtRest, ExtTail, FunBody, Declaration, DeclRest, InitDecl, Sassert, Specs, Main, Mod, Qual, Word, StructSpec, SuRest, Members, Member, MemRest, Mdecl, EnumSpec, EnRest, Enumerators, Enumerator, Declarator, Pointer, Direct, Suffix, Bound, Params, Param, Pdecl, Pdirect, TypeName, Adecl, Adirect, Init, InitList, InitItem, Designator, Expr, Assign, Asgop, Cond, Lor, Land, Bor, Bxor, Band, Equal, Relate, Shift, Add, Mul, Cast, CastRest, Unary, SizeRest, SizeLit, Primary, Post, Args, Block, BlockItem, Statement, Sub, ForInit}
-use Rattle.c99_grammar.specs.Standard.{grammar}
-use Rattle.c99_grammar.proofs.StandardLemmas.{by_dialect}
-use Rattle.c99_read.proofs.C99Sound.{grammar-sound}
+use Rattle.c99_tree.specs.declared.production.Production.TheVariants.{TranslationUnit, External, ExtRest, ExtTail, FunBody, Declaration, DeclRest, InitDecl, Sassert, Specs, Main, Mod, Qual, Word, StructSpec, SuRest, Members, Member, MemRest, Mdecl, EnumSpec, EnRest, Enumerators, Enumerator, Declarator, Pointer, Direct, Suffix, Bound, Params, Param, Pdecl, Pdirect, TypeName, Adecl, Adirect, Init, InitList, InitItem, Designator, Expr, Assign, Asgop, Cond, Lor, Land, Bor, Bxor, Band, Equal, Relate, Shift, Add, Mul, Cast, CastRest, Unary, SizeRest, SizeLit, Primary, Post, Args, Block, BlockItem, Statement, Sub, ForInit, AutoDecl, Attr, AttrItem, AttrWord, AsmName, Operand, Association, MemberPath, AsmPart, AsmOperand}
+use Rattle.c99_grammar.specs.Standard.{iso}
+use Rattle.c99_grammar.proofs.StandardLemmas.{by_edition}
+use Rattle.c99_read.proofs.C99Sound.{iso-sound}
 use Rattle.c99_read.specs.Sound.{never_empty}
 use Rattle.reordered_text_laws.proofs.Stops.{alternative_alike, closes}
 use Rattle.reordered_text_laws.proofs.Local.{Tells}
@@ -49,27 +49,27 @@ ending Pointer = true
 ending Suffix = true
 ending _ = false
 
-module _ (std : Dialect) where
-  alike : (p : Production) → never_empty p ≡ true → list_all (alternative_alike (grammar std)) ((grammar std).table p) ≡ true
+module _ (std : Edition) where
+  alike : (p : Production) → never_empty p ≡ true → list_all (alternative_alike (iso std)) ((iso std).table p) ≡ true
   alike TranslationUnit e = absurd (false≢true e)
-  alike External e = by_dialect (λ s. list_all (alternative_alike (grammar s)) ((grammar s).table External) ≡ true) refl refl refl std
+  alike External e = by_edition (λ s. list_all (alternative_alike (iso s)) ((iso s).table External) ≡ true) refl refl std
   alike ExtRest e = refl
   alike ExtTail e = refl
   alike FunBody e = refl
-  alike Declaration e = by_dialect (λ s. list_all (alternative_alike (grammar s)) ((grammar s).table Declaration) ≡ true) refl refl refl std
+  alike Declaration e = by_edition (λ s. list_all (alternative_alike (iso s)) ((iso s).table Declaration) ≡ true) refl refl std
   alike DeclRest e = refl
   alike InitDecl e = refl
-  alike Sassert e = by_dialect (λ s. list_all (alternative_alike (grammar s)) ((grammar s).table Sassert) ≡ true) refl refl refl std
+  alike Sassert e = by_edition (λ s. list_all (alternative_alike (iso s)) ((iso s).table Sassert) ≡ true) refl refl std
   alike Specs e = refl
   alike Main e = refl
-  alike Mod e = by_dialect (λ s. list_all (alternative_alike (grammar s)) ((grammar s).table Mod) ≡ true) refl refl refl std
+  alike Mod e = by_edition (λ s. list_all (alternative_alike (iso s)) ((iso s).table Mod) ≡ true) refl refl std
   alike Qual e = refl
   alike Word e = refl
   alike StructSpec e = refl
   alike SuRest e = refl
   alike Members e = refl
-  alike Member e = by_dialect (λ s. list_all (alternative_alike (grammar s)) ((grammar s).table Member) ≡ true) refl refl refl std
-  alike MemRest e = by_dialect (λ s. list_all (alternative_alike (grammar s)) ((grammar s).table MemRest) ≡ true) refl refl refl std
+  alike Member e = by_edition (λ s. list_all (alternative_alike (iso s)) ((iso s).table Member) ≡ true) refl refl std
+  alike MemRest e = by_edition (λ s. list_all (alternative_alike (iso s)) ((iso s).table MemRest) ≡ true) refl refl std
   alike Mdecl e = refl
   alike EnumSpec e = refl
   alike EnRest e = refl
@@ -105,10 +105,10 @@ module _ (std : Dialect) where
   alike Shift e = refl
   alike Add e = refl
   alike Mul e = refl
-  alike Cast e = by_dialect (λ s. list_all (alternative_alike (grammar s)) ((grammar s).table Cast) ≡ true) refl refl refl std
+  alike Cast e = by_edition (λ s. list_all (alternative_alike (iso s)) ((iso s).table Cast) ≡ true) refl refl std
   alike CastRest e = refl
   alike Unary e = refl
-  alike SizeRest e = by_dialect (λ s. list_all (alternative_alike (grammar s)) ((grammar s).table SizeRest) ≡ true) refl refl refl std
+  alike SizeRest e = by_edition (λ s. list_all (alternative_alike (iso s)) ((iso s).table SizeRest) ≡ true) refl refl std
   alike SizeLit e = refl
   alike Primary e = refl
   alike Post e = refl
@@ -118,42 +118,52 @@ module _ (std : Dialect) where
   alike Statement e = refl
   alike Sub e = refl
   alike ForInit e = refl
+  alike AutoDecl e = refl
+  alike Attr e = refl
+  alike AttrItem e = refl
+  alike AttrWord e = refl
+  alike AsmName e = refl
+  alike Operand e = refl
+  alike Association e = refl
+  alike MemberPath e = refl
+  alike AsmPart e = refl
+  alike AsmOperand e = refl
 
-  closing : (p : Production) → ending p ≡ true → list_all (λ a. closes (grammar std) ending a.body) ((grammar std).table p) ≡ true
-  closing Specs e = by_dialect (λ s. list_all (λ a. closes (grammar s) ending a.body) ((grammar s).table Specs) ≡ true) refl refl refl std
-  closing Main e = by_dialect (λ s. list_all (λ a. closes (grammar s) ending a.body) ((grammar s).table Main) ≡ true) refl refl refl std
-  closing Mod e = by_dialect (λ s. list_all (λ a. closes (grammar s) ending a.body) ((grammar s).table Mod) ≡ true) refl refl refl std
-  closing Qual e = by_dialect (λ s. list_all (λ a. closes (grammar s) ending a.body) ((grammar s).table Qual) ≡ true) refl refl refl std
-  closing Word e = by_dialect (λ s. list_all (λ a. closes (grammar s) ending a.body) ((grammar s).table Word) ≡ true) refl refl refl std
-  closing StructSpec e = by_dialect (λ s. list_all (λ a. closes (grammar s) ending a.body) ((grammar s).table StructSpec) ≡ true) refl refl refl std
-  closing SuRest e = by_dialect (λ s. list_all (λ a. closes (grammar s) ending a.body) ((grammar s).table SuRest) ≡ true) refl refl refl std
-  closing EnumSpec e = by_dialect (λ s. list_all (λ a. closes (grammar s) ending a.body) ((grammar s).table EnumSpec) ≡ true) refl refl refl std
-  closing EnRest e = by_dialect (λ s. list_all (λ a. closes (grammar s) ending a.body) ((grammar s).table EnRest) ≡ true) refl refl refl std
-  closing Pointer e = by_dialect (λ s. list_all (λ a. closes (grammar s) ending a.body) ((grammar s).table Pointer) ≡ true) refl refl refl std
-  closing Suffix e = by_dialect (λ s. list_all (λ a. closes (grammar s) ending a.body) ((grammar s).table Suffix) ≡ true) refl refl refl std
-  closing Param e = by_dialect (λ s. list_all (λ a. closes (grammar s) ending a.body) ((grammar s).table Param) ≡ true) refl refl refl std
-  closing Pdecl e = by_dialect (λ s. list_all (λ a. closes (grammar s) ending a.body) ((grammar s).table Pdecl) ≡ true) refl refl refl std
-  closing Pdirect e = by_dialect (λ s. list_all (λ a. closes (grammar s) ending a.body) ((grammar s).table Pdirect) ≡ true) refl refl refl std
-  closing Assign e = by_dialect (λ s. list_all (λ a. closes (grammar s) ending a.body) ((grammar s).table Assign) ≡ true) refl refl refl std
-  closing Cond e = by_dialect (λ s. list_all (λ a. closes (grammar s) ending a.body) ((grammar s).table Cond) ≡ true) refl refl refl std
-  closing Lor e = by_dialect (λ s. list_all (λ a. closes (grammar s) ending a.body) ((grammar s).table Lor) ≡ true) refl refl refl std
-  closing Land e = by_dialect (λ s. list_all (λ a. closes (grammar s) ending a.body) ((grammar s).table Land) ≡ true) refl refl refl std
-  closing Bor e = by_dialect (λ s. list_all (λ a. closes (grammar s) ending a.body) ((grammar s).table Bor) ≡ true) refl refl refl std
-  closing Bxor e = by_dialect (λ s. list_all (λ a. closes (grammar s) ending a.body) ((grammar s).table Bxor) ≡ true) refl refl refl std
-  closing Band e = by_dialect (λ s. list_all (λ a. closes (grammar s) ending a.body) ((grammar s).table Band) ≡ true) refl refl refl std
-  closing Equal e = by_dialect (λ s. list_all (λ a. closes (grammar s) ending a.body) ((grammar s).table Equal) ≡ true) refl refl refl std
-  closing Relate e = by_dialect (λ s. list_all (λ a. closes (grammar s) ending a.body) ((grammar s).table Relate) ≡ true) refl refl refl std
-  closing Shift e = by_dialect (λ s. list_all (λ a. closes (grammar s) ending a.body) ((grammar s).table Shift) ≡ true) refl refl refl std
-  closing Add e = by_dialect (λ s. list_all (λ a. closes (grammar s) ending a.body) ((grammar s).table Add) ≡ true) refl refl refl std
-  closing Mul e = by_dialect (λ s. list_all (λ a. closes (grammar s) ending a.body) ((grammar s).table Mul) ≡ true) refl refl refl std
-  closing Cast e = by_dialect (λ s. list_all (λ a. closes (grammar s) ending a.body) ((grammar s).table Cast) ≡ true) refl refl refl std
-  closing CastRest e = by_dialect (λ s. list_all (λ a. closes (grammar s) ending a.body) ((grammar s).table CastRest) ≡ true) refl refl refl std
-  closing Unary e = by_dialect (λ s. list_all (λ a. closes (grammar s) ending a.body) ((grammar s).table Unary) ≡ true) refl refl refl std
-  closing SizeRest e = by_dialect (λ s. list_all (λ a. closes (grammar s) ending a.body) ((grammar s).table SizeRest) ≡ true) refl refl refl std
-  closing SizeLit e = by_dialect (λ s. list_all (λ a. closes (grammar s) ending a.body) ((grammar s).table SizeLit) ≡ true) refl refl refl std
-  closing Primary e = by_dialect (λ s. list_all (λ a. closes (grammar s) ending a.body) ((grammar s).table Primary) ≡ true) refl refl refl std
-  closing Post e = by_dialect (λ s. list_all (λ a. closes (grammar s) ending a.body) ((grammar s).table Post) ≡ true) refl refl refl std
+  closing : (p : Production) → ending p ≡ true → list_all (λ a. closes (iso std) ending a.body) ((iso std).table p) ≡ true
+  closing Specs e = by_edition (λ s. list_all (λ a. closes (iso s) ending a.body) ((iso s).table Specs) ≡ true) refl refl std
+  closing Main e = by_edition (λ s. list_all (λ a. closes (iso s) ending a.body) ((iso s).table Main) ≡ true) refl refl std
+  closing Mod e = by_edition (λ s. list_all (λ a. closes (iso s) ending a.body) ((iso s).table Mod) ≡ true) refl refl std
+  closing Qual e = by_edition (λ s. list_all (λ a. closes (iso s) ending a.body) ((iso s).table Qual) ≡ true) refl refl std
+  closing Word e = by_edition (λ s. list_all (λ a. closes (iso s) ending a.body) ((iso s).table Word) ≡ true) refl refl std
+  closing StructSpec e = by_edition (λ s. list_all (λ a. closes (iso s) ending a.body) ((iso s).table StructSpec) ≡ true) refl refl std
+  closing SuRest e = by_edition (λ s. list_all (λ a. closes (iso s) ending a.body) ((iso s).table SuRest) ≡ true) refl refl std
+  closing EnumSpec e = by_edition (λ s. list_all (λ a. closes (iso s) ending a.body) ((iso s).table EnumSpec) ≡ true) refl refl std
+  closing EnRest e = by_edition (λ s. list_all (λ a. closes (iso s) ending a.body) ((iso s).table EnRest) ≡ true) refl refl std
+  closing Pointer e = by_edition (λ s. list_all (λ a. closes (iso s) ending a.body) ((iso s).table Pointer) ≡ true) refl refl std
+  closing Suffix e = by_edition (λ s. list_all (λ a. closes (iso s) ending a.body) ((iso s).table Suffix) ≡ true) refl refl std
+  closing Param e = by_edition (λ s. list_all (λ a. closes (iso s) ending a.body) ((iso s).table Param) ≡ true) refl refl std
+  closing Pdecl e = by_edition (λ s. list_all (λ a. closes (iso s) ending a.body) ((iso s).table Pdecl) ≡ true) refl refl std
+  closing Pdirect e = by_edition (λ s. list_all (λ a. closes (iso s) ending a.body) ((iso s).table Pdirect) ≡ true) refl refl std
+  closing Assign e = by_edition (λ s. list_all (λ a. closes (iso s) ending a.body) ((iso s).table Assign) ≡ true) refl refl std
+  closing Cond e = by_edition (λ s. list_all (λ a. closes (iso s) ending a.body) ((iso s).table Cond) ≡ true) refl refl std
+  closing Lor e = by_edition (λ s. list_all (λ a. closes (iso s) ending a.body) ((iso s).table Lor) ≡ true) refl refl std
+  closing Land e = by_edition (λ s. list_all (λ a. closes (iso s) ending a.body) ((iso s).table Land) ≡ true) refl refl std
+  closing Bor e = by_edition (λ s. list_all (λ a. closes (iso s) ending a.body) ((iso s).table Bor) ≡ true) refl refl std
+  closing Bxor e = by_edition (λ s. list_all (λ a. closes (iso s) ending a.body) ((iso s).table Bxor) ≡ true) refl refl std
+  closing Band e = by_edition (λ s. list_all (λ a. closes (iso s) ending a.body) ((iso s).table Band) ≡ true) refl refl std
+  closing Equal e = by_edition (λ s. list_all (λ a. closes (iso s) ending a.body) ((iso s).table Equal) ≡ true) refl refl std
+  closing Relate e = by_edition (λ s. list_all (λ a. closes (iso s) ending a.body) ((iso s).table Relate) ≡ true) refl refl std
+  closing Shift e = by_edition (λ s. list_all (λ a. closes (iso s) ending a.body) ((iso s).table Shift) ≡ true) refl refl std
+  closing Add e = by_edition (λ s. list_all (λ a. closes (iso s) ending a.body) ((iso s).table Add) ≡ true) refl refl std
+  closing Mul e = by_edition (λ s. list_all (λ a. closes (iso s) ending a.body) ((iso s).table Mul) ≡ true) refl refl std
+  closing Cast e = by_edition (λ s. list_all (λ a. closes (iso s) ending a.body) ((iso s).table Cast) ≡ true) refl refl std
+  closing CastRest e = by_edition (λ s. list_all (λ a. closes (iso s) ending a.body) ((iso s).table CastRest) ≡ true) refl refl std
+  closing Unary e = by_edition (λ s. list_all (λ a. closes (iso s) ending a.body) ((iso s).table Unary) ≡ true) refl refl std
+  closing SizeRest e = by_edition (λ s. list_all (λ a. closes (iso s) ending a.body) ((iso s).table SizeRest) ≡ true) refl refl std
+  closing SizeLit e = by_edition (λ s. list_all (λ a. closes (iso s) ending a.body) ((iso s).table SizeLit) ≡ true) refl refl std
+  closing Primary e = by_edition (λ s. list_all (λ a. closes (iso s) ending a.body) ((iso s).table Primary) ≡ true) refl refl std
+  closing Post e = by_edition (λ s. list_all (λ a. closes (iso s) ending a.body) ((iso s).table Post) ≡ true) refl refl std
   closing _ e = absurd (false≢true e)
 
-  pub tells : Tells (grammar std) ending
-  tells = record { sound = grammar-sound std; alike = alike; closing = closing }
+  pub tells : Tells (iso std) ending
+  tells = record { sound = iso-sound std; alike = alike; closing = closing }

@@ -2,7 +2,7 @@
 use Rattle.std.proofs.Common.{ℕ, suc, zero, ◌+◌, ◌*◌, ◌-◌, ◌<◌, ◌≡◌, Bool, true, false, if◌then◌else◌, List, [], length, Option, None, Some, Ok, Err, refl, sym, ap, subst, ◌∙◌, arith, add-one}
 use Rattle.std.proofs.lemmas.Bool.{false≢true}
 use Rattle.std.proofs.Math.Path.{fun_ext}
-use Rattle.c99_grammar.specs.declared.dialects.Dialect.{Dialect}
+use Rattle.c99_grammar.specs.declared.dialects.Edition.{Edition}
 use Rattle.cs_base.specs.Token.{Token}
 use Rattle.c99_tree.specs.Tree.{Forest, none, token, node, Node, node_of, lone}
 use Rattle.c99_tree.specs.declared.production.Label.{Label}
@@ -10,11 +10,11 @@ use Rattle.c99_tree.specs.declared.production.Production.TheVariants.{Translatio
 use Rattle.c99_grammar.specs.First.{order}
 use Rattle.c99_grammar.specs.Items.{Item, part, end_of_text, ◌·◌, many, own}
 use Rattle.c99_grammar.specs.Spellings.{Spelled}
-use Rattle.c99_grammar.specs.Standard.{Grammar, grammar}
+use Rattle.c99_grammar.specs.Standard.{Grammar, iso}
 use Rattle.c99_read.specs.State.{State, base_at, opened, closed}
 use Rattle.c99_read.specs.Reading.{Goal, produce, Step, syntax, and_then, may, step, read_within, steps_for, goal_order, whole, at_first, tree_of, read_of}
 use Rattle.c99_read.specs.Sound.{IsSound, is_met}
-use Rattle.c99_read.proofs.C99Sound.{grammar-sound}
+use Rattle.c99_read.proofs.C99Sound.{iso-sound}
 use Rattle.c99_read.proofs.Moves.{Moves-read_within}
 use Rattle.c99_read.proofs.Suffices.{measure, run-agree, whole-runs}
 use Rattle.tree_laws.specs.TreesOfTexts.{token_count, AreFrom}
@@ -96,12 +96,12 @@ settles g sound (suc fuel) depth goal s met few =
     (λ depth' goal' s' met' less. settles g sound fuel depth' goal' s' met' (omega (arith, less, few))) depth goal s met (omega arith)
     ∙ sym (whole-runs g sound depth goal s met)
 
-module _ (s : Dialect) (words : List Spelled) where
+module _ (s : Edition) (words : List Spelled) where
   abbrev g : Grammar
-  g = with_words words (grammar s)
+  g = with_words words (iso s)
 
   sound : IsSound g
-  sound = record { sound = (grammar-sound s).sound }
+  sound = record { sound = (iso-sound s).sound }
 
   module _ (toks : List Token) (alone : AreAlone g toks) where
     abbrev text_read : ℕ → Step
@@ -111,7 +111,7 @@ module _ (s : Dialect) (words : List Spelled) where
     classes_read fuel = read_by_classes g (base_at g toks) fuel 0 (produce TranslationUnit) (numbers_from 0 (length toks))
 
     abbrev plain_read : ℕ → Option Taken
-    plain_read fuel = read_by_classes (grammar s) (base_at g toks) fuel 0 (produce TranslationUnit) (numbers_from 0 (length toks))
+    plain_read fuel = read_by_classes (iso s) (base_at g toks) fuel 0 (produce TranslationUnit) (numbers_from 0 (length toks))
 
     abbrev needed : ℕ
     needed = steps_for (produce TranslationUnit) (at_first toks)
@@ -132,7 +132,7 @@ module _ (s : Dialect) (words : List Spelled) where
     classes_by tree (Err stop) r' f m e = absurd (cc)
     classes_by tree (Ok st) None f m e = absurd m
     classes_by tree (Ok st) (Some t) f m e =
-        let k : plain_read needed ≡ Some t = sym (reads_same (grammar s) words (base_at g toks) needed 0 (produce TranslationUnit) (numbers_from 0 (length toks))) ∙ f in
+        let k : plain_read needed ≡ Some t = sym (reads_same (iso s) words (base_at g toks) needed 0 (produce TranslationUnit) (numbers_from 0 (length toks))) ∙ f in
         let below : ℕ = 64 * (length toks - 0) + order TranslationUnit in
         let u = unit_so s (base_at g toks) below 0 (numbers_from 0 (length toks)) t (subst (λ j. plain_read j ≡ Some t) (add-one below) k) in
         let whole_unit : st.built.under ≡ node tree.label tree.first tree.under none = unit_is st.built.under st.built tree u.defs.read (m.0 ∙ u.is) (tree_is st tree e) in (
@@ -195,13 +195,13 @@ module _ (s : Dialect) (words : List Spelled) where
     text_of in_order tree from zero_first so =
         let below : ℕ = so.0 + needed in
         let k : classes_read (suc below) ≡ Some (taken (untold (node tree.label tree.first tree.under none)) []) =
-        reads_same (grammar s) words (base_at g toks) (suc below) 0 (produce TranslationUnit) (numbers_from 0 (length toks))
-        ∙ goal_on (grammar s) (base_at g toks) so.0 (suc below) 0 (produce TranslationUnit) (numbers_from 0 (length toks)) (taken (untold (node tree.label tree.first tree.under none)) []) (omega arith) so.1 in
+        reads_same (iso s) words (base_at g toks) (suc below) 0 (produce TranslationUnit) (numbers_from 0 (length toks))
+        ∙ goal_on (iso s) (base_at g toks) so.0 (suc below) 0 (produce TranslationUnit) (numbers_from 0 (length toks)) (taken (untold (node tree.label tree.first tree.under none)) []) (omega arith) so.1 in
         text_by in_order tree from zero_first below (text_read (suc below)) refl (omega arith) (subst (IsReadAlike toks (text_read (suc below))) k (texts_alone g toks alone (suc below)))
 
 pub texts_in_order : TokensStandInOrder → TextsAloneAreReadInOrder
 texts_in_order in_order s words n order lists old new tree alone alone' long classes e is all =
-    let h : Grammar = with_words words (grammar s) in
+    let h : Grammar = with_words words (iso s) in
     let so = arranged_in_order s (base_at h old) n (length old) order lists tree (classes_of s words old alone tree e) is all in
     let so' = subst (λ c. IsReadAs s c (length old) (reordered order lists tree)) (fun_ext (λ k. sym (classes k))) so in
     text_of s words new alone' in_order (reordered order lists tree) (from-numbered 0 (permuted order lists false tree.under)) refl

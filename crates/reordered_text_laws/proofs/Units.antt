@@ -2,14 +2,14 @@
 use Rattle.std.proofs.Common.{ℕ, suc, zero, ◌≡◌, ◌⊎◌, Bool, true, false, List, [], ◌∷◌, ◌++◌, length, Option, None, Some, refl, sym, ap, subst, ◌∙◌, inl, inr}
 use Rattle.std.proofs.lemmas.Bool.{false≢true}
 use Rattle.std.proofs.lemmas.List.{append-nil}
-use Rattle.c99_grammar.specs.declared.dialects.Dialect.{Dialect}
+use Rattle.c99_grammar.specs.declared.dialects.Edition.{Edition}
 use Rattle.c99_tree.specs.Tree.{Forest, none, node}
 use Rattle.c99_tree.specs.declared.production.Label.{Label}
 use Rattle.c99_tree.specs.declared.production.Production.{Production}
 use Rattle.c99_tree.specs.declared.production.Production.TheVariants.{TranslationUnit, External}
 use Rattle.c99_grammar.specs.declared.classes.Class.{Class}
 use Rattle.c99_grammar.specs.Items.{Item, part, end_of_text, ◌·◌, many, own, Test}
-use Rattle.c99_grammar.specs.Standard.{Grammar, grammar}
+use Rattle.c99_grammar.specs.Standard.{Grammar, iso}
 use Rattle.c99_grammar.specs.Starting.{holds, starts}
 use Rattle.c99_read.specs.Reading.{Goal, produce}
 use Rattle.c99_read.specs.Sound.{never_empty}
@@ -30,9 +30,9 @@ use Rattle.reordered_text_laws.proofs.Near.{shut, Near, Beside}
 use Rattle.reordered_text_laws.proofs.Anew.{Sometime, new, anew_item}
 use Rattle.reordered_text_laws.proofs.AnewTables.{goods}
 
-module _ (s : Dialect) (class_of : ℕ → Class) where
+module _ (s : Edition) (class_of : ℕ → Class) where
   abbrev g : Grammar
-  g = grammar s
+  g = iso s
 
   abbrev reads : ℕ → ℕ → Goal → List ℕ → Option Taken
   reads = read_by_classes g class_of

@@ -2,8 +2,8 @@
 -- were keywords (ISO/IEC 9899:1999, 6.7.7).
 use Rattle.std.specs.Prelude.{ℕ, suc, ◌≡◌, ◌⊎◌, Bool, true, false, ◌&&◌, ◌||◌, not, List, [], ◌∷◌, length, Ok, codes}
 use Rattle.std.specs.Str.{bytes_eq}
-use Rattle.c99_grammar.specs.declared.dialects.Dialect.{Dialect}
-use Rattle.c99_grammar.specs.declared.dialects.Dialect.TheVariants.{C99, C11, Gnu}
+use Rattle.c99_grammar.specs.declared.dialects.Edition.{Edition}
+use Rattle.c99_grammar.specs.declared.dialects.Edition.TheVariants.{C99, C11}
 use Rattle.cs_base.specs.Token.{Token}
 use Rattle.cs_base.specs.declared.tokens.Kind.{Kind}
 use Rattle.cs_base.specs.declared.tokens.Kind.TheVariants.{Ident, Punct}
@@ -13,7 +13,7 @@ use Rattle.c99_tree.specs.declared.production.Production.{Production}
 use Rattle.c99_tree.specs.declared.production.Production.TheVariants.{TranslationUnit, External, ExtRest, ExtTail, Specs, Main, Mod, Word, Declarator, Direct}
 use Rattle.c99_grammar.specs.declared.classes.Class.TheVariants.{Identifier, TypedefName}
 use Rattle.c99_grammar.specs.Spellings.{Spelled}
-use Rattle.c99_grammar.specs.Standard.{Grammar, grammar}
+use Rattle.c99_grammar.specs.Standard.{Grammar, iso}
 use Rattle.c99_read.specs.State.{base_at, spelling_at, is_identifier}
 use Rattle.c99_read.specs.Reading.{read_of}
 use Rattle.c_types.specs.Trees.{is_at}
@@ -66,30 +66,29 @@ abbrev pub labelled_as : Production → ℕ → Label
 labelled_as p n = record { production = p; alternative = n }
 
 -- the alternative of a declaration at file level
-abbrev which : Dialect → ℕ
+abbrev which : Edition → ℕ
 which C99 = 2
 which C11 = 3
-which Gnu = 3
 
 -- the tree of the typedef
-abbrev pub front_forest : Dialect → Forest
+abbrev pub front_forest : Edition → Forest
 front_forest s =
     node (labelled_as External (which s)) 0
     (node (labelled_as Specs 1) 0 (node (labelled_as Mod 1) 0 (token 0 none) (node (labelled_as Main 1) 1 (node (labelled_as Word 4) 1 (token 1 none) none) none))
     (node (labelled_as ExtRest 2) 2 (node (labelled_as Declarator 1) 2 (node (labelled_as Direct 1) 2 (token 2 none) none) (node (labelled_as ExtTail 2) 3 (token 3 none) none)) none)) none
 
 -- the tree of a text behind it
-abbrev pub with_front : Dialect → Node → Node
+abbrev pub with_front : Edition → Node → Node
 with_front s t = node_of t.label 0 (joined (front_forest s) (raised t.under))
 
--- A text is read to a tree by the grammar of a dialect in which the empty word is such a keyword, exactly if behind the
--- typedef it is read so by the grammar of the dialect; where in the tree the word stands for type names alone.
+-- A text is read to a tree by the grammar of an edition in which the empty word is such a keyword, exactly if behind the
+-- typedef it is read so by the grammar of the edition; where in the tree the word stands for type names alone.
 abbrev pub TextsAreReadBehindATypedef : Type 0
 TextsAreReadBehindATypedef =
-    (s : Dialect) (words : List Spelled) (toks : List Token) (tree : Node) → ((k : ℕ) → Fits toks (grammar s) (with_words words (grammar s)) k)
+    (s : Edition) (words : List Spelled) (toks : List Token) (tree : Node) → ((k : ℕ) → Fits toks (iso s) (with_words words (iso s)) k)
     → dirty (used toks) (labelled_as TranslationUnit 1) tree.under ≡ false → tree.first ≡ 0
-    → (read_of (with_words words (grammar s)) toks ≡ Ok tree → read_of (grammar s) (fronted toks) ≡ Ok (with_front s tree))
-    × (read_of (grammar s) (fronted toks) ≡ Ok (with_front s tree) → read_of (with_words words (grammar s)) toks ≡ Ok tree)
+    → (read_of (with_words words (iso s)) toks ≡ Ok tree → read_of (iso s) (fronted toks) ≡ Ok (with_front s tree))
+    × (read_of (iso s) (fronted toks) ≡ Ok (with_front s tree) → read_of (with_words words (iso s)) toks ≡ Ok tree)
 
 -- ---- Names
 
@@ -115,17 +114,17 @@ has_some some (node l first under rest) = has_some some under || has_some some r
 -- by the empty word, they agree with it behind the typedef.
 abbrev pub AgreesBehindATypedef : Type 0
 AgreesBehindATypedef =
-    (s : Dialect) (toks : List Token) (tree : Node) → ((k : ℕ) → is_identifier (base_at (grammar s) toks k) ≡ true → used toks k ≡ false)
+    (s : Edition) (toks : List Token) (tree : Node) → ((k : ℕ) → is_identifier (base_at (iso s) toks k) ≡ true → used toks k ≡ false)
     → is_filled tree.under ≡ true → has_some (used toks) tree.under ≡ false → agrees s toks tree.under (before (length toks)) ≡ true
     → agrees s (fronted toks) (with_front s tree).under (before (length (fronted toks))) ≡ true
 
--- A text is read to a tree by the grammar of a dialect if its names agree with the tree, and a text of the same classes is
+-- A text is read to a tree by the grammar of an edition if its names agree with the tree, and a text of the same classes is
 -- read to it by the grammar with the keyword, where the empty word stands for type names alone: what declares them need
 -- not be in that text.
 abbrev pub AgreeingTextsAreRead : Type 0
 AgreeingTextsAreRead =
-    (s : Dialect) (words : List Spelled) (keyed new : List Token) (tree : Node) → ((k : ℕ) → Fits keyed (grammar s) (with_words words (grammar s)) k)
-    → dirty (used keyed) (labelled_as TranslationUnit 1) tree.under ≡ false → tree.first ≡ 0 → read_of (with_words words (grammar s)) keyed ≡ Ok tree
-    → length keyed ≡ length new → ((k : ℕ) → base_at (grammar s) keyed k ≡ base_at (grammar s) new k)
-    → ((k : ℕ) → is_identifier (base_at (grammar s) new k) ≡ true → used new k ≡ false) → is_filled tree.under ≡ true → has_some (used new) tree.under ≡ false
-    → agrees s new tree.under (before (length new)) ≡ true → read_of (grammar s) new ≡ Ok tree
+    (s : Edition) (words : List Spelled) (keyed new : List Token) (tree : Node) → ((k : ℕ) → Fits keyed (iso s) (with_words words (iso s)) k)
+    → dirty (used keyed) (labelled_as TranslationUnit 1) tree.under ≡ false → tree.first ≡ 0 → read_of (with_words words (iso s)) keyed ≡ Ok tree
+    → length keyed ≡ length new → ((k : ℕ) → base_at (iso s) keyed k ≡ base_at (iso s) new k)
+    → ((k : ℕ) → is_identifier (base_at (iso s) new k) ≡ true → used new k ≡ false) → is_filled tree.under ≡ true → has_some (used new) tree.under ≡ false
+    → agrees s new tree.under (before (length new)) ≡ true → read_of (iso s) new ≡ Ok tree

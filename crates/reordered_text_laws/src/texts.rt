@@ -57,7 +57,7 @@ pub fn texts_alone_are_read_in_order()
     tokens_stand_in_order();
 }
 
-/// A text is read by a grammar in which the empty word is a typedef name as it is read, by the grammar of the dialect,
+/// A text is read by a grammar in which the empty word is a typedef name as it is read, by the grammar of the edition,
 /// behind a typedef of the empty word, where the word stands for type names alone.
 pub fn texts_are_read_behind_a_typedef()
     ensures texts { TextsAreReadBehindATypedef }

@@ -3,14 +3,14 @@ use Rattle.std.proofs.Common.{ℕ, ◌+◌, ◌≡◌, Bool, true, false, ◌&&�
 use Rattle.std.specs.List.{All, list_all}
 use Rattle.std.proofs.lemmas.Bool.{false≢true, and_parts, ltb-true}
 use Rattle.std.proofs.lemmas.List.Elements.{All-nil, All-cons}
-use Rattle.c99_grammar.specs.declared.dialects.Dialect.{Dialect}
+use Rattle.c99_grammar.specs.declared.dialects.Edition.{Edition}
 use Rattle.cs_base.specs.Token.{Token}
 use Rattle.c99_tree.specs.Tree.{Forest, none, token, node, Node, node_of}
 use Rattle.c99_tree.specs.declared.production.Label.{Label}
 use Rattle.c99_tree.specs.declared.production.Production.{Production}
 use Rattle.c99_tree.specs.declared.production.Production.TheVariants.{FunBody, Pdirect, Args, Params, Post, Suffix}
 use Rattle.c99_tree.specs.contracts.production.ProductionPartialEq.TheImpl.{ghosts}
-use Rattle.c99_grammar.specs.Standard.{grammar}
+use Rattle.c99_grammar.specs.Standard.{iso}
 use Rattle.c99_read.specs.State.{base_at, is_identifier}
 use Rattle.c_types.specs.Trees.{is_at, first_token}
 use Rattle.c_types.specs.Parameters.{ends_in_token}
@@ -49,14 +49,14 @@ list_begun i first q u o items unlisted body =
 
 -- ---- Tested tokens of nodes
 
-module _ (s : Dialect) (toks : List Token) where
+module _ (s : Edition) (toks : List Token) where
   pub tested_nodes : (P : ℕ → Type 0) (u : Forest) (l : Label) (k : ℕ) → Tested s toks P l k u → All (TestedNode s toks P) (nodes_in u)
   tested_nodes P none l k t = All-nil (TestedNode s toks P)
   tested_nodes P (token i rest) l k t = tested_nodes P rest l (k + 1) t.1
   tested_nodes P (node x first under rest) l k t =
       All-cons (TestedNode s toks P) (node_of x first under) (nodes_in rest) (t.0, t.1) (tested_nodes P rest l (k + 1) t.2)
 
-module _ (m : ℕ → ℕ) (old new : List Token) (law : AreMovedTexts m old new) (order : List ℕ) (lists : ℕ → Bool) (is : IsOrder (length order) order) (s : Dialect) where
+module _ (m : ℕ → ℕ) (old new : List Token) (law : AreMovedTexts m old new) (order : List ℕ) (lists : ℕ → Bool) (is : IsOrder (length order) order) (s : Edition) where
   pub own_items : (u : Forest) (lo : ℕ) → AreFrom lo u → HaveBareNames s old u → All (HasOwnTests m old new law order lists is s) (nodes_in u)
   own_items none lo a h = All-nil (HasOwnTests m old new law order lists is s)
   own_items (token i rest) lo a h = own_items rest (lo + 1) a.1 h
@@ -142,7 +142,7 @@ module _ (m : ℕ → ℕ) (old new : List Token) (law : AreMovedTexts m old new
 
   -- ---- Tests
 
-  module _ (base : (k : ℕ) → base_at (grammar s) new (m k) ≡ base_at (grammar s) old k) where
+  module _ (base : (k : ℕ) → base_at (iso s) new (m k) ≡ base_at (iso s) old k) where
     abbrev Seen : List Entry → List Entry → ℕ → Type 0
     Seen es fs i = SeenAlike m old new law order lists is s es fs i
 
@@ -161,7 +161,7 @@ module _ (m : ℕ → ℕ) (old new : List Token) (law : AreMovedTexts m old new
     pub node_tests : (level : ℕ) (keeps own : Bool) (n lo there : ℕ) (l : Label) (under : Forest) (o p : Outline) (xs ys : List Entry)
         → OutlinesGo m old new law level keeps lo there o p → IsReadyNode m old new law order lists o.label own n o.scope keeps lo there l under
         → (is_at l Pdirect 2 ≡ true → HasBareName s old lo under)
-        → (is_at l Pdirect 2 ≡ true → is_identifier (base_at (grammar s) old (lo + 1)) ≡ true → Seen xs ys (lo + 1))
+        → (is_at l Pdirect 2 ≡ true → is_identifier (base_at (iso s) old (lo + 1)) ≡ true → Seen xs ys (lo + 1))
         → node_agrees s new l there (p.entries ++ ys) ≡ node_agrees s old l lo (o.entries ++ xs)
     node_tests level keeps own n lo there l under o p xs ys k r has f =
         node_same m old new law order lists is s base l lo there (o.entries ++ xs) (p.entries ++ ys)

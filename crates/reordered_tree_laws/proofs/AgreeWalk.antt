@@ -4,14 +4,14 @@ use Rattle.std.specs.List.{All}
 use Rattle.std.proofs.lemmas.Bool.{false≢true, and_parts, and_from}
 use Rattle.std.proofs.lemmas.List.Elements.{All-nil, All-cons}
 use Rattle.std.proofs.lemmas.List.Sorted.{All-permutation}
-use Rattle.c99_grammar.specs.declared.dialects.Dialect.{Dialect}
+use Rattle.c99_grammar.specs.declared.dialects.Edition.{Edition}
 use Rattle.cs_base.specs.Token.{Token}
 use Rattle.c99_tree.specs.Tree.{Forest, none, token, node, Node}
 use Rattle.c99_tree.specs.declared.production.Label.{Label}
 use Rattle.c99_tree.specs.declared.production.Production.{Production}
 use Rattle.c99_tree.specs.declared.production.Production.TheVariants.{FunBody, Pdirect, Args, Params}
 use Rattle.c99_tree.specs.contracts.production.ProductionPartialEq.TheImpl.{ghosts}
-use Rattle.c99_grammar.specs.Standard.{grammar}
+use Rattle.c99_grammar.specs.Standard.{iso}
 use Rattle.c99_read.specs.State.{base_at, is_identifier}
 use Rattle.scope_bind.specs.Named.{Scope}
 use Rattle.tree_laws.specs.TreesOfTexts.{token_count}
@@ -43,12 +43,12 @@ no_direct Args a e = refl
 no_direct Params a e = refl
 no_direct _ a e = absurd (false≢true e)
 
-items_node : (s : Dialect) (toks : List Token) (q : Label) (first : ℕ) (es : List Entry) → is_items q ≡ true → node_agrees s toks q first es ≡ true
+items_node : (s : Edition) (toks : List Token) (q : Label) (first : ℕ) (es : List Entry) → is_items q ≡ true → node_agrees s toks q first es ≡ true
 items_node s toks q first es e =
-    ap (λ c. if c then not (is_identifier (base_at (grammar s) toks (first + 1))) || not (typedef_among s toks (first + 1) es) else true) (no_direct q.production q.alternative e)
+    ap (λ c. if c then not (is_identifier (base_at (iso s) toks (first + 1))) || not (typedef_among s toks (first + 1) es) else true) (no_direct q.production q.alternative e)
 
-module _ (m : ℕ → ℕ) (old new : List Token) (law : AreMovedTexts m old new) (order : List ℕ) (lists : ℕ → Bool) (is : IsOrder (length order) order) (s : Dialect)
-    (base : (k : ℕ) → base_at (grammar s) new (m k) ≡ base_at (grammar s) old k) where
+module _ (m : ℕ → ℕ) (old new : List Token) (law : AreMovedTexts m old new) (order : List ℕ) (lists : ℕ → Bool) (is : IsOrder (length order) order) (s : Edition)
+    (base : (k : ℕ) → base_at (iso s) new (m k) ≡ base_at (iso s) old k) where
   abbrev Along : ℕ → Bool → ℕ → ℕ → Outline → Outline → Type 0
   Along level keeps lo there o p = OutlinesGo m old new law level keeps lo there o p
 

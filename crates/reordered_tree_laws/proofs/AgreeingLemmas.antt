@@ -5,14 +5,14 @@ use Rattle.std.specs.Option.{option_or}
 use Rattle.std.proofs.lemmas.Bool.{false≢true, and_parts, and_from, or_parts}
 use Rattle.std.proofs.lemmas.List.{append_assoc}
 use Rattle.std.proofs.lemmas.List.Elements.{All-nil, All-cons, All-head, All-tail}
-use Rattle.c99_grammar.specs.declared.dialects.Dialect.{Dialect}
+use Rattle.c99_grammar.specs.declared.dialects.Edition.{Edition}
 use Rattle.cs_base.specs.Token.{Token}
 use Rattle.c99_tree.specs.Tree.{Forest, none, token, node, Node, node_of}
 use Rattle.c99_tree.specs.declared.production.Label.{Label}
 use Rattle.c99_tree.specs.declared.production.Production.{Production}
 use Rattle.c99_tree.specs.declared.production.Production.TheVariants.{FunBody, Main, Params, Primary, Pdirect, Args, Post, Suffix}
 use Rattle.c99_tree.specs.contracts.production.ProductionPartialEq.TheImpl.{ghosts}
-use Rattle.c99_grammar.specs.Standard.{grammar}
+use Rattle.c99_grammar.specs.Standard.{iso}
 use Rattle.c99_read.specs.State.{base_at, is_identifier}
 use Rattle.c_types.specs.Trees.{is_node, is_at}
 use Rattle.c_types.specs.Declarations.{alike}
@@ -32,10 +32,10 @@ use Rattle.reordered_tree_laws.proofs.Unseen.{IsClear, ArePairsClear, hidden_old
 -- ---- The tests
 
 -- an item passes its tests
-abbrev pub item_agrees : Dialect → List Token → Node → Outline → Bool
+abbrev pub item_agrees : Edition → List Token → Node → Outline → Bool
 item_agrees s toks n o = node_agrees s toks n.label n.first o.entries && all_agree s toks n.under (begun n.label n.first n.under o)
 
-pub items_test : (s : Dialect) (toks : List Token) (p : Production) (a k i : ℕ) (es : List Entry) → (ghosts.eq p Args || (ghosts.eq p Params && not (a == 1))) ≡ true
+pub items_test : (s : Edition) (toks : List Token) (p : Production) (a k i : ℕ) (es : List Entry) → (ghosts.eq p Args || (ghosts.eq p Params && not (a == 1))) ≡ true
     → token_agrees s toks p a k i es ≡ true
 items_test s toks Args a k i es e = refl
 items_test s toks Params a k i es e = by (a == 1) e
@@ -45,7 +45,7 @@ items_test s toks Params a k i es e = by (a == 1) e
     by false h = refl
 items_test s toks _ a k i es e = absurd (false≢true e)
 
-pub list_test : (s : Dialect) (toks : List Token) (p : Production) (a k i : ℕ) (es : List Entry) → ((ghosts.eq p Post && (a == 2)) || (ghosts.eq p Suffix && (a == 2))) ≡ true
+pub list_test : (s : Edition) (toks : List Token) (p : Production) (a k i : ℕ) (es : List Entry) → ((ghosts.eq p Post && (a == 2)) || (ghosts.eq p Suffix && (a == 2))) ≡ true
     → token_agrees s toks p a k i es ≡ true
 list_test s toks Post a k i es e = refl
 list_test s toks Suffix a k i es e = refl
@@ -60,7 +60,7 @@ name_test false i j x y f g = refl
 name_test true i true x y f g = ap (λ b. not b || not x) (f refl) ∙ ap (λ b. false || not b) (g refl refl)
 name_test true i false x y f g = ap (λ b. not b || not x) (f refl)
 
-module _ (m : ℕ → ℕ) (old new : List Token) (law : AreMovedTexts m old new) (order : List ℕ) (lists : ℕ → Bool) (is : IsOrder (length order) order) (s : Dialect) where
+module _ (m : ℕ → ℕ) (old new : List Token) (law : AreMovedTexts m old new) (order : List ℕ) (lists : ℕ → Bool) (is : IsOrder (length order) order) (s : Edition) where
   -- the same is seen of these entries at a token and at its new place
   abbrev pub SeenAlike : List Entry → List Entry → ℕ → Type 0
   SeenAlike es fs i = kind_among new (m i) (open_at (m i)) fs ≡ kind_among old i (open_at i) es
@@ -86,14 +86,14 @@ module _ (m : ℕ → ℕ) (old new : List Token) (law : AreMovedTexts m old new
   token_same p a k i j es fs at f =
       token_by p a k i j es fs (λ e. subst (λ (x : ℕ). typedef_among s new x fs ≡ typedef_among s old i es) at (among_same es fs i (f e)))
 
-  pub node_same : ((k : ℕ) → base_at (grammar s) new (m k) ≡ base_at (grammar s) old k) → (l : Label) (first there : ℕ) (es fs : List Entry)
+  pub node_same : ((k : ℕ) → base_at (iso s) new (m k) ≡ base_at (iso s) old k) → (l : Label) (first there : ℕ) (es fs : List Entry)
       → (is_at l Pdirect 2 ≡ true → m (first + 1) ≡ there + 1)
-      → (is_at l Pdirect 2 ≡ true → is_identifier (base_at (grammar s) old (first + 1)) ≡ true → SeenAlike es fs (first + 1))
+      → (is_at l Pdirect 2 ≡ true → is_identifier (base_at (iso s) old (first + 1)) ≡ true → SeenAlike es fs (first + 1))
       → node_agrees s new l there fs ≡ node_agrees s old l first es
   node_same base l first there es fs at f =
-      name_test (is_at l Pdirect 2) (is_identifier (base_at (grammar s) new (there + 1))) (is_identifier (base_at (grammar s) old (first + 1)))
+      name_test (is_at l Pdirect 2) (is_identifier (base_at (iso s) new (there + 1))) (is_identifier (base_at (iso s) old (first + 1)))
       (typedef_among s new (there + 1) fs) (typedef_among s old (first + 1) es)
-      (λ e. ap (λ (x : ℕ). is_identifier (base_at (grammar s) new x)) (sym (at e)) ∙ ap is_identifier (base (first + 1)))
+      (λ e. ap (λ (x : ℕ). is_identifier (base_at (iso s) new x)) (sym (at e)) ∙ ap is_identifier (base (first + 1)))
       (λ e w. subst (λ (x : ℕ). typedef_among s new x fs ≡ typedef_among s old (first + 1) es) (at e) (among_same es fs (first + 1) (f e w)))
 
   -- ---- The old text

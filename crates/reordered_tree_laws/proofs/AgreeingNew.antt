@@ -5,7 +5,7 @@ use Rattle.std.specs.List.{All}
 use Rattle.std.proofs.lemmas.Bool.{cases_Bool, and_parts, and_from, ltb-true, ltb-false}
 use Rattle.std.proofs.lemmas.List.{append_assoc}
 use Rattle.std.proofs.lemmas.List.Elements.{All-nil, All-cons, All-head, All-tail}
-use Rattle.c99_grammar.specs.declared.dialects.Dialect.{Dialect}
+use Rattle.c99_grammar.specs.declared.dialects.Edition.{Edition}
 use Rattle.cs_base.specs.Token.{Token}
 use Rattle.c99_tree.specs.Tree.{Forest, none, token, node, Node}
 use Rattle.c_types.specs.Declarations.{alike}
@@ -29,7 +29,7 @@ use Rattle.reordered_tree_laws.proofs.Tested.{TestedNode, node_imp, node_both, I
 use Rattle.reordered_tree_laws.proofs.Unseen.{all_imp, IsSameOrClear, hidden_new}
 use Rattle.reordered_tree_laws.proofs.AgreeingLemmas.{item_agrees, items_test, SeenAlike, seen_more, HasOwnTests, AgreesOld, nothing_more}
 
-module _ (m : ℕ → ℕ) (old new : List Token) (law : AreMovedTexts m old new) (order : List ℕ) (lists : ℕ → Bool) (is : IsOrder (length order) order) (s : Dialect)
+module _ (m : ℕ → ℕ) (old new : List Token) (law : AreMovedTexts m old new) (order : List ℕ) (lists : ℕ → Bool) (is : IsOrder (length order) order) (s : Edition)
     (b c : Outline) (zs ws : List Entry) (end from : ℕ) (empty : c.entries ≡ []) (depth : c.scope.depth ≡ b.scope.depth) where
   abbrev Seen : List Entry → List Entry → ℕ → Type 0
   Seen es fs i = SeenAlike m old new law order lists is s es fs i

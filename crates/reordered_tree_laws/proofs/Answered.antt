@@ -3,7 +3,7 @@ use Rattle.std.proofs.Common.{ℕ, ◌≡◌, Bool, true, false, ◌&&◌, not, 
 use Rattle.std.specs.Prelude.{nat_lt}
 use Rattle.std.specs.Option.{option_map, option_map_or, option_or}
 use Rattle.std.proofs.lemmas.Bool.{eqb-true, and_parts, lt-ltb, le-ltb}
-use Rattle.c99_grammar.specs.declared.dialects.Dialect.{Dialect}
+use Rattle.c99_grammar.specs.declared.dialects.Edition.{Edition}
 use Rattle.cs_base.specs.Token.{Token}
 use Rattle.c_types.specs.Declarations.{alike}
 use Rattle.tree_laws.proofs.Outline.{Entry, entry, copies, kept_entries, is_open, typedef_among}
@@ -36,7 +36,7 @@ yes_step : (c t x : Bool) (o : Option Bool) → x ≡ is_yes o → (if c then t 
 yes_step true t x o e = refl
 yes_step false t x o e = e
 
-pub among_kind : (std : Dialect) (toks : List Token) (i : ℕ) (es : List Entry) → typedef_among std toks i es ≡ is_yes (kind_among toks i (open_at i) es)
+pub among_kind : (std : Edition) (toks : List Token) (i : ℕ) (es : List Entry) → typedef_among std toks i es ≡ is_yes (kind_among toks i (open_at i) es)
 among_kind std toks i [] = refl
 among_kind std toks i (e ∷ es) =
     among_step std toks i e es

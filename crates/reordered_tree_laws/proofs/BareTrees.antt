@@ -1,14 +1,14 @@
 -- Trees that are read have bare names as names of declarators.
 use Rattle.std.proofs.Common.{ℕ, ◌+◌, ◌≡◌, Bool, true, false, ◌&&◌, not, if◌then◌else◌, ◌==◌, List, [], ◌∷◌, ◌⊎◌, inl, inr, refl, sym, ap, subst, ◌∙◌, arith}
 use Rattle.std.proofs.lemmas.Bool.{false≢true, and_parts, eqb-true, lt-ltb}
-use Rattle.c99_grammar.specs.declared.dialects.Dialect.{Dialect}
+use Rattle.c99_grammar.specs.declared.dialects.Edition.{Edition}
 use Rattle.cs_base.specs.Token.{Token}
 use Rattle.c99_tree.specs.Tree.{Forest, none, token, node}
 use Rattle.c99_tree.specs.declared.production.Label.{Label}
 use Rattle.c99_tree.specs.declared.production.Production.{Production}
 use Rattle.c99_tree.specs.declared.production.Production.TheVariants.{Pointer, Suffix, Pdecl, Pdirect}
 use Rattle.c99_tree.specs.contracts.production.ProductionPartialEq.TheImpl.{ghosts}
-use Rattle.c99_grammar.specs.Standard.{grammar}
+use Rattle.c99_grammar.specs.Standard.{iso}
 use Rattle.c99_read.specs.State.{base_at, is_identifier}
 use Rattle.c_types.specs.Lists.{name_in}
 use Rattle.tree_laws.specs.TreesOfTexts.{token_count, AreFrom}
@@ -57,17 +57,17 @@ not_both : (b : Bool) → not b ≡ true → b ≡ true → ⊥
 not_both true e h = false≢true e
 not_both false e h = false≢true h
 
-module _ (s : Dialect) (toks : List Token) where
+module _ (s : Edition) (toks : List Token) where
   never_head : (f : Forest) → heads s toks (never ∷ []) f ≡ true → ⊥
   never_head none e = false≢true e
   never_head (token i rest) e = false≢true e
   never_head (node l first under rest) e = false≢true e
 
   -- the first child is a sign: no identifier begins there
-  sign_first : (f : Forest) (lo : ℕ) → AreFrom lo f → heads s toks (sign ∷ []) f ≡ true → is_identifier (base_at (grammar s) toks lo) ≡ true → ⊥
+  sign_first : (f : Forest) (lo : ℕ) → AreFrom lo f → heads s toks (sign ∷ []) f ≡ true → is_identifier (base_at (iso s) toks lo) ≡ true → ⊥
   sign_first none lo a h e = false≢true h
   sign_first (token i rest) lo a h e =
-      not_both (is_identifier (base_at (grammar s) toks lo)) (ap (λ (x : ℕ). not (is_identifier (base_at (grammar s) toks x))) (sym a.0) ∙ (and_parts (token_is s toks sign i) true h).0) e
+      not_both (is_identifier (base_at (iso s) toks lo)) (ap (λ (x : ℕ). not (is_identifier (base_at (iso s) toks x))) (sym a.0) ∙ (and_parts (token_is s toks sign i) true h).0) e
   sign_first (node l first under rest) lo a h e = no_sign l.production ((and_parts (same_shape sign (shape_of l.production)) true h).0)
 
   pdecl_heads : (a : ℕ) (u : Forest) → heads s toks (wanted Pdecl a) u ≡ true → (heads s toks (pointer ∷ []) u ≡ true) ⊎ (heads s toks (pdirect ∷ []) u ≡ true)
@@ -96,7 +96,7 @@ module _ (s : Dialect) (toks : List Token) where
       by false false true w k = inr (inr k)
       by false false false w k = absurd (never_head v k)
 
-  suffix_first : (v : Forest) (lo : ℕ) → AreFrom lo v → each s toks v ≡ true → heads s toks (suffix ∷ []) v ≡ true → is_identifier (base_at (grammar s) toks lo) ≡ true → ⊥
+  suffix_first : (v : Forest) (lo : ℕ) → AreFrom lo v → each s toks v ≡ true → heads s toks (suffix ∷ []) v ≡ true → is_identifier (base_at (iso s) toks lo) ≡ true → ⊥
   suffix_first none lo a w h e = false≢true h
   suffix_first (token i rest) lo a w h e = false≢true h
   suffix_first (node z begin u rest) lo a w h e =
@@ -114,7 +114,7 @@ module _ (s : Dialect) (toks : List Token) where
       ∙ (ap (λ c. if c then k ∷ [] else []) one ∙ ap (λ (n : ℕ). n ∷ []) a.0)
 
   declarator_name : (i f2 lo : ℕ) (x : Label) (u more : Forest) (alternative : ℕ) → AreFrom lo u → each s toks u ≡ true → heads s toks (wanted Pdecl alternative) u ≡ true
-      → is_identifier (base_at (grammar s) toks lo) ≡ true → name_in (token i (node x f2 u more)) ≡ lo ∷ []
+      → is_identifier (base_at (iso s) toks lo) ≡ true → name_in (token i (node x f2 u more)) ≡ lo ∷ []
   declarator_name i f2 lo x none more alternative a w h e = by (pdecl_heads alternative none h)
     where
       by : (false ≡ true) ⊎ (false ≡ true) → name_in (token i (node x f2 none more)) ≡ lo ∷ []

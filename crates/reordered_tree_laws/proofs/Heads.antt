@@ -1,7 +1,7 @@
 -- The first children of parameters' declarators and of their parts in trees that are read.
 use Rattle.std.proofs.Common.{ℕ, ◌+◌, ◌≡◌, Bool, true, false, ◌&&◌, not, if◌then◌else◌, List, [], ◌∷◌, ◌++◌, Ok, Err, ◌==◌, refl, sym, ap, subst, ◌∙◌}
 use Rattle.std.proofs.lemmas.Bool.{false≢true, and_parts, and_from}
-use Rattle.c99_grammar.specs.declared.dialects.Dialect.{Dialect}
+use Rattle.c99_grammar.specs.declared.dialects.Edition.{Edition}
 use Rattle.cs_base.specs.Token.{Token}
 use Rattle.c99_tree.specs.Tree.{Forest, none, token, node, Node, leaf, inner, put}
 use Rattle.c99_tree.specs.declared.production.Production.{Production}
@@ -10,7 +10,7 @@ use Rattle.c99_grammar.specs.declared.classes.Class.{Class}
 use Rattle.c99_grammar.specs.declared.classes.Class.TheVariants.{Identifier, TypedefName}
 use Rattle.c99_grammar.specs.Classes.{among}
 use Rattle.c99_grammar.specs.Items.{Item, one, part, act, ◌·◌, deep, Action, Alternative}
-use Rattle.c99_grammar.specs.Standard.{Grammar, grammar}
+use Rattle.c99_grammar.specs.Standard.{Grammar, iso}
 use Rattle.c99_read.specs.State.{State, base_at, is_identifier, is_typedef_at, class_at, collapses, finished, acted, opened, closed}
 use Rattle.c99_read.specs.Reading.{Step}
 use Rattle.tree_laws.proofs.Walked.{After, IsKept, fit_from}
@@ -103,12 +103,12 @@ all_fit : (n : ℕ) (alternatives : List Alternative) → fit_from (λ m a. true
 all_fit n [] = refl
 all_fit n (a ∷ more) = all_fit (n + 1) more
 
-pub table_fits : (s : Dialect) (p : Production) → fit_from (fits p) 1 ((grammar s).table p) ≡ true
+pub table_fits : (s : Edition) (p : Production) → fit_from (fits p) 1 ((iso s).table p) ≡ true
 table_fits s Pointer = refl
 table_fits s Suffix = refl
 table_fits s Pdecl = refl
 table_fits s Pdirect = refl
-table_fits s p = all_fit 1 ((grammar s).table p)
+table_fits s p = all_fit 1 ((iso s).table p)
 
 -- ---- Children behind others
 
@@ -137,9 +137,9 @@ put_inner none n = refl
 put_inner (token j rest) n = ap (token j) (put_inner rest n)
 put_inner (node l first under rest) n = ap (node l first under) (put_inner rest n)
 
-module _ (s : Dialect) (toks : List Token) where
+module _ (s : Edition) (toks : List Token) where
   abbrev pub token_is : Shape → ℕ → Bool
-  token_is sign i = not (is_identifier (base_at (grammar s) toks i))
+  token_is sign i = not (is_identifier (base_at (iso s) toks i))
   token_is word i = true
   token_is _ i = false
 
@@ -216,7 +216,7 @@ module _ (s : Dialect) (toks : List Token) where
   -- ---- Steps of reading
 
   abbrev pub g : Grammar
-  g = grammar s
+  g = iso s
 
   -- some children are put behind those of the open node
   pub record Extends (a b : State) : Type 0 where

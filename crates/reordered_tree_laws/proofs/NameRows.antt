@@ -1,7 +1,7 @@
 -- Worked rows: names agree with a tree in the new order where its lists can get it, and do not where a parameter hides a typedef
 -- name that another one asks for.
 use Rattle.std.specs.Prelude.{ℕ, ◌≡◌, Bool, true, false, ◌||◌, ◌==◌, List, [], ◌∷◌, length, refl}
-use Rattle.c99_grammar.specs.declared.dialects.Dialect.TheVariants.{C99}
+use Rattle.c99_grammar.specs.declared.dialects.Edition.TheVariants.{C99}
 use Rattle.cs_base.specs.Token.{Token}
 use Rattle.c99_tree.specs.Tree.{Node}
 use Rattle.name_chains.specs.Frames.{at_first as before}

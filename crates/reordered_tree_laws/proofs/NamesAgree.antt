@@ -3,12 +3,12 @@ use Rattle.std.proofs.Common.{ℕ, ◌+◌, ◌≤◌, ◌≡◌, Bool, true, fa
 use Rattle.std.specs.List.{All}
 use Rattle.std.proofs.lemmas.Bool.{false≢true, and_parts, and_from, or_parts}
 use Rattle.std.proofs.lemmas.List.Elements.{All-nil, All-cons, All-head, All-tail}
-use Rattle.c99_grammar.specs.declared.dialects.Dialect.{Dialect}
+use Rattle.c99_grammar.specs.declared.dialects.Edition.{Edition}
 use Rattle.cs_base.specs.Token.{Token}
 use Rattle.c99_tree.specs.Tree.{Forest, none, token, node, Node, node_of}
 use Rattle.c99_tree.specs.declared.production.Label.{Label}
 use Rattle.c99_tree.specs.declared.production.Production.TheVariants.{FunBody, Declarator, Pdirect}
-use Rattle.c99_grammar.specs.Standard.{grammar}
+use Rattle.c99_grammar.specs.Standard.{iso}
 use Rattle.c99_read.specs.State.{base_at, is_identifier}
 use Rattle.c_types.specs.Trees.{is_node, is_at}
 use Rattle.scope_bind.specs.Named.{Scope}
@@ -34,8 +34,8 @@ use Rattle.reordered_tree_laws.proofs.AgreeingNew.{ItemAgrees}
 use Rattle.reordered_tree_laws.proofs.AgreeSteps.{IsPlainBoth, plain_old, plain_new, token_tests, node_tests}
 use Rattle.reordered_tree_laws.proofs.AgreeWalk.{emptied, list_agrees}
 
-module _ (m : ℕ → ℕ) (old new : List Token) (law : AreMovedTexts m old new) (order : List ℕ) (lists : ℕ → Bool) (is : IsOrder (length order) order) (s : Dialect)
-    (base : (k : ℕ) → base_at (grammar s) new (m k) ≡ base_at (grammar s) old k) where
+module _ (m : ℕ → ℕ) (old new : List Token) (law : AreMovedTexts m old new) (order : List ℕ) (lists : ℕ → Bool) (is : IsOrder (length order) order) (s : Edition)
+    (base : (k : ℕ) → base_at (iso s) new (m k) ≡ base_at (iso s) old k) where
   abbrev Along : ℕ → Bool → ℕ → ℕ → Outline → Outline → Type 0
   Along level keeps lo there o p = OutlinesGo m old new law level keeps lo there o p
 
@@ -109,8 +109,8 @@ module _ (m : ℕ → ℕ) (old new : List Token) (law : AreMovedTexts m old new
         let t = and_parts (node_agrees s old l lo (o.entries ++ xs)) (all_agree s old under (begun l lo under ox) && all_agree s old rest (ended l lo under ox (outlined under (begun l lo under ox)))) same in
         let v = and_parts (all_agree s old under (begun l lo under ox)) (all_agree s old rest (ended l lo under ox (outlined under (begun l lo under ox)))) t.1 in
         let has : is_at l Pdirect 2 ≡ true → HasBareName s old lo under = λ e. subst (λ (x : ℕ). HasBareName s old x under) r.from.0 (have.0 e) in
-        let seen : is_at l Pdirect 2 ≡ true → is_identifier (base_at (grammar s) old (lo + 1)) ≡ true → Seen xs ys (lo + 1) =
-        subst (λ (x : ℕ). is_at l Pdirect 2 ≡ true → is_identifier (base_at (grammar s) old (x + 1)) ≡ true → Seen xs ys (x + 1)) r.from.0 tested.0 in
+        let seen : is_at l Pdirect 2 ≡ true → is_identifier (base_at (iso s) old (lo + 1)) ≡ true → Seen xs ys (lo + 1) =
+        subst (λ (x : ℕ). is_at l Pdirect 2 ≡ true → is_identifier (base_at (iso s) old (x + 1)) ≡ true → Seen xs ys (x + 1)) r.from.0 tested.0 in
         let inside : all_agree s new over (lengthened ys p1) ≡ true =
         agree_by b lo there l false 0 o1.scope keeps under (lengthened ys p1) rn.below
         (λ e x. agree_list under level keeps lo there o1 p1 xs ys x have.1 (in_parentheses m old new law order lists is level l under e) (or_not b (is_bracketed under) rn.shape e)
@@ -190,8 +190,8 @@ module _ (m : ℕ → ℕ) (old new : List Token) (law : AreMovedTexts m old new
         let d1 : Outline = begun l y over d in
         let k1 : Along level keeps at y c1 d1 = node_begins m old new law order lists is level own keeps nth at y l under c d kn rn in
         let has : is_at l Pdirect 2 ≡ true → HasBareName s old at under = λ e. subst (λ (x : ℕ). HasBareName s old x under) r.from.0 (have.0 e) in
-        let seen : is_at l Pdirect 2 ≡ true → is_identifier (base_at (grammar s) old (at + 1)) ≡ true → Seen es fs (at + 1) =
-        subst (λ (x : ℕ). is_at l Pdirect 2 ≡ true → is_identifier (base_at (grammar s) old (x + 1)) ≡ true → Seen es fs (x + 1)) r.from.0 tested.0 in
+        let seen : is_at l Pdirect 2 ≡ true → is_identifier (base_at (iso s) old (at + 1)) ≡ true → Seen es fs (at + 1) =
+        subst (λ (x : ℕ). is_at l Pdirect 2 ≡ true → is_identifier (base_at (iso s) old (x + 1)) ≡ true → Seen es fs (x + 1)) r.from.0 tested.0 in
         let same : (node_agrees s old l at es && all_agree s old under (begun l at under (lengthened es c))) ≡ true =
         subst (λ (x : ℕ). (node_agrees s old l x es && all_agree s old under (begun l x under (lengthened es c))) ≡ true) r.from.0 agree in
         let t = and_parts (node_agrees s old l at es) (all_agree s old under (begun l at under (lengthened es c))) same in

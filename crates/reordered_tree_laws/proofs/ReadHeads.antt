@@ -1,7 +1,7 @@
 -- The first children of parameters' declarators and of their parts are read as they are wanted.
 use Rattle.std.proofs.Common.{ℕ, zero, suc, ◌+◌, ◌≡◌, Bool, true, false, ◌&&◌, not, if◌then◌else◌, List, [], ◌∷◌, ◌++◌, length, Ok, Err, nat_lt, refl, sym, ap, subst, ◌∙◌}
 use Rattle.std.proofs.lemmas.Bool.{and_parts, and_from}
-use Rattle.c99_grammar.specs.declared.dialects.Dialect.{Dialect}
+use Rattle.c99_grammar.specs.declared.dialects.Edition.{Edition}
 use Rattle.cs_base.specs.Token.{Token}
 use Rattle.c99_tree.specs.Tree.{Forest, none, token, node, Node, leaf, inner, put, lone, collapsed}
 use Rattle.c99_tree.specs.declared.production.Label.{Label}
@@ -10,15 +10,15 @@ use Rattle.c99_tree.specs.declared.production.Production.TheVariants.{Translatio
 use Rattle.c99_grammar.specs.declared.classes.Class.{Class}
 use Rattle.c99_grammar.specs.Classes.{among}
 use Rattle.c99_grammar.specs.Items.{Item, one, part, end_of_text, act, ◌·◌, choice, maybe, many, deep, own, Action, Alternative}
-use Rattle.c99_grammar.specs.Standard.{Grammar, grammar}
+use Rattle.c99_grammar.specs.Standard.{Grammar, iso}
 use Rattle.c99_read.specs.State.{State, class_at, collapses, finished, acted, opened, closed}
 use Rattle.c99_read.specs.Reading.{produce, syntax, too_deep, Step, and_then, deepest, take_one, enter, may, step, alternative, pick, read_within, steps_for, whole, at_first, tree_of, read_of}
 use Rattle.tree_laws.proofs.Walked.{After, with_token, after_if, IsKept, each_part, kept_within, kept_by_item}
 use Rattle.reordered_tree_laws.proofs.Heads.{Shape, behind_more, shape_of, same_shape, self_shape, is_exact, leads, wanted, fits, table_fits, behind, behind_none, put_leaf, put_inner, are_signs, sign, word, heads, matches, heads_more, exact_heads, joined_matches, covered, Extends, Grows, extends_kept, node_extends, loosely, after_imp, token_shape}
 
-module _ (s : Dialect) (toks : List Token) where
+module _ (s : Edition) (toks : List Token) where
   abbrev g : Grammar
-  g = grammar s
+  g = iso s
 
   abbrev Ext : State → State → Type 0
   Ext a b = Extends s toks a b

@@ -3,14 +3,14 @@ use Rattle.std.proofs.Common.{ℕ, ◌+◌, ◌<◌, ◌≤◌, ◌≡◌, Bool,
 use Rattle.std.specs.List.{list_any}
 use Rattle.std.proofs.lemmas.Bool.{false≢true, and_parts, or_parts, ltb-true, eqb-true, eq-eqb}
 use Rattle.std.proofs.lemmas.List.Folds.{list_any-append}
-use Rattle.c99_grammar.specs.declared.dialects.Dialect.{Dialect}
+use Rattle.c99_grammar.specs.declared.dialects.Edition.{Edition}
 use Rattle.cs_base.specs.Token.{Token}
 use Rattle.c99_tree.specs.Tree.{Forest, none, token, node, Node}
 use Rattle.c99_tree.specs.declared.production.Label.{Label}
 use Rattle.c99_tree.specs.declared.production.Production.{Production}
 use Rattle.c99_tree.specs.declared.production.Production.TheVariants.{Main, Params, Primary, Pdirect}
 use Rattle.c99_tree.specs.contracts.production.ProductionPartialEq.TheImpl.{ghosts}
-use Rattle.c99_grammar.specs.Standard.{grammar}
+use Rattle.c99_grammar.specs.Standard.{iso}
 use Rattle.c99_read.specs.State.{base_at, is_identifier}
 use Rattle.c_types.specs.Trees.{is_at}
 use Rattle.c_types.specs.Lists.{odd_tokens, even_tokens, name_in, bare_at, bare_in}
@@ -25,18 +25,18 @@ is_tested Primary a k = a == 1
 is_tested Params a k = (a == 1) && (k % 2 == 0)
 is_tested _ a k = false
 
-module _ (s : Dialect) (toks : List Token) where
+module _ (s : Edition) (toks : List Token) where
   -- this is true of each tested token
   abbrev pub Tested : (ℕ → Type 0) → Label → ℕ → Forest → Type 0
   Tested P l k none = Unit {0}
   Tested P l k (token i rest) = (is_tested l.production l.alternative k ≡ true → P i) × Tested P l (k + 1) rest
   Tested P l k (node x first under rest) =
-      (is_at x Pdirect 2 ≡ true → is_identifier (base_at (grammar s) toks (first + 1)) ≡ true → P (first + 1)) × Tested P x 0 under × Tested P l (k + 1) rest
+      (is_at x Pdirect 2 ≡ true → is_identifier (base_at (iso s) toks (first + 1)) ≡ true → P (first + 1)) × Tested P x 0 under × Tested P l (k + 1) rest
 
   -- .. of a node
   abbrev pub TestedNode : (ℕ → Type 0) → Node → Type 0
   TestedNode P n =
-      (is_at n.label Pdirect 2 ≡ true → is_identifier (base_at (grammar s) toks (n.first + 1)) ≡ true → P (n.first + 1)) × Tested P n.label 0 n.under
+      (is_at n.label Pdirect 2 ≡ true → is_identifier (base_at (iso s) toks (n.first + 1)) ≡ true → P (n.first + 1)) × Tested P n.label 0 n.under
 
   module _ (P Q : ℕ → Type 0) (f : (i : ℕ) → P i → Q i) where
     pub tested_imp : (l : Label) (k : ℕ) (g : Forest) → Tested P l k g → Tested Q l k g
@@ -122,7 +122,7 @@ module _ (s : Dialect) (toks : List Token) where
     bare_pair _ a xs ys h e = absurd (false≢true h)
 
     the_bare : (first : ℕ) (x : Label) (under : Forest) → (is_at x Pdirect 2 ≡ true → HasBareName s toks first under) → list_any f (bare_at x under) ≡ false
-        → is_at x Pdirect 2 ≡ true → is_identifier (base_at (grammar s) toks (first + 1)) ≡ true → f (first + 1) ≡ false
+        → is_at x Pdirect 2 ≡ true → is_identifier (base_at (iso s) toks (first + 1)) ≡ true → f (first + 1) ≡ false
     the_bare first x under has e h w =
         one_in (first + 1) (subst (λ (xs : List ℕ). list_any f xs ≡ false) ((has h).named w)
         (bare_pair x.production x.alternative (even_tokens under) (name_in under) h e))

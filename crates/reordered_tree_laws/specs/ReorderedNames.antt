@@ -1,10 +1,10 @@
 -- That the names of a text agree with its tree is kept in a new order of lists (ISO/IEC 9899:1999, 6.2.1, 6.7.7 and 6.7.5.3
 -- paragraph 11).
 use Rattle.std.specs.Prelude.{ℕ, ◌≡◌, Bool, true, List, length, map, Ok}
-use Rattle.c99_grammar.specs.declared.dialects.Dialect.{Dialect}
+use Rattle.c99_grammar.specs.declared.dialects.Edition.{Edition}
 use Rattle.cs_base.specs.Token.{Token}
 use Rattle.c99_tree.specs.Tree.{Node}
-use Rattle.c99_grammar.specs.Standard.{grammar}
+use Rattle.c99_grammar.specs.Standard.{iso}
 use Rattle.c99_read.specs.State.{base_at}
 use Rattle.c99_read.specs.Reading.{read_of}
 use Rattle.name_chains.specs.Frames.{at_first as before}
@@ -18,24 +18,24 @@ use Rattle.reordered_tree_laws.specs.Premises.{CanReorder}
 use Rattle.reordered_tree_laws.specs.BareNames.{HaveBareNames}
 
 -- the second text is the first one in the new order, and each token has its class at its new place
-pub record IsReorderedText (s : Dialect) (order : List ℕ) (lists : ℕ → Bool) (tree : Node) (old new : List Token) : Type 0 where
+pub record IsReorderedText (s : Edition) (order : List ℕ) (lists : ℕ → Bool) (tree : Node) (old new : List Token) : Type 0 where
   pub texts : map (λ (t : Token). t.text) new ≡ arranged order (cut_in lists tree) (map (λ (t : Token). t.text) old)
-  pub classes : (k : ℕ) → base_at (grammar s) new (moved order (cut_in lists tree) (length old) k) ≡ base_at (grammar s) old k
+  pub classes : (k : ℕ) → base_at (iso s) new (moved order (cut_in lists tree) (length old) k) ≡ base_at (iso s) old k
 
 -- Where the lists can get the new order, names that agree with the tree agree with the one in the new order: what is a type
 -- name denotes a typedef name there too, and a primary expression and the bare name of a parameter denote none.
 abbrev pub ReorderedNamesAgree : Type 0
 ReorderedNamesAgree =
-    (s : Dialect) (old new : List Token) (order : List ℕ) (lists : ℕ → Bool) (tree : Node) (b : Bound) → IsTreeOf (length old) tree → HaveBareNames s old tree.under
+    (s : Edition) (old new : List Token) (order : List ℕ) (lists : ℕ → Bool) (tree : Node) (b : Bound) → IsTreeOf (length old) tree → HaveBareNames s old tree.under
     → CanReorder order lists old tree b → IsReorderedText s order lists tree old new → agrees s old tree.under (before (length old)) ≡ true
     → agrees s new (reordered order lists tree).under (before (length new)) ≡ true
 
 -- Each tree that is read of a text has its bare names so.
 abbrev pub TreesHaveBareNames : Type 0
-TreesHaveBareNames = (s : Dialect) (toks : List Token) (tree : Node) → read_of (grammar s) toks ≡ Ok tree → HaveBareNames s toks tree.under
+TreesHaveBareNames = (s : Edition) (toks : List Token) (tree : Node) → read_of (iso s) toks ≡ Ok tree → HaveBareNames s toks tree.under
 
 -- So the names of a text that is read agree with the tree in the new order.
 abbrev pub ReadNamesAgree : Type 0
 ReadNamesAgree =
-    (s : Dialect) (old new : List Token) (order : List ℕ) (lists : ℕ → Bool) (tree : Node) (b : Bound) → read_of (grammar s) old ≡ Ok tree
+    (s : Edition) (old new : List Token) (order : List ℕ) (lists : ℕ → Bool) (tree : Node) (b : Bound) → read_of (iso s) old ≡ Ok tree
     → CanReorder order lists old tree b → IsReorderedText s order lists tree old new → agrees s new (reordered order lists tree).under (before (length new)) ≡ true

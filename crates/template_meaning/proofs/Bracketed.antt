@@ -2,13 +2,13 @@
 use Rattle.std.proofs.Common.{◌≡◌, ℕ, ◌<◌, inl, inr, Bool, true, false, ◌&&◌, ◌||◌, not, if◌then◌else◌, refl, sym, ap, subst, ◌∙◌, arith}
 use Rattle.std.specs.Prelude.{◌==◌}
 use Rattle.std.proofs.lemmas.Bool.{false≢true, and_parts, and_from}
-use Rattle.c99_grammar.specs.declared.dialects.Dialect.{Dialect}
+use Rattle.c99_grammar.specs.declared.dialects.Edition.{Edition}
 use Rattle.c99_tree.specs.Tree.{Forest, none, token, node}
 use Rattle.c99_tree.specs.declared.production.Label.{Label}
 use Rattle.c99_tree.specs.declared.production.Production.{Production}
 use Rattle.c99_tree.specs.declared.production.Production.TheVariants.{Post, Args, Params}
 use Rattle.c99_tree.specs.contracts.production.ProductionPartialEq.TheImpl.{ghosts}
-use Rattle.c99_grammar.specs.Standard.{grammar}
+use Rattle.c99_grammar.specs.Standard.{iso}
 use Rattle.c_types.specs.Parameters.{parameters_of, typed, untyped}
 use Rattle.c_types.specs.Trees.{is_node, is_at, is_list}
 use Rattle.reordered_tree_laws.specs.Premises.{is_items, is_spaced, is_bracketed}
@@ -46,13 +46,13 @@ types_is l named other =
     ap (λ b. b || (is_node l Params && not (l.alternative == 1))) no_args
     ∙ (ap (λ b. false || (b && not (l.alternative == 1))) here ∙ ap (λ b. false || (true && not b)) second)
 
-module _ (s : Dialect) where
-  pub call_bracketed : (l : Label) (under : Forest) → is_at l Post 2 ≡ true → IsOfAlternative (grammar s) l under → EachNode (IsOfAlternative (grammar s)) under → is_bracketed under ≡ true
+module _ (s : Edition) where
+  pub call_bracketed : (l : Label) (under : Forest) → is_at l Post 2 ≡ true → IsOfAlternative (iso s) l under → EachNode (IsOfAlternative (iso s)) under → is_bracketed under ≡ true
   call_bracketed l under at x each = by (call_pair s l under x at)
     where
       full : (p : IsFullPair Args under) → is_bracketed under ≡ true
       full p =
-          let whole_each : EachNode (IsOfAlternative (grammar s)) (token p.begin (node p.label p.first p.items (token p.close none))) = subst (EachNode (IsOfAlternative (grammar s))) p.is each in
+          let whole_each : EachNode (IsOfAlternative (iso s)) (token p.begin (node p.label p.first p.items (token p.close none))) = subst (EachNode (IsOfAlternative (iso s))) p.is each in
           let spaced = items_spaced false any_production p.items (args_items s p.label p.items whole_each.0 p.production) in
           let items_ : is_items p.label ≡ true = args_is p.label.production p.label.alternative p.production in
           ap is_bracketed p.is ∙ and_from (is_items p.label) (is_spaced false p.items) items_ spaced
@@ -62,20 +62,20 @@ module _ (s : Dialect) where
       by (inr p) = full p
 
   -- a parameter type list
-  pub typed_bracketed : (under : Forest) (p : IsFullPair Params under) → EachNode (IsOfAlternative (grammar s)) under → is_at p.label Params 1 ≡ false → is_bracketed under ≡ true
+  pub typed_bracketed : (under : Forest) (p : IsFullPair Params under) → EachNode (IsOfAlternative (iso s)) under → is_at p.label Params 1 ≡ false → is_bracketed under ≡ true
   typed_bracketed under p each other =
-      let whole_each : EachNode (IsOfAlternative (grammar s)) (token p.begin (node p.label p.first p.items (token p.close none))) = subst (EachNode (IsOfAlternative (grammar s))) p.is each in
+      let whole_each : EachNode (IsOfAlternative (iso s)) (token p.begin (node p.label p.first p.items (token p.close none))) = subst (EachNode (IsOfAlternative (iso s))) p.is each in
       let spaced = items_spaced true is_param p.items (params_items s p.label p.items whole_each.0 p.production other) in
       ap is_bracketed p.is ∙ and_from (is_items p.label) (is_spaced false p.items) (types_is p.label p.production other) spaced
 
   -- a parameter list of so many parameters, which are not none
-  pub list_bracketed : (n : ℕ) → 0 < n → (l : Label) (name : ℕ) (under : Forest) → is_list l ≡ true → IsOfAlternative (grammar s) l under → EachNode (IsOfAlternative (grammar s)) under
+  pub list_bracketed : (n : ℕ) → 0 < n → (l : Label) (name : ℕ) (under : Forest) → is_list l ≡ true → IsOfAlternative (iso s) l under → EachNode (IsOfAlternative (iso s)) under
       → declarations_in (parameters_of name under) ≡ n → is_bracketed under ≡ true
   list_bracketed n some l name under at x each counted = by (list_pair s l under x at)
     where
       full : (p : IsFullPair Params under) → is_bracketed under ≡ true
       full p =
-          let whole_each : EachNode (IsOfAlternative (grammar s)) (token p.begin (node p.label p.first p.items (token p.close none))) = subst (EachNode (IsOfAlternative (grammar s))) p.is each in
+          let whole_each : EachNode (IsOfAlternative (iso s)) (token p.begin (node p.label p.first p.items (token p.close none))) = subst (EachNode (IsOfAlternative (iso s))) p.is each in
           let other = by_form (is_at p.label Params 1) refl in
           let spaced = items_spaced true is_param p.items (params_items s p.label p.items whole_each.0 p.production other) in
           ap is_bracketed p.is ∙ and_from (is_items p.label) (is_spaced false p.items) (types_is p.label p.production other) spaced

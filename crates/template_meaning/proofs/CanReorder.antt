@@ -1,10 +1,10 @@
 -- The lists of the functions in each unit can get the order, where nothing stands against it.
 use Rattle.std.proofs.Common.{◌≡◌, ℕ, false, List, length}
 use Rattle.cs_base.specs.declared.positions.Part.{Part}
-use Rattle.c99_grammar.specs.declared.dialects.Dialect.{Dialect}
+use Rattle.c99_grammar.specs.declared.dialects.Edition.{Edition}
 use Rattle.c99_tree.specs.Tree.{Forest, none, token, node}
-use Rattle.c99_grammar.specs.Dialects.{dialect}
-use Rattle.c99_grammar.specs.Standard.{grammar}
+use Rattle.c99_grammar.specs.Dialects.{edition}
+use Rattle.c99_grammar.specs.Standard.{iso}
 use Rattle.c_types.specs.declared.lists.List.{List as NameList}
 use Rattle.c_types.specs.Parameters.{parameters_in}
 use Rattle.name_chains.specs.Frames.{outermost}
@@ -30,7 +30,7 @@ use Rattle.template_meaning.proofs.UnitCut.{clear, read, declared, called, units
 use Rattle.template_meaning.proofs.UnitReorder.{unit_items, unit_apart, unit_bracketed, unit_fresh, unit_outer}
 use Rattle.template_meaning.proofs.Units.{IsReadSo}
 
-anonymous_begin : (s : Dialect) (f : Forest) → EachNode (IsOfAlternative (grammar s)) f → AnonymousBegin f
+anonymous_begin : (s : Edition) (f : Forest) → EachNode (IsOfAlternative (iso s)) f → AnonymousBegin f
 anonymous_begin s none each = tt
 anonymous_begin s (token i rest) each = anonymous_begin s rest each
 anonymous_begin s (node m first under rest) each = (rest_begins s m under each.0, anonymous_begin s under each.1, anonymous_begin s rest each.2)
@@ -46,8 +46,8 @@ module _ (in_order : ReadParameterListsAreInOrder) (are_told : IdentifiersAreTol
   pub all_told : AreTold u.bound.names u.text.toks false false (outermost 0).label u.tree.under
   all_told =
       let r = is_read in
-      are_told u.text.toks u.tree u.bound (trees_of_texts (dialect u.standard) u.text.toks u.tree r.reads)
-      (anonymous_begin (dialect u.standard) u.tree.under (each_below (dialect u.standard) u.text.toks u.tree r.reads)) r.binds
+      are_told u.text.toks u.tree u.bound (trees_of_texts (edition u.standard) u.text.toks u.tree r.reads)
+      (anonymous_begin (edition u.standard) u.tree.under (each_below (edition u.standard) u.text.toks u.tree r.reads)) r.binds
 
   can_reorder : CanReorder order (begins_list members u) u.text.toks u.tree u.bound
   can_reorder =
@@ -60,12 +60,12 @@ module _ (in_order : ReadParameterListsAreInOrder) (are_told : IdentifiersAreTol
         first = no_list_is_first in_order source ws a members order h u i;
         many = cut.order_is;
         each = cut.each;
-        formed = trees_have_forms (dialect u.standard) u.text.toks u.tree (begins_list members u) r.reads
-            (unit_bracketed (dialect u.standard) members u a (length order) r.reads r.binds in_order of_declarators of_calls is_clear all_told)
-            (unit_outer (dialect u.standard) members u a (length order) r.reads r.binds in_order of_declarators of_calls is_clear all_told);
-        items = unit_items (dialect u.standard) members u a (length order) r.reads r.binds in_order of_declarators of_calls is_clear all_told;
-        apart = unit_apart (dialect u.standard) members u a (length order) r.reads r.binds in_order of_declarators of_calls is_clear all_told;
-        fresh = unit_fresh (dialect u.standard) members u a (length order) r.reads r.binds in_order of_declarators of_calls is_clear all_told;
+        formed = trees_have_forms (edition u.standard) u.text.toks u.tree (begins_list members u) r.reads
+            (unit_bracketed (edition u.standard) members u a (length order) r.reads r.binds in_order of_declarators of_calls is_clear all_told)
+            (unit_outer (edition u.standard) members u a (length order) r.reads r.binds in_order of_declarators of_calls is_clear all_told);
+        items = unit_items (edition u.standard) members u a (length order) r.reads r.binds in_order of_declarators of_calls is_clear all_told;
+        apart = unit_apart (edition u.standard) members u a (length order) r.reads r.binds in_order of_declarators of_calls is_clear all_told;
+        fresh = unit_fresh (edition u.standard) members u a (length order) r.reads r.binds in_order of_declarators of_calls is_clear all_told;
       }
 
 pub units_can_reorder : ReadParameterListsAreInOrder → IdentifiersAreTold → UnitsCanReorder

@@ -4,7 +4,7 @@ use Rattle.std.specs.Prelude.{slice_get, ◌==◌}
 use Rattle.std.specs.List.{list_all}
 use Rattle.std.proofs.lemmas.Bool.{false≢true, and_parts, and_from, or_left, or_right}
 use Rattle.std.proofs.lemmas.Option.{same_Some}
-use Rattle.c99_grammar.specs.declared.dialects.Dialect.{Dialect}
+use Rattle.c99_grammar.specs.declared.dialects.Edition.{Edition}
 use Rattle.cs_base.specs.Token.{Token}
 use Rattle.c99_tree.specs.Tree.{Forest, none, token, node, Node, leaf, inner, put, lone, collapsed}
 use Rattle.c99_tree.specs.declared.production.Label.{Label}
@@ -12,7 +12,7 @@ use Rattle.c99_tree.specs.declared.production.Production.{Production}
 use Rattle.c99_tree.specs.declared.production.Production.TheVariants.{TranslationUnit}
 use Rattle.c99_grammar.specs.Classes.{among}
 use Rattle.c99_grammar.specs.Items.{Item, one, part, end_of_text, act, ◌·◌, choice, maybe, many, deep, own, Action, Alternative}
-use Rattle.c99_grammar.specs.Standard.{Grammar, grammar}
+use Rattle.c99_grammar.specs.Standard.{Grammar, iso}
 use Rattle.c99_read.specs.State.{State, class_at, collapses, finished, acted, opened, closed}
 use Rattle.c99_read.specs.Reading.{Goal, produce, repeat, Step, and_then, deepest, take_one, at_end, enter, may, step, alternative, pick, run, read_within, steps_for, whole, at_first, tree_of, read_of}
 use Rattle.tree_laws.specs.Shapes.{has_no_declaring, parts_all, goal_all, passes_on}
@@ -377,8 +377,8 @@ module _ (g : Grammar) where
 
 pub children_of_alternatives : ChildrenAreOfAlternatives
 children_of_alternatives s toks tree e =
-    tree_each (grammar s) toks (whole (grammar s) 0 (produce TranslationUnit) (at_first toks)) tree (whole_adds (grammar s) (inner_at s) toks) e
+    tree_each (iso s) toks (whole (iso s) 0 (produce TranslationUnit) (at_first toks)) tree (whole_adds (iso s) (inner_at s) toks) e
 
 -- .. and of each below the unit
-pub each_below : (s : Dialect) (toks : List Token) (tree : Node) → read_of (grammar s) toks ≡ Ok tree → EachNode (IsOfAlternative (grammar s)) tree.under
+pub each_below : (s : Edition) (toks : List Token) (tree : Node) → read_of (iso s) toks ≡ Ok tree → EachNode (IsOfAlternative (iso s)) tree.under
 each_below s toks tree e = let whole_ = (children_of_alternatives s toks tree e).1 in whole_.1

@@ -12,8 +12,8 @@ use Rattle.c_types.specs.Declarations.{is_in}
 use Rattle.c_types.specs.declared.lists.List.{List as NameList}
 use Rattle.c_types.specs.declared.parameters.ParameterList.{ParameterList}
 use Rattle.c_types.specs.Parameters.{parameters_in}
-use Rattle.c99_grammar.specs.Dialects.{dialect}
-use Rattle.c99_grammar.specs.Standard.{grammar}
+use Rattle.c99_grammar.specs.Dialects.{edition}
+use Rattle.c99_grammar.specs.Standard.{iso}
 use Rattle.c99_read.specs.State.{base_at, is_identifier}
 use Rattle.scope_bind.specs.declared.bound.Name.{Name}
 use Rattle.scope_bind.specs.Bound.{Bound}
@@ -190,11 +190,11 @@ module _ (source : Source) (ws : WorkspaceValue) (a : AnalysisValue) (members : 
               | inr later ↦ any_all test ks both.1 later
             ]
 
-        bare_named : (j : ℕ) → is_in u.bound.bare k ≡ true → is_identifier (base_at (grammar (dialect u.standard)) toks k) ≡ true
+        bare_named : (j : ℕ) → is_in u.bound.bare k ≡ true → is_identifier (base_at (iso (edition u.standard)) toks k) ≡ true
         bare_named j bare =
             let read = read_so source ws a h.analysed u i in
-            let test : ℕ → Bool = λ m. is_identifier (base_at (grammar (dialect u.standard)) toks m) in
-            let pass = bare_pass test u.tree.under _ 0 (names_are_read (dialect u.standard) toks u.tree read.reads) in
+            let test : ℕ → Bool = λ m. is_identifier (base_at (iso (edition u.standard)) toks m) in
+            let pass = bare_pass test u.tree.under _ 0 (names_are_read (edition u.standard) toks u.tree read.reads) in
             let own : u.bound.bare ≡ _ = ap (λ (b : Bound). b.bare) (binding_is toks u.tree u.bound read.binds) in
             any_all test u.bound.bare (subst (λ (ks : List ℕ). list_all test ks ≡ true) (sym own) pass) bare
 

@@ -4,7 +4,7 @@ use Rattle.std.specs.Prelude.{◌==◌, ◌%◌, slice_get}
 use Rattle.std.specs.List.{list_all}
 use Rattle.std.proofs.lemmas.Bool.{cases_Bool, false≢true, and_parts, or_cases, eq-eqb, ne_eqb}
 use Rattle.std.proofs.lemmas.Option.{same_Some}
-use Rattle.c99_grammar.specs.declared.dialects.Dialect.{Dialect}
+use Rattle.c99_grammar.specs.declared.dialects.Edition.{Edition}
 use Rattle.c99_tree.specs.Tree.{Forest, none, token, node, Node}
 use Rattle.c99_tree.specs.declared.production.Label.{Label}
 use Rattle.c99_tree.specs.declared.production.Production.{Production}
@@ -12,7 +12,7 @@ use Rattle.c99_tree.specs.declared.production.Production.TheVariants.{Translatio
 use Rattle.c99_tree.specs.contracts.production.ProductionPartialEq.TheImpl.{ghosts}
 use Rattle.c99_grammar.specs.First.{order}
 use Rattle.c99_grammar.specs.Items.{Item, one, part, end_of_text, act, ◌·◌, choice, maybe, many, deep, Alternative}
-use Rattle.c99_grammar.specs.Standard.{Grammar, grammar}
+use Rattle.c99_grammar.specs.Standard.{Grammar, iso}
 use Rattle.c99_read.specs.Sound.{never_empty, has_token, is_low, is_sound}
 use Rattle.c_types.specs.declared.parameters.ParameterForm.TheVariants.{Types as types, Ellipsis as ellipsis}
 use Rattle.c_types.specs.Lists.{odd_tokens, list_of}
@@ -20,7 +20,7 @@ use Rattle.c_types.specs.Parameters.{declared_names, ends_in_token, typed, untyp
 use Rattle.c_types.specs.Trees.{is_at, is_list, last_token}
 use Rattle.tree_laws.specs.TreesOfTexts.{token_count, AreFrom}
 use Rattle.tree_laws.specs.Shapes.{has_no_declaring}
-use Rattle.c99_read.proofs.C99Sound.{grammar-sound}
+use Rattle.c99_read.proofs.C99Sound.{iso-sound}
 use Rattle.tree_laws.proofs.NameClasses.{implied}
 use Rattle.list_cuts.specs.Cuts.{Cut, done, count_of, AreOf, AreItemsOf}
 use Rattle.reordered_tree_laws.specs.Reordered.{is_among}
@@ -201,14 +201,14 @@ sound_at g p [] n a all at = absurd (cc)
 sound_at g p (b ∷ more) zero a all at = subst (λ (c : Alternative). is_sound p c ≡ true) (same_Some b a at) (and_parts (is_sound p b) (list_all (is_sound p) more) all).0
 sound_at g p (b ∷ more) (suc n) a all at = sound_at g p more n a (and_parts (is_sound p b) (list_all (is_sound p) more) all).1 at
 
-module _ (s : Dialect) where
-  pub node_some : (l : Label) (under : Forest) → IsOfAlternative (grammar s) l under → has_no_declaring l.production ≡ true → under ≡ none → ⊥
+module _ (s : Edition) where
+  pub node_some : (l : Label) (under : Forest) → IsOfAlternative (iso s) l under → has_no_declaring l.production ≡ true → under ≡ none → ⊥
   node_some l under x inner e =
-      let sound = sound_at (grammar s) l.production ((grammar s).table l.production) x.number x.alternative ((grammar-sound s).sound l.production) x.is_one in
+      let sound = sound_at (iso s) l.production ((iso s).table l.production) x.number x.alternative ((iso-sound s).sound l.production) x.is_one in
       let body = implied (never_empty l.production) (has_token x.alternative.body) (and_parts (is_low (order l.production) x.alternative.body) _ sound).1 (inner_some l.production inner) in
       item_some x.alternative.body body (children under) x.own (ap children e)
 
-  pub some_tokens : (f : Forest) → EachNode (IsOfAlternative (grammar s)) f → EachNode IsInner f → (f ≡ none → ⊥) → 1 ≤ token_count f
+  pub some_tokens : (f : Forest) → EachNode (IsOfAlternative (iso s)) f → EachNode IsInner f → (f ≡ none → ⊥) → 1 ≤ token_count f
   some_tokens none each inner some = absurd (some refl)
   some_tokens (token i rest) each inner some = omega arith
   some_tokens (node l first under rest) each inner some =
@@ -220,17 +220,17 @@ module _ (s : Dialect) where
 last_of : (i m first : ℕ) (l : Label) (items : Forest) → last_token (token i (node l first items (token m none))) 0 ≡ m
 last_of i m first l items = refl
 
-module _ (s : Dialect) (n : ℕ) where
+module _ (s : Edition) (n : ℕ) where
   -- the argument list of a call
-  pub call_have : (l : Label) (k name : ℕ) (under : Forest) → is_at l Post 2 ≡ true → IsOfAlternative (grammar s) l under → EachNode (IsOfAlternative (grammar s)) under → AreFrom k under
+  pub call_have : (l : Label) (k name : ℕ) (under : Forest) → is_at l Post 2 ≡ true → IsOfAlternative (iso s) l under → EachNode (IsOfAlternative (iso s)) under → AreFrom k under
       → arguments_of (list_of name under) ≡ n → InnerHave n under
   call_have l k name under at x each tokens is_many = by (call_pair s l under x at)
     where
       full : (p : IsFullPair Args under) → InnerHave n under
       full p = subst (InnerHave n) (sym p.is) (here, tt)
         where
-          whole_each : EachNode (IsOfAlternative (grammar s)) (token p.begin (node p.label p.first p.items (token p.close none)))
-          whole_each = subst (EachNode (IsOfAlternative (grammar s))) p.is each
+          whole_each : EachNode (IsOfAlternative (iso s)) (token p.begin (node p.label p.first p.items (token p.close none)))
+          whole_each = subst (EachNode (IsOfAlternative (iso s))) p.is each
 
           whole_tokens : AreFrom k (token p.begin (node p.label p.first p.items (token p.close none)))
           whole_tokens = subst (AreFrom k) p.is tokens
@@ -265,15 +265,15 @@ module _ (s : Dialect) (n : ℕ) where
       by (inr p) = full p
 
   -- the parameter list of a declarator
-  pub list_have : (l : Label) (name : ℕ) (under : Forest) → is_list l ≡ true → IsOfAlternative (grammar s) l under → EachNode (IsOfAlternative (grammar s)) under
+  pub list_have : (l : Label) (name : ℕ) (under : Forest) → is_list l ≡ true → IsOfAlternative (iso s) l under → EachNode (IsOfAlternative (iso s)) under
       → declarations_in (parameters_of name under) ≡ n → InnerHave n under
   list_have l name under at x each is_many = by (list_pair s l under x at)
     where
       full : (p : IsFullPair Params under) → InnerHave n under
       full p = subst (InnerHave n) (sym p.is) (here (is_at p.label Params 1) refl, tt)
         where
-          whole_each : EachNode (IsOfAlternative (grammar s)) (token p.begin (node p.label p.first p.items (token p.close none)))
-          whole_each = subst (EachNode (IsOfAlternative (grammar s))) p.is each
+          whole_each : EachNode (IsOfAlternative (iso s)) (token p.begin (node p.label p.first p.items (token p.close none)))
+          whole_each = subst (EachNode (IsOfAlternative (iso s))) p.is each
 
           told : declarations_in (if is_at p.label Params 1 then untyped name p.items else typed name p.items) ≡ n
           told = subst (λ (f : Forest). declarations_in (parameters_of name f) ≡ n) p.is is_many

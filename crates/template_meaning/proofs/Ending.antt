@@ -4,20 +4,20 @@ use Rattle.std.specs.Prelude.{slice_get, nat_lt}
 use Rattle.std.specs.List.{list_all}
 use Rattle.std.proofs.lemmas.Bool.{false≢true, cases_Bool, and_parts, and_from, or_left, or_right, ltb-true, ltb-false}
 use Rattle.std.proofs.lemmas.Option.{same_Some}
-use Rattle.c99_grammar.specs.declared.dialects.Dialect.{Dialect}
+use Rattle.c99_grammar.specs.declared.dialects.Edition.{Edition}
 use Rattle.cs_base.specs.Token.{Token}
 use Rattle.c99_tree.specs.Tree.{Forest, none, token, node}
 use Rattle.c99_tree.specs.declared.production.Label.{Label}
 use Rattle.c99_tree.specs.declared.production.Production.{Production}
-use Rattle.c99_tree.specs.declared.production.Production.TheVariants.{TranslationUnit, External, ExtRest, ExtTail, FunBody, Declaration, DeclRest, InitDecl, Sassert, Specs, Main, Mod, Qual, Word, StructSpec, SuRest, Members, Member, MemRest, Mdecl, EnumSpec, EnRest, Enumerators, Enumerator, Declarator, Pointer, Direct, Suffix, Bound, Params, Param, Pdecl, Pdirect, TypeName, Adecl, Adirect, Init, InitList, InitItem, Designator, Expr, Assign, Asgop, Cond, Lor, Land, Bor, Bxor, Band, Equal, Relate, Shift, Add, Mul, Cast, CastRest, Unary, SizeRest, SizeLit, Primary, Post, Args, Block, BlockItem, Statement, Sub, ForInit}
+use Rattle.c99_tree.specs.declared.production.Production.TheVariants.{TranslationUnit, External, ExtRest, ExtTail, FunBody, Declaration, DeclRest, InitDecl, Sassert, Specs, Main, Mod, Qual, Word, StructSpec, SuRest, Members, Member, MemRest, Mdecl, EnumSpec, EnRest, Enumerators, Enumerator, Declarator, Pointer, Direct, Suffix, Bound, Params, Param, Pdecl, Pdirect, TypeName, Adecl, Adirect, Init, InitList, InitItem, Designator, Expr, Assign, Asgop, Cond, Lor, Land, Bor, Bxor, Band, Equal, Relate, Shift, Add, Mul, Cast, CastRest, Unary, SizeRest, SizeLit, Primary, Post, Args, Block, BlockItem, Statement, Sub, ForInit, AutoDecl, Attr, AttrItem, AttrWord, AsmName, Operand, Association, MemberPath, AsmPart, AsmOperand}
 use Rattle.c99_tree.specs.contracts.production.ProductionPartialEq.TheImpl.{ghosts}
 use Rattle.c99_grammar.specs.declared.classes.Class.{Class}
 use Rattle.c99_grammar.specs.declared.classes.Class.TheVariants.{LeftParen, Slash, Hash}
 use Rattle.c99_grammar.specs.Classes.{is_same, among}
 use Rattle.c99_grammar.specs.Items.{Item, one, part, end_of_text, act, ◌·◌, choice, maybe, many, deep, own, Alternative, plain}
-use Rattle.c99_grammar.specs.Standard.{Grammar, grammar}
+use Rattle.c99_grammar.specs.Standard.{Grammar, iso}
 use Rattle.c99_read.specs.State.{base_at, is_identifier}
-use Rattle.c99_grammar.proofs.StandardLemmas.{by_dialect}
+use Rattle.c99_grammar.proofs.StandardLemmas.{by_edition}
 use Rattle.c_types.specs.Trees.{last_token}
 use Rattle.tree_laws.specs.Shapes.{has_no_declaring}
 use Rattle.tree_laws.specs.TreesOfTexts.{token_count, AreFrom, IsTreeOf}
@@ -61,27 +61,27 @@ no_hash (deep a) = no_hash a
 abbrev row_ends : Production → Alternative → Bool
 row_ends p a = ends_ok a.body && no_hash a.body
 
-module _ (std : Dialect) where
-  ends_at : (p : Production) → list_all (row_ends p) ((grammar std).table p) ≡ true
+module _ (std : Edition) where
+  ends_at : (p : Production) → list_all (row_ends p) ((iso std).table p) ≡ true
   ends_at TranslationUnit = refl
-  ends_at External = by_dialect (λ s. list_all (row_ends External) ((grammar s).table External) ≡ true) refl refl refl std
+  ends_at External = by_edition (λ s. list_all (row_ends External) ((iso s).table External) ≡ true) refl refl std
   ends_at ExtRest = refl
   ends_at ExtTail = refl
   ends_at FunBody = refl
-  ends_at Declaration = by_dialect (λ s. list_all (row_ends Declaration) ((grammar s).table Declaration) ≡ true) refl refl refl std
+  ends_at Declaration = by_edition (λ s. list_all (row_ends Declaration) ((iso s).table Declaration) ≡ true) refl refl std
   ends_at DeclRest = refl
   ends_at InitDecl = refl
-  ends_at Sassert = by_dialect (λ s. list_all (row_ends Sassert) ((grammar s).table Sassert) ≡ true) refl refl refl std
+  ends_at Sassert = by_edition (λ s. list_all (row_ends Sassert) ((iso s).table Sassert) ≡ true) refl refl std
   ends_at Specs = refl
   ends_at Main = refl
-  ends_at Mod = by_dialect (λ s. list_all (row_ends Mod) ((grammar s).table Mod) ≡ true) refl refl refl std
+  ends_at Mod = by_edition (λ s. list_all (row_ends Mod) ((iso s).table Mod) ≡ true) refl refl std
   ends_at Qual = refl
   ends_at Word = refl
   ends_at StructSpec = refl
   ends_at SuRest = refl
   ends_at Members = refl
-  ends_at Member = by_dialect (λ s. list_all (row_ends Member) ((grammar s).table Member) ≡ true) refl refl refl std
-  ends_at MemRest = by_dialect (λ s. list_all (row_ends MemRest) ((grammar s).table MemRest) ≡ true) refl refl refl std
+  ends_at Member = by_edition (λ s. list_all (row_ends Member) ((iso s).table Member) ≡ true) refl refl std
+  ends_at MemRest = by_edition (λ s. list_all (row_ends MemRest) ((iso s).table MemRest) ≡ true) refl refl std
   ends_at Mdecl = refl
   ends_at EnumSpec = refl
   ends_at EnRest = refl
@@ -130,6 +130,16 @@ module _ (std : Dialect) where
   ends_at Statement = refl
   ends_at Sub = refl
   ends_at ForInit = refl
+  ends_at AutoDecl = refl
+  ends_at Attr = refl
+  ends_at AttrItem = refl
+  ends_at AttrWord = refl
+  ends_at AsmName = refl
+  ends_at Operand = refl
+  ends_at Association = refl
+  ends_at MemberPath = refl
+  ends_at AsmPart = refl
+  ends_at AsmOperand = refl
 
 -- ---- Classes
 
@@ -254,9 +264,9 @@ module _ (g : Grammar) (toks : List Token) where
 
 -- ---- Nodes
 
-module _ (s : Dialect) (toks : List Token) where
+module _ (s : Edition) (toks : List Token) where
   abbrev g : Grammar
-  g = grammar s
+  g = iso s
 
   node_row : (l : Label) (under : Forest) (x : IsOfClasses g toks l under) → row_ends l.production x.alternative ≡ true
   node_row l under x = table_row row_ends l.production (g.table l.production) x.number x.alternative (ends_at s l.production) x.is_one

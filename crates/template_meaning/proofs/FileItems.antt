@@ -2,7 +2,7 @@
 use Rattle.std.proofs.Common.{◌≡◌, ℕ, ◌<◌, ◌≤◌, List, [], ◌∷◌, length, Some, Ok, sym, ap, subst, ◌∙◌, arith}
 use Rattle.std.specs.Prelude.{slice_get}
 use Rattle.cs_base.specs.Token.{Token}
-use Rattle.c99_grammar.specs.Dialects.{dialect}
+use Rattle.c99_grammar.specs.Dialects.{edition}
 use Rattle.tree_laws.specs.ReadTexts.{ReadParameterListsAreInOrder}
 use Rattle.macro_body.specs.Hides.{toks_of, unhidden}
 use Rattle.unit_steps.specs.Below.macro_expand.Expansion.{whole, expansion}
@@ -48,7 +48,7 @@ items_stand may alike in_order cuts source ws a members order h some typed file 
     let u : UnitAnalysis = x.unit in
     let pairs = own_pairs may in_order cuts source ws a members order h some u x.there (typed u x.there) x.list (among_in (own_lists members u) x.list x.own) in
     let pairs2 = subst (EachPair (EndsItem _ u.text.toks)) x.unit_marks pairs in
-    let out_items = items_out (dialect u.standard) (toks_of x.e.toks) u.text.toks x.before x.toks (no_hash may in_order cuts source ws a members order h some u x.there (typed u x.there)) x.in_out (bounded (length (toks_of x.e.toks)) x.in_out x.out_marks) pairs2 in
+    let out_items = items_out (edition u.standard) (toks_of x.e.toks) u.text.toks x.before x.toks (no_hash may in_order cuts source ws a members order h some u x.there (typed u x.there)) x.in_out (bounded (length (toks_of x.e.toks)) x.in_out x.out_marks) pairs2 in
     let distinct : AreDistinct x.run = subst AreDistinct (sym x.run_is) (distinct_range file.text.toks x.it.from x.it.to (distinct_kept a.table file kept)) in
     let run_items = items_run alike (record { table = x.s.macros; path = file.path }) 0 x.run x.s.work x.e distinct (whole_of x.s.macros file.path x.run x.s.work x.e x.expands) 0 x.in_run x.in_out
     (standing (length x.run) x.in_run x.run_marks) x.same (plain_signed (toks_of x.e.toks) x.in_out x.signed) out_items in

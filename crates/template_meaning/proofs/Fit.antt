@@ -3,7 +3,7 @@ use Rattle.std.proofs.Common.{◌≡◌, ℕ, zero, suc, ◌+◌, inl, inr, Bool
 use Rattle.std.specs.Prelude.{◌==◌, slice_get}
 use Rattle.std.proofs.lemmas.Bool.{cases_Bool, false≢true, and_parts, and_from, eqb-true}
 use Rattle.std.proofs.lemmas.Option.{same_Some}
-use Rattle.c99_grammar.specs.declared.dialects.Dialect.{Dialect}
+use Rattle.c99_grammar.specs.declared.dialects.Edition.{Edition}
 use Rattle.c99_tree.specs.Tree.{Forest}
 use Rattle.c99_tree.specs.declared.production.Label.{Label}
 use Rattle.c99_tree.specs.declared.production.Production.{Production}
@@ -11,7 +11,7 @@ use Rattle.c99_tree.specs.declared.production.Production.TheVariants.{StructSpec
 use Rattle.c99_tree.specs.contracts.production.ProductionPartialEq.TheImpl.{ghosts}
 use Rattle.c99_grammar.specs.declared.classes.Class.TheVariants.{PlusPlus, MinusMinus, Amp, Star, Plus, Minus, Tilde, Bang}
 use Rattle.c99_grammar.specs.Items.{Item, one, part, ◌·◌, many, deep, own, Alternative, plain}
-use Rattle.c99_grammar.specs.Standard.{grammar}
+use Rattle.c99_grammar.specs.Standard.{iso}
 use Rattle.c_types.specs.Trees.{is_node, is_at}
 use Rattle.tree_laws.specs.Shapes.{parts_all, begins, has_no_body, passes_on}
 use Rattle.tree_laws.proofs.NameClasses.{implied}
@@ -26,7 +26,7 @@ or_other : (a b : Bool) → (a || b) ≡ true → a ≡ false → b ≡ true
 or_other true b h e = absurd (false≢true (sym e))
 or_other false b h e = h
 
-module _ (s : Dialect) (l : Label) (under : Forest) (x : IsOfAlternative (grammar s) l under) where
+module _ (s : Edition) (l : Label) (under : Forest) (x : IsOfAlternative (iso s) l under) where
   abbrev p : Production
   p = l.production
 
@@ -34,7 +34,7 @@ module _ (s : Dialect) (l : Label) (under : Forest) (x : IsOfAlternative (gramma
   body = let a = x.alternative in a.body
 
   row : row_fits p x.alternative ≡ true
-  row = table_row row_fits p ((grammar s).table p) x.number x.alternative (fits_at s p) x.is_one
+  row = table_row row_fits p ((iso s).table p) x.number x.alternative (fits_at s p) x.is_one
 
   firsts : row_first p x.alternative ≡ true
   firsts = (and_parts (row_first p x.alternative) (row_second p x.alternative && row_third p x.alternative) row).0
@@ -188,7 +188,7 @@ operand_plain q (inr c) = not_is (is_rest q) (operands_are (not_these is_rest) r
     not_is true h = absurd (false≢true h)
     not_is false h = refl
 
-module _ (s : Dialect) (l : Label) (under : Forest) (x : IsOfAlternative (grammar s) l under) where
+module _ (s : Edition) (l : Label) (under : Forest) (x : IsOfAlternative (iso s) l under) where
   signs_token : is_items l ≡ false → (v : List Child) → children under ≡ a_token ∷ v → signs l false 0 (children under) ≡ true
   signs_token plain_ v e =
       subst (λ (w : List Child). signs l false 0 w ≡ true) (sym e) (ap (λ b. signs l (not b) 1 v) plain_ ∙ signs_behind l plain_ 1 v)
@@ -199,12 +199,12 @@ module _ (s : Dialect) (l : Label) (under : Forest) (x : IsOfAlternative (gramma
       let named = unary_named l.production both.0 in
       let signed : Item = one (PlusPlus ∷ MinusMinus ∷ Amp ∷ Star ∷ Plus ∷ Minus ∷ Tilde ∷ Bang ∷ []) · deep (part Cast) in
       let one_ : l.alternative ≡ 0 + 1 = eqb-true l.alternative 1 both.1 in
-      let own_ = alternative_is (grammar s) l under x Unary 0 (plain signed) named one_ refl in
+      let own_ = alternative_is (iso s) l under x Unary 0 (plain signed) named one_ refl in
       let first = begins_token signed refl (children under) own_ in
       signs_token (unary_plain l.production l.alternative both.0) first.0 first.1
 
   signs_add : is_node l Add ≡ true → signs l false 0 (children under) ≡ true
-  signs_add at = by (x.number) (sym (ap (λ (q : Production). slice_get ((grammar s).table q) x.number) named) ∙ x.is_one)
+  signs_add at = by (x.number) (sym (ap (λ (q : Production). slice_get ((iso s).table q) x.number) named) ∙ x.is_one)
     where
       named : l.production ≡ Add
       named = add_named l.production at
@@ -231,7 +231,7 @@ module _ (s : Dialect) (l : Label) (under : Forest) (x : IsOfAlternative (gramma
           let e : w ≡ a_node q ∷ ys = all ∙ ap (λ (v : List Child). v ++ ys) first in
           subst (λ (v : List Child). signs l false 0 v ≡ true) (sym e) (more q ys (operand_plain q stands) (behind n ys times))
 
-      by : (n : ℕ) → slice_get ((grammar s).table Add) n ≡ Some x.alternative → signs l false 0 (children under) ≡ true
+      by : (n : ℕ) → slice_get ((iso s).table Add) n ≡ Some x.alternative → signs l false 0 (children under) ≡ true
       by zero at_ =
           let same : sum ≡ x.alternative = same_Some sum x.alternative at_ in
           whole (children under) (subst (λ (a : Alternative). AreOfItem a.body (children under)) (sym same) x.own)

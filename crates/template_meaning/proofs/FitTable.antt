@@ -1,16 +1,16 @@
--- What the table of each dialect says of the children of nodes.
+-- What the table of each edition says of the children of nodes.
 use Rattle.std.proofs.Common.{◌≡◌, ℕ, zero, suc, Bool, true, false, ◌&&◌, ◌||◌, not, List, [], ◌∷◌, ◌++◌, Some, inl, inr, refl, sym, ap, subst, ◌∙◌}
 use Rattle.std.specs.Prelude.{slice_get}
 use Rattle.std.specs.List.{list_all}
 use Rattle.std.proofs.lemmas.Bool.{false≢true, and_parts, and_from}
 use Rattle.std.proofs.lemmas.Option.{same_Some}
-use Rattle.c99_grammar.specs.declared.dialects.Dialect.{Dialect}
+use Rattle.c99_grammar.specs.declared.dialects.Edition.{Edition}
 use Rattle.c99_tree.specs.declared.production.Production.{Production}
-use Rattle.c99_tree.specs.declared.production.Production.TheVariants.{TranslationUnit, External, ExtRest, ExtTail, FunBody, Declaration, DeclRest, InitDecl, Sassert, Specs, Main, Mod, Qual, Word, StructSpec, SuRest, Members, Member, MemRest, Mdecl, EnumSpec, EnRest, Enumerators, Enumerator, Declarator, Pointer, Direct, Suffix, Bound, Params, Param, Pdecl, Pdirect, TypeName, Adecl, Adirect, Init, InitList, InitItem, Designator, Expr, Assign, Asgop, Cond, Lor, Land, Bor, Bxor, Band, Equal, Relate, Shift, Add, Mul, Cast, CastRest, Unary, SizeRest, SizeLit, Primary, Post, Args, Block, BlockItem, Statement, Sub, ForInit}
+use Rattle.c99_tree.specs.declared.production.Production.TheVariants.{TranslationUnit, External, ExtRest, ExtTail, FunBody, Declaration, DeclRest, InitDecl, Sassert, Specs, Main, Mod, Qual, Word, StructSpec, SuRest, Members, Member, MemRest, Mdecl, EnumSpec, EnRest, Enumerators, Enumerator, Declarator, Pointer, Direct, Suffix, Bound, Params, Param, Pdecl, Pdirect, TypeName, Adecl, Adirect, Init, InitList, InitItem, Designator, Expr, Assign, Asgop, Cond, Lor, Land, Bor, Bxor, Band, Equal, Relate, Shift, Add, Mul, Cast, CastRest, Unary, SizeRest, SizeLit, Primary, Post, Args, Block, BlockItem, Statement, Sub, ForInit, AutoDecl, Attr, AttrItem, AttrWord, AsmName, Operand, Association, MemberPath, AsmPart, AsmOperand}
 use Rattle.c99_grammar.specs.Items.{Item, one, part, end_of_text, act, ◌·◌, choice, maybe, many, deep, Alternative}
-use Rattle.c99_grammar.specs.Standard.{grammar}
+use Rattle.c99_grammar.specs.Standard.{iso}
 use Rattle.c99_read.specs.State.{collapses}
-use Rattle.c99_grammar.proofs.StandardLemmas.{by_dialect}
+use Rattle.c99_grammar.proofs.StandardLemmas.{by_edition}
 use Rattle.tree_laws.specs.Shapes.{parts_all, begins, has_no_body, passes_on}
 use Rattle.template_meaning.specs.Children.{Child, a_token, a_node, is_operand, StandsFor, AreTimes, AreOfItem}
 
@@ -113,27 +113,27 @@ row_third p a = (has_members p || parts_all (not_these is_membered) a.body) && (
 abbrev pub row_fits : Production → Alternative → Bool
 row_fits p a = row_first p a && (row_second p a && row_third p a)
 
-module _ (std : Dialect) where
-  pub fits_at : (p : Production) → list_all (row_fits p) ((grammar std).table p) ≡ true
+module _ (std : Edition) where
+  pub fits_at : (p : Production) → list_all (row_fits p) ((iso std).table p) ≡ true
   fits_at TranslationUnit = refl
-  fits_at External = by_dialect (λ s. list_all (row_fits External) ((grammar s).table External) ≡ true) refl refl refl std
+  fits_at External = by_edition (λ s. list_all (row_fits External) ((iso s).table External) ≡ true) refl refl std
   fits_at ExtRest = refl
   fits_at ExtTail = refl
   fits_at FunBody = refl
-  fits_at Declaration = by_dialect (λ s. list_all (row_fits Declaration) ((grammar s).table Declaration) ≡ true) refl refl refl std
+  fits_at Declaration = by_edition (λ s. list_all (row_fits Declaration) ((iso s).table Declaration) ≡ true) refl refl std
   fits_at DeclRest = refl
   fits_at InitDecl = refl
-  fits_at Sassert = by_dialect (λ s. list_all (row_fits Sassert) ((grammar s).table Sassert) ≡ true) refl refl refl std
+  fits_at Sassert = by_edition (λ s. list_all (row_fits Sassert) ((iso s).table Sassert) ≡ true) refl refl std
   fits_at Specs = refl
   fits_at Main = refl
-  fits_at Mod = by_dialect (λ s. list_all (row_fits Mod) ((grammar s).table Mod) ≡ true) refl refl refl std
+  fits_at Mod = by_edition (λ s. list_all (row_fits Mod) ((iso s).table Mod) ≡ true) refl refl std
   fits_at Qual = refl
   fits_at Word = refl
   fits_at StructSpec = refl
   fits_at SuRest = refl
   fits_at Members = refl
-  fits_at Member = by_dialect (λ s. list_all (row_fits Member) ((grammar s).table Member) ≡ true) refl refl refl std
-  fits_at MemRest = by_dialect (λ s. list_all (row_fits MemRest) ((grammar s).table MemRest) ≡ true) refl refl refl std
+  fits_at Member = by_edition (λ s. list_all (row_fits Member) ((iso s).table Member) ≡ true) refl refl std
+  fits_at MemRest = by_edition (λ s. list_all (row_fits MemRest) ((iso s).table MemRest) ≡ true) refl refl std
   fits_at Mdecl = refl
   fits_at EnumSpec = refl
   fits_at EnRest = refl
@@ -182,6 +182,16 @@ module _ (std : Dialect) where
   fits_at Statement = refl
   fits_at Sub = refl
   fits_at ForInit = refl
+  fits_at AutoDecl = refl
+  fits_at Attr = refl
+  fits_at AttrItem = refl
+  fits_at AttrWord = refl
+  fits_at AsmName = refl
+  fits_at Operand = refl
+  fits_at Association = refl
+  fits_at MemberPath = refl
+  fits_at AsmPart = refl
+  fits_at AsmOperand = refl
 
 -- ---- Nodes among children
 

@@ -3,8 +3,8 @@ use Rattle.std.proofs.Common.{◌≡◌, ℕ, zero, suc, ◌+◌, ◌⊎◌, inl
 use Rattle.std.specs.Prelude.{◌==◌, slice_get}
 use Rattle.std.proofs.lemmas.Bool.{cases_Bool, false≢true, and_parts, and_from, or_cases, eqb-true, eq-eqb, lt-ltb}
 use Rattle.std.proofs.lemmas.Option.{same_Some}
-use Rattle.c99_grammar.specs.declared.dialects.Dialect.{Dialect}
-use Rattle.c99_grammar.specs.declared.dialects.Dialect.TheVariants.{C99, C11, Gnu}
+use Rattle.c99_grammar.specs.declared.dialects.Edition.{Edition}
+use Rattle.c99_grammar.specs.declared.dialects.Edition.TheVariants.{C99, C11}
 use Rattle.c99_tree.specs.Tree.{Forest, none, token, node, Node}
 use Rattle.c99_tree.specs.declared.production.Label.{Label}
 use Rattle.c99_tree.specs.declared.production.Production.{Production}
@@ -12,7 +12,7 @@ use Rattle.c99_tree.specs.declared.production.Production.TheVariants.{Translatio
 use Rattle.c99_tree.specs.contracts.production.ProductionPartialEq.TheImpl.{ghosts}
 use Rattle.c99_grammar.specs.declared.classes.Class.TheVariants.{LeftBrace, Semicolon}
 use Rattle.c99_grammar.specs.Items.{part, act, ◌·◌, declare, again, tok, next, either, is, begins as begins_with, when, Alternative, plain}
-use Rattle.c99_grammar.specs.Standard.{grammar}
+use Rattle.c99_grammar.specs.Standard.{iso}
 use Rattle.c_types.specs.Trees.{is_node, is_at, is_list, last_token, has_node}
 use Rattle.name_chains.specs.Frames.{outermost}
 use Rattle.name_chains.specs.Entering.{scope_in, inner, is_scoped}
@@ -42,7 +42,7 @@ child_part Adecl b h k = k refl
 child_part Adirect b h k = k refl
 child_part _ b h k = absurd (false≢true h)
 
-parts_fit : (s : Dialect) (f : Forest) → EachNode (IsOfAlternative (grammar s)) f → all_nodes is_declarator_child (children f) ≡ true → are_parts f ≡ true
+parts_fit : (s : Edition) (f : Forest) → EachNode (IsOfAlternative (iso s)) f → all_nodes is_declarator_child (children f) ≡ true → are_parts f ≡ true
 parts_fit s none each h = refl
 parts_fit s (token i rest) each h = parts_fit s rest each h
 parts_fit s (node l first under rest) each h =
@@ -130,9 +130,9 @@ body_scope : (q : Production) (m : Label) (under : Forest) (scope : Scope) → i
 body_scope FunBody m under scope h = deeper scope.depth
 body_scope _ m under scope h = absurd (false≢true h)
 
-module _ (s : Dialect) where
+module _ (s : Edition) where
   -- the children of a node in its scope
-  below_deep : (m : Label) (under : Forest) (scope : Scope) (w : List Child) → IsOfAlternative (grammar s) m under → IsDeep scope.depth (a_node m.production ∷ w)
+  below_deep : (m : Label) (under : Forest) (scope : Scope) (w : List Child) → IsOfAlternative (iso s) m under → IsDeep scope.depth (a_node m.production ∷ w)
       → IsDeep (scope_in m.production m under scope).depth (children under)
   below_deep m under scope w x (inr h) =
       inr (scope_deep m.production m under scope h.0, inner_nodes s m under x (and_parts (has_no_body m.production) (all_nodes has_no_body w) h.1).0)
@@ -154,10 +154,9 @@ lone_semicolon a at w x =
     let own_ : AreOfItem (tok Semicolon) w = subst (λ (b : Alternative). AreOfItem b.body w) (sym same) x in
     ([], own_)
 
-lone_rest : (s : Dialect) (a : Alternative) → slice_get ((grammar s).table MemRest) 0 ≡ Some a → (w : List Child) → AreOfItem a.body w → (v : List Child) × (w ≡ a_token ∷ v)
+lone_rest : (s : Edition) (a : Alternative) → slice_get ((iso s).table MemRest) 0 ≡ Some a → (w : List Child) → AreOfItem a.body w → (v : List Child) × (w ≡ a_token ∷ v)
 lone_rest C99 a at w x = absurd (cc)
 lone_rest C11 a at w x = lone_semicolon a at w x
-lone_rest Gnu a at w x = lone_semicolon a at w x
 
 rest_named : (q : Production) → ghosts.eq q MemRest ≡ true → q ≡ MemRest
 rest_named MemRest h = refl
@@ -168,13 +167,13 @@ token_first none v e = absurd (cc)
 token_first (token i rest) v e = refl
 token_first (node l first under rest) v e = absurd (cc)
 
-pub rest_begins : (s : Dialect) (m : Label) (under : Forest) → IsOfAlternative (grammar s) m under → is_at m MemRest 1 ≡ true → begins_with_token under ≡ true
+pub rest_begins : (s : Edition) (m : Label) (under : Forest) → IsOfAlternative (iso s) m under → is_at m MemRest 1 ≡ true → begins_with_token under ≡ true
 rest_begins s m under x at =
     let both_ = and_parts (is_node m MemRest) (m.alternative == 1) at in
     let named = rest_named m.production both_.0 in
     let number : x.number ≡ 0 = omega (arith, x.numbered, eqb-true m.alternative 1 both_.1) in
-    let row : slice_get ((grammar s).table MemRest) 0 ≡ Some x.alternative =
-    sym (ap (λ (q : Production). slice_get ((grammar s).table q) x.number) named ∙ ap (λ (n : ℕ). slice_get ((grammar s).table MemRest) n) number) ∙ x.is_one in
+    let row : slice_get ((iso s).table MemRest) 0 ≡ Some x.alternative =
+    sym (ap (λ (q : Production). slice_get ((iso s).table q) x.number) named ∙ ap (λ (n : ℕ). slice_get ((iso s).table MemRest) n) number) ∙ x.is_one in
     let first = lone_rest s x.alternative row (children under) x.own in
     token_first under first.0 first.1
 
@@ -189,12 +188,12 @@ ext_untyped ExtRest h = refl
 ext_untyped _ h = absurd (false≢true h)
 
 -- what is known of a node
-pub record NodeFits (s : Dialect) (lists : ℕ → Bool) (l : Label) (under : Forest) : Type 0 where
-  pub of : IsOfAlternative (grammar s) l under
+pub record NodeFits (s : Edition) (lists : ℕ → Bool) (l : Label) (under : Forest) : Type 0 where
+  pub of : IsOfAlternative (iso s) l under
   pub bracketed : IsBracketed lists l under
   pub outer : is_ext_rest l.production ≡ true → BodyListIsOuter lists under
 
-pub each_of_fits : (s : Dialect) (lists : ℕ → Bool) (f : Forest) → EachNode (NodeFits s lists) f → EachNode (IsOfAlternative (grammar s)) f
+pub each_of_fits : (s : Edition) (lists : ℕ → Bool) (f : Forest) → EachNode (NodeFits s lists) f → EachNode (IsOfAlternative (iso s)) f
 each_of_fits s lists none each = tt
 each_of_fits s lists (token i rest) each = each_of_fits s lists rest each
 each_of_fits s lists (node l first under rest) each = (let x = each.0 in x.of, each_of_fits s lists under each.1, each_of_fits s lists rest each.2)
@@ -224,7 +223,7 @@ or_from_not : (a b : Bool) → (a ≡ true → b ≡ true) → (not a || b) ≡ 
 or_from_not true b f = f refl
 or_from_not false b f = refl
 
-module _ (s : Dialect) (lists : ℕ → Bool) where
+module _ (s : Edition) (lists : ℕ → Bool) where
   -- a child of a node
   child_fits : (l : Label) (mine : Bool) (k : ℕ) (scope : Scope) (keeps : Bool) (m : Label) (under : Forest) (w : List Child)
       → signs l mine k (a_node m.production ∷ w) ≡ true → IsDeep scope.depth (a_node m.production ∷ w)
@@ -262,8 +261,8 @@ module _ (s : Dialect) (lists : ℕ → Bool) where
   no_type_here : (q r : Production) → is_type_name q ≡ false → is_type_name q ≡ true → is_type_child r ≡ true
   no_type_here q r e h = absurd (false≢true (sym e ∙ h))
 
-  pub rest_shape : (m : Label) (under : Forest) → IsOfAlternative (grammar s) m under → m.production ≡ ExtRest → RestIs (children under)
-  rest_shape m under x named = by x.number x.alternative (sym (ap (λ (q : Production). slice_get ((grammar s).table q) x.number) named) ∙ x.is_one) x.own
+  pub rest_shape : (m : Label) (under : Forest) → IsOfAlternative (iso s) m under → m.production ≡ ExtRest → RestIs (children under)
+  rest_shape m under x named = by x.number x.alternative (sym (ap (λ (q : Production). slice_get ((iso s).table q) x.number) named) ∙ x.is_one) x.own
     where
       two : AreOfItem (part Declarator · (act declare · (act again · part ExtTail))) (children under) → children under ≡ a_node Declarator ∷ (a_node ExtTail ∷ [])
       two (xs, ys, all, (q, first, stands), (xs1, ys1, all1, none1, (xs2, ys2, all2, none2, (r, last, ends)))) =
@@ -273,7 +272,7 @@ module _ (s : Dialect) (lists : ℕ → Bool) where
           all ∙ (ap (λ (w : List Child). w ++ ys) first ∙ (ap (λ (w : List Child). a_node q ∷ w) behind
           ∙ (ap (λ (p : Production). a_node p ∷ (a_node r ∷ [])) q_is ∙ ap (λ (p : Production). a_node Declarator ∷ (a_node p ∷ [])) r_is)))
 
-      by : (n : ℕ) (a : Alternative) → slice_get ((grammar s).table ExtRest) n ≡ Some a → AreOfItem a.body (children under)
+      by : (n : ℕ) (a : Alternative) → slice_get ((iso s).table ExtRest) n ≡ Some a → AreOfItem a.body (children under)
           → (children under ≡ a_token ∷ []) ⊎ (children under ≡ a_node Declarator ∷ (a_node ExtTail ∷ []))
       by zero a at y = let same = same_Some (plain (tok Semicolon)) a at in inl (subst (λ (b : Alternative). AreOfItem b.body (children under)) (sym same) y)
       by (suc zero) a at y =
@@ -281,14 +280,14 @@ module _ (s : Dialect) (lists : ℕ → Bool) where
           inr (two (subst (λ (b : Alternative). AreOfItem b.body (children under)) (sym same) y))
       by (suc (suc n)) a at y = absurd (cc)
 
-  pub tail_shape : (t : Label) (under : Forest) → IsOfAlternative (grammar s) t under → t.production ≡ ExtTail → all_nodes (not_these is_body) (children under) ≡ false
+  pub tail_shape : (t : Label) (under : Forest) → IsOfAlternative (iso s) t under → t.production ≡ ExtTail → all_nodes (not_these is_body) (children under) ≡ false
       → children under ≡ a_node FunBody ∷ []
-  tail_shape t under x named some = by x.number x.alternative (sym (ap (λ (q : Production). slice_get ((grammar s).table q) x.number) named) ∙ x.is_one) x.own
+  tail_shape t under x named some = by x.number x.alternative (sym (ap (λ (q : Production). slice_get ((iso s).table q) x.number) named) ∙ x.is_one) x.own
     where
       one_body : AreOfItem (part FunBody) (children under) → children under ≡ a_node FunBody ∷ []
       one_body (q, first, stands) = first ∙ ap (λ (p : Production). a_node p ∷ []) (stands_alone FunBody q refl stands)
 
-      by : (n : ℕ) (a : Alternative) → slice_get ((grammar s).table ExtTail) n ≡ Some a → AreOfItem a.body (children under) → children under ≡ a_node FunBody ∷ []
+      by : (n : ℕ) (a : Alternative) → slice_get ((iso s).table ExtTail) n ≡ Some a → AreOfItem a.body (children under) → children under ≡ a_node FunBody ∷ []
       by zero a at y =
           let same = same_Some (when (next (either (is (LeftBrace ∷ [])) (begins_with Specs))) (part FunBody)) a at in
           one_body (subst (λ (b : Alternative). AreOfItem b.body (children under)) (sym same) y)
@@ -383,7 +382,7 @@ module _ (s : Dialect) (lists : ℕ → Bool) where
         (no_bodies s b under x.of (ap is_ext_tail b_is)) (no_tails s b under x.of (ap is_ext_rest b_is)))
         refl)
 
-  pub tree_fits : (tree : Node) (scope : Scope) → tree.label.production ≡ TranslationUnit → scope.depth ≡ 0 → IsOfAlternative (grammar s) tree.label tree.under
+  pub tree_fits : (tree : Node) (scope : Scope) → tree.label.production ≡ TranslationUnit → scope.depth ≡ 0 → IsOfAlternative (iso s) tree.label tree.under
       → EachNode (NodeFits s lists) tree.under → is_fit lists (record { production = TranslationUnit; alternative = 1 }) true 0 scope true tree.under ≡ true
   tree_fits tree scope named flat x each =
       fit tree.under (record { production = TranslationUnit; alternative = 1 }) true 0 scope true each
@@ -395,7 +394,7 @@ ext_is : (q : Production) → is_ext_rest q ≡ true → ghosts.eq q ExtRest ≡
 ext_is ExtRest h = refl
 ext_is _ h = absurd (false≢true h)
 
-all_fit : (s : Dialect) (lists : ℕ → Bool) (f : Forest) → EachNode (IsOfAlternative (grammar s)) f → EachNode (IsBracketed lists) f → EachNode (HasOuterList lists) f
+all_fit : (s : Edition) (lists : ℕ → Bool) (f : Forest) → EachNode (IsOfAlternative (iso s)) f → EachNode (IsBracketed lists) f → EachNode (HasOuterList lists) f
     → EachNode (NodeFits s lists) f
 all_fit s lists none of brackets outers = tt
 all_fit s lists (token i rest) of brackets outers = all_fit s lists rest of brackets outers

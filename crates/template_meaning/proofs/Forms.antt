@@ -3,7 +3,7 @@ use Rattle.std.proofs.Common.{ℕ, zero, suc, ◌+◌, ◌≡◌, ◌⊎◌, inl
 use Rattle.std.specs.Prelude.{◌==◌, slice_get}
 use Rattle.std.proofs.lemmas.Bool.{false≢true, and_parts, and_from, eqb-true, eq-eqb}
 use Rattle.std.proofs.lemmas.Option.{same_Some}
-use Rattle.c99_grammar.specs.declared.dialects.Dialect.{Dialect}
+use Rattle.c99_grammar.specs.declared.dialects.Edition.{Edition}
 use Rattle.c99_tree.specs.Tree.{Forest, none, token, node}
 use Rattle.c99_tree.specs.declared.production.Label.{Label}
 use Rattle.c99_tree.specs.declared.production.Production.{Production}
@@ -11,7 +11,7 @@ use Rattle.c99_tree.specs.declared.production.Production.TheVariants.{Suffix, Pa
 use Rattle.c99_tree.specs.contracts.production.ProductionPartialEq.TheImpl.{ghosts}
 use Rattle.c99_grammar.specs.declared.classes.Class.TheVariants.{LeftParen, RightParen, Comma, Ellipsis, Identifier}
 use Rattle.c99_grammar.specs.Items.{part, act, ◌·◌, maybe, many, deep, tok, own, next_two, is, is_not, scope, end, keep, name, Alternative, plain}
-use Rattle.c99_grammar.specs.Standard.{Grammar, grammar}
+use Rattle.c99_grammar.specs.Standard.{Grammar, iso}
 use Rattle.c99_read.specs.State.{collapses}
 use Rattle.c_types.specs.Trees.{is_node, is_at}
 use Rattle.template_meaning.specs.Children.{Child, a_token, a_node, children, StandsFor, AreTimes, AreOfItem, IsOfAlternative}
@@ -117,23 +117,23 @@ pair_of p under w alone e (inr empty) = inl (empty_pair under (e ∙ ap (λ (v :
 pair_of p under w alone e (inl full) =
     inr (full_pair p full.0 under (stands_alone p full.0 alone full.2) (e ∙ ap (λ (v : List Child). a_token ∷ (v ++ a_token ∷ [])) full.1))
 
-module _ (s : Dialect) where
-  pub call_pair : (l : Label) (under : Forest) → IsOfAlternative (grammar s) l under → is_at l Post 2 ≡ true → IsPair Args under
+module _ (s : Edition) where
+  pub call_pair : (l : Label) (under : Forest) → IsOfAlternative (iso s) l under → is_at l Post 2 ≡ true → IsPair Args under
   call_pair l under x at =
       let both = and_parts (is_node l Post) (l.alternative == 2) at in
       let two : l.alternative ≡ 1 + 1 = omega (arith, eqb-true l.alternative 2 both.1) in
-      let body = alternative_is (grammar s) l under x Post 1 (plain (tok LeftParen · (maybe (deep (part Args)) · tok RightParen))) (post_named l.production both.0) two refl in
+      let body = alternative_is (iso s) l under x Post 1 (plain (tok LeftParen · (maybe (deep (part Args)) · tok RightParen))) (post_named l.production both.0) two refl in
       by body
     where
       by : AreOfItem (tok LeftParen · (maybe (deep (part Args)) · tok RightParen)) (children under) → IsPair Args under
       by (xs, ys, all, first, (zs, vs, more, middle, last)) =
           pair_of Args under zs refl (all ∙ (ap (λ (w : List Child). w ++ ys) first ∙ ap (λ (w : List Child). a_token ∷ w) (more ∙ ap (λ (w : List Child). zs ++ w) last))) middle
 
-  pub list_pair : (l : Label) (under : Forest) → IsOfAlternative (grammar s) l under → is_at l Suffix 2 ≡ true → IsPair Params under
+  pub list_pair : (l : Label) (under : Forest) → IsOfAlternative (iso s) l under → is_at l Suffix 2 ≡ true → IsPair Params under
   list_pair l under x at =
       let both = and_parts (is_node l Suffix) (l.alternative == 2) at in
       let two : l.alternative ≡ 1 + 1 = omega (arith, eqb-true l.alternative 2 both.1) in
-      let body = alternative_is (grammar s) l under x Suffix 1
+      let body = alternative_is (iso s) l under x Suffix 1
       (plain (tok LeftParen · (act scope · (maybe (deep (part Params)) · (act end · (act keep · tok RightParen)))))) (suffix_named l.production both.0) two refl in
       by body
     where
@@ -201,14 +201,14 @@ args_named : (n : ℕ) (a : Alternative) → slice_get (plain (part Assign · ma
 args_named zero a e = refl
 args_named (suc n) a e = absurd (cc)
 
-module _ (s : Dialect) where
+module _ (s : Edition) where
   -- the arguments of a call, where what stands for an argument passes
-  pub args_pass : (ok : Production → Bool) → ((q : Production) → StandsFor Assign q → ok q ≡ true) → (l : Label) (under : Forest) → IsOfAlternative (grammar s) l under
+  pub args_pass : (ok : Production → Bool) → ((q : Production) → StandsFor Assign q → ok q ≡ true) → (l : Label) (under : Forest) → IsOfAlternative (iso s) l under
       → l.production ≡ Args → are_items false ok (children under) ≡ true
   args_pass ok pass l under x is_args =
-      let number : x.number ≡ 0 = args_named x.number x.alternative (sym (ap (λ (p : Production). slice_get ((grammar s).table p) x.number) is_args) ∙ x.is_one) in
+      let number : x.number ≡ 0 = args_named x.number x.alternative (sym (ap (λ (p : Production). slice_get ((iso s).table p) x.number) is_args) ∙ x.is_one) in
       let one : l.alternative ≡ 0 + 1 = omega (arith, x.numbered, number) in
-      by (alternative_is (grammar s) l under x Args 0 (plain (part Assign · many own (tok Comma · part Assign))) is_args one refl)
+      by (alternative_is (iso s) l under x Args 0 (plain (part Assign · many own (tok Comma · part Assign))) is_args one refl)
     where
       by : AreOfItem (part Assign · many own (tok Comma · part Assign)) (children under) → are_items false ok (children under) ≡ true
       by (xs, ys, all, (q, first, stands), (n, more)) =
@@ -221,11 +221,11 @@ module _ (s : Dialect) where
           end_nil (c ∷ w) = ap (λ (v : List Child). c ∷ v) (end_nil w)
 
   -- the arguments of a call
-  pub args_items : (l : Label) (under : Forest) → IsOfAlternative (grammar s) l under → l.production ≡ Args → are_items false any_production (children under) ≡ true
+  pub args_items : (l : Label) (under : Forest) → IsOfAlternative (iso s) l under → l.production ≡ Args → are_items false any_production (children under) ≡ true
   args_items l under x is_args =
-      let number : x.number ≡ 0 = args_named x.number x.alternative (sym (ap (λ (p : Production). slice_get ((grammar s).table p) x.number) is_args) ∙ x.is_one) in
+      let number : x.number ≡ 0 = args_named x.number x.alternative (sym (ap (λ (p : Production). slice_get ((iso s).table p) x.number) is_args) ∙ x.is_one) in
       let one : l.alternative ≡ 0 + 1 = omega (arith, x.numbered, number) in
-      by (alternative_is (grammar s) l under x Args 0 (plain (part Assign · many own (tok Comma · part Assign))) is_args one refl)
+      by (alternative_is (iso s) l under x Args 0 (plain (part Assign · many own (tok Comma · part Assign))) is_args one refl)
     where
       by : AreOfItem (part Assign · many own (tok Comma · part Assign)) (children under) → are_items false any_production (children under) ≡ true
       by (xs, ys, all, (q, first, stands), (n, more)) =
@@ -238,12 +238,12 @@ module _ (s : Dialect) where
           end_nil (c ∷ w) = ap (λ (v : List Child). c ∷ v) (end_nil w)
 
   -- the parameters of a parameter type list
-  pub params_items : (l : Label) (under : Forest) → IsOfAlternative (grammar s) l under → l.production ≡ Params → is_at l Params 1 ≡ false
+  pub params_items : (l : Label) (under : Forest) → IsOfAlternative (iso s) l under → l.production ≡ Params → is_at l Params 1 ≡ false
       → are_items true is_param (children under) ≡ true
   params_items l under x is_params other =
-      let number : x.number ≡ 1 = second x.number (sym (ap (λ (p : Production). slice_get ((grammar s).table p) x.number) is_params) ∙ x.is_one) x.numbered in
+      let number : x.number ≡ 1 = second x.number (sym (ap (λ (p : Production). slice_get ((iso s).table p) x.number) is_params) ∙ x.is_one) x.numbered in
       let two : l.alternative ≡ 1 + 1 = omega (arith, x.numbered, number) in
-      by (alternative_is (grammar s) l under x Params 1 types is_params two refl)
+      by (alternative_is (iso s) l under x Params 1 types is_params two refl)
     where
       types : Alternative
       types = plain (part Param · (many (next_two (is (Comma ∷ [])) (is_not (Ellipsis ∷ []))) (tok Comma · part Param) · maybe (tok Comma · tok Ellipsis)))
@@ -252,7 +252,7 @@ module _ (s : Dialect) where
       not_one n e zero_ =
           and_from (is_node l Params) (l.alternative == 1) (ap (λ p. ghosts.eq p Params) is_params) (eq-eqb l.alternative 1 (omega (arith, e, zero_)))
 
-      second : (n : ℕ) → slice_get ((grammar s).table Params) n ≡ Some x.alternative → l.alternative ≡ n + 1 → n ≡ 1
+      second : (n : ℕ) → slice_get ((iso s).table Params) n ≡ Some x.alternative → l.alternative ≡ n + 1 → n ≡ 1
       second zero e numbered = absurd (false≢true (sym other ∙ not_one 0 numbered refl))
       second (suc zero) e numbered = refl
       second (suc (suc n)) e numbered = absurd (cc)
@@ -283,11 +283,11 @@ tokens_times (suc n) w (xs, ys, all, (es, bs, here, comma, (cs, ds, there, word,
     let front : xs ≡ a_token ∷ (a_token ∷ []) = here ∙ (ap (λ (v : List Child). v ++ bs) comma ∙ ap (λ (v : List Child). a_token ∷ v) behind) in
     subst (λ (v : List Child). no_nodes v ≡ true) (sym (all ∙ ap (λ (v : List Child). v ++ ys) front)) rest
 
-pub names_alone : (s : Dialect) (l : Label) (under : Forest) → IsOfAlternative (grammar s) l under → is_at l Params 1 ≡ true → no_nodes (children under) ≡ true
+pub names_alone : (s : Edition) (l : Label) (under : Forest) → IsOfAlternative (iso s) l under → is_at l Params 1 ≡ true → no_nodes (children under) ≡ true
 names_alone s l under x at =
     let both = and_parts (is_node l Params) (l.alternative == 1) at in
     let one : l.alternative ≡ 0 + 1 = omega (arith, eqb-true l.alternative 1 both.1) in
-    by (alternative_is (grammar s) l under x Params 0 listed (params_named l.production both.0) one refl)
+    by (alternative_is (iso s) l under x Params 0 listed (params_named l.production both.0) one refl)
   where
     listed : Alternative
     listed = plain (tok Identifier · (act name · many own (tok Comma · (tok Identifier · act name))))

@@ -1,14 +1,14 @@
--- What the table of each dialect says of productions: what is read in one that is no function, no statement and no declaration
+-- What the table of each edition says of productions: what is read in one that is no function, no statement and no declaration
 -- is none of these either; and an expression that has one child alone is an operand.
 use Rattle.std.proofs.Common.{◌≡◌, Bool, true, false, ◌&&◌, ◌||◌, not, refl}
 use Rattle.std.specs.List.{list_all}
-use Rattle.c99_grammar.specs.declared.dialects.Dialect.{Dialect}
+use Rattle.c99_grammar.specs.declared.dialects.Edition.{Edition}
 use Rattle.c99_tree.specs.declared.production.Production.{Production}
-use Rattle.c99_tree.specs.declared.production.Production.TheVariants.{TranslationUnit, External, ExtRest, ExtTail, FunBody, Declaration, DeclRest, InitDecl, Sassert, Specs, Main, Mod, Qual, Word, StructSpec, SuRest, Members, Member, MemRest, Mdecl, EnumSpec, EnRest, Enumerators, Enumerator, Declarator, Pointer, Direct, Suffix, Bound, Params, Param, Pdecl, Pdirect, TypeName, Adecl, Adirect, Init, InitList, InitItem, Designator, Expr, Assign, Asgop, Cond, Lor, Land, Bor, Bxor, Band, Equal, Relate, Shift, Add, Mul, Cast, CastRest, Unary, SizeRest, SizeLit, Primary, Post, Args, Block, BlockItem, Statement, Sub, ForInit}
+use Rattle.c99_tree.specs.declared.production.Production.TheVariants.{TranslationUnit, External, ExtRest, ExtTail, FunBody, Declaration, DeclRest, InitDecl, Sassert, Specs, Main, Mod, Qual, Word, StructSpec, SuRest, Members, Member, MemRest, Mdecl, EnumSpec, EnRest, Enumerators, Enumerator, Declarator, Pointer, Direct, Suffix, Bound, Params, Param, Pdecl, Pdirect, TypeName, Adecl, Adirect, Init, InitList, InitItem, Designator, Expr, Assign, Asgop, Cond, Lor, Land, Bor, Bxor, Band, Equal, Relate, Shift, Add, Mul, Cast, CastRest, Unary, SizeRest, SizeLit, Primary, Post, Args, Block, BlockItem, Statement, Sub, ForInit, AutoDecl, Attr, AttrItem, AttrWord, AsmName, Operand, Association, MemberPath, AsmPart, AsmOperand}
 use Rattle.c99_grammar.specs.Items.{Item, one, part, end_of_text, act, ◌·◌, choice, maybe, many, deep, Alternative}
 use Rattle.c99_read.specs.State.{collapses}
-use Rattle.c99_grammar.specs.Standard.{grammar}
-use Rattle.c99_grammar.proofs.StandardLemmas.{by_dialect}
+use Rattle.c99_grammar.specs.Standard.{iso}
+use Rattle.c99_grammar.proofs.StandardLemmas.{by_edition}
 use Rattle.tree_laws.specs.Shapes.{has_no_declaring, passes_on}
 use Rattle.template_meaning.specs.Children.{is_operand}
 
@@ -39,27 +39,27 @@ is_lone_operand (deep a) = is_lone_operand a
 abbrev pub stays_inner : Production → Alternative → Bool
 stays_inner p a = passes_on has_no_declaring p a.body && (not (collapses p) || is_lone_operand a.body)
 
-module _ (std : Dialect) where
-  pub inner_at : (p : Production) → list_all (stays_inner p) ((grammar std).table p) ≡ true
+module _ (std : Edition) where
+  pub inner_at : (p : Production) → list_all (stays_inner p) ((iso std).table p) ≡ true
   inner_at TranslationUnit = refl
-  inner_at External = by_dialect (λ s. list_all (stays_inner External) ((grammar s).table External) ≡ true) refl refl refl std
+  inner_at External = by_edition (λ s. list_all (stays_inner External) ((iso s).table External) ≡ true) refl refl std
   inner_at ExtRest = refl
   inner_at ExtTail = refl
   inner_at FunBody = refl
-  inner_at Declaration = by_dialect (λ s. list_all (stays_inner Declaration) ((grammar s).table Declaration) ≡ true) refl refl refl std
+  inner_at Declaration = by_edition (λ s. list_all (stays_inner Declaration) ((iso s).table Declaration) ≡ true) refl refl std
   inner_at DeclRest = refl
   inner_at InitDecl = refl
-  inner_at Sassert = by_dialect (λ s. list_all (stays_inner Sassert) ((grammar s).table Sassert) ≡ true) refl refl refl std
+  inner_at Sassert = by_edition (λ s. list_all (stays_inner Sassert) ((iso s).table Sassert) ≡ true) refl refl std
   inner_at Specs = refl
   inner_at Main = refl
-  inner_at Mod = by_dialect (λ s. list_all (stays_inner Mod) ((grammar s).table Mod) ≡ true) refl refl refl std
+  inner_at Mod = by_edition (λ s. list_all (stays_inner Mod) ((iso s).table Mod) ≡ true) refl refl std
   inner_at Qual = refl
   inner_at Word = refl
   inner_at StructSpec = refl
   inner_at SuRest = refl
   inner_at Members = refl
-  inner_at Member = by_dialect (λ s. list_all (stays_inner Member) ((grammar s).table Member) ≡ true) refl refl refl std
-  inner_at MemRest = by_dialect (λ s. list_all (stays_inner MemRest) ((grammar s).table MemRest) ≡ true) refl refl refl std
+  inner_at Member = by_edition (λ s. list_all (stays_inner Member) ((iso s).table Member) ≡ true) refl refl std
+  inner_at MemRest = by_edition (λ s. list_all (stays_inner MemRest) ((iso s).table MemRest) ≡ true) refl refl std
   inner_at Mdecl = refl
   inner_at EnumSpec = refl
   inner_at EnRest = refl
@@ -108,3 +108,13 @@ module _ (std : Dialect) where
   inner_at Statement = refl
   inner_at Sub = refl
   inner_at ForInit = refl
+  inner_at AutoDecl = refl
+  inner_at Attr = refl
+  inner_at AttrItem = refl
+  inner_at AttrWord = refl
+  inner_at AsmName = refl
+  inner_at Operand = refl
+  inner_at Association = refl
+  inner_at MemberPath = refl
+  inner_at AsmPart = refl
+  inner_at AsmOperand = refl

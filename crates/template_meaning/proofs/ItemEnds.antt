@@ -8,7 +8,7 @@ use Rattle.std.proofs.lemmas.Slice.Eq.{bytes_eq-Decides}
 use Rattle.cs_base.specs.declared.positions.Part.{Part}
 use Rattle.cs_base.specs.declared.tokens.Kind.{Kind}
 use Rattle.cs_base.specs.declared.tokens.Kind.TheVariants as kind
-use Rattle.c99_grammar.specs.declared.dialects.Dialect.{Dialect}
+use Rattle.c99_grammar.specs.declared.dialects.Edition.{Edition}
 use Rattle.cs_base.specs.Token.{Token}
 use Rattle.c99_tree.specs.Tree.{Forest, none, token, node}
 use Rattle.c99_tree.specs.declared.production.Label.{Label}
@@ -18,8 +18,8 @@ use Rattle.c99_tree.specs.contracts.production.ProductionPartialEq.TheImpl.{ghos
 use Rattle.c99_grammar.specs.declared.classes.Class.{Class}
 use Rattle.c99_grammar.specs.declared.classes.Class.TheVariants.{LeftParen, Slash, Hash, NoClass, End}
 use Rattle.c99_grammar.specs.Classes.{is_same}
-use Rattle.c99_grammar.specs.Dialects.{dialect}
-use Rattle.c99_grammar.specs.Standard.{Grammar, grammar}
+use Rattle.c99_grammar.specs.Dialects.{edition}
+use Rattle.c99_grammar.specs.Standard.{Grammar, iso}
 use Rattle.c99_grammar.specs.Spellings.{punctuators}
 use Rattle.c99_grammar.specs.TokenClasses.{spelled_class, class_of_kind, base_class}
 use Rattle.c99_read.specs.State.{base_at}
@@ -121,42 +121,42 @@ punct_is : (k : Kind) → is_punctuator k ≡ true → k ≡ kind.Punct
 punct_is kind.Punct e = refl
 punct_is _ e = absurd (false≢true e)
 
-sign_class : (s : Dialect) (sign : List ℕ) (c : Class) → spelled_class punctuators sign NoClass ≡ c → (t : Token) → is_sign sign t ≡ true → base_class (grammar s) t ≡ c
+sign_class : (s : Edition) (sign : List ℕ) (c : Class) → spelled_class punctuators sign NoClass ≡ c → (t : Token) → is_sign sign t ≡ true → base_class (iso s) t ≡ c
 unfolding base_class
 sign_class s sign c e t h =
     let parts = and_parts (is_punctuator t.kind) (bytes_eq t.text sign) h in
     let text = (bytes_eq-Decides t.text sign).0 parts.1 in
-    ap (λ (k : Kind). class_of_kind (grammar s) k t.text) (punct_is t.kind parts.0) ∙ ap (λ (x : List ℕ). spelled_class punctuators x NoClass) text ∙ e
+    ap (λ (k : Kind). class_of_kind (iso s) k t.text) (punct_is t.kind parts.0) ∙ ap (λ (x : List ℕ). spelled_class punctuators x NoClass) text ∙ e
 
-hash_class : (s : Dialect) (t : Token) → is_hash t ≡ true → base_class (grammar s) t ≡ Hash
+hash_class : (s : Edition) (t : Token) → is_hash t ≡ true → base_class (iso s) t ≡ Hash
 unfolding is_hash spelled_class
 hash_class s t h = elim (or_cases (is_sign (codes "#") t) (is_sign (codes "%:") t) h) [
   | inl one ↦ sign_class s (codes "#") Hash refl t one
   | inr two ↦ sign_class s (codes "%:") Hash refl t two
 ]
 
-slash_class : (s : Dialect) (t : Token) → is_sign (codes "/") t ≡ true → base_class (grammar s) t ≡ Slash
+slash_class : (s : Edition) (t : Token) → is_sign (codes "/") t ≡ true → base_class (iso s) t ≡ Slash
 unfolding spelled_class
 slash_class s t h = sign_class s (codes "/") Slash refl t h
 
-open_class : (s : Dialect) (t : Token) → is_open t ≡ true → base_class (grammar s) t ≡ LeftParen
+open_class : (s : Edition) (t : Token) → is_open t ≡ true → base_class (iso s) t ≡ LeftParen
 unfolding is_open spelled_class
 open_class s t h = sign_class s (codes "(") LeftParen refl t h
 
-module _ (s : Dialect) (toks : List Token) (k : ℕ) (t : Token) (at : slice_get toks k ≡ Some t) where
-  is_no : (c : Class) (test : Token → Bool) → is_same c c ≡ true → (test t ≡ true → base_class (grammar s) t ≡ c) → IsNot (grammar s) toks c k → not (test t) ≡ true
+module _ (s : Edition) (toks : List Token) (k : ℕ) (t : Token) (at : slice_get toks k ≡ Some t) where
+  is_no : (c : Class) (test : Token → Bool) → is_same c c ≡ true → (test t ≡ true → base_class (iso s) t ≡ c) → IsNot (iso s) toks c k → not (test t) ≡ true
   is_no c test self class isnt = by (test t) refl
     where
       by : (b : Bool) → test t ≡ b → not b ≡ true
       by false e = refl
       by true e =
-          let here : base_at (grammar s) toks k ≡ c = ap (λ (o : _). option_map_or (base_class (grammar s)) o (if k == length toks then End else NoClass)) at ∙ class e in
+          let here : base_at (iso s) toks k ≡ c = ap (λ (o : _). option_map_or (base_class (iso s)) o (if k == length toks then End else NoClass)) at ∙ class e in
           absurd (false≢true (sym isnt ∙ (ap (λ (d : Class). is_same d c) here ∙ self)))
 
-  pub begins_item : IsNot (grammar s) toks Hash k → may_begin t ≡ true
+  pub begins_item : IsNot (iso s) toks Hash k → may_begin t ≡ true
   begins_item isnt = is_no Hash is_hash refl (hash_class s t) isnt
 
-  pub ends_item : MayEnd (grammar s) toks k → may_end t ≡ true
+  pub ends_item : MayEnd (iso s) toks k → may_end t ≡ true
   ends_item isnt = both (not (is_sign (codes "/") t)) (not (is_open t)) (is_no Slash (is_sign (codes "/")) refl (slash_class s t) isnt.0) (is_no LeftParen is_open refl (open_class s t) isnt.1)
     where
       both : (a b : Bool) → a ≡ true → b ≡ true → (a && b) ≡ true
@@ -167,8 +167,8 @@ module _ (s : Dialect) (toks : List Token) (k : ℕ) (t : Token) (at : slice_get
 
 module _ (may : TokensMayStand) (in_order : ReadParameterListsAreInOrder) (cuts : UnitsAreCut) (source : Source) (ws : WorkspaceValue) (a : AnalysisValue) (members : List Part) (order : List ℕ) (h : IsAccepted source ws a members order)
     (some : 0 < length order) (u : UnitAnalysis) (i : IsIn a.units u) (typed_names : HavePrototypes members u) where
-  abbrev s : Dialect
-  s = dialect u.standard
+  abbrev s : Edition
+  s = edition u.standard
 
   abbrev toks : List Token
   toks = u.text.toks
@@ -176,10 +176,10 @@ module _ (may : TokensMayStand) (in_order : ReadParameterListsAreInOrder) (cuts 
   abbrev T : Forest
   T = u.tree.under
 
-  pub no_hash : (k : ℕ) → k < length toks → IsNot (grammar s) toks Hash k
+  pub no_hash : (k : ℕ) → k < length toks → IsNot (iso s) toks Hash k
   no_hash = let r = read in_order cuts source ws a members order h u i typed_names in (may s toks u.tree r.reads).0
 
-  ends_well : EachNode (ItemsEndWell (grammar s) toks) T
+  ends_well : EachNode (ItemsEndWell (iso s) toks) T
   ends_well = let r = read in_order cuts source ws a members order h u i typed_names in (may s toks u.tree r.reads).1
 
   production_in : (p : Production) (under : Forest) (begin close first : ℕ) (lab : Label) (inner : Forest) → IsPair p under → under ≡ token begin (node lab first inner (token close none)) → lab.production ≡ p
@@ -194,35 +194,35 @@ module _ (may : TokensMayStand) (in_order : ReadParameterListsAreInOrder) (cuts 
   is_pair_node lab (inl e) = or_left (is_node lab Args) (is_node lab Params) (ap (λ (p : Production). ghosts.eq p Args) e)
   is_pair_node lab (inr e) = or_right (is_node lab Args) (is_node lab Params) (ap (λ (p : Production). ghosts.eq p Params) e)
 
-  pub own_pairs : (l : NameList) → In l (own_lists members u) → EachPair (EndsItem (grammar s) toks) (separators l)
+  pub own_pairs : (l : NameList) → In l (own_lists members u) → EachPair (EndsItem (iso s) toks) (separators l)
   own_pairs l w = by (own_node in_order cuts source ws a members order h u i typed_names l w)
     where
-      by : OwnNode s toks T l (length order) → EachPair (EndsItem (grammar s) toks) (separators l)
+      by : OwnNode s toks T l (length order) → EachPair (EndsItem (iso s) toks) (separators l)
       by n = shaped n.shape
         where
-          full : (begin close : ℕ) (lab : Label) (first : ℕ) (inner : Forest) → n.under ≡ token begin (node lab first inner (token close none)) → is_woven inner ≡ true → EachPair (EndsItem (grammar s) toks) (separators l)
+          full : (begin close : ℕ) (lab : Label) (first : ℕ) (inner : Forest) → n.under ≡ token begin (node lab first inner (token close none)) → is_woven inner ≡ true → EachPair (EndsItem (iso s) toks) (separators l)
           full begin close lab first inner e woven =
-              let x = entry_each (IsOfAlternative (grammar s)) T (each_of in_order cuts source ws a members order h u i typed_names) (entry n.label n.under) n.there in
+              let x = entry_each (IsOfAlternative (iso s)) T (each_of in_order cuts source ws a members order h u i typed_names) (entry n.label n.under) n.there in
               let is_one : (lab.production ≡ Args) ⊎ (lab.production ≡ Params) = elim (or_cases (is_at n.label Post 2) (is_list n.label) n.parenthesised) [
                 | inl call ↦ inl (production_in Args n.under begin close first lab inner (call_pair s n.label n.under x.0 call) e)
                 | inr list ↦ inr (production_in Params n.under begin close first lab inner (list_pair s n.label n.under x.0 list) e)
               ] in
-              let y = entry_each (ItemsEndWell (grammar s) toks) T ends_well (entry n.label n.under) n.there in
-              let below = subst (EachNode (ItemsEndWell (grammar s) toks)) e y.1 in
-              let ends : EndWell (grammar s) toks inner = below.0 (is_pair_node lab is_one) in
+              let y = entry_each (ItemsEndWell (iso s) toks) T ends_well (entry n.label n.under) n.there in
+              let below = subst (EachNode (ItemsEndWell (iso s) toks)) e y.1 in
+              let ends : EndWell (iso s) toks inner = below.0 (is_pair_node lab is_one) in
               let o = of_text in_order cuts source ws a members order h u i typed_names in
               let from = entry_from T 0 o.tokens (entry n.label n.under) n.there in
               let j : ℕ = from.0 in
               let from2 : AreFrom j (token begin (node lab first inner (token close none))) = subst (AreFrom j) e from.1 in
               let begin_is : begin ≡ j = from2.0 in
               let close_is : close ≡ j + 1 + token_count inner = from2.1.2.0 in
-              let pairs = woven_pairs (grammar s) toks inner j (j + 1) 0 refl refl from2.1.1 woven ends in
-              subst (EachPair (EndsItem (grammar s) toks)) (sym (pair_marks in_order cuts source ws a members order h u i typed_names l n.under inner begin close first lab n.is e))
-              (subst (λ (q : ℕ). EachPair (EndsItem (grammar s) toks) (begin ∷ (odd_tokens 0 inner ++ q ∷ []))) (sym close_is)
-              (subst (λ (q : ℕ). EachPair (EndsItem (grammar s) toks) (q ∷ (odd_tokens 0 inner ++ (j + 1 + token_count inner) ∷ []))) (sym begin_is) pairs))
+              let pairs = woven_pairs (iso s) toks inner j (j + 1) 0 refl refl from2.1.1 woven ends in
+              subst (EachPair (EndsItem (iso s) toks)) (sym (pair_marks in_order cuts source ws a members order h u i typed_names l n.under inner begin close first lab n.is e))
+              (subst (λ (q : ℕ). EachPair (EndsItem (iso s) toks) (begin ∷ (odd_tokens 0 inner ++ q ∷ []))) (sym close_is)
+              (subst (λ (q : ℕ). EachPair (EndsItem (iso s) toks) (q ∷ (odd_tokens 0 inner ++ (j + 1 + token_count inner) ∷ []))) (sym begin_is) pairs))
 
           shaped : ((begin : ℕ) × (close : ℕ) × (n.under ≡ token begin (token close none)) × (length order ≡ 0))
               ⊎ ((begin : ℕ) × (close : ℕ) × (lab : Label) × (first : ℕ) × (inner : Forest) × (n.under ≡ token begin (node lab first inner (token close none))) × (is_woven inner ≡ true))
-              → EachPair (EndsItem (grammar s) toks) (separators l)
+              → EachPair (EndsItem (iso s) toks) (separators l)
           shaped (inl (begin, close, e, none_)) = absurd (omega (arith, some, none_))
           shaped (inr (begin, close, lab, first, inner, e, woven)) = full begin close lab first inner e woven

@@ -4,7 +4,7 @@ use Rattle.std.specs.Prelude.{slice_get, ◌==◌}
 use Rattle.std.specs.Option.{option_map_or}
 use Rattle.std.proofs.lemmas.Bool.{false≢true, cases_Bool, and_parts, and_from, or_cases, eq-eqb, eqb-true}
 use Rattle.std.proofs.lemmas.Option.{same_Some}
-use Rattle.c99_grammar.specs.declared.dialects.Dialect.{Dialect}
+use Rattle.c99_grammar.specs.declared.dialects.Edition.{Edition}
 use Rattle.cs_base.specs.Token.{Token}
 use Rattle.c99_tree.specs.Tree.{Forest, none, token, node}
 use Rattle.c99_tree.specs.declared.production.Label.{Label}
@@ -12,7 +12,7 @@ use Rattle.c99_tree.specs.declared.production.Production.{Production}
 use Rattle.c99_tree.specs.declared.production.Production.TheVariants.{ExtRest, FunBody, InitDecl, SuRest, Members, Member, MemRest, Mdecl, EnRest, Enumerators, Enumerator, Declarator, Param, Pdecl, Statement, Declaration}
 use Rattle.c99_tree.specs.contracts.production.ProductionPartialEq.TheImpl.{ghosts}
 use Rattle.c99_grammar.specs.Items.{Alternative}
-use Rattle.c99_grammar.specs.Standard.{grammar}
+use Rattle.c99_grammar.specs.Standard.{iso}
 use Rattle.c_types.specs.declared.entity.EntityKind.{EntityKind}
 use Rattle.c_types.specs.declared.entity.EntityKind.TheVariants as entity
 use Rattle.c_types.specs.Declarations.{is_typedef_name}
@@ -100,10 +100,10 @@ module _ (toks : List Token) (names : List Name) where
 
   -- ---- An item
 
-  module _ (s : Dialect) (lo hi : ℕ) (clean : (t : ℕ) → lo ≤ t → t < hi → IsClean toks names t) where
+  module _ (s : Edition) (lo hi : ℕ) (clean : (t : ℕ) → lo ≤ t → t < hi → IsClean toks names t) where
     -- what is known of some children of node l, which begin at a token
     pub record IsPart (body listing : Bool) (l : Label) (a : ℕ) (f : Forest) : Type 0 where
-      pub each : EachNode (IsOfAlternative (grammar s)) f
+      pub each : EachNode (IsOfAlternative (iso s)) f
       pub inner : EachNode IsInner f
       pub tokens : AreFrom a f
       pub forms : have_forms f ≡ true
@@ -182,7 +182,7 @@ module _ (toks : List Token) (names : List Name) where
         let tag = told one_ in
         clean_tag i (clean i (omega (arith, w.0, low)) (omega (arith, w.0, high))) (tag.declared braces))
 
-    rest_first : (q : Production) (a : Alternative) → is_rest q ≡ true → slice_get ((grammar s).table q) 0 ≡ Some a → begins a.body ≡ true
+    rest_first : (q : Production) (a : Alternative) → is_rest q ≡ true → slice_get ((iso s).table q) 0 ≡ Some a → begins a.body ≡ true
     rest_first SuRest a e at = subst (λ (b : Alternative). begins b.body ≡ true) (same_Some _ a at) refl
     rest_first EnRest a e at = subst (λ (b : Alternative). begins b.body ≡ true) (same_Some _ a at) refl
     rest_first _ a e at = absurd (false≢true e)
@@ -192,15 +192,15 @@ module _ (toks : List Token) (names : List Name) where
     token_here (token i rest) v e = refl
     token_here (node l first under rest) v e = absurd (cc)
 
-    first_begins : (m : Label) (under : Forest) → IsOfAlternative (grammar s) m under → is_rest m.production ≡ true → (m.alternative == 1) ≡ true → begins_with_token under ≡ true
+    first_begins : (m : Label) (under : Forest) → IsOfAlternative (iso s) m under → is_rest m.production ≡ true → (m.alternative == 1) ≡ true → begins_with_token under ≡ true
     first_begins m under x rest one_ =
         let number : x.number ≡ 0 = omega (arith, x.numbered, eqb-true m.alternative 1 one_) in
-        let row = rest_first m.production x.alternative rest (ap (λ n. slice_get ((grammar s).table m.production) n) (sym number) ∙ x.is_one) in
+        let row = rest_first m.production x.alternative rest (ap (λ n. slice_get ((iso s).table m.production) n) (sym number) ∙ x.is_one) in
         let v = begins_token x.alternative.body row (children under) x.own in
         token_here under v.0 v.1
 
     -- what follows the word of a structure, union or enumeration with a tag has no braces
-    rest_braces : (q : Production) (inside : Bool) (l m : Label) (a first : ℕ) (under : Forest) → m.production ≡ q → IsOfAlternative (grammar s) m under → AreFrom a under → lo ≤ a
+    rest_braces : (q : Production) (inside : Bool) (l m : Label) (a first : ℕ) (under : Forest) → m.production ≡ q → IsOfAlternative (iso s) m under → AreFrom a under → lo ≤ a
         → a + token_count under ≤ hi → NodeTold names toks q inside l m first under → is_rest q ≡ true → (m.alternative == 1) ≡ true → (has_node Members under || has_node Enumerators under) ≡ false
     rest_braces SuRest inside l m a first under e x w low high d rest one_ =
         tag_braces m a under one_ w low high d (first_begins m under x (ap is_rest e) one_)
@@ -252,7 +252,7 @@ module _ (toks : List Token) (names : List Name) where
           (or_right_none (is_node m Enumerators) (has_node Enumerators rest) (or_right_none (is_node m Members || has_node Members rest) (is_node m Enumerators || has_node Enumerators rest) both));
     }
 
-    two_rests : (q : Production) (n : ℕ) (a : Alternative) → is_rest q ≡ true → slice_get ((grammar s).table q) n ≡ Some a → (n ≡ 0) ⊎ (n ≡ 1)
+    two_rests : (q : Production) (n : ℕ) (a : Alternative) → is_rest q ≡ true → slice_get ((iso s).table q) n ≡ Some a → (n ≡ 0) ⊎ (n ≡ 1)
     two_rests SuRest zero a e at = inl refl
     two_rests SuRest (suc zero) a e at = inr refl
     two_rests SuRest (suc (suc n)) a e at = absurd (cc)
@@ -269,7 +269,7 @@ module _ (toks : List Token) (names : List Name) where
     rest_tags EnRest n e (inr two) no_tag = eq-eqb n 2 two
     rest_tags _ n e h no_tag = absurd (false≢true e)
 
-    pub untagged_rest : (l : Label) (under : Forest) → IsOfAlternative (grammar s) l under → is_rest l.production ≡ true → is_tagged l ≡ false → is_untagged l ≡ true
+    pub untagged_rest : (l : Label) (under : Forest) → IsOfAlternative (iso s) l under → is_rest l.production ≡ true → is_tagged l ≡ false → is_untagged l ≡ true
     untagged_rest l under x rest no_tag =
         rest_tags l.production l.alternative rest (by (two_rests l.production x.number x.alternative rest x.is_one)) no_tag
       where

@@ -4,7 +4,7 @@ use Rattle.std.specs.Prelude.{IfSome, slice_get, ◌==◌}
 use Rattle.std.specs.Option.{option_map_or}
 use Rattle.std.proofs.lemmas.Bool.{false≢true, and_parts, and_from, eq-eqb}
 use Rattle.std.proofs.lemmas.Option.{same_Some}
-use Rattle.c99_grammar.specs.declared.dialects.Dialect.{Dialect}
+use Rattle.c99_grammar.specs.declared.dialects.Edition.{Edition}
 use Rattle.cs_base.specs.Token.{Token}
 use Rattle.c99_tree.specs.Tree.{Forest, none, token, node, Node, node_of}
 use Rattle.c99_tree.specs.declared.production.Label.{Label}
@@ -12,7 +12,7 @@ use Rattle.c99_tree.specs.declared.production.Production.{Production}
 use Rattle.c99_tree.specs.declared.production.Production.TheVariants.{FunBody, Specs, Enumerator, Suffix, Params, Param, Pdecl, Assign, Cond, Lor, Land, Bor, Bxor, Band, Equal, Relate, Shift, Add, Mul, Cast, Unary, Primary, Block, Statement, Sub}
 use Rattle.c99_tree.specs.contracts.production.ProductionPartialEq.TheImpl.{ghosts}
 use Rattle.c99_grammar.specs.Items.{Alternative, part, act, ◌·◌, maybe, declare, plain}
-use Rattle.c99_grammar.specs.Standard.{grammar}
+use Rattle.c99_grammar.specs.Standard.{iso}
 use Rattle.c_types.specs.Trees.{is_node, is_list, has_mod, name_below}
 use Rattle.scope_bind.specs.declared.bound.Name.{Name}
 use Rattle.tree_laws.specs.Shapes.{has_no_declaring}
@@ -55,7 +55,7 @@ or_right : (a b : Bool) → b ≡ true → (a || b) ≡ true
 or_right true b e = refl
 or_right false b e = e
 
-module _ (toks : List Token) (names : List Name) (s : Dialect) (lo hi : ℕ) (clean : (t : ℕ) → lo ≤ t → t < hi → IsClean toks names t) where
+module _ (toks : List Token) (names : List Name) (s : Edition) (lo hi : ℕ) (clean : (t : ℕ) → lo ≤ t → t < hi → IsClean toks names t) where
   abbrev Part : Bool → Bool → Label → ℕ → Forest → Type 0
   Part body listing l a f = IsPart toks names s lo hi clean body listing l a f
 
@@ -107,17 +107,17 @@ module _ (toks : List Token) (names : List Name) (s : Dialect) (lo hi : ℕ) (cl
     pub rest : (under ≡ node specs first words none)
         ⊎ ((p : Label) × (third : ℕ) × (pd : Forest) × (under ≡ node specs first words (node p third pd none)) × (p.production ≡ Pdecl))
 
-  param_row : (n : ℕ) (a : Alternative) → slice_get ((grammar s).table Param) n ≡ Some a → a ≡ plain (part Specs · (maybe (part Pdecl) · act declare))
+  param_row : (n : ℕ) (a : Alternative) → slice_get ((iso s).table Param) n ≡ Some a → a ≡ plain (part Specs · (maybe (part Pdecl) · act declare))
   param_row zero a e = by e
     where
-      by : slice_get ((grammar s).table Param) 0 ≡ Some a → a ≡ plain (part Specs · (maybe (part Pdecl) · act declare))
+      by : slice_get ((iso s).table Param) 0 ≡ Some a → a ≡ plain (part Specs · (maybe (part Pdecl) · act declare))
       by e = sym (same_Some (plain (part Specs · (maybe (part Pdecl) · act declare))) a e)
   param_row (suc n) a e = absurd (cc)
 
-  pub param_shape : (l : Label) (under : Forest) → IsOfAlternative (grammar s) l under → l.production ≡ Param → IsParamShape under
+  pub param_shape : (l : Label) (under : Forest) → IsOfAlternative (iso s) l under → l.production ≡ Param → IsParamShape under
   param_shape l under x named =
       by (subst (λ (b : Alternative). AreOfItem b.body (children under))
-      (param_row x.number x.alternative (ap (λ (q : Production). slice_get ((grammar s).table q) x.number) (sym named) ∙ x.is_one)) x.own)
+      (param_row x.number x.alternative (ap (λ (q : Production). slice_get ((iso s).table q) x.number) (sym named) ∙ x.is_one)) x.own)
     where
       with_declarator : (q : Production) (v : List Child) → children under ≡ a_node q ∷ v → q ≡ Specs → (r : Production) → v ≡ a_node r ∷ [] → r ≡ Pdecl → IsParamShape under
       with_declarator q v e is r e' is' =
@@ -210,7 +210,7 @@ module _ (toks : List Token) (names : List Name) (s : Dialect) (lo hi : ℕ) (cl
     below : Part inside lists_ m a under
     below = part_under toks names s lo hi clean body listing l m a first under rest p
 
-    of_m : IsOfAlternative (grammar s) m under
+    of_m : IsOfAlternative (iso s) m under
     of_m = let x = p.each in x.0
 
     item_adds : is_item_production m.production ≡ true → is_adding (λ i. true) false m under ≡ true

@@ -1,17 +1,17 @@
--- What the table of each dialect says of parameters, of their lists, and of external declarations.
+-- What the table of each edition says of parameters, of their lists, and of external declarations.
 use Rattle.std.proofs.Common.{◌≡◌, ℕ, zero, suc, Bool, true, false, ◌&&◌, ◌||◌, Some, refl, sym, ap, subst, ◌∙◌, arith}
 use Rattle.std.specs.Prelude.{slice_get}
 use Rattle.std.specs.List.{list_all}
 use Rattle.std.proofs.lemmas.Bool.{false≢true, and_parts}
 use Rattle.std.proofs.lemmas.Option.{same_Some}
-use Rattle.c99_grammar.specs.declared.dialects.Dialect.{Dialect}
+use Rattle.c99_grammar.specs.declared.dialects.Edition.{Edition}
 use Rattle.c99_tree.specs.Tree.{Forest}
 use Rattle.c99_tree.specs.declared.production.Label.{Label}
 use Rattle.c99_tree.specs.declared.production.Production.{Production}
-use Rattle.c99_tree.specs.declared.production.Production.TheVariants.{TranslationUnit, External, ExtRest, ExtTail, FunBody, Declaration, DeclRest, InitDecl, Sassert, Specs, Main, Mod, Qual, Word, StructSpec, SuRest, Members, Member, MemRest, Mdecl, EnumSpec, EnRest, Enumerators, Enumerator, Declarator, Pointer, Direct, Suffix, Bound, Params, Param, Pdecl, Pdirect, TypeName, Adecl, Adirect, Init, InitList, InitItem, Designator, Expr, Assign, Asgop, Cond, Lor, Land, Bor, Bxor, Band, Equal, Relate, Shift, Add, Mul, Cast, CastRest, Unary, SizeRest, SizeLit, Primary, Post, Args, Block, BlockItem, Statement, Sub, ForInit}
+use Rattle.c99_tree.specs.declared.production.Production.TheVariants.{TranslationUnit, External, ExtRest, ExtTail, FunBody, Declaration, DeclRest, InitDecl, Sassert, Specs, Main, Mod, Qual, Word, StructSpec, SuRest, Members, Member, MemRest, Mdecl, EnumSpec, EnRest, Enumerators, Enumerator, Declarator, Pointer, Direct, Suffix, Bound, Params, Param, Pdecl, Pdirect, TypeName, Adecl, Adirect, Init, InitList, InitItem, Designator, Expr, Assign, Asgop, Cond, Lor, Land, Bor, Bxor, Band, Equal, Relate, Shift, Add, Mul, Cast, CastRest, Unary, SizeRest, SizeLit, Primary, Post, Args, Block, BlockItem, Statement, Sub, ForInit, AutoDecl, Attr, AttrItem, AttrWord, AsmName, Operand, Association, MemberPath, AsmPart, AsmOperand}
 use Rattle.c99_grammar.specs.Items.{Alternative}
-use Rattle.c99_grammar.specs.Standard.{grammar}
-use Rattle.c99_grammar.proofs.StandardLemmas.{by_dialect}
+use Rattle.c99_grammar.specs.Standard.{iso}
+use Rattle.c99_grammar.proofs.StandardLemmas.{by_edition}
 use Rattle.c_types.specs.Trees.{is_list}
 use Rattle.tree_laws.specs.Shapes.{parts_all}
 use Rattle.template_meaning.specs.Children.{children, IsOfAlternative}
@@ -43,27 +43,27 @@ abbrev row_lists : Production → Alternative → Bool
 row_lists p a =
     (is_params p || parts_all (not_these is_param) a.body) && ((is_suffix p || parts_all (not_these is_params) a.body) && (is_upper p || parts_all (not_these is_top) a.body))
 
-module _ (std : Dialect) where
-  lists_at : (p : Production) → list_all (row_lists p) ((grammar std).table p) ≡ true
+module _ (std : Edition) where
+  lists_at : (p : Production) → list_all (row_lists p) ((iso std).table p) ≡ true
   lists_at TranslationUnit = refl
-  lists_at External = by_dialect (λ s. list_all (row_lists External) ((grammar s).table External) ≡ true) refl refl refl std
+  lists_at External = by_edition (λ s. list_all (row_lists External) ((iso s).table External) ≡ true) refl refl std
   lists_at ExtRest = refl
   lists_at ExtTail = refl
   lists_at FunBody = refl
-  lists_at Declaration = by_dialect (λ s. list_all (row_lists Declaration) ((grammar s).table Declaration) ≡ true) refl refl refl std
+  lists_at Declaration = by_edition (λ s. list_all (row_lists Declaration) ((iso s).table Declaration) ≡ true) refl refl std
   lists_at DeclRest = refl
   lists_at InitDecl = refl
-  lists_at Sassert = by_dialect (λ s. list_all (row_lists Sassert) ((grammar s).table Sassert) ≡ true) refl refl refl std
+  lists_at Sassert = by_edition (λ s. list_all (row_lists Sassert) ((iso s).table Sassert) ≡ true) refl refl std
   lists_at Specs = refl
   lists_at Main = refl
-  lists_at Mod = by_dialect (λ s. list_all (row_lists Mod) ((grammar s).table Mod) ≡ true) refl refl refl std
+  lists_at Mod = by_edition (λ s. list_all (row_lists Mod) ((iso s).table Mod) ≡ true) refl refl std
   lists_at Qual = refl
   lists_at Word = refl
   lists_at StructSpec = refl
   lists_at SuRest = refl
   lists_at Members = refl
-  lists_at Member = by_dialect (λ s. list_all (row_lists Member) ((grammar s).table Member) ≡ true) refl refl refl std
-  lists_at MemRest = by_dialect (λ s. list_all (row_lists MemRest) ((grammar s).table MemRest) ≡ true) refl refl refl std
+  lists_at Member = by_edition (λ s. list_all (row_lists Member) ((iso s).table Member) ≡ true) refl refl std
+  lists_at MemRest = by_edition (λ s. list_all (row_lists MemRest) ((iso s).table MemRest) ≡ true) refl refl std
   lists_at Mdecl = refl
   lists_at EnumSpec = refl
   lists_at EnRest = refl
@@ -112,17 +112,27 @@ module _ (std : Dialect) where
   lists_at Statement = refl
   lists_at Sub = refl
   lists_at ForInit = refl
+  lists_at AutoDecl = refl
+  lists_at Attr = refl
+  lists_at AttrItem = refl
+  lists_at AttrWord = refl
+  lists_at AsmName = refl
+  lists_at Operand = refl
+  lists_at Association = refl
+  lists_at MemberPath = refl
+  lists_at AsmPart = refl
+  lists_at AsmOperand = refl
 
 or_other : (a b : Bool) → (a || b) ≡ true → a ≡ false → b ≡ true
 or_other true b h e = absurd (false≢true (sym e))
 or_other false b h e = h
 
-module _ (s : Dialect) (l : Label) (under : Forest) (x : IsOfAlternative (grammar s) l under) where
+module _ (s : Edition) (l : Label) (under : Forest) (x : IsOfAlternative (iso s) l under) where
   abbrev p : Production
   p = l.production
 
   row : row_lists p x.alternative ≡ true
-  row = table_row row_lists p ((grammar s).table p) x.number x.alternative (lists_at s p) x.is_one
+  row = table_row row_lists p ((iso s).table p) x.number x.alternative (lists_at s p) x.is_one
 
   rows : ((is_suffix p || parts_all (not_these is_params) x.alternative.body) && (is_upper p || parts_all (not_these is_top) x.alternative.body)) ≡ true
   rows = (and_parts (is_params p || parts_all (not_these is_param) x.alternative.body) _ row).1
@@ -146,7 +156,7 @@ module _ (s : Dialect) (l : Label) (under : Forest) (x : IsOfAlternative (gramma
   list_label q n e h =
       ap (λ (r : Production). is_list (record { production = r; alternative = n })) e ∙ ap (λ (m : ℕ). is_list (record { production = Suffix; alternative = m })) h
 
-  array_parts : (n : ℕ) (a : Alternative) → slice_get ((grammar s).table Suffix) n ≡ Some a → (n ≡ 1 → false ≡ true) → parts_all (not_these is_params) a.body ≡ true
+  array_parts : (n : ℕ) (a : Alternative) → slice_get ((iso s).table Suffix) n ≡ Some a → (n ≡ 1 → false ≡ true) → parts_all (not_these is_params) a.body ≡ true
   array_parts zero a at differs = subst (λ (b : Alternative). parts_all (not_these is_params) b.body ≡ true) (same_Some _ a at) refl
   array_parts (suc zero) a at differs = absurd (false≢true (differs refl))
   array_parts (suc (suc n)) a at differs = absurd (cc)
@@ -159,7 +169,7 @@ module _ (s : Dialect) (l : Label) (under : Forest) (x : IsOfAlternative (gramma
       by false h = free_suffix h
       by true h =
           let named = suffix_named p h in
-          let at : slice_get ((grammar s).table Suffix) x.number ≡ Some x.alternative = sym (ap (λ (q : Production). slice_get ((grammar s).table q) x.number) named) ∙ x.is_one in
+          let at : slice_get ((iso s).table Suffix) x.number ≡ Some x.alternative = sym (ap (λ (q : Production). slice_get ((iso s).table q) x.number) named) ∙ x.is_one in
           parts_nodes (not_these is_params) (operands_are (not_these is_params) refl) x.alternative.body
           (array_parts x.number x.alternative at (λ one_. sym e ∙ list_label p l.alternative named (omega (arith, one_, x.numbered)))) (children under) x.own
 

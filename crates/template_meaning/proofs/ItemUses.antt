@@ -5,7 +5,7 @@ use Rattle.std.specs.List.{list_any}
 use Rattle.std.specs.Str.{bytes_eq}
 use Rattle.std.proofs.lemmas.Bool.{false≢true, and_parts, and_from, eq-eqb, eqb-true, ne_eqb}
 use Rattle.std.proofs.lemmas.Option.{same_Some}
-use Rattle.c99_grammar.specs.declared.dialects.Dialect.{Dialect}
+use Rattle.c99_grammar.specs.declared.dialects.Edition.{Edition}
 use Rattle.cs_base.specs.Token.{Token}
 use Rattle.c99_tree.specs.Tree.{Forest, none, token, node, node_of}
 use Rattle.c99_tree.specs.declared.production.Label.{Label}
@@ -14,7 +14,7 @@ use Rattle.c99_tree.specs.declared.production.Production.TheVariants.{Main, Prim
 use Rattle.c99_tree.specs.contracts.production.ProductionPartialEq.TheImpl.{ghosts}
 use Rattle.c99_grammar.specs.declared.classes.Class.TheVariants.{Identifier}
 use Rattle.c99_grammar.specs.Items.{Alternative, tok, plain}
-use Rattle.c99_grammar.specs.Standard.{grammar}
+use Rattle.c99_grammar.specs.Standard.{iso}
 use Rattle.c_types.specs.declared.entity.EntityKind.{EntityKind}
 use Rattle.c_types.specs.declared.entity.EntityKind.TheVariants as entity
 use Rattle.c_types.specs.Declarations.{spelling_at}
@@ -120,7 +120,7 @@ item_bare Params n under e = absurd (false≢true e)
 item_bare Pdirect n under e = absurd (false≢true e)
 item_bare _ n under e = refl
 
-module _ (toks : List Token) (names : List Name) (bare : List ℕ) (s : Dialect) (lo hi : ℕ) (clean : (t : ℕ) → lo ≤ t → t < hi → IsClean toks names t) where
+module _ (toks : List Token) (names : List Name) (bare : List ℕ) (s : Edition) (lo hi : ℕ) (clean : (t : ℕ) → lo ≤ t → t < hi → IsClean toks names t) where
   -- a use, a bare name, or `__func__`
   abbrev pub IsAsked : ℕ → Type 0
   IsAsked i = (is_use names bare i ≡ true) ⊎ (is_function_word toks i ≡ true)
@@ -145,19 +145,19 @@ module _ (toks : List Token) (names : List Name) (bare : List ℕ) (s : Dialect)
   none_used l k (token i rest) h = (λ e. absurd (false≢true (sym (h k (omega arith)) ∙ e)), none_used l (k + 1) rest (λ j less. h j (omega (arith, less))))
   none_used l k (node m first under rest) h = none_used l (k + 1) rest (λ j less. h j (omega (arith, less)))
 
-  primary_row : (a : Alternative) → slice_get ((grammar s).table Primary) 0 ≡ Some a → a ≡ plain (tok Identifier)
+  primary_row : (a : Alternative) → slice_get ((iso s).table Primary) 0 ≡ Some a → a ≡ plain (tok Identifier)
   primary_row a e = sym (same_Some (plain (tok Identifier)) a e)
 
-  lone_child : (m : Label) (under : Forest) → IsOfAlternative (grammar s) m under → m.production ≡ Primary → (m.alternative == 1) ≡ true → (i : ℕ) × (under ≡ token i none)
+  lone_child : (m : Label) (under : Forest) → IsOfAlternative (iso s) m under → m.production ≡ Primary → (m.alternative == 1) ≡ true → (i : ℕ) × (under ≡ token i none)
   lone_child m under x named one_ =
-      let here : children under ≡ a_token ∷ [] = alternative_is (grammar s) m under x Primary 0 (plain (tok Identifier)) named (omega (arith, eqb-true m.alternative 1 one_)) refl in
+      let here : children under ≡ a_token ∷ [] = alternative_is (iso s) m under x Primary 0 (plain (tok Identifier)) named (omega (arith, eqb-true m.alternative 1 one_)) refl in
       let first = token_child under [] here in
       (first.0, first.2 ∙ ap (λ (f : Forest). token first.0 f) (no_child first.1 first.3))
 
   two_false : (q : Production) (n j : ℕ) → ghosts.eq q Primary ≡ false → ghosts.eq q Main ≡ false → ((ghosts.eq q Primary && (n == 1)) || ((ghosts.eq q Main && (n == 4)) && (j == 0))) ≡ false
   two_false q n j e f = ap (λ c. (c && (n == 1)) || ((ghosts.eq q Main && (n == 4)) && (j == 0))) e ∙ ap (λ c. (c && (n == 4)) && (j == 0)) f
 
-  primary_own : (inside : Bool) (m : Label) (under : Forest) → m.production ≡ Primary → IsOfAlternative (grammar s) m under → told.PrimaryTold names toks inside m under → OwnOk m 0 under
+  primary_own : (inside : Bool) (m : Label) (under : Forest) → m.production ≡ Primary → IsOfAlternative (iso s) m under → told.PrimaryTold names toks inside m under → OwnOk m 0 under
   primary_own inside m under named x d = by (m.alternative == 1) refl
     where
       asked : (i : ℕ) → ((inside && bytes_eq (spelling_at toks i) (codes "__func__")) ≡ true) ⊎ UsesAt names i → IsAsked i
@@ -205,7 +205,7 @@ module _ (toks : List Token) (names : List Name) (bare : List ℕ) (s : Dialect)
           none_of true = refl
           none_of false = refl
 
-  own_ok : (q : Production) (inside : Bool) (l m : Label) (first : ℕ) (under : Forest) → m.production ≡ q → IsOfAlternative (grammar s) m under → NodeTold names toks q inside l m first under
+  own_ok : (q : Production) (inside : Bool) (l m : Label) (first : ℕ) (under : Forest) → m.production ≡ q → IsOfAlternative (iso s) m under → NodeTold names toks q inside l m first under
       → OwnOk m 0 under
   own_ok Primary inside l m first under e x d = primary_own inside m under e x d
   own_ok Main inside l m first under e x d = main_own m under e d

@@ -7,9 +7,9 @@ use Rattle.std.proofs.lemmas.Bool.{false≢true}
 use Rattle.std.proofs.lemmas.List.{take-map, drop-map}
 use Rattle.std.proofs.lemmas.Option.{same_Some, slice_get_within}
 use Rattle.cs_base.specs.Token.{Token}
-use Rattle.c99_grammar.specs.declared.dialects.Dialect.{Dialect}
+use Rattle.c99_grammar.specs.declared.dialects.Edition.{Edition}
 use Rattle.c99_grammar.specs.declared.classes.Class.TheVariants.{Hash}
-use Rattle.c99_grammar.specs.Standard.{grammar}
+use Rattle.c99_grammar.specs.Standard.{iso}
 use Rattle.line_shape.specs.Signs.{is_name, is_open, is_comma, is_close}
 use Rattle.macro_body.specs.Hides.{Hidden, toks_of, unhidden}
 use Rattle.macro_body.specs.Notes.{Expanded}
@@ -88,9 +88,9 @@ module _ (run toks : List Token) (from : ℕ) (there : (j : ℕ) (x : Token) →
 
 -- ---- an item of what a run is expanded to
 
-module _ (s : Dialect) (out toks : List Token) (before : ℕ) (there : (j : ℕ) (x : Token) → slice_get out j ≡ Some x → slice_get toks (before + j) ≡ Some x)
-    (no_hash : (k : ℕ) → k < length toks → IsNot (grammar s) toks Hash k) where
-  item_out : (o p : ℕ) → p < length out → EndsItem (grammar s) toks (before + o) (before + p) → IsItem out (record { begin = o + 1; end = p })
+module _ (s : Edition) (out toks : List Token) (before : ℕ) (there : (j : ℕ) (x : Token) → slice_get out j ≡ Some x → slice_get toks (before + j) ≡ Some x)
+    (no_hash : (k : ℕ) → k < length toks → IsNot (iso s) toks Hash k) where
+  item_out : (o p : ℕ) → p < length out → EndsItem (iso s) toks (before + o) (before + p) → IsItem out (record { begin = o + 1; end = p })
   item_out o p lt h =
       let some = h.0 in
       let first = some_at out (o + 1) (omega (arith, some, lt)) in
@@ -104,7 +104,7 @@ module _ (s : Dialect) (out toks : List Token) (before : ℕ) (there : (j : ℕ)
         last = pass_at may_end out (p - 1) last.0 last.1 (ends_item s toks (before + p - 1) last.0 (ap (slice_get toks) (sym place) ∙ last_there) h.1);
       }
 
-  pub items_out : (ms : List ℕ) → Each (λ m. m < length out) ms → EachPair (EndsItem (grammar s) toks) (later_by before ms) → Each (IsItem out) (spans_by ms)
+  pub items_out : (ms : List ℕ) → Each (λ m. m < length out) ms → EachPair (EndsItem (iso s) toks) (later_by before ms) → Each (IsItem out) (spans_by ms)
   items_out [] lt h = tt
   items_out (m ∷ []) lt h = tt
   items_out (m ∷ k ∷ ms) lt h = (item_out m k lt.1.0 h.0, items_out (k ∷ ms) lt.1 h.1)

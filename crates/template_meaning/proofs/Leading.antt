@@ -4,17 +4,17 @@ use Rattle.std.specs.Prelude.{slice_get}
 use Rattle.std.specs.List.{list_all}
 use Rattle.std.proofs.lemmas.Bool.{false≢true, and_parts}
 use Rattle.std.proofs.lemmas.Option.{same_Some}
-use Rattle.c99_grammar.specs.declared.dialects.Dialect.{Dialect}
+use Rattle.c99_grammar.specs.declared.dialects.Edition.{Edition}
 use Rattle.c99_tree.specs.Tree.{Forest, none, token, node}
 use Rattle.c99_tree.specs.declared.production.Label.{Label}
 use Rattle.c99_tree.specs.declared.production.Production.{Production}
 use Rattle.c99_tree.specs.declared.production.Production.TheVariants.{TranslationUnit, External, Sassert, Specs, Main, Mod, Qual, Word, StructSpec, EnumSpec}
 use Rattle.c99_grammar.specs.First.{order}
 use Rattle.c99_grammar.specs.Items.{Item, one, part, end_of_text, act, ◌·◌, choice, maybe, many, deep, Alternative}
-use Rattle.c99_grammar.specs.Standard.{grammar}
+use Rattle.c99_grammar.specs.Standard.{iso}
 use Rattle.c99_read.specs.Sound.{never_empty, has_token, is_low}
-use Rattle.c99_grammar.proofs.StandardLemmas.{by_dialect}
-use Rattle.c99_read.proofs.C99Sound.{grammar-sound}
+use Rattle.c99_grammar.proofs.StandardLemmas.{by_edition}
+use Rattle.c99_read.proofs.C99Sound.{iso-sound}
 use Rattle.tree_laws.specs.TreesOfTexts.{token_count, AreFrom}
 use Rattle.tree_laws.proofs.Lookups.{In}
 use Rattle.tree_laws.proofs.NameClasses.{implied}
@@ -97,13 +97,13 @@ item_leads (deep a) h w x = item_leads a h w x
 abbrev lead_row : Alternative → Bool
 lead_row a = leads_item a.body
 
-module _ (s : Dialect) where
-  rows_lead : (p : Production) → is_lead p ≡ true → list_all lead_row ((grammar s).table p) ≡ true
-  rows_lead External h = by_dialect (λ t. list_all lead_row ((grammar t).table External) ≡ true) refl refl refl s
-  rows_lead Sassert h = by_dialect (λ t. list_all lead_row ((grammar t).table Sassert) ≡ true) refl refl refl s
+module _ (s : Edition) where
+  rows_lead : (p : Production) → is_lead p ≡ true → list_all lead_row ((iso s).table p) ≡ true
+  rows_lead External h = by_edition (λ t. list_all lead_row ((iso t).table External) ≡ true) refl refl s
+  rows_lead Sassert h = by_edition (λ t. list_all lead_row ((iso t).table Sassert) ≡ true) refl refl s
   rows_lead Specs h = refl
   rows_lead Main h = refl
-  rows_lead Mod h = by_dialect (λ t. list_all lead_row ((grammar t).table Mod) ≡ true) refl refl refl s
+  rows_lead Mod h = by_edition (λ t. list_all lead_row ((iso t).table Mod) ≡ true) refl refl s
   rows_lead Qual h = refl
   rows_lead Word h = refl
   rows_lead StructSpec h = refl
@@ -115,25 +115,25 @@ module _ (s : Dialect) where
   row_of (b ∷ rows) zero a all at = subst (λ (c : Alternative). leads_item c.body ≡ true) (same_Some b a at) (and_parts (lead_row b) (list_all lead_row rows) all).0
   row_of (b ∷ rows) (suc k) a all at = row_of rows k a (and_parts (lead_row b) (list_all lead_row rows) all).1 at
 
-  node_leads : (l : Label) (under : Forest) → IsOfAlternative (grammar s) l under → is_lead l.production ≡ true → leads (children under) ≡ true
-  node_leads l under x h = item_leads x.alternative.body (row_of ((grammar s).table l.production) x.number x.alternative (rows_lead l.production h) x.is_one) (children under) x.own
+  node_leads : (l : Label) (under : Forest) → IsOfAlternative (iso s) l under → is_lead l.production ≡ true → leads (children under) ≡ true
+  node_leads l under x h = item_leads x.alternative.body (row_of ((iso s).table l.production) x.number x.alternative (rows_lead l.production h) x.is_one) (children under) x.own
 
-  pub unit_leads : (l : Label) (under : Forest) → IsOfAlternative (grammar s) l under → l.production ≡ TranslationUnit → leads (children under) ≡ true
+  pub unit_leads : (l : Label) (under : Forest) → IsOfAlternative (iso s) l under → l.production ≡ TranslationUnit → leads (children under) ≡ true
   unit_leads l under x named =
-      item_leads x.alternative.body (row_of ((grammar s).table l.production) x.number x.alternative (ap (λ (p : Production). list_all lead_row ((grammar s).table p)) named) x.is_one)
+      item_leads x.alternative.body (row_of ((iso s).table l.production) x.number x.alternative (ap (λ (p : Production). list_all lead_row ((iso s).table p)) named) x.is_one)
       (children under) x.own
 
   lead_some : (p : Production) → is_lead p ≡ true → never_empty p ≡ true
   lead_some TranslationUnit h = absurd (false≢true h)
   lead_some _ h = refl
 
-  lead_children : (l : Label) (under : Forest) → IsOfAlternative (grammar s) l under → is_lead l.production ≡ true → under ≡ none → ⊥
+  lead_children : (l : Label) (under : Forest) → IsOfAlternative (iso s) l under → is_lead l.production ≡ true → under ≡ none → ⊥
   lead_children l under x lead e =
-      let sound = sound_at (grammar s) l.production ((grammar s).table l.production) x.number x.alternative ((grammar-sound s).sound l.production) x.is_one in
+      let sound = sound_at (iso s) l.production ((iso s).table l.production) x.number x.alternative ((iso-sound s).sound l.production) x.is_one in
       let body = implied (never_empty l.production) (has_token x.alternative.body) (and_parts (is_low (order l.production) x.alternative.body) _ sound).1 (lead_some l.production lead) in
       item_some x.alternative.body body (children under) x.own (ap children e)
 
-  lead_tokens : (f : Forest) → EachNode (IsOfAlternative (grammar s)) f → leads (children f) ≡ true → (f ≡ none → ⊥) → 1 ≤ token_count f
+  lead_tokens : (f : Forest) → EachNode (IsOfAlternative (iso s)) f → leads (children f) ≡ true → (f ≡ none → ⊥) → 1 ≤ token_count f
   lead_tokens none each h some = absurd (some refl)
   lead_tokens (token i rest) each h some = omega arith
   lead_tokens (node l first under rest) each h some =
@@ -156,7 +156,7 @@ module _ (s : Dialect) where
   own_none l under x e w = subst (λ (b : Bool). In x (if b then entry l under ∷ [] else [])) e w
 
   -- each list in parentheses begins behind the first token
-  pub behind_first : (f : Forest) (k : ℕ) → AreFrom k f → EachNode (IsOfAlternative (grammar s)) f → EachNode Begins f → leads (children f) ≡ true → (x : Entry) → In x (entries f) → k < x.begin
+  pub behind_first : (f : Forest) (k : ℕ) → AreFrom k f → EachNode (IsOfAlternative (iso s)) f → EachNode Begins f → leads (children f) ≡ true → (x : Entry) → In x (entries f) → k < x.begin
   behind_first none k tokens each begin h x w = absurd w
   behind_first (token i rest) k tokens each begin h x w = let r = within rest (k + 1) tokens.1 begin x w in omega (arith, r.0)
   behind_first (node l first under rest) k tokens each begin h x w = elim (in_split x (entry_of l under) (entries under ++ entries rest) w) [

@@ -4,7 +4,7 @@ use Rattle.std.specs.Prelude.{slice_get}
 use Rattle.std.specs.Option.{option_or}
 use Rattle.std.proofs.lemmas.Bool.{false≢true}
 use Rattle.std.proofs.lemmas.Option.{same_Some}
-use Rattle.c99_grammar.specs.declared.dialects.Dialect.{Dialect}
+use Rattle.c99_grammar.specs.declared.dialects.Edition.{Edition}
 use Rattle.c99_tree.specs.Tree.{Forest, none, token, node}
 use Rattle.c99_tree.specs.declared.production.Label.{Label}
 use Rattle.c99_tree.specs.declared.production.Production.{Production}
@@ -12,7 +12,7 @@ use Rattle.c99_tree.specs.declared.production.Production.TheVariants.{Declarator
 use Rattle.c99_tree.specs.contracts.production.ProductionPartialEq.TheImpl.{ghosts}
 use Rattle.c99_grammar.specs.Items.{part, ◌·◌, many, own, deep, any_name, tok, plain, Alternative}
 use Rattle.c99_grammar.specs.declared.classes.Class.TheVariants.{LeftParen, RightParen}
-use Rattle.c99_grammar.specs.Standard.{grammar}
+use Rattle.c99_grammar.specs.Standard.{iso}
 use Rattle.c_types.specs.Lists.{nearest_of}
 use Rattle.c_types.specs.Trees.{is_node, is_list, has_name, holds_name, name_below, first_token}
 use Rattle.tree_laws.specs.TreesOfTexts.{token_count, AreFrom}
@@ -71,7 +71,7 @@ name_bound l (node m first under rest) k name w e =
     node_bound (holds_name m.production) (name_below m under) (name_below l rest) k (token_count under) (token_count rest) name
     (name_bound m under k name w.1) (name_bound l rest (k + token_count under) name w.2) e
 
-module _ (s : Dialect) where
+module _ (s : Edition) where
   declarator_of : (n : ℕ) (f : Forest) (ps qs : List Child) → AreTimes (AreOfItem (part Pointer)) n ps → AreOfItem (part Direct) qs → children f ≡ ps ++ qs → IsDeclarator f
   declarator_of zero f ps qs none_ (q, is, stands) e =
       let all : children f ≡ a_node q ∷ [] = e ∙ ap (λ (w : List Child). w ++ qs) none_ ∙ is in
@@ -95,9 +95,9 @@ module _ (s : Dialect) where
           let later : children rest ≡ ys ++ qs = cc in
           inl (same ∙ stands_alone Pointer q refl stands, next rest later)
 
-  pub declarator_alternative : (l : Label) (under : Forest) → IsOfAlternative (grammar s) l under → l.production ≡ Declarator → IsDeclarator under
+  pub declarator_alternative : (l : Label) (under : Forest) → IsOfAlternative (iso s) l under → l.production ≡ Declarator → IsDeclarator under
   declarator_alternative l under x is =
-      by (only x.number (sym (ap (λ (p : Production). slice_get ((grammar s).table p) x.number) is) ∙ x.is_one))
+      by (only x.number (sym (ap (λ (p : Production). slice_get ((iso s).table p) x.number) is) ∙ x.is_one))
     where
       only : (n : ℕ) → slice_get (plain (many own (part Pointer) · part Direct) ∷ []) n ≡ Some x.alternative → plain (many own (part Pointer) · part Direct) ≡ x.alternative
       only zero e = same_Some (plain (many own (part Pointer) · part Direct)) x.alternative e
@@ -122,8 +122,8 @@ module _ (s : Dialect) where
   name_first l i (node m first under (token j rest)) e = inl e
   name_first l i (node m first under (node n second u rest)) e = e
 
-  direct_alternative : (l : Label) (under : Forest) → IsOfAlternative (grammar s) l under → l.production ≡ Direct → DirectIs l under
-  direct_alternative l under x is = which x.number (sym (ap (λ (p : Production). slice_get ((grammar s).table p) x.number) is) ∙ x.is_one) x.numbered
+  direct_alternative : (l : Label) (under : Forest) → IsOfAlternative (iso s) l under → l.production ≡ Direct → DirectIs l under
+  direct_alternative l under x is = which x.number (sym (ap (λ (p : Production). slice_get ((iso s).table p) x.number) is) ∙ x.is_one) x.numbered
     where
       first_body : Alternative
       first_body = plain (any_name · many own (part Suffix))
@@ -188,7 +188,7 @@ module _ (s : Dialect) where
       by (Some z) is h = inside (is ∙ h)
 
   mutual
-    pub declarator_before : (f : Forest) (l : Label) (k name : ℕ) (list : Forest) → IsDeclarator f → EachNode (IsOfAlternative (grammar s)) f → AreFrom k f → EachNode Begins f
+    pub declarator_before : (f : Forest) (l : Label) (k name : ℕ) (list : Forest) → IsDeclarator f → EachNode (IsOfAlternative (iso s)) f → AreFrom k f → EachNode Begins f
         → name_below l f ≡ Some name → nearest_of f ≡ Some (Some list) → name < first_token list 0
     declarator_before none l k name list d x w each n e = absurd d
     declarator_before (token i rest) l k name list d x w each n e = absurd d
@@ -206,7 +206,7 @@ module _ (s : Dialect) where
         by None h = absurd (cc)
         by (Some z) h = h
 
-    direct_before : (f : Forest) (l : Label) (k name : ℕ) (list : Forest) → l.production ≡ Direct → DirectIs l f → EachNode (IsOfAlternative (grammar s)) f → AreFrom k f → EachNode Begins f
+    direct_before : (f : Forest) (l : Label) (k name : ℕ) (list : Forest) → l.production ≡ Direct → DirectIs l f → EachNode (IsOfAlternative (iso s)) f → AreFrom k f → EachNode Begins f
         → name_below l f ≡ Some name → nearest_of f ≡ Some (Some list) → name < first_token list 0
     direct_before none l k name list p d x w each n e = absurd d
     direct_before (node m first under rest) l k name list p d x w each n e = absurd d

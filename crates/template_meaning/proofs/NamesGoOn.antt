@@ -4,7 +4,7 @@ use Rattle.std.proofs.Common.{ℕ, zero, suc, ◌+◌, ◌≡◌, Bool, true, in
 use Rattle.std.specs.Prelude.{◌==◌, nat_lt}
 use Rattle.std.proofs.lemmas.Bool.{cases_Bool, false≢true, and_parts, and_from, eqb-true, ltb-true, ltb-false, lt-ltb}
 use Rattle.std.proofs.lemmas.List.{get_or_default, get_or_past}
-use Rattle.c99_grammar.specs.declared.dialects.Dialect.{Dialect}
+use Rattle.c99_grammar.specs.declared.dialects.Edition.{Edition}
 use Rattle.cs_base.specs.Token.{Token}
 use Rattle.c99_tree.specs.Tree.{Forest, none, token, node, Node}
 use Rattle.c99_tree.specs.declared.production.Label.{Label}
@@ -13,7 +13,7 @@ use Rattle.c99_tree.specs.declared.production.Production.TheVariants.{Pdirect, P
 use Rattle.c99_tree.specs.contracts.production.ProductionPartialEq.TheImpl.{ghosts}
 use Rattle.c99_grammar.specs.declared.classes.Class.TheVariants.{LeftParen, RightParen, LeftBracket, Star, Identifier}
 use Rattle.c99_grammar.specs.Items.{part, ◌·◌, many, deep, tok, own, next_two, is, when}
-use Rattle.c99_grammar.specs.Standard.{grammar}
+use Rattle.c99_grammar.specs.Standard.{iso}
 use Rattle.c99_read.specs.Reading.{read_of}
 use Rattle.c99_read.specs.State.{base_at, is_identifier}
 use Rattle.c_types.specs.Trees.{is_node, is_at}
@@ -48,12 +48,12 @@ opened_by under q w e =
     ap token_count second.4 ∙ ap (λ (f : Forest). token_count second.2 + token_count f) third.2 in
     ap is_opened first.2 ∙ lt-ltb 0 (token_count first.1) (omega (arith, many_))
 
-module _ (s : Dialect) where
-  opened : (l : Label) (under : Forest) → IsOfAlternative (grammar s) l under → is_at l Pdirect 2 ≡ true → is_opened under ≡ true
+module _ (s : Edition) where
+  opened : (l : Label) (under : Forest) → IsOfAlternative (iso s) l under → is_at l Pdirect 2 ≡ true → is_opened under ≡ true
   opened l under x at =
       let both = and_parts (is_node l Pdirect) (l.alternative == 2) at in
       let two : l.alternative ≡ 1 + 1 = omega (arith, eqb-true l.alternative 2 both.1) in
-      let body = alternative_is (grammar s) l under x Pdirect 1
+      let body = alternative_is (iso s) l under x Pdirect 1
       (when (next_two (is (LeftParen ∷ [])) (is (LeftBracket ∷ LeftParen ∷ Star ∷ Identifier ∷ []))) (tok LeftParen · (deep (part Pdecl) · (tok RightParen · many own (part Suffix)))))
       (pdirect_named l.production both.0) two refl in
       by body
@@ -65,16 +65,16 @@ module _ (s : Dialect) where
           ∙ ap (λ (w : List Child). a_token ∷ w) (more ∙ (ap (λ (w : List Child). w ++ vs) inner ∙ ap (λ (w : List Child). a_node q ∷ w) (rest ∙ ap (λ (w : List Child). w ++ us) close)))))
 
   module _ (toks : List Token) where
-    bare_names : (f : Forest) → EachNode (IsOfAlternative (grammar s)) f → Encloses s toks f → HaveBareNames s toks f
+    bare_names : (f : Forest) → EachNode (IsOfAlternative (iso s)) f → Encloses s toks f → HaveBareNames s toks f
     bare_names none x e = tt
     bare_names (token i rest) x e = bare_names rest x e
     bare_names (node l first under rest) x e = (
-      λ at. record { opened = opened l under x.0 at; named = λ is. e.0 (and_from (is_at l Pdirect 2) (is_identifier (base_at (grammar s) toks (first + 1))) at is) },
+      λ at. record { opened = opened l under x.0 at; named = λ is. e.0 (and_from (is_at l Pdirect 2) (is_identifier (base_at (iso s) toks (first + 1))) at is) },
       bare_names under x.1 e.1.0,
       bare_names rest x.2 e.1.1,
     )
 
-    pub have_bare_names : (tree : Node) → read_of (grammar s) toks ≡ Ok tree → HaveBareNames s toks tree.under
+    pub have_bare_names : (tree : Node) → read_of (iso s) toks ≡ Ok tree → HaveBareNames s toks tree.under
     have_bare_names tree reads = bare_names tree.under (each_below s toks tree reads) (read_encloses s toks tree reads)
 
 -- ---- Classes of tokens
@@ -84,7 +84,7 @@ unfolding numbers
 numbers_same k zero = refl
 numbers_same k (suc n) = ap (λ (ks : List ℕ). k ∷ ks) (numbers_same (k + 1) n)
 
-module _ (s : Dialect) (order : List ℕ) (lists : ℕ → Bool) (tree : Node) (old new : List Token) (is : IsOrder (length order) order)
+module _ (s : Edition) (order : List ℕ) (lists : ℕ → Bool) (tree : Node) (old new : List Token) (is : IsOrder (length order) order)
     (each : AreOf (length order) (cut_in lists tree)) (stand : AreTokensInOrder s order lists tree old new) where
   abbrev c : Cut
   c = cut_in lists tree
@@ -101,15 +101,15 @@ module _ (s : Dialect) (order : List ℕ) (lists : ℕ → Bool) (tree : Node) (
   long : length all ≡ n
   long = length-arranged (length order) order c (numbers 0 n) is each ∙ length-numbers n 0
 
-  class_at : (k : ℕ) → base_at (grammar s) new k ≡ base_at (grammar s) old (get_or all k k)
-  class_at k = stand.1 k ∙ ap (λ (ks : List ℕ). base_at (grammar s) old (get_or (arranged order c ks) k k)) (numbers_same 0 n)
+  class_at : (k : ℕ) → base_at (iso s) new k ≡ base_at (iso s) old (get_or all k k)
+  class_at k = stand.1 k ∙ ap (λ (ks : List ℕ). base_at (iso s) old (get_or (arranged order c ks) k k)) (numbers_same 0 n)
 
-  pub classes_move : (k : ℕ) → base_at (grammar s) new (move k) ≡ base_at (grammar s) old k
+  pub classes_move : (k : ℕ) → base_at (iso s) new (move k) ≡ base_at (iso s) old k
   classes_move k = elim (cases_Bool (nat_lt k n)) [
     | inl a ↦
         let w = moved-within n order c is each k (ltb-true k n a) in
-        class_at (move k) ∙ ap (base_at (grammar s) old) (get_or_default all (move k) (move k) 0 (omega (arith, w.0, long)) ∙ w.1)
+        class_at (move k) ∙ ap (base_at (iso s) old) (get_or_default all (move k) (move k) 0 (omega (arith, w.0, long)) ∙ w.1)
     | inr a ↦
         let stays : move k ≡ k = moved-beyond n order c is each k (ltb-false k n a) in
-        ap (base_at (grammar s) new) stays ∙ (class_at k ∙ ap (base_at (grammar s) old) (get_or_past all k k (omega (arith, long, ltb-false k n a))))
+        ap (base_at (iso s) new) stays ∙ (class_at k ∙ ap (base_at (iso s) old) (get_or_past all k k (omega (arith, long, ltb-false k n a))))
   ]

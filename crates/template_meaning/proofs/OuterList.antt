@@ -3,13 +3,13 @@ use Rattle.std.proofs.Common.{ℕ, ◌≡◌, Bool, true, false, ◌&&◌, ◌||
 use Rattle.std.specs.Option.{option_map_or, option_or}
 use Rattle.std.proofs.lemmas.Bool.{false≢true, and_parts}
 use Rattle.std.proofs.lemmas.Option.{same_Some}
-use Rattle.c99_grammar.specs.declared.dialects.Dialect.{Dialect}
+use Rattle.c99_grammar.specs.declared.dialects.Edition.{Edition}
 use Rattle.c99_tree.specs.Tree.{Forest, none, token, node}
 use Rattle.c99_tree.specs.declared.production.Label.{Label}
 use Rattle.c99_tree.specs.declared.production.Production.{Production}
 use Rattle.c99_tree.specs.declared.production.Production.TheVariants.{TranslationUnit, External, ExtRest, ExtTail, FunBody}
 use Rattle.c99_tree.specs.contracts.production.ProductionPartialEq.TheImpl.{ghosts}
-use Rattle.c99_grammar.specs.Standard.{grammar}
+use Rattle.c99_grammar.specs.Standard.{iso}
 use Rattle.c_types.specs.Trees.{is_node, is_list, has_node, last_token, first_list}
 use Rattle.tree_laws.proofs.Lookups.{In}
 use Rattle.reordered_tree_laws.specs.Premises.{has_outer_list}
@@ -104,7 +104,7 @@ or_parts_of : (a b : Bool) → (a || b) ≡ true → (a ≡ true) ⊎ (b ≡ tru
 or_parts_of true b e = inl refl
 or_parts_of false b e = inr e
 
-module _ (s : Dialect) (lists : ℕ → Bool) where
+module _ (s : Edition) (lists : ℕ → Bool) where
   has_all : (f : Forest) → has_node FunBody f ≡ true → all_nodes (not_these is_body) (children f) ≡ false
   has_all none e = absurd (false≢true e)
   has_all (token i rest) e = has_all rest e
@@ -120,7 +120,7 @@ module _ (s : Dialect) (lists : ℕ → Bool) where
           none_of false = refl
 
   -- of a declarator and a body
-  here_outer : (l : Label) (under : Forest) → IsOfAlternative (grammar s) l under → EachNode (IsOfAlternative (grammar s)) under → l.production ≡ ExtRest
+  here_outer : (l : Label) (under : Forest) → IsOfAlternative (iso s) l under → EachNode (IsOfAlternative (iso s)) under → l.production ≡ ExtRest
       → ((found : ℕ) → In found (body_list under) → EachNode (IsFree lists found) under) → BodyListIsOuter lists under
   here_outer l none x each named free = tt
   here_outer l (token i rest) x each named free = tt
@@ -138,7 +138,7 @@ module _ (s : Dialect) (lists : ℕ → Bool) where
       by (inr e) = cc
 
   -- no such declaration below
-  no_more : (f : Forest) → EachNode (IsOfAlternative (grammar s)) f → all_nodes (not_these is_top) (children f) ≡ true → EachNode (HasOuterList lists) f
+  no_more : (f : Forest) → EachNode (IsOfAlternative (iso s)) f → all_nodes (not_these is_top) (children f) ≡ true → EachNode (HasOuterList lists) f
   no_more none each h = tt
   no_more (token i rest) each h = no_more rest each h
   no_more (node l first under rest) each h =
@@ -149,7 +149,7 @@ module _ (s : Dialect) (lists : ℕ → Bool) where
         no_more rest each.2 parts.1,
       )
 
-  pub outer_each : (f : Forest) → EachNode (IsOfAlternative (grammar s)) f → ((found : ℕ) → In found (body_lists_in f) → EachNode (IsFree lists found) f) → EachNode (HasOuterList lists) f
+  pub outer_each : (f : Forest) → EachNode (IsOfAlternative (iso s)) f → ((found : ℕ) → In found (body_lists_in f) → EachNode (IsFree lists found) f) → EachNode (HasOuterList lists) f
   outer_each none each free = tt
   outer_each (token i rest) each free = outer_each rest each free
   outer_each (node l first under rest) each free =

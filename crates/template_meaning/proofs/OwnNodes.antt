@@ -3,7 +3,7 @@ use Rattle.std.proofs.Common.{◌≡◌, ℕ, zero, suc, ◌+◌, ◌<◌, inl, 
 use Rattle.std.specs.Prelude.{◌==◌, slice_get}
 use Rattle.std.proofs.lemmas.Bool.{false≢true, and_parts, and_from, eqb-true, eq-eqb}
 use Rattle.std.proofs.lemmas.Option.{same_Some}
-use Rattle.c99_grammar.specs.declared.dialects.Dialect.{Dialect}
+use Rattle.c99_grammar.specs.declared.dialects.Edition.{Edition}
 use Rattle.cs_base.specs.Token.{Token}
 use Rattle.c99_tree.specs.Tree.{Forest, none, token, node}
 use Rattle.c99_tree.specs.declared.production.Label.{Label}
@@ -12,7 +12,7 @@ use Rattle.c99_tree.specs.declared.production.Production.TheVariants.{Post, Suff
 use Rattle.c99_tree.specs.contracts.production.ProductionPartialEq.TheImpl.{ghosts}
 use Rattle.c99_grammar.specs.Items.{Item, part, act, ◌·◌, maybe, many, own, deep, scope, end, keep, tok, plain, Alternative, next_two, is, is_not}
 use Rattle.c99_grammar.specs.declared.classes.Class.TheVariants.{LeftParen, RightParen, Comma, Ellipsis}
-use Rattle.c99_grammar.specs.Standard.{Grammar, grammar}
+use Rattle.c99_grammar.specs.Standard.{Grammar, iso}
 use Rattle.c99_read.specs.State.{base_at}
 use Rattle.c_types.specs.declared.lists.List.{List as NameList}
 use Rattle.c_types.specs.Lists.{odd_tokens, list_of, call_in, calls_in, nearest_of, is_declaring}
@@ -84,8 +84,8 @@ own_names (Some name) (Some None) p w = absurd w
 own_names (Some name) (Some (Some under)) p (inl e) = (ap (λ (q : Pair). Some q.name) e, ap (λ (q : Pair). Some (Some q.under)) e)
 own_names (Some name) (Some (Some under)) p (inr w) = absurd w
 
-module _ (s : Dialect) where
-  pair_before_in : (f : Forest) (k : ℕ) (p : Pair) → AreFrom k f → EachNode (IsOfAlternative (grammar s)) f → EachNode Begins f → In p (pair_in f) → p.name < first_token p.under 0
+module _ (s : Edition) where
+  pair_before_in : (f : Forest) (k : ℕ) (p : Pair) → AreFrom k f → EachNode (IsOfAlternative (iso s)) f → EachNode Begins f → In p (pair_in f) → p.name < first_token p.under 0
   pair_before_in none k p w x each there = absurd there
   pair_before_in (token i rest) k p w x each there = absurd there
   pair_before_in (node l first under rest) k p w x each there =
@@ -94,7 +94,7 @@ module _ (s : Dialect) where
       let production = declarator_named l.production here.0 in
       declarator_before s under l k p.name p.under (declarator_alternative s l under x.0 production) x.1 w.1 each.1 names.0 names.1
 
-  pub pair_before : (f : Forest) (k : ℕ) (p : Pair) → AreFrom k f → EachNode (IsOfAlternative (grammar s)) f → EachNode Begins f → In p (pairs_in f) → p.name < first_token p.under 0
+  pub pair_before : (f : Forest) (k : ℕ) (p : Pair) → AreFrom k f → EachNode (IsOfAlternative (iso s)) f → EachNode Begins f → In p (pairs_in f) → p.name < first_token p.under 0
   pair_before none k p w x each there = absurd there
   pair_before (token i rest) k p w x each there = pair_before rest (k + 1) p w.1 x each there
   pair_before (node l first under rest) k p w x each there = elim (in_split p ((if is_declaring l then pair_in under else []) ++ pairs_in under) (pairs_in rest) there) [
@@ -135,36 +135,36 @@ ends_of g toks under i j w e open_ close = record {
   close = ap (base_at g toks) (last_child under 0 j (classes.a_token i ∷ w) e) ∙ close RightParen refl refl;
 }
 
-module _ (s : Dialect) (toks : List Token) where
+module _ (s : Edition) (toks : List Token) where
   abbrev Of : Item → List classes.Child → Type 0
-  Of item w = classes.AreOfItem (grammar s) toks item w
+  Of item w = classes.AreOfItem (iso s) toks item w
 
-  pub call_ends : (l : Label) (under : Forest) → IsOfClasses (grammar s) toks l under → is_at l Post 2 ≡ true → Ends (grammar s) toks under
+  pub call_ends : (l : Label) (under : Forest) → IsOfClasses (iso s) toks l under → is_at l Post 2 ≡ true → Ends (iso s) toks under
   call_ends l under x at =
       let both = and_parts (is_node l Post) (l.alternative == 2) at in
       let two_ : l.alternative ≡ 1 + 1 = omega (arith, eqb-true l.alternative 2 both.1) in
-      by (alternative_of (grammar s) toks l under x Post 1 (plain (tok LeftParen · (maybe (deep (part Args)) · tok RightParen))) (post_named l.production both.0) two_ refl)
+      by (alternative_of (iso s) toks l under x Post 1 (plain (tok LeftParen · (maybe (deep (part Args)) · tok RightParen))) (post_named l.production both.0) two_ refl)
     where
-      by : Of (tok LeftParen · (maybe (deep (part Args)) · tok RightParen)) (classes.children under) → Ends (grammar s) toks under
+      by : Of (tok LeftParen · (maybe (deep (part Args)) · tok RightParen)) (classes.children under) → Ends (iso s) toks under
       by (xs, ys, all, (i, first, open_), (zs, vs, more, middle, (j, last, close))) =
-          ends_of (grammar s) toks under i j zs (all ∙ (ap (λ (w : List classes.Child). w ++ ys) first ∙ ap (λ (w : List classes.Child). classes.a_token i ∷ w) (more ∙ ap (λ (w : List classes.Child). zs ++ w) last))) open_ close
+          ends_of (iso s) toks under i j zs (all ∙ (ap (λ (w : List classes.Child). w ++ ys) first ∙ ap (λ (w : List classes.Child). classes.a_token i ∷ w) (more ∙ ap (λ (w : List classes.Child). zs ++ w) last))) open_ close
 
-  pub list_ends : (l : Label) (under : Forest) → IsOfClasses (grammar s) toks l under → is_at l Suffix 2 ≡ true → Ends (grammar s) toks under
+  pub list_ends : (l : Label) (under : Forest) → IsOfClasses (iso s) toks l under → is_at l Suffix 2 ≡ true → Ends (iso s) toks under
   list_ends l under x at =
       let both = and_parts (is_node l Suffix) (l.alternative == 2) at in
       let two_ : l.alternative ≡ 1 + 1 = omega (arith, eqb-true l.alternative 2 both.1) in
-      by (alternative_of (grammar s) toks l under x Suffix 1 (plain (tok LeftParen · (act scope · (maybe (deep (part Params)) · (act end · (act keep · tok RightParen))))))
+      by (alternative_of (iso s) toks l under x Suffix 1 (plain (tok LeftParen · (act scope · (maybe (deep (part Params)) · (act end · (act keep · tok RightParen))))))
       (suffix_named l.production both.0) two_ refl)
     where
-      by : Of (tok LeftParen · (act scope · (maybe (deep (part Params)) · (act end · (act keep · tok RightParen))))) (classes.children under) → Ends (grammar s) toks under
+      by : Of (tok LeftParen · (act scope · (maybe (deep (part Params)) · (act end · (act keep · tok RightParen))))) (classes.children under) → Ends (iso s) toks under
       by (xs, ys, all, (i, first, open_), (no1, ys1, all1, none1, (zs, ys2, all2, middle, (no3, ys3, all3, none3, (no4, ys4, all4, none4, (j, last, close)))))) =
           let behind4 : ys3 ≡ classes.a_token j ∷ [] = all4 ∙ (ap (λ (w : List classes.Child). w ++ ys4) none4 ∙ last) in
           let behind3 : ys2 ≡ classes.a_token j ∷ [] = all3 ∙ (ap (λ (w : List classes.Child). w ++ ys3) none3 ∙ behind4) in
           let behind1 : ys ≡ zs ++ classes.a_token j ∷ [] = all1 ∙ (ap (λ (w : List classes.Child). w ++ ys1) none1 ∙ (all2 ∙ ap (λ (w : List classes.Child). zs ++ w) behind3)) in
-          ends_of (grammar s) toks under i j zs (all ∙ (ap (λ (w : List classes.Child). w ++ ys) first ∙ ap (λ (w : List classes.Child). classes.a_token i ∷ w) behind1)) open_ close
+          ends_of (iso s) toks under i j zs (all ∙ (ap (λ (w : List classes.Child). w ++ ys) first ∙ ap (λ (w : List classes.Child). classes.a_token i ∷ w) behind1)) open_ close
 
   abbrev Commas : List classes.Child → Type 0
-  Commas w = AreCommas (grammar s) toks w
+  Commas w = AreCommas (iso s) toks w
 
   -- a comma and an item, so many times
   times_commas : (p : Production) (n : ℕ) (w tail : List classes.Child) → classes.AreTimes (Of (tok Comma · part p)) n w → Commas tail → Commas (w ++ tail)
@@ -180,33 +180,33 @@ module _ (s : Dialect) (toks : List Token) where
   nil_end (c ∷ w) = ap (λ (v : List classes.Child). c ∷ v) (nil_end w)
 
   -- the commas between arguments, and between parameter declarations
-  items_odd : (f : Forest) (w : List classes.Child) → classes.children f ≡ classes.a_node ∷ w → Commas w → Each (λ i. base_at (grammar s) toks i ≡ Comma) (odd_tokens 0 f)
+  items_odd : (f : Forest) (w : List classes.Child) → classes.children f ≡ classes.a_node ∷ w → Commas w → Each (λ i. base_at (iso s) toks i ≡ Comma) (odd_tokens 0 f)
   items_odd none w e h = absurd (cc)
   items_odd (token i rest) w e h = absurd (cc)
   items_odd (node l first under rest) w e h =
       let same : classes.children rest ≡ w = cc in
-      commas_odd (grammar s) toks rest 1 refl (subst Commas (sym same) h)
+      commas_odd (iso s) toks rest 1 refl (subst Commas (sym same) h)
 
   args_number : (n : ℕ) (a : Alternative) → slice_get (plain (part Assign · many own (tok Comma · part Assign)) ∷ []) n ≡ Some a → n ≡ 0
   args_number zero a e = refl
   args_number (suc n) a e = absurd (cc)
 
-  pub args_commas : (l : Label) (items : Forest) → IsOfClasses (grammar s) toks l items → l.production ≡ Args → Each (λ i. base_at (grammar s) toks i ≡ Comma) (odd_tokens 0 items)
+  pub args_commas : (l : Label) (items : Forest) → IsOfClasses (iso s) toks l items → l.production ≡ Args → Each (λ i. base_at (iso s) toks i ≡ Comma) (odd_tokens 0 items)
   args_commas l items x is_args =
-      let number : x.number ≡ 0 = args_number x.number x.alternative (sym (ap (λ (p : Production). slice_get ((grammar s).table p) x.number) is_args) ∙ x.is_one) in
+      let number : x.number ≡ 0 = args_number x.number x.alternative (sym (ap (λ (p : Production). slice_get ((iso s).table p) x.number) is_args) ∙ x.is_one) in
       let one_ : l.alternative ≡ 0 + 1 = omega (arith, x.numbered, number) in
-      by (alternative_of (grammar s) toks l items x Args 0 (plain (part Assign · many own (tok Comma · part Assign))) is_args one_ refl)
+      by (alternative_of (iso s) toks l items x Args 0 (plain (part Assign · many own (tok Comma · part Assign))) is_args one_ refl)
     where
-      by : Of (part Assign · many own (tok Comma · part Assign)) (classes.children items) → Each (λ i. base_at (grammar s) toks i ≡ Comma) (odd_tokens 0 items)
+      by : Of (part Assign · many own (tok Comma · part Assign)) (classes.children items) → Each (λ i. base_at (iso s) toks i ≡ Comma) (odd_tokens 0 items)
       by (xs, ys, all, first, (n, more)) =
           items_odd items (ys ++ []) (all ∙ (ap (λ (w : List classes.Child). w ++ ys) first ∙ ap (λ (w : List classes.Child). classes.a_node ∷ w) (sym (nil_end ys))))
           (times_commas Assign n ys [] more tt)
 
-  pub params_commas : (l : Label) (items : Forest) → IsOfClasses (grammar s) toks l items → l.production ≡ Params → is_at l Params 1 ≡ false → Each (λ i. base_at (grammar s) toks i ≡ Comma) (odd_tokens 0 items)
+  pub params_commas : (l : Label) (items : Forest) → IsOfClasses (iso s) toks l items → l.production ≡ Params → is_at l Params 1 ≡ false → Each (λ i. base_at (iso s) toks i ≡ Comma) (odd_tokens 0 items)
   params_commas l items x is_params other =
-      let number : x.number ≡ 1 = second x.number (sym (ap (λ (p : Production). slice_get ((grammar s).table p) x.number) is_params) ∙ x.is_one) x.numbered in
+      let number : x.number ≡ 1 = second x.number (sym (ap (λ (p : Production). slice_get ((iso s).table p) x.number) is_params) ∙ x.is_one) x.numbered in
       let two_ : l.alternative ≡ 1 + 1 = omega (arith, x.numbered, number) in
-      by (alternative_of (grammar s) toks l items x Params 1 types is_params two_ refl)
+      by (alternative_of (iso s) toks l items x Params 1 types is_params two_ refl)
     where
       types : Alternative
       types = plain (part Param · (many (next_two (is (Comma ∷ [])) (is_not (Ellipsis ∷ []))) (tok Comma · part Param) · maybe (tok Comma · tok Ellipsis)))
@@ -214,7 +214,7 @@ module _ (s : Dialect) (toks : List Token) where
       not_one : (n : ℕ) → l.alternative ≡ n + 1 → n ≡ 0 → is_at l Params 1 ≡ true
       not_one n e zero_ = and_from (is_node l Params) (l.alternative == 1) (ap (λ p. ghosts.eq p Params) is_params) (eq-eqb l.alternative 1 (omega (arith, e, zero_)))
 
-      second : (n : ℕ) → slice_get ((grammar s).table Params) n ≡ Some x.alternative → l.alternative ≡ n + 1 → n ≡ 1
+      second : (n : ℕ) → slice_get ((iso s).table Params) n ≡ Some x.alternative → l.alternative ≡ n + 1 → n ≡ 1
       second zero e numbered = absurd (false≢true (sym other ∙ not_one 0 numbered refl))
       second (suc zero) e numbered = refl
       second (suc (suc n)) e numbered = absurd (cc)
@@ -225,7 +225,7 @@ module _ (s : Dialect) (toks : List Token) where
           subst Commas (sym same) (class Comma refl refl, refl)
       dots w (inr empty) = subst Commas (sym empty) tt
 
-      by : Of types.body (classes.children items) → Each (λ i. base_at (grammar s) toks i ≡ Comma) (odd_tokens 0 items)
+      by : Of types.body (classes.children items) → Each (λ i. base_at (iso s) toks i ≡ Comma) (odd_tokens 0 items)
       by (xs, ys, all, first, (zs, vs, rest, (n, more), ends)) =
           items_odd items (zs ++ vs) (all ∙ (ap (λ (w : List classes.Child). w ++ ys) first ∙ ap (λ (w : List classes.Child). classes.a_node ∷ w) rest))
           (times_commas Param n zs vs more (dots vs ends))

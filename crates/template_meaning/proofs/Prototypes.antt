@@ -5,7 +5,7 @@ use Rattle.std.specs.Option.{option_map_or}
 use Rattle.std.proofs.lemmas.Bool.{and_from}
 use Rattle.std.proofs.lemmas.Option.{same_Some}
 use Rattle.cs_base.specs.declared.positions.Part.{Part}
-use Rattle.c99_grammar.specs.Dialects.{dialect}
+use Rattle.c99_grammar.specs.Dialects.{edition}
 use Rattle.c_types.specs.declared.lists.List.{List as NameList}
 use Rattle.c_types.specs.Parameters.{parameters_in}
 use Rattle.name_chains.specs.Frames.{outermost}
@@ -51,7 +51,7 @@ module _ (in_order : ReadParameterListsAreInOrder) (are_told : IdentifiersAreTol
   declares : DeclaresAt names is_ordinary l.name
   declares =
       let r = is_read in
-      let p = declarator_is (dialect u.standard) members u (length order) r.reads r.binds in_order (declared in_order source ws a members order h u i) (called in_order source ws a members order h u i) l
+      let p = declarator_is (edition u.standard) members u (length order) r.reads r.binds in_order (declared in_order source ws a members order h u i) (called in_order source ws a members order h u i) l
       (in_of l u.bound.declarators j.0 j.1) in
       subst (λ (k : ℕ). DeclaresAt names is_ordinary k) (ap (λ (q : NameList). q.name) p.2)
       (pairs_declare names u.text.toks u.tree.under false false (outermost 0).label p.0 (all_told in_order are_told source ws a members order h u i) p.1)
@@ -67,7 +67,7 @@ module _ (in_order : ReadParameterListsAreInOrder) (are_told : IdentifiersAreTol
       let r = is_read in
       let d = declares in
       (all_of_in (λ (m : Name). (entity_at names m.index ≡ Some m.entity) × (entity_at names m.entity ≡ Some m.entity)) names
-      (entities_are_names u.text.toks u.tree u.bound (trees_of_texts (dialect u.standard) u.text.toks u.tree r.reads) r.binds) name d.is).0
+      (entities_are_names u.text.toks u.tree u.bound (trees_of_texts (edition u.standard) u.text.toks u.tree r.reads) r.binds) name d.is).0
 
   of_function : is_function members u.text.toks names name.entity ≡ true
   of_function = sym (ap (λ (o : Option ℕ). option_map_or (is_function members u.text.toks names) o false) (ap (λ (k : ℕ). entity_at names k) (sym at) ∙ entity)) ∙ own

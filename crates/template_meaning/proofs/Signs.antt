@@ -2,7 +2,7 @@
 use Rattle.std.proofs.Common.{ℕ, zero, suc, ◌+◌, ◌≡◌, inl, inr, Bool, true, false, ◌&&◌, if◌then◌else◌, List, [], ◌∷◌, ◌++◌, length, Some, Ok, Err, nat_lt, refl, sym, ap, subst, ◌∙◌, arith, append_assoc, append-nil}
 use Rattle.std.specs.Prelude.{slice_get, ◌==◌}
 use Rattle.std.proofs.lemmas.Bool.{false≢true, and_parts}
-use Rattle.c99_grammar.specs.declared.dialects.Dialect.{Dialect}
+use Rattle.c99_grammar.specs.declared.dialects.Edition.{Edition}
 use Rattle.cs_base.specs.Token.{Token}
 use Rattle.c99_tree.specs.Tree.{Forest, none, token, node, Node, leaf, inner, put, lone, collapsed}
 use Rattle.c99_tree.specs.declared.production.Label.{Label}
@@ -12,7 +12,7 @@ use Rattle.c99_grammar.specs.declared.classes.Class.{Class}
 use Rattle.c99_grammar.specs.declared.classes.Class.TheVariants.{TypedefName}
 use Rattle.c99_grammar.specs.Classes.{among}
 use Rattle.c99_grammar.specs.Items.{Item, one, part, end_of_text, act, ◌·◌, choice, maybe, many, deep, own, Action, Alternative}
-use Rattle.c99_grammar.specs.Standard.{Grammar, grammar}
+use Rattle.c99_grammar.specs.Standard.{Grammar, iso}
 use Rattle.c99_read.specs.State.{State, base_at, class_at, is_identifier, is_typedef_at, collapses, finished, acted, opened, closed}
 use Rattle.c99_read.specs.Reading.{Goal, produce, repeat, Step, and_then, deepest, take_one, syntax, at_end, enter, may, step, alternative, pick, run, read_within, steps_for, whole, at_first, tree_of}
 use Rattle.tree_laws.specs.ReadTexts.{Reads}
@@ -280,5 +280,5 @@ module _ (g : Grammar) (toks : List Token) where
       lone_below s.built.under s.built tree (x.more ∙ x.made refl) (x.each refl tt) same_tree
   tree_each (Err stop) tree x e = absurd (cc)
 
-pub tokens_of_classes : (s : Dialect) (toks : List Token) (tree : Node) → Reads (grammar s) toks tree → EachNode (IsOfClasses (grammar s) toks) tree.under
-tokens_of_classes s toks tree e = tree_each (grammar s) toks (whole (grammar s) 0 (produce TranslationUnit) (at_first toks)) tree (whole_adds (grammar s) toks) e
+pub tokens_of_classes : (s : Edition) (toks : List Token) (tree : Node) → Reads (iso s) toks tree → EachNode (IsOfClasses (iso s) toks) tree.under
+tokens_of_classes s toks tree e = tree_each (iso s) toks (whole (iso s) 0 (produce TranslationUnit) (at_first toks)) tree (whole_adds (iso s) toks) e

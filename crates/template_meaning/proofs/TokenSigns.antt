@@ -8,14 +8,14 @@ use Rattle.std.proofs.lemmas.Bool.{false≢true, and_parts}
 use Rattle.std.proofs.lemmas.Slice.Eq.{bytes_eq-Decides}
 use Rattle.cs_base.specs.declared.tokens.Kind.{Kind}
 use Rattle.cs_base.specs.declared.tokens.Kind.TheVariants as kind
-use Rattle.c99_grammar.specs.declared.dialects.Dialect.{Dialect}
-use Rattle.c99_grammar.specs.declared.dialects.Dialect.TheVariants.{C99, C11, Gnu}
+use Rattle.c99_grammar.specs.declared.dialects.Edition.{Edition}
+use Rattle.c99_grammar.specs.declared.dialects.Edition.TheVariants.{C99, C11}
 use Rattle.cs_base.specs.Token.{Token}
 use Rattle.c99_grammar.specs.declared.classes.Class.{Class}
 use Rattle.c99_grammar.specs.declared.classes.Class.TheVariants.{LeftParen, RightParen, Comma, NoClass, End, Identifier, Constant, CharConstant, StringLiteral}
 use Rattle.c99_grammar.specs.Classes.{is_same}
 use Rattle.c99_grammar.specs.Spellings.{Spelled, punctuators}
-use Rattle.c99_grammar.specs.Standard.{grammar}
+use Rattle.c99_grammar.specs.Standard.{iso}
 use Rattle.c99_grammar.specs.TokenClasses.{spelled_class, class_of_kind, base_class}
 use Rattle.c99_read.specs.State.{base_at}
 use Rattle.line_shape.specs.Signs.{is_sign, is_open, is_close, is_comma}
@@ -67,51 +67,48 @@ unspelled c (w ∷ words) text other self lacks all e =
     by false here later same = later same
 
 -- what is so of a parenthesis and of the comma
-record IsMarkClass (s : Dialect) (c : Class) (sign : List ℕ) : Type 0 where
+record IsMarkClass (s : Edition) (c : Class) (sign : List ℕ) : Type 0 where
   mark : is_mark c ≡ true
   self : is_same c c ≡ true
   punctuator : list_all (spells c sign) punctuators ≡ true
-  keyword : list_all (spells_none c) (grammar s).keywords ≡ true
+  keyword : list_all (spells_none c) (iso s).keywords ≡ true
 
-open_class : (s : Dialect) → IsMarkClass s LeftParen (codes "(")
+open_class : (s : Edition) → IsMarkClass s LeftParen (codes "(")
 open_class C99 = record { mark = refl; self = refl; punctuator = refl; keyword = refl }
 open_class C11 = record { mark = refl; self = refl; punctuator = refl; keyword = refl }
-open_class Gnu = record { mark = refl; self = refl; punctuator = refl; keyword = refl }
 
-close_class : (s : Dialect) → IsMarkClass s RightParen (codes ")")
+close_class : (s : Edition) → IsMarkClass s RightParen (codes ")")
 close_class C99 = record { mark = refl; self = refl; punctuator = refl; keyword = refl }
 close_class C11 = record { mark = refl; self = refl; punctuator = refl; keyword = refl }
-close_class Gnu = record { mark = refl; self = refl; punctuator = refl; keyword = refl }
 
-comma_class : (s : Dialect) → IsMarkClass s Comma (codes ",")
+comma_class : (s : Edition) → IsMarkClass s Comma (codes ",")
 comma_class C99 = record { mark = refl; self = refl; punctuator = refl; keyword = refl }
 comma_class C11 = record { mark = refl; self = refl; punctuator = refl; keyword = refl }
-comma_class Gnu = record { mark = refl; self = refl; punctuator = refl; keyword = refl }
 
-sign_kind : (s : Dialect) (c : Class) (sign : List ℕ) → IsMarkClass s c sign → (t : Token) → (k : Kind) → t.kind ≡ k → class_of_kind (grammar s) k t.text ≡ c → is_sign sign t ≡ true
+sign_kind : (s : Edition) (c : Class) (sign : List ℕ) → IsMarkClass s c sign → (t : Token) → (k : Kind) → t.kind ≡ k → class_of_kind (iso s) k t.text ≡ c → is_sign sign t ≡ true
 sign_kind s c sign m t kind.Punct is e =
     let same = spelled c sign punctuators t.text NoClass m.self (no_class c NoClass m.mark refl) m.punctuator e in
     rw (is, same) refl
-sign_kind s c sign m t kind.Ident is e = absurd (unspelled c (grammar s).keywords t.text Identifier m.self (no_class c Identifier m.mark refl) m.keyword e)
+sign_kind s c sign m t kind.Ident is e = absurd (unspelled c (iso s).keywords t.text Identifier m.self (no_class c Identifier m.mark refl) m.keyword e)
 sign_kind s c sign m t kind.Number is e = absurd (no_class c Constant m.mark refl e)
 sign_kind s c sign m t kind.Char is e = absurd (no_class c CharConstant m.mark refl e)
 sign_kind s c sign m t kind.Str is e = absurd (no_class c StringLiteral m.mark refl e)
 sign_kind s c sign m t _ is e = absurd (no_class c NoClass m.mark refl e)
 
-token_sign : (s : Dialect) (c : Class) (sign : List ℕ) → IsMarkClass s c sign → (t : Token) → base_class (grammar s) t ≡ c → is_sign sign t ≡ true
+token_sign : (s : Edition) (c : Class) (sign : List ℕ) → IsMarkClass s c sign → (t : Token) → base_class (iso s) t ≡ c → is_sign sign t ≡ true
 unfolding base_class
 token_sign s c sign m t e = sign_kind s c sign m t t.kind refl e
 
 -- a token that no macro put in, with such a class
-sign_at : (s : Dialect) (c : Class) (sign : List ℕ) (test : Token → Bool) → ((t : Token) → is_sign sign t ≡ true → test t ≡ true) → IsMarkClass s c sign → (toks : List Token) (i : ℕ)
-    → base_at (grammar s) toks i ≡ c → is_direct_at toks i ≡ true → IsSign test toks i
+sign_at : (s : Edition) (c : Class) (sign : List ℕ) (test : Token → Bool) → ((t : Token) → is_sign sign t ≡ true → test t ≡ true) → IsMarkClass s c sign → (toks : List Token) (i : ℕ)
+    → base_at (iso s) toks i ≡ c → is_direct_at toks i ≡ true → IsSign test toks i
 sign_at s c sign test pass m toks i e direct = by (slice_get toks i) refl e direct
   where
     none_of : (b : Bool) → (if b then End else NoClass) ≡ c → ⊥
     none_of true same = no_class c End m.mark refl same
     none_of false same = no_class c NoClass m.mark refl same
 
-    by : (o : Option Token) → slice_get toks i ≡ o → option_map_or (base_class (grammar s)) o (if i == length toks then End else NoClass) ≡ c → option_map_or (λ (t : Token). t.direct) o false ≡ true
+    by : (o : Option Token) → slice_get toks i ≡ o → option_map_or (base_class (iso s)) o (if i == length toks then End else NoClass) ≡ c → option_map_or (λ (t : Token). t.direct) o false ≡ true
         → IsSign test toks i
     by None is same d = absurd (none_of (i == length toks) same)
     by (Some t) is same d = record { mark = t; has = is; direct = d; is_sign = pass t (token_sign s c sign m t same) }
@@ -128,11 +125,11 @@ comma_pass : (t : Token) → is_sign (codes ",") t ≡ true → is_comma t ≡ t
 unfolding is_comma
 comma_pass t h = h
 
-pub open_at : (s : Dialect) (toks : List Token) (i : ℕ) → base_at (grammar s) toks i ≡ LeftParen → is_direct_at toks i ≡ true → IsSign is_open toks i
+pub open_at : (s : Edition) (toks : List Token) (i : ℕ) → base_at (iso s) toks i ≡ LeftParen → is_direct_at toks i ≡ true → IsSign is_open toks i
 open_at s toks i = sign_at s LeftParen (codes "(") is_open open_pass (open_class s) toks i
 
-pub close_at : (s : Dialect) (toks : List Token) (i : ℕ) → base_at (grammar s) toks i ≡ RightParen → is_direct_at toks i ≡ true → IsSign is_close toks i
+pub close_at : (s : Edition) (toks : List Token) (i : ℕ) → base_at (iso s) toks i ≡ RightParen → is_direct_at toks i ≡ true → IsSign is_close toks i
 close_at s toks i = sign_at s RightParen (codes ")") is_close close_pass (close_class s) toks i
 
-pub comma_at : (s : Dialect) (toks : List Token) (i : ℕ) → base_at (grammar s) toks i ≡ Comma → is_direct_at toks i ≡ true → IsSign is_comma toks i
+pub comma_at : (s : Edition) (toks : List Token) (i : ℕ) → base_at (iso s) toks i ≡ Comma → is_direct_at toks i ≡ true → IsSign is_comma toks i
 comma_at s toks i = sign_at s Comma (codes ",") is_comma comma_pass (comma_class s) toks i

@@ -5,8 +5,8 @@ use Rattle.cs_base.specs.declared.positions.Part.{Part}
 use Rattle.cs_base.specs.declared.tokens.Kind.{Kind}
 use Rattle.cs_base.specs.Token.{Token}
 use Rattle.c99_tree.specs.Tree.{Node}
-use Rattle.c99_grammar.specs.Dialects.{dialect}
-use Rattle.c99_grammar.specs.Standard.{grammar}
+use Rattle.c99_grammar.specs.Dialects.{edition}
+use Rattle.c99_grammar.specs.Standard.{iso}
 use Rattle.c99_read.specs.Reading.{read_of}
 use Rattle.scope_bind.specs.Bound.{Bound, binding_of}
 use Rattle.tree_laws.specs.ReadTexts.{ReadNamesStandInTheText, ReadParameterListsAreInOrder}
@@ -65,8 +65,8 @@ module _ (members : List Part) (order : List ℕ) (u : UnitAnalysis) (c : Cut) (
       let g = goes v.text.toks toks in
       let read = is.read in
       let tree : v.tree ≡ reordered order (begins_list members u) u.tree =
-      same_ok v.tree (reordered order (begins_list members u) u.tree) (read_of (grammar (dialect v.standard)) v.text.toks) read.reads
-      (subst (λ s. read_of (grammar (dialect s)) v.text.toks ≡ Ok (reordered order (begins_list members u) u.tree)) (sym is.standard) g.reads) in
+      same_ok v.tree (reordered order (begins_list members u) u.tree) (read_of (iso (edition v.standard)) v.text.toks) read.reads
+      (subst (λ s. read_of (iso (edition s)) v.text.toks ≡ Ok (reordered order (begins_list members u) u.tree)) (sym is.standard) g.reads) in
       let bound : v.bound ≡ g.bound =
       same_ok v.bound g.bound (binding_of v.text.toks v.tree) read.binds (subst (λ (t : Node). binding_of v.text.toks t ≡ Ok g.bound) (sym tree) g.binds) in
       record {
@@ -83,7 +83,7 @@ module _ (members : List Part) (order : List ℕ) (u : UnitAnalysis) (c : Cut) (
 module _ (over : WorkspacesAreReordered) (in_text : ReadNamesStandInTheText) (in_order : ReadParameterListsAreInOrder) (go_on : UnitsGoOn) (places : AcceptedListsHavePlaces)
     (once : (source : Source) (ws : WorkspaceValue) (a : AnalysisValue) → IsWorkspace ws → analysis_of source ws ≡ Ok a → HasEachOnce a.table) where
   named_at : (u : UnitAnalysis) → IsRead u → IsNamed u
-  named_at u read = in_text (dialect u.standard) u.text.toks u.tree u.bound read.reads read.binds
+  named_at u read = in_text (edition u.standard) u.text.toks u.tree u.bound read.reads read.binds
 
   pub orders_keep_meaning : OrdersKeepMeaning
   orders_keep_meaning before now ws a members order is h files =

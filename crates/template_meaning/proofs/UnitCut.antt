@@ -3,7 +3,7 @@ use Rattle.std.proofs.Common.{◌≡◌, ℕ, ◌<◌, List, length, sym, subst,
 use Rattle.std.specs.Prelude.{◌==◌}
 use Rattle.std.proofs.lemmas.Bool.{and_parts, eqb-true}
 use Rattle.cs_base.specs.declared.positions.Part.{Part}
-use Rattle.c99_grammar.specs.Dialects.{dialect}
+use Rattle.c99_grammar.specs.Dialects.{edition}
 use Rattle.c_types.specs.declared.lists.List.{List as NameList}
 use Rattle.c_types.specs.Parameters.{parameters_in}
 use Rattle.tree_laws.proofs.Lookups as tree
@@ -45,11 +45,11 @@ module _ (in_order : ReadParameterListsAreInOrder) (source : Source) (ws : Works
   is_cut : IsCut members order u
   is_cut = let r = read in record {
     order_is = subst (λ (k : ℕ). IsOrder k order) count_is (orders_permute (count_of a members) order h.ordered);
-    each = unit_many (dialect u.standard) members u (length order) r.reads r.binds in_order declared called;
+    each = unit_many (edition u.standard) members u (length order) r.reads r.binds in_order declared called;
   }
 
   is_bracketed_unit : 0 < length order → EachNode (IsBracketed (begins_list members u)) u.tree.under
-  is_bracketed_unit some = let r = read in unit_brackets (dialect u.standard) members u (length order) r.reads r.binds in_order declared called some
+  is_bracketed_unit some = let r = read in unit_brackets (edition u.standard) members u (length order) r.reads r.binds in_order declared called some
 
 pub units_are_cut : ReadParameterListsAreInOrder → UnitsAreCut
 units_are_cut in_order source ws a members order h u i = is_cut in_order source ws a members order h u i
@@ -60,4 +60,4 @@ unit_lists_are_bracketed in_order source ws a members order h some u i = is_brac
 pub no_list_is_first : ReadParameterListsAreInOrder → NoListIsFirst
 no_list_is_first in_order source ws a members order h u i =
     let r = read in_order source ws a members order h u i in
-    unit_first (dialect u.standard) members u (length order) r.reads r.binds in_order (declared in_order source ws a members order h u i) (called in_order source ws a members order h u i)
+    unit_first (edition u.standard) members u (length order) r.reads r.binds in_order (declared in_order source ws a members order h u i) (called in_order source ws a members order h u i)

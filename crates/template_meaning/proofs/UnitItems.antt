@@ -5,14 +5,14 @@ use Rattle.std.specs.List.{list_any, remove}
 use Rattle.std.specs.Option.{option_map_or}
 use Rattle.std.proofs.lemmas.Bool.{false≢true, and_parts, and_from, or_cases, eqb-true, lt-ltb}
 use Rattle.cs_base.specs.declared.positions.Part.{Part}
-use Rattle.c99_grammar.specs.declared.dialects.Dialect.{Dialect}
+use Rattle.c99_grammar.specs.declared.dialects.Edition.{Edition}
 use Rattle.cs_base.specs.Token.{Token}
 use Rattle.c99_tree.specs.Tree.{Forest, none, token, node}
 use Rattle.c99_tree.specs.declared.production.Label.{Label}
 use Rattle.c99_tree.specs.declared.production.Production.{Production}
 use Rattle.c99_tree.specs.declared.production.Production.TheVariants.{FunBody, Declaration, Declarator, Suffix, Post, Args, Params}
 use Rattle.c99_tree.specs.contracts.production.ProductionPartialEq.TheImpl.{ghosts}
-use Rattle.c99_grammar.specs.Standard.{grammar}
+use Rattle.c99_grammar.specs.Standard.{iso}
 use Rattle.c_types.specs.declared.lists.List.{List as NameList}
 use Rattle.c_types.specs.declared.parameters.ParameterList.{ParameterList}
 use Rattle.c_types.specs.Lists.{odd_tokens, list_of, nearest_of, is_declaring}
@@ -87,7 +87,7 @@ module _ (names : List Name) (toks_ : List Token) where
 
 -- ---- A unit
 
-module _ (s : Dialect) (members : List Part) (u : UnitAnalysis) (a : AnalysisValue) (n : ℕ) (reads : Reads (grammar s) u.text.toks u.tree) (binds : binding_of u.text.toks u.tree ≡ Ok u.bound)
+module _ (s : Edition) (members : List Part) (u : UnitAnalysis) (a : AnalysisValue) (n : ℕ) (reads : Reads (iso s) u.text.toks u.tree) (binds : binding_of u.text.toks u.tree ≡ Ok u.bound)
     (in_order : ReadParameterListsAreInOrder)
     (of_declarators : (l : NameList) → In l u.bound.declarators → IsOwn members u l → lists.parameters_of (parameters_in u.tree.under) l.name ≡ n)
     (of_calls : (l : NameList) → In l u.bound.calls → IsOwn members u l → arguments_of l ≡ n)
@@ -202,7 +202,7 @@ module _ (s : Dialect) (members : List Part) (u : UnitAnalysis) (a : AnalysisVal
       by Post i e = refl
       by _ i e = absurd (false≢true e)
 
-  call_case : (l : Label) (k : ℕ) (under : Forest) → IsOfAlternative (grammar s) l under → AreFrom k under → IsOwnCall l under → IsOwnList l k under
+  call_case : (l : Label) (k : ℕ) (under : Forest) → IsOfAlternative (iso s) l under → AreFrom k under → IsOwnCall l under → IsOwnList l k under
   call_case l k under x tokens c = by (call_pair s l under x c.label)
     where
       list_clear : CallIsClear a members u c.list
@@ -228,7 +228,7 @@ module _ (s : Dialect) (members : List Part) (u : UnitAnalysis) (a : AnalysisVal
             kind = inl (p.production, post_no_list l c.label);
           })
 
-  declarator_case : (l : Label) (k : ℕ) (under : Forest) → IsOfAlternative (grammar s) l under → AreFrom k under → IsOwnDeclarator l under → IsOwnList l k under
+  declarator_case : (l : Label) (k : ℕ) (under : Forest) → IsOfAlternative (iso s) l under → AreFrom k under → IsOwnDeclarator l under → IsOwnList l k under
   declarator_case l k under x tokens c = by (list_pair s l under x c.label)
     where
       list_clear : DeclaratorIsClear a members u c.list
@@ -300,14 +300,14 @@ module _ (s : Dialect) (members : List Part) (u : UnitAnalysis) (a : AnalysisVal
               })
 
   -- a list of the functions
-  pub own_pairs : (l : Label) (k : ℕ) (under : Forest) → In (entry l under) (entries Tree) → IsOfAlternative (grammar s) l under → AreFrom k under → among l under ≡ true → IsOwnList l k under
+  pub own_pairs : (l : Label) (k : ℕ) (under : Forest) → In (entry l under) (entries Tree) → IsOfAlternative (iso s) l under → AreFrom k under → among l under ≡ true → IsOwnList l k under
   own_pairs l k under there x tokens is = elim (own_list l under there is) [
     | inl c ↦ call_case l k under x tokens c
     | inr c ↦ declarator_case l k under x tokens c
   ]
 
   -- it is bracketed
-  pub own_brackets : (l : Label) (k : ℕ) (under : Forest) → In (entry l under) (entries Tree) → IsOfAlternative (grammar s) l under → EachNode (IsOfAlternative (grammar s)) under → AreFrom k under
+  pub own_brackets : (l : Label) (k : ℕ) (under : Forest) → In (entry l under) (entries Tree) → IsOfAlternative (iso s) l under → EachNode (IsOfAlternative (iso s)) under → AreFrom k under
       → among l under ≡ true → is_bracketed under ≡ true
   own_brackets l k under there x each tokens is = elim (own_list l under there is) [
     | inl c ↦ call_bracketed s l under c.label x each

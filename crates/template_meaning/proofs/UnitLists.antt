@@ -5,12 +5,12 @@ use Rattle.std.specs.List.{list_any}
 use Rattle.std.specs.Option.{option_map_or}
 use Rattle.std.proofs.lemmas.Bool.{cases_Bool, false≢true, and_parts, or_cases, eqb-true, eq-eqb}
 use Rattle.cs_base.specs.declared.positions.Part.{Part}
-use Rattle.c99_grammar.specs.declared.dialects.Dialect.{Dialect}
+use Rattle.c99_grammar.specs.declared.dialects.Edition.{Edition}
 use Rattle.cs_base.specs.Token.{Token}
 use Rattle.c99_tree.specs.Tree.{Forest, none, token, node}
 use Rattle.c99_tree.specs.declared.production.Label.{Label}
 use Rattle.c99_tree.specs.declared.production.Production.TheVariants.{Post, Args, Params}
-use Rattle.c99_grammar.specs.Standard.{grammar}
+use Rattle.c99_grammar.specs.Standard.{iso}
 use Rattle.c_types.specs.declared.lists.List.{List as NameList}
 use Rattle.c_types.specs.declared.parameters.ParameterList.{ParameterList}
 use Rattle.c_types.specs.Lists.{list_of, lists_in}
@@ -141,7 +141,7 @@ pair_begins p under (inr q) = ap begins q.is
 
 -- ---- A unit
 
-module _ (s : Dialect) (members : List Part) (u : UnitAnalysis) (n : ℕ) (reads : Reads (grammar s) u.text.toks u.tree) (binds : binding_of u.text.toks u.tree ≡ Ok u.bound)
+module _ (s : Edition) (members : List Part) (u : UnitAnalysis) (n : ℕ) (reads : Reads (iso s) u.text.toks u.tree) (binds : binding_of u.text.toks u.tree ≡ Ok u.bound)
     (in_order : ReadParameterListsAreInOrder)
     (of_declarators : (l : NameList) → In l u.bound.declarators → IsOwn members u l → lists.parameters_of (parameters_in u.tree.under) l.name ≡ n)
     (of_calls : (l : NameList) → In l u.bound.calls → IsOwn members u l → arguments_of l ≡ n) where
@@ -157,13 +157,13 @@ module _ (s : Dialect) (members : List Part) (u : UnitAnalysis) (n : ℕ) (reads
   pub bound_is : u.bound ≡ bound_of T facts
   bound_is = binding_is toks u.tree u.bound binds
 
-  pub each_of : EachNode (IsOfAlternative (grammar s)) T
+  pub each_of : EachNode (IsOfAlternative (iso s)) T
   each_of = each_below s toks u.tree reads
 
   pub each_begins : EachNode Begins T
-  each_begins = each_map (IsOfAlternative (grammar s)) Begins T begin_it each_of
+  each_begins = each_map (IsOfAlternative (iso s)) Begins T begin_it each_of
     where
-      begin_it : (l : Label) (under : Forest) → IsOfAlternative (grammar s) l under → Begins l under
+      begin_it : (l : Label) (under : Forest) → IsOfAlternative (iso s) l under → Begins l under
       begin_it l under x par = elim (or_cases (is_at l Post 2) (is_list l) par) [
         | inl call ↦ pair_begins Args under (call_pair s l under x call)
         | inr list ↦ pair_begins Params under (list_pair s l under x list)
@@ -209,7 +209,7 @@ module _ (s : Dialect) (members : List Part) (u : UnitAnalysis) (n : ℕ) (reads
       let found : parameters_by q.0 ≡ parameters_by p = ap (λ (k : ℕ). parameters_of k q.0.under) (q_named ∙ sym named) ∙ ap (λ (g : Forest). parameters_of p.name g) unders in
       r.found ∙ ap (λ (x : ParameterList). Some x) (sym q.1.1 ∙ found)
 
-  module _ (l : Label) (under : Forest) (there : In (entry l under) (entries T)) (x : IsOfAlternative (grammar s) l under) (each : EachNode (IsOfAlternative (grammar s)) under)
+  module _ (l : Label) (under : Forest) (there : In (entry l under) (entries T)) (x : IsOfAlternative (iso s) l under) (each : EachNode (IsOfAlternative (iso s)) under)
       (k : ℕ) (tokens : AreFrom k under) where
     -- it is the list of a call
     by_call : (m : NameList) → In m u.bound.calls → IsOwn members u m → m.begin ≡ first_token under 0 → InnerHave n under
@@ -297,7 +297,7 @@ module _ (s : Dialect) (members : List Part) (u : UnitAnalysis) (n : ℕ) (reads
 
   -- what is true of each such list is true of each node
   module _ (Q : Label → Forest → Type 0)
-      (each_list : (l : Label) (under : Forest) → In (entry l under) (entries T) → IsOfAlternative (grammar s) l under → EachNode (IsOfAlternative (grammar s)) under → (k : ℕ) → AreFrom k under
+      (each_list : (l : Label) (under : Forest) → In (entry l under) (entries T) → IsOfAlternative (iso s) l under → EachNode (IsOfAlternative (iso s)) under → (k : ℕ) → AreFrom k under
       → is_among (begins_list members u) l under ≡ true → Q l under) where
     abbrev IfAmong : Label → Forest → Type 0
     IfAmong l under = is_among (begins_list members u) l under ≡ true → Q l under
@@ -306,7 +306,7 @@ module _ (s : Dialect) (members : List Part) (u : UnitAnalysis) (n : ℕ) (reads
     in_own l under true h = inl refl
     in_own l under false h = absurd (false≢true h)
 
-    each_among : (f : Forest) (k : ℕ) → ((x : Entry) → In x (entries f) → In x (entries T)) → AreFrom k f → EachNode (IsOfAlternative (grammar s)) f → EachNode IfAmong f
+    each_among : (f : Forest) (k : ℕ) → ((x : Entry) → In x (entries f) → In x (entries T)) → AreFrom k f → EachNode (IsOfAlternative (iso s)) f → EachNode IfAmong f
     each_among none k into tokens each = tt
     each_among (token i rest) k into tokens each = each_among rest (k + 1) into tokens.1 each
     each_among (node l first under rest) k into tokens each = (

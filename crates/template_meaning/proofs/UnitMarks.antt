@@ -7,14 +7,14 @@ use Rattle.std.specs.Str.{bytes_eq}
 use Rattle.std.proofs.lemmas.Bool.{false≢true, and_parts, and_from, or_left, or_right, or_cases, eqb-true, eq-eqb, lt-ltb, le-leb}
 use Rattle.std.proofs.lemmas.Option.{same_Some}
 use Rattle.cs_base.specs.declared.positions.Part.{Part}
-use Rattle.c99_grammar.specs.declared.dialects.Dialect.{Dialect}
+use Rattle.c99_grammar.specs.declared.dialects.Edition.{Edition}
 use Rattle.cs_base.specs.Token.{Token}
 use Rattle.c99_tree.specs.Tree.{Forest, none, token, node}
 use Rattle.c99_tree.specs.declared.production.Label.{Label}
 use Rattle.c99_tree.specs.declared.production.Production.TheVariants.{Post, Args, Params}
 use Rattle.c99_grammar.specs.declared.classes.Class.TheVariants.{RightParen, Comma}
-use Rattle.c99_grammar.specs.Dialects.{dialect}
-use Rattle.c99_grammar.specs.Standard.{grammar}
+use Rattle.c99_grammar.specs.Dialects.{edition}
+use Rattle.c99_grammar.specs.Standard.{iso}
 use Rattle.c99_read.specs.State.{base_at}
 use Rattle.c_types.specs.declared.lists.List.{List as NameList}
 use Rattle.c_types.specs.declared.parameters.ParameterForm.TheVariants.{Types as types, Ellipsis as ellipsis}
@@ -102,8 +102,8 @@ entry_from (node l first under rest) k w x i = elim (in_split x (entry_of l unde
     own false v = absurd v
 
 -- commas and a parenthesis that no macro put in
-closes : (s : Dialect) (toks : List Token) (commas : List ℕ) (close : ℕ) → Each (λ i. base_at (grammar s) toks i ≡ Comma) commas → Each (λ i. is_direct_at toks i ≡ true) commas
-    → base_at (grammar s) toks close ≡ RightParen → is_direct_at toks close ≡ true → Closes toks (commas ++ close ∷ [])
+closes : (s : Edition) (toks : List Token) (commas : List ℕ) (close : ℕ) → Each (λ i. base_at (iso s) toks i ≡ Comma) commas → Each (λ i. is_direct_at toks i ≡ true) commas
+    → base_at (iso s) toks close ≡ RightParen → is_direct_at toks close ≡ true → Closes toks (commas ++ close ∷ [])
 closes s toks [] close a b c d = close_at s toks close c d
 closes s toks (m ∷ []) close a b c d = (comma_at s toks m a.0 b.0, close_at s toks close c d)
 closes s toks (m ∷ k ∷ ms) close a b c d = (comma_at s toks m a.0 b.0, closes s toks (k ∷ ms) close a.1 b.1 c d)
@@ -112,15 +112,15 @@ closes s toks (m ∷ k ∷ ms) close a b c d = (comma_at s toks m a.0 b.0, close
 
 -- What a list of a function is in the tree: a pair of parentheses with items and a comma between each two, or with nothing in
 -- it, where so many items are none.
-pub record OwnNode (s : Dialect) (toks : List Token) (T : Forest) (l : NameList) (items : ℕ) : Type 0 where
+pub record OwnNode (s : Edition) (toks : List Token) (T : Forest) (l : NameList) (items : ℕ) : Type 0 where
   pub label : Label
   pub under : Forest
   pub there : In (entry label under) (entries T)
   pub parenthesised : is_parenthesised label ≡ true
   pub is : list_of l.name under ≡ l
   pub before : l.name < l.begin
-  pub ends : Ends (grammar s) toks under
-  pub commas : Each (λ i. base_at (grammar s) toks i ≡ Comma) l.commas
+  pub ends : Ends (iso s) toks under
+  pub commas : Each (λ i. base_at (iso s) toks i ≡ Comma) l.commas
   pub shape : ((begin : ℕ) × (close : ℕ) × (under ≡ token begin (token close none)) × (items ≡ 0))
       ⊎ ((begin : ℕ) × (close : ℕ) × (lab : Label) × (first : ℕ) × (inner : Forest) × (under ≡ token begin (node lab first inner (token close none))) × (is_woven inner ≡ true))
 
@@ -147,8 +147,8 @@ typed_so lab inner name h = by (is_at lab Params 1) refl h
 
 module _ (in_order : ReadParameterListsAreInOrder) (cuts : UnitsAreCut) (source : Source) (ws : WorkspaceValue) (a : AnalysisValue) (members : List Part) (order : List ℕ) (h : IsAccepted source ws a members order)
     (u : UnitAnalysis) (i : IsIn a.units u) (typed_names : HavePrototypes members u) where
-  abbrev s : Dialect
-  s = dialect u.standard
+  abbrev s : Edition
+  s = edition u.standard
 
   abbrev toks : List Token
   toks = u.text.toks
@@ -174,13 +174,13 @@ module _ (in_order : ReadParameterListsAreInOrder) (cuts : UnitsAreCut) (source 
   pub of_text : IsTreeOf (length toks) u.tree
   of_text = let r = read in trees_of_texts s toks u.tree r.reads
 
-  pub each_of : EachNode (IsOfAlternative (grammar s)) T
+  pub each_of : EachNode (IsOfAlternative (iso s)) T
   each_of = let r = read in each_below s toks u.tree r.reads
 
   begins : EachNode Begins T
   begins = let r = read in each_begins s members u (length order) r.reads r.binds in_order declared called
 
-  class_of : marked.EachNode (IsOfClasses (grammar s) toks) T
+  class_of : marked.EachNode (IsOfClasses (iso s) toks) T
   class_of = let r = read in tokens_are_of_classes s toks u.tree r.reads
 
   one_node : (x y : Entry) → In x (entries T) → In y (entries T) → x.begin ≡ y.begin → x ≡ y
@@ -195,8 +195,8 @@ module _ (in_order : ReadParameterListsAreInOrder) (cuts : UnitsAreCut) (source 
   call_node l w =
       let c = calls_listed T l (subst (λ (b : Bound). In l b.calls) bound_so w) in
       let e = c.entered in
-      let x = entry_each (IsOfAlternative (grammar s)) T each_of (entry e.label c.under) e.there in
-      let k = entry_marked (IsOfClasses (grammar s) toks) T class_of (entry e.label c.under) e.there in
+      let x = entry_each (IsOfAlternative (iso s)) T each_of (entry e.label c.under) e.there in
+      let k = entry_marked (IsOfClasses (iso s) toks) T class_of (entry e.label c.under) e.there in
       let from = entry_from T 0 (let o = of_text in o.tokens) (entry e.label c.under) e.there in
       let commas_is : commas_in c.under ≡ l.commas = ap (λ (m : NameList). m.commas) c.is in
       let begin_is : first_token c.under 0 ≡ l.begin = ap (λ (m : NameList). m.begin) c.is in
@@ -210,7 +210,7 @@ module _ (in_order : ReadParameterListsAreInOrder) (cuts : UnitsAreCut) (source 
         is = c.is;
         before = call_before T 0 l (let o = of_text in o.tokens) begins (subst (λ (b : Bound). In l b.calls) bound_so w);
         ends = call_ends s toks e.label c.under k.0 e.passes;
-        commas = subst (λ (ms : List ℕ). Each (λ j. base_at (grammar s) toks j ≡ Comma) ms) commas_is parts.0;
+        commas = subst (λ (ms : List ℕ). Each (λ j. base_at (iso s) toks j ≡ Comma) ms) commas_is parts.0;
         shape = parts.1;
       }
     where
@@ -222,24 +222,24 @@ module _ (in_order : ReadParameterListsAreInOrder) (cuts : UnitsAreCut) (source 
       no_arguments true e = refl
       no_arguments false e = absurd (false≢true e)
 
-      shaped : (label : Label) (under : Forest) → is_at label Post 2 ≡ true → (k : ℕ) → AreFrom k under → IsOfAlternative (grammar s) label under → EachNode (IsOfAlternative (grammar s)) under
-          → marked.EachNode (IsOfClasses (grammar s) toks) under → first_token under 0 ≡ l.begin → last_token under 0 ≡ l.close
-          → Each (λ j. base_at (grammar s) toks j ≡ Comma) (commas_in under) × Shape under
+      shaped : (label : Label) (under : Forest) → is_at label Post 2 ≡ true → (k : ℕ) → AreFrom k under → IsOfAlternative (iso s) label under → EachNode (IsOfAlternative (iso s)) under
+          → marked.EachNode (IsOfClasses (iso s) toks) under → first_token under 0 ≡ l.begin → last_token under 0 ≡ l.close
+          → Each (λ j. base_at (iso s) toks j ≡ Comma) (commas_in under) × Shape under
       shaped label under passes k from own each classes_ begin_is close_is = by (call_pair s label under own passes)
         where
-          by : IsPair Args under → Each (λ j. base_at (grammar s) toks j ≡ Comma) (commas_in under) × Shape under
+          by : IsPair Args under → Each (λ j. base_at (iso s) toks j ≡ Comma) (commas_in under) × Shape under
           by (inl p) =
               let from2 : AreFrom k (token p.begin (token p.close none)) = subst (AreFrom k) p.is from in
               let b : p.begin ≡ l.begin = sym (ap (λ (f : Forest). first_token f 0) p.is) ∙ begin_is in
               let c : p.close ≡ l.close = sym (ap (λ (f : Forest). last_token f 0) p.is) ∙ close_is in
               let near : l.close ≡ l.begin + 1 = omega (arith, b, c, from2.0, from2.1.0) in (
-                subst (λ (f : Forest). Each (λ j. base_at (grammar s) toks j ≡ Comma) (commas_in f)) (sym p.is) tt,
+                subst (λ (f : Forest). Each (λ j. base_at (iso s) toks j ≡ Comma) (commas_in f)) (sym p.is) tt,
                 inl (p.begin, p.close, p.is, no_arguments (l.close == l.begin + 1) (eq-eqb l.close (l.begin + 1) near)),
               )
           by (inr p) =
-              let each2 = subst (EachNode (IsOfAlternative (grammar s))) p.is each in
-              let classes2 = subst (marked.EachNode (IsOfClasses (grammar s) toks)) p.is classes_ in (
-                subst (λ (f : Forest). Each (λ j. base_at (grammar s) toks j ≡ Comma) (commas_in f)) (sym p.is) (args_commas s toks p.label p.items classes2.0 p.production),
+              let each2 = subst (EachNode (IsOfAlternative (iso s))) p.is each in
+              let classes2 = subst (marked.EachNode (IsOfClasses (iso s) toks)) p.is classes_ in (
+                subst (λ (f : Forest). Each (λ j. base_at (iso s) toks j ≡ Comma) (commas_in f)) (sym p.is) (args_commas s toks p.label p.items classes2.0 p.production),
                 inr (p.begin, p.close, p.label, p.first, p.items, p.is, args_woven p.items (args_items s p.label p.items each2.0 p.production)),
               )
 
@@ -251,8 +251,8 @@ module _ (in_order : ReadParameterListsAreInOrder) (cuts : UnitsAreCut) (source 
       let d = declarator_is s members u (length order) r.reads r.binds in_order declared called l w in
       let p = d.0 in
       let e = pairs_entries T p d.1 in
-      let x = entry_each (IsOfAlternative (grammar s)) T each_of (entry e.label p.under) e.there in
-      let k = entry_marked (IsOfClasses (grammar s) toks) T class_of (entry e.label p.under) e.there in
+      let x = entry_each (IsOfAlternative (iso s)) T each_of (entry e.label p.under) e.there in
+      let k = entry_marked (IsOfClasses (iso s) toks) T class_of (entry e.label p.under) e.there in
       let found = parameters_found s members u (length order) r.reads r.binds in_order declared called l w p d.1 d.2 d.3 in
       let has = typed_names l (index_of l u.bound.declarators w) own in
       let prototype : is_prototype (parameters_by p).form ≡ true = sym (ap (λ (o : Option ParameterList). option_map_or (λ (q : ParameterList). is_prototype q.form) o false) found) ∙ has in
@@ -269,25 +269,25 @@ module _ (in_order : ReadParameterListsAreInOrder) (cuts : UnitsAreCut) (source 
         is = ap (λ (n : ℕ). list_of n p.under) (sym name_is) ∙ d.2;
         before = omega (arith, before_, name_is, begin_is);
         ends = list_ends s toks e.label p.under k.0 e.passes;
-        commas = subst (λ (ms : List ℕ). Each (λ j. base_at (grammar s) toks j ≡ Comma) ms) commas_is parts.0;
+        commas = subst (λ (ms : List ℕ). Each (λ j. base_at (iso s) toks j ≡ Comma) ms) commas_is parts.0;
         shape = inr parts.1;
       }
     where
       Shape : Forest → Type 0
       Shape under = (begin : ℕ) × (close : ℕ) × (lab : Label) × (first : ℕ) × (inner : Forest) × (under ≡ token begin (node lab first inner (token close none))) × (is_woven inner ≡ true)
 
-      shaped : (label : Label) (name : ℕ) (under : Forest) → is_list label ≡ true → IsOfAlternative (grammar s) label under → EachNode (IsOfAlternative (grammar s)) under
-          → marked.EachNode (IsOfClasses (grammar s) toks) under → is_prototype (parameters_of name under).form ≡ true
-          → Each (λ j. base_at (grammar s) toks j ≡ Comma) (commas_in under) × Shape under
+      shaped : (label : Label) (name : ℕ) (under : Forest) → is_list label ≡ true → IsOfAlternative (iso s) label under → EachNode (IsOfAlternative (iso s)) under
+          → marked.EachNode (IsOfClasses (iso s) toks) under → is_prototype (parameters_of name under).form ≡ true
+          → Each (λ j. base_at (iso s) toks j ≡ Comma) (commas_in under) × Shape under
       shaped label name under passes own_ each classes_ prototype = by (list_pair s label under own_ passes)
         where
-          by : IsPair Params under → Each (λ j. base_at (grammar s) toks j ≡ Comma) (commas_in under) × Shape under
+          by : IsPair Params under → Each (λ j. base_at (iso s) toks j ≡ Comma) (commas_in under) × Shape under
           by (inl p) = absurd (form_empty p.begin p.close name under p.is prototype)
           by (inr p) =
-              let each2 = subst (EachNode (IsOfAlternative (grammar s))) p.is each in
-              let classes2 = subst (marked.EachNode (IsOfClasses (grammar s) toks)) p.is classes_ in
+              let each2 = subst (EachNode (IsOfAlternative (iso s))) p.is each in
+              let classes2 = subst (marked.EachNode (IsOfClasses (iso s) toks)) p.is classes_ in
               let t = typed_so p.label p.items name (subst (λ (f : Forest). is_prototype (parameters_of name f).form ≡ true) p.is prototype) in (
-                subst (λ (f : Forest). Each (λ j. base_at (grammar s) toks j ≡ Comma) (commas_in f)) (sym p.is) (params_commas s toks p.label p.items classes2.0 p.production t.types),
+                subst (λ (f : Forest). Each (λ j. base_at (iso s) toks j ≡ Comma) (commas_in f)) (sym p.is) (params_commas s toks p.label p.items classes2.0 p.production t.types),
                 (p.begin, p.close, p.label, p.first, p.items, p.is, params_woven p.items (params_items s p.label p.items each2.0 p.production t.types) t.no_dots),
               )
 
@@ -327,8 +327,8 @@ module _ (in_order : ReadParameterListsAreInOrder) (cuts : UnitsAreCut) (source 
       let begin_is : first_token n.under 0 ≡ l.begin = ap (λ (m : NameList). m.begin) n.is in
       let close_is : last_token n.under 0 ≡ l.close = ap (λ (m : NameList). m.close) n.is in
       let ends = n.ends in (
-        open_at s toks l.begin (ap (base_at (grammar s) toks) (sym begin_is) ∙ ends.open_) marks2.0,
-        closes s toks l.commas l.close n.commas (all_each (is_direct_at toks) l.commas marks3.0) (ap (base_at (grammar s) toks) (sym close_is) ∙ ends.close) marks3.1,
+        open_at s toks l.begin (ap (base_at (iso s) toks) (sym begin_is) ∙ ends.open_) marks2.0,
+        closes s toks l.commas l.close n.commas (all_each (is_direct_at toks) l.commas marks3.0) (ap (base_at (iso s) toks) (sym close_is) ∙ ends.close) marks3.1,
       )
 
   -- the marks of a full pair

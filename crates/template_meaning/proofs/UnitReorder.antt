@@ -6,14 +6,14 @@ use Rattle.std.specs.Option.{option_or}
 use Rattle.std.proofs.lemmas.Bool.{false≢true, and_parts, and_from, eqb-true, ne_eqb, lt-ltb}
 use Rattle.std.proofs.lemmas.Option.{slice_get-get_or}
 use Rattle.cs_base.specs.declared.positions.Part.{Part}
-use Rattle.c99_grammar.specs.declared.dialects.Dialect.{Dialect}
+use Rattle.c99_grammar.specs.declared.dialects.Edition.{Edition}
 use Rattle.cs_base.specs.Token.{Token}
 use Rattle.c99_tree.specs.Tree.{Forest, none, token, node, Node, node_of}
 use Rattle.c99_tree.specs.declared.production.Label.{Label}
 use Rattle.c99_tree.specs.declared.production.Production.{Production}
 use Rattle.c99_tree.specs.declared.production.Production.TheVariants.{FunBody, Declaration, SuRest, EnRest, Enumerator, Suffix, Params}
 use Rattle.c99_tree.specs.contracts.production.ProductionPartialEq.TheImpl.{ghosts}
-use Rattle.c99_grammar.specs.Standard.{grammar}
+use Rattle.c99_grammar.specs.Standard.{iso}
 use Rattle.c_types.specs.declared.lists.List.{List as NameList}
 use Rattle.c_types.specs.Lists.{list_of, bare_at, bare_in}
 use Rattle.c_types.specs.Declarations.{is_in}
@@ -56,7 +56,7 @@ if_own : (c : Bool) (x : Entry) → c ≡ true → In x (if c then x ∷ [] else
 if_own true x e = inl refl
 if_own false x e = absurd (false≢true e)
 
-module _ (s : Dialect) (members : List Part) (u : UnitAnalysis) (a : AnalysisValue) (n : ℕ) (reads : Reads (grammar s) u.text.toks u.tree) (binds : binding_of u.text.toks u.tree ≡ Ok u.bound)
+module _ (s : Edition) (members : List Part) (u : UnitAnalysis) (a : AnalysisValue) (n : ℕ) (reads : Reads (iso s) u.text.toks u.tree) (binds : binding_of u.text.toks u.tree ≡ Ok u.bound)
     (in_order : ReadParameterListsAreInOrder)
     (of_declarators : (l : NameList) → In l u.bound.declarators → IsOwn members u l → lists.parameters_of (parameters_in u.tree.under) l.name ≡ n)
     (of_calls : (l : NameList) → In l u.bound.calls → IsOwn members u l → arguments_of l ≡ n)
@@ -87,15 +87,15 @@ module _ (s : Dialect) (members : List Part) (u : UnitAnalysis) (a : AnalysisVal
     bares_in : (i : ℕ) → In i (bare_in under) → In i u.bound.bare
     tokens : AreFrom k under
     formed : have_forms under ≡ true
-    of : IsOfAlternative (grammar s) m under
-    each : EachNode (IsOfAlternative (grammar s)) under
+    of : IsOfAlternative (iso s) m under
+    each : EachNode (IsOfAlternative (iso s)) under
     begin : EachNode Begins under
     told : NodeTold Names Toks m.production ((is_node m FunBody || body) && not (if is_node m Declaration then is_node l FunBody else listing)) l m first under
     below : AreTold Names Toks (is_node m FunBody || body) (if is_node m Declaration then is_node l FunBody else listing) m under
 
   each_at : (Q : Label → Forest → Type 0) → ((body listing : Bool) (l m : Label) (first k : ℕ) (under : Forest) → IsAt body listing l m first k under → Q m under)
       → (f : Forest) (body listing : Bool) (l : Label) (k : ℕ) → ((x : Entry) → In x (entries f) → In x (entries Tree)) → ((i : ℕ) → In i (bare_in f) → In i u.bound.bare)
-      → AreFrom k f → have_forms f ≡ true → EachNode (IsOfAlternative (grammar s)) f → EachNode Begins f → AreTold Names Toks body listing l f → EachNode Q f
+      → AreFrom k f → have_forms f ≡ true → EachNode (IsOfAlternative (iso s)) f → EachNode Begins f → AreTold Names Toks body listing l f → EachNode Q f
   each_at Q each_node none body listing l k into bare_into w forms each begin t = tt
   each_at Q each_node (token i rest) body listing l k into bare_into w forms each begin t = each_at Q each_node rest body listing l (k + 1) into bare_into w.1 forms each begin t
   each_at Q each_node (node m first under rest) body listing l k into bare_into w forms each begin t =
@@ -153,8 +153,8 @@ module _ (s : Dialect) (members : List Part) (u : UnitAnalysis) (a : AnalysisVal
       abbrev listing2 : Bool
       listing2 = if is_node p.label Declaration then is_node m FunBody else listing1
 
-      inside_each : EachNode (IsOfAlternative (grammar s)) inside
-      inside_each = subst (EachNode (IsOfAlternative (grammar s))) p.is at.each
+      inside_each : EachNode (IsOfAlternative (iso s)) inside
+      inside_each = subst (EachNode (IsOfAlternative (iso s))) p.is at.each
 
       no_declaring : has_no_declaring p.label.production ≡ true
       no_declaring = elim p.kind [ inl call ↦ ap has_no_declaring call.0 | inr params ↦ ap has_no_declaring params.0 ]

@@ -11,7 +11,7 @@ use Rattle.std.proofs.lemmas.List.Elements.{All-head, All-tail}
 use Rattle.cs_base.specs.declared.positions.Pos.{Pos}
 use Rattle.cs_base.specs.declared.tokens.Kind.{Kind}
 use Rattle.cs_base.specs.declared.tokens.Kind.TheVariants as kind
-use Rattle.c99_grammar.specs.declared.dialects.Dialect.{Dialect}
+use Rattle.c99_grammar.specs.declared.dialects.Edition.{Edition}
 use Rattle.cs_base.specs.declared.ws_units.Standard.{Standard}
 use Rattle.cs_base.specs.Token.{Token, origin_at}
 use Rattle.cs_base.specs.Units.{UnitValue}
@@ -24,8 +24,8 @@ use Rattle.source_files.specs.Faults.{Fault}
 use Rattle.source_files.specs.Files.{Source, Table, Carried, nothing_carried}
 use Rattle.unit_steps.specs.Texts.{UnitTextValue}
 use Rattle.c99_grammar.specs.Spellings.{Spelled, punctuators}
-use Rattle.c99_grammar.specs.Dialects.{dialect}
-use Rattle.c99_grammar.specs.Standard.{grammar}
+use Rattle.c99_grammar.specs.Dialects.{edition}
+use Rattle.c99_grammar.specs.Standard.{iso}
 use Rattle.c99_grammar.specs.TokenClasses.{spelled_class, class_of_kind, base_class}
 use Rattle.c99_read.specs.Reading.{read_of}
 use Rattle.c99_read.specs.State.{base_at, is_identifier}
@@ -80,7 +80,7 @@ bound_name names k e at = by (find (λ (n : Name). n.index == k) (reverse names)
 
 -- The tokens of a unit are read to its tree (Annex A), and bound so (6.2).
 pub record IsReadSo (u : UnitAnalysis) : Type 0 where
-  pub reads : read_of (grammar (dialect u.standard)) u.text.toks ≡ Ok u.tree
+  pub reads : read_of (iso (edition u.standard)) u.text.toks ≡ Ok u.tree
   pub binds : binding_of u.text.toks u.tree ≡ Ok u.bound
 
 one_read : (standard : Standard) (table : Table) (path : List ℕ) (text : UnitTextValue) (u : UnitAnalysis) → read_unit standard table path text ≡ Ok u → IsReadSo u
@@ -88,7 +88,7 @@ one_read standard table path text u e =
     let r = done_first {E = Fault} _ (bound_unit standard table path text) u e in
     let b = done_first {E = Fault} _ (λ bound. Ok (unit_analysis standard text r.0 bound)) u r.2 in
     let own : IsReadSo (unit_analysis standard text r.0 b.0) = record {
-      reads = unmapped (read_of (grammar (dialect standard)) text.toks) _ r.0 r.1;
+      reads = unmapped (read_of (iso (edition standard)) text.toks) _ r.0 r.1;
       binds = unmapped (binding_of text.toks r.0) _ b.0 b.1;
     } in
     subst IsReadSo (ok_same {E = Fault} (unit_analysis standard text r.0 b.0) u b.2) own
@@ -141,28 +141,28 @@ sign_class (w ∷ words) text other all last =
     by true k m = not_true (is_identifier w.1) k
     by false k m = m
 
-kind_named : (std : Dialect) (k : Kind) (text : List ℕ) → is_identifier (class_of_kind (grammar std) k text) ≡ true → signs.is_identifier k ≡ true
+kind_named : (std : Edition) (k : Kind) (text : List ℕ) → is_identifier (class_of_kind (iso std) k text) ≡ true → signs.is_identifier k ≡ true
 kind_named std kind.Ident text h = refl
-kind_named std kind.Punct text h = absurd (both_ways (is_identifier (class_of_kind (grammar std) kind.Punct text)) (sign_class punctuators text _ refl refl) h)
-kind_named std kind.Number text h = absurd (both_ways (is_identifier (class_of_kind (grammar std) kind.Number text)) refl h)
-kind_named std kind.Char text h = absurd (both_ways (is_identifier (class_of_kind (grammar std) kind.Char text)) refl h)
-kind_named std kind.Str text h = absurd (both_ways (is_identifier (class_of_kind (grammar std) kind.Str text)) refl h)
-kind_named std kind.Header text h = absurd (both_ways (is_identifier (class_of_kind (grammar std) kind.Header text)) refl h)
-kind_named std kind.Other text h = absurd (both_ways (is_identifier (class_of_kind (grammar std) kind.Other text)) refl h)
+kind_named std kind.Punct text h = absurd (both_ways (is_identifier (class_of_kind (iso std) kind.Punct text)) (sign_class punctuators text _ refl refl) h)
+kind_named std kind.Number text h = absurd (both_ways (is_identifier (class_of_kind (iso std) kind.Number text)) refl h)
+kind_named std kind.Char text h = absurd (both_ways (is_identifier (class_of_kind (iso std) kind.Char text)) refl h)
+kind_named std kind.Str text h = absurd (both_ways (is_identifier (class_of_kind (iso std) kind.Str text)) refl h)
+kind_named std kind.Header text h = absurd (both_ways (is_identifier (class_of_kind (iso std) kind.Header text)) refl h)
+kind_named std kind.Other text h = absurd (both_ways (is_identifier (class_of_kind (iso std) kind.Other text)) refl h)
 
-class_named : (std : Dialect) (t : Token) → is_identifier (base_class (grammar std) t) ≡ true → is_name t ≡ true
+class_named : (std : Edition) (t : Token) → is_identifier (base_class (iso std) t) ≡ true → is_name t ≡ true
 unfolding base_class
 class_named std t h = kind_named std t.kind t.text h
 
 -- an identifier, as reading sees it, is one
-pub named_token : (std : Dialect) (toks : List Token) (k : ℕ) → is_identifier (base_at (grammar std) toks k) ≡ true → (t : Token) × (slice_get toks k ≡ Some t) × (is_name t ≡ true)
+pub named_token : (std : Edition) (toks : List Token) (k : ℕ) → is_identifier (base_at (iso std) toks k) ≡ true → (t : Token) × (slice_get toks k ≡ Some t) × (is_name t ≡ true)
 named_token std toks k h = by (slice_get toks k) (k == length toks) refl h
   where
     by : (o : Option Token) (c : Bool) → slice_get toks k ≡ o
-        → is_identifier (option_map_or (base_class (grammar std)) o (if c then base_at (grammar std) [] 0 else base_at (grammar std) [] 1)) ≡ true
+        → is_identifier (option_map_or (base_class (iso std)) o (if c then base_at (iso std) [] 0 else base_at (iso std) [] 1)) ≡ true
         → (t : Token) × (slice_get toks k ≡ Some t) × (is_name t ≡ true)
-    by None true at is = absurd (both_ways (is_identifier (base_at (grammar std) [] 0)) refl is)
-    by None false at is = absurd (both_ways (is_identifier (base_at (grammar std) [] 1)) refl is)
+    by None true at is = absurd (both_ways (is_identifier (base_at (iso std) [] 0)) refl is)
+    by None false at is = absurd (both_ways (is_identifier (base_at (iso std) [] 1)) refl is)
     by (Some t) c at is = (t, at, class_named std t is)
 
 -- ---- identifiers come from files
@@ -199,9 +199,9 @@ module _ (source : Source) (ws : WorkspaceValue) (a : AnalysisValue) (analysed :
       let first = first_some a t.origins (traced.chained (identifier-words t.text identifier)) (omega (arith, each, some)) in
       (first.0, ap (λ (o : Option Token). option_and_then (λ (x : Token). origin_at x 0) o) at ∙ first.1)
 
-  pub identifier_placed : (k : ℕ) → is_identifier (base_at (grammar (dialect u.standard)) u.text.toks k) ≡ true → (p : Pos) × (origin_of u.text.toks k ≡ Some p)
+  pub identifier_placed : (k : ℕ) → is_identifier (base_at (iso (edition u.standard)) u.text.toks k) ≡ true → (p : Pos) × (origin_of u.text.toks k ≡ Some p)
   identifier_placed k h =
-      let t = named_token (dialect u.standard) u.text.toks k h in
+      let t = named_token (edition u.standard) u.text.toks k h in
       token_placed k t.0 t.1 t.2
 
   pub read_so : IsReadSo u
@@ -211,9 +211,9 @@ module _ (source : Source) (ws : WorkspaceValue) (a : AnalysisValue) (analysed :
   pub name_placed : (n : Name) → In n u.bound.names → (p : Pos) × (origin_of u.text.toks n.index ≡ Some p)
   name_placed n j =
       let read = read_so in
-      let test : ℕ → Bool = λ k. is_identifier (base_at (grammar (dialect u.standard)) u.text.toks k) in
-      let pass = bound_names_pass test u.text.toks u.tree u.bound (trees_of_texts (dialect u.standard) u.text.toks u.tree read.reads)
-      (names_are_read (dialect u.standard) u.text.toks u.tree read.reads) read.binds in
+      let test : ℕ → Bool = λ k. is_identifier (base_at (iso (edition u.standard)) u.text.toks k) in
+      let pass = bound_names_pass test u.text.toks u.tree u.bound (trees_of_texts (edition u.standard) u.text.toks u.tree read.reads)
+      (names_are_read (edition u.standard) u.text.toks u.tree read.reads) read.binds in
       identifier_placed n.index (all_of_in (λ (m : Name). (test m.index ≡ true) × (test m.entity ≡ true)) u.bound.names pass n j).0
 
   -- and with what denotes an entity

@@ -4,7 +4,7 @@ use Rattle.std.proofs.Common.{ℕ, ◌≡◌, Bool, List, [], ◌∷◌, length,
 use Rattle.cs_base.specs.declared.positions.Part.{Part}
 use Rattle.cs_base.specs.declared.tokens.Kind.{Kind}
 use Rattle.cs_base.specs.Token.{Token}
-use Rattle.c99_grammar.specs.Dialects.{dialect}
+use Rattle.c99_grammar.specs.Dialects.{edition}
 use Rattle.tree_laws.specs.ReadTexts.{ReadParameterListsAreInOrder}
 use Rattle.tree_laws.specs.TreesOfTexts.{IsTreeOf}
 use Rattle.tree_laws.proofs.OfTexts.{trees_of_texts}
@@ -63,24 +63,24 @@ module _ (in_order : ReadParameterListsAreInOrder) (arranged_read : ArrangedText
     cut : IsCut members order u
     cut = units_are_cut in_order source ws a members order h u i
 
-    named : NamesAreSpelled (dialect u.standard) old
-    named = have_names (dialect u.standard) old (let spelled = unit_spelled a u i (unit_is source ws a h.analysed u i) in spelled.toks)
+    named : NamesAreSpelled (edition u.standard) old
+    named = have_names (edition u.standard) old (let spelled = unit_spelled a u i (unit_is source ws a h.analysed u i) in spelled.toks)
 
     goes_on : (new : List Token) → plains new ≡ arranged order (unit_cut members u) (plains old) → UnitGoesOn members order u new
     goes_on new same =
         let r = is_read in
         let c = cut in
         let can : CanReorder order lists old u.tree u.bound = can_reorder source ws a members order h u i in
-        let of : IsTreeOf (length old) u.tree = trees_of_texts (dialect u.standard) old u.tree r.reads in
+        let of : IsTreeOf (length old) u.tree = trees_of_texts (edition u.standard) old u.tree r.reads in
         let texts = texts_arranged order (unit_cut members u) old new same in
-        let stand : AreTokensInOrder (dialect u.standard) order lists u.tree old new = (tokens_stand (dialect u.standard) (length order) order lists old new u.tree c.order_is c.each same).0 in
+        let stand : AreTokensInOrder (edition u.standard) order lists u.tree old new = (tokens_stand (edition u.standard) (length order) order lists old new u.tree c.order_is c.each same).0 in
         let agree =
-        names_agree (dialect u.standard) old new order lists u.tree u.bound of (have_bare_names (dialect u.standard) old u.tree r.reads) can
-        (record { texts = texts; classes = classes_move (dialect u.standard) order lists u.tree old new c.order_is c.each stand }) (units_agree (dialect u.standard) old u.tree r.reads) in
+        names_agree (edition u.standard) old new order lists u.tree u.bound of (have_bare_names (edition u.standard) old u.tree r.reads) can
+        (record { texts = texts; classes = classes_move (edition u.standard) order lists u.tree old new c.order_is c.each stand }) (units_agree (edition u.standard) old u.tree r.reads) in
         let b = bind_alike old new order lists u.tree u.bound of r.binds can texts in
         record {
           bound = b.bound;
-          reads = arranged_read (dialect u.standard) (length order) order lists old new u.tree named same r.reads c.order_is c.each agree;
+          reads = arranged_read (edition u.standard) (length order) order lists old new u.tree named same r.reads c.order_is c.each agree;
           binds = b.told;
           names = record { entities = b.named; declares = b.declared; kinds = b.kinds; linkages = b.linked };
         }

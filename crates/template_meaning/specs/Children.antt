@@ -1,13 +1,13 @@
 -- Which children the nodes of a tree have: those of the alternative by which each was read (ISO/IEC 9899:1999, Annex A.2).
 use Rattle.std.specs.Prelude.{ℕ, zero, suc, ◌+◌, ◌≡◌, ◌⊎◌, Bool, true, false, List, [], ◌∷◌, ◌++◌, Some, slice_get}
-use Rattle.c99_grammar.specs.declared.dialects.Dialect.{Dialect}
+use Rattle.c99_grammar.specs.declared.dialects.Edition.{Edition}
 use Rattle.cs_base.specs.Token.{Token}
 use Rattle.c99_tree.specs.Tree.{Forest, none, token, node, Node}
 use Rattle.c99_tree.specs.declared.production.Label.{Label}
 use Rattle.c99_tree.specs.declared.production.Production.{Production}
 use Rattle.c99_tree.specs.declared.production.Production.TheVariants.{TranslationUnit, Expr, Primary}
 use Rattle.c99_grammar.specs.Items.{Item, one, part, end_of_text, act, ◌·◌, choice, maybe, many, deep, Alternative}
-use Rattle.c99_grammar.specs.Standard.{Grammar, grammar}
+use Rattle.c99_grammar.specs.Standard.{Grammar, iso}
 use Rattle.c99_read.specs.State.{collapses}
 use Rattle.tree_laws.specs.ReadTexts.{Reads}
 use Rattle.tree_laws.specs.Shapes.{has_no_declaring}
@@ -73,7 +73,7 @@ pub record IsOfAlternative (g : Grammar) (l : Label) (under : Forest) : Type 0 w
 abbrev pub whole_of : Node → Forest
 whole_of tree = node tree.label tree.first tree.under none
 
--- The law: so it is with each node of the tree that is read of a text by a dialect, which is a translation unit.
+-- The law: so it is with each node of the tree that is read of a text by an edition, which is a translation unit.
 abbrev pub ChildrenAreOfAlternatives : Type 0
-ChildrenAreOfAlternatives = (s : Dialect) (toks : List Token) (tree : Node) → Reads (grammar s) toks tree
-    → (tree.label.production ≡ TranslationUnit) × EachNode (IsOfAlternative (grammar s)) (whole_of tree)
+ChildrenAreOfAlternatives = (s : Edition) (toks : List Token) (tree : Node) → Reads (iso s) toks tree
+    → (tree.label.production ≡ TranslationUnit) × EachNode (IsOfAlternative (iso s)) (whole_of tree)

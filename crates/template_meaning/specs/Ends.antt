@@ -1,7 +1,7 @@
 -- Which tokens may stand in a tree, and end an item of a list: those that an alternative asks for by their class (ISO/IEC
 -- 9899:1999, 6.4.6 and Annex A.2).
 use Rattle.std.specs.Prelude.{ℕ, zero, suc, ◌+◌, ◌<◌, ◌≤◌, ◌≡◌, ◌⊎◌, ◌||◌, true, false, List, [], ◌∷◌, ◌++◌, Some, length, slice_get}
-use Rattle.c99_grammar.specs.declared.dialects.Dialect.{Dialect}
+use Rattle.c99_grammar.specs.declared.dialects.Edition.{Edition}
 use Rattle.cs_base.specs.Token.{Token}
 use Rattle.c99_tree.specs.Tree.{Forest, none, token, node, Node}
 use Rattle.c99_tree.specs.declared.production.Label.{Label}
@@ -10,7 +10,7 @@ use Rattle.c99_grammar.specs.declared.classes.Class.{Class}
 use Rattle.c99_grammar.specs.declared.classes.Class.TheVariants.{LeftParen, Slash, Hash}
 use Rattle.c99_grammar.specs.Classes.{is_same, among}
 use Rattle.c99_grammar.specs.Items.{Item, one, part, end_of_text, act, ◌·◌, choice, maybe, many, deep, Alternative}
-use Rattle.c99_grammar.specs.Standard.{Grammar, grammar}
+use Rattle.c99_grammar.specs.Standard.{Grammar, iso}
 use Rattle.c99_read.specs.State.{base_at, is_identifier}
 use Rattle.c_types.specs.Trees.{is_node, last_token}
 use Rattle.tree_laws.specs.ReadTexts.{Reads}
@@ -80,5 +80,5 @@ module _ (g : Grammar) (toks : List Token) where
 
 -- The law: no token of a text that is read is `#`, and so it is with the items of each list in its tree.
 abbrev pub TokensMayStand : Type 0
-TokensMayStand = (s : Dialect) (toks : List Token) (tree : Node) → Reads (grammar s) toks tree
-    → ((k : ℕ) → k < length toks → IsNot (grammar s) toks Hash k) × EachNode (ItemsEndWell (grammar s) toks) tree.under
+TokensMayStand = (s : Edition) (toks : List Token) (tree : Node) → Reads (iso s) toks tree
+    → ((k : ℕ) → k < length toks → IsNot (iso s) toks Hash k) × EachNode (ItemsEndWell (iso s) toks) tree.under

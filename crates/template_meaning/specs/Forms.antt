@@ -1,12 +1,12 @@
 -- The forms of nodes that binding in a new order of items asks for: trees that are read have them (ISO/IEC 9899:1999, Annex A.2).
 use Rattle.std.specs.Prelude.{ℕ, ◌<◌, ◌≡◌, Bool, true, false, List, length}
 use Rattle.cs_base.specs.declared.positions.Part.{Part}
-use Rattle.c99_grammar.specs.declared.dialects.Dialect.{Dialect}
+use Rattle.c99_grammar.specs.declared.dialects.Edition.{Edition}
 use Rattle.cs_base.specs.Token.{Token}
 use Rattle.c99_tree.specs.Tree.{Forest, node, Node}
 use Rattle.c99_tree.specs.declared.production.Label.{Label}
 use Rattle.c99_tree.specs.declared.production.Production.TheVariants.{ExtRest, FunBody}
-use Rattle.c99_grammar.specs.Standard.{grammar}
+use Rattle.c99_grammar.specs.Standard.{iso}
 use Rattle.c_types.specs.Trees.{is_node, has_node}
 use Rattle.name_chains.specs.Frames.{outermost}
 use Rattle.tree_laws.specs.ReadTexts.{Reads}
@@ -35,7 +35,7 @@ HasOuterList lists l under = is_node l ExtRest ≡ true → BodyListIsOuter list
 
 -- The law: the tree that is read of a text has all these forms, where it is so with its lists.
 abbrev pub TreesHaveForms : Type 0
-TreesHaveForms = (s : Dialect) (toks : List Token) (tree : Node) (lists : ℕ → Bool) → Reads (grammar s) toks tree → EachNode (IsBracketed lists) tree.under
+TreesHaveForms = (s : Edition) (toks : List Token) (tree : Node) (lists : ℕ → Bool) → Reads (iso s) toks tree → EachNode (IsBracketed lists) tree.under
     → EachNode (HasOuterList lists) tree.under → is_fit lists (outermost (length toks)).label true 0 (outermost (length toks)).scope true tree.under ≡ true
 
 -- The law: where no offence stands against an order that is not empty, the lists of the functions in a unit are bracketed.

@@ -4,10 +4,10 @@ use Rattle.std.specs.List.{list_all}
 use Rattle.std.proofs.Math.Bool.{or_assoc}
 use Rattle.std.proofs.lemmas.Bool.{and_parts, or_parts, false≢true}
 use Rattle.cs_base.specs.Token.{Token}
-use Rattle.c99_grammar.specs.declared.dialects.Dialect.TheVariants.{C99, C11}
+use Rattle.c99_grammar.specs.declared.dialects.Edition.TheVariants.{C99, C11}
 use Rattle.c99_tree.specs.Tree.{Forest, none, token, node, Node, node_of, Part, leaf, inner, put, lone, collapsed}
 use Rattle.c99_tree.specs.declared.production.Production.{Production}
-use Rattle.c99_tree.specs.declared.production.Production.TheVariants.{TranslationUnit, External, ExtRest, ExtTail, FunBody, Declaration, DeclRest, InitDecl, Sassert, Specs, Main, Mod, Qual, Word, StructSpec, SuRest, Members, Member, MemRest, Mdecl, EnumSpec, EnRest, Enumerators, Enumerator, Declarator, Pointer, Direct, Suffix, Bound, Params, Param, Pdecl, Pdirect, TypeName, Adecl, Adirect, Init, InitList, InitItem, Designator, Expr, Assign, Asgop, Cond, Lor, Land, Bor, Bxor, Band, Equal, Relate, Shift, Add, Mul, Cast, CastRest, Unary, SizeRest, SizeLit, Primary, Post, Args, Block, BlockItem, Statement, Sub, ForInit}
+use Rattle.c99_tree.specs.declared.production.Production.TheVariants.{TranslationUnit, External, ExtRest, ExtTail, FunBody, Declaration, DeclRest, InitDecl, Sassert, Specs, Main, Mod, Qual, Word, StructSpec, SuRest, Members, Member, MemRest, Mdecl, EnumSpec, EnRest, Enumerators, Enumerator, Declarator, Pointer, Direct, Suffix, Bound, Params, Param, Pdecl, Pdirect, TypeName, Adecl, Adirect, Init, InitList, InitItem, Designator, Expr, Assign, Asgop, Cond, Lor, Land, Bor, Bxor, Band, Equal, Relate, Shift, Add, Mul, Cast, CastRest, Unary, SizeRest, SizeLit, Primary, Post, Args, Block, BlockItem, Statement, Sub, ForInit, AutoDecl, Attr, AttrItem, AttrWord, AsmName, Operand, Association, MemberPath, AsmPart, AsmOperand}
 use Rattle.c99_grammar.specs.declared.classes.Class.{Class}
 use Rattle.c99_grammar.specs.declared.classes.Class.TheVariants.{Semicolon, Noreturn, Typedef, Extern, Static, Auto, Register, Inline}
 use Rattle.c99_grammar.specs.Grammar.{table, externals, declarations, modifiers, member_lines, member_rests}
@@ -15,9 +15,9 @@ use Rattle.c99_grammar.specs.Items.{Item, one, part, end_of_text, act, ◌·◌,
 use Rattle.c99_read.specs.Sound.{is_met}
 use Rattle.c99_read.specs.State.{State, acted, opened, closed, finished, collapses}
 use Rattle.c99_read.specs.Reading.{Stop, syntax, Goal, produce, repeat, Step, and_then, deepest, take_one, at_end, enter, may, step, alternative, pick, read_within, whole, steps_for, tree_of, at_first}
-use Rattle.c99_read.proofs.C99Sound.{grammar-sound}
+use Rattle.c99_read.proofs.C99Sound.{iso-sound}
 use Rattle.c99_read.proofs.Suffices.{whole-runs}
-use Rattle.c99_grammar.specs.Standard.{grammar}
+use Rattle.c99_grammar.specs.Standard.{iso}
 use Rattle.tree_laws.specs.ReadTexts.{Reads}
 use Rattle.tree_laws.specs.Narrowed.{is_lone, has_lone, has_lone_below, narrowed, narrowed_node, has_no_added_word, TextsOfC11AreReadByC99}
 use Rattle.tree_laws.proofs.StandardClasses.{c99, c11, is_silent, test_fits, part_fits, fits}
@@ -433,6 +433,16 @@ module _ (toks : List Token) (plain : has_no_added_word toks ≡ true) where
       back_row Statement c depth s h at = back_pick below same c Statement (table Statement C99) depth 1 s (λ m. shared_numbers toks plain false c Statement m refl refl refl (stands_of c.lines c.wide.production Statement h)) refl at
       back_row Sub c depth s h at = back_pick below same c Sub (table Sub C99) depth 1 s (λ m. shared_numbers toks plain false c Sub m refl refl refl (stands_of c.lines c.wide.production Sub h)) refl at
       back_row ForInit c depth s h at = back_pick below same c ForInit (table ForInit C99) depth 1 s (λ m. shared_numbers toks plain false c ForInit m refl refl refl (stands_of c.lines c.wide.production ForInit h)) refl at
+      back_row AutoDecl c depth s h at = back_pick below same c AutoDecl (table AutoDecl C99) depth 1 s (λ m. shared_numbers toks plain false c AutoDecl m refl refl refl (stands_of c.lines c.wide.production AutoDecl h)) refl at
+      back_row Attr c depth s h at = back_pick below same c Attr (table Attr C99) depth 1 s (λ m. shared_numbers toks plain false c Attr m refl refl refl (stands_of c.lines c.wide.production Attr h)) refl at
+      back_row AttrItem c depth s h at = back_pick below same c AttrItem (table AttrItem C99) depth 1 s (λ m. shared_numbers toks plain false c AttrItem m refl refl refl (stands_of c.lines c.wide.production AttrItem h)) refl at
+      back_row AttrWord c depth s h at = back_pick below same c AttrWord (table AttrWord C99) depth 1 s (λ m. shared_numbers toks plain false c AttrWord m refl refl refl (stands_of c.lines c.wide.production AttrWord h)) refl at
+      back_row AsmName c depth s h at = back_pick below same c AsmName (table AsmName C99) depth 1 s (λ m. shared_numbers toks plain false c AsmName m refl refl refl (stands_of c.lines c.wide.production AsmName h)) refl at
+      back_row Operand c depth s h at = back_pick below same c Operand (table Operand C99) depth 1 s (λ m. shared_numbers toks plain false c Operand m refl refl refl (stands_of c.lines c.wide.production Operand h)) refl at
+      back_row Association c depth s h at = back_pick below same c Association (table Association C99) depth 1 s (λ m. shared_numbers toks plain false c Association m refl refl refl (stands_of c.lines c.wide.production Association h)) refl at
+      back_row MemberPath c depth s h at = back_pick below same c MemberPath (table MemberPath C99) depth 1 s (λ m. shared_numbers toks plain false c MemberPath m refl refl refl (stands_of c.lines c.wide.production MemberPath h)) refl at
+      back_row AsmPart c depth s h at = back_pick below same c AsmPart (table AsmPart C99) depth 1 s (λ m. shared_numbers toks plain false c AsmPart m refl refl refl (stands_of c.lines c.wide.production AsmPart h)) refl at
+      back_row AsmOperand c depth s h at = back_pick below same c AsmOperand (table AsmOperand C99) depth 1 s (λ m. shared_numbers toks plain false c AsmOperand m refl refl refl (stands_of c.lines c.wide.production AsmOperand h)) refl at
 
   specs_of : (fuel depth : ℕ) (s x : State) → s.built.under ≡ none → read_within c11 fuel depth (produce Specs) s ≡ Ok x → One x.built.under
   unfolding read_within
@@ -449,16 +459,16 @@ module _ (toks : List Token) (plain : has_no_added_word toks ≡ true) where
   unfolding read_within
   back_within zero c depth goal s h at = tt
   back_within (suc zero) c depth (produce p) s h at =
-      back_run c s _ _ _ (whole-runs c99 (grammar-sound C99) depth (produce p) (seen c s) refl)
+      back_run c s _ _ _ (whole-runs c99 (iso-sound C99) depth (produce p) (seen c s) refl)
       (back_row (read_within c11 zero) (read_within c11 zero) (back_within zero) (back_within zero) (specs_of zero) (λ d y. inr (syntax y.at, refl)) p c depth s h at)
   back_within (suc zero) c depth (repeat t a) s h at =
-      back_run c s _ _ _ (whole-runs c99 (grammar-sound C99) depth (repeat t a) (seen c s) ((and_parts (is_met (repeat t a)) _ h).0))
+      back_run c s _ _ _ (whole-runs c99 (iso-sound C99) depth (repeat t a) (seen c s) ((and_parts (is_met (repeat t a)) _ h).0))
       (back_step (read_within c11 zero) (back_within zero) c (many t a) depth s h at)
   back_within (suc (suc fuel)) c depth (produce p) s h at =
-      back_run c s _ _ _ (whole-runs c99 (grammar-sound C99) depth (produce p) (seen c s) refl)
+      back_run c s _ _ _ (whole-runs c99 (iso-sound C99) depth (produce p) (seen c s) refl)
       (back_row (read_within c11 (suc fuel)) (read_within c11 fuel) (back_within (suc fuel)) (back_within fuel) (specs_of (suc fuel)) (λ d y. inl refl) p c depth s h at)
   back_within (suc (suc fuel)) c depth (repeat t a) s h at =
-      back_run c s _ _ _ (whole-runs c99 (grammar-sound C99) depth (repeat t a) (seen c s) ((and_parts (is_met (repeat t a)) _ h).0))
+      back_run c s _ _ _ (whole-runs c99 (iso-sound C99) depth (repeat t a) (seen c s) ((and_parts (is_met (repeat t a)) _ h).0))
       (back_step (read_within c11 (suc fuel)) (back_within (suc fuel)) c (many t a) depth s h at)
 
   unit_back : Back (start toks plain false) (at_first toks) (whole c11 0 (produce TranslationUnit) (at_first toks)) (whole c99 0 (produce TranslationUnit) (at_first toks))
@@ -492,7 +502,7 @@ tree_unit toks plain tree (Ok s) r' m e f =
     (unit_of u s.built (kids_weaker (only TranslationUnit) is_unit_part (λ q h. h) u m.0.stands)
     (ap (λ (b : Node). is_unit_part b.label.production) m.0.built_is) (free_part (lone u s.built) (root_sound toks plain false s m.0) free))
 
-pub unit_by_c11 : (toks : List Token) (tree : Node) → has_no_added_word toks ≡ true → Reads (grammar C11) toks tree → has_lone_below tree ≡ false → IsUnit tree
+pub unit_by_c11 : (toks : List Token) (tree : Node) → has_no_added_word toks ≡ true → Reads (iso C11) toks tree → has_lone_below tree ≡ false → IsUnit tree
 unit_by_c11 toks tree plain e f =
     tree_unit toks plain tree (whole c11 0 (produce TranslationUnit) (at_first toks)) (whole c99 0 (produce TranslationUnit) (at_first toks)) (unit_back toks plain) e f
 

@@ -1,7 +1,7 @@
 -- Names that are declared: at the end of a declarator, and in an identifier list.
 use Rattle.std.proofs.Common.{ℕ, ◌+◌, ◌<◌, ◌≤◌, ◌≡◌, Bool, true, false, ◌&&◌, ◌||◌, if◌then◌else◌, ◌==◌, List, [], ◌∷◌, Option, None, Some, Ok, Err, inl, inr, refl, sym, ap, subst, ◌∙◌, arith}
 use Rattle.std.proofs.lemmas.Bool.{false≢true, and_parts}
-use Rattle.c99_grammar.specs.declared.dialects.Dialect.{Dialect}
+use Rattle.c99_grammar.specs.declared.dialects.Edition.{Edition}
 use Rattle.cs_base.specs.Token.{Token}
 use Rattle.c99_tree.specs.Tree.{Forest, none, token, node, Node, inner, put, count_of}
 use Rattle.c99_tree.specs.declared.production.Label.{Label}
@@ -9,7 +9,7 @@ use Rattle.c99_tree.specs.declared.production.Production.{Production}
 use Rattle.c99_tree.specs.declared.production.Production.TheVariants.{InitDecl, Specs, Declarator, Direct, Param, Pdecl, Pdirect}
 use Rattle.c99_tree.specs.contracts.production.ProductionPartialEq.TheImpl.{ghosts}
 use Rattle.c99_grammar.specs.Items.{Item, part, act, ◌·◌, maybe, own, declare}
-use Rattle.c99_grammar.specs.Standard.{c99, grammar}
+use Rattle.c99_grammar.specs.Standard.{c99, iso}
 use Rattle.c99_read.specs.State.{State, name_below as reader_name, is_declaring, is_direct, last_declared, declaration, in_innermost, with_declared, acted, opened}
 use Rattle.c99_read.specs.Reading.{Goal, produce, Step, and_then, may, step}
 use Rattle.scope_bind.specs.Named.{Scope}
@@ -66,7 +66,7 @@ put_matches at k i from to depth t (s ∷ outer) (e ∷ ends) es b h m =
 abbrev pub naming : State → Option ℕ → Bool → State
 naming s i t = record s { names = with_declared s.names i t }
 
-module _ (std : Dialect) where
+module _ (std : Edition) where
   -- ---- The name of a declarator
 
   has_name_same : (p : Production) (n : ℕ) → (is_direct p && (n == 1)) ≡ ((ghosts.eq p Direct && (n == 1)) || (ghosts.eq p Pdirect && (n == 1)))
@@ -176,7 +176,7 @@ module _ (std : Dialect) where
 
       -- a declarator in a declaration, and its initializer
       pub declared_after : (depth : ℕ) (s s1 : State) → Makes std toks Declarator (opened InitDecl 1 s) s1 → Grows Declarator (opened InitDecl 1 s) s1
-          → Goes std toks (labelled InitDecl 1) s.at (opened InitDecl 1 s) (acted (grammar std) declare s1)
+          → Goes std toks (labelled InitDecl 1) s.at (opened InitDecl 1 s) (acted (iso std) declare s1)
       unfolding acted opened
       declared_after depth s s1 m grows =
           let own : m.child.label.production ≡ Declarator = m.own refl in
@@ -190,7 +190,7 @@ module _ (std : Dialect) where
           (λ a. ap (all_hold InitDecl) under ∙ hold_inner InitDecl none m.child refl refl m.apart)
 
       pub init_body : (depth : ℕ) (s : State)
-          → After (Body std toks InitDecl 1 s) (step (grammar std) below depth (part Declarator · (act declare · init_items)) (opened InitDecl 1 s))
+          → After (Body std toks InitDecl 1 s) (step (iso std) below depth (part Declarator · (act declare · init_items)) (opened InitDecl 1 s))
       init_body depth s = by (below depth (produce Declarator) (opened InitDecl 1 s)) (reads.made depth Declarator (opened InitDecl 1 s) refl)
         where
           ends_with : (s1 s' : State) → Goes std toks (labelled InitDecl 1) s.at (opened InitDecl 1 s) s1 → Goes std toks (labelled InitDecl 1) s.at s1 s' → Body std toks InitDecl 1 s s'
@@ -202,16 +202,16 @@ module _ (std : Dialect) where
           last_items s1 (Ok s') g m = ends_with s1 s' g m
 
           by : (r : Step) → After (λ s'. Makes std toks Declarator (opened InitDecl 1 s) s' × Grows Declarator (opened InitDecl 1 s) s') r
-              → After (Body std toks InitDecl 1 s) (and_then r (step (grammar std) below depth (act declare · init_items)))
+              → After (Body std toks InitDecl 1 s) (and_then r (step (iso std) below depth (act declare · init_items)))
           by (Err stop) m = tt
           by (Ok s1) m =
               let g = declared_after depth s s1 m.0 m.1 in
-              last_items (acted (grammar std) declare s1) (step (grammar std) below depth init_items (acted (grammar std) declare s1)) g
-              (goes_step std toks below reads init_items (labelled InitDecl 1) s.at depth (acted (grammar std) declare s1) refl (g.inside (opened_in std toks InitDecl 1 s)))
+              last_items (acted (iso std) declare s1) (step (iso std) below depth init_items (acted (iso std) declare s1)) g
+              (goes_step std toks below reads init_items (labelled InitDecl 1) s.at depth (acted (iso std) declare s1) refl (g.inside (opened_in std toks InitDecl 1 s)))
 
       -- a parameter with its declarator
       parameter_ended : (s s1 s2 : State) (m : Makes std toks Specs (opened Param 1 s) s1) (m' : Makes std toks Pdecl s1 s2) → Grows Pdecl s1 s2
-          → Goes std toks (labelled Param 1) s.at s1 (acted (grammar std) declare s2)
+          → Goes std toks (labelled Param 1) s.at s1 (acted (iso std) declare s2)
       unfolding acted opened
       parameter_ended s s1 s2 m m' grows =
           let own : m'.child.label.production ≡ Pdecl = m'.own refl in
@@ -226,31 +226,31 @@ module _ (std : Dialect) where
           (λ a. ap (all_hold Param) under ∙ hold_inner Param s1.built.under m'.child a refl m'.apart)
 
       -- .. and one without
-      nameless_ended : (s s1 : State) → Makes std toks Specs (opened Param 1 s) s1 → acted (grammar std) declare s1 ≡ s1
+      nameless_ended : (s s1 : State) → Makes std toks Specs (opened Param 1 s) s1 → acted (iso std) declare s1 ≡ s1
       unfolding acted opened
       nameless_ended s s1 m =
           let under : s1.built.under ≡ put none (inner m.child) = ap (λ (n : Node). n.under) m.built in
           ap (λ i. naming s1 i s1.near) (ap last_declared under ∙ no_name m.child.label m.child.under (m.own refl) (m.holds refl))
 
       pub parameter_body : (depth : ℕ) (s : State)
-          → After (Body std toks Param 1 s) (step (grammar std) below depth (part Specs · (maybe (part Pdecl) · act declare)) (opened Param 1 s))
+          → After (Body std toks Param 1 s) (step (iso std) below depth (part Specs · (maybe (part Pdecl) · act declare)) (opened Param 1 s))
       parameter_body depth s = by (below depth (produce Specs) (opened Param 1 s)) (reads.made depth Specs (opened Param 1 s) refl)
         where
           ended_with : (s1 s' : State) → Goes std toks (labelled Param 1) s.at (opened Param 1 s) s1 → Goes std toks (labelled Param 1) s.at s1 s' → Body std toks Param 1 s s'
           ended_with s1 s' g g' = goes_body std toks Param 1 s s' refl refl (goes_further std toks (labelled Param 1) s.at (opened Param 1 s) s1 s' g g')
 
           named : (s1 : State) (r : Step) → Makes std toks Specs (opened Param 1 s) s1 → Goes std toks (labelled Param 1) s.at (opened Param 1 s) s1 → After (λ s'. Makes std toks Pdecl s1 s' × Grows Pdecl s1 s') r
-              → After (Body std toks Param 1 s) (and_then r (λ s2. Ok (acted (grammar std) declare s2)))
+              → After (Body std toks Param 1 s) (and_then r (λ s2. Ok (acted (iso std) declare s2)))
           named s1 (Err stop) m g m' = tt
-          named s1 (Ok s2) m g m' = ended_with s1 (acted (grammar std) declare s2) g (parameter_ended s s1 s2 m m'.0 m'.1)
+          named s1 (Ok s2) m g m' = ended_with s1 (acted (iso std) declare s2) g (parameter_ended s s1 s2 m m'.0 m'.1)
 
           second : (s1 : State) (c : Bool) → Makes std toks Specs (opened Param 1 s) s1 → Goes std toks (labelled Param 1) s.at (opened Param 1 s) s1
-              → After (Body std toks Param 1 s) (and_then (if c then below depth (produce Pdecl) s1 else Ok s1) (λ s2. Ok (acted (grammar std) declare s2)))
+              → After (Body std toks Param 1 s) (and_then (if c then below depth (produce Pdecl) s1 else Ok s1) (λ s2. Ok (acted (iso std) declare s2)))
           second s1 true m g = named s1 (below depth (produce Pdecl) s1) m g (reads.made depth Pdecl s1 refl)
           second s1 false m g =
               subst (λ x. Body std toks Param 1 s x) (sym (nameless_ended s s1 m)) (goes_body std toks Param 1 s s1 refl refl g)
 
           by : (r : Step) → After (λ s'. Makes std toks Specs (opened Param 1 s) s' × Grows Specs (opened Param 1 s) s') r
-              → After (Body std toks Param 1 s) (and_then r (step (grammar std) below depth (maybe (part Pdecl) · act declare)))
+              → After (Body std toks Param 1 s) (and_then r (step (iso std) below depth (maybe (part Pdecl) · act declare)))
           by (Err stop) m = tt
-          by (Ok s1) m = second s1 (may (grammar std) own (part Pdecl) s1) m.0 (node_goes std toks (labelled Param 1) s.at Specs (opened Param 1 s) s1 refl m.0)
+          by (Ok s1) m = second s1 (may (iso std) own (part Pdecl) s1) m.0 (node_goes std toks (labelled Param 1) s.at Specs (opened Param 1 s) s1 refl m.0)

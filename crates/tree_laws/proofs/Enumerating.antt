@@ -1,13 +1,13 @@
 -- Enumerators (6.7.2.2), and parameters in parentheses (6.7.5.3 paragraph 11).
 use Rattle.std.proofs.Common.{ℕ, ◌+◌, ◌<◌, ◌≡◌, Bool, true, false, List, length, None, Some, Ok, Err, nat_lt, inl, inr, refl, sym, ap, subst, ◌∙◌, arith}
-use Rattle.c99_grammar.specs.declared.dialects.Dialect.{Dialect}
+use Rattle.c99_grammar.specs.declared.dialects.Edition.{Edition}
 use Rattle.cs_base.specs.Token.{Token}
 use Rattle.c99_tree.specs.Tree.{none, Node}
 use Rattle.c99_tree.specs.declared.production.Label.{Label}
 use Rattle.c99_tree.specs.declared.production.Production.TheVariants.{Enumerator, Cond}
 use Rattle.c99_grammar.specs.Classes.{among}
 use Rattle.c99_grammar.specs.Items.{Item, one, part, act, ◌·◌, maybe, deep, own, names, name}
-use Rattle.c99_grammar.specs.Standard.{grammar}
+use Rattle.c99_grammar.specs.Standard.{iso}
 use Rattle.c99_read.specs.State.{State, class_at, last_identifier, declaration, in_innermost, acted, opened}
 use Rattle.c99_read.specs.Reading.{Goal, produce, Step, and_then, deepest, take_one, enter, may, step}
 use Rattle.c_types.specs.Trees.{last_token}
@@ -21,14 +21,14 @@ use Rattle.tree_laws.proofs.TypedefSteps.{Reads, Grows, after_if, taken, quiet_g
 use Rattle.tree_laws.proofs.Declaring.{naming, outer_declared, put_matches}
 use Rattle.tree_laws.proofs.Listing.{last_put, last_other, last_node, named_is}
 
-module _ (std : Dialect) where
+module _ (std : Edition) where
   module _ (toks : List Token) where
     abbrev enumerator : Label
     enumerator = labelled Enumerator 1
 
     -- the name of the enumerator is the last identifier among its tokens
     abbrev IsLast : ℕ → State → Type 0
-    IsLast i s = last_identifier (grammar std) s.toks s.built.under None ≡ Some i
+    IsLast i s = last_identifier (iso std) s.toks s.built.under None ≡ Some i
 
     module _ (below : ℕ → Goal → State → Step) (reads : Reads std toks below) where
       abbrev value_items : Item
@@ -44,23 +44,23 @@ module _ (std : Dialect) where
           by : (r : Step) → After (λ s'. Makes std toks Cond s s' × Grows Cond s s') r → After (IsLast i) r
           by (Err stop) m = tt
           by (Ok s') m =
-              ap (λ t. last_identifier (grammar std) t s'.built.under None) m.0.same_text
-              ∙ (ap (λ (n : Node). last_identifier (grammar std) s.toks n.under None) m.0.built ∙ (last_node std s.toks s.built.under m.0.child None ∙ h))
+              ap (λ t. last_identifier (iso std) t s'.built.under None) m.0.same_text
+              ∙ (ap (λ (n : Node). last_identifier (iso std) s.toks n.under None) m.0.built ∙ (last_node std s.toks s.built.under m.0.child None ∙ h))
 
-      value_last : (i depth : ℕ) (s : State) → IsLast i s → After (IsLast i) (step (grammar std) below depth (maybe value_items) s)
+      value_last : (i depth : ℕ) (s : State) → IsLast i s → After (IsLast i) (step (iso std) below depth (maybe value_items) s)
       value_last i depth s h =
-          after_if (IsLast i) (may (grammar std) own value_items s) _ _ (by (take_one (grammar std) equals s) (taken std (IsLast i) equals s (λ c more. with_sign c))) h
+          after_if (IsLast i) (may (iso std) own value_items s) _ _ (by (take_one (iso std) equals s) (taken std (IsLast i) equals s (λ c more. with_sign c))) h
         where
-          with_sign : among equals (class_at (grammar std) s s.at) ≡ true → IsLast i (with_token s)
+          with_sign : among equals (class_at (iso std) s s.at) ≡ true → IsLast i (with_token s)
           with_sign c = last_other std s.toks s.built.under s.at None (equals_is std s s.at c) ∙ h
 
-          inside : (r : Step) → After (IsLast i) r → After (IsLast i) (and_then r (step (grammar std) below (depth + 1) (part Cond)))
+          inside : (r : Step) → After (IsLast i) r → After (IsLast i) (and_then r (step (iso std) below (depth + 1) (part Cond)))
           inside (Err stop) m = tt
           inside (Ok s') m = cond_last i (depth + 1) s' m
 
-          by : (r : Step) → After (IsLast i) r → After (IsLast i) (and_then r (step (grammar std) below depth (deep (part Cond))))
+          by : (r : Step) → After (IsLast i) r → After (IsLast i) (and_then r (step (iso std) below depth (deep (part Cond))))
           by (Err stop) m = tt
-          by (Ok s') m = inside (enter depth (may (grammar std) own (part Cond) s') s') (enter_last i depth (may (grammar std) own (part Cond) s') s' m)
+          by (Ok s') m = inside (enter depth (may (iso std) own (part Cond) s') s') (enter_last i depth (may (iso std) own (part Cond) s') s' m)
 
       opened_at : (s : State) → (opened Enumerator 1 s).at ≡ s.at
       unfolding opened
@@ -70,7 +70,7 @@ module _ (std : Dialect) where
       unfolding opened
       token_in s = record { label = refl; begins = refl }
 
-      name_last : (s : State) → among names (class_at (grammar std) (opened Enumerator 1 s) (opened Enumerator 1 s).at) ≡ true → IsLast s.at (with_token (opened Enumerator 1 s))
+      name_last : (s : State) → among names (class_at (iso std) (opened Enumerator 1 s) (opened Enumerator 1 s).at) ≡ true → IsLast s.at (with_token (opened Enumerator 1 s))
       unfolding opened
       name_last s c = last_put std s.toks none s.at None (name_is std (opened Enumerator 1 s) s.at c)
 
@@ -107,15 +107,15 @@ module _ (std : Dialect) where
         }
 
       pub enumerator_body : (depth : ℕ) (s : State)
-          → After (Body std toks Enumerator 1 s) (step (grammar std) below depth (one names · (maybe value_items · act name)) (opened Enumerator 1 s))
+          → After (Body std toks Enumerator 1 s) (step (iso std) below depth (one names · (maybe value_items · act name)) (opened Enumerator 1 s))
       enumerator_body depth s =
-          by (take_one (grammar std) names (opened Enumerator 1 s))
+          by (take_one (iso std) names (opened Enumerator 1 s))
           (taken std (λ s'. (s' ≡ with_token (opened Enumerator 1 s)) × (IsLast s.at s' × ((opened Enumerator 1 s).at < length (opened Enumerator 1 s).toks))) names (opened Enumerator 1 s) (λ c more. (refl, (first_last c, more))))
         where
-          first_last : among names (class_at (grammar std) (opened Enumerator 1 s) (opened Enumerator 1 s).at) ≡ true → IsLast s.at (with_token (opened Enumerator 1 s))
+          first_last : among names (class_at (iso std) (opened Enumerator 1 s) (opened Enumerator 1 s).at) ≡ true → IsLast s.at (with_token (opened Enumerator 1 s))
           first_last c = name_last s c
 
-          onward : (s' : State) → (opened Enumerator 1 s).at < length (opened Enumerator 1 s).toks → Goes std toks enumerator s.at (with_token (opened Enumerator 1 s)) s' → IsLast s.at s' → After (Body std toks Enumerator 1 s) (Ok (acted (grammar std) name s'))
+          onward : (s' : State) → (opened Enumerator 1 s).at < length (opened Enumerator 1 s).toks → Goes std toks enumerator s.at (with_token (opened Enumerator 1 s)) s' → IsLast s.at s' → After (Body std toks Enumerator 1 s) (Ok (acted (iso std) name s'))
           onward s' more g last =
               subst (Body std toks Enumerator 1 s) (sym (named_is std s' s.at last))
               (enumerator_made s s'
@@ -123,15 +123,15 @@ module _ (std : Dialect) where
               (let h = g.later in let e = opened_at s in omega arith) last)
 
           second : (r : Step) → (opened Enumerator 1 s).at < length (opened Enumerator 1 s).toks → After (Goes std toks enumerator s.at (with_token (opened Enumerator 1 s))) r → After (IsLast s.at) r
-              → After (Body std toks Enumerator 1 s) (and_then r (λ s'. Ok (acted (grammar std) name s')))
+              → After (Body std toks Enumerator 1 s) (and_then r (λ s'. Ok (acted (iso std) name s')))
           second (Err stop) more g last = tt
           second (Ok s') more g last = onward s' more g last
 
           by : (r : Step) → After (λ s'. (s' ≡ with_token (opened Enumerator 1 s)) × (IsLast s.at s' × ((opened Enumerator 1 s).at < length (opened Enumerator 1 s).toks))) r
-              → After (Body std toks Enumerator 1 s) (and_then r (step (grammar std) below depth (maybe value_items · act name)))
+              → After (Body std toks Enumerator 1 s) (and_then r (step (iso std) below depth (maybe value_items · act name)))
           by (Err stop) m = tt
           by (Ok s') m =
-              subst (λ x. After (Body std toks Enumerator 1 s) (step (grammar std) below depth (maybe value_items · act name) x)) (sym m.0)
-              (second (step (grammar std) below depth (maybe value_items) (with_token (opened Enumerator 1 s))) m.1.1
+              subst (λ x. After (Body std toks Enumerator 1 s) (step (iso std) below depth (maybe value_items · act name) x)) (sym m.0)
+              (second (step (iso std) below depth (maybe value_items) (with_token (opened Enumerator 1 s))) m.1.1
               (goes_step std toks below reads (maybe value_items) enumerator s.at depth (with_token (opened Enumerator 1 s)) refl (token_in s))
               (value_last s.at depth (with_token (opened Enumerator 1 s)) (subst (IsLast s.at) m.0 m.1.0)))

@@ -1,7 +1,7 @@
 -- Reading bodies of functions, and what stands around them (6.9.1).
 use Rattle.std.proofs.Common.{ℕ, ◌+◌, ◌<◌, ◌≤◌, ◌≡◌, Bool, true, false, ◌&&◌, not, if◌then◌else◌, List, [], ◌∷◌, ◌++◌, length, Option, None, Some, Ok, Err, nat_lt, refl, sym, ap, subst, ◌∙◌, arith}
 use Rattle.std.proofs.lemmas.Bool.{false≢true, le-ltb}
-use Rattle.c99_grammar.specs.declared.dialects.Dialect.{Dialect}
+use Rattle.c99_grammar.specs.declared.dialects.Edition.{Edition}
 use Rattle.cs_base.specs.Token.{Token}
 use Rattle.c99_tree.specs.Tree.{Forest, Node, node_of, leaf, inner, put, count_of, collapsed}
 use Rattle.c99_tree.specs.declared.production.Label.{Label}
@@ -9,7 +9,7 @@ use Rattle.c99_tree.specs.declared.production.Production.{Production}
 use Rattle.c99_tree.specs.declared.production.Production.TheVariants.{External, ExtRest, ExtTail, FunBody, Specs, Declarator}
 use Rattle.c99_tree.specs.contracts.production.ProductionPartialEq.TheImpl.{ghosts}
 use Rattle.c99_grammar.specs.Items.{Item, one, act, ◌·◌, end}
-use Rattle.c99_grammar.specs.Standard.{grammar}
+use Rattle.c99_grammar.specs.Standard.{iso}
 use Rattle.c99_read.specs.State.{State, Names, with_scope_ended, is_declarator, head_closed, names_closed, nearest, collapses, acted, opened, closed}
 use Rattle.c99_read.specs.Reading.{Goal, Step, and_then, take_one, step}
 use Rattle.c_types.specs.Trees.{has_mod, last_token}
@@ -70,7 +70,7 @@ outer_nearest : (p : Production) (n : Node) (near : Bool) → is_outer p ≡ tru
 outer_nearest Specs n near h = absurd (false≢true h)
 outer_nearest _ n near h = refl
 
-module _ (std : Dialect) where
+module _ (std : Edition) where
   module _ (toks : List Token) (base : List (List Declaration)) (pre : Outline → Type 0) where
     -- what is known of the outline where a node begins that was read from s to s'
     abbrev pub Fitting : State → State → Node → Type 0
@@ -184,13 +184,13 @@ module _ (std : Dialect) where
       pub last_one : State
       pub goes : Goes std toks l first s last_one
       pub more : last_one.at < length last_one.toks
-      pub same : s' ≡ with_token (acted (grammar std) end last_one)
+      pub same : s' ≡ with_token (acted (iso std) end last_one)
 
     module _ (below : ℕ → Goal → State → Step) (reads : Reads std toks below) where
-      body_end : (l : Label) (first : ℕ) (right : List Class) (s : State) → After (Bracketed l first s) (take_one (grammar std) right (acted (grammar std) end s))
+      body_end : (l : Label) (first : ℕ) (right : List Class) (s : State) → After (Bracketed l first s) (take_one (iso std) right (acted (iso std) end s))
       unfolding acted
       body_end l first right s =
-          (taken std) (Bracketed l first s) right (acted (grammar std) end s) (λ c more. record { last_one = s; goes = goes_still std toks l first s; more = more; same = refl })
+          (taken std) (Bracketed l first s) right (acted (iso std) end s) (λ c more. record { last_one = s; goes = goes_still std toks l first s; more = more; same = refl })
 
       body_then : (l : Label) (first : ℕ) (s : State) (r : Step) (next_step : State → Step) → IsIn l first s → After (Goes std toks l first s) r
           → ((s' : State) → IsIn l first s' → After (Bracketed l first s') (next_step s')) → After (Bracketed l first s) (and_then r next_step)
@@ -205,11 +205,11 @@ module _ (std : Dialect) where
       body_label = labelled FunBody 1
 
       pub body_steps : (first depth : ℕ) (a b c : Item) (right : List Class) (s : State) → fine body_label a ≡ true → fine body_label b ≡ true → fine body_label c ≡ true
-          → IsIn body_label first s → After (Bracketed body_label first s) (step (grammar std) below depth (a · (b · (c · (act end · one right)))) s)
+          → IsIn body_label first s → After (Bracketed body_label first s) (step (iso std) below depth (a · (b · (c · (act end · one right)))) s)
       body_steps first depth a b c right s ha hb hc i =
-          body_then body_label first s (step (grammar std) below depth a s) (step (grammar std) below depth (b · (c · (act end · one right)))) i (goes_step std toks below reads a body_label first depth s ha i)
-          (λ s1 i1. body_then body_label first s1 (step (grammar std) below depth b s1) (step (grammar std) below depth (c · (act end · one right))) i1 (goes_step std toks below reads b body_label first depth s1 hb i1)
-          (λ s2 i2. body_then body_label first s2 (step (grammar std) below depth c s2) (step (grammar std) below depth (act end · one right)) i2 (goes_step std toks below reads c body_label first depth s2 hc i2)
+          body_then body_label first s (step (iso std) below depth a s) (step (iso std) below depth (b · (c · (act end · one right)))) i (goes_step std toks below reads a body_label first depth s ha i)
+          (λ s1 i1. body_then body_label first s1 (step (iso std) below depth b s1) (step (iso std) below depth (c · (act end · one right))) i1 (goes_step std toks below reads b body_label first depth s1 hb i1)
+          (λ s2 i2. body_then body_label first s2 (step (iso std) below depth c s2) (step (iso std) below depth (act end · one right)) i2 (goes_step std toks below reads c body_label first depth s2 hc i2)
           (λ s3 i3. body_end body_label first right s3)))
 
     module _ (s s' : State) (w : Bracketed (labelled FunBody 1) s.at (opened FunBody 1 s) s') where
@@ -222,7 +222,7 @@ module _ (std : Dialect) where
       abbrev ended_names : Names
       ended_names = with_scope_ended last_one.names last_one.names.scopes
 
-      pub ended_is : with_token (acted (grammar std) end last_one) ≡ with_token (renamed_to last_one ended_names)
+      pub ended_is : with_token (acted (iso std) end last_one) ≡ with_token (renamed_to last_one ended_names)
       unfolding acted
       ended_is = refl
 

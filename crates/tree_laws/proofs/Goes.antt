@@ -1,7 +1,7 @@
 -- Reading goes on beside the outline of binding.
 use Rattle.std.proofs.Common.{ℕ, ◌+◌, ◌<◌, ◌≤◌, ◌≡◌, Bool, true, false, ◌&&◌, if◌then◌else◌, List, length, Ok, Err, refl, sym, ap, subst, ◌∙◌, arith}
 use Rattle.std.proofs.lemmas.Bool.{false≢true, and_parts}
-use Rattle.c99_grammar.specs.declared.dialects.Dialect.{Dialect}
+use Rattle.c99_grammar.specs.declared.dialects.Edition.{Edition}
 use Rattle.cs_base.specs.Token.{Token}
 use Rattle.c99_tree.specs.Tree.{Forest, none, token, node, Node, node_of, leaf, inner, put, count_of, lone, collapsed}
 use Rattle.c99_tree.specs.declared.production.Label.{Label}
@@ -31,7 +31,7 @@ pub record IsIn (l : Label) (first : ℕ) (s : State) : Type 0 where
   pub label : s.built.label ≡ l
   pub begins : s.built.first ≡ first
 
-module _ (std : Dialect) where
+module _ (std : Edition) where
   module _ (toks : List Token) where
     -- The state beside the outline: `o` is what was known where the open node, of this label, began, and `ends` says where
     -- the open scopes end.

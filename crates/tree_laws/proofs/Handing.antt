@@ -2,7 +2,7 @@
 use Rattle.std.proofs.Common.{ℕ, ◌+◌, ◌<◌, ◌≤◌, ◌≡◌, Bool, true, false, ◌&&◌, if◌then◌else◌, ◌==◌, List, [], ◌∷◌, ◌++◌, length, Option, None, Some, ◌⊎◌, inl, inr, refl, sym, ap, subst, ◌∙◌, arith}
 use Rattle.std.specs.Option.{option_or}
 use Rattle.std.proofs.lemmas.Bool.{false≢true, and_parts, and_left, eqb-true, ne_eqb}
-use Rattle.c99_grammar.specs.declared.dialects.Dialect.{Dialect}
+use Rattle.c99_grammar.specs.declared.dialects.Edition.{Edition}
 use Rattle.cs_base.specs.Token.{Token}
 use Rattle.c99_tree.specs.Tree.{Forest, none, token, node, Node, node_of, leaf, inner, put, lone, collapsed}
 use Rattle.c99_tree.specs.declared.production.Label.{Label}
@@ -10,7 +10,7 @@ use Rattle.c99_tree.specs.declared.production.Production.{Production}
 use Rattle.c99_tree.specs.declared.production.Production.TheVariants.{TranslationUnit, External, ExtRest, ExtTail, FunBody, Specs, Main, Mod, Enumerator, Declarator, Direct, Suffix, Pdecl, Pdirect}
 use Rattle.c99_tree.specs.contracts.production.ProductionPartialEq.TheImpl.{ghosts}
 use Rattle.c99_grammar.specs.Items.{scope, end, keep}
-use Rattle.c99_grammar.specs.Standard.{grammar}
+use Rattle.c99_grammar.specs.Standard.{iso}
 use Rattle.c99_read.specs.State.{State, Names, given_names, with_scope_ended, is_declarator, with_head, names_opened, head_closed, names_closed, collapses, finished, acted, opened, closed}
 use Rattle.scope_bind.specs.Named.{Scope}
 use Rattle.c_types.specs.Trees.{is_node, is_list, has_mod, last_token, first_list}
@@ -217,7 +217,7 @@ names_same : (o o' : Outline) (x : Option ℕ) (es es' : List Entry) → ((list 
 names_same o o' None es es' h = refl
 names_same o o' (Some list) es es' h = ap (λ r. Some r) (sym (h list))
 
-module _ (std : Dialect) where
+module _ (std : Edition) where
   -- a tame node says its declarations alone
   tame_behind : (l : Label) (begins : ℕ) (under : Forest) (o : Outline) → is_tame l.production ≡ true
       → behind (node_of l begins under) o ≡ record o { entries = (outlined under (begun l begins under o)).entries; nth = o.nth + 1 }
@@ -481,13 +481,13 @@ module _ (std : Dialect) where
           by c h (inl plain) = subst IsApart (sym (plain.0 c)) h
           by c h (inr deep) = (let e = h.0 in let e' = deep.0 c in omega arith, λ same to. (let e = h.0 in let e' = deep.0 c in omega arith))
 
-    module _ (s s' : State) (g : Goes std toks (labelled Suffix 2) s.at (acted (grammar std) scope (with_token (opened Suffix 2 s))) s')
-        (h : Hands toks (acted (grammar std) scope (with_token (opened Suffix 2 s))) s') where
+    module _ (s s' : State) (g : Goes std toks (labelled Suffix 2) s.at (acted (iso std) scope (with_token (opened Suffix 2 s))) s')
+        (h : Hands toks (acted (iso std) scope (with_token (opened Suffix 2 s))) s') where
       abbrev list_begun : State
-      list_begun = acted (grammar std) scope (with_token (opened Suffix 2 s))
+      list_begun = acted (iso std) scope (with_token (opened Suffix 2 s))
 
       abbrev list_ended : State
-      list_ended = closed Suffix s (with_token (acted (grammar std) keep (acted (grammar std) end s')))
+      list_ended = closed Suffix s (with_token (acted (iso std) keep (acted (iso std) end s')))
 
       abbrev all : Forest
       all = put s'.built.under (leaf s'.at)

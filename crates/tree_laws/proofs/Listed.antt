@@ -1,13 +1,13 @@
 -- The names of a parameter list that ends are the declarations of its scope.
 use Rattle.std.proofs.Common.{ℕ, ◌+◌, ◌<◌, ◌≤◌, ◌≡◌, Bool, true, false, ◌&&◌, not, if◌then◌else◌, List, [], ◌∷◌, ◌++◌, None, nat_lt, refl, sym, ap, subst, ◌∙◌, arith}
 use Rattle.std.proofs.lemmas.Bool.{le-ltb, lt-ltb}
-use Rattle.c99_grammar.specs.declared.dialects.Dialect.{Dialect}
+use Rattle.c99_grammar.specs.declared.dialects.Edition.{Edition}
 use Rattle.cs_base.specs.Token.{Token}
 use Rattle.c99_tree.specs.Tree.{Forest, none, token, node, leaf, put}
 use Rattle.c99_tree.specs.declared.production.Label.{Label}
 use Rattle.c99_tree.specs.declared.production.Production.TheVariants.{Suffix}
 use Rattle.c99_grammar.specs.Items.{scope}
-use Rattle.c99_grammar.specs.Standard.{grammar}
+use Rattle.c99_grammar.specs.Standard.{iso}
 use Rattle.c99_read.specs.State.{State, declaration, acted, opened}
 use Rattle.scope_bind.specs.Named.{Scope}
 use Rattle.name_chains.specs.Entering.{inner}
@@ -81,7 +81,7 @@ outlined_scope none o = refl
 outlined_scope (token i rest) o = outlined_scope rest _
 outlined_scope (node l first under rest) o = outlined_scope rest _
 
-module _ (std : Dialect) where
+module _ (std : Edition) where
   -- ---- Scopes that end at one token, and declarations that show them
 
   abbrev levels : List (List Declaration) → ℕ → List ℕ
@@ -110,7 +110,7 @@ module _ (std : Dialect) where
   head_of [] = []
   head_of (s ∷ outer) = s
 
-  module _ (toks : List Token) (s s' : State) (g : Goes std toks (labelled Suffix 2) s.at (acted (grammar std) scope (with_token (opened Suffix 2 s))) s')
+  module _ (toks : List Token) (s s' : State) (g : Goes std toks (labelled Suffix 2) s.at (acted (iso std) scope (with_token (opened Suffix 2 s))) s')
       (text : s.toks ≡ toks) (op : IsOpen s.names.scopes) where
     abbrev all : Forest
     all = put s'.built.under (leaf s'.at)
@@ -132,7 +132,7 @@ module _ (std : Dialect) where
       kept = None;
     }
 
-    list_scopes : (acted (grammar std) scope (with_token (opened Suffix 2 s))).names.scopes ≡ [] ∷ outer
+    list_scopes : (acted (iso std) scope (with_token (opened Suffix 2 s))).names.scopes ≡ [] ∷ outer
     unfolding opened
     list_scopes = scoped_scopes std toks (with_token (opened Suffix 2 s)) ∙ ap (λ x. [] ∷ x) (opened_scopes std toks Suffix s.names)
 
@@ -143,7 +143,7 @@ module _ (std : Dialect) where
     far_matches k true = shadows_shown k s'.at outer
     far_matches k false = shadows_shown k s'.at outer
 
-    far_begins : Fits std toks (labelled Suffix 2) (acted (grammar std) scope (with_token (opened Suffix 2 s))) ((far + 1) ∷ levels outer s'.at) far_outline
+    far_begins : Fits std toks (labelled Suffix 2) (acted (iso std) scope (with_token (opened Suffix 2 s))) ((far + 1) ∷ levels outer s'.at) far_outline
     unfolding opened acted
     far_begins = record {
       text = text;

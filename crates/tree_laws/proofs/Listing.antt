@@ -1,14 +1,14 @@
 -- Names that are declared where they stand: in an identifier list, and at the end of an enumerator.
 use Rattle.std.proofs.Common.{ℕ, ◌+◌, ◌<◌, ◌≡◌, true, false, not, if◌then◌else◌, ◌==◌, ◌%◌, List, length, Option, None, Some, Ok, Err, refl, sym, ap, subst, ◌∙◌, arith}
 use Rattle.std.proofs.lemmas.Bool.{eqb-false, eqb-true, eq-eqb, ne_eqb}
-use Rattle.c99_grammar.specs.declared.dialects.Dialect.{Dialect}
+use Rattle.c99_grammar.specs.declared.dialects.Edition.{Edition}
 use Rattle.cs_base.specs.Token.{Token}
 use Rattle.c99_tree.specs.Tree.{Forest, none, token, node, Node, leaf, inner, put, count_of}
 use Rattle.c99_tree.specs.declared.production.Label.{Label}
 use Rattle.c99_tree.specs.declared.production.Production.TheVariants.{Params}
 use Rattle.c99_grammar.specs.Classes.{among}
 use Rattle.c99_grammar.specs.Items.{Item, one, act, ◌·◌, many, own, name}
-use Rattle.c99_grammar.specs.Standard.{c99, grammar}
+use Rattle.c99_grammar.specs.Standard.{c99, iso}
 use Rattle.c99_read.specs.State.{State, base_at, is_identifier, class_at, last_identifier, declaration, in_innermost, acted, opened}
 use Rattle.c99_read.specs.Reading.{Goal, repeat, Step, and_then, take_one, may, step}
 use Rattle.scope_bind.specs.Named.{Scope}
@@ -45,32 +45,32 @@ comma = classes_of (front_of more_listed)
 abbrev pub listed_items : Item
 listed_items = one identifiers · act name
 
-module _ (std : Dialect) where
+module _ (std : Edition) where
   -- ---- The last identifier among some children
 
-  pub last_put : (toks : List Token) (f : Forest) (i : ℕ) (found : Option ℕ) → is_identifier (base_at (grammar std) toks i) ≡ true
-      → last_identifier (grammar std) toks (put f (leaf i)) found ≡ Some i
+  pub last_put : (toks : List Token) (f : Forest) (i : ℕ) (found : Option ℕ) → is_identifier (base_at (iso std) toks i) ≡ true
+      → last_identifier (iso std) toks (put f (leaf i)) found ≡ Some i
   last_put toks none i found h = ap (λ c. if c then Some i else found) h
   last_put toks (token j rest) i found h = last_put toks rest i _ h
   last_put toks (node l first under rest) i found h = last_put toks rest i found h
 
-  pub last_other : (toks : List Token) (f : Forest) (i : ℕ) (found : Option ℕ) → is_identifier (base_at (grammar std) toks i) ≡ false
-      → last_identifier (grammar std) toks (put f (leaf i)) found ≡ last_identifier (grammar std) toks f found
+  pub last_other : (toks : List Token) (f : Forest) (i : ℕ) (found : Option ℕ) → is_identifier (base_at (iso std) toks i) ≡ false
+      → last_identifier (iso std) toks (put f (leaf i)) found ≡ last_identifier (iso std) toks f found
   last_other toks none i found h = ap (λ c. if c then Some i else found) h
   last_other toks (token j rest) i found h = last_other toks rest i _ h
   last_other toks (node l first under rest) i found h = last_other toks rest i found h
 
-  pub last_node : (toks : List Token) (f : Forest) (n : Node) (found : Option ℕ) → last_identifier (grammar std) toks (put f (inner n)) found ≡ last_identifier (grammar std) toks f found
+  pub last_node : (toks : List Token) (f : Forest) (n : Node) (found : Option ℕ) → last_identifier (iso std) toks (put f (inner n)) found ≡ last_identifier (iso std) toks f found
   last_node toks none n found = refl
   last_node toks (token j rest) n found = last_node toks rest n _
   last_node toks (node l first under rest) n found = last_node toks rest n found
 
-  pub named_is : (s : State) (i : ℕ) → last_identifier (grammar std) s.toks s.built.under None ≡ Some i → acted (grammar std) name s ≡ naming s (Some i) false
+  pub named_is : (s : State) (i : ℕ) → last_identifier (iso std) s.toks s.built.under None ≡ Some i → acted (iso std) name s ≡ naming s (Some i) false
   unfolding acted
   named_is s i e = ap (λ o. naming s o false) e
 
   module _ (toks : List Token) where
-    module _ (first : ℕ) (s : State) (c : among identifiers (class_at (grammar std) s s.at) ≡ true) (more_toks : s.at < length s.toks) (even : IsEven s) where
+    module _ (first : ℕ) (s : State) (c : among identifiers (class_at (iso std) s s.at) ≡ true) (more_toks : s.at < length s.toks) (even : IsEven s) where
       abbrev after_name : State
       after_name = naming (with_token s) (Some s.at) false
 
@@ -103,10 +103,10 @@ module _ (std : Dialect) where
             opens = outer_open s.names.scopes (in_innermost s.names.scopes (declaration s.at false)) f.opens (outer_declared s.names.scopes (declaration s.at false));
           }
 
-      pub listed_named : acted (grammar std) name (with_token s) ≡ after_name
+      pub listed_named : acted (iso std) name (with_token s) ≡ after_name
       listed_named = named_is (with_token s) s.at (last_put s.toks s.built.under s.at None (identifier_is std s s.at c).0)
 
-      pub listed_goes : Goes std toks listing first s (acted (grammar std) name (with_token s))
+      pub listed_goes : Goes std toks listing first s (acted (iso std) name (with_token s))
       listed_goes = subst (Goes std toks listing first s) (sym listed_named) (record {
         same_text = refl;
         later = omega arith;
@@ -118,7 +118,7 @@ module _ (std : Dialect) where
         fits = λ o ends b f. listed_fits o ends b f;
       })
 
-      pub listed_count : count_of (acted (grammar std) name (with_token s)).built.under ≡ count_of s.built.under + 1
+      pub listed_count : count_of (acted (iso std) name (with_token s)).built.under ≡ count_of s.built.under + 1
       unfolding acted
       listed_count = count_leaf s.built.under s.at
 
@@ -126,14 +126,14 @@ module _ (std : Dialect) where
     abbrev pub Listed : ℕ → State → State → Type 0
     Listed first s s' = Goes std toks listing first s s' × (count_of s'.built.under ≡ count_of s.built.under + 1)
 
-    pub listed_step : (below : ℕ → Goal → State → Step) (first depth : ℕ) (s : State) → IsEven s → After (Listed first s) (step (grammar std) below depth listed_items s)
+    pub listed_step : (below : ℕ → Goal → State → Step) (first depth : ℕ) (s : State) → IsEven s → After (Listed first s) (step (iso std) below depth listed_items s)
     listed_step below first depth s even =
-        by (take_one (grammar std) identifiers s) (taken std (λ s'. (s' ≡ with_token s) × ((among identifiers (class_at (grammar std) s s.at) ≡ true) × (s.at < length s.toks))) identifiers s (λ c more. (refl, (c, more))))
+        by (take_one (iso std) identifiers s) (taken std (λ s'. (s' ≡ with_token s) × ((among identifiers (class_at (iso std) s s.at) ≡ true) × (s.at < length s.toks))) identifiers s (λ c more. (refl, (c, more))))
       where
-        by : (r : Step) → After (λ s'. (s' ≡ with_token s) × ((among identifiers (class_at (grammar std) s s.at) ≡ true) × (s.at < length s.toks))) r
-            → After (Listed first s) (and_then r (λ s'. Ok (acted (grammar std) name s')))
+        by : (r : Step) → After (λ s'. (s' ≡ with_token s) × ((among identifiers (class_at (iso std) s s.at) ≡ true) × (s.at < length s.toks))) r
+            → After (Listed first s) (and_then r (λ s'. Ok (acted (iso std) name s')))
         by (Err stop) m = tt
-        by (Ok s') m = subst (λ x. Listed first s (acted (grammar std) name x)) (sym m.0) (listed_goes first s m.1.0 m.1.1 even, listed_count first s m.1.0 m.1.1 even)
+        by (Ok s') m = subst (λ x. Listed first s (acted (iso std) name x)) (sym m.0) (listed_goes first s m.1.0 m.1.1 even, listed_count first s m.1.0 m.1.1 even)
 
     pub even_next : (n : ℕ) → (n % 2 == 0) ≡ false → ((n + 1) % 2 == 0) ≡ true
     even_next n h = eq-eqb ((n + 1) % 2) 0 (let k = eqb-false (n % 2) 0 h in omega (arith, k))
@@ -151,9 +151,9 @@ module _ (std : Dialect) where
     -- what the items of a list make, name by name
     module _ (below : ℕ → Goal → State → Step) where
       pub more_step : (first depth : ℕ) (s : State) → IsOdd s
-          → After (λ s'. Goes std toks listing first s s' × IsOdd s') (step (grammar std) below depth more_listed s)
+          → After (λ s'. Goes std toks listing first s s' × IsOdd s') (step (iso std) below depth more_listed s)
       more_step first depth s odd =
-          by (take_one (grammar std) comma s) (taken std (λ s'. (s' ≡ with_token s) × (s.at < length s.toks)) comma s (λ c more. (refl, more)))
+          by (take_one (iso std) comma s) (taken std (λ s'. (s' ≡ with_token s) × (s.at < length s.toks)) comma s (λ c more. (refl, more)))
         where
           even : IsEven (with_token s)
           even = ap (λ n. n % 2 == 0) (count_leaf s.built.under s.at) ∙ even_next (count_of s.built.under) odd
@@ -166,16 +166,16 @@ module _ (std : Dialect) where
           )
 
           by : (r : Step) → After (λ s'. (s' ≡ with_token s) × (s.at < length s.toks)) r
-              → After (λ s'. Goes std toks listing first s s' × IsOdd s') (and_then r (step (grammar std) below depth listed_items))
+              → After (λ s'. Goes std toks listing first s s' × IsOdd s') (and_then r (step (iso std) below depth listed_items))
           by (Err stop) m = tt
           by (Ok s') m =
-              subst (λ x. After (λ s''. Goes std toks listing first s s'' × IsOdd s'') (step (grammar std) below depth listed_items x)) (sym m.0)
-              (second (step (grammar std) below depth listed_items (with_token s)) m.1 (listed_step below first depth (with_token s) even))
+              subst (λ x. After (λ s''. Goes std toks listing first s s'' × IsOdd s'') (step (iso std) below depth listed_items x)) (sym m.0)
+              (second (step (iso std) below depth listed_items (with_token s)) m.1 (listed_step below first depth (with_token s) even))
 
       module _ (again : (depth first : ℕ) (s : State) → IsOdd s → After (Goes std toks listing first s) (below depth (repeat own more_listed) s)) where
-        pub many_listed : (first depth : ℕ) (s : State) → IsOdd s → After (Goes std toks listing first s) (step (grammar std) below depth (many own more_listed) s)
+        pub many_listed : (first depth : ℕ) (s : State) → IsOdd s → After (Goes std toks listing first s) (step (iso std) below depth (many own more_listed) s)
         many_listed first depth s odd =
-            after_if (Goes std toks listing first s) (may (grammar std) own more_listed s) _ _ (by (step (grammar std) below depth more_listed s) (more_step first depth s odd))
+            after_if (Goes std toks listing first s) (may (iso std) own more_listed s) _ _ (by (step (iso std) below depth more_listed s) (more_step first depth s odd))
             (goes_still std toks listing first s)
           where
             onward : (s' : State) (r : Step) → Goes std toks listing first s s' → After (Goes std toks listing first s') r → After (Goes std toks listing first s) r
@@ -191,24 +191,24 @@ module _ (std : Dialect) where
         opened_even s = refl
 
         pub list_body : (depth : ℕ) (s : State)
-            → After (Body std toks Params 1 s) (step (grammar std) below depth (one identifiers · (act name · many own more_listed)) (opened Params 1 s))
+            → After (Body std toks Params 1 s) (step (iso std) below depth (one identifiers · (act name · many own more_listed)) (opened Params 1 s))
         list_body depth s =
-            by (take_one (grammar std) identifiers (opened Params 1 s))
-            (taken std (λ s'. (s' ≡ with_token (opened Params 1 s)) × ((among identifiers (class_at (grammar std) (opened Params 1 s) (opened Params 1 s).at) ≡ true) × ((opened Params 1 s).at < length (opened Params 1 s).toks))) identifiers (opened Params 1 s) (λ c more. (refl, (c, more))))
+            by (take_one (iso std) identifiers (opened Params 1 s))
+            (taken std (λ s'. (s' ≡ with_token (opened Params 1 s)) × ((among identifiers (class_at (iso std) (opened Params 1 s) (opened Params 1 s).at) ≡ true) × ((opened Params 1 s).at < length (opened Params 1 s).toks))) identifiers (opened Params 1 s) (λ c more. (refl, (c, more))))
           where
             last_names : (s1 : State) (r : Step) → Goes std toks listing s.at (opened Params 1 s) s1 → After (Goes std toks listing s.at s1) r → After (Body std toks Params 1 s) r
             last_names s1 (Err stop) g m = tt
             last_names s1 (Ok s') g m = goes_body std toks Params 1 s s' refl refl (goes_further std toks listing s.at (opened Params 1 s) s1 s' g m)
 
-            from_first : (among identifiers (class_at (grammar std) (opened Params 1 s) (opened Params 1 s).at) ≡ true) → (opened Params 1 s).at < length (opened Params 1 s).toks
-                → After (Body std toks Params 1 s) (step (grammar std) below depth (many own more_listed) (acted (grammar std) name (with_token (opened Params 1 s))))
+            from_first : (among identifiers (class_at (iso std) (opened Params 1 s) (opened Params 1 s).at) ≡ true) → (opened Params 1 s).at < length (opened Params 1 s).toks
+                → After (Body std toks Params 1 s) (step (iso std) below depth (many own more_listed) (acted (iso std) name (with_token (opened Params 1 s))))
             from_first c more =
-                last_names (acted (grammar std) name (with_token (opened Params 1 s))) _ (listed_goes s.at (opened Params 1 s) c more (opened_even s))
-                (many_listed s.at depth (acted (grammar std) name (with_token (opened Params 1 s)))
+                last_names (acted (iso std) name (with_token (opened Params 1 s))) _ (listed_goes s.at (opened Params 1 s) c more (opened_even s))
+                (many_listed s.at depth (acted (iso std) name (with_token (opened Params 1 s)))
                 (ap (λ n. n % 2 == 0) (listed_count s.at (opened Params 1 s) c more (opened_even s)) ∙ odd_next (count_of (opened Params 1 s).built.under) (opened_even s)))
 
-            by : (r : Step) → After (λ s'. (s' ≡ with_token (opened Params 1 s)) × ((among identifiers (class_at (grammar std) (opened Params 1 s) (opened Params 1 s).at) ≡ true) × ((opened Params 1 s).at < length (opened Params 1 s).toks))) r
-                → After (Body std toks Params 1 s) (and_then r (step (grammar std) below depth (act name · many own more_listed)))
+            by : (r : Step) → After (λ s'. (s' ≡ with_token (opened Params 1 s)) × ((among identifiers (class_at (iso std) (opened Params 1 s) (opened Params 1 s).at) ≡ true) × ((opened Params 1 s).at < length (opened Params 1 s).toks))) r
+                → After (Body std toks Params 1 s) (and_then r (step (iso std) below depth (act name · many own more_listed)))
             by (Err stop) m = tt
             by (Ok s') m =
-                subst (λ x. After (Body std toks Params 1 s) (step (grammar std) below depth (many own more_listed) (acted (grammar std) name x))) (sym m.0) (from_first m.1.0 m.1.1)
+                subst (λ x. After (Body std toks Params 1 s) (step (iso std) below depth (many own more_listed) (acted (iso std) name x))) (sym m.0) (from_first m.1.0 m.1.1)

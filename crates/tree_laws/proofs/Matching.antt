@@ -3,7 +3,7 @@
 use Rattle.std.proofs.Common.{ℕ, ◌+◌, ◌≤◌, ◌≡◌, Bool, true, false, ◌&&◌, not, if◌then◌else◌, List, [], ◌∷◌, ◌++◌, Option, None, Some, nat_lt, refl, sym, ap, subst, ◌∙◌, arith, unwrap_or}
 use Rattle.std.proofs.lemmas.Bool.{le-ltb, lt-ltb}
 use Rattle.std.specs.Str.{bytes_eq}
-use Rattle.c99_grammar.specs.declared.dialects.Dialect.{Dialect}
+use Rattle.c99_grammar.specs.declared.dialects.Edition.{Edition}
 use Rattle.cs_base.specs.Token.{Token}
 use Rattle.c99_tree.specs.Names.{latest}
 use Rattle.c99_read.specs.State.{declaration, spelling_at, spelled_scope, is_typedef_at}
@@ -137,7 +137,7 @@ abbrev pub first_of : List Token → ℕ → List Declaration → Option Bool
 first_of toks i [] = None
 first_of toks i (d ∷ ds) = if bytes_eq (spelling_at toks i) (spelling_at toks d.name_at) then Some d.typedef else first_of toks i ds
 
-module _ (std : Dialect) where
+module _ (std : Edition) where
   module _ (toks : List Token) (i : ℕ) where
     latest_first : (s : List Declaration) → latest (spelled_scope toks s) (spelling_at toks i) ≡ first_of toks i s
     latest_first [] = refl

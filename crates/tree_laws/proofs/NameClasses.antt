@@ -5,14 +5,14 @@ use Rattle.std.specs.Option.{option_map_or}
 use Rattle.std.specs.Str.{bytes_eq}
 use Rattle.std.proofs.lemmas.Bool.{false≢true, and_parts}
 use Rattle.std.proofs.Math.Bool.{or-true}
-use Rattle.c99_grammar.specs.declared.dialects.Dialect.{Dialect}
+use Rattle.c99_grammar.specs.declared.dialects.Edition.{Edition}
 use Rattle.cs_base.specs.Token.{Token}
 use Rattle.cs_base.specs.declared.tokens.Kind.{Kind}
 use Rattle.cs_base.specs.declared.tokens.Kind.TheVariants as kind
-use Rattle.c99_grammar.specs.declared.dialects.Dialect.TheVariants.{Gnu}
+use Rattle.c99_grammar.specs.declared.dialects.Edition.TheVariants.{C11}
 use Rattle.c99_grammar.specs.Classes.{among}
 use Rattle.c99_grammar.specs.Spellings.{Spelled, keywords_of, punctuators}
-use Rattle.c99_grammar.specs.Standard.{c99, grammar}
+use Rattle.c99_grammar.specs.Standard.{c99, iso}
 use Rattle.c99_grammar.proofs.StandardLemmas.{keywords_fit}
 use Rattle.c99_read.specs.State.{State, base_at, is_identifier, is_typedef_at, class_at}
 use Rattle.c99_grammar.specs.TokenClasses.{spelled_class, class_of_kind, base_class}
@@ -31,7 +31,7 @@ is_fine classes c = not (among classes c) || is_identifier c
 -- no token but an identifier has one of these classes
 abbrev pub only_names : List Class → Bool
 only_names classes =
-    list_all (λ w. is_fine classes w.1) (keywords_of Gnu)
+    list_all (λ w. is_fine classes w.1) (keywords_of C11)
     && (list_all (λ w. is_fine classes w.1) punctuators
     && (is_fine classes (class_of_kind c99 kind.Number [])
     && (is_fine classes (class_of_kind c99 kind.Char [])
@@ -42,7 +42,7 @@ pub implied : (c d : Bool) → (not c || d) ≡ true → c ≡ true → d ≡ tr
 implied true d h e = h
 implied false d h e = absurd (false≢true e)
 
-module _ (std : Dialect) where
+module _ (std : Edition) where
   module _ (classes : List Class) (only : only_names classes ≡ true) where
     spelled_fine : (words : List Spelled) (text : List ℕ) (other : Class) → list_all (λ w. is_fine classes w.1) words ≡ true → is_fine classes other ≡ true
         → is_fine classes (spelled_class words text other) ≡ true
@@ -59,30 +59,30 @@ module _ (std : Dialect) where
 
     -- what is asked of each kind
     record AreFine : Type 0 where
-      words : list_all (λ w. is_fine classes w.1) (keywords_of Gnu) ≡ true
+      words : list_all (λ w. is_fine classes w.1) (keywords_of C11) ≡ true
       signs : list_all (λ w. is_fine classes w.1) punctuators ≡ true
-      number : is_fine classes (class_of_kind (grammar std) kind.Number []) ≡ true
-      char : is_fine classes (class_of_kind (grammar std) kind.Char []) ≡ true
-      string : is_fine classes (class_of_kind (grammar std) kind.Str []) ≡ true
-      last : is_fine classes (base_at (grammar std) [] 0) ≡ true
-      none : is_fine classes (base_at (grammar std) [] 1) ≡ true
+      number : is_fine classes (class_of_kind (iso std) kind.Number []) ≡ true
+      char : is_fine classes (class_of_kind (iso std) kind.Char []) ≡ true
+      string : is_fine classes (class_of_kind (iso std) kind.Str []) ≡ true
+      last : is_fine classes (base_at (iso std) [] 0) ≡ true
+      none : is_fine classes (base_at (iso std) [] 1) ≡ true
 
     fine_parts : AreFine
     fine_parts =
-        let six : Bool = is_fine classes (base_at (grammar std) [] 0) && is_fine classes (base_at (grammar std) [] 1) in
-        let five : Bool = is_fine classes (class_of_kind (grammar std) kind.Str []) && six in
-        let four : Bool = is_fine classes (class_of_kind (grammar std) kind.Char []) && five in
-        let three : Bool = is_fine classes (class_of_kind (grammar std) kind.Number []) && four in
+        let six : Bool = is_fine classes (base_at (iso std) [] 0) && is_fine classes (base_at (iso std) [] 1) in
+        let five : Bool = is_fine classes (class_of_kind (iso std) kind.Str []) && six in
+        let four : Bool = is_fine classes (class_of_kind (iso std) kind.Char []) && five in
+        let three : Bool = is_fine classes (class_of_kind (iso std) kind.Number []) && four in
         let two : Bool = list_all (λ w. is_fine classes w.1) punctuators && three in
-        let a = and_parts (list_all (λ w. is_fine classes w.1) (keywords_of Gnu)) two only in
+        let a = and_parts (list_all (λ w. is_fine classes w.1) (keywords_of C11)) two only in
         let b = and_parts (list_all (λ w. is_fine classes w.1) punctuators) three a.1 in
-        let c = and_parts (is_fine classes (class_of_kind (grammar std) kind.Number [])) four b.1 in
-        let d = and_parts (is_fine classes (class_of_kind (grammar std) kind.Char [])) five c.1 in
-        let e = and_parts (is_fine classes (class_of_kind (grammar std) kind.Str [])) six d.1 in
-        let f = and_parts (is_fine classes (base_at (grammar std) [] 0)) (is_fine classes (base_at (grammar std) [] 1)) e.1 in
+        let c = and_parts (is_fine classes (class_of_kind (iso std) kind.Number [])) four b.1 in
+        let d = and_parts (is_fine classes (class_of_kind (iso std) kind.Char [])) five c.1 in
+        let e = and_parts (is_fine classes (class_of_kind (iso std) kind.Str [])) six d.1 in
+        let f = and_parts (is_fine classes (base_at (iso std) [] 0)) (is_fine classes (base_at (iso std) [] 1)) e.1 in
         record { words = a.0; signs = b.0; number = c.0; char = d.0; string = e.0; last = f.0; none = f.1 }
 
-    kind_fine : (k : Kind) (text : List ℕ) → is_fine classes (class_of_kind (grammar std) k text) ≡ true
+    kind_fine : (k : Kind) (text : List ℕ) → is_fine classes (class_of_kind (iso std) k text) ≡ true
     kind_fine kind.Ident text = spelled_fine (keywords_of std) text _ (keywords_fit (is_fine classes) fine_parts.words std) (or-true _)
     kind_fine kind.Punct text = spelled_fine punctuators text _ fine_parts.signs fine_parts.none
     kind_fine kind.Number text = fine_parts.number
@@ -90,16 +90,16 @@ module _ (std : Dialect) where
     kind_fine kind.Str text = fine_parts.string
     kind_fine _ text = fine_parts.none
 
-    base_fine : (t : Token) → is_fine classes (base_class (grammar std) t) ≡ true
+    base_fine : (t : Token) → is_fine classes (base_class (iso std) t) ≡ true
     unfolding base_class
     base_fine t = kind_fine t.kind t.text
 
-    at_fine : (toks : List Token) (k : ℕ) → is_fine classes (base_at (grammar std) toks k) ≡ true
+    at_fine : (toks : List Token) (k : ℕ) → is_fine classes (base_at (iso std) toks k) ≡ true
     at_fine toks k =
         by (slice_get toks k) (k == length toks) _ _ fine_parts.last fine_parts.none
       where
         by : (t : Option Token) (c : Bool) (x y : Class) → is_fine classes x ≡ true → is_fine classes y ≡ true
-            → is_fine classes (option_map_or (base_class (grammar std)) t (if c then x else y)) ≡ true
+            → is_fine classes (option_map_or (base_class (iso std)) t (if c then x else y)) ≡ true
         by None true x y h h' = h
         by None false x y h h' = h'
         by (Some t) c x y h h' = base_fine t
@@ -109,8 +109,8 @@ module _ (std : Dialect) where
     typed_case b x false t h e = h e
 
     -- a token of one of these classes is an identifier
-    pub name_is : (s : State) (k : ℕ) → among classes (class_at (grammar std) s k) ≡ true → is_identifier (base_at (grammar std) s.toks k) ≡ true
+    pub name_is : (s : State) (k : ℕ) → among classes (class_at (iso std) s k) ≡ true → is_identifier (base_at (iso std) s.toks k) ≡ true
     unfolding class_at
     name_is s k e =
-        typed_case (base_at (grammar std) s.toks k) _ (is_identifier (base_at (grammar std) s.toks k)) (is_typedef_at s.toks s.names.scopes k)
+        typed_case (base_at (iso std) s.toks k) _ (is_identifier (base_at (iso std) s.toks k)) (is_typedef_at s.toks s.names.scopes k)
         (implied _ _ (at_fine s.toks k)) e

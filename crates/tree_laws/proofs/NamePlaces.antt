@@ -1,7 +1,7 @@
 -- Where names stand, a production reads identifiers.
 use Rattle.std.proofs.Common.{ℕ, zero, suc, ◌+◌, ◌%◌, ◌≡◌, Bool, true, false, ◌&&◌, ◌||◌, not, if◌then◌else◌, ◌==◌, List, length, Ok, Err, nat_lt, inl, inr, refl, sym, ap, subst, ◌∙◌, arith}
 use Rattle.std.proofs.lemmas.Bool.{and_parts, cases_eq, eq-eqb, ne_eqb, and_from, or_left, or_right}
-use Rattle.c99_grammar.specs.declared.dialects.Dialect.{Dialect}
+use Rattle.c99_grammar.specs.declared.dialects.Edition.{Edition}
 use Rattle.cs_base.specs.Token.{Token}
 use Rattle.c99_tree.specs.Tree.{Forest, none, token, node, Node, leaf, inner, put, count_of}
 use Rattle.c99_tree.specs.declared.production.Label.{Label}
@@ -9,7 +9,7 @@ use Rattle.c99_tree.specs.declared.production.Production.{Production}
 use Rattle.c99_tree.specs.declared.production.Production.TheVariants.{Main, SuRest, EnRest, Params, Designator, Primary, Post, Statement, Enumerator}
 use Rattle.c99_grammar.specs.Classes.{among}
 use Rattle.c99_grammar.specs.Items.{Item, one, part, end_of_text, act, ◌·◌, choice, maybe, many, deep, own, Test, Action}
-use Rattle.c99_grammar.specs.Standard.{grammar}
+use Rattle.c99_grammar.specs.Standard.{iso}
 use Rattle.c99_read.specs.State.{State, base_at, class_at, is_identifier, acted}
 use Rattle.c99_read.specs.Reading.{Goal, produce, repeat, Step, syntax, and_then, deepest, take_one, at_end, enter, may, step}
 use Rattle.scope_bind.specs.Named.{is_plain_role}
@@ -253,7 +253,7 @@ count_inner none n = refl
 count_inner (token j rest) n = omega (arith, count_inner rest n)
 count_inner (node l begin under rest) n = omega (arith, count_inner rest n)
 
-module _ (std : Dialect) where
+module _ (std : Edition) where
   each_place : (test : Place → Bool) (c : Place) → all_places test ≡ true → test c ≡ true
   each_place test c all =
       let one_ = and_parts (test first) (test second && (test even && test odd)) all in
@@ -272,7 +272,7 @@ module _ (std : Dialect) where
   module _ (toks : List Token) (l : Label) where
     -- the token is an identifier
     abbrev pub is_named : ℕ → Bool
-    is_named i = is_identifier (base_at (grammar std) toks i)
+    is_named i = is_identifier (base_at (iso std) toks i)
 
     -- in the open node names are identifiers so far, and the next child stands at one of these places
     pub record Stands (X : Place → Bool) (s : State) : Type 0 where
@@ -289,7 +289,7 @@ module _ (std : Dialect) where
     stands_then X Y (Err stop) next_step h n = tt
     stands_then X Y (Ok s) next_step h n = n s h
 
-    acted_stands : (X : Place → Bool) (a : Action) (s : State) → Stands X s → Stands X (acted (grammar std) a s)
+    acted_stands : (X : Place → Bool) (a : Action) (s : State) → Stands X s → Stands X (acted (iso std) a s)
     unfolding acted
     acted_stands X a s h = record { text = h.text; here = h.here; own = h.own }
 
@@ -314,61 +314,61 @@ module _ (std : Dialect) where
         (more : (depth : ℕ) (t : Test) (a : Item) (s : State) (X : Place → Bool) → fits l a X ≡ true → is_within (behind a X) X ≡ true → Stands X s
         → After (Stands X) (below depth (repeat t a) s)) where
       pub own_step : (item : Item) (depth : ℕ) (s : State) (X : Place → Bool) → fits l item X ≡ true → Stands X s
-          → After (Stands (behind item X)) (step (grammar std) below depth item s)
+          → After (Stands (behind item X)) (step (iso std) below depth item s)
       unfolding take_one
-      own_step (one classes) depth s X fit h = by (nat_lt s.at (length s.toks) && among classes (class_at (grammar std) s s.at)) refl
+      own_step (one classes) depth s X fit h = by (nat_lt s.at (length s.toks) && among classes (class_at (iso std) s s.at)) refl
         where
-          named : among classes (class_at (grammar std) s s.at) ≡ true → is_name_place l (count_of s.built.under) ≡ true → is_named s.at ≡ true
+          named : among classes (class_at (iso std) s s.at) ≡ true → is_name_place l (count_of s.built.under) ≡ true → is_named s.at ≡ true
           named there stands =
               let c : Place = place (count_of s.built.under) in
               let at : named_at l c ≡ true = sym (named_number l (count_of s.built.under)) ∙ stands in
               let only : only_names classes ≡ true =
               implied (named_at l c && X c) (only_names classes) (each_place (λ d. not (named_at l d && X d) || only_names classes) c fit) (and_from _ _ at h.here) in
-              subst (λ ts. is_identifier (base_at (grammar std) ts s.at) ≡ true) h.text (name_is std classes only s s.at there)
+              subst (λ ts. is_identifier (base_at (iso std) ts s.at) ≡ true) h.text (name_is std classes only s s.at there)
 
-          by : (b : Bool) → (nat_lt s.at (length s.toks) && among classes (class_at (grammar std) s s.at)) ≡ b
+          by : (b : Bool) → (nat_lt s.at (length s.toks) && among classes (class_at (iso std) s s.at)) ≡ b
               → After (Stands (shifted X)) (if b then Ok (with_token s) else Err (syntax s.at))
-          by true e = token_stands X s (named (and_parts (nat_lt s.at (length s.toks)) (among classes (class_at (grammar std) s s.at)) e).1) h
+          by true e = token_stands X s (named (and_parts (nat_lt s.at (length s.toks)) (among classes (class_at (iso std) s s.at)) e).1) h
           by false e = tt
       own_step (part p) depth s X fit h = parts depth p s X h
       own_step end_of_text depth s X fit h = end_stands X s h
       own_step (act a) depth s X fit h = acted_stands X a s h
       own_step (a · b) depth s X fit h =
           let both = and_parts (fits l a X) (fits l b (behind a X)) fit in
-          stands_then (behind a X) (behind b (behind a X)) (step (grammar std) below depth a s) (step (grammar std) below depth b) (own_step a depth s X both.0 h)
+          stands_then (behind a X) (behind b (behind a X)) (step (iso std) below depth a s) (step (iso std) below depth b) (own_step a depth s X both.0 h)
           (λ s' h'. own_step b depth s' (behind a X) both.1 h')
       own_step (choice a b) depth s X fit h =
           let both = and_parts (fits l a X) (fits l b X) fit in
-          after_if (Stands (joined (behind a X) (behind b X))) (may (grammar std) own a s) _ _
-          (wider (behind a X) (joined (behind a X) (behind b X)) (λ c e. or_left _ _ e) (step (grammar std) below depth a s) (own_step a depth s X both.0 h))
-          (after_if (Stands (joined (behind a X) (behind b X))) (may (grammar std) own b s) _ _
-          (wider (behind b X) (joined (behind a X) (behind b X)) (λ c e. or_right _ _ e) (step (grammar std) below depth b s) (own_step b depth s X both.1 h)) tt)
+          after_if (Stands (joined (behind a X) (behind b X))) (may (iso std) own a s) _ _
+          (wider (behind a X) (joined (behind a X) (behind b X)) (λ c e. or_left _ _ e) (step (iso std) below depth a s) (own_step a depth s X both.0 h))
+          (after_if (Stands (joined (behind a X) (behind b X))) (may (iso std) own b s) _ _
+          (wider (behind b X) (joined (behind a X) (behind b X)) (λ c e. or_right _ _ e) (step (iso std) below depth b s) (own_step b depth s X both.1 h)) tt)
       own_step (maybe a) depth s X fit h =
-          after_if (Stands (joined X (behind a X))) (may (grammar std) own a s) _ _
-          (wider (behind a X) (joined X (behind a X)) (λ c e. or_right _ _ e) (step (grammar std) below depth a s) (own_step a depth s X fit h))
+          after_if (Stands (joined X (behind a X))) (may (iso std) own a s) _ _
+          (wider (behind a X) (joined X (behind a X)) (λ c e. or_right _ _ e) (step (iso std) below depth a s) (own_step a depth s X fit h))
           (wider X (joined X (behind a X)) (λ c e. or_left _ _ e) (Ok s) h)
       own_step (many t a) depth s X fit h =
           let Y : Place → Bool = behind (many t a) X in
           let three = and_parts (fits l a Y) (is_within (behind a Y) Y && is_within X Y) fit in
           let two = and_parts (is_within (behind a Y) Y) (is_within X Y) three.1 in
           let h' : After (Stands Y) (Ok s) = wider X Y (λ c e. implied (X c) (Y c) (each_place (λ d. not (X d) || Y d) c two.1) e) (Ok s) h in
-          after_if (Stands Y) (may (grammar std) t a s) _ _
-          (stands_then Y Y (step (grammar std) below depth a s) (below depth (repeat t a))
-          (wider (behind a Y) Y (λ c e. implied (behind a Y c) (Y c) (each_place (λ d. not (behind a Y d) || Y d) c two.0) e) (step (grammar std) below depth a s)
+          after_if (Stands Y) (may (iso std) t a s) _ _
+          (stands_then Y Y (step (iso std) below depth a s) (below depth (repeat t a))
+          (wider (behind a Y) Y (λ c e. implied (behind a Y c) (Y c) (each_place (λ d. not (behind a Y d) || Y d) c two.0) e) (step (iso std) below depth a s)
           (own_step a depth s Y three.0 h'))
           (λ s' k. more depth t a s' Y three.0 two.0 k))
           h'
       own_step (deep a) depth s X fit h =
-          stands_then X (behind a X) (enter depth (may (grammar std) own a s) s) (step (grammar std) below (depth + 1) a) (enter_stands X depth (may (grammar std) own a s) s h)
+          stands_then X (behind a X) (enter depth (may (iso std) own a s) s) (step (iso std) below (depth + 1) a) (enter_stands X depth (may (iso std) own a s) s h)
           (λ s' h'. own_step a (depth + 1) s' X fit h')
 
       -- a repetition that goes on
       pub own_repeat : (t : Test) (a : Item) (depth : ℕ) (s : State) (X : Place → Bool) → fits l a X ≡ true → is_within (behind a X) X ≡ true → Stands X s
-          → After (Stands X) (step (grammar std) below depth (many t a) s)
+          → After (Stands X) (step (iso std) below depth (many t a) s)
       own_repeat t a depth s X fit closed h =
-          after_if (Stands X) (may (grammar std) t a s) _ _
-          (stands_then X X (step (grammar std) below depth a s) (below depth (repeat t a))
-          (wider (behind a X) X (λ c e. implied (behind a X c) (X c) (each_place (λ d. not (behind a X d) || X d) c closed) e) (step (grammar std) below depth a s)
+          after_if (Stands X) (may (iso std) t a s) _ _
+          (stands_then X X (step (iso std) below depth a s) (below depth (repeat t a))
+          (wider (behind a X) X (λ c e. implied (behind a X c) (X c) (each_place (λ d. not (behind a X d) || X d) c closed) e) (step (iso std) below depth a s)
           (own_step a depth s X fit h))
           (λ s' k. more depth t a s' X fit closed k))
           h

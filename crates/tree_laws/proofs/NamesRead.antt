@@ -1,14 +1,14 @@
 -- The names of a tree that is read are identifiers.
 use Rattle.std.proofs.Common.{ℕ, zero, suc, ◌+◌, ◌≡◌, Bool, true, false, if◌then◌else◌, List, [], ◌∷◌, length, Ok, Err, refl, sym, subst, ◌∙◌, arith}
 use Rattle.std.proofs.lemmas.Bool.{and_parts, and_from}
-use Rattle.c99_grammar.specs.declared.dialects.Dialect.{Dialect}
+use Rattle.c99_grammar.specs.declared.dialects.Edition.{Edition}
 use Rattle.cs_base.specs.Token.{Token}
 use Rattle.c99_tree.specs.Tree.{Forest, none, token, node, Node, leaf, inner, put, lone, collapsed, count_of}
 use Rattle.c99_tree.specs.declared.production.Label.{Label}
 use Rattle.c99_tree.specs.declared.production.Production.{Production}
 use Rattle.c99_tree.specs.declared.production.Production.TheVariants.{TranslationUnit}
 use Rattle.c99_grammar.specs.Items.{Item, Test, Action, Alternative}
-use Rattle.c99_grammar.specs.Standard.{c99, grammar}
+use Rattle.c99_grammar.specs.Standard.{c99, iso}
 use Rattle.c99_read.specs.State.{State, base_at, collapses, finished, acted, opened, closed, is_identifier}
 use Rattle.c99_read.specs.Reading.{produce, repeat, Step, and_then, may, step, alternative, pick, read_within, steps_for, whole, at_first, tree_of, read_of}
 use Rattle.name_chains.specs.Frames.{outermost}
@@ -35,12 +35,12 @@ opened_text : (p : Production) (n : ℕ) (s : State) → (opened p n s).toks ≡
 unfolding opened
 opened_text p n s = refl
 
-module _ (std : Dialect) where
-  acted_text : (a : Action) (s : State) → SameText s (acted (grammar std) a s)
+module _ (std : Edition) where
+  acted_text : (a : Action) (s : State) → SameText s (acted (iso std) a s)
   unfolding acted
   acted_text a s = refl
 
-  text_kept : IsKept (grammar std) SameText
+  text_kept : IsKept (iso std) SameText
   text_kept = record { still = λ s. refl; further = λ s s' s'' e f. f ∙ e; taken = λ s. refl; done = acted_text }
 
   module _ (toks : List Token) (l : Label) where
@@ -53,30 +53,30 @@ module _ (std : Dialect) where
     }
 
     module _ (fuel : ℕ) (depth : ℕ) (p : Production) (s : State) (X : Place → Bool) (h : Stands std toks l X s) where
-      alternative_stands : (n : ℕ) (body : Item) → After (Stands std toks l (shifted X)) (alternative (grammar std) (read_within (grammar std) fuel) depth p n body s)
+      alternative_stands : (n : ℕ) (body : Item) → After (Stands std toks l (shifted X)) (alternative (iso std) (read_within (iso std) fuel) depth p n body s)
       alternative_stands n body =
-          by (step (grammar std) (read_within (grammar std) fuel) depth body (opened p n s)) (kept_by_item (grammar std) SameText text_kept closed_text fuel body depth (opened p n s))
+          by (step (iso std) (read_within (iso std) fuel) depth body (opened p n s)) (kept_by_item (iso std) SameText text_kept closed_text fuel body depth (opened p n s))
         where
           by : (r : Step) → After (SameText (opened p n s)) r → After (Stands std toks l (shifted X)) (and_then r (λ s'. Ok (closed p s s')))
           by (Err stop) m = tt
           by (Ok s') m = closed_stands X p s s' (closed_text p n s s' m) h
 
-      pick_stands : (n : ℕ) (alternatives : List Alternative) → After (Stands std toks l (shifted X)) (pick (grammar std) (read_within (grammar std) fuel) depth p n alternatives s)
+      pick_stands : (n : ℕ) (alternatives : List Alternative) → After (Stands std toks l (shifted X)) (pick (iso std) (read_within (iso std) fuel) depth p n alternatives s)
       pick_stands n [] = tt
-      pick_stands n (a ∷ more) = after_if (Stands std toks l (shifted X)) (may (grammar std) a.test a.body s) _ _ (alternative_stands n a.body) (pick_stands (n + 1) more)
+      pick_stands n (a ∷ more) = after_if (Stands std toks l (shifted X)) (may (iso std) a.test a.body s) _ _ (alternative_stands n a.body) (pick_stands (n + 1) more)
 
     part_stands : (fuel depth : ℕ) (p : Production) (s : State) (X : Place → Bool) → Stands std toks l X s
-        → After (Stands std toks l (shifted X)) (read_within (grammar std) fuel depth (produce p) s)
+        → After (Stands std toks l (shifted X)) (read_within (iso std) fuel depth (produce p) s)
     unfolding read_within
     part_stands zero depth p s X h = tt
-    part_stands (suc fuel) depth p s X h = pick_stands fuel depth p s X h 1 ((grammar std).table p)
+    part_stands (suc fuel) depth p s X h = pick_stands fuel depth p s X h 1 ((iso std).table p)
 
     more_stands : (fuel depth : ℕ) (t : Test) (a : Item) (s : State) (X : Place → Bool) → fits l a X ≡ true → is_within (behind a X) X ≡ true
-        → Stands std toks l X s → After (Stands std toks l X) (read_within (grammar std) fuel depth (repeat t a) s)
+        → Stands std toks l X s → After (Stands std toks l X) (read_within (iso std) fuel depth (repeat t a) s)
     unfolding read_within
     more_stands zero depth t a s X fit closed_ h = tt
     more_stands (suc fuel) depth t a s X fit closed_ h =
-        (own_repeat std) toks l (read_within (grammar std) fuel) (part_stands fuel) (more_stands fuel) t a depth s X fit closed_ h
+        (own_repeat std) toks l (read_within (iso std) fuel) (part_stands fuel) (more_stands fuel) t a depth s X fit closed_ h
 
   opened_stands : (toks : List Token) (p : Production) (n : ℕ) (s : State) → s.toks ≡ toks → Stands std toks (labelled p n) is_first (opened p n s)
   unfolding opened
@@ -84,17 +84,17 @@ module _ (std : Dialect) where
 
   -- the names among the children of a node that is read are identifiers
   own_named : (toks : List Token) (fuel depth : ℕ) (p : Production) (n : ℕ) (body : Item) (s s' : State) → s.toks ≡ toks → fits (labelled p n) body is_first ≡ true
-      → step (grammar std) (read_within (grammar std) fuel) depth body (opened p n s) ≡ Ok s' → own_pass (is_named std toks (labelled p n)) (labelled p n) 0 s'.built.under ≡ true
+      → step (iso std) (read_within (iso std) fuel) depth body (opened p n s) ≡ Ok s' → own_pass (is_named std toks (labelled p n)) (labelled p n) 0 s'.built.under ≡ true
   own_named toks fuel depth p n body s s' e fit is_read =
       let l : Label = labelled p n in
       (subst (After (Stands std toks l (behind body is_first))) is_read
-      (own_step std toks l (read_within (grammar std) fuel) (part_stands toks l fuel) (more_stands toks l fuel) body depth (opened p n s) is_first fit (opened_stands toks p n s e))).own
+      (own_step std toks l (read_within (iso std) fuel) (part_stands toks l fuel) (more_stands toks l fuel) body depth (opened p n s) is_first fit (opened_stands toks p n s e))).own
 
   -- ---- All nodes
 
   module _ (toks : List Token) where
     abbrev test : ℕ → Bool
-    test i = is_identifier (base_at (grammar std) toks i)
+    test i = is_identifier (base_at (iso std) toks i)
 
     below_leaf : (f : Forest) (i : ℕ) → below_pass test f ≡ true → below_pass test (put f (leaf i)) ≡ true
     below_leaf none i w = refl
@@ -116,11 +116,11 @@ module _ (std : Dialect) where
       label : s'.built.label ≡ s.built.label
       goes_on : s.toks ≡ toks → below_pass test s.built.under ≡ true → below_pass test s'.built.under ≡ true
 
-    acted_names : (a : Action) (s : State) → Names s (acted (grammar std) a s)
+    acted_names : (a : Action) (s : State) → Names s (acted (iso std) a s)
     unfolding acted
     acted_names a s = record { text = refl; label = refl; goes_on = λ e w. w }
 
-    names_kept : IsKept (grammar std) Names
+    names_kept : IsKept (iso std) Names
     names_kept = record {
       still = λ s. record { text = refl; label = refl; goes_on = λ e w. w };
       further = λ s s' s'' k k'. record {
@@ -148,7 +148,7 @@ module _ (std : Dialect) where
         by false = h
 
     node_names : (fuel depth : ℕ) (p : Production) (n : ℕ) (a : Alternative) (s s' : State) → fits_at p n a ≡ true
-        → step (grammar std) (read_within (grammar std) fuel) depth a.body (opened p n s) ≡ Ok s' → Names (opened p n s) s' → Names s (closed p s s')
+        → step (iso std) (read_within (iso std) fuel) depth a.body (opened p n s) ≡ Ok s' → Names (opened p n s) s' → Names s (closed p s s')
     unfolding opened closed
     node_names fuel depth p n a s s' fit is_read m = record {
       text = m.text;
@@ -161,10 +161,10 @@ module _ (std : Dialect) where
           below_inner s.built.under (finished p s'.built) w (finished_named p s'.built below named);
     }
 
-    names_within : (fuel depth : ℕ) (item : Item) (s : State) → After (Names s) (step (grammar std) (read_within (grammar std) fuel) depth item s)
+    names_within : (fuel depth : ℕ) (item : Item) (s : State) → After (Names s) (step (iso std) (read_within (iso std) fuel) depth item s)
     names_within fuel depth item s =
-        kept_step (grammar std) Names names_kept (λ p. true) (read_within (grammar std) fuel)
-        (kept_within (grammar std) Names names_kept (λ p. true) fits_at
+        kept_step (iso std) Names names_kept (λ p. true) (read_within (iso std) fuel)
+        (kept_within (iso std) Names names_kept (λ p. true) fits_at
         (record {
           fit = (table_fits std);
           inside = λ p n a fit of_ok. each_part a.body;
@@ -186,12 +186,12 @@ module _ (std : Dialect) where
     closed_named s' h = h
 
     unit_named : (fuel : ℕ) (body : Item) → fits (labelled TranslationUnit 1) body is_first ≡ true
-        → After AreNamed (alternative (grammar std) (read_within (grammar std) fuel) 0 TranslationUnit 1 body (at_first toks))
+        → After AreNamed (alternative (iso std) (read_within (iso std) fuel) 0 TranslationUnit 1 body (at_first toks))
     unit_named fuel body fit =
-        by (step (grammar std) (read_within (grammar std) fuel) 0 body (opened TranslationUnit 1 (at_first toks))) refl
+        by (step (iso std) (read_within (iso std) fuel) 0 body (opened TranslationUnit 1 (at_first toks))) refl
         (names_within toks fuel 0 body (opened TranslationUnit 1 (at_first toks)))
       where
-        by : (r : Step) → step (grammar std) (read_within (grammar std) fuel) 0 body (opened TranslationUnit 1 (at_first toks)) ≡ r
+        by : (r : Step) → step (iso std) (read_within (iso std) fuel) 0 body (opened TranslationUnit 1 (at_first toks)) ≡ r
             → After (Names toks (opened TranslationUnit 1 (at_first toks))) r → After AreNamed (and_then r (λ s'. Ok (closed TranslationUnit (at_first toks) s')))
         by (Err stop) is_read m = tt
         by (Ok s') is_read m =
@@ -200,21 +200,21 @@ module _ (std : Dialect) where
             (m.goes_on (opened_text TranslationUnit 1 (at_first toks)) (opened_below toks TranslationUnit 1 (at_first toks))))
 
     pick_named : (fuel n : ℕ) (alternatives : List Alternative) → n ≡ 1 → fit_from (fits_at TranslationUnit) n alternatives ≡ true
-        → (length alternatives ≡ 1) → After AreNamed (pick (grammar std) (read_within (grammar std) fuel) 0 TranslationUnit n alternatives (at_first toks))
+        → (length alternatives ≡ 1) → After AreNamed (pick (iso std) (read_within (iso std) fuel) 0 TranslationUnit n alternatives (at_first toks))
     pick_named fuel n [] e fit one_ = tt
     pick_named fuel n (a ∷ []) e fit one_ =
         let both = and_parts (fits_at TranslationUnit n a) true fit in
-        let P : ℕ → Type 0 = λ m. After AreNamed (alternative (grammar std) (read_within (grammar std) fuel) 0 TranslationUnit m a.body (at_first toks)) in
+        let P : ℕ → Type 0 = λ m. After AreNamed (alternative (iso std) (read_within (iso std) fuel) 0 TranslationUnit m a.body (at_first toks)) in
         let Q : ℕ → Type 0 = λ m. fits_at TranslationUnit m a ≡ true in
-        after_if AreNamed (may (grammar std) a.test a.body (at_first toks)) _ _ (subst P (sym e) (unit_named fuel a.body (subst Q e both.0))) tt
+        after_if AreNamed (may (iso std) a.test a.body (at_first toks)) _ _ (subst P (sym e) (unit_named fuel a.body (subst Q e both.0))) tt
     pick_named fuel n (a ∷ (b ∷ more)) e fit one_ = absurd (omega (arith, one_))
 
-    within_named : (fuel : ℕ) → After AreNamed (read_within (grammar std) fuel 0 (produce TranslationUnit) (at_first toks))
+    within_named : (fuel : ℕ) → After AreNamed (read_within (iso std) fuel 0 (produce TranslationUnit) (at_first toks))
     unfolding read_within
     within_named zero = tt
     within_named (suc fuel) = pick_named fuel 1 (c99.table TranslationUnit) refl (table_fits std TranslationUnit) refl
 
-    whole_named : After AreNamed (whole (grammar std) 0 (produce TranslationUnit) (at_first toks))
+    whole_named : After AreNamed (whole (iso std) 0 (produce TranslationUnit) (at_first toks))
     unfolding whole
     whole_named = within_named (steps_for (produce TranslationUnit) (at_first toks))
 
@@ -224,5 +224,5 @@ module _ (std : Dialect) where
         subst (λ (n : Node). names_pass (test toks) unit_label 0 n.under ≡ true) same h
     tree_named (Err stop) tree h e = absurd cc
 
-    pub names_are_read : (tree : Node) → read_of (grammar std) toks ≡ Ok tree → names_pass (test toks) unit_label 0 tree.under ≡ true
-    names_are_read tree e = tree_named (whole (grammar std) 0 (produce TranslationUnit) (at_first toks)) tree whole_named e
+    pub names_are_read : (tree : Node) → read_of (iso std) toks ≡ Ok tree → names_pass (test toks) unit_label 0 tree.under ≡ true
+    names_are_read tree e = tree_named (whole (iso std) 0 (produce TranslationUnit) (at_first toks)) tree whole_named e

@@ -2,13 +2,13 @@
 use Rattle.std.proofs.Common.{ℕ, ◌+◌, Bool, true, false, ◌&&◌, ◌||◌, not, if◌then◌else◌, ◌==◌, ◌%◌, List, [], ◌∷◌, ◌++◌, Option, None, Some}
 use Rattle.std.specs.Prelude.{find, nat_lt}
 use Rattle.std.specs.Option.{option_map_or}
-use Rattle.c99_grammar.specs.declared.dialects.Dialect.{Dialect}
+use Rattle.c99_grammar.specs.declared.dialects.Edition.{Edition}
 use Rattle.cs_base.specs.Token.{Token}
 use Rattle.c99_tree.specs.Tree.{Forest, none, token, node}
 use Rattle.c99_tree.specs.declared.production.Label.{Label}
 use Rattle.c99_tree.specs.declared.production.Production.{Production}
 use Rattle.c99_tree.specs.declared.production.Production.TheVariants.{ExtRest, FunBody, InitDecl, Main, Params, Primary, Pdirect, Specs, Enumerator, Declarator, Param, Pdecl}
-use Rattle.c99_grammar.specs.Standard.{grammar}
+use Rattle.c99_grammar.specs.Standard.{iso}
 use Rattle.c99_read.specs.State.{base_at, is_identifier}
 use Rattle.scope_bind.specs.Named.{Scope}
 use Rattle.c_types.specs.Trees.{is_node, is_at, last_token, name_below, has_mod, first_list}
@@ -119,7 +119,7 @@ outlined (node l first under rest) o = outlined rest (ended l first under o (out
 abbrev pub is_open : ℕ → Entry → Bool
 is_open k e = not (nat_lt k e.from) && nat_lt k e.to
 
-module _ (std : Dialect) where
+module _ (std : Edition) where
   module _ (toks : List Token) where
     abbrev pub typedef_among : ℕ → List Entry → Bool
     typedef_among i es = option_map_or (λ e. e.typedef) (find (λ e. alike toks i e.name_at && is_open i e) es) false
@@ -131,7 +131,7 @@ module _ (std : Dialect) where
     token_agrees _ a k i es = true
 
     abbrev pub node_agrees : Label → ℕ → List Entry → Bool
-    node_agrees l first es = if is_at l Pdirect 2 then not (is_identifier (base_at (grammar std) toks (first + 1))) || not (typedef_among (first + 1) es) else true
+    node_agrees l first es = if is_at l Pdirect 2 then not (is_identifier (base_at (iso std) toks (first + 1))) || not (typedef_among (first + 1) es) else true
 
     abbrev pub all_agree : Forest → Outline → Bool
     all_agree none o = true

@@ -3,13 +3,13 @@ use Rattle.std.proofs.Common.{ℕ, ◌+◌, ◌≡◌, Bool, true, false, ◌&&�
 use Rattle.std.specs.Prelude.{find, filter_map, is_some}
 use Rattle.std.specs.List.{cons_option}
 use Rattle.std.specs.Option.{option_map_or}
-use Rattle.c99_grammar.specs.declared.dialects.Dialect.{Dialect}
+use Rattle.c99_grammar.specs.declared.dialects.Edition.{Edition}
 use Rattle.cs_base.specs.Token.{Token}
 use Rattle.c99_tree.specs.Tree.{Forest, none, token, node}
 use Rattle.c99_tree.specs.declared.production.Label.{Label}
 use Rattle.c99_tree.specs.declared.production.Production.{Production}
 use Rattle.c99_tree.specs.declared.production.Production.TheVariants.{TranslationUnit, ExtRest, FunBody, InitDecl, Specs, Members, MemRest, Mdecl, Main, SuRest, EnRest, Params, Primary, Post, Designator, Statement, Pdirect, Enumerators, Enumerator, Declarator, Param, Pdecl}
-use Rattle.c99_grammar.specs.Standard.{grammar}
+use Rattle.c99_grammar.specs.Standard.{iso}
 use Rattle.c99_read.specs.State.{base_at, is_identifier}
 use Rattle.c_types.specs.declared.entity.EntityKind.TheVariants.{Object, Function, Typedef, Parameter, Enumerator as Constant}
 use Rattle.scope_bind.specs.Named.{Body, Cause, Declaration, Declared, Frame, Role, Scope, ordinary, tags, members, labels, undeclared, tag_redefined, redeclared, mixed_linkage, designator_after_elision}
@@ -52,7 +52,7 @@ fault_same : (c : Bool) (cause : Cause) (i : ℕ) (facts : Facts) → (with_faul
 fault_same true cause i facts = refl
 fault_same false cause i facts = refl
 
-module _ (std : Dialect) where
+module _ (std : Edition) where
   module _ (toks : List Token) where
     used_same : (i : ℕ) (r : Option Declaration) (facts : Facts) → (used_as toks i r facts).declared ≡ facts.declared
     used_same i None facts = refl
@@ -404,7 +404,7 @@ module _ (std : Dialect) where
 
     node_same : (l : Label) (first : ℕ) (facts : Facts) → is_named_so std toks l first facts ≡ node_agrees std toks l first (entries_of facts.declared)
     node_same l first facts =
-        ap (λ b. if is_at l Pdirect 2 then not (is_identifier (base_at (grammar std) toks (first + 1))) || not b else true) (denotes_among (first + 1) facts.declared)
+        ap (λ b. if is_at l Pdirect 2 then not (is_identifier (base_at (iso std) toks (first + 1))) || not b else true) (denotes_among (first + 1) facts.declared)
 
     pub agrees_same : (f : Forest) (s : State) → agrees std toks f s ≡ all_agree std toks f (outline s)
     agrees_same none s = refl

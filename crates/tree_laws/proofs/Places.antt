@@ -1,7 +1,7 @@
 -- What one more child changes: the last token below, how many children there are, and the outline.
 use Rattle.std.proofs.Common.{ℕ, ◌+◌, ◌≡◌, Bool, true, false, ◌&&◌, List, ◌⊎◌, inl, inr, refl, sym, ap, ◌∙◌}
 use Rattle.std.proofs.lemmas.Bool.{and_parts, and_from}
-use Rattle.c99_grammar.specs.declared.dialects.Dialect.{Dialect}
+use Rattle.c99_grammar.specs.declared.dialects.Edition.{Edition}
 use Rattle.cs_base.specs.Token.{Token}
 use Rattle.c99_tree.specs.Tree.{Forest, none, token, node, Node, leaf, inner, put, count_of}
 use Rattle.c_types.specs.Trees.{last_token}
@@ -66,7 +66,7 @@ outlined_inner none n o = refl
 outlined_inner (token j rest) n o = outlined_inner rest n (stepped j o)
 outlined_inner (node l first under rest) n o = outlined_inner rest n (ended l first under o (outlined under (begun l first under o)))
 
-module _ (std : Dialect) where
+module _ (std : Edition) where
   module _ (toks : List Token) where
     -- what is asked of a token behind these children, and of a node
     abbrev pub TokenAgrees : ℕ → Outline → Type 0

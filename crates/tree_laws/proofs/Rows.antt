@@ -2,10 +2,10 @@
 use Rattle.std.proofs.Common.{ℕ, zero, suc, ◌+◌, ◌≡◌, Bool, true, false, ◌&&◌, ◌||◌, not, if◌then◌else◌, List, [], ◌∷◌, Result, Ok, Err, inl, inr, refl, sym, ap, subst, ◌∙◌}
 use Rattle.std.proofs.lemmas.Bool.{and_parts, and_from, or_parts, cases_Bool, not-true, false≢true, cond-true, cond-false}
 use Rattle.cs_base.specs.Token.{Token}
-use Rattle.c99_grammar.specs.declared.dialects.Dialect.TheVariants.{C99, C11}
+use Rattle.c99_grammar.specs.declared.dialects.Edition.TheVariants.{C99, C11}
 use Rattle.c99_tree.specs.Tree.{Forest, none, Node, node_of, inner, lone}
 use Rattle.c99_tree.specs.declared.production.Production.{Production}
-use Rattle.c99_tree.specs.declared.production.Production.TheVariants.{TranslationUnit, External, ExtRest, ExtTail, FunBody, Declaration, DeclRest, InitDecl, Sassert, Specs, Main, Mod, Qual, Word, StructSpec, SuRest, Members, Member, MemRest, Mdecl, EnumSpec, EnRest, Enumerators, Enumerator, Declarator, Pointer, Direct, Suffix, Bound, Params, Param, Pdecl, Pdirect, TypeName, Adecl, Adirect, Init, InitList, InitItem, Designator, Expr, Assign, Asgop, Cond, Lor, Land, Bor, Bxor, Band, Equal, Relate, Shift, Add, Mul, Cast, CastRest, Unary, SizeRest, SizeLit, Primary, Post, Args, Block, BlockItem, Statement, Sub, ForInit}
+use Rattle.c99_tree.specs.declared.production.Production.TheVariants.{TranslationUnit, External, ExtRest, ExtTail, FunBody, Declaration, DeclRest, InitDecl, Sassert, Specs, Main, Mod, Qual, Word, StructSpec, SuRest, Members, Member, MemRest, Mdecl, EnumSpec, EnRest, Enumerators, Enumerator, Declarator, Pointer, Direct, Suffix, Bound, Params, Param, Pdecl, Pdirect, TypeName, Adecl, Adirect, Init, InitList, InitItem, Designator, Expr, Assign, Asgop, Cond, Lor, Land, Bor, Bxor, Band, Equal, Relate, Shift, Add, Mul, Cast, CastRest, Unary, SizeRest, SizeLit, Primary, Post, Args, Block, BlockItem, Statement, Sub, ForInit, AutoDecl, Attr, AttrItem, AttrWord, AsmName, Operand, Association, MemberPath, AsmPart, AsmOperand}
 use Rattle.c99_grammar.specs.declared.classes.Class.{Class}
 use Rattle.c99_grammar.specs.declared.classes.Class.TheVariants.{Comma, Semicolon, Colon, StaticAssert, Noreturn, Typedef, Extern, Static, Auto, Register, Inline, LeftParen, Star, Identifier, TypedefName}
 use Rattle.c99_grammar.specs.Classes.{is_same, among}
@@ -14,7 +14,7 @@ use Rattle.c99_grammar.specs.Items.{Item, part, ◌·◌, many, tok, own}
 use Rattle.c99_read.specs.Sound.{is_met}
 use Rattle.c99_read.specs.State.{State, class_at, opened, closed}
 use Rattle.c99_read.specs.Reading.{Stop, syntax, Goal, produce, repeat, Step, and_then, may, step, alternative, pick, read_within, whole, steps_for, tree_of, at_first}
-use Rattle.c99_read.proofs.C99Sound.{grammar-sound}
+use Rattle.c99_read.proofs.C99Sound.{iso-sound}
 use Rattle.c99_read.proofs.Suffices.{whole-runs}
 use Rattle.tree_laws.specs.Narrowed.{number, is_member, is_line, is_rest, narrowed, narrowed_node, has_no_added_word, TextsOfC99AreReadByC11}
 use Rattle.tree_laws.proofs.StandardClasses.{c99, c11, fine, class_fine, part_fits, fits}
@@ -112,7 +112,7 @@ module _ (toks : List Token) (plain : has_no_added_word toks ≡ true) (strict :
     specs_one : (depth : ℕ) (s x : State) → s.built.under ≡ none → whole c11 depth (produce Specs) s ≡ Ok x → One x.built.under
     specs_one depth s x e is =
         closed_specs s x (may c11 own (many own (part Mod) · part Main) s) (step c11 (whole c11) depth (many own (part Mod) · part Main) (opened Specs 1 s))
-        (syntax s.at) e (sym (whole-runs c11 (grammar-sound C11) depth (produce Specs) s refl) ∙ is)
+        (syntax s.at) e (sym (whole-runs c11 (iso-sound C11) depth (produce Specs) s refl) ∙ is)
 
     module _ (c : Context) (depth : ℕ) (s : State) (lines : c.lines ≡ true) (holder : only c.wide.production Member ≡ true) (at : At toks plain strict c s) where
       taken_line : (y : State) → At toks plain strict (in_line s.at) y → One y.built.under
@@ -134,7 +134,7 @@ module _ (toks : List Token) (plain : has_no_added_word toks ≡ true) (strict :
         | inl begins ↦
             subst
             (λ r. Sim toks plain strict c (and_then (step c99 below depth members_item (seen (in_line s.at) y)) (λ x. Ok (closed Member (seen c s) x))) (and_then r (λ x. Ok (closed Member s x))))
-            (sym (whole-runs c11 (grammar-sound C11) depth (produce MemRest) y refl
+            (sym (whole-runs c11 (iso-sound C11) depth (produce MemRest) y refl
             ∙ (cond-false (may c11 own (tok Semicolon) y) _ _ (no_semicolon (class_at c11 y y.at) (class_at c11 y (y.at + 1)) begins)
             ∙ cond-true (may c11 own members_item y) _ _ begins)))
             (taken_line y at_y one)
@@ -248,6 +248,16 @@ module _ (toks : List Token) (plain : has_no_added_word toks ≡ true) (strict :
     sim_row Statement c depth s h at = sim_pick toks plain strict below same c Statement (table Statement C99) depth 1 s (λ m. shared_numbers c Statement m refl refl refl (stands_of c.lines c.wide.production Statement h)) refl at
     sim_row Sub c depth s h at = sim_pick toks plain strict below same c Sub (table Sub C99) depth 1 s (λ m. shared_numbers c Sub m refl refl refl (stands_of c.lines c.wide.production Sub h)) refl at
     sim_row ForInit c depth s h at = sim_pick toks plain strict below same c ForInit (table ForInit C99) depth 1 s (λ m. shared_numbers c ForInit m refl refl refl (stands_of c.lines c.wide.production ForInit h)) refl at
+    sim_row AutoDecl c depth s h at = sim_pick toks plain strict below same c AutoDecl (table AutoDecl C99) depth 1 s (λ m. shared_numbers c AutoDecl m refl refl refl (stands_of c.lines c.wide.production AutoDecl h)) refl at
+    sim_row Attr c depth s h at = sim_pick toks plain strict below same c Attr (table Attr C99) depth 1 s (λ m. shared_numbers c Attr m refl refl refl (stands_of c.lines c.wide.production Attr h)) refl at
+    sim_row AttrItem c depth s h at = sim_pick toks plain strict below same c AttrItem (table AttrItem C99) depth 1 s (λ m. shared_numbers c AttrItem m refl refl refl (stands_of c.lines c.wide.production AttrItem h)) refl at
+    sim_row AttrWord c depth s h at = sim_pick toks plain strict below same c AttrWord (table AttrWord C99) depth 1 s (λ m. shared_numbers c AttrWord m refl refl refl (stands_of c.lines c.wide.production AttrWord h)) refl at
+    sim_row AsmName c depth s h at = sim_pick toks plain strict below same c AsmName (table AsmName C99) depth 1 s (λ m. shared_numbers c AsmName m refl refl refl (stands_of c.lines c.wide.production AsmName h)) refl at
+    sim_row Operand c depth s h at = sim_pick toks plain strict below same c Operand (table Operand C99) depth 1 s (λ m. shared_numbers c Operand m refl refl refl (stands_of c.lines c.wide.production Operand h)) refl at
+    sim_row Association c depth s h at = sim_pick toks plain strict below same c Association (table Association C99) depth 1 s (λ m. shared_numbers c Association m refl refl refl (stands_of c.lines c.wide.production Association h)) refl at
+    sim_row MemberPath c depth s h at = sim_pick toks plain strict below same c MemberPath (table MemberPath C99) depth 1 s (λ m. shared_numbers c MemberPath m refl refl refl (stands_of c.lines c.wide.production MemberPath h)) refl at
+    sim_row AsmPart c depth s h at = sim_pick toks plain strict below same c AsmPart (table AsmPart C99) depth 1 s (λ m. shared_numbers c AsmPart m refl refl refl (stands_of c.lines c.wide.production AsmPart h)) refl at
+    sim_row AsmOperand c depth s h at = sim_pick toks plain strict below same c AsmOperand (table AsmOperand C99) depth 1 s (λ m. shared_numbers c AsmOperand m refl refl refl (stands_of c.lines c.wide.production AsmOperand h)) refl at
 
 module _ (toks : List Token) (plain : has_no_added_word toks ≡ true) (strict : Bool) where
   pub sim_within : (fuel : ℕ) (c : Context) (depth : ℕ) (goal : Goal) (s : State) → goal_fits toks plain strict c goal ≡ true → At toks plain strict c s
@@ -255,10 +265,10 @@ module _ (toks : List Token) (plain : has_no_added_word toks ≡ true) (strict :
   unfolding read_within
   sim_within zero c depth goal s h at = tt
   sim_within (suc fuel) c depth (produce p) s h at =
-      same_run c toks plain strict _ _ _ (whole-runs c11 (grammar-sound C11) depth (produce p) s refl)
+      same_run c toks plain strict _ _ _ (whole-runs c11 (iso-sound C11) depth (produce p) s refl)
       (sim_row toks plain strict (read_within c99 fuel) (sim_within fuel) (refused_within fuel) p c depth s h at)
   sim_within (suc fuel) c depth (repeat t a) s h at =
-      same_run c toks plain strict _ _ _ (whole-runs c11 (grammar-sound C11) depth (repeat t a) s ((and_parts (is_met (repeat t a)) _ h).0))
+      same_run c toks plain strict _ _ _ (whole-runs c11 (iso-sound C11) depth (repeat t a) s ((and_parts (is_met (repeat t a)) _ h).0))
       (sim_step toks plain strict (read_within c99 fuel) (sim_within fuel) c (many t a) depth s h at)
 
   abbrev pub start : Context

@@ -1,7 +1,7 @@
 -- Which productions declare and which begin scopes, and what may stand in them.
 use Rattle.std.proofs.Common.{ℕ, ◌+◌, ◌%◌, ◌≡◌, Bool, true, false, ◌&&◌, ◌||◌, not, if◌then◌else◌, ◌==◌, List, Option, refl, sym, ap, ◌∙◌}
 use Rattle.std.proofs.lemmas.Bool.{false≢true, and_parts, not-true}
-use Rattle.c99_grammar.specs.declared.dialects.Dialect.{Dialect}
+use Rattle.c99_grammar.specs.declared.dialects.Edition.{Edition}
 use Rattle.cs_base.specs.Token.{Token}
 use Rattle.c99_tree.specs.Tree.{Forest, none, token, node, leaf, inner, Node, put}
 use Rattle.c99_tree.specs.declared.production.Label.{Label}
@@ -9,7 +9,7 @@ use Rattle.c99_tree.specs.declared.production.Production.{Production}
 use Rattle.c99_tree.specs.declared.production.Production.TheVariants.{ExtRest, FunBody, InitDecl, Specs, Main, Mod, Enumerator, Declarator, Direct, Suffix, Params, Param, Pdecl, Pdirect, Primary, Block, Statement, Sub, Expr, Assign, Cond, Lor, Land, Bor, Bxor, Band, Equal, Relate, Shift, Add, Mul, Cast, Unary}
 use Rattle.c99_grammar.specs.Items.{Item, one, part, end_of_text, act, ◌·◌, choice, maybe, many, deep}
 use Rattle.c99_tree.specs.contracts.production.ProductionPartialEq.TheImpl.{ghosts}
-use Rattle.c99_grammar.specs.Standard.{grammar}
+use Rattle.c99_grammar.specs.Standard.{iso}
 use Rattle.c99_read.specs.State.{base_at, is_identifier, collapses, nearest, is_mod, is_main, is_specs, is_typedef_part, typedef_word_in, has_typedef}
 use Rattle.scope_bind.specs.Named.{Scope}
 use Rattle.c_types.specs.Trees.{is_at, is_node, has_node, has_mod, last_token}
@@ -371,7 +371,7 @@ held_told InitDecl q h = tame_told q h
 held_told ExtRest q h = tame_told q h
 held_told p q h = either_told (collapses p) (is_tame q) (is_bodiless q) (tame_told q) h
 
-module _ (std : Dialect) where
+module _ (std : Edition) where
   -- ---- Tokens
 
   pub quiet_token : (toks : List Token) (p : Production) (a k i : ℕ) (es : List Entry) → is_quiet p a ≡ true → token_agrees std toks p a k i es ≡ true
@@ -383,4 +383,4 @@ module _ (std : Dialect) where
   pub plain_named : (toks : List Token) (p : Production) (n first : ℕ) (es : List Entry) → (is_at (labelled p n) Pdirect 2) ≡ false
       → node_agrees std toks (labelled p n) first es ≡ true
   plain_named toks p n first es h =
-      ap (λ c. if c then not (is_identifier (base_at (grammar std) toks (first + 1))) || not (typedef_among std toks (first + 1) es) else true) h
+      ap (λ c. if c then not (is_identifier (base_at (iso std) toks (first + 1))) || not (typedef_among std toks (first + 1) es) else true) h

@@ -1,12 +1,12 @@
 -- Nodes that are scopes: blocks, parameter lists, statements and substatements (6.2.1 paragraph 4).
 use Rattle.std.proofs.Common.{ℕ, ◌+◌, ◌<◌, ◌≤◌, ◌≡◌, true, List, [], ◌∷◌, length, inl, inr, refl, sym, ap, subst, ◌∙◌, arith}
-use Rattle.c99_grammar.specs.declared.dialects.Dialect.{Dialect}
+use Rattle.c99_grammar.specs.declared.dialects.Edition.{Edition}
 use Rattle.cs_base.specs.Token.{Token}
 use Rattle.c99_tree.specs.Tree.{Forest, leaf, put}
 use Rattle.c99_tree.specs.declared.production.Label.{Label}
 use Rattle.c99_tree.specs.declared.production.Production.{Production}
 use Rattle.c99_grammar.specs.Items.{scope, end}
-use Rattle.c99_grammar.specs.Standard.{grammar}
+use Rattle.c99_grammar.specs.Standard.{iso}
 use Rattle.c99_read.specs.State.{State, Names, with_scope_ended, acted, opened}
 use Rattle.scope_bind.specs.Named.{Scope}
 use Rattle.c_types.specs.Trees.{last_token}
@@ -29,10 +29,10 @@ ended_scopes names (a ∷ outer) (s ∷ x) op same = ap (λ y. (with_scope_ended
 abbrev pub renamed_to : State → Names → State
 renamed_to s names = record s { names = names }
 
-module _ (std : Dialect) where
+module _ (std : Edition) where
   module _ (toks : List Token) where
     -- a scope begins in the open node
-    pub scope_fits : (l : Label) (s : State) (to : ℕ) (ends : List ℕ) (o : Outline) → Fits std toks l s ends o → Fits std toks l (acted (grammar std) scope s) (to ∷ ends) o
+    pub scope_fits : (l : Label) (s : State) (to : ℕ) (ends : List ℕ) (o : Outline) → Fits std toks l s ends o → Fits std toks l (acted (iso std) scope s) (to ∷ ends) o
     unfolding acted
     scope_fits l s to ends o f = record {
       text = f.text;
@@ -61,23 +61,23 @@ module _ (std : Dialect) where
       opens = subst IsOpen (sym e) op;
     }
 
-    pub scoped_scopes : (s : State) → (acted (grammar std) scope s).names.scopes ≡ [] ∷ s.names.scopes
+    pub scoped_scopes : (s : State) → (acted (iso std) scope s).names.scopes ≡ [] ∷ s.names.scopes
     unfolding acted
     scoped_scopes s = refl
 
-    pub scoped_in : (l : Label) (first : ℕ) (s : State) → IsIn l first s → IsIn l first (acted (grammar std) scope s)
+    pub scoped_in : (l : Label) (first : ℕ) (s : State) → IsIn l first s → IsIn l first (acted (iso std) scope s)
     unfolding acted
     scoped_in l first s i = record { label = i.label; begins = i.begins }
 
-    pub scoped_at : (s : State) → (acted (grammar std) scope s).at ≡ s.at
+    pub scoped_at : (s : State) → (acted (iso std) scope s).at ≡ s.at
     unfolding acted
     scoped_at s = refl
 
-    pub scoped_toks : (s : State) → (acted (grammar std) scope s).toks ≡ s.toks
+    pub scoped_toks : (s : State) → (acted (iso std) scope s).toks ≡ s.toks
     unfolding acted
     scoped_toks s = refl
 
-    scoped_under : (s : State) → (acted (grammar std) scope s).built.under ≡ s.built.under
+    scoped_under : (s : State) → (acted (iso std) scope s).built.under ≡ s.built.under
     unfolding acted
     scoped_under s = refl
 
@@ -91,7 +91,7 @@ module _ (std : Dialect) where
     -- ---- A scope between two tokens
 
     module _ (p : Production) (n : ℕ) (s s' : State) (names : Names) (quiet : is_quiet p n ≡ true)
-        (g : Goes std toks (labelled p n) s.at (acted (grammar std) scope (with_token (opened p n s))) s')
+        (g : Goes std toks (labelled p n) s.at (acted (iso std) scope (with_token (opened p n s))) s')
         (back : IsOpen s.names.scopes → names.scopes ≡ s.names.scopes) (more : s'.at < length s.toks)
         (is_scope : IsScope p n (put s'.built.under (leaf s'.at)) s'.at) where
       abbrev last_state : State
@@ -100,7 +100,7 @@ module _ (std : Dialect) where
       abbrev under : Forest
       under = put s'.built.under (leaf s'.at)
 
-      begun_scopes : (acted (grammar std) scope (with_token (opened p n s))).names.scopes ≡ [] ∷ s.names.scopes
+      begun_scopes : (acted (iso std) scope (with_token (opened p n s))).names.scopes ≡ [] ∷ s.names.scopes
       unfolding opened
       begun_scopes = scoped_scopes (with_token (opened p n s)) ∙ ap (λ x. [] ∷ x) (opened_scopes std toks p s.names)
 
@@ -147,9 +147,9 @@ module _ (std : Dialect) where
     -- ---- A scope that is the whole node
 
     module _ (p : Production) (n : ℕ) (s s' : State)
-        (g : Goes std toks (labelled p n) s.at (acted (grammar std) scope (opened p n s)) s') (grows : s.at < s'.at)
+        (g : Goes std toks (labelled p n) s.at (acted (iso std) scope (opened p n s)) s') (grows : s.at < s'.at)
         (is_scope : IsScope p n s'.built.under (last_token s'.built.under 0 + 1)) where
-      whole_scopes : (acted (grammar std) scope (opened p n s)).names.scopes ≡ [] ∷ s.names.scopes
+      whole_scopes : (acted (iso std) scope (opened p n s)).names.scopes ≡ [] ∷ s.names.scopes
       unfolding opened
       whole_scopes = scoped_scopes (opened p n s) ∙ ap (λ x. [] ∷ x) (opened_scopes std toks p s.names)
 
@@ -159,7 +159,7 @@ module _ (std : Dialect) where
       whole_back : IsOpen s.names.scopes → (with_scope_ended s'.names s'.names.scopes).scopes ≡ s.names.scopes
       whole_back op = ended_scopes s'.names s.names.scopes s'.names.scopes op whole_outer
 
-      opened_under : EndsAt s.at (acted (grammar std) scope (opened p n s)).built.under (acted (grammar std) scope (opened p n s)).at
+      opened_under : EndsAt s.at (acted (iso std) scope (opened p n s)).built.under (acted (iso std) scope (opened p n s)).at
       unfolding acted opened
       opened_under = ends_none s.at
 
@@ -169,7 +169,7 @@ module _ (std : Dialect) where
 
       whole_fits : (o : Outline) (ends : List ℕ) → s.toks ≡ toks → IsOpen s.names.scopes → Within s'.at s.names.scopes ends
           → Matches s.at s.names.scopes ends o.entries → o.typedef ≡ s.near
-          → Fits std toks (labelled p n) (acted (grammar std) end s') ends (begun (labelled p n) s.at s'.built.under o)
+          → Fits std toks (labelled p n) (acted (iso std) end s') ends (begun (labelled p n) s.at s'.built.under o)
       unfolding acted
       whole_fits o ends t op w m near =
           let o' : Outline = begun (labelled p n) s.at s'.built.under o in
@@ -178,7 +178,7 @@ module _ (std : Dialect) where
           let f3 = g.fits o' (o'.scope.to ∷ ends) (bounds_inner s'.at o'.scope.to s.names.scopes s'.names.scopes ends whole_outer (omega arith) w) f2 in
           end_fits (labelled p n) s' o'.scope.to ends o' s.names.scopes (with_scope_ended s'.names s'.names.scopes) op whole_outer (omega arith) (whole_back op) f3
 
-      pub whole_body : Body std toks p n s (acted (grammar std) end s')
+      pub whole_body : Body std toks p n s (acted (iso std) end s')
       unfolding opened acted
       whole_body = record {
         same_text = g.same_text;

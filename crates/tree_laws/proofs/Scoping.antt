@@ -1,14 +1,14 @@
 -- Reading nodes that are scopes.
 use Rattle.std.proofs.Common.{ℕ, ◌+◌, ◌<◌, ◌≡◌, Bool, true, false, ◌&&◌, if◌then◌else◌, List, [], ◌∷◌, length, Ok, Err, refl, sym, ap, subst, ◌∙◌, arith}
 use Rattle.std.proofs.lemmas.Bool.{false≢true, and_parts}
-use Rattle.c99_grammar.specs.declared.dialects.Dialect.{Dialect}
+use Rattle.c99_grammar.specs.declared.dialects.Edition.{Edition}
 use Rattle.cs_base.specs.Token.{Token}
 use Rattle.c99_tree.specs.Tree.{Forest, leaf, put}
 use Rattle.c99_tree.specs.declared.production.Label.{Label}
 use Rattle.c99_tree.specs.declared.production.Production.{Production}
 use Rattle.c99_tree.specs.declared.production.Production.TheVariants.{Suffix, Block, Statement, Sub}
 use Rattle.c99_grammar.specs.Items.{Item, one, part, end_of_text, act, ◌·◌, choice, maybe, many, deep, scope, end, declare, name, keep, again}
-use Rattle.c99_grammar.specs.Standard.{grammar}
+use Rattle.c99_grammar.specs.Standard.{iso}
 use Rattle.c99_read.specs.Sound.{has_token, is_low, is_met, goal_has_token}
 use Rattle.c99_read.specs.State.{State, with_scope_ended, acted, opened}
 use Rattle.c99_read.specs.Reading.{Goal, Step, and_then, take_one, step}
@@ -41,7 +41,7 @@ abbrev pub whole_fine : Label → Item → Bool
 whole_fine l (act scope · rest) = ends_fine l rest && (has_token rest && is_low 64 rest)
 whole_fine l _ = false
 
-module _ (std : Dialect) where
+module _ (std : Edition) where
   module _ (toks : List Token) where
     -- ---- Blocks (6.8.2) and parameter lists (6.7.5.3)
 
@@ -67,58 +67,58 @@ module _ (std : Dialect) where
     module _ (below : ℕ → Goal → State → Step) (reads : Reads std toks below) (depth : ℕ) (s : State) where
       -- the items between the tokens, in the scope
       bracket_step : (p : Production) (n : ℕ) (left : List Class) (middle rest : Item) → fine (labelled p n) middle ≡ true
-          → ((s' : State) → Goes std toks (labelled p n) s.at (acted (grammar std) scope (with_token (opened p n s))) s' → After (Body std toks p n s) (step (grammar std) below depth rest s'))
-          → After (Body std toks p n s) (step (grammar std) below depth (one left · (act scope · (middle · rest))) (opened p n s))
+          → ((s' : State) → Goes std toks (labelled p n) s.at (acted (iso std) scope (with_token (opened p n s))) s' → After (Body std toks p n s) (step (iso std) below depth rest s'))
+          → After (Body std toks p n s) (step (iso std) below depth (one left · (act scope · (middle · rest))) (opened p n s))
       bracket_step p n left middle rest h last =
-          by (take_one (grammar std) left (opened p n s)) (taken std (λ s'. s' ≡ with_token (opened p n s)) left (opened p n s) (λ c more. refl))
+          by (take_one (iso std) left (opened p n s)) (taken std (λ s'. s' ≡ with_token (opened p n s)) left (opened p n s) (λ c more. refl))
         where
-          onward : (r : Step) → After (Goes std toks (labelled p n) s.at (acted (grammar std) scope (with_token (opened p n s)))) r
-              → After (Body std toks p n s) (and_then r (step (grammar std) below depth rest))
+          onward : (r : Step) → After (Goes std toks (labelled p n) s.at (acted (iso std) scope (with_token (opened p n s)))) r
+              → After (Body std toks p n s) (and_then r (step (iso std) below depth rest))
           onward (Err stop) m = tt
           onward (Ok s') m = last s' m
 
           by : (r : Step) → After (λ s'. s' ≡ with_token (opened p n s)) r
-              → After (Body std toks p n s) (and_then r (step (grammar std) below depth (act scope · (middle · rest))))
+              → After (Body std toks p n s) (and_then r (step (iso std) below depth (act scope · (middle · rest))))
           by (Err stop) m = tt
           by (Ok s1) m =
-              subst (λ x. After (Body std toks p n s) (step (grammar std) below depth (act scope · (middle · rest)) x)) (sym m)
-              (onward (step (grammar std) below depth middle (acted (grammar std) scope (with_token (opened p n s))))
-              (goes_step std toks below reads middle (labelled p n) s.at depth (acted (grammar std) scope (with_token (opened p n s))) h
+              subst (λ x. After (Body std toks p n s) (step (iso std) below depth (act scope · (middle · rest)) x)) (sym m)
+              (onward (step (iso std) below depth middle (acted (iso std) scope (with_token (opened p n s))))
+              (goes_step std toks below reads middle (labelled p n) s.at depth (acted (iso std) scope (with_token (opened p n s))) h
               (scoped_in std toks (labelled p n) s.at (with_token (opened p n s)) (with_token_in (labelled p n) s.at (opened p n s) (opened_in std toks p n s)))))
 
-      inner_outer : (p : Production) (n : ℕ) (s' : State) → Goes std toks (labelled p n) s.at (acted (grammar std) scope (with_token (opened p n s))) s'
+      inner_outer : (p : Production) (n : ℕ) (s' : State) → Goes std toks (labelled p n) s.at (acted (iso std) scope (with_token (opened p n s))) s'
           → SameOuter ([] ∷ s.names.scopes) s'.names.scopes
       unfolding opened
       inner_outer p n s' g =
           subst (λ x. SameOuter x s'.names.scopes) (scoped_scopes std toks (with_token (opened p n s)) ∙ ap (λ x. [] ∷ x) (opened_scopes std toks p s.names)) g.outer
 
-      in_text : (p : Production) (n : ℕ) (s' : State) → Goes std toks (labelled p n) s.at (acted (grammar std) scope (with_token (opened p n s))) s'
+      in_text : (p : Production) (n : ℕ) (s' : State) → Goes std toks (labelled p n) s.at (acted (iso std) scope (with_token (opened p n s))) s'
           → s'.at < length s'.toks → s'.at < length s.toks
       unfolding acted opened
       in_text p n s' g h = subst (λ t. s'.at < length t) g.same_text h
 
-      block_end : (right : List Class) (s' : State) → Goes std toks (labelled Block 1) s.at (acted (grammar std) scope (with_token (opened Block 1 s))) s'
-          → After (Body std toks Block 1 s) (take_one (grammar std) right (acted (grammar std) end s'))
+      block_end : (right : List Class) (s' : State) → Goes std toks (labelled Block 1) s.at (acted (iso std) scope (with_token (opened Block 1 s))) s'
+          → After (Body std toks Block 1 s) (take_one (iso std) right (acted (iso std) end s'))
       unfolding acted
       block_end right s' g =
-          (taken std) (Body std toks Block 1 s) right (acted (grammar std) end s')
+          (taken std) (Body std toks Block 1 s) right (acted (iso std) end s')
           (λ c more. bracket_body std toks Block 1 s s' (with_scope_ended s'.names s'.names.scopes) refl g
           (λ op. ended_scopes s'.names s.names.scopes s'.names.scopes op (inner_outer Block 1 s' g)) (in_text Block 1 s' g more) (block_scope s'.built.under s'.at))
 
       pub block_body : (left right : List Class) (middle : Item) → fine (labelled Block 1) middle ≡ true
-          → After (Body std toks Block 1 s) (step (grammar std) below depth (one left · (act scope · (middle · (act end · one right)))) (opened Block 1 s))
+          → After (Body std toks Block 1 s) (step (iso std) below depth (one left · (act scope · (middle · (act end · one right)))) (opened Block 1 s))
       block_body left right middle h = bracket_step Block 1 left middle (act end · one right) h (λ s' g. block_end right s' g)
 
-      list_end : (right : List Class) (s' : State) → Goes std toks (labelled Suffix 2) s.at (acted (grammar std) scope (with_token (opened Suffix 2 s))) s'
-          → After (Body std toks Suffix 2 s) (take_one (grammar std) right (acted (grammar std) keep (acted (grammar std) end s')))
+      list_end : (right : List Class) (s' : State) → Goes std toks (labelled Suffix 2) s.at (acted (iso std) scope (with_token (opened Suffix 2 s))) s'
+          → After (Body std toks Suffix 2 s) (take_one (iso std) right (acted (iso std) keep (acted (iso std) end s')))
       unfolding acted
       list_end right s' g =
-          (taken std) (Body std toks Suffix 2 s) right (acted (grammar std) keep (acted (grammar std) end s'))
-          (λ c more. bracket_body std toks Suffix 2 s s' (acted (grammar std) keep (acted (grammar std) end s')).names refl g
+          (taken std) (Body std toks Suffix 2 s) right (acted (iso std) keep (acted (iso std) end s'))
+          (λ c more. bracket_body std toks Suffix 2 s s' (acted (iso std) keep (acted (iso std) end s')).names refl g
           (λ op. ended_scopes s'.names s.names.scopes s'.names.scopes op (inner_outer Suffix 2 s' g)) (in_text Suffix 2 s' g more) (list_scope s'.built.under s'.at))
 
       pub list_body : (left right : List Class) (middle : Item) → fine (labelled Suffix 2) middle ≡ true
-          → After (Body std toks Suffix 2 s) (step (grammar std) below depth (one left · (act scope · (middle · (act end · (act keep · one right))))) (opened Suffix 2 s))
+          → After (Body std toks Suffix 2 s) (step (iso std) below depth (one left · (act scope · (middle · (act end · (act keep · one right))))) (opened Suffix 2 s))
       list_body left right middle h = bracket_step Suffix 2 left middle (act end · (act keep · one right)) h (λ s' g. list_end right s' g)
 
     -- ---- Statements (6.8.4 and 6.8.5)
@@ -137,11 +137,11 @@ module _ (std : Dialect) where
     record Ended (l : Label) (first : ℕ) (s s' : State) : Type 0 where
       last_one : State
       goes : Goes std toks l first s last_one
-      same : s' ≡ acted (grammar std) end last_one
+      same : s' ≡ acted (iso std) end last_one
 
     module _ (below : ℕ → Goal → State → Step) (reads : Reads std toks below) where
       ended_step : (item : Item) (l : Label) (first depth : ℕ) (s : State) → ends_fine l item ≡ true → IsIn l first s
-          → After (Ended l first s) (step (grammar std) below depth item s)
+          → After (Ended l first s) (step (iso std) below depth item s)
       ended_step (act end) l first depth s h i = record { last_one = s; goes = goes_still std toks l first s; same = refl }
       ended_step (act scope) l first depth s h i = absurd (false≢true h)
       ended_step (act declare) l first depth s h i = absurd (false≢true h)
@@ -157,46 +157,46 @@ module _ (std : Dialect) where
       ended_step (deep a) l first depth s h i = absurd (false≢true h)
       ended_step (a · b) l first depth s h i =
           let both = and_parts (fine l a) (ends_fine l b) h in
-          by (λ s' i'. ended_step b l first depth s' both.1 i') (step (grammar std) below depth a s) (goes_step std toks below reads a l first depth s both.0 i)
+          by (λ s' i'. ended_step b l first depth s' both.1 i') (step (iso std) below depth a s) (goes_step std toks below reads a l first depth s both.0 i)
         where
           second : (s' : State) (r : Step) → Goes std toks l first s s' → After (Ended l first s') r → After (Ended l first s) r
           second s' (Err stop) g m = tt
           second s' (Ok s'') g m = record { last_one = m.last_one; goes = goes_further std toks l first s s' m.last_one g m.goes; same = m.same }
 
-          by : ((s' : State) → IsIn l first s' → After (Ended l first s') (step (grammar std) below depth b s')) → (r : Step) → After (Goes std toks l first s) r → After (Ended l first s) (and_then r (step (grammar std) below depth b))
+          by : ((s' : State) → IsIn l first s' → After (Ended l first s') (step (iso std) below depth b s')) → (r : Step) → After (Goes std toks l first s) r → After (Ended l first s) (and_then r (step (iso std) below depth b))
           by k (Err stop) m = tt
-          by k (Ok s') m = second s' (step (grammar std) below depth b s') m (k s' (m.inside i))
+          by k (Ok s') m = second s' (step (iso std) below depth b s') m (k s' (m.inside i))
 
       module _ (moves : (depth : ℕ) (goal : Goal) (s : State) → is_met goal ≡ true → Moves (goal_has_token goal) s (below depth goal s)) where
         grown : (s s' : State) → s'.toks ≡ s.toks → Moves true s (Ok s') → s.at < s'.at
         grown s s' e m = (let f = m.1 refl in let k = ap length e in omega arith)
 
-        end_at : (s : State) → ((acted (grammar std) end s).at ≡ s.at) × ((acted (grammar std) end s).toks ≡ s.toks)
+        end_at : (s : State) → ((acted (iso std) end s).at ≡ s.at) × ((acted (iso std) end s).toks ≡ s.toks)
         unfolding acted
         end_at s = (refl, refl)
 
-        begins_at : (p : Production) (n : ℕ) (s : State) → (acted (grammar std) scope (opened p n s)).at ≡ s.at
+        begins_at : (p : Production) (n : ℕ) (s : State) → (acted (iso std) scope (opened p n s)).at ≡ s.at
         unfolding acted opened
         begins_at p n s = refl
 
         pub whole_step : (p : Production) (n depth : ℕ) (body : Item) (s : State) → is_whole p n ≡ true → whole_fine (labelled p n) body ≡ true
-            → After (Body std toks p n s) (step (grammar std) below depth body (opened p n s))
+            → After (Body std toks p n s) (step (iso std) below depth body (opened p n s))
         whole_step p n depth (act scope · rest) s w h =
             let both = and_parts (ends_fine (labelled p n) rest) (has_token rest && is_low 64 rest) h in
             let more = and_parts (has_token rest) (is_low 64 rest) both.1 in
-            by (step (grammar std) below depth rest (acted (grammar std) scope (opened p n s)))
-            (ended_step rest (labelled p n) s.at depth (acted (grammar std) scope (opened p n s)) both.0 (scoped_in std toks (labelled p n) s.at (opened p n s) (opened_in std toks p n s)))
-            (subst (λ c. Moves c (acted (grammar std) scope (opened p n s)) (step (grammar std) below depth rest (acted (grammar std) scope (opened p n s)))) more.0
-            (Moves-step (grammar std) below moves rest depth 64 (acted (grammar std) scope (opened p n s)) more.1))
+            by (step (iso std) below depth rest (acted (iso std) scope (opened p n s)))
+            (ended_step rest (labelled p n) s.at depth (acted (iso std) scope (opened p n s)) both.0 (scoped_in std toks (labelled p n) s.at (opened p n s) (opened_in std toks p n s)))
+            (subst (λ c. Moves c (acted (iso std) scope (opened p n s)) (step (iso std) below depth rest (acted (iso std) scope (opened p n s)))) more.0
+            (Moves-step (iso std) below moves rest depth 64 (acted (iso std) scope (opened p n s)) more.1))
           where
-            by : (r : Step) → After (Ended (labelled p n) s.at (acted (grammar std) scope (opened p n s))) r → Moves true (acted (grammar std) scope (opened p n s)) r → After (Body std toks p n s) r
+            by : (r : Step) → After (Ended (labelled p n) s.at (acted (iso std) scope (opened p n s))) r → Moves true (acted (iso std) scope (opened p n s)) r → After (Body std toks p n s) r
             by (Err stop) m g = tt
             by (Ok s') m g =
                 let last_one : State = m.last_one in
-                let same : s' ≡ acted (grammar std) end last_one = m.same in
+                let same : s' ≡ acted (iso std) end last_one = m.same in
                 let at_end = end_at last_one in
-                let grows : (acted (grammar std) scope (opened p n s)).at < (acted (grammar std) end last_one).at =
-                grown (acted (grammar std) scope (opened p n s)) (acted (grammar std) end last_one) (at_end.1 ∙ m.goes.same_text) (subst (λ x. Moves true (acted (grammar std) scope (opened p n s)) (Ok x)) same g) in
+                let grows : (acted (iso std) scope (opened p n s)).at < (acted (iso std) end last_one).at =
+                grown (acted (iso std) scope (opened p n s)) (acted (iso std) end last_one) (at_end.1 ∙ m.goes.same_text) (subst (λ x. Moves true (acted (iso std) scope (opened p n s)) (Ok x)) same g) in
                 subst (Body std toks p n s) (sym same)
                 (whole_body std toks p n s last_one m.goes
                 (let e = begins_at p n s in let e' = at_end.0 in omega arith)

@@ -5,16 +5,16 @@ use Rattle.std.specs.Option.{option_map_or}
 use Rattle.std.specs.Str.{bytes_eq}
 use Rattle.std.proofs.lemmas.Bool.{and_parts, or_parts, not-true, false≢true, cond-false}
 use Rattle.cs_base.specs.Token.{Token}
-use Rattle.c99_grammar.specs.declared.dialects.Dialect.TheVariants.{C99, C11}
+use Rattle.c99_grammar.specs.declared.dialects.Edition.TheVariants.{C99, C11}
 use Rattle.cs_base.specs.declared.tokens.Kind.{Kind}
 use Rattle.cs_base.specs.declared.tokens.Kind.TheVariants as kind
 use Rattle.c99_tree.specs.declared.production.Production.{Production}
-use Rattle.c99_tree.specs.declared.production.Production.TheVariants.{TranslationUnit, External, ExtRest, ExtTail, FunBody, Declaration, DeclRest, InitDecl, Sassert, Specs, Main, Mod, Qual, Word, StructSpec, SuRest, Members, Member, MemRest, Mdecl, EnumSpec, EnRest, Enumerators, Enumerator, Declarator, Pointer, Direct, Suffix, Bound, Params, Param, Pdecl, Pdirect, TypeName, Adecl, Adirect, Init, InitList, InitItem, Designator, Expr, Assign, Asgop, Cond, Lor, Land, Bor, Bxor, Band, Equal, Relate, Shift, Add, Mul, Cast, CastRest, Unary, SizeRest, SizeLit, Primary, Post, Args, Block, BlockItem, Statement, Sub, ForInit}
+use Rattle.c99_tree.specs.declared.production.Production.TheVariants.{TranslationUnit, External, ExtRest, ExtTail, FunBody, Declaration, DeclRest, InitDecl, Sassert, Specs, Main, Mod, Qual, Word, StructSpec, SuRest, Members, Member, MemRest, Mdecl, EnumSpec, EnRest, Enumerators, Enumerator, Declarator, Pointer, Direct, Suffix, Bound, Params, Param, Pdecl, Pdirect, TypeName, Adecl, Adirect, Init, InitList, InitItem, Designator, Expr, Assign, Asgop, Cond, Lor, Land, Bor, Bxor, Band, Equal, Relate, Shift, Add, Mul, Cast, CastRest, Unary, SizeRest, SizeLit, Primary, Post, Args, Block, BlockItem, Statement, Sub, ForInit, AutoDecl, Attr, AttrItem, AttrWord, AsmName, Operand, Association, MemberPath, AsmPart, AsmOperand}
 use Rattle.c99_grammar.specs.declared.classes.Class.{Class}
 use Rattle.c99_grammar.specs.declared.classes.Class.TheVariants.{Noreturn, StaticAssert, Identifier, TypedefName, End, NoClass}
 use Rattle.c99_grammar.specs.Classes.{is_same, among}
 use Rattle.c99_grammar.specs.Spellings.{Spelled, keywords, keywords_added, punctuators}
-use Rattle.c99_grammar.specs.Standard.{Grammar, grammar}
+use Rattle.c99_grammar.specs.Standard.{Grammar, iso}
 use Rattle.c99_grammar.specs.First.{first, shared, added, by_c11}
 use Rattle.c99_grammar.specs.Items.{Item, one, part, end_of_text, act, ◌·◌, choice, maybe, many, deep, Test, own, otherwise, next, next_two, Ask, is, is_not, begins, either, Action, declare, name}
 use Rattle.c99_grammar.specs.Starting.{is_passed, production_starts, asks, holds, starts, is_pair}
@@ -28,10 +28,10 @@ use Rattle.tree_laws.specs.Narrowed.{is_member, has_no_added_word}
 use Rattle.tree_laws.proofs.Standing.{only}
 
 abbrev pub c99 : Grammar
-c99 = grammar C99
+c99 = iso C99
 
 abbrev pub c11 : Grammar
-c11 = grammar C11
+c11 = iso C11
 
 -- ---- Classes
 
@@ -191,6 +191,16 @@ module _ (c : Class) (h : fine c ≡ true) where
   added_none Statement n = refl
   added_none Sub n = refl
   added_none ForInit n = none_of_two
+  added_none AutoDecl n = refl
+  added_none Attr n = refl
+  added_none AttrItem n = refl
+  added_none AttrWord n = refl
+  added_none AsmName n = refl
+  added_none Operand n = refl
+  added_none Association n = refl
+  added_none MemberPath n = refl
+  added_none AsmPart n = refl
+  added_none AsmOperand n = refl
 
   first_same : (p : Production) → is_new p ≡ false → among (first p C99) c ≡ among (first p C11) c
   first_same p n =

@@ -5,7 +5,7 @@ use Rattle.cs_base.specs.Token.{Token}
 use Rattle.c99_tree.specs.Tree.{Forest, none, token, node, Node, node_of, Part, leaf, inner, put, lone, collapsed}
 use Rattle.c99_tree.specs.declared.production.Label.{Label}
 use Rattle.c99_tree.specs.declared.production.Production.{Production}
-use Rattle.c99_tree.specs.declared.production.Production.TheVariants.{TranslationUnit, External, ExtRest, ExtTail, FunBody, Declaration, DeclRest, InitDecl, Sassert, Specs, Main, Mod, Qual, Word, StructSpec, SuRest, Members, Member, MemRest, Mdecl, EnumSpec, EnRest, Enumerators, Enumerator, Declarator, Pointer, Direct, Suffix, Bound, Params, Param, Pdecl, Pdirect, TypeName, Adecl, Adirect, Init, InitList, InitItem, Designator, Expr, Assign, Asgop, Cond, Lor, Land, Bor, Bxor, Band, Equal, Relate, Shift, Add, Mul, Cast, CastRest, Unary, SizeRest, SizeLit, Primary, Post, Args, Block, BlockItem, Statement, Sub, ForInit}
+use Rattle.c99_tree.specs.declared.production.Production.TheVariants.{TranslationUnit, External, ExtRest, ExtTail, FunBody, Declaration, DeclRest, InitDecl, Sassert, Specs, Main, Mod, Qual, Word, StructSpec, SuRest, Members, Member, MemRest, Mdecl, EnumSpec, EnRest, Enumerators, Enumerator, Declarator, Pointer, Direct, Suffix, Bound, Params, Param, Pdecl, Pdirect, TypeName, Adecl, Adirect, Init, InitList, InitItem, Designator, Expr, Assign, Asgop, Cond, Lor, Land, Bor, Bxor, Band, Equal, Relate, Shift, Add, Mul, Cast, CastRest, Unary, SizeRest, SizeLit, Primary, Post, Args, Block, BlockItem, Statement, Sub, ForInit, AutoDecl, Attr, AttrItem, AttrWord, AsmName, Operand, Association, MemberPath, AsmPart, AsmOperand}
 use Rattle.c99_read.specs.State.{base_at, is_identifier, is_declaring, is_direct, has_name, name_below, last_declared, last_identifier, is_mod, is_main, is_typedef_word, is_typedef_part, typedef_word_in, has_typedef, collapses, finished}
 use Rattle.tree_laws.specs.Narrowed.{number, renumbered, is_member, is_line, spread_if, narrowed, narrowed_node}
 use Rattle.tree_laws.proofs.Standing.{is_members, only, wide_open}
@@ -146,6 +146,16 @@ has_name-same BlockItem n = refl
 has_name-same Statement n = refl
 has_name-same Sub n = refl
 has_name-same ForInit n = refl
+has_name-same AutoDecl n = refl
+has_name-same Attr n = refl
+has_name-same AttrItem n = refl
+has_name-same AttrWord n = refl
+has_name-same AsmName n = refl
+has_name-same Operand n = refl
+has_name-same Association n = refl
+has_name-same MemberPath n = refl
+has_name-same AsmPart n = refl
+has_name-same AsmOperand n = refl
 
 declaring_no_member : (p : Production) → is_declaring p ≡ true → is_member p ≡ false
 declaring_no_member TranslationUnit e = refl
@@ -215,6 +225,16 @@ declaring_no_member BlockItem e = refl
 declaring_no_member Statement e = refl
 declaring_no_member Sub e = refl
 declaring_no_member ForInit e = refl
+declaring_no_member AutoDecl e = refl
+declaring_no_member Attr e = refl
+declaring_no_member AttrItem e = refl
+declaring_no_member AttrWord e = refl
+declaring_no_member AsmName e = refl
+declaring_no_member Operand e = refl
+declaring_no_member Association e = refl
+declaring_no_member MemberPath e = refl
+declaring_no_member AsmPart e = refl
+declaring_no_member AsmOperand e = refl
 
 pub name_below-same : (l : Label) (f : Forest) → name_below (renumbered l) (narrowed f) ≡ name_below l f
 name_below-same l none = refl
@@ -323,6 +343,16 @@ word-same BlockItem n = refl
 word-same Statement n = refl
 word-same Sub n = refl
 word-same ForInit n = refl
+word-same AutoDecl n = refl
+word-same Attr n = refl
+word-same AttrItem n = refl
+word-same AttrWord n = refl
+word-same AsmName n = refl
+word-same Operand n = refl
+word-same Association n = refl
+word-same MemberPath n = refl
+word-same AsmPart n = refl
+word-same AsmOperand n = refl
 
 main_no_member : (p : Production) → is_main p ≡ true → is_member p ≡ false
 main_no_member TranslationUnit e = refl
@@ -392,6 +422,16 @@ main_no_member BlockItem e = refl
 main_no_member Statement e = refl
 main_no_member Sub e = refl
 main_no_member ForInit e = refl
+main_no_member AutoDecl e = refl
+main_no_member Attr e = refl
+main_no_member AttrItem e = refl
+main_no_member AttrWord e = refl
+main_no_member AsmName e = refl
+main_no_member Operand e = refl
+main_no_member Association e = refl
+main_no_member MemberPath e = refl
+main_no_member AsmPart e = refl
+main_no_member AsmOperand e = refl
 
 typedef_word_in-same : (f : Forest) → typedef_word_in (narrowed f) ≡ typedef_word_in f
 typedef_word_in-same none = refl
@@ -497,6 +537,16 @@ collapsing_no_members BlockItem e = refl
 collapsing_no_members Statement e = refl
 collapsing_no_members Sub e = refl
 collapsing_no_members ForInit e = refl
+collapsing_no_members AutoDecl e = refl
+collapsing_no_members Attr e = refl
+collapsing_no_members AttrItem e = refl
+collapsing_no_members AttrWord e = refl
+collapsing_no_members AsmName e = refl
+collapsing_no_members Operand e = refl
+collapsing_no_members Association e = refl
+collapsing_no_members MemberPath e = refl
+collapsing_no_members AsmPart e = refl
+collapsing_no_members AsmOperand e = refl
 
 -- a node of another production is finished as one of no line of members
 pub finished-member : (p : Production) (n : Node) → (is_members p ≡ false → has_member n.under ≡ false) → is_member n.label.production ≡ false

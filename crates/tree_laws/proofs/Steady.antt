@@ -2,12 +2,12 @@
 use Rattle.std.proofs.Common.{ℕ, ◌+◌, ◌-◌, ◌<◌, ◌≤◌, ◌≡◌, Bool, true, false, ◌&&◌, if◌then◌else◌, ◌==◌, List, [], ◌∷◌, length, take, Option, None, Some, unwrap_or, inl, inr, ◌⊎◌, refl, sym, ap, subst, ◌∙◌, arith}
 use Rattle.std.proofs.lemmas.Bool.{and_left, ne_eqb}
 use Rattle.std.proofs.lemmas.List.{length-append, length-take-le}
-use Rattle.c99_grammar.specs.declared.dialects.Dialect.{Dialect}
+use Rattle.c99_grammar.specs.declared.dialects.Edition.{Edition}
 use Rattle.c99_tree.specs.Tree.{Forest, none, token, node, Node, leaf, inner, put, lone, collapsed}
 use Rattle.c99_tree.specs.declared.production.Label.{Label}
 use Rattle.c99_tree.specs.declared.production.Production.{Production}
 use Rattle.c99_grammar.specs.Items.{Action, scope, end, declare, name, keep, again}
-use Rattle.c99_grammar.specs.Standard.{grammar}
+use Rattle.c99_grammar.specs.Standard.{iso}
 use Rattle.c99_read.specs.State.{State, Names, Head, given_names, last_declared, last_identifier, with_declared, with_scope_ended, is_declarator, with_head, head_closed, names_closed, collapses, finished, names_after, acted, opened, closed}
 use Rattle.c99_read.specs.Reading.{Goal, read_within}
 use Rattle.tree_laws.proofs.Walked.{kept_anywhere}
@@ -163,22 +163,22 @@ past_inside b l first under o w h past list e =
     (ends_here o.scope.depth b l.production l under w h o.scope (inl refl))
     ∙ past list e
 
-module _ (std : Dialect) where
-  acted_heads : (a : Action) (s : State) → length (names_after (grammar std) a s).heads ≡ length s.names.heads
+module _ (std : Edition) where
+  acted_heads : (a : Action) (s : State) → length (names_after (iso std) a s).heads ≡ length s.names.heads
   acted_heads scope s = refl
   acted_heads end s = ap length (ended_heads s.names s.names.scopes)
   acted_heads declare s = ap length (declared_heads s.names (last_declared s.built.under) s.near)
-  acted_heads name s = ap length (declared_heads s.names (last_identifier (grammar std) s.toks s.built.under None) false)
+  acted_heads name s = ap length (declared_heads s.names (last_identifier (iso std) s.toks s.built.under None) false)
   acted_heads keep s = given_length (length s.names.scopes) s.names.ended s.names.heads
   acted_heads again s = refl
 
-  acted_steady : (a : Action) (s : State) → Steady s (acted (grammar std) a s)
+  acted_steady : (a : Action) (s : State) → Steady s (acted (iso std) a s)
   unfolding acted
   acted_steady a s = record { later = omega arith; first = refl; below = λ w. w; heads = acted_heads a s }
 
-  pub steady_within : (fuel depth : ℕ) (goal : Goal) (s : State) → After (Steady s) (read_within (grammar std) fuel depth goal s)
+  pub steady_within : (fuel depth : ℕ) (goal : Goal) (s : State) → After (Steady s) (read_within (iso std) fuel depth goal s)
   steady_within fuel depth goal s =
-      kept_anywhere (grammar std) Steady
+      kept_anywhere (iso std) Steady
       (record {
         still = λ s. record { later = omega arith; first = refl; below = λ w. w; heads = refl };
         further = λ s s' s'' w w'. record {

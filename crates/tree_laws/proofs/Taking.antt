@@ -1,12 +1,12 @@
 -- Tokens that are read by their class: type names and primary expressions.
 use Rattle.std.proofs.Common.{ℕ, ◌+◌, ◌≡◌, Bool, true, false, not, if◌then◌else◌, ◌==◌, List, Ok, Err, refl, sym, ap, ◌∙◌, arith}
-use Rattle.c99_grammar.specs.declared.dialects.Dialect.{Dialect}
+use Rattle.c99_grammar.specs.declared.dialects.Edition.{Edition}
 use Rattle.cs_base.specs.Token.{Token}
 use Rattle.c99_tree.specs.declared.production.Label.{Label}
 use Rattle.c99_tree.specs.declared.production.Production.TheVariants.{Main, Mod, Primary}
 use Rattle.c99_grammar.specs.Classes.{among}
 use Rattle.c99_grammar.specs.Items.{one, part, ◌·◌, many, own}
-use Rattle.c99_grammar.specs.Standard.{grammar}
+use Rattle.c99_grammar.specs.Standard.{iso}
 use Rattle.c99_read.specs.State.{State, class_at, is_typedef_at, opened}
 use Rattle.c99_read.specs.Reading.{Goal, Step, take_one, step}
 use Rattle.tree_laws.proofs.TypedefClasses.{identifiers, typedef_names, identifier_is, typedef_is}
@@ -16,7 +16,7 @@ use Rattle.tree_laws.proofs.Rules.{labelled}
 use Rattle.tree_laws.proofs.Goes.{After, with_token, Fits, Goes, token_goes, Body}
 use Rattle.tree_laws.proofs.TypedefSteps.{Reads, taken, goes_then, goes_step, goes_body, opened_in}
 
-module _ (std : Dialect) where
+module _ (std : Edition) where
   module _ (toks : List Token) where
     module _ (l : Label) (s : State) where
       -- what the reader says of the next token, the outline says too
@@ -26,16 +26,16 @@ module _ (std : Dialect) where
           ap (λ t. is_typedef_at t s.names.scopes s.at) f.text
           ∙ same_typedef std toks s.at s.at s.names.scopes ends (outlined s.built.under o).entries (omega arith) (bounds_within (s.at + 1) o.scope.to s.names.scopes ends b) f.matches
 
-      pub no_typedef : (o : Outline) (ends : List ℕ) → among identifiers (class_at (grammar std) s s.at) ≡ true → Bounds (s.at + 1) o.scope.to s.names.scopes ends → Fits std toks l s ends o
+      pub no_typedef : (o : Outline) (ends : List ℕ) → among identifiers (class_at (iso std) s s.at) ≡ true → Bounds (s.at + 1) o.scope.to s.names.scopes ends → Fits std toks l s ends o
           → typedef_among std toks s.at (outlined s.built.under o).entries ≡ false
       no_typedef o ends c b f = sym (next_same o ends b f) ∙ (identifier_is std s s.at c).1
 
-      pub some_typedef : (o : Outline) (ends : List ℕ) → among typedef_names (class_at (grammar std) s s.at) ≡ true → Bounds (s.at + 1) o.scope.to s.names.scopes ends → Fits std toks l s ends o
+      pub some_typedef : (o : Outline) (ends : List ℕ) → among typedef_names (class_at (iso std) s s.at) ≡ true → Bounds (s.at + 1) o.scope.to s.names.scopes ends → Fits std toks l s ends o
           → typedef_among std toks s.at (outlined s.built.under o).entries ≡ true
       some_typedef o ends c b f = sym (next_same o ends b f) ∙ typedef_is std s s.at c
 
     -- a primary expression that is an identifier (6.5.1)
-    pub primary_body : (s : State) → After (Body std toks Primary 1 s) (take_one (grammar std) identifiers (opened Primary 1 s))
+    pub primary_body : (s : State) → After (Body std toks Primary 1 s) (take_one (iso std) identifiers (opened Primary 1 s))
     primary_body s =
         (taken std) (Body std toks Primary 1 s) identifiers (opened Primary 1 s)
         (λ c more. goes_body std toks Primary 1 s (with_token (opened Primary 1 s)) refl refl
@@ -51,10 +51,10 @@ module _ (std : Dialect) where
 
     -- a type specifier that is a typedef name (6.7.2)
     pub main_body : (below : ℕ → Goal → State → Step) → Reads std toks below → (depth : ℕ) (s : State)
-        → After (Body std toks Main 4 s) (step (grammar std) below depth (one typedef_names · many own (part Mod)) (opened Main 4 s))
+        → After (Body std toks Main 4 s) (step (iso std) below depth (one typedef_names · many own (part Mod)) (opened Main 4 s))
     main_body below reads depth s =
-        by (step (grammar std) below depth (one typedef_names · many own (part Mod)) (opened Main 4 s))
-        (goes_then std toks below reads (labelled Main 4) s.at (opened Main 4 s) (take_one (grammar std) typedef_names (opened Main 4 s)) (step (grammar std) below depth (many own (part Mod)))
+        by (step (iso std) below depth (one typedef_names · many own (part Mod)) (opened Main 4 s))
+        (goes_then std toks below reads (labelled Main 4) s.at (opened Main 4 s) (take_one (iso std) typedef_names (opened Main 4 s)) (step (iso std) below depth (many own (part Mod)))
         (opened_in std toks Main 4 s)
         (taken std (Goes std toks (labelled Main 4) s.at (opened Main 4 s)) typedef_names (opened Main 4 s)
         (λ c more. token_goes std toks (labelled Main 4) s.at (opened Main 4 s) more

@@ -1,14 +1,14 @@
 -- A text that is read as one production, and one that is read as a unit.
 use Rattle.std.proofs.Common.{◌≤◌, ◌≡◌, true, List, [], ◌∷◌, length, Result, Ok, Err, refl, ap, subst, ◌∙◌, arith}
 use Rattle.std.proofs.lemmas.Bool.{and_from}
-use Rattle.c99_grammar.specs.declared.dialects.Dialect.{Dialect}
+use Rattle.c99_grammar.specs.declared.dialects.Edition.{Edition}
 use Rattle.cs_base.specs.Token.{Token}
 use Rattle.c99_tree.specs.Tree.{none, node, Node, node_of, lone}
 use Rattle.c99_tree.specs.declared.production.Production.{Production}
 use Rattle.c99_tree.specs.declared.production.Production.TheVariants.{TranslationUnit}
 use Rattle.c99_read.specs.State.{State}
 use Rattle.c99_read.specs.Reading.{Step, Stop, produce, steps_for, read_within, whole, at_first, tree_of}
-use Rattle.c99_grammar.specs.Standard.{grammar}
+use Rattle.c99_grammar.specs.Standard.{iso}
 use Rattle.name_chains.specs.Frames.{at_first as before}
 use Rattle.tree_laws.specs.Agreeing.{agrees}
 use Rattle.tree_laws.specs.TypedefNames.{NamesAreReadAsTheyAreBound, NamesOfPartsAreReadAsTheyAreBound}
@@ -27,7 +27,7 @@ read_as n = Ok n
 ok_child : (x y c : Node) → read_as x ≡ read_as y → x ≡ c → c ≡ y
 ok_child x y c h k = cc
 
-module _ (std : Dialect) where
+module _ (std : Edition) where
   module _ (toks : List Token) (p : Production) where
     made_agrees : (s : State) → Makes std toks p (at_first toks) s → (tree : Node) → tree_of (Ok s) ≡ Ok tree
         → agrees std toks (node tree.label tree.first tree.under none) (before (length toks)) ≡ true
@@ -62,11 +62,11 @@ module _ (std : Dialect) where
 pub parts_agree : NamesOfPartsAreReadAsTheyAreBound
 unfolding whole
 parts_agree std toks p tree told e =
-    (step_agrees std) toks p (read_within (grammar std) (steps_for (produce p) (at_first toks)) 0 (produce p) (at_first toks))
+    (step_agrees std) toks p (read_within (iso std) (steps_for (produce p) (at_first toks)) 0 (produce p) (at_first toks))
     ((reads_within std toks (steps_for (produce p) (at_first toks))).made 0 p (at_first toks) told) tree e
 
 pub units_agree : NamesAreReadAsTheyAreBound
 unfolding whole
 units_agree std toks tree e =
-    (read_agrees std) toks (read_within (grammar std) (steps_for (produce TranslationUnit) (at_first toks)) 0 (produce TranslationUnit) (at_first toks))
+    (read_agrees std) toks (read_within (iso std) (steps_for (produce TranslationUnit) (at_first toks)) 0 (produce TranslationUnit) (at_first toks))
     (unit_within std toks (steps_for (produce TranslationUnit) (at_first toks))) tree e

@@ -4,16 +4,15 @@ use Rattle.std.specs.List.{list_all}
 use Rattle.std.specs.Option.{option_map_or}
 use Rattle.std.specs.Str.{bytes_eq}
 use Rattle.std.proofs.lemmas.Bool.{false≢true, and_parts, not-true}
-use Rattle.c99_grammar.specs.declared.dialects.Dialect.{Dialect}
+use Rattle.c99_grammar.specs.declared.dialects.Edition.{Edition}
 use Rattle.cs_base.specs.Token.{Token}
 use Rattle.cs_base.specs.declared.tokens.Kind.{Kind}
 use Rattle.cs_base.specs.declared.tokens.Kind.TheVariants as kind
 use Rattle.c99_tree.specs.declared.production.Production.TheVariants.{Enumerator, Pdirect}
-use Rattle.c99_grammar.specs.declared.dialects.Dialect.TheVariants.{Gnu}
 use Rattle.c99_grammar.specs.Classes.{among}
 use Rattle.c99_grammar.specs.Items.{names}
 use Rattle.c99_grammar.specs.Spellings.{Spelled, keywords_of, punctuators}
-use Rattle.c99_grammar.specs.Standard.{c99, grammar}
+use Rattle.c99_grammar.specs.Standard.{c99, iso}
 use Rattle.c99_grammar.proofs.StandardLemmas.{keywords_fit}
 use Rattle.c99_read.specs.State.{State, base_at, is_identifier, is_typedef_at, class_at}
 use Rattle.c99_grammar.specs.TokenClasses.{spelled_class, class_of_kind, base_class}
@@ -61,8 +60,8 @@ spelled_base (w ∷ words) text other all last =
     by true h k = h
     by false h k = k
 
-module _ (std : Dialect) where
-  kind_base : (k : Kind) (text : List ℕ) → is_base (class_of_kind (grammar std) k text) ≡ true
+module _ (std : Edition) where
+  kind_base : (k : Kind) (text : List ℕ) → is_base (class_of_kind (iso std) k text) ≡ true
   kind_base kind.Ident text = spelled_base (keywords_of std) text _ (keywords_fit is_base refl std) refl
   kind_base kind.Punct text = spelled_base punctuators text _ refl refl
   kind_base kind.Number text = refl
@@ -70,22 +69,22 @@ module _ (std : Dialect) where
   kind_base kind.Str text = refl
   kind_base _ text = refl
 
-  base_base : (t : Token) → is_base (base_class (grammar std) t) ≡ true
+  base_base : (t : Token) → is_base (base_class (iso std) t) ≡ true
   unfolding base_class
   base_base t = kind_base t.kind t.text
 
-  at_base : (toks : List Token) (k : ℕ) → is_base (base_at (grammar std) toks k) ≡ true
+  at_base : (toks : List Token) (k : ℕ) → is_base (base_at (iso std) toks k) ≡ true
   at_base toks k = by (slice_get toks k) (k == length toks) _ _ refl refl
     where
       by : (t : Option Token) (c : Bool) (x y : Class) → is_base x ≡ true → is_base y ≡ true
-          → is_base (option_map_or (base_class (grammar std)) t (if c then x else y)) ≡ true
+          → is_base (option_map_or (base_class (iso std)) t (if c then x else y)) ≡ true
       by None true x y h h' = h
       by None false x y h h' = h'
       by (Some t) c x y h h' = base_base t
 
   module _ (s : State) (k : ℕ) where
     abbrev here : Class
-    here = base_at (grammar std) s.toks k
+    here = base_at (iso std) s.toks k
 
     base_parts : (among names here ≡ true → is_identifier here ≡ true)
         × ((among identifiers here ≡ true → is_identifier here ≡ true) × ((among typedef_names here ≡ false) × (among equals here ≡ true → is_identifier here ≡ false)))
@@ -100,7 +99,7 @@ module _ (std : Dialect) where
     name_case b x false t h e = h e
 
     -- a name is an identifier
-    pub name_is : among names (class_at (grammar std) s k) ≡ true → is_identifier here ≡ true
+    pub name_is : among names (class_at (iso std) s k) ≡ true → is_identifier here ≡ true
     unfolding class_at
     name_is e = name_case here typedef_name (is_identifier here) (is_typedef_at s.toks s.names.scopes k) base_parts.0 e
 
@@ -111,7 +110,7 @@ module _ (std : Dialect) where
     identifier_case b x false t h gone e = absurd (false≢true (h e))
 
     -- an identifier that counts as no typedef name
-    pub identifier_is : among identifiers (class_at (grammar std) s k) ≡ true → (is_identifier here ≡ true) × (is_typedef_at s.toks s.names.scopes k ≡ false)
+    pub identifier_is : among identifiers (class_at (iso std) s k) ≡ true → (is_identifier here ≡ true) × (is_typedef_at s.toks s.names.scopes k ≡ false)
     unfolding class_at
     identifier_is e = identifier_case here typedef_name (is_identifier here) (is_typedef_at s.toks s.names.scopes k) base_parts.1.0 refl e
 
@@ -121,7 +120,7 @@ module _ (std : Dialect) where
     typedef_case b x false t gone e = absurd (false≢true (sym gone ∙ e))
 
     -- .. and one that does
-    pub typedef_is : among typedef_names (class_at (grammar std) s k) ≡ true → is_typedef_at s.toks s.names.scopes k ≡ true
+    pub typedef_is : among typedef_names (class_at (iso std) s k) ≡ true → is_typedef_at s.toks s.names.scopes k ≡ true
     unfolding class_at
     typedef_is e = typedef_case here typedef_name (is_identifier here) (is_typedef_at s.toks s.names.scopes k) base_parts.1.1.0 e
 
@@ -132,7 +131,7 @@ module _ (std : Dialect) where
     equals_case b x false t h gone e = refl
 
     -- the sign is no identifier
-    pub equals_is : among equals (class_at (grammar std) s k) ≡ true → is_identifier here ≡ false
+    pub equals_is : among equals (class_at (iso std) s k) ≡ true → is_identifier here ≡ false
     unfolding class_at
     equals_is e = equals_case here typedef_name (is_identifier here) (is_typedef_at s.toks s.names.scopes k) base_parts.1.1.1 refl e
 
@@ -142,6 +141,6 @@ module _ (std : Dialect) where
     bare_case b x false t gone e h = absurd (false≢true h)
 
     -- an identifier there is no typedef name
-    pub bare_is : among bare (class_at (grammar std) s k) ≡ true → is_identifier here ≡ true → is_typedef_at s.toks s.names.scopes k ≡ false
+    pub bare_is : among bare (class_at (iso std) s k) ≡ true → is_identifier here ≡ true → is_typedef_at s.toks s.names.scopes k ≡ false
     unfolding class_at
     bare_is e h = bare_case here typedef_name (is_identifier here) (is_typedef_at s.toks s.names.scopes k) refl e h

@@ -1,7 +1,7 @@
 -- Reading an item in which no scope begins and nothing is declared, and a node that is made of such items.
 use Rattle.std.proofs.Common.{ℕ, ◌+◌, ◌<◌, ◌≡◌, Bool, true, false, ◌&&◌, if◌then◌else◌, ◌==◌, List, length, Ok, Err, nat_lt, refl, sym, subst}
 use Rattle.std.proofs.lemmas.Bool.{false≢true, and_parts, ltb-true}
-use Rattle.c99_grammar.specs.declared.dialects.Dialect.{Dialect}
+use Rattle.c99_grammar.specs.declared.dialects.Edition.{Edition}
 use Rattle.cs_base.specs.Token.{Token}
 use Rattle.c99_tree.specs.Tree.{Forest}
 use Rattle.c99_tree.specs.declared.production.Label.{Label}
@@ -9,7 +9,7 @@ use Rattle.c99_tree.specs.declared.production.Production.{Production}
 use Rattle.c99_tree.specs.declared.production.Production.TheVariants.{Pdirect}
 use Rattle.c99_grammar.specs.Classes.{among}
 use Rattle.c99_grammar.specs.Items.{Item, one, part, end_of_text, act, ◌·◌, choice, maybe, many, deep, Test, own}
-use Rattle.c99_grammar.specs.Standard.{grammar}
+use Rattle.c99_grammar.specs.Standard.{iso}
 use Rattle.c99_read.specs.Sound.{never_empty}
 use Rattle.c99_read.specs.State.{State, Names, class_at, is_declarator, with_head, names_opened, opened, closed}
 use Rattle.c99_read.specs.Reading.{Goal, produce, repeat, Step, syntax, and_then, deepest, take_one, at_end, enter, may, step, alternative}
@@ -36,12 +36,12 @@ after_then P Q (Ok s) next_step m n = n s m
 abbrev pub Grows : Production → State → State → Type 0
 Grows p s s' = never_empty p ≡ true → s.at < s'.at
 
-module _ (std : Dialect) where
+module _ (std : Edition) where
   -- what is so of the state behind a token of these classes
-  pub taken : (P : State → Type 0) (classes : List Class) (s : State) → (among classes (class_at (grammar std) s s.at) ≡ true → s.at < length s.toks → P (with_token s))
-      → After P (take_one (grammar std) classes s)
+  pub taken : (P : State → Type 0) (classes : List Class) (s : State) → (among classes (class_at (iso std) s s.at) ≡ true → s.at < length s.toks → P (with_token s))
+      → After P (take_one (iso std) classes s)
   unfolding take_one
-  taken P classes s p = by (nat_lt s.at (length s.toks)) (among classes (class_at (grammar std) s s.at)) p (λ h. ltb-true s.at (length s.toks) h)
+  taken P classes s p = by (nat_lt s.at (length s.toks)) (among classes (class_at (iso std) s s.at)) p (λ h. ltb-true s.at (length s.toks) h)
     where
       by : (within c : Bool) → (c ≡ true → s.at < length s.toks → P (with_token s)) → (within ≡ true → s.at < length s.toks)
           → After P (if within && c then Ok (with_token s) else Err (syntax s.at))
@@ -99,28 +99,28 @@ module _ (std : Dialect) where
           by (Ok s') m = node_goes std toks l first p s s' h m.0
 
       pub goes_step : (item : Item) (l : Label) (first depth : ℕ) (s : State) → fine l item ≡ true → IsIn l first s
-          → After (Goes std toks l first s) (step (grammar std) below depth item s)
+          → After (Goes std toks l first s) (step (iso std) below depth item s)
       goes_step (one classes) l first depth s h i = taken (Goes std toks l first s) classes s (λ c more. quiet_goes l first s more h)
       goes_step (part p) l first depth s h i = part_goes l first depth p s (held_told l.production p h) h
       goes_step end_of_text l first depth s h i = end_goes l first s
       goes_step (act a) l first depth s h i = absurd (false≢true h)
       goes_step (a · b) l first depth s h i =
           let both = and_parts (fine l a) (fine l b) h in
-          goes_then l first s (step (grammar std) below depth a s) (step (grammar std) below depth b) i (goes_step a l first depth s both.0 i)
+          goes_then l first s (step (iso std) below depth a s) (step (iso std) below depth b) i (goes_step a l first depth s both.0 i)
           (λ s' i'. goes_step b l first depth s' both.1 i')
       goes_step (choice a b) l first depth s h i =
           let both = and_parts (fine l a) (fine l b) h in
-          after_if (Goes std toks l first s) (may (grammar std) own a s) _ _ (goes_step a l first depth s both.0 i)
-          (after_if (Goes std toks l first s) (may (grammar std) own b s) _ _ (goes_step b l first depth s both.1 i) tt)
+          after_if (Goes std toks l first s) (may (iso std) own a s) _ _ (goes_step a l first depth s both.0 i)
+          (after_if (Goes std toks l first s) (may (iso std) own b s) _ _ (goes_step b l first depth s both.1 i) tt)
       goes_step (maybe a) l first depth s h i =
-          after_if (Goes std toks l first s) (may (grammar std) own a s) _ _ (goes_step a l first depth s h i) (goes_still std toks l first s)
+          after_if (Goes std toks l first s) (may (iso std) own a s) _ _ (goes_step a l first depth s h i) (goes_still std toks l first s)
       goes_step (many t a) l first depth s h i =
-          after_if (Goes std toks l first s) (may (grammar std) t a s) _ _
-          (goes_then l first s (step (grammar std) below depth a s) (below depth (repeat t a)) i (goes_step a l first depth s h i)
+          after_if (Goes std toks l first s) (may (iso std) t a s) _ _
+          (goes_then l first s (step (iso std) below depth a s) (below depth (repeat t a)) i (goes_step a l first depth s h i)
           (λ s' i'. reads.more depth t a l first s' h i'))
           (goes_still std toks l first s)
       goes_step (deep a) l first depth s h i =
-          goes_then l first s (enter depth (may (grammar std) own a s) s) (step (grammar std) below (depth + 1) a) i (enter_goes l first depth (may (grammar std) own a s) s)
+          goes_then l first s (enter depth (may (iso std) own a s) s) (step (iso std) below (depth + 1) a) i (enter_goes l first depth (may (iso std) own a s) s)
           (λ s' i'. goes_step a l first (depth + 1) s' h i')
 
     -- ---- Nodes that are opened
@@ -193,18 +193,18 @@ module _ (std : Dialect) where
     -- ---- Alternatives
 
     module _ (below : ℕ → Goal → State → Step) (reads : Reads below) where
-      pub closing : (depth : ℕ) (p : Production) (n : ℕ) (body : Item) (s : State) → After (Body std toks p n s) (step (grammar std) below depth body (opened p n s))
-          → After (Makes std toks p s) (alternative (grammar std) below depth p n body s)
-      closing depth p n body s m = by (step (grammar std) below depth body (opened p n s)) m
+      pub closing : (depth : ℕ) (p : Production) (n : ℕ) (body : Item) (s : State) → After (Body std toks p n s) (step (iso std) below depth body (opened p n s))
+          → After (Makes std toks p s) (alternative (iso std) below depth p n body s)
+      closing depth p n body s m = by (step (iso std) below depth body (opened p n s)) m
         where
           by : (r : Step) → After (Body std toks p n s) r → After (Makes std toks p s) (and_then r (λ s'. Ok (closed p s s')))
           by (Err stop) m' = tt
           by (Ok s') m' = body_makes std toks p n s s' m'
 
       pub fine_body : (depth : ℕ) (p : Production) (n : ℕ) (body : Item) (s : State) → is_simple p n ≡ true → is_at (labelled p n) Pdirect 2 ≡ false
-          → fine (labelled p n) body ≡ true → After (Body std toks p n s) (step (grammar std) below depth body (opened p n s))
+          → fine (labelled p n) body ≡ true → After (Body std toks p n s) (step (iso std) below depth body (opened p n s))
       fine_body depth p n body s simple named h =
-          by (step (grammar std) below depth body (opened p n s)) (goes_step below reads body (labelled p n) s.at depth (opened p n s) h (opened_in p n s))
+          by (step (iso std) below depth body (opened p n s)) (goes_step below reads body (labelled p n) s.at depth (opened p n s) h (opened_in p n s))
         where
           by : (r : Step) → After (Goes std toks (labelled p n) s.at (opened p n s)) r → After (Body std toks p n s) r
           by (Err stop) m = tt

@@ -1,7 +1,7 @@
 -- Reading external definitions (6.9), and the unit that is made of them.
 use Rattle.std.proofs.Common.{ℕ, zero, suc, ◌<◌, ◌≤◌, ◌≡◌, Bool, true, false, ◌&&◌, if◌then◌else◌, ◌==◌, List, [], ◌∷◌, length, Option, None, Some, Ok, Err, refl, sym, ap, subst, ◌∙◌, arith}
-use Rattle.c99_grammar.specs.declared.dialects.Dialect.{Dialect}
-use Rattle.c99_grammar.specs.declared.dialects.Dialect.TheVariants.{C99, C11}
+use Rattle.c99_grammar.specs.declared.dialects.Edition.{Edition}
+use Rattle.c99_grammar.specs.declared.dialects.Edition.TheVariants.{C99, C11}
 use Rattle.cs_base.specs.Token.{Token}
 use Rattle.c99_tree.specs.Tree.{Forest, none, node, Node, inner, put}
 use Rattle.c99_tree.specs.declared.production.Label.{Label}
@@ -10,8 +10,8 @@ use Rattle.c99_tree.specs.declared.production.Production.TheVariants.{Translatio
 use Rattle.c99_tree.specs.contracts.production.ProductionPartialEq.TheImpl.{ghosts}
 use Rattle.c99_grammar.specs.Items.{Item, part, end_of_text, act, ◌·◌, many, own, end, declare, again, plain}
 use Rattle.c99_grammar.specs.Grammar.{externals}
-use Rattle.c99_grammar.specs.Standard.{c99, grammar}
-use Rattle.c99_grammar.proofs.StandardLemmas.{by_dialect}
+use Rattle.c99_grammar.specs.Standard.{c99, iso}
+use Rattle.c99_grammar.proofs.StandardLemmas.{by_edition}
 use Rattle.c99_read.specs.State.{State, Names, last_declared, with_declared, with_scope_ended, acted, opened, closed}
 use Rattle.c99_read.specs.Reading.{Goal, produce, repeat, Step, syntax, at_end, at_first, and_then, may, step, alternative, pick, read_within}
 use Rattle.c99_read.proofs.Moves.{Moves}
@@ -58,7 +58,7 @@ tail_back n [] op = absurd op
 tail_back n (a ∷ []) op = absurd op
 tail_back n (a ∷ (b ∷ outer)) op = refl
 
-module _ (std : Dialect) where
+module _ (std : Edition) where
   module _ (toks : List Token) where
     -- the node of a body or of a declaration that is none, where the names of the list are in the scope
     abbrev pub Tails : Production → State → State → Type 0
@@ -92,7 +92,7 @@ module _ (std : Dialect) where
           record { matches = f.matches; agree = f.agree; named = refl });
     }
 
-    tail_second : (s s' : State) → Goes std toks (labelled ExtTail 2) s.at (acted (grammar std) end (opened ExtTail 2 s)) s' → OpensTail ExtTail 2 s s'
+    tail_second : (s s' : State) → Goes std toks (labelled ExtTail 2) s.at (acted (iso std) end (opened ExtTail 2 s)) s' → OpensTail ExtTail 2 s s'
     unfolding acted opened
     tail_second s s' g = record {
       same_text = g.same_text;
@@ -137,7 +137,7 @@ module _ (std : Dialect) where
         ap (λ x. entries_after x first o l under es) e ∙ ap (λ (m : Label). in_declaration m.production o l under es) in_
 
     rest_declared : (s s1 : State) → Makes std toks Declarator (opened ExtRest 2 s) s1 → Grows Declarator (opened ExtRest 2 s) s1
-        → Goes std toks (labelled ExtRest 2) s.at (opened ExtRest 2 s) (acted (grammar std) declare s1)
+        → Goes std toks (labelled ExtRest 2) s.at (opened ExtRest 2 s) (acted (iso std) declare s1)
     unfolding acted opened
     rest_declared s s1 m grows =
         let own_label : m.child.label.production ≡ Declarator = m.own refl in
@@ -179,9 +179,9 @@ module _ (std : Dialect) where
     some_length (a ∷ x) op = omega arith
 
     module _ (s s1 s' : State) (m : Makes std toks Declarator (opened ExtRest 2 s) s1) (grows : Grows Declarator (opened ExtRest 2 s) s1)
-        (h : HandsOn std toks Declarator (opened ExtRest 2 s) s1) (e : Tails ExtTail (acted (grammar std) again (acted (grammar std) declare s1)) s') where
+        (h : HandsOn std toks Declarator (opened ExtRest 2 s) s1) (e : Tails ExtTail (acted (iso std) again (acted (iso std) declare s1)) s') where
       abbrev declared_state : State
-      declared_state = acted (grammar std) declare s1
+      declared_state = acted (iso std) declare s1
 
       pub goes : Goes std toks (labelled ExtRest 2) s.at (opened ExtRest 2 s) declared_state
       goes = rest_declared s s1 m grows
@@ -347,8 +347,8 @@ module _ (std : Dialect) where
         (hands : (depth : ℕ) (s : State) → After (HandsOn std toks Declarator s) (below depth (produce Declarator) s))
         (steady : (depth : ℕ) (goal : Goal) (s : State) → After (Steady s) (below depth goal s)) (depth : ℕ) where
       opens_alternative : (base : List (List Declaration)) (pre : Outline → Type 0) (p : Production) (n : ℕ) (body : Item) (s : State) → is_outer p ≡ true
-          → After (Opens std toks base pre p n s) (step (grammar std) below depth body (opened p n s)) → After (Extends std toks base pre p s) (alternative (grammar std) below depth p n body s)
-      opens_alternative base pre p n body s h m = by (step (grammar std) below depth body (opened p n s)) m
+          → After (Opens std toks base pre p n s) (step (iso std) below depth body (opened p n s)) → After (Extends std toks base pre p s) (alternative (iso std) below depth p n body s)
+      opens_alternative base pre p n body s h m = by (step (iso std) below depth body (opened p n s)) m
         where
           by : (r : Step) → After (Opens std toks base pre p n s) r → After (Extends std toks base pre p s) (and_then r (λ s'. Ok (closed p s s')))
           by (Err stop) m' = tt
@@ -357,11 +357,11 @@ module _ (std : Dialect) where
       abbrev body_items : Item
       body_items = first_body (c99.table FunBody)
 
-      body_made : (s : State) → After (Tails FunBody s) (pick (grammar std) below depth FunBody 1 (c99.table FunBody) s)
+      body_made : (s : State) → After (Tails FunBody s) (pick (iso std) below depth FunBody 1 (c99.table FunBody) s)
       body_made s =
-          after_test (Tails FunBody s) (may (grammar std) own body_items s) (alternative (grammar std) below depth FunBody 1 body_items s) (Err (syntax s.at))
+          after_test (Tails FunBody s) (may (iso std) own body_items s) (alternative (iso std) below depth FunBody 1 body_items s) (Err (syntax s.at))
           (opens_alternative (tail_of s.names.scopes) (Kept (head_of std s.names.scopes)) FunBody 1 body_items s refl
-          (after_same (Bracketed std toks (labelled FunBody 1) s.at (opened FunBody 1 s)) (OpensTail FunBody 1 s) (step (grammar std) below depth body_items (opened FunBody 1 s))
+          (after_same (Bracketed std toks (labelled FunBody 1) s.at (opened FunBody 1 s)) (OpensTail FunBody 1 s) (step (iso std) below depth body_items (opened FunBody 1 s))
           (λ s' w. body_read std toks s s' w)
           (body_steps std toks below reads s.at depth (front_of body_items) (front_of (rest_of body_items)) (front_of (rest_of (rest_of body_items)))
           (classes_of (rest_of (rest_of (rest_of (rest_of body_items))))) (opened FunBody 1 s) refl refl refl (opened_in std toks FunBody 1 s))))
@@ -370,22 +370,22 @@ module _ (std : Dialect) where
       abbrev tail_items : Item
       tail_items = second_body (c99.table ExtTail)
 
-      ended_in : (s : State) → IsIn (labelled ExtTail 2) s.at (acted (grammar std) end (opened ExtTail 2 s))
+      ended_in : (s : State) → IsIn (labelled ExtTail 2) s.at (acted (iso std) end (opened ExtTail 2 s))
       unfolding acted opened
       ended_in s = record { label = refl; begins = refl }
 
-      tail_made : (s : State) → After (Tails ExtTail s) (pick (grammar std) below depth ExtTail 1 (c99.table ExtTail) s)
+      tail_made : (s : State) → After (Tails ExtTail s) (pick (iso std) below depth ExtTail 1 (c99.table ExtTail) s)
       tail_made s =
-          after_test (Tails ExtTail s) (may (grammar std) (first_test (c99.table ExtTail)) (part FunBody) s) (alternative (grammar std) below depth ExtTail 1 (part FunBody) s)
-          (if may (grammar std) (second_test (c99.table ExtTail)) tail_items s then alternative (grammar std) below depth ExtTail 2 tail_items s else Err (syntax s.at))
+          after_test (Tails ExtTail s) (may (iso std) (first_test (c99.table ExtTail)) (part FunBody) s) (alternative (iso std) below depth ExtTail 1 (part FunBody) s)
+          (if may (iso std) (second_test (c99.table ExtTail)) tail_items s then alternative (iso std) below depth ExtTail 2 tail_items s else Err (syntax s.at))
           (opens_alternative (tail_of s.names.scopes) (Kept (head_of std s.names.scopes)) ExtTail 1 (part FunBody) s refl
           (after_same (Tails FunBody (opened ExtTail 1 s)) (OpensTail ExtTail 1 s) (below depth (produce FunBody) (opened ExtTail 1 s)) (λ s' e. tail_first s s' e)
           (outer.bodies depth (opened ExtTail 1 s))))
-          (after_test (Tails ExtTail s) (may (grammar std) (second_test (c99.table ExtTail)) tail_items s) (alternative (grammar std) below depth ExtTail 2 tail_items s) (Err (syntax s.at))
+          (after_test (Tails ExtTail s) (may (iso std) (second_test (c99.table ExtTail)) tail_items s) (alternative (iso std) below depth ExtTail 2 tail_items s) (Err (syntax s.at))
           (opens_alternative (tail_of s.names.scopes) (Kept (head_of std s.names.scopes)) ExtTail 2 tail_items s refl
-          (after_same (Goes std toks (labelled ExtTail 2) s.at (acted (grammar std) end (opened ExtTail 2 s))) (OpensTail ExtTail 2 s)
-          (step (grammar std) below depth (rest_of tail_items) (acted (grammar std) end (opened ExtTail 2 s))) (λ s' g. tail_second s s' g)
-          (goes_step std toks below reads (rest_of tail_items) (labelled ExtTail 2) s.at depth (acted (grammar std) end (opened ExtTail 2 s)) refl (ended_in s))))
+          (after_same (Goes std toks (labelled ExtTail 2) s.at (acted (iso std) end (opened ExtTail 2 s))) (OpensTail ExtTail 2 s)
+          (step (iso std) below depth (rest_of tail_items) (acted (iso std) end (opened ExtTail 2 s))) (λ s' g. tail_second s s' g)
+          (goes_step std toks below reads (rest_of tail_items) (labelled ExtTail 2) s.at depth (acted (iso std) end (opened ExtTail 2 s)) refl (ended_in s))))
           tt)
 
       abbrev semicolon_rest : Item
@@ -394,27 +394,27 @@ module _ (std : Dialect) where
       abbrev rest_items : Item
       rest_items = second_body (c99.table ExtRest)
 
-      rest_body : (s : State) → After (OpensDefinition ExtRest 2 s) (step (grammar std) below depth rest_items (opened ExtRest 2 s))
+      rest_body : (s : State) → After (OpensDefinition ExtRest 2 s) (step (iso std) below depth rest_items (opened ExtRest 2 s))
       rest_body s =
           by (below depth (produce Declarator) (opened ExtRest 2 s)) (reads.made depth Declarator (opened ExtRest 2 s) refl) (hands depth (opened ExtRest 2 s))
         where
           by : (r : Step) → After (λ s1. Makes std toks Declarator (opened ExtRest 2 s) s1 × Grows Declarator (opened ExtRest 2 s) s1) r
               → After (HandsOn std toks Declarator (opened ExtRest 2 s)) r
-              → After (OpensDefinition ExtRest 2 s) (and_then r (step (grammar std) below depth (act declare · (act again · part ExtTail))))
+              → After (OpensDefinition ExtRest 2 s) (and_then r (step (iso std) below depth (act declare · (act again · part ExtTail))))
           by (Err stop) m h = tt
           by (Ok s1) m h =
-              after_same (Tails ExtTail (acted (grammar std) again (acted (grammar std) declare s1))) (OpensDefinition ExtRest 2 s) (below depth (produce ExtTail) (acted (grammar std) again (acted (grammar std) declare s1)))
-              (λ s' e. rest_opens s s1 s' m.0 m.1 h e) (outer.tails depth (acted (grammar std) again (acted (grammar std) declare s1)))
+              after_same (Tails ExtTail (acted (iso std) again (acted (iso std) declare s1))) (OpensDefinition ExtRest 2 s) (below depth (produce ExtTail) (acted (iso std) again (acted (iso std) declare s1)))
+              (λ s' e. rest_opens s s1 s' m.0 m.1 h e) (outer.tails depth (acted (iso std) again (acted (iso std) declare s1)))
 
-      rest_made : (s : State) → After (Defines ExtRest s) (pick (grammar std) below depth ExtRest 1 (c99.table ExtRest) s)
+      rest_made : (s : State) → After (Defines ExtRest s) (pick (iso std) below depth ExtRest 1 (c99.table ExtRest) s)
       rest_made s =
-          after_test (Defines ExtRest s) (may (grammar std) own semicolon_rest s) (alternative (grammar std) below depth ExtRest 1 semicolon_rest s)
-          (if may (grammar std) own rest_items s then alternative (grammar std) below depth ExtRest 2 rest_items s else Err (syntax s.at))
+          after_test (Defines ExtRest s) (may (iso std) own semicolon_rest s) (alternative (iso std) below depth ExtRest 1 semicolon_rest s)
+          (if may (iso std) own rest_items s then alternative (iso std) below depth ExtRest 2 rest_items s else Err (syntax s.at))
           (opens_alternative s.names.scopes (IsFresh s) ExtRest 1 semicolon_rest s refl
-          (after_same (Body std toks ExtRest 1 s) (OpensDefinition ExtRest 1 s) (step (grammar std) below depth semicolon_rest (opened ExtRest 1 s))
+          (after_same (Body std toks ExtRest 1 s) (OpensDefinition ExtRest 1 s) (step (iso std) below depth semicolon_rest (opened ExtRest 1 s))
           (λ s' b. body_opens s.names.scopes (IsFresh s) ExtRest 1 s s' refl b)
           (fine_body std toks below reads depth ExtRest 1 semicolon_rest s refl refl refl)))
-          (after_test (Defines ExtRest s) (may (grammar std) own rest_items s) (alternative (grammar std) below depth ExtRest 2 rest_items s) (Err (syntax s.at))
+          (after_test (Defines ExtRest s) (may (iso std) own rest_items s) (alternative (iso std) below depth ExtRest 2 rest_items s) (Err (syntax s.at))
           (opens_alternative s.names.scopes (IsFresh s) ExtRest 2 rest_items s refl (rest_body s))
           tt)
 
@@ -424,14 +424,14 @@ module _ (std : Dialect) where
       abbrev external_items : Item
       external_items = second_body (externals C99)
 
-      external_body : (n : ℕ) (s : State) → After (OpensDefinition External n s) (step (grammar std) below depth external_items (opened External n s))
+      external_body : (n : ℕ) (s : State) → After (OpensDefinition External n s) (step (iso std) below depth external_items (opened External n s))
       unfolding opened
       external_body n s =
           by (below depth (produce Specs) (opened External n s)) (reads.made depth Specs (opened External n s) refl) (steady depth (produce Specs) (opened External n s))
         where
           by : (r : Step) → After (λ s1. Makes std toks Specs (opened External n s) s1 × Grows Specs (opened External n s) s1) r
               → After (Steady (opened External n s)) r
-              → After (OpensDefinition External n s) (and_then r (step (grammar std) below depth (part ExtRest)))
+              → After (OpensDefinition External n s) (and_then r (step (iso std) below depth (part ExtRest)))
           by (Err stop) m w = tt
           by (Ok s1) m w =
               after_same (Defines ExtRest s1) (OpensDefinition External n s) (below depth (produce ExtRest) s1)
@@ -439,46 +439,46 @@ module _ (std : Dialect) where
 
       -- where nothing else stands in a definition than what such nodes have
       plain_external : (n : ℕ) (item : Item) (s : State) → is_simple External n ≡ true → is_at (labelled External n) Pdirect 2 ≡ false → fine (labelled External n) item ≡ true
-          → After (Defines External s) (alternative (grammar std) below depth External n item s)
+          → After (Defines External s) (alternative (iso std) below depth External n item s)
       plain_external n item s simple other is_fine =
           opens_alternative s.names.scopes (IsFresh s) External n item s refl
-          (after_same (Body std toks External n s) (OpensDefinition External n s) (step (grammar std) below depth item (opened External n s))
+          (after_same (Body std toks External n s) (OpensDefinition External n s) (step (iso std) below depth item (opened External n s))
           (λ s' b. body_opens s.names.scopes (IsFresh s) External n s s' refl b)
           (fine_body std toks below reads depth External n item s simple other is_fine))
 
-      specs_external : (n : ℕ) (s : State) → After (Defines External s) (pick (grammar std) below depth External n (plain external_items ∷ []) s)
+      specs_external : (n : ℕ) (s : State) → After (Defines External s) (pick (iso std) below depth External n (plain external_items ∷ []) s)
       specs_external n s =
-          after_test (Defines External s) (may (grammar std) own external_items s) (alternative (grammar std) below depth External n external_items s) (Err (syntax s.at))
+          after_test (Defines External s) (may (iso std) own external_items s) (alternative (iso std) below depth External n external_items s) (Err (syntax s.at))
           (opens_alternative s.names.scopes (IsFresh s) External n external_items s refl (external_body n s))
           tt
 
       -- where an assertion may stand for a definition (C11 6.7.10)
-      asserted_external : (s : State) → After (Defines External s) (pick (grammar std) below depth External 1 (externals C11) s)
+      asserted_external : (s : State) → After (Defines External s) (pick (iso std) below depth External 1 (externals C11) s)
       asserted_external s =
-          after_test (Defines External s) (may (grammar std) own semicolon_external s) (alternative (grammar std) below depth External 1 semicolon_external s)
-          (pick (grammar std) below depth External 2 (plain (part Sassert) ∷ (plain external_items ∷ [])) s)
+          after_test (Defines External s) (may (iso std) own semicolon_external s) (alternative (iso std) below depth External 1 semicolon_external s)
+          (pick (iso std) below depth External 2 (plain (part Sassert) ∷ (plain external_items ∷ [])) s)
           (plain_external 1 semicolon_external s refl refl refl)
-          (after_test (Defines External s) (may (grammar std) own (part Sassert) s) (alternative (grammar std) below depth External 2 (part Sassert) s)
-          (pick (grammar std) below depth External 3 (plain external_items ∷ []) s)
+          (after_test (Defines External s) (may (iso std) own (part Sassert) s) (alternative (iso std) below depth External 2 (part Sassert) s)
+          (pick (iso std) below depth External 3 (plain external_items ∷ []) s)
           (plain_external 2 (part Sassert) s refl refl refl) (specs_external 3 s))
 
-      external_made : (s : State) → After (Defines External s) (pick (grammar std) below depth External 1 ((grammar std).table External) s)
+      external_made : (s : State) → After (Defines External s) (pick (iso std) below depth External 1 ((iso std).table External) s)
       external_made s =
-          by_dialect (λ v. After (Defines External s) (pick (grammar std) below depth External 1 (externals v) s))
-          (after_test (Defines External s) (may (grammar std) own semicolon_external s) (alternative (grammar std) below depth External 1 semicolon_external s)
-          (pick (grammar std) below depth External 2 (plain external_items ∷ []) s)
+          by_edition (λ v. After (Defines External s) (pick (iso std) below depth External 1 (externals v) s))
+          (after_test (Defines External s) (may (iso std) own semicolon_external s) (alternative (iso std) below depth External 1 semicolon_external s)
+          (pick (iso std) below depth External 2 (plain external_items ∷ []) s)
           (plain_external 1 semicolon_external s refl refl refl) (specs_external 2 s))
-          (asserted_external s) (asserted_external s)
+          (asserted_external s)
           std
 
-    pub outer_within : (fuel : ℕ) → OuterReads (read_within (grammar std) fuel)
+    pub outer_within : (fuel : ℕ) → OuterReads (read_within (iso std) fuel)
     unfolding read_within
     outer_within zero = record { bodies = λ depth s. tt; tails = λ depth s. tt; rests = λ depth s. tt; definitions = λ depth s. tt }
     outer_within (suc fuel) = record {
-      bodies = λ depth s. body_made (read_within (grammar std) fuel) (reads_within std toks fuel) (outer_within fuel) (declarator_hands std toks fuel) (steady_within std fuel) depth s;
-      tails = λ depth s. tail_made (read_within (grammar std) fuel) (reads_within std toks fuel) (outer_within fuel) (declarator_hands std toks fuel) (steady_within std fuel) depth s;
-      rests = λ depth s. rest_made (read_within (grammar std) fuel) (reads_within std toks fuel) (outer_within fuel) (declarator_hands std toks fuel) (steady_within std fuel) depth s;
-      definitions = λ depth s. external_made (read_within (grammar std) fuel) (reads_within std toks fuel) (outer_within fuel) (declarator_hands std toks fuel) (steady_within std fuel) depth s;
+      bodies = λ depth s. body_made (read_within (iso std) fuel) (reads_within std toks fuel) (outer_within fuel) (declarator_hands std toks fuel) (steady_within std fuel) depth s;
+      tails = λ depth s. tail_made (read_within (iso std) fuel) (reads_within std toks fuel) (outer_within fuel) (declarator_hands std toks fuel) (steady_within std fuel) depth s;
+      rests = λ depth s. rest_made (read_within (iso std) fuel) (reads_within std toks fuel) (outer_within fuel) (declarator_hands std toks fuel) (steady_within std fuel) depth s;
+      definitions = λ depth s. external_made (read_within (iso std) fuel) (reads_within std toks fuel) (outer_within fuel) (declarator_hands std toks fuel) (steady_within std fuel) depth s;
     }
 
     -- ---- The unit
@@ -559,9 +559,9 @@ module _ (std : Dialect) where
         external_after : (q : Production) (first : ℕ) (o : Outline) (l : Label) (under : Forest) (es : List Entry) → q ≡ External → entries_after q first o l under es ≡ es
         external_after q first o l under es e = ap (λ x. entries_after x first o l under es) e
 
-    pub definitions_within : (fuel depth : ℕ) (s : State) → After (UnitGoes s) (read_within (grammar std) fuel depth (produce External) s)
+    pub definitions_within : (fuel depth : ℕ) (s : State) → After (UnitGoes s) (read_within (iso std) fuel depth (produce External) s)
     definitions_within fuel depth s =
-        by (read_within (grammar std) fuel depth (produce External) s) ((outer_within fuel).definitions depth s) (steady_within std fuel depth (produce External) s)
+        by (read_within (iso std) fuel depth (produce External) s) ((outer_within fuel).definitions depth s) (steady_within std fuel depth (produce External) s)
         (moves_within std toks fuel depth (produce External) s refl)
       where
         by : (r : Step) → After (Defines External s) r → After (Steady s) r → Moves true s r → After (UnitGoes s) r
@@ -576,13 +576,13 @@ module _ (std : Dialect) where
         onward (Err stop) n' = tt
         onward (Ok s'') n' = unit_further s s' s'' m n'
 
-    pub many_within : (fuel depth : ℕ) (s : State) → After (UnitGoes s) (read_within (grammar std) fuel depth (repeat own (part External)) s)
+    pub many_within : (fuel depth : ℕ) (s : State) → After (UnitGoes s) (read_within (iso std) fuel depth (repeat own (part External)) s)
     unfolding read_within
     many_within zero depth s = tt
     many_within (suc fuel) depth s =
-        after_test (UnitGoes s) (may (grammar std) own (part External) s)
-        (and_then (read_within (grammar std) fuel depth (produce External) s) (read_within (grammar std) fuel depth (repeat own (part External)))) (Ok s)
-        (unit_then s (read_within (grammar std) fuel depth (produce External) s) (read_within (grammar std) fuel depth (repeat own (part External))) (definitions_within fuel depth s) (many_within fuel depth))
+        after_test (UnitGoes s) (may (iso std) own (part External) s)
+        (and_then (read_within (iso std) fuel depth (produce External) s) (read_within (iso std) fuel depth (repeat own (part External)))) (Ok s)
+        (unit_then s (read_within (iso std) fuel depth (produce External) s) (read_within (iso std) fuel depth (repeat own (part External))) (definitions_within fuel depth s) (many_within fuel depth))
         (unit_still s)
 
     pub end_goes : (s : State) → After (UnitGoes s) (at_end s)
@@ -590,12 +590,12 @@ module _ (std : Dialect) where
     end_goes s = after_test (UnitGoes s) (s.at == length s.toks) (Ok s) (Err (syntax s.at)) (unit_still s) tt
 
     -- all definitions, and the end of the text
-    pub all_within : (fuel depth : ℕ) (s : State) → After (UnitGoes s) (step (grammar std) (read_within (grammar std) fuel) depth (many own (part External) · end_of_text) s)
+    pub all_within : (fuel depth : ℕ) (s : State) → After (UnitGoes s) (step (iso std) (read_within (iso std) fuel) depth (many own (part External) · end_of_text) s)
     all_within fuel depth s =
-        unit_then s (step (grammar std) (read_within (grammar std) fuel) depth (many own (part External)) s) at_end
-        (after_test (UnitGoes s) (may (grammar std) own (part External) s)
-        (and_then (read_within (grammar std) fuel depth (produce External) s) (read_within (grammar std) fuel depth (repeat own (part External)))) (Ok s)
-        (unit_then s (read_within (grammar std) fuel depth (produce External) s) (read_within (grammar std) fuel depth (repeat own (part External))) (definitions_within fuel depth s) (many_within fuel depth))
+        unit_then s (step (iso std) (read_within (iso std) fuel) depth (many own (part External)) s) at_end
+        (after_test (UnitGoes s) (may (iso std) own (part External) s)
+        (and_then (read_within (iso std) fuel depth (produce External) s) (read_within (iso std) fuel depth (repeat own (part External)))) (Ok s)
+        (unit_then s (read_within (iso std) fuel depth (produce External) s) (read_within (iso std) fuel depth (repeat own (part External))) (definitions_within fuel depth s) (many_within fuel depth))
         (unit_still s))
         end_goes
 
@@ -639,12 +639,12 @@ module _ (std : Dialect) where
     abbrev unit_items : Item
     unit_items = first_body (c99.table TranslationUnit)
 
-    pub unit_within : (fuel : ℕ) → After UnitMade (read_within (grammar std) fuel 0 (produce TranslationUnit) (at_first toks))
+    pub unit_within : (fuel : ℕ) → After UnitMade (read_within (iso std) fuel 0 (produce TranslationUnit) (at_first toks))
     unfolding read_within
     unit_within zero = tt
     unit_within (suc fuel) =
-        after_test UnitMade (may (grammar std) own unit_items (at_first toks)) (alternative (grammar std) (read_within (grammar std) fuel) 0 TranslationUnit 1 unit_items (at_first toks)) (Err (syntax 0))
-        (by (step (grammar std) (read_within (grammar std) fuel) 0 unit_items (opened TranslationUnit 1 (at_first toks))) (all_within fuel 0 (opened TranslationUnit 1 (at_first toks))))
+        after_test UnitMade (may (iso std) own unit_items (at_first toks)) (alternative (iso std) (read_within (iso std) fuel) 0 TranslationUnit 1 unit_items (at_first toks)) (Err (syntax 0))
+        (by (step (iso std) (read_within (iso std) fuel) 0 unit_items (opened TranslationUnit 1 (at_first toks))) (all_within fuel 0 (opened TranslationUnit 1 (at_first toks))))
         tt
       where
         by : (r : Step) → After (UnitGoes (opened TranslationUnit 1 (at_first toks))) r → After UnitMade (and_then r (λ s'. Ok (closed TranslationUnit (at_first toks) s')))

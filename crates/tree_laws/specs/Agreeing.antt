@@ -1,13 +1,13 @@
 -- Where a tree is read as its names are bound (ISO/IEC 9899:1999, 6.2.1, 6.7.7 and 6.7.5.3 paragraph 11).
 use Rattle.std.specs.Prelude.{ℕ, Bool, true, false, ◌&&◌, ◌||◌, ◌+◌, not, List, if◌then◌else◌, ◌==◌, ◌%◌}
 use Rattle.std.specs.Option.{option_map_or}
-use Rattle.c99_grammar.specs.declared.dialects.Dialect.{Dialect}
+use Rattle.c99_grammar.specs.declared.dialects.Edition.{Edition}
 use Rattle.cs_base.specs.Token.{Token}
 use Rattle.c99_tree.specs.Tree.{Forest, none, token, node}
 use Rattle.c99_tree.specs.declared.production.Label.{Label}
 use Rattle.c99_tree.specs.declared.production.Production.{Production}
 use Rattle.c99_tree.specs.declared.production.Production.TheVariants.{Main, Params, Primary, Pdirect}
-use Rattle.c99_grammar.specs.Standard.{grammar}
+use Rattle.c99_grammar.specs.Standard.{iso}
 use Rattle.c99_read.specs.State.{base_at, is_identifier}
 use Rattle.scope_bind.specs.Named.{ordinary}
 use Rattle.c_types.specs.Trees.{is_at}
@@ -29,13 +29,13 @@ module _ (toks : List Token) where
   is_read_so Params alternative k i facts = if (alternative == 1) && (k % 2 == 0) then not (denotes_typedef i facts) else true
   is_read_so _ alternative k i facts = true
 
-module _ (std : Dialect) where
+module _ (std : Edition) where
   module _ (toks : List Token) where
     -- An identifier directly behind the parenthesis that begins a parameter's declarator is the declared name: it is none
     -- before it is declared (6.7.5.3 paragraph 11).
     abbrev pub is_named_so : Label → ℕ → Facts → Bool
     is_named_so l first facts =
-        if is_at l Pdirect 2 then not (is_identifier (base_at (grammar std) toks (first + 1))) || not (denotes_typedef toks (first + 1) facts) else true
+        if is_at l Pdirect 2 then not (is_identifier (base_at (iso std) toks (first + 1))) || not (denotes_typedef toks (first + 1) facts) else true
 
     -- each name below is read as it is bound, at its moment of the walk
     abbrev pub agrees : Forest → State → Bool

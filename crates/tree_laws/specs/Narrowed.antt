@@ -3,13 +3,13 @@ use Rattle.std.specs.Prelude.{ℕ, ◌==◌, ◌≡◌, Bool, true, false, ◌&&
 use Rattle.std.specs.List.{list_all, list_any}
 use Rattle.std.specs.Str.{bytes_eq}
 use Rattle.cs_base.specs.Token.{Token}
-use Rattle.c99_grammar.specs.declared.dialects.Dialect.TheVariants.{C99, C11}
+use Rattle.c99_grammar.specs.declared.dialects.Edition.TheVariants.{C99, C11}
 use Rattle.c99_tree.specs.Tree.{Forest, none, token, node, Node, node_of}
 use Rattle.c99_tree.specs.declared.production.Label.{Label}
 use Rattle.c99_tree.specs.declared.production.Production.{Production}
 use Rattle.c99_tree.specs.declared.production.Production.TheVariants.{External, Declaration, Member, MemRest, Mod}
 use Rattle.c99_grammar.specs.Spellings.{keywords_added}
-use Rattle.c99_grammar.specs.Standard.{grammar}
+use Rattle.c99_grammar.specs.Standard.{iso}
 use Rattle.c_types.specs.declared.declarations.Fault.{Fault}
 use Rattle.scope_bind.specs.Bound.{Bound, binding_of}
 use Rattle.tree_laws.specs.ReadTexts.{Reads}
@@ -74,32 +74,32 @@ has_no_added_word toks = list_all (λ t. not (list_any (λ w. bytes_eq t.text w.
 -- what C99 reads of a text without these, C11 reads, and no semicolon stands alone there
 abbrev pub TextsOfC99AreReadByC11 : Type 0
 TextsOfC99AreReadByC11 =
-    (toks : List Token) (tree : Node) → has_no_added_word toks ≡ true → Reads (grammar C99) toks tree
-    → (wider : Node) × (Reads (grammar C11) toks wider × ((tree ≡ narrowed_node wider) × (has_lone_below wider ≡ false)))
+    (toks : List Token) (tree : Node) → has_no_added_word toks ≡ true → Reads (iso C99) toks tree
+    → (wider : Node) × (Reads (iso C11) toks wider × ((tree ≡ narrowed_node wider) × (has_lone_below wider ≡ false)))
 
 -- what C11 reads of it, C99 reads, if no semicolon stands alone there
 abbrev pub TextsOfC11AreReadByC99 : Type 0
 TextsOfC11AreReadByC99 =
-    (toks : List Token) (tree : Node) → has_no_added_word toks ≡ true → Reads (grammar C11) toks tree → has_lone_below tree ≡ false
-    → Reads (grammar C99) toks (narrowed_node tree)
+    (toks : List Token) (tree : Node) → has_no_added_word toks ≡ true → Reads (iso C11) toks tree → has_lone_below tree ≡ false
+    → Reads (iso C99) toks (narrowed_node tree)
 
 -- ---- Binding
 
 -- the tree by C11 of such a text, and the narrowed one, have one binding, or one first fault
 abbrev pub TextsBindAlike : Type 0
 TextsBindAlike =
-    (toks : List Token) (tree : Node) → has_no_added_word toks ≡ true → Reads (grammar C11) toks tree → has_lone_below tree ≡ false
+    (toks : List Token) (tree : Node) → has_no_added_word toks ≡ true → Reads (iso C11) toks tree → has_lone_below tree ≡ false
     → binding_of toks (narrowed_node tree) ≡ binding_of toks tree
 
 -- what C99 reads, and binds or refuses, C11 reads, and binds so or refuses for the same fault
 abbrev pub TextsOfC99AreBoundByC11 : Type 0
 TextsOfC99AreBoundByC11 =
-    (toks : List Token) (tree : Node) (answer : Result Bound Fault) → has_no_added_word toks ≡ true → Reads (grammar C99) toks tree
-    → binding_of toks tree ≡ answer → (wider : Node) × (Reads (grammar C11) toks wider × (binding_of toks wider ≡ answer))
+    (toks : List Token) (tree : Node) (answer : Result Bound Fault) → has_no_added_word toks ≡ true → Reads (iso C99) toks tree
+    → binding_of toks tree ≡ answer → (wider : Node) × (Reads (iso C11) toks wider × (binding_of toks wider ≡ answer))
 
 -- .. and the other way, if no semicolon stands alone there
 abbrev pub TextsOfC11AreBoundByC99 : Type 0
 TextsOfC11AreBoundByC99 =
-    (toks : List Token) (tree : Node) (answer : Result Bound Fault) → has_no_added_word toks ≡ true → Reads (grammar C11) toks tree
+    (toks : List Token) (tree : Node) (answer : Result Bound Fault) → has_no_added_word toks ≡ true → Reads (iso C11) toks tree
     → has_lone_below tree ≡ false → binding_of toks tree ≡ answer
-    → (narrow : Node) × (Reads (grammar C99) toks narrow × (binding_of toks narrow ≡ answer))
+    → (narrow : Node) × (Reads (iso C99) toks narrow × (binding_of toks narrow ≡ answer))

@@ -1,11 +1,11 @@
 -- What is true of the tree of every text that is read.
 use Rattle.std.specs.Prelude.{ℕ, ◌<◌, ◌≤◌, ◌≡◌, ◌≢◌, true, List, length, Some, Ok, IfErr, All, AllPairs}
-use Rattle.c99_grammar.specs.declared.dialects.Dialect.{Dialect}
+use Rattle.c99_grammar.specs.declared.dialects.Edition.{Edition}
 use Rattle.cs_base.specs.Token.{Token}
 use Rattle.c99_tree.specs.Tree.{Node}
 use Rattle.c99_read.specs.Reading.{Stop, syntax, too_deep, read_of}
 use Rattle.c99_read.specs.State.{base_at, is_identifier}
-use Rattle.c99_grammar.specs.Standard.{Grammar, grammar}
+use Rattle.c99_grammar.specs.Standard.{Grammar, iso}
 use Rattle.scope_bind.specs.declared.bound.Name.{Name}
 use Rattle.c_types.specs.declared.lists.List.{List as NameList}
 use Rattle.c_types.specs.declared.lists.Range.{Range}
@@ -30,9 +30,9 @@ abbrev pub AllTokensStandInTrees : Type 0
 AllTokensStandInTrees =
     (g : Grammar) (toks : List Token) (tree : Node) → reads_all g ≡ true → Reads g toks tree → token_count tree.under ≡ length toks
 
--- by each dialect the tree that is read is one of the text (ISO/IEC 9899:1999 and 9899:2011, Annex A.2)
+-- by each edition the tree that is read is one of the text (ISO/IEC 9899:1999 and 9899:2011, Annex A.2)
 abbrev pub TreesAreOfTheirTexts : Type 0
-TreesAreOfTheirTexts = (s : Dialect) (toks : List Token) (tree : Node) → Reads (grammar s) toks tree → IsTreeOf (length toks) tree
+TreesAreOfTheirTexts = (s : Edition) (toks : List Token) (tree : Node) → Reads (iso s) toks tree → IsTreeOf (length toks) tree
 
 -- the index of the token at which reading stops
 abbrev pub place_of : Stop → ℕ
@@ -45,10 +45,10 @@ ReadingStopsInTheText = (g : Grammar) (toks : List Token) → IfErr (read_of g t
 
 -- ---- Texts that are read and bound
 
--- this is so of each text that is read by a dialect, and of its binding
-abbrev pub OfEachBinding : (Dialect → List Token → Bound → Type 0) → Type 0
+-- this is so of each text that is read by an edition, and of its binding
+abbrev pub OfEachBinding : (Edition → List Token → Bound → Type 0) → Type 0
 OfEachBinding P =
-    (s : Dialect) (toks : List Token) (tree : Node) (b : Bound) → Reads (grammar s) toks tree → Binds toks tree b → P s toks b
+    (s : Edition) (toks : List Token) (tree : Node) (b : Bound) → Reads (iso s) toks tree → Binds toks tree b → P s toks b
 
 -- a name is a token of the text, and so is the one that names its entity (6.2.1)
 abbrev pub ReadNamesStandInTheText : Type 0
@@ -57,7 +57,7 @@ ReadNamesStandInTheText = OfEachBinding (λ s toks b. All (λ (n : Name). (n.ind
 -- a fault of binding stands at a token of the text
 abbrev pub ReadFaultsStandInTheText : Type 0
 ReadFaultsStandInTheText =
-    (s : Dialect) (toks : List Token) (tree : Node) → Reads (grammar s) toks tree → IfErr (binding_of toks tree) (λ f. index_of f < length toks)
+    (s : Edition) (toks : List Token) (tree : Node) → Reads (iso s) toks tree → IfErr (binding_of toks tree) (λ f. index_of f < length toks)
 
 -- no token is two names
 abbrev pub EachReadTokenIsOneName : Type 0
@@ -66,7 +66,7 @@ EachReadTokenIsOneName = OfEachBinding (λ s toks b. AllPairs (λ (m n : Name). 
 -- a name is an identifier (6.4.2) that is no keyword, and so is the one that names its entity
 abbrev pub ReadNamesAreIdentifiers : Type 0
 ReadNamesAreIdentifiers =
-    OfEachBinding (λ s toks b. All (λ (n : Name). (is_identifier (base_at (grammar s) toks n.index) ≡ true) × (is_identifier (base_at (grammar s) toks n.entity) ≡ true)) b.names)
+    OfEachBinding (λ s toks b. All (λ (n : Name). (is_identifier (base_at (iso s) toks n.index) ≡ true) × (is_identifier (base_at (iso s) toks n.entity) ≡ true)) b.names)
 
 -- the token that names an entity is itself a name, and of this entity
 abbrev pub ReadEntitiesAreNames : Type 0

@@ -1,5 +1,5 @@
 use Rattle.std.proofs.Common.{refl, sym, ap, ◌∙◌}
-use Rattle.c99_grammar.specs.Spellings.{keywords_of, punctuators}
+use Rattle.c99_grammar.specs.Spellings.{punctuators}
 use Rattle.c99_grammar.specs.TokenClasses.{spelled_class, base_class, class_of_kind}
 use Rattle.c99_grammar.specs.Standard.{grammar}
 use Rattle.c99_grammar.specs.declared.classes.Class.TheVariants.{Identifier, NoClass}
@@ -9,7 +9,7 @@ pub returns-in-Ident : goal.returns-in-Ident
 unfolding base_class
 returns-in-Ident c =
     c.word_class.ensures
-    ∙ ap (λ t. spelled_class (keywords_of c.args.dialect) t Identifier) c.text.ensures.answer
+    ∙ ap (λ t. spelled_class (grammar c.args.dialect).keywords t Identifier) c.text.ensures.answer
     ∙ ap (λ k. class_of_kind (grammar c.args.dialect) k c.args.tok.now.text) (sym c.in-Ident.is ∙ c.kind.ensures)
 
 pub returns-in-Punct : goal.returns-in-Punct

@@ -78,7 +78,7 @@ binary-returns-else-goes_on-clause-answer t c =
     let p = c.args.production in
     let P : Production → Type 0 = λ q. ReadsNode (Ok c.in_ok-first.first) s s1 (whole (grammar c.args.dialect) c.args.depth (produce q)) in
     binary-read c.args.dialect c.args.depth p (Ok c.in_ok-first.first) s c.end.new.self.state c.requires.binary c.requires.starts
-    (led-left (grammar c.args.dialect) c.args.depth p 1 (operand_of p) (rest_of p) (left-out p c.requires.binary) s s1 c.end.new.self.state c.in_ok-first.first
+    (led-left (grammar c.args.dialect) c.args.depth p 1 (operand_of p) (rest_of p c.args.dialect) (left-out c.args.dialect p c.requires.binary) s s1 c.end.new.self.state c.in_ok-first.first
     (subst P c.operand_of.ensures c.in_ok-first.ensures.answer) (sym c.goes_on.ensures ∙ c.if-goes_on.false)
     (c.end.ensures.answer ∙ ap (λ near. record s1 { near = near }) c.begun-begun.ensures.near))
 
@@ -91,7 +91,7 @@ binary-returns-in_err-first-clause-answer t c =
     let P : Production → Type 0 = λ q. ReadsNode (Err e) s s1 (whole (grammar c.args.dialect) c.args.depth (produce q)) in
     node-passed e c.from_residual.result s s1 (whole (grammar c.args.dialect) c.args.depth (produce p)) c.from_residual.ensures.1
     (binary-read c.args.dialect c.args.depth p (Err e) s s1 c.requires.binary c.requires.starts
-    (led-stopped (grammar c.args.dialect) c.args.depth p 1 (operand_of p) (rest_of p) (left-out p c.requires.binary) s s1 e
+    (led-stopped (grammar c.args.dialect) c.args.depth p 1 (operand_of p) (rest_of p c.args.dialect) (left-out c.args.dialect p c.requires.binary) s s1 e
     (subst P c.operand_of.ensures c.in_err-first.ensures.answer)))
 
 pub joined-item-requires : goal.joined-item-requires
@@ -105,7 +105,7 @@ pub joined-returns-clause-answer : goal.joined-returns-clause-answer
 joined-returns-clause-answer t c = λ s begun m.
     let p = c.args.production in
     let g = grammar c.args.dialect in
-    led-ends g c.args.depth p 1 (operand_of p) (rest_of p) (left-out p c.requires.binary) s c.args.self.now.state c.wrap.new.self.state c.item.new.self.state
+    led-ends g c.args.depth p 1 (operand_of p) (rest_of p c.args.dialect) (left-out c.args.dialect p c.requires.binary) s c.args.self.now.state c.wrap.new.self.state c.item.new.self.state
     c.close.new.self.state c.args.first c.close.result c.in_ok-outer.outer c.args.begun begun m c.in_ok-outer.ensures.answer
     (ap (λ i. step g (whole g) c.args.depth i c.wrap.new.self.state) (sym c.rest_of.ensures) ∙ c.in_ok-item.ensures.answer) c.close.ensures.answer
 
@@ -115,9 +115,9 @@ joined-returns-in_err-item-clause-answer t c = λ s begun m.
     let g = grammar c.args.dialect in
     let e = c.in_err-item.field-0.0 in
     let P : Item → Type 0 = λ i. Reads (Err e) c.item.new.self.state (step g (whole g) c.args.depth i c.wrap.new.self.state) in
-    node-passed e c.from_residual-in_err-item.result s c.item.new.self.state (alternative g (whole g) c.args.depth p 1 (part (operand_of p) · rest_of p))
+    node-passed e c.from_residual-in_err-item.result s c.item.new.self.state (alternative g (whole g) c.args.depth p 1 (part (operand_of p) · rest_of p c.args.dialect))
     c.from_residual-in_err-item.ensures.1
-    (led-stopped-behind g c.args.depth p 1 (operand_of p) (rest_of p) (left-out p c.requires.binary) s c.args.self.now.state c.wrap.new.self.state c.item.new.self.state
+    (led-stopped-behind g c.args.depth p 1 (operand_of p) (rest_of p c.args.dialect) (left-out c.args.dialect p c.requires.binary) s c.args.self.now.state c.wrap.new.self.state c.item.new.self.state
     c.args.first c.in_ok-outer.outer c.args.begun e begun m c.in_ok-outer.ensures.answer (subst P c.rest_of.ensures c.in_err-item.ensures.answer))
 
 -- ---- a node that is opened first
