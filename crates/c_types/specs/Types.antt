@@ -1,14 +1,14 @@
 -- Types as far as names depend on them (ISO/IEC 9899:1999, 6.2.5): which structure or union has the member.
 -- Differs: arithmetic types are one type, and expressions of enumerated type have it; qualifiers count for nothing.
-use Rattle.std.specs.Prelude.{ℕ, Bool, true, false, ◌&&◌, not, List, [], ◌∷◌, drop, if◌then◌else◌}
+use Rattle.std.specs.Prelude.{ℕ, Bool, true, false, ◌&&◌, ◌||◌, not, List, [], ◌∷◌, drop, if◌then◌else◌}
 use Rattle.c_types.specs.declared.types.Base.{Base}
 use Rattle.c_types.specs.declared.types.Base.TheVariants.{Arithmetic, Nothing, Structure, Union, Enumeration, Unknown}
 use Rattle.c_types.specs.declared.types.Derivation.{Derivation}
 use Rattle.c_types.specs.declared.types.Derivation.TheVariants.{Pointer, Array, Function}
 
 -- A type: what it is derived from in the end, and its derivations, the outermost first. A structure, a union and an
--- enumeration have a number. A tag alone has enumerated type, and `Unknown` is the type of a place in an initializer
--- that no rule gives.
+-- enumeration have a number. A tag alone has enumerated type, and `Unknown` is a type that no rule gives: that of some
+-- places in an initializer, and in GNU C that of what a built-in function gives.
 pub record CType : Type 0 where
   pub base : Base
   pub derivations : List Derivation
@@ -113,21 +113,27 @@ is_unknown t = is_plain t && is_unknown_base t.base
 abbrev pub inner_of : CType → CType
 inner_of t = record t { derivations = drop 1 t.derivations }
 
+-- what stands where a type does not give it: of an unknown type that is unknown too
+abbrev pub lacking : CType → CType
+lacking t = if is_unknown t then unknown else arithmetic
+
 -- what it points to, or its element
 abbrev pub target_of : CType → CType
-target_of t = if is_pointing t then inner_of t else arithmetic
+target_of t = if is_pointing t then inner_of t else lacking t
 
 -- the type of a parameter that is declared so (6.7.5.3 paragraphs 7 and 8)
 abbrev pub adjusted : CType → CType
 adjusted t = if is_array t then pointer (inner_of t) else (if is_function t then pointer t else t)
 
--- array subscripting (6.5.2.1): the operand in front may be the integer
+-- Array subscripting (6.5.2.1): the operand in front may be the integer, and one of unknown type is where the other one
+-- points.
 abbrev pub subscripted : CType → CType → CType
-subscripted left inside = if is_pointing left then target_of left else target_of inside
+subscripted left inside =
+    if is_pointing left || (is_unknown left && not (is_pointing inside)) then target_of left else target_of inside
 
 -- the result of a function
 abbrev pub result_of : CType → CType
-result_of t = if is_function t then inner_of t else arithmetic
+result_of t = if is_function t then inner_of t else lacking t
 
 abbrev pub begins_pointer : List Derivation → Bool
 begins_pointer (Pointer ∷ more) = true
@@ -141,14 +147,26 @@ called t = if begins_pointer t.derivations then result_of (inner_of t) else resu
 abbrev pub pointed_to : CType → CType
 pointed_to t = if is_function t then t else target_of t
 
+-- the operand in front tells the type of the sum: a pointer, or one of unknown type that may be a pointer
+abbrev pub tells_sum : Bool → CType → CType → Bool
+tells_sum minus left right = is_pointing left || (is_unknown left && not (is_pointing right && not minus))
+
 -- additive operators (6.5.6): a pointer and an integer, or two pointers and a minus sign
 abbrev pub sum_type : Bool → CType → CType → CType
 sum_type minus left right =
     if is_pointing left && (is_pointing right && minus) then arithmetic
-    else (if is_pointing left then left else (if is_pointing right then right else arithmetic))
+    else (if tells_sum minus left right then left else (if is_pointing right then right else lacking right))
 
--- conditional operator (6.5.15 paragraphs 5 and 6): the second operand, if it tells of a structure or union
+-- it points to something else than `void`
+abbrev pub points_to_something : CType → Bool
+points_to_something t = is_pointing t && not (is_nothing (target_of t))
+
+-- it tells of a structure or union, where it is derived from one
+abbrev pub tells_members : CType → Bool
+tells_members t = is_record t || points_to_something t
+
+-- Conditional operator (6.5.15 paragraphs 5 and 6): the second operand, if it tells of a structure or union; and where
+-- it is unknown, the third one only if that does.
 abbrev pub chosen : CType → CType → CType
 chosen second third =
-    if is_record second then second
-    else (if is_pointing second && not (is_nothing (target_of second)) then second else third)
+    if tells_members second || (is_unknown second && not (tells_members third)) then second else third

@@ -1,6 +1,6 @@
 // Types as far as names depend on them (ISO/IEC 9899:1999, 6.2.5).
 ghost use Rattle.std.specs.Prelude.{◌≡◌, ◌&&◌, not, IfOk, ◌∷◌};
-ghost use Rattle.c_types.specs.Types.{plain, arithmetic, begins_pointer, is_array, is_plain, is_arithmetic, is_unknown, inner_of, pointer, array, function, is_pointing, is_function, is_nothing, is_record, target_of, adjusted, subscripted, result_of, called, pointed_to, sum_type, chosen};
+ghost use Rattle.c_types.specs.Types.{plain, arithmetic, begins_pointer, is_array, is_plain, is_arithmetic, is_unknown, inner_of, pointer, array, function, is_pointing, is_function, is_nothing, is_record, lacking, target_of, adjusted, subscripted, result_of, called, pointed_to, tells_sum, sum_type, points_to_something, tells_members, chosen};
 ghost use Rattle.c_types.specs.Tags.{renumbered};
 
 use cs_base::Memory;
@@ -8,7 +8,8 @@ use std::alloc::Global;
 use std::marker::Model;
 
 /// What a type is derived from in the end. A structure, a union and an enumeration have a number; a tag
-/// alone has enumerated type. `Unknown` is the type of a place in an initializer that no rule gives.
+/// alone has enumerated type. `Unknown` is a type that no rule gives: that of some places in an initializer, and in
+/// GNU C that of what a built-in function gives.
 #[derive(Clone, Copy, Debug, PartialEq, Eq)]
 pub enum Base {
     Arithmetic,
@@ -196,6 +197,17 @@ impl CType {
         self
     }
 
+    // What stands where the type does not give it.
+    fn lacking(self) -> CType
+        ensures { result ≡ lacking self }
+    {
+        if self.is_unknown() {
+            self
+        } else {
+            self.into_arithmetic()
+        }
+    }
+
     /// What it points to, or its element.
     pub fn target(self) -> CType
         ensures { result ≡ target_of self }
@@ -203,7 +215,7 @@ impl CType {
         if self.is_pointing() {
             self.inner()
         } else {
-            self.into_arithmetic()
+            self.lacking()
         }
     }
 
@@ -223,7 +235,7 @@ impl CType {
     pub fn subscripted(self, inside: CType) -> CType
         ensures { result ≡ subscripted self inside }
     {
-        if self.is_pointing() {
+        if self.is_pointing() || (self.is_unknown() && !inside.is_pointing()) {
             self.target()
         } else {
             inside.target()
@@ -236,7 +248,7 @@ impl CType {
         if self.is_function() {
             self.inner()
         } else {
-            self.into_arithmetic()
+            self.lacking()
         }
     }
 
@@ -261,35 +273,63 @@ impl CType {
         }
     }
 
+    // The operand in front tells the type of the sum.
+    fn tells_sum(&self, minus: bool, right: &CType) -> bool
+        ensures { result ≡ tells_sum minus self.now right.now }
+    {
+        self.is_pointing() || (self.is_unknown() && !(right.is_pointing() && !minus))
+    }
+
     /// The sum or difference of the two.
     pub fn sum(minus: bool, left: CType, right: CType) -> CType
         ensures { result ≡ sum_type minus left right }
     {
         if left.is_pointing() && (right.is_pointing() && minus) {
             left.into_arithmetic()
-        } else if left.is_pointing() {
+        } else if left.tells_sum(minus, &right) {
             left
         } else if right.is_pointing() {
             right
         } else {
-            left.into_arithmetic()
+            right.lacking()
         }
     }
 
     fn points_to_something(&self) -> Result<bool, Memory>
-        ensures { IfOk result (λ b. b ≡ (is_pointing self.now && not (is_nothing (target_of self.now)))) }
+        ensures { IfOk result (λ b. b ≡ points_to_something self.now) }
     {
         Ok(self.is_pointing() && !self.copied()?.target().is_nothing())
+    }
+
+    // It tells of a structure or union.
+    fn tells_members(&self) -> Result<bool, Memory>
+        ensures { IfOk result (λ b. b ≡ tells_members self.now) }
+    {
+        if self.is_record() {
+            return Ok(true);
+        }
+        self.points_to_something()
+    }
+
+    // It is unknown, and the other one does not tell of a structure or union.
+    fn stays_unknown(&self, other: &CType) -> Result<bool, Memory>
+        ensures { IfOk result (λ b. b ≡ (is_unknown self.now && not (tells_members other.now))) }
+    {
+        if self.is_unknown() {
+            Ok(!other.tells_members()?)
+        } else {
+            Ok(false)
+        }
     }
 
     /// The type of a conditional expression with these operands.
     pub fn chosen(second: CType, third: CType) -> Result<CType, Memory>
         ensures { IfOk result (λ t. t ≡ chosen second third) }
     {
-        if second.is_record() {
+        if second.tells_members()? {
             return Ok(second);
         }
-        if second.points_to_something()? {
+        if second.stays_unknown(&third)? {
             Ok(second)
         } else {
             Ok(third)

@@ -10,7 +10,7 @@ use Rattle.c99_tree.specs.declared.production.Production.{Production}
 use Rattle.c99_tree.specs.declared.production.Production.TheVariants.{Expr, Assign, Cond, Add, Cast, CastRest, Unary, SizeRest, SizeLit, Primary, Post, TypeName, Specs, Main, StructSpec, Word, ExtRest, InitDecl, Declarator, Init, InitItem, Designator, Pointer, Suffix}
 use Rattle.c_types.specs.declared.types.Base.{Base}
 use Rattle.c_types.specs.declared.types.Base.TheVariants.{Arithmetic, Nothing, Structure, Union, Enumeration, Unknown}
-use Rattle.c_types.specs.Types.{CType, arithmetic, nothing, pointer, array, function, inner_of, target_of, adjusted, subscripted, result_of, called, pointed_to, sum_type, chosen, is_pointing, is_array, is_function, begins_pointer, is_record, is_nothing, is_arithmetic, is_unknown, is_plain, is_record_base, is_nothing_base, is_arithmetic_base, is_unknown_base}
+use Rattle.c_types.specs.Types.{CType, arithmetic, nothing, unknown, pointer, array, function, inner_of, lacking, target_of, adjusted, subscripted, result_of, called, pointed_to, tells_sum, sum_type, points_to_something, tells_members, chosen, is_pointing, is_array, is_function, begins_pointer, is_record, is_nothing, is_arithmetic, is_unknown, is_plain, is_record_base, is_nothing_base, is_arithmetic_base, is_unknown_base}
 use Rattle.c_types.specs.Tags.{base_renumbered, renumbered, is_base_sort, is_sort}
 use Rattle.c_types.specs.Trees.{is_node, is_at, suffixed, declarator_type}
 use Rattle.c_types.specs.Declarations.{spelling_at}
@@ -113,8 +113,12 @@ module _ (m : ℕ → ℕ) where
 
   -- ---- What a type gives
 
+  lacking_moved : (t : CType) → lacking (Goes t) ≡ Goes (lacking t)
+  lacking_moved t =
+      ap (λ c. if c then unknown else arithmetic) (unknown_same t) ∙ type_if (is_unknown t) unknown arithmetic unknown arithmetic refl refl
+
   pub target_moved : (t : CType) → target_of (Goes t) ≡ Goes (target_of t)
-  target_moved t = type_if (is_pointing t) (inner_of t) arithmetic (inner_of (Goes t)) arithmetic refl refl
+  target_moved t = type_if (is_pointing t) (inner_of t) (lacking t) (inner_of (Goes t)) (lacking (Goes t)) refl (lacking_moved t)
 
   pub adjusted_moved : (t : CType) → adjusted (Goes t) ≡ Goes (adjusted t)
   adjusted_moved t =
@@ -124,10 +128,12 @@ module _ (m : ℕ → ℕ) where
 
   pub subscripted_moved : (s t : CType) → subscripted (Goes s) (Goes t) ≡ Goes (subscripted s t)
   subscripted_moved s t =
-      type_if (is_pointing s) (target_of s) (target_of t) (target_of (Goes s)) (target_of (Goes t)) (target_moved s) (target_moved t)
+      ap (λ c. if is_pointing s || (c && not (is_pointing t)) then target_of (Goes s) else target_of (Goes t)) (unknown_same s)
+      ∙ type_if (is_pointing s || (is_unknown s && not (is_pointing t))) (target_of s) (target_of t) (target_of (Goes s)) (target_of (Goes t))
+      (target_moved s) (target_moved t)
 
   result_moved : (t : CType) → result_of (Goes t) ≡ Goes (result_of t)
-  result_moved t = type_if (is_function t) (inner_of t) arithmetic (inner_of (Goes t)) arithmetic refl refl
+  result_moved t = type_if (is_function t) (inner_of t) (lacking t) (inner_of (Goes t)) (lacking (Goes t)) refl (lacking_moved t)
 
   pub called_moved : (t : CType) → called (Goes t) ≡ Goes (called t)
   called_moved t =
@@ -139,18 +145,26 @@ module _ (m : ℕ → ℕ) where
 
   sum_moved : (minus : Bool) (s t : CType) → sum_type minus (Goes s) (Goes t) ≡ Goes (sum_type minus s t)
   sum_moved minus s t =
-      type_if (is_pointing s && (is_pointing t && minus)) arithmetic (if is_pointing s then s else (if is_pointing t then t else arithmetic)) arithmetic
-      (if is_pointing s then Goes s else (if is_pointing t then Goes t else arithmetic)) refl
-      (type_if (is_pointing s) s (if is_pointing t then t else arithmetic) (Goes s) (if is_pointing t then Goes t else arithmetic) refl
-      (type_if (is_pointing t) t arithmetic (Goes t) arithmetic refl refl))
+      let both : Bool = is_pointing s && (is_pointing t && minus) in
+      let right : CType = if is_pointing t then t else lacking t in
+      let moved : CType = if is_pointing t then Goes t else lacking (Goes t) in
+      ap (λ c. if both then arithmetic else (if is_pointing s || (c && not (is_pointing t && not minus)) then Goes s else moved)) (unknown_same s)
+      ∙ type_if both arithmetic (if tells_sum minus s t then s else right) arithmetic (if tells_sum minus s t then Goes s else moved) refl
+      (type_if (tells_sum minus s t) s right (Goes s) moved refl
+      (type_if (is_pointing t) t (lacking t) (Goes t) (lacking (Goes t)) refl (lacking_moved t)))
+
+  points_same : (t : CType) → points_to_something (Goes t) ≡ points_to_something t
+  points_same t = ap (λ c. is_pointing t && not c) (ap is_nothing (target_moved t) ∙ nothing_same (target_of t))
+
+  tells_same : (t : CType) → tells_members (Goes t) ≡ tells_members t
+  tells_same t = ap (λ c. c || points_to_something (Goes t)) (record_same t) ∙ ap (λ c. is_record t || c) (points_same t)
 
   chosen_moved : (s t : CType) → chosen (Goes s) (Goes t) ≡ Goes (chosen s t)
   chosen_moved s t =
-      let pointing : Bool = is_pointing s && not (is_nothing (target_of s)) in
-      ap (λ c. if c then Goes s else (if is_pointing s && not (is_nothing (target_of (Goes s))) then Goes s else Goes t)) (record_same s)
-      ∙ (ap (λ c. if is_record s then Goes s else (if is_pointing s && not c then Goes s else Goes t)) (ap is_nothing (target_moved s) ∙ nothing_same (target_of s))
-      ∙ type_if (is_record s) s (if pointing then s else t) (Goes s) (if pointing then Goes s else Goes t) refl
-      (type_if pointing s t (Goes s) (Goes t) refl refl))
+      ap (λ c. if c || (is_unknown (Goes s) && not (tells_members (Goes t))) then Goes s else Goes t) (tells_same s)
+      ∙ (ap (λ c. if tells_members s || (c && not (tells_members (Goes t))) then Goes s else Goes t) (unknown_same s)
+      ∙ (ap (λ c. if tells_members s || (is_unknown s && not c) then Goes s else Goes t) (tells_same t)
+      ∙ type_if (tells_members s || (is_unknown s && not (tells_members t))) s t (Goes s) (Goes t) refl refl))
 
   suffixed_moved : (t : CType) (f : Forest) → suffixed (Goes t) f ≡ Goes (suffixed t f)
   suffixed_moved t none = refl

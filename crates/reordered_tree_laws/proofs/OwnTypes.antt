@@ -8,7 +8,7 @@ use Rattle.c99_tree.specs.declared.production.Production.{Production}
 use Rattle.c99_tree.specs.declared.production.Production.TheVariants.{Expr, Assign, Cond, Add, Cast, CastRest, Unary, SizeRest, SizeLit, Primary, Post, TypeName, Specs, Main, StructSpec, Word, ExtRest, InitDecl, Declarator, Init, InitItem, Designator, Pointer, Suffix}
 use Rattle.c_types.specs.declared.types.Base.{Base}
 use Rattle.c_types.specs.declared.types.Base.TheVariants.{Arithmetic, Nothing, Structure, Union, Enumeration, Unknown}
-use Rattle.c_types.specs.Types.{CType, arithmetic, nothing, pointer, array, function, inner_of, target_of, adjusted, subscripted, result_of, called, pointed_to, sum_type, chosen, is_pointing, is_array, is_function, begins_pointer, is_record, is_nothing}
+use Rattle.c_types.specs.Types.{CType, arithmetic, nothing, unknown, pointer, array, function, inner_of, lacking, target_of, adjusted, subscripted, result_of, called, pointed_to, tells_sum, sum_type, tells_members, chosen, is_pointing, is_array, is_function, begins_pointer, is_unknown}
 use Rattle.c_types.specs.Tags.{base_number, base_renumbered, renumbered}
 use Rattle.c_types.specs.Trees.{is_node, is_at, suffixed, declarator_type}
 use Rattle.scope_bind.specs.Named.{Frame}
@@ -23,17 +23,21 @@ module _ (foreign : ℕ → Bool) (zero_own : foreign 0 ≡ false) where
   own_if true s t h k = h
   own_if false s t h k = k
 
+  own_lacking : (t : CType) → Own (lacking t)
+  own_lacking t = own_if (is_unknown t) unknown arithmetic zero_own zero_own
+
   pub own_target : (t : CType) → Own t → Own (target_of t)
-  own_target t h = own_if (is_pointing t) (inner_of t) arithmetic h zero_own
+  own_target t h = own_if (is_pointing t) (inner_of t) (lacking t) h (own_lacking t)
 
   pub own_adjusted : (t : CType) → Own t → Own (adjusted t)
   own_adjusted t h = own_if (is_array t) (pointer (inner_of t)) (if is_function t then pointer t else t) h (own_if (is_function t) (pointer t) t h h)
 
   own_subscripted : (s t : CType) → Own s → Own t → Own (subscripted s t)
-  own_subscripted s t h k = own_if (is_pointing s) (target_of s) (target_of t) (own_target s h) (own_target t k)
+  own_subscripted s t h k =
+      own_if (is_pointing s || (is_unknown s && not (is_pointing t))) (target_of s) (target_of t) (own_target s h) (own_target t k)
 
   own_result : (t : CType) → Own t → Own (result_of t)
-  own_result t h = own_if (is_function t) (inner_of t) arithmetic h zero_own
+  own_result t h = own_if (is_function t) (inner_of t) (lacking t) h (own_lacking t)
 
   pub own_called : (t : CType) → Own t → Own (called t)
   own_called t h = own_if (begins_pointer t.derivations) (result_of (inner_of t)) (result_of t) (own_result (inner_of t) h) (own_result t h)
@@ -43,13 +47,11 @@ module _ (foreign : ℕ → Bool) (zero_own : foreign 0 ≡ false) where
 
   own_sum : (minus : Bool) (s t : CType) → Own s → Own t → Own (sum_type minus s t)
   own_sum minus s t h k =
-      own_if (is_pointing s && (is_pointing t && minus)) arithmetic (if is_pointing s then s else (if is_pointing t then t else arithmetic)) zero_own
-      (own_if (is_pointing s) s (if is_pointing t then t else arithmetic) h (own_if (is_pointing t) t arithmetic k zero_own))
+      own_if (is_pointing s && (is_pointing t && minus)) arithmetic (if tells_sum minus s t then s else (if is_pointing t then t else lacking t)) zero_own
+      (own_if (tells_sum minus s t) s (if is_pointing t then t else lacking t) h (own_if (is_pointing t) t (lacking t) k (own_lacking t)))
 
   own_chosen : (s t : CType) → Own s → Own t → Own (chosen s t)
-  own_chosen s t h k =
-      own_if (is_record s) s (if is_pointing s && not (is_nothing (target_of s)) then s else t) h
-      (own_if (is_pointing s && not (is_nothing (target_of s))) s t h k)
+  own_chosen s t h k = own_if (tells_members s || (is_unknown s && not (tells_members t))) s t h k
 
   pub own_suffixed : (t : CType) (f : Forest) → Own t → Own (suffixed t f)
   own_suffixed t none h = h
