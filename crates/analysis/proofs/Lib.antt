@@ -30,5 +30,6 @@ pub mod MadeLemmas
 pub mod CountLemmas
 pub mod ReadLemmas
 pub mod OnceLemmas
+pub mod FoundTableLemmas
 -- Words of the crates below, passed on.
 pub mod Below

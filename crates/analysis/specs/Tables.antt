@@ -3,7 +3,7 @@ use Rattle.std.specs.Prelude.{ℕ, ◌≡◌, true, List, [], ◌∷◌, Some, O
 use Rattle.cs_base.specs.Units.{UnitValue}
 use Rattle.ws_file.specs.Workspace.{WorkspaceValue, IsWorkspace}
 use Rattle.include_tree.specs.Below.source_files.Files.{Source, Found, Opened, Made, Table, found_at}
-use Rattle.include_tree.specs.Below.source_files.Tables.{HasEachOnce}
+use Rattle.include_tree.specs.Below.source_files.Tables.{AreFound, HasEachOnce}
 use Rattle.include_tree.specs.PseudoFiles.{is_pseudo}
 use Rattle.analysis.specs.Analysis.{AnalysisValue, analysis_of}
 
@@ -19,6 +19,10 @@ MadeArePseudo (e ∷ table) = IsPseudoIfMade e.path e.found × MadeArePseudo tab
 -- So it is in the table of each analysis.
 abbrev pub MadeFilesArePseudo : Type 0
 MadeFilesArePseudo = (source : Source) (ws : WorkspaceValue) (a : AnalysisValue) → analysis_of source ws ≡ Ok a → MadeArePseudo a.table
+
+-- What the table of an analysis tells of files is what they hold.
+abbrev pub TablesAreFound : Type 0
+TablesAreFound = (source : Source) (ws : WorkspaceValue) (a : AnalysisValue) → analysis_of source ws ≡ Ok a → AreFound source a.table
 
 -- the path stands for a file that was opened
 abbrev pub IsOpened : List ℕ → Table → Type 0

@@ -2,6 +2,7 @@
 ghost use Rattle.std.specs.Prelude.{◌≡◌, ◌≤◌, length, option_copied, slice_get};
 ghost use Rattle.std.specs.Option.{option_map};
 ghost use Rattle.cs_base.specs.Limits.{most_units};
+ghost use Rattle.include_tree.specs.Below.source_files.Files.{absent_at};
 ghost use Rattle.include_tree.specs.Below.source_files.KeptFiles.{kept_at};
 ghost use Rattle.include_tree.specs.Below.source_files.Tables.{AreText, BeginsWithLines, HasEachOnce};
 
@@ -173,5 +174,12 @@ impl Accepted {
         ensures { option_copied result ≡ option_map (λ e. e.path) (slice_get self.now.table number) }
     {
         self.cache.path(number)
+    }
+
+    /// The path that has this number, if no file was there when it was asked for.
+    pub(crate) fn absent(&self, number: u32) -> Option<&[u8]>
+        ensures { option_copied result ≡ absent_at self.now.table number }
+    {
+        self.cache.absent(number)
     }
 }

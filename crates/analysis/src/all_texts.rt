@@ -1,6 +1,7 @@
 // The units of a workspace that are preprocessed.
 ghost use Rattle.std.specs.Prelude.{◌≡◌, ◌≤◌, ◌-◌, Some, length, slice_get, option_copied};
 ghost use Rattle.cs_base.specs.Limits.{most_units};
+ghost use Rattle.include_tree.specs.Below.source_files.Files.{absent_at};
 ghost use Rattle.include_tree.specs.Below.source_files.KeptFiles.{kept_at};
 ghost use Rattle.include_tree.specs.Below.source_files.Tables.{AreText, HasEachOnce};
 
@@ -69,5 +70,12 @@ impl Texts {
         ensures { option_copied result ≡ kept_at self.now.table number }
     {
         self.cache.file(number)
+    }
+
+    /// The path that has this number, if no file was there when it was asked for. Takes no memory.
+    pub fn absent(&self, number: u32) -> Option<&[u8]>
+        ensures { option_copied result ≡ absent_at self.now.table number }
+    {
+        self.cache.absent(number)
     }
 }

@@ -4,7 +4,7 @@ ghost use Rattle.std.specs.Option.{option_map};
 ghost use Rattle.cs_base.specs.Answer.{Gives};
 ghost use Rattle.cs_base.specs.Outside.{ReadsOnly};
 ghost use Rattle.include_tree.specs.Below.source_files.Faults.{place_of};
-ghost use Rattle.include_tree.specs.Below.source_files.Files.{Table, source_of};
+ghost use Rattle.include_tree.specs.Below.source_files.Files.{Table, absent_at, source_of};
 ghost use Rattle.include_tree.specs.Below.source_files.KeptFiles.{kept_at};
 ghost use Rattle.include_tree.specs.Below.source_files.Tables.{AreText, HasEachOnce};
 ghost use Rattle.analysis.specs.Analysis.{analysis_of};
@@ -213,6 +213,13 @@ impl Analysis {
         ensures { option_copied result ≡ kept_at self.now.value.table number }
     {
         self.accepted.file(number)
+    }
+
+    /// The path that has this number, if no file was there when it was asked for. Takes no memory.
+    pub fn absent(&self, number: u32) -> Option<&[u8]>
+        ensures { option_copied result ≡ absent_at self.now.value.table number }
+    {
+        self.accepted.absent(number)
     }
 
     /// The path, the line and the column of a position. Those of a position in the pseudo file of lines are in

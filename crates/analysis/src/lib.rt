@@ -10,7 +10,7 @@
 //! may answer `Memory`; the readers of `Texts` and of `Analysis` take none.
 //!
 //! The laws of `tables.rt` are of every analysis: texts that the program made are those of pseudo files, so a file that
-//! is no pseudo file holds the bytes that were read; each path has one number; the tokens of all units are few; and the
+//! is no pseudo file holds the bytes that were read; what it tells of files is what they hold; each path has one number; the tokens of all units are few; and the
 //! file of each unit is among those that were opened. Further laws of analyses belong there.
 //!
 //! Crates above list this one for the words of those below, `specs/Below.antt` and `proofs/Below.antt`, and it hands on
@@ -57,7 +57,10 @@ pub use analysing::{Analysis, AnalysisParts, analyse};
 pub use external_names::{is_external, is_external_name};
 pub use place_printing::push_place;
 pub use preprocessing::{one_text, texts};
-pub use tables::{made_files_are_pseudo, paths_stand_once, tokens_are_few, unit_files_are_opened};
+pub use tables::{
+    made_files_are_pseudo, paths_stand_once, tables_are_found, tokens_are_few,
+    unit_files_are_opened,
+};
 
 // Handed on: the types of this crate's own interface that crates below make.
 pub use include_tree::{Event, EventKind, KeptFile, Reached, UnitText};

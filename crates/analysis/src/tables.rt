@@ -1,10 +1,15 @@
 // What is true of the table of every analysis: a law that no caller runs, and that callers' proofs cite.
 ghost use Rattle.analysis.specs.Counts.{TokensAreFew};
-ghost use Rattle.analysis.specs.Tables.{MadeFilesArePseudo, PathsStandOnce, UnitFilesAreOpened};
+ghost use Rattle.analysis.specs.Tables.{MadeFilesArePseudo, PathsStandOnce, TablesAreFound, UnitFilesAreOpened};
 
 /// In the table of an analysis only pseudo files have texts that the program made.
 pub fn made_files_are_pseudo()
     ensures { MadeFilesArePseudo }
+{}
+
+/// What the table of an analysis tells of files is what they hold.
+pub fn tables_are_found()
+    ensures { TablesAreFound }
 {}
 
 /// The units of an analysis have no more tokens together than the limit on them allows.

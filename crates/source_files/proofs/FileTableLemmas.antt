@@ -1,6 +1,6 @@
 -- The fields of the table of files, and the table that contracts see.
 use Rattle.std.proofs.Common.{◌≡◌, ℕ, zero, suc, ◌+◌, ◌-◌, ◌≤◌, ◌<◌, ◌^◌, Bool, false, not, cond, nat_lt, List, [], ◌∷◌, ◌++◌, length, map, position, true, Option, None, Some, refl, sym, ◌∙◌, ap, subst, arith, slice_get, get_or, inl, inr, ltb-true, ltb-false, length-append}
-use Rattle.std.specs.Option.{option_map, option_and_then}
+use Rattle.std.specs.Option.{option_map, option_map_or, option_and_then}
 use Rattle.std.specs.List.{position_or_len, prefix_len, list_any, list_all}
 use Rattle.std.specs.Str.{bytes_eq, is_utf8, chars}
 use Rattle.std.proofs.lemmas.Bool.{cases_Bool}
@@ -11,7 +11,7 @@ use Rattle.line_shape.specs.MacroLine.{are_distinct}
 use Rattle.line_shape.proofs.NameLemmas.{are_distinct-new}
 use Rattle.source_files.specs.declared.slot.Slot.{Slot}
 use Rattle.source_files.specs.declared.slot.Slot.TheVariants as slot
-use Rattle.source_files.specs.Files.{Found, Lines, entry, Table, lines_path, number_of, number_at, found_at, numbered}
+use Rattle.source_files.specs.Files.{Found, Lines, entry, Table, lines_path, is_absent, is_absent_at, number_of, number_at, found_at, numbered}
 use Rattle.source_files.specs.KeptFiles.{KeptValue, kept, kept_in, kept_at}
 use Rattle.source_files.specs.Slots.{found_of, kept_of, IsNumbered}
 use Rattle.source_files.specs.Tables.{paths_in, HasEachOnce, AreText}
@@ -51,6 +51,24 @@ kept_at-slot paths slots number is some =
     kept_at-from paths slots 1 (number - 1) is.each is.numbered in
     let same : kept_at (table_of paths slots) (suc (number - 1)) ≡ option_and_then kept_of (slice_get slots (number - 1)) = rw m at at in
     subst (λ (k : ℕ). kept_at (table_of paths slots) k ≡ option_and_then kept_of (slice_get slots (number - 1))) n same
+
+-- ---- whether no file was there for the path of a number
+
+absent-from : (paths : List (List ℕ)) (slots : List Slot) (i : ℕ) → length slots ≡ length paths
+    → option_map_or (λ e. is_absent e.found) (slice_get (entries_of paths slots) i) false ≡ option_map_or (λ s. is_absent (found_of s)) (slice_get slots i) false
+absent-from [] [] i each = refl
+absent-from [] (s ∷ slots) i each = absurd (omega (arith, each))
+absent-from (p ∷ paths) [] i each = absurd (omega (arith, each))
+absent-from (p ∷ paths) (s ∷ slots) zero each = refl
+absent-from (p ∷ paths) (s ∷ slots) (suc i) each = absent-from paths slots i (omega (arith, each))
+
+-- for that of a number that is not 0
+pub absent-slot : (paths : List (List ℕ)) (slots : List Slot) (number : ℕ) → length slots ≡ length paths → (number ≡ 0 → ⊥)
+    → is_absent_at (table_of paths slots) number ≡ option_map_or (λ s. is_absent (found_of s)) (slice_get slots (number - 1)) false
+absent-slot paths slots zero each some = absurd (some refl)
+absent-slot paths slots (suc n) each some =
+    let same : suc n - 1 ≡ n = omega arith in
+    rw same (absent-from paths slots n each)
 
 -- ---- the path of a number
 

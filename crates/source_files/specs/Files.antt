@@ -1,8 +1,9 @@
 -- Source files and their numbers (ISO/IEC 9899:1999, 5.1.1.1): what is read of each, and what is kept from
 -- unit to unit.
-use Rattle.std.specs.Prelude.{ℕ, ◌+◌, if◌then◌else◌, Option, None, Some, List, [], ◌∷◌, ◌++◌, codes, length, is_some}
+use Rattle.std.specs.Prelude.{ℕ, ◌+◌, if◌then◌else◌, Bool, true, false, Option, None, Some, List, [], ◌∷◌, ◌++◌, codes, length, is_some, slice_get}
 use Rattle.std.specs.Fmt.{decimal}
 use Rattle.std.specs.List.{position_or_len}
+use Rattle.std.specs.Option.{option_map, option_map_or}
 use Rattle.std.specs.Str.{bytes_eq}
 use Rattle.cs_base.specs.Outside.{FileMap, bytes_at}
 use Rattle.lexer.specs.FileText.{TextValue}
@@ -49,6 +50,19 @@ found_at path (e ∷ table) = if bytes_eq path e.path then Some e.found else fou
 -- its number, if it has one
 abbrev pub number_at : List ℕ → Table → Option ℕ
 number_at path table = if is_some (found_at path table) then Some (number_of path table) else None
+
+-- nothing was there where a path was asked for
+abbrev pub is_absent : Found → Bool
+is_absent Absent = true
+is_absent _ = false
+
+-- so it was for the path of a number
+abbrev pub is_absent_at : Table → ℕ → Bool
+is_absent_at table number = option_map_or (λ (e : Entry). is_absent e.found) (slice_get table number) false
+
+-- that path, if so
+abbrev pub absent_at : Table → ℕ → Option (List ℕ)
+absent_at table number = if is_absent_at table number then option_map (λ (e : Entry). e.path) (slice_get table number) else None
 
 -- the table with one number more
 abbrev pub numbered : List ℕ → Found → Table → Table

@@ -7,7 +7,7 @@ ghost use Rattle.lexer.specs.Refusal.{fault_of as lex_fault_of};
 ghost use Rattle.cs_base.specs.Outside.{ReadsOnly};
 ghost use Rattle.cs_base.specs.Limits.{most_bytes, most_bytes_of_all};
 ghost use Rattle.source_files.specs.Limits.{the_limits};
-ghost use Rattle.source_files.specs.Files.{Source, Table, lines_path, nothing_carried, asked, found_at, number_at};
+ghost use Rattle.source_files.specs.Files.{Source, Table, lines_path, nothing_carried, absent_at, asked, found_at, number_at};
 ghost use Rattle.source_files.specs.Opening.{opening, file_read};
 ghost use Rattle.source_files.specs.KeptFiles.{kept_at};
 ghost use Rattle.source_files.specs.Tables.{AreFound, AreText, BeginsWithLines, HasEachOnce};
@@ -74,6 +74,13 @@ impl Cache {
         ensures { option_copied result ≡ option_map (λ e. e.path) (slice_get self.now.table number) }
     {
         self.table.path(number)
+    }
+
+    /// The path that has this number, if no file was there when it was asked for. Takes no memory.
+    pub fn absent(&self, number: u32) -> Option<&[u8]>
+        ensures { option_copied result ≡ absent_at self.now.table number }
+    {
+        self.table.absent(number)
     }
 
     /// The number of a path: none exactly where it has none. Takes no memory.

@@ -4,7 +4,7 @@ ghost use Rattle.std.specs.Option.{option_map};
 ghost use Rattle.std.specs.Str.{bytes_eq, is_utf8};
 ghost use Rattle.lexer.specs.FileText.{file_text};
 ghost use Rattle.lexer.specs.Refusal.{fault_of};
-ghost use Rattle.source_files.specs.Files.{lines_path, Lines, entry, found_at, number_of, number_at, numbered, opened};
+ghost use Rattle.source_files.specs.Files.{lines_path, Lines, absent_at, entry, found_at, is_absent_at, number_of, number_at, numbered, opened};
 ghost use Rattle.source_files.specs.Edited.{edited, size_at};
 ghost use Rattle.source_files.specs.KeptFiles.{kept_at};
 ghost use Rattle.source_files.specs.Tables.{AreText, BeginsWithLines, HasEachOnce};
@@ -94,6 +94,33 @@ impl FileTable {
         match paths.get_index(number as usize - 1) {
             Some(path) => Some(path.as_slice()),
             None => None,
+        }
+    }
+
+    // The path that has a number, where no file was there.
+    pub(crate) fn absent(&self, number: u32) -> Option<&[u8]>
+        ensures { option_copied result ≡ absent_at self.now number }
+    {
+        if self.is_absent(number) {
+            self.path(number)
+        } else {
+            None
+        }
+    }
+
+    // No file was there for the path of a number.
+    fn is_absent(&self, number: u32) -> bool
+        ensures { result ≡ is_absent_at self.now number }
+    {
+        let slots = self.slots.as_slice();
+        if number == 0 {
+            return false;
+        }
+        let i = number as usize - 1;
+        if i < slots.len() {
+            slots[i].is_absent()
+        } else {
+            false
         }
     }
 

@@ -1,7 +1,7 @@
 // What a number stands for.
 ghost use Rattle.std.specs.Prelude.{◌≡◌, true, IfErr, IfSome, IsSome, Err, OnOk, OnErr, is_ok, length, option_copied};
 ghost use Rattle.std.specs.Option.{option_map};
-ghost use Rattle.source_files.specs.Files.{opened_bytes};
+ghost use Rattle.source_files.specs.Files.{is_absent, opened_bytes};
 ghost use Rattle.lexer.specs.FileText.{file_text};
 ghost use Rattle.lexer.specs.Refusal.{fault_of};
 
@@ -32,6 +32,16 @@ impl Slot {
             Slot::Unopened(_) => None,
             Slot::Opened(file) => Some(file),
             Slot::Made(file) => Some(file),
+        }
+    }
+
+    // There is no file.
+    pub(crate) fn is_absent(&self) -> bool
+        ensures { result ≡ is_absent (found_of self.now) }
+    {
+        match self {
+            Slot::Absent => true,
+            _ => false,
         }
     }
 
