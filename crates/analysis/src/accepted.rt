@@ -1,24 +1,26 @@
 // A workspace whose units are accepted: preprocessed, read and bound.
-ghost use Rattle.std.specs.Prelude.{◌≡◌, ◌≤◌, length, option_copied, slice_get};
+ghost use Rattle.std.specs.Prelude.{◌≡◌, ◌≤◌, IfOk, length, option_copied, slice_get};
 ghost use Rattle.std.specs.Option.{option_map};
 ghost use Rattle.cs_base.specs.Limits.{most_units};
 ghost use Rattle.include_tree.specs.Below.source_files.Files.{absent_at};
 ghost use Rattle.include_tree.specs.Below.source_files.KeptFiles.{kept_at};
 ghost use Rattle.include_tree.specs.Below.source_files.Tables.{AreText, BeginsWithLines, HasEachOnce};
 
+use crate::reading::read_toks;
 use c99_tree::Tree;
-use cs_base::Standard;
+use cs_base::{Memory, Standard};
 use include_tree::{Cache, KeptFile, UnitText};
 use scope_bind::Bound;
+use std::alloc::Global;
 use std::marker::Model;
 use ws_file::Workspace;
 
-/// A unit that is accepted: its standard, its text, its tree, and what its identifiers denote.
+/// A unit that is accepted: its standard, its text, and what its identifiers denote. Its tree is not kept: contracts see
+/// the one that its tokens have, and who wants it reads it again.
 #[derive(Drop)]
 pub struct UnitParts {
     standard: Standard,
     text: UnitText,
-    tree: Tree,
     bound: Bound,
 }
 
@@ -26,24 +28,28 @@ impl Model for UnitParts {
     ghost use Rattle.std.specs.Coded.{codes};
     ghost use Rattle.c99_tree.specs.TreeCode.{node_code};
     ghost use Rattle.analysis.specs.Analysis.{UnitAnalysis, unit_analysis};
+    ghost use Rattle.analysis.specs.Trees.{HasTree, tree_of};
 
     ghost Value = { UnitAnalysis };
 
     ghost coded = { Prim.hlevel (codes, node_code) };
 
-    ghost view = { λ u. unit_analysis u.standard u.text u.tree u.bound };
+    ghost view = { λ u. unit_analysis u.standard u.text (tree_of u.standard u.text.toks) u.bound };
+
+    ghost invariant = { λ u. HasTree u.standard u.text.toks (tree_of u.standard u.text.toks) };
 }
 
 impl UnitParts {
     ghost use Rattle.analysis.specs.Analysis.{unit_analysis};
+    ghost use Rattle.analysis.specs.Trees.{HasTree};
 
-    pub(crate) fn new(standard: Standard, text: UnitText, tree: Tree, bound: Bound) -> UnitParts
-        ensures { result ≡ unit_analysis standard text tree bound }
+    pub(crate) fn new(standard: Standard, text: UnitText, tree: &Tree, bound: Bound) -> UnitParts
+        requires read { HasTree standard text.toks tree.now }
+        ensures { result ≡ unit_analysis standard text tree.now bound }
     {
         UnitParts {
             standard,
             text,
-            tree,
             bound,
         }
     }
@@ -55,28 +61,30 @@ impl UnitParts {
         &self.text
     }
 
-    /// The same unit with another text: its standard, its tree, and what its identifiers denote, stay.
+    /// The same unit with another text that has its tree: its standard, its tree, and what its identifiers denote, stay.
     pub fn with_text(self, text: UnitText) -> UnitParts
+        requires read { HasTree self.standard text.toks self.tree }
         ensures { result ≡ unit_analysis self.standard text self.tree self.bound }
     {
         let UnitParts {
-            standard,
-            tree,
-            bound,
-            ..
+            standard, bound, ..
         } = self;
         UnitParts {
             standard,
             text,
-            tree,
             bound,
         }
     }
 
-    pub(crate) fn tree(&self) -> &Tree
-        ensures { result.now ≡ self.now.tree }
+    /// The tree of the unit, read again.
+    pub(crate) fn tree(&self, alloc: Global) -> Result<Tree, Memory>
+        ensures { IfOk result (λ tree. tree ≡ self.now.tree) }
     {
-        &self.tree
+        match read_toks(alloc, self.text.toks(), self.standard) {
+            Ok(tree) => Ok(tree),
+            // It was read before, so memory alone is wanting.
+            Err(_) => Err(Memory),
+        }
     }
 
     pub(crate) fn bound(&self) -> &Bound

@@ -177,13 +177,13 @@ impl Analysis {
         self.accepted.units()[unit as usize - 1].text()
     }
 
-    /// The tree of a unit.
-    pub fn tree(&self, unit: u32) -> &Tree
+    /// The tree of a unit. No tree is kept: the unit's tokens are read again.
+    pub fn tree(&self, alloc: Global, unit: u32) -> Result<Tree, Memory>
         requires first { 1 ≤ unit }
         requires last { unit ≤ length self.now.value.units }
-        ensures { option_map (λ u. u.tree) (slice_get self.now.value.units (unit - 1)) ≡ Some result.now }
+        ensures { IfOk result (λ tree. option_map (λ u. u.tree) (slice_get self.now.value.units (unit - 1)) ≡ Some tree) }
     {
-        self.accepted.units()[unit as usize - 1].tree()
+        self.accepted.units()[unit as usize - 1].tree(alloc)
     }
 
     /// What the identifiers of a unit denote.

@@ -45,6 +45,7 @@ mod placing;
 mod preprocessing;
 mod processed;
 mod read_only;
+mod reading;
 mod spelling;
 mod tables;
 mod token_search;

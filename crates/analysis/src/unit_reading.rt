@@ -3,20 +3,19 @@ ghost use Rattle.std.specs.Prelude.{◌≡◌, IfErr};
 ghost use Rattle.std.specs.Option.{option_map};
 ghost use Rattle.cs_base.specs.Answer.{Gives, result_map_err};
 ghost use Rattle.c99_read.specs.Answer.{stop_of};
-ghost use Rattle.c99_read.specs.Reading.{read_of};
-ghost use Rattle.c99_read.specs.Below.c99_grammar.Dialects.{dialect};
-ghost use Rattle.c99_read.specs.Below.c99_grammar.Standard.{grammar};
 ghost use Rattle.scope_bind.specs.Causes.{cause_of, index_of};
 ghost use Rattle.c_types.specs.Faults.{fault_of as name_fault_of};
 ghost use Rattle.analysis.specs.Texts.{unit_fault};
 ghost use Rattle.analysis.specs.Answers.{fault_of};
 ghost use Rattle.analysis.specs.Analysis.{read_unit, bound_unit};
+ghost use Rattle.analysis.specs.Trees.{HasTree};
 ghost use Rattle.analysis.specs.Accepting.{told_of_stop, told_fault, MayTell, IsNoReadFault};
 
 use crate::accepted::UnitParts;
 use crate::analyse_fault::AnalyseFault;
 use crate::fault_places::place_of_index;
-use c99_read::{Dialect, ReadRefusal, read};
+use crate::reading::read_toks;
+use c99_read::ReadRefusal;
 use c99_tree::Tree;
 use cs_base::{Cause, Standard, Tok};
 use include_tree::{Cache, UnitText};
@@ -37,7 +36,7 @@ pub(crate) fn read_text(
     ensures no_read { IfErr result IsNoReadFault }
 {
     match read_toks(alloc, text.toks(), standard) {
-        Ok(tree) => bind_text(alloc, cache, number, standard, path, text, tree),
+        Ok(tree) => bind_text(alloc, cache, number, standard, path, text, &tree),
         Err(refusal) => Err(refused(
             alloc,
             cache,
@@ -49,16 +48,6 @@ pub(crate) fn read_text(
     }
 }
 
-// The tree of the tokens; 2^32 of them and more want too much memory.
-fn read_toks(alloc: Global, toks: &[Tok], standard: Standard) -> Result<Tree, ReadRefusal>
-    ensures { Gives (λ tree. tree) stop_of result (read_of (grammar (dialect standard)) toks.now) }
-{
-    if toks.len() > u32::MAX as usize {
-        return Err(ReadRefusal::Memory);
-    }
-    read(alloc, toks, Dialect::of(standard))
-}
-
 // The same for a unit whose tokens have this tree.
 fn bind_text(
     alloc: Global,
@@ -67,12 +56,13 @@ fn bind_text(
     standard: Standard,
     path: &[u8],
     text: UnitText,
-    tree: Tree,
+    tree: &Tree,
 ) -> Result<UnitParts, AnalyseFault>
-    ensures answer { Gives (λ u. u) fault_of result (result_map_err (unit_fault number) (bound_unit standard cache.now.table path.now text tree)) }
+    requires read { HasTree standard text.toks tree.now }
+    ensures answer { Gives (λ u. u) fault_of result (result_map_err (unit_fault number) (bound_unit standard cache.now.table path.now text tree.now)) }
     ensures no_read { IfErr result IsNoReadFault }
 {
-    match bind(alloc, text.toks(), &tree) {
+    match bind(alloc, text.toks(), tree) {
         Ok(bound) => Ok(UnitParts::new(standard, text, tree, bound)),
         Err(refusal) => Err(refused(
             alloc,

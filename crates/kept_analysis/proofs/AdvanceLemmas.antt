@@ -1,12 +1,12 @@
 -- What an analysis that goes on with its files asks, and what it gives.
-use Rattle.std.proofs.Common.{◌≡◌, ℕ, ◌<◌, List, [], ◌∷◌, true, length, map, None, Some, sym, ap, subst, ◌∙◌, arith}
+use Rattle.std.proofs.Common.{◌≡◌, ℕ, ◌<◌, List, [], ◌∷◌, true, length, map, None, Some, slice_get, sym, ap, subst, ◌∙◌, arith}
 use Rattle.std.specs.Prelude.{IfOk, Result, Ok, Err}
 use Rattle.std.proofs.lemmas.Option.{slice_get_within, same_Some}
 use Rattle.cs_base.specs.declared.positions.Part.{Part}
 use Rattle.eclass_map.specs.ClassTable.{Table, HasParts, class_in, members_of}
 use Rattle.eclass_map.specs.Resized.{Resizes}
 use Rattle.analysis.specs.Below.lexer.Spelling.{is_identifier_text}
-use Rattle.renamed.specs.Renamed.{renamed_analysis, renamed_unit_analysis, renaming_of}
+use Rattle.renamed.specs.Renamed.{Renaming, renamed_analysis, renamed_unit_analysis, renaming_of}
 use Rattle.include_tree.specs.Below.source_files.Files.{Table as Files}
 use Rattle.ws_file.specs.Workspace.{WorkspaceValue}
 use Rattle.analysis.specs.Analysed.{Analysed, analysed}
@@ -18,11 +18,12 @@ use Rattle.rename_meaning.specs.Allowed.{IsAllowed}
 use Rattle.part_respell.specs.Respelled.{respelled}
 use Rattle.rename_rules.specs.First.{IsFirst, offences_of}
 use Rattle.rename_meaning.proofs.FollowLinkLemmas.{classes_follow}
+use Rattle.rename_meaning.proofs.ReadLemmas.{unit_has_tree}
 use Rattle.kept_analysis.specs.declared.moves.Moves.{Moves}
-use Rattle.kept_analysis.specs.Following.{IsFollowed, IsRenamedIn, renamed_by}
+use Rattle.kept_analysis.specs.Following.{IsFollowed, IsReadAsBefore, IsRenamedIn, renamed_by}
 use Rattle.kept_analysis.specs.Edits.{edited_front}
 use Rattle.kept_analysis.specs.Moves.{AreMoves, editing_by, renaming_by}
-use Rattle.kept_analysis.proofs.FollowLemmas.{analysis_same}
+use Rattle.kept_analysis.proofs.FollowLemmas.{analysis_same, renaming_same}
 use Rattle.kept_analysis.proofs.MemberLemmas.{one_list}
 
 -- what holds of a value that a call gave
@@ -42,6 +43,13 @@ pub parts_own : (m : Moves) (a : Analysed) (ws : WorkspaceValue) (us renamed : L
 parts_own m a ws us renamed files edited old new class len parts own resizes has units table =
     let follows = subst (λ (b : Analysed). (t : Table) → Resizes class len b.classes t → HasParts t → AreItsClasses (renamed_by m b.value) t) (sym parts) own in
     rw (units, table) (follows new resizes has)
+
+-- the renamed tokens of its units have their trees
+pub parts_read : (m : Moves) (a : Analysed) (ws : WorkspaceValue) (us : List UnitAnalysis) (files : Files) (old : Table)
+    → analysed (analysis_and ws us files) old ≡ a
+    → ((k : ℕ) (u : UnitAnalysis) → slice_get a.value.units k ≡ Some u → IsReadAsBefore (renaming_by m) u)
+    → (k : ℕ) (u : UnitAnalysis) → slice_get us k ≡ Some u → IsReadAsBefore (renaming_by m) u
+parts_read m a ws us files old parts read k u at = read k u (ap (λ (b : Analysed). slice_get b.value.units k) (sym parts) ∙ at)
 
 -- and so it is with what is made of them
 pub answered_own : {E : Type 0} (r : Result Analysed E) (v : AnalysisValue) (t : Table) → AreItsClasses v t → IfOk r (λ b. b ≡ analysed v t)
@@ -78,6 +86,11 @@ module _ (a : Analysed) (own : AreItsClasses a.value a.classes) (part : Part) (c
     own_follows t resizes parts =
         subst (λ (v : AnalysisValue). AreItsClasses v t) (sym (analysis_same a ms name allowed m are))
         (classes_follow a ms name f.path f.line f.column allowed f.named t resizes parts)
+
+    pub reads_follow : (k : ℕ) (u : UnitAnalysis) → slice_get a.value.units k ≡ Some u → IsReadAsBefore (renaming_by m) u
+    unfolding allowed
+    reads_follow k u at =
+        subst (λ (r : Renaming). IsReadAsBefore r u) (sym (renaming_same a ms name allowed m are)) (unit_has_tree a ms name allowed k u at)
 
     pub renamed_in : (b : AnalysisValue) → b ≡ renamed_by m a.value → IsRenamedIn a.value part name b
     renamed_in b is members also =

@@ -3,12 +3,13 @@ use Rattle.std.specs.Prelude.{ℕ, ◌≡◌, true, List, Some, None, Ok, length
 use Rattle.cs_base.specs.declared.positions.Part.{Part}
 use Rattle.analysis.specs.Below.lexer.Spelling.{is_identifier_text}
 use Rattle.include_tree.specs.Below.source_files.Files.{Source}
-use Rattle.analysis.specs.Analysis.{AnalysisValue, analysis_and, analysis_of}
+use Rattle.analysis.specs.Analysis.{AnalysisValue, UnitAnalysis, analysis_and, analysis_of}
 use Rattle.analysis.specs.Naming.{Names}
 use Rattle.analysis.specs.Parts.{AreMembers}
+use Rattle.analysis.specs.Trees.{HasTree}
 use Rattle.part_respell.specs.Respelled.{respelled}
 use Rattle.rename_rules.specs.First.{IsFirst, offences_of}
-use Rattle.renamed.specs.Renamed.{renamed_analysis, renamed_unit_analysis, renaming_of}
+use Rattle.renamed.specs.Renamed.{Renaming, renamed_analysis, renamed_text, renamed_unit_analysis, renaming_of}
 use Rattle.kept_analysis.specs.declared.moves.Moves.{Moves}
 use Rattle.kept_analysis.specs.Edits.{edited_front}
 use Rattle.kept_analysis.specs.Moves.{editing_by, renaming_by}
@@ -30,6 +31,10 @@ pub record IsFollowed (a : AnalysisValue) (part : Part) (name : List ℕ) : Type
 -- the analysis in which the members of the class of a part are spelled so
 abbrev pub IsRenamedIn : AnalysisValue → Part → List ℕ → AnalysisValue → Type 0
 IsRenamedIn a part name b = (members : List Part) → AreMembers a part members → b ≡ renamed_analysis (renaming_of a members name) (respelled members name) a
+
+-- the renamed tokens of the unit have its tree (Annex A.2)
+abbrev pub IsReadAsBefore : Renaming → UnitAnalysis → Type 0
+IsReadAsBefore r u = HasTree u.standard (renamed_text r u.text).toks u.tree
 
 -- what the tables make of an analysis
 abbrev pub renamed_by : Moves → AnalysisValue → AnalysisValue

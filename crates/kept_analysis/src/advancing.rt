@@ -1,9 +1,11 @@
 // An analysis that goes on with the files behind a renaming.
-ghost use Rattle.std.specs.Prelude.{ℕ, ◌≡◌, ◌<◌, IfOk, Some, length};
+ghost use Rattle.std.specs.Prelude.{ℕ, ◌≡◌, ◌<◌, IfOk, Some, length, slice_get};
 ghost use Rattle.eclass_map.specs.ClassTable.{HasParts, Table, class_in, members_of};
 ghost use Rattle.eclass_map.specs.Resized.{Resizes};
+ghost use Rattle.analysis.specs.Analysis.{UnitAnalysis};
 ghost use Rattle.analysis.specs.Classes.{AreItsClasses};
-ghost use Rattle.kept_analysis.specs.Following.{IsFollowed, IsRenamedIn, renamed_by};
+ghost use Rattle.kept_analysis.specs.Following.{IsFollowed, IsReadAsBefore, IsRenamedIn, renamed_by};
+ghost use Rattle.kept_analysis.specs.Moves.{renaming_by};
 
 use crate::moves::{Moves, class_moves};
 use crate::renamed_files::edited_files;
@@ -43,6 +45,7 @@ fn followed(
     len: usize,
 ) -> Result<Analysis, Memory>
     requires own { (t : Table) → Resizes class len a.classes t → HasParts t → AreItsClasses (renamed_by moves.now a.value) t }
+    requires read { (k : ℕ) (u : UnitAnalysis) → slice_get a.value.units k ≡ Some u → IsReadAsBefore (renaming_by moves.now) u }
     requires held { 0 < length (members_of a.classes class) }
     requires some { 0 < len }
     ensures answer { IfOk result (λ b. b.value ≡ renamed_by moves.now a.value) }

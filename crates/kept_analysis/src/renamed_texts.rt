@@ -1,8 +1,10 @@
 // The texts of units as they stand behind a renaming.
-ghost use Rattle.std.specs.Prelude.{◌≡◌, IfOk, map, option_copied};
+ghost use Rattle.std.specs.Prelude.{ℕ, ◌≡◌, Some, IfOk, map, option_copied, slice_get};
 ghost use Rattle.std.specs.Option.{option_map};
 ghost use Rattle.include_tree.specs.Below.unit_steps.Texts.{text_of};
+ghost use Rattle.analysis.specs.Analysis.{UnitAnalysis};
 ghost use Rattle.renamed.specs.Renamed.{renamed_event, renamed_text, renamed_token, renamed_unit_analysis};
+ghost use Rattle.kept_analysis.specs.Following.{IsReadAsBefore};
 ghost use Rattle.kept_analysis.specs.Moves.{move_by, renaming_by};
 
 use crate::moves::Moves;
@@ -17,6 +19,7 @@ pub(crate) fn renamed_units(
     moves: &Moves,
     units: Vec<UnitParts>,
 ) -> Result<Vec<UnitParts>, Memory>
+    requires { (k : ℕ) (u : UnitAnalysis) → slice_get units.items k ≡ Some u → IsReadAsBefore (renaming_by moves.now) u }
     ensures { IfOk result (λ us. us.items ≡ map (renamed_unit_analysis (renaming_by moves.now)) units.items) }
 {
     let mut renamed = Vec::new(alloc);
@@ -27,6 +30,7 @@ pub(crate) fn renamed_units(
 }
 
 fn renamed_unit(alloc: Global, moves: &Moves, unit: UnitParts) -> Result<UnitParts, Memory>
+    requires { IsReadAsBefore (renaming_by moves.now) unit }
     ensures { IfOk result (λ u. u ≡ renamed_unit_analysis (renaming_by moves.now) unit) }
 {
     let text = renamed_text(alloc, moves, unit.text())?;

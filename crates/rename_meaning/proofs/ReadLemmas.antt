@@ -1,5 +1,5 @@
 -- The renamed tokens of each unit are read and bound as before.
-use Rattle.std.proofs.Common.{◌≡◌, ℕ, true, List, map}
+use Rattle.std.proofs.Common.{◌≡◌, ℕ, true, List, Some, map, slice_get}
 use Rattle.cs_base.specs.declared.positions.Part.{Part}
 use Rattle.cs_base.specs.Token.{Token}
 use Rattle.unit_steps.specs.Below.macro_expand.Renaming.{Renaming, renamed}
@@ -14,6 +14,8 @@ use Rattle.renamed_tree_laws.proofs.RenamedTrees.{renamed_alike}
 use Rattle.edited_unit_laws.specs.Analyses.{ReadsAlike}
 use Rattle.analysis.specs.Analysed.{Analysed}
 use Rattle.analysis.specs.Analysis.{UnitAnalysis}
+use Rattle.analysis.specs.Trees.{HasTree}
+use Rattle.renamed.specs.Renamed.{renamed_text, renaming_of}
 use Rattle.rename_meaning.specs.Allowed.{IsAllowed}
 use Rattle.rename_meaning.specs.KeptTokens.{Spells}
 use Rattle.rename_meaning.specs.Renamings.{KeepsUnedited}
@@ -48,11 +50,21 @@ module _ (a : Analysed) (members : List Part) (name : List ℕ) (r : Renaming) (
         binds = names_bind_as_before a members name r h spells keeps u i;
       }
 
-pub units_read_as_before : UnitsReadAsBefore
-units_read_as_before = λ a members name h. each_of (ReadsAlike (change a.value members name).renaming) a.value.units (λ u i.
+-- a unit of the analysis, under a renaming against which nothing stands
+unit_reads_as_before : (a : Analysed) (members : List Part) (name : List ℕ) → IsAllowed a members name → (u : UnitAnalysis) → In u a.value.units
+    → ReadsAlike (change a.value members name).renaming u
+unit_reads_as_before a members name h u i =
     let keeps = renamings_keep_unedited a members name u.text h in
     unit_reads a members name (change a.value members name).renaming h (renamings_spell a.value members name u.text)
-    (record { untraced = keeps.untraced; numbers = keeps.numbers; still = keeps.still }) u i)
+    (record { untraced = keeps.untraced; numbers = keeps.numbers; still = keeps.still }) u i
+
+-- its renamed tokens have the tree that it had
+pub unit_has_tree : (a : Analysed) (members : List Part) (name : List ℕ) → IsAllowed a members name → (k : ℕ) (u : UnitAnalysis)
+    → slice_get a.value.units k ≡ Some u → HasTree u.standard (renamed_text (renaming_of a.value members name) u.text).toks u.tree
+unit_has_tree a members name h k u at = (unit_reads_as_before a members name h u (k, at)).reads
+
+pub units_read_as_before : UnitsReadAsBefore
+units_read_as_before = λ a members name h. each_of (ReadsAlike (change a.value members name).renaming) a.value.units (unit_reads_as_before a members name h)
 
 pub edited_files_have_renamed_analysis : EditedFilesHaveRenamedAnalysis
 edited_files_have_renamed_analysis = λ a members name path line column h workspace once named new holds.

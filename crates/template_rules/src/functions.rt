@@ -1,14 +1,16 @@
 // The functions that a class names.
-ghost use Rattle.std.specs.Prelude.{◌≡◌, ◌==◌, ◌||◌, ◌&&◌, ◌-◌, ◌≤◌, ℕ, IfOk, OnOk, length};
+ghost use Rattle.std.specs.Prelude.{◌≡◌, ◌==◌, ◌||◌, ◌&&◌, ◌⊎◌, ◌-◌, ◌≤◌, ℕ, [], Some, IfOk, OnOk, length, slice_get};
 ghost use Rattle.std.specs.List.{list_any};
+ghost use Rattle.analysis.specs.Analysis.{UnitAnalysis};
 ghost use Rattle.analysis.specs.Below.scope_bind.Bound.{is_function_name};
 ghost use Rattle.rename_rules.specs.Class.{class_over, IsClass};
 ghost use Rattle.template_rules.specs.Functions.{holds_at, is_named, has_function, AreFunctionsOf};
-ghost use Rattle.template_rules.specs.Units.{AreUnits, IsUnitAt, has_some};
+ghost use Rattle.template_rules.specs.Units.{AreOfTree, AreUnits, IsUnitAt, has_some};
 
+use crate::body_lists::body_lists;
 use crate::unit_functions::{UnitFunctions, has, push_named};
 use analysis::{Analysis, Name};
-use c_types::{EntityKind, Indices, parameter_lists};
+use c_types::{EntityKind, Indices, ParameterList, parameter_lists};
 use cs_base::{Memory, Part, Tok};
 use rename_rules::{Class, holds_member};
 use std::alloc::Global;
@@ -116,6 +118,28 @@ fn functions_of(
     Ok(Indices::new(out))
 }
 
+// What is told of the tree of a unit, where it has some of these functions: its parameter lists, and where those lists end
+// whose names bodies begin with.
+fn lists_of(
+    alloc: Global,
+    a: &Analysis,
+    unit: u32,
+    entities: &[u32],
+) -> Result<(Vec<ParameterList>, Vec<u32>), Memory>
+    requires first { 1 ≤ unit }
+    requires last { unit ≤ length a.now.value.units }
+    ensures { IfOk result (λ r. (entities.now ≡ [])
+        ⊎ ((u : UnitAnalysis) → slice_get a.now.value.units (unit - 1) ≡ Some u → AreOfTree u r.0.items r.1.items)) }
+{
+    if entities.is_empty() {
+        return Ok((Vec::new(alloc), Vec::new(alloc)));
+    }
+    let tree = a.tree(alloc, unit)?;
+    let lists = parameter_lists(alloc, &tree)?;
+    let ends = body_lists(alloc, &tree)?;
+    Ok((lists, ends))
+}
+
 // A unit with them.
 fn unit_at<'a>(
     alloc: Global,
@@ -133,9 +157,8 @@ fn unit_at<'a>(
     let class = Class::new(a, members, number);
     let text = a.text(unit);
     let bound = a.bound(unit);
-    let tree = a.tree(unit);
     let entities = functions_of(alloc, &class, text.toks(), bound.names())?;
-    let lists = parameter_lists(alloc, tree)?;
+    let (lists, ends) = lists_of(alloc, a, unit, entities.as_slice())?;
     let mut found = Vec::new(alloc);
     push_named(&mut found, bound, entities.as_slice(), bound.declarators())?;
     push_named(&mut found, bound, entities.as_slice(), bound.calls())?;
@@ -143,9 +166,9 @@ fn unit_at<'a>(
         class,
         text,
         bound,
-        tree,
         entities,
         lists,
+        ends,
         found,
     })
 }

@@ -5,7 +5,7 @@ ghost use Rattle.rename_rules.specs.First.{FirstThen};
 ghost use Rattle.template_rules.specs.Asking.{AreWithin};
 ghost use Rattle.template_rules.specs.Offences.{list_offences, declarator_offences, call_offences, all_lists};
 
-use crate::body_lists::{body_at, body_lists};
+use crate::body_lists::body_at;
 use crate::dependences::dependences_at;
 use crate::functions::Functions;
 use crate::item_units::{ItemUnits, all_units, units_at};
@@ -144,9 +144,8 @@ pub fn at_lists(
     let mut now = first;
     let units = functions.units();
     for unit in units {
-        let ends = body_lists(alloc, unit.tree)?;
         let declared = at_declarators(functions, &odds, unit, unit.bound.declarators(), now);
-        now = at_calls(functions, &odds, unit, &ends, unit.bound.calls(), declared);
+        now = at_calls(functions, &odds, unit, &unit.ends, unit.bound.calls(), declared);
     }
     Ok(now)
 }

@@ -2,30 +2,27 @@
 ghost use Rattle.std.specs.Prelude.{◌≡◌, ◌==◌, ◌++◌, ◌∷◌, [], false, filter, map, OnOk};
 ghost use Rattle.std.specs.List.{list_any};
 ghost use Rattle.std.specs.Option.{option_map_or};
-ghost use Rattle.c_types.specs.Parameters.{parameters_in};
 ghost use Rattle.analysis.specs.Below.scope_bind.Names.{entity_at};
 ghost use Rattle.template_rules.specs.Functions.{names_function, declares_function, is_list_of, AreFunctionsOf};
 
 use analysis::{Bound, Name, UnitText};
 use c_types::{Indices, List, ParameterList};
-use c99_tree::Tree;
 use cs_base::Memory;
 use rename_rules::Class;
 
-/// A unit of an analysis: its text, what its identifiers denote, and its tree; the functions that a class names, each
-/// by the first token that declares it; the parameter lists of the unit's
-/// declarators; and the lists of declarators and of calls that belong to names of these functions.
+/// A unit of an analysis: its text, and what its identifiers denote; the functions that a class names, each by the first
+/// token that declares it; of its tree the parameter lists of declarators, and where those lists end whose names bodies
+/// begin with; and the lists of declarators and of calls that belong to names of these functions.
 #[derive(Drop)]
 pub(crate) struct UnitFunctions<'a> {
     pub(crate) class: Class<'a>,
     pub(crate) text: &'a UnitText,
     pub(crate) bound: &'a Bound,
-    pub(crate) tree: &'a Tree,
     pub(crate) entities: Indices,
     pub(crate) lists: Vec<ParameterList>,
+    pub(crate) ends: Vec<u32>,
     pub(crate) found: Vec<&'a List>,
     ghost named: { AreFunctionsOf class.members text.now.toks bound.now.names entities },
-    ghost listed: { lists.items ≡ parameters_in tree.now.under },
     ghost gathered: { map (λ l. l.now) found.items ≡ filter (is_list_of bound.now.names entities) (bound.now.declarators ++ bound.now.calls) },
 }
 

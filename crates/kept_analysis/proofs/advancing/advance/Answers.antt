@@ -3,7 +3,7 @@ use Rattle.eclass_map.specs.ClassTable.{Table, class_in}
 use Rattle.eclass_map.specs.Resized.{Resizes}
 use Rattle.analysis.specs.Analysed.{Analysed}
 use Rattle.kept_analysis.specs.Following.{IsRenamedIn, renamed_by}
-use Rattle.kept_analysis.proofs.AdvanceLemmas.{if_ok, name_some, part_is, members_held, own_follows, renamed_in, moved_for}
+use Rattle.kept_analysis.proofs.AdvanceLemmas.{if_ok, name_some, part_is, members_held, own_follows, reads_follow, renamed_in, moved_for}
 use Rattle.kept_analysis.proofs.advancing.advance.Goals as goal
 
 pub members-requires : goal.members-requires
@@ -14,6 +14,11 @@ pub followed-requires-clause-own : goal.followed-requires-clause-own
 followed-requires-clause-own c =
     (own_follows c.args.a c.classes.ensures.own c.args.part c.in-Some.class (ap (λ (t : Table). class_in t c.args.part) (sym c.classes.ensures.answer) ∙ sym c.in-Some.ensures.answer)
     c.args.name.now c.requires c.members.result.now c.members.ensures c.in_ok-moves-in-Some.moves c.in_ok-moves-in-Some.ensures)
+
+pub followed-requires-clause-read : goal.followed-requires-clause-read
+followed-requires-clause-read c =
+    reads_follow c.args.a c.classes.ensures.own c.args.part c.in-Some.class (ap (λ (t : Table). class_in t c.args.part) (sym c.classes.ensures.answer) ∙ sym c.in-Some.ensures.answer)
+    c.args.name.now c.requires c.members.result.now c.members.ensures c.in_ok-moves-in-Some.moves c.in_ok-moves-in-Some.ensures
 
 pub followed-requires-clause-held : goal.followed-requires-clause-held
 followed-requires-clause-held c =

@@ -1,4 +1,4 @@
-use Rattle.kept_analysis.proofs.AdvanceLemmas.{answered_own, parts_own}
+use Rattle.kept_analysis.proofs.AdvanceLemmas.{answered_own, parts_own, parts_read}
 use Rattle.kept_analysis.proofs.advancing.followed.Goals as goal
 
 pub of_parts-requires-clause-own : goal.of_parts-requires-clause-own
@@ -11,3 +11,7 @@ returns-clause-own c =
     answered_own c.of_parts.result _ _
     (parts_own c.args.moves.now c.args.a c.into_parts-workspace.result.workspace _ _ _ _ _ _ c.args.class c.args.len c.into_parts-workspace.ensures.answer c.requires.own
     c.in_ok-classes.ensures.moved c.in_ok-classes.ensures.parts c.in_ok-units.ensures c.in_ok-cache.ensures) c.of_parts.ensures
+
+pub renamed_units-units-requires : goal.renamed_units-units-requires
+renamed_units-units-requires c =
+    parts_read c.args.moves.now c.args.a c.into_parts-workspace.result.workspace _ _ _ c.into_parts-workspace.ensures.answer c.requires.read

@@ -4,7 +4,6 @@ use Rattle.std.proofs.lemmas.Option.{slice_get-get_or}
 use Rattle.rename_rules.proofs.FirstLemmas.{then_none, then_both}
 use Rattle.template_rules.specs.LineOffences.{odd_positions}
 use Rattle.template_rules.specs.Offences.{declarator_offences, call_offences, unit_lists}
-use Rattle.template_rules.specs.ScopeOffences.{body_lists_in}
 use Rattle.template_rules.proofs.StepLemmas.{more_next, more_all}
 use Rattle.template_rules.proofs.UnitLemmas.{offences_at, offences_told, units_first, unit_own}
 use Rattle.template_rules.proofs.list_rules.at_lists.Goals as goal
@@ -30,10 +29,10 @@ loop-unit-preserved c =
     c.loop-unit-test.true c.unit-item.is c.loop-unit.invariant
     (then_both a.table
     (flat_map (declarator_offences class.members a odds f.text.now f.bound.now f.lists.items) f.bound.now.declarators)
-    (flat_map (call_offences class.members a odds f.text.now f.bound.now (body_lists_in f.tree.now.under)) f.bound.now.calls)
+    (flat_map (call_offences class.members a odds f.text.now f.bound.now f.ends.items) f.bound.now.calls)
     c.loop-unit.now c.at_declarators-declared.result c.at_calls-now.result
     (rw (c.declarators.ensures, c.deref.ensures.value, c.in_ok-odds.ensures, c.analysis.ensures) at c.at_declarators-declared.ensures)
-    (rw (c.calls.ensures, c.deref-in-loop-unit.ensures.value, c.in_ok-odds.ensures, c.analysis.ensures, c.deref-in-loop-unit-2.ensures.value, c.in_ok-ends.ensures)
+    (rw (c.calls.ensures, c.deref-in-loop-unit.ensures.value, c.in_ok-odds.ensures, c.analysis.ensures, c.deref-in-loop-unit-2.ensures.value)
     at c.at_calls-now.ensures))
 
 pub returns : goal.returns
