@@ -8,12 +8,12 @@ use thiserror::Error;
 #[derive(Clone, Copy, Debug, PartialEq, Eq, Drop, Error)]
 pub enum ReadRefusal {
     /// Nothing that may follow starts at the token with the index, or at the end.
-    #[error("syntax at token {index}")]
+    #[error("Syntax")]
     Syntax { index: u32 },
     /// The 257th level would begin at the token with the index.
-    #[error("too deep at token {index}")]
+    #[error("TooDeep")]
     TooDeep { index: u32 },
-    #[error("out of memory")]
+    #[error("Memory")]
     Memory,
 }
 

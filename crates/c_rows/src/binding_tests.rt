@@ -2,6 +2,7 @@
 use crate::entity_rows::BOUND;
 use crate::fault_rows::FAULTS;
 use crate::list_rows::{KINDS, LISTS, PARAMETERS};
+use crate::refusals::unbound;
 use c99_read::{Dialect, Edition, read};
 use c99_tree::Tree;
 use cs_base::Tok;
@@ -142,7 +143,7 @@ fn answer_of(alloc: Global, asked: Asked, toks: &[Tok], dialect: Dialect) -> Res
     match read(alloc, toks, dialect) {
         Ok(tree) => match bind(alloc, toks, &tree) {
             Ok(bound) => told(alloc, asked, &tree, &bound, toks.len() as u32),
-            Err(refusal) => Ok(format!(in alloc; "{refusal}")?),
+            Err(refusal) => Ok(unbound(alloc, refusal)?),
         },
         Err(refusal) => Ok(format!(in alloc; "not read: {refusal:?}")?),
     }

@@ -1,6 +1,7 @@
 // Worked programs of C11, beside what C99 makes of them. The trees and the places are those of the grammar's rules,
 // worked outside.
 use crate::reading_tests::written;
+use crate::refusals::unread;
 use c99_read::{Dialect, Edition, ReadRefusal, read};
 use c99_tree::Tree;
 use cs_base::Memory;
@@ -173,7 +174,7 @@ pub(crate) fn answer(
 pub(crate) fn said(alloc: Global, text: &[u8], dialect: Dialect) -> Result<String, Fail> {
     match answer(alloc, text, dialect)? {
         Some(Ok(_)) => Ok(format!(in alloc; "read")?),
-        Some(Err(refusal)) => Ok(format!(in alloc; "{refusal}")?),
+        Some(Err(refusal)) => Ok(unread(alloc, refusal)?),
         None => Ok(format!(in alloc; "too long")?),
     }
 }

@@ -1,4 +1,5 @@
 // Texts that are long and not deep, read and bound in the stack of a test.
+use crate::refusals::unbound;
 use c99_read::{Dialect, Edition, read};
 use lexer::lex;
 use scope_bind::bind;
@@ -45,7 +46,7 @@ fn answer(alloc: Global, text: &[u8]) -> Result<String, Fail> {
     match read(alloc, toks, Dialect::Iso(Edition::C99)) {
         Ok(tree) => match bind(alloc, toks, &tree) {
             Ok(bound) => Ok(format!(in alloc; "{}", bound.names().len())?),
-            Err(refusal) => Ok(format!(in alloc; "{refusal}")?),
+            Err(refusal) => Ok(unbound(alloc, refusal)?),
         },
         Err(refusal) => Ok(format!(in alloc; "not read: {refusal:?}")?),
     }

@@ -8,12 +8,12 @@ use thiserror::Error;
 #[derive(Debug, Drop, Error)]
 pub enum WsRefusal {
     /// The line is none that a workspace file may have.
-    #[error("bad workspace line {line}")]
+    #[error("BadLine")]
     BadLine { line: u32 },
     /// The line is the 1,025th `file` line.
-    #[error("too many units at line {line}")]
+    #[error("TooManyUnits")]
     TooManyUnits { line: u32 },
-    #[error("out of memory")]
+    #[error("Memory")]
     Memory,
 }
 
