@@ -32,7 +32,7 @@ pub use frames::{Body, Frame, Position, Scope, Words};
 pub use listing::Shown;
 pub use lists::{Indices, List, Range};
 pub use parameters::{ParameterForm, ParameterList, ParameterNames, parameter_lists};
-pub use shapes::is_bare;
+pub use shapes::{first_node, is_bare, lone_token, second_node};
 pub use trees::{
     Part, child_at, first_token, has_node, is_at, is_list, is_node, is_text, last_token, words_of,
 };

@@ -9,7 +9,7 @@ use crate::trees::{Part, child_at, is_lone_main};
 use c99_tree::Tree;
 
 /// The first child, where it is a node.
-pub(crate) fn first_node(tree: &Tree) -> Option<&Tree>
+pub fn first_node(tree: &Tree) -> Option<&Tree>
     ensures { option_map (λ t. t.now) result ≡ first_node tree.now.under }
 {
     match child_at(tree, 0) {
@@ -44,7 +44,7 @@ pub(crate) fn inner_in(tree: &Tree) -> Option<&Tree>
 }
 
 /// The second child, where the first one and it are nodes.
-pub(crate) fn second_node(tree: &Tree) -> Option<&Tree>
+pub fn second_node(tree: &Tree) -> Option<&Tree>
     ensures { option_map (λ t. t.now) result ≡ second_node tree.now.under }
 {
     match child_at(tree, 0) {
@@ -87,7 +87,7 @@ fn token_if(index: u32, behind: Part<'_>) -> Option<u32>
 }
 
 /// The only child, where it is a token.
-pub(crate) fn lone_token(tree: &Tree) -> Option<u32>
+pub fn lone_token(tree: &Tree) -> Option<u32>
     ensures { result ≡ lone_token tree.now.under }
 {
     match child_at(tree, 0) {

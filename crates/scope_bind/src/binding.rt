@@ -20,7 +20,8 @@ use c99_tree::{Label, Production, Tree};
 use cs_base::{Memory, Tok};
 use std::alloc::Global;
 
-fn outermost(alloc: Global, count: u32) -> Frame
+/// The frame of a unit of so many tokens.
+pub fn outermost(alloc: Global, count: u32) -> Frame
     ensures { result ≡ outermost count }
 {
     Frame {
@@ -54,7 +55,8 @@ fn outermost(alloc: Global, count: u32) -> Frame
     }
 }
 
-fn count_of(toks: &[Tok]) -> Result<u32, Memory>
+/// How many tokens there are.
+pub fn count_of(toks: &[Tok]) -> Result<u32, Memory>
     ensures { IfOk result (λ n. n ≡ length toks.now) }
 {
     if toks.len() > u32::MAX as usize {
@@ -156,8 +158,8 @@ fn bound_of(alloc: Global, tree: &Tree, facts: &Facts<'_>, shown: Shown) -> Resu
     Bound::new(alloc, count, names, told)
 }
 
-// The binding, or the first fault.
-fn bound_unless(
+/// The binding, or the first fault, of what is known at the end of the unit.
+pub fn bound_unless(
     alloc: Global,
     tree: &Tree,
     facts: &Facts<'_>,

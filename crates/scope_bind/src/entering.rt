@@ -180,7 +180,7 @@ impl Facts<'_> {
 
     /// The frame of a node.
     #[inline(never)]
-    pub(crate) fn frame_in(&self, alloc: Global, tree: &Tree, f: &Frame) -> Result<Frame, Memory>
+    pub fn frame_in(&self, alloc: Global, tree: &Tree, f: &Frame) -> Result<Frame, Memory>
         ensures { IfOk result (λ child. child ≡ frame_in self.now.toks tree.now.label tree.now.under f.now self.now.facts) }
     {
         let label = tree.label();
@@ -217,7 +217,7 @@ impl Facts<'_> {
 
     /// A node begins.
     #[inline(never)]
-    pub(crate) fn enter(&mut self, tree: &Tree, f: &Frame) -> Result<(), Memory>
+    pub fn enter(&mut self, tree: &Tree, f: &Frame) -> Result<(), Memory>
         ensures { OnOk result (self.new ≡ known self.old.toks (facts_in tree.now.label.production tree.now.first tree.now.under f.now self.old.facts)) }
     {
         match tree.label().production {

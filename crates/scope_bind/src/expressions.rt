@@ -18,7 +18,8 @@ fn of_first(f: &Frame, child: &Frame) -> Result<CType, Memory>
     }
 }
 
-fn of_conditional(f: &Frame, child: &Frame) -> Result<CType, Memory>
+/// The second and the third operand's (6.5.15).
+pub fn of_conditional(f: &Frame, child: &Frame) -> Result<CType, Memory>
     ensures { IfOk result (λ t. t ≡ of_conditional f.now child.now) }
 {
     if f.nth == 2 {
@@ -50,7 +51,8 @@ fn of_child(production: Production, f: &Frame, label: Label, child: &Frame) -> R
     }
 }
 
-fn of_main(alloc: Global, f: &Frame, label: Label, child: &Frame) -> Result<CType, Memory>
+/// Specifiers (6.7.2).
+pub fn of_main(alloc: Global, f: &Frame, label: Label, child: &Frame) -> Result<CType, Memory>
     ensures { IfOk result (λ t. t ≡ of_main f.now label child.now) }
 {
     if is_at(label, Production::Word, 1) {
@@ -80,7 +82,8 @@ fn of_declarator(f: &Frame, tree: &Tree) -> Result<CType, Memory>
     }
 }
 
-fn of_postfix(f: &Frame, child: &Frame) -> Result<CType, Memory>
+/// `[` and an expression (6.5.2.1).
+pub fn of_postfix(f: &Frame, child: &Frame) -> Result<CType, Memory>
     ensures { IfOk result (λ t. t ≡ of_postfix f.now child.now) }
 {
     if f.label.alternative == 1 {
@@ -104,7 +107,8 @@ fn prefixed(alloc: Global, toks: &[Tok], sign: u32, t: CType) -> Result<CType, M
     }
 }
 
-fn of_unary(alloc: Global, toks: &[Tok], f: &Frame, child: &Frame) -> Result<CType, Memory>
+/// Unary operators (6.5.3).
+pub fn of_unary(alloc: Global, toks: &[Tok], f: &Frame, child: &Frame) -> Result<CType, Memory>
     ensures { IfOk result (λ t. t ≡ of_unary toks.now f.now child.now) }
 {
     if f.label.alternative == 1 {
@@ -128,7 +132,7 @@ fn of_sum(toks: &[Tok], f: &Frame, child: &Frame) -> Result<CType, Memory>
 }
 
 /// The type of a node, once this child of it is read.
-pub(crate) fn found_after(
+pub fn found_after(
     alloc: Global,
     toks: &[Tok],
     f: &Frame,

@@ -10,7 +10,7 @@ ghost use Rattle.scope_bind.specs.Labels.{with_jump};
 ghost use Rattle.name_chains.specs.Members.{members_of, is_found_in, lifted, with_silent};
 ghost use Rattle.name_chains.specs.Places.{place_of};
 ghost use Rattle.name_chains.specs.Entering.{with_kept};
-ghost use Rattle.c_types.specs.declared.declarations.Space.TheVariants.{Ordinary, Tags};
+ghost use Rattle.c_types.specs.declared.declarations.Space.TheVariants.{Tags};
 
 use crate::marks::Marks;
 use c_types::{Cause, Declaration, Fault, Linkage, Occurrence, Space};
@@ -22,7 +22,7 @@ use std::marker::Model;
 /// The tokens of the unit, the declarations and what is bound so far, and the first fault. Contracts see the
 /// latest declaration first.
 #[derive(Drop)]
-pub(crate) struct Facts<'a> {
+pub struct Facts<'a> {
     chains: Chains<'a>,
     occurrences: Vec<Occurrence>,
     begun: Marks,
@@ -85,7 +85,7 @@ fn count_of(k: usize) -> Result<u32, Memory>
 }
 
 impl<'a> Facts<'a> {
-    pub(crate) fn new(alloc: Global, toks: &'a [Tok]) -> Result<Facts<'a>, Memory>
+    pub fn new(alloc: Global, toks: &'a [Tok]) -> Result<Facts<'a>, Memory>
         ensures { IfOk result (λ f. f ≡ known toks.now no_facts) }
     {
         Ok(Facts {
@@ -99,13 +99,13 @@ impl<'a> Facts<'a> {
     }
 
     /// The tokens of the unit.
-    pub(crate) fn toks(&self) -> &'a [Tok]
+    pub fn toks(&self) -> &'a [Tok]
         ensures { result.now ≡ self.now.toks }
     {
         self.chains.toks()
     }
 
-    pub(crate) fn note(&mut self, wrong: bool, cause: Cause, index: u32)
+    pub fn note(&mut self, wrong: bool, cause: Cause, index: u32)
         ensures { self.new ≡ known self.old.toks (with_fault wrong cause index self.old.facts) }
     {
         if wrong {
@@ -113,7 +113,7 @@ impl<'a> Facts<'a> {
         }
     }
 
-    pub(crate) fn occur(&mut self, index: u32, entity: u32, declares: bool) -> Result<(), Memory>
+    pub fn occur(&mut self, index: u32, entity: u32, declares: bool) -> Result<(), Memory>
         ensures { OnOk result (self.new ≡ known self.old.toks (with_occurrence index entity declares self.old.facts)) }
     {
         self.occurrences.push(Occurrence {
@@ -124,7 +124,7 @@ impl<'a> Facts<'a> {
         Ok(())
     }
 
-    pub(crate) fn declare(&mut self, d: Declaration) -> Result<(), Memory>
+    pub fn declare(&mut self, d: Declaration) -> Result<(), Memory>
         ensures { OnOk result (self.new ≡ known self.old.toks (with_declaration d self.old.facts)) }
     {
         self.occur(d.name_at, d.entity, true)?;
@@ -138,7 +138,7 @@ impl<'a> Facts<'a> {
         self.chains.push(d)
     }
 
-    pub(crate) fn begin(&mut self, begins: bool, entity: u32) -> Result<(), Memory>
+    pub fn begin(&mut self, begins: bool, entity: u32) -> Result<(), Memory>
         ensures { OnOk result (self.new ≡ known self.old.toks (with_begun begins entity self.old.facts)) }
     {
         if begins {
@@ -147,13 +147,13 @@ impl<'a> Facts<'a> {
         Ok(())
     }
 
-    pub(crate) fn complete(&mut self, number: u32) -> Result<(), Memory>
+    pub fn complete(&mut self, number: u32) -> Result<(), Memory>
         ensures { OnOk result (self.new ≡ known self.old.toks (with_complete number self.old.facts)) }
     {
         self.complete.push(number)
     }
 
-    pub(crate) fn jump(&mut self, index: u32) -> Result<(), Memory>
+    pub fn jump(&mut self, index: u32) -> Result<(), Memory>
         ensures { OnOk result (self.new ≡ known self.old.toks (with_jump index self.old.facts)) }
     {
         self.jumps.push(index)?;
@@ -172,7 +172,7 @@ impl<'a> Facts<'a> {
         Ok(self.jumps.clone()?)
     }
 
-    pub(crate) fn fault(&self) -> Option<Fault>
+    pub fn fault(&self) -> Option<Fault>
         ensures { result ≡ self.now.facts.fault }
     {
         self.fault
@@ -208,7 +208,7 @@ impl<'a> Facts<'a> {
         }
     }
 
-    pub(crate) fn has_begun(&self, entity: u32) -> bool
+    pub fn has_begun(&self, entity: u32) -> bool
         ensures { result ≡ is_in self.now.facts.begun entity }
     {
         self.begun.has(entity)
@@ -246,17 +246,16 @@ impl<'a> Facts<'a> {
         count_of(self.chains.members_before(number, name_at))
     }
 
-    pub(crate) fn visible(&self, space: Space, i: u32, k: u32) -> Option<&Declaration>
+    pub fn visible(&self, space: Space, i: u32, k: u32) -> Option<&Declaration>
         ensures { option_map (λ d. d.now) result ≡ visible self.now.toks space i k self.now.facts }
     {
         self.chains.latest(space, i, Asked::Live(k))
     }
 
-    pub(crate) fn in_scope(&self, depth: u32, i: u32, k: u32) -> Option<&Declaration>
-        ensures { option_map (λ d. d.now) result ≡ in_scope self.now.toks Ordinary depth i k self.now.facts }
+    pub fn in_scope(&self, space: Space, depth: u32, i: u32, k: u32) -> Option<&Declaration>
+        ensures { option_map (λ d. d.now) result ≡ in_scope self.now.toks space depth i k self.now.facts }
     {
-        self.chains
-            .latest(Space::Ordinary, i, Asked::Within(k, depth))
+        self.chains.latest(space, i, Asked::Within(k, depth))
     }
 
     pub(crate) fn prior_tag(&self, anew: bool, depth: u32, i: u32) -> Option<&Declaration>

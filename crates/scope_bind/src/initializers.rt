@@ -157,7 +157,7 @@ fn after_list_item(f: &Frame, tree: &Tree, child: &Frame) -> Position
 }
 
 /// The next place of a node, once this child of it is read.
-pub(crate) fn position_after(f: &Frame, tree: &Tree, child: &Frame) -> Result<Position, Memory>
+pub fn position_after(f: &Frame, tree: &Tree, child: &Frame) -> Result<Position, Memory>
     ensures { IfOk result (λ p. p ≡ position_after f.now.label.production f.now tree.now.label tree.now.under child.now) }
 {
     match f.label.production {

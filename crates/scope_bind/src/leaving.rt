@@ -48,7 +48,7 @@ impl Facts<'_> {
 
     /// A node is left.
     #[inline(never)]
-    pub(crate) fn leave(
+    pub fn leave(
         &mut self,
         alloc: Global,
         f: &Frame,

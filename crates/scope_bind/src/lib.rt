@@ -8,7 +8,8 @@
 //! A binding is told by indices and holds no spelling, so a renamed text binds to the same value: that is
 //! a law of `tree_laws`. This crate knows neither how a tree is read nor macros, files or classes. Spellings,
 //! declarations, names and types want memory. What a tree says without a scope is in `c_types`, which of the
-//! declarations a name may denote in `name_chains`. Read `specs/Declarations.antt` of `c_types`, then
+//! declarations a name may denote in `name_chains`. The steps of the walk are public, for a walk over units of
+//! another dialect. Read `specs/Declarations.antt` of `c_types`, then
 //! `Ordinary.antt` and the files beside it, `Walk.antt`, `Bound.antt`, then `binding.rt`, `walking.rt` and
 //! `facts.rt`.
 #![tactic(auto)]
@@ -34,9 +35,14 @@ mod roles;
 mod tags;
 mod walking;
 
-pub use binding::bind;
+pub use binding::{bind, bound_unless, count_of, outermost};
 pub use bound::{Bound, Name};
 pub use c_types::{
     BindRefusal, EntityKind, Indices, Linkage, List, ParameterForm, ParameterList, ParameterNames,
     Range, parameter_lists,
 };
+pub use expressions::{found_after, of_conditional, of_main, of_postfix, of_unary};
+pub use facts::Facts;
+pub use initializers::position_after;
+pub use ordinary::Declared;
+pub use roles::{Role, role_of};

@@ -136,7 +136,7 @@ impl Facts<'_> {
     }
 
     /// A labeled statement.
-    pub(crate) fn label(&mut self, alloc: Global, body: Option<Body>, i: u32) -> Result<(), Memory>
+    pub fn label(&mut self, alloc: Global, body: Option<Body>, i: u32) -> Result<(), Memory>
         ensures { OnOk result (self.new ≡ known self.old.toks (with_label self.old.toks body i self.old.facts)) }
     {
         match body {
@@ -173,7 +173,7 @@ impl Facts<'_> {
     }
 
     /// The member is used.
-    pub(crate) fn use_member(&mut self, t: &CType, i: u32) -> Result<(), Memory>
+    pub fn use_member(&mut self, t: &CType, i: u32) -> Result<(), Memory>
         ensures { OnOk result (self.new ≡ known self.old.toks (member_used self.old.toks t.now i self.old.facts)) }
     {
         match self.member_entity(t, i) {
@@ -186,7 +186,7 @@ impl Facts<'_> {
     }
 
     /// Its type, or the one given where it is not there.
-    pub(crate) fn member_type(&self, t: &CType, i: u32, other: CType) -> Result<CType, Memory>
+    pub fn member_type(&self, t: &CType, i: u32, other: CType) -> Result<CType, Memory>
         ensures { IfOk result (λ r. r ≡ member_type self.now.toks t.now i other self.now.facts) }
     {
         match self.member_at(t, i) {

@@ -83,7 +83,7 @@ fn new_parameter(f: &Frame, i: u32, last: u32, t: CType) -> Result<Declared, Mem
 
 impl Facts<'_> {
     /// An identifier in an expression.
-    pub(crate) fn name(&mut self, f: &Frame, i: u32) -> Result<(), Memory>
+    pub fn name(&mut self, f: &Frame, i: u32) -> Result<(), Memory>
         ensures { OnOk result (self.new ≡ known self.old.toks (named_facts self.old.toks f.now i self.old.facts)) }
     {
         if is_func(self.toks(), f, i) {
@@ -94,7 +94,7 @@ impl Facts<'_> {
     }
 
     /// Its type.
-    pub(crate) fn named_type(&self, alloc: Global, f: &Frame, i: u32) -> Result<CType, Memory>
+    pub fn named_type(&self, alloc: Global, f: &Frame, i: u32) -> Result<CType, Memory>
         ensures { IfOk result (λ t. t ≡ named_type self.now.toks f.now i self.now.facts) }
     {
         if is_func(self.toks(), f, i) {

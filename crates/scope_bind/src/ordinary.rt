@@ -15,7 +15,7 @@ use std::alloc::Global;
 /// What is declared: its name, the last token before its range, its kind, type and linkage, whether it
 /// stands between an identifier list and the body, and whether in the list.
 #[derive(Drop)]
-pub(crate) struct Declared {
+pub struct Declared {
     pub name_at: u32,
     pub last: u32,
     pub kind: EntityKind,
@@ -131,7 +131,7 @@ impl Facts<'_> {
         ensures listed { result.listed ≡ is_listed n.now (in_scope self.now.toks Ordinary scope.depth n.now.name_at n.now.last self.now.facts) }
         ensures another { result.another ≡ option_map_or (λ d. not (is_again n.now d)) (in_scope self.now.toks Ordinary scope.depth n.now.name_at n.now.last self.now.facts) false }
     {
-        let prior = self.in_scope(scope.depth, n.name_at, n.last);
+        let prior = self.in_scope(Space::Ordinary, scope.depth, n.name_at, n.last);
         let link = self.linked(n.name_at);
         Verdict {
             entity: entity_of(n, prior, link),
@@ -147,7 +147,7 @@ impl Facts<'_> {
     }
 
     /// The name is declared in the scope.
-    pub(crate) fn declare_name(&mut self, scope: Scope, n: Declared) -> Result<(), Memory>
+    pub fn declare_name(&mut self, scope: Scope, n: Declared) -> Result<(), Memory>
         ensures { OnOk result (self.new ≡ known self.old.toks (declared self.old.toks scope n self.old.facts)) }
     {
         let v = self.verdict(scope, &n);

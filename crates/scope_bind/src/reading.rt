@@ -19,13 +19,7 @@ impl Facts<'_> {
     }
 
     /// What a token of the role does.
-    pub(crate) fn read(
-        &mut self,
-        alloc: Global,
-        role: Role,
-        i: u32,
-        f: &Frame,
-    ) -> Result<(), Memory>
+    pub fn read(&mut self, alloc: Global, role: Role, i: u32, f: &Frame) -> Result<(), Memory>
         ensures { OnOk result (self.new ≡ known self.old.toks (facts_at self.old.toks role i f.now self.old.facts)) }
     {
         match role {
@@ -61,13 +55,7 @@ impl Facts<'_> {
     }
 
     /// The type of the node, once such a token is read.
-    pub(crate) fn found_at(
-        &self,
-        alloc: Global,
-        role: Role,
-        i: u32,
-        f: &Frame,
-    ) -> Result<CType, Memory>
+    pub fn found_at(&self, alloc: Global, role: Role, i: u32, f: &Frame) -> Result<CType, Memory>
         ensures { IfOk result (λ t. t ≡ found_at self.now.toks role i f.now self.now.facts) }
     {
         match role {
@@ -86,7 +74,7 @@ impl Facts<'_> {
     }
 
     /// The next place in a brace list, once such a token is read.
-    pub(crate) fn position_at(&self, role: Role, i: u32, f: &Frame) -> Result<Position, Memory>
+    pub fn position_at(&self, role: Role, i: u32, f: &Frame) -> Result<Position, Memory>
         ensures { IfOk result (λ p. p ≡ position_at self.now.toks role i f.now self.now.facts) }
     {
         match role {

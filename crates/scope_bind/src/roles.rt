@@ -10,7 +10,7 @@ use c99_tree::Production;
 /// designator, a label, and a label behind `goto`. The name of a declarator is declared where the declarator
 /// ends, and an enumeration constant where its enumerator does.
 #[derive(Clone, Copy, Debug, PartialEq, Eq)]
-pub(crate) enum Role {
+pub enum Role {
     Plain,
     Primary,
     TypeName,
@@ -51,7 +51,7 @@ fn statement_role(alternative: u8, nth: u32) -> Role
 }
 
 /// The role of a child that is a token, by the production, the alternative and how many children stand before it.
-pub(crate) fn role_of(production: Production, alternative: u8, nth: u32) -> Role
+pub fn role_of(production: Production, alternative: u8, nth: u32) -> Role
     ensures { result ≡ role_of production alternative nth }
 {
     match production {
