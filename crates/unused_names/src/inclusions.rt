@@ -5,7 +5,7 @@ ghost use Rattle.unused_names.specs.Inclusions.{end_of, is_enter, open_behind, t
 use analysis::{Event, EventKind, UnitText};
 
 /// Whether the items of an included file begin.
-pub(crate) fn is_enter(kind: EventKind) -> bool
+pub fn is_enter(kind: EventKind) -> bool
     ensures { result ≡ is_enter kind }
 {
     match kind {
@@ -27,7 +27,7 @@ fn open_behind(kind: EventKind, inner: usize) -> Option<usize>
 }
 
 /// The number of the event that ends the inclusion which an event begins.
-pub(crate) fn end_of(events: &[Event], k: usize) -> usize
+pub fn end_of(events: &[Event], k: usize) -> usize
     requires { k < length events.now }
     ensures answer { result ≡ end_of events.now k }
     ensures within { result ≤ length events.now }
@@ -44,7 +44,7 @@ pub(crate) fn end_of(events: &[Event], k: usize) -> usize
 }
 
 /// How many tokens are put out before an event, or in all where there is no such event.
-pub(crate) fn tokens_before(text: &UnitText, count: u32, k: usize) -> u32
+pub fn tokens_before(text: &UnitText, count: u32, k: usize) -> u32
     requires { count ≡ length text.now.toks }
     ensures { result ≡ tokens_before text.now k }
 {

@@ -8,8 +8,8 @@ use cs_base::Memory;
 use indexmap::IndexMap;
 use std::alloc::Global;
 
-// Whether a line gives a name a meaning or takes it away.
-fn gives_meaning(kind: EventKind) -> bool
+/// Whether a line gives a name a meaning or takes it away.
+pub fn gives_meaning(kind: EventKind) -> bool
     ensures { result ≡ gives_meaning kind }
 {
     match kind {
@@ -28,8 +28,8 @@ fn asks_meaning(kind: EventKind) -> bool
     }
 }
 
-// The spelling of the name of an event.
-fn name_of(event: &Event) -> &[u8]
+/// The spelling of the name of an event.
+pub fn name_of(event: &Event) -> &[u8]
     ensures { result.now ≡ name_of event.now }
 {
     match &event.name {

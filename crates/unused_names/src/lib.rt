@@ -6,6 +6,7 @@
 //! member of each class that some name declares and none uses: it is `AreUnused` of `specs/Unused.antt`. Lines in
 //! read-only files and classes with a member there are left out. How a workspace is analysed belongs to the crate
 //! below, and how the answers are printed to those above. Nothing is refused; want of memory is answered `Memory`.
+//! What an inclusion brings, and which names events speak of, is handed to those that go on from here.
 //! `unused` walks over all names twice; `unneeded` looks at each token and event of a unit once for each inclusion that
 //! is open there, whose number is limited. Read `specs/Inclusions.antt`, `specs/Unneeded.antt` and
 //! `specs/Unused.antt`, then `unneeded_lines.rt` and `unused_classes.rt`.
@@ -19,5 +20,7 @@ mod spans;
 mod unneeded_lines;
 mod unused_classes;
 
+pub use inclusions::{end_of, is_enter, tokens_before};
+pub use last_uses::{gives_meaning, name_of};
 pub use unneeded_lines::unneeded;
 pub use unused_classes::{is_unused, unused};
