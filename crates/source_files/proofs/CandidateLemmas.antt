@@ -1,9 +1,11 @@
 -- Where included files are looked for (6.10.2).
-use Rattle.std.proofs.Common.{◌≡◌, ℕ, suc, ◌-◌, ◌≤◌, ◌<◌, Bool, true, false, not, List, [], ◌∷◌, length, take, get_or, filter, map, refl, sym, ◌∙◌, ap, inl, inr, arith}
+use Rattle.std.proofs.Common.{◌≡◌, ℕ, suc, ◌-◌, ◌≤◌, ◌<◌, Bool, true, false, not, List, [], ◌∷◌, ◌++◌, length, take, get_or, filter, map, refl, sym, ◌∙◌, ap, inl, inr, arith}
 use Rattle.std.specs.List.{list_any, list_all, suffix_len}
 use Rattle.std.specs.Str.{is_utf8, IsUtf8}
 use Rattle.std.proofs.lemmas.Bool.{cases_Bool}
 use Rattle.std.proofs.lemmas.List.Sums.{suffix_len_is}
+use Rattle.std.proofs.lemmas.List.{map-append}
+use Rattle.std.proofs.lemmas.List.Elements.{filter-append}
 use Rattle.std.proofs.lemmas.List.Folds.{list_any_at}
 use Rattle.std.proofs.lemmas.Str.{IsUtf8-from_is_utf8}
 use Rattle.source_files.specs.Search.{Header, is_slash, or_root, directory_of, directories_for, can_be_asked, candidates_of}
@@ -47,3 +49,16 @@ list_all-filter p (path ∷ paths) = elim (cases_Bool (p path)) [
 -- the paths that are asked for can be asked for
 pub list_all-candidates : (h : Header) (path : List ℕ) (unit : UnitValue) → list_all can_be_asked (candidates_of h path unit) ≡ true
 list_all-candidates h path unit = list_all-filter can_be_asked (map (λ directory. joined_path_of directory h.name) (directories_for h path unit))
+
+-- the paths of a quoted name, part by part
+pub quoted-parts : (name own : List ℕ) (qpath ipath : List (List ℕ))
+    → (filter can_be_asked (joined_path_of own name ∷ []) ++ filter can_be_asked (map (λ d. joined_path_of d name) qpath)) ++ filter can_be_asked (map (λ d. joined_path_of d name) ipath)
+    ≡ filter can_be_asked (map (λ d. joined_path_of d name) (own ∷ (qpath ++ ipath)))
+quoted-parts name own qpath ipath =
+    let path_in : List ℕ → List ℕ = λ d. joined_path_of d name in
+    let both : filter can_be_asked (map path_in (qpath ++ ipath)) ≡ filter can_be_asked (map path_in qpath) ++ filter can_be_asked (map path_in ipath) =
+    ap (filter can_be_asked) (map-append path_in qpath ipath) ∙ filter-append can_be_asked (map path_in qpath) (map path_in ipath) in
+    elim (cases_Bool (can_be_asked (path_in own))) [
+      | inl is ↦ rw is (ap (λ (paths : List (List ℕ)). path_in own ∷ paths) (sym both))
+      | inr other ↦ rw other (sym both)
+    ]

@@ -111,6 +111,22 @@ fn add_candidates(
     Ok(())
 }
 
+// Those of a quoted name: in the directory of the file, then in those of quoted names alone, then in all others.
+fn quoted_candidates(
+    alloc: Global,
+    name: &[u8],
+    path: &[u8],
+    unit: &Unit,
+) -> Result<Vec<Text>, Memory>
+    ensures { IfOk result (λ all. all.items ≡ filter can_be_asked (map (λ d. joined_path_of d name.now) (directory_of path.now ∷ (unit.now.qpath ++ unit.now.ipath)))) }
+{
+    let mut all = Vec::new(alloc);
+    add_candidate(alloc, &mut all, directory_of(path), name)?;
+    add_candidates(alloc, &mut all, unit.qpath(), name)?;
+    add_candidates(alloc, &mut all, unit.ipath(), name)?;
+    Ok(all)
+}
+
 // The paths that are asked for by a file of this unit, in order.
 pub fn candidates_of(
     alloc: Global,
@@ -120,11 +136,10 @@ pub fn candidates_of(
 ) -> Result<Vec<Text>, Memory>
     ensures { IfOk result (λ all. all.items ≡ candidates_of header.now path.now unit.now) }
 {
-    let mut all = Vec::new(alloc);
     if header.quoted() {
-        add_candidate(alloc, &mut all, directory_of(path), header.name())?;
-        add_candidates(alloc, &mut all, unit.qpath(), header.name())?;
+        return quoted_candidates(alloc, header.name(), path, unit);
     }
+    let mut all = Vec::new(alloc);
     add_candidates(alloc, &mut all, unit.ipath(), header.name())?;
     Ok(all)
 }
