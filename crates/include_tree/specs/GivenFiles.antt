@@ -1,5 +1,6 @@
 -- Source files that are kept, as they are processed.
 use Rattle.std.specs.Prelude.{◌≡◌, ℕ, Some, List, [], Result, Ok, Err, IfSome}
+use Rattle.cs_base.specs.Units.{UnitValue}
 use Rattle.source_files.specs.Below.lexer.FileText.{file_text}
 use Rattle.source_files.specs.declared.pre_fault.PreFault.{PreFault}
 use Rattle.source_files.specs.Limits.{the_limits}
