@@ -1,6 +1,7 @@
 -- What is read for a production starts it.
 use Rattle.std.proofs.Common.{ℕ, suc, zero, ◌+◌, ◌≡◌, Bool, true, false, ◌||◌, List, [], ◌∷◌, Option, Some, refl, ap, ◌∙◌}
 use Rattle.std.specs.List.{list_any}
+use Rattle.c99_grammar.specs.declared.dialects.Dialect.TheVariants.{Iso}
 use Rattle.c99_grammar.specs.declared.dialects.Edition.{Edition}
 use Rattle.c99_tree.specs.declared.production.Production.{Production}
 use Rattle.c99_grammar.specs.declared.classes.Class.{Class}
@@ -32,5 +33,5 @@ pub starts_so : (s : Edition) (class_of : ℕ → Class) (fuel depth : ℕ) (p :
 unfolding read_by_classes
 starts_so s class_of zero depth p xs t e = absurd (stopped t e)
 starts_so s class_of (suc fuel) depth p xs t e =
-    first_sets s p (here (iso s) class_of xs) (behind (iso s) class_of xs)
+    first_sets (Iso s) p (here (iso s) class_of xs) (behind (iso s) class_of xs)
     ∙ any_first (iso s) class_of (read_by_classes (iso s) class_of fuel) p ((iso s).table p) depth 1 xs t e
