@@ -1,7 +1,7 @@
 -- What a table tells of files is what they hold: it is so of each table that a unit leads to.
 use Rattle.std.proofs.Common.{◌≡◌, ℕ, ◌+◌, ◌-◌, List, [], ◌∷◌, Ok, Err}
 use Rattle.cs_base.specs.Token.{Token}
-use Rattle.cs_base.specs.Units.{UnitValue, defines_text}
+use Rattle.cs_base.specs.Units.{UnitValue, defines_of}
 use Rattle.lexer.specs.FileText.{file_text}
 use Rattle.ws_file.specs.Workspace.{WorkspaceValue}
 use Rattle.include_tree.specs.Below.source_files.Faults.{Fault, first_place}
@@ -38,10 +38,10 @@ module _ (source : Source) where
     opens = λ path bytes t there h. (widens_opened source path bytes t there).found h;
   }
 
-  outer_found : (reader : Reader) (ipath : List (List ℕ)) (limits : Limits) (earlier : ℕ) (path : List ℕ) (s : State) → Found s.table
-      → IfDone (Stays {A = List Token} Found) (outer_file (context source reader ipath limits earlier) path s)
-  outer_found reader ipath limits earlier path s h =
-      let ctx : Context = context source reader ipath limits earlier in
+  outer_found : (reader : Reader) (unit : UnitValue) (limits : Limits) (earlier : ℕ) (path : List ℕ) (s : State) → Found s.table
+      → IfDone (Stays {A = List Token} Found) (outer_file (context source reader unit limits earlier) path s)
+  outer_found reader unit limits earlier path s h =
+      let ctx : Context = context source reader unit limits earlier in
       onward_done (Stays {A = SourceFile} Found) (Stays {A = List Token} Found) (open_file ctx (first_place path) path s) (file_items ctx (ctx.limits.open_files - 1))
       (open_file_stays ctx Found stable (first_place path) path s h)
       (λ f t g. files_stay ctx Found stable (ctx.limits.open_files - 1) f t g)
@@ -49,13 +49,13 @@ module _ (source : Source) where
   unit_found : (limits : Limits) (reader : Reader) (number : ℕ) (unit : UnitValue) (before : Carried) → Found before.table
       → IfDone (Stays {A = List Token} Found) (unit_outcome limits reader source number unit before)
   unit_found limits reader number unit before h =
-      let ctx : Context = context source reader unit.ipath limits before.toks in
+      let ctx : Context = context source reader unit limits before.toks in
       let s : State = first_state limits number unit before.table in
-      let first = found_push source before.table (defines_path number) (defines_text unit.standard unit.settings) h in
+      let first = found_push source before.table (defines_path number) (defines_of unit) h in
       onward_done (Stays {A = List Token} Found) (Stays {A = List Token} Found) (outer_file ctx (defines_path number) s) _
-      (outer_found reader unit.ipath limits before.toks (defines_path number) s first)
+      (outer_found reader unit limits before.toks (defines_path number) s first)
       (λ toks t g. onward_done (Stays {A = List Token} Found) (Stays {A = List Token} Found) (main_file ctx unit.path t) _
-      (outer_found reader unit.ipath limits before.toks unit.path (record t { table = asked source unit.path t.table }) ((widens_asked source unit.path t.table).found g))
+      (outer_found reader unit limits before.toks unit.path (record t { table = asked source unit.path t.table }) ((widens_asked source unit.path t.table).found g))
       (λ more u f. f))
 
   found_by : (earlier : ℕ) (o : Outcome (List Token)) (p : Preprocessed) → IfDone (Stays {A = List Token} Found) o
