@@ -7,6 +7,7 @@ use Rattle.std.specs.Str.{bytes_eq}
 use Rattle.std.proofs.lemmas.Bool.{false≢true, and_parts, and_from, or_left, or_right, or_cases, eqb-true, eq-eqb, lt-ltb, le-leb}
 use Rattle.std.proofs.lemmas.Option.{same_Some}
 use Rattle.cs_base.specs.declared.positions.Part.{Part}
+use Rattle.c99_grammar.specs.declared.dialects.Dialect.TheVariants.{Iso}
 use Rattle.c99_grammar.specs.declared.dialects.Edition.{Edition}
 use Rattle.cs_base.specs.Token.{Token}
 use Rattle.c99_tree.specs.Tree.{Forest, none, token, node}
@@ -181,7 +182,7 @@ module _ (in_order : ReadParameterListsAreInOrder) (cuts : UnitsAreCut) (source 
   begins = let r = read in each_begins s members u (length order) r.reads r.binds in_order declared called
 
   class_of : marked.EachNode (IsOfClasses (iso s) toks) T
-  class_of = let r = read in tokens_are_of_classes s toks u.tree r.reads
+  class_of = let r = read in tokens_are_of_classes (Iso s) toks u.tree r.reads
 
   one_node : (x y : Entry) → In x (entries T) → In y (entries T) → x.begin ≡ y.begin → x ≡ y
   one_node = let r = read in one_of s members u (length order) r.reads r.binds in_order declared called
