@@ -1,0 +1,4 @@
+mod TokenLemmas
+mod WalkLemmas
+mod BoundLemmas
+mod StandardLemmas

@@ -1,0 +1,10 @@
+-- What the public contracts rest on.
+pub mod Words
+pub mod Senses
+pub mod Roles
+pub mod Names
+pub mod BlockLabels
+pub mod Types
+pub mod Walk
+pub mod Bound
+pub mod Standards

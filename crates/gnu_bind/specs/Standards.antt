@@ -1,0 +1,82 @@
+-- Texts that use nothing of GNU C, as far as binding asks.
+use Rattle.std.specs.Prelude.{ℕ, ◌+◌, ◌==◌, ◌%◌, ◌≡◌, Bool, true, false, ◌&&◌, ◌||◌, not, List}
+use Rattle.cs_base.specs.Token.{Token}
+use Rattle.c99_tree.specs.Tree.{Forest, none, token, node, Node}
+use Rattle.c99_tree.specs.declared.production.Label.{Label}
+use Rattle.c99_tree.specs.declared.production.Production.{Production}
+use Rattle.c99_tree.specs.declared.production.Production.TheVariants.{SuRest, Members, InitItem, Cond, Unary, Primary, TypeName, Main, Block, BlockItem, AutoDecl, Attr, AttrItem, AttrWord, AsmName, Operand, Association, MemberPath, AsmPart, AsmOperand}
+use Rattle.c99_tree.specs.contracts.production.ProductionPartialEq.TheImpl.{ghosts}
+use Rattle.c_types.specs.Trees.{has_node}
+use Rattle.c_types.specs.Declarations.{spelling_at}
+use Rattle.name_chains.specs.Frames.{outermost}
+use Rattle.scope_bind.specs.Bound.{binding_of}
+use Rattle.cs_base.specs.Reserved.{is_built_in, is_function_word}
+use Rattle.gnu_bind.specs.Words.{is_fetch, is_extension}
+use Rattle.gnu_bind.specs.Senses.{omits_second, declares_labels}
+use Rattle.gnu_bind.specs.Roles.{is_brace}
+use Rattle.gnu_bind.specs.Walk.{has_braces}
+use Rattle.gnu_bind.specs.Bound.{gnu_binding_of}
+
+-- no token is spelled as such a word
+pub record HasNoWord (toks : List Token) : Type 0 where
+  pub functions : (k : ℕ) → is_built_in (spelling_at toks k) ≡ false
+  pub names : (k : ℕ) → is_function_word (spelling_at toks k) ≡ false
+  pub fetches : (k : ℕ) → is_fetch (spelling_at toks k) ≡ false
+  pub extensions : (k : ℕ) → is_extension (spelling_at toks k) ≡ false
+
+-- a production of the standards
+abbrev pub is_shared : Production → Bool
+is_shared AutoDecl = false
+is_shared Attr = false
+is_shared AttrItem = false
+is_shared AttrWord = false
+is_shared AsmName = false
+is_shared Operand = false
+is_shared Association = false
+is_shared MemberPath = false
+is_shared AsmPart = false
+is_shared AsmOperand = false
+is_shared _ = true
+
+-- a token stands so among the children of a node in the standards
+abbrev pub is_token_place : Production → ℕ → ℕ → Bool
+is_token_place SuRest a k = not (is_brace a k)
+is_token_place InitItem a k = not ((a == 2) && (k == 0))
+is_token_place Unary a k = not ((a == 4) && (k == 1))
+is_token_place BlockItem a k = not ((a == 7) && (k % 2 == 1))
+is_token_place p a k = is_shared p
+
+-- and a node of the second production does so below one of the first
+abbrev pub is_child : Production → Production → Bool
+is_child p Block = not (ghosts.eq p Primary)
+is_child p TypeName = not (ghosts.eq p Main)
+is_child p q = is_shared q
+
+-- the alternative is one of the standards, as far as the type of an expression asks
+abbrev pub is_old : Production → ℕ → Bool
+is_old Primary a = not ((a == 6) || (a == 9))
+is_old Unary a = not (a == 4)
+is_old p a = true
+
+-- a node has a form of the standards
+abbrev pub is_form : Production → Forest → Bool
+is_form Cond under = not (omits_second under)
+is_form Block under = not (declares_labels under)
+is_form p under = true
+
+-- a structure or union with braces has members
+abbrev pub is_filled : Label → Forest → Bool
+is_filled l under = has_node Members under || not (has_braces l under)
+
+-- So it is with all below node l, where so many children stand before these.
+abbrev pub is_standard : Label → ℕ → Forest → Bool
+is_standard l k none = true
+is_standard l k (token i rest) = is_token_place l.production l.alternative k && is_standard l (k + 1) rest
+is_standard l k (node m first under rest) =
+    ((is_shared l.production && is_old l.production l.alternative) && (is_child l.production m.production && (is_old m.production m.alternative && (is_form m.production under && is_filled m under))))
+    && (is_standard m 0 under && is_standard l (k + 1) rest)
+
+-- such a text binds as by the standards
+abbrev pub StandardTextsBindAlike : Type 0
+StandardTextsBindAlike =
+    (toks : List Token) (tree : Node) → HasNoWord toks → is_standard (outermost 0).label 0 tree.under ≡ true → gnu_binding_of toks tree ≡ binding_of toks tree

@@ -1,0 +1,27 @@
+//! The binding of translation units of GNU C, as gcc reads them.
+//!
+//! `bind` takes the tokens of a unit with their tree and tells what each identifier denotes, or the first fault. It
+//! equals `gnu_binding_of` of `specs/Bound.antt`: a walk as that of `scope_bind`, of which it takes every step that GNU
+//! C leaves as the standards have it. Its own are attributes and built-in functions, whose names denote nothing; blocks
+//! in expressions, labels of blocks, addresses of labels and `asm goto`; `typeof`, `__auto_type`, `_Generic`, paths to
+//! members, structures without members, and what a built-in function gives, whose type is unknown. Units of C99 and C11
+//! are bound by `scope_bind` alone. This crate knows neither how a tree is read nor macros, files or classes.
+//! Declarations, names and types want memory. Read `specs/Senses.antt`, `Names.antt`, `BlockLabels.antt` and
+//! `Types.antt`, then `Walk.antt`, then `walking.rt`.
+#![tactic(auto)]
+
+mod binding;
+mod block_labels;
+mod entering;
+mod laws;
+mod leaving;
+mod names;
+mod reading;
+mod roles;
+mod senses;
+mod types;
+mod walking;
+mod words;
+
+pub use binding::bind;
+pub use laws::standard_texts_bind_alike;
