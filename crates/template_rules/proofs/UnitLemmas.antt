@@ -70,17 +70,17 @@ flat_alike f g same [] = refl
 flat_alike f g same (x ∷ xs) = rw (same x, flat_alike f g same xs) refl
 
 none_of : (h : ℕ → Bool) → ((e : ℕ) → h e ≡ false) → (o : Option ℕ) → option_map_or h o false ≡ false
-none_of h no None = refl
-none_of h no (Some e) = no e
+none_of h bare None = refl
+none_of h bare (Some e) = bare e
 
 and_none : (b c : Bool) → c ≡ false → (b && c) ≡ false
-and_none true c no = no
-and_none false c no = refl
+and_none true c bare = bare
+and_none false c bare = refl
 
 -- a unit without functions of the class: its parameter lists do not matter
-module _ (members : List Part) (toks : List Token) (names : List Name) (entities : List ℕ) (own : AreFunctionsOf members toks names entities) (no : entities ≡ []) where
+module _ (members : List Part) (toks : List Token) (names : List Name) (entities : List ℕ) (own : AreFunctionsOf members toks names entities) (bare : entities ≡ []) where
   is_none : (e : ℕ) → is_function members toks names e ≡ false
-  is_none e = sym (own e) ∙ ap (λ (es : List ℕ). list_any (λ f. f == e) es) no
+  is_none e = sym (own e) ∙ ap (λ (es : List ℕ). list_any (λ f. f == e) es) bare
 
   names_none : (k : ℕ) → names_function members toks names k ≡ false
   names_none k = none_of (is_function members toks names) is_none (entity_at names k)
@@ -100,14 +100,14 @@ module _ (members : List Part) (toks : List Token) (names : List Name) (entities
   marks_any a count reached p q l = rw (names_none l.name) refl
 
 -- so it is with what stands at lists
-module _ (members : List Part) (text : UnitTextValue) (bound : Bound) (entities : List ℕ) (own : AreFunctionsOf members text.toks bound.names entities) (no : entities ≡ []) where
+module _ (members : List Part) (text : UnitTextValue) (bound : Bound) (entities : List ℕ) (own : AreFunctionsOf members text.toks bound.names entities) (bare : entities ≡ []) where
   declared_any : (a : AnalysisValue) (odds : List Pos) (p q : List ParameterList) (l : NameList)
       → declarator_offences members a odds text bound p l ≡ declarator_offences members a odds text bound q l
-  declared_any a odds p q l = rw (names_none members text.toks bound.names entities own no l.name) refl
+  declared_any a odds p q l = rw (names_none members text.toks bound.names entities own bare l.name) refl
 
   called_any : (a : AnalysisValue) (odds : List Pos) (p q : List ℕ) (l : NameList)
       → call_offences members a odds text bound p l ≡ call_offences members a odds text bound q l
-  called_any a odds p q l = rw (names_none members text.toks bound.names entities own no l.name) refl
+  called_any a odds p q l = rw (names_none members text.toks bound.names entities own bare l.name) refl
 
 module _ (class : ClassValue) (u : UnitAnalysis) (f : UnitFunctions) (own : f.class ≡ class) (is : IsUnit u f) where
   abbrev None_there : Type 0
@@ -118,40 +118,40 @@ module _ (class : ClassValue) (u : UnitAnalysis) (f : UnitFunctions) (own : f.cl
       → h f.lists.items ≡ h (parameters_in u.tree.under)
   by_lists h any =
       elim is.of_tree [
-        | inl no ↦ any no f.lists.items (parameters_in u.tree.under)
+        | inl bare ↦ any bare f.lists.items (parameters_in u.tree.under)
         | inr some ↦ ap h some.0
       ]
 
   by_ends : {X : Type 0} (h : List ℕ → X) → (None_there → (p q : List ℕ) → h p ≡ h q) → h f.ends.items ≡ h (body_lists_in u.tree.under)
   by_ends h any =
       elim is.of_tree [
-        | inl no ↦ any no f.ends.items (body_lists_in u.tree.under)
+        | inl bare ↦ any bare f.ends.items (body_lists_in u.tree.under)
         | inr some ↦ ap h some.1
       ]
 
   pub declarators_told : declarators_of f ≡ declarators_in class.members u
   declarators_told =
       by_lists (λ p. flat_map (declarator_of f.class.members f.text.now.toks f.bound.now.names p) f.bound.now.names)
-      (λ no p q. flat_alike (declarator_of f.class.members f.text.now.toks f.bound.now.names p) (declarator_of f.class.members f.text.now.toks f.bound.now.names q)
-      (declarator_any f.class.members f.text.now.toks f.bound.now.names f.entities f.named no p q) f.bound.now.names)
+      (λ bare p q. flat_alike (declarator_of f.class.members f.text.now.toks f.bound.now.names p) (declarator_of f.class.members f.text.now.toks f.bound.now.names q)
+      (declarator_any f.class.members f.text.now.toks f.bound.now.names f.entities f.named bare p q) f.bound.now.names)
       ∙ rw (own, is.of_text, is.of_bound) refl
 
   pub names_told : names_of f ≡ unit_names class.members u
   names_told =
       by_lists (λ p. flat_map (name_offences f.class.members f.text.now.toks f.bound.now.names f.bound.now.calls p) f.bound.now.names)
-      (λ no p q. flat_alike (name_offences f.class.members f.text.now.toks f.bound.now.names f.bound.now.calls p)
+      (λ bare p q. flat_alike (name_offences f.class.members f.text.now.toks f.bound.now.names f.bound.now.calls p)
       (name_offences f.class.members f.text.now.toks f.bound.now.names f.bound.now.calls q)
-      (name_any f.class.members f.text.now.toks f.bound.now.names f.entities f.named no f.bound.now.calls p q) f.bound.now.names)
+      (name_any f.class.members f.text.now.toks f.bound.now.names f.entities f.named bare f.bound.now.calls p q) f.bound.now.names)
       ∙ rw (own, is.of_text, is.of_bound) refl
 
   pub marks_told : (a : AnalysisValue) (count : ℕ) → marks_of a count f ≡ unit_marks class.members a count u
   marks_told a count =
       by_lists (λ p. flat_map (declarator_marks f.class.members a count f.text.now.toks f.text.now.reached f.bound.now.names p) f.bound.now.declarators
       ++ flat_map (call_marks f.class.members a count f.text.now.toks f.text.now.reached f.bound.now.names) f.bound.now.calls)
-      (λ no p q. ap (λ (os : List Offence). os ++ flat_map (call_marks f.class.members a count f.text.now.toks f.text.now.reached f.bound.now.names) f.bound.now.calls)
+      (λ bare p q. ap (λ (os : List Offence). os ++ flat_map (call_marks f.class.members a count f.text.now.toks f.text.now.reached f.bound.now.names) f.bound.now.calls)
       (flat_alike (declarator_marks f.class.members a count f.text.now.toks f.text.now.reached f.bound.now.names p)
       (declarator_marks f.class.members a count f.text.now.toks f.text.now.reached f.bound.now.names q)
-      (marks_any f.class.members f.text.now.toks f.bound.now.names f.entities f.named no a count f.text.now.reached p q) f.bound.now.declarators))
+      (marks_any f.class.members f.text.now.toks f.bound.now.names f.entities f.named bare a count f.text.now.reached p q) f.bound.now.declarators))
       ∙ rw (own, is.of_text, is.of_bound) refl
 
   pub macro_names_told : macro_names_of f ≡ unit_macro_names class.members u
@@ -167,11 +167,11 @@ module _ (class : ClassValue) (u : UnitAnalysis) (f : UnitFunctions) (own : f.cl
       let calls : List ℕ → List Offence = λ ends. flat_map (call_offences class.members a odds f.text.now f.bound.now ends) f.bound.now.calls in
       let declared : List ParameterList → List Offence = λ p. flat_map (declarator_offences class.members a odds f.text.now f.bound.now p) f.bound.now.declarators in
       ap (λ (os : List Offence). os ++ calls f.ends.items)
-      (by_lists declared (λ no p q. flat_alike (declarator_offences class.members a odds f.text.now f.bound.now p) (declarator_offences class.members a odds f.text.now f.bound.now q)
-      (declared_any class.members f.text.now f.bound.now f.entities named no a odds p q) f.bound.now.declarators))
+      (by_lists declared (λ bare p q. flat_alike (declarator_offences class.members a odds f.text.now f.bound.now p) (declarator_offences class.members a odds f.text.now f.bound.now q)
+      (declared_any class.members f.text.now f.bound.now f.entities named bare a odds p q) f.bound.now.declarators))
       ∙ (ap (λ (os : List Offence). declared (parameters_in u.tree.under) ++ os)
-      (by_ends calls (λ no p q. flat_alike (call_offences class.members a odds f.text.now f.bound.now p) (call_offences class.members a odds f.text.now f.bound.now q)
-      (called_any class.members f.text.now f.bound.now f.entities named no a odds p q) f.bound.now.calls))
+      (by_ends calls (λ bare p q. flat_alike (call_offences class.members a odds f.text.now f.bound.now p) (call_offences class.members a odds f.text.now f.bound.now q)
+      (called_any class.members f.text.now f.bound.now f.entities named bare a odds p q) f.bound.now.calls))
       ∙ rw (is.of_text, is.of_bound) refl)
 
   pub found_told : found_of f ≡ unit_found class.members u

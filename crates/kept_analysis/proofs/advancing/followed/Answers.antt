@@ -12,6 +12,6 @@ returns-clause-own c =
     (parts_own c.args.moves.now c.args.a c.into_parts-workspace.result.workspace _ _ _ _ _ _ c.args.class c.args.len c.into_parts-workspace.ensures.answer c.requires.own
     c.in_ok-classes.ensures.moved c.in_ok-classes.ensures.parts c.in_ok-units.ensures c.in_ok-cache.ensures) c.of_parts.ensures
 
-pub renamed_units-units-requires : goal.renamed_units-units-requires
-renamed_units-units-requires c =
+pub renamed_units-requires : goal.renamed_units-requires
+renamed_units-requires c =
     parts_read c.args.moves.now c.args.a c.into_parts-workspace.result.workspace _ _ _ c.into_parts-workspace.ensures.answer c.requires.read

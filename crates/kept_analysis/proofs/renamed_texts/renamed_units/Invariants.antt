@@ -1,7 +1,12 @@
-use Rattle.std.proofs.Common.{◌≡◌, map}
+use Rattle.std.proofs.Common.{◌≡◌, ℕ, Some, map, slice_get}
+use Rattle.analysis.specs.Analysis.{UnitAnalysis}
 use Rattle.renamed.specs.Renamed.{renamed_unit_analysis}
+use Rattle.kept_analysis.specs.Following.{IsReadAsBefore}
 use Rattle.kept_analysis.specs.Moves.{renaming_by}
 use Rattle.kept_analysis.proofs.renamed_texts.renamed_units.Given as goal
 
 abbrev pub invariant-loop-unit : goal.invariant-loop-unit
-invariant-loop-unit l = l.renamed.items ≡ map (renamed_unit_analysis (renaming_by l.moves)) l.yielded
+invariant-loop-unit l = record {
+  mapped : l.renamed.items ≡ map (renamed_unit_analysis (renaming_by l.moves)) l.yielded;
+  left : (k : ℕ) (u : UnitAnalysis) → slice_get l.unit-iterator.rest.items k ≡ Some u → IsReadAsBefore (renaming_by l.moves) u
+}
