@@ -27,8 +27,6 @@ pub mod Accepting
 pub mod Adding
 pub mod BroughtNumbers
 pub mod AnalysisFields
-pub mod Trees
-pub mod Trees
 pub mod AnalysisAnswers
 -- Words of the crates below, passed on.
 pub mod Below

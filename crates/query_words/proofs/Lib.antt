@@ -1,5 +1,10 @@
 pub mod AtomLemmas
+pub mod DerivingLemmas
+pub mod GrammarLemmas
 pub mod LawLemmas
+pub mod NearLemmas
 pub mod PatternLemmas
+pub mod PlaceLemmas
+pub mod ReadingLemmas
 pub mod SatisfyingLemmas
 pub mod WalkLemmas

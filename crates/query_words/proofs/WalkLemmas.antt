@@ -40,12 +40,12 @@ fault_of_valued v (Ok found) fault is = absurd (cc)
 fault_of_valued v (Err other) fault is = cc
 
 module _ (join : Query → Query → Query) (sign : ℕ) (part : Part) (text : List ℕ) where
-  chain_there : (most : ℕ) (left right : Read) → is_byte text left.next sign ≡ true → part (left.next + 1) ≡ Ok right
+  pub chain_there : (most : ℕ) (left right : Read) → is_byte text left.next sign ≡ true → part (left.next + 1) ≡ Ok right
       → chain join sign part text (suc most) left ≡ chain join sign part text most (read (join left.query right.query) right.next)
   unfolding chain
   chain_there most left right there here = rw (there, here) refl
 
-  chain_fault : (most : ℕ) (left : Read) (fault : QueryFault) → is_byte text left.next sign ≡ true → part (left.next + 1) ≡ Err fault
+  pub chain_fault : (most : ℕ) (left : Read) (fault : QueryFault) → is_byte text left.next sign ≡ true → part (left.next + 1) ≡ Err fault
       → chain join sign part text (suc most) left ≡ Err fault
   unfolding chain
   chain_fault most left fault there here = rw (there, here) refl

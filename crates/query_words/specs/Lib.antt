@@ -4,6 +4,7 @@ pub mod Patterns
 pub mod Queries
 pub mod Satisfying
 pub mod Reading
+pub mod Grammar
 pub mod Laws
 -- What inner functions promise each other.
 pub mod Walk

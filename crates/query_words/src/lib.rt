@@ -10,6 +10,7 @@
 #![tactic(auto)]
 
 ghost use Rattle.std.specs.Prelude.{◌≡◌, ◌<◌, ◌^◌, length};
+ghost use Rattle.query_words.specs.Grammar.{IsDecided};
 ghost use Rattle.query_words.specs.Queries.{value};
 ghost use Rattle.query_words.specs.Reading.{parsed};
 ghost use Rattle.query_words.specs.Walk.{decided};
@@ -23,7 +24,7 @@ mod walk;
 
 pub use attributes::{Attribute, Facts};
 pub use faults::QueryFault;
-pub use laws::patterns_are_replaced;
+pub use laws::{patterns_are_replaced, queries_are_derived};
 
 /// How many `!` and `(` may be open at once.
 const DEPTH_LIMIT: usize = 64;
@@ -39,6 +40,22 @@ pub fn satisfies(
     requires few { length query.now < 2 ^ 32 }
     requires room { length query.now < length places.old }
     ensures answer { result ≡ decided (value facts.now spelling.now) (parsed query.now) }
+    // The query is one that the grammar derives; and where a fault is, it is so by the grammar alone.
+    ensures derived { IsDecided query.now (value facts.now spelling.now) result }
+{
+    decide(query, facts, spelling, places)
+}
+
+// The same, as it is read.
+fn decide(
+    query: &[u8],
+    facts: &Facts,
+    spelling: &[u8],
+    places: &mut [bool],
+) -> Result<bool, QueryFault>
+    requires few { length query.now < 2 ^ 32 }
+    requires room { length query.now < length places.old }
+    ensures { result ≡ decided (value facts.now spelling.now) (parsed query.now) }
 {
     let walked = walk::either(query, DEPTH_LIMIT, 0, facts, spelling, places)?;
     if walked.next < query.len() {
