@@ -540,7 +540,7 @@ fn each_nesting_has_its_deepest_level(rt: HostRuntime) -> Result<(), Fail> {
         let text = nested(rt.alloc(), row, row.5)?;
         let found = said(rt.alloc(), text.as_bytes(), Dialect::Gnu)?;
         assert_eq!(rt; found.as_str(), "read", "NESTED, number {k}");
-        let text = nested(rt.alloc(), row, row.5 + 1)?;
+        let text = nested(rt.alloc(), row, row.5.saturating_add(1))?;
         let found = said(rt.alloc(), text.as_bytes(), Dialect::Gnu)?;
         assert_eq!(rt; found.as_str(), row.6, "NESTED, number {k}, one level more");
     }
