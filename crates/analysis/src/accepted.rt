@@ -67,7 +67,9 @@ impl UnitParts {
         ensures { result ≡ unit_analysis self.standard text self.tree self.bound }
     {
         let UnitParts {
-            standard, bound, ..
+            standard,
+            bound,
+            ..
         } = self;
         UnitParts {
             standard,

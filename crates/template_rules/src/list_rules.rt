@@ -145,7 +145,14 @@ pub fn at_lists(
     let units = functions.units();
     for unit in units {
         let declared = at_declarators(functions, &odds, unit, unit.bound.declarators(), now);
-        now = at_calls(functions, &odds, unit, &unit.ends, unit.bound.calls(), declared);
+        now = at_calls(
+            functions,
+            &odds,
+            unit,
+            &unit.ends,
+            unit.bound.calls(),
+            declared,
+        );
     }
     Ok(now)
 }

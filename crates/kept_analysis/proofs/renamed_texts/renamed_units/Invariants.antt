@@ -8,5 +8,5 @@ use Rattle.kept_analysis.proofs.renamed_texts.renamed_units.Given as goal
 abbrev pub invariant-loop-unit : goal.invariant-loop-unit
 invariant-loop-unit l = record {
   mapped : l.renamed.items ≡ map (renamed_unit_analysis (renaming_by l.moves)) l.yielded;
-  left : (k : ℕ) (u : UnitAnalysis) → slice_get l.unit-iterator.rest.items k ≡ Some u → IsReadAsBefore (renaming_by l.moves) u
+  left : (k : ℕ) (u : UnitAnalysis) → slice_get l.unit-iterator.rest.items k ≡ Some u → IsReadAsBefore (renaming_by l.moves) u;
 }
